@@ -1,0 +1,10 @@
+//! Identifiers of RTP sessions, streams and packets (RFC 3550, RFC 8843, RFC 8852).
+#![tactic(auto)]
+
+mod direction;
+mod numbers;
+mod sequence;
+
+pub use direction::{Direction, direction_laws};
+pub use numbers::{Pt, SessionId, Ssrc};
+pub use sequence::SeqNo;
