@@ -1,0 +1,14 @@
+//! RTP on the wire: headers, sequence numbers and the replay window (RFC 3550).
+#![tactic(auto)]
+
+mod laws;
+mod padding;
+mod widening;
+mod window;
+
+pub use laws::{widening_laws, window_laws};
+pub use padding::unpad_payload;
+pub use rtp_wire_ids::{Direction, Pt, SeqNo, SessionId, Ssrc, direction_laws};
+pub use rtp_wire_time::{Frequency, MediaTime};
+pub use widening::{extend_u7, extend_u8, extend_u15, extend_u16, extend_u32};
+pub use window::SeqNoWindow;
