@@ -1,0 +1,77 @@
+-- Full arrival, and then polls until None.
+use Rattle.std.proofs.Common.{◌≡◌, ℕ, zero, suc, ◌+◌, ◌-◌, ◌%◌, ◌^◌, ◌<◌, ◌≤◌, refl, sym, ◌∙◌, ap, ap₂, subst, arith, add-one, add-zero, List, [], ◌∷◌, ◌++◌, length, map, replicate, append-nil}
+use Rattle.std.specs.Prelude.{Option, None, Some}
+use Rattle.std.specs.List.{range_with_len}
+use Rattle.rtp_media_runs.specs.Buffer.{Content}
+use Rattle.rtp_media_runs.specs.Heard.{Stream, Event, Comes, Poll, MediaUnit, fresh, heard, heard_step, after_events, poll_answer, polled, taken_by, number_at}
+use Rattle.rtp_media_runs.specs.Schedules.{Sender, Turn, Arrive, Ask, event_of, single, AreWhole, AreGoodArrivals}
+use Rattle.rtp_media_runs.specs.Opus.{Timed, content_of, content_at, sender_of, units_from}
+use Rattle.rtp_media_runs.specs.Drained.{IsDrained, Done, More}
+use Rattle.rtp_media_runs.proofs.Runs.{full-exact}
+
+-- each payload is head and tail
+content_at-head : (ps : List Timed) (i : ℕ) → (content_at ps i).head ≡ Rattle.std.specs.Prelude.true
+content_at-head [] i = refl
+content_at-head (p ∷ ps) zero = refl
+content_at-head (p ∷ ps) (suc i) = content_at-head ps i
+
+content_at-tail : (ps : List Timed) (i : ℕ) → (content_at ps i).tail ≡ Rattle.std.specs.Prelude.true
+content_at-tail [] i = refl
+content_at-tail (p ∷ ps) zero = refl
+content_at-tail (p ∷ ps) (suc i) = content_at-tail ps i
+
+pub sender_of-whole : (first : ℕ) (ps : List Timed) → AreWhole (sender_of first ps)
+sender_of-whole first ps = record { head = λ x. content_at-head ps (x - first); tail = λ x. content_at-tail ps (x - first) }
+
+-- the units by number are the canonical units
+singles-units : (f : Sender) (n : ℕ) (ps : List Timed) → ((i : ℕ) → i < length ps → f (n + i) ≡ content_at ps i) →
+    map (λ x. Some (single f x)) (range_with_len n (length ps)) ≡ map Some (units_from n ps)
+singles-units f n [] same = refl
+singles-units f n (p ∷ ps) same =
+    let here : f n ≡ content_of p.time p.bytes = rw add-zero at (same 0 (omega arith)) in
+    let rest : (i : ℕ) → i < length ps → f (n + 1 + i) ≡ content_at ps i = λ i h. go i (same (suc i) (omega arith)) in
+    rw (here, append-nil) (ap (λ (us : List (Option MediaUnit)). Some (record { first = n; last = n; time = p.time; bytes = p.bytes }) ∷ us) (singles-units f (n + 1) ps rest))
+  where
+  go : (i : ℕ) → f (n + suc i) ≡ content_at ps i → f (n + 1 + i) ≡ content_at ps i
+  go i h = ap f (omega arith) ∙ h
+
+same-content : (first : ℕ) (ps : List Timed) (i : ℕ) → i < length ps → sender_of first ps (first + i) ≡ content_at ps i
+same-content first ps i h = ap (content_at ps) (omega arith)
+
+-- what is heard of a fresh stream at which all arrived
+pub heard-full : (hold_back first : ℕ) (ps : List Timed) (arrivals : List ℕ) → first + length ps ≤ 2 ^ 62 → length ps ≤ 4096 → AreGoodArrivals first (length ps) [] arrivals →
+    heard (fresh hold_back) (map (event_of (sender_of first ps)) (map Arrive arrivals ++ replicate (suc (length ps)) Ask)) ≡ map Some (units_from first ps) ++ None ∷ []
+heard-full hold_back first ps arrivals fits few good =
+    full-exact (sender_of first ps) first (length ps) fits (sender_of-whole first ps) hold_back arrivals few good
+    ∙ ap (λ (us : List (Option MediaUnit)). us ++ None ∷ []) (singles-units (sender_of first ps) first ps (same-content first ps))
+
+-- arrivals answer nothing
+heard-arrivals : (f : Sender) (s : Stream) (xs : List ℕ) (ts : List Turn) → heard s (map (event_of f) (map Arrive xs ++ ts)) ≡ heard (after_events s (map (event_of f) (map Arrive xs))) (map (event_of f) ts)
+heard-arrivals f s [] ts = refl
+heard-arrivals f s (x ∷ xs) ts = heard-arrivals f (taken_by s (number_at s (x % 65536)) (f x)) xs ts
+
+-- polls until None are the polls
+drained-units : (f : Sender) {s t : Stream} {vs : List MediaUnit} → IsDrained s vs t → (us : List MediaUnit) → heard s (map (event_of f) (replicate (suc (length us)) Ask)) ≡ map Some us ++ None ∷ [] → vs ≡ us
+drained-units f (Done none) [] h = refl
+drained-units f (Done none) (u ∷ us) h = cc
+drained-units f (More some rest) [] h = cc
+drained-units f (More {s = s} {u = v} {us = vs} some rest) (u ∷ us) h =
+    let here : Some v ≡ Some u = cc in
+    let same : v ≡ u = cc in
+    let behind : heard (polled s) (map (event_of f) (replicate (suc (length us)) Ask)) ≡ map Some us ++ None ∷ [] = cc in
+    let more : vs ≡ us = drained-units f rest us behind in
+    cc
+
+units-length : (n : ℕ) (ps : List Timed) → length (units_from n ps) ≡ length ps
+units-length n [] = refl
+units-length n (p ∷ ps) = ap suc (units-length (n + 1) ps)
+
+-- after full arrival polls until None hand out exactly the canonical units
+pub full-drained : (hold_back first : ℕ) (ps : List Timed) (arrivals : List ℕ) {t : Stream} {us : List MediaUnit} → first + length ps ≤ 2 ^ 62 → length ps ≤ 4096 → AreGoodArrivals first (length ps) [] arrivals →
+    IsDrained (after_events (fresh hold_back) (map (event_of (sender_of first ps)) (map Arrive arrivals))) us t → us ≡ units_from first ps
+full-drained hold_back first ps arrivals fits few good drained =
+    let f : Sender = sender_of first ps in
+    let polls : heard (after_events (fresh hold_back) (map (event_of f) (map Arrive arrivals))) (map (event_of f) (replicate (suc (length ps)) Ask)) ≡ map Some (units_from first ps) ++ None ∷ [] =
+    sym (heard-arrivals f (fresh hold_back) arrivals (replicate (suc (length ps)) Ask)) ∙ heard-full hold_back first ps arrivals fits few good in
+    let n : length ps ≡ length (units_from first ps) = sym (units-length first ps) in
+    drained-units f drained (units_from first ps) (rw (← n) polls)

@@ -1,0 +1,5 @@
+pub mod Buffer
+pub mod Heard
+pub mod Schedules
+pub mod Opus
+pub mod Drained

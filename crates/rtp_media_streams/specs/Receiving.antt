@@ -1,0 +1,31 @@
+use Rattle.std.specs.Prelude.{ℕ, Bool, ◌==◌, ◌&&◌, if◌then◌else◌, List, Option, Some, None}
+use Rattle.rtp_wire.specs.Replay.{is_accepted}
+use Rattle.rtp_media_runs.specs.Heard.{Stream, fresh, number_at, taken_by}
+use Rattle.rtp_media_runs.specs.Opus.{content_of}
+
+-- A receiving stream: whose datagrams it takes, by SSRC and payload type (RFC 3550 5.1), and what it
+-- keeps of them.
+pub record Receiving : Type 0 where
+  pub ssrc : ℕ
+  pub pt : ℕ
+  pub stream : Stream
+
+-- a stream that heard nothing
+abbrev pub opened_receiver : ℕ → ℕ → ℕ → Receiving
+opened_receiver ssrc pt hold_back = record { ssrc = ssrc; pt = pt; stream = fresh hold_back }
+
+-- the same stream with other things kept
+abbrev pub with_stream : Receiving → Stream → Receiving
+with_stream r s = record { ssrc = r.ssrc; pt = r.pt; stream = s }
+
+-- whether these datagrams are its own
+abbrev pub is_own : Receiving → ℕ → ℕ → Bool
+is_own r ssrc pt = (r.ssrc == ssrc) && (r.pt == pt)
+
+-- the number of a datagram with these low bits, where it is taken
+abbrev pub taken_number : Stream → ℕ → Option ℕ
+taken_number s low = if is_accepted s.window (number_at s low) then Some (number_at s low) else None
+
+-- the stream after it
+abbrev pub arrived : Stream → ℕ → ℕ → List ℕ → Stream
+arrived s low time payload = taken_by s (number_at s low) (content_of time payload)

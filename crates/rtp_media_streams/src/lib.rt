@@ -1,0 +1,10 @@
+//! Streams of an end: samples to datagrams, and datagrams to units.
+#![tactic(auto)]
+
+mod buffer;
+mod media_unit;
+mod receiver;
+
+pub use buffer::{HeldPacket, PacketBuffer};
+pub use media_unit::Unit;
+pub use receiver::ReceivingStream;

@@ -1,0 +1,83 @@
+//! What a poll hands out.
+
+ghost use Rattle.std.specs.Prelude.{◌≡◌, [], ◌∷◌};
+ghost use Rattle.rtp_media_runs.specs.Heard.{unit_of};
+
+use crate::buffer::HeldPacket;
+use rtp_wire::SeqNo;
+use std::marker::Model;
+
+/// An audio packet as it was sampled: its bytes, its RTP timestamp (RFC 3550 5.1), and the widened
+/// sequence numbers of the first and the last datagram that it came in.
+#[derive(Drop)]
+pub struct Unit {
+    bytes: Vec<u8>,
+    time: u32,
+    first: u64,
+    last: u64,
+}
+
+impl Model for Unit {
+    ghost use Rattle.rtp_media_runs.specs.Heard.{MediaUnit};
+
+    ghost Value = { MediaUnit };
+
+    ghost view = { λ u. record { first = u.first; last = u.last; time = u.time; bytes = u.bytes.items } };
+}
+
+impl Unit {
+    /// The unit of a packet that is a whole frame.
+    pub fn from_packet(packet: HeldPacket) -> Self
+        ensures { result ≡ unit_of (packet ∷ []) }
+    {
+        let number = packet.number();
+        let time = packet.time();
+        Unit {
+            bytes: packet.into_bytes(),
+            time,
+            first: number,
+            last: number,
+        }
+    }
+
+    /// The bytes.
+    pub fn bytes(&self) -> &[u8]
+        ensures { result.now ≡ self.now.bytes }
+    {
+        self.bytes.as_slice()
+    }
+
+    /// The RTP timestamp, in ticks of the row's clock.
+    pub fn time(&self) -> u32
+        ensures { result ≡ self.now.time }
+    {
+        self.time
+    }
+
+    /// The number of the first datagram.
+    pub fn first(&self) -> SeqNo
+        ensures { result ≡ self.now.first }
+    {
+        SeqNo::from(self.first)
+    }
+
+    /// The number of the last datagram.
+    pub fn last(&self) -> SeqNo
+        ensures { result ≡ self.now.last }
+    {
+        SeqNo::from(self.last)
+    }
+
+    /// The bytes, without a copy.
+    pub fn into_bytes(self) -> Vec<u8>
+        ensures { result.items ≡ self.bytes }
+    {
+        let Unit {
+            bytes,
+            time: _,
+            first: _,
+            last: _,
+        } = self;
+        bytes
+    }
+}
