@@ -1,1 +1,2 @@
 pub mod Direction
+pub mod Name

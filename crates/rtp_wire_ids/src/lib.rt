@@ -2,9 +2,11 @@
 #![tactic(auto)]
 
 mod direction;
+mod names;
 mod numbers;
 mod sequence;
 
 pub use direction::{Direction, direction_laws};
+pub use names::{Mid, Rid};
 pub use numbers::{Pt, SessionId, Ssrc};
 pub use sequence::SeqNo;

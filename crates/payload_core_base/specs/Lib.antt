@@ -1,0 +1,5 @@
+pub mod Codecs
+pub mod Format
+pub mod Packing
+pub mod Pieces
+pub mod Law

@@ -1,0 +1,21 @@
+//! What every payload format meets: codecs, errors, and the traits of packetizers, depacketizers and
+//! packet sinks with their meaning.
+#![tactic(auto)]
+
+mod boxed;
+mod codec;
+mod depacketizer;
+mod error;
+mod extra;
+mod packetizer;
+mod telephone_event;
+
+pub use codec::{Codec, MediaKind};
+pub use depacketizer::Depacketizer;
+pub use error::PacketError;
+pub use extra::{
+    Av1CodecExtra, CodecExtra, H264CodecExtra, H265CodecExtra, H266CodecExtra, Vp8CodecExtra,
+    Vp9CodecExtra,
+};
+pub use packetizer::Packetizer;
+pub use telephone_event::TelephoneEvent;

@@ -1,0 +1,56 @@
+//! Cutting samples into packets.
+
+ghost use Rattle.payload_core_base.specs.Packing.{Packing, RefusesSample, Sender, Sends};
+ghost use Rattle.std.specs.Prelude.{◌≡◌, IfErr, IfOk, OnErr, false, map, true};
+
+use crate::error::PacketError;
+use std::alloc::Global;
+
+/// Cuts samples into the payloads of packets.
+///
+/// The packets of a sample and the state after it are a function of the sample, the limit and the state
+/// before it.
+pub trait Packetizer {
+    /// How samples are cut, which no call changes.
+    ghost packing: { Self → Packing };
+
+    /// What is kept between samples.
+    ghost sender: { Self → Sender };
+
+    /// The payloads of a sample, each of at most `mtu` bytes, in order. An empty sample has none.
+    ///
+    /// A refused sample changes nothing. `Memory` comes only where a payload or their list could not grow.
+    fn packetize(
+        &mut self,
+        alloc: Global,
+        mtu: usize,
+        bytes: &[u8],
+    ) -> Result<Vec<Vec<u8>>, PacketError>
+        ensures packing { packing self.new ≡ packing self.old }
+        ensures packets { let sent = (packing self.old).pack (sender self.old) mtu bytes.now in
+            IfOk result (λ ps. Sends sent (map (λ p. p.items) ps.items) (sender self.new)) }
+        ensures refused { let sent = (packing self.old).pack (sender self.old) mtu bytes.now in
+            IfErr result (RefusesSample sent) }
+        ensures unchanged { OnErr result (sender self.new ≡ sender self.old) };
+
+    /// The marker that a packet is sent with, behind the packet `previous` of its sample, where it has one,
+    /// and `last` where it is the sample's last.
+    fn is_marker(&mut self, bytes: &[u8], _previous: Option<&[u8]>, last: bool) -> bool
+        ensures marker { result ≡ (packing self.old).marks bytes.now last }
+        ensures packing { packing self.new ≡ packing self.old }
+        ensures sender { sender self.new ≡ sender self.old };
+
+    /// Whether a marker tells the start of a talkspurt: of no format here.
+    fn marks_talkspurt(&self) -> bool
+        ensures { result ≡ false }
+    {
+        false
+    }
+
+    /// Whether lost packets may be asked for again: of every format here.
+    fn nackable(&self) -> bool
+        ensures { result ≡ true }
+    {
+        true
+    }
+}
