@@ -4,7 +4,9 @@
 mod buffer;
 mod media_unit;
 mod receiver;
+mod sender;
 
 pub use buffer::{HeldPacket, PacketBuffer};
 pub use media_unit::Unit;
 pub use receiver::ReceivingStream;
+pub use sender::SendingStream;

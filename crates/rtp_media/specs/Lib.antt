@@ -1,0 +1,4 @@
+pub mod Rows
+pub mod Params
+pub mod Agreement
+pub mod Ends

@@ -1,0 +1,15 @@
+//! Ends of a media session: agreed rows, streams, samples to datagrams and datagrams to units.
+#![tactic(auto)]
+
+mod agreement;
+mod end;
+mod errors;
+mod params;
+mod row;
+
+pub use end::End;
+pub use errors::{EndError, OpenError};
+pub use params::StreamParams;
+pub use payload_core_base::{Codec, PacketError};
+pub use row::{CodecSpec, FormatParams, PayloadParams};
+pub use rtp_media_streams::Unit;
