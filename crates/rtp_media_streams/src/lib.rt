@@ -2,11 +2,15 @@
 #![tactic(auto)]
 
 mod buffer;
+mod datagram;
+mod errors;
 mod media_unit;
 mod receiver;
 mod sender;
 
 pub use buffer::{HeldPacket, PacketBuffer};
+pub use datagram::Datagram;
+pub use errors::SampleError;
 pub use media_unit::Unit;
 pub use receiver::ReceivingStream;
 pub use sender::SendingStream;

@@ -1,11 +1,21 @@
 //! Sending streams.
 
-ghost use Rattle.std.specs.Prelude.{◌≡◌, ◌<◌, ◌≤◌, ◌^◌};
-ghost use Rattle.rtp_media_streams.specs.Sending.{opened_sender, is_sending};
+ghost use Rattle.std.specs.Prelude.{◌≡◌, ◌≢◌, ◌<◌, ◌≤◌, ◌+◌, ◌%◌, ◌^◌, Some, None, OnOk, IfOk, IfErr, length};
+ghost use Rattle.rtp_wire.specs.Time.{rebased_ticks};
+ghost use Rattle.rtp_media_runs.specs.Opus.{timed, payloads_of};
+ghost use Rattle.rtp_media_streams.specs.Sending.{opened_sender, is_sending, header_of, datagrams_from, sent_datagrams, after_sample, failed_stream, refusal_of_sample};
 
-use rtp_wire::{Frequency, Pt, Ssrc};
-use std::alloc::Global;
+use crate::datagram::Datagram;
+use crate::errors::SampleError;
+use rtp_wire::{ExtensionMap, ExtensionValues, Frequency, MediaTime, Pt, RtpHeader, Ssrc};
+use std::alloc::{AllocError, Global};
 use std::marker::Model;
+
+/// The length of a header without extensions and contributing sources (RFC 3550 5.1).
+const FIXED_HEADER_LEN: usize = 12;
+
+/// The first number that is no longer sent.
+const END_OF_NUMBERS: u64 = 0x4000_0000_0000_0000;
 
 /// A sending stream: how its samples are numbered and cut.
 #[derive(Drop)]
@@ -21,12 +31,15 @@ pub struct SendingStream {
 }
 
 impl Model for SendingStream {
+    ghost use Rattle.std.specs.Prelude.{◌<◌};
     ghost use Rattle.rtp_media_streams.specs.Sending.{Sending};
 
     ghost Value = { Sending };
 
     ghost view = { λ s. record {
         ssrc = s.ssrc; pt = s.pt; rate = s.rate; next = s.next; mtu = s.mtu; limit = s.limit; failed = s.failed } };
+
+    ghost invariant = { λ s. (s.pt < 128) × (0 < s.mtu) };
 }
 
 impl SendingStream {
@@ -41,7 +54,8 @@ impl SendingStream {
         mtu: usize,
         limit: usize,
     ) -> Self
-        requires { 0 < mtu }
+        requires payload_type { pt < 128 }
+        requires mtu { 0 < mtu }
         ensures { result ≡ opened_sender ssrc pt rate first mtu limit }
     {
         SendingStream {
@@ -61,5 +75,88 @@ impl SendingStream {
         ensures { result ≡ is_sending self.now ssrc pt }
     {
         self.ssrc.get() == ssrc.get() && self.pt.get() == pt.get()
+    }
+
+    /// The datagrams of a sample, each of at most `limit` bytes with a payload of at most `mtu`: its
+    /// pieces one after the other, under consecutive numbers and one timestamp. An empty sample has
+    /// none and uses no number.
+    ///
+    /// # Errors
+    /// The first that holds of `StreamFailed`, `TimeTooLarge` and `LimitTooSmall`, which change
+    /// nothing; or `Memory`, and the stream sends no more.
+    pub fn push_sample(&mut self, time: MediaTime, bytes: &[u8]) -> Result<Vec<Datagram>, SampleError>
+        ensures sent { IfOk result (λ ds. ds.items ≡ sent_datagrams self.old time bytes.now) }
+        ensures accepted { OnOk result (refusal_of_sample self.old time ≡ None) }
+        ensures after { OnOk result (self.new ≡ after_sample self.old time bytes.now) }
+        ensures refused { IfErr result (λ e. e ≢ SampleError.Memory → refusal_of_sample self.old time ≡ Some e) }
+        ensures unchanged { IfErr result (λ e. e ≢ SampleError.Memory → self.new ≡ self.old) }
+        ensures failed { IfErr result (λ e. e ≡ SampleError.Memory → self.new ≡ failed_stream self.old) }
+    {
+        let time = self.timestamp(time)?;
+        match self.datagrams(time, bytes) {
+            Ok(datagrams) => {
+                self.next += datagrams.len() as u64;
+                Ok(datagrams)
+            }
+            Err(_) => {
+                self.failed = true;
+                Err(SampleError::Memory)
+            }
+        }
+    }
+
+    /// The timestamp of a sample, or why it is refused.
+    fn timestamp(&self, time: MediaTime) -> Result<u32, SampleError>
+        ensures word { IfOk result (λ word. word ≡ rebased_ticks time self.now.rate % 2 ^ 32) }
+        ensures accepted { OnOk result (refusal_of_sample self.now time ≡ None) }
+        ensures next { OnOk result (self.now.next < 2 ^ 62) }
+        ensures refused { IfErr result (λ e. (e ≢ SampleError.Memory) × (refusal_of_sample self.now time ≡ Some e)) }
+    {
+        if self.failed || self.next >= END_OF_NUMBERS {
+            return Err(SampleError::StreamFailed);
+        }
+        let time = time.checked_rebase(self.rate).ok_or(SampleError::TimeTooLarge)?;
+        if self.limit < FIXED_HEADER_LEN || self.limit - FIXED_HEADER_LEN < self.mtu {
+            return Err(SampleError::LimitTooSmall);
+        }
+        Ok((time.numer() % 0x1_0000_0000) as u32)
+    }
+
+    /// The datagrams of a sample of this timestamp.
+    fn datagrams(&self, time: u32, bytes: &[u8]) -> Result<Vec<Datagram>, AllocError>
+        requires { self.now.next < 2 ^ 62 }
+        ensures sent { IfOk result (λ ds. ds.items ≡ datagrams_from self.now self.now.next (payloads_of self.now.mtu (timed time bytes.now))) }
+        ensures count { IfOk result (λ ds. length ds.items ≤ length bytes.now) }
+    {
+        let exts = ExtensionMap::empty();
+        let mut datagrams = Vec::new(self.alloc);
+        let mut number = self.next;
+        for payload in bytes.chunks(self.mtu) {
+            let header = self.header(number, time);
+            datagrams.push(Datagram::new(self.alloc, &header, &exts, payload)?)?;
+            number += 1;
+        }
+        Ok(datagrams)
+    }
+
+    /// The header of the datagram of this number.
+    fn header(&self, number: u64, time: u32) -> RtpHeader
+        ensures header { result ≡ header_of self.now number time }
+        ensures payload_type { result.payload_type < 128 }
+    {
+        RtpHeader {
+            version: 2,
+            has_padding: false,
+            has_extension: false,
+            csrc_count: 0,
+            marker: false,
+            payload_type: self.pt,
+            sequence_number: (number % 65536) as u16,
+            timestamp: time,
+            ssrc: self.ssrc,
+            csrc: [0; 15],
+            ext_vals: ExtensionValues::absent(),
+            header_len: FIXED_HEADER_LEN,
+        }
     }
 }

@@ -1,0 +1,32 @@
+//! Why samples are refused.
+
+use std::alloc::{AllocError, AllocFailed};
+use thiserror::Error;
+
+/// Why a sample is not sent; of several reasons the first listed is answered.
+#[derive(Clone, Copy, Debug, PartialEq, Eq, Drop, Error)]
+pub enum SampleError {
+    /// Memory was wanting in the stream before, or its numbers are used up.
+    #[error("the stream sends no more")]
+    StreamFailed,
+    /// The time does not fit 64 bits at the stream's clock.
+    #[error("the time is too large")]
+    TimeTooLarge,
+    /// A payload of `mtu` bytes and its header pass the limit of a datagram.
+    #[error("a datagram would pass the limit")]
+    LimitTooSmall,
+    /// Memory was wanting.
+    #[error("out of memory")]
+    Memory,
+}
+
+impl From<AllocError> for SampleError {
+    ghost use Rattle.std.specs.Prelude.{◌≡◌};
+    ghost use Rattle.rtp_media_streams.specs.declared.errors.SampleError.TheVariants.{Memory};
+
+    ghost from_gives = { λ _ e. e ≡ Memory };
+
+    fn from(_error: AllocError) -> SampleError {
+        SampleError::Memory
+    }
+}
