@@ -1,0 +1,5 @@
+pub mod Each
+pub mod LineCases
+pub mod Numbers
+pub mod ReadBack
+pub mod Splits

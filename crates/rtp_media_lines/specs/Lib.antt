@@ -1,0 +1,4 @@
+pub mod Lines
+pub mod Misreads
+pub mod Replies
+pub mod Words
