@@ -3,7 +3,7 @@ use Rattle.std.specs.Int.{w16, w32, from_be_bytes}
 use Rattle.rtp_wire_extensions.specs.Values.{Numbering, Block, absent, values_of, block_of, image_values}
 use Rattle.rtp_wire_extensions.specs.declared.values.ExtensionValues.{ExtensionValues}
 use Rattle.rtp_wire.specs.declared.header.RtpHeader.{RtpHeader}
-use Rattle.rtp_wire.specs.Layout.{Layout, layout_bytes}
+use Rattle.rtp_wire.specs.Layout.{Layout, is_some_block, layout_bytes, IsLayout}
 
 -- Numbers of two and of four bytes at a place.
 abbrev pub half_at : List ℕ → ℕ → ℕ
@@ -73,6 +73,44 @@ fields_in map bytes = record {
 -- The header in front of a datagram, where there is one (RFC 3550 5.1).
 abbrev pub header_in : Numbering → List ℕ → Option RtpHeader
 header_in map bytes = if is_header bytes then Some (fields_in map bytes) else None
+
+-- The header that a layout means.
+abbrev pub header_of : Numbering → Layout → RtpHeader
+header_of map l = record {
+  version = 2;
+  has_padding = l.padding;
+  has_extension = is_some_block l.extension;
+  csrc_count = length l.csrc;
+  marker = l.marker;
+  payload_type = l.payload_type;
+  sequence_number = l.number;
+  timestamp = l.time;
+  ssrc = l.ssrc;
+  csrc = slots l.csrc;
+  ext_vals = values_in map l.extension;
+  header_len = length (layout_bytes l);
+}
+
+-- What the header in front of the bytes says.
+abbrev pub layout_in : List ℕ → Layout
+layout_in bytes = record {
+  padding = has_bit (slice_index bytes 0) 32;
+  marker = has_bit (slice_index bytes 1) 128;
+  payload_type = slice_index bytes 1 % 128;
+  number = half_at bytes 2;
+  time = word_at bytes 4;
+  ssrc = word_at bytes 8;
+  csrc = words_in (csrc_count_in bytes) (drop 12 bytes);
+  extension = block_in bytes;
+}
+
+-- The bytes begin with a header that means this one: some layout spells it, with anything behind.
+pub record IsSpelled (map : Numbering) (bytes : List ℕ) (header : RtpHeader) : Type 0 where
+  pub layout : Layout
+  pub rest : List ℕ
+  pub sound : IsLayout layout
+  pub spelling : bytes ≡ layout_bytes layout ++ rest
+  pub meaning : header ≡ header_of map layout
 
 -- The payload behind the header.
 abbrev pub payload_in : RtpHeader → List ℕ → List ℕ

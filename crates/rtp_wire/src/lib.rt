@@ -10,7 +10,7 @@ mod window;
 mod writing;
 
 pub use header::RtpHeader;
-pub use laws::{widening_laws, window_laws};
+pub use laws::{header_laws, widening_laws, window_laws};
 pub use padding::unpad_payload;
 pub use rtp_wire_extensions::{
     AbsCaptureTime, Extension, ExtensionMap, ExtensionValues, MAX_ID, MAX_ID_ONE_BYTE_FORM, Uri,
