@@ -1,5 +1,5 @@
 -- What each reply prints.
-use Rattle.std.specs.Prelude.{ℕ, List, [], ◌∷◌, ◌++◌, codes, decimal}
+use Rattle.std.specs.Prelude.{ℕ, Bool, true, false, List, [], ◌∷◌, ◌++◌, codes, decimal}
 use Rattle.hex.specs.Hex.{encode_lower}
 use Rattle.rtp_media_lines.specs.declared.reply.ErrorName.{ErrorName}
 use Rattle.rtp_media_lines.specs.declared.reply.ErrorName.TheVariants.{NoSection, RowNotAgreed, RowDiffers, WrongDirection, SsrcNotNamed, AlreadyOpen, Memory, StreamFailed, TimeTooLarge, LimitTooSmall, Payload}
@@ -50,3 +50,7 @@ reply_words (Fault name) = codes "fault" ∷ name_of name ∷ []
 -- the printed line
 abbrev pub reply_text : Reply → List ℕ
 reply_text reply = text_line (reply_words reply)
+
+abbrev pub is_error_line : Reply → Bool
+is_error_line ErrorLine = true
+is_error_line reply = false

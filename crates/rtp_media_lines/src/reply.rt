@@ -1,10 +1,12 @@
 //! What the program prints.
 
 ghost use Rattle.std.specs.Prelude.{◌≡◌, ◌++◌, IfOk, OnOk, OnErr, string_bytes, [], ◌∷◌};
-ghost use Rattle.std.specs.List.{flat_map};
-ghost use Rattle.rtp_media_lines.specs.Replies.{name_of, reply_text, hex_text, text_line};
+ghost use Rattle.std.specs.List.{flat_map, list_any};
+ghost use Rattle.rtp_media_lines.specs.Runs.{status_of};
+ghost use Rattle.rtp_media_lines.specs.Replies.{name_of, reply_text, hex_text, is_error_line, text_line};
 
 use crate::owned::Bytes;
+use crate::status::Status;
 use std::alloc::{AllocError, Global};
 
 /// The name of an error's variant, without what the variant holds.
@@ -136,6 +138,13 @@ impl Reply {
         }
     }
 
+    /// Is it an `error line`?
+    pub fn is_error_line(&self) -> bool
+        ensures { result ≡ is_error_line self.now }
+    {
+        matches!(self, Reply::ErrorLine)
+    }
+
     /// Prints the line at the end of `out`.
     ///
     /// # Errors
@@ -179,4 +188,21 @@ pub fn print(alloc: Global, replies: &[Reply]) -> Result<Vec<u8>, AllocError>
         reply.append_to(alloc, &mut text)?;
     }
     Ok(text)
+}
+
+/// Whether an `error line` is among the replies.
+pub(crate) fn status_of(replies: &[Reply]) -> Status
+    ensures { result ≡ status_of replies.now }
+{
+    if has_error_line(replies) {
+        Status::ErrorLine
+    } else {
+        Status::Success
+    }
+}
+
+fn has_error_line(replies: &[Reply]) -> bool
+    ensures { result ≡ list_any is_error_line replies.now }
+{
+    replies.iter().any(|reply| reply.is_error_line())
 }
