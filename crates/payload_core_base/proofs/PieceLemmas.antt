@@ -1,11 +1,11 @@
 -- What the pieces of a text are, one after the other.
-use Rattle.std.proofs.Common.{◌≡◌, ℕ, zero, suc, ◌+◌, ◌-◌, ◌*◌, ◌/◌, ◌<◌, ◌≤◌, List, [], ◌∷◌, ◌++◌, map, length, take, drop, refl, sym, ap, subst, ◌∙◌, arith, inl, inr}
+use Rattle.std.proofs.Common.{◌≡◌, ℕ, zero, suc, ◌+◌, ◌-◌, ◌*◌, ◌/◌, ◌<◌, ◌≤◌, List, [], ◌∷◌, ◌++◌, map, length, min, take, drop, refl, sym, ap, subst, ◌∙◌, arith, inl, inr}
 use Rattle.std.specs.List.{range_with_len, All}
-use Rattle.std.proofs.lemmas.List.{length-take, length-drop, take-append-drop}
+use Rattle.std.proofs.lemmas.List.{length-take, length-drop, length-append, take-append-drop, take_all, drop_all, append-nil}
 use Rattle.std.proofs.lemmas.List.Concat.{flat_map-cons}
 use Rattle.std.proofs.lemmas.List.Elements.{All-cons, All-nil}
 use Rattle.std.proofs.lemmas.Bool.{cases_lt}
-use Rattle.std.proofs.Math.Seq.{drop-nil}
+use Rattle.std.proofs.Math.Seq.{drop-nil, take-append_seam, drop-append_seam}
 use Rattle.std.proofs.Math.Nat.{add-div_right, div-eq_of_lt, div-zero}
 use Rattle.payload_core_base.specs.Pieces.{pieces, piece_at, piece_count}
 use Rattle.payload_core_base.specs.Law.{AreFull, joined}
@@ -126,3 +126,23 @@ module _ (limit : ℕ) (some_limit : 0 < limit) where
 
   pub pieces-full : (text : List ℕ) → AreFull limit (pieces limit text)
   pieces-full text = full_within (length text) text (omega arith)
+
+-- cut from the front: a piece of the limit's size, or of what is left, and the pieces of what is behind it
+pub pieces-next : (limit : ℕ) (text piece rest : List ℕ) → 0 < limit → 0 < length text → text ≡ piece ++ rest → length piece ≡ min limit (length text) → pieces limit text ≡ piece ∷ pieces limit rest
+pieces-next limit text piece rest some_limit some_byte parts size = elim (cases_lt (length text) limit) [
+  | inl short ↦
+      let none_left : rest ≡ [] = no_byte rest (omega (arith, length-append piece rest, ap length parts)) in
+      let all : take limit text ≡ text = take_all limit text (omega arith) in
+      let gone : drop limit text ≡ [] = drop_all limit text (omega arith) in
+      let piece_is : text ≡ piece = parts ∙ ap (λ (t : List ℕ). piece ++ t) none_left ∙ append-nil piece in
+      pieces-step limit text some_limit some_byte ∙ ap (λ p. p ∷ pieces limit (drop limit text)) (all ∙ piece_is) ∙ ap (λ t. piece ∷ pieces limit t) (gone ∙ sym none_left)
+  | inr more ↦
+      let whole : length piece ≡ limit = omega arith in
+      let front : take limit text ≡ piece = ap (λ n. take n text) (sym whole) ∙ ap (take (length piece)) parts ∙ take-append_seam piece rest in
+      let back : drop limit text ≡ rest = ap (λ n. drop n text) (sym whole) ∙ ap (drop (length piece)) parts ∙ drop-append_seam piece rest in
+      pieces-step limit text some_limit some_byte ∙ ap (λ p. p ∷ pieces limit (drop limit text)) front ∙ ap (λ t. piece ∷ pieces limit t) back
+]
+
+-- at the end no piece is left
+pub pieces-end : (limit : ℕ) (text : List ℕ) → length text ≡ 0 → pieces limit text ≡ []
+pieces-end limit text e = ap (pieces limit) (no_byte text (omega arith)) ∙ pieces-empty limit

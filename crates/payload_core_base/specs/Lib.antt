@@ -2,4 +2,6 @@ pub mod Codecs
 pub mod Format
 pub mod Packing
 pub mod Pieces
+pub mod Telephone
+pub mod TelephoneReports
 pub mod Law

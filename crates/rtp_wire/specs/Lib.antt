@@ -1,5 +1,10 @@
+pub use Rattle.rtp_wire_extensions.specs.Values
+pub use Rattle.rtp_wire_extensions.specs.Written
 pub use Rattle.rtp_wire_ids.specs.Direction
+pub use Rattle.rtp_wire_ids.specs.Name
 pub use Rattle.rtp_wire_time.specs.Time
+pub mod Header
+pub mod Layout
 pub mod Padding
 pub mod Replay
 pub mod Ring

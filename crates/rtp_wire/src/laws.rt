@@ -1,6 +1,10 @@
 //! What holds of all sequence numbers and of every window.
 
-ghost use Rattle.std.specs.Prelude.{◌≡◌, ℕ, ◌+◌, ◌%◌, ◌^◌, ◌<◌, ◌||◌, List, ◌∷◌, nat_le};
+ghost use Rattle.std.specs.Prelude.{◌≡◌, ◌++◌, Some, false, length, ℕ, ◌+◌, ◌%◌, ◌^◌, ◌<◌, ◌||◌, List, ◌∷◌, nat_le};
+ghost use Rattle.rtp_wire_extensions.specs.Values.{Numbering};
+ghost use Rattle.rtp_wire.specs.declared.header.RtpHeader.{RtpHeader};
+ghost use Rattle.rtp_wire.specs.Header.{header_in, header_of, spelled, image, payload_in, IsSpelled, IsWritable};
+ghost use Rattle.rtp_wire.specs.Layout.{Layout, layout_bytes, IsBytes, IsLayout};
 ghost use Rattle.rtp_wire.specs.Widening.{widened_of, IsNearestOf};
 ghost use Rattle.rtp_wire.specs.Replay.{accepts, window_at, window_after, window_with_all, greatest_of, is_among, is_new};
 
@@ -22,6 +26,23 @@ pub fn widening_laws()
     ensures nearest_u32 { (previous low : ℕ) → previous < 2 ^ 64 → low < 4294967296 → IsNearestOf 2147483648 previous low (widened_of 2147483648 (Some previous) low) }
     ensures finds_u32 { (previous number : ℕ) → number < previous + 2147483648 → previous < number + 2147483648 → previous < 2 ^ 64 → number < 2 ^ 64 →
         widened_of 2147483648 (Some previous) (number % 4294967296) ≡ number }
+{}
+
+/// What a header is on the wire. Bytes in which a header is read begin with what spells it; what
+/// spells a header is read as that header, whatever stands behind it, so bytes in which none is read
+/// begin with nothing that spells one. What was written reads as its wire image, and is whole words.
+pub fn header_laws()
+    ensures found { (map : Numbering) (bytes : List ℕ) (header : RtpHeader) → IsBytes bytes →
+        header_in map bytes ≡ Some header → IsSpelled map bytes header }
+    ensures only { (map : Numbering) (layout : Layout) (rest : List ℕ) → IsLayout layout →
+        header_in map (layout_bytes layout ++ rest) ≡ Some (header_of map layout) }
+    ensures wire_image { (map : Numbering) (header : RtpHeader) (rest : List ℕ) → IsWritable header →
+        header_in map (spelled map header ++ rest) ≡ Some (image map header) }
+    ensures payload { (map : Numbering) (header : RtpHeader) (payload : List ℕ) →
+        payload_in (image map header) (spelled map header ++ payload) ≡ payload }
+    ensures whole_words { (map : Numbering) (header : RtpHeader) → length (spelled map header) % 4 ≡ 0 }
+    ensures least { (map : Numbering) (header : RtpHeader) → header.csrc_count ≡ 0 →
+        header.has_extension ≡ false → length (spelled map header) ≡ 12 }
 {}
 
 /// After any list of updates a window accepts exactly the numbers above the greatest one, and those

@@ -1,0 +1,71 @@
+-- Payloads without a header: each packet is a piece of a sample.
+use Rattle.std.specs.Prelude.{ℕ, ◌<◌, ◌≤◌, Bool, true, false, List, [], ◌∷◌, map, length, nat_lt, Result, Ok, Err, if◌then◌else◌}
+use Rattle.payload_core_base.specs.Format.{Format, Fragment, Reading}
+use Rattle.payload_core_base.specs.Law.{Coding}
+use Rattle.payload_core_base.specs.Packing.{Packing, Sender, Sent}
+use Rattle.payload_core_base.specs.Pieces.{pieces}
+use Rattle.payload_core_base.specs.declared.error.PacketError.{PacketError}
+use Rattle.payload_core_base.specs.declared.error.PacketError.TheVariants.{ErrShortPacket, ErrPayloadTooLarge}
+use Rattle.payload_core_base.specs.declared.extra.CodecExtra.{CodecExtra}
+
+-- What a packetizer has that keeps nothing between samples.
+abbrev pub idle_sender : Sender
+idle_sender = record { number = 0; waiting = [] }
+
+-- The sample is sent as these packets, and nothing is kept.
+abbrev pub sent_as : Sender → List (List ℕ) → Result Sent PacketError
+sent_as sender packets = Ok (record { packets = packets; sender = sender })
+
+-- No audio packet has a marker.
+abbrev pub no_marker : List ℕ → Bool → Bool
+no_marker packet last = false
+
+-- Opus, G.711 and G.722: the pieces of the limit (RFC 7587 4.2, RFC 3551 4.5).
+abbrev pub pieces_packing : Packing
+pieces_packing = record { pack = λ sender limit sample. sent_as sender (pieces limit sample); marks = no_marker }
+
+-- The one packet of a sample that can't be cut: none for an empty sample, and none that passes the limit.
+abbrev pub pack_whole : Sender → ℕ → List ℕ → Result Sent PacketError
+pack_whole sender limit [] = sent_as sender []
+pack_whole sender limit (b ∷ bs) = if nat_lt limit (length (b ∷ bs)) then Err ErrPayloadTooLarge else sent_as sender ((b ∷ bs) ∷ [])
+
+-- Comfort noise: the sample as it is (RFC 3389 4).
+abbrev pub noise_packing : Packing
+noise_packing = record { pack = pack_whole; marks = no_marker }
+
+-- A packet with a byte is written as it is.
+abbrev pub read_plain : Fragment → CodecExtra → List ℕ → Result Reading PacketError
+read_plain fragment extra [] = Err ErrShortPacket
+read_plain fragment extra (b ∷ bs) = Ok (record { written = b ∷ bs; extra = extra; fragment = fragment })
+
+-- Every packet is a head and a tail.
+abbrev pub plain_format : Format
+plain_format = record { head = λ packet. true; tail = λ marker packet. true; read = read_plain }
+
+-- A piece is a unit of one part.
+abbrev pub unit_of_piece : List ℕ → List (List ℕ)
+unit_of_piece piece = piece ∷ []
+
+-- Every state is reached.
+abbrev pub AnySender : Sender → Type 0
+AnySender sender = Unit {0}
+
+-- Opus, G.711 and G.722: a sample with a byte is well-formed, and its units are its pieces.
+abbrev pub pieces_coding : Coding
+pieces_coding = record {
+  packing = pieces_packing;
+  format = plain_format;
+  IsReached = AnySender;
+  IsWellFormed = λ limit sample. 0 < length sample;
+  units = λ sender limit sample. map unit_of_piece (pieces limit sample);
+}
+
+-- Comfort noise: a sample with a byte that doesn't pass the limit is well-formed, and is its unit.
+abbrev pub noise_coding : Coding
+noise_coding = record {
+  packing = noise_packing;
+  format = plain_format;
+  IsReached = AnySender;
+  IsWellFormed = λ limit sample. (0 < length sample) × (length sample ≤ limit);
+  units = λ sender limit sample. unit_of_piece sample ∷ [];
+}

@@ -1,0 +1,39 @@
+//! Cutting and reading payloads without a header of their own.
+
+ghost use Rattle.payload_core_base.specs.Pieces.{pieces};
+ghost use Rattle.payload_core_audio.specs.Plain.{idle_sender, pack_whole, sent_as};
+ghost use Rattle.std.specs.Prelude.{◌≡◌, ◌≢◌, Err, IfErr, IfOk, map};
+
+use payload_core_base::PacketError;
+use std::alloc::Global;
+
+/// The pieces of a sample at a limit.
+pub fn cut(alloc: Global, limit: usize, bytes: &[u8]) -> Result<Vec<Vec<u8>>, PacketError>
+    ensures pieces { IfOk result (λ ps. map (λ p. p.items) ps.items ≡ pieces limit bytes.now) }
+    ensures memory { IfErr result (λ e. e ≡ PacketError.Memory) }
+{
+    let mut packets = Vec::new(alloc);
+    if limit == 0 {
+        return Ok(packets);
+    }
+    for piece in bytes.chunks(limit) {
+        packets.push(Vec::from_slice(alloc, piece)?)?;
+    }
+    Ok(packets)
+}
+
+/// The one packet of a sample that isn't cut; none of an empty sample.
+pub fn whole(alloc: Global, limit: usize, bytes: &[u8]) -> Result<Vec<Vec<u8>>, PacketError>
+    ensures packets { IfOk result (λ ps. pack_whole idle_sender limit bytes.now ≡ sent_as idle_sender (map (λ p. p.items) ps.items)) }
+    ensures refused { IfErr result (λ e. e ≢ PacketError.Memory → pack_whole idle_sender limit bytes.now ≡ Err e) }
+{
+    let mut packets = Vec::new(alloc);
+    if bytes.is_empty() {
+        return Ok(packets);
+    }
+    if bytes.len() > limit {
+        return Err(PacketError::ErrPayloadTooLarge);
+    }
+    packets.push(Vec::from_slice(alloc, bytes)?)?;
+    Ok(packets)
+}

@@ -1,0 +1,82 @@
+//! G.711 and G.722 payloads (RFC 3551 4.5).
+
+ghost use Rattle.payload_core_audio.specs.Plain.{idle_sender, pieces_packing, plain_format};
+ghost use Rattle.std.specs.Prelude.{None};
+
+use crate::cut::cut;
+use payload_core_base::{CodecExtra, Depacketizer, PacketError, Packetizer};
+use std::alloc::Global;
+
+/// Cuts G.711 and G.722 samples into pieces of the limit (RFC 3551 4.5.14 and 4.5.2).
+#[derive(Clone, Copy, Debug, Drop)]
+pub struct G7xxPacketizer;
+
+impl G7xxPacketizer {
+    /// A packetizer, which keeps nothing between samples.
+    pub fn new() -> Self {
+        G7xxPacketizer
+    }
+}
+
+impl Packetizer for G7xxPacketizer {
+    ghost packing = { λ _. pieces_packing };
+
+    ghost sender = { λ _. idle_sender };
+
+    fn packetize(
+        &mut self,
+        alloc: Global,
+        mtu: usize,
+        bytes: &[u8],
+    ) -> Result<Vec<Vec<u8>>, PacketError> {
+        cut(alloc, mtu, bytes)
+    }
+
+    fn is_marker(&mut self, _bytes: &[u8], _previous: Option<&[u8]>, _last: bool) -> bool {
+        false
+    }
+}
+
+/// Cuts PCMU and PCMA samples.
+pub type G711Packetizer = G7xxPacketizer;
+
+/// Cuts G.722 samples.
+pub type G722Packetizer = G7xxPacketizer;
+
+/// Hands out each G.711 or G.722 packet as a unit (RFC 3551 4.5).
+#[derive(Clone, Copy, Debug, Drop)]
+pub struct G711Depacketizer;
+
+impl G711Depacketizer {
+    /// A depacketizer, which keeps nothing between packets.
+    pub fn new() -> Self {
+        G711Depacketizer
+    }
+}
+
+impl Depacketizer for G711Depacketizer {
+    ghost format = { λ _. plain_format };
+
+    ghost fragment = { λ _. None };
+
+    fn depacketize(
+        &mut self,
+        packet: &[u8],
+        out: &mut Vec<u8>,
+        _extra: &mut CodecExtra,
+    ) -> Result<(), PacketError> {
+        if packet.is_empty() {
+            return Err(PacketError::ErrShortPacket);
+        }
+        out.extend_from_slice(packet)?;
+        Ok(())
+    }
+
+    fn is_partition_head(&self, _packet: &[u8]) -> bool {
+        true
+    }
+
+    fn is_partition_tail(&self, _marker: bool, _packet: &[u8]) -> bool {
+        true
+    }
+}

@@ -1,0 +1,76 @@
+//! Opus payloads (RFC 7587 4.2).
+
+ghost use Rattle.payload_core_audio.specs.Plain.{idle_sender, pieces_packing, plain_format};
+ghost use Rattle.std.specs.Prelude.{None};
+
+use crate::cut::cut;
+use payload_core_base::{CodecExtra, Depacketizer, PacketError, Packetizer};
+use std::alloc::Global;
+
+/// Cuts Opus samples into pieces of the limit (RFC 7587 4.2).
+#[derive(Clone, Copy, Debug, Drop)]
+pub struct OpusPacketizer;
+
+impl OpusPacketizer {
+    /// A packetizer, which keeps nothing between samples.
+    pub fn new() -> Self {
+        OpusPacketizer
+    }
+}
+
+impl Packetizer for OpusPacketizer {
+    ghost packing = { λ _. pieces_packing };
+
+    ghost sender = { λ _. idle_sender };
+
+    fn packetize(
+        &mut self,
+        alloc: Global,
+        mtu: usize,
+        bytes: &[u8],
+    ) -> Result<Vec<Vec<u8>>, PacketError> {
+        cut(alloc, mtu, bytes)
+    }
+
+    fn is_marker(&mut self, _bytes: &[u8], _previous: Option<&[u8]>, _last: bool) -> bool {
+        false
+    }
+}
+
+/// Hands out each Opus packet as a unit (RFC 7587 4.2).
+#[derive(Clone, Copy, Debug, Drop)]
+pub struct OpusDepacketizer;
+
+impl OpusDepacketizer {
+    /// A depacketizer, which keeps nothing between packets.
+    pub fn new() -> Self {
+        OpusDepacketizer
+    }
+}
+
+impl Depacketizer for OpusDepacketizer {
+    ghost format = { λ _. plain_format };
+
+    ghost fragment = { λ _. None };
+
+    fn depacketize(
+        &mut self,
+        packet: &[u8],
+        out: &mut Vec<u8>,
+        _extra: &mut CodecExtra,
+    ) -> Result<(), PacketError> {
+        if packet.is_empty() {
+            return Err(PacketError::ErrShortPacket);
+        }
+        out.extend_from_slice(packet)?;
+        Ok(())
+    }
+
+    fn is_partition_head(&self, _packet: &[u8]) -> bool {
+        true
+    }
+
+    fn is_partition_tail(&self, _marker: bool, _packet: &[u8]) -> bool {
+        true
+    }
+}

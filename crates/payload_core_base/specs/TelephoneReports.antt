@@ -1,0 +1,8 @@
+use Rattle.std.specs.Prelude.{List}
+use Rattle.payload_core_base.specs.declared.telephone_event.TelephoneEvent.{TelephoneEvent}
+use Rattle.payload_core_base.specs.declared.telephone_event.TelephoneEvents.{TelephoneEvents}
+use Rattle.payload_core_base.specs.Telephone.{events_of}
+
+-- The reports that are still to come.
+abbrev pub events_left : TelephoneEvents → List TelephoneEvent
+events_left events = events_of events.clock_rate events.rest.now

@@ -1,0 +1,9 @@
+pub mod Input
+pub mod Lines
+pub mod Misreads
+pub mod Progress
+pub mod Replies
+pub mod Runs
+pub mod Statuses
+pub mod Words
+pub mod Writes

@@ -1,0 +1,91 @@
+-- What each line of the program says. A later line is one more case of `command_of`.
+use Rattle.std.specs.Prelude.{ℕ, ◌==◌, ◌^◌, if◌then◌else◌, List, [], ◌∷◌, length, codes, Option, None, Some}
+use Rattle.std.specs.Str.{bytes_eq, is_utf8}
+use Rattle.rtp_media_lines.specs.declared.line.Line.{Line}
+use Rattle.rtp_media_lines.specs.declared.line.Line.TheVariants as line
+use Rattle.rtp_media_lines.specs.declared.line.Command.{Command}
+use Rattle.rtp_media_lines.specs.declared.line.Command.TheVariants.{Fixed, Send, Open, Sample, Receive, Poll}
+use Rattle.std.specs.Option.{option_map}
+use Rattle.rtp_media_lines.specs.Words.{words_of, side_of, text_of, hex_of, dash_or, numbers_of, number_below, first, ended, ◌>>=◌}
+
+-- fixed E
+unfoldable pub fixed_of : List (List ℕ) → Option Command
+fixed_of words = do
+  side ← first side_of words
+  ended side.1 (Fixed side.0)
+
+-- send E MID SSRC PT FIRST MTU LIMIT DISTANCES PICTUREID
+unfoldable pub send_of : List (List ℕ) → Option Command
+send_of words = do
+  side ← first side_of words
+  mid ← first text_of side.1
+  ssrc ← first (number_below (2 ^ 32)) mid.1
+  pt ← first (number_below (2 ^ 8)) ssrc.1
+  number ← first (number_below (2 ^ 64)) pt.1
+  mtu ← first (number_below (2 ^ 64)) number.1
+  limit ← first (number_below (2 ^ 64)) mtu.1
+  distances ← first (dash_or numbers_of) limit.1
+  picture ← first (dash_or (number_below (2 ^ 16))) distances.1
+  ended picture.1 (Send (record {
+    side = side.0;
+    mid = mid.0;
+    ssrc = ssrc.0;
+    pt = pt.0;
+    first = number.0;
+    mtu = mtu.0;
+    limit = limit.0;
+    distances = distances.0;
+    picture_id = picture.0;
+  }))
+
+-- open E MID SSRC PT HOLDBACK
+unfoldable pub open_of : List (List ℕ) → Option Command
+open_of words = do
+  side ← first side_of words
+  mid ← first text_of side.1
+  ssrc ← first (number_below (2 ^ 32)) mid.1
+  pt ← first (number_below (2 ^ 8)) ssrc.1
+  hold_back ← first (number_below (2 ^ 64)) pt.1
+  ended hold_back.1 (Open (record { side = side.0; mid = mid.0; ssrc = ssrc.0; pt = pt.0; hold_back = hold_back.0 }))
+
+-- sample E N TIME HEX
+unfoldable pub sample_of : List (List ℕ) → Option Command
+sample_of words = do
+  side ← first side_of words
+  stream ← first (number_below (2 ^ 64)) side.1
+  time ← first (number_below (2 ^ 64)) stream.1
+  sample ← first hex_of time.1
+  ended sample.1 (Sample (record { side = side.0; stream = stream.0; time = time.0; sample = sample.0 }))
+
+-- receive E HEX
+unfoldable pub receive_of : List (List ℕ) → Option Command
+receive_of words = do
+  side ← first side_of words
+  datagram ← first hex_of side.1
+  ended datagram.1 (Receive (record { side = side.0; datagram = datagram.0 }))
+
+-- poll E N
+unfoldable pub poll_of : List (List ℕ) → Option Command
+poll_of words = do
+  side ← first side_of words
+  stream ← first (number_below (2 ^ 64)) side.1
+  ended stream.1 (Poll (record { side = side.0; stream = stream.0 }))
+
+-- a command by its first word
+abbrev pub command_of : List (List ℕ) → Option Command
+command_of [] = None
+command_of (verb ∷ words) =
+    if bytes_eq verb (codes "fixed") then fixed_of words
+    else if bytes_eq verb (codes "send") then send_of words
+    else if bytes_eq verb (codes "open") then open_of words
+    else if bytes_eq verb (codes "sample") then sample_of words
+    else if bytes_eq verb (codes "receive") then receive_of words
+    else if bytes_eq verb (codes "poll") then poll_of words
+    else None
+
+-- what a line says, where it is understood
+unfoldable pub line_of : List ℕ → Option Line
+line_of bytes =
+    if length bytes == 0 then Some line.Empty
+    else if is_utf8 bytes then option_map line.Command (command_of (words_of bytes))
+    else None

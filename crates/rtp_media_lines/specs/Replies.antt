@@ -1,0 +1,56 @@
+-- What each reply prints.
+use Rattle.std.specs.Prelude.{ℕ, Bool, true, false, List, [], ◌∷◌, ◌++◌, codes, decimal}
+use Rattle.hex.specs.Hex.{encode_lower}
+use Rattle.rtp_media_lines.specs.declared.reply.ErrorName.{ErrorName}
+use Rattle.rtp_media_lines.specs.declared.reply.ErrorName.TheVariants.{NoSection, RowNotAgreed, RowDiffers, WrongDirection, SsrcNotNamed, AlreadyOpen, Memory, StreamFailed, TimeTooLarge, LimitTooSmall, Payload}
+use Rattle.rtp_media_lines.specs.declared.reply.Reply.{Reply}
+use Rattle.rtp_media_lines.specs.declared.reply.Reply.TheVariants.{Done, ErrorLine, Refused, Sender, Receiver, Datagram, Unreadable, Foreign, Damaged, NotTaken, Taken, NextUnit, NoUnit, Fault}
+
+abbrev pub name_of : ErrorName → List ℕ
+name_of NoSection = codes "NoSection"
+name_of RowNotAgreed = codes "RowNotAgreed"
+name_of RowDiffers = codes "RowDiffers"
+name_of WrongDirection = codes "WrongDirection"
+name_of SsrcNotNamed = codes "SsrcNotNamed"
+name_of AlreadyOpen = codes "AlreadyOpen"
+name_of Memory = codes "Memory"
+name_of StreamFailed = codes "StreamFailed"
+name_of TimeTooLarge = codes "TimeTooLarge"
+name_of LimitTooSmall = codes "LimitTooSmall"
+name_of Payload = codes "Payload"
+
+-- words parted by single blanks, and a line feed
+abbrev pub text_line : List (List ℕ) → List ℕ
+text_line [] = 10 ∷ []
+text_line (word ∷ []) = word ++ 10 ∷ []
+text_line (word ∷ next ∷ words) = word ++ 32 ∷ text_line (next ∷ words)
+
+-- two hexadecimal digits in lower case for each byte, or a dash for none
+abbrev pub hex_text : List ℕ → List ℕ
+hex_text [] = codes "-"
+hex_text (byte ∷ bytes) = encode_lower (byte ∷ bytes)
+
+-- the words of a reply
+abbrev pub reply_words : Reply → List (List ℕ)
+reply_words Done = codes "ok" ∷ []
+reply_words ErrorLine = codes "error" ∷ codes "line" ∷ []
+reply_words (Refused name) = codes "refused" ∷ name_of name ∷ []
+reply_words (Sender stream) = codes "sender" ∷ decimal stream ∷ []
+reply_words (Receiver stream) = codes "receiver" ∷ decimal stream ∷ []
+reply_words (Datagram bytes) = codes "datagram" ∷ hex_text bytes ∷ []
+reply_words Unreadable = codes "unreadable" ∷ []
+reply_words Foreign = codes "foreign" ∷ []
+reply_words Damaged = codes "damaged" ∷ []
+reply_words NotTaken = codes "refused" ∷ []
+reply_words (Taken stream number) = codes "taken" ∷ decimal stream ∷ decimal number ∷ []
+reply_words (NextUnit first last time unit) = codes "unit" ∷ decimal first ∷ decimal last ∷ decimal time ∷ hex_text unit ∷ []
+reply_words NoUnit = codes "none" ∷ []
+reply_words (Fault name) = codes "fault" ∷ name_of name ∷ []
+
+-- the printed line
+abbrev pub reply_text : Reply → List ℕ
+reply_text reply = text_line (reply_words reply)
+
+abbrev pub is_error_line : Reply → Bool
+is_error_line ErrorLine = true
+is_error_line reply = false

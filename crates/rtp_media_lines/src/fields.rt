@@ -1,0 +1,165 @@
+//! What single words say, and the readers of a line's next word.
+
+ghost use Rattle.std.specs.Prelude.{◌≡◌, ◌+◌, ◌^◌, ◌≤◌, ◌++◌, List, [], ◌∷◌, Some, None, IsTrue, IfSome, ◌↔◌, slice_index, IfOk};
+ghost use Rattle.std.specs.Option.{option_copied};
+ghost use Rattle.rtp_media_lines.specs.Words.{side_of, number_below, text_of, hex_of, dash_or, numbers_of, comma_parts, parts_in, first};
+ghost use Rattle.rtp_media_lines.specs.Misreads.{Reads};
+
+use crate::misread::Misread;
+use crate::owned::{Bytes, Text};
+use crate::words::{Side, Words};
+use hex::FromHexError;
+use std::alloc::Global;
+
+/// The end that a letter names.
+fn side_of(word: &str) -> Option<Side>
+    ensures { result ≡ side_of word.now }
+{
+    if word == "a" {
+        Some(Side::A)
+    } else if word == "b" {
+        Some(Side::B)
+    } else {
+        None
+    }
+}
+
+/// Does the word begin with a plus sign?
+fn has_plus(word: &str) -> bool
+    ensures { IsTrue result ↔ (slice_index word.now 0 ≡ 43) }
+{
+    match word.as_bytes() {
+        [first, ..] => *first == b'+',
+        [] => false,
+    }
+}
+
+/// The number of 64 bits that decimal digits write.
+fn number_of(word: &str) -> Option<u64>
+    ensures { result ≡ number_below (2 ^ 64) word.now }
+{
+    // The parser of std takes a plus sign too.
+    if has_plus(word) {
+        return None;
+    }
+    word.parse::<u64>().ok()
+}
+
+/// The number up to `max` that decimal digits write.
+fn number_up_to(word: &str, max: u64) -> Option<u64>
+    ensures value { result ≡ number_below (max + 1) word.now }
+    ensures bound { IfSome result (λ n. n ≤ max) }
+{
+    let number = number_of(word)?;
+    if number <= max { Some(number) } else { None }
+}
+
+/// The bytes that hexadecimal digits write.
+fn hex_of(alloc: Global, word: &str) -> Result<Bytes, Misread>
+    ensures { Reads result (hex_of word.now) }
+{
+    if word == "-" {
+        return Ok(Bytes::from_vec(Vec::new(alloc)));
+    }
+    if word.is_empty() {
+        return Err(Misread::NotUnderstood);
+    }
+    match hex::decode(alloc, word) {
+        Ok(bytes) => Ok(Bytes::from_vec(bytes)),
+        Err(fault) => match fault {
+            FromHexError::OutOfMemory => Err(Misread::Memory),
+            _ => Err(Misread::NotUnderstood),
+        },
+    }
+}
+
+/// The numbers below 256 that stand between single commas.
+fn numbers_of(alloc: Global, word: &str) -> Result<Bytes, Misread>
+    ensures { Reads result (numbers_of word.now) }
+{
+    let mut numbers = Vec::new(alloc);
+    let mut rest = Some(word);
+    while let Some(text) = rest {
+        let (number, after) = split_comma(text);
+        let number = number_up_to(number, u8::MAX as u64).ok_or(Misread::NotUnderstood)?;
+        numbers.push(number as u8)?;
+        rest = after;
+    }
+    Ok(Bytes::from_vec(numbers))
+}
+
+/// The text before the first comma, and what stands behind that comma.
+fn split_comma(text: &str) -> (&str, Option<&str>)
+    ensures { comma_parts text.now ≡ result.0.now ∷ parts_in (option_copied result.1) }
+{
+    match text.split_once(',') {
+        Some((part, rest)) => (part, Some(rest)),
+        None => (text, None),
+    }
+}
+
+/// The end that the next word names.
+pub(crate) fn side_word(words: Words<'_>) -> Result<(Side, Words<'_>), Misread>
+    ensures { Reads result (first side_of words.entry) }
+{
+    let (word, rest) = words.next()?;
+    let side = side_of(word).ok_or(Misread::NotUnderstood)?;
+    Ok((side, rest))
+}
+
+/// The next word as a number up to `max`.
+pub(crate) fn number_word(words: Words<'_>, max: u64) -> Result<(u64, Words<'_>), Misread>
+    ensures value { Reads result (first (number_below (max + 1)) words.entry) }
+    ensures bound { IfOk result (λ x. x.0 ≤ max) }
+{
+    let (word, rest) = words.next()?;
+    let number = number_up_to(word, max).ok_or(Misread::NotUnderstood)?;
+    Ok((number, rest))
+}
+
+/// The next word as a text.
+pub(crate) fn text_word(alloc: Global, words: Words<'_>) -> Result<(Text, Words<'_>), Misread>
+    ensures { Reads result (first text_of words.entry) }
+{
+    let (word, rest) = words.next()?;
+    if word.is_empty() {
+        return Err(Misread::NotUnderstood);
+    }
+    Ok((Text::from_str(alloc, word)?, rest))
+}
+
+/// The bytes that the next word writes in hexadecimal digits.
+pub(crate) fn hex_word(alloc: Global, words: Words<'_>) -> Result<(Bytes, Words<'_>), Misread>
+    ensures { Reads result (first hex_of words.entry) }
+{
+    let (word, rest) = words.next()?;
+    let bytes = hex_of(alloc, word)?;
+    Ok((bytes, rest))
+}
+
+/// The distances of the next word, or none at a dash.
+pub(crate) fn distances_word(
+    alloc: Global,
+    words: Words<'_>,
+) -> Result<(Option<Bytes>, Words<'_>), Misread>
+    ensures { Reads result (first (dash_or numbers_of) words.entry) }
+{
+    let (word, rest) = words.next()?;
+    if word == "-" {
+        return Ok((None, rest));
+    }
+    let distances = numbers_of(alloc, word)?;
+    Ok((Some(distances), rest))
+}
+
+/// The picture id of the next word, or none at a dash.
+pub(crate) fn picture_id_word(words: Words<'_>) -> Result<(Option<u16>, Words<'_>), Misread>
+    ensures { Reads result (first (dash_or (number_below (2 ^ 16))) words.entry) }
+{
+    let (word, rest) = words.next()?;
+    if word == "-" {
+        return Ok((None, rest));
+    }
+    let id = number_up_to(word, u16::MAX as u64).ok_or(Misread::NotUnderstood)?;
+    Ok((Some(id as u16), rest))
+}

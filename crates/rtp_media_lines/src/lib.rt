@@ -1,0 +1,33 @@
+//! The line layer of the program: lines of text in, replies out.
+#![tactic(auto)]
+
+mod fields;
+mod input;
+mod line;
+mod line_buffer;
+mod misread;
+mod owned;
+mod reply;
+mod respond;
+mod round;
+mod run;
+mod status;
+mod words;
+mod writing;
+
+pub use input::lines_are_what_was_ended;
+pub use line::{
+    Command, Line, OpenCommand, PollCommand, ReceiveCommand, SampleCommand, SendCommand,
+};
+pub use line_buffer::MAX_LINE_LENGTH;
+pub use owned::{Bytes, Text};
+pub use reply::{ErrorName, Reply, print};
+pub use respond::Respond;
+pub use round::printed_words_read_back;
+pub use run::{MAX_READS, run_lines};
+pub use status::{RunFault, Status};
+pub use words::Side;
+pub use writing::{WriteFault, write_whole};
+
+#[cfg(test)]
+mod tests;

@@ -1,0 +1,248 @@
+//! The lines of the program that are understood.
+
+ghost use Rattle.std.specs.Prelude.{◌≡◌, IfOk};
+ghost use Rattle.rtp_media_lines.specs.Misreads.{Reads};
+ghost use Rattle.rtp_media_lines.specs.Lines.{line_of, command_of, fixed_of, send_of, open_of, sample_of, receive_of, poll_of};
+
+use crate::fields::{distances_word, hex_word, number_word, picture_id_word, side_word, text_word};
+use crate::misread::Misread;
+use crate::owned::{Bytes, Text};
+use crate::words::{Side, Words};
+use std::alloc::{AllocError, Global};
+
+/// `send E MID SSRC PT FIRST MTU LIMIT DISTANCES PICTUREID`: open a sending stream.
+#[derive(Drop)]
+pub struct SendCommand {
+    /// The end that sends.
+    pub side: Side,
+    /// The media identification of the section (RFC 5888 4).
+    pub mid: Text,
+    /// The synchronization source (RFC 3550 3).
+    pub ssrc: u32,
+    /// The payload type (RFC 3551 6).
+    pub pt: u8,
+    /// The number of the first datagram.
+    pub first: u64,
+    /// The most bytes of a payload.
+    pub mtu: usize,
+    /// The most bytes of a datagram.
+    pub limit: usize,
+    /// How many samples back each redundant block lies (RFC 2198), or none at a dash.
+    pub distances: Option<Bytes>,
+    /// The first picture id (RFC 7741 4.2), or none at a dash.
+    pub picture_id: Option<u16>,
+}
+
+/// `open E MID SSRC PT HOLDBACK`: open a receiving stream.
+#[derive(Drop)]
+pub struct OpenCommand {
+    /// The end that receives.
+    pub side: Side,
+    /// The media identification of the section (RFC 5888 4).
+    pub mid: Text,
+    /// The synchronization source (RFC 3550 3).
+    pub ssrc: u32,
+    /// The payload type (RFC 3551 6).
+    pub pt: u8,
+    /// How many complete frames are held back for one that is missing.
+    pub hold_back: usize,
+}
+
+/// `sample E N TIME HEX`: send a sample.
+#[derive(Drop)]
+pub struct SampleCommand {
+    /// The end that sends.
+    pub side: Side,
+    /// The number of the sending stream.
+    pub stream: usize,
+    /// The time, at the clock rate of the stream's row.
+    pub time: u64,
+    /// The sample's bytes.
+    pub sample: Bytes,
+}
+
+/// `receive E HEX`: hand an end a datagram.
+#[derive(Drop)]
+pub struct ReceiveCommand {
+    /// The end that receives.
+    pub side: Side,
+    /// The datagram's bytes.
+    pub datagram: Bytes,
+}
+
+/// `poll E N`: ask a receiving stream for its next unit.
+#[derive(Clone, Copy, Debug, PartialEq, Eq)]
+pub struct PollCommand {
+    /// The end that receives.
+    pub side: Side,
+    /// The number of the receiving stream.
+    pub stream: usize,
+}
+
+/// A call that a line asks for.
+#[derive(Drop)]
+pub enum Command {
+    /// `fixed E`: replace an end by the fixed one.
+    Fixed(Side),
+    /// Open a sending stream.
+    Send(SendCommand),
+    /// Open a receiving stream.
+    Open(OpenCommand),
+    /// Send a sample.
+    Sample(SampleCommand),
+    /// Hand an end a datagram.
+    Receive(ReceiveCommand),
+    /// Ask a receiving stream for its next unit.
+    Poll(PollCommand),
+}
+
+/// A line that is understood.
+#[derive(Drop)]
+pub enum Line {
+    /// A line of nothing, which asks for nothing.
+    Empty,
+    /// A line that asks for a call.
+    Command(Command),
+}
+
+impl Line {
+    /// What a line says, without its line feed: words of UTF-8 text that are parted by exactly
+    /// one blank. `None` where it isn't understood: at an unknown first word, a wrong number of
+    /// words, an empty word, or a word that isn't of its kind.
+    ///
+    /// # Errors
+    /// Only where memory runs out.
+    pub fn parse(alloc: Global, bytes: &[u8]) -> Result<Option<Line>, AllocError>
+        ensures { IfOk result (λ line. line ≡ line_of bytes.now) }
+    {
+        if bytes.is_empty() {
+            return Ok(Some(Line::Empty));
+        }
+        let Ok(text) = str::from_utf8(bytes) else {
+            return Ok(None);
+        };
+        match command_of(alloc, Words::new(text)) {
+            Ok(command) => Ok(Some(Line::Command(command))),
+            Err(fault) => match fault {
+                Misread::NotUnderstood => Ok(None),
+                Misread::Memory => Err(AllocError),
+            },
+        }
+    }
+}
+
+fn command_of(alloc: Global, words: Words<'_>) -> Result<Command, Misread>
+    ensures { Reads result (command_of words.entry) }
+{
+    let (verb, rest) = words.next()?;
+    if verb == "fixed" {
+        fixed_of(rest)
+    } else if verb == "send" {
+        send_of(alloc, rest)
+    } else if verb == "open" {
+        open_of(alloc, rest)
+    } else if verb == "sample" {
+        sample_of(alloc, rest)
+    } else if verb == "receive" {
+        receive_of(alloc, rest)
+    } else if verb == "poll" {
+        poll_of(rest)
+    } else {
+        Err(Misread::NotUnderstood)
+    }
+}
+
+#[tactic(auto, unfolding(crate::specs::Lines::fixed_of))]
+fn fixed_of(words: Words<'_>) -> Result<Command, Misread>
+    ensures { Reads result (fixed_of words.entry) }
+{
+    let (side, rest) = side_word(words)?;
+    rest.end()?;
+    Ok(Command::Fixed(side))
+}
+
+#[tactic(auto, unfolding(crate::specs::Lines::send_of))]
+fn send_of(alloc: Global, words: Words<'_>) -> Result<Command, Misread>
+    ensures { Reads result (send_of words.entry) }
+{
+    let (side, rest) = side_word(words)?;
+    let (mid, rest) = text_word(alloc, rest)?;
+    let (ssrc, rest) = number_word(rest, u32::MAX as u64)?;
+    let (pt, rest) = number_word(rest, u8::MAX as u64)?;
+    let (first, rest) = number_word(rest, u64::MAX)?;
+    let (mtu, rest) = number_word(rest, usize::MAX as u64)?;
+    let (limit, rest) = number_word(rest, usize::MAX as u64)?;
+    let (distances, rest) = distances_word(alloc, rest)?;
+    let (picture_id, rest) = picture_id_word(rest)?;
+    rest.end()?;
+    Ok(Command::Send(SendCommand {
+        side,
+        mid,
+        ssrc: ssrc as u32,
+        pt: pt as u8,
+        first,
+        mtu: mtu as usize,
+        limit: limit as usize,
+        distances,
+        picture_id,
+    }))
+}
+
+#[tactic(auto, unfolding(crate::specs::Lines::open_of))]
+fn open_of(alloc: Global, words: Words<'_>) -> Result<Command, Misread>
+    ensures { Reads result (open_of words.entry) }
+{
+    let (side, rest) = side_word(words)?;
+    let (mid, rest) = text_word(alloc, rest)?;
+    let (ssrc, rest) = number_word(rest, u32::MAX as u64)?;
+    let (pt, rest) = number_word(rest, u8::MAX as u64)?;
+    let (hold_back, rest) = number_word(rest, usize::MAX as u64)?;
+    rest.end()?;
+    Ok(Command::Open(OpenCommand {
+        side,
+        mid,
+        ssrc: ssrc as u32,
+        pt: pt as u8,
+        hold_back: hold_back as usize,
+    }))
+}
+
+#[tactic(auto, unfolding(crate::specs::Lines::sample_of))]
+fn sample_of(alloc: Global, words: Words<'_>) -> Result<Command, Misread>
+    ensures { Reads result (sample_of words.entry) }
+{
+    let (side, rest) = side_word(words)?;
+    let (stream, rest) = number_word(rest, usize::MAX as u64)?;
+    let (time, rest) = number_word(rest, u64::MAX)?;
+    let (sample, rest) = hex_word(alloc, rest)?;
+    rest.end()?;
+    Ok(Command::Sample(SampleCommand {
+        side,
+        stream: stream as usize,
+        time,
+        sample,
+    }))
+}
+
+#[tactic(auto, unfolding(crate::specs::Lines::receive_of))]
+fn receive_of(alloc: Global, words: Words<'_>) -> Result<Command, Misread>
+    ensures { Reads result (receive_of words.entry) }
+{
+    let (side, rest) = side_word(words)?;
+    let (datagram, rest) = hex_word(alloc, rest)?;
+    rest.end()?;
+    Ok(Command::Receive(ReceiveCommand { side, datagram }))
+}
+
+#[tactic(auto, unfolding(crate::specs::Lines::poll_of))]
+fn poll_of(words: Words<'_>) -> Result<Command, Misread>
+    ensures { Reads result (poll_of words.entry) }
+{
+    let (side, rest) = side_word(words)?;
+    let (stream, rest) = number_word(rest, usize::MAX as u64)?;
+    rest.end()?;
+    Ok(Command::Poll(PollCommand {
+        side,
+        stream: stream as usize,
+    }))
+}

@@ -1,0 +1,208 @@
+//! What the program prints.
+
+ghost use Rattle.std.specs.Prelude.{◌≡◌, ◌++◌, IfOk, OnOk, OnErr, string_bytes, [], ◌∷◌};
+ghost use Rattle.std.specs.List.{flat_map, list_any};
+ghost use Rattle.rtp_media_lines.specs.Runs.{status_of};
+ghost use Rattle.rtp_media_lines.specs.Replies.{name_of, reply_text, hex_text, is_error_line, text_line};
+
+use crate::owned::Bytes;
+use crate::status::Status;
+use std::alloc::{AllocError, Global};
+
+/// The name of an error's variant, without what the variant holds.
+#[derive(Clone, Copy, Debug, PartialEq, Eq)]
+pub enum ErrorName {
+    /// No agreed section has this media identification.
+    NoSection,
+    /// The section's agreed rows have none of this payload type.
+    RowNotAgreed,
+    /// The end's own row differs from the agreed one.
+    RowDiffers,
+    /// The section doesn't run in this direction.
+    WrongDirection,
+    /// The section names no such synchronization source.
+    SsrcNotNamed,
+    /// A stream of this source and type is open.
+    AlreadyOpen,
+    /// Memory ran out.
+    Memory,
+    /// The stream failed at an earlier sample.
+    StreamFailed,
+    /// The time has no place on the wire's clock.
+    TimeTooLarge,
+    /// A datagram may pass the limit.
+    LimitTooSmall,
+    /// The payload's format refuses.
+    Payload,
+}
+
+impl ErrorName {
+    /// The name as it is printed.
+    pub fn as_str(self) -> &'static str
+        ensures { result.now ≡ name_of self }
+    {
+        match self {
+            ErrorName::NoSection => "NoSection",
+            ErrorName::RowNotAgreed => "RowNotAgreed",
+            ErrorName::RowDiffers => "RowDiffers",
+            ErrorName::WrongDirection => "WrongDirection",
+            ErrorName::SsrcNotNamed => "SsrcNotNamed",
+            ErrorName::AlreadyOpen => "AlreadyOpen",
+            ErrorName::Memory => "Memory",
+            ErrorName::StreamFailed => "StreamFailed",
+            ErrorName::TimeTooLarge => "TimeTooLarge",
+            ErrorName::LimitTooSmall => "LimitTooSmall",
+            ErrorName::Payload => "Payload",
+        }
+    }
+}
+
+/// One printed line.
+#[derive(Drop)]
+pub enum Reply {
+    /// `ok`: the call succeeded.
+    Done,
+    /// `error line`: the line isn't understood, or its conditions fail.
+    ErrorLine,
+    /// `refused NAME`: the call refused.
+    Refused(ErrorName),
+    /// `sender N`: the number of a new sending stream.
+    Sender(usize),
+    /// `receiver N`: the number of a new receiving stream.
+    Receiver(usize),
+    /// `datagram HEX`: a datagram to be sent.
+    Datagram(Bytes),
+    /// `unreadable`: the bytes are no datagram.
+    Unreadable,
+    /// `foreign`: no receiving stream has its source and type.
+    Foreign,
+    /// `damaged`: its padding doesn't fit.
+    Damaged,
+    /// `refused`: its number has come, or is out of reach.
+    NotTaken,
+    /// `taken N NUMBER`: a receiving stream took it under this widened number.
+    Taken {
+        /// The number of the receiving stream.
+        stream: usize,
+        /// The widened sequence number.
+        number: u64,
+    },
+    /// `unit FIRST LAST TIME HEX`: a unit of a receiving stream.
+    NextUnit {
+        /// The widened number of its first packet.
+        first: u64,
+        /// The widened number of its last packet.
+        last: u64,
+        /// Its time.
+        time: u64,
+        /// Its bytes.
+        unit: Bytes,
+    },
+    /// `none`: no unit is ready.
+    NoUnit,
+    /// `fault NAME`: the poll failed.
+    Fault(ErrorName),
+}
+
+impl Reply {
+    /// The line that is printed, its line feed included.
+    ///
+    /// # Errors
+    /// Only where memory runs out.
+    pub fn text(&self, alloc: Global) -> Result<String, AllocError>
+        ensures { IfOk result (λ text. string_bytes text ≡ reply_text self.now) }
+    {
+        match self {
+            Reply::Done => String::from_str(alloc, "ok\n"),
+            Reply::ErrorLine => String::from_str(alloc, "error line\n"),
+            Reply::Refused(name) => named(alloc, "refused", name.as_str()),
+            Reply::Sender(stream) => format!(in alloc; "sender {stream}\n"),
+            Reply::Receiver(stream) => format!(in alloc; "receiver {stream}\n"),
+            Reply::Datagram(bytes) => named(alloc, "datagram", hex_text(alloc, bytes)?.as_str()),
+            Reply::Unreadable => String::from_str(alloc, "unreadable\n"),
+            Reply::Foreign => String::from_str(alloc, "foreign\n"),
+            Reply::Damaged => String::from_str(alloc, "damaged\n"),
+            Reply::NotTaken => String::from_str(alloc, "refused\n"),
+            Reply::Taken { stream, number } => format!(in alloc; "taken {stream} {number}\n"),
+            Reply::NextUnit {
+                first,
+                last,
+                time,
+                unit,
+            } => {
+                let unit = hex_text(alloc, unit)?;
+                format!(in alloc; "unit {first} {last} {time} {unit}\n")
+            }
+            Reply::NoUnit => String::from_str(alloc, "none\n"),
+            Reply::Fault(name) => named(alloc, "fault", name.as_str()),
+        }
+    }
+
+    /// Is it an `error line`?
+    pub fn is_error_line(&self) -> bool
+        ensures { result ≡ is_error_line self.now }
+    {
+        matches!(self, Reply::ErrorLine)
+    }
+
+    /// Prints the line at the end of `out`.
+    ///
+    /// # Errors
+    /// Only where memory runs out; `out` is then unchanged.
+    pub fn append_to(&self, alloc: Global, out: &mut Vec<u8>) -> Result<(), AllocError>
+        ensures ok { OnOk result (out.new.items ≡ out.old.items ++ reply_text self.now) }
+        ensures err { OnErr result (out.new.items ≡ out.old.items) }
+    {
+        let text = self.text(alloc)?;
+        out.extend_from_slice(text.as_bytes())
+    }
+}
+
+/// Two words as a line.
+fn named(alloc: Global, first: &str, second: &str) -> Result<String, AllocError>
+    ensures { IfOk result (λ text. string_bytes text ≡ text_line (first.now ∷ second.now ∷ [])) }
+{
+    format!(in alloc; "{first} {second}\n")
+}
+
+/// Bytes as hexadecimal digits in lower case, or a dash for none.
+fn hex_text(alloc: Global, bytes: &Bytes) -> Result<String, AllocError>
+    ensures { IfOk result (λ text. string_bytes text ≡ hex_text bytes.now) }
+{
+    let bytes = bytes.as_slice();
+    if bytes.is_empty() {
+        return String::from_str(alloc, "-");
+    }
+    hex::encode(alloc, bytes)
+}
+
+/// Prints replies one after the other.
+///
+/// # Errors
+/// Only where memory runs out.
+pub fn print(alloc: Global, replies: &[Reply]) -> Result<Vec<u8>, AllocError>
+    ensures { IfOk result (λ text. text.items ≡ flat_map reply_text replies.now) }
+{
+    let mut text = Vec::new(alloc);
+    for reply in replies {
+        reply.append_to(alloc, &mut text)?;
+    }
+    Ok(text)
+}
+
+/// Whether an `error line` is among the replies.
+pub(crate) fn status_of(replies: &[Reply]) -> Status
+    ensures { result ≡ status_of replies.now }
+{
+    if has_error_line(replies) {
+        Status::ErrorLine
+    } else {
+        Status::Success
+    }
+}
+
+fn has_error_line(replies: &[Reply]) -> bool
+    ensures { result ≡ list_any is_error_line replies.now }
+{
+    replies.iter().any(|reply| reply.is_error_line())
+}

@@ -1,0 +1,35 @@
+//! The RTP header.
+
+ghost use Rattle.std.specs.Prelude.{◌≡◌};
+
+use rtp_wire_extensions::ExtensionValues;
+use rtp_wire_ids::{Pt, Ssrc};
+
+/// The header of an RTP packet (RFC 3550 5.1).
+#[derive(Clone, Copy, Debug, Drop)]
+pub struct RtpHeader {
+    /// The version, 2 in a header that was read.
+    pub version: u8,
+    /// Whether padding stands behind the payload.
+    pub has_padding: bool,
+    /// Whether there is an extension block.
+    pub has_extension: bool,
+    /// How many contributing sources there are, 0 to 15.
+    pub csrc_count: usize,
+    /// The marker bit.
+    pub marker: bool,
+    /// The payload type, 0 to 127.
+    pub payload_type: Pt,
+    /// The low 16 bits of the sequence number.
+    pub sequence_number: u16,
+    /// The low 32 bits of the media time, in ticks of the payload type's clock.
+    pub timestamp: u32,
+    /// The stream's source.
+    pub ssrc: Ssrc,
+    /// The contributing sources; the places past `csrc_count` are 0 in a header that was read.
+    pub csrc: [u32; 15],
+    /// The values of the header extensions.
+    pub ext_vals: ExtensionValues,
+    /// The length of the header on the wire, in bytes.
+    pub header_len: usize,
+}

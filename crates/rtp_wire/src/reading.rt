@@ -1,0 +1,123 @@
+//! Headers read.
+
+ghost use Rattle.std.specs.Prelude.{◌≡◌, ◌+◌, ◌*◌, ◌≤◌, ◌<◌, ℕ, length, drop, IsTrue, if◌then◌else◌};
+ghost use Rattle.rtp_wire.specs.Header.{half_at, word_at, words_in, slots, is_header, header_in, fields_in, header_length_in, has_bit, csrc_count_in, has_extension_in, block_at, block_in, values_in};
+ghost use Rattle.rtp_wire.specs.Widening.{widened};
+
+use crate::header::RtpHeader;
+use crate::widening::extend_u16;
+use rtp_wire_extensions::{ExtensionMap, ExtensionValues};
+use rtp_wire_ids::{Pt, SeqNo, Ssrc};
+
+/// The number of two bytes at a place.
+fn half_at(bytes: &[u8], at: usize) -> u16
+    requires { at + 2 ≤ length bytes.now }
+    ensures { result ≡ half_at bytes.now at }
+{
+    u16::from_be_bytes([bytes[at], bytes[at + 1]])
+}
+
+/// The number of four bytes at a place.
+fn word_at(bytes: &[u8], at: usize) -> u32
+    requires { at + 4 ≤ length bytes.now }
+    ensures { result ≡ word_at bytes.now at }
+{
+    u32::from_be_bytes([bytes[at], bytes[at + 1], bytes[at + 2], bytes[at + 3]])
+}
+
+/// Whether the bit of this worth is set.
+fn has_bit(byte: u8, worth: u8) -> bool
+    requires { 0 < worth }
+    ensures { result ≡ has_bit byte worth }
+{
+    byte / worth % 2 == 1
+}
+
+/// The length of the header in front of the bytes, where there is one.
+fn header_length(bytes: &[u8]) -> Option<usize>
+    ensures { result ≡ (if is_header bytes.now then Some (header_length_in bytes.now) else None) }
+{
+    if bytes.len() < 12 || bytes[0] / 64 != 2 {
+        return None;
+    }
+    let block = 12 + 4 * (bytes[0] % 16) as usize;
+    if !has_bit(bytes[0], 16) {
+        return if block <= bytes.len() {
+            Some(block)
+        } else {
+            None
+        };
+    }
+    if bytes.len() < block + 4 {
+        return None;
+    }
+    let len = block + 4 + 4 * half_at(bytes, block + 2) as usize;
+    if len <= bytes.len() { Some(len) } else { None }
+}
+
+/// The contributing sources in their places.
+fn csrc_of(bytes: &[u8]) -> [u32; 15]
+    requires { block_at bytes.now ≤ length bytes.now }
+    ensures { result ≡ slots (words_in (csrc_count_in bytes.now) (drop 12 bytes.now)) }
+{
+    let mut csrc = [0; 15];
+    let count = (bytes[0] % 16) as usize;
+    for i in 0..count {
+        csrc[i] = word_at(bytes, 12 + 4 * i);
+    }
+    csrc
+}
+
+/// The values in the extension block, if there is one.
+fn values_of(bytes: &[u8], exts: &ExtensionMap) -> ExtensionValues
+    requires { IsTrue (is_header bytes.now) }
+    ensures { result ≡ values_in exts.now (block_in bytes.now) }
+{
+    if !has_bit(bytes[0], 16) {
+        return ExtensionValues::absent();
+    }
+    let at = 12 + 4 * (bytes[0] % 16) as usize;
+    let len = 4 * half_at(bytes, at + 2) as usize;
+    exts.read_block(half_at(bytes, at), &bytes[at + 4..at + 4 + len])
+}
+
+/// The header in front of the bytes, of this length.
+fn fields_of(bytes: &[u8], exts: &ExtensionMap, header_len: usize) -> RtpHeader
+    requires header { IsTrue (is_header bytes.now) }
+    requires len { header_len ≡ header_length_in bytes.now }
+    ensures { result ≡ fields_in exts.now bytes.now }
+{
+    RtpHeader {
+        version: 2,
+        has_padding: has_bit(bytes[0], 32),
+        has_extension: has_bit(bytes[0], 16),
+        csrc_count: (bytes[0] % 16) as usize,
+        marker: has_bit(bytes[1], 128),
+        payload_type: Pt::from(bytes[1] % 128),
+        sequence_number: half_at(bytes, 2),
+        timestamp: word_at(bytes, 4),
+        ssrc: Ssrc::from(word_at(bytes, 8)),
+        csrc: csrc_of(bytes),
+        ext_vals: values_of(bytes, exts),
+        header_len,
+    }
+}
+
+impl RtpHeader {
+    /// The header in front of a datagram (RFC 3550 5.1). None where the version isn't 2, or where
+    /// the header, its contributing sources or its extension block pass the end.
+    pub fn parse(buf: &[u8], exts: &ExtensionMap) -> Option<RtpHeader>
+        ensures { result ≡ header_in exts.now buf.now }
+    {
+        let header_len = header_length(buf)?;
+        Some(fields_of(buf, exts, header_len))
+    }
+
+    /// The sequence number, widened by the one before it: the nearest with these 16 bits (RFC 3550 A.1).
+    pub fn sequence_number(&self, previous: Option<SeqNo>) -> SeqNo
+        ensures { result ≡ widened previous self.now.sequence_number }
+    {
+        let previous = previous.map(|number| number.get());
+        SeqNo::from(extend_u16(previous, self.sequence_number))
+    }
+}
