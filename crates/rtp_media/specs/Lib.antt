@@ -2,3 +2,4 @@ pub mod Rows
 pub mod Params
 pub mod Agreement
 pub mod Ends
+pub mod Arrivals

@@ -1,12 +1,11 @@
 //! What an exchange agreed on.
 
-ghost use Rattle.std.specs.Prelude.{◌≡◌, ◌==◌, IfOk, Some, None, [], ◌∷◌};
+ghost use Rattle.std.specs.Prelude.{◌≡◌, ◌==◌, ◌<◌, IfOk, OnSome, Some, None, [], ◌∷◌};
 ghost use Rattle.std.specs.Str.{bytes_eq};
 ghost use Rattle.rtp_media.specs.Agreement.{fixed_agreement, row_in, is_named};
 
 use crate::row::PayloadParams;
-use rtp_wire::{Pt, Ssrc};
-use rtp_wire_ids::Mid;
+use rtp_wire::{Mid, Pt, Ssrc};
 use std::alloc::{AllocError, Global};
 use std::marker::Model;
 
@@ -23,12 +22,15 @@ pub struct AgreedSection {
 
 impl Model for AgreedSection {
     ghost use Rattle.rtp_media.specs.Agreement.{Agreed};
+    ghost use Rattle.std.specs.Prelude.{◌<◌};
 
     ghost Value = { Agreed };
 
     ghost view = { λ a. record {
         mid = a.mid; row = a.row; own_ssrcs = a.own_ssrcs.items; remote_ssrcs = a.remote_ssrcs.items;
         sends = a.sends; receives = a.receives } };
+
+    ghost invariant = { λ a. a.row.pt < 128 };
 }
 
 impl AgreedSection {
@@ -55,7 +57,8 @@ impl AgreedSection {
 
     /// The row of this type.
     pub fn row_of(&self, pt: Pt) -> Option<PayloadParams>
-        ensures { result ≡ row_in (Some self.now) pt }
+        ensures row { result ≡ row_in (Some self.now) pt }
+        ensures typed { OnSome result (pt < 128) }
     {
         if self.row.pt().get() == pt.get() {
             Some(self.row)

@@ -1,20 +1,24 @@
 //! An end of a session.
 
-ghost use Rattle.std.specs.Prelude.{◌≡◌, ◌≢◌, ◌<◌, ◌==◌, ℕ, Some, None, length, OnOk, OnErr, IfOk, IfErr, IsTrue, is_some, ◌↔◌};
+ghost use Rattle.std.specs.Prelude.{◌≡◌, ◌≢◌, ◌<◌, ◌==◌, ℕ, Some, None, length, OnOk, OnErr, IfOk, IfErr, IfSome, IfNone, IsOk, IsTrue, is_some, ◌≤◌, ◌↔◌};
 ghost use Rattle.std.specs.List.{list_any};
-ghost use Rattle.rtp_media_streams.specs.Receiving.{opened_receiver, is_own};
-ghost use Rattle.rtp_media_streams.specs.Sending.{is_sending};
+ghost use Rattle.rtp_media_streams.specs.Receiving.{opened_receiver, is_own, polled_receiver};
+ghost use Rattle.rtp_media_streams.specs.Sending.{is_sending, sent_datagrams, after_sample, failed_stream, refusal_of_sample};
+ghost use Rattle.rtp_media_runs.specs.Heard.{poll_answer};
+ghost use Rattle.rtp_wire.specs.Header.{payload_in};
+ghost use Rattle.rtp_wire.specs.Padding.{unpadded};
+ghost use Rattle.rtp_media.specs.Arrivals.{Own, NoPayload, own_of, stream_for, verdict_of, after_datagram};
 ghost use Rattle.rtp_media.specs.Agreement.{agreed_row_of, section_of};
-ghost use Rattle.rtp_media.specs.Ends.{fixed_end, refusal_by, refusal_of_open_sender, refusal_of_open_receiver, after_open_sender, with_new_receiver};
+ghost use Rattle.rtp_media.specs.Ends.{fixed_end, refusal_by, refusal_of_open_sender, refusal_of_open_receiver, after_open_sender, with_new_receiver, sender_at, receiver_at, with_sender, with_receiver};
 ghost use Rattle.rtp_media.specs.Params.{IsSound};
 
 use crate::agreement::AgreedSection;
-use crate::errors::{EndError, OpenError};
+use crate::errors::{EndError, OpenError, PollFault, ReceiveError};
 use crate::params::StreamParams;
+use crate::received::Received;
 use crate::row::PayloadParams;
-use rtp_media_streams::{ReceivingStream, SendingStream};
-use rtp_wire::{Pt, SessionId, Ssrc};
-use rtp_wire_ids::Mid;
+use rtp_media_streams::{Datagram, ReceivingStream, SampleError, SendingStream, Unit};
+use rtp_wire::{ExtensionMap, ExtensionValues, MediaTime, Mid, Pt, RtpHeader, SessionId, Ssrc, unpad_payload};
 use std::alloc::Global;
 use std::marker::Model;
 
@@ -146,9 +150,80 @@ impl End {
         Ok(number)
     }
 
+    /// The datagrams of a sample, which a sending stream sends: its pieces of at most `mtu` bytes,
+    /// under consecutive numbers. An empty sample has none and uses no number. Extension values are
+    /// not sent.
+    ///
+    /// # Errors
+    /// The first that holds of `StreamFailed`, `TimeTooLarge` and `LimitTooSmall`, and the end is
+    /// unchanged; or `Memory`, and the stream sends no more, while all else is unchanged.
+    pub fn push_sample(
+        &mut self,
+        stream: usize,
+        time: MediaTime,
+        bytes: &[u8],
+        _values: &ExtensionValues,
+    ) -> Result<Vec<Datagram>, SampleError>
+        requires { stream < length self.old.senders }
+        ensures sent { IfOk result (λ ds. ds.items ≡ sent_datagrams (sender_at self.old stream) time bytes.now) }
+        ensures accepted { OnOk result (refusal_of_sample (sender_at self.old stream) time ≡ None) }
+        ensures after { OnOk result (self.new ≡ with_sender self.old stream (after_sample (sender_at self.old stream) time bytes.now)) }
+        ensures refused { IfErr result (λ e. e ≢ SampleError.Memory → refusal_of_sample (sender_at self.old stream) time ≡ Some e) }
+        ensures unchanged { IfErr result (λ e. e ≢ SampleError.Memory → self.new ≡ self.old) }
+        ensures failed { IfErr result (λ e. e ≡ SampleError.Memory → self.new ≡ with_sender self.old stream (failed_stream (sender_at self.old stream))) }
+    {
+        let sender = &mut self.senders[stream];
+        sender.push_sample(time, bytes)
+    }
+
+    /// Takes a datagram in, and says what it is: of the stream whose SSRC and payload type it has, a
+    /// number that is new is recorded and its payload waits to be polled.
+    ///
+    /// # Errors
+    /// `ReceiveError::Memory`; the end is unchanged.
+    pub fn receive(&mut self, datagram: &[u8]) -> Result<Received, ReceiveError>
+        ensures verdict { IfOk result (λ v. v ≡ verdict_of self.old datagram.now) }
+        ensures after { OnOk result (self.new ≡ after_datagram self.old datagram.now) }
+        ensures err { OnErr result (self.new ≡ self.old) }
+    {
+        let exts = ExtensionMap::empty();
+        let Some(header) = RtpHeader::parse(datagram, &exts) else {
+            return Ok(Received::Unreadable);
+        };
+        let Some(stream) = stream_for(&self.receivers, header.ssrc, header.payload_type) else {
+            return Ok(Received::Foreign);
+        };
+        let Some(payload) = payload_of(&header, datagram) else {
+            return Ok(Received::Damaged);
+        };
+        let receiver = &mut self.receivers[stream];
+        match receiver.receive(header.sequence_number, header.timestamp, payload)? {
+            None => Ok(Received::Refused),
+            Some(number) => Ok(Received::Taken(stream, number)),
+        }
+    }
+
+    /// The next unit of a receiving stream, where one is ready: the lowest one, if it begins right
+    /// behind the last one that was handed out, or nothing was, or more frames are complete than are
+    /// held back.
+    ///
+    /// # Errors
+    /// `PollFault`, with what waits as it was.
+    pub fn poll(&mut self, stream: usize) -> Result<Option<Unit>, PollFault>
+        requires { stream < length self.old.receivers }
+        ensures answer { IfOk result (λ unit. unit ≡ poll_answer (receiver_at self.old stream).stream) }
+        ensures after { OnOk result (self.new ≡ with_receiver self.old stream (polled_receiver (receiver_at self.old stream))) }
+        ensures none { poll_answer (receiver_at self.old stream).stream ≡ None → IsOk result }
+        ensures fault { OnErr result (self.new ≡ self.old) }
+    {
+        let receiver = &mut self.receivers[stream];
+        Ok(receiver.poll())
+    }
+
     /// The row that a new sending stream sends, or why there is none.
     fn sender_row(&self, mid: Mid, ssrc: Ssrc, pt: Pt) -> Result<PayloadParams, OpenError>
         ensures row { IfOk result (λ r. agreed_row_of self.now.agreed mid pt ≡ Some r) }
+        ensures typed { OnOk result (pt < 128) }
         ensures opens { OnOk result (refusal_of_open_sender self.now mid ssrc pt ≡ None) }
         ensures refused { IfErr result (λ e. refusal_of_open_sender self.now mid ssrc pt ≡ Some e) }
     {
@@ -218,4 +293,25 @@ fn is_receiving(receivers: &[ReceivingStream], ssrc: Ssrc, pt: Pt) -> bool
     ensures { result ≡ list_any (λ r. is_own r ssrc pt) receivers.now }
 {
     receivers.iter().any(|r| r.is_own(ssrc, pt))
+}
+
+/// The number of the stream that takes this SSRC and payload type.
+fn stream_for(receivers: &[ReceivingStream], ssrc: Ssrc, pt: Pt) -> Option<usize>
+    ensures stream { result ≡ stream_for receivers.now ssrc pt }
+    ensures within { IfSome result (λ n. n < length receivers.now) }
+{
+    receivers.iter().position(|r| r.is_own(ssrc, pt))
+}
+
+/// The payload of a datagram without its padding, if it has a byte.
+fn payload_of<'a>(header: &RtpHeader, datagram: &'a [u8]) -> Option<&'a [u8]>
+    requires { header.now.header_len ≤ length datagram.now }
+    ensures some { (stream : ℕ) → IfSome result (λ payload. own_of stream header.now (unpadded header.now.has_padding (payload_in header.now datagram.now)) ≡ Own stream header.now.sequence_number header.now.timestamp payload.now) }
+    ensures none { (stream : ℕ) → IfNone result (own_of stream header.now (unpadded header.now.has_padding (payload_in header.now datagram.now)) ≡ NoPayload) }
+{
+    let payload = unpad_payload(header.has_padding, &datagram[header.header_len..])?;
+    if payload.is_empty() {
+        return None;
+    }
+    Some(payload)
 }

@@ -1,5 +1,6 @@
 //! Why calls are refused.
 
+use payload_core_base::PacketError;
 use std::alloc::{AllocError, AllocFailed};
 use thiserror::Error;
 
@@ -63,4 +64,29 @@ impl<T: Drop> From<AllocFailed<T>> for OpenError {
     fn from(_error: AllocFailed<T>) -> OpenError {
         OpenError::Memory
     }
+}
+
+/// Why a datagram is not taken in.
+#[derive(Clone, Copy, Debug, PartialEq, Eq, Drop, Error)]
+pub enum ReceiveError {
+    /// Memory was wanting.
+    #[error("out of memory")]
+    Memory,
+}
+
+impl From<AllocError> for ReceiveError {
+    fn from(_error: AllocError) -> ReceiveError {
+        ReceiveError::Memory
+    }
+}
+
+/// Why a poll hands out nothing though a unit may be ready.
+#[derive(Clone, Copy, Debug, PartialEq, Eq, Drop, Error)]
+pub enum PollFault {
+    /// The payloads of the frame do not fit their format.
+    #[error("the payload is refused: {0}")]
+    Payload(PacketError),
+    /// Memory was wanting.
+    #[error("out of memory")]
+    Memory,
 }

@@ -5,11 +5,13 @@ mod agreement;
 mod end;
 mod errors;
 mod params;
+mod received;
 mod row;
 
 pub use end::End;
-pub use errors::{EndError, OpenError};
+pub use errors::{EndError, OpenError, PollFault, ReceiveError};
 pub use params::StreamParams;
 pub use payload_core_base::{Codec, PacketError};
 pub use row::{CodecSpec, FormatParams, PayloadParams};
-pub use rtp_media_streams::Unit;
+pub use received::Received;
+pub use rtp_media_streams::{Datagram, SampleError, Unit};

@@ -1,6 +1,6 @@
 use Rattle.std.specs.Prelude.{ℕ, Bool, ◌==◌, ◌&&◌, if◌then◌else◌, List, Option, Some, None}
 use Rattle.rtp_wire.specs.Replay.{is_accepted}
-use Rattle.rtp_media_runs.specs.Heard.{Stream, fresh, number_at, taken_by}
+use Rattle.rtp_media_runs.specs.Heard.{Stream, fresh, number_at, taken_by, polled}
 use Rattle.rtp_media_runs.specs.Opus.{content_of}
 
 -- A receiving stream: whose datagrams it takes, by SSRC and payload type (RFC 3550 5.1), and what it
@@ -29,3 +29,7 @@ taken_number s low = if is_accepted s.window (number_at s low) then Some (number
 -- the stream after it
 abbrev pub arrived : Stream → ℕ → ℕ → List ℕ → Stream
 arrived s low time payload = taken_by s (number_at s low) (content_of time payload)
+
+-- the stream after a poll
+abbrev pub polled_receiver : Receiving → Receiving
+polled_receiver r = with_stream r (polled r.stream)

@@ -8,5 +8,5 @@ use Rattle.rtp_media.proofs.end.End.receiver_row.Goals as goal
 pub returns-clause-refused : goal.returns-clause-refused
 returns-clause-refused c =
     let e : refusal_of_open_receiver c.args.self.now c.args.mid c.args.ssrc c.args.pt ≡ refusal_by (is_some c.row_of-row.result) c.is_receiving.result c.names_remote.result c.is_receiving-is_open.result =
-    rw (← c.self.view_is) (receiver-refusal c.self.inside.agreed _ c.args.mid c.args.ssrc c.args.pt _ c.row_of-row.result _ _ _ c.in_ok-section.ensures.found c.row_of-row.ensures c.is_receiving.ensures c.names_remote.ensures (rw c.deref.ensures.value at c.is_receiving-is_open.ensures)) in
+    rw (← c.self.view_is) (receiver-refusal c.self.inside.agreed _ c.args.mid c.args.ssrc c.args.pt _ c.row_of-row.result _ _ _ c.in_ok-section.ensures.found c.row_of-row.ensures.row c.is_receiving.ensures c.names_remote.ensures (rw c.deref.ensures.value at c.is_receiving-is_open.ensures)) in
     subst (λ (o : Option OpenError). IfErr c.opened_row.result (λ e. o ≡ Some e)) (sym e) c.opened_row.ensures.refused
