@@ -4,9 +4,9 @@ use Rattle.rtp_wire.specs.Padding.{unpadded}
 use Rattle.rtp_wire.specs.declared.header.RtpHeader.{RtpHeader}
 use Rattle.rtp_media_streams.specs.Sending.{no_extensions}
 use Rattle.rtp_media_streams.specs.Receiving.{Receiving, is_own, taken_number, arrived, with_stream}
-use Rattle.rtp_media.specs.Ends.{EndState, receiver_at, with_receiver}
-use Rattle.rtp_media.specs.declared.received.Received.{Received}
-use Rattle.rtp_media.specs.declared.received.Received.TheVariants.{Unreadable, Foreign, Damaged, Refused, Taken}
+use Rattle.rtp_media_ends.specs.Ends.{EndState, receiver_at, with_receiver}
+use Rattle.rtp_media_ends.specs.declared.received.Received.{Received}
+use Rattle.rtp_media_ends.specs.declared.received.Received.TheVariants.{Unreadable, Foreign, Damaged, Refused, Taken}
 
 -- What a datagram is to an end: no RTP packet, of no receiving stream, one of a stream's own without a
 -- payload, or one of its own with the 16 bits of its number, its timestamp and its payload.

@@ -1,6 +1,6 @@
 use Rattle.std.specs.Prelude.{◌<◌, ◌≤◌, IsNone}
 use Rattle.std.specs.Option.{ForSome}
-use Rattle.rtp_media.specs.declared.params.StreamParams.{StreamParams}
+use Rattle.rtp_media_ends.specs.declared.params.StreamParams.{StreamParams}
 
 -- What a stream of a row without a RED type may be opened with.
 pub record IsSound (p : StreamParams) : Type 0 where

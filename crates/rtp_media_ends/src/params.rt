@@ -1,7 +1,7 @@
 //! How a sending stream sends.
 
 ghost use Rattle.std.specs.Prelude.{IsTrue, ◌↔◌};
-ghost use Rattle.rtp_media.specs.Params.{IsSound};
+ghost use Rattle.rtp_media_ends.specs.Params.{IsSound};
 
 /// How a sending stream numbers and cuts its samples.
 #[derive(Debug, Drop)]

@@ -1,7 +1,7 @@
 //! Rows: a payload type with its codec and settings.
 
 ghost use Rattle.std.specs.Prelude.{◌≡◌};
-ghost use Rattle.rtp_media.specs.Rows.{opus_row};
+ghost use Rattle.rtp_media_ends.specs.Rows.{opus_row};
 
 use payload_core_base::Codec;
 use rtp_wire::{Frequency, Pt};
@@ -47,7 +47,7 @@ pub struct PayloadParams {
 }
 
 impl Model for PayloadParams {
-    ghost use Rattle.rtp_media.specs.Rows.{Row};
+    ghost use Rattle.rtp_media_ends.specs.Rows.{Row};
 
     ghost Value = { Row };
 

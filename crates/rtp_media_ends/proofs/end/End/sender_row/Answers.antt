@@ -1,9 +1,9 @@
 use Rattle.std.proofs.Common.{◌≡◌, sym, subst, Some, IfErr}
 use Rattle.std.specs.Prelude.{Option, is_some}
-use Rattle.rtp_media.specs.declared.errors.OpenError.{OpenError}
-use Rattle.rtp_media.specs.Ends.{refusal_by, refusal_of_open_sender}
-use Rattle.rtp_media.proofs.Openings.{sender-refusal}
-use Rattle.rtp_media.proofs.end.End.sender_row.Goals as goal
+use Rattle.rtp_media_ends.specs.declared.errors.OpenError.{OpenError}
+use Rattle.rtp_media_ends.specs.Ends.{refusal_by, refusal_of_open_sender}
+use Rattle.rtp_media_ends.proofs.Openings.{sender-refusal}
+use Rattle.rtp_media_ends.proofs.end.End.sender_row.Goals as goal
 
 pub returns-clause-refused : goal.returns-clause-refused
 returns-clause-refused c =

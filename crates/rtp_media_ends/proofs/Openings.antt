@@ -4,10 +4,10 @@ use Rattle.std.specs.Prelude.{Option, Some, None, is_some, if◌then◌else◌, 
 use Rattle.std.specs.List.{list_any}
 use Rattle.rtp_media_streams.specs.Sending.{Sending, is_sending}
 use Rattle.rtp_media_streams.specs.Receiving.{Receiving, is_own}
-use Rattle.rtp_media.specs.declared.errors.OpenError.{OpenError}
-use Rattle.rtp_media.specs.Rows.{Row}
-use Rattle.rtp_media.specs.Agreement.{Agreed, section_of, row_in, is_named}
-use Rattle.rtp_media.specs.Ends.{refusal_by, sender_refusal_in, receiver_refusal_in}
+use Rattle.rtp_media_ends.specs.declared.errors.OpenError.{OpenError}
+use Rattle.rtp_media_ends.specs.Rows.{Row}
+use Rattle.rtp_media_ends.specs.Agreement.{Agreed, section_of, row_in, is_named}
+use Rattle.rtp_media_ends.specs.Ends.{refusal_by, sender_refusal_in, receiver_refusal_in}
 
 some-if : (b : Bool) (r : Row) → is_some (if b then Some r else None) ≡ b
 some-if true r = refl

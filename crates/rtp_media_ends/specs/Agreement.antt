@@ -1,7 +1,7 @@
 use Rattle.std.specs.Prelude.{ℕ, Bool, true, ◌==◌, List, [], ◌∷◌, Option, Some, None, if◌then◌else◌, not}
 use Rattle.std.specs.Str.{bytes_eq}
 use Rattle.std.specs.List.{list_any}
-use Rattle.rtp_media.specs.Rows.{Row, opus_row}
+use Rattle.rtp_media_ends.specs.Rows.{Row, opus_row}
 
 -- What an exchange agreed on: the section's name, the answer's row, the SSRCs that this end and the
 -- other one name in it, and whether it flows from this end and to it.

@@ -46,7 +46,7 @@ pub enum OpenError {
 
 impl From<AllocError> for OpenError {
     ghost use Rattle.std.specs.Prelude.{◌≡◌};
-    ghost use Rattle.rtp_media.specs.declared.errors.OpenError.TheVariants.{Memory};
+    ghost use Rattle.rtp_media_ends.specs.declared.errors.OpenError.TheVariants.{Memory};
 
     ghost from_gives = { λ _ e. e ≡ Memory };
 
@@ -57,7 +57,7 @@ impl From<AllocError> for OpenError {
 
 impl<T: Drop> From<AllocFailed<T>> for OpenError {
     ghost use Rattle.std.specs.Prelude.{◌≡◌};
-    ghost use Rattle.rtp_media.specs.declared.errors.OpenError.TheVariants.{Memory};
+    ghost use Rattle.rtp_media_ends.specs.declared.errors.OpenError.TheVariants.{Memory};
 
     ghost from_gives = { λ _ e. e ≡ Memory };
 

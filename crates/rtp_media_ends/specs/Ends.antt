@@ -2,11 +2,11 @@ use Rattle.std.specs.Prelude.{ℕ, Bool, true, false, not, ◌==◌, ◌||◌, L
 use Rattle.std.specs.List.{list_any}
 use Rattle.rtp_media_streams.specs.Sending.{Sending, opened_sender, is_sending}
 use Rattle.rtp_media_streams.specs.Receiving.{Receiving, opened_receiver, is_own}
-use Rattle.rtp_media.specs.Rows.{Row}
-use Rattle.rtp_media.specs.Agreement.{Agreed, section_of, agreed_row_of, fixed_agreement, is_named}
-use Rattle.rtp_media.specs.declared.params.StreamParams.{StreamParams}
-use Rattle.rtp_media.specs.declared.errors.OpenError.{OpenError}
-use Rattle.rtp_media.specs.declared.errors.OpenError.TheVariants.{NoSection, RowNotAgreed, WrongDirection, SsrcNotNamed, AlreadyOpen}
+use Rattle.rtp_media_ends.specs.Rows.{Row}
+use Rattle.rtp_media_ends.specs.Agreement.{Agreed, section_of, agreed_row_of, fixed_agreement, is_named}
+use Rattle.rtp_media_ends.specs.declared.params.StreamParams.{StreamParams}
+use Rattle.rtp_media_ends.specs.declared.errors.OpenError.{OpenError}
+use Rattle.rtp_media_ends.specs.declared.errors.OpenError.TheVariants.{NoSection, RowNotAgreed, WrongDirection, SsrcNotNamed, AlreadyOpen}
 
 -- What an end keeps: its session id, what was agreed last, and its streams by number.
 pub record EndState : Type 0 where

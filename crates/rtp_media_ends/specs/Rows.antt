@@ -1,6 +1,6 @@
 use Rattle.std.specs.Prelude.{ℕ, Bool, true, Some}
 use Rattle.payload_core_base.specs.declared.codec.Codec.TheVariants.{Opus}
-use Rattle.rtp_media.specs.declared.row.CodecSpec.{CodecSpec}
+use Rattle.rtp_media_ends.specs.declared.row.CodecSpec.{CodecSpec}
 
 -- A row: a payload type, its codec with settings, and whether transport-wide feedback is used.
 pub record Row : Type 0 where

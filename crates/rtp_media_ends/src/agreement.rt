@@ -2,7 +2,7 @@
 
 ghost use Rattle.std.specs.Prelude.{◌≡◌, ◌==◌, ◌<◌, IfOk, OnSome, Some, None, [], ◌∷◌};
 ghost use Rattle.std.specs.Str.{bytes_eq};
-ghost use Rattle.rtp_media.specs.Agreement.{fixed_agreement, row_in, is_named};
+ghost use Rattle.rtp_media_ends.specs.Agreement.{fixed_agreement, row_in, is_named};
 
 use crate::row::PayloadParams;
 use rtp_wire::{Mid, Pt, Ssrc};
@@ -21,7 +21,7 @@ pub struct AgreedSection {
 }
 
 impl Model for AgreedSection {
-    ghost use Rattle.rtp_media.specs.Agreement.{Agreed};
+    ghost use Rattle.rtp_media_ends.specs.Agreement.{Agreed};
     ghost use Rattle.std.specs.Prelude.{◌<◌};
 
     ghost Value = { Agreed };

@@ -7,10 +7,10 @@ ghost use Rattle.rtp_media_streams.specs.Sending.{is_sending, sent_datagrams, af
 ghost use Rattle.rtp_media_runs.specs.Heard.{poll_answer};
 ghost use Rattle.rtp_wire.specs.Header.{payload_in};
 ghost use Rattle.rtp_wire.specs.Padding.{unpadded};
-ghost use Rattle.rtp_media.specs.Arrivals.{Own, NoPayload, own_of, stream_for, verdict_of, after_datagram};
-ghost use Rattle.rtp_media.specs.Agreement.{agreed_row_of, section_of};
-ghost use Rattle.rtp_media.specs.Ends.{fixed_end, refusal_by, refusal_of_open_sender, refusal_of_open_receiver, after_open_sender, with_new_receiver, sender_at, receiver_at, with_sender, with_receiver};
-ghost use Rattle.rtp_media.specs.Params.{IsSound};
+ghost use Rattle.rtp_media_ends.specs.Arrivals.{Own, NoPayload, own_of, stream_for, verdict_of, after_datagram};
+ghost use Rattle.rtp_media_ends.specs.Agreement.{agreed_row_of, section_of};
+ghost use Rattle.rtp_media_ends.specs.Ends.{fixed_end, refusal_by, refusal_of_open_sender, refusal_of_open_receiver, after_open_sender, with_new_receiver, sender_at, receiver_at, with_sender, with_receiver};
+ghost use Rattle.rtp_media_ends.specs.Params.{IsSound};
 
 use crate::agreement::AgreedSection;
 use crate::errors::{EndError, OpenError, PollFault, ReceiveError};
@@ -33,7 +33,7 @@ pub struct End {
 }
 
 impl Model for End {
-    ghost use Rattle.rtp_media.specs.Ends.{EndState};
+    ghost use Rattle.rtp_media_ends.specs.Ends.{EndState};
     ghost use Rattle.rtp_wire.specs.Replay.{window_code};
     ghost use Rattle.std.specs.Coded.{codes};
 
