@@ -1,5 +1,5 @@
 -- A run goes on by one byte, and ends.
-use Rattle.std.proofs.Common.{◌≡◌, ℕ, ◌+◌, ◌==◌, Bool, true, false, ◌||◌, cond, List, [], ◌∷◌, ◌++◌, length, Option, None, Some, refl, sym, ◌∙◌, ap, subst, append_assoc, append-nil}
+use Rattle.std.proofs.Common.{◌≡◌, ℕ, ◌==◌, Bool, true, false, ◌||◌, cond, List, [], ◌∷◌, ◌++◌, Option, Some, refl, sym, ◌∙◌, ap, subst, append_assoc, append-nil}
 use Rattle.std.specs.List.{flat_map, list_any}
 use Rattle.std.specs.Io.KnownBytes.{Appends, Keeps}
 use Rattle.std.proofs.lemmas.Grind.{flat_map-append}
@@ -8,7 +8,7 @@ use Rattle.rtp_media_lines.specs.declared.line.Command.{Command}
 use Rattle.rtp_media_lines.specs.declared.reply.Reply.{Reply}
 use Rattle.rtp_media_lines.specs.declared.status.Status.{Status}
 use Rattle.rtp_media_lines.specs.declared.status.Status.TheVariants.{Success, ErrorLine}
-use Rattle.rtp_media_lines.specs.Input.{lines_of, kept, longer, HasNoFeed}
+use Rattle.rtp_media_lines.specs.Input.{lines_of, kept, longer}
 use Rattle.rtp_media_lines.specs.Replies.{reply_text, is_error_line}
 use Rattle.rtp_media_lines.specs.Runs.{Answers, AnswersAll, Printed, status_of}
 use Rattle.rtp_media_lines.specs.Statuses.{worse}

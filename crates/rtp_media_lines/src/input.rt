@@ -10,5 +10,4 @@ pub fn lines_are_what_was_ended()
     ensures ended { (lines : List (List ℕ)) → AllByRecursion HasNoFeed lines → lines_of (flat_map with_feed lines) ≡ map kept lines }
     ensures unended { (lines : List (List ℕ)) (byte : ℕ) (last : List ℕ) → AllByRecursion HasNoFeed lines → HasNoFeed (byte ∷ last)
         → lines_of (flat_map with_feed lines ++ byte ∷ last) ≡ map kept lines ++ kept (byte ∷ last) ∷ [] }
-{
-}
+{}

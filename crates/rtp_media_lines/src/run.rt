@@ -1,11 +1,9 @@
 //! Runs of the program: lines in, replies out.
 
-ghost use Rattle.std.specs.Prelude.{◌≡◌, ℕ, List, [], ◌∷◌, ◌++◌, IfOk, OnOk, IfSome, Option, Some, None};
+ghost use Rattle.std.specs.Prelude.{ℕ, List, [], ◌∷◌, IfOk, IfSome};
 ghost use Rattle.std.specs.Option.{option_copied};
-ghost use Rattle.std.specs.List.{flat_map};
-ghost use Rattle.std.specs.Io.KnownBytes.{Appends, Consumes, IsAtEnd};
-ghost use Rattle.rtp_media_lines.specs.Runs.{Answers, Printed, ReadsAll, status_of};
-ghost use Rattle.rtp_media_lines.specs.Progress.{PrintedOne, Progress, GoesOn, Ends};
+ghost use Rattle.rtp_media_lines.specs.Runs.{Answers, Printed, ReadsAll};
+ghost use Rattle.rtp_media_lines.specs.Progress.{PrintedOne, GoesOn, Ends};
 
 use crate::line::Line;
 use crate::line_buffer::LineBuffer;
@@ -136,11 +134,13 @@ pub fn run_lines<R: Read, W: Write, A: Respond>(
     ensures known { IfOk result (λ status. IfSome (R.remaining reader.old) (λ input.
         Printed A.gives responder.old responder.new (W.contents writer.old) (W.contents writer.new) input status)) }
 {
-    run_to_end(alloc, reader, writer, responder)
+    run_within(alloc, MAX_READS, reader, writer, responder)
 }
 
-fn run_to_end<R: Read, W: Write, A: Respond>(
+/// The same in at most `reads` reads.
+pub(crate) fn run_within<R: Read, W: Write, A: Respond>(
     alloc: Global,
+    reads: usize,
     reader: &mut R,
     writer: &mut W,
     responder: &mut A,
@@ -151,7 +151,7 @@ fn run_to_end<R: Read, W: Write, A: Respond>(
     let mut piece = [0u8; PIECE_LENGTH];
     let mut line = LineBuffer::new(alloc);
     let mut status = Status::Success;
-    for _ in 0..MAX_READS {
+    for _ in 0..reads {
         let Ok(count) = reader.read(&mut piece) else {
             return Err(RunFault::Read);
         };

@@ -1,5 +1,3 @@
-use Rattle.std.proofs.Common.{◌≡◌, ℕ, ◌==◌, ◌+◌, false, List, [], ◌∷◌, ◌++◌, Option, Some, subst, sym, ◌∙◌, ap}
-use Rattle.rtp_media_lines.specs.Progress.{PrintedOne, Progress}
 use Rattle.rtp_media_lines.proofs.InputLines.{other_byte}
 use Rattle.rtp_media_lines.proofs.Steps.{Progress-byte, Progress-feed}
 use Rattle.rtp_media_lines.proofs.run.take_byte.Goals as goal

@@ -1,10 +1,8 @@
-use Rattle.std.proofs.Common.{◌≡◌, ℕ, ◌<◌, List, [], ◌++◌, length, take, arith}
-use Rattle.std.specs.Io.KnownBytes.{Consumes, IsAtEnd}
+use Rattle.std.proofs.Common.{[], arith}
 use Rattle.std.proofs.KnownBytes.{Consumes-nil, Consumes-trans}
-use Rattle.rtp_media_lines.specs.Progress.{Progress}
 use Rattle.rtp_media_lines.proofs.Steps.{Progress-start, Printed-kept}
 use Rattle.rtp_media_lines.proofs.Sent.{Consumes-none}
-use Rattle.rtp_media_lines.proofs.run.run_to_end.Goals as goal
+use Rattle.rtp_media_lines.proofs.run.run_within.Goals as goal
 
 pub loop-init : goal.loop-init
 loop-init g c = ([], Consumes-nil _, rw c.new-line.ensures (Progress-start g.A.Respond.gives _ _))
@@ -14,8 +12,7 @@ returns-then-count-eq0 g c =
     let inv = c.loop.invariant in
     let gave = c.in-Ok.ensures.bytes in
     let ended = c.in_ok-status.ensures _ _ _ inv.2 in
-    let len = c.read.auto.buf in
-    (
+    let len = c.read.auto.buf in (
       inv.0,
       (Consumes-none _ _ _ _ _ _ c.if-count-eq0.true inv.1 gave.0, gave.1 c.if-count-eq0.true (omega arith)),
       Printed-kept g.A.Respond.gives _ _ _ _ _ _ _ ended c.flush.ensures.bytes,

@@ -1,7 +1,7 @@
 use Rattle.std.proofs.Common.{List, ℕ}
 use Rattle.std.specs.Io.KnownBytes.{Consumes}
 use Rattle.rtp_media_lines.specs.Progress.{Progress}
-use Rattle.rtp_media_lines.proofs.run.run_to_end.Given as goal
+use Rattle.rtp_media_lines.proofs.run.run_within.Given as goal
 
 -- the reader has given the bytes seen so far, and the run has come so far
 abbrev pub invariant-loop : goal.invariant-loop
