@@ -3,3 +3,4 @@ pub mod Params
 pub mod Agreement
 pub mod Ends
 pub mod Arrivals
+pub mod FullArrival

@@ -12,6 +12,10 @@ ghost use Rattle.rtp_media_ends.specs.Agreement.{agreed_row_of, section_of};
 ghost use Rattle.rtp_media_ends.specs.Ends.{fixed_end, refusal_by, refusal_of_open_sender, refusal_of_open_receiver, after_open_sender, with_new_receiver, sender_at, receiver_at, with_sender, with_receiver};
 ghost use Rattle.rtp_media_ends.specs.Params.{IsSound};
 
+mod receive_all;
+
+pub use receive_all::{Polls, ReceivedAll};
+
 use crate::agreement::AgreedSection;
 use crate::errors::{EndError, OpenError, PollFault, ReceiveError};
 use crate::params::StreamParams;

@@ -74,6 +74,12 @@ pub enum ReceiveError {
     Memory,
 }
 
+impl<T: Drop> From<AllocFailed<T>> for ReceiveError {
+    fn from(_error: AllocFailed<T>) -> ReceiveError {
+        ReceiveError::Memory
+    }
+}
+
 impl From<AllocError> for ReceiveError {
     fn from(_error: AllocError) -> ReceiveError {
         ReceiveError::Memory

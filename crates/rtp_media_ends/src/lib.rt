@@ -8,7 +8,7 @@ mod params;
 mod received;
 mod row;
 
-pub use end::End;
+pub use end::{End, Polls, ReceivedAll};
 pub use errors::{EndError, OpenError, PollFault, ReceiveError};
 pub use params::StreamParams;
 pub use payload_core_base::{Codec, PacketError};

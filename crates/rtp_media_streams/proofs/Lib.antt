@@ -1,2 +1,3 @@
 pub mod Placing
 pub mod Cutting
+pub mod Draining

@@ -1,6 +1,6 @@
 //! The packets that wait for their frames.
 
-ghost use Rattle.std.specs.Prelude.{◌≡◌, ℕ, ◌+◌, ◌<◌, ◌≤◌, List, [], length, nat_lt, slice_get, true, OnOk, OnErr, IfSome, IfNone, ◌∷◌};
+ghost use Rattle.std.specs.Prelude.{◌≡◌, ℕ, ◌+◌, ◌<◌, ◌≤◌, List, [], length, nat_lt, slice_get, true, OnOk, OnErr, IfSome, IfNone, OnSome, ◌∷◌};
 ghost use Rattle.std.specs.List.{prefix_len};
 ghost use Rattle.rtp_media_runs.specs.Buffer.{pushed, with_packet, bounded, IsRising, AreWholePackets, popped, buffer_after};
 ghost use Rattle.rtp_media_runs.specs.Opus.{content_of, packet_of};
@@ -162,6 +162,7 @@ impl PacketBuffer {
         ensures some { IfSome result (λ p. popped hold_back self.old ≡ Some (p ∷ [])) }
         ensures none { IfNone result (popped hold_back self.old ≡ None) }
         ensures after { self.new ≡ buffer_after self.old (popped hold_back self.old) }
+        ensures fewer { OnSome result (length self.new.held < length self.old.held) }
     {
         let count = self.held.len();
         if count == 0 {

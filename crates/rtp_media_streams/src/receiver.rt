@@ -1,8 +1,9 @@
 //! Receiving streams.
 
-ghost use Rattle.std.specs.Prelude.{◌≡◌, [], ◌∷◌, OnOk, OnErr, IfOk, MatchOption};
-ghost use Rattle.rtp_media_runs.specs.Heard.{poll_answer, polled};
-ghost use Rattle.rtp_media_streams.specs.Receiving.{opened_receiver, with_stream, is_own, taken_number, arrived};
+ghost use Rattle.std.specs.Prelude.{◌≡◌, [], ◌∷◌, OnOk, OnErr, IfOk, OnSome, ◌<◌, length};
+ghost use Rattle.rtp_media_runs.specs.Heard.{poll_answer};
+ghost use Rattle.rtp_media_runs.specs.Drained.{IsDrained};
+ghost use Rattle.rtp_media_streams.specs.Receiving.{opened_receiver, with_stream, is_own, taken_number, arrived, polled_receiver};
 
 use crate::buffer::PacketBuffer;
 use crate::media_unit::Unit;
@@ -85,9 +86,23 @@ impl ReceivingStream {
     /// Hands out the next unit, where one is ready.
     pub fn poll(&mut self) -> Option<Unit>
         ensures answer { result ≡ poll_answer self.old.stream }
-        ensures after { self.new ≡ with_stream self.old (polled self.old.stream) }
+        ensures after { self.new ≡ polled_receiver self.old }
+        ensures fewer { OnSome result (length self.new.stream.buffer.held < length self.old.stream.buffer.held) }
     {
         let packet = self.buffer.pop(self.hold_back)?;
         Some(Unit::from_packet(packet))
+    }
+
+    /// Polls until no unit is ready, and answers the units in order. Where memory for their list is
+    /// wanting, those that were polled are lost.
+    pub fn poll_all(&mut self) -> Result<Vec<Unit>, AllocError>
+        ensures drained { IfOk result (λ units. IsDrained self.old.stream units.items self.new.stream) }
+        ensures same { OnOk result (self.new ≡ with_stream self.old self.new.stream) }
+    {
+        let mut units = Vec::new(self.alloc);
+        while let Some(unit) = self.poll() {
+            units.push(unit)?;
+        }
+        Ok(units)
     }
 }

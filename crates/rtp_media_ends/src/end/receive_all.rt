@@ -1,0 +1,106 @@
+//! Datagrams received one after the other, and then all units that are ready.
+
+ghost use Rattle.std.specs.Prelude.{◌≡◌, ◌<◌, ℕ, List, Ok, OnOk, IfOk, length, map};
+ghost use Rattle.rtp_media_runs.specs.Opus.{Timed, payloads, units_from};
+ghost use Rattle.rtp_media_streams.specs.Sending.{Sending};
+ghost use Rattle.rtp_media_ends.specs.Ends.{receiver_at};
+ghost use Rattle.rtp_media_ends.specs.FullArrival.{verdicts_of, after_datagrams, ArePolledOut, IsPolledOut, HasAllOf, answers_at};
+
+use super::End;
+use crate::errors::{PollFault, ReceiveError};
+use crate::received::Received;
+use rtp_media_streams::{Datagram, ReceivingStream, Unit};
+use std::alloc::{AllocError, Global};
+use std::marker::Model;
+
+/// What the polls of a stream answered, one after the other.
+#[derive(Drop)]
+pub struct Polls {
+    answers: Vec<Result<Unit, PollFault>>,
+}
+
+impl Model for Polls {
+    ghost use Rattle.rtp_media_ends.specs.FullArrival.{Answers};
+
+    ghost Value = { Answers };
+
+    ghost view = { λ p. p.answers.items };
+}
+
+impl Polls {
+    /// The answers.
+    pub fn as_slice(&self) -> &[Result<Unit, PollFault>]
+        ensures { result.now ≡ self.now }
+    {
+        self.answers.as_slice()
+    }
+
+    /// The answers, given up.
+    pub fn into_vec(self) -> Vec<Result<Unit, PollFault>>
+        ensures { result.items ≡ self }
+    {
+        let Polls { answers } = self;
+        answers
+    }
+}
+
+/// What `End::receive_all` answers.
+#[derive(Drop)]
+pub struct ReceivedAll {
+    /// What was said of each datagram, in order.
+    pub verdicts: Vec<Received>,
+    /// What each receiving stream answered to its polls, by its number.
+    pub polls: Vec<Polls>,
+}
+
+impl End {
+    /// Takes datagrams in, one after the other, and then polls each receiving stream, in rising
+    /// number, until it answers None.
+    ///
+    /// # Errors
+    /// `ReceiveError::Memory`, after a part of that was done.
+    pub fn receive_all(&mut self, datagrams: &[Datagram]) -> Result<ReceivedAll, ReceiveError>
+        ensures verdicts { IfOk result (λ all. all.verdicts.items ≡ verdicts_of self.old datagrams.now) }
+        ensures polls { IfOk result (λ all. ArePolledOut (after_datagrams self.old datagrams.now).receivers all.polls.items self.new.receivers) }
+    {
+        let verdicts = self.receive_each(datagrams)?;
+        let polls = poll_each(self.alloc, &mut self.receivers)?;
+        Ok(ReceivedAll { verdicts, polls })
+    }
+
+    /// Takes datagrams in, one after the other.
+    fn receive_each(&mut self, datagrams: &[Datagram]) -> Result<Vec<Received>, ReceiveError>
+        ensures verdicts { IfOk result (λ verdicts. verdicts.items ≡ verdicts_of self.old datagrams.now) }
+        ensures after { OnOk result (self.new ≡ after_datagrams self.old datagrams.now) }
+    {
+        let mut verdicts = Vec::new(self.alloc);
+        for datagram in datagrams {
+            verdicts.push(self.receive(datagram.as_slice())?)?;
+        }
+        Ok(verdicts)
+    }
+}
+
+/// Polls each stream until it answers None.
+fn poll_each(
+    alloc: Global,
+    receivers: &mut Vec<ReceivingStream>,
+) -> Result<Vec<Polls>, AllocError>
+    ensures { IfOk result (λ polls. ArePolledOut receivers.old.items polls.items receivers.new.items) }
+{
+    let mut polls = Vec::new(alloc);
+    for stream in 0..receivers.len() {
+        let receiver = &mut receivers[stream];
+        polls.push(poll_out(alloc, receiver)?)?;
+    }
+    Ok(polls)
+}
+
+/// Polls a stream until it answers None.
+fn poll_out(alloc: Global, receiver: &mut ReceivingStream) -> Result<Polls, AllocError>
+    ensures { IfOk result (λ polls. IsPolledOut receiver.old polls receiver.new) }
+{
+    let units = receiver.poll_all()?;
+    let answers = units.into_iter().map(Ok).collect(alloc)?;
+    Ok(Polls { answers })
+}
