@@ -1,1 +1,3 @@
 pub mod Openings
+pub mod Isolation
+pub mod Exact

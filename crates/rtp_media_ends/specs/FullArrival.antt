@@ -22,6 +22,10 @@ abbrev pub after_datagrams : EndState → List (List ℕ) → EndState
 after_datagrams e [] = e
 after_datagrams e (d ∷ ds) = after_datagrams (after_datagram e d) ds
 
+-- the end with these receiving streams
+abbrev pub with_receivers : EndState → List Receiving → EndState
+with_receivers e rs = record { session = e.session; agreed = e.agreed; senders = e.senders; receivers = rs }
+
 -- What polls of a stream answer.
 abbrev pub Answers : Type 0
 Answers = List (Result MediaUnit PollFault)

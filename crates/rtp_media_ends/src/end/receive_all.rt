@@ -3,8 +3,7 @@
 ghost use Rattle.std.specs.Prelude.{◌≡◌, ◌<◌, ℕ, List, Ok, OnOk, IfOk, length, map};
 ghost use Rattle.rtp_media_runs.specs.Opus.{Timed, payloads, units_from};
 ghost use Rattle.rtp_media_streams.specs.Sending.{Sending};
-ghost use Rattle.rtp_media_ends.specs.Ends.{receiver_at};
-ghost use Rattle.rtp_media_ends.specs.FullArrival.{verdicts_of, after_datagrams, ArePolledOut, IsPolledOut, HasAllOf, answers_at};
+ghost use Rattle.rtp_media_ends.specs.FullArrival.{verdicts_of, after_datagrams, ArePolledOut, IsPolledOut, HasAllOf, answers_at, with_receivers};
 
 use super::End;
 use crate::errors::{PollFault, ReceiveError};
@@ -62,6 +61,11 @@ impl End {
     pub fn receive_all(&mut self, datagrams: &[Datagram]) -> Result<ReceivedAll, ReceiveError>
         ensures verdicts { IfOk result (λ all. all.verdicts.items ≡ verdicts_of self.old datagrams.now) }
         ensures polls { IfOk result (λ all. ArePolledOut (after_datagrams self.old datagrams.now).receivers all.polls.items self.new.receivers) }
+        ensures others { OnOk result (self.new ≡ with_receivers (after_datagrams self.old datagrams.now) self.new.receivers) }
+        // All datagrams of a stream's samples came: its polls answer exactly the canonical units.
+        ensures exact { IfOk result (λ all. (stream hold_back : ℕ) (sender : Sending) (samples : List Timed) (arrivals : List ℕ) →
+            HasAllOf self.old stream hold_back sender samples arrivals datagrams.now →
+            answers_at all.polls.items stream ≡ map Ok (units_from sender.next (payloads sender.mtu samples))) }
     {
         let verdicts = self.receive_each(datagrams)?;
         let polls = poll_each(self.alloc, &mut self.receivers)?;

@@ -1,0 +1,16 @@
+use Rattle.std.proofs.Common.{◌≡◌, ◌∙◌, ap, subst, List, length}
+use Rattle.rtp_media_streams.specs.Receiving.{Receiving}
+use Rattle.rtp_media_ends.specs.Ends.{EndState}
+use Rattle.rtp_media_ends.specs.FullArrival.{after_datagrams, ArePolledOut}
+use Rattle.rtp_media_ends.proofs.Exact.{exact}
+use Rattle.rtp_media_ends.proofs.Isolation.{found-after}
+use Rattle.rtp_media_ends.proofs.end.End.receive_all.Goals as goal
+
+pub returns-clause-exact : goal.returns-clause-exact
+returns-clause-exact c stream hold_back sender samples arrivals all =
+    let receivers : c.self.inside.receivers.items ≡ (after_datagrams c.args.self.now c.args.datagrams.now).receivers =
+    ap (λ (e : EndState). e.receivers) (c.self.view_is ∙ c.in_ok-verdicts.ensures.after) in
+    let polled : ArePolledOut (after_datagrams c.args.self.now c.args.datagrams.now).receivers c.in_ok-polls.polls.items c.poll_each.new.receivers.items =
+    subst (λ (rs : List Receiving). ArePolledOut rs c.in_ok-polls.polls.items c.poll_each.new.receivers.items) receivers c.in_ok-polls.ensures in
+    exact c.args.self.now stream hold_back sender samples arrivals c.args.datagrams.now _ _ all
+      (polled.each stream (found-after c.args.datagrams.now c.args.self.now stream sender.ssrc sender.pt (ap (λ (r : Receiving). r.ssrc) all.fresh) (ap (λ (r : Receiving). r.pt) all.fresh) all.opened))
