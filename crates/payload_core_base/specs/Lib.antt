@@ -1,5 +1,6 @@
 pub mod Codecs
 pub mod Format
+pub mod Outgoing
 pub mod Packing
 pub mod Pieces
 pub mod Telephone

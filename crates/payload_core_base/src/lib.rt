@@ -8,6 +8,7 @@ mod depacketizer;
 mod error;
 mod extra;
 mod packetizer;
+mod sink;
 mod telephone_event;
 
 pub use codec::{Codec, MediaKind};
@@ -18,4 +19,5 @@ pub use extra::{
     Vp9CodecExtra,
 };
 pub use packetizer::Packetizer;
+pub use sink::PacketSink;
 pub use telephone_event::TelephoneEvent;

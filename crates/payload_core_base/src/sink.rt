@@ -1,0 +1,23 @@
+//! Where payloads are sent to.
+
+ghost use Rattle.payload_core_base.specs.Outgoing.{Outgoing, outgoing};
+ghost use Rattle.std.specs.Prelude.{◌≡◌, IfErr, OnErr, OnOk};
+
+use crate::error::PacketError;
+use rtp_wire_extensions::ExtensionValues;
+
+/// Takes the payloads of packets, one after the other.
+pub trait PacketSink {
+    /// The sink before, a payload with what it is sent with, and the sink after it was taken.
+    ghost takes: { Self → Outgoing → Self → Type 0 };
+
+    /// The sink before and after a payload was refused, which isn't sent.
+    ghost keeps: { Self → Self → Type 0 };
+
+    /// Takes one payload, unaltered, with its marker, its RTP time and the values of its header
+    /// extensions. The only refusal is `Memory`, and then nothing was sent.
+    fn send(&mut self, payload: &[u8], marker: bool, time: u32, values: &ExtensionValues) -> Result<(), PacketError>
+        ensures taken { OnOk result (takes self.old (outgoing payload.now marker time values.now) self.new) }
+        ensures kept { OnErr result (keeps self.old self.new) }
+        ensures memory { IfErr result (λ e. e ≡ PacketError.Memory) };
+}

@@ -1,0 +1,8 @@
+pub mod Packets
+pub mod Metas
+pub mod Places
+pub mod Frames
+pub mod Buffered
+pub mod Pops
+pub mod Sending
+pub mod Payloaders

@@ -1,0 +1,101 @@
+//! The buffer.
+
+ghost use Rattle.std.specs.Prelude.{◌≡◌, ◌≢◌, [], IfErr, IfNone, IfOk, IfSome, None, OnErr, OnOk};
+
+use crate::depacketized::Depacketized;
+use crate::held::{Held, RtpMeta};
+use crate::place::keep;
+use crate::take::take_due;
+use payload_core_base::{Depacketizer, PacketError};
+use rtp_wire_ids::SeqNo;
+use std::alloc::Global;
+use std::marker::Model;
+
+/// Holds packets by their numbers until their frame is complete, and hands the frames to a depacketizer.
+///
+/// A complete frame ends with a tail, and begins with the least head from which the packets up to the tail
+/// are all held, consecutive and of one time, with no tail among them. At most 4,096 packets are held.
+#[derive(Drop)]
+pub struct DepacketizingBuffer<D> {
+    depacketizer: D,
+    hold_back: usize,
+    held: Vec<Held>,
+    cutoff: Option<SeqNo>,
+}
+
+impl<D> Model for DepacketizingBuffer<D> {
+    ghost use Rattle.payload_core_buffer.specs.Buffered.{Buffered, IsHeldInOrder, buffered_code};
+    ghost use Rattle.payload_core_buffer.specs.Packets.{packets_of};
+
+    ghost Value = { Buffered D };
+
+    ghost coded = { buffered_code D.code };
+
+    ghost view = { λ b. record { depacketizer = b.depacketizer; hold_back = b.hold_back; held = packets_of b.held.items; cutoff = b.cutoff } };
+
+    ghost invariant = { λ b. IsHeldInOrder b.held.items };
+}
+
+impl<D: Depacketizer> DepacketizingBuffer<D> {
+    ghost use Rattle.payload_core_buffer.specs.Buffered.{Buffered, pushed};
+    ghost use Rattle.payload_core_buffer.specs.Frames.{due_frame};
+    ghost use Rattle.payload_core_buffer.specs.Metas.{metas_of_unit};
+    ghost use Rattle.payload_core_buffer.specs.Packets.{packet_from};
+    ghost use Rattle.payload_core_buffer.specs.Pops.{Faults, HandsOn, Stays};
+
+    /// A buffer that holds nothing. While a packet before the lowest complete frame may still come, that
+    /// frame waits until more than `hold_back` frames are complete.
+    pub fn new(alloc: Global, depacketizer: D, hold_back: usize) -> Self
+        ensures { result ≡ record { depacketizer = depacketizer; hold_back = hold_back; held = []; cutoff = None } }
+    {
+        DepacketizingBuffer {
+            depacketizer,
+            hold_back,
+            held: Vec::new(alloc),
+            cutoff: None,
+        }
+    }
+
+    /// Holds a packet, unless its number is at or below the cutoff, or held; with 4,096 held the lowest of
+    /// the held and the new one is dropped. The only refusal is `Memory`, which changes nothing.
+    pub fn push(&mut self, meta: RtpMeta, payload: &[u8]) -> Result<(), PacketError>
+        ensures kept { OnOk result (self.new ≡ record self.old { held = pushed self.old.cutoff self.old.held (packet_from meta payload.now) }) }
+        ensures unchanged { OnErr result (self.new ≡ self.old) }
+        ensures memory { IfErr result (λ e. e ≡ PacketError.Memory) }
+    {
+        if self.cutoff.is_some_and(|c| meta.seq_no.get() <= c.get()) {
+            return Ok(());
+        }
+        keep(&mut self.held, meta, payload)
+    }
+
+    /// The lowest complete frame, where there is no cutoff, or it begins right behind the cutoff, or more
+    /// than `hold_back` frames are complete; then its last number is the cutoff, and it and all before it
+    /// are no longer held. Else None, which takes no memory and changes nothing.
+    ///
+    /// A fault of the depacketizer moves the cutoff and what is held in the same way; the frame's later
+    /// packets aren't handed on, and an open fragment stays open. `Memory` leaves what is held and the
+    /// cutoff, and some of the frame's packets may have been read.
+    pub fn pop(&mut self) -> Result<Option<Depacketized>, PacketError>
+        ensures format { D.format self.new.depacketizer ≡ D.format self.old.depacketizer }
+        ensures hold_back { self.new.hold_back ≡ self.old.hold_back }
+        ensures none { let due = due_frame (D.format self.old.depacketizer) self.old.cutoff self.old.hold_back self.old.held in
+            IfOk result (λ r. IfNone r ((due ≡ None) × (self.new ≡ self.old))) }
+        ensures handed_on { let due = due_frame (D.format self.old.depacketizer) self.old.cutoff self.old.hold_back self.old.held in
+            let hands_on = HandsOn (D.format self.old.depacketizer) (D.fragment self.old.depacketizer) (D.fragment self.new.depacketizer) self.old.held self.new.held due self.new.cutoff in
+            IfOk result (λ r. IfSome r (λ d. hands_on d.bytes.items d.extra (metas_of_unit d))) }
+        ensures fault { let due = due_frame (D.format self.old.depacketizer) self.old.cutoff self.old.hold_back self.old.held in
+            let faults = Faults (D.format self.old.depacketizer) (D.fragment self.old.depacketizer) (D.fragment self.new.depacketizer) self.old.held self.new.held due self.new.cutoff in
+            IfErr result (λ e. e ≢ PacketError.Memory → faults e) }
+        ensures memory { let due = due_frame (D.format self.old.depacketizer) self.old.cutoff self.old.hold_back self.old.held in
+            let stays = Stays (D.format self.old.depacketizer) (D.fragment self.old.depacketizer) (D.fragment self.new.depacketizer) self.old.held self.new.held due self.old.cutoff self.new.cutoff in
+            IfErr result (λ e. e ≡ PacketError.Memory → stays) }
+    {
+        take_due(
+            &mut self.depacketizer,
+            &mut self.held,
+            &mut self.cutoff,
+            self.hold_back,
+        )
+    }
+}

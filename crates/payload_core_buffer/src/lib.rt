@@ -1,0 +1,18 @@
+//! Sending samples through a packet sink, and putting packets together again in the order of their
+//! numbers.
+#![tactic(auto)]
+
+mod buffer;
+mod depacketized;
+mod frame;
+mod held;
+mod payloader;
+mod place;
+mod run;
+mod take;
+
+pub use buffer::DepacketizingBuffer;
+pub use depacketized::Depacketized;
+pub use held::RtpMeta;
+pub use payloader::Payloader;
+pub use place::MAX_HELD;
