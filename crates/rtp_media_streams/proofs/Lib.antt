@@ -1,3 +1,4 @@
 pub mod Placing
 pub mod Cutting
 pub mod Draining
+pub mod Sent

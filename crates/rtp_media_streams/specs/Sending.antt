@@ -1,4 +1,4 @@
-use Rattle.std.specs.Prelude.{ℕ, ◌+◌, ◌*◌, ◌/◌, ◌%◌, ◌^◌, Bool, true, false, ◌==◌, ◌&&◌, ◌||◌, not, nat_lt, nat_le, if◌then◌else◌, is_none, List, [], ◌∷◌, ◌++◌, length, replicate, Option, Some, None}
+use Rattle.std.specs.Prelude.{ℕ, ◌+◌, ◌*◌, ◌/◌, ◌%◌, ◌^◌, Bool, true, false, ◌==◌, ◌&&◌, ◌||◌, not, nat_lt, nat_le, if◌then◌else◌, is_none, List, [], ◌∷◌, ◌++◌, length, replicate, map, Option, Some, None}
 use Rattle.rtp_wire.specs.Time.{Time, rebased_ticks, checked_rebased}
 use Rattle.rtp_wire.specs.Header.{spelled}
 use Rattle.rtp_wire.specs.Values.{Numbering, absent}
@@ -89,3 +89,17 @@ refusal_of_sample s time =
     else if is_none (checked_rebased time s.rate) then Some TimeTooLarge
     else if nat_lt s.limit (s.mtu + 12) then Some LimitTooSmall
     else None
+
+-- A sample with its time.
+pub record Sample : Type 0 where
+  pub time : Time
+  pub bytes : List ℕ
+
+-- The datagrams of samples, pushed one after the other.
+abbrev pub datagrams_of : Sending → List Sample → List (List ℕ)
+datagrams_of s [] = []
+datagrams_of s (x ∷ xs) = sent_datagrams s x.time x.bytes ++ datagrams_of (after_sample s x.time x.bytes) xs
+
+-- The samples as they go on the wire.
+abbrev pub samples_of : Sending → List Sample → List Timed
+samples_of s xs = map (λ x. sample_of s x.time x.bytes) xs

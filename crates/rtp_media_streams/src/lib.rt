@@ -4,6 +4,7 @@
 mod buffer;
 mod datagram;
 mod errors;
+mod laws;
 mod media_unit;
 mod receiver;
 mod sender;
@@ -11,6 +12,7 @@ mod sender;
 pub use buffer::{HeldPacket, PacketBuffer};
 pub use datagram::Datagram;
 pub use errors::SampleError;
+pub use laws::datagrams_laws;
 pub use media_unit::Unit;
 pub use receiver::ReceivingStream;
 pub use sender::SendingStream;

@@ -77,6 +77,13 @@ impl SendingStream {
         self.ssrc.get() == ssrc.get() && self.pt.get() == pt.get()
     }
 
+    /// The clock rate of its timestamps, in ticks a second.
+    pub fn clock_rate(&self) -> Frequency
+        ensures { result ≡ self.now.rate }
+    {
+        self.rate
+    }
+
     /// The datagrams of a sample, each of at most `limit` bytes with a payload of at most `mtu`: its
     /// pieces one after the other, under consecutive numbers and one timestamp. An empty sample has
     /// none and uses no number.
