@@ -22,7 +22,7 @@ use crate::params::StreamParams;
 use crate::received::Received;
 use crate::row::PayloadParams;
 use rtp_media_streams::{Datagram, ReceivingStream, SampleError, SendingStream, Unit};
-use rtp_wire::{ExtensionMap, ExtensionValues, MediaTime, Mid, Pt, RtpHeader, SessionId, Ssrc, unpad_payload};
+use rtp_wire::{ExtensionMap, ExtensionValues, Frequency, MediaTime, Mid, Pt, RtpHeader, SessionId, Ssrc, unpad_payload};
 use std::alloc::Global;
 use std::marker::Model;
 
@@ -91,6 +91,14 @@ impl End {
         ensures { IsTrue result ↔ (stream < length self.now.receivers) }
     {
         stream < self.receivers.len()
+    }
+
+    /// The clock rate of a sending stream's timestamps, in ticks a second.
+    pub fn clock_rate(&self, stream: usize) -> Frequency
+        requires { stream < length self.now.senders }
+        ensures { result ≡ (sender_at self.now stream).rate }
+    {
+        self.senders[stream].clock_rate()
     }
 
     /// Opens a sending stream of this SSRC for the agreed row of a payload type, and answers its

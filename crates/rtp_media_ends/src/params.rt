@@ -1,7 +1,7 @@
 //! How a sending stream sends.
 
-ghost use Rattle.std.specs.Prelude.{IsTrue, ◌↔◌};
-ghost use Rattle.rtp_media_ends.specs.Params.{IsSound};
+ghost use Rattle.std.specs.Prelude.{◌≡◌, IsTrue, ◌↔◌};
+ghost use Rattle.rtp_media_ends.specs.Params.{IsSound, is_sound_params};
 
 /// How a sending stream numbers and cuts its samples.
 #[derive(Debug, Drop)]
@@ -21,7 +21,8 @@ pub struct StreamParams {
 impl StreamParams {
     /// Whether a stream may be opened with these, for a row without a RED type.
     pub fn is_sound(&self) -> bool
-        ensures { IsTrue result ↔ IsSound self.now }
+        ensures test { result ≡ is_sound_params self.now }
+        ensures sound { IsTrue result ↔ IsSound self.now }
     {
         self.first < 32768
             && self.mtu > 0
