@@ -226,7 +226,8 @@ impl End {
         ensures answer { IfOk result (λ unit. unit ≡ poll_answer (receiver_at self.old stream).stream) }
         ensures after { OnOk result (self.new ≡ with_receiver self.old stream (polled_receiver (receiver_at self.old stream))) }
         ensures none { poll_answer (receiver_at self.old stream).stream ≡ None → IsOk result }
-        ensures fault { OnErr result (self.new ≡ self.old) }
+        ensures fault { IfErr result (λ fault. fault ≡ PollFault.Memory) }
+        ensures kept { OnErr result (self.new ≡ self.old) }
     {
         let receiver = &mut self.receivers[stream];
         Ok(receiver.poll())

@@ -1,0 +1,189 @@
+-- What the program answers to each command, from the definitions of its calls.
+use Rattle.std.specs.Prelude.{ℕ, ◌≡◌, ◌⊎◌, ◌&&◌, Bool, true, nat_lt, nat_le, is_none, if◌then◌else◌, List, [], ◌∷◌, ◌++◌, length, map, Option, Some, None}
+use Rattle.std.specs.Option.{option_map}
+use Rattle.rtp_wire.specs.Name.{name_of}
+use Rattle.rtp_wire.specs.Time.{Time}
+use Rattle.rtp_media_runs.specs.Heard.{MediaUnit, poll_answer}
+use Rattle.rtp_media_streams.specs.Sending.{sent_datagrams, after_sample, failed_stream, refusal_of_sample}
+use Rattle.rtp_media_streams.specs.Receiving.{opened_receiver, polled_receiver}
+use Rattle.rtp_media_streams.specs.declared.errors.SampleError.{SampleError}
+use Rattle.rtp_media_streams.specs.declared.errors.SampleError.TheVariants as sample_error
+use Rattle.rtp_media_ends.specs.declared.errors.OpenError.{OpenError}
+use Rattle.rtp_media_ends.specs.declared.errors.OpenError.TheVariants as open_error
+use Rattle.rtp_media_ends.specs.declared.errors.PollFault.{PollFault}
+use Rattle.rtp_media_ends.specs.declared.errors.PollFault.TheVariants as poll_fault
+use Rattle.rtp_media_ends.specs.declared.params.StreamParams.{StreamParams}
+use Rattle.rtp_media_ends.specs.declared.received.Received.{Received}
+use Rattle.rtp_media_ends.specs.declared.received.Received.TheVariants as received
+use Rattle.rtp_media_ends.specs.Ends.{EndState, fixed_end, refusal_of_open_sender, refusal_of_open_receiver, after_open_sender, with_new_receiver, with_sender, with_receiver, sender_at, receiver_at}
+use Rattle.rtp_media_ends.specs.Params.{is_sound_params}
+use Rattle.rtp_media_ends.specs.Arrivals.{verdict_of, after_datagram}
+use Rattle.rtp_media_lines.specs.declared.words.Side.{Side}
+use Rattle.rtp_media_lines.specs.declared.words.Side.TheVariants.{A, B}
+use Rattle.rtp_media_lines.specs.declared.line.Command.{Command}
+use Rattle.rtp_media_lines.specs.declared.line.Command.TheVariants.{Fixed, Send, Open, Sample, Receive, Poll}
+use Rattle.rtp_media_lines.specs.declared.line.SendCommand.{SendCommand}
+use Rattle.rtp_media_lines.specs.declared.line.OpenCommand.{OpenCommand}
+use Rattle.rtp_media_lines.specs.declared.line.SampleCommand.{SampleCommand}
+use Rattle.rtp_media_lines.specs.declared.line.ReceiveCommand.{ReceiveCommand}
+use Rattle.rtp_media_lines.specs.declared.line.PollCommand.{PollCommand}
+use Rattle.rtp_media_lines.specs.declared.reply.Reply.{Reply}
+use Rattle.rtp_media_lines.specs.declared.reply.Reply.TheVariants as reply
+use Rattle.rtp_media_lines.specs.declared.reply.ErrorName.{ErrorName}
+use Rattle.rtp_media_lines.specs.declared.reply.ErrorName.TheVariants as name
+
+-- An end, where there is one, and what is printed.
+pub record EndStep : Type 0 where
+  pub end : Option EndState
+  pub replies : List Reply
+
+-- one line is printed, and the end stays
+abbrev pub prints : Option EndState → Reply → EndStep
+prints end reply = record { end = end; replies = reply ∷ [] }
+
+-- one line is printed, and the end is this one
+abbrev pub becomes : EndState → Reply → EndStep
+becomes e reply = record { end = Some e; replies = reply ∷ [] }
+
+abbrev pub open_error_name : OpenError → ErrorName
+open_error_name open_error.NoSection = name.NoSection
+open_error_name open_error.RowNotAgreed = name.RowNotAgreed
+open_error_name open_error.RowDiffers = name.RowDiffers
+open_error_name open_error.WrongDirection = name.WrongDirection
+open_error_name open_error.SsrcNotNamed = name.SsrcNotNamed
+open_error_name open_error.AlreadyOpen = name.AlreadyOpen
+open_error_name open_error.Memory = name.Memory
+
+abbrev pub sample_error_name : SampleError → ErrorName
+sample_error_name sample_error.StreamFailed = name.StreamFailed
+sample_error_name sample_error.TimeTooLarge = name.TimeTooLarge
+sample_error_name sample_error.LimitTooSmall = name.LimitTooSmall
+sample_error_name sample_error.Memory = name.Memory
+
+abbrev pub fault_name : PollFault → ErrorName
+fault_name (poll_fault.Payload error) = name.Payload
+fault_name poll_fault.Memory = name.Memory
+
+-- the stream parameters that a command gives
+abbrev pub params_of : SendCommand → StreamParams
+params_of c = record { first = c.first; mtu = c.mtu; limit = c.limit; red = None; picture_id = c.picture_id }
+
+-- a command's conditions: no row here has a RED type, so it gives no distances
+abbrev pub is_sound_send : SendCommand → Bool
+is_sound_send c = is_none c.distances && is_sound_params (params_of c)
+
+abbrev pub sender_step : EndState → SendCommand → Option OpenError → EndStep
+sender_step e c (Some error) = prints (Some e) (reply.Refused (open_error_name error))
+sender_step e c None = becomes (after_open_sender e (name_of 16 c.mid) c.ssrc c.pt (params_of c)) (reply.Sender (length e.senders))
+
+-- send E MID SSRC PT FIRST MTU LIMIT DISTANCES PICTUREID
+abbrev pub send_step : Option EndState → SendCommand → EndStep
+send_step None c = prints None reply.ErrorLine
+send_step (Some e) c =
+    if is_sound_send c then sender_step e c (refusal_of_open_sender e (name_of 16 c.mid) c.ssrc c.pt)
+    else prints (Some e) reply.ErrorLine
+
+abbrev pub receiver_step : EndState → OpenCommand → Option OpenError → EndStep
+receiver_step e c (Some error) = prints (Some e) (reply.Refused (open_error_name error))
+receiver_step e c None = becomes (with_new_receiver e (opened_receiver c.ssrc c.pt c.hold_back)) (reply.Receiver (length e.receivers))
+
+-- open E MID SSRC PT HOLDBACK
+abbrev pub open_step : Option EndState → OpenCommand → EndStep
+open_step None c = prints None reply.ErrorLine
+open_step (Some e) c = receiver_step e c (refusal_of_open_receiver e (name_of 16 c.mid) c.ssrc c.pt)
+
+-- a command's time, at the clock rate of its stream's row
+abbrev pub time_of : EndState → SampleCommand → Time
+time_of e c = record { ticks = c.time; rate = (sender_at e c.stream).rate }
+
+abbrev pub sent_step : EndState → SampleCommand → Option SampleError → EndStep
+sent_step e c (Some error) = prints (Some e) (reply.Refused (sample_error_name error))
+sent_step e c None = record {
+  end = Some (with_sender e c.stream (after_sample (sender_at e c.stream) (time_of e c) c.sample));
+  replies = map (λ d. reply.Datagram d) (sent_datagrams (sender_at e c.stream) (time_of e c) c.sample) ++ reply.Done ∷ [];
+}
+
+-- sample E N TIME HEX
+abbrev pub sample_step : Option EndState → SampleCommand → EndStep
+sample_step None c = prints None reply.ErrorLine
+sample_step (Some e) c =
+    if nat_lt c.stream (length e.senders) then sent_step e c (refusal_of_sample (sender_at e c.stream) (time_of e c))
+    else prints (Some e) reply.ErrorLine
+
+abbrev pub verdict_reply : Received → Reply
+verdict_reply received.Unreadable = reply.Unreadable
+verdict_reply received.Foreign = reply.Foreign
+verdict_reply received.Damaged = reply.Damaged
+verdict_reply received.Refused = reply.NotTaken
+verdict_reply (received.Taken stream number) = reply.Taken stream number
+
+-- receive E HEX
+abbrev pub receive_step : Option EndState → ReceiveCommand → EndStep
+receive_step None c = prints None reply.ErrorLine
+receive_step (Some e) c = becomes (after_datagram e c.datagram) (verdict_reply (verdict_of e c.datagram))
+
+abbrev pub unit_reply : Option MediaUnit → Reply
+unit_reply None = reply.NoUnit
+unit_reply (Some unit) = reply.NextUnit unit.first unit.last unit.time unit.bytes
+
+-- poll E N
+abbrev pub poll_step : Option EndState → PollCommand → EndStep
+poll_step None c = prints None reply.ErrorLine
+poll_step (Some e) c =
+    if nat_lt c.stream (length e.receivers) then becomes (with_receiver e c.stream (polled_receiver (receiver_at e c.stream))) (unit_reply (poll_answer (receiver_at e c.stream).stream))
+    else prints (Some e) reply.ErrorLine
+
+-- What a command does to the end that it names, and what is printed.
+abbrev pub step_of : Option EndState → Command → EndStep
+step_of end (Fixed side) = becomes fixed_end reply.Done
+step_of end (Send c) = send_step end c
+step_of end (Open c) = open_step end c
+step_of end (Sample c) = sample_step end c
+step_of end (Receive c) = receive_step end c
+step_of end (Poll c) = poll_step end c
+
+-- the end whose sending stream failed
+abbrev pub with_failed : Option EndState → ℕ → Option EndState
+with_failed end stream = option_map (λ e. with_sender e stream (failed_stream (sender_at e stream))) end
+
+-- The same where the call is refused for want of memory.
+abbrev pub wanting_of : Option EndState → Command → EndStep
+wanting_of end (Fixed side) = prints end (reply.Refused name.Memory)
+wanting_of end (Send c) = prints end (reply.Refused name.Memory)
+wanting_of end (Open c) = prints end (reply.Refused name.Memory)
+wanting_of end (Sample c) = prints (with_failed end c.stream) (reply.Refused name.Memory)
+wanting_of end (Receive c) = prints end (reply.Refused name.Memory)
+wanting_of end (Poll c) = prints end (reply.Fault name.Memory)
+
+-- the end is this, and so are the replies
+abbrev pub IsStep : EndStep → Option EndState → List Reply → Type 0
+IsStep step end replies = (end ≡ step.end) × (replies ≡ step.replies)
+
+-- A command is answered as stated, or its call is refused for want of memory.
+abbrev pub IsAnswered : Option EndState → Command → Option EndState → List Reply → Type 0
+IsAnswered old command new replies = IsStep (step_of old command) new replies ⊎ IsStep (wanting_of old command) new replies
+
+-- The two ends of the program.
+pub record Ends : Type 0 where
+  pub a : Option EndState
+  pub b : Option EndState
+
+abbrev pub no_ends : Ends
+no_ends = record { a = None; b = None }
+
+abbrev pub side_of : Command → Side
+side_of (Fixed side) = side
+side_of (Send c) = c.side
+side_of (Open c) = c.side
+side_of (Sample c) = c.side
+side_of (Receive c) = c.side
+side_of (Poll c) = c.side
+
+-- the end that a command names is answered for, and the other stays
+abbrev pub IsAnsweredAt : Side → Ends → Command → Ends → List Reply → Type 0
+IsAnsweredAt A old command new replies = IsAnswered old.a command new.a replies × (new.b ≡ old.b)
+IsAnsweredAt B old command new replies = IsAnswered old.b command new.b replies × (new.a ≡ old.a)
+
+-- What the program does at a command.
+abbrev pub Gives : Ends → Command → Ends → List Reply → Type 0
+Gives old command new replies = IsAnsweredAt (side_of command) old command new replies
