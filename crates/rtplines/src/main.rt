@@ -1,0 +1,21 @@
+//! Reads lines of the media path's program from standard input, and writes the answers to standard
+//! output.
+#![tactic(auto)]
+
+use rtp_media::{RunFault, Status, run};
+use std::io;
+use std::process::ExitCode;
+
+/// Status 0, or 2 where an `error line` was printed; 1 where the input could not be read, the answers
+/// could not be written, or memory was wanting, after a line on standard error that says which.
+fn main(rt: HostRuntime) -> ExitCode {
+    let mut reader = rt.reader();
+    let mut writer = io::writer(&rt);
+    match run(rt.alloc(), &mut reader, &mut writer) {
+        Ok(status) => ExitCode::from(status.code()),
+        Err(fault) => {
+            let _ = eprintln!(rt; "{fault}");
+            ExitCode::from(1)
+        }
+    }
+}
