@@ -1,0 +1,11 @@
+//! Worked examples of the media path that cross its crates, each a test named by its number.
+#![tactic(auto)]
+
+#[cfg(test)]
+mod arrivals;
+#[cfg(test)]
+mod lines;
+#[cfg(test)]
+mod samples;
+#[cfg(test)]
+mod streams;
