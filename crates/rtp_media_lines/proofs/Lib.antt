@@ -1,4 +1,5 @@
 pub mod Each
+pub mod CommandWords
 pub mod InputLines
 pub mod LineCases
 pub mod Numbers

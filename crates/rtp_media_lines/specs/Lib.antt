@@ -4,6 +4,7 @@ pub mod Misreads
 pub mod Progress
 pub mod Replies
 pub mod Runs
+pub mod Says
 pub mod Statuses
 pub mod Words
 pub mod Writes

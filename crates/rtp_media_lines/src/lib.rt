@@ -2,6 +2,7 @@
 #![tactic(auto)]
 
 mod fields;
+mod grammar;
 mod input;
 mod line;
 mod line_buffer;
@@ -15,6 +16,7 @@ mod status;
 mod words;
 mod writing;
 
+pub use grammar::commands_are_their_words;
 pub use input::lines_are_what_was_ended;
 pub use line::{
     Command, Line, OpenCommand, PollCommand, ReceiveCommand, SampleCommand, SendCommand,

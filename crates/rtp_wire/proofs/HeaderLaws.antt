@@ -10,7 +10,7 @@ use Rattle.rtp_wire.specs.declared.header.RtpHeader.{RtpHeader}
 use Rattle.rtp_wire.specs.Header.{half_at, word_at, words_in, has_bit, csrc_count_in, has_extension_in, block_at, header_length_in, is_header, block_in, values_in, slots, fields_in, header_in, header_of, layout_of, spelled, image, payload_in, IsWritable}
 use Rattle.rtp_wire.specs.Layout.{Layout, bit, is_some_block, block_bytes, words, layout_bytes, IsBlock, IsLayout}
 use Rattle.rtp_wire.proofs.Lengths.{length-words, length-layout, block-not}
-use Rattle.rtp_wire_extensions.proofs.Blocks.{block_of-fits, values_of-block_of}
+use Rattle.rtp_wire_extensions.proofs.BlockLaws.{block_of-fits, block_of-words, values_of-block_of}
 use Rattle.rtp_wire_extensions.specs.declared.values.ExtensionValues.{ExtensionValues}
 
 -- the first two bytes
@@ -164,12 +164,12 @@ if-some_block : (x : Bool) (b : Block) → is_some_block (if x then Some b else 
 if-some_block true b = refl
 if-some_block false b = refl
 
-if-values : (map : Numbering) (x : Bool) (b : Block) (v : ExtensionValues) → values_of map b ≡ v → values_in map (if x then Some b else None) ≡ (if x then v else absent)
-if-values map true b v e = e
+if-values : (map : Numbering) (x : Bool) (b : Block) (v : ExtensionValues) → (x ≡ true → values_of map b ≡ v) → values_in map (if x then Some b else None) ≡ (if x then v else absent)
+if-values map true b v e = e refl
 if-values map false b v e = refl
 
-if-fits : (x : Bool) (b : Block) → IsBlock (Some b) → IsBlock (if x then Some b else None)
-if-fits true b fits = fits
+if-fits : (x : Bool) (b : Block) → (x ≡ true → IsBlock (Some b)) → IsBlock (if x then Some b else None)
+if-fits true b fits = fits refl
 if-fits false b fits = tt
 
 -- what is written has a layout
@@ -181,7 +181,7 @@ IsLayout-of map h w = record {
   ssrc = w.ssrc;
   few = omega (arith, length-take h.csrc_count h.csrc, w.csrc_count);
   csrc = w.csrc;
-  extension = if-fits h.has_extension (block_of map h.ext_vals) (block_of-fits map h.ext_vals);
+  extension = if-fits h.has_extension (block_of map h.ext_vals) (λ x. block_of-fits map h.ext_vals (w.values x));
 }
 
 -- and means its wire image
@@ -189,7 +189,7 @@ pub header_of-layout_of : (map : Numbering) (h : RtpHeader) → IsWritable h →
 header_of-layout_of map h w =
     let count : length (take h.csrc_count h.csrc) ≡ h.csrc_count = omega (arith, length-take h.csrc_count h.csrc, w.csrc_count, w.csrc_slots) in
     let extension = if-some_block h.has_extension (block_of map h.ext_vals) in
-    let values = if-values map h.has_extension (block_of map h.ext_vals) (image_values map h.ext_vals) (values_of-block_of map h.ext_vals) in
+    let values = if-values map h.has_extension (block_of map h.ext_vals) (image_values map h.ext_vals) (λ x. values_of-block_of map h.ext_vals (w.values x)) in
     λ i. record {
       version = 2;
       has_padding = h.has_padding;
@@ -215,13 +215,10 @@ payload_in-spelled map h payload = drop_at (spelled map h) payload (length (spel
 
 -- Whole words are written.
 pub length-spelled_words : (map : Numbering) (h : RtpHeader) → length (spelled map h) % 4 ≡ 0
-length-spelled_words map h = length-of (layout_of map h) (if-fits h.has_extension (block_of map h.ext_vals) (block_of-fits map h.ext_vals)) where
-  block-words : (b : Option Block) → IsBlock b → length (block_bytes b) % 4 ≡ 0
-  block-words None fits = refl
-  block-words (Some b) fits = omega (arith, fits.1)
-
-  length-of : (l : Layout) → IsBlock l.extension → length (layout_bytes l) % 4 ≡ 0
-  length-of l fits = omega (arith, length-layout l, block-words l.extension fits)
+length-spelled_words map h = omega (arith, length-layout (layout_of map h), block-words h.has_extension) where
+  block-words : (x : Bool) → length (block_bytes (if x then Some (block_of map h.ext_vals) else None)) % 4 ≡ 0
+  block-words false = refl
+  block-words true = omega (arith, block_of-words map h.ext_vals)
 
 -- Without sources and without a block it is twelve bytes.
 pub length-spelled_least : (map : Numbering) (h : RtpHeader) → h.csrc_count ≡ 0 → h.has_extension ≡ false → length (spelled map h) ≡ 12

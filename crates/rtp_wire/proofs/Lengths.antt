@@ -38,7 +38,7 @@ length-spelled map h l = length-layout (layout_of map h) ∙ omega (arith, lengt
 
 pub length-spelled_there : (map : Numbering) (h : RtpHeader) → length h.csrc ≡ 15 → h.has_extension ≡ true →
     length (spelled map h) ≡ 12 + 4 * min h.csrc_count 15 + (4 + length (block_of map h.ext_vals).content)
-length-spelled_there map h l x = length-spelled map h l ∙ rw (block-there h.has_extension (block_of map h.ext_vals) x) refl
+length-spelled_there map h l x = length-spelled map h l ∙ rw (block-there h.has_extension (block_of map h.ext_vals) x) (omega arith)
 
 pub length-spelled_not : (map : Numbering) (h : RtpHeader) → length h.csrc ≡ 15 → h.has_extension ≡ false →
     length (spelled map h) ≡ 12 + 4 * min h.csrc_count 15

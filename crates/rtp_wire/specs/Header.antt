@@ -1,5 +1,6 @@
-use Rattle.std.specs.Prelude.{ℕ, ◌≡◌, ◌+◌, ◌*◌, ◌/◌, ◌%◌, ◌-◌, ◌<◌, ◌≤◌, ◌^◌, Bool, ◌==◌, ◌&&◌, nat_le, if◌then◌else◌, zero, suc, List, [], ◌∷◌, ◌++◌, length, take, drop, replicate, slice_index, All, Option, Some, None}
+use Rattle.std.specs.Prelude.{true, ℕ, ◌≡◌, ◌+◌, ◌*◌, ◌/◌, ◌%◌, ◌-◌, ◌<◌, ◌≤◌, ◌^◌, Bool, ◌==◌, ◌&&◌, nat_le, if◌then◌else◌, zero, suc, List, [], ◌∷◌, ◌++◌, length, take, drop, replicate, slice_index, All, Option, Some, None}
 use Rattle.std.specs.Int.{w16, w32, from_be_bytes}
+use Rattle.rtp_wire_extensions.specs.Carried.{AreValues}
 use Rattle.rtp_wire_extensions.specs.Values.{Numbering, Block, absent, values_of, block_of, image_values}
 use Rattle.rtp_wire_extensions.specs.declared.values.ExtensionValues.{ExtensionValues}
 use Rattle.rtp_wire.specs.declared.header.RtpHeader.{RtpHeader}
@@ -159,3 +160,4 @@ pub record IsWritable (header : RtpHeader) : Type 0 where
   pub csrc_count : header.csrc_count ≤ 15
   pub csrc : All (λ c. c < 2 ^ 32) (take header.csrc_count header.csrc)
   pub csrc_slots : length header.csrc ≡ 15
+  pub values : header.has_extension ≡ true → AreValues header.ext_vals

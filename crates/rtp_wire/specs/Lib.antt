@@ -1,3 +1,7 @@
+pub use Rattle.rtp_wire_extensions.specs.Carried
+pub use Rattle.rtp_wire_extensions.specs.Elements
+pub use Rattle.rtp_wire_extensions.specs.Kinds
+pub use Rattle.rtp_wire_extensions.specs.Maps
 pub use Rattle.rtp_wire_extensions.specs.Values
 pub use Rattle.rtp_wire_extensions.specs.Written
 pub use Rattle.rtp_wire_ids.specs.Direction

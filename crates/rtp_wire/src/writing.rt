@@ -3,6 +3,7 @@
 ghost use Rattle.std.specs.Prelude.{◌≡◌, ◌+◌, ◌*◌, ◌≤◌, ◌<◌, ◌++◌, ◌^◌, ℕ, List, Some, All, length, take, drop};
 ghost use Rattle.rtp_wire.specs.Header.{layout_of, spelled, IsWritable};
 ghost use Rattle.rtp_wire.specs.Layout.{fixed_bytes, words as words_of, block_bytes};
+ghost use Rattle.rtp_wire_extensions.specs.Carried.{AreValues};
 ghost use Rattle.rtp_wire_extensions.specs.Values.{Numbering, block_of};
 ghost use Rattle.rtp_wire_extensions.specs.Written.{IsWritten};
 
@@ -70,6 +71,7 @@ impl RtpHeader {
     fn write_extension(&self, buf: &mut [u8], at: usize, exts: &ExtensionMap) -> usize
         requires { at + length (block_bytes (Some (block_of exts.now self.now.ext_vals))) ≤ length buf.old }
         ensures end { result ≡ at + length (block_bytes (Some (block_of exts.now self.now.ext_vals))) }
+        ensures in_range { AreValues self.now.ext_vals }
         ensures written { (text before : List ℕ) → IsWritten text before buf.old → at ≡ length text →
             IsWritten (text ++ block_bytes (Some (block_of exts.now self.now.ext_vals))) before buf.new }
     {

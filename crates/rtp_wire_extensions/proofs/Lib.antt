@@ -1,1 +1,3 @@
-pub mod Blocks
+pub mod BlockLaws
+pub mod CarriedLaws
+pub mod MapLaws

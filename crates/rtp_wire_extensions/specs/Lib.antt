@@ -1,2 +1,6 @@
 pub mod Written
+pub mod Carried
+pub mod Elements
+pub mod Kinds
+pub mod Maps
 pub mod Values

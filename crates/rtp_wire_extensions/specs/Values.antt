@@ -1,10 +1,13 @@
-use Rattle.std.specs.Prelude.{ℕ, List, [], Option, None}
-use Rattle.rtp_wire_extensions.specs.declared.extension.Extension.{Extension}
+use Rattle.std.specs.Prelude.{ℕ, ◌/◌, Bool, true, false, ◌==◌, if◌then◌else◌, List, length, Option, Some, None}
 use Rattle.rtp_wire_extensions.specs.declared.values.ExtensionValues.{ExtensionValues}
+use Rattle.rtp_wire_extensions.specs.declared.extension.Extension.{Extension}
+use Rattle.rtp_wire_extensions.specs.Carried.{values_for}
+use Rattle.rtp_wire_extensions.specs.Elements as elements
+use Rattle.rtp_wire_extensions.specs.Elements.{Element, holds, elements_to, are_one_byte, elements_text, filled_text, values_from}
 
 -- The extension of each number, 1 first.
 abbrev pub Numbering : Type 0
-Numbering = List (Option Extension)
+Numbering = elements.Numbering
 
 -- No value is there.
 abbrev pub absent : ExtensionValues
@@ -28,14 +31,37 @@ pub record Block : Type 0 where
   pub profile : ℕ
   pub content : List ℕ
 
+-- The form of a profile: one-byte, two-byte, or none with elements (RFC 8285 4.2 and 4.3).
+abbrev pub form_of_profile : ℕ → Option Bool
+form_of_profile profile = if profile == 48862 then Some true else if profile / 16 == 256 then Some false else None
+
+abbrev pub values_in_form : Option Bool → Numbering → List ℕ → ExtensionValues
+values_in_form None map content = absent
+values_in_form (Some one) map content = values_from one map (length content) content absent
+
 -- What a block holds.
-abbrev pub values_of : Numbering → Block → ExtensionValues
-values_of map block = absent
+unfoldable pub values_of : Numbering → Block → ExtensionValues
+values_of map block = values_in_form (form_of_profile block.profile) map block.content
 
--- The block that is written for values.
-abbrev pub block_of : Numbering → ExtensionValues → Block
-block_of map values = record { profile = 48862; content = [] }
+-- The elements that are written for values.
+unfoldable pub written_elements : Numbering → ExtensionValues → List Element
+written_elements map values = elements_to map values 16
 
--- The values that their block holds.
-abbrev pub image_values : Numbering → ExtensionValues → ExtensionValues
-image_values map values = absent
+abbrev pub profile_of : Bool → ℕ
+profile_of true = 48862
+profile_of false = 4096
+
+abbrev pub block_in_form : Bool → List Element → Block
+block_in_form one es = record { profile = profile_of one; content = filled_text (elements_text one es) }
+
+-- The block that is written for values: in the one-byte form where each element fits it.
+unfoldable pub block_of : Numbering → ExtensionValues → Block
+block_of map values = block_in_form (are_one_byte (written_elements map values)) (written_elements map values)
+
+-- Some number has the extension.
+unfoldable pub is_mapped : Numbering → Extension → Bool
+is_mapped map ext = holds map 16 ext
+
+-- The wire image of values: those of the extensions of the map, as bytes hold them.
+unfoldable pub image_values : Numbering → ExtensionValues → ExtensionValues
+image_values map values = values_for (is_mapped map) values

@@ -1,12 +1,15 @@
 //! Header extensions of RTP: which there are, their numbers and their values (RFC 8285).
 #![tactic(auto)]
 
+mod blocks;
+mod element;
 mod extension;
 mod map;
+mod reading;
 mod values;
 mod writing;
 
 pub use extension::{Extension, Uri};
-pub use map::{ExtensionMap, MAX_ID, MAX_ID_ONE_BYTE_FORM};
+pub use map::{ExtensionMap, ExtensionsForm, MAX_ID, MAX_ID_ONE_BYTE_FORM};
 pub use values::{AbsCaptureTime, ExtensionValues, VideoOrientation};
 pub use writing::put;

@@ -1,9 +1,11 @@
 //! Which extension has which number.
 
-ghost use Rattle.std.specs.Prelude.{◌≡◌, ◌+◌, ◌%◌, ◌≤◌, List, ℕ, length, replicate, None, ◌++◌};
-ghost use Rattle.rtp_wire_extensions.specs.Values.{Numbering, Block, values_of, block_of};
-ghost use Rattle.rtp_wire_extensions.specs.Written.{IsWritten};
+ghost use Rattle.std.specs.Prelude.{◌≡◌, ◌+◌, ◌-◌, ◌≤◌, ◌<◌, List, ℕ, suc, length, slice_set, Some, IfSome, IsPermutation};
+ghost use Rattle.std.specs.Option.{option_copied};
+ghost use Rattle.rtp_wire_extensions.specs.Elements.{slot_is, holds, carried_at, lookup};
+ghost use Rattle.rtp_wire_extensions.specs.Maps.{empty_map, is_empty_map, standard_map, place_of, id_of, moved, remapped};
 
+use crate::element::{ElementBytes, value_bytes};
 use crate::extension::Extension;
 use crate::values::ExtensionValues;
 use std::marker::Model;
@@ -14,6 +16,15 @@ pub const MAX_ID_ONE_BYTE_FORM: u8 = 14;
 /// The greatest number of a map.
 pub const MAX_ID: u8 = 16;
 
+/// How the elements of a block are laid out (RFC 8285 4.2 and 4.3).
+#[derive(Clone, Copy, Debug, PartialEq, Eq, Drop)]
+pub enum ExtensionsForm {
+    /// Numbers to 14, and values of 1 to 16 bytes.
+    OneByte,
+    /// Numbers to 255, and values of 0 to 255 bytes.
+    TwoByte,
+}
+
 /// Which extension has which number, 1 to 16 (RFC 8285 5).
 #[derive(Debug, Drop)]
 pub struct ExtensionMap {
@@ -21,17 +32,27 @@ pub struct ExtensionMap {
 }
 
 impl Model for ExtensionMap {
-    ghost use Rattle.rtp_wire_extensions.specs.Values.{Numbering};
+    ghost use Rattle.rtp_wire_extensions.specs.Elements.{Numbering};
 
     ghost Value = { Numbering };
 
     ghost view = { λ m. m.entries };
 }
 
+/// Whether a slot has the extension.
+fn slot_is(slot: &Option<Extension>, ext: &Extension) -> bool
+    ensures { result ≡ slot_is slot.now ext.now }
+{
+    match slot {
+        None => false,
+        Some(own) => own.is_same(ext),
+    }
+}
+
 impl ExtensionMap {
     /// A map without an extension.
     pub fn empty() -> Self
-        ensures { result ≡ replicate 16 None }
+        ensures { result ≡ empty_map }
     {
         ExtensionMap {
             entries: [
@@ -41,36 +62,133 @@ impl ExtensionMap {
         }
     }
 
-    /// The values that a block of this profile holds.
-    pub fn read_block(&self, profile: u16, content: &[u8]) -> ExtensionValues
-        ensures { result ≡ values_of self.now (record { profile = profile; content = content.now }) }
+    /// The usual numbers: 1 audio level, 2 send time, 3 transport number, 4 mid, 10 and 11 stream
+    /// and repaired stream, 13 orientation.
+    pub fn standard() -> Self
+        ensures { result ≡ standard_map }
     {
-        ExtensionValues::absent()
+        ExtensionMap {
+            entries: [
+                Some(Extension::AudioLevel),
+                Some(Extension::AbsoluteSendTime),
+                Some(Extension::TransportSequenceNumber),
+                Some(Extension::RtpMid),
+                None,
+                None,
+                None,
+                None,
+                None,
+                Some(Extension::RtpStreamId),
+                Some(Extension::RepairedRtpStreamId),
+                None,
+                Some(Extension::VideoOrientation),
+                None,
+                None,
+                None,
+            ],
+        }
     }
 
-    /// The profile of the block for these values (RFC 8285 4.1.2 and 4.3).
-    pub fn block_profile(&self, values: &ExtensionValues) -> u16
-        ensures { result ≡ (block_of self.now values.now).profile }
+    /// Whether no number has an extension.
+    pub fn is_empty(&self) -> bool
+        ensures { result ≡ is_empty_map self.now }
     {
-        0xBEDE
+        self.entries.iter().all(|slot| slot.is_none())
     }
 
-    /// The length of the block's bytes for these values, behind profile and length.
-    pub fn block_len(&self, values: &ExtensionValues) -> usize
-        ensures value { result ≡ length (block_of self.now values.now).content }
-        ensures whole_words { result % 4 ≡ 0 }
-        ensures bound { result ≤ 4112 }
+    /// Takes all extensions out.
+    pub fn clear(&mut self)
+        ensures { self.new ≡ empty_map }
     {
-        0
+        *self = ExtensionMap::empty();
     }
 
-    /// Writes the block's bytes for these values at this place, and answers the place behind them.
-    pub fn write_block(&self, values: &ExtensionValues, buf: &mut [u8], at: usize) -> usize
-        requires { at + length (block_of self.now values.now).content ≤ length buf.old }
-        ensures end { result ≡ at + length (block_of self.now values.now).content }
-        ensures written { (text before : List ℕ) → IsWritten text before buf.old → at ≡ length text →
-            IsWritten (text ++ (block_of self.now values.now).content) before buf.new }
+    /// Gives a number, 1 to 16, to an extension; what had it goes.
+    pub fn set(&mut self, id: u8, ext: Extension)
+        requires least { 1 ≤ id }
+        requires most { id ≤ 16 }
+        ensures { self.new ≡ slice_set self.old (id - 1) (Some ext) }
     {
-        at
+        self.entries[id as usize - 1] = Some(ext);
+    }
+
+    /// The extension of a number, if it has one.
+    pub fn lookup(&self, id: u8) -> Option<&Extension>
+        ensures { option_copied result ≡ lookup self.now id }
+    {
+        if id == 0 {
+            return None;
+        }
+        match self.entries.get(id as usize - 1) {
+            Some(slot) => slot.as_ref(),
+            None => None,
+        }
+    }
+
+    /// The least number of an extension.
+    pub fn id_of(&self, ext: &Extension) -> Option<u8>
+        ensures { result ≡ id_of self.now ext.now }
+    {
+        match self.place_of(ext) {
+            Some(place) => Some(place as u8 + 1),
+            None => None,
+        }
+    }
+
+    /// The first place of an extension, from 0.
+    fn place_of(&self, ext: &Extension) -> Option<usize>
+        ensures value { result ≡ place_of self.now ext.now }
+        ensures within { IfSome result (λ place. place < 16) }
+    {
+        self.entries.iter().position(|slot| slot_is(slot, ext))
+    }
+
+    /// Whether one of the first numbers has the extension.
+    fn holds(&self, count: usize, ext: &Extension) -> bool
+        requires { count ≤ 16 }
+        ensures { result ≡ holds self.now count ext.now }
+    {
+        let mut found = false;
+        for place in 0..count {
+            found = slot_is(&self.entries[place], ext) || found;
+        }
+        found
+    }
+
+    /// The bytes that a place carries of the values: an extension under its least number alone.
+    pub(crate) fn carried(&self, place: usize, values: &ExtensionValues) -> Option<ElementBytes>
+        requires { place < 16 }
+        ensures { result ≡ carried_at self.now place values.now }
+    {
+        let Some(ext) = &self.entries[place] else {
+            return None;
+        };
+        if self.holds(place, ext) {
+            return None;
+        }
+        value_bytes(ext, values)
+    }
+
+    /// Gives each extension of the pairs its number there, if the map has the extension and the
+    /// number is 1 to 16; what had the number takes the extension's place.
+    pub fn remap(&mut self, pairs: &[(u8, Extension)])
+        ensures value { self.new ≡ remapped self.old pairs.now }
+        ensures same_extensions { IsPermutation self.old self.new }
+    {
+        for (id, ext) in pairs {
+            self.move_to(*id, ext);
+        }
+    }
+
+    /// Gives an extension a number, if the map has it and the number is 1 to 16.
+    fn move_to(&mut self, id: u8, ext: &Extension)
+        ensures value { self.new ≡ moved self.old id ext.now }
+        ensures same_extensions { IsPermutation self.old self.new }
+    {
+        if let Some(place) = self.place_of(ext) {
+            if id >= 1 && id <= MAX_ID {
+                self.entries.swap(place, id as usize - 1);
+            }
+        }
     }
 }

@@ -1,7 +1,10 @@
 //! The values of header extensions.
 
-ghost use Rattle.std.specs.Prelude.{◌≡◌, ◌%◌, ◌<◌};
+ghost use Rattle.std.specs.Prelude.{◌≡◌, ◌%◌, ◌^◌, ◌<◌, IfSome, FitsSigned};
 ghost use Rattle.rtp_wire_extensions.specs.Values.{absent};
+ghost use Rattle.rtp_wire_extensions.specs.Carried.{AreValues, IsCapture};
+ghost use Rattle.rtp_wire_ids.specs.Name.{IsName};
+ghost use Rattle.std.specs.Int.{w64};
 
 use rtp_wire_ids::{Mid, Rid};
 use std::marker::Model;
@@ -101,4 +104,68 @@ impl ExtensionValues {
             abs_capture_time: None,
         }
     }
+
+    /// Reads each value, so that callers know the range of its type.
+    pub(crate) fn in_range(&self)
+        ensures { AreValues self.now }
+    {
+        number_in_range(self.transport_cc);
+        byte_in_range(self.video_content_type);
+        orientation_in_range(self.video_orientation);
+        mid_in_range(self.mid);
+        rid_in_range(self.rid);
+        rid_in_range(self.rid_repair);
+        capture_in_range(self.abs_capture_time);
+    }
+}
+
+fn number_in_range(number: Option<u16>)
+    ensures { IfSome number (λ n. n < 2 ^ 16) }
+{
+    if let Some(_number) = number {}
+}
+
+fn byte_in_range(number: Option<u8>)
+    ensures { IfSome number (λ n. n < 256) }
+{
+    if let Some(_number) = number {}
+}
+
+fn orientation_in_range(orientation: Option<VideoOrientation>)
+    ensures { IfSome orientation (λ n. n < 4) }
+{
+    if let Some(orientation) = orientation {
+        let _number = orientation.get();
+    }
+}
+
+fn mid_in_range(mid: Option<Mid>)
+    ensures { IfSome mid (λ text. IsName 16 text) }
+{
+    if let Some(mid) = mid {
+        let _text = mid.as_str();
+    }
+}
+
+fn rid_in_range(rid: Option<Rid>)
+    ensures { IfSome rid (λ text. IsName 8 text) }
+{
+    if let Some(rid) = rid {
+        let _text = rid.as_str();
+    }
+}
+
+fn capture_in_range(time: Option<AbsCaptureTime>)
+    ensures { IfSome time IsCapture }
+{
+    if let Some(time) = time {
+        offset_in_range(time.clock_offset);
+        let _time = time.capture_time;
+    }
+}
+
+fn offset_in_range(offset: Option<i64>)
+    ensures { IfSome offset (λ z. FitsSigned w64 z) }
+{
+    if let Some(_offset) = offset {}
 }

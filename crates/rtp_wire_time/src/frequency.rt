@@ -5,6 +5,7 @@ ghost use Rattle.rtp_wire_time.specs.Time.{frequency_of};
 
 use std::fmt;
 use std::marker::Model;
+use std::str::FromStr;
 
 /// Ticks a second of a clock, 1 to 4,294,967,295.
 #[derive(Clone, Copy, Debug, PartialEq, Eq, Drop)]
@@ -39,5 +40,71 @@ impl Frequency {
         ensures positive { 0 < result }
     {
         self.0
+    }
+}
+
+impl Frequency {
+    /// Millionths of a second.
+    pub const MICROS: Frequency = Frequency(1_000_000);
+
+    /// Units of 2^-18 seconds.
+    pub const FIXED_POINT_6_18: Frequency = Frequency(262_144);
+
+    /// The clock of video.
+    pub const NINETY_KHZ: Frequency = Frequency(90_000);
+
+    /// 48,000 Hz.
+    pub const FORTY_EIGHT_KHZ: Frequency = Frequency(48_000);
+
+    /// 16,000 Hz.
+    pub const SIXTEEN_KHZ: Frequency = Frequency(16_000);
+
+    /// 8,000 Hz.
+    pub const EIGHT_KHZ: Frequency = Frequency(8_000);
+
+    /// Thousandths of a second.
+    pub const MILLIS: Frequency = Frequency(1_000);
+
+    /// Hundredths of a second.
+    pub const HUNDREDTHS: Frequency = Frequency(100);
+
+    /// Seconds.
+    pub const SECONDS: Frequency = Frequency(1);
+}
+
+impl fmt::Display for Frequency {
+    ghost use Rattle.std.specs.Prelude.{Some};
+    ghost use Rattle.std.specs.Fmt.{decimal};
+
+    ghost output = { λ f. Some (decimal f) };
+
+    fn fmt<W: fmt::Write>(&self, f: &mut fmt::Formatter<W>) -> fmt::Result {
+        write!(f, "{}", self.0)
+    }
+}
+
+/// A text that is no clock rate: no digits, 0, or more than 4,294,967,295.
+#[derive(Clone, Copy, Debug, PartialEq, Eq, Drop)]
+pub struct ParseFrequencyError;
+
+impl fmt::Display for ParseFrequencyError {
+    fn fmt<W: fmt::Write>(&self, f: &mut fmt::Formatter<W>) -> fmt::Result {
+        f.write_str("no clock rate")
+    }
+}
+
+/// Reads decimal digits, with or without a plus before them.
+impl FromStr for Frequency {
+    type Err = ParseFrequencyError;
+
+    ghost use Rattle.rtp_wire_time.specs.Time.{ParsesFrequency};
+
+    ghost from_str_gives = { λ text r. ParsesFrequency text r };
+
+    fn from_str(text: &str) -> Result<Frequency, ParseFrequencyError> {
+        match text.parse::<u32>() {
+            Ok(ticks) => Frequency::new(ticks).ok_or(ParseFrequencyError),
+            Err(_) => Err(ParseFrequencyError),
+        }
     }
 }

@@ -4,5 +4,5 @@
 mod frequency;
 mod media_time;
 
-pub use frequency::Frequency;
+pub use frequency::{Frequency, ParseFrequencyError};
 pub use media_time::MediaTime;

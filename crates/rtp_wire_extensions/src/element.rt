@@ -1,0 +1,151 @@
+//! The bytes of each extension's value.
+
+ghost use Rattle.std.specs.Prelude.{◌≡◌, ◌≤◌, ◌<◌, length};
+ghost use Rattle.rtp_wire_extensions.specs.Carried.{level_number, level_bytes, send_bytes, transport_bytes, byte_bytes, delay_bytes, capture_bytes, value_bytes, AreValues};
+
+use crate::extension::Extension;
+use crate::values::{AbsCaptureTime, ExtensionValues};
+use std::marker::Model;
+
+/// The bytes of a value, at most 16.
+#[derive(Drop)]
+pub struct ElementBytes {
+    bytes: [u8; 16],
+    len: usize,
+}
+
+impl Model for ElementBytes {
+    ghost use Rattle.std.specs.Prelude.{List, ℕ, ◌≤◌, take};
+
+    ghost Value = { List ℕ };
+
+    ghost view = { λ e. take e.len e.bytes };
+
+    ghost invariant = { λ e. e.len ≤ 16 };
+}
+
+impl ElementBytes {
+    fn new(text: &[u8]) -> Self
+        requires { length text.now ≤ 16 }
+        ensures { result ≡ text.now }
+    {
+        let mut bytes = [0; 16];
+        let len = text.len();
+        bytes[..len].copy_from_slice(text);
+        ElementBytes { bytes, len }
+    }
+
+    /// The bytes.
+    pub fn as_slice(&self) -> &[u8]
+        ensures value { result.now ≡ self.now }
+        ensures short { length result.now ≤ 16 }
+    {
+        &self.bytes[..self.len]
+    }
+}
+
+/// The audio level as a positive number, if it is in its range.
+fn level_number(level: i8) -> Option<u8>
+    ensures { result ≡ level_number level }
+{
+    if level > 0 || level < -127 {
+        return None;
+    }
+    Some(level.unsigned_abs())
+}
+
+/// The audio level with voice (RFC 6464 3).
+fn level_bytes(level: Option<i8>, voice: Option<bool>) -> Option<ElementBytes>
+    ensures { result ≡ level_bytes level voice }
+{
+    let level = level?;
+    let voice = voice?;
+    let number = level_number(level)?;
+    let first = if voice { 128 + number } else { number };
+    Some(ElementBytes::new(&[first]))
+}
+
+/// The send time, in 24 bits.
+fn send_bytes(time: Option<u64>) -> Option<ElementBytes>
+    ensures { result ≡ send_bytes time }
+{
+    let number = time? % 64_000_000 * 262_144 / 1_000_000;
+    let bytes = [
+        (number / 65536) as u8,
+        (number / 256 % 256) as u8,
+        (number % 256) as u8,
+    ];
+    Some(ElementBytes::new(&bytes))
+}
+
+/// The number over all streams.
+fn transport_bytes(number: Option<u16>) -> Option<ElementBytes>
+    ensures { result ≡ transport_bytes number }
+{
+    Some(ElementBytes::new(&number?.to_be_bytes()))
+}
+
+/// A value of one byte.
+fn byte_bytes(number: Option<u8>) -> Option<ElementBytes>
+    ensures { result ≡ byte_bytes number }
+{
+    Some(ElementBytes::new(&[number?]))
+}
+
+/// Two delays of 12 bits.
+fn delay_bytes(least: Option<u16>, most: Option<u16>) -> Option<ElementBytes>
+    ensures { result ≡ delay_bytes least most }
+{
+    let least = least?;
+    let most = most?;
+    if least >= 4096 || most >= 4096 {
+        return None;
+    }
+    let bytes = [
+        (least / 16) as u8,
+        (least % 16 * 16 + most / 256) as u8,
+        (most % 256) as u8,
+    ];
+    Some(ElementBytes::new(&bytes))
+}
+
+/// The capture time, with the clock's offset where it is there.
+fn capture_bytes(time: Option<AbsCaptureTime>) -> Option<ElementBytes>
+    ensures { result ≡ capture_bytes time }
+{
+    let time = time?;
+    let mut bytes = [0; 16];
+    bytes[..8].copy_from_slice(&time.capture_time.to_be_bytes());
+    let Some(offset) = time.clock_offset else {
+        return Some(ElementBytes::new(&bytes[..8]));
+    };
+    bytes[8..].copy_from_slice(&offset.cast_unsigned().to_be_bytes());
+    Some(ElementBytes::new(&bytes))
+}
+
+/// The bytes that an extension carries of the values, if any.
+pub fn value_bytes(ext: &Extension, values: &ExtensionValues) -> Option<ElementBytes>
+    ensures { result ≡ value_bytes ext.now values.now }
+{
+    match ext {
+        Extension::AbsoluteSendTime => send_bytes(values.abs_send_time),
+        Extension::AbsoluteCaptureTime => capture_bytes(values.abs_capture_time),
+        Extension::AudioLevel => level_bytes(values.audio_level, values.voice_activity),
+        Extension::VideoOrientation => byte_bytes(values.video_orientation.map(|v| v.get())),
+        Extension::TransportSequenceNumber => transport_bytes(values.transport_cc),
+        Extension::PlayoutDelay => delay_bytes(values.play_delay_min, values.play_delay_max),
+        Extension::VideoContentType => byte_bytes(values.video_content_type),
+        Extension::RtpStreamId => values
+            .rid
+            .map(|name| ElementBytes::new(name.as_str().as_bytes())),
+        Extension::RepairedRtpStreamId => {
+            values
+                .rid_repair
+                .map(|name| ElementBytes::new(name.as_str().as_bytes()))
+        }
+        Extension::RtpMid => values
+            .mid
+            .map(|name| ElementBytes::new(name.as_str().as_bytes())),
+        Extension::UnknownUri(_) => None,
+    }
+}
