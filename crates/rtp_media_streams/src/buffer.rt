@@ -10,12 +10,12 @@ use std::alloc::{AllocError, Global};
 use std::marker::Model;
 
 /// The most packets that wait at a time.
-pub const MAX_HELD: usize = 4096;
+const MAX_HELD: usize = 4096;
 
 /// A packet with its widened sequence number, its RTP timestamp and its payload, which is a whole
 /// frame: both head and tail.
 #[derive(Drop)]
-pub struct HeldPacket {
+pub(crate) struct HeldPacket {
     number: u64,
     time: u32,
     bytes: Vec<u8>,
@@ -72,7 +72,7 @@ impl HeldPacket {
 /// The packets of a stream that wait, at most 4,096, in rising order of numbers, and the greatest
 /// number that was handed out.
 #[derive(Drop)]
-pub struct PacketBuffer {
+pub(crate) struct PacketBuffer {
     held: Vec<HeldPacket>,
     cutoff: Option<u64>,
 }

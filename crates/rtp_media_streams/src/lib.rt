@@ -9,7 +9,6 @@ mod media_unit;
 mod receiver;
 mod sender;
 
-pub use buffer::{HeldPacket, PacketBuffer};
 pub use datagram::Datagram;
 pub use errors::SampleError;
 pub use laws::datagrams_laws;

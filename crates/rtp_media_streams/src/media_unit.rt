@@ -27,7 +27,7 @@ impl Model for Unit {
 
 impl Unit {
     /// The unit of a packet that is a whole frame.
-    pub fn from_packet(packet: HeldPacket) -> Self
+    pub(crate) fn from_packet(packet: HeldPacket) -> Self
         ensures { result ≡ unit_of (packet ∷ []) }
     {
         let number = packet.number();
