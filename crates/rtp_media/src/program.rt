@@ -65,11 +65,7 @@ fn command_side(command: &Command) -> Side
 }
 
 /// Answers a command at its end.
-fn answer(
-    alloc: Global,
-    end: &mut Option<End>,
-    command: Command,
-) -> Result<Vec<Reply>, AllocError>
+fn answer(alloc: Global, end: &mut Option<End>, command: Command) -> Result<Vec<Reply>, AllocError>
     ensures { IfOk result (λ replies. IsAnswered end.old command end.new replies.items) }
 {
     match command {
@@ -103,7 +99,11 @@ fn fix(alloc: Global, end: &mut Option<End>, _side: Side) -> Result<Vec<Reply>, 
     }
 }
 
-fn send(alloc: Global, end: &mut Option<End>, command: SendCommand) -> Result<Vec<Reply>, AllocError>
+fn send(
+    alloc: Global,
+    end: &mut Option<End>,
+    command: SendCommand,
+) -> Result<Vec<Reply>, AllocError>
     ensures { IfOk result (λ replies. IsAnswered end.old (Command.Send command) end.new replies.items) }
 {
     let Some(end) = end else {
@@ -126,7 +126,11 @@ fn send(alloc: Global, end: &mut Option<End>, command: SendCommand) -> Result<Ve
     }
 }
 
-fn open(alloc: Global, end: &mut Option<End>, command: OpenCommand) -> Result<Vec<Reply>, AllocError>
+fn open(
+    alloc: Global,
+    end: &mut Option<End>,
+    command: OpenCommand,
+) -> Result<Vec<Reply>, AllocError>
     ensures { IfOk result (λ replies. IsAnswered end.old (Command.Open command) end.new replies.items) }
 {
     let Some(end) = end else {
@@ -193,7 +197,11 @@ fn receive(
     }
 }
 
-fn poll(alloc: Global, end: &mut Option<End>, command: PollCommand) -> Result<Vec<Reply>, AllocError>
+fn poll(
+    alloc: Global,
+    end: &mut Option<End>,
+    command: PollCommand,
+) -> Result<Vec<Reply>, AllocError>
     ensures { IfOk result (λ replies. IsAnswered end.old (Command.Poll command) end.new replies.items) }
 {
     let Some(end) = end else {

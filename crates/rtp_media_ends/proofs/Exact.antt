@@ -1,20 +1,20 @@
 -- All datagrams of a sending stream arrive, and the polls answer its units.
-use Rattle.std.proofs.Common.{◌≡◌, ℕ, zero, suc, ◌+◌, ◌-◌, ◌*◌, ◌%◌, ◌^◌, ◌<◌, ◌≤◌, refl, sym, ◌∙◌, ap, ap₂, subst, arith, Bool, true, false, cond, ◌&&◌, List, [], ◌∷◌, ◌++◌, length, map, get_or, true≢false, add-zero}
+use Rattle.std.proofs.Common.{◌≡◌, ℕ, zero, suc, ◌+◌, ◌-◌, ◌%◌, ◌^◌, ◌<◌, ◌≤◌, refl, sym, ◌∙◌, ap, ap₂, subst, arith, Bool, true, false, cond, ◌&&◌, List, [], ◌∷◌, ◌++◌, length, map, true≢false, add-zero}
 use Rattle.std.proofs.lemmas.Bool.Decides.{nat_tests}
 use Rattle.std.specs.Prelude.{Option, Some, None, Ok, if◌then◌else◌, ◌==◌, filter, All, slice_index_or}
-use Rattle.std.specs.List.{filter_map, cons_option, flat_map, range_with_len}
-use Rattle.rtp_wire.specs.Header.{header_in, payload_in, spelled, image, IsWritable}
+use Rattle.std.specs.List.{filter_map, cons_option, range_with_len}
+use Rattle.rtp_wire.specs.Header.{header_in, payload_in, image, IsWritable}
 use Rattle.rtp_wire.specs.Padding.{unpadded}
 use Rattle.rtp_wire.specs.declared.header.RtpHeader.{RtpHeader}
 use Rattle.rtp_wire.proofs.HeaderLaws.{header_in-spelled, payload_in-spelled}
-use Rattle.rtp_media_runs.specs.Heard.{Stream, Event, Comes, MediaUnit, fresh, after_events}
-use Rattle.rtp_media_runs.specs.Schedules.{Turn, Arrive, event_of, AreGoodArrivals}
+use Rattle.rtp_media_runs.specs.Heard.{Stream, Event, Comes, fresh, after_events}
+use Rattle.rtp_media_runs.specs.Schedules.{Arrive, event_of, AreGoodArrivals}
 use Rattle.rtp_media_runs.specs.Opus.{Timed, timed, content_of, content_at, sender_of, payloads, payloads_of, piece, piece_count, units_from}
 use Rattle.rtp_media_runs.specs.Drained.{IsDrained}
 use Rattle.rtp_media_runs.proofs.Pieces.{piece-some}
 use Rattle.rtp_media_runs.proofs.FullArrival.{full-drained}
 use Rattle.rtp_media_streams.specs.Sending.{Sending, no_extensions, header_of, datagram_of, datagrams_from}
-use Rattle.rtp_media_streams.specs.Receiving.{Receiving, opened_receiver}
+use Rattle.rtp_media_streams.specs.Receiving.{Receiving}
 use Rattle.rtp_media_ends.specs.Ends.{EndState, receiver_at}
 use Rattle.rtp_media_ends.specs.FullArrival.{after_datagrams, Answers, IsPolledOut, is_header_of, is_own_datagram, sent_datagram, HasAllOf}
 use Rattle.rtp_media_ends.proofs.Isolation.{content_event, event_by, event_in, own_events, isolated}
@@ -39,6 +39,7 @@ writable s x time pt ssrc t = record {
   csrc_count = omega arith;
   csrc = λ k d h. absurd (omega arith);
   csrc_slots = refl;
+  values = λ e. absurd (true≢false (sym e));
 }
 
 content-some : (h : RtpHeader) (bytes : List ℕ) → 0 < length bytes → content_event h (Some bytes) ≡ Some (Comes h.sequence_number (content_of h.timestamp bytes))
@@ -86,9 +87,11 @@ own-filter ssrc pt (d ∷ ds) = go (own-filter ssrc pt ds) (header_in no_extensi
       filter_map (event_in ssrc pt) (cond b (d ∷ filter (is_own_datagram ssrc pt) ds) (filter (is_own_datagram ssrc pt) ds)) ≡ cons_option o (own_events ssrc pt ds)
   by ih true o none e = ap₂ (λ (q : Option Event) (es : List Event). cons_option q es) e ih
   by ih false o none e = ih ∙ ap (λ (q : Option Event). cons_option q (own_events ssrc pt ds)) (sym (none refl))
+
   not-own : (b : Bool) (o : Option Event) → b ≡ false → (if b then o else None) ≡ None
   not-own true o h = absurd (true≢false h)
   not-own false o h = refl
+
   go : own_events ssrc pt (filter (is_own_datagram ssrc pt) ds) ≡ own_events ssrc pt ds → (o : Option RtpHeader) → header_in no_extensions d ≡ o → own_events ssrc pt (filter (is_own_datagram ssrc pt) (d ∷ ds)) ≡ own_events ssrc pt (d ∷ ds)
   go ih None e = by ih (is_own_datagram ssrc pt d) (event_in ssrc pt d) (λ h. ap (λ (x : Option RtpHeader). event_by ssrc pt x d) e) refl
   go ih (Some h) e = by ih (is_own_datagram ssrc pt d) (event_in ssrc pt d) (λ no. ap (λ (x : Option RtpHeader). event_by ssrc pt x d) e ∙ not-own ((ssrc == h.ssrc) && (pt == h.payload_type)) (content_event h (unpadded h.has_padding (payload_in h d))) (sym (ap (is_header_of ssrc pt) e) ∙ no)) refl

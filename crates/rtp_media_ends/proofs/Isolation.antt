@@ -1,5 +1,5 @@
 -- What datagrams do to one stream is what its own datagrams do.
-use Rattle.std.proofs.Common.{◌≡◌, ◌≢◌, ℕ, ◌<◌, refl, sym, ◌∙◌, ap, ap₂, subst, arith, Bool, true, false, cond, ◌&&◌, List, [], ◌∷◌, ◌++◌, length, true≢false, get_or, set}
+use Rattle.std.proofs.Common.{◌≡◌, ◌≢◌, ℕ, ◌<◌, refl, sym, ◌∙◌, ap, ap₂, subst, arith, Bool, true, false, ◌&&◌, List, [], ◌∷◌, length, true≢false}
 use Rattle.std.proofs.lemmas.Bool.Decides.{nat_tests}
 use Rattle.std.specs.Prelude.{nat_lt, Option, Some, None, if◌then◌else◌, ◌==◌, slice_set, slice_index_or}
 use Rattle.std.specs.List.{filter_map, cons_option}
@@ -12,9 +12,9 @@ use Rattle.rtp_wire.specs.declared.header.RtpHeader.{RtpHeader}
 use Rattle.rtp_media_runs.specs.Heard.{Stream, Event, Comes, heard_step, after_events}
 use Rattle.rtp_media_runs.specs.Opus.{content_of}
 use Rattle.rtp_media_streams.specs.Sending.{no_extensions}
-use Rattle.rtp_media_streams.specs.Receiving.{Receiving, opened_receiver, is_own, with_stream, arrived}
-use Rattle.rtp_media_ends.specs.Ends.{EndState, receiver_at, with_receiver}
-use Rattle.rtp_media_ends.specs.Arrivals.{Arrival, NoHeader, NoStream, NoPayload, Own, own_of, arrival_for, arrival_by, arrival_at, stream_for, after_arrival, after_datagram}
+use Rattle.rtp_media_streams.specs.Receiving.{Receiving, opened_receiver, is_own, with_stream}
+use Rattle.rtp_media_ends.specs.Ends.{EndState, receiver_at}
+use Rattle.rtp_media_ends.specs.Arrivals.{own_of, arrival_for, arrival_by, stream_for, after_arrival, after_datagram}
 use Rattle.rtp_media_ends.specs.FullArrival.{after_datagrams}
 
 -- the event that a payload of an own datagram is
@@ -101,7 +101,7 @@ step-by e n h d true o known b f =
     let t : (receiver_at e n).pt ≡ h.payload_type = eqb-is _ _ (both-right _ _ b) in
     let is : o ≡ Some n = sym f ∙ sym (ap₂ (λ (x y : ℕ). stream_for e.receivers x y) s t) ∙ known in
     subst (λ (q : Option ℕ). Heard1 e n (content_event h (unpadded h.has_padding (payload_in h d))) (after_arrival e (arrival_for q h d))) (sym is)
-      (here e n h (unpadded h.has_padding (payload_in h d)) (found-own e.receivers (receiver_at e n).ssrc (receiver_at e n).pt n known).0)
+    (here e n h (unpadded h.has_padding (payload_in h d)) (found-own e.receivers (receiver_at e n).ssrc (receiver_at e n).pt n known).0)
 
 step-header : (e : EndState) (n : ℕ) (d : List ℕ) (o : Option RtpHeader) → stream_for e.receivers (receiver_at e n).ssrc (receiver_at e n).pt ≡ Some n →
     Heard1 e n (event_by (receiver_at e n).ssrc (receiver_at e n).pt o d) (after_arrival e (arrival_by e.receivers o d))

@@ -1,10 +1,9 @@
 -- The refusals of openings, by what holds of the section.
-use Rattle.std.proofs.Common.{◌≡◌, ℕ, Bool, true, false, List, refl, ap}
+use Rattle.std.proofs.Common.{◌≡◌, ℕ, Bool, true, false, List, refl}
 use Rattle.std.specs.Prelude.{Option, Some, None, is_some, if◌then◌else◌, ◌==◌}
 use Rattle.std.specs.List.{list_any}
 use Rattle.rtp_media_streams.specs.Sending.{Sending, is_sending}
 use Rattle.rtp_media_streams.specs.Receiving.{Receiving, is_own}
-use Rattle.rtp_media_ends.specs.declared.errors.OpenError.{OpenError}
 use Rattle.rtp_media_ends.specs.Rows.{Row}
 use Rattle.rtp_media_ends.specs.Agreement.{Agreed, section_of, row_in, is_named}
 use Rattle.rtp_media_ends.specs.Ends.{refusal_by, sender_refusal_in, receiver_refusal_in}

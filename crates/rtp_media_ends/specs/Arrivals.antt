@@ -1,4 +1,4 @@
-use Rattle.std.specs.Prelude.{ℕ, ◌&&◌, ◌==◌, List, [], ◌∷◌, drop, Option, Some, None, slice_index_or, position}
+use Rattle.std.specs.Prelude.{ℕ, List, [], ◌∷◌, Option, Some, None, position}
 use Rattle.rtp_wire.specs.Header.{header_in, payload_in}
 use Rattle.rtp_wire.specs.Padding.{unpadded}
 use Rattle.rtp_wire.specs.declared.header.RtpHeader.{RtpHeader}

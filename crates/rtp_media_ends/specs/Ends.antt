@@ -1,4 +1,4 @@
-use Rattle.std.specs.Prelude.{ℕ, Bool, true, false, not, ◌==◌, ◌||◌, List, [], ◌∷◌, ◌++◌, Option, Some, None, if◌then◌else◌, slice_set, slice_index_or}
+use Rattle.std.specs.Prelude.{ℕ, Bool, not, ◌==◌, List, [], ◌∷◌, ◌++◌, Option, Some, None, if◌then◌else◌, slice_set, slice_index_or}
 use Rattle.std.specs.List.{list_any}
 use Rattle.rtp_media_streams.specs.Sending.{Sending, opened_sender, is_sending}
 use Rattle.rtp_media_streams.specs.Receiving.{Receiving, opened_receiver, is_own}

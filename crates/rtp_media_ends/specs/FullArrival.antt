@@ -1,10 +1,10 @@
 use Rattle.std.specs.Prelude.{ℕ, ◌≡◌, ◌+◌, ◌-◌, ◌^◌, ◌<◌, ◌≤◌, ◌==◌, ◌&&◌, Bool, false, List, [], ◌∷◌, length, map, filter, All, Option, Some, None, Result, Ok, slice_index_or}
 use Rattle.rtp_wire.specs.Header.{header_in}
 use Rattle.rtp_wire.specs.declared.header.RtpHeader.{RtpHeader}
-use Rattle.rtp_media_runs.specs.Heard.{MediaUnit, Stream}
+use Rattle.rtp_media_runs.specs.Heard.{MediaUnit}
 use Rattle.rtp_media_runs.specs.Drained.{IsDrained}
 use Rattle.rtp_media_runs.specs.Schedules.{AreGoodArrivals}
-use Rattle.rtp_media_runs.specs.Opus.{Timed, payloads, units_from}
+use Rattle.rtp_media_runs.specs.Opus.{Timed, payloads}
 use Rattle.rtp_media_streams.specs.Sending.{Sending, no_extensions, datagrams_from}
 use Rattle.rtp_media_streams.specs.Receiving.{Receiving, opened_receiver, with_stream}
 use Rattle.rtp_media_ends.specs.Ends.{EndState, receiver_at}

@@ -27,8 +27,13 @@ impl Model for AgreedSection {
     ghost Value = { Agreed };
 
     ghost view = { λ a. record {
-        mid = a.mid; row = a.row; own_ssrcs = a.own_ssrcs.items; remote_ssrcs = a.remote_ssrcs.items;
-        sends = a.sends; receives = a.receives } };
+      mid = a.mid;
+      row = a.row;
+      own_ssrcs = a.own_ssrcs.items;
+      remote_ssrcs = a.remote_ssrcs.items;
+      sends = a.sends;
+      receives = a.receives;
+    } };
 
     ghost invariant = { λ a. a.row.pt < 128 };
 }

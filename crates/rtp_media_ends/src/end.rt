@@ -2,27 +2,30 @@
 
 ghost use Rattle.std.specs.Prelude.{◌≡◌, ◌≢◌, ◌<◌, ◌==◌, ℕ, Some, None, length, OnOk, OnErr, IfOk, IfErr, IfSome, IfNone, IsOk, IsTrue, is_some, ◌≤◌, ◌↔◌};
 ghost use Rattle.std.specs.List.{list_any};
+ghost use Rattle.std.specs.Option.{ForSome};
 ghost use Rattle.rtp_media_streams.specs.Receiving.{opened_receiver, is_own, polled_receiver};
 ghost use Rattle.rtp_media_streams.specs.Sending.{is_sending, sent_datagrams, after_sample, failed_stream, refusal_of_sample};
 ghost use Rattle.rtp_media_runs.specs.Heard.{poll_answer};
 ghost use Rattle.rtp_wire.specs.Header.{payload_in};
 ghost use Rattle.rtp_wire.specs.Padding.{unpadded};
-ghost use Rattle.rtp_media_ends.specs.Arrivals.{Own, NoPayload, own_of, stream_for, verdict_of, after_datagram};
+ghost use Rattle.rtp_media_ends.specs.Arrivals.{Own, NoPayload, own_of, stream_for, verdict_for, after_arrival, arrival_by, verdict_of, after_datagram};
 ghost use Rattle.rtp_media_ends.specs.Agreement.{agreed_row_of, section_of};
 ghost use Rattle.rtp_media_ends.specs.Ends.{fixed_end, refusal_by, refusal_of_open_sender, refusal_of_open_receiver, after_open_sender, with_new_receiver, sender_at, receiver_at, with_sender, with_receiver};
 ghost use Rattle.rtp_media_ends.specs.Params.{IsSound};
 
 mod receive_all;
 
-pub use receive_all::{Polls, ReceivedAll};
-
 use crate::agreement::AgreedSection;
 use crate::errors::{EndError, OpenError, PollFault, ReceiveError};
 use crate::params::StreamParams;
 use crate::received::Received;
 use crate::row::PayloadParams;
+pub use receive_all::{Polls, ReceivedAll};
 use rtp_media_streams::{Datagram, ReceivingStream, SampleError, SendingStream, Unit};
-use rtp_wire::{ExtensionMap, ExtensionValues, Frequency, MediaTime, Mid, Pt, RtpHeader, SessionId, Ssrc, unpad_payload};
+use rtp_wire::{
+    ExtensionMap, ExtensionValues, Frequency, MediaTime, Mid, Pt, RtpHeader, SessionId, Ssrc,
+    unpad_payload,
+};
 use std::alloc::Global;
 use std::marker::Model;
 
@@ -46,7 +49,11 @@ impl Model for End {
     ghost coded = { Prim.hlevel (codes, window_code) };
 
     ghost view = { λ e. record {
-        session = e.session; agreed = e.agreed; senders = e.senders.items; receivers = e.receivers.items } };
+      session = e.session;
+      agreed = e.agreed;
+      senders = e.senders.items;
+      receivers = e.receivers.items;
+    } };
 }
 
 impl End {
@@ -158,7 +165,8 @@ impl End {
     {
         self.receiver_row(mid, ssrc, pt)?;
         let number = self.receivers.len();
-        self.receivers.push(ReceivingStream::new(self.alloc, ssrc, pt, hold_back))?;
+        self.receivers
+            .push(ReceivingStream::new(self.alloc, ssrc, pt, hold_back))?;
         Ok(number)
     }
 
@@ -199,7 +207,22 @@ impl End {
         ensures err { OnErr result (self.new ≡ self.old) }
     {
         let exts = ExtensionMap::empty();
-        let Some(header) = RtpHeader::parse(datagram, &exts) else {
+        let header = RtpHeader::parse(datagram, &exts);
+        self.receive_under(header, datagram)
+    }
+
+    /// Takes a datagram in that reads as this header.
+    fn receive_under(
+        &mut self,
+        header: Option<RtpHeader>,
+        datagram: &[u8],
+    ) -> Result<Received, ReceiveError>
+        requires { ForSome header (λ h. h.header_len ≤ length datagram.now) }
+        ensures verdict { IfOk result (λ v. v ≡ verdict_for self.old (arrival_by self.old.receivers header datagram.now)) }
+        ensures after { OnOk result (self.new ≡ after_arrival self.old (arrival_by self.old.receivers header datagram.now)) }
+        ensures err { OnErr result (self.new ≡ self.old) }
+    {
+        let Some(header) = header else {
             return Ok(Received::Unreadable);
         };
         let Some(stream) = stream_for(&self.receivers, header.ssrc, header.payload_type) else {
@@ -255,7 +278,12 @@ impl End {
         let section = section_named(&self.agreed, mid)?;
         let row = section.row_of(pt);
         let is_open = is_receiving(&self.receivers, ssrc, pt);
-        opened_row(row, section.is_receiving(), section.names_remote(ssrc), is_open)
+        opened_row(
+            row,
+            section.is_receiving(),
+            section.names_remote(ssrc),
+            is_open,
+        )
     }
 }
 

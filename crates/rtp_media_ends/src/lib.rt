@@ -12,6 +12,6 @@ pub use end::{End, Polls, ReceivedAll};
 pub use errors::{EndError, OpenError, PollFault, ReceiveError};
 pub use params::StreamParams;
 pub use payload_core_base::{Codec, PacketError};
-pub use row::{CodecSpec, FormatParams, PayloadParams};
 pub use received::Received;
+pub use row::{CodecSpec, FormatParams, PayloadParams};
 pub use rtp_media_streams::{Datagram, SampleError, Unit};

@@ -1,9 +1,8 @@
 -- Full arrival, and then polls until None.
-use Rattle.std.proofs.Common.{◌≡◌, ℕ, zero, suc, ◌+◌, ◌-◌, ◌%◌, ◌^◌, ◌<◌, ◌≤◌, refl, sym, ◌∙◌, ap, ap₂, subst, arith, add-one, add-zero, List, [], ◌∷◌, ◌++◌, length, map, replicate, append-nil}
+use Rattle.std.proofs.Common.{◌≡◌, ℕ, zero, suc, ◌+◌, ◌-◌, ◌%◌, ◌^◌, ◌<◌, ◌≤◌, refl, sym, ◌∙◌, ap, arith, add-zero, List, [], ◌∷◌, ◌++◌, length, map, replicate, append-nil}
 use Rattle.std.specs.Prelude.{Option, None, Some}
 use Rattle.std.specs.List.{range_with_len}
-use Rattle.rtp_media_runs.specs.Buffer.{Content}
-use Rattle.rtp_media_runs.specs.Heard.{Stream, Event, Comes, Poll, MediaUnit, fresh, heard, heard_step, after_events, poll_answer, polled, taken_by, number_at}
+use Rattle.rtp_media_runs.specs.Heard.{Stream, MediaUnit, fresh, heard, after_events, polled, taken_by, number_at}
 use Rattle.rtp_media_runs.specs.Schedules.{Sender, Turn, Arrive, Ask, event_of, single, AreWhole, AreGoodArrivals}
 use Rattle.rtp_media_runs.specs.Opus.{Timed, content_of, content_at, sender_of, units_from}
 use Rattle.rtp_media_runs.specs.Drained.{IsDrained, Done, More}
@@ -32,8 +31,8 @@ singles-units f n (p ∷ ps) same =
     let rest : (i : ℕ) → i < length ps → f (n + 1 + i) ≡ content_at ps i = λ i h. go i (same (suc i) (omega arith)) in
     rw (here, append-nil) (ap (λ (us : List (Option MediaUnit)). Some (record { first = n; last = n; time = p.time; bytes = p.bytes }) ∷ us) (singles-units f (n + 1) ps rest))
   where
-  go : (i : ℕ) → f (n + suc i) ≡ content_at ps i → f (n + 1 + i) ≡ content_at ps i
-  go i h = ap f (omega arith) ∙ h
+    go : (i : ℕ) → f (n + suc i) ≡ content_at ps i → f (n + 1 + i) ≡ content_at ps i
+    go i h = ap f (omega arith) ∙ h
 
 same-content : (first : ℕ) (ps : List Timed) (i : ℕ) → i < length ps → sender_of first ps (first + i) ≡ content_at ps i
 same-content first ps i h = ap (content_at ps) (omega arith)

@@ -1,5 +1,5 @@
 -- A sample and its pieces.
-use Rattle.std.proofs.Common.{◌≡◌, ℕ, zero, suc, ◌+◌, ◌-◌, ◌*◌, ◌/◌, ◌<◌, ◌≤◌, refl, sym, ◌∙◌, ap, subst, arith, List, [], ◌∷◌, ◌++◌, length, take, drop, map, min, inl, inr, append-nil, length-append}
+use Rattle.std.proofs.Common.{◌≡◌, ℕ, zero, suc, ◌+◌, ◌-◌, ◌*◌, ◌<◌, ◌≤◌, sym, ◌∙◌, ap, arith, List, [], ◌++◌, length, take, drop, map, min, inl, inr, append-nil, length-append}
 use Rattle.std.specs.List.{range_with_len, flat_map}
 use Rattle.std.proofs.lemmas.Nat.{div_below, le-div}
 use Rattle.std.proofs.lemmas.List.{length-take, length-drop, take-append-drop, drop_all, drop-drop, nil_from_length, take_all}
@@ -38,12 +38,12 @@ piece-behind limit i bytes front rest e h =
     let far : drop limit (drop (i * limit) bytes) ≡ drop (i * limit + limit) bytes = drop-drop limit (i * limit) bytes in
     let n : (i + 1) * limit ≡ i * limit + limit = grind arith in
     rw (n, ← far, e) (go (length-append front rest)) where
-  go : length (front ++ rest) ≡ length front + length rest → rest ≡ drop limit (front ++ rest)
-  go l = elim (cases_lt (length (front ++ rest)) limit) [
-    | inl short ↦ (let none : rest ≡ [] = nil_from_length rest (omega (arith, rw e at h)) in
-        none ∙ sym (drop_all limit (front ++ rest) (omega arith)))
-    | inr long ↦ (let n : length front ≡ limit = omega (arith, rw e at h) in rw (← n) (sym (drop-append_seam front rest)))
-  ]
+      go : length (front ++ rest) ≡ length front + length rest → rest ≡ drop limit (front ++ rest)
+      go l = elim (cases_lt (length (front ++ rest)) limit) [
+        | inl short ↦ (let none : rest ≡ [] = nil_from_length rest (omega (arith, rw e at h)) in
+            none ∙ sym (drop_all limit (front ++ rest) (omega arith)))
+        | inr long ↦ (let n : length front ≡ limit = omega (arith, rw e at h) in rw (← n) (sym (drop-append_seam front rest)))
+      ]
 
 -- the pieces from the i-th on are what is left
 from_piece : (limit m i : ℕ) (bytes : List ℕ) → length bytes ≤ (i + m) * limit → flat_map (λ x. x) (map (piece limit bytes) (range_with_len i m)) ≡ drop (i * limit) bytes

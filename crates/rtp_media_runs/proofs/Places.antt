@@ -1,10 +1,9 @@
 -- Held packets as the numbers that came, from a place on.
-use Rattle.std.proofs.Common.{◌≡◌, ℕ, zero, suc, ◌+◌, ◌-◌, ◌%◌, ◌^◌, ◌<◌, ◌≤◌, ◌≢◌, refl, sym, ◌∙◌, ap, arith, Bool, true, false, cond, not, ◌&&◌, ◌||◌, eqb, List, [], ◌∷◌, ◌++◌, length, map, add-one, true≢false, eq-or-lt_of_le, inl, inr, subst}
-use Rattle.std.specs.Prelude.{Option, None, Some, nat_lt, nat_le, ◌==◌, filter, count_by, if◌then◌else◌}
+use Rattle.std.proofs.Common.{◌≡◌, ℕ, zero, suc, ◌+◌, ◌<◌, ◌≤◌, ◌≢◌, refl, ap, arith, Bool, true, false, cond, ◌||◌, List, [], ◌∷◌, length, map, eq-or-lt_of_le, inl, inr, subst}
+use Rattle.std.specs.Prelude.{nat_lt, nat_le, ◌==◌, filter}
 use Rattle.std.specs.List.{range_with_len}
 use Rattle.std.proofs.lemmas.Bool.Decides.{nat_tests}
-use Rattle.std.proofs.lemmas.List.Sums.{length-filter, count_by-le-length}
-use Rattle.rtp_media_runs.specs.Buffer.{Content, Packet, with_packet, frames_from, frames, above, run_to, frame_of}
+use Rattle.rtp_media_runs.specs.Buffer.{Packet, with_packet, frames, above}
 use Rattle.rtp_media_runs.specs.Schedules.{Sender, AreWhole}
 
 abbrev pub packet : Sender → ℕ → Packet

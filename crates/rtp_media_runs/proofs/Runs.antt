@@ -1,6 +1,6 @@
 -- A whole run under a tame schedule.
-use Rattle.std.proofs.Common.{◌≡◌, ℕ, zero, suc, ◌+◌, ◌-◌, ◌%◌, ◌^◌, ◌<◌, ◌≤◌, ◌≢◌, refl, sym, ◌∙◌, ap, ap₂, subst, arith, Bool, true, false, cond, not, ◌&&◌, ◌||◌, eqb, List, [], ◌∷◌, ◌++◌, length, map, max, true≢false, replicate, inl, inr, ◌⊎◌}
-use Rattle.std.specs.Prelude.{Option, None, Some, nat_lt, nat_le, ◌==◌, filter, count_by, if◌then◌else◌}
+use Rattle.std.proofs.Common.{◌≡◌, ℕ, zero, suc, ◌+◌, ◌-◌, ◌%◌, ◌^◌, ◌<◌, ◌≤◌, refl, sym, ◌∙◌, ap, subst, arith, Bool, true, false, cond, List, [], ◌∷◌, ◌++◌, length, map, true≢false, replicate, inl, inr}
+use Rattle.std.specs.Prelude.{Option, None, Some, filter, if◌then◌else◌}
 use Rattle.std.specs.List.{range_with_len}
 use Rattle.std.proofs.lemmas.Bool.Decides.{nat_tests}
 use Rattle.std.proofs.lemmas.Bool.{cases_lt}
@@ -8,12 +8,12 @@ use Rattle.std.proofs.lemmas.List.Sums.{length-filter, count_by-le-length}
 use Rattle.std.proofs.lemmas.List.{length-map}
 use Rattle.std.proofs.lemmas.List.FromFn.{length-range_with_len}
 use Rattle.std.proofs.lemmas.List.Elements.{filter_agree}
-use Rattle.rtp_wire.specs.Replay.{Window, accepts, window_with, window_at, is_accepted, recorded_in, greatest_in}
+use Rattle.rtp_wire.specs.Replay.{Window, is_accepted, recorded_in}
 use Rattle.rtp_media_runs.specs.Buffer.{Content, Packet, Buffer, with_packet, frames, above, pushed, popped, popped_of, buffer_after, bounded, is_ready}
-use Rattle.rtp_media_runs.specs.Heard.{Stream, Event, Comes, Poll, MediaUnit, heard, fresh, taken_by, number_at, polled, poll_answer}
-use Rattle.rtp_media_runs.specs.Schedules.{Turn, Arrive, Ask, Sender, event_of, is_among, greatest_of, IsNear, IsGoodArrival, AllCame, waiting, IsGoodPoll, next_after, IsTame, AreGoodArrivals, single, AreWhole, units_in}
-use Rattle.rtp_media_runs.proofs.Places.{packet, or_this, eqb-no, eqb-yes, nat_lt-no, nat_lt-yes, nat_le-yes, with_packet-place, frames-whole, above-below, length-filter-few, AllFrom, AllFrom-filter}
-use Rattle.rtp_media_runs.proofs.Windows.{IsWindowOf, WindowIs, among-more, among-again, among-le-greatest, refused-again, accepted-first, IsWindowOf-more, IsWindowOf-first, IsWindowOf-again, widened-true}
+use Rattle.rtp_media_runs.specs.Heard.{Stream, MediaUnit, heard, fresh, taken_by, number_at, polled}
+use Rattle.rtp_media_runs.specs.Schedules.{Turn, Arrive, Ask, Sender, event_of, is_among, IsGoodArrival, AllCame, waiting, IsGoodPoll, next_after, IsTame, AreGoodArrivals, single, AreWhole, units_in}
+use Rattle.rtp_media_runs.proofs.Places.{packet, eqb-no, nat_lt-no, nat_le-yes, with_packet-place, frames-whole, above-below, length-filter-few, AllFrom, AllFrom-filter}
+use Rattle.rtp_media_runs.proofs.Windows.{WindowIs, among-more, among-again, among-le-greatest, refused-again, accepted-first, IsWindowOf-more, IsWindowOf-first, IsWindowOf-again, widened-true}
 
 -- the packets that are held: those from next on that came
 abbrev held_of : Sender → ℕ → ℕ → List ℕ → ℕ → List Packet

@@ -1,7 +1,6 @@
 -- Frames of several packets.
-use Rattle.std.proofs.Common.{◌≡◌, ℕ, zero, suc, ◌+◌, ◌<◌, ◌≤◌, refl, sym, ◌∙◌, ap, arith, Bool, true, false, cond, ◌&&◌, List, [], ◌∷◌, ◌++◌, length, length-append, append_assoc, true≢false}
-use Rattle.std.specs.Prelude.{count_by, ◌==◌}
-use Rattle.rtp_media_runs.specs.Buffer.{Packet, frames, frames_from, run_to, goes_on, frame_of}
+use Rattle.std.proofs.Common.{◌≡◌, ℕ, ◌+◌, ◌≤◌, refl, sym, ◌∙◌, ap, arith, Bool, true, false, cond, List, [], ◌∷◌, ◌++◌, length, length-append, append_assoc, true≢false}
+use Rattle.rtp_media_runs.specs.Buffer.{Packet, frames_from, run_to, goes_on, frame_of}
 
 -- these packets go on with the run, and the last alone is a tail
 abbrev pub GoOn : List Packet → List Packet → Type 0

@@ -1,15 +1,15 @@
 -- The window of a stream under a good order of arrivals.
-use Rattle.std.proofs.Common.{◌≡◌, ℕ, zero, suc, ◌+◌, ◌-◌, ◌%◌, ◌^◌, ◌<◌, ◌≤◌, ◌≢◌, refl, sym, ◌∙◌, ap, arith, Bool, true, false, cond, not, ◌&&◌, ◌||◌, eqb, List, [], ◌∷◌, max, true≢false}
-use Rattle.std.specs.Prelude.{Option, None, Some, nat_lt, nat_le, ◌==◌}
+use Rattle.std.proofs.Common.{◌≡◌, ℕ, ◌+◌, ◌%◌, ◌^◌, ◌<◌, ◌≤◌, sym, ◌∙◌, ap, arith, Bool, true, false, ◌&&◌, ◌||◌, List, [], ◌∷◌, max, true≢false}
+use Rattle.std.specs.Prelude.{Option, None, Some, nat_lt, ◌==◌}
 use Rattle.std.specs.Ordering.{nat_cmp}
 use Rattle.std.specs.FinSet as set
-use Rattle.std.specs.FinSet.{members, nat_cmp-IsAntisymmetric}
+use Rattle.std.specs.FinSet.{nat_cmp-IsAntisymmetric}
 use Rattle.std.specs.Ordering.{eq_by_cmp}
 use Rattle.std.specs.Cmp.{nat_cmp_total}
 use Rattle.std.proofs.lemmas.Bool.Decides.{nat_tests}
 use Rattle.rtp_wire.specs.Widening.{widened}
-use Rattle.rtp_wire.specs.Replay.{Window, accepts, window_with, window_at, is_accepted, recorded_in, greatest_in}
-use Rattle.rtp_media_runs.specs.Schedules.{is_among, greatest_of, IsNear, IsGoodArrival}
+use Rattle.rtp_wire.specs.Replay.{Window, accepts, window_with, window_at, greatest_in}
+use Rattle.rtp_media_runs.specs.Schedules.{is_among, greatest_of, IsGoodArrival}
 use Rattle.rtp_wire.proofs.WideningLaws.{widened-near}
 
 pub record IsWindowOf (first : ℕ) (past : List ℕ) (w : Window) : Type 0 where

@@ -1,4 +1,4 @@
-use Rattle.std.specs.Prelude.{ℕ, zero, suc, ◌+◌, ◌-◌, ◌*◌, ◌/◌, true, List, [], ◌∷◌, ◌++◌, length, take, drop, map}
+use Rattle.std.specs.Prelude.{ℕ, zero, suc, ◌+◌, ◌-◌, ◌*◌, ◌/◌, true, List, [], ◌∷◌, length, take, drop, map}
 use Rattle.std.specs.List.{range_with_len, flat_map}
 use Rattle.rtp_media_runs.specs.Buffer.{Content, Packet}
 use Rattle.rtp_media_runs.specs.Heard.{MediaUnit}

@@ -1,8 +1,8 @@
-use Rattle.std.specs.Prelude.{ℕ, ◌≡◌, zero, suc, ◌+◌, ◌-◌, ◌%◌, ◌^◌, ◌<◌, ◌≤◌, ◌⊎◌, max, Bool, true, false, ◌||◌, ◌==◌, if◌then◌else◌, List, [], ◌∷◌, ◌++◌, length, map, filter, replicate, count_by}
+use Rattle.std.specs.Prelude.{ℕ, ◌≡◌, ◌+◌, ◌-◌, ◌%◌, ◌<◌, ◌≤◌, ◌⊎◌, max, Bool, true, false, ◌||◌, ◌==◌, if◌then◌else◌, List, [], ◌∷◌, ◌++◌, count_by}
 use Rattle.std.specs.Prelude.{Option, None, Some}
 use Rattle.std.specs.List.{range_with_len}
-use Rattle.rtp_media_runs.specs.Buffer.{Content, Packet}
-use Rattle.rtp_media_runs.specs.Heard.{Event, Comes, Poll, MediaUnit, unit_of, Stream, fresh, heard}
+use Rattle.rtp_media_runs.specs.Buffer.{Content}
+use Rattle.rtp_media_runs.specs.Heard.{Event, Comes, Poll, MediaUnit, unit_of}
 
 -- An arrival of the datagram of this true number, or a poll.
 pub data Turn : Type 0 where

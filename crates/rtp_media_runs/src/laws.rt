@@ -14,8 +14,7 @@ pub fn exact_after_full_arrival()
         first + length sent ≤ 2 ^ 62 → length sent ≤ 4096 → AreGoodArrivals first (length sent) [] arrivals →
         IsDrained (after_events (fresh hold_back) (map (event_of (sender_of first sent)) (map Arrive arrivals))) units after →
         units ≡ units_from first sent }
-{
-}
+{}
 
 /// Under a tame schedule that ends with enough polls the units are exactly those of the sender, where
 /// each of its datagrams is a frame.
@@ -24,8 +23,7 @@ pub fn exact_under_tame_schedule()
         first + count ≤ 2 ^ 62 → AreWhole sender → IsTame first count hold_back [] first (turns ++ replicate count Ask) →
         units_in (heard (fresh hold_back) (map (event_of sender) (turns ++ replicate count Ask)))
         ≡ map (single sender) (range_with_len first count) }
-{
-}
+{}
 
 /// The pieces of a sample at a limit: they are the sample again, none is empty or passes the limit, and
 /// each but the last has exactly the limit's bytes.
@@ -34,5 +32,4 @@ pub fn pieces_laws()
     ensures within { (limit i : ℕ) (sample : List ℕ) → length (piece limit sample i) ≤ limit }
     ensures some { (limit i : ℕ) (sample : List ℕ) → 0 < limit → i < piece_count limit (length sample) → 0 < length (piece limit sample i) }
     ensures full { (limit i : ℕ) (sample : List ℕ) → 0 < limit → i + 1 < piece_count limit (length sample) → length (piece limit sample i) ≡ limit }
-{
-}
+{}

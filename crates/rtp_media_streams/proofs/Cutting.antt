@@ -1,9 +1,9 @@
 -- A sample cut into datagrams, as far as the loop has come.
-use Rattle.std.proofs.Common.{◌≡◌, ℕ, zero, suc, ◌+◌, ◌-◌, ◌*◌, ◌<◌, ◌≤◌, refl, sym, ◌∙◌, ap, ap₂, subst, arith, List, [], ◌∷◌, ◌++◌, length, drop, map, min, add-one, add-zero, length-append}
+use Rattle.std.proofs.Common.{◌≡◌, ℕ, suc, ◌+◌, ◌*◌, ◌<◌, ◌≤◌, refl, sym, ◌∙◌, ap, ap₂, subst, arith, List, [], ◌∷◌, ◌++◌, length, drop, map, min, add-zero, length-append}
 use Rattle.std.specs.List.{range_with_len}
 use Rattle.std.proofs.lemmas.List.{length-drop, length-map}
 use Rattle.std.proofs.lemmas.List.FromFn.{map-range_with_len_more, length-range_with_len}
-use Rattle.rtp_media_runs.specs.Opus.{Timed, timed, piece, piece_count, pieces, payloads_of}
+use Rattle.rtp_media_runs.specs.Opus.{Timed, timed, piece, piece_count, payloads_of}
 use Rattle.rtp_media_runs.proofs.Pieces.{piece-front, piece-behind, piece_count-more, piece_count-exact}
 use Rattle.rtp_media_streams.specs.Sending.{Sending, datagram_of, datagrams_from}
 

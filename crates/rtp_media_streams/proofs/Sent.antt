@@ -1,15 +1,14 @@
 -- The datagrams of samples.
-use Rattle.std.proofs.Common.{◌≡◌, ℕ, zero, suc, ◌+◌, ◌<◌, ◌≤◌, ◌%◌, ◌^◌, refl, sym, ◌∙◌, ap, subst, arith, Bool, true, false, List, [], ◌∷◌, ◌++◌, length, map, length-append, true≢false}
+use Rattle.std.proofs.Common.{◌≡◌, ℕ, zero, suc, ◌+◌, ◌<◌, ◌≤◌, ◌^◌, refl, sym, ◌∙◌, ap, arith, Bool, true, false, List, [], ◌∷◌, ◌++◌, length, map, length-append}
 use Rattle.std.proofs.lemmas.Bool.Decides.{nat_tests}
-use Rattle.std.proofs.lemmas.List.{length-map}
-use Rattle.std.specs.Prelude.{Option, Some, None, All, if◌then◌else◌, nat_lt, nat_le, is_none, ◌||◌, slice_index_or}
+use Rattle.std.specs.Prelude.{Some, None, if◌then◌else◌, nat_lt, nat_le, is_none, ◌||◌, slice_index_or}
 use Rattle.std.specs.List.{range_with_len}
 use Rattle.rtp_wire.specs.Time.{Time, checked_rebased}
 use Rattle.rtp_wire.specs.Header.{spelled}
 use Rattle.rtp_wire.proofs.HeaderLaws.{length-spelled_least}
-use Rattle.rtp_media_runs.specs.Opus.{Timed, timed, payloads, payloads_of, piece, piece_count}
+use Rattle.rtp_media_runs.specs.Opus.{Timed, timed, payloads, piece, piece_count}
 use Rattle.rtp_media_runs.proofs.Pieces.{piece-within}
-use Rattle.rtp_media_streams.specs.Sending.{Sending, Sample, no_extensions, header_of, datagram_of, datagrams_from, sample_of, sent_payloads, sent_datagrams, with_next, after_sample, datagrams_of, samples_of, refusal_of_sample}
+use Rattle.rtp_media_streams.specs.Sending.{Sending, Sample, no_extensions, header_of, datagram_of, datagrams_from, sent_payloads, sent_datagrams, with_next, after_sample, datagrams_of, samples_of, refusal_of_sample}
 use Rattle.rtp_media_streams.specs.declared.errors.SampleError.{SampleError}
 use Rattle.rtp_media_streams.specs.declared.errors.SampleError.TheVariants.{StreamFailed, TimeTooLarge, LimitTooSmall}
 use Rattle.rtp_media_streams.proofs.Cutting.{datagrams_from-append}

@@ -11,5 +11,4 @@ pub fn datagrams_laws()
     ensures consecutive { (s : Sending) (samples : List Sample) → datagrams_of s samples ≡ datagrams_from s s.next (payloads s.mtu (samples_of s samples)) }
     ensures within { (s : Sending) (time : Time) (bytes : List ℕ) → refusal_of_sample s time ≡ None → All (λ d. length d ≤ s.limit) (sent_datagrams s time bytes) }
     ensures timestamps { (s : Sending) (samples : List Sample) → All (λ p. p.time < 2 ^ 32) (samples_of s samples) }
-{
-}
+{}

@@ -59,7 +59,12 @@ impl ReceivingStream {
 
     /// Takes one datagram of its own in, by the 16 bits of its sequence number, its timestamp and its
     /// payload, and answers its widened number; None where that is refused.
-    pub fn receive(&mut self, low: u16, time: u32, payload: &[u8]) -> Result<Option<SeqNo>, AllocError>
+    pub fn receive(
+        &mut self,
+        low: u16,
+        time: u32,
+        payload: &[u8],
+    ) -> Result<Option<SeqNo>, AllocError>
         ensures answer { IfOk result (λ taken. taken ≡ taken_number self.old.stream low) }
         ensures after { OnOk result (self.new ≡ with_stream self.old (arrived self.old.stream low time payload.now)) }
         ensures err { OnErr result (self.new ≡ self.old) }

@@ -37,7 +37,14 @@ impl Model for SendingStream {
     ghost Value = { Sending };
 
     ghost view = { λ s. record {
-        ssrc = s.ssrc; pt = s.pt; rate = s.rate; next = s.next; mtu = s.mtu; limit = s.limit; failed = s.failed } };
+      ssrc = s.ssrc;
+      pt = s.pt;
+      rate = s.rate;
+      next = s.next;
+      mtu = s.mtu;
+      limit = s.limit;
+      failed = s.failed;
+    } };
 
     ghost invariant = { λ s. (s.pt < 128) × (0 < s.mtu) };
 }
@@ -91,7 +98,11 @@ impl SendingStream {
     /// # Errors
     /// The first that holds of `StreamFailed`, `TimeTooLarge` and `LimitTooSmall`, which change
     /// nothing; or `Memory`, and the stream sends no more.
-    pub fn push_sample(&mut self, time: MediaTime, bytes: &[u8]) -> Result<Vec<Datagram>, SampleError>
+    pub fn push_sample(
+        &mut self,
+        time: MediaTime,
+        bytes: &[u8],
+    ) -> Result<Vec<Datagram>, SampleError>
         ensures sent { IfOk result (λ ds. ds.items ≡ sent_datagrams self.old time bytes.now) }
         ensures accepted { OnOk result (refusal_of_sample self.old time ≡ None) }
         ensures after { OnOk result (self.new ≡ after_sample self.old time bytes.now) }
@@ -122,7 +133,9 @@ impl SendingStream {
         if self.failed || self.next >= END_OF_NUMBERS {
             return Err(SampleError::StreamFailed);
         }
-        let time = time.checked_rebase(self.rate).ok_or(SampleError::TimeTooLarge)?;
+        let time = time
+            .checked_rebase(self.rate)
+            .ok_or(SampleError::TimeTooLarge)?;
         if self.limit < FIXED_HEADER_LEN || self.limit - FIXED_HEADER_LEN < self.mtu {
             return Err(SampleError::LimitTooSmall);
         }

@@ -54,7 +54,10 @@ fn row_12_receive_all_hands_out_in_order(rt: HostRuntime) -> Result<(), Fail> {
         datagrams.push(owned(alloc, number, byte)?)?;
     }
     let all = end.receive_all(datagrams.as_slice())?;
-    assert_eq!(rt; all.verdicts.as_slice(), [taken(1), taken(0), taken(2)].as_slice());
+    assert_eq!(rt;
+        all.verdicts.as_slice(),
+        [taken(1), taken(0), taken(2)].as_slice()
+    );
     assert_eq!(rt; all.polls.len(), 1);
     let answers = all.polls[0].as_slice();
     assert_eq!(rt; answers.len(), 3);

@@ -14,8 +14,10 @@ fn printed(alloc: Global, input: &str) -> Result<(Vec<u8>, Status), Fail> {
 
 #[test]
 fn row_21_two_fixed_ends(rt: HostRuntime) -> Result<(), Fail> {
-    let input = "fixed a\nfixed b\nsend a 0 44 111 0 1200 1400 - -\nopen b 0 44 111 127\nsample a 0 960 010203\nreceive b 806f0000000003c00000002c010203\npoll b 0\npoll b 0\n";
-    let output = "ok\nok\nsender 0\nreceiver 0\ndatagram 806f0000000003c00000002c010203\nok\ntaken 0 0\nunit 0 0 960 010203\nnone\n";
+    let input =
+        "fixed a\nfixed b\nsend a 0 44 111 0 1200 1400 - -\nopen b 0 44 111 127\nsample a 0 960 010203\nreceive b 806f0000000003c00000002c010203\npoll b 0\npoll b 0\n";
+    let output =
+        "ok\nok\nsender 0\nreceiver 0\ndatagram 806f0000000003c00000002c010203\nok\ntaken 0 0\nunit 0 0 960 010203\nnone\n";
     let (bytes, status) = printed(rt.alloc(), input)?;
     assert_eq!(rt; bytes.as_slice(), output.as_bytes());
     assert_eq!(rt; status, Status::Success);
@@ -26,10 +28,22 @@ fn row_21_two_fixed_ends(rt: HostRuntime) -> Result<(), Fail> {
 fn lines_whose_conditions_fail(rt: HostRuntime) -> Result<(), Fail> {
     for (input, output) in [
         ("send a 0 44 111 0 1200 1400 - -\n", "error line\n"),
-        ("fixed a\nsend a 0 44 111 32768 1200 1400 - -\n", "ok\nerror line\n"),
-        ("fixed a\nsend a 0 44 111 0 0 1400 - -\n", "ok\nerror line\n"),
-        ("fixed a\nsend a 0 44 111 0 1200 1400 1,2 -\n", "ok\nerror line\n"),
-        ("fixed a\nsend a 0 44 111 0 1200 1400 - 32768\n", "ok\nerror line\n"),
+        (
+            "fixed a\nsend a 0 44 111 32768 1200 1400 - -\n",
+            "ok\nerror line\n",
+        ),
+        (
+            "fixed a\nsend a 0 44 111 0 0 1400 - -\n",
+            "ok\nerror line\n",
+        ),
+        (
+            "fixed a\nsend a 0 44 111 0 1200 1400 1,2 -\n",
+            "ok\nerror line\n",
+        ),
+        (
+            "fixed a\nsend a 0 44 111 0 1200 1400 - 32768\n",
+            "ok\nerror line\n",
+        ),
         ("fixed a\nsample a 0 0 01\n", "ok\nerror line\n"),
         ("fixed a\npoll a 0\n", "ok\nerror line\n"),
         ("receive b 00\n", "error line\n"),
@@ -44,8 +58,10 @@ fn lines_whose_conditions_fail(rt: HostRuntime) -> Result<(), Fail> {
 
 #[test]
 fn refusals_are_printed_by_name(rt: HostRuntime) -> Result<(), Fail> {
-    let input = "fixed a\nsend a 1 44 111 0 1200 1400 - -\nopen a 0 44 109 1\nsend a 0 45 111 0 1200 1400 - -\nsend a 0 44 111 0 1200 1211 - -\nsend a 0 44 111 0 1200 1400 - -\nsample a 0 0 01\nopen a 0 44 111 1\nreceive a 000102\nreceive a 8070000000000000000000\nreceive a 80700000000000000000002c05\nreceive a a06f00000000000000000000002c0105\n";
-    let output = "ok\nrefused NoSection\nrefused RowNotAgreed\nrefused SsrcNotNamed\nsender 0\nrefused AlreadyOpen\nrefused LimitTooSmall\nreceiver 0\nunreadable\nunreadable\nforeign\nforeign\n";
+    let input =
+        "fixed a\nsend a 1 44 111 0 1200 1400 - -\nopen a 0 44 109 1\nsend a 0 45 111 0 1200 1400 - -\nsend a 0 44 111 0 1200 1211 - -\nsend a 0 44 111 0 1200 1400 - -\nsample a 0 0 01\nopen a 0 44 111 1\nreceive a 000102\nreceive a 8070000000000000000000\nreceive a 80700000000000000000002c05\nreceive a a06f00000000000000000000002c0105\n";
+    let output =
+        "ok\nrefused NoSection\nrefused RowNotAgreed\nrefused SsrcNotNamed\nsender 0\nrefused AlreadyOpen\nrefused LimitTooSmall\nreceiver 0\nunreadable\nunreadable\nforeign\nforeign\n";
     let (bytes, status) = printed(rt.alloc(), input)?;
     assert_eq!(rt; bytes.as_slice(), output.as_bytes());
     assert_eq!(rt; status, Status::Success);

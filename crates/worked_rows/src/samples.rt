@@ -26,7 +26,12 @@ fn push(
 ) -> Result<Result<Vec<Datagram>, SampleError>, Fail> {
     assert!(rt; end.is_sender(0));
     let rate = Frequency::new(rate).ok_or("a rate")?;
-    Ok(end.push_sample(0, MediaTime::new(ticks, rate), bytes, &ExtensionValues::absent()))
+    Ok(end.push_sample(
+        0,
+        MediaTime::new(ticks, rate),
+        bytes,
+        &ExtensionValues::absent(),
+    ))
 }
 
 #[test]
@@ -90,8 +95,14 @@ fn openings_are_refused_by_name(rt: HostRuntime) -> Result<(), Fail> {
         assert_eq!(rt; refused, Err(want));
     }
     assert_eq!(rt; end.open_receiver(Mid::from("0"), ssrc, pt, 0), Ok(0));
-    assert_eq!(rt; end.open_receiver(Mid::from("0"), ssrc, pt, 0), Err(OpenError::AlreadyOpen));
+    assert_eq!(rt;
+        end.open_receiver(Mid::from("0"), ssrc, pt, 0),
+        Err(OpenError::AlreadyOpen)
+    );
     assert_eq!(rt; end.agreed_row(Mid::from("0"), pt).is_some(), true);
-    assert_eq!(rt; end.agreed_row(Mid::from("0"), Pt::from(109)).is_some(), false);
+    assert_eq!(rt;
+        end.agreed_row(Mid::from("0"), Pt::from(109)).is_some(),
+        false
+    );
     Ok(())
 }

@@ -86,10 +86,7 @@ impl End {
 }
 
 /// Polls each stream until it answers None.
-fn poll_each(
-    alloc: Global,
-    receivers: &mut Vec<ReceivingStream>,
-) -> Result<Vec<Polls>, AllocError>
+fn poll_each(alloc: Global, receivers: &mut Vec<ReceivingStream>) -> Result<Vec<Polls>, AllocError>
     ensures { IfOk result (λ polls. ArePolledOut receivers.old.items polls.items receivers.new.items) }
 {
     let mut polls = Vec::new(alloc);

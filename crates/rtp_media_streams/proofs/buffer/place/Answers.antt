@@ -1,6 +1,5 @@
 use Rattle.std.proofs.Common.{arith, subst, sym, List}
 use Rattle.rtp_media_runs.specs.Buffer.{Packet, IsRising, AreWholePackets}
-use Rattle.std.proofs.lemmas.Grind.{common_steps}
 use Rattle.rtp_media_streams.proofs.Placing.{place-there, place-new, bounded-few, bounded-many, bounded-rising, with_packet-rising, bounded-whole, with_packet-whole}
 use Rattle.rtp_media_streams.proofs.buffer.place.Goals as goal
 

@@ -1,4 +1,4 @@
-use Rattle.std.proofs.Common.{◌≡◌, ◌∙◌, ap, subst, List, length}
+use Rattle.std.proofs.Common.{◌≡◌, ◌∙◌, ap, subst, List}
 use Rattle.rtp_media_streams.specs.Receiving.{Receiving}
 use Rattle.rtp_media_ends.specs.Ends.{EndState}
 use Rattle.rtp_media_ends.specs.FullArrival.{after_datagrams, ArePolledOut}
@@ -13,4 +13,4 @@ returns-clause-exact c stream hold_back sender samples arrivals all =
     let polled : ArePolledOut (after_datagrams c.args.self.now c.args.datagrams.now).receivers c.in_ok-polls.polls.items c.poll_each.new.receivers.items =
     subst (λ (rs : List Receiving). ArePolledOut rs c.in_ok-polls.polls.items c.poll_each.new.receivers.items) receivers c.in_ok-polls.ensures in
     exact c.args.self.now stream hold_back sender samples arrivals c.args.datagrams.now _ _ all
-      (polled.each stream (found-after c.args.datagrams.now c.args.self.now stream sender.ssrc sender.pt (ap (λ (r : Receiving). r.ssrc) all.fresh) (ap (λ (r : Receiving). r.pt) all.fresh) all.opened))
+    (polled.each stream (found-after c.args.datagrams.now c.args.self.now stream sender.ssrc sender.pt (ap (λ (r : Receiving). r.ssrc) all.fresh) (ap (λ (r : Receiving). r.pt) all.fresh) all.opened))

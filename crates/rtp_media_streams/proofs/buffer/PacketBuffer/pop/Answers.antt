@@ -1,6 +1,6 @@
-use Rattle.std.proofs.Common.{◌≡◌, ◌<◌, ◌∙◌, ap, cond, arith, length, ℕ, List, ◌∷◌, [], refl}
+use Rattle.std.proofs.Common.{◌≡◌, ◌<◌, cond, arith, length, ◌∷◌, [], refl}
 use Rattle.std.specs.Prelude.{None, Some}
-use Rattle.rtp_media_runs.specs.Buffer.{Packet, AreWholePackets, popped}
+use Rattle.rtp_media_runs.specs.Buffer.{AreWholePackets, popped}
 use Rattle.rtp_media_streams.proofs.Placing.{pop-is, pop-after, same_first}
 use Rattle.rtp_media_streams.proofs.buffer.PacketBuffer.pop.Goals as goal
 

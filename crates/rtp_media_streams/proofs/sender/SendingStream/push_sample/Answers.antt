@@ -1,4 +1,4 @@
-use Rattle.std.proofs.Common.{◌≡◌, ◌+◌, sym, ◌∙◌, ap, length, ℕ, List, arith}
+use Rattle.std.proofs.Common.{◌≡◌, ◌+◌, ◌∙◌, ap, length, ℕ, arith}
 use Rattle.rtp_media_runs.specs.Opus.{payloads_of, timed}
 use Rattle.rtp_media_streams.specs.Sending.{Sending, sent_payloads, with_next}
 use Rattle.rtp_media_streams.proofs.Cutting.{length-datagrams_from}
