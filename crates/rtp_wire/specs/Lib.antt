@@ -7,9 +7,11 @@ pub use Rattle.rtp_wire_extensions.specs.Written
 pub use Rattle.rtp_wire_ids.specs.Direction
 pub use Rattle.rtp_wire_ids.specs.Name
 pub use Rattle.rtp_wire_time.specs.Time
+pub mod Default
 pub mod Header
 pub mod Layout
 pub mod Padding
 pub mod Replay
 pub mod Ring
+pub mod Run
 pub mod Widening
