@@ -1,11 +1,13 @@
 pub use Rattle.rtp_wire_extensions.specs.Carried
 pub use Rattle.rtp_wire_extensions.specs.Elements
+pub use Rattle.rtp_wire_extensions.specs.Iteration
 pub use Rattle.rtp_wire_extensions.specs.Kinds
 pub use Rattle.rtp_wire_extensions.specs.Maps
 pub use Rattle.rtp_wire_extensions.specs.Values
 pub use Rattle.rtp_wire_extensions.specs.Written
 pub use Rattle.rtp_wire_ids.specs.Direction
 pub use Rattle.rtp_wire_ids.specs.Name
+pub use Rattle.rtp_wire_time.specs.Fractions
 pub use Rattle.rtp_wire_time.specs.Time
 pub mod Default
 pub mod Header

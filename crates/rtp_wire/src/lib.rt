@@ -14,8 +14,8 @@ pub use header::RtpHeader;
 pub use laws::{header_laws, widening_laws, window_laws};
 pub use padding::unpad_payload;
 pub use rtp_wire_extensions::{
-    AbsCaptureTime, Extension, ExtensionMap, ExtensionValues, ExtensionsForm, MAX_ID,
-    MAX_ID_ONE_BYTE_FORM, Uri, VideoOrientation,
+    AbsCaptureTime, Extension, ExtensionMap, ExtensionMapIter, ExtensionValues, ExtensionsForm,
+    MAX_ID, MAX_ID_ONE_BYTE_FORM, Uri, VideoOrientation,
 };
 pub use rtp_wire_ids::{Direction, Mid, Pt, Rid, SeqNo, SessionId, Ssrc, direction_laws};
 pub use rtp_wire_time::{Frequency, MediaTime, ParseFrequencyError};
