@@ -1,2 +1,4 @@
 pub mod PlainLemmas
 pub mod TelephoneLaw
+pub mod AmrWbLemmas
+pub mod AmrWbLaw

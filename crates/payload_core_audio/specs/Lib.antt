@@ -1,2 +1,4 @@
 pub mod Plain
 pub mod Telephone
+pub mod AmrWb
+pub mod BitPlaces

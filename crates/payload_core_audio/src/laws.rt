@@ -3,7 +3,8 @@
 ghost use Rattle.payload_core_audio.specs.Plain.{noise_coding, pieces_coding};
 ghost use Rattle.payload_core_audio.specs.Telephone.{telephone_coding};
 ghost use Rattle.payload_core_base.specs.Law.{CodecLaw};
-ghost use Rattle.std.specs.Prelude.{ℕ};
+ghost use Rattle.payload_core_audio.specs.AmrWb.{amr_wb_coding};
+ghost use Rattle.std.specs.Prelude.{Bool, ℕ};
 
 /// Opus, G.711, G.722 and comfort noise keep the codec law: of the first three each piece of a sample is a
 /// unit, of comfort noise the sample.
@@ -16,4 +17,10 @@ pub fn plain_laws()
 /// bit clear.
 pub fn telephone_law()
     ensures { (rate : ℕ) → CodecLaw (telephone_coding rate) }
+{}
+
+/// AMR-WB keeps the codec law in both layouts: the unit of a sample is its header byte, masked, and its
+/// speech bits with zeros behind them.
+pub fn amr_wb_law()
+    ensures { (octet_align : Bool) → CodecLaw (amr_wb_coding octet_align) }
 {}

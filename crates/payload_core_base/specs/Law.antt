@@ -84,3 +84,12 @@ SendsUnits coding limit (Err e) units = ⊥
 -- The codec law: a well-formed sample is accepted, and sent as its units.
 abbrev pub CodecLaw : Coding → Type 0
 CodecLaw coding = (sender : Sender) (limit : ℕ) (sample : List ℕ) → coding.IsReached sender → coding.IsWellFormed limit sample → SendsUnits coding limit (coding.packing.pack sender limit sample) (coding.units sender limit sample)
+
+-- Of an accepted sample's packets each but the last has just the limit's bytes.
+abbrev pub SendsFull : ℕ → Result Sent PacketError → Type 0
+SendsFull limit (Ok sent) = AreFull limit sent.packets
+SendsFull limit (Err e) = ⊥
+
+-- And so of every sample's.
+abbrev pub FillsPackets : Packing → Type 0
+FillsPackets packing = (sender : Sender) (limit : ℕ) (sample : List ℕ) → SendsFull limit (packing.pack sender limit sample)

@@ -16,3 +16,6 @@ pub use depacketized::Depacketized;
 pub use held::RtpMeta;
 pub use payloader::Payloader;
 pub use place::MAX_HELD;
+
+#[cfg(test)]
+mod tests;

@@ -1,6 +1,6 @@
 //! What single words say, and the readers of a line's next word.
 
-ghost use Rattle.std.specs.Prelude.{◌≡◌, ◌+◌, ◌^◌, ◌≤◌, ◌++◌, List, [], ◌∷◌, Some, None, IsTrue, IfSome, ◌↔◌, slice_index, IfOk};
+ghost use Rattle.std.specs.Prelude.{◌≡◌, ◌+◌, ◌^◌, ◌≤◌, ◌∷◌, IsTrue, IfSome, ◌↔◌, slice_index, IfOk};
 ghost use Rattle.std.specs.Option.{option_copied};
 ghost use Rattle.rtp_media_lines.specs.Words.{side_of, number_below, text_of, hex_of, dash_or, numbers_of, comma_parts, parts_in, first};
 ghost use Rattle.rtp_media_lines.specs.Misreads.{Reads};

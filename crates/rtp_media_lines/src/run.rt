@@ -122,7 +122,7 @@ fn take_end<W: Write, A: Respond>(
 ///
 /// # Errors
 /// At the first read or write that fails, where the input doesn't end within [`MAX_READS`]
-/// reads, and where memory runs out. Replies to lines before that have then been written.
+/// reads, and where memory runs out.
 pub fn run_lines<R: Read, W: Write, A: Respond>(
     alloc: Global,
     reader: &mut R,

@@ -33,3 +33,28 @@ pub struct RtpHeader {
     /// The length of the header on the wire, in bytes.
     pub header_len: usize,
 }
+
+impl Default for RtpHeader {
+    ghost use Rattle.std.specs.Prelude.{◌≡◌};
+    ghost use Rattle.rtp_wire.specs.Default.{default_header};
+
+    ghost is_default = { λ h. h ≡ default_header };
+
+    /// Version 2, an extension block, type 1; the rest 0, false or absent.
+    fn default() -> RtpHeader {
+        RtpHeader {
+            version: 2,
+            has_padding: false,
+            has_extension: true,
+            csrc_count: 0,
+            marker: false,
+            payload_type: Pt::new_with_value(1),
+            sequence_number: 0,
+            timestamp: 0,
+            ssrc: Ssrc::from(0),
+            csrc: [0; 15],
+            ext_vals: ExtensionValues::absent(),
+            header_len: 16,
+        }
+    }
+}

@@ -1,3 +1,4 @@
 pub mod BlockLaws
 pub mod CarriedLaws
 pub mod MapLaws
+pub mod EntryLaws

@@ -4,12 +4,14 @@
 mod blocks;
 mod element;
 mod extension;
+mod iteration;
 mod map;
 mod reading;
 mod values;
 mod writing;
 
 pub use extension::{Extension, Uri};
+pub use iteration::ExtensionMapIter;
 pub use map::{ExtensionMap, ExtensionsForm, MAX_ID, MAX_ID_ONE_BYTE_FORM};
 pub use values::{AbsCaptureTime, ExtensionValues, VideoOrientation};
 pub use writing::put;

@@ -1,0 +1,167 @@
+-- What makes VP8 keep the codec law.
+use Rattle.std.proofs.Common.{◌≡◌, ℕ, zero, suc, ◌+◌, ◌-◌, ◌*◌, ◌/◌, ◌%◌, ◌<◌, ◌≤◌, Bool, true, false, ltb, leb, eqb, List, [], ◌∷◌, ◌++◌, take, drop, length, None, Some, Ok, Option, if◌then◌else◌, refl, sym, ap, subst, ◌∙◌, arith}
+use Rattle.std.specs.Prelude.{option_and_then, ◌||◌}
+use Rattle.std.specs.List.{All}
+use Rattle.std.proofs.lemmas.Bool.Decides.{nat_tests}
+use Rattle.std.proofs.lemmas.List.{append-nil, drop_all, length-append, take_all}
+use Rattle.std.proofs.lemmas.List.Elements.{All-cons, All-head, All-nil, All-tail}
+use Rattle.payload_core_base.specs.Format.{read_all}
+use Rattle.payload_core_base.specs.Law.{AreFramesOf, AreFull, AreWithin, CodecLaw, FillsPackets, GivesFrom, IsFrameOf, IsSentAs, SendsFull, SendsUnits, joined, packet_at, payloads_of}
+use Rattle.payload_core_base.specs.Packing.{MarkedPacket, Sender, is_none_left, marked}
+use Rattle.payload_core_base.specs.Pieces.{pieces}
+use Rattle.payload_core_base.specs.declared.extra.CodecExtra.{CodecExtra}
+use Rattle.payload_core_base.proofs.FrameLemmas.{EachGives, GivesBytes, first-headed-frame, marker-tails, read_all-each}
+use Rattle.payload_core_base.proofs.PieceLemmas.{joined-pieces, pieces-full, pieces-step, pieces-within}
+use Rattle.payload_core_vpx.specs.Vp8.{Described, Front, after_frame, described, descriptor, descriptor_size, has_bit, long_id, next_id, optional_byte, picture_id_at, reading_of, vp8_coding, vp8_format, vp8_packing, with_payload}
+
+abbrev behind_id : ℕ → Front → Option Described
+behind_id f o = option_and_then (λ id. option_and_then (λ tl0. option_and_then (λ key. with_payload f id.0 tl0.0 (if has_bit 16 128 then key.0 else None) key.1) (optional_byte (has_bit 32 128 || has_bit 16 128) tl0.1)) (optional_byte (has_bit 64 128) id.1)) o
+
+given_id : (f b : ℕ) (bs : List ℕ) (extra : CodecExtra) (o : Front) (id : ℕ) → o ≡ Some (Some id, b ∷ bs) → GivesBytes (reading_of None extra (behind_id f o)) (b ∷ bs)
+given_id f b bs extra o id e =
+    let P : Front → Type 0 = λ x. GivesBytes (reading_of None extra (behind_id f x)) (b ∷ bs) in
+    let there : P (Some (Some id, b ∷ bs)) = (refl, refl) in
+    subst P (sym e) there
+
+short_id : (id b : ℕ) (bs : List ℕ) → ltb id 128 ≡ true → picture_id_at true (id ∷ b ∷ bs) ≡ Some (Some id, b ∷ bs)
+short_id id b bs e = ap (λ (s : Bool). if s then Some (Some id, b ∷ bs) else long_id id (b ∷ bs)) e
+
+long_id_is : (high low b : ℕ) (bs : List ℕ) → ltb high 128 ≡ false → picture_id_at true (high ∷ low ∷ b ∷ bs) ≡ Some (Some (high % 128 * 256 + low), b ∷ bs)
+long_id_is high low b bs e = ap (λ (s : Bool). if s then Some (Some high, low ∷ b ∷ bs) else long_id high (low ∷ b ∷ bs)) e
+
+over : (id : ℕ) → ltb (128 + id / 256) 128 ≡ false
+over id = grind (arith, nat_tests)
+
+-- a descriptor that was sent, with a byte behind it, is read, and its payload written
+gives_payload : (has_id : Bool) (id : ℕ) (first : Bool) (b : ℕ) (bs : List ℕ) (extra : CodecExtra) → id < 32768 → GivesBytes (vp8_format.read None extra (descriptor has_id id first ++ (b ∷ bs))) (b ∷ bs)
+gives_payload false id true b bs extra small = (refl, refl)
+gives_payload false id false b bs extra small = (refl, refl)
+gives_payload true id first b bs extra small = by_width (eqb id 0) (ltb id 128) first refl
+  where
+    by_width : (zero_id short : Bool) (first : Bool) → ltb id 128 ≡ short → GivesBytes (vp8_format.read None extra ((if zero_id then (if first then 16 else 0) ∷ [] else (if short then (if first then 144 else 128) ∷ 128 ∷ id ∷ [] else (if first then 144 else 128) ∷ 128 ∷ (128 + id / 256) ∷ id % 256 ∷ [])) ++ (b ∷ bs))) (b ∷ bs)
+    by_width true short true e = (refl, refl)
+    by_width true short false e = (refl, refl)
+    by_width false true true e = (given_id 144 b bs extra _ id (short_id id b bs e))
+    by_width false true false e = (given_id 128 b bs extra _ id (short_id id b bs e))
+    by_width false false true e = given_id 144 b bs extra _ _ (long_id_is (128 + id / 256) (id % 256) b bs (over id))
+    by_width false false false e = given_id 128 b bs extra _ _ (long_id_is (128 + id / 256) (id % 256) b bs (over id))
+
+-- the first packet alone is a head
+head_is : (has_id : Bool) (id : ℕ) (first : Bool) (p : List ℕ) → vp8_format.head (descriptor has_id id first ++ p) ≡ first
+head_is false id true p = refl
+head_is false id false p = refl
+head_is true id first p = by_width (eqb id 0) (ltb id 128) first
+  where
+    by_width : (zero_id short first : Bool) → vp8_format.head ((if zero_id then (if first then 16 else 0) ∷ [] else (if short then (if first then 144 else 128) ∷ 128 ∷ id ∷ [] else (if first then 144 else 128) ∷ 128 ∷ (128 + id / 256) ∷ id % 256 ∷ [])) ++ p) ≡ first
+    by_width true short true = refl
+    by_width true short false = refl
+    by_width false true true = refl
+    by_width false true false = refl
+    by_width false false true = refl
+    by_width false false false = refl
+
+size_is : (has_id : Bool) (id : ℕ) (first : Bool) → length (descriptor has_id id first) ≡ descriptor_size has_id id
+size_is false id first = refl
+size_is true id first = by_width (eqb id 0) (ltb id 128)
+  where
+    by_width : (zero_id short : Bool) → length (if zero_id then (if first then 16 else 0) ∷ [] else (if short then (if first then 144 else 128) ∷ 128 ∷ id ∷ [] else (if first then 144 else 128) ∷ 128 ∷ (128 + id / 256) ∷ id % 256 ∷ [])) ≡ (if zero_id then 1 else (if short then 3 else 4))
+    by_width true short = refl
+    by_width false true = refl
+    by_width false false = refl
+
+-- each packet gives its piece
+each_gives : (has_id : Bool) (id : ℕ) (first : Bool) (ps : List (List ℕ)) (limit : ℕ) → id < 32768 → All (λ p. (0 < length p) × (length p ≤ limit)) ps → EachGives vp8_format (described has_id id first ps) ps
+each_gives has_id id first [] limit small fits = tt
+each_gives has_id id first ([] ∷ ps) limit small fits = absurd (omega (arith, (All-head (λ (p : List ℕ). (0 < length p) × (length p ≤ limit)) [] ps fits).0))
+each_gives has_id id first ((b ∷ bs) ∷ ps) limit small fits = ((λ extra. gives_payload has_id id first b bs extra small), each_gives has_id id false ps limit small (All-tail (λ (p : List ℕ). (0 < length p) × (length p ≤ limit)) (b ∷ bs) ps fits))
+
+-- no later packet is a head
+no_heads : (has_id : Bool) (id : ℕ) (ps : List (List ℕ)) (k : ℕ) → k < length (marked (vp8_packing has_id) (described has_id id false ps)) → vp8_format.head (packet_at (marked (vp8_packing has_id) (described has_id id false ps)) k).payload ≡ false
+no_heads has_id id [] k lt = absurd (omega arith)
+no_heads has_id id (p ∷ ps) zero lt = head_is has_id id false p
+no_heads has_id id (p ∷ ps) (suc k) lt = no_heads has_id id ps k (omega arith)
+
+payloads_marked : (has_id : Bool) (ps : List (List ℕ)) → payloads_of (marked (vp8_packing has_id) ps) ≡ ps
+payloads_marked has_id [] = refl
+payloads_marked has_id (p ∷ ps) = ap (λ qs. p ∷ qs) (payloads_marked has_id ps)
+
+-- behind their descriptors the pieces fit the limit
+described_within : (has_id : Bool) (id : ℕ) (first : Bool) (limit : ℕ) (ps : List (List ℕ)) → descriptor_size has_id id < limit → All (λ p. (0 < length p) × (length p ≤ limit - descriptor_size has_id id)) ps → AreWithin limit (described has_id id first ps)
+described_within has_id id first limit [] room fits = All-nil _
+described_within has_id id first limit (p ∷ ps) room fits =
+    let P : List ℕ → Type 0 = λ p. (0 < length p) × (length p ≤ limit - descriptor_size has_id id) in
+    let here = All-head P p ps fits in
+    All-cons (λ (p : List ℕ). (0 < length p) × (length p ≤ limit)) (descriptor has_id id first ++ p) (described has_id id false ps)
+    (omega (arith, length-append (descriptor has_id id first) p, here.0), omega (arith, length-append (descriptor has_id id first) p, size_is has_id id first, here.1))
+    (described_within has_id id false limit ps room (All-tail P p ps fits))
+
+described_full : (has_id : Bool) (id : ℕ) (first : Bool) (limit : ℕ) (ps : List (List ℕ)) → descriptor_size has_id id < limit → AreFull (limit - descriptor_size has_id id) ps → AreFull limit (described has_id id first ps)
+described_full has_id id first limit [] room full k lt = absurd (omega arith)
+described_full has_id id first limit (p ∷ []) room full k lt = absurd (omega arith)
+described_full has_id id first limit (p ∷ q ∷ ps) room full zero lt = omega (arith, length-append (descriptor has_id id first) p, size_is has_id id first, full 0 (omega arith))
+described_full has_id id first limit (p ∷ q ∷ ps) room full (suc k) lt = described_full has_id id false limit (q ∷ ps) room (λ j less. full (suc j) (omega arith)) k (omega arith)
+
+next_small : (id : ℕ) → next_id id < 32768
+next_small id = by_test (ltb id 32767) refl
+  where
+    by_test : (less : Bool) → ltb id 32767 ≡ less → (if less then id + 1 else 0) < 32768
+    by_test true e = grind (arith, nat_tests)
+    by_test false e = omega arith
+
+one_unit : (ps : List MarkedPacket) (parts : List (List ℕ)) → IsFrameOf vp8_format ps parts → AreFramesOf vp8_format ps (parts ∷ [])
+one_unit ps parts frame =
+    let F : List MarkedPacket → Type 0 = λ qs. IsFrameOf vp8_format qs parts in
+    (length ps, subst F (sym (take_all (length ps) ps (omega arith))) frame, drop_all (length ps) ps (omega arith))
+
+module _ (has_id : Bool) (s : Sender) (limit : ℕ) (b : ℕ) (bs : List ℕ) (small : s.number < 32768) (room : descriptor_size has_id s.number < limit) where
+  abbrev size : ℕ
+  size = limit - descriptor_size has_id s.number
+
+  abbrev cut : List (List ℕ)
+  cut = pieces size (b ∷ bs)
+
+  frame_of : (ps : List (List ℕ)) (p : List ℕ) → cut ≡ p ∷ ps → All (λ p. (0 < length p) × (length p ≤ size)) (p ∷ ps) → joined (p ∷ ps) ≡ b ∷ bs → IsFrameOf vp8_format (marked (vp8_packing has_id) (described has_id s.number true (p ∷ ps))) ((b ∷ bs) ∷ [])
+  frame_of ps p is fits whole =
+      let packets : List (List ℕ) = described has_id s.number true (p ∷ ps) in
+      let gives : (extra : CodecExtra) → GivesFrom (read_all vp8_format None extra (payloads_of (marked (vp8_packing has_id) packets))) ((b ∷ bs) ∷ []) 0 = λ extra.
+      let all = read_all-each vp8_format packets (p ∷ ps) (each_gives has_id s.number true (p ∷ ps) size small fits) extra in
+      let P : List (List ℕ) → Type 0 = λ qs. GivesFrom (read_all vp8_format None extra qs) ((b ∷ bs) ∷ []) 0 in
+      subst P (sym (payloads_marked has_id packets)) (record { some_part = omega arith; no_fault = all.no_fault; written = all.written ∙ whole ∙ sym (append-nil (b ∷ bs)); closed = all.closed }) in
+      first-headed-frame vp8_format (record { payload = descriptor has_id s.number true ++ p; marker = is_none_left (described has_id s.number false ps) }) (marked (vp8_packing has_id) (described has_id s.number false ps)) ((b ∷ bs) ∷ [])
+      (head_is has_id s.number true p) (no_heads has_id s.number ps) (marker-tails (vp8_packing has_id) vp8_format (record { marks = λ q last. refl; tail = λ marker q. refl }) packets) gives
+
+  sent_frame : IsSentAs (vp8_coding has_id) limit (record { packets = described has_id s.number true cut; sender = after_frame s }) (((b ∷ bs) ∷ []) ∷ [])
+  sent_frame =
+      let some_size : 0 < size = omega arith in
+      let step = pieces-step size (b ∷ bs) some_size (omega arith) in
+      let p : List ℕ = take size (b ∷ bs) in
+      let ps : List (List ℕ) = pieces size (drop size (b ∷ bs)) in
+      let within = pieces-within size some_size (b ∷ bs) in
+      let W : List (List ℕ) → Type 0 = All (λ p. (0 < length p) × (length p ≤ size)) in
+      let frame = frame_of ps p step (subst W step within) (ap joined (sym step) ∙ joined-pieces size some_size (b ∷ bs)) in
+      let F : List (List ℕ) → Type 0 = λ qs. AreFramesOf vp8_format (marked (vp8_packing has_id) (described has_id s.number true qs)) (((b ∷ bs) ∷ []) ∷ []) in
+      record {
+        reached = next_small s.number;
+        within = described_within has_id s.number true limit cut room within;
+        frames = subst F (sym step) (one_unit (marked (vp8_packing has_id) (described has_id s.number true (p ∷ ps))) ((b ∷ bs) ∷ []) frame);
+      }
+
+by_room : (has_id : Bool) (s : Sender) (limit b : ℕ) (bs : List ℕ) (full : Bool) → leb limit (descriptor_size has_id s.number) ≡ full → s.number < 32768
+    → SendsUnits (vp8_coding has_id) limit (if full then Ok (record { packets = []; sender = s }) else Ok (record { packets = described has_id s.number true (pieces (limit - descriptor_size has_id s.number) (b ∷ bs)); sender = after_frame s })) (if full then [] else ((b ∷ bs) ∷ []) ∷ [])
+by_room has_id s limit b bs true e small = record { reached = small; within = All-nil _; frames = refl }
+by_room has_id s limit b bs false e small = sent_frame has_id s limit b bs small (grind (arith, nat_tests))
+
+pub vp8_codec_law : (has_id : Bool) → CodecLaw (vp8_coding has_id)
+vp8_codec_law has_id s limit [] reached well_formed = absurd (omega arith)
+vp8_codec_law has_id s limit (b ∷ bs) reached well_formed = by_room has_id s limit b bs (leb limit (descriptor_size has_id s.number)) refl reached
+
+full_by : (has_id : Bool) (s : Sender) (limit b : ℕ) (bs : List ℕ) (full : Bool) → leb limit (descriptor_size has_id s.number) ≡ full
+    → SendsFull limit (if full then Ok (record { packets = []; sender = s }) else Ok (record { packets = described has_id s.number true (pieces (limit - descriptor_size has_id s.number) (b ∷ bs)); sender = after_frame s }))
+full_by has_id s limit b bs true e = λ k lt. absurd (omega arith)
+full_by has_id s limit b bs false e =
+    let room : descriptor_size has_id s.number < limit = grind (arith, nat_tests) in
+    described_full has_id s.number true limit (pieces (limit - descriptor_size has_id s.number) (b ∷ bs)) room (pieces-full (limit - descriptor_size has_id s.number) (omega arith) (b ∷ bs))
+
+pub vp8_full : (has_id : Bool) → FillsPackets (vp8_packing has_id)
+vp8_full has_id s limit [] = λ k lt. absurd (omega arith)
+vp8_full has_id s limit (b ∷ bs) = full_by has_id s limit b bs (leb limit (descriptor_size has_id s.number)) refl

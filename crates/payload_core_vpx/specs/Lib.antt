@@ -1,0 +1,2 @@
+pub mod Vp8
+pub mod Vp8Parsed

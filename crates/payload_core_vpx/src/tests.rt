@@ -1,0 +1,81 @@
+//! Packets of frames with and without ids, and short packets.
+
+use crate::{Vp8Depacketizer, Vp8Packetizer};
+use payload_core_base::{CodecExtra, Depacketizer, PacketError, Packetizer, Vp8CodecExtra};
+use std::test::Fail;
+
+#[test]
+fn row_11_vp8_without_an_id(rt: HostRuntime) -> Result<(), Fail> {
+    let mut packetizer = Vp8Packetizer::with_picture_id(None);
+    let packets = packetizer.packetize(rt.alloc(), 3, &[0xAA, 0xBB, 0xCC])?;
+    assert_eq!(rt; packets.len(), 2);
+    assert_eq!(rt; packets[0].as_slice(), [0x10, 0xAA, 0xBB].as_slice());
+    assert_eq!(rt; packets[1].as_slice(), [0x00, 0xCC].as_slice());
+    assert_eq!(rt; packetizer.packetize(rt.alloc(), 1, &[0xAA])?.len(), 0);
+    assert_eq!(rt; packetizer.packetize(rt.alloc(), 3, &[])?.len(), 0);
+    Ok(())
+}
+
+#[test]
+fn ids_of_three_widths(rt: HostRuntime) -> Result<(), Fail> {
+    let mut packetizer = Vp8Packetizer::with_picture_id(Some(32_767));
+    let long = packetizer.packetize(rt.alloc(), 9, &[1])?;
+    assert_eq!(rt; long.len(), 1);
+    assert_eq!(rt; long[0].as_slice(), [0x90, 0x80, 0xFF, 0xFF, 1].as_slice());
+    let none = packetizer.packetize(rt.alloc(), 9, &[1])?;
+    assert_eq!(rt; none.len(), 1);
+    assert_eq!(rt; none[0].as_slice(), [0x10, 1].as_slice());
+    let short = packetizer.packetize(rt.alloc(), 9, &[1])?;
+    assert_eq!(rt; short.len(), 1);
+    assert_eq!(rt; short[0].as_slice(), [0x90, 0x80, 1, 1].as_slice());
+    Ok(())
+}
+
+#[test]
+fn descriptor_with_all_fields(rt: HostRuntime) -> Result<(), Fail> {
+    let mut out = Vec::new(rt.alloc());
+    let mut extra = CodecExtra::None;
+    let packet = [0x90, 0xF0, 0x81, 0x02, 0x07, 0x05, 0x30, 0x31];
+    Vp8Depacketizer::new().depacketize(&packet, &mut out, &mut extra)?;
+    assert_eq!(rt; out.as_slice(), [0x30, 0x31].as_slice());
+    assert_eq!(rt;
+        extra,
+        CodecExtra::Vp8(Vp8CodecExtra {
+            is_keyframe: true,
+            picture_id: Some(258),
+            tl0_pic_idx: Some(7)
+        })
+    );
+    let cut = Vp8Depacketizer::new().depacketize(&packet[..6], &mut out, &mut extra);
+    assert!(rt; matches!(cut, Err(PacketError::ErrVP8CorruptedPacket)));
+    assert_eq!(rt; out.len(), 2);
+    Ok(())
+}
+
+#[test]
+fn every_short_packet(rt: HostRuntime) -> Result<(), Fail> {
+    let mut depacketizer = Vp8Depacketizer::new();
+    let mut count: u32 = 0;
+    let mut out = Vec::new(rt.alloc());
+    let mut extra = CodecExtra::None;
+    assert!(rt; depacketizer.depacketize(&[], &mut out, &mut extra).is_err());
+    for a in 0..=255u8 {
+        assert!(rt;
+            depacketizer
+                .depacketize(&[a], &mut out, &mut extra)
+                .is_err()
+        );
+        for b in 0..=255u8 {
+            if depacketizer
+                .depacketize(&[a, b], &mut out, &mut extra)
+                .is_ok()
+            {
+                count = count.saturating_add(1);
+            }
+        }
+        out.clear();
+    }
+    // X clear: one byte of payload.
+    assert_eq!(rt; count, 128 * 256);
+    Ok(())
+}

@@ -1,0 +1,127 @@
+//! Sending VP8 payloads (RFC 7741 4).
+
+ghost use Rattle.payload_core_vpx.specs.Vp8.{described, descriptor, descriptor_size, next_id, pack_vp8, vp8_packing};
+ghost use Rattle.payload_core_base.specs.Pieces.{pieces};
+ghost use Rattle.std.specs.Prelude.{◌≡◌, ◌-◌, ◌++◌, ◌<◌, ◌≤◌, [], IfErr, IfOk, Some, is_some, map, true, unwrap_or};
+
+use payload_core_base::{PacketError, Packetizer};
+use std::alloc::Global;
+
+/// How many bytes a descriptor without an id has (RFC 7741 4.2).
+pub const VP8_HEADER_SIZE: usize = 1;
+
+/// Cuts VP8 frames into packets that fill the limit (RFC 7741 4).
+#[derive(Clone, Copy, Debug, Drop)]
+pub struct Vp8Packetizer {
+    has_id: bool,
+    id: u16,
+    ghost in_range: { id < 32768 },
+}
+
+// How many bytes the descriptor has.
+fn descriptor_size(has_id: bool, id: u16) -> usize
+    ensures value { result ≡ descriptor_size has_id id }
+    ensures few { result ≤ 4 }
+{
+    if !has_id || id == 0 {
+        VP8_HEADER_SIZE
+    } else if id < 128 {
+        3
+    } else {
+        4
+    }
+}
+
+// The descriptor of a packet, and its piece behind it.
+fn packet(
+    alloc: Global,
+    has_id: bool,
+    id: u16,
+    first: bool,
+    piece: &[u8],
+) -> Result<Vec<u8>, PacketError>
+    requires { id < 32768 }
+    ensures packet { IfOk result (λ p. p.items ≡ descriptor has_id id first ++ piece.now) }
+    ensures memory { IfErr result (λ e. e ≡ PacketError.Memory) }
+{
+    let start: u8 = if first { 0x10 } else { 0 };
+    let mut packet = Vec::new(alloc);
+    if !has_id || id == 0 {
+        packet.push(start)?;
+    } else {
+        packet.push(0x80 + start)?;
+        packet.push(0x80)?;
+        if id < 128 {
+            packet.push(id as u8)?;
+        } else {
+            packet.push(0x80 + (id / 256) as u8)?;
+            packet.push((id % 256) as u8)?;
+        }
+    }
+    packet.extend_from_slice(piece)?;
+    Ok(packet)
+}
+
+// The packets of a frame, cut into pieces of this size.
+fn packets(
+    alloc: Global,
+    has_id: bool,
+    id: u16,
+    size: usize,
+    bytes: &[u8],
+) -> Result<Vec<Vec<u8>>, PacketError>
+    requires id { id < 32768 }
+    requires size { 0 < size }
+    ensures packets { IfOk result (λ ps. map (λ p. p.items) ps.items ≡ described has_id id true (pieces size bytes.now)) }
+    ensures memory { IfErr result (λ e. e ≡ PacketError.Memory) }
+{
+    let mut packets = Vec::new(alloc);
+    let mut first = true;
+    for piece in bytes.chunks(size) {
+        packets.push(packet(alloc, has_id, id, first, piece)?)?;
+        first = false;
+    }
+    Ok(packets)
+}
+
+impl Vp8Packetizer {
+    /// A packetizer that sends ids from this one on, modulo 32,768, or none.
+    pub fn with_picture_id(picture_id: Option<u16>) -> Self
+        requires { unwrap_or picture_id 0 < 32768 }
+        ensures has_id { result.has_id ≡ is_some picture_id }
+        ensures id { result.id ≡ unwrap_or picture_id 0 }
+    {
+        Vp8Packetizer {
+            has_id: picture_id.is_some(),
+            id: picture_id.unwrap_or(0),
+        }
+    }
+}
+
+impl Packetizer for Vp8Packetizer {
+    ghost packing = { λ p. vp8_packing p.has_id };
+
+    ghost sender = { λ p. record { number = p.id; waiting = [] } };
+
+    fn packetize(
+        &mut self,
+        alloc: Global,
+        mtu: usize,
+        bytes: &[u8],
+    ) -> Result<Vec<Vec<u8>>, PacketError> {
+        let size = descriptor_size(self.has_id, self.id);
+        if bytes.is_empty() || mtu <= size {
+            return Ok(Vec::new(alloc));
+        }
+        let packets = match packets(alloc, self.has_id, self.id, mtu - size, bytes) {
+            Ok(packets) => packets,
+            Err(e) => return Err(e),
+        };
+        self.id = if self.id < 32767 { self.id + 1 } else { 0 };
+        Ok(packets)
+    }
+
+    fn is_marker(&mut self, _bytes: &[u8], _previous: Option<&[u8]>, last: bool) -> bool {
+        last
+    }
+}
