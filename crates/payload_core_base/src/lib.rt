@@ -20,4 +20,4 @@ pub use extra::{
 };
 pub use packetizer::Packetizer;
 pub use sink::PacketSink;
-pub use telephone_event::TelephoneEvent;
+pub use telephone_event::{TelephoneEvent, TelephoneEvents, telephone_event_law};
