@@ -16,7 +16,13 @@ pub trait PacketSink {
 
     /// Takes one payload, unaltered, with its marker, its RTP time and the values of its header
     /// extensions. The only refusal is `Memory`, and then nothing was sent.
-    fn send(&mut self, payload: &[u8], marker: bool, time: u32, values: &ExtensionValues) -> Result<(), PacketError>
+    fn send(
+        &mut self,
+        payload: &[u8],
+        marker: bool,
+        time: u32,
+        values: &ExtensionValues,
+    ) -> Result<(), PacketError>
         ensures taken { OnOk result (takes self.old (outgoing payload.now marker time values.now) self.new) }
         ensures kept { OnErr result (keeps self.old self.new) }
         ensures memory { IfErr result (λ e. e ≡ PacketError.Memory) };

@@ -1,0 +1,17 @@
+pub use Rattle.payload_core_audio.specs.AmrWb
+pub use Rattle.payload_core_audio.specs.Plain
+pub use Rattle.payload_core_base.specs.Codecs
+pub use Rattle.payload_core_base.specs.Format
+pub use Rattle.payload_core_base.specs.Law
+pub use Rattle.payload_core_base.specs.Outgoing
+pub use Rattle.payload_core_base.specs.Packing
+pub use Rattle.payload_core_base.specs.Pieces
+pub use Rattle.payload_core_base.specs.Telephone
+pub use Rattle.payload_core_buffer.specs.Buffered
+pub use Rattle.payload_core_buffer.specs.Frames
+pub use Rattle.payload_core_buffer.specs.Metas
+pub use Rattle.payload_core_buffer.specs.Packets
+pub use Rattle.payload_core_buffer.specs.Payloaders
+pub use Rattle.payload_core_buffer.specs.Pops
+pub use Rattle.payload_core_buffer.specs.Sending
+pub use Rattle.payload_core_vpx.specs.Vp8

@@ -1,0 +1,16 @@
+//! Payload formats of RTP: what every codec meets, audio and video payloads, and the buffer over any codec.
+#![tactic(auto)]
+
+pub use payload_core_audio::{
+    AmrWbDepacketizer, AmrWbPacketizer, ComfortNoiseDepacketizer, ComfortNoisePacketizer,
+    G7xxPacketizer, G711Depacketizer, G711Packetizer, G722Packetizer, OpusDepacketizer,
+    OpusPacketizer, TelephoneEventDepacketizer, TelephoneEventPacketizer, amr_wb_law, plain_laws,
+    telephone_law,
+};
+pub use payload_core_base::{
+    Av1CodecExtra, Codec, CodecExtra, Depacketizer, H264CodecExtra, H265CodecExtra, H266CodecExtra,
+    MediaKind, PacketError, PacketSink, Packetizer, TelephoneEvent, TelephoneEvents, Vp8CodecExtra,
+    Vp9CodecExtra, telephone_event_law,
+};
+pub use payload_core_buffer::{Depacketized, DepacketizingBuffer, MAX_HELD, Payloader, RtpMeta};
+pub use payload_core_vpx::{VP8_HEADER_SIZE, Vp8Depacketizer, Vp8Packetizer, vp8_law};
