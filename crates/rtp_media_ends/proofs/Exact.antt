@@ -17,7 +17,8 @@ use Rattle.rtp_media_streams.specs.Sending.{Sending, no_extensions, header_of, d
 use Rattle.rtp_media_streams.specs.Receiving.{Receiving}
 use Rattle.rtp_media_ends.specs.Ends.{EndState, receiver_at}
 use Rattle.rtp_media_ends.specs.FullArrival.{after_datagrams, Answers, IsPolledOut, is_header_of, is_own_datagram, sent_datagram, HasAllOf}
-use Rattle.rtp_media_ends.proofs.Isolation.{content_event, event_by, event_in, own_events, isolated}
+use Rattle.rtp_media_ends.specs.OwnEvents.{content_event, event_by, event_in, own_events}
+use Rattle.rtp_media_ends.proofs.Isolation.{isolated}
 
 eqb-same : (a : ℕ) → (a == a) ≡ true
 eqb-same a = grind (arith, nat_tests)

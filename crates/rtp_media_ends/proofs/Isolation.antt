@@ -16,23 +16,7 @@ use Rattle.rtp_media_streams.specs.Receiving.{Receiving, opened_receiver, is_own
 use Rattle.rtp_media_ends.specs.Ends.{EndState, receiver_at}
 use Rattle.rtp_media_ends.specs.Arrivals.{own_of, arrival_for, arrival_by, stream_for, after_arrival, after_datagram}
 use Rattle.rtp_media_ends.specs.FullArrival.{after_datagrams}
-
--- the event that a payload of an own datagram is
-abbrev pub content_event : RtpHeader → Option (List ℕ) → Option Event
-content_event h None = None
-content_event h (Some []) = None
-content_event h (Some (b ∷ bs)) = Some (Comes h.sequence_number (content_of h.timestamp (b ∷ bs)))
-
-abbrev pub event_by : ℕ → ℕ → Option RtpHeader → List ℕ → Option Event
-event_by ssrc pt None d = None
-event_by ssrc pt (Some h) d = if (ssrc == h.ssrc) && (pt == h.payload_type) then content_event h (unpadded h.has_padding (payload_in h d)) else None
-
--- what a datagram is to a stream of this SSRC and type
-abbrev pub event_in : ℕ → ℕ → List ℕ → Option Event
-event_in ssrc pt d = event_by ssrc pt (header_in no_extensions d) d
-
-abbrev pub own_events : ℕ → ℕ → List (List ℕ) → List Event
-own_events ssrc pt ds = filter_map (event_in ssrc pt) ds
+use Rattle.rtp_media_ends.specs.OwnEvents.{content_event, event_by, event_in, own_events}
 
 abbrev pub after_event : Stream → Option Event → Stream
 after_event s None = s

@@ -4,3 +4,4 @@ pub mod Agreement
 pub mod Ends
 pub mod Arrivals
 pub mod FullArrival
+pub mod OwnEvents

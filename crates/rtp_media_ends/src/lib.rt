@@ -4,12 +4,14 @@
 mod agreement;
 mod end;
 mod errors;
+mod laws;
 mod params;
 mod received;
 mod row;
 
 pub use end::{End, Polls, ReceivedAll};
 pub use errors::{EndError, OpenError, PollFault, ReceiveError};
+pub use laws::isolation_law;
 pub use params::StreamParams;
 pub use payload_core_base::{Codec, PacketError};
 pub use received::Received;
