@@ -1,47 +1,13 @@
 -- Reading from left to right gives the command whose words stand there, and no other.
-use Rattle.std.proofs.Common.{◌≡◌, ℕ, ◌^◌, Bool, true, false, cond, List, [], ◌∷◌, Option, None, Some, codes, refl, sym, ◌∙◌, ap, subst}
-use Rattle.std.specs.Option.{option_map}
+use Rattle.std.proofs.Common.{◌≡◌, ℕ, ◌^◌, List, [], ◌∷◌, Some, codes, refl, sym, ◌∙◌, subst}
 use Rattle.std.specs.Str.{bytes_eq}
-use Rattle.std.proofs.lemmas.Slice.Eq.{bytes_eq-Decides}
 use Rattle.rtp_media_lines.specs.declared.line.Command.{Command}
-use Rattle.rtp_media_lines.specs.declared.line.Command.TheVariants.{Fixed, Send, Open, Sample, Receive, Poll}
-use Rattle.rtp_media_lines.specs.Words.{side_of, text_of, hex_of, dash_or, numbers_of, number_below, first, ended, ◌>>=◌}
+use Rattle.rtp_media_lines.specs.declared.line.Command.TheVariants.{Fixed, Send, Open, Sample, Receive, Poll, Row, Ext, End, Offer, Answer, Accept, Withdraw, Connect}
+use Rattle.rtp_media_lines.specs.Words.{side_of, text_of, hex_of, dash_or, numbers_of, number_below}
 use Rattle.rtp_media_lines.specs.Lines.{command_of, fixed_of, send_of, open_of, sample_of, receive_of, poll_of}
+use Rattle.rtp_media_lines.proofs.ReadSteps.{dispatch, same, ended_some, step, glue, under}
+use Rattle.rtp_media_lines.proofs.ExchangeWords.{exchange_says, read_row, read_ext, read_end, read_offer, read_answer, read_accept, read_withdraw, read_connect}
 use Rattle.rtp_media_lines.specs.Says.{Says, AreSendWords, AreOpenWords, AreSampleWords, AreReceiveWords, ArePollWords}
-
--- what a `Some` behind a step shows
-bind_some : {A B : Type 0} (o : Option A) (f : A → Option B) (y : B) → (o >>= f) ≡ Some y → (x : A) × (o ≡ Some x) × (f x ≡ Some y)
-bind_some (Some x) f y h = (x, refl, h)
-bind_some None f y h = cc h
-
-pair_of : {A : Type 0} (o : Option A) (rest : List (List ℕ)) (x : A × List (List ℕ)) → option_map (λ said. (said, rest)) o ≡ Some x → (o ≡ Some x.0) × (rest ≡ x.1)
-pair_of (Some said) rest x h = let e : (said, rest) ≡ x = cc h in (ap (λ (p : _). Some p.0) e, ap (λ p. p.1) e)
-pair_of None rest x h = cc h
-
--- a word was read
-first_some : {A : Type 0} (read : List ℕ → Option A) (words : List (List ℕ)) (x : A × List (List ℕ)) → first read words ≡ Some x
-    → (word : List ℕ) × (words ≡ word ∷ x.1) × (read word ≡ Some x.0)
-first_some read [] x h = cc h
-first_some read (word ∷ words) x h = let parts = pair_of (read word) words x h in (word, ap (λ rest. word ∷ rest) parts.1, parts.0)
-
--- no word was left
-ended_some : {A : Type 0} (words : List (List ℕ)) (x y : A) → ended words x ≡ Some y → (words ≡ []) × (x ≡ y)
-ended_some [] x y h = (refl, cc h)
-ended_some (word ∷ words) x y h = cc h
-
--- the next word was read, and then the others
-step : {A B : Type 0} (read : List ℕ → Option A) (words : List (List ℕ)) (f : A × List (List ℕ) → Option B) (y : B) → (first read words >>= f) ≡ Some y
-    → (x : A × List (List ℕ)) × (word : List ℕ) × (words ≡ word ∷ x.1) × (read word ≡ Some x.0) × (f x ≡ Some y)
-step read words f y h =
-    let said = bind_some (first read words) f y h in
-    let word = first_some read words said.0 said.1 in
-    (said.0, word.0, word.1, word.2, said.2)
-
-glue : {verb other : List ℕ} {words others : List (List ℕ)} → verb ≡ other → words ≡ others → verb ∷ words ≡ other ∷ others
-glue {other = other} {words = words} v w = ap (λ first. first ∷ words) v ∙ ap (λ rest. other ∷ rest) w
-
-under : (word : List ℕ) {words others : List (List ℕ)} → words ≡ others → word ∷ words ≡ word ∷ others
-under word w = ap (λ rest. word ∷ rest) w
 
 -- ---- what is read stands there
 
@@ -158,13 +124,6 @@ poll_says verb words c v h =
       stream_says = stream.3;
     })
 
-dispatch : {X : Type 0} (b : Bool) (x y z : X) (P : Type 0) → (b ≡ true → x ≡ z → P) → (y ≡ z → P) → cond b x y ≡ z → P
-dispatch true x y z P here later h = here refl h
-dispatch false x y z P here later h = later h
-
-same : (verb word : List ℕ) → bytes_eq verb word ≡ true → verb ≡ word
-same verb word h = (bytes_eq-Decides verb word).0 h
-
 pub says_what_is_read : (words : List (List ℕ)) (c : Command) → command_of words ≡ Some c → Says words c
 says_what_is_read [] c h = cc h
 says_what_is_read (verb ∷ words) c h =
@@ -173,7 +132,7 @@ says_what_is_read (verb ∷ words) c h =
     (dispatch (bytes_eq verb (codes "open")) _ _ _ _ (λ v. open_says verb words c (same verb _ v))
     (dispatch (bytes_eq verb (codes "sample")) _ _ _ _ (λ v. sample_says verb words c (same verb _ v))
     (dispatch (bytes_eq verb (codes "receive")) _ _ _ _ (λ v. receive_says verb words c (same verb _ v))
-    (dispatch (bytes_eq verb (codes "poll")) _ _ _ _ (λ v. poll_says verb words c (same verb _ v)) (λ none. cc none)))))) h
+    (dispatch (bytes_eq verb (codes "poll")) _ _ _ _ (λ v. poll_says verb words c (same verb _ v)) (exchange_says verb words c)))))) h
 
 -- ---- what stands there is read
 
@@ -213,3 +172,11 @@ read_what_is_said words (Open open') a = subst (Reads (Open open')) (sym a.words
 read_what_is_said words (Sample sample) a = subst (Reads (Sample sample)) (sym a.words_are) (read_sample words sample a)
 read_what_is_said words (Receive receive) a = subst (Reads (Receive receive)) (sym a.words_are) (read_receive words receive a)
 read_what_is_said words (Poll poll) a = subst (Reads (Poll poll)) (sym a.words_are) (read_poll words poll a)
+read_what_is_said words (Row row) a = subst (Reads (Row row)) (sym a.words_are) (read_row words row a)
+read_what_is_said words (Ext ext) a = subst (Reads (Ext ext)) (sym a.words_are) (read_ext words ext a)
+read_what_is_said words (End end') a = subst (Reads (End end')) (sym a.words_are) (read_end words end' a)
+read_what_is_said words (Offer offer) a = subst (Reads (Offer offer)) (sym a.words_are) (read_offer words offer a)
+read_what_is_said words (Answer answer) a = subst (Reads (Answer answer)) (sym a.words_are) (read_answer words answer a)
+read_what_is_said words (Accept accept) a = subst (Reads (Accept accept)) (sym a.words_are) (read_accept words accept a)
+read_what_is_said words (Withdraw side) a = subst (Reads (Withdraw side)) (sym a.1) (read_withdraw a.0 side a.2)
+read_what_is_said words (Connect connect) a = subst (Reads (Connect connect)) (sym a.words_are) (read_connect words connect a)

@@ -7,3 +7,5 @@ pub mod ReadBack
 pub mod Sent
 pub mod Splits
 pub mod Steps
+pub mod ReadSteps
+pub mod ExchangeWords

@@ -5,6 +5,7 @@ use Rattle.std.proofs.lemmas.Bool.{cond_both}
 use Rattle.std.proofs.lemmas.List.Splits.{slice_split_first}
 use Rattle.std.proofs.lemmas.Str.Pattern.{IsSplitOnceResult, split_once_first}
 use Rattle.rtp_media_lines.specs.Words.{words_of, comma_parts, ended}
+use Rattle.rtp_media_lines.specs.Sections.{colon_parts}
 
 abbrev pub IsCons : {X : Type 0} → List X → Type 0
 IsCons {X} xs = (y : X) × (ys : List X) × (xs ≡ y ∷ ys)
@@ -55,6 +56,24 @@ comma_parts-split text part rest h = split_at_byte 44 text part rest (lit< tt) h
 pub comma_parts-whole : (text : List ℕ) → IsSplitOnceResult 44 text None → comma_parts text ≡ text ∷ []
 comma_parts-whole text h = split_nowhere 44 text (lit< tt) h
 
+pub colon_parts-split : (text : List ℕ) (part rest : Bor (List ℕ)) → IsSplitOnceResult 58 text (Some (part, rest)) → colon_parts text ≡ part.now ∷ colon_parts rest.now
+colon_parts-split text part rest h = split_at_byte 58 text part rest (lit< tt) h
+
+pub colon_parts-whole : (text : List ℕ) → IsSplitOnceResult 58 text None → colon_parts text ≡ text ∷ []
+colon_parts-whole text h = split_nowhere 58 text (lit< tt) h
+
 -- a line has a word
 pub ended-words_of : {A : Type 0} (line : List ℕ) (x : A) → ended (words_of line) x ≡ None
 ended-words_of line x = let parts = slice_split-IsCons (λ b. b == 32) line in rw parts.2 refl
+
+-- a word has a part
+pub ended-colon_parts : {A : Type 0} (word : List ℕ) (x : A) → ended (colon_parts word) x ≡ None
+ended-colon_parts word x = let parts = slice_split-IsCons (λ b. b == 58) word in rw parts.2 refl
+
+IsCons-nonempty : {X : Type 0} (xs : List X) → IsCons xs → false ≡ (length xs == 0)
+IsCons-nonempty [] (y, ys, h) = cc h
+IsCons-nonempty (x ∷ xs) h = grind (arith)
+
+-- a line has words
+pub words_of-nonempty : (line : List ℕ) → false ≡ (length (words_of line) == 0)
+words_of-nonempty line = IsCons-nonempty (words_of line) (slice_split-IsCons (λ b. b == 32) line)

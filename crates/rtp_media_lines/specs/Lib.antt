@@ -1,3 +1,4 @@
+pub mod ExchangeLines
 pub mod Input
 pub mod Lines
 pub mod Misreads
@@ -5,6 +6,7 @@ pub mod Progress
 pub mod Replies
 pub mod Runs
 pub mod Says
+pub mod Sections
 pub mod Statuses
 pub mod Words
 pub mod Writes

@@ -6,6 +6,7 @@ use Rattle.rtp_media_lines.specs.declared.line.Line.TheVariants as line
 use Rattle.rtp_media_lines.specs.declared.line.Command.{Command}
 use Rattle.rtp_media_lines.specs.declared.line.Command.TheVariants.{Fixed, Send, Open, Sample, Receive, Poll}
 use Rattle.std.specs.Option.{option_map}
+use Rattle.rtp_media_lines.specs.ExchangeLines.{row_of, ext_of, end_of, offer_of, answer_of, accept_of, withdraw_of, connect_of}
 use Rattle.rtp_media_lines.specs.Words.{words_of, side_of, text_of, hex_of, dash_or, numbers_of, number_below, first, ended, ◌>>=◌}
 
 -- fixed E
@@ -71,6 +72,19 @@ poll_of words = do
   stream ← first (number_below (2 ^ 64)) side.1
   ended stream.1 (Poll (record { side = side.0; stream = stream.0 }))
 
+-- a command that makes an end or exchanges texts, by its first word
+abbrev pub exchange_command_of : List ℕ → List (List ℕ) → Option Command
+exchange_command_of verb words =
+    if bytes_eq verb (codes "row") then row_of words
+    else if bytes_eq verb (codes "ext") then ext_of words
+    else if bytes_eq verb (codes "end") then end_of words
+    else if bytes_eq verb (codes "offer") then offer_of words
+    else if bytes_eq verb (codes "answer") then answer_of words
+    else if bytes_eq verb (codes "accept") then accept_of words
+    else if bytes_eq verb (codes "withdraw") then withdraw_of words
+    else if bytes_eq verb (codes "connect") then connect_of words
+    else None
+
 -- a command by its first word
 abbrev pub command_of : List (List ℕ) → Option Command
 command_of [] = None
@@ -81,7 +95,7 @@ command_of (verb ∷ words) =
     else if bytes_eq verb (codes "sample") then sample_of words
     else if bytes_eq verb (codes "receive") then receive_of words
     else if bytes_eq verb (codes "poll") then poll_of words
-    else None
+    else exchange_command_of verb words
 
 -- what a line says, where it is understood
 unfoldable pub line_of : List ℕ → Option Line

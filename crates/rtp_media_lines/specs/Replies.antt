@@ -2,9 +2,9 @@
 use Rattle.std.specs.Prelude.{ℕ, Bool, true, false, List, [], ◌∷◌, ◌++◌, codes, decimal}
 use Rattle.hex.specs.Hex.{encode_lower}
 use Rattle.rtp_media_lines.specs.declared.reply.ErrorName.{ErrorName}
-use Rattle.rtp_media_lines.specs.declared.reply.ErrorName.TheVariants.{NoSection, RowNotAgreed, RowDiffers, WrongDirection, SsrcNotNamed, AlreadyOpen, Memory, StreamFailed, TimeTooLarge, LimitTooSmall, Payload}
+use Rattle.rtp_media_lines.specs.declared.reply.ErrorName.TheVariants.{NoSection, RowNotAgreed, RowDiffers, WrongDirection, SsrcNotNamed, AlreadyOpen, Memory, StreamFailed, TimeTooLarge, LimitTooSmall, Payload, RowNotPlain, TypesNotDistinct, NotWritable, Unreadable, OutOfTurn, NotMedia, NotCorresponding, Round, NoCommonRow}
 use Rattle.rtp_media_lines.specs.declared.reply.Reply.{Reply}
-use Rattle.rtp_media_lines.specs.declared.reply.Reply.TheVariants.{Done, ErrorLine, Refused, Sender, Receiver, Datagram, Unreadable, Foreign, Damaged, NotTaken, Taken, NextUnit, NoUnit, Fault}
+use Rattle.rtp_media_lines.specs.declared.reply.Reply.TheVariants.{Done, ErrorLine, Refused, Sender, Receiver, Datagram, Unreadable, Foreign, Damaged, NotTaken, Taken, NextUnit, NoUnit, Fault, Text, NoOffer}
 
 abbrev pub name_of : ErrorName → List ℕ
 name_of NoSection = codes "NoSection"
@@ -18,6 +18,15 @@ name_of StreamFailed = codes "StreamFailed"
 name_of TimeTooLarge = codes "TimeTooLarge"
 name_of LimitTooSmall = codes "LimitTooSmall"
 name_of Payload = codes "Payload"
+name_of RowNotPlain = codes "RowNotPlain"
+name_of TypesNotDistinct = codes "TypesNotDistinct"
+name_of NotWritable = codes "NotWritable"
+name_of Unreadable = codes "Unreadable"
+name_of OutOfTurn = codes "OutOfTurn"
+name_of NotMedia = codes "NotMedia"
+name_of NotCorresponding = codes "NotCorresponding"
+name_of Round = codes "Round"
+name_of NoCommonRow = codes "NoCommonRow"
 
 -- words parted by single blanks, and a line feed
 abbrev pub text_line : List (List ℕ) → List ℕ
@@ -46,6 +55,8 @@ reply_words (Taken stream number) = codes "taken" ∷ decimal stream ∷ decimal
 reply_words (NextUnit first last time unit) = codes "unit" ∷ decimal first ∷ decimal last ∷ decimal time ∷ hex_text unit ∷ []
 reply_words NoUnit = codes "none" ∷ []
 reply_words (Fault name) = codes "fault" ∷ name_of name ∷ []
+reply_words (Text bytes) = codes "text" ∷ hex_text bytes ∷ []
+reply_words NoOffer = codes "none" ∷ []
 
 -- the printed line
 abbrev pub reply_text : Reply → List ℕ

@@ -1,12 +1,20 @@
 -- Which words a command is: the lines of the program, one by one.
-use Rattle.std.specs.Prelude.{◌≡◌, ℕ, ◌^◌, List, [], ◌∷◌, codes, Some}
+use Rattle.std.specs.Prelude.{◌≡◌, ℕ, ◌^◌, List, [], ◌∷◌, ◌++◌, codes, Some}
 use Rattle.rtp_media_lines.specs.declared.line.Command.{Command}
-use Rattle.rtp_media_lines.specs.declared.line.Command.TheVariants.{Fixed, Send, Open, Sample, Receive, Poll}
+use Rattle.rtp_media_lines.specs.declared.line.Command.TheVariants.{Fixed, Send, Open, Sample, Receive, Poll, Row, Ext, End, Offer, Answer, Accept, Withdraw, Connect}
 use Rattle.rtp_media_lines.specs.declared.line.SendCommand.{SendCommand}
 use Rattle.rtp_media_lines.specs.declared.line.OpenCommand.{OpenCommand}
 use Rattle.rtp_media_lines.specs.declared.line.SampleCommand.{SampleCommand}
 use Rattle.rtp_media_lines.specs.declared.line.ReceiveCommand.{ReceiveCommand}
 use Rattle.rtp_media_lines.specs.declared.line.PollCommand.{PollCommand}
+use Rattle.rtp_media_lines.specs.declared.exchange.RowCommand.{RowCommand}
+use Rattle.rtp_media_lines.specs.declared.exchange.ExtCommand.{ExtCommand}
+use Rattle.rtp_media_lines.specs.declared.exchange.EndCommand.{EndCommand}
+use Rattle.rtp_media_lines.specs.declared.exchange.OfferCommand.{OfferCommand}
+use Rattle.rtp_media_lines.specs.declared.exchange.AnswerCommand.{AnswerCommand}
+use Rattle.rtp_media_lines.specs.declared.exchange.AcceptCommand.{AcceptCommand}
+use Rattle.rtp_media_lines.specs.declared.exchange.ConnectCommand.{ConnectCommand}
+use Rattle.rtp_media_lines.specs.Sections.{sections_of}
 use Rattle.rtp_media_lines.specs.Words.{side_of, text_of, hex_of, dash_or, numbers_of, number_below}
 
 -- send E MID SSRC PT FIRST MTU LIMIT DISTANCES PICTUREID
@@ -73,6 +81,78 @@ pub record ArePollWords (words : List (List ℕ)) (poll : PollCommand) : Type 0 
   pub e_says : side_of e ≡ Some poll.side
   pub stream_says : number_below (2 ^ 64) stream ≡ Some poll.stream
 
+-- row E PT RTX RED CODEC CLOCK CHANNELS FMTP
+pub record AreRowWords (words : List (List ℕ)) (row : RowCommand) : Type 0 where
+  pub e : List ℕ
+  pub pt : List ℕ
+  pub resend : List ℕ
+  pub red : List ℕ
+  pub codec : List ℕ
+  pub clock : List ℕ
+  pub channels : List ℕ
+  pub format : List ℕ
+  pub words_are : words ≡ codes "row" ∷ e ∷ pt ∷ resend ∷ red ∷ codec ∷ clock ∷ channels ∷ format ∷ []
+  pub e_says : side_of e ≡ Some row.side
+  pub pt_says : number_below (2 ^ 8) pt ≡ Some row.pt
+  pub resend_says : dash_or (number_below (2 ^ 8)) resend ≡ Some row.resend
+  pub red_says : dash_or (number_below (2 ^ 8)) red ≡ Some row.red
+  pub codec_says : text_of codec ≡ Some row.codec
+  pub clock_says : number_below (2 ^ 32) clock ≡ Some row.clock_rate
+  pub channels_say : dash_or (number_below (2 ^ 8)) channels ≡ Some row.channels
+  pub format_says : dash_or text_of format ≡ Some row.format
+
+-- ext E ID URI
+pub record AreExtWords (words : List (List ℕ)) (ext : ExtCommand) : Type 0 where
+  pub e : List ℕ
+  pub id : List ℕ
+  pub uri : List ℕ
+  pub words_are : words ≡ codes "ext" ∷ e ∷ id ∷ uri ∷ []
+  pub e_says : side_of e ≡ Some ext.side
+  pub id_says : number_below (2 ^ 8) id ≡ Some ext.id
+  pub uri_says : text_of uri ≡ Some ext.uri
+
+-- end E ID
+pub record AreEndWords (words : List (List ℕ)) (end' : EndCommand) : Type 0 where
+  pub e : List ℕ
+  pub session : List ℕ
+  pub words_are : words ≡ codes "end" ∷ e ∷ session ∷ []
+  pub e_says : side_of e ≡ Some end'.side
+  pub session_says : number_below (2 ^ 64) session ≡ Some end'.session
+
+-- offer E SECTION..
+pub record AreOfferWords (words : List (List ℕ)) (offer : OfferCommand) : Type 0 where
+  pub e : List ℕ
+  pub sections : List (List ℕ)
+  pub words_are : words ≡ codes "offer" ∷ e ∷ sections
+  pub e_says : side_of e ≡ Some offer.side
+  pub sections_say : sections_of sections ≡ Some offer.sections
+
+-- answer E HEX SECTION..
+pub record AreAnswerWords (words : List (List ℕ)) (answer : AnswerCommand) : Type 0 where
+  pub e : List ℕ
+  pub text : List ℕ
+  pub sections : List (List ℕ)
+  pub words_are : words ≡ codes "answer" ∷ e ∷ text ∷ sections
+  pub e_says : side_of e ≡ Some answer.side
+  pub text_says : hex_of text ≡ Some answer.text
+  pub sections_say : sections_of sections ≡ Some answer.sections
+
+-- accept E HEX
+pub record AreAcceptWords (words : List (List ℕ)) (accept : AcceptCommand) : Type 0 where
+  pub e : List ℕ
+  pub text : List ℕ
+  pub words_are : words ≡ codes "accept" ∷ e ∷ text ∷ []
+  pub e_says : side_of e ≡ Some accept.side
+  pub text_says : hex_of text ≡ Some accept.text
+
+-- connect SECTION.. / SECTION..
+pub record AreConnectWords (words : List (List ℕ)) (connect : ConnectCommand) : Type 0 where
+  pub offered : List (List ℕ)
+  pub answered : List (List ℕ)
+  pub words_are : words ≡ codes "connect" ∷ (offered ++ codes "/" ∷ answered)
+  pub offered_say : sections_of offered ≡ Some connect.offered
+  pub answered_say : sections_of answered ≡ Some connect.answered
+
 -- the words are those of the command's line, in their order and no others
 abbrev pub Says : List (List ℕ) → Command → Type 0
 -- fixed E
@@ -82,3 +162,12 @@ Says words (Open open') = AreOpenWords words open'
 Says words (Sample sample) = AreSampleWords words sample
 Says words (Receive receive) = AreReceiveWords words receive
 Says words (Poll poll) = ArePollWords words poll
+Says words (Row row) = AreRowWords words row
+Says words (Ext ext) = AreExtWords words ext
+Says words (End end') = AreEndWords words end'
+Says words (Offer offer) = AreOfferWords words offer
+Says words (Answer answer) = AreAnswerWords words answer
+Says words (Accept accept) = AreAcceptWords words accept
+-- withdraw E
+Says words (Withdraw side) = (e : List ℕ) × (words ≡ codes "withdraw" ∷ e ∷ []) × (side_of e ≡ Some side)
+Says words (Connect connect) = AreConnectWords words connect

@@ -48,12 +48,12 @@ abbrev pub ◌>>=◌ : {A B : Type 0} → Option A → (A → Option B) → Opti
 None >>= f = None
 
 -- what each word says, where each says something
-abbrev pub each_of : (List ℕ → Option ℕ) → List (List ℕ) → Option (List ℕ)
+abbrev pub each_of : {A : Type 0} → (List ℕ → Option A) → List (List ℕ) → Option (List A)
 each_of read [] = Some []
 each_of read (word ∷ words) = do
-  number ← read word
-  numbers ← each_of read words
-  Some (number ∷ numbers)
+  said ← read word
+  more ← each_of read words
+  Some (said ∷ more)
 
 -- what stands between single commas
 abbrev pub comma_parts : List ℕ → List (List ℕ)

@@ -46,7 +46,7 @@ fn number_of(word: &str) -> Option<u64>
 }
 
 /// The number up to `max` that decimal digits write.
-fn number_up_to(word: &str, max: u64) -> Option<u64>
+pub(crate) fn number_up_to(word: &str, max: u64) -> Option<u64>
     ensures value { result ≡ number_below (max + 1) word.now }
     ensures bound { IfSome result (λ n. n ≤ max) }
 {
@@ -89,7 +89,7 @@ fn numbers_of(alloc: Global, word: &str) -> Result<Bytes, Misread>
 }
 
 /// The text before the first comma, and what stands behind that comma.
-fn split_comma(text: &str) -> (&str, Option<&str>)
+pub(crate) fn split_comma(text: &str) -> (&str, Option<&str>)
     ensures { comma_parts text.now ≡ result.0.now ∷ parts_in (option_copied result.1) }
 {
     match text.split_once(',') {
@@ -162,4 +162,34 @@ pub(crate) fn picture_id_word(words: Words<'_>) -> Result<(Option<u16>, Words<'_
     }
     let id = number_up_to(word, u16::MAX as u64).ok_or(Misread::NotUnderstood)?;
     Ok((Some(id as u16), rest))
+}
+
+/// The number below 256 of the next word, or none at a dash.
+pub(crate) fn number_or_dash_word(words: Words<'_>) -> Result<(Option<u8>, Words<'_>), Misread>
+    ensures { Reads result (first (dash_or (number_below (2 ^ 8))) words.entry) }
+{
+    let (word, rest) = words.next()?;
+    if word == "-" {
+        return Ok((None, rest));
+    }
+    let number = number_up_to(word, u8::MAX as u64).ok_or(Misread::NotUnderstood)?;
+    Ok((Some(number as u8), rest))
+}
+
+/// The text of the next word, or none at a dash.
+pub(crate) fn text_or_dash_word(
+    alloc: Global,
+    words: Words<'_>,
+) -> Result<(Option<Text>, Words<'_>), Misread>
+    ensures { Reads result (first (dash_or text_of) words.entry) }
+{
+    let (word, rest) = words.next()?;
+    if word == "-" {
+        return Ok((None, rest));
+    }
+    if word.is_empty() {
+        return Err(Misread::NotUnderstood);
+    }
+    let text = Text::from_str(alloc, word)?;
+    Ok((Some(text), rest))
 }

@@ -1,6 +1,7 @@
 //! The line layer of the program: lines of text in, replies out.
 #![tactic(auto)]
 
+mod exchange;
 mod fields;
 mod grammar;
 mod input;
@@ -12,10 +13,14 @@ mod reply;
 mod respond;
 mod round;
 mod run;
+mod sections;
 mod status;
 mod words;
 mod writing;
 
+pub use exchange::{
+    AcceptCommand, AnswerCommand, ConnectCommand, EndCommand, ExtCommand, OfferCommand, RowCommand,
+};
 pub use grammar::commands_are_their_words;
 pub use input::lines_are_what_was_ended;
 pub use line::{
@@ -27,6 +32,7 @@ pub use reply::{ErrorName, Reply, print};
 pub use respond::Respond;
 pub use round::printed_words_read_back;
 pub use run::{MAX_READS, run_lines};
+pub use sections::{SectionWord, Sections, Ssrcs};
 pub use status::{RunFault, Status};
 pub use words::Side;
 pub use writing::{WriteFault, write_whole};

@@ -2,8 +2,12 @@
 
 ghost use Rattle.std.specs.Prelude.{◌≡◌, IfOk};
 ghost use Rattle.rtp_media_lines.specs.Misreads.{Reads};
-ghost use Rattle.rtp_media_lines.specs.Lines.{line_of, command_of, fixed_of, send_of, open_of, sample_of, receive_of, poll_of};
+ghost use Rattle.rtp_media_lines.specs.Lines.{line_of, command_of, exchange_command_of, fixed_of, send_of, open_of, sample_of, receive_of, poll_of};
 
+use crate::exchange::{
+    AcceptCommand, AnswerCommand, ConnectCommand, EndCommand, ExtCommand, OfferCommand, RowCommand,
+    accept_of, answer_of, connect_of, end_of, ext_of, offer_of, row_of, withdraw_of,
+};
 use crate::fields::{distances_word, hex_word, number_word, picture_id_word, side_word, text_word};
 use crate::misread::Misread;
 use crate::owned::{Bytes, Text};
@@ -94,6 +98,22 @@ pub enum Command {
     Receive(ReceiveCommand),
     /// Ask a receiving stream for its next unit.
     Poll(PollCommand),
+    /// Put a row into the draft of an end.
+    Row(RowCommand),
+    /// Put a header extension into the draft of an end.
+    Ext(ExtCommand),
+    /// Replace an end by a new one of its draft.
+    End(EndCommand),
+    /// Ask for the text of an offer.
+    Offer(OfferCommand),
+    /// Answer an offer.
+    Answer(AnswerCommand),
+    /// Take the answer to an offer.
+    Accept(AcceptCommand),
+    /// `withdraw E`: give up an offer.
+    Withdraw(Side),
+    /// Let `a` offer and `b` answer.
+    Connect(ConnectCommand),
 }
 
 /// A line that is understood.
@@ -147,6 +167,30 @@ fn command_of(alloc: Global, words: Words<'_>) -> Result<Command, Misread>
         receive_of(alloc, rest)
     } else if verb == "poll" {
         poll_of(rest)
+    } else {
+        exchange_command_of(alloc, verb, rest)
+    }
+}
+
+fn exchange_command_of(alloc: Global, verb: &str, rest: Words<'_>) -> Result<Command, Misread>
+    ensures { Reads result (exchange_command_of verb.now rest.entry) }
+{
+    if verb == "row" {
+        row_of(alloc, rest)
+    } else if verb == "ext" {
+        ext_of(alloc, rest)
+    } else if verb == "end" {
+        end_of(rest)
+    } else if verb == "offer" {
+        offer_of(alloc, rest)
+    } else if verb == "answer" {
+        answer_of(alloc, rest)
+    } else if verb == "accept" {
+        accept_of(alloc, rest)
+    } else if verb == "withdraw" {
+        withdraw_of(rest)
+    } else if verb == "connect" {
+        connect_of(alloc, rest)
     } else {
         Err(Misread::NotUnderstood)
     }

@@ -34,6 +34,24 @@ pub enum ErrorName {
     LimitTooSmall,
     /// The payload's format refuses.
     Payload,
+    /// A row isn't of a kind that an end can agree on.
+    RowNotPlain,
+    /// A payload type stands for two things.
+    TypesNotDistinct,
+    /// The session, a name or an extension doesn't print as a text that reads as itself.
+    NotWritable,
+    /// The text isn't the text of an offer or an answer.
+    Unreadable,
+    /// An offer is pending, or none is, or the end has agreed.
+    OutOfTurn,
+    /// A section of the text is no audio or video over RTP.
+    NotMedia,
+    /// The sections of text and list don't correspond.
+    NotCorresponding,
+    /// The rows can't be settled against the remote's.
+    Round,
+    /// A section would list no row.
+    NoCommonRow,
 }
 
 impl ErrorName {
@@ -53,6 +71,15 @@ impl ErrorName {
             ErrorName::TimeTooLarge => "TimeTooLarge",
             ErrorName::LimitTooSmall => "LimitTooSmall",
             ErrorName::Payload => "Payload",
+            ErrorName::RowNotPlain => "RowNotPlain",
+            ErrorName::TypesNotDistinct => "TypesNotDistinct",
+            ErrorName::NotWritable => "NotWritable",
+            ErrorName::Unreadable => "Unreadable",
+            ErrorName::OutOfTurn => "OutOfTurn",
+            ErrorName::NotMedia => "NotMedia",
+            ErrorName::NotCorresponding => "NotCorresponding",
+            ErrorName::Round => "Round",
+            ErrorName::NoCommonRow => "NoCommonRow",
         }
     }
 }
@@ -102,6 +129,10 @@ pub enum Reply {
     NoUnit,
     /// `fault NAME`: the poll failed.
     Fault(ErrorName),
+    /// `text HEX`: the text of an offer or an answer.
+    Text(Bytes),
+    /// `none`: no offer is pending.
+    NoOffer,
 }
 
 impl Reply {
@@ -135,6 +166,8 @@ impl Reply {
             }
             Reply::NoUnit => String::from_str(alloc, "none\n"),
             Reply::Fault(name) => named(alloc, "fault", name.as_str()),
+            Reply::Text(bytes) => named(alloc, "text", hex_text(alloc, bytes)?.as_str()),
+            Reply::NoOffer => String::from_str(alloc, "none\n"),
         }
     }
 

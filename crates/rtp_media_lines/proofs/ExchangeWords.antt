@@ -1,0 +1,225 @@
+-- Reading from left to right gives the command whose words stand there: the commands of exchanges.
+use Rattle.std.proofs.Common.{◌≡◌, ℕ, ◌^◌, Bool, true, false, List, [], ◌∷◌, ◌++◌, None, Some, codes, refl, sym, ◌∙◌, ap, subst}
+use Rattle.std.specs.Str.{bytes_eq}
+use Rattle.rtp_media_lines.specs.declared.line.Command.{Command}
+use Rattle.rtp_media_lines.specs.declared.line.Command.TheVariants.{Row, Ext, End, Offer, Answer, Accept, Withdraw, Connect}
+use Rattle.rtp_media_lines.specs.declared.sections.SectionWord.{SectionWord}
+use Rattle.rtp_media_lines.specs.Words.{side_of, text_of, hex_of, dash_or, number_below}
+use Rattle.rtp_media_lines.specs.Sections.{section_of, sections_of, sections_then_slash}
+use Rattle.rtp_media_lines.specs.ExchangeLines.{row_of, ext_of, end_of, offer_of, answer_of, accept_of, withdraw_of, connect_of}
+use Rattle.rtp_media_lines.specs.Lines.{exchange_command_of}
+use Rattle.rtp_media_lines.specs.Says.{Says, AreRowWords, AreExtWords, AreEndWords, AreOfferWords, AreAnswerWords, AreAcceptWords, AreConnectWords}
+use Rattle.rtp_media_lines.proofs.ReadSteps.{bind_some, step, ended_some, glue, under, dispatch, same}
+
+some_is : {A : Type 0} {x y : A} → Some x ≡ Some y → x ≡ y
+some_is h = cc h
+
+-- ---- what is read stands there
+
+row_says : (verb : List ℕ) (words : List (List ℕ)) (c : Command) → verb ≡ codes "row" → row_of words ≡ Some c → Says (verb ∷ words) c
+unfolding row_of
+row_says verb words c v h =
+    let e = step side_of words _ c h in
+    let pt = step (number_below (2 ^ 8)) e.0.1 _ c e.4 in
+    let resend = step (dash_or (number_below (2 ^ 8))) pt.0.1 _ c pt.4 in
+    let red = step (dash_or (number_below (2 ^ 8))) resend.0.1 _ c resend.4 in
+    let codec = step text_of red.0.1 _ c red.4 in
+    let clock = step (number_below (2 ^ 32)) codec.0.1 _ c codec.4 in
+    let channels = step (dash_or (number_below (2 ^ 8))) clock.0.1 _ c clock.4 in
+    let format = step (dash_or text_of) channels.0.1 _ c channels.4 in
+    let end = ended_some format.0.1 _ c format.4 in
+    subst (Says (verb ∷ words)) end.1 (record {
+      e = e.1;
+      pt = pt.1;
+      resend = resend.1;
+      red = red.1;
+      codec = codec.1;
+      clock = clock.1;
+      channels = channels.1;
+      format = format.1;
+      words_are = glue v (e.2 ∙ under e.1 (pt.2 ∙ under pt.1 (resend.2 ∙ under resend.1 (red.2 ∙ under red.1 (codec.2 ∙ under codec.1 (clock.2 ∙ under clock.1 (channels.2 ∙ under channels.1 (format.2 ∙ under format.1 end.0))))))));
+      e_says = e.3;
+      pt_says = pt.3;
+      resend_says = resend.3;
+      red_says = red.3;
+      codec_says = codec.3;
+      clock_says = clock.3;
+      channels_say = channels.3;
+      format_says = format.3;
+    })
+
+ext_says : (verb : List ℕ) (words : List (List ℕ)) (c : Command) → verb ≡ codes "ext" → ext_of words ≡ Some c → Says (verb ∷ words) c
+unfolding ext_of
+ext_says verb words c v h =
+    let e = step side_of words _ c h in
+    let id = step (number_below (2 ^ 8)) e.0.1 _ c e.4 in
+    let uri = step text_of id.0.1 _ c id.4 in
+    let end = ended_some uri.0.1 _ c uri.4 in
+    subst (Says (verb ∷ words)) end.1 (record {
+      e = e.1;
+      id = id.1;
+      uri = uri.1;
+      words_are = glue v (e.2 ∙ under e.1 (id.2 ∙ under id.1 (uri.2 ∙ under uri.1 end.0)));
+      e_says = e.3;
+      id_says = id.3;
+      uri_says = uri.3;
+    })
+
+end_says : (verb : List ℕ) (words : List (List ℕ)) (c : Command) → verb ≡ codes "end" → end_of words ≡ Some c → Says (verb ∷ words) c
+unfolding end_of
+end_says verb words c v h =
+    let e = step side_of words _ c h in
+    let session = step (number_below (2 ^ 64)) e.0.1 _ c e.4 in
+    let end = ended_some session.0.1 _ c session.4 in
+    subst (Says (verb ∷ words)) end.1 (record {
+      e = e.1;
+      session = session.1;
+      words_are = glue v (e.2 ∙ under e.1 (session.2 ∙ under session.1 end.0));
+      e_says = e.3;
+      session_says = session.3;
+    })
+
+offer_says : (verb : List ℕ) (words : List (List ℕ)) (c : Command) → verb ≡ codes "offer" → offer_of words ≡ Some c → Says (verb ∷ words) c
+unfolding offer_of
+offer_says verb words c v h =
+    let e = step side_of words _ c h in
+    let sections = bind_some (sections_of e.0.1) _ c e.4 in
+    subst (Says (verb ∷ words)) (some_is sections.2) (record {
+      e = e.1;
+      sections = e.0.1;
+      words_are = glue v e.2;
+      e_says = e.3;
+      sections_say = sections.1;
+    })
+
+answer_says : (verb : List ℕ) (words : List (List ℕ)) (c : Command) → verb ≡ codes "answer" → answer_of words ≡ Some c → Says (verb ∷ words) c
+unfolding answer_of
+answer_says verb words c v h =
+    let e = step side_of words _ c h in
+    let text = step hex_of e.0.1 _ c e.4 in
+    let sections = bind_some (sections_of text.0.1) _ c text.4 in
+    subst (Says (verb ∷ words)) (some_is sections.2) (record {
+      e = e.1;
+      text = text.1;
+      sections = text.0.1;
+      words_are = glue v (e.2 ∙ under e.1 text.2);
+      e_says = e.3;
+      text_says = text.3;
+      sections_say = sections.1;
+    })
+
+accept_says : (verb : List ℕ) (words : List (List ℕ)) (c : Command) → verb ≡ codes "accept" → accept_of words ≡ Some c → Says (verb ∷ words) c
+unfolding accept_of
+accept_says verb words c v h =
+    let e = step side_of words _ c h in
+    let text = step hex_of e.0.1 _ c e.4 in
+    let end = ended_some text.0.1 _ c text.4 in
+    subst (Says (verb ∷ words)) end.1 (record {
+      e = e.1;
+      text = text.1;
+      words_are = glue v (e.2 ∙ under e.1 (text.2 ∙ under text.1 end.0));
+      e_says = e.3;
+      text_says = text.3;
+    })
+
+withdraw_says : (verb : List ℕ) (words : List (List ℕ)) (c : Command) → verb ≡ codes "withdraw" → withdraw_of words ≡ Some c → Says (verb ∷ words) c
+unfolding withdraw_of
+withdraw_says verb words c v h =
+    let e = step side_of words _ c h in
+    let end = ended_some e.0.1 _ c e.4 in
+    subst (Says (verb ∷ words)) end.1 (e.1, glue v (e.2 ∙ under e.1 end.0), e.3)
+
+-- the words before a slash, and those behind it
+abbrev Slashed : List (List ℕ) → List SectionWord × List (List ℕ) → Type 0
+Slashed words x = (before : List (List ℕ)) × (words ≡ before ++ codes "/" ∷ x.1) × (sections_of before ≡ Some x.0)
+
+slashed_more : (word : List ℕ) (words : List (List ℕ)) (s : SectionWord) (x : List SectionWord × List (List ℕ)) → section_of word ≡ Some s → Slashed words x → Slashed (word ∷ words) (s ∷ x.0, x.1)
+slashed_more word words s x said parts = (word ∷ parts.0, ap (λ rest. word ∷ rest) parts.1, rw (said, parts.2) refl)
+
+slashed : (words : List (List ℕ)) (x : List SectionWord × List (List ℕ)) → sections_then_slash words ≡ Some x → Slashed words x
+slashed [] x h = cc h
+slashed (word ∷ words) x h =
+    dispatch (bytes_eq word (codes "/")) _ _ _ _
+    (λ v k. subst (Slashed (word ∷ words)) (some_is k) ([], ap (λ first. first ∷ words) (same word _ v), refl))
+    (λ k. let s = bind_some (section_of word) _ x k in
+    let more = bind_some (sections_then_slash words) _ x s.2 in
+    subst (Slashed (word ∷ words)) (some_is more.2) (slashed_more word words s.0 more.0 s.1 (slashed words more.0 more.1))) h
+
+connect_says : (verb : List ℕ) (words : List (List ℕ)) (c : Command) → verb ≡ codes "connect" → connect_of words ≡ Some c → Says (verb ∷ words) c
+unfolding connect_of
+connect_says verb words c v h =
+    let offered = bind_some (sections_then_slash words) _ c h in
+    let answered = bind_some (sections_of offered.0.1) _ c offered.2 in
+    let parts = slashed words offered.0 offered.1 in
+    subst (Says (verb ∷ words)) (some_is answered.2) (record {
+      offered = parts.0;
+      answered = offered.0.1;
+      words_are = glue v parts.1;
+      offered_say = parts.2;
+      answered_say = answered.1;
+    })
+
+pub exchange_says : (verb : List ℕ) (words : List (List ℕ)) (c : Command) → exchange_command_of verb words ≡ Some c → Says (verb ∷ words) c
+exchange_says verb words c h =
+    dispatch (bytes_eq verb (codes "row")) _ _ _ _ (λ v. row_says verb words c (same verb _ v))
+    (dispatch (bytes_eq verb (codes "ext")) _ _ _ _ (λ v. ext_says verb words c (same verb _ v))
+    (dispatch (bytes_eq verb (codes "end")) _ _ _ _ (λ v. end_says verb words c (same verb _ v))
+    (dispatch (bytes_eq verb (codes "offer")) _ _ _ _ (λ v. offer_says verb words c (same verb _ v))
+    (dispatch (bytes_eq verb (codes "answer")) _ _ _ _ (λ v. answer_says verb words c (same verb _ v))
+    (dispatch (bytes_eq verb (codes "accept")) _ _ _ _ (λ v. accept_says verb words c (same verb _ v))
+    (dispatch (bytes_eq verb (codes "withdraw")) _ _ _ _ (λ v. withdraw_says verb words c (same verb _ v))
+    (dispatch (bytes_eq verb (codes "connect")) _ _ _ _ (λ v. connect_says verb words c (same verb _ v)) (λ none. cc none)))))))) h
+
+-- ---- what stands there is read
+
+pub read_row : (words : List (List ℕ)) (row : _) (a : AreRowWords words row)
+    → row_of (a.e ∷ a.pt ∷ a.resend ∷ a.red ∷ a.codec ∷ a.clock ∷ a.channels ∷ a.format ∷ []) ≡ Some (Row row)
+unfolding row_of
+read_row words row a = rw (a.e_says, a.pt_says, a.resend_says, a.red_says, a.codec_says, a.clock_says, a.channels_say, a.format_says) refl
+
+pub read_ext : (words : List (List ℕ)) (ext : _) (a : AreExtWords words ext) → ext_of (a.e ∷ a.id ∷ a.uri ∷ []) ≡ Some (Ext ext)
+unfolding ext_of
+read_ext words ext a = rw (a.e_says, a.id_says, a.uri_says) refl
+
+pub read_end : (words : List (List ℕ)) (end' : _) (a : AreEndWords words end') → end_of (a.e ∷ a.session ∷ []) ≡ Some (End end')
+unfolding end_of
+read_end words end' a = rw (a.e_says, a.session_says) refl
+
+pub read_offer : (words : List (List ℕ)) (offer : _) (a : AreOfferWords words offer) → offer_of (a.e ∷ a.sections) ≡ Some (Offer offer)
+unfolding offer_of
+read_offer words offer a = rw (a.e_says, a.sections_say) refl
+
+pub read_answer : (words : List (List ℕ)) (answer : _) (a : AreAnswerWords words answer) → answer_of (a.e ∷ a.text ∷ a.sections) ≡ Some (Answer answer)
+unfolding answer_of
+read_answer words answer a = rw (a.e_says, a.text_says, a.sections_say) refl
+
+pub read_accept : (words : List (List ℕ)) (accept : _) (a : AreAcceptWords words accept) → accept_of (a.e ∷ a.text ∷ []) ≡ Some (Accept accept)
+unfolding accept_of
+read_accept words accept a = rw (a.e_says, a.text_says) refl
+
+pub read_withdraw : (e : List ℕ) (side : _) → side_of e ≡ Some side → withdraw_of (e ∷ []) ≡ Some (Withdraw side)
+unfolding withdraw_of
+read_withdraw e side h = rw h refl
+
+slash_says_nothing : section_of (codes "/") ≡ None
+unfolding section_of
+slash_says_nothing = refl
+
+not_true : (b : Bool) → (b ≡ true → ⊥) → b ≡ false
+not_true true h = absurd (h refl)
+not_true false h = refl
+
+-- no section is a slash
+no_slash : (word : List ℕ) (s : SectionWord) → section_of word ≡ Some s → bytes_eq word (codes "/") ≡ false
+no_slash word s h = not_true _ (λ e. cc (sym slash_says_nothing ∙ ap section_of (sym (same word _ e)) ∙ h))
+
+slash_read : (before after : List (List ℕ)) (sections : List SectionWord) → sections_of before ≡ Some sections → sections_then_slash (before ++ codes "/" ∷ after) ≡ Some (sections, after)
+slash_read [] after sections h = ap (λ s. Some (s, after)) (some_is h)
+slash_read (word ∷ before) after sections h =
+    let s = bind_some (section_of word) _ sections h in
+    let more = bind_some (sections_of before) _ sections s.2 in
+    rw (no_slash word s.0 s.1, s.1, slash_read before after more.0 more.1) (ap (λ l. Some (l, after)) (some_is more.2))
+
+pub read_connect : (words : List (List ℕ)) (connect : _) (a : AreConnectWords words connect) → connect_of (a.offered ++ codes "/" ∷ a.answered) ≡ Some (Connect connect)
+unfolding connect_of
+read_connect words connect a = rw (slash_read a.offered a.answered connect.offered a.offered_say, a.answered_say) refl

@@ -1,0 +1,194 @@
+//! The lines that make ends and exchange their texts.
+
+ghost use Rattle.rtp_media_lines.specs.Misreads.{Reads};
+ghost use Rattle.rtp_media_lines.specs.ExchangeLines.{row_of, ext_of, end_of, offer_of, answer_of, accept_of, withdraw_of, connect_of};
+
+use crate::fields::{
+    hex_word, number_or_dash_word, number_word, side_word, text_or_dash_word, text_word,
+};
+use crate::line::Command;
+use crate::misread::Misread;
+use crate::owned::{Bytes, Text};
+use crate::sections::{Sections, section_words, sections_before_slash};
+use crate::words::{Side, Words};
+use std::alloc::Global;
+
+/// `row E PT RTX RED CODEC CLOCK CHANNELS FMTP`: put a row into the draft of an end.
+#[derive(Drop)]
+pub struct RowCommand {
+    /// The end whose draft it is.
+    pub side: Side,
+    /// The payload type (RFC 3551 6).
+    pub pt: u8,
+    /// The type of retransmissions (RFC 4588), or none at a dash.
+    pub resend: Option<u8>,
+    /// The type of redundant audio (RFC 2198), or none at a dash.
+    pub red: Option<u8>,
+    /// The name of the codec (RFC 8866 6.6).
+    pub codec: Text,
+    /// The clock rate in ticks a second.
+    pub clock_rate: u32,
+    /// The number of channels, or none at a dash.
+    pub channels: Option<u8>,
+    /// The format parameters as an `a=fmtp` line has them (RFC 8866 6.15), or none at a dash.
+    pub format: Option<Text>,
+}
+
+/// `ext E ID URI`: put a header extension into the draft of an end.
+#[derive(Drop)]
+pub struct ExtCommand {
+    /// The end whose draft it is.
+    pub side: Side,
+    /// The number in headers (RFC 8285 4).
+    pub id: u8,
+    /// The URI that names the extension.
+    pub uri: Text,
+}
+
+/// `end E ID`: replace an end by a new one of its draft.
+#[derive(Clone, Copy, Debug, PartialEq, Eq)]
+pub struct EndCommand {
+    /// The end.
+    pub side: Side,
+    /// The number of its session (RFC 8866 5.2).
+    pub session: u64,
+}
+
+/// `offer E SECTION..`: ask for the text of an offer.
+#[derive(Drop)]
+pub struct OfferCommand {
+    /// The end that offers.
+    pub side: Side,
+    /// The sections that it wants.
+    pub sections: Sections,
+}
+
+/// `answer E HEX SECTION..`: answer an offer.
+#[derive(Drop)]
+pub struct AnswerCommand {
+    /// The end that answers.
+    pub side: Side,
+    /// The bytes of the offer's text.
+    pub text: Bytes,
+    /// The sections that it wants.
+    pub sections: Sections,
+}
+
+/// `accept E HEX`: take the answer to an offer.
+#[derive(Drop)]
+pub struct AcceptCommand {
+    /// The end that offered.
+    pub side: Side,
+    /// The bytes of the answer's text.
+    pub text: Bytes,
+}
+
+/// `connect SECTION.. / SECTION..`: let `a` offer and `b` answer.
+#[derive(Drop)]
+pub struct ConnectCommand {
+    /// The sections that `a` wants.
+    pub offered: Sections,
+    /// The sections that `b` wants.
+    pub answered: Sections,
+}
+
+#[tactic(auto, unfolding(crate::specs::ExchangeLines::row_of))]
+pub(crate) fn row_of(alloc: Global, words: Words<'_>) -> Result<Command, Misread>
+    ensures { Reads result (row_of words.entry) }
+{
+    let (side, rest) = side_word(words)?;
+    let (pt, rest) = number_word(rest, u8::MAX as u64)?;
+    let (resend, rest) = number_or_dash_word(rest)?;
+    let (red, rest) = number_or_dash_word(rest)?;
+    let (codec, rest) = text_word(alloc, rest)?;
+    let (clock_rate, rest) = number_word(rest, u32::MAX as u64)?;
+    let (channels, rest) = number_or_dash_word(rest)?;
+    let (format, rest) = text_or_dash_word(alloc, rest)?;
+    rest.end()?;
+    Ok(Command::Row(RowCommand {
+        side,
+        pt: pt as u8,
+        resend,
+        red,
+        codec,
+        clock_rate: clock_rate as u32,
+        channels,
+        format,
+    }))
+}
+
+#[tactic(auto, unfolding(crate::specs::ExchangeLines::ext_of))]
+pub(crate) fn ext_of(alloc: Global, words: Words<'_>) -> Result<Command, Misread>
+    ensures { Reads result (ext_of words.entry) }
+{
+    let (side, rest) = side_word(words)?;
+    let (id, rest) = number_word(rest, u8::MAX as u64)?;
+    let (uri, rest) = text_word(alloc, rest)?;
+    rest.end()?;
+    Ok(Command::Ext(ExtCommand {
+        side,
+        id: id as u8,
+        uri,
+    }))
+}
+
+#[tactic(auto, unfolding(crate::specs::ExchangeLines::end_of))]
+pub(crate) fn end_of(words: Words<'_>) -> Result<Command, Misread>
+    ensures { Reads result (end_of words.entry) }
+{
+    let (side, rest) = side_word(words)?;
+    let (session, rest) = number_word(rest, u64::MAX)?;
+    rest.end()?;
+    Ok(Command::End(EndCommand { side, session }))
+}
+
+#[tactic(auto, unfolding(crate::specs::ExchangeLines::offer_of))]
+pub(crate) fn offer_of(alloc: Global, words: Words<'_>) -> Result<Command, Misread>
+    ensures { Reads result (offer_of words.entry) }
+{
+    let (side, rest) = side_word(words)?;
+    let sections = section_words(alloc, rest)?;
+    Ok(Command::Offer(OfferCommand { side, sections }))
+}
+
+#[tactic(auto, unfolding(crate::specs::ExchangeLines::answer_of))]
+pub(crate) fn answer_of(alloc: Global, words: Words<'_>) -> Result<Command, Misread>
+    ensures { Reads result (answer_of words.entry) }
+{
+    let (side, rest) = side_word(words)?;
+    let (text, rest) = hex_word(alloc, rest)?;
+    let sections = section_words(alloc, rest)?;
+    Ok(Command::Answer(AnswerCommand {
+        side,
+        text,
+        sections,
+    }))
+}
+
+#[tactic(auto, unfolding(crate::specs::ExchangeLines::accept_of))]
+pub(crate) fn accept_of(alloc: Global, words: Words<'_>) -> Result<Command, Misread>
+    ensures { Reads result (accept_of words.entry) }
+{
+    let (side, rest) = side_word(words)?;
+    let (text, rest) = hex_word(alloc, rest)?;
+    rest.end()?;
+    Ok(Command::Accept(AcceptCommand { side, text }))
+}
+
+#[tactic(auto, unfolding(crate::specs::ExchangeLines::withdraw_of))]
+pub(crate) fn withdraw_of(words: Words<'_>) -> Result<Command, Misread>
+    ensures { Reads result (withdraw_of words.entry) }
+{
+    let (side, rest) = side_word(words)?;
+    rest.end()?;
+    Ok(Command::Withdraw(side))
+}
+
+#[tactic(auto, unfolding(crate::specs::ExchangeLines::connect_of))]
+pub(crate) fn connect_of(alloc: Global, words: Words<'_>) -> Result<Command, Misread>
+    ensures { Reads result (connect_of words.entry) }
+{
+    let (offered, rest) = sections_before_slash(alloc, words)?;
+    let answered = section_words(alloc, rest)?;
+    Ok(Command::Connect(ConnectCommand { offered, answered }))
+}
