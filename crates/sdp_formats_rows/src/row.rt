@@ -7,20 +7,34 @@ use crate::spec::CodecSpec;
 use rtp_wire::Pt;
 use std::marker::Model;
 
+// The payload types of a row.
+#[derive(Clone, Copy, Debug, PartialEq, Eq, Drop)]
+struct Types {
+    pt: Pt,
+    resend: Option<Pt>,
+    red: Option<Pt>,
+}
+
+// Which feedback a row uses.
+#[derive(Clone, Copy, Debug, PartialEq, Eq, Drop)]
+struct Feedback {
+    transport_cc: bool,
+    nack: bool,
+    pli: bool,
+    fir: bool,
+    remb: bool,
+}
+
 /// A row: a payload type, the codec that it stands for, and the feedback that it uses.
 ///
 /// Two rows are equal where all but their locks are.
 #[derive(Clone, Copy, Debug, Drop)]
+#[derive_where(PartialEq, Eq)]
 pub struct PayloadParams {
-    pt: Pt,
-    resend: Option<Pt>,
+    types: Types,
+    feedback: Feedback,
     spec: CodecSpec,
-    fb_transport_cc: bool,
-    fb_nack: bool,
-    fb_pli: bool,
-    fb_fir: bool,
-    fb_remb: bool,
-    red: Option<Pt>,
+    #[derive_where(skip(EqHashOrd))]
     locked: bool,
 }
 
@@ -30,29 +44,15 @@ impl Model for PayloadParams {
     ghost Value = { Row };
 
     ghost view = { λ r. record {
-      pt = r.pt;
-      resend = r.resend;
-      spec = r.spec;
-      transport_cc = r.fb_transport_cc;
-      nack = r.fb_nack;
-      pli = r.fb_pli;
-      fir = r.fb_fir;
-      remb = r.fb_remb;
-      red = r.red;
-      locked = r.locked;
+        pt = r.types.pt; resend = r.types.resend; spec = r.spec;
+        transport_cc = r.feedback.transport_cc; nack = r.feedback.nack; pli = r.feedback.pli;
+        fir = r.feedback.fir; remb = r.feedback.remb; red = r.types.red; locked = r.locked
     } };
 
     ghost inverse = { λ r. record {
-      pt = r.pt;
-      resend = r.resend;
-      spec = r.spec;
-      fb_transport_cc = r.transport_cc;
-      fb_nack = r.nack;
-      fb_pli = r.pli;
-      fb_fir = r.fir;
-      fb_remb = r.remb;
-      red = r.red;
-      locked = r.locked;
+        types = record { pt = r.pt; resend = r.resend; red = r.red };
+        feedback = record { transport_cc = r.transport_cc; nack = r.nack; pli = r.pli; fir = r.fir; remb = r.remb };
+        spec = r.spec; locked = r.locked
     } };
 }
 
@@ -67,15 +67,19 @@ impl PayloadParams {
     {
         let is_video = spec.codec.is_video();
         PayloadParams {
-            pt,
-            resend,
+            types: Types {
+                pt,
+                resend,
+                red: None,
+            },
+            feedback: Feedback {
+                transport_cc: true,
+                nack: is_video,
+                pli: is_video,
+                fir: is_video,
+                remb: is_video,
+            },
             spec,
-            fb_transport_cc: true,
-            fb_nack: is_video,
-            fb_pli: is_video,
-            fb_fir: is_video,
-            fb_remb: is_video,
-            red: None,
             locked: false,
         }
     }
@@ -85,7 +89,10 @@ impl PayloadParams {
         ensures { result ≡ record self { red = Some pt } }
     {
         PayloadParams {
-            red: Some(pt),
+            types: Types {
+                red: Some(pt),
+                ..self.types
+            },
             ..self
         }
     }
@@ -94,14 +101,14 @@ impl PayloadParams {
     pub fn pt(&self) -> Pt
         ensures { result ≡ self.now.pt }
     {
-        self.pt
+        self.types.pt
     }
 
     /// The type of its retransmissions, where they have one (RFC 4588).
     pub fn resend(&self) -> Option<Pt>
         ensures { result ≡ self.now.resend }
     {
-        self.resend
+        self.types.resend
     }
 
     /// The codec with its settings.
@@ -115,77 +122,77 @@ impl PayloadParams {
     pub fn red(&self) -> Option<Pt>
         ensures { result ≡ self.now.red }
     {
-        self.red
+        self.types.red
     }
 
     /// Whether transport-wide feedback is used.
     pub fn fb_transport_cc(&self) -> bool
         ensures { result ≡ self.now.transport_cc }
     {
-        self.fb_transport_cc
+        self.feedback.transport_cc
     }
 
     /// Sets whether transport-wide feedback is used; all else stays.
     pub fn set_fb_transport_cc(&mut self, fb_transport_cc: bool)
         ensures { self.new ≡ record self.old { transport_cc = fb_transport_cc } }
     {
-        self.fb_transport_cc = fb_transport_cc;
+        self.feedback.transport_cc = fb_transport_cc;
     }
 
     /// Whether lost packets are asked for by NACK (RFC 4585 6.2.1).
     pub fn fb_nack(&self) -> bool
         ensures { result ≡ self.now.nack }
     {
-        self.fb_nack
+        self.feedback.nack
     }
 
     /// Sets whether lost packets are asked for by NACK; all else stays.
     pub fn set_fb_nack(&mut self, fb_nack: bool)
         ensures { self.new ≡ record self.old { nack = fb_nack } }
     {
-        self.fb_nack = fb_nack;
+        self.feedback.nack = fb_nack;
     }
 
     /// Whether picture loss is told by PLI (RFC 4585 6.3.1).
     pub fn fb_pli(&self) -> bool
         ensures { result ≡ self.now.pli }
     {
-        self.fb_pli
+        self.feedback.pli
     }
 
     /// Sets whether picture loss is told by PLI; all else stays.
     pub fn set_fb_pli(&mut self, fb_pli: bool)
         ensures { self.new ≡ record self.old { pli = fb_pli } }
     {
-        self.fb_pli = fb_pli;
+        self.feedback.pli = fb_pli;
     }
 
     /// Whether a keyframe is asked for by FIR (RFC 5104 4.3.1).
     pub fn fb_fir(&self) -> bool
         ensures { result ≡ self.now.fir }
     {
-        self.fb_fir
+        self.feedback.fir
     }
 
     /// Sets whether a keyframe is asked for by FIR; all else stays.
     pub fn set_fb_fir(&mut self, fb_fir: bool)
         ensures { self.new ≡ record self.old { fir = fb_fir } }
     {
-        self.fb_fir = fb_fir;
+        self.feedback.fir = fb_fir;
     }
 
     /// Whether the receiver's estimate of the bandwidth is told by REMB.
     pub fn fb_remb(&self) -> bool
         ensures { result ≡ self.now.remb }
     {
-        self.fb_remb
+        self.feedback.remb
     }
 
     /// Sets whether the receiver's estimate of the bandwidth is told by REMB; all else stays.
     pub fn set_fb_remb(&mut self, fb_remb: bool)
         ensures { self.new ≡ record self.old { remb = fb_remb } }
     {
-        self.fb_remb = fb_remb;
+        self.feedback.remb = fb_remb;
     }
 
     /// Whether an exchange has settled the row.
