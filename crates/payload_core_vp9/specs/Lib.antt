@@ -1,0 +1,2 @@
+pub mod Vp9
+pub mod Vp9Descriptor

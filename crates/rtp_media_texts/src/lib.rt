@@ -1,0 +1,9 @@
+//! The text of an offer or an answer of one Opus section, printed and read (RFC 8866, RFC 8829, RFC 9143).
+#![tactic(auto)]
+
+mod errors;
+mod print;
+mod session_text;
+
+pub use errors::SdpError;
+pub use session_text::{Extmap, SessionText};

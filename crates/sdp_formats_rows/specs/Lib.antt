@@ -1,0 +1,3 @@
+pub mod Formats
+pub mod Rows
+pub mod Configs

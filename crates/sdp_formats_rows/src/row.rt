@@ -1,0 +1,211 @@
+//! Rows: a payload type with its codec and feedback.
+
+ghost use Rattle.std.specs.Prelude.{◌≡◌, Some, true};
+ghost use Rattle.sdp_formats_rows.specs.Rows.{new_row};
+
+use crate::spec::CodecSpec;
+use rtp_wire::Pt;
+use std::marker::Model;
+
+// The payload types of a row.
+#[derive(Clone, Copy, Debug, PartialEq, Eq, Drop)]
+struct Types {
+    pt: Pt,
+    resend: Option<Pt>,
+    red: Option<Pt>,
+}
+
+// Which feedback a row uses.
+#[derive(Clone, Copy, Debug, PartialEq, Eq, Drop)]
+struct Feedback {
+    transport_cc: bool,
+    nack: bool,
+    pli: bool,
+    fir: bool,
+    remb: bool,
+}
+
+/// A row: a payload type, the codec that it stands for, and the feedback that it uses.
+///
+/// Two rows are equal where all but their locks are.
+#[derive(Clone, Copy, Debug, Drop)]
+#[derive_where(PartialEq, Eq)]
+pub struct PayloadParams {
+    types: Types,
+    feedback: Feedback,
+    spec: CodecSpec,
+    #[derive_where(skip(EqHashOrd))]
+    locked: bool,
+}
+
+impl Model for PayloadParams {
+    ghost use Rattle.sdp_formats_rows.specs.Rows.{Row};
+
+    ghost Value = { Row };
+
+    ghost view = { λ r. record {
+        pt = r.types.pt; resend = r.types.resend; spec = r.spec;
+        transport_cc = r.feedback.transport_cc; nack = r.feedback.nack; pli = r.feedback.pli;
+        fir = r.feedback.fir; remb = r.feedback.remb; red = r.types.red; locked = r.locked
+    } };
+
+    ghost inverse = { λ r. record {
+        types = record { pt = r.pt; resend = r.resend; red = r.red };
+        feedback = record { transport_cc = r.transport_cc; nack = r.nack; pli = r.pli; fir = r.fir; remb = r.remb };
+        spec = r.spec; locked = r.locked
+    } };
+}
+
+impl PayloadParams {
+    /// The row of this type and codec, retransmitted under the type `resend` if one is given
+    /// (RFC 4588).
+    ///
+    /// Transport-wide feedback is on; NACK, PLI, FIR and REMB are on for video and off for others.
+    /// It has no RED type and isn't locked.
+    pub fn new(pt: Pt, resend: Option<Pt>, spec: CodecSpec) -> Self
+        ensures { result ≡ new_row pt resend spec }
+    {
+        let is_video = spec.codec.is_video();
+        PayloadParams {
+            types: Types {
+                pt,
+                resend,
+                red: None,
+            },
+            feedback: Feedback {
+                transport_cc: true,
+                nack: is_video,
+                pli: is_video,
+                fir: is_video,
+                remb: is_video,
+            },
+            spec,
+            locked: false,
+        }
+    }
+
+    /// The same row with this RED type (RFC 2198).
+    pub fn with_red(self, pt: Pt) -> Self
+        ensures { result ≡ record self { red = Some pt } }
+    {
+        PayloadParams {
+            types: Types {
+                red: Some(pt),
+                ..self.types
+            },
+            ..self
+        }
+    }
+
+    /// The payload type (RFC 3550 5.1).
+    pub fn pt(&self) -> Pt
+        ensures { result ≡ self.now.pt }
+    {
+        self.types.pt
+    }
+
+    /// The type of its retransmissions, where they have one (RFC 4588).
+    pub fn resend(&self) -> Option<Pt>
+        ensures { result ≡ self.now.resend }
+    {
+        self.types.resend
+    }
+
+    /// The codec with its settings.
+    pub fn spec(&self) -> CodecSpec
+        ensures { result ≡ self.now.spec }
+    {
+        self.spec
+    }
+
+    /// The RED type that wraps the codec, where there is one (RFC 2198).
+    pub fn red(&self) -> Option<Pt>
+        ensures { result ≡ self.now.red }
+    {
+        self.types.red
+    }
+
+    /// Whether transport-wide feedback is used.
+    pub fn fb_transport_cc(&self) -> bool
+        ensures { result ≡ self.now.transport_cc }
+    {
+        self.feedback.transport_cc
+    }
+
+    /// Sets whether transport-wide feedback is used; all else stays.
+    pub fn set_fb_transport_cc(&mut self, fb_transport_cc: bool)
+        ensures { self.new ≡ record self.old { transport_cc = fb_transport_cc } }
+    {
+        self.feedback.transport_cc = fb_transport_cc;
+    }
+
+    /// Whether lost packets are asked for by NACK (RFC 4585 6.2.1).
+    pub fn fb_nack(&self) -> bool
+        ensures { result ≡ self.now.nack }
+    {
+        self.feedback.nack
+    }
+
+    /// Sets whether lost packets are asked for by NACK; all else stays.
+    pub fn set_fb_nack(&mut self, fb_nack: bool)
+        ensures { self.new ≡ record self.old { nack = fb_nack } }
+    {
+        self.feedback.nack = fb_nack;
+    }
+
+    /// Whether picture loss is told by PLI (RFC 4585 6.3.1).
+    pub fn fb_pli(&self) -> bool
+        ensures { result ≡ self.now.pli }
+    {
+        self.feedback.pli
+    }
+
+    /// Sets whether picture loss is told by PLI; all else stays.
+    pub fn set_fb_pli(&mut self, fb_pli: bool)
+        ensures { self.new ≡ record self.old { pli = fb_pli } }
+    {
+        self.feedback.pli = fb_pli;
+    }
+
+    /// Whether a keyframe is asked for by FIR (RFC 5104 4.3.1).
+    pub fn fb_fir(&self) -> bool
+        ensures { result ≡ self.now.fir }
+    {
+        self.feedback.fir
+    }
+
+    /// Sets whether a keyframe is asked for by FIR; all else stays.
+    pub fn set_fb_fir(&mut self, fb_fir: bool)
+        ensures { self.new ≡ record self.old { fir = fb_fir } }
+    {
+        self.feedback.fir = fb_fir;
+    }
+
+    /// Whether the receiver's estimate of the bandwidth is told by REMB.
+    pub fn fb_remb(&self) -> bool
+        ensures { result ≡ self.now.remb }
+    {
+        self.feedback.remb
+    }
+
+    /// Sets whether the receiver's estimate of the bandwidth is told by REMB; all else stays.
+    pub fn set_fb_remb(&mut self, fb_remb: bool)
+        ensures { self.new ≡ record self.old { remb = fb_remb } }
+    {
+        self.feedback.remb = fb_remb;
+    }
+
+    /// Whether an exchange has settled the row.
+    pub fn is_locked(&self) -> bool
+        ensures { result ≡ self.now.locked }
+    {
+        self.locked
+    }
+
+    /// Locks the row; all else stays.
+    pub fn lock(&mut self)
+        ensures { self.new ≡ record self.old { locked = true } }
+    {
+        self.locked = true;
+    }
+}
