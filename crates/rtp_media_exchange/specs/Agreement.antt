@@ -1,0 +1,105 @@
+-- What an exchange agreed on, and which streams it allows.
+use Rattle.std.specs.Prelude.{ℕ, Bool, true, false, not, ◌&&◌, ◌==◌, List, [], ◌∷◌, Option, Some, None, if◌then◌else◌}
+use Rattle.std.specs.Str.{bytes_eq}
+use Rattle.std.specs.List.{list_any}
+use Rattle.rtp_wire.specs.Direction.{sends, receives}
+use Rattle.rtp_media_texts.specs.Section.{Section}
+use Rattle.sdp_formats_rows.specs.Configs.{is_codec}
+use Rattle.sdp_formats_rows.specs.Rows.{Row}
+use Rattle.rtp_media_exchange.specs.Plain.{plain_row}
+use Rattle.rtp_media_exchange.specs.Sections.{Wanted}
+
+-- What an exchange agreed on: the section's name, the answer's row, the SSRCs that this end and the
+-- other one name in it, and whether it flows from this end and to it.
+pub record Agreed : Type 0 where
+  pub mid : List ℕ
+  pub row : Row
+  pub own_ssrcs : List ℕ
+  pub remote_ssrcs : List ℕ
+  pub sends : Bool
+  pub receives : Bool
+
+-- What both fixed ends agree on: section `0`, Opus at type 111, SSRC 44 at either side.
+abbrev pub fixed_agreement : Agreed
+fixed_agreement = record {
+  mid = 48 ∷ [];
+  row = plain_row 111 true;
+  own_ssrcs = 44 ∷ [];
+  remote_ssrcs = 44 ∷ [];
+  sends = true;
+  receives = true;
+}
+
+-- The row that a text's section lists.
+abbrev pub row_listed : Section → Row
+row_listed s = plain_row s.pt s.transport_cc
+
+-- What the end agrees on that answers an offer: it flows as the answer says.
+abbrev pub agreed_by_answer : Section → Section → Agreed
+agreed_by_answer offer answer = record {
+  mid = answer.mid;
+  row = row_listed answer;
+  own_ssrcs = answer.ssrcs;
+  remote_ssrcs = offer.ssrcs;
+  sends = sends answer.direction;
+  receives = receives answer.direction;
+}
+
+-- What the end agrees on that offered: it flows where the answer lets it and the offer asked for it.
+abbrev pub agreed_by_accept : Wanted → Section → Agreed
+agreed_by_accept offered answer = record {
+  mid = answer.mid;
+  row = row_listed answer;
+  own_ssrcs = offered.ssrcs;
+  remote_ssrcs = answer.ssrcs;
+  sends = receives answer.direction && sends offered.dir;
+  receives = sends answer.direction && receives offered.dir;
+}
+
+-- the agreed section of a name
+abbrev pub section_of : Option Agreed → List ℕ → Option Agreed
+section_of None mid = None
+section_of (Some a) mid = if bytes_eq a.mid mid then Some a else None
+
+-- the agreed row of a type in a section
+abbrev pub row_in : Option Agreed → ℕ → Option Row
+row_in None pt = None
+row_in (Some a) pt = if a.row.pt == pt then Some a.row else None
+
+-- The row of a payload type in the answer's section of a name.
+abbrev pub agreed_row_of : Option Agreed → List ℕ → ℕ → Option Row
+agreed_row_of agreed mid pt = row_in (section_of agreed mid) pt
+
+-- The row of a payload type in a text's section of a name.
+abbrev pub row_of_text : Section → List ℕ → ℕ → Option Row
+row_of_text s mid pt = if bytes_eq s.mid mid then (if s.pt == pt then Some (row_listed s) else None) else None
+
+-- Whether an SSRC is among these.
+abbrev pub is_named : List ℕ → ℕ → Bool
+is_named ssrcs ssrc = list_any (λ s. s == ssrc) ssrcs
+
+abbrev pub same_number : Option ℕ → Option ℕ → Bool
+same_number None None = true
+same_number None (Some n) = false
+same_number (Some m) None = false
+same_number (Some m) (Some n) = m == n
+
+abbrev pub same_flag : Option Bool → Option Bool → Bool
+same_flag None None = true
+same_flag None (Some b) = false
+same_flag (Some a) None = false
+same_flag (Some true) (Some b) = b
+same_flag (Some false) (Some b) = not b
+
+-- Whether two rows mean the same to a stream: codec, clock rate, channels, layout, decoding order
+-- numbers and RED type.
+abbrev pub means_same : Row → Row → Bool
+means_same a b =
+    is_codec a.spec.codec b.spec.codec && ((a.spec.clock_rate == b.spec.clock_rate) && (same_number a.spec.channels b.spec.channels
+    && (same_flag a.spec.format.octet_align b.spec.format.octet_align
+    && (same_number a.spec.format.sprop_max_don_diff b.spec.format.sprop_max_don_diff && same_number a.red b.red))))
+
+-- Whether an end's own row is locked at the type of an agreed one and means the same.
+abbrev pub own_row_agrees : Option Row → Row → Bool
+own_row_agrees None row = false
+own_row_agrees (Some own) row = own.locked && ((own.pt == row.pt) && means_same own row)

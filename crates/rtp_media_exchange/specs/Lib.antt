@@ -1,0 +1,7 @@
+pub mod Agreement
+pub mod Exchanges
+pub mod Offers
+pub mod Plain
+pub mod Refusals
+pub mod Sections
+pub mod Sessions

@@ -1,0 +1,61 @@
+-- What offers and answers say.
+use Rattle.std.specs.Prelude.{◌≡◌, ℕ, Bool, true, false, ◌&&◌, List, [], Option, Some, None}
+use Rattle.payload_core_base.specs.declared.codec.MediaKind.{MediaKind}
+use Rattle.payload_core_base.specs.declared.codec.MediaKind.TheVariants.{Audio, Video}
+use Rattle.rtp_wire.specs.declared.Direction.{Direction}
+use Rattle.rtp_wire.specs.declared.Direction.TheVariants.{SendOnly, RecvOnly, SendRecv, Inactive}
+use Rattle.rtp_wire.specs.Direction.{sends, receives}
+use Rattle.rtp_media_texts.specs.Section.{Section}
+use Rattle.rtp_media_texts.specs.Text.{text_of}
+use Rattle.sdp_formats_rows.specs.Rows.{Row}
+use Rattle.rtp_media_exchange.specs.Exchanges.{Exchanged, after_round}
+use Rattle.rtp_media_exchange.specs.Sections.{Wanted, only}
+
+-- the rows that a section of a kind lists: the row is audio
+abbrev pub row_for : Option Row → MediaKind → Option Row
+row_for row Audio = row
+row_for row Video = None
+
+-- What an offer of a section with a row says.
+abbrev pub offer_of : ℕ → Row → Wanted → Section
+offer_of session row wanted = record {
+  session = session;
+  mid = wanted.mid;
+  direction = wanted.dir;
+  extmaps = [];
+  pt = row.pt;
+  transport_cc = row.transport_cc;
+  ssrcs = wanted.ssrcs;
+}
+
+-- the direction that sends and receives so
+abbrev pub flow : Bool → Bool → Direction
+flow true true = SendRecv
+flow true false = SendOnly
+flow false true = RecvOnly
+flow false false = Inactive
+
+-- The direction of an answer: it sends where its end wants to and the offer receives, and receives where
+-- its end wants to and the offer sends (RFC 3264 6.1).
+abbrev pub answered_direction : Direction → Direction → Direction
+answered_direction offered wanted = flow (sends wanted && receives offered) (receives wanted && sends offered)
+
+-- What an answer says: the row as the round left it.
+abbrev pub answer_of : ℕ → Row → Wanted → Section → Section
+answer_of session row wanted offer = record {
+  session = session;
+  mid = wanted.mid;
+  direction = answered_direction offer.direction wanted.dir;
+  extmaps = [];
+  pt = (after_round row offer).pt;
+  transport_cc = (after_round row offer).transport_cc;
+  ssrcs = wanted.ssrcs;
+}
+
+-- The text of an offer says what an offer of the one section with its row says.
+pub record Offers (x : Exchanged) (sections : List Wanted) (text : List ℕ) : Type 0 where
+  pub wanted : Wanted
+  pub row : Row
+  pub only_one : only sections ≡ Some wanted
+  pub row_is : row_for x.row wanted.kind ≡ Some row
+  pub text_is : text ≡ text_of (offer_of x.session row wanted)

@@ -1,0 +1,45 @@
+-- The rows that an end can agree on, and a session that can be written.
+use Rattle.std.specs.Prelude.{ℕ, Bool, true, false, not, ◌&&◌, ◌==◌, nat_lt, is_none, Option, None, Some}
+use Rattle.payload_core_base.specs.declared.codec.Codec.TheVariants.{Opus}
+use Rattle.sdp_formats_rows.specs.declared.format.FormatParams.{FormatParams}
+use Rattle.sdp_formats_rows.specs.declared.spec.CodecSpec.{CodecSpec}
+use Rattle.sdp_formats_rows.specs.Configs.{is_codec, opus_spec}
+use Rattle.sdp_formats_rows.specs.Rows.{Row, new_row}
+
+abbrev pub is_number : Option ℕ → ℕ → Bool
+is_number None n = false
+is_number (Some m) n = m == n
+
+abbrev pub is_on : Option Bool → Bool
+is_on None = false
+is_on (Some on) = on
+
+-- no parameter of another codec than Opus
+abbrev pub has_none_of_others : FormatParams → Bool
+has_none_of_others f =
+    is_none f.level_asymmetry_allowed && (is_none f.packetization_mode && (is_none f.profile_level_id && (is_none f.profile_id
+    && (is_none f.profile && (is_none f.level_idx && (is_none f.tier && (is_none f.sprop_max_don_diff
+    && (is_none f.telephone_event_max && (is_none f.octet_align && is_none f.mode_set)))))))))
+
+-- `minptime=10;useinbandfec=1` and nothing else (RFC 7587 6.1)
+abbrev pub is_opus_format : FormatParams → Bool
+is_opus_format f =
+    (is_number f.min_p_time 10 && (is_on f.use_inband_fec && (is_none f.stereo && (is_none f.sprop_stereo && is_none f.use_dtx))))
+    && has_none_of_others f
+
+-- Opus at 48,000 Hz and two channels (RFC 7587 7) in that format
+abbrev pub is_opus : CodecSpec → Bool
+is_opus spec = is_codec spec.codec Opus && ((spec.clock_rate == 48000) && (is_number spec.channels 2 && is_opus_format spec.format))
+
+-- no retransmissions, no redundancy, and no feedback that only video has
+abbrev pub is_alone : Row → Bool
+is_alone row =
+    is_none row.resend && (is_none row.red && (not row.nack && (not row.pli && (not row.fir && not row.remb))))
+
+-- A row that an end can agree on: Opus alone, under a type of 7 bits.
+abbrev pub is_plain_row : Row → Bool
+is_plain_row row = nat_lt row.pt 128 && (is_alone row && is_opus row.spec)
+
+-- the plain row of a type, with or without transport-wide feedback
+abbrev pub plain_row : ℕ → Bool → Row
+plain_row pt transport_cc = record (new_row pt None opus_spec) { transport_cc = transport_cc }

@@ -1,0 +1,110 @@
+//! What an exchange agreed on.
+
+ghost use Rattle.std.specs.Prelude.{◌≡◌, ◌==◌, ◌<◌, IfOk, OnSome, Some, None, [], ◌∷◌};
+ghost use Rattle.std.specs.Str.{bytes_eq};
+ghost use Rattle.rtp_media_exchange.specs.Agreement.{fixed_agreement, row_in, is_named};
+
+use crate::plain::plain_row;
+use rtp_wire::{Mid, Pt, Ssrc};
+use sdp_formats_rows::PayloadParams;
+use std::alloc::{AllocError, Global};
+use std::marker::Model;
+
+/// A section as an exchange left it.
+#[derive(Drop)]
+pub struct AgreedSection {
+    mid: Mid,
+    row: PayloadParams,
+    own_ssrcs: Vec<Ssrc>,
+    remote_ssrcs: Vec<Ssrc>,
+    sends: bool,
+    receives: bool,
+}
+
+impl Model for AgreedSection {
+    ghost use Rattle.rtp_media_exchange.specs.Agreement.{Agreed};
+    ghost use Rattle.std.specs.Prelude.{◌<◌};
+
+    ghost Value = { Agreed };
+
+    ghost view = { λ a. record {
+      mid = a.mid;
+      row = a.row;
+      own_ssrcs = a.own_ssrcs.items;
+      remote_ssrcs = a.remote_ssrcs.items;
+      sends = a.sends;
+      receives = a.receives;
+    } };
+
+    ghost invariant = { λ a. a.row.pt < 128 };
+}
+
+impl AgreedSection {
+    /// What both fixed ends agree on: section `0`, Opus at type 111, SSRC 44 at either side.
+    pub fn fixed(alloc: Global) -> Result<Self, AllocError>
+        ensures { IfOk result (λ a. a ≡ fixed_agreement) }
+    {
+        Ok(AgreedSection {
+            mid: Mid::from("0"),
+            row: plain_row(Pt::new_with_value(111), true),
+            own_ssrcs: vec![in alloc; Ssrc::from(44)]?,
+            remote_ssrcs: vec![in alloc; Ssrc::from(44)]?,
+            sends: true,
+            receives: true,
+        })
+    }
+
+    /// Whether the section has this name.
+    pub fn is_named(&self, mid: Mid) -> bool
+        ensures { result ≡ bytes_eq self.now.mid mid }
+    {
+        self.mid.as_str() == mid.as_str()
+    }
+
+    /// The row of this type.
+    pub fn row_of(&self, pt: Pt) -> Option<PayloadParams>
+        ensures row { result ≡ row_in (Some self.now) pt }
+        ensures typed { OnSome result (pt < 128) }
+    {
+        if self.row.pt().get() == pt.get() {
+            Some(self.row)
+        } else {
+            None
+        }
+    }
+
+    /// Whether media flows from this end.
+    pub fn is_sending(&self) -> bool
+        ensures { result ≡ self.now.sends }
+    {
+        self.sends
+    }
+
+    /// Whether media flows to this end.
+    pub fn is_receiving(&self) -> bool
+        ensures { result ≡ self.now.receives }
+    {
+        self.receives
+    }
+
+    /// Whether this end names the SSRC.
+    pub fn names_own(&self, ssrc: Ssrc) -> bool
+        ensures { result ≡ is_named self.now.own_ssrcs ssrc }
+    {
+        names(&self.own_ssrcs, ssrc)
+    }
+
+    /// Whether the other end names the SSRC.
+    pub fn names_remote(&self, ssrc: Ssrc) -> bool
+        ensures { result ≡ is_named self.now.remote_ssrcs ssrc }
+    {
+        names(&self.remote_ssrcs, ssrc)
+    }
+}
+
+/// Whether the SSRC is among these.
+fn names(ssrcs: &[Ssrc], ssrc: Ssrc) -> bool
+    ensures { result ≡ is_named ssrcs.now ssrc }
+{
+    ssrcs.iter().any(|s| s.get() == ssrc.get())
+}
