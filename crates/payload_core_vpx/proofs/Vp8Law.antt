@@ -1,36 +1,46 @@
 -- What makes VP8 keep the codec law.
-use Rattle.std.proofs.Common.{◌≡◌, ℕ, zero, suc, ◌+◌, ◌-◌, ◌*◌, ◌/◌, ◌%◌, ◌<◌, ◌≤◌, Bool, true, false, ltb, leb, eqb, List, [], ◌∷◌, ◌++◌, take, drop, length, None, Some, Ok, Option, if◌then◌else◌, refl, sym, ap, subst, ◌∙◌, arith}
-use Rattle.std.specs.Prelude.{option_and_then, ◌||◌}
+use Rattle.std.proofs.Common.{◌≡◌, ℕ, zero, suc, ◌+◌, ◌-◌, ◌/◌, ◌%◌, ◌<◌, ◌≤◌, Bool, true, false, ltb, leb, eqb, List, [], ◌∷◌, ◌++◌, take, drop, length, None, Ok, Result, if◌then◌else◌, refl, sym, ap, subst, ◌∙◌, arith, eq-eqb}
 use Rattle.std.specs.List.{All}
 use Rattle.std.proofs.lemmas.Bool.Decides.{nat_tests}
 use Rattle.std.proofs.lemmas.List.{append-nil, drop_all, length-append, take_all}
 use Rattle.std.proofs.lemmas.List.Elements.{All-cons, All-head, All-nil, All-tail}
-use Rattle.payload_core_base.specs.Format.{read_all}
+use Rattle.payload_core_base.specs.Format.{Reading, read_all}
 use Rattle.payload_core_base.specs.Law.{AreFramesOf, AreFull, AreWithin, CodecLaw, FillsPackets, GivesFrom, IsFrameOf, IsSentAs, SendsFull, SendsUnits, joined, packet_at, payloads_of}
 use Rattle.payload_core_base.specs.Packing.{MarkedPacket, Sender, is_none_left, marked}
 use Rattle.payload_core_base.specs.Pieces.{pieces}
+use Rattle.payload_core_base.specs.declared.error.PacketError.{PacketError}
 use Rattle.payload_core_base.specs.declared.extra.CodecExtra.{CodecExtra}
 use Rattle.payload_core_base.proofs.FrameLemmas.{EachGives, GivesBytes, first-headed-frame, marker-tails, read_all-each}
 use Rattle.payload_core_base.proofs.PieceLemmas.{joined-pieces, pieces-full, pieces-step, pieces-within}
-use Rattle.payload_core_vpx.specs.Vp8.{Described, Front, after_frame, described, descriptor, descriptor_size, has_bit, long_id, next_id, optional_byte, picture_id_at, reading_of, vp8_coding, vp8_format, vp8_packing, with_payload}
+use Rattle.payload_core_vpx.specs.Vp8.{after_frame, described, descriptor, descriptor_size, next_id, reading_of, vp8_coding, vp8_format, vp8_packing}
+use Rattle.payload_core_vpx.specs.Vp8Descriptor.{has_bit, parsed_in, shape_with}
 
-abbrev behind_id : ℕ → Front → Option Described
-behind_id f o = option_and_then (λ id. option_and_then (λ tl0. option_and_then (λ key. with_payload f id.0 tl0.0 (if has_bit 16 128 then key.0 else None) key.1) (optional_byte (has_bit 32 128 || has_bit 16 128) tl0.1)) (optional_byte (has_bit 64 128) id.1)) o
+-- what is read of a descriptor with an id alone, with the M bit or without
+abbrev read_with : List ℕ → CodecExtra → Bool → Result Reading PacketError
+read_with p extra m = reading_of None extra p (parsed_in (shape_with true 128 m) p)
 
-given_id : (f b : ℕ) (bs : List ℕ) (extra : CodecExtra) (o : Front) (id : ℕ) → o ≡ Some (Some id, b ∷ bs) → GivesBytes (reading_of None extra (behind_id f o)) (b ∷ bs)
-given_id f b bs extra o id e =
-    let P : Front → Type 0 = λ x. GivesBytes (reading_of None extra (behind_id f x)) (b ∷ bs) in
-    let there : P (Some (Some id, b ∷ bs)) = (refl, refl) in
+given_id : (f id b : ℕ) (bs : List ℕ) (extra : CodecExtra) → has_bit 128 id ≡ false → GivesBytes (read_with (f ∷ 128 ∷ id ∷ b ∷ bs) extra (has_bit 128 id)) (b ∷ bs)
+given_id f id b bs extra e =
+    let P : Bool → Type 0 = λ m. GivesBytes (read_with (f ∷ 128 ∷ id ∷ b ∷ bs) extra m) (b ∷ bs) in
+    let there : P false = (refl, refl) in
     subst P (sym e) there
 
-short_id : (id b : ℕ) (bs : List ℕ) → ltb id 128 ≡ true → picture_id_at true (id ∷ b ∷ bs) ≡ Some (Some id, b ∷ bs)
-short_id id b bs e = ap (λ (s : Bool). if s then Some (Some id, b ∷ bs) else long_id id (b ∷ bs)) e
+given_long : (f high low b : ℕ) (bs : List ℕ) (extra : CodecExtra) → has_bit 128 high ≡ true → GivesBytes (read_with (f ∷ 128 ∷ high ∷ low ∷ b ∷ bs) extra (has_bit 128 high)) (b ∷ bs)
+given_long f high low b bs extra e =
+    let P : Bool → Type 0 = λ m. GivesBytes (read_with (f ∷ 128 ∷ high ∷ low ∷ b ∷ bs) extra m) (b ∷ bs) in
+    let there : P true = (refl, refl) in
+    subst P (sym e) there
 
-long_id_is : (high low b : ℕ) (bs : List ℕ) → ltb high 128 ≡ false → picture_id_at true (high ∷ low ∷ b ∷ bs) ≡ Some (Some (high % 128 * 256 + low), b ∷ bs)
-long_id_is high low b bs e = ap (λ (s : Bool). if s then Some (Some high, low ∷ b ∷ bs) else long_id high (low ∷ b ∷ bs)) e
+-- the first byte of an id of 7 bits has no M bit
+under : (id : ℕ) → ltb id 128 ≡ true → has_bit 128 id ≡ false
+under id e =
+    let small : id < 128 = grind (arith, nat_tests) in
+    let clear : id / 128 % 2 ≡ 0 = omega arith in
+    ap (λ n. eqb n 1) clear
 
-over : (id : ℕ) → ltb (128 + id / 256) 128 ≡ false
-over id = grind (arith, nat_tests)
+-- and that of 15 bits has it
+over : (id : ℕ) → id < 32768 → has_bit 128 (128 + id / 256) ≡ true
+over id small = let e : (128 + id / 256) / 128 % 2 ≡ 1 = omega arith in eq-eqb _ _ e
 
 -- a descriptor that was sent, with a byte behind it, is read, and its payload written
 gives_payload : (has_id : Bool) (id : ℕ) (first : Bool) (b : ℕ) (bs : List ℕ) (extra : CodecExtra) → id < 32768 → GivesBytes (vp8_format.read None extra (descriptor has_id id first ++ (b ∷ bs))) (b ∷ bs)
@@ -41,10 +51,10 @@ gives_payload true id first b bs extra small = by_width (eqb id 0) (ltb id 128) 
     by_width : (zero_id short : Bool) (first : Bool) → ltb id 128 ≡ short → GivesBytes (vp8_format.read None extra ((if zero_id then (if first then 16 else 0) ∷ [] else (if short then (if first then 144 else 128) ∷ 128 ∷ id ∷ [] else (if first then 144 else 128) ∷ 128 ∷ (128 + id / 256) ∷ id % 256 ∷ [])) ++ (b ∷ bs))) (b ∷ bs)
     by_width true short true e = (refl, refl)
     by_width true short false e = (refl, refl)
-    by_width false true true e = (given_id 144 b bs extra _ id (short_id id b bs e))
-    by_width false true false e = (given_id 128 b bs extra _ id (short_id id b bs e))
-    by_width false false true e = given_id 144 b bs extra _ _ (long_id_is (128 + id / 256) (id % 256) b bs (over id))
-    by_width false false false e = given_id 128 b bs extra _ _ (long_id_is (128 + id / 256) (id % 256) b bs (over id))
+    by_width false true true e = given_id 144 id b bs extra (under id e)
+    by_width false true false e = given_id 128 id b bs extra (under id e)
+    by_width false false true e = given_long 144 (128 + id / 256) (id % 256) b bs extra (over id small)
+    by_width false false false e = given_long 128 (128 + id / 256) (id % 256) b bs extra (over id small)
 
 -- the first packet alone is a head
 head_is : (has_id : Bool) (id : ℕ) (first : Bool) (p : List ℕ) → vp8_format.head (descriptor has_id id first ++ p) ≡ first

@@ -1,2 +1,3 @@
 pub mod Vp8
-pub mod Vp8Parsed
+pub mod Vp8Descriptor
+pub mod Vp8Patches

@@ -1,5 +1,5 @@
 -- VP8 payloads (RFC 7741 4).
-use Rattle.std.specs.Prelude.{ℕ, ◌+◌, ◌-◌, ◌*◌, ◌/◌, ◌%◌, ◌<◌, ◌==◌, ◌&&◌, Bool, true, false, List, [], ◌∷◌, ◌++◌, ◌||◌, length, nat_lt, nat_le, option_and_then, Option, Some, None, Result, Ok, Err, if◌then◌else◌}
+use Rattle.std.specs.Prelude.{ℕ, ◌+◌, ◌-◌, ◌/◌, ◌%◌, ◌<◌, ◌==◌, ◌||◌, Bool, true, false, List, [], ◌∷◌, ◌++◌, drop, length, nat_lt, nat_le, Result, Ok, Err, if◌then◌else◌}
 use Rattle.payload_core_base.specs.Format.{Format, Fragment, Reading}
 use Rattle.payload_core_base.specs.Law.{Coding}
 use Rattle.payload_core_base.specs.Packing.{Packing, Sender, Sent}
@@ -8,6 +8,10 @@ use Rattle.payload_core_base.specs.declared.error.PacketError.{PacketError}
 use Rattle.payload_core_base.specs.declared.error.PacketError.TheVariants.{ErrShortPacket, ErrVP8CorruptedPacket}
 use Rattle.payload_core_base.specs.declared.extra.CodecExtra.{CodecExtra}
 use Rattle.payload_core_base.specs.declared.extra.CodecExtra.TheVariants.{Vp8}
+use Rattle.payload_core_vpx.specs.Vp8Descriptor.{has_bit, layout_size, parsed, starts_keyframe}
+use Rattle.payload_core_vpx.specs.declared.vp8_descriptor.Vp8Descriptor.{Vp8Descriptor}
+use Rattle.payload_core_vpx.specs.declared.vp8_descriptor.Vp8DescriptorError.{Vp8DescriptorError}
+use Rattle.payload_core_vpx.specs.declared.vp8_descriptor.Vp8DescriptorError.TheVariants.{MalformedDescriptor, ShortPayload}
 
 -- The descriptor of a packet that is sent (RFC 7741 4.2): S on the first, and no id, an id of 7 bits, or one of 15 bits. An id of 0 is left out.
 abbrev pub descriptor : Bool → ℕ → Bool → List ℕ
@@ -46,86 +50,23 @@ pack_vp8 has_id s limit (b ∷ bs) =
 abbrev pub vp8_packing : Bool → Packing
 vp8_packing has_id = record { pack = pack_vp8 has_id; marks = λ packet last. last }
 
--- The bit of this weight.
-abbrev pub has_bit : ℕ → ℕ → Bool
-has_bit weight byte = byte / weight % 2 == 1
-
--- What stands at the front of a text and behind it.
-abbrev pub Front : Type 0
-Front = Option (Option ℕ × List ℕ)
-
--- A byte that is there or isn't; None where it is missing.
-abbrev pub optional_byte : Bool → List ℕ → Front
-optional_byte false rest = Some (None, rest)
-optional_byte true [] = None
-optional_byte true (b ∷ rest) = Some (Some b, rest)
-
--- The rest of a picture id of 15 bits, whose first byte has the M bit.
-abbrev pub long_id : ℕ → List ℕ → Front
-long_id high [] = None
-long_id high (low ∷ rest) = Some (Some (high % 128 * 256 + low), rest)
-
--- A picture id of 7 bits, or of 15 with the M bit.
-abbrev pub picture_id_at : Bool → List ℕ → Front
-picture_id_at false rest = Some (None, rest)
-picture_id_at true [] = None
-picture_id_at true (b ∷ rest) = if nat_lt b 128 then Some (Some b, rest) else long_id b rest
-
--- What a descriptor tells, and the payload behind it.
-pub record Described : Type 0 where
-  pub first : ℕ
-  pub picture_id : Option ℕ
-  pub tl0_pic_idx : Option ℕ
-  pub key_idx : Option ℕ
-  pub payload : List ℕ
-
-infixl 10 ◌>>=◌
-abbrev pub ◌>>=◌ : {A B : Type 0} → Option A → (A → Option B) → Option B
-o >>= f = option_and_then f o
-
--- At least one byte stands behind a descriptor.
-abbrev pub with_payload : ℕ → Option ℕ → Option ℕ → Option ℕ → List ℕ → Option Described
-with_payload first id tl0 key [] = None
-with_payload first id tl0 key (b ∷ bs) = Some (record { first = first; picture_id = id; tl0_pic_idx = tl0; key_idx = key; payload = b ∷ bs })
-
--- The fields that the I, L, T and K bits announce, one behind the other (RFC 7741 4.2).
-abbrev pub fields_of : ℕ → ℕ → List ℕ → Option Described
-fields_of first flags rest = do
-  id ← picture_id_at (has_bit 128 flags) rest
-  tl0 ← optional_byte (has_bit 64 flags) id.1
-  key ← optional_byte (has_bit 32 flags || has_bit 16 flags) tl0.1
-  with_payload first id.0 tl0.0 (if has_bit 16 flags then key.0 else None) key.1
-
--- The second byte, which the X bit announces, has the I, L, T and K bits.
-abbrev pub flags_of : ℕ → Bool → List ℕ → Option Described
-flags_of first false rest = fields_of first 0 rest
-flags_of first true [] = None
-flags_of first true (flags ∷ rest) = fields_of first flags rest
-
-abbrev pub described_by : ℕ → List ℕ → Option Described
-described_by first rest = flags_of first (has_bit 128 first) rest
-
--- The low bit of a payload's first byte is clear.
-abbrev pub begins_keyframe : List ℕ → Bool
-begins_keyframe [] = false
-begins_keyframe (b ∷ bs) = b % 2 == 0
-
--- A keyframe begins: S is set, PID is 0, and the low bit behind the descriptor is clear.
-abbrev pub is_keyframe : Described → Bool
-is_keyframe d = has_bit 16 d.first && ((d.first % 8 == 0) && begins_keyframe d.payload)
-
 -- A frame that was a keyframe stays one.
 abbrev pub was_keyframe : CodecExtra → Bool
 was_keyframe (Vp8 extra) = extra.is_keyframe
 was_keyframe _ = false
 
-abbrev pub reading_of : Fragment → CodecExtra → Option Described → Result Reading PacketError
-reading_of fragment extra None = Err ErrVP8CorruptedPacket
-reading_of fragment extra (Some d) = Ok (record { written = d.payload; extra = Vp8 (record { is_keyframe = was_keyframe extra || is_keyframe d; picture_id = d.picture_id; tl0_pic_idx = d.tl0_pic_idx }); fragment = fragment })
+-- A frame is what stands behind the descriptor.
+abbrev pub reading_of : Fragment → CodecExtra → List ℕ → Result Vp8Descriptor Vp8DescriptorError → Result Reading PacketError
+reading_of fragment extra p (Err ShortPayload) = Err ErrShortPacket
+reading_of fragment extra p (Err MalformedDescriptor) = Err ErrVP8CorruptedPacket
+reading_of fragment extra p (Ok d) = Ok (record {
+  written = drop (layout_size d.shape) p;
+  extra = Vp8 (record { is_keyframe = was_keyframe extra || starts_keyframe d p; picture_id = d.picture_id; tl0_pic_idx = d.tl0_pic_idx });
+  fragment = fragment;
+})
 
 abbrev pub read_vp8 : Fragment → CodecExtra → List ℕ → Result Reading PacketError
-read_vp8 fragment extra [] = Err ErrShortPacket
-read_vp8 fragment extra (first ∷ rest) = reading_of fragment extra (described_by first rest)
+read_vp8 fragment extra p = reading_of fragment extra p (parsed p)
 
 -- A packet with S is a head, and the marker makes a tail.
 abbrev pub is_vp8_head : List ℕ → Bool

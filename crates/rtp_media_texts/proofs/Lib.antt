@@ -1,1 +1,7 @@
+mod Behind
+mod Blanks
+mod Numbers
 mod Printing
+mod Reader
+mod Feeds
+mod TextLines

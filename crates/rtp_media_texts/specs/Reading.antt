@@ -102,20 +102,23 @@ candidate_of text = fold with_line nothing_said (lines text)
 abbrev pub is_uri_byte : ℕ → Bool
 is_uri_byte b = not (b == 32) && (not (b == 13) && not (b == 10))
 
+abbrev pub is_uri : List ℕ → Bool
+is_uri bytes = not (length bytes == 0) && list_all is_uri_byte bytes
+
 abbrev pub has_uri : ExtmapLine → Bool
-has_uri e = nat_lt 0 (length e.uri) && list_all is_uri_byte e.uri
+has_uri e = is_uri e.uri
 
 -- whether the payload type has 7 bits, the name isn't empty, and each URI is one word
 abbrev pub is_plain : Section → Bool
-is_plain s = nat_le s.pt 127 && (nat_lt 0 (length s.mid) && list_all has_uri s.extmaps)
+is_plain s = nat_le s.pt 127 && (not (length s.mid == 0) && list_all has_uri s.extmaps)
 
--- a section, where it is plain and prints the text
-abbrev pub printing : List ℕ → Section → Option Section
-printing text s = if is_plain s && bytes_eq (text_of s) text then Some s else None
+-- whether the section is plain and prints the text
+abbrev pub prints : Section → List ℕ → Bool
+prints s text = is_plain s && bytes_eq (text_of s) text
 
 -- What a text says, if it is a text that is printed.
 unfoldable pub reading_of : List ℕ → Option Section
-reading_of text = printing text (candidate_of text)
+reading_of text = if prints (candidate_of text) text then Some (candidate_of text) else None
 
 -- A reader answers what a text says, and the error of a text that can't be parsed where it says nothing,
 -- unless memory runs out.
@@ -124,3 +127,9 @@ Reads (Ok s) said = said ≡ Some s
 Reads (Err (ParseError reason)) said = said ≡ None
 Reads (Err (Inconsistent reason)) said = ⊥
 Reads (Err Memory) said = Unit {0}
+
+-- the errors of a text that says nothing
+abbrev pub IsUnread : SdpError → Type 0
+IsUnread (ParseError reason) = Unit {0}
+IsUnread (Inconsistent reason) = ⊥
+IsUnread Memory = Unit {0}

@@ -2,6 +2,8 @@
 #![tactic(auto)]
 
 mod errors;
+mod lines;
+mod parse;
 mod print;
 mod session_text;
 
