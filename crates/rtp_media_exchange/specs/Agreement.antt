@@ -5,6 +5,8 @@ use Rattle.std.specs.List.{list_any}
 use Rattle.rtp_wire.specs.Direction.{sends, receives}
 use Rattle.rtp_media_texts.specs.Section.{Section}
 use Rattle.sdp_formats_rows.specs.Configs.{is_codec}
+use Rattle.sdp_formats_rows.specs.declared.format.FormatParams.{FormatParams}
+use Rattle.sdp_formats_rows.specs.declared.spec.CodecSpec.{CodecSpec}
 use Rattle.sdp_formats_rows.specs.Rows.{Row}
 use Rattle.rtp_media_exchange.specs.Plain.{plain_row}
 use Rattle.rtp_media_exchange.specs.Sections.{Wanted}
@@ -91,13 +93,18 @@ same_flag (Some a) None = false
 same_flag (Some true) (Some b) = b
 same_flag (Some false) (Some b) = not b
 
+-- one codec at one clock rate with one number of channels
+abbrev pub same_codec : CodecSpec → CodecSpec → Bool
+same_codec a b = is_codec a.codec b.codec && ((a.clock_rate == b.clock_rate) && same_number a.channels b.channels)
+
+-- one layout of payloads
+abbrev pub same_layout : FormatParams → FormatParams → Bool
+same_layout a b = same_flag a.octet_align b.octet_align && same_number a.sprop_max_don_diff b.sprop_max_don_diff
+
 -- Whether two rows mean the same to a stream: codec, clock rate, channels, layout, decoding order
 -- numbers and RED type.
 abbrev pub means_same : Row → Row → Bool
-means_same a b =
-    is_codec a.spec.codec b.spec.codec && ((a.spec.clock_rate == b.spec.clock_rate) && (same_number a.spec.channels b.spec.channels
-    && (same_flag a.spec.format.octet_align b.spec.format.octet_align
-    && (same_number a.spec.format.sprop_max_don_diff b.spec.format.sprop_max_don_diff && same_number a.red b.red))))
+means_same a b = same_codec a.spec b.spec && (same_layout a.spec.format b.spec.format && same_number a.red b.red)
 
 -- Whether an end's own row is locked at the type of an agreed one and means the same.
 abbrev pub own_row_agrees : Option Row → Row → Bool

@@ -1,5 +1,5 @@
 -- What an end keeps of its exchanges, and how each call changes it.
-use Rattle.std.specs.Prelude.{ℕ, Bool, true, false, ◌&&◌, List, [], ◌∷◌, Option, Some, None}
+use Rattle.std.specs.Prelude.{ℕ, true, ◌&&◌, Option, Some, None}
 use Rattle.std.specs.Option.{option_map}
 use Rattle.rtp_media_texts.specs.Section.{Section}
 use Rattle.sdp_formats_rows.specs.Rows.{Row}

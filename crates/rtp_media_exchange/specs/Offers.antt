@@ -1,15 +1,24 @@
 -- What offers and answers say.
-use Rattle.std.specs.Prelude.{◌≡◌, ℕ, Bool, true, false, ◌&&◌, List, [], Option, Some, None}
+use Rattle.std.specs.Prelude.{◌≡◌, ℕ, Bool, true, false, ◌&&◌, nat_lt, length, if◌then◌else◌, List, [], Option, Some, None}
 use Rattle.payload_core_base.specs.declared.codec.MediaKind.{MediaKind}
 use Rattle.payload_core_base.specs.declared.codec.MediaKind.TheVariants.{Audio, Video}
 use Rattle.rtp_wire.specs.declared.Direction.{Direction}
 use Rattle.rtp_wire.specs.declared.Direction.TheVariants.{SendOnly, RecvOnly, SendRecv, Inactive}
 use Rattle.rtp_wire.specs.Direction.{sends, receives}
 use Rattle.rtp_media_texts.specs.Section.{Section}
+use Rattle.rtp_media_texts.specs.Reading.{reading_of}
 use Rattle.rtp_media_texts.specs.Text.{text_of}
 use Rattle.sdp_formats_rows.specs.Rows.{Row}
-use Rattle.rtp_media_exchange.specs.Exchanges.{Exchanged, after_round}
+use Rattle.rtp_media_exchange.specs.Exchanges.{Exchanged, after_round, with_answer, with_accept}
 use Rattle.rtp_media_exchange.specs.Sections.{Wanted, only}
+
+-- What a text says that has no extension lines.
+abbrev pub without_extensions : Option Section → Option Section
+without_extensions None = None
+without_extensions (Some s) = if nat_lt 0 (length s.extmaps) then None else Some s
+
+abbrev pub said_by : List ℕ → Option Section
+said_by text = without_extensions (reading_of text)
 
 -- the rows that a section of a kind lists: the row is audio
 abbrev pub row_for : Option Row → MediaKind → Option Row
@@ -59,3 +68,22 @@ pub record Offers (x : Exchanged) (sections : List Wanted) (text : List ℕ) : T
   pub only_one : only sections ≡ Some wanted
   pub row_is : row_for x.row wanted.kind ≡ Some row
   pub text_is : text ≡ text_of (offer_of x.session row wanted)
+
+-- The offer of a text was answered: the answer says the row as the round left it, and the end has agreed.
+pub record Answers (x : Exchanged) (text : List ℕ) (sections : List Wanted) (answer : List ℕ) (after : Exchanged) : Type 0 where
+  pub offer : Section
+  pub wanted : Wanted
+  pub row : Row
+  pub offer_is : said_by text ≡ Some offer
+  pub only_one : only sections ≡ Some wanted
+  pub row_is : x.row ≡ Some row
+  pub text_is : answer ≡ text_of (answer_of x.session row wanted offer)
+  pub after_is : after ≡ with_answer x offer (answer_of x.session row wanted offer)
+
+-- The answer of a text was accepted for the pending offer.
+pub record Accepts (x : Exchanged) (text : List ℕ) (after : Exchanged) : Type 0 where
+  pub offered : Wanted
+  pub answer : Section
+  pub pending : x.pending ≡ Some offered
+  pub answer_is : said_by text ≡ Some answer
+  pub after_is : after ≡ with_accept x offered answer

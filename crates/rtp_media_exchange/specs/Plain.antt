@@ -1,5 +1,5 @@
 -- The rows that an end can agree on, and a session that can be written.
-use Rattle.std.specs.Prelude.{ℕ, Bool, true, false, not, ◌&&◌, ◌==◌, nat_lt, is_none, Option, None, Some}
+use Rattle.std.specs.Prelude.{ℕ, Bool, false, not, ◌&&◌, ◌==◌, nat_lt, is_none, Option, None, Some}
 use Rattle.payload_core_base.specs.declared.codec.Codec.TheVariants.{Opus}
 use Rattle.sdp_formats_rows.specs.declared.format.FormatParams.{FormatParams}
 use Rattle.sdp_formats_rows.specs.declared.spec.CodecSpec.{CodecSpec}

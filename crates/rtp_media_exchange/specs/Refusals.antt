@@ -1,17 +1,16 @@
 -- Why calls are refused, want of memory aside: the first reason that holds.
-use Rattle.std.specs.Prelude.{◌≡◌, ℕ, Bool, true, false, not, ◌&&◌, ◌||◌, ◌==◌, nat_lt, length, if◌then◌else◌, List, [], ◌∷◌, Option, Some, None, is_some}
+use Rattle.std.specs.Prelude.{◌≡◌, ℕ, Bool, not, ◌&&◌, ◌||◌, ◌==◌, length, Result, Ok, Err, if◌then◌else◌, List, [], ◌∷◌, Option, Some, None, is_some}
 use Rattle.std.specs.Str.{bytes_eq}
 use Rattle.payload_core_base.specs.Codecs.{is_audio_kind}
 use Rattle.rtp_media_texts.specs.Section.{Section}
-use Rattle.rtp_media_texts.specs.Reading.{reading_of}
 use Rattle.rtp_media_texts.specs.declared.errors.SdpError.TheVariants as sdp
 use Rattle.sdp_formats_rows.specs.Rows.{Row}
 use Rattle.rtp_media_exchange.specs.declared.errors.ExchangeError.{ExchangeError}
 use Rattle.rtp_media_exchange.specs.declared.errors.ExchangeError.TheVariants as error
 use Rattle.rtp_media_exchange.specs.declared.errors.EndError.{EndError}
-use Rattle.rtp_media_exchange.specs.declared.errors.EndError.TheVariants.{RowNotPlain, NotWritable}
+use Rattle.rtp_media_exchange.specs.declared.errors.EndError.TheVariants as fault
 use Rattle.rtp_media_exchange.specs.Exchanges.{Exchanged}
-use Rattle.rtp_media_exchange.specs.Offers.{row_for}
+use Rattle.rtp_media_exchange.specs.Offers.{row_for, said_by}
 use Rattle.rtp_media_exchange.specs.Plain.{is_plain_row}
 use Rattle.rtp_media_exchange.specs.Sections.{Wanted, only}
 
@@ -40,8 +39,8 @@ Names error.Memory why = Unit {0}
 -- Why an end can't be made of these rows: the first row must be plain, and no second one stands there.
 abbrev pub row_refusal : List Row → Option EndError
 row_refusal [] = None
-row_refusal (row ∷ []) = if is_plain_row row then None else Some (RowNotPlain 0)
-row_refusal (row ∷ second ∷ rows) = Some (RowNotPlain (if is_plain_row row then 1 else 0))
+row_refusal (row ∷ []) = if is_plain_row row then None else Some (fault.RowNotPlain 0)
+row_refusal (row ∷ second ∷ rows) = Some (fault.RowNotPlain (if is_plain_row row then 1 else 0))
 
 -- what is refused next, where nothing was refused yet
 abbrev pub else_refused : {A : Type 0} → Option A → Option A → Option A
@@ -52,7 +51,7 @@ else_refused None next = next
 -- isn't empty.
 abbrev pub refusal_of_new : List Row → Bool → Bool → Option EndError
 refusal_of_new rows is_bare has_no_extensions =
-    else_refused (row_refusal rows) (if is_bare && has_no_extensions then None else Some NotWritable)
+    else_refused (row_refusal rows) (if is_bare && has_no_extensions then None else Some fault.NotWritable)
 
 -- an offer is pending, or something was agreed
 abbrev pub is_engaged : Exchanged → Bool
@@ -92,16 +91,23 @@ abbrev pub refusal_of_accept_of : Exchanged → Option Section → Option Reason
 refusal_of_accept_of x None = Some Unreadable
 refusal_of_accept_of x (Some s) = if not (is_some x.pending) then Some OutOfTurn else refusal_of_pair x.row x.pending s
 
--- What a text says that has no extension lines.
-abbrev pub without_extensions : Option Section → Option Section
-without_extensions None = None
-without_extensions (Some s) = if nat_lt 0 (length s.extmaps) then None else Some s
-
-abbrev pub said_by : List ℕ → Option Section
-said_by text = without_extensions (reading_of text)
-
 abbrev pub refusal_of_answer : Exchanged → List ℕ → List Wanted → Option Reason
 refusal_of_answer x text sections = refusal_of_answer_to x (said_by text) sections
 
 abbrev pub refusal_of_accept : Exchanged → List ℕ → Option Reason
 refusal_of_accept x text = refusal_of_accept_of x (said_by text)
+
+-- A reader of texts answers what a text says, and that it is unreadable where it says nothing, unless
+-- memory is wanting.
+abbrev pub ReadsText : Result Section ExchangeError → List ℕ → Type 0
+ReadsText (Ok s) text = said_by text ≡ Some s
+ReadsText (Err (error.Unreadable (sdp.ParseError reason))) text = said_by text ≡ None
+ReadsText (Err (error.Unreadable (sdp.Inconsistent reason))) text = ⊥
+ReadsText (Err (error.Unreadable sdp.Memory)) text = ⊥
+ReadsText (Err error.OutOfTurn) text = ⊥
+ReadsText (Err (error.NotMedia mid)) text = ⊥
+ReadsText (Err error.NotCorresponding) text = ⊥
+ReadsText (Err (error.Round round)) text = ⊥
+ReadsText (Err (error.NoCommonRow mid)) text = ⊥
+ReadsText (Err error.NotWritable) text = ⊥
+ReadsText (Err error.Memory) text = Unit {0}

@@ -2,9 +2,11 @@
 
 ghost use Rattle.std.specs.Prelude.{◌≡◌, ◌==◌, ◌<◌, IfOk, OnSome, Some, None, [], ◌∷◌};
 ghost use Rattle.std.specs.Str.{bytes_eq};
-ghost use Rattle.rtp_media_exchange.specs.Agreement.{fixed_agreement, row_in, is_named};
+ghost use Rattle.rtp_media_exchange.specs.Agreement.{fixed_agreement, agreed_by_answer, agreed_by_accept, row_in, is_named};
 
 use crate::plain::plain_row;
+use crate::section::SectionSpec;
+use rtp_media_texts::SessionText;
 use rtp_wire::{Mid, Pt, Ssrc};
 use sdp_formats_rows::PayloadParams;
 use std::alloc::{AllocError, Global};
@@ -52,6 +54,36 @@ impl AgreedSection {
             sends: true,
             receives: true,
         })
+    }
+
+    /// What the end agrees on that answers an offer.
+    pub(crate) fn by_answer(offer: SessionText, answer: SessionText) -> Self
+        requires { answer.pt < 128 }
+        ensures { result ≡ agreed_by_answer offer answer }
+    {
+        AgreedSection {
+            mid: answer.mid,
+            row: plain_row(answer.pt, answer.transport_cc),
+            sends: answer.direction.is_sending(),
+            receives: answer.direction.is_receiving(),
+            own_ssrcs: answer.ssrcs,
+            remote_ssrcs: offer.ssrcs,
+        }
+    }
+
+    /// What the end agrees on that offered.
+    pub(crate) fn by_accept(offered: SectionSpec, answer: SessionText) -> Self
+        requires { answer.pt < 128 }
+        ensures { result ≡ agreed_by_accept offered answer }
+    {
+        AgreedSection {
+            mid: answer.mid,
+            row: plain_row(answer.pt, answer.transport_cc),
+            sends: answer.direction.is_receiving() && offered.dir.is_sending(),
+            receives: answer.direction.is_sending() && offered.dir.is_receiving(),
+            own_ssrcs: offered.ssrcs,
+            remote_ssrcs: answer.ssrcs,
+        }
     }
 
     /// Whether the section has this name.

@@ -2,22 +2,25 @@
 
 ghost use Rattle.std.specs.Prelude.{◌≡◌, ◌≢◌, ◌<◌, ◌&&◌, ℕ, List, Option, None, Some, true, false, not, is_some, string_bytes, IfOk, IfErr, OnOk, OnErr, IsTrue, ◌↔◌};
 ghost use Rattle.std.specs.Option.{option_map, option_copied};
-ghost use Rattle.rtp_wire_extensions.specs.Maps.{is_empty_map};
+ghost use Rattle.rtp_wire.specs.Maps.{is_empty_map};
 ghost use Rattle.rtp_media_texts.specs.Text.{text_of};
-ghost use Rattle.rtp_media_exchange.specs.Agreement.{agreed_row_of, own_row_agrees, means_same};
-ghost use Rattle.rtp_media_exchange.specs.Exchanges.{Exchanged, fresh, fixed, with_offer, with_answer, with_accept, after_round};
-ghost use Rattle.rtp_media_exchange.specs.Offers.{Offers, offer_of, answer_of, answered_direction, row_for};
-ghost use Rattle.rtp_media_exchange.specs.Refusals.{Names, refusal_of_new, refusal_of_offer, refusal_of_wanted, refusal_of_answer, refusal_of_pair, refusal_of_accept, is_engaged, corresponds, said_by};
+ghost use Rattle.rtp_media_exchange.specs.Agreement.{own_row_agrees};
+ghost use Rattle.rtp_media_exchange.specs.Exchanges.{fresh, fixed, with_offer};
+ghost use Rattle.rtp_media_exchange.specs.Offers.{Offers, offer_of, row_for};
+ghost use Rattle.rtp_media_exchange.specs.Refusals.{Names, refusal_of_new, refusal_of_offer, is_engaged};
 ghost use Rattle.rtp_media_exchange.specs.Sections.{only};
+
+mod answer;
 
 use crate::agreement::AgreedSection;
 use crate::errors::{EndError, ExchangeError};
+use crate::meaning::means_same;
 use crate::plain::{check_rows, plain_row};
 use crate::section::{SectionSpec, only};
 use crate::session::Session;
 use payload_core_base::MediaKind;
-use rtp_media_texts::{SdpError, SessionText};
-use rtp_wire::{Direction, ExtensionMap, Mid, Pt, SessionId};
+use rtp_media_texts::SessionText;
+use rtp_wire::{ExtensionMap, Pt, SessionId};
 use sdp_formats_rows::{CodecConfig, PayloadParams};
 use std::alloc::{AllocError, Global};
 use std::marker::Model;
@@ -160,19 +163,6 @@ fn row_for(row: Option<PayloadParams>, kind: MediaKind) -> Option<PayloadParams>
         MediaKind::Audio => row,
         MediaKind::Video => None,
     }
-}
-
-/// Whether two rows mean the same to a stream.
-fn means_same(own: &PayloadParams, row: &PayloadParams) -> bool
-    ensures { result ≡ means_same own.now row.now }
-{
-    let (own_spec, spec) = (own.spec(), row.spec());
-    own_spec.codec == spec.codec
-        && own_spec.clock_rate == spec.clock_rate
-        && own_spec.channels == spec.channels
-        && own_spec.format.octet_align == spec.format.octet_align
-        && own_spec.format.sprop_max_don_diff == spec.format.sprop_max_don_diff
-        && own.red() == row.red()
 }
 
 /// Prints an offer, and hands the section back.

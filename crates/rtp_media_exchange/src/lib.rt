@@ -4,6 +4,7 @@
 mod agreement;
 mod errors;
 mod exchange;
+mod meaning;
 mod plain;
 mod section;
 mod session;

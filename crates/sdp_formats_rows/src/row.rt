@@ -97,6 +97,16 @@ impl PayloadParams {
         }
     }
 
+    /// The same row under another payload type.
+    pub fn with_pt(self, pt: Pt) -> Self
+        ensures { result ≡ record self { pt = pt } }
+    {
+        PayloadParams {
+            types: Types { pt, ..self.types },
+            ..self
+        }
+    }
+
     /// The payload type (RFC 3550 5.1).
     pub fn pt(&self) -> Pt
         ensures { result ≡ self.now.pt }

@@ -1,0 +1,165 @@
+//! Answers to offers, and their acceptance.
+
+ghost use Rattle.std.specs.Prelude.{◌≡◌, ◌≢◌, ◌<◌, ◌&&◌, ℕ, List, Option, None, Some, true, false, not, is_some, string_bytes, IfOk, IfErr, OnOk, OnErr, IsTrue, ◌↔◌};
+ghost use Rattle.rtp_media_texts.specs.Text.{text_of};
+ghost use Rattle.rtp_media_exchange.specs.Agreement.{agreed_by_answer, agreed_by_accept};
+ghost use Rattle.rtp_media_exchange.specs.Exchanges.{Exchanged, with_answer, with_accept, after_round};
+ghost use Rattle.rtp_media_exchange.specs.Offers.{Answers, Accepts, answer_of, answered_direction, flow, said_by};
+ghost use Rattle.rtp_media_exchange.specs.Refusals.{Names, ReadsText, refusal_of_answer, refusal_of_pair, refusal_of_accept, corresponds};
+ghost use Rattle.rtp_media_exchange.specs.Sections.{only};
+
+use super::Exchange;
+use crate::agreement::AgreedSection;
+use crate::errors::ExchangeError;
+use crate::section::{SectionSpec, only};
+use rtp_media_texts::{SdpError, SessionText};
+use rtp_wire::{Direction, SessionId};
+use sdp_formats_rows::PayloadParams;
+use std::alloc::Global;
+
+impl Exchange {
+    /// The text of the answer to an offer, of these sections; it is then agreed.
+    ///
+    /// # Errors
+    /// The first that holds of `Unreadable`, `OutOfTurn`, `NotCorresponding` and `NoCommonRow`; or
+    /// `Memory`. Nothing has then changed.
+    pub fn answer(
+        &mut self,
+        text: &str,
+        sections: Vec<SectionSpec>,
+    ) -> Result<String, ExchangeError>
+        ensures text { IfOk result (λ answer. Answers self.old text.now sections.items (string_bytes answer) self.new) }
+        ensures accepted { OnOk result (refusal_of_answer self.old text.now sections.items ≡ None) }
+        ensures refused { IfErr result (λ e. Names e (refusal_of_answer self.old text.now sections.items)) }
+        ensures unchanged { OnErr result (self.new ≡ self.old) }
+    {
+        let offer = read(self.alloc, text)?;
+        if self.is_engaged() {
+            return Err(ExchangeError::OutOfTurn);
+        }
+        let Some(wanted) = only(sections) else {
+            return Err(ExchangeError::NotCorresponding);
+        };
+        let row = pair(self.row, &wanted, &offer)?;
+        let answer = answer_to(self.alloc, self.session, row, wanted, &offer);
+        let printed = answer.print(self.alloc)?;
+        self.row = Some(settled(row, &offer));
+        self.agreed = Some(AgreedSection::by_answer(offer, answer));
+        Ok(printed)
+    }
+
+    /// Takes the text of the answer to the pending offer; it is then agreed.
+    ///
+    /// # Errors
+    /// The first that holds of `Unreadable`, `OutOfTurn`, `NotCorresponding` and `NoCommonRow`; or
+    /// `Memory`. Nothing has then changed, and the offer is still pending.
+    pub fn accept(&mut self, text: &str) -> Result<(), ExchangeError>
+        ensures agreed { OnOk result (Accepts self.old text.now self.new) }
+        ensures accepted { OnOk result (refusal_of_accept self.old text.now ≡ None) }
+        ensures refused { IfErr result (λ e. Names e (refusal_of_accept self.old text.now)) }
+        ensures unchanged { OnErr result (self.new ≡ self.old) }
+    {
+        let answer = read(self.alloc, text)?;
+        let Some(offered) = &self.pending else {
+            return Err(ExchangeError::OutOfTurn);
+        };
+        let row = pair(self.row, offered, &answer)?;
+        self.row = Some(settled(row, &answer));
+        self.agreed = match self.pending.take() {
+            Some(offered) => Some(AgreedSection::by_accept(offered, answer)),
+            None => None,
+        };
+        Ok(())
+    }
+}
+
+/// What a text says that has no extension lines.
+#[tactic(auto, using(crate::proofs::Typed::typed))]
+fn read(alloc: Global, text: &str) -> Result<SessionText, ExchangeError>
+    ensures reads { ReadsText result text.now }
+    ensures typed { IfOk result (λ s. s.pt < 128) }
+{
+    match SessionText::parse(alloc, text) {
+        Ok(said) => {
+            if said.extmaps.is_empty() {
+                Ok(said)
+            } else {
+                Err(ExchangeError::Unreadable(SdpError::ParseError(String::new(alloc))))
+            }
+        }
+        Err(fault) => match fault {
+            SdpError::Memory => Err(ExchangeError::Memory),
+            fault => Err(ExchangeError::Unreadable(fault)),
+        },
+    }
+}
+
+/// The row that is settled with a text's section, which must be of the wanted name and kind.
+fn pair(
+    row: Option<PayloadParams>,
+    wanted: &SectionSpec,
+    said: &SessionText,
+) -> Result<PayloadParams, ExchangeError>
+    ensures row { IfOk result (λ r. row ≡ Some r) }
+    ensures accepted { OnOk result (refusal_of_pair row (Some wanted.now) said.now ≡ None) }
+    ensures refused { IfErr result (λ e. Names e (refusal_of_pair row (Some wanted.now) said.now)) }
+{
+    if !wanted.kind.is_audio() || wanted.mid.as_str() != said.mid.as_str() {
+        return Err(ExchangeError::NotCorresponding);
+    }
+    row.ok_or(ExchangeError::NoCommonRow(said.mid))
+}
+
+/// The row as a round with the other end's row leaves it.
+fn settled(row: PayloadParams, said: &SessionText) -> PayloadParams
+    ensures { result ≡ after_round row said.now }
+{
+    let mut row = row.with_pt(said.pt);
+    row.set_fb_transport_cc(row.fb_transport_cc() && said.transport_cc);
+    row.lock();
+    row
+}
+
+/// The direction that sends and receives so.
+fn flow(sends: bool, receives: bool) -> Direction
+    ensures { result ≡ flow sends receives }
+{
+    match (sends, receives) {
+        (true, true) => Direction::SendRecv,
+        (true, false) => Direction::SendOnly,
+        (false, true) => Direction::RecvOnly,
+        (false, false) => Direction::Inactive,
+    }
+}
+
+/// The direction of an answer (RFC 3264 6.1).
+fn answered_direction(offered: Direction, wanted: Direction) -> Direction
+    ensures { result ≡ answered_direction offered wanted }
+{
+    flow(
+        wanted.is_sending() && offered.is_receiving(),
+        wanted.is_receiving() && offered.is_sending(),
+    )
+}
+
+/// What the answer to an offer says.
+fn answer_to(
+    alloc: Global,
+    session: SessionId,
+    row: PayloadParams,
+    wanted: SectionSpec,
+    offer: &SessionText,
+) -> SessionText
+    ensures { result ≡ answer_of session row wanted offer.now }
+{
+    let row = settled(row, offer);
+    SessionText {
+        session,
+        mid: wanted.mid,
+        direction: answered_direction(offer.direction, wanted.dir),
+        extmaps: Vec::new(alloc),
+        pt: row.pt(),
+        transport_cc: row.fb_transport_cc(),
+        ssrcs: wanted.ssrcs,
+    }
+}
