@@ -3,6 +3,9 @@
 
 mod config;
 mod format;
+mod key;
+mod numbers;
+mod parts;
 mod row;
 mod spec;
 
