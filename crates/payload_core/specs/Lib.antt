@@ -14,4 +14,8 @@ pub use Rattle.payload_core_buffer.specs.Packets
 pub use Rattle.payload_core_buffer.specs.Payloaders
 pub use Rattle.payload_core_buffer.specs.Pops
 pub use Rattle.payload_core_buffer.specs.Sending
+pub use Rattle.payload_core_vp9.specs.Vp9
+pub use Rattle.payload_core_vp9.specs.Vp9Descriptor
 pub use Rattle.payload_core_vpx.specs.Vp8
+pub use Rattle.payload_core_vpx.specs.Vp8Descriptor
+pub use Rattle.payload_core_vpx.specs.Vp8Patches

@@ -1,17 +1,12 @@
 -- Lines hold no line feed, and numbers and names hold no blank.
-use Rattle.std.proofs.Common.{◌≡◌, ◌≢◌, ℕ, ◌<◌, ◌^◌, ◌≤◌, ◌==◌, Bool, true, false, not, ◌&&◌, cond, List, [], ◌∷◌, ◌++◌, length, take, map, codes, decimal, All, refl, sym, ◌∙◌, ap, arith, lit<}
+use Rattle.std.proofs.Common.{◌≡◌, ◌≢◌, ℕ, ◌<◌, ◌^◌, ◌==◌, Bool, true, not, ◌&&◌, List, [], ◌∷◌, ◌++◌, take, map, decimal, refl, sym, ◌∙◌, ap, arith}
 use Rattle.std.specs.Char.{is_ascii_digit}
-use Rattle.std.specs.List.{list_all, AllByRecursion}
+use Rattle.std.specs.List.{list_all}
 use Rattle.std.specs.Str.{all_ascii_digits}
-use Rattle.std.proofs.lemmas.Bool.Decides.{nat_tests, Decides-eqb}
+use Rattle.std.proofs.lemmas.Bool.Decides.{nat_tests}
 use Rattle.std.proofs.lemmas.Fmt.{digits_decimal}
-use Rattle.std.proofs.lemmas.List.Folds.{list_all-append, list_all-map}
-use Rattle.rtp_wire.specs.Direction as direction
-use Rattle.rtp_wire.specs.Name.{is_name_byte, name_byte, IsName}
-use Rattle.rtp_wire.specs.declared.Direction.{Direction}
-use Rattle.rtp_wire.specs.declared.Direction.TheVariants.{SendOnly, RecvOnly, SendRecv, Inactive}
-use Rattle.rtp_media_texts.specs.Section.{ExtmapLine, Section, IsUriByte, IsSoundExtmap, IsSound}
-use Rattle.rtp_media_texts.specs.Text.{origin_line, group_line, session_lines, media_line, mid_line, direction_line, media_lines, extmap_line, rtpmap_line, feedback_line, feedback_lines, fmtp_line, ssrc_line, lines_of}
+use Rattle.std.proofs.lemmas.List.Folds.{list_all-append}
+use Rattle.rtp_wire.specs.Name.{name_byte, IsName}
 use Rattle.rtp_media_texts.proofs.Numbers.{own}
 
 -- none of the bytes is c
@@ -43,5 +38,5 @@ Lacks-name_bytes c (x ∷ xs) low = rw (name_other c x low, Lacks-name_bytes c x
 pub Lacks-name : (c : ℕ) (mid : List ℕ) → c < 48 → IsName 16 mid → Lacks c mid
 Lacks-name c mid low name = ap (λ m. list_all (λ b. not (b == c)) m) (sym name) ∙ Lacks-name_bytes c (take 16 mid) low
 
-other_byte : (b c : ℕ) → b ≢ c → not (b == c) ≡ true
+pub other_byte : (b c : ℕ) → b ≢ c → not (b == c) ≡ true
 other_byte b c other = grind (arith, nat_tests)

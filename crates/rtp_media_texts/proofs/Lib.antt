@@ -1,7 +1,12 @@
 mod Behind
 mod Blanks
-mod Numbers
-mod Printing
-mod Reader
+mod Candidate
 mod Feeds
+mod LineFeeds
+mod Numbers
+mod Plain
+mod Printing
+mod Read
+mod Reader
+mod Said
 mod TextLines

@@ -2,10 +2,12 @@
 #![tactic(auto)]
 
 mod errors;
+mod laws;
 mod lines;
 mod parse;
 mod print;
 mod session_text;
 
 pub use errors::SdpError;
+pub use laws::reading_law;
 pub use session_text::{Extmap, SessionText};

@@ -21,6 +21,9 @@ impl SessionText {
     /// name that isn't empty, and URIs that aren't empty and hold no blank, CR or LF. Or `Memory`.
     pub fn parse(alloc: Global, text: &str) -> Result<SessionText, SdpError>
         ensures reads { Reads result (reading_of text.now) }
+        ensures sound { IfOk result (λ s. IsSound s) }
+        ensures printed { IfOk result (λ s. text_of s ≡ text.now) }
+        ensures refused { IfErr result (λ e. e ≢ SdpError.Memory → (s : Section) → IsSound s → text_of s ≢ text.now) }
     {
         let candidate = SessionText::candidate(alloc, text)?;
         if candidate.prints(alloc, text)? {

@@ -1,3 +1,6 @@
+pub mod Parts
+pub mod Numbers
+pub mod Keys
 pub mod Formats
 pub mod Rows
 pub mod Configs

@@ -1,7 +1,13 @@
 //! Format parameters of a codec.
 
 ghost use Rattle.std.specs.Prelude.{◌≡◌};
-ghost use Rattle.sdp_formats_rows.specs.Formats.{no_format};
+ghost use Rattle.std.specs.List.{list_any};
+ghost use Rattle.sdp_formats_rows.specs.Formats.{no_format, replaced, is_on, with_value, with_key, with_range, with_fields, has_level, gives_level, format_of};
+ghost use Rattle.sdp_formats_rows.specs.Parts.{parts};
+
+use crate::key::Key;
+use crate::numbers::{byte_of, don_diff_of, modes_of, profile_level_of, range_of, word_of};
+use crate::parts::{split_equals, split_semicolon};
 
 /// Format parameters of a codec, as `a=fmtp` gives them (RFC 8866 6.15); None is not given.
 ///
@@ -53,4 +59,173 @@ pub(crate) fn no_format() -> FormatParams
     ensures { result ≡ no_format }
 {
     FormatParams::default()
+}
+
+impl FormatParams {
+    /// The parameters of an `a=fmtp` line's text, as `minptime=10;useinbandfec=1`, or `0-16` for
+    /// telephone events (RFC 8866 6.15).
+    ///
+    /// Of each part between semicolons the key, in any ASCII case, and the value behind an equals
+    /// sign are read without the blanks round them; what stands behind a second equals sign doesn't
+    /// count. A later value replaces an earlier one. Keys that are unknown and values that don't
+    /// parse are passed over. Where a key is `tier-flag` or `level-id`, each key counts with its
+    /// last value alone, and `profile-id` doesn't count.
+    pub fn parse_line(line: &str) -> FormatParams
+        ensures { result ≡ format_of line.now }
+    {
+        let last_alone = gives_level(line);
+        let mut format = no_format();
+        let mut rest = Some(line);
+        while let Some(text) = rest {
+            let (part, after) = split_semicolon(text);
+            format = with_part(format, part, last_alone);
+            rest = after;
+        }
+        format
+    }
+}
+
+// Does a part of the line give a tier or level?
+fn gives_level(line: &str) -> bool
+    ensures { result ≡ list_any gives_level (parts 59 line.now) }
+{
+    let mut rest = Some(line);
+    while let Some(text) = rest {
+        let (part, after) = split_semicolon(text);
+        if part_gives_level(part) {
+            return true;
+        }
+        rest = after;
+    }
+    false
+}
+
+fn part_gives_level(part: &str) -> bool
+    ensures { result ≡ gives_level part.now }
+{
+    let (key, rest) = split_equals(part);
+    match rest {
+        Some(rest) => {
+            let _ = split_equals(rest);
+            has_level(Key::named(key.trim()))
+        }
+        None => false,
+    }
+}
+
+fn has_level(key: Option<Key>) -> bool
+    ensures { result ≡ has_level key }
+{
+    match key {
+        Some(key) => key.is_level(),
+        None => false,
+    }
+}
+
+fn with_part(format: FormatParams, part: &str, last_alone: bool) -> FormatParams
+    ensures { result ≡ with_fields last_alone (parts 61 part.now) format }
+{
+    let (key, rest) = split_equals(part);
+    match rest {
+        Some(rest) => {
+            let (value, _) = split_equals(rest);
+            with_key(format, Key::named(key.trim()), value.trim(), last_alone)
+        }
+        None => with_range(format, range_of(key.trim())),
+    }
+}
+
+fn with_range(format: FormatParams, range: Option<u8>) -> FormatParams
+    ensures { result ≡ with_range range format }
+{
+    match range {
+        Some(event) => FormatParams {
+            telephone_event_max: Some(event),
+            ..format
+        },
+        None => format,
+    }
+}
+
+fn with_key(format: FormatParams, key: Option<Key>, value: &str, last_alone: bool) -> FormatParams
+    ensures { result ≡ with_key last_alone key value.now format }
+{
+    match key {
+        Some(key) => with_value(format, key, value, last_alone),
+        None => format,
+    }
+}
+
+fn replaced_byte(last_alone: bool, earlier: Option<u8>, value: Option<u8>) -> Option<u8>
+    ensures { result ≡ replaced last_alone earlier value }
+{
+    if value.is_none() && !last_alone {
+        earlier
+    } else {
+        value
+    }
+}
+
+fn replaced_half_word(last_alone: bool, earlier: Option<u16>, value: Option<u16>) -> Option<u16>
+    ensures { result ≡ replaced last_alone earlier value }
+{
+    if value.is_none() && !last_alone {
+        earlier
+    } else {
+        value
+    }
+}
+
+fn replaced_word(last_alone: bool, earlier: Option<u32>, value: Option<u32>) -> Option<u32>
+    ensures { result ≡ replaced last_alone earlier value }
+{
+    if value.is_none() && !last_alone {
+        earlier
+    } else {
+        value
+    }
+}
+
+fn is_on(value: &str) -> Option<bool>
+    ensures { result ≡ is_on value.now }
+{
+    Some(value == "1")
+}
+
+fn with_value(mut f: FormatParams, key: Key, value: &str, last: bool) -> FormatParams
+    ensures { result ≡ with_value last key value.now f }
+{
+    match key {
+        Key::MinPTime => f.min_p_time = replaced_byte(last, f.min_p_time, byte_of(value)),
+        Key::Stereo => f.stereo = is_on(value),
+        Key::SpropStereo => f.sprop_stereo = is_on(value),
+        Key::UseInbandFec => f.use_inband_fec = is_on(value),
+        Key::UseDtx => f.use_dtx = is_on(value),
+        Key::LevelAsymmetryAllowed => f.level_asymmetry_allowed = is_on(value),
+        Key::PacketizationMode => {
+            f.packetization_mode = replaced_byte(last, f.packetization_mode, byte_of(value));
+        }
+        Key::ProfileLevelId => {
+            f.profile_level_id = replaced_word(last, f.profile_level_id, profile_level_of(value));
+        }
+        Key::ProfileId => {
+            if !last {
+                f.profile_id = replaced_word(false, f.profile_id, word_of(value));
+            }
+        }
+        Key::Profile => f.profile = replaced_byte(last, f.profile, byte_of(value)),
+        Key::LevelIdx => f.level_idx = replaced_byte(last, f.level_idx, byte_of(value)),
+        Key::Tier => f.tier = replaced_byte(last, f.tier, byte_of(value)),
+        Key::SpropMaxDonDiff => {
+            f.sprop_max_don_diff = replaced_half_word(
+                last,
+                f.sprop_max_don_diff,
+                don_diff_of(value),
+            );
+        }
+        Key::OctetAlign => f.octet_align = is_on(value),
+        Key::ModeSet => f.mode_set = replaced_half_word(last, f.mode_set, modes_of(value)),
+        Key::TierFlag | Key::LevelId => {}
+    }
+    f
 }

@@ -3,7 +3,11 @@
 
 mod config;
 mod format;
+mod key;
+mod numbers;
+mod parts;
 mod row;
+mod rows;
 mod spec;
 
 pub use config::CodecConfig;
@@ -12,3 +16,6 @@ pub use payload_core_base::{Codec, MediaKind};
 pub use row::PayloadParams;
 pub use rtp_wire::{Frequency, Pt};
 pub use spec::CodecSpec;
+
+#[cfg(test)]
+mod tests;

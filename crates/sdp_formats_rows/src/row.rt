@@ -44,15 +44,23 @@ impl Model for PayloadParams {
     ghost Value = { Row };
 
     ghost view = { λ r. record {
-        pt = r.types.pt; resend = r.types.resend; spec = r.spec;
-        transport_cc = r.feedback.transport_cc; nack = r.feedback.nack; pli = r.feedback.pli;
-        fir = r.feedback.fir; remb = r.feedback.remb; red = r.types.red; locked = r.locked
+      pt = r.types.pt;
+      resend = r.types.resend;
+      spec = r.spec;
+      transport_cc = r.feedback.transport_cc;
+      nack = r.feedback.nack;
+      pli = r.feedback.pli;
+      fir = r.feedback.fir;
+      remb = r.feedback.remb;
+      red = r.types.red;
+      locked = r.locked;
     } };
 
     ghost inverse = { λ r. record {
-        types = record { pt = r.pt; resend = r.resend; red = r.red };
-        feedback = record { transport_cc = r.transport_cc; nack = r.nack; pli = r.pli; fir = r.fir; remb = r.remb };
-        spec = r.spec; locked = r.locked
+      types = record { pt = r.pt; resend = r.resend; red = r.red };
+      feedback = record { transport_cc = r.transport_cc; nack = r.nack; pli = r.pli; fir = r.fir; remb = r.remb };
+      spec = r.spec;
+      locked = r.locked;
     } };
 }
 

@@ -1,0 +1,3 @@
+mod configs;
+mod formats;
+mod rows;
