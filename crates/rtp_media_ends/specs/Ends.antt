@@ -2,32 +2,36 @@ use Rattle.std.specs.Prelude.{ℕ, Bool, not, ◌==◌, List, [], ◌∷◌, ◌
 use Rattle.std.specs.List.{list_any}
 use Rattle.rtp_media_streams.specs.Sending.{Sending, opened_sender, is_sending}
 use Rattle.rtp_media_streams.specs.Receiving.{Receiving, opened_receiver, is_own}
-use Rattle.rtp_media_ends.specs.Rows.{Row}
-use Rattle.rtp_media_ends.specs.Agreement.{Agreed, section_of, agreed_row_of, fixed_agreement, is_named}
+use Rattle.sdp_formats_rows.specs.Rows.{Row}
+use Rattle.rtp_media_exchange.specs.Agreement.{Agreed, section_of, agreed_row_of, is_named, own_row_agrees}
+use Rattle.rtp_media_exchange.specs.Exchanges.{Exchanged, fresh, fixed}
 use Rattle.rtp_media_ends.specs.declared.params.StreamParams.{StreamParams}
 use Rattle.rtp_media_ends.specs.declared.errors.OpenError.{OpenError}
-use Rattle.rtp_media_ends.specs.declared.errors.OpenError.TheVariants.{NoSection, RowNotAgreed, WrongDirection, SsrcNotNamed, AlreadyOpen}
+use Rattle.rtp_media_ends.specs.declared.errors.OpenError.TheVariants.{NoSection, RowNotAgreed, RowDiffers, WrongDirection, SsrcNotNamed, AlreadyOpen}
 
--- What an end keeps: its session id, what was agreed last, and its streams by number.
+-- What an end keeps: its exchanges, and its streams by number.
 pub record EndState : Type 0 where
-  pub session : ℕ
-  pub agreed : Option Agreed
+  pub exchange : Exchanged
   pub senders : List Sending
   pub receivers : List Receiving
 
 -- the end with this stream in place of its n-th
 abbrev pub with_sender : EndState → ℕ → Sending → EndState
-with_sender e n s = record { session = e.session; agreed = e.agreed; senders = slice_set e.senders n s; receivers = e.receivers }
+with_sender e n s = record { exchange = e.exchange; senders = slice_set e.senders n s; receivers = e.receivers }
 
 abbrev pub with_receiver : EndState → ℕ → Receiving → EndState
-with_receiver e n r = record { session = e.session; agreed = e.agreed; senders = e.senders; receivers = slice_set e.receivers n r }
+with_receiver e n r = record { exchange = e.exchange; senders = e.senders; receivers = slice_set e.receivers n r }
+
+-- the end after an exchange: its streams stay
+abbrev pub with_exchange : EndState → Exchanged → EndState
+with_exchange e x = record { exchange = x; senders = e.senders; receivers = e.receivers }
 
 -- the end with one stream more
 abbrev pub with_new_sender : EndState → Sending → EndState
-with_new_sender e s = record { session = e.session; agreed = e.agreed; senders = e.senders ++ s ∷ []; receivers = e.receivers }
+with_new_sender e s = record { exchange = e.exchange; senders = e.senders ++ s ∷ []; receivers = e.receivers }
 
 abbrev pub with_new_receiver : EndState → Receiving → EndState
-with_new_receiver e r = record { session = e.session; agreed = e.agreed; senders = e.senders; receivers = e.receivers ++ r ∷ [] }
+with_new_receiver e r = record { exchange = e.exchange; senders = e.senders; receivers = e.receivers ++ r ∷ [] }
 
 -- the n-th stream
 abbrev pub sender_at : EndState → ℕ → Sending
@@ -36,31 +40,32 @@ sender_at e n = slice_index_or e.senders n (opened_sender 0 0 1 0 1 0)
 abbrev pub receiver_at : EndState → ℕ → Receiving
 receiver_at e n = slice_index_or e.receivers n (opened_receiver 0 0 0)
 
--- Why no stream can be opened in a section, by whether it has the row, flows this way, is named an SSRC
--- by its sender, and has such a stream: the first that holds.
-abbrev pub refusal_by : Bool → Bool → Bool → Bool → Option OpenError
-refusal_by has_row flows names is_open =
+-- Why no stream can be opened in a section, by whether it has the row, the end's own row agrees with it,
+-- it flows this way, is named an SSRC by its sender, and has such a stream: the first that holds.
+abbrev pub refusal_by : Bool → Bool → Bool → Bool → Bool → Option OpenError
+refusal_by has_row agrees flows names is_open =
     if not has_row then Some RowNotAgreed
+    else if not agrees then Some RowDiffers
     else if not flows then Some WrongDirection
     else if not names then Some SsrcNotNamed
     else if is_open then Some AlreadyOpen
     else None
 
-abbrev pub sender_refusal_in : Option Agreed → List Sending → ℕ → ℕ → Option OpenError
-sender_refusal_in None senders ssrc pt = Some NoSection
-sender_refusal_in (Some a) senders ssrc pt = refusal_by (a.row.pt == pt) a.sends (is_named a.own_ssrcs ssrc) (list_any (λ s. is_sending s ssrc pt) senders)
+abbrev pub sender_refusal_in : Option Row → Option Agreed → List Sending → ℕ → ℕ → Option OpenError
+sender_refusal_in own None senders ssrc pt = Some NoSection
+sender_refusal_in own (Some a) senders ssrc pt = refusal_by (a.row.pt == pt) (own_row_agrees own a.row) a.sends (is_named a.own_ssrcs ssrc) (list_any (λ s. is_sending s ssrc pt) senders)
 
-abbrev pub receiver_refusal_in : Option Agreed → List Receiving → ℕ → ℕ → Option OpenError
-receiver_refusal_in None receivers ssrc pt = Some NoSection
-receiver_refusal_in (Some a) receivers ssrc pt = refusal_by (a.row.pt == pt) a.receives (is_named a.remote_ssrcs ssrc) (list_any (λ r. is_own r ssrc pt) receivers)
+abbrev pub receiver_refusal_in : Option Row → Option Agreed → List Receiving → ℕ → ℕ → Option OpenError
+receiver_refusal_in own None receivers ssrc pt = Some NoSection
+receiver_refusal_in own (Some a) receivers ssrc pt = refusal_by (a.row.pt == pt) (own_row_agrees own a.row) a.receives (is_named a.remote_ssrcs ssrc) (list_any (λ r. is_own r ssrc pt) receivers)
 
 -- Why `open_sender` is refused, want of memory aside.
 abbrev pub refusal_of_open_sender : EndState → List ℕ → ℕ → ℕ → Option OpenError
-refusal_of_open_sender e mid ssrc pt = sender_refusal_in (section_of e.agreed mid) e.senders ssrc pt
+refusal_of_open_sender e mid ssrc pt = sender_refusal_in e.exchange.row (section_of e.exchange.agreed mid) e.senders ssrc pt
 
 -- Why `open_receiver` is refused, want of memory aside.
 abbrev pub refusal_of_open_receiver : EndState → List ℕ → ℕ → ℕ → Option OpenError
-refusal_of_open_receiver e mid ssrc pt = receiver_refusal_in (section_of e.agreed mid) e.receivers ssrc pt
+refusal_of_open_receiver e mid ssrc pt = receiver_refusal_in e.exchange.row (section_of e.exchange.agreed mid) e.receivers ssrc pt
 
 -- the clock rate of a row's timestamps
 abbrev pub rate_of : Option Row → ℕ
@@ -70,8 +75,12 @@ rate_of (Some row) = row.spec.clock_rate
 -- the end with a sending stream more, which sends the agreed row
 abbrev pub after_open_sender : EndState → List ℕ → ℕ → ℕ → StreamParams → EndState
 after_open_sender e mid ssrc pt params =
-    with_new_sender e (opened_sender ssrc pt (rate_of (agreed_row_of e.agreed mid pt)) params.first params.mtu params.limit)
+    with_new_sender e (opened_sender ssrc pt (rate_of (agreed_row_of e.exchange.agreed mid pt)) params.first params.mtu params.limit)
 
 -- A fixed end without streams.
 abbrev pub fixed_end : EndState
-fixed_end = record { session = 0; agreed = Some fixed_agreement; senders = []; receivers = [] }
+fixed_end = record { exchange = fixed; senders = []; receivers = [] }
+
+-- An end that has agreed on nothing.
+abbrev pub new_end : ℕ → Option Row → EndState
+new_end session row = record { exchange = fresh session row; senders = []; receivers = [] }

@@ -24,7 +24,7 @@ after_datagrams e (d ∷ ds) = after_datagrams (after_datagram e d) ds
 
 -- the end with these receiving streams
 abbrev pub with_receivers : EndState → List Receiving → EndState
-with_receivers e rs = record { session = e.session; agreed = e.agreed; senders = e.senders; receivers = rs }
+with_receivers e rs = record { exchange = e.exchange; senders = e.senders; receivers = rs }
 
 -- What polls of a stream answer.
 abbrev pub Answers : Type 0

@@ -1,7 +1,6 @@
-pub mod Rows
 pub mod Params
-pub mod Agreement
 pub mod Ends
+pub mod Connections
 pub mod Arrivals
 pub mod FullArrival
 pub mod OwnEvents

@@ -9,21 +9,22 @@ ghost use Rattle.rtp_media_runs.specs.Heard.{poll_answer};
 ghost use Rattle.rtp_wire.specs.Header.{payload_in};
 ghost use Rattle.rtp_wire.specs.Padding.{unpadded};
 ghost use Rattle.rtp_media_ends.specs.Arrivals.{Own, NoPayload, own_of, stream_for, verdict_for, after_arrival, arrival_by, verdict_of, after_datagram};
-ghost use Rattle.rtp_media_ends.specs.Agreement.{agreed_row_of, section_of};
+ghost use Rattle.rtp_media_exchange.specs.Agreement.{agreed_row_of, section_of};
 ghost use Rattle.rtp_media_ends.specs.Ends.{fixed_end, refusal_by, refusal_of_open_sender, refusal_of_open_receiver, after_open_sender, with_new_receiver, sender_at, receiver_at, with_sender, with_receiver};
 ghost use Rattle.rtp_media_ends.specs.Params.{IsSound};
 
+mod exchanges;
 mod receive_all;
 
-use crate::agreement::AgreedSection;
-use crate::errors::{EndError, OpenError, PollFault, ReceiveError};
+use crate::errors::{OpenError, PollFault, ReceiveError};
 use crate::params::StreamParams;
 use crate::received::Received;
-use crate::row::PayloadParams;
+pub use exchanges::connect;
 pub use receive_all::{Polls, ReceivedAll};
+use rtp_media_exchange::{AgreedSection, EndError, Exchange, PayloadParams};
 use rtp_media_streams::{Datagram, ReceivingStream, SampleError, SendingStream, Unit};
 use rtp_wire::{
-    ExtensionMap, ExtensionValues, Frequency, MediaTime, Mid, Pt, RtpHeader, SessionId, Ssrc,
+    ExtensionMap, ExtensionValues, Frequency, MediaTime, Mid, Pt, RtpHeader, Ssrc,
     unpad_payload,
 };
 use std::alloc::Global;
@@ -33,8 +34,7 @@ use std::marker::Model;
 #[derive(Drop)]
 pub struct End {
     alloc: Global,
-    session: SessionId,
-    agreed: Option<AgreedSection>,
+    exchange: Exchange,
     senders: Vec<SendingStream>,
     receivers: Vec<ReceivingStream>,
 }
@@ -49,8 +49,7 @@ impl Model for End {
     ghost coded = { Prim.hlevel (codes, window_code) };
 
     ghost view = { λ e. record {
-      session = e.session;
-      agreed = e.agreed;
+      exchange = e.exchange;
       senders = e.senders.items;
       receivers = e.receivers.items;
     } };
@@ -67,8 +66,7 @@ impl End {
     {
         Ok(End {
             alloc,
-            session: SessionId::from(0),
-            agreed: Some(AgreedSection::fixed(alloc)?),
+            exchange: Exchange::fixed(alloc)?,
             senders: Vec::new(alloc),
             receivers: Vec::new(alloc),
         })
@@ -76,9 +74,9 @@ impl End {
 
     /// The agreed row of a payload type in a section: the first of that type in the answer.
     pub fn agreed_row(&self, mid: Mid, pt: Pt) -> Option<PayloadParams>
-        ensures { result ≡ agreed_row_of self.now.agreed mid pt }
+        ensures { result ≡ agreed_row_of self.now.exchange.agreed mid pt }
     {
-        let section = self.agreed.as_ref()?;
+        let section = self.exchange.agreed()?;
         if section.is_named(mid) {
             section.row_of(pt)
         } else {
@@ -112,7 +110,8 @@ impl End {
     /// number, counted from 0.
     ///
     /// # Errors
-    /// The first that holds of `NoSection`, `RowNotAgreed`, `WrongDirection`, `SsrcNotNamed` (the
+    /// The first that holds of `NoSection`, `RowNotAgreed`, `RowDiffers` (the end's own row of the type
+    /// is missing, not locked, or means something else), `WrongDirection`, `SsrcNotNamed` (the
     /// section of this end doesn't name the SSRC) and `AlreadyOpen`; or `Memory`. The end is then
     /// unchanged.
     pub fn open_sender(
@@ -258,28 +257,37 @@ impl End {
 
     /// The row that a new sending stream sends, or why there is none.
     fn sender_row(&self, mid: Mid, ssrc: Ssrc, pt: Pt) -> Result<PayloadParams, OpenError>
-        ensures row { IfOk result (λ r. agreed_row_of self.now.agreed mid pt ≡ Some r) }
+        ensures row { IfOk result (λ r. agreed_row_of self.now.exchange.agreed mid pt ≡ Some r) }
         ensures typed { OnOk result (pt < 128) }
         ensures opens { OnOk result (refusal_of_open_sender self.now mid ssrc pt ≡ None) }
         ensures refused { IfErr result (λ e. refusal_of_open_sender self.now mid ssrc pt ≡ Some e) }
     {
-        let section = section_named(&self.agreed, mid)?;
+        let section = section_named(&self.exchange, mid)?;
         let row = section.row_of(pt);
         let is_open = is_sending(&self.senders, ssrc, pt);
-        opened_row(row, section.is_sending(), section.names_own(ssrc), is_open)
+        let agrees = self.exchange.agrees_with(&section.row());
+        opened_row(
+            row,
+            agrees,
+            section.is_sending(),
+            section.names_own(ssrc),
+            is_open,
+        )
     }
 
     /// The row that a new receiving stream takes, or why there is none.
     fn receiver_row(&self, mid: Mid, ssrc: Ssrc, pt: Pt) -> Result<PayloadParams, OpenError>
-        ensures row { IfOk result (λ r. agreed_row_of self.now.agreed mid pt ≡ Some r) }
+        ensures row { IfOk result (λ r. agreed_row_of self.now.exchange.agreed mid pt ≡ Some r) }
         ensures opens { OnOk result (refusal_of_open_receiver self.now mid ssrc pt ≡ None) }
         ensures refused { IfErr result (λ e. refusal_of_open_receiver self.now mid ssrc pt ≡ Some e) }
     {
-        let section = section_named(&self.agreed, mid)?;
+        let section = section_named(&self.exchange, mid)?;
         let row = section.row_of(pt);
         let is_open = is_receiving(&self.receivers, ssrc, pt);
+        let agrees = self.exchange.agrees_with(&section.row());
         opened_row(
             row,
+            agrees,
             section.is_receiving(),
             section.names_remote(ssrc),
             is_open,
@@ -290,15 +298,19 @@ impl End {
 /// The row of a new stream, by what holds of its section, or why there is none.
 fn opened_row(
     row: Option<PayloadParams>,
+    agrees: bool,
     flows: bool,
     names: bool,
     is_open: bool,
 ) -> Result<PayloadParams, OpenError>
     ensures row { IfOk result (λ r. row ≡ Some r) }
-    ensures opens { OnOk result (refusal_by (is_some row) flows names is_open ≡ None) }
-    ensures refused { IfErr result (λ e. refusal_by (is_some row) flows names is_open ≡ Some e) }
+    ensures opens { OnOk result (refusal_by (is_some row) agrees flows names is_open ≡ None) }
+    ensures refused { IfErr result (λ e. refusal_by (is_some row) agrees flows names is_open ≡ Some e) }
 {
     let row = row.ok_or(OpenError::RowNotAgreed)?;
+    if !agrees {
+        return Err(OpenError::RowDiffers);
+    }
     if !flows {
         return Err(OpenError::WrongDirection);
     }
@@ -312,11 +324,11 @@ fn opened_row(
 }
 
 /// The agreed section of this name.
-fn section_named(agreed: &Option<AgreedSection>, mid: Mid) -> Result<&AgreedSection, OpenError>
-    ensures found { IfOk result (λ a. section_of agreed.now mid ≡ Some a.now) }
-    ensures refused { IfErr result (λ e. (e ≡ OpenError.NoSection) × (section_of agreed.now mid ≡ None)) }
+fn section_named(exchange: &Exchange, mid: Mid) -> Result<&AgreedSection, OpenError>
+    ensures found { IfOk result (λ a. section_of exchange.now.agreed mid ≡ Some a.now) }
+    ensures refused { IfErr result (λ e. (e ≡ OpenError.NoSection) × (section_of exchange.now.agreed mid ≡ None)) }
 {
-    match agreed {
+    match exchange.agreed() {
         Some(section) if section.is_named(mid) => Ok(section),
         _ => Err(OpenError::NoSection),
     }

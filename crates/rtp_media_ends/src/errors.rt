@@ -4,20 +4,6 @@ use payload_core_base::PacketError;
 use std::alloc::{AllocError, AllocFailed};
 use thiserror::Error;
 
-/// Why an end can't be made.
-#[derive(Clone, Copy, Debug, PartialEq, Eq, Drop, Error)]
-pub enum EndError {
-    /// Memory was wanting.
-    #[error("out of memory")]
-    Memory,
-}
-
-impl From<AllocError> for EndError {
-    fn from(_error: AllocError) -> EndError {
-        EndError::Memory
-    }
-}
-
 /// Why a stream can't be opened; of several reasons the first listed is answered.
 #[derive(Clone, Copy, Debug, PartialEq, Eq, Drop, Error)]
 pub enum OpenError {

@@ -93,6 +93,13 @@ impl AgreedSection {
         self.mid.as_str() == mid.as_str()
     }
 
+    /// The agreed row.
+    pub fn row(&self) -> PayloadParams
+        ensures { result ≡ self.now.row }
+    {
+        self.row
+    }
+
     /// The row of this type.
     pub fn row_of(&self, pt: Pt) -> Option<PayloadParams>
         ensures row { result ≡ row_in (Some self.now) pt }

@@ -1,0 +1,125 @@
+//! Exchanges of texts between two ends.
+
+ghost use Rattle.std.specs.Prelude.{◌≡◌, ◌≢◌, ℕ, None, Some, is_some, string_bytes, IfOk, IfErr, OnOk, OnErr};
+ghost use Rattle.rtp_wire.specs.Maps.{is_empty_map};
+ghost use Rattle.rtp_media_exchange.specs.Exchanges.{with_offer};
+ghost use Rattle.rtp_media_exchange.specs.Offers.{Offers, Answers, Accepts};
+ghost use Rattle.rtp_media_exchange.specs.Refusals.{Names, refusal_of_new, refusal_of_offer, refusal_of_answer, refusal_of_accept};
+ghost use Rattle.rtp_media_exchange.specs.Sections.{only};
+ghost use Rattle.rtp_media_ends.specs.Ends.{new_end, with_exchange};
+ghost use Rattle.rtp_media_ends.specs.Connections.{Connects, IsRefused};
+
+use super::End;
+use rtp_media_exchange::{CodecConfig, EndError, Exchange, ExchangeError, SectionSpec, Session};
+use rtp_wire::ExtensionMap;
+use std::alloc::Global;
+
+impl End {
+    /// An end of these rows, session and map of extensions, which has agreed on nothing.
+    ///
+    /// # Errors
+    /// The first that holds of `RowNotPlain` and `NotWritable`; or `Memory`.
+    pub fn new(
+        alloc: Global,
+        config: CodecConfig,
+        session: Session,
+        exts: ExtensionMap,
+    ) -> Result<Self, EndError>
+        ensures new { IfOk result (λ e. e ≡ new_end session.id (only config.rows)) }
+        ensures accepted { OnOk result (refusal_of_new config.rows session.is_bare (is_empty_map exts) ≡ None) }
+        ensures refused { IfErr result (λ e. e ≢ EndError.Memory → refusal_of_new config.rows session.is_bare (is_empty_map exts) ≡ Some e) }
+    {
+        Ok(End {
+            alloc,
+            exchange: Exchange::new(alloc, &config, &session, &exts)?,
+            senders: Vec::new(alloc),
+            receivers: Vec::new(alloc),
+        })
+    }
+
+    /// The text of an offer of these sections (RFC 3264 5); it is then pending.
+    ///
+    /// # Errors
+    /// The first that holds of `OutOfTurn`, `NotCorresponding`, `NoCommonRow` and `NotWritable`; or
+    /// `Memory`. The end is then unchanged.
+    pub fn offer(&mut self, sections: Vec<SectionSpec>) -> Result<String, ExchangeError>
+        ensures text { IfOk result (λ text. Offers self.old.exchange sections.items (string_bytes text)) }
+        ensures accepted { OnOk result (refusal_of_offer self.old.exchange sections.items ≡ None) }
+        ensures after { OnOk result (self.new ≡ with_exchange self.old (with_offer self.old.exchange (only sections.items))) }
+        ensures refused { IfErr result (λ e. Names e (refusal_of_offer self.old.exchange sections.items)) }
+        ensures unchanged { OnErr result (self.new ≡ self.old) }
+    {
+        let exchange = &mut self.exchange;
+        exchange.offer(sections)
+    }
+
+    /// The text of the answer to an offer, of these sections (RFC 3264 6); it is then agreed.
+    ///
+    /// # Errors
+    /// The first that holds of `Unreadable`, `OutOfTurn`, `NotCorresponding` and `NoCommonRow`; or
+    /// `Memory`. The end is then unchanged.
+    pub fn answer(
+        &mut self,
+        text: &str,
+        sections: Vec<SectionSpec>,
+    ) -> Result<String, ExchangeError>
+        ensures text { IfOk result (λ answer. Answers self.old.exchange text.now sections.items (string_bytes answer) self.new.exchange) }
+        ensures accepted { OnOk result (refusal_of_answer self.old.exchange text.now sections.items ≡ None) }
+        ensures streams { self.new ≡ with_exchange self.old self.new.exchange }
+        ensures refused { IfErr result (λ e. Names e (refusal_of_answer self.old.exchange text.now sections.items)) }
+        ensures unchanged { OnErr result (self.new ≡ self.old) }
+    {
+        let exchange = &mut self.exchange;
+        exchange.answer(text, sections)
+    }
+
+    /// Takes the text of the answer to the pending offer (RFC 3264 7); it is then agreed.
+    ///
+    /// # Errors
+    /// The first that holds of `Unreadable`, `OutOfTurn`, `NotCorresponding` and `NoCommonRow`; or
+    /// `Memory`. The end is then unchanged, and the offer still pending.
+    pub fn accept(&mut self, text: &str) -> Result<(), ExchangeError>
+        ensures agreed { OnOk result (Accepts self.old.exchange text.now self.new.exchange) }
+        ensures accepted { OnOk result (refusal_of_accept self.old.exchange text.now ≡ None) }
+        ensures streams { self.new ≡ with_exchange self.old self.new.exchange }
+        ensures refused { IfErr result (λ e. Names e (refusal_of_accept self.old.exchange text.now)) }
+        ensures unchanged { OnErr result (self.new ≡ self.old) }
+    {
+        let exchange = &mut self.exchange;
+        exchange.accept(text)
+    }
+
+    /// Whether an offer was pending, which is now given up; all else stays.
+    pub fn withdraw(&mut self) -> bool
+        ensures was { result ≡ is_some self.old.exchange.pending }
+        ensures after { self.new ≡ with_exchange self.old (with_offer self.old.exchange None) }
+    {
+        let exchange = &mut self.exchange;
+        exchange.withdraw()
+    }
+}
+
+/// Has `a` offer, `b` answer and `a` accept, and answers both texts.
+///
+/// # Errors
+/// What the first refused call answers. Where `b`'s answer is refused, `a`'s offer stays pending;
+/// where `a` refuses the answer, its offer stays pending too, and `b` has agreed.
+pub fn connect(
+    a: &mut End,
+    b: &mut End,
+    sections_a: Vec<SectionSpec>,
+    sections_b: Vec<SectionSpec>,
+) -> Result<(String, String), ExchangeError>
+    ensures texts { IfOk result (λ texts. Connects a.old b.old sections_a.items sections_b.items (string_bytes texts.0) (string_bytes texts.1) a.new b.new) }
+    ensures refused { IfErr result (λ e. IsRefused a.old b.old sections_a.items sections_b.items e a.new b.new) }
+{
+    let offer = a.offer(sections_a)?;
+    let answer = match b.answer(offer.as_str(), sections_b) {
+        Ok(answer) => answer,
+        Err(refusal) => return Err(refusal),
+    };
+    match a.accept(answer.as_str()) {
+        Ok(()) => Ok((offer, answer)),
+        Err(refusal) => Err(refusal),
+    }
+}
