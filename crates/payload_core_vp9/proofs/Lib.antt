@@ -1,1 +1,2 @@
 pub mod Vp9Law
+pub mod Vp9LayoutLaw

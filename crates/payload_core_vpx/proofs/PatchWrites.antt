@@ -1,8 +1,8 @@
 -- Writing ids into a payload: what stays, in which order it may be done, and how it is undone.
-use Rattle.std.proofs.Common.{◌≡◌, ℕ, ◌+◌, ◌*◌, ◌/◌, ◌%◌, ◌<◌, Bool, true, false, List, length, None, Some, Option, refl, sym, ap, ◌∙◌, arith}
+use Rattle.std.proofs.Common.{◌≡◌, ℕ, ◌+◌, ◌*◌, ◌/◌, ◌%◌, ◌<◌, ◌≤◌, Bool, true, false, List, drop, length, None, Some, Option, refl, sym, ap, ◌∙◌, arith}
 use Rattle.std.specs.Prelude.{◌≢◌, slice_index, slice_set}
 use Rattle.std.specs.Option.{ForSome}
-use Rattle.std.proofs.lemmas.List.{get_or-set_same, get_or-set_other, length-set, set-get_or, set-set, set_comm}
+use Rattle.std.proofs.lemmas.List.{drop-set-lt, get_or-set_same, get_or-set_other, length-set, set-get_or, set-set, set_comm}
 use Rattle.payload_core_vpx.specs.Vp8Patches.{picture_id_end, with_key_idx, with_low, with_picture_id, with_tl0_pic_idx}
 
 -- a place that a picture id doesn't reach
@@ -65,6 +65,47 @@ id-m_bit true (Some id) p lt =
 pub key-tid_and_y : (k : ℕ) (o : Option ℕ) (p : List ℕ) → k < length p → slice_index (with_key_idx k o p) k / 32 ≡ slice_index p k / 32
 key-tid_and_y k None p lt = refl
 key-tid_and_y k (Some v) p lt = ap (λ n. n / 32) (get_or-set_same p k _ 0 lt) ∙ low_32 v (slice_index p k)
+
+-- what is written is there
+pub id-short_low : (o p2 : ℕ) → o ≤ 127 → with_low 128 o p2 % 128 ≡ o
+id-short_low o p2 small = omega (arith, small)
+
+pub id-long_low : (o p2 : ℕ) → o ≤ 32767 → with_low 128 (o / 256) p2 % 128 * 256 + o % 256 ≡ o
+id-long_low o p2 small = omega (arith, small)
+
+pub key-low : (o b : ℕ) → o ≤ 31 → with_low 32 o b % 32 ≡ o
+key-low o b small = omega (arith, small)
+
+pub short-there : (id : ℕ) (p : List ℕ) → 2 < length p → slice_index (with_picture_id false (Some id) p) 2 ≡ with_low 128 id (slice_index p 2)
+short-there id p lt = get_or-set_same p 2 (with_low 128 id (slice_index p 2)) 0 lt
+
+pub long-there : (id : ℕ) (p : List ℕ) → 3 < length p → (slice_index (with_picture_id true (Some id) p) 2 ≡ with_low 128 (id / 256) (slice_index p 2)) × (slice_index (with_picture_id true (Some id) p) 3 ≡ id % 256)
+long-there id p lt =
+    let other : 2 ≢ 3 = above_apart 2 3 (omega arith) in
+    let two : 2 < length p = omega (arith, lt) in
+    let q : List ℕ = slice_set p 2 (with_low 128 (id / 256) (slice_index p 2)) in
+    let room : 3 < length q = omega (arith, lt, length-set p 2 (with_low 128 (id / 256) (slice_index p 2))) in
+    (get_or-set_other q 3 2 (id % 256) 0 other ∙ get_or-set_same p 2 (with_low 128 (id / 256) (slice_index p 2)) 0 two, get_or-set_same q 3 (id % 256) 0 room)
+
+pub tl0-there : (t v : ℕ) (p : List ℕ) → t < length p → slice_index (with_tl0_pic_idx t (Some v) p) t ≡ v
+tl0-there t v p lt = get_or-set_same p t v 0 lt
+
+pub key-there : (k v : ℕ) (p : List ℕ) → k < length p → slice_index (with_key_idx k (Some v) p) k ≡ with_low 32 v (slice_index p k)
+key-there k v p lt = get_or-set_same p k (with_low 32 v (slice_index p k)) 0 lt
+
+-- what stands behind stays
+pub drop-id : (n : ℕ) (long : Bool) (o : Option ℕ) (p : List ℕ) → ForSome o (λ _. (2 < n) × (picture_id_end long < n)) → drop n (with_picture_id long o p) ≡ drop n p
+drop-id n long None p before = refl
+drop-id n false (Some id) p before = drop-set-lt n p 2 (with_low 128 id (slice_index p 2)) (before id refl).0
+drop-id n true (Some id) p before = drop-set-lt n (slice_set p 2 (with_low 128 (id / 256) (slice_index p 2))) 3 (id % 256) (before id refl).1 ∙ drop-set-lt n p 2 (with_low 128 (id / 256) (slice_index p 2)) (before id refl).0
+
+pub drop-tl0 : (n t : ℕ) (o : Option ℕ) (p : List ℕ) → ForSome o (λ _. t < n) → drop n (with_tl0_pic_idx t o p) ≡ drop n p
+drop-tl0 n t None p before = refl
+drop-tl0 n t (Some v) p before = drop-set-lt n p t v (before v refl)
+
+pub drop-key : (n k : ℕ) (o : Option ℕ) (p : List ℕ) → ForSome o (λ _. k < n) → drop n (with_key_idx k o p) ≡ drop n p
+drop-key n k None p before = refl
+drop-key n k (Some v) p before = drop-set-lt n p k (with_low 32 v (slice_index p k)) (before v refl)
 
 -- the order doesn't matter
 set-id : (long : Bool) (o : Option ℕ) (p : List ℕ) (n v : ℕ) → OffId long o n → with_picture_id long o (slice_set p n v) ≡ slice_set (with_picture_id long o p) n v

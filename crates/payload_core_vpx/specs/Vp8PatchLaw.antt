@@ -1,5 +1,5 @@
 -- What holds of every patch of a payload whose descriptor was read.
-use Rattle.std.specs.Prelude.{◌≡◌, ◌≢◌, ℕ, ◌/◌, ◌<◌, true, List, length, slice_index, None, Ok}
+use Rattle.std.specs.Prelude.{◌≡◌, ◌≢◌, ℕ, ◌/◌, ◌<◌, true, List, length, slice_index, Option, Some, None, Ok}
 use Rattle.std.specs.Option.{ForSome}
 use Rattle.payload_core_vpx.specs.Vp8Descriptor.{key_place, parsed, tl0_place}
 use Rattle.payload_core_vpx.specs.Vp8Patches.{Reaches, patch_of, patched, picture_id_end, refusal_of_build}
@@ -29,9 +29,25 @@ pub record ComesBack (d : Vp8Descriptor) (old new : List ℕ) : Type 0 where
   pub built : refusal_of_build (own_ids d) ≡ None
   pub restored : patched (patch_of (own_ids d)) new ≡ old
 
+-- The id that is written, or else the old one.
+abbrev pub or_old : Option ℕ → Option ℕ → Option ℕ
+or_old None old = old
+or_old (Some new) old = Some new
+
+-- A descriptor with the ids of a builder in place of its own.
+abbrev pub with_ids : Vp8PatchBuilder → Vp8Descriptor → Vp8Descriptor
+with_ids b d = record {
+  begins_frame = d.begins_frame;
+  shape = d.shape;
+  picture_id = or_old b.picture_id d.picture_id;
+  tl0_pic_idx = or_old b.tl0_pic_idx d.tl0_pic_idx;
+  key_idx = or_old b.key_idx d.key_idx;
+}
+
 pub record PatchHolds (d : Vp8Descriptor) (b : Vp8PatchBuilder) (payload : List ℕ) : Type 0 where
   pub reaches : Reaches (patch_of b) (length payload)
   pub ids_only : ChangesIdsOnly (patch_of b) payload (patched (patch_of b) payload)
+  pub new_ids : parsed (patched (patch_of b) payload) ≡ Ok (with_ids b d)
   pub comes_back : ComesBack d payload (patched (patch_of b) payload)
 
 -- So holds every patch that is built from a payload's descriptor, of that payload.
