@@ -1,6 +1,6 @@
 -- Packets of VP9 as the fields of their descriptor, one behind the other, and a payload (RFC 9628 4.2).
 use Rattle.std.specs.Prelude.{◌≡◌, ⊤, ℕ, ◌+◌, ◌*◌, ◌/◌, ◌%◌, ◌<◌, ◌&&◌, Bool, true, false, zero, suc, List, [], ◌∷◌, ◌++◌, length, Option, Some, None, Ok}
-use Rattle.payload_core_base.specs.Format.{Fragment}
+use Rattle.payload_core_base.specs.Format.{Fragment, Reading}
 use Rattle.payload_core_base.specs.declared.extra.CodecExtra.{CodecExtra}
 use Rattle.payload_core_base.specs.declared.extra.CodecExtra.TheVariants.{Vp9}
 use Rattle.payload_core_vp9.specs.Vp9Descriptor.{has_bit, has_f, has_i, has_l, has_p, has_v, read_vp9, sizes_size}
@@ -60,3 +60,14 @@ pub record IsVp9Packet (packet : List ℕ) (id : Option ℕ) (payload : List ℕ
 abbrev pub LayoutLaw : Type 0
 LayoutLaw = (fragment : Fragment) (extra : CodecExtra) (packet : List ℕ) (id : Option ℕ) (payload : List ℕ) → IsVp9Packet packet id payload
     → read_vp9 fragment extra packet ≡ Ok (record { written = payload; extra = Vp9 (record { picture_id = id }); fragment = fragment })
+
+-- A reading is the payload and the picture id of a packet that is laid out so.
+pub record IsReadAs (fragment : Fragment) (packet : List ℕ) (r : Reading) : Type 0 where
+  pub id : Option ℕ
+  pub payload : List ℕ
+  pub laid : IsVp9Packet packet id payload
+  pub reading : r ≡ record { written = payload; extra = Vp9 (record { picture_id = id }); fragment = fragment }
+
+-- And no other packet is read.
+abbrev pub ReadLaw : Type 0
+ReadLaw = (fragment : Fragment) (extra : CodecExtra) (packet : List ℕ) (r : Reading) → read_vp9 fragment extra packet ≡ Ok r → IsReadAs fragment packet r
