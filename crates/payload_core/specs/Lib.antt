@@ -16,6 +16,8 @@ pub use Rattle.payload_core_buffer.specs.Pops
 pub use Rattle.payload_core_buffer.specs.Sending
 pub use Rattle.payload_core_vp9.specs.Vp9
 pub use Rattle.payload_core_vp9.specs.Vp9Descriptor
+pub use Rattle.payload_core_vp9.specs.Vp9Layout
 pub use Rattle.payload_core_vpx.specs.Vp8
 pub use Rattle.payload_core_vpx.specs.Vp8Descriptor
+pub use Rattle.payload_core_vpx.specs.Vp8PatchLaw
 pub use Rattle.payload_core_vpx.specs.Vp8Patches

@@ -13,8 +13,8 @@ pub use payload_core_base::{
     Vp9CodecExtra, telephone_event_law,
 };
 pub use payload_core_buffer::{Depacketized, DepacketizingBuffer, MAX_HELD, Payloader, RtpMeta};
-pub use payload_core_vp9::{Vp9Depacketizer, Vp9Packetizer, vp9_law};
+pub use payload_core_vp9::{Vp9Depacketizer, Vp9Packetizer, vp9_law, vp9_layout_law};
 pub use payload_core_vpx::{
     VP8_HEADER_SIZE, Vp8Depacketizer, Vp8Descriptor, Vp8DescriptorError, Vp8Packetizer, Vp8Patch,
-    Vp8PatchBuilder, Vp8PatchError, detect_vp8_keyframe, vp8_law,
+    Vp8PatchBuilder, Vp8PatchError, detect_vp8_keyframe, vp8_law, vp8_patch_law,
 };

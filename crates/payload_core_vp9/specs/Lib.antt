@@ -1,2 +1,3 @@
 pub mod Vp9
 pub mod Vp9Descriptor
+pub mod Vp9Layout

@@ -5,7 +5,7 @@ mod laws;
 mod vp9_receiver;
 mod vp9_sender;
 
-pub use laws::vp9_law;
+pub use laws::{vp9_law, vp9_layout_law};
 pub use vp9_receiver::Vp9Depacketizer;
 pub use vp9_sender::Vp9Packetizer;
 

@@ -1,1 +1,3 @@
+pub mod PatchLaw
+pub mod PatchWrites
 pub mod Vp8Law

@@ -1,3 +1,4 @@
 pub mod Vp8
 pub mod Vp8Descriptor
+pub mod Vp8PatchLaw
 pub mod Vp8Patches

@@ -2,6 +2,7 @@
 
 ghost use Rattle.payload_core_base.specs.Law.{CodecLaw, FillsPackets};
 ghost use Rattle.payload_core_vpx.specs.Vp8.{vp8_coding, vp8_packing};
+ghost use Rattle.payload_core_vpx.specs.Vp8PatchLaw.{PatchLaw};
 ghost use Rattle.std.specs.Prelude.{Bool};
 
 /// VP8 keeps the codec law, with ids and without: a frame is one unit of one part, unless the limit leaves
@@ -9,4 +10,10 @@ ghost use Rattle.std.specs.Prelude.{Bool};
 pub fn vp8_law()
     ensures codec { (has_id : Bool) → CodecLaw (vp8_coding has_id) }
     ensures full { (has_id : Bool) → FillsPackets (vp8_packing has_id) }
+{}
+
+/// A patch that was built from a payload's descriptor changes the ids' bits of that payload only, and the
+/// patch of its own ids restores it.
+pub fn vp8_patch_law()
+    ensures { PatchLaw }
 {}

@@ -11,3 +11,6 @@ mod session_text;
 pub use errors::SdpError;
 pub use laws::reading_law;
 pub use session_text::{Extmap, SessionText};
+
+#[cfg(test)]
+mod tests;

@@ -6,6 +6,7 @@ mod format;
 mod key;
 mod numbers;
 mod parts;
+mod printing;
 mod row;
 mod rows;
 mod spec;

@@ -59,7 +59,7 @@ pub(crate) fn don_diff_of(text: &str) -> Option<u16>
     }
 }
 
-fn bit_of(mode: u8) -> u16
+pub(crate) fn bit_of(mode: u8) -> u16
     requires { mode ≤ 8 }
     ensures { result ≡ 2 ^ mode }
 {

@@ -1,9 +1,10 @@
 //! Format parameters read from a line.
 
 use crate::FormatParams;
+use std::test::Fail;
 
 #[test]
-fn modes_are_read(rt: HostRuntime) {
+fn modes_are_read_and_printed(rt: HostRuntime) -> Result<(), Fail> {
     let format = FormatParams::parse_line("octet-align=1; mode-set=0, 1,2;max-red=220");
     let expected = FormatParams {
         octet_align: Some(true),
@@ -11,6 +12,23 @@ fn modes_are_read(rt: HostRuntime) {
         ..FormatParams::default()
     };
     assert_eq!(rt; format, expected);
+    let text = format.to_string(rt.alloc())?;
+    assert_eq!(rt; text.as_str(), "octet-align=1;mode-set=0,1,2");
+    Ok(())
+}
+
+#[test]
+fn levels_are_printed(rt: HostRuntime) -> Result<(), Fail> {
+    let format = FormatParams::parse_line("profile-level-id=1f;packetization-mode=1");
+    let text = format.to_string(rt.alloc())?;
+    assert_eq!(rt;
+        text.as_str(),
+        "packetization-mode=1;profile-level-id=00001f"
+    );
+    let format = FormatParams::parse_line("0-16;useinbandfec=1");
+    let text = format.to_string(rt.alloc())?;
+    assert_eq!(rt; text.as_str(), "useinbandfec=1;0-16");
+    Ok(())
 }
 
 #[test]

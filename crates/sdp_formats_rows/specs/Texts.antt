@@ -1,0 +1,99 @@
+-- The text of format parameters.
+use Rattle.std.specs.Prelude.{ℕ, ◌==◌, ◌&&◌, nat_le, ◌^◌, ◌-◌, ◌/◌, ◌%◌, Bool, true, false, List, [], ◌∷◌, ◌++◌, length, filter, fold, codes, decimal, Option, Some, None, if◌then◌else◌}
+use Rattle.std.specs.Fmt.{digits, padded_integral, format_spec}
+use Rattle.std.specs.Option.{option_map}
+use Rattle.sdp_formats_rows.specs.declared.format.FormatParams.{FormatParams}
+use Rattle.sdp_formats_rows.specs.declared.key.Key.{Key}
+use Rattle.sdp_formats_rows.specs.declared.key.Key.TheVariants.{MinPTime, Stereo, SpropStereo, UseInbandFec, UseDtx, LevelAsymmetryAllowed, PacketizationMode, ProfileLevelId, ProfileId, Profile, LevelIdx, Tier, SpropMaxDonDiff, OctetAlign, ModeSet}
+use Rattle.sdp_formats_rows.specs.Keys.{key_name}
+
+-- A parameter with its value, `key=value`.
+abbrev pub pair_text : Key → List ℕ → List ℕ
+pair_text key value = key_name key ++ 61 ∷ value
+
+abbrev pub number_text : Key → ℕ → List ℕ
+number_text key number = pair_text key (decimal number)
+
+-- A flag is 1 or 0.
+abbrev pub flag_number : Bool → ℕ
+flag_number true = 1
+flag_number false = 0
+
+abbrev pub flag_text : Key → Bool → List ℕ
+flag_text key flag = number_text key (flag_number flag)
+
+-- At least six hexadecimal digits.
+abbrev pub profile_level_text : ℕ → List ℕ
+profile_level_text number = pair_text ProfileLevelId (padded_integral (format_spec 32 0 4 6 (2 ^ 64 - 1)) false [] (digits 16 false number))
+
+-- The range of telephone events from 0 on.
+abbrev pub range_text : ℕ → List ℕ
+range_text event = codes "0-" ++ decimal event
+
+-- The modes, 0 to 8, whose bits are set.
+abbrev pub has_mode : ℕ → ℕ → Bool
+has_mode modes mode = nat_le mode 8 && (modes / 2 ^ mode % 2 == 1)
+
+abbrev pub set_modes : ℕ → List ℕ
+set_modes modes = filter (has_mode modes) (0 ∷ 1 ∷ 2 ∷ 3 ∷ 4 ∷ 5 ∷ 6 ∷ 7 ∷ 8 ∷ [])
+
+-- Numbers with commas between.
+abbrev pub behind_commas : List ℕ → List ℕ
+behind_commas [] = []
+behind_commas (number ∷ numbers) = (44 ∷ decimal number) ++ behind_commas numbers
+
+abbrev pub listed : List ℕ → List ℕ
+listed [] = []
+listed (number ∷ numbers) = decimal number ++ behind_commas numbers
+
+abbrev pub modes_text : ℕ → List ℕ
+modes_text modes = pair_text ModeSet (listed (set_modes modes))
+
+-- The parameters that are given, in the order of printing.
+abbrev pub opus_pieces : FormatParams → List (Option (List ℕ))
+opus_pieces f =
+    option_map (number_text MinPTime) f.min_p_time
+    ∷ option_map (flag_text Stereo) f.stereo
+    ∷ option_map (flag_text SpropStereo) f.sprop_stereo
+    ∷ option_map (flag_text UseInbandFec) f.use_inband_fec
+    ∷ option_map (flag_text UseDtx) f.use_dtx
+    ∷ []
+
+abbrev pub h264_pieces : FormatParams → List (Option (List ℕ))
+h264_pieces f =
+    option_map (flag_text LevelAsymmetryAllowed) f.level_asymmetry_allowed
+    ∷ option_map (number_text PacketizationMode) f.packetization_mode
+    ∷ option_map profile_level_text f.profile_level_id
+    ∷ []
+
+abbrev pub video_pieces : FormatParams → List (Option (List ℕ))
+video_pieces f =
+    option_map (number_text ProfileId) f.profile_id
+    ∷ option_map (number_text Profile) f.profile
+    ∷ option_map (number_text LevelIdx) f.level_idx
+    ∷ option_map (number_text Tier) f.tier
+    ∷ option_map (number_text SpropMaxDonDiff) f.sprop_max_don_diff
+    ∷ []
+
+abbrev pub other_pieces : FormatParams → List (Option (List ℕ))
+other_pieces f =
+    option_map range_text f.telephone_event_max
+    ∷ option_map (flag_text OctetAlign) f.octet_align
+    ∷ option_map modes_text f.mode_set
+    ∷ []
+
+-- A text with one more piece, behind a semicolon where something stands before it.
+abbrev pub separated : List ℕ → List ℕ
+separated text = if length text == 0 then text else text ++ 59 ∷ []
+
+unfoldable pub with_piece : List ℕ → Option (List ℕ) → List ℕ
+with_piece text None = text
+with_piece text (Some piece) = separated text ++ piece
+
+abbrev pub with_pieces : List ℕ → List (Option (List ℕ)) → List ℕ
+with_pieces text [] = text
+with_pieces text (piece ∷ pieces) = with_pieces (with_piece text piece) pieces
+
+-- The text of the parameters (RFC 8866 6.15).
+abbrev pub format_text : FormatParams → List ℕ
+format_text f = with_pieces (with_pieces (with_pieces (with_pieces [] (opus_pieces f)) (h264_pieces f)) (video_pieces f)) (other_pieces f)

@@ -1,0 +1,207 @@
+//! The text of format parameters.
+
+ghost use Rattle.std.specs.Prelude.{◌≡◌, ◌≤◌, ◌++◌, ◌∷◌, [], IfOk, OnOk};
+ghost use Rattle.std.specs.String.{string_bytes};
+ghost use Rattle.std.specs.Option.{option_map};
+ghost use Rattle.sdp_formats_rows.specs.Texts.{number_text, flag_number, flag_text, profile_level_text, range_text, has_mode, set_modes, behind_commas, listed, modes_text, opus_pieces, h264_pieces, video_pieces, other_pieces, separated, with_piece, with_pieces, format_text};
+
+use crate::format::FormatParams;
+use crate::key::Key;
+use crate::numbers::bit_of;
+use std::alloc::{AllocError, Global};
+
+fn push_separator(text: &mut String) -> Result<(), AllocError>
+    ensures { OnOk result (string_bytes text.new ≡ separated (string_bytes text.old)) }
+{
+    if text.is_empty() {
+        return Ok(());
+    }
+    text.push_str(";")
+}
+
+#[tactic(auto, unfolding(crate::specs::Texts::with_piece))]
+fn push_number(text: &mut String, key: Key, number: Option<u32>) -> Result<(), AllocError>
+    ensures { OnOk result (string_bytes text.new ≡ with_piece (string_bytes text.old) (option_map (number_text key) number)) }
+{
+    match number {
+        Some(number) => {
+            push_separator(text)?;
+            let name = key.as_str();
+            write!(text, "{name}={number}")
+        }
+        None => Ok(()),
+    }
+}
+
+fn flag_number(flag: Option<bool>) -> Option<u32>
+    ensures { result ≡ option_map flag_number flag }
+{
+    match flag {
+        Some(true) => Some(1),
+        Some(false) => Some(0),
+        None => None,
+    }
+}
+
+fn push_flag(text: &mut String, key: Key, flag: Option<bool>) -> Result<(), AllocError>
+    ensures { OnOk result (string_bytes text.new ≡ with_piece (string_bytes text.old) (option_map (flag_text key) flag)) }
+{
+    push_number(text, key, flag_number(flag))
+}
+
+fn push_byte(text: &mut String, key: Key, number: Option<u8>) -> Result<(), AllocError>
+    ensures { OnOk result (string_bytes text.new ≡ with_piece (string_bytes text.old) (option_map (number_text key) number)) }
+{
+    match number {
+        Some(number) => push_number(text, key, Some(u32::from(number))),
+        None => push_number(text, key, None),
+    }
+}
+
+fn push_half_word(text: &mut String, key: Key, number: Option<u16>) -> Result<(), AllocError>
+    ensures { OnOk result (string_bytes text.new ≡ with_piece (string_bytes text.old) (option_map (number_text key) number)) }
+{
+    match number {
+        Some(number) => push_number(text, key, Some(u32::from(number))),
+        None => push_number(text, key, None),
+    }
+}
+
+#[tactic(auto, unfolding(crate::specs::Texts::with_piece))]
+fn push_profile_level(text: &mut String, number: Option<u32>) -> Result<(), AllocError>
+    ensures { OnOk result (string_bytes text.new ≡ with_piece (string_bytes text.old) (option_map profile_level_text number)) }
+{
+    match number {
+        Some(number) => {
+            push_separator(text)?;
+            write!(text, "profile-level-id={number:06x}")
+        }
+        None => Ok(()),
+    }
+}
+
+#[tactic(auto, unfolding(crate::specs::Texts::with_piece))]
+fn push_range(text: &mut String, event: Option<u8>) -> Result<(), AllocError>
+    ensures { OnOk result (string_bytes text.new ≡ with_piece (string_bytes text.old) (option_map range_text event)) }
+{
+    match event {
+        Some(event) => {
+            push_separator(text)?;
+            write!(text, "0-{event}")
+        }
+        None => Ok(()),
+    }
+}
+
+fn has_mode(modes: u16, mode: u8) -> bool
+    ensures { result ≡ has_mode modes mode }
+{
+    if mode > 8 {
+        return false;
+    }
+    modes / bit_of(mode) % 2 == 1
+}
+
+fn set_modes(alloc: Global, modes: u16) -> Result<Vec<u8>, AllocError>
+    ensures { IfOk result (λ v. v.items ≡ set_modes modes) }
+{
+    [0, 1, 2, 3, 4, 5, 6, 7, 8]
+        .iter()
+        .copied()
+        .filter(|mode| has_mode(modes, *mode))
+        .collect(alloc)
+}
+
+fn push_behind_commas(text: &mut String, numbers: &[u8]) -> Result<(), AllocError>
+    ensures { OnOk result (string_bytes text.new ≡ string_bytes text.old ++ behind_commas numbers.now) }
+{
+    let mut left = numbers;
+    while let Some((number, rest)) = left.split_first() {
+        write!(text, ",{number}")?;
+        left = rest;
+    }
+    Ok(())
+}
+
+fn push_listed(text: &mut String, numbers: &[u8]) -> Result<(), AllocError>
+    ensures { OnOk result (string_bytes text.new ≡ string_bytes text.old ++ listed numbers.now) }
+{
+    match numbers.split_first() {
+        Some((number, rest)) => {
+            write!(text, "{number}")?;
+            push_behind_commas(text, rest)
+        }
+        None => Ok(()),
+    }
+}
+
+#[tactic(auto, unfolding(crate::specs::Texts::with_piece))]
+fn push_modes(alloc: Global, text: &mut String, modes: Option<u16>) -> Result<(), AllocError>
+    ensures { OnOk result (string_bytes text.new ≡ with_piece (string_bytes text.old) (option_map modes_text modes)) }
+{
+    match modes {
+        Some(modes) => {
+            let numbers = set_modes(alloc, modes)?;
+            push_separator(text)?;
+            text.push_str("mode-set=")?;
+            push_listed(text, numbers.as_slice())
+        }
+        None => Ok(()),
+    }
+}
+
+fn push_opus(text: &mut String, f: &FormatParams) -> Result<(), AllocError>
+    ensures { OnOk result (string_bytes text.new ≡ with_pieces (string_bytes text.old) (opus_pieces f.now)) }
+{
+    push_byte(text, Key::MinPTime, f.min_p_time)?;
+    push_flag(text, Key::Stereo, f.stereo)?;
+    push_flag(text, Key::SpropStereo, f.sprop_stereo)?;
+    push_flag(text, Key::UseInbandFec, f.use_inband_fec)?;
+    push_flag(text, Key::UseDtx, f.use_dtx)
+}
+
+fn push_h264(text: &mut String, f: &FormatParams) -> Result<(), AllocError>
+    ensures { OnOk result (string_bytes text.new ≡ with_pieces (string_bytes text.old) (h264_pieces f.now)) }
+{
+    push_flag(text, Key::LevelAsymmetryAllowed, f.level_asymmetry_allowed)?;
+    push_byte(text, Key::PacketizationMode, f.packetization_mode)?;
+    push_profile_level(text, f.profile_level_id)
+}
+
+fn push_video(text: &mut String, f: &FormatParams) -> Result<(), AllocError>
+    ensures { OnOk result (string_bytes text.new ≡ with_pieces (string_bytes text.old) (video_pieces f.now)) }
+{
+    push_number(text, Key::ProfileId, f.profile_id)?;
+    push_byte(text, Key::Profile, f.profile)?;
+    push_byte(text, Key::LevelIdx, f.level_idx)?;
+    push_byte(text, Key::Tier, f.tier)?;
+    push_half_word(text, Key::SpropMaxDonDiff, f.sprop_max_don_diff)
+}
+
+fn push_others(alloc: Global, text: &mut String, f: &FormatParams) -> Result<(), AllocError>
+    ensures { OnOk result (string_bytes text.new ≡ with_pieces (string_bytes text.old) (other_pieces f.now)) }
+{
+    push_range(text, f.telephone_event_max)?;
+    push_flag(text, Key::OctetAlign, f.octet_align)?;
+    push_modes(alloc, text, f.mode_set)
+}
+
+impl FormatParams {
+    /// The parameters that are given as `key=value`, with semicolons between: flags as 0 or 1,
+    /// `profile-level-id` in six hexadecimal digits, a range of telephone events as `0-X`, modes
+    /// with commas between (RFC 8866 6.15).
+    ///
+    /// # Errors
+    ///
+    /// `AllocError` where memory is wanting.
+    pub fn to_string(&self, alloc: Global) -> Result<String, AllocError>
+        ensures { IfOk result (λ text. string_bytes text ≡ format_text self.now) }
+    {
+        let mut text = String::new(alloc);
+        push_opus(&mut text, self)?;
+        push_h264(&mut text, self)?;
+        push_video(&mut text, self)?;
+        push_others(alloc, &mut text, self)?;
+        Ok(text)
+    }
+}
