@@ -133,7 +133,8 @@ poll_step (Some e) c =
     if nat_lt c.stream (length e.receivers) then becomes (with_receiver e c.stream (polled_receiver (receiver_at e c.stream))) (unit_reply (poll_answer (receiver_at e c.stream).stream))
     else prints (Some e) reply.ErrorLine
 
--- What a command does to the end that it names, and what is printed.
+-- What a command of streams does to the end that it names, and what is printed. The commands that make
+-- ends and exchange texts have definitions of their own.
 abbrev pub step_of : Option EndState → Command → EndStep
 step_of end (Fixed side) = becomes fixed_end reply.Done
 step_of end (Send c) = send_step end c
@@ -141,6 +142,7 @@ step_of end (Open c) = open_step end c
 step_of end (Sample c) = sample_step end c
 step_of end (Receive c) = receive_step end c
 step_of end (Poll c) = poll_step end c
+step_of end command = prints end reply.ErrorLine
 
 -- the end whose sending stream failed
 abbrev pub with_failed : Option EndState → ℕ → Option EndState
@@ -154,6 +156,7 @@ wanting_of end (Open c) = prints end (reply.Refused name.Memory)
 wanting_of end (Sample c) = prints (with_failed end c.stream) (reply.Refused name.Memory)
 wanting_of end (Receive c) = prints end (reply.Refused name.Memory)
 wanting_of end (Poll c) = prints end (reply.Fault name.Memory)
+wanting_of end command = prints end (reply.Refused name.Memory)
 
 -- the end is this, and so are the replies
 abbrev pub IsStep : EndStep → Option EndState → List Reply → Type 0
@@ -162,28 +165,3 @@ IsStep step end replies = (end ≡ step.end) × (replies ≡ step.replies)
 -- A command is answered as stated, or its call is refused for want of memory.
 abbrev pub IsAnswered : Option EndState → Command → Option EndState → List Reply → Type 0
 IsAnswered old command new replies = IsStep (step_of old command) new replies ⊎ IsStep (wanting_of old command) new replies
-
--- The two ends of the program.
-pub record Ends : Type 0 where
-  pub a : Option EndState
-  pub b : Option EndState
-
-abbrev pub no_ends : Ends
-no_ends = record { a = None; b = None }
-
-abbrev pub side_of : Command → Side
-side_of (Fixed side) = side
-side_of (Send c) = c.side
-side_of (Open c) = c.side
-side_of (Sample c) = c.side
-side_of (Receive c) = c.side
-side_of (Poll c) = c.side
-
--- the end that a command names is answered for, and the other stays
-abbrev pub IsAnsweredAt : Side → Ends → Command → Ends → List Reply → Type 0
-IsAnsweredAt A old command new replies = IsAnswered old.a command new.a replies × (new.b ≡ old.b)
-IsAnsweredAt B old command new replies = IsAnswered old.b command new.b replies × (new.a ≡ old.a)
-
--- What the program does at a command.
-abbrev pub Gives : Ends → Command → Ends → List Reply → Type 0
-Gives old command new replies = IsAnsweredAt (side_of command) old command new replies

@@ -6,7 +6,9 @@ mod program;
 
 pub use program::run;
 pub use rtp_media_ends::{
-    Codec, CodecSpec, Datagram, End, EndError, FormatParams, OpenError, PacketError, PayloadParams,
-    PollFault, Polls, ReceiveError, Received, ReceivedAll, SampleError, StreamParams, Unit,
+    Bandwidth, Codec, CodecConfig, CodecSpec, Datagram, End, EndError, ExchangeError, FormatParams,
+    MediaKind, OpenError, PacketError, PayloadParams, PollFault, Polls, ReceiveError, Received,
+    ReceivedAll, RoundError, SampleError, SdpError, SectionSpec, Session, SessionAttribute,
+    StreamParams, Unit, connect,
 };
 pub use rtp_media_lines::{RunFault, Status};

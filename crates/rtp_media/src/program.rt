@@ -1,32 +1,71 @@
 //! The program of lines over two ends.
 
-ghost use Rattle.std.specs.Prelude.{◌≡◌, ◌≢◌, ℕ, ◌<◌, ◌++◌, List, [], ◌∷◌, map, IfOk, IfSome, Some, None};
+ghost use Rattle.std.specs.Prelude.{◌≡◌, ◌≢◌, ℕ, ◌<◌, ◌++◌, List, [], ◌∷◌, map, IfOk, OnOk, IfSome, Some, None};
 ghost use Rattle.std.specs.Io.KnownBytes.{Appends, Consumes, IsAtEnd};
 ghost use Rattle.rtp_media_lines.specs.Runs.{Printed, ReadsAll};
 ghost use Rattle.rtp_media_lines.specs.declared.line.Command.{Command};
-ghost use Rattle.rtp_media.specs.Program.{IsAnswered, Gives, IsAnsweredAt, side_of, open_error_name, sample_error_name, fault_name, verdict_reply, unit_reply, no_ends};
+ghost use Rattle.rtp_media.specs.Exchanging.{clear_desk};
+ghost use Rattle.rtp_media.specs.Program.{IsAnswered, open_error_name, sample_error_name, fault_name, verdict_reply, unit_reply};
+ghost use Rattle.rtp_media.specs.Sides.{Gives, AnswersAt, ConnectsEnds, KeepsDraft, side_of, no_ends};
 
+mod exchanging;
+
+use exchanging::{
+    accept, answer_offer, connect_ends, draft_ext, draft_row, make_end, offer, withdraw,
+};
 use rtp_media_ends::{
-    Datagram, End, OpenError, PollFault, Received, SampleError, StreamParams, Unit,
+    Datagram, End, OpenError, PayloadParams, PollFault, Received, SampleError, StreamParams, Unit,
 };
 use rtp_media_lines::{
-    Bytes, Command, ErrorName, OpenCommand, PollCommand, ReceiveCommand, Reply, Respond, RunFault,
+    Bytes, Command, ConnectCommand, ErrorName, OpenCommand, PollCommand, ReceiveCommand, Reply, Respond, RunFault,
     SampleCommand, SendCommand, Side, Status, run_lines,
 };
-use rtp_wire::{ExtensionValues, MediaTime, Mid, Pt, Ssrc};
+use rtp_wire::{ExtensionMap, ExtensionValues, MediaTime, Mid, Pt, Ssrc};
 use std::alloc::{AllocError, Global};
 use std::io::{Read, Write};
 use std::marker::Model;
 
-/// The two ends that the lines speak of.
+/// One side: its end, and the draft of the next one.
+#[derive(Drop)]
+struct Desk {
+    end: Option<End>,
+    rows: Vec<PayloadParams>,
+    exts: ExtensionMap,
+}
+
+impl Model for Desk {
+    ghost use Rattle.rtp_media.specs.Exchanging.{Desk as Side};
+    ghost use Rattle.rtp_wire.specs.Replay.{window_code};
+    ghost use Rattle.std.specs.Coded.{codes};
+
+    ghost Value = { Side };
+
+    ghost coded = { Prim.hlevel (codes, window_code) };
+
+    ghost view = { λ d. record { end = d.end; rows = d.rows.items; exts = d.exts } };
+}
+
+impl Desk {
+    fn clear(alloc: Global) -> Desk
+        ensures { result ≡ clear_desk None }
+    {
+        Desk {
+            end: None,
+            rows: Vec::new(alloc),
+            exts: ExtensionMap::empty(),
+        }
+    }
+}
+
+/// The two sides that the lines speak of.
 #[derive(Drop)]
 struct Program {
-    a: Option<End>,
-    b: Option<End>,
+    a: Desk,
+    b: Desk,
 }
 
 impl Model for Program {
-    ghost use Rattle.rtp_media.specs.Program.{Ends};
+    ghost use Rattle.rtp_media.specs.Sides.{Ends};
     ghost use Rattle.rtp_wire.specs.Replay.{window_code};
     ghost use Rattle.std.specs.Coded.{codes};
 
@@ -38,19 +77,36 @@ impl Model for Program {
 }
 
 impl Respond for Program {
-    ghost use Rattle.rtp_media.specs.Program.{Gives};
+    ghost use Rattle.rtp_media.specs.Sides.{Gives};
 
     ghost gives = { Gives };
 
     fn respond(&mut self, alloc: Global, command: Command) -> Result<Vec<Reply>, AllocError> {
-        match command_side(&command) {
-            Side::A => answer(alloc, &mut self.a, command),
-            Side::B => answer(alloc, &mut self.b, command),
+        match command {
+            Command::Connect(command) => connect_desks(alloc, &mut self.a, &mut self.b, command),
+            command => match command_side(&command) {
+                Side::A => answer(alloc, &mut self.a, command),
+                Side::B => answer(alloc, &mut self.b, command),
+            },
         }
     }
 }
 
-/// The end that a command names.
+/// Connects the ends of both sides.
+fn connect_desks(
+    alloc: Global,
+    a: &mut Desk,
+    b: &mut Desk,
+    command: ConnectCommand,
+) -> Result<Vec<Reply>, AllocError>
+    ensures ends { IfOk result (λ replies. ConnectsEnds a.old.end b.old.end command a.new.end b.new.end replies.items) }
+    ensures a { OnOk result (KeepsDraft a.old a.new) }
+    ensures b { OnOk result (KeepsDraft b.old b.new) }
+{
+    connect_ends(alloc, &mut a.end, &mut b.end, command)
+}
+
+/// The side that a command names.
 fn command_side(command: &Command) -> Side
     ensures { result ≡ side_of command.now }
 {
@@ -61,25 +117,41 @@ fn command_side(command: &Command) -> Side
         Command::Sample(command) => command.side,
         Command::Receive(command) => command.side,
         Command::Poll(command) => command.side,
+        Command::Row(command) => command.side,
+        Command::Ext(command) => command.side,
+        Command::End(command) => command.side,
+        Command::Offer(command) => command.side,
+        Command::Answer(command) => command.side,
+        Command::Accept(command) => command.side,
+        Command::Withdraw(side) => *side,
+        Command::Connect(_) => Side::A,
     }
 }
 
-/// Answers a command at its end.
-fn answer(alloc: Global, end: &mut Option<End>, command: Command) -> Result<Vec<Reply>, AllocError>
-    ensures { IfOk result (λ replies. IsAnswered end.old command end.new replies.items) }
+/// Answers a command at its side; `connect` is none of one side.
+fn answer(alloc: Global, desk: &mut Desk, command: Command) -> Result<Vec<Reply>, AllocError>
+    ensures { IfOk result (λ replies. AnswersAt desk.old command desk.new replies.items) }
 {
     match command {
-        Command::Fixed(side) => fix(alloc, end, side),
-        Command::Send(command) => send(alloc, end, command),
-        Command::Open(command) => open(alloc, end, command),
-        Command::Sample(command) => sample(alloc, end, command),
-        Command::Receive(command) => receive(alloc, end, command),
-        Command::Poll(command) => poll(alloc, end, command),
+        Command::Fixed(side) => fix(alloc, &mut desk.end, side),
+        Command::Send(command) => send(alloc, &mut desk.end, command),
+        Command::Open(command) => open(alloc, &mut desk.end, command),
+        Command::Sample(command) => sample(alloc, &mut desk.end, command),
+        Command::Receive(command) => receive(alloc, &mut desk.end, command),
+        Command::Poll(command) => poll(alloc, &mut desk.end, command),
+        Command::Row(command) => draft_row(alloc, desk, command),
+        Command::Ext(command) => draft_ext(alloc, desk, command),
+        Command::End(command) => make_end(alloc, desk, command),
+        Command::Offer(command) => offer(alloc, &mut desk.end, command),
+        Command::Answer(command) => answer_offer(alloc, &mut desk.end, command),
+        Command::Accept(command) => accept(alloc, &mut desk.end, command),
+        Command::Withdraw(side) => withdraw(alloc, &mut desk.end, side),
+        Command::Connect(_) => one(alloc, Reply::ErrorLine),
     }
 }
 
 /// One reply.
-fn one(alloc: Global, reply: Reply) -> Result<Vec<Reply>, AllocError>
+pub(crate) fn one(alloc: Global, reply: Reply) -> Result<Vec<Reply>, AllocError>
     ensures { IfOk result (λ replies. replies.items ≡ reply ∷ []) }
 {
     let mut replies = Vec::new(alloc);
@@ -289,10 +361,13 @@ pub fn run<R: Read, W: Write>(
     reader: &mut R,
     writer: &mut W,
 ) -> Result<Status, RunFault>
-    ensures read { IfOk result (λ status. (input : List ℕ) × (ends : Rattle.rtp_media.specs.Program.Ends) ×
+    ensures read { IfOk result (λ status. (input : List ℕ) × (ends : Rattle.rtp_media.specs.Sides.Ends) ×
         ReadsAll (R.remaining reader.old) (R.remaining reader.new) input
         × Printed Gives no_ends ends (W.contents writer.old) (W.contents writer.new) input status) }
 {
-    let mut program = Program { a: None, b: None };
+    let mut program = Program {
+        a: Desk::clear(alloc),
+        b: Desk::clear(alloc),
+    };
     run_lines(alloc, reader, writer, &mut program)
 }

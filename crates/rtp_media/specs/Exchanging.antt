@@ -1,0 +1,179 @@
+-- What the program answers to the commands that make ends and exchange texts.
+use Rattle.std.specs.Prelude.{ℕ, ◌≡◌, ◌⊎◌, ◌==◌, ◌-◌, ◌&&◌, Bool, true, false, nat_le, if◌then◌else◌, is_some, IsUtf8, List, [], ◌∷◌, ◌++◌, map, slice_set, Option, Some, None}
+use Rattle.std.specs.Str.{is_utf8}
+use Rattle.payload_core_base.specs.Codecs.{codec_named}
+use Rattle.rtp_wire.specs.Elements.{Numbering}
+use Rattle.rtp_wire.specs.Kinds.{extension_of}
+use Rattle.rtp_wire.specs.Maps.{empty_map, is_empty_map}
+use Rattle.rtp_wire.specs.Name.{name_of}
+use Rattle.sdp_formats_rows.specs.declared.format.FormatParams.{FormatParams}
+use Rattle.sdp_formats_rows.specs.Formats.{format_of, no_format}
+use Rattle.sdp_formats_rows.specs.Rows.{Row, new_row}
+use Rattle.rtp_media_exchange.specs.declared.errors.EndError.{EndError}
+use Rattle.rtp_media_exchange.specs.declared.errors.EndError.TheVariants as end_error
+use Rattle.rtp_media_exchange.specs.declared.errors.ExchangeError.{ExchangeError}
+use Rattle.rtp_media_exchange.specs.declared.errors.ExchangeError.TheVariants as exchange_error
+use Rattle.rtp_media_exchange.specs.Exchanges.{with_offer}
+use Rattle.rtp_media_exchange.specs.Offers.{Offers, Answers, Accepts}
+use Rattle.rtp_media_exchange.specs.Refusals.{Names, refusal_of_new, refusal_of_offer, refusal_of_answer, refusal_of_accept}
+use Rattle.rtp_media_exchange.specs.Sections.{Wanted, only}
+use Rattle.rtp_media_ends.specs.Connections.{Connects, IsRefused, offering}
+use Rattle.rtp_media_ends.specs.Ends.{EndState, new_end, with_exchange}
+use Rattle.rtp_media_lines.specs.declared.exchange.RowCommand.{RowCommand}
+use Rattle.rtp_media_lines.specs.declared.exchange.ExtCommand.{ExtCommand}
+use Rattle.rtp_media_lines.specs.declared.exchange.EndCommand.{EndCommand}
+use Rattle.rtp_media_lines.specs.declared.exchange.ConnectCommand.{ConnectCommand}
+use Rattle.rtp_media_lines.specs.declared.sections.SectionWord.{SectionWord}
+use Rattle.rtp_media_lines.specs.declared.reply.Reply.{Reply}
+use Rattle.rtp_media_lines.specs.declared.reply.Reply.TheVariants as reply
+use Rattle.rtp_media_lines.specs.declared.reply.ErrorName.{ErrorName}
+use Rattle.rtp_media_lines.specs.declared.reply.ErrorName.TheVariants as name
+
+-- What the program keeps of one side: its end, where there is one, and the draft of the next one.
+pub record Desk : Type 0 where
+  pub end : Option EndState
+  pub rows : List Row
+  pub exts : Numbering
+
+-- a side without an end and with an empty draft
+abbrev pub clear_desk : Option EndState → Desk
+clear_desk end = record { end = end; rows = []; exts = empty_map }
+
+abbrev pub end_error_name : EndError → ErrorName
+end_error_name (end_error.RowNotPlain index) = name.RowNotPlain
+end_error_name (end_error.TypesNotDistinct pt) = name.TypesNotDistinct
+end_error_name end_error.NotWritable = name.NotWritable
+end_error_name end_error.Memory = name.Memory
+
+abbrev pub exchange_error_name : ExchangeError → ErrorName
+exchange_error_name (exchange_error.Unreadable error) = name.Unreadable
+exchange_error_name exchange_error.OutOfTurn = name.OutOfTurn
+exchange_error_name (exchange_error.NotMedia mid) = name.NotMedia
+exchange_error_name exchange_error.NotCorresponding = name.NotCorresponding
+exchange_error_name (exchange_error.Round error) = name.Round
+exchange_error_name (exchange_error.NoCommonRow mid) = name.NoCommonRow
+exchange_error_name exchange_error.NotWritable = name.NotWritable
+exchange_error_name exchange_error.Memory = name.Memory
+
+-- one claim where a test holds, another one where it doesn't
+abbrev pub Where : Bool → Type 0 → Type 0 → Type 0
+Where true holds fails = holds
+Where false holds fails = fails
+
+-- one line is printed
+abbrev pub Prints : List Reply → Reply → Type 0
+Prints replies reply = replies ≡ reply ∷ []
+
+-- the format of a command, none at a dash
+abbrev pub format_for : Option (List ℕ) → FormatParams
+format_for None = no_format
+format_for (Some text) = format_of text
+
+-- the row that a command drafts
+abbrev pub drafted_row : RowCommand → Row
+drafted_row c = record (new_row c.pt c.resend (record { codec = codec_named c.codec; clock_rate = c.clock_rate; channels = c.channels; format = format_for c.format })) { red = c.red }
+
+-- row E PT RTX RED CODEC CLOCK CHANNELS FMTP: a clock rate is at least 1
+abbrev pub AnswersRow : Desk → RowCommand → Desk → List Reply → Type 0
+AnswersRow old c new replies =
+    Where (c.clock_rate == 0) ((new ≡ old) × Prints replies reply.ErrorLine)
+    ((new ≡ record old { rows = old.rows ++ drafted_row c ∷ [] }) × Prints replies reply.Done)
+
+-- ext E ID URI: a number is 1 to 16
+abbrev pub AnswersExt : Desk → ExtCommand → Desk → List Reply → Type 0
+AnswersExt old c new replies =
+    Where (nat_le 1 c.id && nat_le c.id 16)
+    ((new ≡ record old { exts = slice_set old.exts (c.id - 1) (Some (extension_of c.uri)) }) × Prints replies reply.Done)
+    ((new ≡ old) × Prints replies reply.ErrorLine)
+
+-- end E ID: the draft is emptied, refused or not
+abbrev pub AnswersEnd : Desk → EndCommand → Option EndError → Desk → List Reply → Type 0
+AnswersEnd old c None new replies = (new ≡ clear_desk (Some (new_end c.session (only old.rows)))) × Prints replies reply.Done
+AnswersEnd old c (Some error) new replies = (new ≡ clear_desk old.end) × Prints replies (reply.Refused (end_error_name error))
+
+abbrev pub refusal_of_draft : Desk → Option EndError
+refusal_of_draft desk = refusal_of_new desk.rows true (is_empty_map desk.exts)
+
+-- the section that a word names
+abbrev pub wanted_of : SectionWord → Wanted
+wanted_of s = record { mid = name_of 16 s.mid; kind = s.kind; dir = s.direction; ssrcs = s.ssrcs }
+
+abbrev pub wanted_in : List SectionWord → List Wanted
+wanted_in sections = map wanted_of sections
+
+-- an offer's text is printed
+pub record PrintsOffer (e : EndState) (sections : List Wanted) (after : EndState) (replies : List Reply) : Type 0 where
+  pub text : List ℕ
+  pub offers : Offers e.exchange sections text
+  pub is_pending : after ≡ offering e sections
+  pub printed : Prints replies (reply.Text text)
+
+-- a call's refusal is printed under the name that it has, and the end stays
+pub record PrintsRefusal (e after : EndState) (names : ExchangeError → Type 0) (replies : List Reply) : Type 0 where
+  pub error : ExchangeError
+  pub named : names error
+  pub stays : after ≡ e
+  pub printed : Prints replies (reply.Refused (exchange_error_name error))
+
+-- offer E SECTION..
+abbrev pub AnswersOffer : EndState → List Wanted → EndState → List Reply → Type 0
+AnswersOffer e sections after replies =
+    PrintsOffer e sections after replies ⊎ PrintsRefusal e after (λ error. Names error (refusal_of_offer e.exchange sections)) replies
+
+-- an answer's text is printed
+pub record PrintsAnswer (e : EndState) (text : List ℕ) (sections : List Wanted) (after : EndState) (replies : List Reply) : Type 0 where
+  pub answer : List ℕ
+  pub answers : Answers e.exchange text sections answer after.exchange
+  pub streams : after ≡ with_exchange e after.exchange
+  pub printed : Prints replies (reply.Text answer)
+
+-- answer E HEX SECTION..
+abbrev pub AnswersAnswer : EndState → List ℕ → List Wanted → EndState → List Reply → Type 0
+AnswersAnswer e text sections after replies =
+    PrintsAnswer e text sections after replies ⊎ PrintsRefusal e after (λ error. Names error (refusal_of_answer e.exchange text sections)) replies
+
+-- an answer is accepted
+pub record PrintsAccept (e : EndState) (text : List ℕ) (after : EndState) (replies : List Reply) : Type 0 where
+  pub accepts : Accepts e.exchange text after.exchange
+  pub streams : after ≡ with_exchange e after.exchange
+  pub printed : Prints replies reply.Done
+
+-- accept E HEX
+abbrev pub AnswersAccept : EndState → List ℕ → EndState → List Reply → Type 0
+AnswersAccept e text after replies =
+    PrintsAccept e text after replies ⊎ PrintsRefusal e after (λ error. Names error (refusal_of_accept e.exchange text)) replies
+
+-- withdraw E
+abbrev pub AnswersWithdraw : EndState → EndState → List Reply → Type 0
+AnswersWithdraw e after replies =
+    (after ≡ with_exchange e (with_offer e.exchange None))
+    × Prints replies (if is_some e.exchange.pending then reply.Done else reply.NoOffer)
+
+-- both texts are printed
+pub record PrintsBoth (a b : EndState) (sections_a sections_b : List Wanted) (after_a after_b : EndState) (replies : List Reply) : Type 0 where
+  pub offer : List ℕ
+  pub answer : List ℕ
+  pub connects : Connects a b sections_a sections_b offer answer after_a after_b
+  pub printed : replies ≡ reply.Text offer ∷ reply.Text answer ∷ []
+
+pub record PrintsNeither (a b : EndState) (sections_a sections_b : List Wanted) (after_a after_b : EndState) (replies : List Reply) : Type 0 where
+  pub error : ExchangeError
+  pub refused : IsRefused a b sections_a sections_b error after_a after_b
+  pub printed : Prints replies (reply.Refused (exchange_error_name error))
+
+-- connect SECTION.. / SECTION..
+abbrev pub AnswersConnect : EndState → EndState → List Wanted → List Wanted → EndState → EndState → List Reply → Type 0
+AnswersConnect a b sections_a sections_b after_a after_b replies =
+    PrintsBoth a b sections_a sections_b after_a after_b replies ⊎ PrintsNeither a b sections_a sections_b after_a after_b replies
+
+-- A line that needs an end, where there is none, is an error line; else the end's answer counts.
+abbrev pub AtEnd : Option EndState → Option EndState → List Reply → (EndState → EndState → Type 0) → Type 0
+AtEnd None None replies answers = Prints replies reply.ErrorLine
+AtEnd None (Some after) replies answers = ⊥
+AtEnd (Some e) None replies answers = ⊥
+AtEnd (Some e) (Some after) replies answers = answers e after
+
+-- the same for a line with a text, which must be UTF-8
+abbrev pub WithText : List ℕ → Option EndState → Option EndState → List Reply → (EndState → EndState → Type 0) → Type 0
+WithText text old new replies answers =
+    Where (is_utf8 text) (AtEnd old new replies answers) ((new ≡ old) × Prints replies reply.ErrorLine)

@@ -1,0 +1,286 @@
+//! The commands that make ends and exchange texts.
+
+ghost use Rattle.std.specs.Prelude.{◌≡◌, [], ◌∷◌, None, Some, IfOk, IfSome, IfNone, true, false};
+ghost use Rattle.std.specs.Str.{is_utf8};
+ghost use Rattle.sdp_formats_rows.specs.Formats.{no_format};
+ghost use Rattle.rtp_media.specs.Exchanging.{Prints, AtEnd, WithText, wanted_of, wanted_in, drafted_row, format_for, AnswersRow, AnswersExt, AnswersEnd, AnswersOffer, AnswersAnswer, AnswersAccept, AnswersWithdraw, AnswersConnect, refusal_of_draft, clear_desk, end_error_name, exchange_error_name};
+ghost use Rattle.rtp_media.specs.Sides.{AnswersAt, ConnectsEnds};
+ghost use Rattle.rtp_media_lines.specs.declared.line.Command.TheVariants as command_is;
+
+use super::{Desk, one};
+use rtp_media_ends::{
+    Codec, CodecConfig, CodecSpec, End, EndError, ExchangeError, FormatParams, PayloadParams,
+    SectionSpec, Session, connect,
+};
+use rtp_media_lines::{
+    AcceptCommand, AnswerCommand, Bytes, ConnectCommand, EndCommand, ErrorName, ExtCommand,
+    OfferCommand, Reply, RowCommand, SectionWord, Side, Text,
+};
+use rtp_wire::{Extension, ExtensionMap, Frequency, Mid, Pt, SessionId, Ssrc};
+use std::alloc::{AllocError, Global};
+use std::mem;
+
+/// The format of a command.
+fn format_for(text: &Option<Text>) -> FormatParams
+    ensures { result ≡ format_for text.now }
+{
+    match text {
+        Some(text) => FormatParams::parse_line(text.as_str()),
+        None => FormatParams::default(),
+    }
+}
+
+/// The row that a command drafts.
+fn drafted_row(command: &RowCommand, clock_rate: Frequency) -> PayloadParams
+    requires { clock_rate ≡ command.now.clock_rate }
+    ensures { result ≡ drafted_row command.now }
+{
+    let spec = CodecSpec {
+        codec: Codec::from(command.codec.as_str()),
+        clock_rate,
+        channels: command.channels,
+        format: format_for(&command.format),
+    };
+    let row = PayloadParams::new(Pt::from(command.pt), command.resend.map(Pt::from), spec);
+    match command.red {
+        Some(red) => row.with_red(Pt::from(red)),
+        None => row,
+    }
+}
+
+pub(super) fn draft_row(
+    alloc: Global,
+    desk: &mut Desk,
+    command: RowCommand,
+) -> Result<Vec<Reply>, AllocError>
+    ensures { IfOk result (λ replies. AnswersRow desk.old command desk.new replies.items) }
+{
+    let Some(clock_rate) = Frequency::new(command.clock_rate) else {
+        return one(alloc, Reply::ErrorLine);
+    };
+    desk.rows.push(drafted_row(&command, clock_rate))?;
+    one(alloc, Reply::Done)
+}
+
+pub(super) fn draft_ext(
+    alloc: Global,
+    desk: &mut Desk,
+    command: ExtCommand,
+) -> Result<Vec<Reply>, AllocError>
+    ensures { IfOk result (λ replies. AnswersExt desk.old command desk.new replies.items) }
+{
+    if command.id < 1 || command.id > 16 {
+        return one(alloc, Reply::ErrorLine);
+    }
+    let ext = Extension::from_sdp_uri(alloc, command.uri.as_str())?;
+    desk.exts.set(command.id, ext);
+    one(alloc, Reply::Done)
+}
+
+/// Makes an end of a draft, which is emptied.
+pub(super) fn make_end(
+    alloc: Global,
+    desk: &mut Desk,
+    command: EndCommand,
+) -> Result<Vec<Reply>, AllocError>
+    ensures { IfOk result (λ replies. AnswersAt desk.old (command_is.End command) desk.new replies.items) }
+{
+    let rows = mem::replace(&mut desk.rows, Vec::new(alloc));
+    let exts = mem::replace(&mut desk.exts, ExtensionMap::empty());
+    let config = CodecConfig::new_from_payload_params(rows);
+    let session = Session::new(alloc, SessionId::from(command.session));
+    match End::new(alloc, config, session, exts) {
+        Ok(end) => {
+            desk.end = Some(end);
+            one(alloc, Reply::Done)
+        }
+        Err(error) => one(alloc, Reply::Refused(end_error_name(error))),
+    }
+}
+
+/// The section that a word names.
+fn wanted_of(alloc: Global, section: &SectionWord) -> Result<SectionSpec, AllocError>
+    ensures { IfOk result (λ wanted. wanted ≡ wanted_of section.now) }
+{
+    let ssrcs: Vec<Ssrc> = section
+        .ssrcs
+        .as_slice()
+        .iter()
+        .map(|ssrc| Ssrc::from(*ssrc))
+        .collect(alloc)?;
+    Ok(SectionSpec {
+        mid: Mid::from(section.mid.as_str()),
+        kind: section.kind,
+        dir: section.direction,
+        ssrcs,
+    })
+}
+
+/// The sections that words name.
+fn wanted_in(alloc: Global, sections: &[SectionWord]) -> Result<Vec<SectionSpec>, AllocError>
+    ensures { IfOk result (λ wanted. wanted.items ≡ wanted_in sections.now) }
+{
+    let mut wanted = Vec::new(alloc);
+    for section in sections {
+        wanted.push(wanted_of(alloc, section)?)?;
+    }
+    Ok(wanted)
+}
+
+pub(super) fn offer(
+    alloc: Global,
+    end: &mut Option<End>,
+    command: OfferCommand,
+) -> Result<Vec<Reply>, AllocError>
+    ensures { IfOk result (λ replies. AtEnd end.old end.new replies.items (λ e after. AnswersOffer e (wanted_in command.sections) after replies.items)) }
+{
+    let Some(end) = end else {
+        return one(alloc, Reply::ErrorLine);
+    };
+    let sections = wanted_in(alloc, command.sections.as_slice())?;
+    match end.offer(sections) {
+        Ok(text) => one(alloc, Reply::Text(Bytes::from_vec(text.into_bytes()))),
+        Err(error) => one(alloc, Reply::Refused(exchange_error_name(&error))),
+    }
+}
+
+/// The text that bytes are, where they are UTF-8.
+#[tactic(auto, using(crate::proofs::Texts::text, crate::proofs::Texts::no_text))]
+fn text_in(bytes: &[u8]) -> Option<&str>
+    ensures some { IfSome result (λ text. (text.now ≡ bytes.now) × (is_utf8 bytes.now ≡ true)) }
+    ensures none { IfNone result (is_utf8 bytes.now ≡ false) }
+{
+    match str::from_utf8(bytes) {
+        Ok(text) => Some(text),
+        Err(_) => None,
+    }
+}
+
+pub(super) fn answer_offer(
+    alloc: Global,
+    end: &mut Option<End>,
+    command: AnswerCommand,
+) -> Result<Vec<Reply>, AllocError>
+    ensures { IfOk result (λ replies. WithText command.text end.old end.new replies.items (λ e after. AnswersAnswer e command.text (wanted_in command.sections) after replies.items)) }
+{
+    match text_in(command.text.as_slice()) {
+        Some(text) => answer_text(alloc, end, text, command.sections.as_slice()),
+        None => one(alloc, Reply::ErrorLine),
+    }
+}
+
+fn answer_text(
+    alloc: Global,
+    end: &mut Option<End>,
+    text: &str,
+    sections: &[SectionWord],
+) -> Result<Vec<Reply>, AllocError>
+    ensures { IfOk result (λ replies. AtEnd end.old end.new replies.items (λ e after. AnswersAnswer e text.now (wanted_in sections.now) after replies.items)) }
+{
+    let Some(end) = end else {
+        return one(alloc, Reply::ErrorLine);
+    };
+    let sections = wanted_in(alloc, sections)?;
+    match end.answer(text, sections) {
+        Ok(text) => one(alloc, Reply::Text(Bytes::from_vec(text.into_bytes()))),
+        Err(error) => one(alloc, Reply::Refused(exchange_error_name(&error))),
+    }
+}
+
+pub(super) fn accept(
+    alloc: Global,
+    end: &mut Option<End>,
+    command: AcceptCommand,
+) -> Result<Vec<Reply>, AllocError>
+    ensures { IfOk result (λ replies. WithText command.text end.old end.new replies.items (λ e after. AnswersAccept e command.text after replies.items)) }
+{
+    match text_in(command.text.as_slice()) {
+        Some(text) => accept_text(alloc, end, text),
+        None => one(alloc, Reply::ErrorLine),
+    }
+}
+
+fn accept_text(
+    alloc: Global,
+    end: &mut Option<End>,
+    text: &str,
+) -> Result<Vec<Reply>, AllocError>
+    ensures { IfOk result (λ replies. AtEnd end.old end.new replies.items (λ e after. AnswersAccept e text.now after replies.items)) }
+{
+    let Some(end) = end else {
+        return one(alloc, Reply::ErrorLine);
+    };
+    match end.accept(text) {
+        Ok(()) => one(alloc, Reply::Done),
+        Err(error) => one(alloc, Reply::Refused(exchange_error_name(&error))),
+    }
+}
+
+pub(super) fn withdraw(
+    alloc: Global,
+    end: &mut Option<End>,
+    _side: Side,
+) -> Result<Vec<Reply>, AllocError>
+    ensures { IfOk result (λ replies. AtEnd end.old end.new replies.items (λ e after. AnswersWithdraw e after replies.items)) }
+{
+    let Some(end) = end else {
+        return one(alloc, Reply::ErrorLine);
+    };
+    if end.withdraw() {
+        one(alloc, Reply::Done)
+    } else {
+        one(alloc, Reply::NoOffer)
+    }
+}
+
+pub(super) fn connect_ends(
+    alloc: Global,
+    a: &mut Option<End>,
+    b: &mut Option<End>,
+    command: ConnectCommand,
+) -> Result<Vec<Reply>, AllocError>
+    ensures { IfOk result (λ replies. ConnectsEnds a.old b.old command a.new b.new replies.items) }
+{
+    let Some(a) = a else {
+        return one(alloc, Reply::ErrorLine);
+    };
+    let Some(b) = b else {
+        return one(alloc, Reply::ErrorLine);
+    };
+    let sections_a = wanted_in(alloc, command.offered.as_slice())?;
+    let sections_b = wanted_in(alloc, command.answered.as_slice())?;
+    match connect(a, b, sections_a, sections_b) {
+        Ok((offer, answer)) => {
+            let mut replies = one(alloc, Reply::Text(Bytes::from_vec(offer.into_bytes())))?;
+            replies.push(Reply::Text(Bytes::from_vec(answer.into_bytes())))?;
+            Ok(replies)
+        }
+        Err(error) => one(alloc, Reply::Refused(exchange_error_name(&error))),
+    }
+}
+
+fn end_error_name(error: EndError) -> ErrorName
+    ensures { result ≡ end_error_name error }
+{
+    match error {
+        EndError::RowNotPlain(_) => ErrorName::RowNotPlain,
+        EndError::TypesNotDistinct(_) => ErrorName::TypesNotDistinct,
+        EndError::NotWritable => ErrorName::NotWritable,
+        EndError::Memory => ErrorName::Memory,
+    }
+}
+
+fn exchange_error_name(error: &ExchangeError) -> ErrorName
+    ensures { result ≡ exchange_error_name error.now }
+{
+    match error {
+        ExchangeError::Unreadable(_) => ErrorName::Unreadable,
+        ExchangeError::OutOfTurn => ErrorName::OutOfTurn,
+        ExchangeError::NotMedia(_) => ErrorName::NotMedia,
+        ExchangeError::NotCorresponding => ErrorName::NotCorresponding,
+        ExchangeError::Round(_) => ErrorName::Round,
+        ExchangeError::NoCommonRow(_) => ErrorName::NoCommonRow,
+        ExchangeError::NotWritable => ErrorName::NotWritable,
+        ExchangeError::Memory => ErrorName::Memory,
+    }
+}
