@@ -81,6 +81,16 @@ reading_some : (fragment : Fragment) (id : Option ℕ) (payload : List ℕ) → 
 reading_some fragment id [] some = absurd (omega arith)
 reading_some fragment id (b ∷ bs) some = refl
 
+-- behind the picture id and the layers stand the references
+pub referring_is : (first : ℕ) (id : Option ℕ) (picture_id layers referring : List ℕ) → IsPictureId (has_i first) picture_id id → AreLayers (has_l first) (has_f first) layers
+    → references_of first (picture_id ++ (layers ++ referring)) ≡ referring
+referring_is first id picture_id layers referring is_id are_layers =
+    let layered : List ℕ = layers ++ referring in
+    ap (λ n. drop (layers_size first) (drop n (picture_id ++ layered))) (id_size (has_i first) picture_id layered id is_id)
+    ∙ ap (drop (layers_size first)) (drop_at picture_id layered (length picture_id) refl)
+    ∙ ap (λ n. drop n layered) (layers_are (has_l first) (has_f first) layers are_layers)
+    ∙ drop_at layers referring (length layers) refl
+
 pub layout_law : LayoutLaw
 layout_law fragment extra packet id payload is =
     let first : ℕ = is.first in
@@ -88,11 +98,7 @@ layout_law fragment extra packet id payload is =
     let referring : List ℕ = is.references ++ structured in
     let layered : List ℕ = is.layers ++ referring in
     let rest : List ℕ = is.picture_id ++ layered in
-    let behind_layers : references_of first rest ≡ referring =
-    ap (λ n. drop (layers_size first) (drop n rest)) (id_size (has_i first) is.picture_id layered id is.is_picture_id)
-    ∙ ap (drop (layers_size first)) (drop_at is.picture_id layered (length is.picture_id) refl)
-    ∙ ap (λ n. drop n layered) (layers_are (has_l first) (has_f first) is.layers is.are_layers)
-    ∙ drop_at is.layers referring (length is.layers) refl in
+    let behind_layers : references_of first rest ≡ referring = referring_is first id is.picture_id is.layers referring is.is_picture_id is.are_layers in
     let few : lists_too_many first (references_of first rest) ≡ false =
     ap (lists_too_many first) behind_layers ∙ few_references (has_p first && has_f first) is.references structured is.are_references in
     let behind_all : payload_of first rest ≡ payload =

@@ -1,12 +1,15 @@
--- What makes every packet that is read be laid out by its fields.
-use Rattle.std.proofs.Common.{◌≡◌, ℕ, zero, suc, ◌+◌, ◌*◌, ◌/◌, ◌%◌, ◌<◌, ◌≤◌, Bool, true, false, eqb, List, [], ◌∷◌, ◌++◌, drop, take, length, None, Some, Ok, Err, Option, if◌then◌else◌, refl, sym, ap, ◌∙◌, append_assoc, arith}
+-- What makes every packet that is read be laid out by its fields, and every one that is refused for a fourth reference list it.
+use Rattle.std.proofs.Common.{◌≡◌, ℕ, zero, suc, ◌+◌, ◌*◌, ◌/◌, ◌%◌, ◌<◌, ◌≤◌, Bool, true, false, eqb, List, [], ◌∷◌, ◌++◌, drop, take, length, None, Some, Ok, Err, Option, Result, if◌then◌else◌, refl, sym, ap, ◌∙◌, append_assoc, arith}
 use Rattle.std.specs.Prelude.{◌&&◌, slice_index}
 use Rattle.std.proofs.lemmas.List.{length-drop, length-take-le, take-append-drop}
 use Rattle.payload_core_base.specs.Format.{Fragment, Reading}
+use Rattle.payload_core_base.specs.declared.error.PacketError.{PacketError}
 use Rattle.payload_core_base.specs.declared.error.PacketError.TheVariants.{ErrTooManyPDiff}
+use Rattle.payload_core_base.specs.declared.extra.CodecExtra.{CodecExtra}
 use Rattle.payload_core_base.specs.declared.extra.CodecExtra.TheVariants.{Vp9}
-use Rattle.payload_core_vp9.specs.Vp9Descriptor.{behind_group, behind_pictures, has_bit, has_f, has_i, has_l, has_n, has_p, has_v, layers_size, lists_too_many, payload_of, picture_id_of, picture_id_size, reading_of, references_of, references_size, sizes_size}
-use Rattle.payload_core_vp9.specs.Vp9Layout.{AreLayers, ArePictures, AreReferences, IsGroup, IsPictureId, IsStructure, ReadLaw}
+use Rattle.payload_core_vp9.specs.Vp9Descriptor.{behind_group, behind_pictures, has_bit, has_f, has_i, has_l, has_n, has_p, has_v, layers_size, lists_too_many, payload_of, picture_id_of, picture_id_size, read_vp9, reading_of, references_of, references_size, sizes_size}
+use Rattle.payload_core_vp9.proofs.Vp9LayoutLaw.{referring_is}
+use Rattle.payload_core_vp9.specs.Vp9Layout.{AreLayers, ArePictures, AreReferences, IsGroup, IsPictureId, IsStructure, ListsFour, ReadLaw, TooManyLaw}
 
 -- behind so many bytes there are others, so these are there
 long_enough : (n : ℕ) (text : List ℕ) → 0 < length (drop n text) → n < length text
@@ -158,3 +161,90 @@ read_law fragment extra (first ∷ rest) r is =
       };
       reading = has.2;
     }
+
+-- a fourth reference
+four_listed : (r : Bool) (text : List ℕ) → r ≡ true → (a b c : ℕ) (rest : List ℕ) → text ≡ a ∷ b ∷ c ∷ rest → has_bit 1 a ≡ true → has_bit 1 b ≡ true → has_bit 1 c ≡ true
+    → (eqb (if r then (if has_n text 0 then (if has_n text 1 then 3 else 2) else 1) else 0) 3 && has_n text 2) ≡ true
+four_listed r text is_r a b c rest is na nb nc =
+    ap (λ r. eqb (if r then (if has_n text 0 then (if has_n text 1 then 3 else 2) else 1) else 0) 3 && has_n text 2) is_r
+    ∙ ap (λ t. eqb (if has_n t 0 then (if has_n t 1 then 3 else 2) else 1) 3 && has_n t 2) is
+    ∙ ap (λ n. eqb (if n then (if has_bit 1 b then 3 else 2) else 1) 3 && has_bit 1 c) na
+    ∙ ap (λ n. eqb (if n then 3 else 2) 3 && has_bit 1 c) nb ∙ nc
+
+record IsFour (r : Bool) (text : List ℕ) : Type 0 where
+  pub lists : r ≡ true
+  pub a : ℕ
+  pub b : ℕ
+  pub c : ℕ
+  pub rest : List ℕ
+  pub is : text ≡ a ∷ b ∷ c ∷ rest
+  pub first_n : has_bit 1 a ≡ true
+  pub second_n : has_bit 1 b ≡ true
+  pub third_n : has_bit 1 c ≡ true
+
+four_found : (r : Bool) (text : List ℕ) → (eqb (if r then (if has_n text 0 then (if has_n text 1 then 3 else 2) else 1) else 0) 3 && has_n text 2) ≡ true → IsFour r text
+four_found false text q = absurd (cc)
+four_found true [] q = absurd (cc)
+four_found true (a ∷ bs) q = by_first (has_bit 1 a) refl bs q
+  where
+    by_first : (m : Bool) → has_bit 1 a ≡ m → (bs : List ℕ) → (eqb (if m then (if has_n (a ∷ bs) 1 then 3 else 2) else 1) 3 && has_n (a ∷ bs) 2) ≡ true → IsFour true (a ∷ bs)
+    by_first false e bs q = absurd (cc)
+    by_first true e [] q = absurd (cc)
+    by_first true e (b ∷ cs) q = by_second (has_bit 1 b) refl cs q
+      where
+        by_second : (m : Bool) → has_bit 1 b ≡ m → (cs : List ℕ) → (eqb (if m then 3 else 2) 3 && has_n (a ∷ b ∷ cs) 2) ≡ true → IsFour true (a ∷ b ∷ cs)
+        by_second false e' cs q = absurd (cc)
+        by_second true e' [] q = absurd (cc)
+        by_second true e' (c ∷ ds) q = record { lists = refl; a = a; b = b; c = c; rest = ds; is = refl; first_n = e; second_n = e'; third_n = q }
+
+refused_many : (fragment : Fragment) (many : Bool) (id : Option ℕ) (payload : List ℕ) → (if many then Err ErrTooManyPDiff else reading_of fragment id payload) ≡ Err ErrTooManyPDiff → many ≡ true
+refused_many fragment true id payload is = refl
+refused_many fragment false id [] is = absurd (cc)
+refused_many fragment false id (b ∷ bs) is = absurd (cc)
+
+lists_four : (fragment : Fragment) (extra : CodecExtra) (packet : List ℕ) → read_vp9 fragment extra packet ≡ Err ErrTooManyPDiff → ListsFour packet
+lists_four fragment extra [] is = absurd (cc)
+lists_four fragment extra (first ∷ rest) is =
+    let referring : List ℕ = references_of first rest in
+    let layered : List ℕ = drop (picture_id_size first rest) rest in
+    let four = four_found (has_p first && has_f first) referring (refused_many fragment (lists_too_many first referring) (picture_id_of first rest) (payload_of first rest) is) in
+    let some_referring : 0 < length referring = omega (arith, ap length four.is) in
+    let some_layered = long_enough (layers_size first) layered some_referring in
+    let some_layered' : 0 < length layered = omega (arith, some_layered) in
+    let some_rest = long_enough (picture_id_size first rest) rest some_layered' in
+    let L : List ℕ = take (layers_size first) layered in
+    let I : List ℕ = take (picture_id_size first rest) rest in
+    let whole_layered : layered ≡ L ++ (four.a ∷ four.b ∷ four.c ∷ four.rest) = sym (take-append-drop (layers_size first) layered) ∙ ap (λ t. L ++ t) four.is in
+    let whole_rest : rest ≡ I ++ (L ++ (four.a ∷ four.b ∷ four.c ∷ four.rest)) = sym (take-append-drop (picture_id_size first rest) rest) ∙ ap (λ t. I ++ t) whole_layered in
+    record {
+      first = first;
+      id = picture_id_of first rest;
+      picture_id = I;
+      layers = L;
+      a = four.a;
+      b = four.b;
+      c = four.c;
+      rest = four.rest;
+      laid_out = ap (λ t. first ∷ t) whole_rest;
+      is_picture_id = id_taken (has_i first) rest some_rest;
+      are_layers = layers_taken (has_l first) (has_f first) layered some_layered;
+      lists = four.lists;
+      first_n = four.first_n;
+      second_n = four.second_n;
+      third_n = four.third_n;
+    }
+
+four_refused : (fragment : Fragment) (extra : CodecExtra) (packet : List ℕ) → ListsFour packet → read_vp9 fragment extra packet ≡ Err ErrTooManyPDiff
+four_refused fragment extra packet is =
+    let first : ℕ = is.first in
+    let referring : List ℕ = is.a ∷ is.b ∷ is.c ∷ is.rest in
+    let rest : List ℕ = is.picture_id ++ (is.layers ++ referring) in
+    let refused : Result Reading PacketError = Err ErrTooManyPDiff in
+    let many : lists_too_many first (references_of first rest) ≡ true =
+    ap (lists_too_many first) (referring_is first is.id is.picture_id is.layers referring is.is_picture_id is.are_layers)
+    ∙ four_listed (has_p first && has_f first) referring is.lists is.a is.b is.c is.rest refl is.first_n is.second_n is.third_n in
+    ap (read_vp9 fragment extra) is.laid_out
+    ∙ ap (λ t. if t then refused else reading_of fragment (picture_id_of first rest) (payload_of first rest)) many
+
+pub too_many_law : TooManyLaw
+too_many_law fragment extra packet = (four_refused fragment extra packet, lists_four fragment extra packet)

@@ -1,6 +1,7 @@
 -- Packets of VP9 as the fields of their descriptor, one behind the other, and a payload (RFC 9628 4.2).
-use Rattle.std.specs.Prelude.{◌≡◌, ⊤, ℕ, ◌+◌, ◌*◌, ◌/◌, ◌%◌, ◌<◌, ◌&&◌, Bool, true, false, zero, suc, List, [], ◌∷◌, ◌++◌, length, Option, Some, None, Ok}
+use Rattle.std.specs.Prelude.{◌≡◌, ⊤, ℕ, ◌+◌, ◌*◌, ◌/◌, ◌%◌, ◌<◌, ◌&&◌, Bool, true, false, zero, suc, List, [], ◌∷◌, ◌++◌, length, Option, Some, None, Ok, Err}
 use Rattle.payload_core_base.specs.Format.{Fragment, Reading}
+use Rattle.payload_core_base.specs.declared.error.PacketError.TheVariants.{ErrTooManyPDiff}
 use Rattle.payload_core_base.specs.declared.extra.CodecExtra.{CodecExtra}
 use Rattle.payload_core_base.specs.declared.extra.CodecExtra.TheVariants.{Vp9}
 use Rattle.payload_core_vp9.specs.Vp9Descriptor.{has_bit, has_f, has_i, has_l, has_p, has_v, read_vp9, sizes_size}
@@ -71,3 +72,25 @@ pub record IsReadAs (fragment : Fragment) (packet : List ℕ) (r : Reading) : Ty
 -- And no other packet is read.
 abbrev pub ReadLaw : Type 0
 ReadLaw = (fragment : Fragment) (extra : CodecExtra) (packet : List ℕ) (r : Reading) → read_vp9 fragment extra packet ≡ Ok r → IsReadAs fragment packet r
+
+-- A packet that lists a fourth reference: N is set in the third.
+pub record ListsFour (packet : List ℕ) : Type 0 where
+  pub first : ℕ
+  pub id : Option ℕ
+  pub picture_id : List ℕ
+  pub layers : List ℕ
+  pub a : ℕ
+  pub b : ℕ
+  pub c : ℕ
+  pub rest : List ℕ
+  pub laid_out : packet ≡ first ∷ (picture_id ++ (layers ++ (a ∷ b ∷ c ∷ rest)))
+  pub is_picture_id : IsPictureId (has_i first) picture_id id
+  pub are_layers : AreLayers (has_l first) (has_f first) layers
+  pub lists : (has_p first && has_f first) ≡ true
+  pub first_n : has_bit 1 a ≡ true
+  pub second_n : has_bit 1 b ≡ true
+  pub third_n : has_bit 1 c ≡ true
+
+-- Just these are refused for it.
+abbrev pub TooManyLaw : Type 0
+TooManyLaw = (fragment : Fragment) (extra : CodecExtra) (packet : List ℕ) → (ListsFour packet → read_vp9 fragment extra packet ≡ Err ErrTooManyPDiff) × (read_vp9 fragment extra packet ≡ Err ErrTooManyPDiff → ListsFour packet)

@@ -2,7 +2,7 @@
 
 ghost use Rattle.payload_core_base.specs.Law.{CodecLaw, FillsPackets};
 ghost use Rattle.payload_core_vp9.specs.Vp9.{vp9_coding, vp9_packing};
-ghost use Rattle.payload_core_vp9.specs.Vp9Layout.{LayoutLaw, ReadLaw};
+ghost use Rattle.payload_core_vp9.specs.Vp9Layout.{LayoutLaw, ReadLaw, TooManyLaw};
 
 /// VP9 keeps the codec law: a frame is one unit of one part, unless the limit leaves nothing behind the
 /// descriptor; and every packet but a frame's last has just the limit's bytes.
@@ -12,8 +12,10 @@ pub fn vp9_law()
 {}
 
 /// Just those packets are read whose bytes are the fields of a descriptor, one behind the other, and a payload:
-/// they give that payload and the descriptor's picture id.
+/// they give that payload and the descriptor's picture id. Just those are refused with `ErrTooManyPDiff` that
+/// have N in a third reference.
 pub fn vp9_layout_law()
     ensures laid_out { LayoutLaw }
     ensures read { ReadLaw }
+    ensures too_many { TooManyLaw }
 {}

@@ -4,7 +4,7 @@ mod Candidate
 mod Feeds
 mod LineFeeds
 mod Numbers
-mod Plain
+pub mod ReadingLaw
 mod Printing
 mod Read
 mod Reader

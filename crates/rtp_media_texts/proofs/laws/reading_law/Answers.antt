@@ -1,4 +1,4 @@
-use Rattle.rtp_media_texts.proofs.Plain.{reads_exactly}
+use Rattle.rtp_media_texts.proofs.ReadingLaw.{reads_exactly}
 use Rattle.rtp_media_texts.proofs.laws.reading_law.Goals as goal
 
 pub returns : goal.returns

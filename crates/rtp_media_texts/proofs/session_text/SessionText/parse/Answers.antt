@@ -1,4 +1,4 @@
-use Rattle.rtp_media_texts.proofs.Plain.{reading_of-sound, refused}
+use Rattle.rtp_media_texts.proofs.ReadingLaw.{reading_of-sound, refused}
 use Rattle.rtp_media_texts.proofs.Reader.{reading_of-some, reading_of-none, Reads-unread}
 use Rattle.rtp_media_texts.proofs.session_text.SessionText.parse.Goals as goal
 
