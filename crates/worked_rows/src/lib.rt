@@ -4,6 +4,8 @@
 #[cfg(test)]
 mod arrivals;
 #[cfg(test)]
+mod exchanges;
+#[cfg(test)]
 mod lines;
 #[cfg(test)]
 mod samples;
