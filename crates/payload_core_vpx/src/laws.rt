@@ -12,8 +12,9 @@ pub fn vp8_law()
     ensures full { (has_id : Bool) → FillsPackets (vp8_packing has_id) }
 {}
 
-/// A patch that was built from a payload's descriptor changes the ids' bits of that payload only, and the
-/// patch of its own ids restores it.
+/// A patch that was built from a payload's descriptor reaches the places that it writes, and changes the ids'
+/// bits of that payload only: other bytes stay, and so do M, TID and Y. What it makes is read with the new ids,
+/// and the patch of the payload's own ids restores it.
 pub fn vp8_patch_law()
     ensures { PatchLaw }
 {}

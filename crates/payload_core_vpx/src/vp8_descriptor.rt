@@ -46,7 +46,7 @@ pub struct Vp8Descriptor {
 }
 
 // Whether the bit of this weight is set.
-pub fn has_bit(byte: u8, weight: u8) -> bool
+pub(crate) fn has_bit(byte: u8, weight: u8) -> bool
     requires { 0 < weight }
     ensures { result ≡ has_bit weight byte }
 {
@@ -104,7 +104,7 @@ impl Shape {
     }
 
     // Where TL0PICIDX stands, if it is there.
-    pub fn tl0_place(self) -> usize
+    pub(crate) fn tl0_place(self) -> usize
         ensures value { result ≡ tl0_place self }
         ensures few { result ≤ 4 }
     {
@@ -112,7 +112,7 @@ impl Shape {
     }
 
     // Where KEYIDX stands, if it is there.
-    pub fn key_place(self) -> usize
+    pub(crate) fn key_place(self) -> usize
         ensures value { result ≡ key_place self }
         ensures few { result ≤ 5 }
     {
@@ -124,7 +124,7 @@ impl Shape {
     }
 
     // How many bytes the descriptor has.
-    pub fn layout_size(self) -> usize
+    fn layout_size(self) -> usize
         ensures value { result ≡ layout_size self }
         ensures few { result ≤ 6 }
     {
@@ -235,7 +235,7 @@ impl Vp8Descriptor {
     }
 
     // What stands behind the descriptor.
-    pub fn frame_of<'a>(&self, payload: &'a [u8]) -> &'a [u8]
+    pub(crate) fn frame_of<'a>(&self, payload: &'a [u8]) -> &'a [u8]
         ensures { result.now ≡ drop (layout_size self.now.shape) payload.now }
     {
         behind(payload, self.shape.layout_size())

@@ -92,7 +92,7 @@ fn check_key_idx(shape: Shape, index: Option<u8>) -> Option<Vp8PatchError>
 
 impl Vp8PatchBuilder {
     // A builder without ids, for descriptors of this shape.
-    pub fn of(shape: Shape) -> Self
+    pub(crate) fn of(shape: Shape) -> Self
         ensures { result ≡ builder_of shape }
     {
         Vp8PatchBuilder {
@@ -188,7 +188,8 @@ fn put_key_idx(out: &mut [u8], place: usize, index: Option<u8>)
 }
 
 impl Vp8Patch {
-    /// Copies a payload with the patch's ids in place of its own. All other bits stay.
+    /// Copies a payload to `out`, which is as long, with the patch's ids in place of its own. All other bits
+    /// stay. The payload reaches each byte that the patch writes, as the descriptor's own does.
     pub fn copy_to(&self, payload: &[u8], out: &mut [u8])
         requires equal_lengths { length payload.now ≡ length out.old }
         requires reaches { Reaches self.now (length payload.now) }
