@@ -1,5 +1,5 @@
 -- What the program answers to the commands that make ends and exchange texts.
-use Rattle.std.specs.Prelude.{ℕ, ◌≡◌, ◌⊎◌, ◌==◌, ◌-◌, ◌&&◌, Bool, true, false, nat_le, if◌then◌else◌, is_some, IsUtf8, List, [], ◌∷◌, ◌++◌, map, slice_set, Option, Some, None}
+use Rattle.std.specs.Prelude.{ℕ, ◌≡◌, ◌⊎◌, ◌==◌, ◌-◌, ◌&&◌, Bool, true, false, nat_le, if◌then◌else◌, is_some, List, [], ◌∷◌, ◌++◌, map, slice_set, Option, Some, None}
 use Rattle.std.specs.Str.{is_utf8}
 use Rattle.payload_core_base.specs.Codecs.{codec_named}
 use Rattle.rtp_wire.specs.Elements.{Numbering}
@@ -22,7 +22,6 @@ use Rattle.rtp_media_ends.specs.Ends.{EndState, new_end, with_exchange}
 use Rattle.rtp_media_lines.specs.declared.exchange.RowCommand.{RowCommand}
 use Rattle.rtp_media_lines.specs.declared.exchange.ExtCommand.{ExtCommand}
 use Rattle.rtp_media_lines.specs.declared.exchange.EndCommand.{EndCommand}
-use Rattle.rtp_media_lines.specs.declared.exchange.ConnectCommand.{ConnectCommand}
 use Rattle.rtp_media_lines.specs.declared.sections.SectionWord.{SectionWord}
 use Rattle.rtp_media_lines.specs.declared.reply.Reply.{Reply}
 use Rattle.rtp_media_lines.specs.declared.reply.Reply.TheVariants as reply

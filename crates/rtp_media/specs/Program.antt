@@ -18,8 +18,6 @@ use Rattle.rtp_media_ends.specs.declared.received.Received.TheVariants as receiv
 use Rattle.rtp_media_ends.specs.Ends.{EndState, fixed_end, refusal_of_open_sender, refusal_of_open_receiver, after_open_sender, with_new_receiver, with_sender, with_receiver, sender_at, receiver_at}
 use Rattle.rtp_media_ends.specs.Params.{is_sound_params}
 use Rattle.rtp_media_ends.specs.Arrivals.{verdict_of, after_datagram}
-use Rattle.rtp_media_lines.specs.declared.words.Side.{Side}
-use Rattle.rtp_media_lines.specs.declared.words.Side.TheVariants.{A, B}
 use Rattle.rtp_media_lines.specs.declared.line.Command.{Command}
 use Rattle.rtp_media_lines.specs.declared.line.Command.TheVariants.{Fixed, Send, Open, Sample, Receive, Poll}
 use Rattle.rtp_media_lines.specs.declared.line.SendCommand.{SendCommand}

@@ -1,6 +1,5 @@
 -- What the program does at each command.
-use Rattle.std.specs.Prelude.{◌≡◌, ◌⊎◌, List, [], ◌∷◌, Option, Some, None}
-use Rattle.rtp_wire.specs.Maps.{empty_map}
+use Rattle.std.specs.Prelude.{◌≡◌, ◌⊎◌, List, Option, Some, None}
 use Rattle.rtp_media_ends.specs.Ends.{EndState}
 use Rattle.rtp_media_lines.specs.declared.words.Side.{Side}
 use Rattle.rtp_media_lines.specs.declared.words.Side.TheVariants.{A, B}

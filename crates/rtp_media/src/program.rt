@@ -17,8 +17,8 @@ use rtp_media_ends::{
     Datagram, End, OpenError, PayloadParams, PollFault, Received, SampleError, StreamParams, Unit,
 };
 use rtp_media_lines::{
-    Bytes, Command, ConnectCommand, ErrorName, OpenCommand, PollCommand, ReceiveCommand, Reply, Respond, RunFault,
-    SampleCommand, SendCommand, Side, Status, run_lines,
+    Bytes, Command, ConnectCommand, ErrorName, OpenCommand, PollCommand, ReceiveCommand, Reply,
+    Respond, RunFault, SampleCommand, SendCommand, Side, Status, run_lines,
 };
 use rtp_wire::{ExtensionMap, ExtensionValues, MediaTime, Mid, Pt, Ssrc};
 use std::alloc::{AllocError, Global};

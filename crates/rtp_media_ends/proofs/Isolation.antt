@@ -2,15 +2,14 @@
 use Rattle.std.proofs.Common.{◌≡◌, ◌≢◌, ℕ, ◌<◌, refl, sym, ◌∙◌, ap, ap₂, subst, arith, Bool, true, false, ◌&&◌, List, [], ◌∷◌, length, true≢false}
 use Rattle.std.proofs.lemmas.Bool.Decides.{nat_tests}
 use Rattle.std.specs.Prelude.{nat_lt, Option, Some, None, if◌then◌else◌, ◌==◌, slice_set, slice_index_or}
-use Rattle.std.specs.List.{filter_map, cons_option}
+use Rattle.std.specs.List.{cons_option}
 use Rattle.std.proofs.lemmas.List.{get_or-set_same, get_or-set_other, length-set}
 use Rattle.std.proofs.lemmas.List.Quantifiers.{position-Some}
 use Rattle.std.proofs.lemmas.List.Folds.{position_or_len-set}
 use Rattle.rtp_wire.specs.Header.{header_in, payload_in}
 use Rattle.rtp_wire.specs.Padding.{unpadded}
 use Rattle.rtp_wire.specs.declared.header.RtpHeader.{RtpHeader}
-use Rattle.rtp_media_runs.specs.Heard.{Stream, Event, Comes, heard_step, after_events}
-use Rattle.rtp_media_runs.specs.Opus.{content_of}
+use Rattle.rtp_media_runs.specs.Heard.{Stream, Event, heard_step, after_events}
 use Rattle.rtp_media_streams.specs.Sending.{no_extensions}
 use Rattle.rtp_media_streams.specs.Receiving.{Receiving, opened_receiver, is_own, with_stream}
 use Rattle.rtp_media_ends.specs.Ends.{EndState, receiver_at}

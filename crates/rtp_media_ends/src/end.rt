@@ -24,8 +24,7 @@ pub use receive_all::{Polls, ReceivedAll};
 use rtp_media_exchange::{AgreedSection, EndError, Exchange, PayloadParams};
 use rtp_media_streams::{Datagram, ReceivingStream, SampleError, SendingStream, Unit};
 use rtp_wire::{
-    ExtensionMap, ExtensionValues, Frequency, MediaTime, Mid, Pt, RtpHeader, Ssrc,
-    unpad_payload,
+    ExtensionMap, ExtensionValues, Frequency, MediaTime, Mid, Pt, RtpHeader, Ssrc, unpad_payload,
 };
 use std::alloc::Global;
 use std::marker::Model;

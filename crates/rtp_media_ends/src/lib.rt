@@ -7,7 +7,7 @@ mod laws;
 mod params;
 mod received;
 
-pub use end::{End, connect, Polls, ReceivedAll};
+pub use end::{End, Polls, ReceivedAll, connect};
 pub use errors::{OpenError, PollFault, ReceiveError};
 pub use laws::isolation_law;
 pub use params::StreamParams;

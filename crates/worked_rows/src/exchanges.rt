@@ -10,9 +10,11 @@ use std::alloc::Global;
 use std::process::Abort;
 use std::test::Fail;
 
-const OFFER: &str = "v=0\r\no=str0m-0.25.0 1 2 IN IP4 0.0.0.0\r\ns=-\r\nt=0 0\r\na=group:BUNDLE 0\r\nm=audio 9 UDP/TLS/RTP/SAVPF 111\r\nc=IN IP4 0.0.0.0\r\na=mid:0\r\na=sendrecv\r\na=rtpmap:111 opus/48000/2\r\na=rtcp-fb:111 transport-cc\r\na=fmtp:111 minptime=10;useinbandfec=1\r\na=ssrc:44 cname:str0m\r\n";
+const OFFER: &str =
+    "v=0\r\no=str0m-0.25.0 1 2 IN IP4 0.0.0.0\r\ns=-\r\nt=0 0\r\na=group:BUNDLE 0\r\nm=audio 9 UDP/TLS/RTP/SAVPF 111\r\nc=IN IP4 0.0.0.0\r\na=mid:0\r\na=sendrecv\r\na=rtpmap:111 opus/48000/2\r\na=rtcp-fb:111 transport-cc\r\na=fmtp:111 minptime=10;useinbandfec=1\r\na=ssrc:44 cname:str0m\r\n";
 
-const ANSWER: &str = "v=0\r\no=str0m-0.25.0 2 2 IN IP4 0.0.0.0\r\ns=-\r\nt=0 0\r\na=group:BUNDLE 0\r\nm=audio 9 UDP/TLS/RTP/SAVPF 111\r\nc=IN IP4 0.0.0.0\r\na=mid:0\r\na=sendrecv\r\na=rtpmap:111 opus/48000/2\r\na=rtcp-fb:111 transport-cc\r\na=fmtp:111 minptime=10;useinbandfec=1\r\na=ssrc:45 cname:str0m\r\n";
+const ANSWER: &str =
+    "v=0\r\no=str0m-0.25.0 2 2 IN IP4 0.0.0.0\r\ns=-\r\nt=0 0\r\na=group:BUNDLE 0\r\nm=audio 9 UDP/TLS/RTP/SAVPF 111\r\nc=IN IP4 0.0.0.0\r\na=mid:0\r\na=sendrecv\r\na=rtpmap:111 opus/48000/2\r\na=rtcp-fb:111 transport-cc\r\na=fmtp:111 minptime=10;useinbandfec=1\r\na=ssrc:45 cname:str0m\r\n";
 
 /// A new end of one Opus row.
 fn opus_end(alloc: Global, session: u64, pt: u8) -> Result<End, Fail> {
@@ -97,7 +99,12 @@ fn row_22_calls_out_of_turn(rt: HostRuntime) -> Result<(), Fail> {
 }
 
 /// Whether the openings of both ends go as the directions say that `a` offers and `b` wants.
-fn opens_as_agreed(rt: &impl Abort, a: &mut End, b: &mut End, flows: [bool; 2]) -> Result<(), Fail> {
+fn opens_as_agreed(
+    rt: &impl Abort,
+    a: &mut End,
+    b: &mut End,
+    flows: [bool; 2],
+) -> Result<(), Fail> {
     let [from_a, from_b] = flows;
     let refused = Err(OpenError::WrongDirection);
     assert_eq!(rt; send(rt, a, 44, 111)?, if from_a { Ok(0) } else { refused });

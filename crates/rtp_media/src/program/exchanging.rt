@@ -200,11 +200,7 @@ pub(super) fn accept(
     }
 }
 
-fn accept_text(
-    alloc: Global,
-    end: &mut Option<End>,
-    text: &str,
-) -> Result<Vec<Reply>, AllocError>
+fn accept_text(alloc: Global, end: &mut Option<End>, text: &str) -> Result<Vec<Reply>, AllocError>
     ensures { IfOk result (λ replies. AtEnd end.old end.new replies.items (λ e after. AnswersAccept e text.now after replies.items)) }
 {
     let Some(end) = end else {

@@ -1,4 +1,4 @@
-use Rattle.std.proofs.Common.{◌≡◌, ◌∙◌, sym, subst}
+use Rattle.std.proofs.Common.{◌∙◌, sym, subst}
 use Rattle.rtp_media_exchange.specs.Offers.{Offers, Answers}
 use Rattle.rtp_media_ends.specs.Connections.{AtAnswer, AtAccept}
 use Rattle.rtp_media_ends.proofs.end.exchanges.connect.Goals as goal
