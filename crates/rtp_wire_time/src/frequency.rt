@@ -88,6 +88,10 @@ impl fmt::Display for Frequency {
 pub struct ParseFrequencyError;
 
 impl fmt::Display for ParseFrequencyError {
+    ghost use Rattle.std.specs.Prelude.{Some, codes};
+
+    ghost output = { λ _. Some (codes "no clock rate") };
+
     fn fmt<W: fmt::Write>(&self, f: &mut fmt::Formatter<W>) -> fmt::Result {
         f.write_str("no clock rate")
     }
