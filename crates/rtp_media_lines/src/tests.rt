@@ -1,2 +1,3 @@
+mod exchanges;
 mod runs;
 mod words;
