@@ -1,3 +1,4 @@
 pub mod Openings
 pub mod Isolation
 pub mod Exact
+pub mod Agreements

@@ -1,5 +1,5 @@
 -- What an exchange agreed on, and which streams it allows.
-use Rattle.std.specs.Prelude.{ℕ, Bool, true, false, not, ◌&&◌, ◌==◌, List, [], ◌∷◌, Option, Some, None, if◌then◌else◌}
+use Rattle.std.specs.Prelude.{◌≡◌, ℕ, Bool, true, false, not, ◌&&◌, ◌==◌, List, [], ◌∷◌, Option, Some, None, if◌then◌else◌}
 use Rattle.std.specs.Str.{bytes_eq}
 use Rattle.std.specs.List.{list_any}
 use Rattle.rtp_wire.specs.Direction.{sends, receives}
@@ -110,3 +110,7 @@ means_same a b = same_codec a.spec b.spec && (same_layout a.spec.format b.spec.f
 abbrev pub own_row_agrees : Option Row → Row → Bool
 own_row_agrees None row = false
 own_row_agrees (Some own) row = own.locked && ((own.pt == row.pt) && means_same own row)
+
+-- Each row that was agreed on is the one that a text's section lists, and no other is.
+abbrev pub AgreesOn : Section → Option Agreed → Type 0
+AgreesOn s agreed = (mid : List ℕ) (pt : ℕ) → agreed_row_of agreed mid pt ≡ row_of_text s mid pt

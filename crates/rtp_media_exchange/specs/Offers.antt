@@ -9,6 +9,7 @@ use Rattle.rtp_media_texts.specs.Section.{Section}
 use Rattle.rtp_media_texts.specs.Reading.{reading_of}
 use Rattle.rtp_media_texts.specs.Text.{text_of}
 use Rattle.sdp_formats_rows.specs.Rows.{Row}
+use Rattle.rtp_media_exchange.specs.Agreement.{Agreed, AgreesOn}
 use Rattle.rtp_media_exchange.specs.Exchanges.{Exchanged, after_round, with_answer, with_accept}
 use Rattle.rtp_media_exchange.specs.Sections.{Wanted, only}
 
@@ -87,3 +88,7 @@ pub record Accepts (x : Exchanged) (text : List ℕ) (after : Exchanged) : Type 
   pub pending : x.pending ≡ Some offered
   pub answer_is : said_by text ≡ Some answer
   pub after_is : after ≡ with_accept x offered answer
+
+-- What was agreed on is what a text says.
+abbrev pub AgreesOnText : List ℕ → Option Agreed → Type 0
+AgreesOnText text agreed = (s : Section) × (said_by text ≡ Some s) × AgreesOn s agreed

@@ -2,7 +2,7 @@
 
 ghost use Rattle.std.specs.Prelude.{◌≡◌, ◌==◌, ◌<◌, IfOk, OnSome, Some, None, [], ◌∷◌};
 ghost use Rattle.std.specs.Str.{bytes_eq};
-ghost use Rattle.rtp_media_exchange.specs.Agreement.{fixed_agreement, agreed_by_answer, agreed_by_accept, row_in, is_named};
+ghost use Rattle.rtp_media_exchange.specs.Agreement.{AgreesOn, fixed_agreement, agreed_by_answer, agreed_by_accept, row_in, is_named};
 
 use crate::plain::plain_row;
 use crate::section::SectionSpec;
@@ -57,9 +57,11 @@ impl AgreedSection {
     }
 
     /// What the end agrees on that answers an offer.
+    #[tactic(auto, using(crate::proofs::Said::agrees_by_answer))]
     pub(crate) fn by_answer(offer: SessionText, answer: SessionText) -> Self
         requires { answer.pt < 128 }
-        ensures { result ≡ agreed_by_answer offer answer }
+        ensures value { result ≡ agreed_by_answer offer answer }
+        ensures agrees { AgreesOn answer (Some result) }
     {
         AgreedSection {
             mid: answer.mid,
@@ -72,9 +74,11 @@ impl AgreedSection {
     }
 
     /// What the end agrees on that offered.
+    #[tactic(auto, using(crate::proofs::Said::agrees_by_accept))]
     pub(crate) fn by_accept(offered: SectionSpec, answer: SessionText) -> Self
         requires { answer.pt < 128 }
-        ensures { result ≡ agreed_by_accept offered answer }
+        ensures value { result ≡ agreed_by_accept offered answer }
+        ensures agrees { AgreesOn answer (Some result) }
     {
         AgreedSection {
             mid: answer.mid,

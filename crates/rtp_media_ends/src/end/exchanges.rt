@@ -1,9 +1,10 @@
 //! Exchanges of texts between two ends.
 
-ghost use Rattle.std.specs.Prelude.{◌≡◌, ◌≢◌, ℕ, None, Some, is_some, string_bytes, IfOk, IfErr, OnOk, OnErr};
+ghost use Rattle.std.specs.Prelude.{◌≡◌, ◌≢◌, ℕ, List, None, Some, is_some, string_bytes, IfOk, IfErr, OnOk, OnErr};
 ghost use Rattle.rtp_wire.specs.Maps.{is_empty_map};
+ghost use Rattle.rtp_media_exchange.specs.Agreement.{agreed_row_of};
 ghost use Rattle.rtp_media_exchange.specs.Exchanges.{with_offer};
-ghost use Rattle.rtp_media_exchange.specs.Offers.{Offers, Answers, Accepts};
+ghost use Rattle.rtp_media_exchange.specs.Offers.{Offers, Answers, Accepts, AgreesOnText};
 ghost use Rattle.rtp_media_exchange.specs.Refusals.{Names, refusal_of_new, refusal_of_offer, refusal_of_answer, refusal_of_accept};
 ghost use Rattle.rtp_media_exchange.specs.Sections.{only};
 ghost use Rattle.rtp_media_ends.specs.Ends.{new_end, with_exchange};
@@ -64,6 +65,7 @@ impl End {
         sections: Vec<SectionSpec>,
     ) -> Result<String, ExchangeError>
         ensures text { IfOk result (λ answer. Answers self.old.exchange text.now sections.items (string_bytes answer) self.new.exchange) }
+        ensures agreed { IfOk result (λ answer. AgreesOnText (string_bytes answer) self.new.exchange.agreed) }
         ensures accepted { OnOk result (refusal_of_answer self.old.exchange text.now sections.items ≡ None) }
         ensures streams { self.new ≡ with_exchange self.old self.new.exchange }
         ensures refused { IfErr result (λ e. Names e (refusal_of_answer self.old.exchange text.now sections.items)) }
@@ -79,7 +81,8 @@ impl End {
     /// The first that holds of `Unreadable`, `OutOfTurn`, `NotCorresponding` and `NoCommonRow`; or
     /// `Memory`. The end is then unchanged, and the offer still pending.
     pub fn accept(&mut self, text: &str) -> Result<(), ExchangeError>
-        ensures agreed { OnOk result (Accepts self.old.exchange text.now self.new.exchange) }
+        ensures after { OnOk result (Accepts self.old.exchange text.now self.new.exchange) }
+        ensures agreed { OnOk result (AgreesOnText text.now self.new.exchange.agreed) }
         ensures accepted { OnOk result (refusal_of_accept self.old.exchange text.now ≡ None) }
         ensures streams { self.new ≡ with_exchange self.old self.new.exchange }
         ensures refused { IfErr result (λ e. Names e (refusal_of_accept self.old.exchange text.now)) }
@@ -99,11 +102,13 @@ impl End {
     }
 }
 
-/// Has `a` offer, `b` answer and `a` accept, and answers both texts.
+/// Has `a` offer, `b` answer and `a` accept, and answers both texts. Both ends have then agreed on the
+/// rows of the answer's section.
 ///
 /// # Errors
 /// What the first refused call answers. Where `b`'s answer is refused, `a`'s offer stays pending;
 /// where `a` refuses the answer, its offer stays pending too, and `b` has agreed.
+#[tactic(auto, using(crate::proofs::Agreements::one_agreement))]
 pub fn connect(
     a: &mut End,
     b: &mut End,
@@ -111,6 +116,7 @@ pub fn connect(
     sections_b: Vec<SectionSpec>,
 ) -> Result<(String, String), ExchangeError>
     ensures texts { IfOk result (λ texts. Connects a.old b.old sections_a.items sections_b.items (string_bytes texts.0) (string_bytes texts.1) a.new b.new) }
+    ensures agree { OnOk result ((mid : List ℕ) (pt : ℕ) → agreed_row_of a.new.exchange.agreed mid pt ≡ agreed_row_of b.new.exchange.agreed mid pt) }
     ensures refused { IfErr result (λ e. IsRefused a.old b.old sections_a.items sections_b.items e a.new b.new) }
 {
     let offer = a.offer(sections_a)?;

@@ -1,10 +1,12 @@
 //! Answers to offers, and their acceptance.
 
-ghost use Rattle.std.specs.Prelude.{◌≡◌, ◌≢◌, ◌<◌, ◌&&◌, ℕ, List, Option, None, Some, true, false, not, is_some, string_bytes, IfOk, IfErr, OnOk, OnErr, IsTrue, ◌↔◌};
+ghost use Rattle.std.specs.Prelude.{◌≡◌, ◌<◌, ◌^◌, All, [], length, None, Some, string_bytes, IfOk, IfErr, OnOk, OnErr};
+ghost use Rattle.rtp_wire.specs.Name.{IsName};
+ghost use Rattle.rtp_media_texts.specs.Section.{IsSound};
 ghost use Rattle.rtp_media_texts.specs.Text.{text_of};
 ghost use Rattle.rtp_media_exchange.specs.Agreement.{agreed_by_answer, agreed_by_accept};
 ghost use Rattle.rtp_media_exchange.specs.Exchanges.{Exchanged, with_answer, with_accept, after_round};
-ghost use Rattle.rtp_media_exchange.specs.Offers.{Answers, Accepts, answer_of, answered_direction, flow, said_by};
+ghost use Rattle.rtp_media_exchange.specs.Offers.{Answers, Accepts, AgreesOnText, answer_of, answered_direction, flow, said_by};
 ghost use Rattle.rtp_media_exchange.specs.Refusals.{Names, ReadsText, refusal_of_answer, refusal_of_pair, refusal_of_accept, corresponds};
 ghost use Rattle.rtp_media_exchange.specs.Sections.{only};
 
@@ -13,9 +15,9 @@ use crate::agreement::AgreedSection;
 use crate::errors::ExchangeError;
 use crate::section::{SectionSpec, only};
 use rtp_media_texts::{SdpError, SessionText};
-use rtp_wire::{Direction, SessionId};
+use rtp_wire::{Direction, SessionId, Ssrc};
 use sdp_formats_rows::PayloadParams;
-use std::alloc::Global;
+use std::alloc::{AllocError, Global};
 
 impl Exchange {
     /// The text of the answer to an offer, of these sections; it is then agreed.
@@ -29,6 +31,7 @@ impl Exchange {
         sections: Vec<SectionSpec>,
     ) -> Result<String, ExchangeError>
         ensures text { IfOk result (λ answer. Answers self.old text.now sections.items (string_bytes answer) self.new) }
+        ensures agreed { IfOk result (λ answer. AgreesOnText (string_bytes answer) self.new.agreed) }
         ensures accepted { OnOk result (refusal_of_answer self.old text.now sections.items ≡ None) }
         ensures refused { IfErr result (λ e. Names e (refusal_of_answer self.old text.now sections.items)) }
         ensures unchanged { OnErr result (self.new ≡ self.old) }
@@ -42,7 +45,7 @@ impl Exchange {
         };
         let row = pair(self.row, &wanted, &offer)?;
         let answer = answer_to(self.alloc, self.session, row, wanted, &offer);
-        let printed = answer.print(self.alloc)?;
+        let printed = print(self.alloc, &answer)?;
         self.row = Some(settled(row, &offer));
         self.agreed = Some(AgreedSection::by_answer(offer, answer));
         Ok(printed)
@@ -54,7 +57,8 @@ impl Exchange {
     /// The first that holds of `Unreadable`, `OutOfTurn`, `NotCorresponding` and `NoCommonRow`; or
     /// `Memory`. Nothing has then changed, and the offer is still pending.
     pub fn accept(&mut self, text: &str) -> Result<(), ExchangeError>
-        ensures agreed { OnOk result (Accepts self.old text.now self.new) }
+        ensures after { OnOk result (Accepts self.old text.now self.new) }
+        ensures agreed { OnOk result (AgreesOnText text.now self.new.agreed) }
         ensures accepted { OnOk result (refusal_of_accept self.old text.now ≡ None) }
         ensures refused { IfErr result (λ e. Names e (refusal_of_accept self.old text.now)) }
         ensures unchanged { OnErr result (self.new ≡ self.old) }
@@ -78,6 +82,7 @@ impl Exchange {
 fn read(alloc: Global, text: &str) -> Result<SessionText, ExchangeError>
     ensures reads { ReadsText result text.now }
     ensures typed { IfOk result (λ s. s.pt < 128) }
+    ensures sound { IfOk result (λ s. IsSound s) }
 {
     match SessionText::parse(alloc, text) {
         Ok(said) => {
@@ -101,6 +106,7 @@ fn pair(
     said: &SessionText,
 ) -> Result<PayloadParams, ExchangeError>
     ensures row { IfOk result (λ r. row ≡ Some r) }
+    ensures same { OnOk result (wanted.now.mid ≡ said.now.mid) }
     ensures accepted { OnOk result (refusal_of_pair row (Some wanted.now) said.now ≡ None) }
     ensures refused { IfErr result (λ e. Names e (refusal_of_pair row (Some wanted.now) said.now)) }
 {
@@ -162,4 +168,37 @@ fn answer_to(
         transport_cc: row.fb_transport_cc(),
         ssrcs: wanted.ssrcs,
     }
+}
+
+/// The SSRC has 32 bits.
+fn small_ssrc(ssrc: Ssrc)
+    ensures { ssrc < 2 ^ 32 }
+{}
+
+/// Each SSRC has 32 bits.
+fn small_ssrcs(ssrcs: &[Ssrc])
+    ensures { All (λ n. n < 2 ^ 32) ssrcs.now }
+{
+    for ssrc in ssrcs {
+        small_ssrc(*ssrc);
+    }
+}
+
+/// The session's number has 64 bits.
+fn small_session(session: SessionId)
+    ensures { session < 2 ^ 64 }
+{}
+
+/// Prints an answer, whose text says the answer again.
+#[tactic(auto, using(crate::proofs::Said::said_again))]
+fn print(alloc: Global, answer: &SessionText) -> Result<String, AllocError>
+    requires named { (IsName 16 answer.now.mid) × (0 < length answer.now.mid) }
+    requires typed { answer.now.pt < 128 }
+    requires bare { answer.now.extmaps ≡ [] }
+    ensures text { IfOk result (λ text. string_bytes text ≡ text_of answer.now) }
+    ensures said { IfOk result (λ text. said_by (string_bytes text) ≡ Some answer.now) }
+{
+    small_session(answer.session);
+    small_ssrcs(&answer.ssrcs);
+    answer.print(alloc)
 }
