@@ -120,7 +120,7 @@ fn is_next(cutoff: Option<SeqNo>, number: SeqNo) -> bool
     }
 }
 
-// The number of the packet at place `i`.
+/// The number of the packet at place `i`.
 pub fn number_at(held: &[Held], i: usize) -> SeqNo
     requires { i < length held.now }
     ensures { result ≡ number_at (packets_of held.now) i }
