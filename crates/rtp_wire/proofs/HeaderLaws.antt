@@ -5,12 +5,12 @@ use Rattle.std.specs.Int.{w16, w32, to_be_bytes, from_be_bytes}
 use Rattle.std.proofs.lemmas.Bool.Decides.{nat_tests}
 use Rattle.std.proofs.lemmas.List.{drop-drop, take_at, drop_at}
 use Rattle.std.proofs.lemmas.Nat.{from_be_bytes-to_be_bytes_4, from_be_bytes-to_be_bytes_2}
-use Rattle.rtp_wire_extensions.specs.Values.{Numbering, Block, absent, values_of, block_of, image_values}
+use Rattle.rtp_wire_extensions.specs.Values.{Numbering, Block, absent, values_of, block_of, two_byte_block, image_values}
 use Rattle.rtp_wire.specs.declared.header.RtpHeader.{RtpHeader}
-use Rattle.rtp_wire.specs.Header.{half_at, word_at, words_in, has_bit, csrc_count_in, has_extension_in, block_at, header_length_in, is_header, block_in, values_in, slots, fields_in, header_in, header_of, layout_of, spelled, image, payload_in, IsWritable}
+use Rattle.rtp_wire.specs.Header.{half_at, word_at, words_in, has_bit, csrc_count_in, has_extension_in, block_at, header_length_in, is_header, block_in, values_in, slots, fields_in, header_in, header_of, layout_of, spelled, two_byte_length, image, payload_in, IsWritable}
 use Rattle.rtp_wire.specs.Layout.{Layout, bit, is_some_block, block_bytes, words, layout_bytes, IsBlock, IsLayout}
 use Rattle.rtp_wire.proofs.Lengths.{length-words, length-layout, block-not}
-use Rattle.rtp_wire_extensions.proofs.BlockLaws.{block_of-fits, block_of-words, values_of-block_of}
+use Rattle.rtp_wire_extensions.proofs.BlockLaws.{block_of-shorter, block_of-fits, block_of-words, values_of-block_of}
 use Rattle.rtp_wire_extensions.specs.declared.values.ExtensionValues.{ExtensionValues}
 
 -- the first two bytes
@@ -225,3 +225,10 @@ pub length-spelled_least : (map : Numbering) (h : RtpHeader) → h.csrc_count �
 length-spelled_least map h none x =
     length-layout (layout_of map h)
     ∙ omega (arith, length-take h.csrc_count h.csrc, ap length (block-not h.has_extension (block_of map h.ext_vals) x))
+
+-- It is no longer than in the two-byte form.
+pub length-spelled_within : (map : Numbering) (h : RtpHeader) → length (spelled map h) ≤ two_byte_length map h
+length-spelled_within map h = omega (arith, length-layout (layout_of map h), length-take h.csrc_count h.csrc, block-within h.has_extension) where
+  block-within : (x : Bool) → length (block_bytes (if x then Some (block_of map h.ext_vals) else None)) ≤ (if x then 4 + length (two_byte_block map h.ext_vals).content else 0)
+  block-within false = omega arith
+  block-within true = omega (arith, block_of-shorter map h.ext_vals)

@@ -1,7 +1,7 @@
 use Rattle.std.specs.Prelude.{true, ℕ, ◌≡◌, ◌+◌, ◌*◌, ◌/◌, ◌%◌, ◌-◌, ◌<◌, ◌≤◌, ◌^◌, Bool, ◌==◌, ◌&&◌, nat_le, if◌then◌else◌, zero, suc, List, [], ◌∷◌, ◌++◌, length, take, drop, replicate, slice_index, All, Option, Some, None}
 use Rattle.std.specs.Int.{w16, w32, from_be_bytes}
 use Rattle.rtp_wire_extensions.specs.Carried.{AreValues}
-use Rattle.rtp_wire_extensions.specs.Values.{Numbering, Block, absent, values_of, block_of, image_values}
+use Rattle.rtp_wire_extensions.specs.Values.{Numbering, Block, absent, values_of, block_of, two_byte_block, image_values}
 use Rattle.rtp_wire_extensions.specs.declared.values.ExtensionValues.{ExtensionValues}
 use Rattle.rtp_wire.specs.declared.header.RtpHeader.{RtpHeader}
 use Rattle.rtp_wire.specs.Layout.{Layout, is_some_block, layout_bytes, IsLayout}
@@ -133,6 +133,11 @@ layout_of map header = record {
 -- The bytes of a header.
 abbrev pub spelled : Numbering → RtpHeader → List ℕ
 spelled map header = layout_bytes (layout_of map header)
+
+-- The length of a header with each element in the two-byte form (RFC 8285 4.3).
+abbrev pub two_byte_length : Numbering → RtpHeader → ℕ
+two_byte_length map header =
+    12 + 4 * header.csrc_count + (if header.has_extension then 4 + length (two_byte_block map header.ext_vals).content else 0)
 
 -- The header that is read back where one was written: its wire image.
 abbrev pub image : Numbering → RtpHeader → RtpHeader

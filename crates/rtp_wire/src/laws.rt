@@ -1,9 +1,9 @@
 //! What holds of all sequence numbers and of every window.
 
-ghost use Rattle.std.specs.Prelude.{◌≡◌, ◌++◌, Some, false, length, ℕ, ◌+◌, ◌%◌, ◌^◌, ◌<◌, ◌||◌, List, ◌∷◌, nat_le};
+ghost use Rattle.std.specs.Prelude.{◌≡◌, ◌++◌, Some, false, length, ℕ, ◌+◌, ◌%◌, ◌^◌, ◌<◌, ◌≤◌, ◌||◌, List, ◌∷◌, nat_le};
 ghost use Rattle.rtp_wire_extensions.specs.Values.{Numbering};
 ghost use Rattle.rtp_wire.specs.declared.header.RtpHeader.{RtpHeader};
-ghost use Rattle.rtp_wire.specs.Header.{header_in, header_of, spelled, image, payload_in, IsSpelled, IsWritable};
+ghost use Rattle.rtp_wire.specs.Header.{header_in, header_of, spelled, two_byte_length, image, payload_in, IsSpelled, IsWritable};
 ghost use Rattle.rtp_wire.specs.Layout.{Layout, layout_bytes, IsBytes, IsLayout};
 ghost use Rattle.rtp_wire.specs.Widening.{widened_of, IsNearestOf};
 ghost use Rattle.rtp_wire.specs.Replay.{accepts, window_at, window_after, window_with_all, greatest_of, is_among, is_new};
@@ -30,7 +30,8 @@ pub fn widening_laws()
 
 /// What a header is on the wire. Bytes in which a header is read begin with what spells it; what
 /// spells a header is read as that header, whatever stands behind it, so bytes in which none is read
-/// begin with nothing that spells one. What was written reads as its wire image, and is whole words.
+/// begin with nothing that spells one. What was written reads as its wire image, is whole words, and
+/// is no longer than in the two-byte form.
 pub fn header_laws()
     ensures found { (map : Numbering) (bytes : List ℕ) (header : RtpHeader) → IsBytes bytes →
         header_in map bytes ≡ Some header → IsSpelled map bytes header }
@@ -43,6 +44,7 @@ pub fn header_laws()
     ensures whole_words { (map : Numbering) (header : RtpHeader) → length (spelled map header) % 4 ≡ 0 }
     ensures least { (map : Numbering) (header : RtpHeader) → header.csrc_count ≡ 0 →
         header.has_extension ≡ false → length (spelled map header) ≡ 12 }
+    ensures within { (map : Numbering) (header : RtpHeader) → length (spelled map header) ≤ two_byte_length map header }
 {}
 
 /// After any list of updates a window accepts exactly the numbers above the greatest one, and those

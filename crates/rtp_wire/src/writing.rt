@@ -1,7 +1,7 @@
 //! Headers written.
 
 ghost use Rattle.std.specs.Prelude.{◌≡◌, ◌+◌, ◌*◌, ◌≤◌, ◌<◌, ◌++◌, ◌^◌, ℕ, List, Some, All, length, take, drop};
-ghost use Rattle.rtp_wire.specs.Header.{layout_of, spelled, IsWritable};
+ghost use Rattle.rtp_wire.specs.Header.{layout_of, spelled, two_byte_length, IsWritable};
 ghost use Rattle.rtp_wire.specs.Layout.{fixed_bytes, words as words_of, block_bytes};
 ghost use Rattle.rtp_wire_extensions.specs.Carried.{AreValues};
 ghost use Rattle.rtp_wire_extensions.specs.Values.{Numbering, block_of};
@@ -18,6 +18,20 @@ impl RtpHeader {
         let fixed = 12 + 4 * self.csrc_count.min(self.csrc.len());
         if self.has_extension {
             fixed + 4 + exts.block_len(&self.ext_vals)
+        } else {
+            fixed
+        }
+    }
+
+    /// The length of the header, in bytes, with each element of its block in the two-byte form (RFC
+    /// 8285 4.3), whichever form is written; `wire_len` never passes it.
+    pub fn two_byte_len(&self, exts: &ExtensionMap) -> usize
+        requires csrc_count { self.now.csrc_count ≤ 15 }
+        ensures { result ≡ two_byte_length exts.now self.now }
+    {
+        let fixed = 12 + 4 * self.csrc_count;
+        if self.has_extension {
+            fixed + 4 + exts.two_byte_len(&self.ext_vals)
         } else {
             fixed
         }

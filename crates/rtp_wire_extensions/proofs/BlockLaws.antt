@@ -12,7 +12,7 @@ use Rattle.rtp_wire_ids.specs.Name.{IsName}
 use Rattle.rtp_wire_ids.proofs.NameLaws.{length-IsName}
 use Rattle.rtp_wire_extensions.specs.Carried.{send_bytes, offset_bytes, capture_bytes, level_number, level_byte, level_bytes, byte_bytes, transport_bytes, delay_text, delay_bytes, value_bytes, send_image, level_image, voice_image, least_image, most_image, values_for, AreValues}
 use Rattle.rtp_wire_extensions.specs.Elements.{Element, Step, padding, slot, slot_is, holds, carried_by, carried_at, element_if, place_elements, elements_to, fits_one_byte, are_one_byte, element_text, elements_text, fill, filled_text, taken, taken_long, step, lookup, with_element, on_step, values_from}
-use Rattle.rtp_wire_extensions.specs.Values.{Numbering, absent, form_of_profile, values_in_form, values_of, written_elements, profile_of, block_in_form, block_of, is_mapped, image_values}
+use Rattle.rtp_wire_extensions.specs.Values.{Numbering, absent, form_of_profile, values_in_form, values_of, written_elements, profile_of, block_in_form, block_of, two_byte_block, is_mapped, image_values}
 use Rattle.rtp_wire_extensions.proofs.CarriedLaws.{and_this, with_carried, carry}
 
 if-then : {A : Type 0} (b : Bool) (x y : A) → b ≡ true → (if b then x else y) ≡ x
@@ -445,3 +445,20 @@ content-is map v one n d e is len =
     (λ i. elements_text one (whole i) ++ take (fill (count i)) (zeros 3))
     ∙ ap (λ (zs : List ℕ). text ++ zs) (fill-zeros (length text))
     ∙ ap (λ (b : Bool). filled_text (elements_text b (written_elements map v))) e
+
+-- ---- the two-byte form is never the shorter one
+
+shorter-text : (one : Bool) (es : List Element) → length (elements_text one es) ≤ length (elements_text false es)
+shorter-text false es = omega arith
+shorter-text true [] = omega arith
+shorter-text true (e ∷ es) = omega (arith, shorter-text true es, length-append e.bytes (elements_text true es), length-append e.bytes (elements_text false es))
+
+filled-grows : (n m : ℕ) → n ≤ m → n + fill n ≤ m + fill m
+filled-grows n m h = omega (arith, h)
+
+pub block_of-shorter : (map : Numbering) (values : ExtensionValues) → length (block_of map values).content ≤ length (two_byte_block map values).content
+unfolding block_of two_byte_block
+block_of-shorter map values =
+    let es = written_elements map values in
+    let one = are_one_byte es in
+    omega (arith, length-filled (elements_text one es), length-filled (elements_text false es), filled-grows (length (elements_text one es)) (length (elements_text false es)) (shorter-text one es))

@@ -58,6 +58,10 @@ block_in_form one es = record { profile = profile_of one; content = filled_text 
 unfoldable pub block_of : Numbering → ExtensionValues → Block
 block_of map values = block_in_form (are_one_byte (written_elements map values)) (written_elements map values)
 
+-- The block with each element in the two-byte form.
+unfoldable pub two_byte_block : Numbering → ExtensionValues → Block
+two_byte_block map values = block_in_form false (written_elements map values)
+
 -- Some number has the extension.
 unfoldable pub is_mapped : Numbering → Extension → Bool
 is_mapped map ext = holds map 16 ext

@@ -4,13 +4,20 @@ ghost use Rattle.std.specs.Prelude.{◌≡◌, ◌+◌, ◌*◌, ◌%◌, ◌≤
 ghost use Rattle.rtp_wire_extensions.specs.Carried.{AreValues};
 ghost use Rattle.rtp_wire_extensions.specs.Elements.{Numbering, step, taken, lookup, with_element, values_from, place_elements, are_one_byte, elements_text};
 ghost use Rattle.rtp_wire_extensions.specs.Maps.{form_for, form_if};
-ghost use Rattle.rtp_wire_extensions.specs.Values.{absent, values_of, block_of, written_elements};
+ghost use Rattle.rtp_wire_extensions.specs.Values.{absent, values_of, block_of, two_byte_block, written_elements};
+ghost use Rattle.rtp_wire_extensions.specs.declared.values.ExtensionValues.{ExtensionValues};
 ghost use Rattle.rtp_wire_extensions.specs.Written.{IsWritten};
 
 use crate::map::{ExtensionMap, ExtensionsForm};
 use crate::reading::set_value;
 use crate::values::ExtensionValues;
 use crate::writing::put;
+
+/// The two-byte form is never the shorter one.
+pub fn block_laws()
+    ensures within { (map : Numbering) (values : ExtensionValues) →
+        length (block_of map values).content ≤ length (two_byte_block map values).content }
+{}
 
 /// The number and the bytes of the first element, and what is behind it; a byte of padding is an
 /// element of number 0. None where the elements end.
@@ -165,6 +172,17 @@ impl ExtensionMap {
     {
         values.in_range();
         let len = self.elements_len(self.fits_one_byte(values), values);
+        len + (4 - len % 4) % 4
+    }
+
+    #[tactic(auto, unfolding(crate::specs::Values::two_byte_block))]
+    /// The length of the block's bytes for these values, behind profile and length, with each element
+    /// in the two-byte form (RFC 8285 4.3); `block_len` never passes it.
+    pub fn two_byte_len(&self, values: &ExtensionValues) -> usize
+        ensures value { result ≡ length (two_byte_block self.now values.now).content }
+        ensures bound { result ≤ 292 }
+    {
+        let len = self.elements_len(false, values);
         len + (4 - len % 4) % 4
     }
 

@@ -154,6 +154,30 @@ impl Extension {
         }
     }
 
+    /// The same extension again.
+    ///
+    /// # Errors
+    /// `AllocError` where memory for the URI of an unknown one is wanting.
+    pub fn clone(&self, alloc: Global) -> Result<Extension, AllocError>
+        ensures { IfOk result (λ ext. ext ≡ self.now) }
+    {
+        Ok(match self {
+            Extension::AbsoluteSendTime => Extension::AbsoluteSendTime,
+            Extension::AbsoluteCaptureTime => Extension::AbsoluteCaptureTime,
+            Extension::AudioLevel => Extension::AudioLevel,
+            Extension::VideoOrientation => Extension::VideoOrientation,
+            Extension::TransportSequenceNumber => Extension::TransportSequenceNumber,
+            Extension::PlayoutDelay => Extension::PlayoutDelay,
+            Extension::VideoContentType => Extension::VideoContentType,
+            Extension::RtpStreamId => Extension::RtpStreamId,
+            Extension::RepairedRtpStreamId => Extension::RepairedRtpStreamId,
+            Extension::RtpMid => Extension::RtpMid,
+            Extension::UnknownUri(uri) => {
+                Extension::UnknownUri(Uri::from(String::from_str(alloc, uri.as_str())?))
+            }
+        })
+    }
+
     /// The number of a known kind; 0 for an unknown one.
     fn kind(&self) -> u8
         ensures { result ≡ kind_of self.now }

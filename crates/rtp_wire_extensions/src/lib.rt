@@ -10,6 +10,7 @@ mod reading;
 mod values;
 mod writing;
 
+pub use blocks::block_laws;
 pub use extension::{Extension, Uri};
 pub use iteration::ExtensionMapIter;
 pub use map::{ExtensionMap, ExtensionsForm, MAX_ID, MAX_ID_ONE_BYTE_FORM};

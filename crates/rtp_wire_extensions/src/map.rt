@@ -1,6 +1,6 @@
 //! Which extension has which number.
 
-ghost use Rattle.std.specs.Prelude.{◌≡◌, ◌+◌, ◌-◌, ◌≤◌, ◌<◌, List, ℕ, suc, length, slice_set, Some, IfSome, IsPermutation};
+ghost use Rattle.std.specs.Prelude.{◌≡◌, ◌+◌, ◌-◌, ◌≤◌, ◌<◌, List, ℕ, suc, length, slice_set, Some, IfSome, IfOk, IsPermutation};
 ghost use Rattle.std.specs.Option.{option_copied};
 ghost use Rattle.rtp_wire_extensions.specs.Elements.{slot_is, holds, carried_at, lookup};
 ghost use Rattle.rtp_wire_extensions.specs.Maps.{empty_map, is_empty_map, standard_map, place_of, id_of, moved, remapped};
@@ -8,6 +8,7 @@ ghost use Rattle.rtp_wire_extensions.specs.Maps.{empty_map, is_empty_map, standa
 use crate::element::{ElementBytes, value_bytes};
 use crate::extension::Extension;
 use crate::values::ExtensionValues;
+use std::alloc::{AllocError, Global};
 use std::marker::Model;
 
 /// The greatest number of the one-byte form (RFC 8285 4.2).
@@ -32,11 +33,14 @@ pub struct ExtensionMap {
 }
 
 impl Model for ExtensionMap {
+    ghost use Rattle.std.specs.Prelude.{◌≡◌, length};
     ghost use Rattle.rtp_wire_extensions.specs.Elements.{Numbering};
 
     ghost Value = { Numbering };
 
     ghost view = { λ m. m.entries };
+
+    ghost invariant = { λ m. length m.entries ≡ 16 };
 }
 
 /// Whether a slot has the extension.
@@ -87,6 +91,23 @@ impl ExtensionMap {
                 None,
             ],
         }
+    }
+
+    #[tactic(auto, using(crate::proofs::MapLaws::copied_start, crate::proofs::MapLaws::copied_more, crate::proofs::MapLaws::copied_none, crate::proofs::MapLaws::copied_end))]
+    /// The same map again.
+    ///
+    /// # Errors
+    /// `AllocError` where memory for the URI of an unknown extension is wanting.
+    pub fn clone(&self, alloc: Global) -> Result<ExtensionMap, AllocError>
+        ensures { IfOk result (λ map. map ≡ self.now) }
+    {
+        let mut copy = ExtensionMap::empty();
+        for place in 0..16 {
+            if let Some(ext) = &self.entries[place] {
+                copy.entries[place] = Some(ext.clone(alloc)?);
+            }
+        }
+        Ok(copy)
     }
 
     /// Whether no number has an extension.

@@ -1,5 +1,5 @@
 use Rattle.rtp_wire.proofs.Found.{header_in-found}
-use Rattle.rtp_wire.proofs.HeaderLaws.{header_in-layout, header_in-spelled, payload_in-spelled, length-spelled_words, length-spelled_least}
+use Rattle.rtp_wire.proofs.HeaderLaws.{header_in-layout, header_in-spelled, payload_in-spelled, length-spelled_words, length-spelled_least, length-spelled_within}
 use Rattle.rtp_wire.proofs.laws.header_laws.Goals as goal
 
 pub returns-clause-found : goal.returns-clause-found
@@ -19,3 +19,6 @@ returns-clause-whole_words c = length-spelled_words
 
 pub returns-clause-least : goal.returns-clause-least
 returns-clause-least c = length-spelled_least
+
+pub returns-clause-within : goal.returns-clause-within
+returns-clause-within c = length-spelled_within
