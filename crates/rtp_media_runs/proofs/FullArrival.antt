@@ -27,9 +27,9 @@ singles-units : (f : Sender) (n : ℕ) (ps : List Timed) → ((i : ℕ) → i < 
     map (λ x. Some (single f x)) (range_with_len n (length ps)) ≡ map Some (units_from n ps)
 singles-units f n [] same = refl
 singles-units f n (p ∷ ps) same =
-    let here : f n ≡ content_of p.time p.bytes = rw add-zero at (same 0 (omega arith)) in
+    let here : f n ≡ content_of p.time p.values p.bytes = rw add-zero at (same 0 (omega arith)) in
     let rest : (i : ℕ) → i < length ps → f (n + 1 + i) ≡ content_at ps i = λ i h. go i (same (suc i) (omega arith)) in
-    rw (here, append-nil) (ap (λ (us : List (Option MediaUnit)). Some (record { first = n; last = n; time = p.time; bytes = p.bytes }) ∷ us) (singles-units f (n + 1) ps rest))
+    rw (here, append-nil) (ap (λ (us : List (Option MediaUnit)). Some (record { first = n; last = n; time = p.time; values = p.values; bytes = p.bytes }) ∷ us) (singles-units f (n + 1) ps rest))
   where
     go : (i : ℕ) → f (n + suc i) ≡ content_at ps i → f (n + 1 + i) ≡ content_at ps i
     go i h = ap f (omega arith) ∙ h

@@ -1,10 +1,13 @@
 use Rattle.std.specs.Prelude.{ℕ, ◌≡◌, ◌+◌, ◌<◌, Bool, true, false, ◌&&◌, ◌||◌, ◌==◌, nat_lt, nat_le, if◌then◌else◌, List, [], ◌∷◌, ◌++◌, length, drop}
 use Rattle.std.specs.Prelude.{Option, None, Some}
+use Rattle.rtp_wire.specs.declared.ExtensionValues.{ExtensionValues}
 
--- What a taken datagram gives besides its number: the RTP timestamp (RFC 3550 5.1), whether a frame
--- may begin with its payload and whether one ends with it, and the payload.
+-- What a taken datagram gives besides its number: the RTP timestamp (RFC 3550 5.1), the values of its
+-- header extensions, whether a frame may begin with its payload and whether one ends with it, and
+-- the payload.
 pub record Content : Type 0 where
   pub time : ℕ
+  pub values : ExtensionValues
   pub head : Bool
   pub tail : Bool
   pub bytes : List ℕ

@@ -1,6 +1,8 @@
 use Rattle.std.specs.Prelude.{ℕ, if◌then◌else◌, List, [], ◌∷◌}
 use Rattle.std.specs.Prelude.{Option, None, Some}
 use Rattle.std.specs.List.{flat_map}
+use Rattle.rtp_wire.specs.Values.{absent}
+use Rattle.rtp_wire.specs.declared.ExtensionValues.{ExtensionValues}
 use Rattle.rtp_wire.specs.Widening.{widened}
 use Rattle.rtp_wire.specs.Replay.{Window, is_accepted, recorded_in, greatest_in}
 use Rattle.rtp_media_runs.specs.Buffer.{Content, Packet, Buffer, pushed, popped, buffer_after, first_number, last_number}
@@ -19,19 +21,25 @@ pub data Event : Type 0 where
   Poll : Event
 
 -- What a poll hands out: the numbers of the first and the last packet of a frame, its RTP timestamp,
--- and the payloads one after the other.
+-- the values of the last packet's header extensions, and the payloads one after the other.
 pub record MediaUnit : Type 0 where
   pub first : ℕ
   pub last : ℕ
   pub time : ℕ
+  pub values : ExtensionValues
   pub bytes : List ℕ
 
 abbrev pub time_of : List Packet → ℕ
 time_of [] = 0
 time_of (p ∷ ps) = p.content.time
 
+abbrev pub last_values : List Packet → ExtensionValues
+last_values [] = absent
+last_values (p ∷ []) = p.content.values
+last_values (p ∷ q ∷ qs) = last_values (q ∷ qs)
+
 abbrev pub unit_of : List Packet → MediaUnit
-unit_of f = record { first = first_number f; last = last_number f; time = time_of f; bytes = flat_map (λ p. p.content.bytes) f }
+unit_of f = record { first = first_number f; last = last_number f; time = time_of f; values = last_values f; bytes = flat_map (λ p. p.content.bytes) f }
 
 abbrev pub answer_of : Option (List Packet) → Option MediaUnit
 answer_of None = None
