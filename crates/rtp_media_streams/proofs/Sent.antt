@@ -1,14 +1,15 @@
 -- The datagrams of samples.
-use Rattle.std.proofs.Common.{◌≡◌, ℕ, zero, suc, ◌+◌, ◌<◌, ◌≤◌, ◌^◌, refl, sym, ◌∙◌, ap, arith, Bool, true, false, List, [], ◌∷◌, ◌++◌, length, map, length-append}
+use Rattle.std.proofs.Common.{◌≡◌, ℕ, zero, suc, ◌+◌, ◌<◌, ◌≤◌, ◌^◌, refl, sym, ◌∙◌, ap, subst, arith, Bool, true, false, List, [], ◌∷◌, ◌++◌, length, map, length-append}
 use Rattle.std.proofs.lemmas.Bool.Decides.{nat_tests}
 use Rattle.std.specs.Prelude.{Some, None, if◌then◌else◌, nat_lt, nat_le, is_none, ◌||◌, slice_index_or}
 use Rattle.std.specs.List.{range_with_len}
 use Rattle.rtp_wire.specs.Time.{Time, checked_rebased}
-use Rattle.rtp_wire.specs.Header.{spelled}
-use Rattle.rtp_wire.proofs.HeaderLaws.{length-spelled_least}
+use Rattle.rtp_wire.specs.Header.{spelled, two_byte_length}
+use Rattle.rtp_wire.specs.declared.ExtensionValues.{ExtensionValues}
+use Rattle.rtp_wire.proofs.HeaderLaws.{length-spelled_within}
 use Rattle.rtp_media_runs.specs.Opus.{Timed, timed, payloads, piece, piece_count}
 use Rattle.rtp_media_runs.proofs.Pieces.{piece-within}
-use Rattle.rtp_media_streams.specs.Sending.{Sending, Sample, no_extensions, header_of, datagram_of, datagrams_from, sent_payloads, sent_datagrams, with_next, after_sample, datagrams_of, samples_of, refusal_of_sample}
+use Rattle.rtp_media_streams.specs.Sending.{Sending, Sample, header_of, longest_datagram, datagram_of, datagrams_from, sent_payloads, sent_datagrams, with_next, after_sample, datagrams_of, samples_of, refusal_of_sample}
 use Rattle.rtp_media_streams.specs.declared.errors.SampleError.{SampleError}
 use Rattle.rtp_media_streams.specs.declared.errors.SampleError.TheVariants.{StreamFailed, TimeTooLarge, LimitTooSmall}
 use Rattle.rtp_media_streams.proofs.Cutting.{datagrams_from-append}
@@ -21,28 +22,32 @@ datagrams_from-next s k n (p ∷ ps) = ap (λ (ds : List (List ℕ)). datagram_o
 pub datagrams_of-consecutive : (xs : List Sample) (s : Sending) → datagrams_of s xs ≡ datagrams_from s s.next (payloads s.mtu (samples_of s xs))
 datagrams_of-consecutive [] s = refl
 datagrams_of-consecutive (x ∷ xs) s =
-    let ps : List Timed = sent_payloads s x.time x.bytes in
-    let t : Sending = after_sample s x.time x.bytes in
+    let ps : List Timed = sent_payloads s x.time x.values x.bytes in
+    let t : Sending = after_sample s x.time x.values x.bytes in
     let rest : datagrams_of t xs ≡ datagrams_from s (s.next + length ps) (payloads s.mtu (samples_of s xs)) =
     datagrams_of-consecutive xs t ∙ datagrams_from-next s (s.next + length ps) (s.next + length ps) (payloads s.mtu (samples_of s xs)) in
-    ap (λ (ds : List (List ℕ)). sent_datagrams s x.time x.bytes ++ ds) rest ∙ sym (datagrams_from-append s s.next ps (payloads s.mtu (samples_of s xs)))
+    ap (λ (ds : List (List ℕ)). sent_datagrams s x.time x.values x.bytes ++ ds) rest ∙ sym (datagrams_from-append s s.next ps (payloads s.mtu (samples_of s xs)))
 
--- short payloads make short datagrams
-AreShort : ℕ → List Timed → Type 0
-AreShort limit [] = Unit {0}
-AreShort limit (p ∷ ps) = (length p.bytes ≤ limit) × AreShort limit ps
+-- short payloads with the sample's values make short datagrams
+AreShort : ℕ → ExtensionValues → List Timed → Type 0
+AreShort limit values [] = Unit {0}
+AreShort limit values (p ∷ ps) = (length p.bytes ≤ limit) × (p.values ≡ values) × AreShort limit values ps
 
-pieces-short : (limit time i m : ℕ) (bytes : List ℕ) → AreShort limit (map (timed time) (map (piece limit bytes) (range_with_len i m)))
+pieces-short : (limit time i m : ℕ) (values : ExtensionValues) (bytes : List ℕ) → AreShort limit values (map (timed time values) (map (piece limit bytes) (range_with_len i m)))
 unfolding AreShort
-pieces-short limit time i zero bytes = tt
-pieces-short limit time i (suc m) bytes = (piece-within limit i bytes, pieces-short limit time (i + 1) m bytes)
+pieces-short limit time i zero values bytes = tt
+pieces-short limit time i (suc m) values bytes = (piece-within limit i bytes, refl, pieces-short limit time (i + 1) m values bytes)
 
-datagrams-short : (s : Sending) (n k : ℕ) (ps : List Timed) → AreShort s.mtu ps → s.mtu + 12 ≤ k → (i : ℕ) (d : List ℕ) → i < length (datagrams_from s n ps) → length (slice_index_or (datagrams_from s n ps) i d) ≤ k
+header-short : (s : Sending) (n time : ℕ) (values same : ExtensionValues) → values ≡ same → length (spelled s.map (header_of s n time values)) ≤ two_byte_length s.map (header_of s 0 0 same)
+header-short s n time values same e = subst (λ (v : ExtensionValues). length (spelled s.map (header_of s n time values)) ≤ two_byte_length s.map (header_of s 0 0 v)) e (length-spelled_within s.map (header_of s n time values))
+
+datagrams-short : (s : Sending) (n k : ℕ) (values : ExtensionValues) (ps : List Timed) → AreShort s.mtu values ps → longest_datagram s values ≤ k →
+    (i : ℕ) (d : List ℕ) → i < length (datagrams_from s n ps) → length (slice_index_or (datagrams_from s n ps) i d) ≤ k
 unfolding AreShort
-datagrams-short s n k [] short h i d lt = absurd (omega arith)
-datagrams-short s n k (p ∷ ps) short h zero d lt =
-    omega (arith, length-append (spelled no_extensions (header_of s n p.time)) p.bytes, length-spelled_least no_extensions (header_of s n p.time) refl refl, short.0)
-datagrams-short s n k (p ∷ ps) short h (suc i) d lt = datagrams-short s (n + 1) k ps short.1 h i d (omega arith)
+datagrams-short s n k values [] short h i d lt = absurd (omega arith)
+datagrams-short s n k values (p ∷ ps) short h zero d lt =
+    omega (arith, length-append (spelled s.map (header_of s n p.time p.values)) p.bytes, header-short s n p.time p.values values short.1, short.0)
+datagrams-short s n k values (p ∷ ps) short h (suc i) d lt = datagrams-short s (n + 1) k values ps short.2 h i d (omega arith)
 
 last-no : (a b c : Bool) (x y z : SampleError) → (if a then Some x else if b then Some y else if c then Some z else None) ≡ None → c ≡ false
 last-no a b false x y z h = refl
@@ -50,13 +55,18 @@ last-no true b true x y z h = cc
 last-no false true true x y z h = cc
 last-no false false true x y z h = cc
 
-fits : (s : Sending) (time : Time) → refusal_of_sample s time ≡ None → s.mtu + 12 ≤ s.limit
-fits s time h =
-    let last : nat_lt s.limit (s.mtu + 12) ≡ false = last-no (s.failed || nat_le (2 ^ 62) s.next) (is_none (checked_rebased time s.rate)) (nat_lt s.limit (s.mtu + 12)) StreamFailed TimeTooLarge LimitTooSmall h in
-    grind (arith, nat_tests)
+fits : (s : Sending) (time : Time) (values : ExtensionValues) → refusal_of_sample s time values ≡ None → longest_datagram s values ≤ s.limit
+fits s time values h =
+    let last : nat_lt s.limit (longest_datagram s values) ≡ false =
+    last-no (s.failed || nat_le (2 ^ 62) s.next) (is_none (checked_rebased time s.rate)) (nat_lt s.limit (longest_datagram s values)) StreamFailed TimeTooLarge LimitTooSmall h in
+    lt-no s.limit (longest_datagram s values) last where
+  lt-no : (a b : ℕ) → nat_lt a b ≡ false → b ≤ a
+  lt-no a b h = grind (arith, nat_tests)
 
-pub sent-short : (s : Sending) (time : Time) (bytes : List ℕ) → refusal_of_sample s time ≡ None → (i : ℕ) (d : List ℕ) → i < length (sent_datagrams s time bytes) → length (slice_index_or (sent_datagrams s time bytes) i d) ≤ s.limit
-sent-short s time bytes h = datagrams-short s s.next s.limit (sent_payloads s time bytes) (pieces-short s.mtu _ 0 (piece_count s.mtu (length bytes)) bytes) (fits s time h)
+pub sent-short : (s : Sending) (time : Time) (values : ExtensionValues) (bytes : List ℕ) → refusal_of_sample s time values ≡ None →
+    (i : ℕ) (d : List ℕ) → i < length (sent_datagrams s time values bytes) → length (slice_index_or (sent_datagrams s time values bytes) i d) ≤ s.limit
+sent-short s time values bytes h =
+    datagrams-short s s.next s.limit values (sent_payloads s time values bytes) (pieces-short s.mtu _ 0 (piece_count s.mtu (length bytes)) values bytes) (fits s time values h)
 
 pub samples-timed : (s : Sending) (xs : List Sample) (i : ℕ) (d : Timed) → i < length (samples_of s xs) → (slice_index_or (samples_of s xs) i d).time < 2 ^ 32
 samples-timed s [] i d lt = absurd (omega arith)

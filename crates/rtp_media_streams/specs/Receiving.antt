@@ -1,22 +1,35 @@
 use Rattle.std.specs.Prelude.{ℕ, Bool, ◌==◌, ◌&&◌, if◌then◌else◌, List, Option, Some, None}
+use Rattle.rtp_wire.specs.Header.{header_in}
 use Rattle.rtp_wire.specs.Replay.{is_accepted}
+use Rattle.rtp_wire.specs.Values.{Numbering, absent}
+use Rattle.rtp_wire.specs.declared.ExtensionValues.{ExtensionValues}
+use Rattle.rtp_wire.specs.declared.header.RtpHeader.{RtpHeader}
 use Rattle.rtp_media_runs.specs.Heard.{Stream, fresh, number_at, taken_by, polled}
 use Rattle.rtp_media_runs.specs.Opus.{content_of}
 
--- A receiving stream: whose datagrams it takes, by SSRC and payload type (RFC 3550 5.1), and what it
--- keeps of them.
+-- A receiving stream: whose datagrams it takes, by SSRC and payload type (RFC 3550 5.1), the numbers of
+-- their header extensions (RFC 8285 5), and what it keeps of them.
 pub record Receiving : Type 0 where
   pub ssrc : ℕ
   pub pt : ℕ
+  pub map : Numbering
   pub stream : Stream
 
 -- a stream that heard nothing
-abbrev pub opened_receiver : ℕ → ℕ → ℕ → Receiving
-opened_receiver ssrc pt hold_back = record { ssrc = ssrc; pt = pt; stream = fresh hold_back }
+abbrev pub opened_receiver : ℕ → ℕ → Numbering → ℕ → Receiving
+opened_receiver ssrc pt map hold_back = record { ssrc = ssrc; pt = pt; map = map; stream = fresh hold_back }
 
 -- the same stream with other things kept
 abbrev pub with_stream : Receiving → Stream → Receiving
-with_stream r s = record { ssrc = r.ssrc; pt = r.pt; stream = s }
+with_stream r s = record { ssrc = r.ssrc; pt = r.pt; map = r.map; stream = s }
+
+abbrev pub values_of_header : Option RtpHeader → ExtensionValues
+values_of_header None = absent
+values_of_header (Some h) = h.ext_vals
+
+-- The values that a datagram's header extensions have under these numbers (RFC 8285 5).
+abbrev pub values_read : Numbering → List ℕ → ExtensionValues
+values_read map datagram = values_of_header (header_in map datagram)
 
 -- whether these datagrams are its own
 abbrev pub is_own : Receiving → ℕ → ℕ → Bool
@@ -27,8 +40,8 @@ abbrev pub taken_number : Stream → ℕ → Option ℕ
 taken_number s low = if is_accepted s.window (number_at s low) then Some (number_at s low) else None
 
 -- the stream after it
-abbrev pub arrived : Stream → ℕ → ℕ → List ℕ → Stream
-arrived s low time payload = taken_by s (number_at s low) (content_of time payload)
+abbrev pub arrived : Stream → ℕ → ℕ → ExtensionValues → List ℕ → Stream
+arrived s low time values payload = taken_by s (number_at s low) (content_of time values payload)
 
 -- the stream after a poll
 abbrev pub polled_receiver : Receiving → Receiving

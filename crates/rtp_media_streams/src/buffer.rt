@@ -6,18 +6,20 @@ ghost use Rattle.rtp_media_runs.specs.Buffer.{pushed, with_packet, bounded, IsRi
 ghost use Rattle.rtp_media_runs.specs.Opus.{content_of, packet_of};
 ghost use Rattle.rtp_media_streams.specs.Places.{is_number, is_next};
 
+use rtp_wire::ExtensionValues;
 use std::alloc::{AllocError, Global};
 use std::marker::Model;
 
 /// The most packets that wait at a time.
 const MAX_HELD: usize = 4096;
 
-/// A packet with its widened sequence number, its RTP timestamp and its payload, which is a whole
-/// frame: both head and tail.
+/// A packet with its widened sequence number, its RTP timestamp, the values of its header extensions and
+/// its payload, which is a whole frame: both head and tail.
 #[derive(Drop)]
 pub(crate) struct HeldPacket {
     number: u64,
     time: u32,
+    ext_vals: ExtensionValues,
     bytes: Vec<u8>,
 }
 
@@ -27,17 +29,18 @@ impl Model for HeldPacket {
 
     ghost Value = { Packet };
 
-    ghost view = { λ h. packet_of h.number h.time h.bytes.items };
+    ghost view = { λ h. packet_of h.number h.time h.ext_vals h.bytes.items };
 }
 
 impl HeldPacket {
     /// A packet of this number.
-    pub fn new(number: u64, time: u32, bytes: Vec<u8>) -> Self
-        ensures { result ≡ packet_of number time bytes.items }
+    pub fn new(number: u64, time: u32, ext_vals: ExtensionValues, bytes: Vec<u8>) -> Self
+        ensures { result ≡ packet_of number time ext_vals bytes.items }
     {
         HeldPacket {
             number,
             time,
+            ext_vals,
             bytes,
         }
     }
@@ -56,6 +59,13 @@ impl HeldPacket {
         self.time
     }
 
+    /// The values of the header extensions.
+    pub fn ext_vals(&self) -> ExtensionValues
+        ensures { result ≡ self.now.content.values }
+    {
+        self.ext_vals
+    }
+
     /// The payload, given up.
     pub fn into_bytes(self) -> Vec<u8>
         ensures { result.items ≡ self.content.bytes }
@@ -63,6 +73,7 @@ impl HeldPacket {
         let HeldPacket {
             number: _,
             time: _,
+            ext_vals: _,
             bytes,
         } = self;
         bytes
@@ -144,8 +155,14 @@ impl PacketBuffer {
 
     /// Takes a packet in, unless its number was passed or is there; where too many wait then, the
     /// lowest goes.
-    pub fn push(&mut self, number: u64, time: u32, bytes: Vec<u8>) -> Result<(), AllocError>
-        ensures ok { OnOk result (self.new ≡ pushed self.old (packet_of number time bytes.items)) }
+    pub fn push(
+        &mut self,
+        number: u64,
+        time: u32,
+        ext_vals: ExtensionValues,
+        bytes: Vec<u8>,
+    ) -> Result<(), AllocError>
+        ensures ok { OnOk result (self.new ≡ pushed self.old (packet_of number time ext_vals bytes.items)) }
         ensures err { OnErr result (self.new ≡ self.old) }
     {
         if let Some(cutoff) = self.cutoff {
@@ -153,7 +170,10 @@ impl PacketBuffer {
                 return Ok(());
             }
         }
-        place(&mut self.held, HeldPacket::new(number, time, bytes))
+        place(
+            &mut self.held,
+            HeldPacket::new(number, time, ext_vals, bytes),
+        )
     }
 
     /// Hands out the lowest packet, where it goes on from the last one that was handed out, or more

@@ -4,15 +4,17 @@ ghost use Rattle.std.specs.Prelude.{◌≡◌, [], ◌∷◌};
 ghost use Rattle.rtp_media_runs.specs.Heard.{unit_of};
 
 use crate::buffer::HeldPacket;
-use rtp_wire::SeqNo;
+use rtp_wire::{ExtensionValues, SeqNo};
 use std::marker::Model;
 
-/// An audio packet as it was sampled: its bytes, its RTP timestamp (RFC 3550 5.1), and the widened
-/// sequence numbers of the first and the last datagram that it came in.
+/// An audio packet as it was sampled: its bytes, its RTP timestamp (RFC 3550 5.1), the widened sequence
+/// numbers of the first and the last datagram that it came in, and the values of the last one's header
+/// extensions (RFC 8285).
 #[derive(Drop)]
 pub struct Unit {
     bytes: Vec<u8>,
     time: u32,
+    ext_vals: ExtensionValues,
     first: u64,
     last: u64,
 }
@@ -22,7 +24,7 @@ impl Model for Unit {
 
     ghost Value = { MediaUnit };
 
-    ghost view = { λ u. record { first = u.first; last = u.last; time = u.time; bytes = u.bytes.items } };
+    ghost view = { λ u. record { first = u.first; last = u.last; time = u.time; values = u.ext_vals; bytes = u.bytes.items } };
 }
 
 impl Unit {
@@ -32,9 +34,11 @@ impl Unit {
     {
         let number = packet.number();
         let time = packet.time();
+        let ext_vals = packet.ext_vals();
         Unit {
             bytes: packet.into_bytes(),
             time,
+            ext_vals,
             first: number,
             last: number,
         }
@@ -52,6 +56,13 @@ impl Unit {
         ensures { result ≡ self.now.time }
     {
         self.time
+    }
+
+    /// The values of the header extensions of the last datagram.
+    pub fn ext_vals(&self) -> ExtensionValues
+        ensures { result ≡ self.now.values }
+    {
+        self.ext_vals
     }
 
     /// The number of the first datagram.
@@ -75,6 +86,7 @@ impl Unit {
         let Unit {
             bytes,
             time: _,
+            ext_vals: _,
             first: _,
             last: _,
         } = self;

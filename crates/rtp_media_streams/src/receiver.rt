@@ -3,11 +3,13 @@
 ghost use Rattle.std.specs.Prelude.{◌≡◌, [], ◌∷◌, OnOk, OnErr, IfOk, OnSome, ◌<◌, length};
 ghost use Rattle.rtp_media_runs.specs.Heard.{poll_answer};
 ghost use Rattle.rtp_media_runs.specs.Drained.{IsDrained};
-ghost use Rattle.rtp_media_streams.specs.Receiving.{opened_receiver, with_stream, is_own, taken_number, arrived, polled_receiver};
+ghost use Rattle.rtp_media_streams.specs.Receiving.{opened_receiver, with_stream, is_own, taken_number, arrived, values_read, polled_receiver};
 
 use crate::buffer::PacketBuffer;
 use crate::media_unit::Unit;
-use rtp_wire::{Pt, SeqNo, SeqNoWindow, Ssrc, extend_u16};
+use rtp_wire::{
+    ExtensionMap, ExtensionValues, Pt, RtpHeader, SeqNo, SeqNoWindow, Ssrc, extend_u16,
+};
 use std::alloc::{AllocError, Global};
 use std::marker::Model;
 
@@ -17,6 +19,7 @@ pub struct ReceivingStream {
     alloc: Global,
     ssrc: Ssrc,
     pt: Pt,
+    exts: ExtensionMap,
     hold_back: usize,
     window: Option<SeqNoWindow>,
     buffer: PacketBuffer,
@@ -31,19 +34,20 @@ impl Model for ReceivingStream {
 
     ghost coded = { Prim.hlevel (codes, window_code) };
 
-    ghost view = { λ r. record { ssrc = r.ssrc; pt = r.pt; stream = record { hold_back = r.hold_back; window = r.window; buffer = r.buffer } } };
+    ghost view = { λ r. record { ssrc = r.ssrc; pt = r.pt; map = r.exts; stream = record { hold_back = r.hold_back; window = r.window; buffer = r.buffer } } };
 }
 
 impl ReceivingStream {
-    /// A stream of this SSRC and payload type that heard nothing. Past a missing packet a frame is
-    /// handed out only once more than `hold_back` frames are complete.
-    pub fn new(alloc: Global, ssrc: Ssrc, pt: Pt, hold_back: usize) -> Self
-        ensures { result ≡ opened_receiver ssrc pt hold_back }
+    /// A stream of this SSRC, payload type and map of header extensions that heard nothing. Past a
+    /// missing packet a frame is handed out only once more than `hold_back` frames are complete.
+    pub fn new(alloc: Global, ssrc: Ssrc, pt: Pt, exts: ExtensionMap, hold_back: usize) -> Self
+        ensures { result ≡ opened_receiver ssrc pt exts hold_back }
     {
         ReceivingStream {
             alloc,
             ssrc,
             pt,
+            exts,
             hold_back,
             window: None,
             buffer: PacketBuffer::new(alloc),
@@ -57,22 +61,36 @@ impl ReceivingStream {
         self.ssrc.get() == ssrc.get() && self.pt.get() == pt.get()
     }
 
-    /// Takes one datagram of its own in, by the 16 bits of its sequence number, its timestamp and its
-    /// payload, and answers its widened number; None where that is refused.
+    /// The values of a datagram's header extensions, by the stream's map; none where no header is
+    /// read.
+    pub fn values_read(&self, datagram: &[u8]) -> ExtensionValues
+        ensures { result ≡ values_read self.now.map datagram.now }
+    {
+        match RtpHeader::parse(datagram, &self.exts) {
+            Some(header) => header.ext_vals,
+            None => ExtensionValues::absent(),
+        }
+    }
+
+    /// Takes one datagram of its own in, by the 16 bits of its sequence number, its timestamp, the
+    /// values of its header extensions and its payload, and answers its widened number; None where
+    /// that is refused.
     pub fn receive(
         &mut self,
         low: u16,
         time: u32,
+        ext_vals: ExtensionValues,
         payload: &[u8],
     ) -> Result<Option<SeqNo>, AllocError>
         ensures answer { IfOk result (λ taken. taken ≡ taken_number self.old.stream low) }
-        ensures after { OnOk result (self.new ≡ with_stream self.old (arrived self.old.stream low time payload.now)) }
+        ensures after { OnOk result (self.new ≡ with_stream self.old (arrived self.old.stream low time ext_vals payload.now)) }
         ensures err { OnErr result (self.new ≡ self.old) }
     {
         match &mut self.window {
             None => {
                 let number = extend_u16(None, low);
-                self.buffer.push(number, time, payload.to_vec(self.alloc)?)?;
+                self.buffer
+                    .push(number, time, ext_vals, payload.to_vec(self.alloc)?)?;
                 self.window = Some(SeqNoWindow::new(SeqNo::from(number)));
                 Ok(Some(SeqNo::from(number)))
             }
@@ -81,7 +99,8 @@ impl ReceivingStream {
                 if !window.accepts(SeqNo::from(number)) {
                     return Ok(None);
                 }
-                self.buffer.push(number, time, payload.to_vec(self.alloc)?)?;
+                self.buffer
+                    .push(number, time, ext_vals, payload.to_vec(self.alloc)?)?;
                 window.update(SeqNo::from(number));
                 Ok(Some(SeqNo::from(number)))
             }

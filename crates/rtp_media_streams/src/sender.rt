@@ -23,6 +23,7 @@ pub struct SendingStream {
     alloc: Global,
     ssrc: Ssrc,
     pt: Pt,
+    exts: ExtensionMap,
     rate: Frequency,
     next: u64,
     mtu: usize,
@@ -39,6 +40,7 @@ impl Model for SendingStream {
     ghost view = { λ s. record {
       ssrc = s.ssrc;
       pt = s.pt;
+      map = s.exts;
       rate = s.rate;
       next = s.next;
       mtu = s.mtu;
@@ -50,12 +52,13 @@ impl Model for SendingStream {
 }
 
 impl SendingStream {
-    /// A stream of this SSRC, payload type and clock rate that sent nothing: its datagrams are
-    /// numbered from `first`, no payload passes `mtu` bytes and no datagram `limit`.
+    /// A stream of this SSRC, payload type, map of header extensions and clock rate that sent nothing:
+    /// its datagrams are numbered from `first`, no payload passes `mtu` bytes and no datagram `limit`.
     pub fn new(
         alloc: Global,
         ssrc: Ssrc,
         pt: Pt,
+        exts: ExtensionMap,
         rate: Frequency,
         first: u64,
         mtu: usize,
@@ -63,12 +66,13 @@ impl SendingStream {
     ) -> Self
         requires payload_type { pt < 128 }
         requires mtu { 0 < mtu }
-        ensures { result ≡ opened_sender ssrc pt rate first mtu limit }
+        ensures { result ≡ opened_sender ssrc pt exts rate first mtu limit }
     {
         SendingStream {
             alloc,
             ssrc,
             pt,
+            exts,
             rate,
             next: first,
             mtu,
@@ -92,8 +96,8 @@ impl SendingStream {
     }
 
     /// The datagrams of a sample, each of at most `limit` bytes with a payload of at most `mtu`: its
-    /// pieces one after the other, under consecutive numbers and one timestamp. An empty sample has
-    /// none and uses no number.
+    /// pieces one after the other, under consecutive numbers and one timestamp, each with all values
+    /// that the stream's map has a number for. An empty sample has none and uses no number.
     ///
     /// # Errors
     /// The first that holds of `StreamFailed`, `TimeTooLarge` and `LimitTooSmall`, which change
@@ -102,16 +106,17 @@ impl SendingStream {
         &mut self,
         time: MediaTime,
         bytes: &[u8],
+        values: &ExtensionValues,
     ) -> Result<Vec<Datagram>, SampleError>
-        ensures sent { IfOk result (λ ds. ds.items ≡ sent_datagrams self.old time bytes.now) }
-        ensures accepted { OnOk result (refusal_of_sample self.old time ≡ None) }
-        ensures after { OnOk result (self.new ≡ after_sample self.old time bytes.now) }
-        ensures refused { IfErr result (λ e. e ≢ SampleError.Memory → refusal_of_sample self.old time ≡ Some e) }
+        ensures sent { IfOk result (λ ds. ds.items ≡ sent_datagrams self.old time values.now bytes.now) }
+        ensures accepted { OnOk result (refusal_of_sample self.old time values.now ≡ None) }
+        ensures after { OnOk result (self.new ≡ after_sample self.old time values.now bytes.now) }
+        ensures refused { IfErr result (λ e. e ≢ SampleError.Memory → refusal_of_sample self.old time values.now ≡ Some e) }
         ensures unchanged { IfErr result (λ e. e ≢ SampleError.Memory → self.new ≡ self.old) }
         ensures failed { IfErr result (λ e. e ≡ SampleError.Memory → self.new ≡ failed_stream self.old) }
     {
-        let time = self.timestamp(time)?;
-        match self.datagrams(time, bytes) {
+        let time = self.timestamp(time, values)?;
+        match self.datagrams(time, bytes, values) {
             Ok(datagrams) => {
                 self.next += datagrams.len() as u64;
                 Ok(datagrams)
@@ -124,11 +129,11 @@ impl SendingStream {
     }
 
     /// The timestamp of a sample, or why it is refused.
-    fn timestamp(&self, time: MediaTime) -> Result<u32, SampleError>
+    fn timestamp(&self, time: MediaTime, values: &ExtensionValues) -> Result<u32, SampleError>
         ensures word { IfOk result (λ word. word ≡ rebased_ticks time self.now.rate % 2 ^ 32) }
-        ensures accepted { OnOk result (refusal_of_sample self.now time ≡ None) }
+        ensures accepted { OnOk result (refusal_of_sample self.now time values.now ≡ None) }
         ensures next { OnOk result (self.now.next < 2 ^ 62) }
-        ensures refused { IfErr result (λ e. (e ≢ SampleError.Memory) × (refusal_of_sample self.now time ≡ Some e)) }
+        ensures refused { IfErr result (λ e. (e ≢ SampleError.Memory) × (refusal_of_sample self.now time values.now ≡ Some e)) }
     {
         if self.failed || self.next >= END_OF_NUMBERS {
             return Err(SampleError::StreamFailed);
@@ -136,38 +141,43 @@ impl SendingStream {
         let time = time
             .checked_rebase(self.rate)
             .ok_or(SampleError::TimeTooLarge)?;
-        if self.limit < FIXED_HEADER_LEN || self.limit - FIXED_HEADER_LEN < self.mtu {
+        let header_len = self.header(0, 0, values).two_byte_len(&self.exts);
+        if self.limit < header_len || self.limit - header_len < self.mtu {
             return Err(SampleError::LimitTooSmall);
         }
         Ok((time.numer() % 0x1_0000_0000) as u32)
     }
 
     /// The datagrams of a sample of this timestamp.
-    fn datagrams(&self, time: u32, bytes: &[u8]) -> Result<Vec<Datagram>, AllocError>
+    fn datagrams(
+        &self,
+        time: u32,
+        bytes: &[u8],
+        values: &ExtensionValues,
+    ) -> Result<Vec<Datagram>, AllocError>
         requires { self.now.next < 2 ^ 62 }
-        ensures sent { IfOk result (λ ds. ds.items ≡ datagrams_from self.now self.now.next (payloads_of self.now.mtu (timed time bytes.now))) }
+        ensures sent { IfOk result (λ ds. ds.items ≡ datagrams_from self.now self.now.next (payloads_of self.now.mtu (timed time values.now bytes.now))) }
         ensures count { IfOk result (λ ds. length ds.items ≤ length bytes.now) }
     {
-        let exts = ExtensionMap::empty();
         let mut datagrams = Vec::new(self.alloc);
         let mut number = self.next;
         for payload in bytes.chunks(self.mtu) {
-            let header = self.header(number, time);
-            datagrams.push(Datagram::new(self.alloc, &header, &exts, payload)?)?;
+            let header = self.header(number, time, values);
+            datagrams.push(Datagram::new(self.alloc, &header, &self.exts, payload)?)?;
             number += 1;
         }
         Ok(datagrams)
     }
 
     /// The header of the datagram of this number.
-    fn header(&self, number: u64, time: u32) -> RtpHeader
-        ensures header { result ≡ header_of self.now number time }
+    fn header(&self, number: u64, time: u32, values: &ExtensionValues) -> RtpHeader
+        ensures header { result ≡ header_of self.now number time values.now }
         ensures payload_type { result.payload_type < 128 }
     {
         RtpHeader {
             version: 2,
             has_padding: false,
-            has_extension: false,
+            has_extension: !self.exts.is_empty(),
             csrc_count: 0,
             marker: false,
             payload_type: self.pt,
@@ -175,7 +185,7 @@ impl SendingStream {
             timestamp: time,
             ssrc: self.ssrc,
             csrc: [0; 15],
-            ext_vals: ExtensionValues::absent(),
+            ext_vals: *values,
             header_len: FIXED_HEADER_LEN,
         }
     }

@@ -11,17 +11,17 @@ pub loop-payload-preserved : goal.loop-payload-preserved
 loop-payload-preserved c =
     let mtu : c.self.inside.mtu ≡ c.args.self.now.mtu = ap (λ (s : Sending). s.mtu) c.self.view_is in
     let some : 0 < c.args.self.now.mtu = omega (arith, c.self.invariant.1) in
-    let made : c.in_ok-new.field-0 ≡ datagram_of c.args.self.now c.loop-payload.number (timed c.args.time c.in-Some.payload.now) =
-    c.in_ok-new.ensures ∙ ap₂ (λ (m : Numbering) (h : RtpHeader). spelled m h ++ c.in-Some.payload.now) c.empty-exts.ensures c.header-header.ensures.header in
+    let made : c.in_ok-new.field-0 ≡ datagram_of c.args.self.now c.loop-payload.number (timed c.args.time c.args.values.now c.in-Some.payload.now) =
+    c.in_ok-new.ensures ∙ ap₂ (λ (m : Numbering) (h : RtpHeader). spelled m h ++ c.in-Some.payload.now) (ap (λ (s : Sending). s.map) c.self.view_is) c.header-header.ensures.header in
     record {
       next = omega (arith, c.in-Some.ensures.steps.0, c.loop-payload.invariant.next);
       finite = tt;
       size = c.in-Some.ensures.steps.0 ∙ c.loop-payload.invariant.size;
-      cut = IsCut-pushed _ _ _ _ _ _ _ _ _ _ _ some c.loop-payload.invariant.cut c.in-Some.ensures.steps.1.0 c.in-Some.ensures.steps.1.1 c.in-Some.ensures.steps.1.2 (c.loop-payload.invariant.size ∙ mtu) made c.in_ok-push.ensures.items;
+      cut = IsCut-pushed _ _ _ _ _ _ _ _ _ _ _ _ some c.loop-payload.invariant.cut c.in-Some.ensures.steps.1.0 c.in-Some.ensures.steps.1.1 c.in-Some.ensures.steps.1.2 (c.loop-payload.invariant.size ∙ mtu) made c.in_ok-push.ensures.items;
     }
 
 pub returns-clause-sent : goal.returns-clause-sent
 returns-clause-sent c =
     let mtu : c.self.inside.mtu ≡ c.args.self.now.mtu = ap (λ (s : Sending). s.mtu) c.self.view_is in
     let some : 0 < c.args.self.now.mtu = omega (arith, c.self.invariant.1) in
-    IsCut-done _ _ _ _ _ _ some c.loop-payload.invariant.cut c.in-None.ensures.steps.1.0
+    IsCut-done _ _ _ _ _ _ _ some c.loop-payload.invariant.cut c.in-None.ensures.steps.1.0

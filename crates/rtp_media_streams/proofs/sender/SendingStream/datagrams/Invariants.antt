@@ -7,5 +7,5 @@ invariant-loop-payload l = record {
   next : (goal.iterator-loop-payload).can_next l.payload-iterator;
   finite : (goal.iterator-loop-payload).is_finite l.payload-iterator;
   size : l.payload-iterator.size ≡ l.self-inside.mtu;
-  cut : IsCut l.self l.time l.bytes l.payload-iterator.rest.now l.number l.datagrams.items;
+  cut : IsCut l.self l.time l.values l.bytes l.payload-iterator.rest.now l.number l.datagrams.items;
 }
