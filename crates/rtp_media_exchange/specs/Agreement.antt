@@ -2,30 +2,37 @@
 use Rattle.std.specs.Prelude.{◌≡◌, ℕ, Bool, true, false, not, ◌&&◌, ◌==◌, List, [], ◌∷◌, Option, Some, None, if◌then◌else◌}
 use Rattle.std.specs.Str.{bytes_eq}
 use Rattle.std.specs.List.{list_any}
+use Rattle.std.specs.Option.{option_map}
 use Rattle.rtp_wire.specs.Direction.{sends, receives}
+use Rattle.rtp_wire.specs.Maps.{empty_map}
+use Rattle.rtp_wire.specs.Values.{Numbering}
 use Rattle.rtp_media_texts.specs.Section.{Section}
 use Rattle.sdp_formats_rows.specs.Configs.{is_codec}
 use Rattle.sdp_formats_rows.specs.declared.format.FormatParams.{FormatParams}
 use Rattle.sdp_formats_rows.specs.declared.spec.CodecSpec.{CodecSpec}
 use Rattle.sdp_formats_rows.specs.Rows.{Row}
+use Rattle.rtp_media_exchange.specs.Extensions.{map_of_lines}
 use Rattle.rtp_media_exchange.specs.Plain.{plain_row}
 use Rattle.rtp_media_exchange.specs.Sections.{Wanted}
 
--- What an exchange agreed on: the section's name, the answer's row, the SSRCs that this end and the
--- other one name in it, and whether it flows from this end and to it.
+-- What an exchange agreed on: the section's name, the answer's row and its map of header extensions,
+-- the SSRCs that this end and the other one name in it, and whether it flows from this end and to it.
 pub record Agreed : Type 0 where
   pub mid : List ℕ
   pub row : Row
+  pub map : Numbering
   pub own_ssrcs : List ℕ
   pub remote_ssrcs : List ℕ
   pub sends : Bool
   pub receives : Bool
 
--- What both fixed ends agree on: section `0`, Opus at type 111, SSRC 44 at either side.
+-- What both fixed ends agree on: section `0`, Opus at type 111, no header extension, SSRC 44 at either
+-- side.
 abbrev pub fixed_agreement : Agreed
 fixed_agreement = record {
   mid = 48 ∷ [];
   row = plain_row 111 true;
+  map = empty_map;
   own_ssrcs = 44 ∷ [];
   remote_ssrcs = 44 ∷ [];
   sends = true;
@@ -41,6 +48,7 @@ abbrev pub agreed_by_answer : Section → Section → Agreed
 agreed_by_answer offer answer = record {
   mid = answer.mid;
   row = row_listed answer;
+  map = map_of_lines answer.extmaps;
   own_ssrcs = answer.ssrcs;
   remote_ssrcs = offer.ssrcs;
   sends = sends answer.direction;
@@ -52,6 +60,7 @@ abbrev pub agreed_by_accept : Wanted → Section → Agreed
 agreed_by_accept offered answer = record {
   mid = answer.mid;
   row = row_listed answer;
+  map = map_of_lines answer.extmaps;
   own_ssrcs = offered.ssrcs;
   remote_ssrcs = answer.ssrcs;
   sends = receives answer.direction && sends offered.dir;
@@ -75,6 +84,14 @@ agreed_row_of agreed mid pt = row_in (section_of agreed mid) pt
 -- The row of a payload type in a text's section of a name.
 abbrev pub row_of_text : Section → List ℕ → ℕ → Option Row
 row_of_text s mid pt = if bytes_eq s.mid mid then (if s.pt == pt then Some (row_listed s) else None) else None
+
+-- The map of header extensions of the answer's section of a name.
+abbrev pub agreed_map_of : Option Agreed → List ℕ → Option Numbering
+agreed_map_of agreed mid = option_map (λ a. a.map) (section_of agreed mid)
+
+-- The map of header extensions of a text's section of a name.
+abbrev pub map_of_text : Section → List ℕ → Option Numbering
+map_of_text s mid = if bytes_eq s.mid mid then Some (map_of_lines s.extmaps) else None
 
 -- Whether an SSRC is among these.
 abbrev pub is_named : List ℕ → ℕ → Bool
@@ -111,6 +128,8 @@ abbrev pub own_row_agrees : Option Row → Row → Bool
 own_row_agrees None row = false
 own_row_agrees (Some own) row = own.locked && ((own.pt == row.pt) && means_same own row)
 
--- Each row that was agreed on is the one that a text's section lists, and no other is.
-abbrev pub AgreesOn : Section → Option Agreed → Type 0
-AgreesOn s agreed = (mid : List ℕ) (pt : ℕ) → agreed_row_of agreed mid pt ≡ row_of_text s mid pt
+-- Each row that was agreed on is the one that a text's section lists, and no other is; and so is the map
+-- of header extensions.
+pub record AgreesOn (s : Section) (agreed : Option Agreed) : Type 0 where
+  pub rows : (mid : List ℕ) (pt : ℕ) → agreed_row_of agreed mid pt ≡ row_of_text s mid pt
+  pub maps : (mid : List ℕ) → agreed_map_of agreed mid ≡ map_of_text s mid

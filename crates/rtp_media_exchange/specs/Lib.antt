@@ -1,5 +1,6 @@
 pub mod Agreement
 pub mod Exchanges
+pub mod Extensions
 pub mod Offers
 pub mod Plain
 pub mod Refusals

@@ -1,38 +1,36 @@
 -- What offers and answers say.
-use Rattle.std.specs.Prelude.{◌≡◌, ℕ, Bool, true, false, ◌&&◌, nat_lt, length, if◌then◌else◌, List, [], Option, Some, None}
+use Rattle.std.specs.Prelude.{◌≡◌, ℕ, Bool, true, false, ◌&&◌, List, Option, Some, None}
 use Rattle.payload_core_base.specs.declared.codec.MediaKind.{MediaKind}
 use Rattle.payload_core_base.specs.declared.codec.MediaKind.TheVariants.{Audio, Video}
 use Rattle.rtp_wire.specs.declared.Direction.{Direction}
 use Rattle.rtp_wire.specs.declared.Direction.TheVariants.{SendOnly, RecvOnly, SendRecv, Inactive}
 use Rattle.rtp_wire.specs.Direction.{sends, receives}
+use Rattle.rtp_wire.specs.Values.{Numbering}
 use Rattle.rtp_media_texts.specs.Section.{Section}
 use Rattle.rtp_media_texts.specs.Reading.{reading_of}
 use Rattle.rtp_media_texts.specs.Text.{text_of}
 use Rattle.sdp_formats_rows.specs.Rows.{Row}
 use Rattle.rtp_media_exchange.specs.Agreement.{Agreed, AgreesOn}
 use Rattle.rtp_media_exchange.specs.Exchanges.{Exchanged, after_round, with_answer, with_accept}
+use Rattle.rtp_media_exchange.specs.Extensions.{lines_of_map, answered_lines}
 use Rattle.rtp_media_exchange.specs.Sections.{Wanted, only}
 
--- What a text says that has no extension lines.
-abbrev pub without_extensions : Option Section → Option Section
-without_extensions None = None
-without_extensions (Some s) = if nat_lt 0 (length s.extmaps) then None else Some s
-
+-- What a text says.
 abbrev pub said_by : List ℕ → Option Section
-said_by text = without_extensions (reading_of text)
+said_by text = reading_of text
 
 -- the rows that a section of a kind lists: the row is audio
 abbrev pub row_for : Option Row → MediaKind → Option Row
 row_for row Audio = row
 row_for row Video = None
 
--- What an offer of a section with a row says.
-abbrev pub offer_of : ℕ → Row → Wanted → Section
-offer_of session row wanted = record {
+-- What an offer of a section with a row says, of an end that wants these header extensions.
+abbrev pub offer_of : ℕ → Numbering → Row → Wanted → Section
+offer_of session exts row wanted = record {
   session = session;
   mid = wanted.mid;
   direction = wanted.dir;
-  extmaps = [];
+  extmaps = lines_of_map exts;
   pt = row.pt;
   transport_cc = row.transport_cc;
   ssrcs = wanted.ssrcs;
@@ -50,13 +48,14 @@ flow false false = Inactive
 abbrev pub answered_direction : Direction → Direction → Direction
 answered_direction offered wanted = flow (sends wanted && receives offered) (receives wanted && sends offered)
 
--- What an answer says: the row as the round left it.
-abbrev pub answer_of : ℕ → Row → Wanted → Section → Section
-answer_of session row wanted offer = record {
+-- What an answer says: the row as the round left it, and of the offered extensions those that the end
+-- wants too, under the offer's numbers.
+abbrev pub answer_of : ℕ → Numbering → Row → Wanted → Section → Section
+answer_of session exts row wanted offer = record {
   session = session;
   mid = wanted.mid;
   direction = answered_direction offer.direction wanted.dir;
-  extmaps = [];
+  extmaps = answered_lines exts offer.extmaps;
   pt = (after_round row offer).pt;
   transport_cc = (after_round row offer).transport_cc;
   ssrcs = wanted.ssrcs;
@@ -68,7 +67,7 @@ pub record Offers (x : Exchanged) (sections : List Wanted) (text : List ℕ) : T
   pub row : Row
   pub only_one : only sections ≡ Some wanted
   pub row_is : row_for x.row wanted.kind ≡ Some row
-  pub text_is : text ≡ text_of (offer_of x.session row wanted)
+  pub text_is : text ≡ text_of (offer_of x.session x.wanted row wanted)
 
 -- The offer of a text was answered: the answer says the row as the round left it, and the end has agreed.
 pub record Answers (x : Exchanged) (text : List ℕ) (sections : List Wanted) (answer : List ℕ) (after : Exchanged) : Type 0 where
@@ -78,8 +77,8 @@ pub record Answers (x : Exchanged) (text : List ℕ) (sections : List Wanted) (a
   pub offer_is : said_by text ≡ Some offer
   pub only_one : only sections ≡ Some wanted
   pub row_is : x.row ≡ Some row
-  pub text_is : answer ≡ text_of (answer_of x.session row wanted offer)
-  pub after_is : after ≡ with_answer x offer (answer_of x.session row wanted offer)
+  pub text_is : answer ≡ text_of (answer_of x.session x.wanted row wanted offer)
+  pub after_is : after ≡ with_answer x offer (answer_of x.session x.wanted row wanted offer)
 
 -- The answer of a text was accepted for the pending offer.
 pub record Accepts (x : Exchanged) (text : List ℕ) (after : Exchanged) : Type 0 where

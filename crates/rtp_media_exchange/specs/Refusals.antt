@@ -2,6 +2,7 @@
 use Rattle.std.specs.Prelude.{◌≡◌, ℕ, Bool, not, ◌&&◌, ◌||◌, ◌==◌, length, Result, Ok, Err, if◌then◌else◌, List, [], ◌∷◌, Option, Some, None, is_some}
 use Rattle.std.specs.Str.{bytes_eq}
 use Rattle.payload_core_base.specs.Codecs.{is_audio_kind}
+use Rattle.rtp_wire.specs.Values.{Numbering}
 use Rattle.rtp_media_texts.specs.Section.{Section}
 use Rattle.rtp_media_texts.specs.declared.errors.SdpError.TheVariants as sdp
 use Rattle.sdp_formats_rows.specs.Rows.{Row}
@@ -10,6 +11,7 @@ use Rattle.rtp_media_exchange.specs.declared.errors.ExchangeError.TheVariants as
 use Rattle.rtp_media_exchange.specs.declared.errors.EndError.{EndError}
 use Rattle.rtp_media_exchange.specs.declared.errors.EndError.TheVariants as fault
 use Rattle.rtp_media_exchange.specs.Exchanges.{Exchanged}
+use Rattle.rtp_media_exchange.specs.Extensions.{is_writable_map}
 use Rattle.rtp_media_exchange.specs.Offers.{row_for, said_by}
 use Rattle.rtp_media_exchange.specs.Plain.{is_plain_row}
 use Rattle.rtp_media_exchange.specs.Sections.{Wanted, only}
@@ -47,11 +49,11 @@ abbrev pub else_refused : {A : Type 0} → Option A → Option A → Option A
 else_refused (Some why) next = Some why
 else_refused None next = next
 
--- Why an end can't be made: of its rows, and of a session with attributes or bandwidth, or a map that
--- isn't empty.
-abbrev pub refusal_of_new : List Row → Bool → Bool → Option EndError
-refusal_of_new rows is_bare has_no_extensions =
-    else_refused (row_refusal rows) (if is_bare && has_no_extensions then None else Some fault.NotWritable)
+-- Why an end can't be made: of its rows, and of a session with attributes or bandwidth, or a header
+-- extension whose text can't stand in a line.
+abbrev pub refusal_of_new : List Row → Bool → Numbering → Option EndError
+refusal_of_new rows is_bare exts =
+    else_refused (row_refusal rows) (if is_bare && is_writable_map exts then None else Some fault.NotWritable)
 
 -- an offer is pending, or something was agreed
 abbrev pub is_engaged : Exchanged → Bool

@@ -3,11 +3,12 @@
 ghost use Rattle.std.specs.Prelude.{◌≡◌, ◌==◌, ◌<◌, IfOk, OnSome, Some, None, [], ◌∷◌};
 ghost use Rattle.std.specs.Str.{bytes_eq};
 ghost use Rattle.rtp_media_exchange.specs.Agreement.{AgreesOn, fixed_agreement, agreed_by_answer, agreed_by_accept, row_in, is_named};
+ghost use Rattle.rtp_media_exchange.specs.Extensions.{map_of_lines};
 
 use crate::plain::plain_row;
 use crate::section::SectionSpec;
 use rtp_media_texts::SessionText;
-use rtp_wire::{Mid, Pt, Ssrc};
+use rtp_wire::{ExtensionMap, Mid, Pt, Ssrc};
 use sdp_formats_rows::PayloadParams;
 use std::alloc::{AllocError, Global};
 use std::marker::Model;
@@ -17,6 +18,7 @@ use std::marker::Model;
 pub struct AgreedSection {
     mid: Mid,
     row: PayloadParams,
+    exts: ExtensionMap,
     own_ssrcs: Vec<Ssrc>,
     remote_ssrcs: Vec<Ssrc>,
     sends: bool,
@@ -32,6 +34,7 @@ impl Model for AgreedSection {
     ghost view = { λ a. record {
       mid = a.mid;
       row = a.row;
+      map = a.exts;
       own_ssrcs = a.own_ssrcs.items;
       remote_ssrcs = a.remote_ssrcs.items;
       sends = a.sends;
@@ -42,13 +45,15 @@ impl Model for AgreedSection {
 }
 
 impl AgreedSection {
-    /// What both fixed ends agree on: section `0`, Opus at type 111, SSRC 44 at either side.
+    /// What both fixed ends agree on: section `0`, Opus at type 111, no header extension, SSRC 44 at
+    /// either side.
     pub fn fixed(alloc: Global) -> Result<Self, AllocError>
         ensures { IfOk result (λ a. a ≡ fixed_agreement) }
     {
         Ok(AgreedSection {
             mid: Mid::from("0"),
             row: plain_row(Pt::new_with_value(111), true),
+            exts: ExtensionMap::empty(),
             own_ssrcs: vec![in alloc; Ssrc::from(44)]?,
             remote_ssrcs: vec![in alloc; Ssrc::from(44)]?,
             sends: true,
@@ -56,16 +61,18 @@ impl AgreedSection {
         })
     }
 
-    /// What the end agrees on that answers an offer.
+    /// What the end agrees on that answers an offer; `exts` is the map that the answer's lines say.
     #[tactic(auto, using(crate::proofs::Said::agrees_by_answer))]
-    pub(crate) fn by_answer(offer: SessionText, answer: SessionText) -> Self
-        requires { answer.pt < 128 }
+    pub(crate) fn by_answer(offer: SessionText, answer: SessionText, exts: ExtensionMap) -> Self
+        requires typed { answer.pt < 128 }
+        requires exts { exts ≡ map_of_lines answer.extmaps }
         ensures value { result ≡ agreed_by_answer offer answer }
         ensures agrees { AgreesOn answer (Some result) }
     {
         AgreedSection {
             mid: answer.mid,
             row: plain_row(answer.pt, answer.transport_cc),
+            exts,
             sends: answer.direction.is_sending(),
             receives: answer.direction.is_receiving(),
             own_ssrcs: answer.ssrcs,
@@ -73,16 +80,18 @@ impl AgreedSection {
         }
     }
 
-    /// What the end agrees on that offered.
+    /// What the end agrees on that offered; `exts` is the map that the answer's lines say.
     #[tactic(auto, using(crate::proofs::Said::agrees_by_accept))]
-    pub(crate) fn by_accept(offered: SectionSpec, answer: SessionText) -> Self
-        requires { answer.pt < 128 }
+    pub(crate) fn by_accept(offered: SectionSpec, answer: SessionText, exts: ExtensionMap) -> Self
+        requires typed { answer.pt < 128 }
+        requires exts { exts ≡ map_of_lines answer.extmaps }
         ensures value { result ≡ agreed_by_accept offered answer }
         ensures agrees { AgreesOn answer (Some result) }
     {
         AgreedSection {
             mid: answer.mid,
             row: plain_row(answer.pt, answer.transport_cc),
+            exts,
             sends: answer.direction.is_receiving() && offered.dir.is_sending(),
             receives: answer.direction.is_sending() && offered.dir.is_receiving(),
             own_ssrcs: offered.ssrcs,
@@ -114,6 +123,13 @@ impl AgreedSection {
         } else {
             None
         }
+    }
+
+    /// The header extensions that both ends have a number for, and their numbers.
+    pub fn exts(&self) -> &ExtensionMap
+        ensures { result.now ≡ self.now.map }
+    {
+        &self.exts
     }
 
     /// Whether media flows from this end.

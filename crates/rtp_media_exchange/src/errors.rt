@@ -14,7 +14,8 @@ pub enum EndError {
     /// A payload type stands for two things; this can't occur yet, since an end has one row.
     #[error("payload type {0} stands for two things")]
     TypesNotDistinct(Pt),
-    /// The session has attributes or bandwidth, or the map of extensions isn't empty.
+    /// The session has attributes or bandwidth, or the URI of a header extension is empty or has a
+    /// blank or a line end.
     #[error("the session can't be written")]
     NotWritable,
     /// Memory was wanting.

@@ -2,7 +2,6 @@
 
 ghost use Rattle.std.specs.Prelude.{◌≡◌, ◌≢◌, ◌<◌, ◌&&◌, ℕ, List, Option, None, Some, true, false, not, is_some, string_bytes, IfOk, IfErr, OnOk, OnErr, IsTrue, ◌↔◌};
 ghost use Rattle.std.specs.Option.{option_map, option_copied};
-ghost use Rattle.rtp_wire.specs.Maps.{is_empty_map};
 ghost use Rattle.rtp_media_texts.specs.Text.{text_of};
 ghost use Rattle.rtp_media_exchange.specs.Agreement.{own_row_agrees};
 ghost use Rattle.rtp_media_exchange.specs.Exchanges.{fresh, fixed, with_offer};
@@ -14,6 +13,7 @@ mod answer;
 
 use crate::agreement::AgreedSection;
 use crate::errors::{EndError, ExchangeError};
+use crate::extmaps::{is_writable, lines_of};
 use crate::meaning::means_same;
 use crate::plain::{check_rows, plain_row};
 use crate::section::{SectionSpec, only};
@@ -25,12 +25,13 @@ use sdp_formats_rows::{CodecConfig, PayloadParams};
 use std::alloc::{AllocError, Global};
 use std::marker::Model;
 
-/// What an end keeps of its exchanges: its session and row, an offer that waits for its answer, and
-/// what was agreed.
+/// What an end keeps of its exchanges: its session, the header extensions that it wants, its row, an
+/// offer that waits for its answer, and what was agreed.
 #[derive(Drop)]
 pub struct Exchange {
     alloc: Global,
     session: SessionId,
+    exts: ExtensionMap,
     row: Option<PayloadParams>,
     pending: Option<SectionSpec>,
     agreed: Option<AgreedSection>,
@@ -41,7 +42,7 @@ impl Model for Exchange {
 
     ghost Value = { Exchanged };
 
-    ghost view = { λ x. record { session = x.session; row = x.row; pending = x.pending; agreed = x.agreed } };
+    ghost view = { λ x. record { session = x.session; wanted = x.exts; row = x.row; pending = x.pending; agreed = x.agreed } };
 }
 
 impl Exchange {
@@ -53,20 +54,21 @@ impl Exchange {
         alloc: Global,
         config: &CodecConfig,
         session: &Session,
-        exts: &ExtensionMap,
+        exts: ExtensionMap,
     ) -> Result<Self, EndError>
-        ensures new { IfOk result (λ x. x ≡ fresh session.now.id (only config.now.rows)) }
-        ensures accepted { OnOk result (refusal_of_new config.now.rows session.now.is_bare (is_empty_map exts.now) ≡ None) }
-        ensures refused { IfErr result (λ e. e ≢ EndError.Memory → refusal_of_new config.now.rows session.now.is_bare (is_empty_map exts.now) ≡ Some e) }
+        ensures new { IfOk result (λ x. x ≡ fresh session.now.id exts (only config.now.rows)) }
+        ensures accepted { OnOk result (refusal_of_new config.now.rows session.now.is_bare exts ≡ None) }
+        ensures refused { IfErr result (λ e. e ≢ EndError.Memory → refusal_of_new config.now.rows session.now.is_bare exts ≡ Some e) }
     {
         let rows = config.params();
         check_rows(rows)?;
-        if !session.is_bare() || !exts.is_empty() {
+        if !session.is_bare() || !is_writable(&exts) {
             return Err(EndError::NotWritable);
         }
         Ok(Exchange {
             alloc,
             session: session.id,
+            exts,
             row: rows.first().copied(),
             pending: None,
             agreed: None,
@@ -86,6 +88,7 @@ impl Exchange {
         Ok(Exchange {
             alloc,
             session: SessionId::from(0),
+            exts: ExtensionMap::empty(),
             row: Some(row),
             pending: None,
             agreed: Some(AgreedSection::fixed(alloc)?),
@@ -116,7 +119,7 @@ impl Exchange {
         if wanted.mid.as_str().is_empty() {
             return Err(ExchangeError::NotWritable);
         }
-        let (text, wanted) = print_offer(self.alloc, self.session, row, wanted)?;
+        let (text, wanted) = print_offer(self.alloc, self.session, &self.exts, row, wanted)?;
         self.pending = Some(wanted);
         Ok(text)
     }
@@ -169,10 +172,11 @@ fn row_for(row: Option<PayloadParams>, kind: MediaKind) -> Option<PayloadParams>
 fn print_offer(
     alloc: Global,
     session: SessionId,
+    exts: &ExtensionMap,
     row: PayloadParams,
     wanted: SectionSpec,
 ) -> Result<(String, SectionSpec), AllocError>
-    ensures { IfOk result (λ x. (string_bytes x.0 ≡ text_of (offer_of session row wanted)) × (x.1 ≡ wanted)) }
+    ensures { IfOk result (λ x. (string_bytes x.0 ≡ text_of (offer_of session exts.now row wanted)) × (x.1 ≡ wanted)) }
 {
     let SectionSpec {
         mid,
@@ -184,7 +188,7 @@ fn print_offer(
         session,
         mid,
         direction: dir,
-        extmaps: Vec::new(alloc),
+        extmaps: lines_of(alloc, exts)?,
         pt: row.pt(),
         transport_cc: row.fb_transport_cc(),
         ssrcs,

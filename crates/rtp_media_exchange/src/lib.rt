@@ -4,6 +4,7 @@
 mod agreement;
 mod errors;
 mod exchange;
+mod extmaps;
 mod meaning;
 mod plain;
 mod section;

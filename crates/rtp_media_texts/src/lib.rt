@@ -10,6 +10,7 @@ mod session_text;
 
 pub use errors::SdpError;
 pub use laws::reading_law;
+pub use parse::is_uri;
 pub use session_text::{Extmap, SessionText};
 
 #[cfg(test)]

@@ -121,8 +121,8 @@ fn has_uri(extmap: &Extmap) -> bool
     is_uri(&extmap.uri)
 }
 
-/// Whether it isn't empty and stands in one word of one line.
-fn is_uri(uri: &str) -> bool
+/// Whether a URI can stand in a line: it isn't empty, and holds neither a blank nor CR nor LF.
+pub fn is_uri(uri: &str) -> bool
     ensures { result ≡ is_uri uri.now }
 {
     !uri.is_empty() && are_uri_bytes(uri.as_bytes())

@@ -1,11 +1,13 @@
 //! Answers to offers, and their acceptance.
 
-ghost use Rattle.std.specs.Prelude.{◌≡◌, ◌<◌, ◌^◌, All, [], length, None, Some, string_bytes, IfOk, IfErr, OnOk, OnErr};
+ghost use Rattle.std.specs.Prelude.{◌≡◌, ◌<◌, ◌^◌, All, [], length, None, Some, string_bytes, IfOk, IfErr, OnOk, OnErr, IsSome};
+ghost use Rattle.std.specs.Option.{option_map};
 ghost use Rattle.rtp_wire.specs.Name.{IsName};
-ghost use Rattle.rtp_media_texts.specs.Section.{IsSound};
+ghost use Rattle.rtp_media_texts.specs.Section.{IsSound, IsSoundExtmap};
 ghost use Rattle.rtp_media_texts.specs.Text.{text_of};
-ghost use Rattle.rtp_media_exchange.specs.Agreement.{agreed_by_answer, agreed_by_accept};
+ghost use Rattle.rtp_media_exchange.specs.Agreement.{AgreesOn, agreed_by_answer, agreed_by_accept};
 ghost use Rattle.rtp_media_exchange.specs.Exchanges.{Exchanged, with_answer, with_accept, after_round};
+ghost use Rattle.rtp_media_exchange.specs.Extensions.{map_of_lines};
 ghost use Rattle.rtp_media_exchange.specs.Offers.{Answers, Accepts, AgreesOnText, answer_of, answered_direction, flow, said_by};
 ghost use Rattle.rtp_media_exchange.specs.Refusals.{Names, ReadsText, refusal_of_answer, refusal_of_pair, refusal_of_accept, corresponds};
 ghost use Rattle.rtp_media_exchange.specs.Sections.{only};
@@ -13,9 +15,10 @@ ghost use Rattle.rtp_media_exchange.specs.Sections.{only};
 use super::Exchange;
 use crate::agreement::AgreedSection;
 use crate::errors::ExchangeError;
+use crate::extmaps::{answered, map_of};
 use crate::section::{SectionSpec, only};
 use rtp_media_texts::{SdpError, SessionText};
-use rtp_wire::{Direction, SessionId, Ssrc};
+use rtp_wire::{Direction, ExtensionMap, SessionId, Ssrc};
 use sdp_formats_rows::PayloadParams;
 use std::alloc::{AllocError, Global};
 
@@ -44,10 +47,11 @@ impl Exchange {
             return Err(ExchangeError::NotCorresponding);
         };
         let row = pair(self.row, &wanted, &offer)?;
-        let answer = answer_to(self.alloc, self.session, row, wanted, &offer);
+        let answer = answer_to(self.alloc, self.session, &self.exts, row, wanted, &offer)?;
+        let exts = map_of(self.alloc, &answer.extmaps)?;
         let printed = print(self.alloc, &answer)?;
         self.row = Some(settled(row, &offer));
-        self.agreed = Some(AgreedSection::by_answer(offer, answer));
+        self.agreed = Some(AgreedSection::by_answer(offer, answer, exts));
         Ok(printed)
     }
 
@@ -68,16 +72,14 @@ impl Exchange {
             return Err(ExchangeError::OutOfTurn);
         };
         let row = pair(self.row, offered, &answer)?;
+        let exts = map_of(self.alloc, &answer.extmaps)?;
         self.row = Some(settled(row, &answer));
-        self.agreed = match self.pending.take() {
-            Some(offered) => Some(AgreedSection::by_accept(offered, answer)),
-            None => None,
-        };
+        self.agreed = accepted(self.pending.take(), answer, exts);
         Ok(())
     }
 }
 
-/// What a text says that has no extension lines.
+/// What a text says.
 #[tactic(auto, using(crate::proofs::Typed::typed))]
 fn read(alloc: Global, text: &str) -> Result<SessionText, ExchangeError>
     ensures reads { ReadsText result text.now }
@@ -85,13 +87,7 @@ fn read(alloc: Global, text: &str) -> Result<SessionText, ExchangeError>
     ensures sound { IfOk result (λ s. IsSound s) }
 {
     match SessionText::parse(alloc, text) {
-        Ok(said) => {
-            if said.extmaps.is_empty() {
-                Ok(said)
-            } else {
-                Err(ExchangeError::Unreadable(SdpError::ParseError(String::new(alloc))))
-            }
-        }
+        Ok(said) => Ok(said),
         Err(fault) => match fault {
             SdpError::Memory => Err(ExchangeError::Memory),
             fault => Err(ExchangeError::Unreadable(fault)),
@@ -148,25 +144,46 @@ fn answered_direction(offered: Direction, wanted: Direction) -> Direction
     )
 }
 
-/// What the answer to an offer says.
+/// What the answer to an offer says, of an end that wants these header extensions.
+#[tactic(auto, using(crate::proofs::Said::answered_sound))]
 fn answer_to(
     alloc: Global,
     session: SessionId,
+    exts: &ExtensionMap,
     row: PayloadParams,
     wanted: SectionSpec,
     offer: &SessionText,
-) -> SessionText
-    ensures { result ≡ answer_of session row wanted offer.now }
+) -> Result<SessionText, AllocError>
+    requires sound { IsSound offer.now }
+    ensures value { IfOk result (λ answer. answer ≡ answer_of session exts.now row wanted offer.now) }
+    ensures extmaps { IfOk result (λ answer. All IsSoundExtmap answer.extmaps) }
 {
     let row = settled(row, offer);
-    SessionText {
+    Ok(SessionText {
         session,
         mid: wanted.mid,
         direction: answered_direction(offer.direction, wanted.dir),
-        extmaps: Vec::new(alloc),
+        extmaps: answered(alloc, exts, &offer.extmaps)?,
         pt: row.pt(),
         transport_cc: row.fb_transport_cc(),
         ssrcs: wanted.ssrcs,
+    })
+}
+
+/// What the end agrees on whose offer was pending; `exts` is the map that the answer's lines say.
+fn accepted(
+    pending: Option<SectionSpec>,
+    answer: SessionText,
+    exts: ExtensionMap,
+) -> Option<AgreedSection>
+    requires typed { answer.pt < 128 }
+    requires exts { exts ≡ map_of_lines answer.extmaps }
+    ensures value { result ≡ option_map (λ offered. agreed_by_accept offered answer) pending }
+    ensures agrees { IsSome pending → AgreesOn answer result }
+{
+    match pending {
+        Some(offered) => Some(AgreedSection::by_accept(offered, answer, exts)),
+        None => None,
     }
 }
 
@@ -194,7 +211,7 @@ fn small_session(session: SessionId)
 fn print(alloc: Global, answer: &SessionText) -> Result<String, AllocError>
     requires named { (IsName 16 answer.now.mid) × (0 < length answer.now.mid) }
     requires typed { answer.now.pt < 128 }
-    requires bare { answer.now.extmaps ≡ [] }
+    requires extmaps { All IsSoundExtmap answer.now.extmaps }
     ensures text { IfOk result (λ text. string_bytes text ≡ text_of answer.now) }
     ensures said { IfOk result (λ text. said_by (string_bytes text) ≡ Some answer.now) }
 {
