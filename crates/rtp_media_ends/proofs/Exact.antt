@@ -2,21 +2,27 @@
 use Rattle.std.proofs.Common.{◌≡◌, ℕ, zero, suc, ◌+◌, ◌-◌, ◌%◌, ◌^◌, ◌<◌, ◌≤◌, refl, sym, ◌∙◌, ap, ap₂, subst, arith, Bool, true, false, cond, ◌&&◌, List, [], ◌∷◌, ◌++◌, length, map, true≢false, add-zero}
 use Rattle.std.proofs.lemmas.Bool.Decides.{nat_tests}
 use Rattle.std.specs.Prelude.{Option, Some, None, Ok, if◌then◌else◌, ◌==◌, filter, All, slice_index_or}
+use Rattle.std.proofs.lemmas.List.{length-map}
 use Rattle.std.specs.List.{filter_map, cons_option, range_with_len}
-use Rattle.rtp_wire.specs.Header.{header_in, payload_in, image, IsWritable}
+use Rattle.rtp_wire.specs.Carried.{AreValues}
+use Rattle.rtp_wire.specs.Header.{header_in, payload_in, layout_of, IsWritable}
+use Rattle.rtp_wire.specs.Header as header
+use Rattle.rtp_wire.specs.Maps.{empty_map}
+use Rattle.rtp_wire.specs.Values.{Numbering}
+use Rattle.rtp_wire.specs.declared.ExtensionValues.{ExtensionValues}
 use Rattle.rtp_wire.specs.Padding.{unpadded}
 use Rattle.rtp_wire.specs.declared.header.RtpHeader.{RtpHeader}
-use Rattle.rtp_wire.proofs.HeaderLaws.{header_in-spelled, payload_in-spelled}
+use Rattle.rtp_wire.proofs.HeaderLaws.{header_in-layout, header_in-spelled, payload_in-spelled, IsLayout-of}
 use Rattle.rtp_media_runs.specs.Heard.{Stream, Event, Comes, fresh, after_events}
 use Rattle.rtp_media_runs.specs.Schedules.{Arrive, event_of, AreGoodArrivals}
-use Rattle.rtp_media_runs.specs.Opus.{Timed, timed, content_of, content_at, sender_of, payloads, payloads_of, piece, piece_count, units_from}
+use Rattle.rtp_media_runs.specs.Opus.{Timed, timed, content_of, content_at, sender_of, payloads, payloads_of, piece, piece_count}
 use Rattle.rtp_media_runs.specs.Drained.{IsDrained}
 use Rattle.rtp_media_runs.proofs.Pieces.{piece-some}
 use Rattle.rtp_media_runs.proofs.FullArrival.{full-drained}
-use Rattle.rtp_media_streams.specs.Sending.{Sending, no_extensions, header_of, datagram_of, datagrams_from}
-use Rattle.rtp_media_streams.specs.Receiving.{Receiving}
+use Rattle.rtp_media_streams.specs.Sending.{Sending, header_of, carried, as_carried, datagram_of, datagrams_from}
+use Rattle.rtp_media_streams.specs.Receiving.{Receiving, values_of_header, values_read}
 use Rattle.rtp_media_ends.specs.Ends.{EndState, receiver_at}
-use Rattle.rtp_media_ends.specs.FullArrival.{after_datagrams, Answers, IsPolledOut, is_header_of, is_own_datagram, sent_datagram, HasAllOf}
+use Rattle.rtp_media_ends.specs.FullArrival.{after_datagrams, Answers, IsPolledOut, is_header_of, is_own_datagram, sent_datagram, units_of, HasAllOf}
 use Rattle.rtp_media_ends.specs.OwnEvents.{content_event, event_by, event_in, own_events}
 use Rattle.rtp_media_ends.proofs.Isolation.{isolated}
 
@@ -25,14 +31,14 @@ eqb-same a = grind (arith, nat_tests)
 
 -- a payload that can be sent
 abbrev IsSendable : Timed → Type 0
-IsSendable p = (p.time < 2 ^ 32) × (0 < length p.bytes)
+IsSendable p = (p.time < 2 ^ 32) × (0 < length p.bytes) × AreValues p.values
 
 abbrev AreSendable : List Timed → Type 0
 AreSendable [] = Unit {0}
 AreSendable (p ∷ ps) = IsSendable p × AreSendable ps
 
-writable : (s : Sending) (x time : ℕ) → s.pt < 128 → s.ssrc < 2 ^ 32 → time < 2 ^ 32 → IsWritable (header_of s x time)
-writable s x time pt ssrc t = record {
+writable : (s : Sending) (x time : ℕ) (values : ExtensionValues) → s.pt < 128 → s.ssrc < 2 ^ 32 → time < 2 ^ 32 → AreValues values → IsWritable (header_of s x time values)
+writable s x time values pt ssrc t v = record {
   payload_type = pt;
   sequence_number = omega arith;
   timestamp = t;
@@ -40,86 +46,100 @@ writable s x time pt ssrc t = record {
   csrc_count = omega arith;
   csrc = λ k d h. absurd (omega arith);
   csrc_slots = refl;
-  values = λ e. absurd (true≢false (sym e));
+  values = λ e. v;
 }
 
-content-some : (h : RtpHeader) (bytes : List ℕ) → 0 < length bytes → content_event h (Some bytes) ≡ Some (Comes h.sequence_number (content_of h.timestamp bytes))
-content-some h [] some = absurd (omega arith)
-content-some h (b ∷ bs) some = refl
+content-some : (h : RtpHeader) (values : ExtensionValues) (bytes : List ℕ) → 0 < length bytes → content_event h values (Some bytes) ≡ Some (Comes h.sequence_number (content_of h.timestamp values bytes))
+content-some h values [] some = absurd (omega arith)
+content-some h values (b ∷ bs) some = refl
+
+-- the payloads with the values that arrive
+abbrev carried_payloads : Sending → List Timed → List Timed
+carried_payloads s ps = map (as_carried s) ps
 
 -- a datagram that was sent is read as what it is
-sent-read : (s : Sending) (x : ℕ) (p : Timed) → s.pt < 128 → s.ssrc < 2 ^ 32 → IsSendable p → event_in s.ssrc s.pt (datagram_of s x p) ≡ Some (Comes (x % 65536) (content_of p.time p.bytes))
+sent-read : (s : Sending) (x : ℕ) (p : Timed) → s.pt < 128 → s.ssrc < 2 ^ 32 → IsSendable p →
+    event_in s.ssrc s.pt s.map (datagram_of s x p) ≡ Some (Comes (x % 65536) (content_of p.time (carried s p.values) p.bytes))
 sent-read s x p pt ssrc fits =
-    let h : RtpHeader = header_of s x p.time in
-    let read : header_in no_extensions (datagram_of s x p) ≡ Some (image no_extensions h) = header_in-spelled no_extensions h p.bytes (writable s x p.time pt ssrc fits.0) in
-    let body : payload_in (image no_extensions h) (datagram_of s x p) ≡ p.bytes = payload_in-spelled no_extensions h p.bytes in
-    ap (λ (o : Option RtpHeader). event_by s.ssrc s.pt o (datagram_of s x p)) read
-    ∙ ap₂ (λ (a b : Bool). if a && b then content_event (image no_extensions h) (unpadded false (payload_in (image no_extensions h) (datagram_of s x p))) else None) (eqb-same s.ssrc) (eqb-same s.pt)
-    ∙ ap (λ (bytes : List ℕ). content_event (image no_extensions h) (Some bytes)) body
-    ∙ content-some (image no_extensions h) p.bytes fits.1
+    let h : RtpHeader = header_of s x p.time p.values in
+    let d : List ℕ = datagram_of s x p in
+    let w : IsWritable h = writable s x p.time p.values pt ssrc fits.0 fits.2 in
+    let bare : RtpHeader = header.header_of empty_map (layout_of s.map h) in
+    let read : header_in empty_map d ≡ Some bare = header_in-layout empty_map (layout_of s.map h) p.bytes (IsLayout-of s.map h w) in
+    let body : payload_in bare d ≡ p.bytes = payload_in-spelled s.map h p.bytes in
+    let values : values_read s.map d ≡ carried s p.values = ap values_of_header (header_in-spelled s.map h p.bytes w) in
+    ap (λ (o : Option RtpHeader). event_by s.ssrc s.pt s.map o d) read
+    ∙ ap₂ (λ (a b : Bool). if a && b then content_event bare (values_read s.map d) (unpadded false (payload_in bare d)) else None) (eqb-same s.ssrc) (eqb-same s.pt)
+    ∙ ap₂ (λ (v : ExtensionValues) (bytes : List ℕ). content_event bare v (Some bytes)) values body
+    ∙ content-some bare (carried s p.values) p.bytes fits.1
 
 sent-event : (s : Sending) (ps : List Timed) (n i : ℕ) → s.pt < 128 → s.ssrc < 2 ^ 32 → AreSendable ps → i < length ps →
-    event_in s.ssrc s.pt (slice_index_or (datagrams_from s n ps) i []) ≡ Some (Comes ((n + i) % 65536) (content_at ps i))
+    event_in s.ssrc s.pt s.map (slice_index_or (datagrams_from s n ps) i []) ≡ Some (Comes ((n + i) % 65536) (content_at (carried_payloads s ps) i))
 sent-event s [] n i pt ssrc all lt = absurd (omega arith)
-sent-event s (p ∷ ps) n zero pt ssrc all lt = sent-read s n p pt ssrc all.0 ∙ ap (λ (k : ℕ). Some (Comes (k % 65536) (content_of p.time p.bytes))) (sym (add-zero n))
+sent-event s (p ∷ ps) n zero pt ssrc all lt = sent-read s n p pt ssrc all.0 ∙ ap (λ (k : ℕ). Some (Comes (k % 65536) (content_of p.time (carried s p.values) p.bytes))) (sym (add-zero n))
 sent-event s (p ∷ ps) n (suc i) pt ssrc all lt =
     let e : n + 1 + i ≡ n + suc i = omega arith in
-    sent-event s ps (n + 1) i pt ssrc all.1 (omega arith) ∙ ap (λ (k : ℕ). Some (Comes (k % 65536) (content_at ps i))) e
+    sent-event s ps (n + 1) i pt ssrc all.1 (omega arith) ∙ ap (λ (k : ℕ). Some (Comes (k % 65536) (content_at (carried_payloads s ps) i))) e
 
 -- each payload of a sample can be sent
-pieces-sendable : (limit time i m : ℕ) (bytes : List ℕ) → 0 < limit → time < 2 ^ 32 → i + m ≤ piece_count limit (length bytes) → AreSendable (map (timed time) (map (piece limit bytes) (range_with_len i m)))
-pieces-sendable limit time i zero bytes pos t h = tt
-pieces-sendable limit time i (suc m) bytes pos t h = ((t, piece-some limit i bytes pos (omega arith)), pieces-sendable limit time (i + 1) m bytes pos t (omega arith))
+pieces-sendable : (limit time i m : ℕ) (values : ExtensionValues) (bytes : List ℕ) → 0 < limit → time < 2 ^ 32 → AreValues values → i + m ≤ piece_count limit (length bytes) →
+    AreSendable (map (timed time values) (map (piece limit bytes) (range_with_len i m)))
+pieces-sendable limit time i zero values bytes pos t v h = tt
+pieces-sendable limit time i (suc m) values bytes pos t v h = ((t, piece-some limit i bytes pos (omega arith), v), pieces-sendable limit time (i + 1) m values bytes pos t v (omega arith))
 
 All-append : (ps qs : List Timed) → AreSendable ps → AreSendable qs → AreSendable (ps ++ qs)
 All-append [] qs a b = b
 All-append (p ∷ ps) qs a b = (a.0, All-append ps qs a.1 b)
 
-payloads-sendable : (limit : ℕ) (samples : List Timed) → 0 < limit → All (λ s. s.time < 2 ^ 32) samples → AreSendable (payloads limit samples)
-payloads-sendable limit [] pos all = tt
-payloads-sendable limit (s ∷ ss) pos all =
-    All-append (payloads_of limit s) (payloads limit ss) (pieces-sendable limit s.time 0 (piece_count limit (length s.bytes)) s.bytes pos (all zero s (omega arith)) (omega arith)) (payloads-sendable limit ss pos (λ k d h. all (suc k) d (omega arith)))
+payloads-sendable : (limit : ℕ) (samples : List Timed) → 0 < limit → All (λ s. s.time < 2 ^ 32) samples → All (λ s. AreValues s.values) samples → AreSendable (payloads limit samples)
+payloads-sendable limit [] pos all vs = tt
+payloads-sendable limit (s ∷ ss) pos all vs =
+    All-append (payloads_of limit s) (payloads limit ss) (pieces-sendable limit s.time 0 (piece_count limit (length s.bytes)) s.values s.bytes pos (all zero s (omega arith)) (vs zero s (omega arith)) (omega arith))
+    (payloads-sendable limit ss pos (λ k d h. all (suc k) d (omega arith)) (λ k d h. vs (suc k) d (omega arith)))
 
 -- what is not the stream's own is no event of it
-own-filter : (ssrc pt : ℕ) (ds : List (List ℕ)) → own_events ssrc pt (filter (is_own_datagram ssrc pt) ds) ≡ own_events ssrc pt ds
-own-filter ssrc pt [] = refl
-own-filter ssrc pt (d ∷ ds) = go (own-filter ssrc pt ds) (header_in no_extensions d) refl where
-  by : own_events ssrc pt (filter (is_own_datagram ssrc pt) ds) ≡ own_events ssrc pt ds → (b : Bool) (o : Option Event) → (b ≡ false → o ≡ None) → event_in ssrc pt d ≡ o →
-      filter_map (event_in ssrc pt) (cond b (d ∷ filter (is_own_datagram ssrc pt) ds) (filter (is_own_datagram ssrc pt) ds)) ≡ cons_option o (own_events ssrc pt ds)
+own-filter : (ssrc pt : ℕ) (numbering : Numbering) (ds : List (List ℕ)) → own_events ssrc pt numbering (filter (is_own_datagram ssrc pt) ds) ≡ own_events ssrc pt numbering ds
+own-filter ssrc pt numbering [] = refl
+own-filter ssrc pt numbering (d ∷ ds) = go (own-filter ssrc pt numbering ds) (header_in empty_map d) refl where
+  by : own_events ssrc pt numbering (filter (is_own_datagram ssrc pt) ds) ≡ own_events ssrc pt numbering ds → (b : Bool) (o : Option Event) → (b ≡ false → o ≡ None) → event_in ssrc pt numbering d ≡ o →
+      filter_map (event_in ssrc pt numbering) (cond b (d ∷ filter (is_own_datagram ssrc pt) ds) (filter (is_own_datagram ssrc pt) ds)) ≡ cons_option o (own_events ssrc pt numbering ds)
   by ih true o none e = ap₂ (λ (q : Option Event) (es : List Event). cons_option q es) e ih
-  by ih false o none e = ih ∙ ap (λ (q : Option Event). cons_option q (own_events ssrc pt ds)) (sym (none refl))
+  by ih false o none e = ih ∙ ap (λ (q : Option Event). cons_option q (own_events ssrc pt numbering ds)) (sym (none refl))
 
   not-own : (b : Bool) (o : Option Event) → b ≡ false → (if b then o else None) ≡ None
   not-own true o h = absurd (true≢false h)
   not-own false o h = refl
 
-  go : own_events ssrc pt (filter (is_own_datagram ssrc pt) ds) ≡ own_events ssrc pt ds → (o : Option RtpHeader) → header_in no_extensions d ≡ o → own_events ssrc pt (filter (is_own_datagram ssrc pt) (d ∷ ds)) ≡ own_events ssrc pt (d ∷ ds)
-  go ih None e = by ih (is_own_datagram ssrc pt d) (event_in ssrc pt d) (λ h. ap (λ (x : Option RtpHeader). event_by ssrc pt x d) e) refl
-  go ih (Some h) e = by ih (is_own_datagram ssrc pt d) (event_in ssrc pt d) (λ no. ap (λ (x : Option RtpHeader). event_by ssrc pt x d) e ∙ not-own ((ssrc == h.ssrc) && (pt == h.payload_type)) (content_event h (unpadded h.has_padding (payload_in h d))) (sym (ap (is_header_of ssrc pt) e) ∙ no)) refl
+  go : own_events ssrc pt numbering (filter (is_own_datagram ssrc pt) ds) ≡ own_events ssrc pt numbering ds → (o : Option RtpHeader) → header_in empty_map d ≡ o → own_events ssrc pt numbering (filter (is_own_datagram ssrc pt) (d ∷ ds)) ≡ own_events ssrc pt numbering (d ∷ ds)
+  go ih None e = by ih (is_own_datagram ssrc pt d) (event_in ssrc pt numbering d) (λ h. ap (λ (x : Option RtpHeader). event_by ssrc pt numbering x d) e) refl
+  go ih (Some h) e = by ih (is_own_datagram ssrc pt d) (event_in ssrc pt numbering d) (λ no. ap (λ (x : Option RtpHeader). event_by ssrc pt numbering x d) e ∙ not-own ((ssrc == h.ssrc) && (pt == h.payload_type)) (content_event h (values_read numbering d) (unpadded h.has_padding (payload_in h d))) (sym (ap (is_header_of ssrc pt) e) ∙ no)) refl
 
 -- the events of arrivals
 arrivals-events : (s : Sending) (samples : List Timed) (past xs : List ℕ) → s.pt < 128 → s.ssrc < 2 ^ 32 → AreSendable (payloads s.mtu samples) → AreGoodArrivals s.next (length (payloads s.mtu samples)) past xs →
-    own_events s.ssrc s.pt (map (sent_datagram s samples) xs) ≡ map (event_of (sender_of s.next (payloads s.mtu samples))) (map Arrive xs)
+    own_events s.ssrc s.pt s.map (map (sent_datagram s samples) xs) ≡ map (event_of (sender_of s.next (carried_payloads s (payloads s.mtu samples)))) (map Arrive xs)
 arrivals-events s samples past [] pt ssrc all good = refl
 arrivals-events s samples past (x ∷ xs) pt ssrc all good =
     let ps : List Timed = payloads s.mtu samples in
     let back : s.next + (x - s.next) ≡ x = omega (arith, good.0.from_first) in
-    let one : event_in s.ssrc s.pt (sent_datagram s samples x) ≡ Some (Comes (x % 65536) (content_at ps (x - s.next))) =
-    sent-event s ps s.next (x - s.next) pt ssrc all (omega (arith, good.0.from_first, good.0.before_end)) ∙ ap (λ (k : ℕ). Some (Comes (k % 65536) (content_at ps (x - s.next)))) back in
+    let one : event_in s.ssrc s.pt s.map (sent_datagram s samples x) ≡ Some (Comes (x % 65536) (content_at (carried_payloads s ps) (x - s.next))) =
+    sent-event s ps s.next (x - s.next) pt ssrc all (omega (arith, good.0.from_first, good.0.before_end)) ∙ ap (λ (k : ℕ). Some (Comes (k % 65536) (content_at (carried_payloads s ps) (x - s.next)))) back in
     ap₂ (λ (o : Option Event) (es : List Event). cons_option o es) one (arrivals-events s samples (x ∷ past) xs pt ssrc all good.1)
 
 -- exact after full arrival
 pub exact : (e : EndState) (stream hold_back : ℕ) (sender : Sending) (samples : List Timed) (arrivals : List ℕ) (ds : List (List ℕ)) (answers : Answers) (after : Receiving) →
     HasAllOf e stream hold_back sender samples arrivals ds → IsPolledOut (receiver_at (after_datagrams e ds) stream) answers after →
-    answers ≡ map Ok (units_from sender.next (payloads sender.mtu samples))
+    answers ≡ map Ok (units_of sender samples)
 exact e stream hold_back sender samples arrivals ds answers after all out =
     let ps : List Timed = payloads sender.mtu samples in
-    let events : own_events sender.ssrc sender.pt ds ≡ map (event_of (sender_of sender.next ps)) (map Arrive arrivals) =
-    sym (own-filter sender.ssrc sender.pt ds) ∙ ap (own_events sender.ssrc sender.pt) all.own
-    ∙ arrivals-events sender samples [] arrivals all.payload_type all.ssrc (payloads-sendable sender.mtu samples all.mtu all.timestamps) all.arrive in
-    let alone : (receiver_at (after_datagrams e ds) stream).stream ≡ after_events (fresh hold_back) (map (event_of (sender_of sender.next ps)) (map Arrive arrivals)) =
-    isolated ds e stream sender.ssrc sender.pt (ap (λ (r : Receiving). r.ssrc) all.fresh) (ap (λ (r : Receiving). r.pt) all.fresh) all.opened
+    let qs : List Timed = carried_payloads sender ps in
+    let count : length qs ≡ length ps = length-map ps (as_carried sender) in
+    let events : own_events sender.ssrc sender.pt sender.map ds ≡ map (event_of (sender_of sender.next qs)) (map Arrive arrivals) =
+    sym (own-filter sender.ssrc sender.pt sender.map ds) ∙ ap (own_events sender.ssrc sender.pt sender.map) all.own
+    ∙ arrivals-events sender samples [] arrivals all.payload_type all.ssrc (payloads-sendable sender.mtu samples all.mtu all.timestamps all.values) all.arrive in
+    let alone : (receiver_at (after_datagrams e ds) stream).stream ≡ after_events (fresh hold_back) (map (event_of (sender_of sender.next qs)) (map Arrive arrivals)) =
+    isolated ds e stream sender.ssrc sender.pt sender.map (ap (λ (r : Receiving). r.ssrc) all.fresh) (ap (λ (r : Receiving). r.pt) all.fresh) (ap (λ (r : Receiving). r.map) all.fresh) all.opened
     ∙ ap₂ (λ (s : Stream) (es : List Event). after_events s es) (ap (λ (r : Receiving). r.stream) all.fresh) events in
-    let drained : IsDrained (after_events (fresh hold_back) (map (event_of (sender_of sender.next ps)) (map Arrive arrivals))) out.units after.stream =
+    let drained : IsDrained (after_events (fresh hold_back) (map (event_of (sender_of sender.next qs)) (map Arrive arrivals))) out.units after.stream =
     subst (λ (s : Stream). IsDrained s out.units after.stream) alone out.drained in
-    out.answers_are ∙ ap (map Ok) (full-drained hold_back sender.next ps arrivals all.numbers all.few all.arrive drained)
+    let arrive : AreGoodArrivals sender.next (length qs) [] arrivals = subst (λ (n : ℕ). AreGoodArrivals sender.next n [] arrivals) (sym count) all.arrive in
+    out.answers_are ∙ ap (map Ok) (full-drained hold_back sender.next qs arrivals (omega (arith, all.numbers, count)) (omega (arith, all.few, count)) arrive drained)

@@ -1,30 +1,33 @@
 use Rattle.std.specs.Prelude.{ℕ, List, [], ◌∷◌, Option, Some, None, position}
 use Rattle.rtp_wire.specs.Header.{header_in, payload_in}
+use Rattle.rtp_wire.specs.Maps.{empty_map}
+use Rattle.rtp_wire.specs.declared.ExtensionValues.{ExtensionValues}
 use Rattle.rtp_wire.specs.Padding.{unpadded}
 use Rattle.rtp_wire.specs.declared.header.RtpHeader.{RtpHeader}
-use Rattle.rtp_media_streams.specs.Sending.{no_extensions}
-use Rattle.rtp_media_streams.specs.Receiving.{Receiving, is_own, taken_number, arrived, with_stream}
-use Rattle.rtp_media_ends.specs.Ends.{EndState, receiver_at, with_receiver}
+use Rattle.rtp_media_streams.specs.Receiving.{Receiving, is_own, taken_number, arrived, values_read, with_stream}
+use Rattle.rtp_media_ends.specs.Ends.{EndState, nth_receiver, receiver_at, with_receiver}
 use Rattle.rtp_media_ends.specs.declared.received.Received.{Received}
 use Rattle.rtp_media_ends.specs.declared.received.Received.TheVariants.{Unreadable, Foreign, Damaged, Refused, Taken}
 
 -- What a datagram is to an end: no RTP packet, of no receiving stream, one of a stream's own without a
--- payload, or one of its own with the 16 bits of its number, its timestamp and its payload.
+-- payload, or one of its own with the 16 bits of its number, its timestamp, the values of its header
+-- extensions under the stream's map, and its payload.
 pub data Arrival : Type 0 where
   NoHeader : Arrival
   NoStream : Arrival
   NoPayload : Arrival
-  Own : (stream low time : ℕ) (payload : List ℕ) → Arrival
+  Own : (stream low time : ℕ) (values : ExtensionValues) (payload : List ℕ) → Arrival
 
 -- the payload without its padding, if it has a byte
-abbrev pub own_of : ℕ → RtpHeader → Option (List ℕ) → Arrival
-own_of stream header None = NoPayload
-own_of stream header (Some []) = NoPayload
-own_of stream header (Some (byte ∷ bytes)) = Own stream header.sequence_number header.timestamp (byte ∷ bytes)
+abbrev pub own_of : ℕ → RtpHeader → ExtensionValues → Option (List ℕ) → Arrival
+own_of stream header values None = NoPayload
+own_of stream header values (Some []) = NoPayload
+own_of stream header values (Some (byte ∷ bytes)) = Own stream header.sequence_number header.timestamp values (byte ∷ bytes)
 
-abbrev pub arrival_for : Option ℕ → RtpHeader → List ℕ → Arrival
-arrival_for None header datagram = NoStream
-arrival_for (Some stream) header datagram = own_of stream header (unpadded header.has_padding (payload_in header datagram))
+abbrev pub arrival_for : List Receiving → Option ℕ → RtpHeader → List ℕ → Arrival
+arrival_for receivers None header datagram = NoStream
+arrival_for receivers (Some stream) header datagram =
+    own_of stream header (values_read (nth_receiver receivers stream).map datagram) (unpadded header.has_padding (payload_in header datagram))
 
 -- the number of the receiving stream of an SSRC and a payload type
 abbrev pub stream_for : List Receiving → ℕ → ℕ → Option ℕ
@@ -32,11 +35,11 @@ stream_for receivers ssrc pt = position (λ r. is_own r ssrc pt) receivers
 
 abbrev pub arrival_by : List Receiving → Option RtpHeader → List ℕ → Arrival
 arrival_by receivers None datagram = NoHeader
-arrival_by receivers (Some header) datagram = arrival_for (stream_for receivers header.ssrc header.payload_type) header datagram
+arrival_by receivers (Some header) datagram = arrival_for receivers (stream_for receivers header.ssrc header.payload_type) header datagram
 
 -- What a datagram is to an end with these receiving streams (RFC 3550 5.1).
 abbrev pub arrival_at : List Receiving → List ℕ → Arrival
-arrival_at receivers datagram = arrival_by receivers (header_in no_extensions datagram) datagram
+arrival_at receivers datagram = arrival_by receivers (header_in empty_map datagram) datagram
 
 abbrev pub verdict_on : ℕ → Option ℕ → Received
 verdict_on stream None = Refused
@@ -47,15 +50,15 @@ abbrev pub verdict_for : EndState → Arrival → Received
 verdict_for e NoHeader = Unreadable
 verdict_for e NoStream = Foreign
 verdict_for e NoPayload = Damaged
-verdict_for e (Own stream low time payload) = verdict_on stream (taken_number (receiver_at e stream).stream low)
+verdict_for e (Own stream low time values payload) = verdict_on stream (taken_number (receiver_at e stream).stream low)
 
 -- The end after `receive`: one step of the stream whose own it is, and else as it was.
 abbrev pub after_arrival : EndState → Arrival → EndState
 after_arrival e NoHeader = e
 after_arrival e NoStream = e
 after_arrival e NoPayload = e
-after_arrival e (Own stream low time payload) =
-    with_receiver e stream (with_stream (receiver_at e stream) (arrived (receiver_at e stream).stream low time payload))
+after_arrival e (Own stream low time values payload) =
+    with_receiver e stream (with_stream (receiver_at e stream) (arrived (receiver_at e stream).stream low time values payload))
 
 abbrev pub verdict_of : EndState → List ℕ → Received
 verdict_of e datagram = verdict_for e (arrival_at e.receivers datagram)

@@ -1,5 +1,6 @@
 -- Two ends that exchange an offer and an answer.
-use Rattle.std.specs.Prelude.{◌≡◌, ℕ, List}
+use Rattle.std.specs.Prelude.{◌≡◌, ℕ, List, Option}
+use Rattle.rtp_media_exchange.specs.Agreement.{Agreed, agreed_row_of, agreed_map_of}
 use Rattle.rtp_media_exchange.specs.declared.errors.ExchangeError.{ExchangeError}
 use Rattle.rtp_media_exchange.specs.Exchanges.{with_offer}
 use Rattle.rtp_media_exchange.specs.Offers.{Offers, Answers, Accepts}
@@ -18,6 +19,11 @@ pub record Connects (a b : EndState) (sections_a sections_b : List Wanted) (offe
   pub accepts : Accepts (with_offer a.exchange (only sections_a)) answer after_a.exchange
   pub streams_a : after_a ≡ with_exchange a after_a.exchange
   pub streams_b : after_b ≡ with_exchange b after_b.exchange
+
+-- Both have one row of each type, and one map of header extensions, in each section.
+pub record HaveOneAgreement (a b : Option Agreed) : Type 0 where
+  pub rows : (mid : List ℕ) (pt : ℕ) → agreed_row_of a mid pt ≡ agreed_row_of b mid pt
+  pub maps : (mid : List ℕ) → agreed_map_of a mid ≡ agreed_map_of b mid
 
 -- The call that is refused.
 pub data Stage : Type 0 where

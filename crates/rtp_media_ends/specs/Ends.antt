@@ -1,9 +1,11 @@
-use Rattle.std.specs.Prelude.{ℕ, Bool, not, ◌==◌, List, [], ◌∷◌, ◌++◌, Option, Some, None, if◌then◌else◌, slice_set, slice_index_or}
+use Rattle.std.specs.Prelude.{ℕ, Bool, not, ◌==◌, List, [], ◌∷◌, ◌++◌, Option, Some, None, if◌then◌else◌, unwrap_or, slice_set, slice_index_or}
 use Rattle.std.specs.List.{list_any}
+use Rattle.rtp_wire.specs.Maps.{empty_map}
+use Rattle.rtp_wire.specs.Values.{Numbering}
 use Rattle.rtp_media_streams.specs.Sending.{Sending, opened_sender, is_sending}
 use Rattle.rtp_media_streams.specs.Receiving.{Receiving, opened_receiver, is_own}
 use Rattle.sdp_formats_rows.specs.Rows.{Row}
-use Rattle.rtp_media_exchange.specs.Agreement.{Agreed, section_of, agreed_row_of, is_named, own_row_agrees}
+use Rattle.rtp_media_exchange.specs.Agreement.{Agreed, section_of, agreed_row_of, agreed_map_of, is_named, own_row_agrees}
 use Rattle.rtp_media_exchange.specs.Exchanges.{Exchanged, fresh, fixed}
 use Rattle.rtp_media_ends.specs.declared.params.StreamParams.{StreamParams}
 use Rattle.rtp_media_ends.specs.declared.errors.OpenError.{OpenError}
@@ -35,10 +37,13 @@ with_new_receiver e r = record { exchange = e.exchange; senders = e.senders; rec
 
 -- the n-th stream
 abbrev pub sender_at : EndState → ℕ → Sending
-sender_at e n = slice_index_or e.senders n (opened_sender 0 0 1 0 1 0)
+sender_at e n = slice_index_or e.senders n (opened_sender 0 0 empty_map 1 0 1 0)
+
+abbrev pub nth_receiver : List Receiving → ℕ → Receiving
+nth_receiver receivers n = slice_index_or receivers n (opened_receiver 0 0 empty_map 0)
 
 abbrev pub receiver_at : EndState → ℕ → Receiving
-receiver_at e n = slice_index_or e.receivers n (opened_receiver 0 0 0)
+receiver_at e n = nth_receiver e.receivers n
 
 -- Why no stream can be opened in a section, by whether it has the row, the end's own row agrees with it,
 -- it flows this way, is named an SSRC by its sender, and has such a stream: the first that holds.
@@ -72,15 +77,23 @@ abbrev pub rate_of : Option Row → ℕ
 rate_of None = 1
 rate_of (Some row) = row.spec.clock_rate
 
--- the end with a sending stream more, which sends the agreed row
+-- the map of header extensions of a new stream: the agreed one
+abbrev pub stream_map : EndState → List ℕ → Numbering
+stream_map e mid = unwrap_or (agreed_map_of e.exchange.agreed mid) empty_map
+
+-- the end with a sending stream more, which sends the agreed row under the agreed map
 abbrev pub after_open_sender : EndState → List ℕ → ℕ → ℕ → StreamParams → EndState
 after_open_sender e mid ssrc pt params =
-    with_new_sender e (opened_sender ssrc pt (rate_of (agreed_row_of e.exchange.agreed mid pt)) params.first params.mtu params.limit)
+    with_new_sender e (opened_sender ssrc pt (stream_map e mid) (rate_of (agreed_row_of e.exchange.agreed mid pt)) params.first params.mtu params.limit)
+
+-- the end with a receiving stream more, which reads under the agreed map
+abbrev pub after_open_receiver : EndState → List ℕ → ℕ → ℕ → ℕ → EndState
+after_open_receiver e mid ssrc pt hold_back = with_new_receiver e (opened_receiver ssrc pt (stream_map e mid) hold_back)
 
 -- A fixed end without streams.
 abbrev pub fixed_end : EndState
 fixed_end = record { exchange = fixed; senders = []; receivers = [] }
 
 -- An end that has agreed on nothing.
-abbrev pub new_end : ℕ → Option Row → EndState
-new_end session row = record { exchange = fresh session row; senders = []; receivers = [] }
+abbrev pub new_end : ℕ → Numbering → Option Row → EndState
+new_end session wanted row = record { exchange = fresh session wanted row; senders = []; receivers = [] }

@@ -1,13 +1,15 @@
 use Rattle.std.specs.Prelude.{ℕ, ◌≡◌, ◌+◌, ◌-◌, ◌^◌, ◌<◌, ◌≤◌, ◌==◌, ◌&&◌, Bool, false, List, [], ◌∷◌, length, map, filter, All, Option, Some, None, Result, Ok, slice_index_or}
+use Rattle.rtp_wire.specs.Carried.{AreValues}
 use Rattle.rtp_wire.specs.Header.{header_in}
+use Rattle.rtp_wire.specs.Maps.{empty_map}
 use Rattle.rtp_wire.specs.declared.header.RtpHeader.{RtpHeader}
 use Rattle.rtp_media_runs.specs.Heard.{MediaUnit}
 use Rattle.rtp_media_runs.specs.Drained.{IsDrained}
 use Rattle.rtp_media_runs.specs.Schedules.{AreGoodArrivals}
-use Rattle.rtp_media_runs.specs.Opus.{Timed, payloads}
-use Rattle.rtp_media_streams.specs.Sending.{Sending, no_extensions, datagrams_from}
+use Rattle.rtp_media_runs.specs.Opus.{Timed, payloads, units_from}
+use Rattle.rtp_media_streams.specs.Sending.{Sending, as_carried, datagrams_from}
 use Rattle.rtp_media_streams.specs.Receiving.{Receiving, opened_receiver, with_stream}
-use Rattle.rtp_media_ends.specs.Ends.{EndState, receiver_at}
+use Rattle.rtp_media_ends.specs.Ends.{EndState, nth_receiver, receiver_at}
 use Rattle.rtp_media_ends.specs.Arrivals.{verdict_of, after_datagram, stream_for}
 use Rattle.rtp_media_ends.specs.declared.received.Received.{Received}
 use Rattle.rtp_media_ends.specs.declared.errors.PollFault.{PollFault}
@@ -41,10 +43,6 @@ pub record IsPolledOut (before : Receiving) (answers : Answers) (after : Receivi
 abbrev pub answers_at : List Answers → ℕ → Answers
 answers_at answers n = slice_index_or answers n []
 
--- the n-th of receiving streams
-abbrev pub nth_receiver : List Receiving → ℕ → Receiving
-nth_receiver receivers n = slice_index_or receivers n (opened_receiver 0 0 0)
-
 -- Each receiving stream was polled until None.
 pub record ArePolledOut (before : List Receiving) (answers : List Answers) (after : List Receiving) : Type 0 where
   pub as_many : length after ≡ length before
@@ -57,22 +55,28 @@ is_header_of ssrc pt (Some header) = (ssrc == header.ssrc) && (pt == header.payl
 
 -- A datagram that reads as a header with this SSRC and payload type (RFC 3550 5.1).
 abbrev pub is_own_datagram : ℕ → ℕ → List ℕ → Bool
-is_own_datagram ssrc pt datagram = is_header_of ssrc pt (header_in no_extensions datagram)
+is_own_datagram ssrc pt datagram = is_header_of ssrc pt (header_in empty_map datagram)
 
 -- the datagram of a number, of samples that a stream sends
 abbrev pub sent_datagram : Sending → List Timed → ℕ → List ℕ
 sent_datagram sender samples number = slice_index_or (datagrams_from sender sender.next (payloads sender.mtu samples)) (number - sender.next) []
 
+-- The canonical units of a stream's samples: their payloads, each with the values that arrive where the
+-- sample's are sent.
+abbrev pub units_of : Sending → List Timed → List MediaUnit
+units_of sender samples = units_from sender.next (map (as_carried sender) (payloads sender.mtu samples))
+
 -- Among these datagrams come all those of a sending stream's samples, once or more, and none behind
 -- one that is 128 or more above it; nobody else sends under its SSRC and type, and the receiving
--- stream heard nothing before.
+-- stream has the same map of header extensions and heard nothing before.
 pub record HasAllOf (e : EndState) (stream hold_back : ℕ) (sender : Sending) (samples : List Timed) (arrivals : List ℕ) (datagrams : List (List ℕ)) : Type 0 where
-  pub fresh : receiver_at e stream ≡ opened_receiver sender.ssrc sender.pt hold_back
+  pub fresh : receiver_at e stream ≡ opened_receiver sender.ssrc sender.pt sender.map hold_back
   pub opened : stream_for e.receivers sender.ssrc sender.pt ≡ Some stream
   pub payload_type : sender.pt < 128
   pub ssrc : sender.ssrc < 2 ^ 32
   pub mtu : 0 < sender.mtu
   pub timestamps : All (λ s. s.time < 2 ^ 32) samples
+  pub values : All (λ s. AreValues s.values) samples
   pub numbers : sender.next + length (payloads sender.mtu samples) ≤ 2 ^ 62
   pub few : length (payloads sender.mtu samples) ≤ 4096
   pub own : filter (is_own_datagram sender.ssrc sender.pt) datagrams ≡ map (sent_datagram sender samples) arrivals

@@ -3,14 +3,15 @@
 ghost use Rattle.std.specs.Prelude.{◌≡◌, ◌≢◌, ◌<◌, ◌==◌, ℕ, Some, None, length, OnOk, OnErr, IfOk, IfErr, IfSome, IfNone, IsOk, IsTrue, is_some, ◌≤◌, ◌↔◌};
 ghost use Rattle.std.specs.List.{list_any};
 ghost use Rattle.std.specs.Option.{ForSome};
-ghost use Rattle.rtp_media_streams.specs.Receiving.{opened_receiver, is_own, polled_receiver};
+ghost use Rattle.rtp_media_streams.specs.Receiving.{is_own, values_read, polled_receiver};
 ghost use Rattle.rtp_media_streams.specs.Sending.{is_sending, sent_datagrams, after_sample, failed_stream, refusal_of_sample};
 ghost use Rattle.rtp_media_runs.specs.Heard.{poll_answer};
 ghost use Rattle.rtp_wire.specs.Header.{payload_in};
 ghost use Rattle.rtp_wire.specs.Padding.{unpadded};
+ghost use Rattle.rtp_wire.specs.declared.ExtensionValues.{ExtensionValues};
 ghost use Rattle.rtp_media_ends.specs.Arrivals.{Own, NoPayload, own_of, stream_for, verdict_for, after_arrival, arrival_by, verdict_of, after_datagram};
 ghost use Rattle.rtp_media_exchange.specs.Agreement.{agreed_row_of, section_of};
-ghost use Rattle.rtp_media_ends.specs.Ends.{fixed_end, refusal_by, refusal_of_open_sender, refusal_of_open_receiver, after_open_sender, with_new_receiver, sender_at, receiver_at, with_sender, with_receiver};
+ghost use Rattle.rtp_media_ends.specs.Ends.{fixed_end, refusal_by, refusal_of_open_sender, refusal_of_open_receiver, after_open_sender, after_open_receiver, stream_map, sender_at, receiver_at, with_sender, with_receiver};
 ghost use Rattle.rtp_media_ends.specs.Params.{IsSound};
 
 mod exchanges;
@@ -26,7 +27,7 @@ use rtp_media_streams::{Datagram, ReceivingStream, SampleError, SendingStream, U
 use rtp_wire::{
     ExtensionMap, ExtensionValues, Frequency, MediaTime, Mid, Pt, RtpHeader, Ssrc, unpad_payload,
 };
-use std::alloc::Global;
+use std::alloc::{AllocError, Global};
 use std::marker::Model;
 
 /// An end of a session: what it agreed on with the other end, and its streams.
@@ -128,11 +129,13 @@ impl End {
         ensures err { OnErr result (self.new ≡ self.old) }
     {
         let row = self.sender_row(mid, ssrc, pt)?;
+        let exts = self.stream_exts(mid)?;
         let number = self.senders.len();
         self.senders.push(SendingStream::new(
             self.alloc,
             ssrc,
             pt,
+            exts,
             row.spec().clock_rate,
             params.first,
             params.mtu,
@@ -157,20 +160,20 @@ impl End {
     ) -> Result<usize, OpenError>
         ensures number { IfOk result (λ n. n ≡ length self.old.receivers) }
         ensures opens { OnOk result (refusal_of_open_receiver self.old mid ssrc pt ≡ None) }
-        ensures after { OnOk result (self.new ≡ with_new_receiver self.old (opened_receiver ssrc pt hold_back)) }
+        ensures after { OnOk result (self.new ≡ after_open_receiver self.old mid ssrc pt hold_back) }
         ensures refused { IfErr result (λ e. e ≢ OpenError.Memory → refusal_of_open_receiver self.old mid ssrc pt ≡ Some e) }
         ensures err { OnErr result (self.new ≡ self.old) }
     {
         self.receiver_row(mid, ssrc, pt)?;
+        let exts = self.stream_exts(mid)?;
         let number = self.receivers.len();
-        self.receivers
-            .push(ReceivingStream::new(self.alloc, ssrc, pt, hold_back))?;
+        self.receivers.push(ReceivingStream::new(self.alloc, ssrc, pt, exts, hold_back))?;
         Ok(number)
     }
 
     /// The datagrams of a sample, which a sending stream sends: its pieces of at most `mtu` bytes,
-    /// under consecutive numbers. An empty sample has none and uses no number. Extension values are
-    /// not sent.
+    /// under consecutive numbers, each with all values that the stream's map has a number for. An
+    /// empty sample has none and uses no number.
     ///
     /// # Errors
     /// The first that holds of `StreamFailed`, `TimeTooLarge` and `LimitTooSmall`, and the end is
@@ -180,18 +183,18 @@ impl End {
         stream: usize,
         time: MediaTime,
         bytes: &[u8],
-        _values: &ExtensionValues,
+        values: &ExtensionValues,
     ) -> Result<Vec<Datagram>, SampleError>
         requires { stream < length self.old.senders }
-        ensures sent { IfOk result (λ ds. ds.items ≡ sent_datagrams (sender_at self.old stream) time bytes.now) }
-        ensures accepted { OnOk result (refusal_of_sample (sender_at self.old stream) time ≡ None) }
-        ensures after { OnOk result (self.new ≡ with_sender self.old stream (after_sample (sender_at self.old stream) time bytes.now)) }
-        ensures refused { IfErr result (λ e. e ≢ SampleError.Memory → refusal_of_sample (sender_at self.old stream) time ≡ Some e) }
+        ensures sent { IfOk result (λ ds. ds.items ≡ sent_datagrams (sender_at self.old stream) time values.now bytes.now) }
+        ensures accepted { OnOk result (refusal_of_sample (sender_at self.old stream) time values.now ≡ None) }
+        ensures after { OnOk result (self.new ≡ with_sender self.old stream (after_sample (sender_at self.old stream) time values.now bytes.now)) }
+        ensures refused { IfErr result (λ e. e ≢ SampleError.Memory → refusal_of_sample (sender_at self.old stream) time values.now ≡ Some e) }
         ensures unchanged { IfErr result (λ e. e ≢ SampleError.Memory → self.new ≡ self.old) }
         ensures failed { IfErr result (λ e. e ≡ SampleError.Memory → self.new ≡ with_sender self.old stream (failed_stream (sender_at self.old stream))) }
     {
         let sender = &mut self.senders[stream];
-        sender.push_sample(time, bytes)
+        sender.push_sample(time, bytes, values)
     }
 
     /// Takes a datagram in, and says what it is: of the stream whose SSRC and payload type it has, a
@@ -230,7 +233,8 @@ impl End {
             return Ok(Received::Damaged);
         };
         let receiver = &mut self.receivers[stream];
-        match receiver.receive(header.sequence_number, header.timestamp, payload)? {
+        let values = receiver.values_read(datagram);
+        match receiver.receive(header.sequence_number, header.timestamp, values, payload)? {
             None => Ok(Received::Refused),
             Some(number) => Ok(Received::Taken(stream, number)),
         }
@@ -291,6 +295,16 @@ impl End {
             section.names_remote(ssrc),
             is_open,
         )
+    }
+
+    /// The map of header extensions of a new stream in a section of this name.
+    fn stream_exts(&self, mid: Mid) -> Result<ExtensionMap, AllocError>
+        ensures { IfOk result (λ map. map ≡ stream_map self.now mid) }
+    {
+        match self.exchange.agreed() {
+            Some(section) if section.is_named(mid) => section.exts().clone(self.alloc),
+            _ => Ok(ExtensionMap::empty()),
+        }
     }
 }
 
@@ -358,8 +372,8 @@ fn stream_for(receivers: &[ReceivingStream], ssrc: Ssrc, pt: Pt) -> Option<usize
 /// The payload of a datagram without its padding, if it has a byte.
 fn payload_of<'a>(header: &RtpHeader, datagram: &'a [u8]) -> Option<&'a [u8]>
     requires { header.now.header_len ≤ length datagram.now }
-    ensures some { (stream : ℕ) → IfSome result (λ payload. own_of stream header.now (unpadded header.now.has_padding (payload_in header.now datagram.now)) ≡ Own stream header.now.sequence_number header.now.timestamp payload.now) }
-    ensures none { (stream : ℕ) → IfNone result (own_of stream header.now (unpadded header.now.has_padding (payload_in header.now datagram.now)) ≡ NoPayload) }
+    ensures some { (stream : ℕ) (values : ExtensionValues) → IfSome result (λ payload. own_of stream header.now values (unpadded header.now.has_padding (payload_in header.now datagram.now)) ≡ Own stream header.now.sequence_number header.now.timestamp values payload.now) }
+    ensures none { (stream : ℕ) (values : ExtensionValues) → IfNone result (own_of stream header.now values (unpadded header.now.has_padding (payload_in header.now datagram.now)) ≡ NoPayload) }
 {
     let payload = unpad_payload(header.has_padding, &datagram[header.header_len..])?;
     if payload.is_empty() {

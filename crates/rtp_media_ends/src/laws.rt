@@ -12,5 +12,5 @@ ghost use Rattle.rtp_media_ends.specs.OwnEvents.{own_events};
 pub fn isolation_law()
     ensures { (end : EndState) (datagrams : List (List ℕ)) (stream : ℕ) → let receiver = receiver_at end stream in
         stream_for end.receivers receiver.ssrc receiver.pt ≡ Some stream →
-        (receiver_at (after_datagrams end datagrams) stream).stream ≡ after_events receiver.stream (own_events receiver.ssrc receiver.pt datagrams) }
+        (receiver_at (after_datagrams end datagrams) stream).stream ≡ after_events receiver.stream (own_events receiver.ssrc receiver.pt receiver.map datagrams) }
 {}

@@ -1,14 +1,12 @@
 //! Exchanges of texts between two ends.
 
-ghost use Rattle.std.specs.Prelude.{◌≡◌, ◌≢◌, ℕ, List, None, Some, is_some, string_bytes, IfOk, IfErr, OnOk, OnErr};
-ghost use Rattle.rtp_wire.specs.Maps.{is_empty_map};
-ghost use Rattle.rtp_media_exchange.specs.Agreement.{agreed_row_of};
+ghost use Rattle.std.specs.Prelude.{◌≡◌, ◌≢◌, None, Some, is_some, string_bytes, IfOk, IfErr, OnOk, OnErr};
 ghost use Rattle.rtp_media_exchange.specs.Exchanges.{with_offer};
 ghost use Rattle.rtp_media_exchange.specs.Offers.{Offers, Answers, Accepts, AgreesOnText};
 ghost use Rattle.rtp_media_exchange.specs.Refusals.{Names, refusal_of_new, refusal_of_offer, refusal_of_answer, refusal_of_accept};
 ghost use Rattle.rtp_media_exchange.specs.Sections.{only};
 ghost use Rattle.rtp_media_ends.specs.Ends.{new_end, with_exchange};
-ghost use Rattle.rtp_media_ends.specs.Connections.{Connects, IsRefused};
+ghost use Rattle.rtp_media_ends.specs.Connections.{Connects, HaveOneAgreement, IsRefused};
 
 use super::End;
 use rtp_media_exchange::{CodecConfig, EndError, Exchange, ExchangeError, SectionSpec, Session};
@@ -16,7 +14,8 @@ use rtp_wire::ExtensionMap;
 use std::alloc::Global;
 
 impl End {
-    /// An end of these rows, session and map of extensions, which has agreed on nothing.
+    /// An end of these rows, session and wanted header extensions (RFC 8285), which has agreed on
+    /// nothing.
     ///
     /// # Errors
     /// The first that holds of `RowNotPlain` and `NotWritable`; or `Memory`.
@@ -26,13 +25,13 @@ impl End {
         session: Session,
         exts: ExtensionMap,
     ) -> Result<Self, EndError>
-        ensures new { IfOk result (λ e. e ≡ new_end session.id (only config.rows)) }
-        ensures accepted { OnOk result (refusal_of_new config.rows session.is_bare (is_empty_map exts) ≡ None) }
-        ensures refused { IfErr result (λ e. e ≢ EndError.Memory → refusal_of_new config.rows session.is_bare (is_empty_map exts) ≡ Some e) }
+        ensures new { IfOk result (λ e. e ≡ new_end session.id exts (only config.rows)) }
+        ensures accepted { OnOk result (refusal_of_new config.rows session.is_bare exts ≡ None) }
+        ensures refused { IfErr result (λ e. e ≢ EndError.Memory → refusal_of_new config.rows session.is_bare exts ≡ Some e) }
     {
         Ok(End {
             alloc,
-            exchange: Exchange::new(alloc, &config, &session, &exts)?,
+            exchange: Exchange::new(alloc, &config, &session, exts)?,
             senders: Vec::new(alloc),
             receivers: Vec::new(alloc),
         })
@@ -103,7 +102,7 @@ impl End {
 }
 
 /// Has `a` offer, `b` answer and `a` accept, and answers both texts. Both ends have then agreed on the
-/// rows of the answer's section.
+/// rows and the map of header extensions of the answer's section.
 ///
 /// # Errors
 /// What the first refused call answers. Where `b`'s answer is refused, `a`'s offer stays pending;
@@ -116,7 +115,7 @@ pub fn connect(
     sections_b: Vec<SectionSpec>,
 ) -> Result<(String, String), ExchangeError>
     ensures texts { IfOk result (λ texts. Connects a.old b.old sections_a.items sections_b.items (string_bytes texts.0) (string_bytes texts.1) a.new b.new) }
-    ensures agree { OnOk result ((mid : List ℕ) (pt : ℕ) → agreed_row_of a.new.exchange.agreed mid pt ≡ agreed_row_of b.new.exchange.agreed mid pt) }
+    ensures agree { OnOk result (HaveOneAgreement a.new.exchange.agreed b.new.exchange.agreed) }
     ensures refused { IfErr result (λ e. IsRefused a.old b.old sections_a.items sections_b.items e a.new b.new) }
 {
     let offer = a.offer(sections_a)?;

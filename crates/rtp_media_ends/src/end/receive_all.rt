@@ -1,9 +1,9 @@
 //! Datagrams received one after the other, and then all units that are ready.
 
 ghost use Rattle.std.specs.Prelude.{◌≡◌, ◌<◌, ℕ, List, Ok, OnOk, IfOk, length, map};
-ghost use Rattle.rtp_media_runs.specs.Opus.{Timed, payloads, units_from};
+ghost use Rattle.rtp_media_runs.specs.Opus.{Timed};
 ghost use Rattle.rtp_media_streams.specs.Sending.{Sending};
-ghost use Rattle.rtp_media_ends.specs.FullArrival.{verdicts_of, after_datagrams, ArePolledOut, IsPolledOut, HasAllOf, answers_at, with_receivers};
+ghost use Rattle.rtp_media_ends.specs.FullArrival.{verdicts_of, after_datagrams, ArePolledOut, IsPolledOut, HasAllOf, answers_at, units_of, with_receivers};
 
 use super::End;
 use crate::errors::{PollFault, ReceiveError};
@@ -65,7 +65,7 @@ impl End {
         // All datagrams of a stream's samples came: its polls answer exactly the canonical units.
         ensures exact { IfOk result (λ all. (stream hold_back : ℕ) (sender : Sending) (samples : List Timed) (arrivals : List ℕ) →
             HasAllOf self.old stream hold_back sender samples arrivals datagrams.now →
-            answers_at all.polls.items stream ≡ map Ok (units_from sender.next (payloads sender.mtu samples))) }
+            answers_at all.polls.items stream ≡ map Ok (units_of sender samples)) }
     {
         let verdicts = self.receive_each(datagrams)?;
         let polls = poll_each(self.alloc, &mut self.receivers)?;

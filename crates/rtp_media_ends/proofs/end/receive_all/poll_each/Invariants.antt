@@ -1,5 +1,6 @@
 use Rattle.std.proofs.Common.{◌≡◌, ℕ, ◌<◌, ◌≤◌, length}
-use Rattle.rtp_media_ends.specs.FullArrival.{IsPolledOut, answers_at, nth_receiver}
+use Rattle.rtp_media_ends.specs.Ends.{nth_receiver}
+use Rattle.rtp_media_ends.specs.FullArrival.{IsPolledOut, answers_at}
 use Rattle.rtp_media_ends.proofs.end.receive_all.poll_each.Given as goal
 
 -- the streams below this one are polled out, and the others are as they were
