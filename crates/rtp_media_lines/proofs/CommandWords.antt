@@ -1,13 +1,15 @@
 -- Reading from left to right gives the command whose words stand there, and no other.
-use Rattle.std.proofs.Common.{◌≡◌, ℕ, ◌^◌, List, [], ◌∷◌, Some, codes, refl, sym, ◌∙◌, subst}
+use Rattle.std.proofs.Common.{◌≡◌, ℕ, ◌^◌, List, [], ◌∷◌, Option, None, Some, codes, refl, sym, ◌∙◌, ap, subst}
+use Rattle.std.specs.Option.{option_map}
 use Rattle.std.specs.Str.{bytes_eq}
 use Rattle.rtp_media_lines.specs.declared.line.Command.{Command}
 use Rattle.rtp_media_lines.specs.declared.line.Command.TheVariants.{Fixed, Send, Open, Sample, Receive, Poll, Row, Ext, End, Offer, Answer, Accept, Withdraw, Connect}
-use Rattle.rtp_media_lines.specs.Words.{side_of, text_of, hex_of, dash_or, numbers_of, number_below}
+use Rattle.rtp_media_lines.specs.Words.{side_of, text_of, hex_of, dash_or, numbers_of, number_below, behind, mid_value, ◌>>=◌}
+use Rattle.rtp_media_lines.proofs.Behind.{behind-sound, behind-append}
 use Rattle.rtp_media_lines.specs.Lines.{command_of, fixed_of, send_of, open_of, sample_of, receive_of, poll_of}
 use Rattle.rtp_media_lines.proofs.ReadSteps.{dispatch, same, ended_some, step, glue, under}
 use Rattle.rtp_media_lines.proofs.ExchangeWords.{exchange_says, read_row, read_ext, read_end, read_offer, read_answer, read_accept, read_withdraw, read_connect}
-use Rattle.rtp_media_lines.specs.Says.{Says, AreSendWords, AreOpenWords, AreSampleWords, AreReceiveWords, ArePollWords}
+use Rattle.rtp_media_lines.specs.Says.{Says, AreSendWords, AreOpenWords, AreSampleWords, mid_words, AreReceiveWords, ArePollWords}
 
 -- ---- what is read stands there
 
@@ -76,6 +78,15 @@ open_says verb words c v h =
       hold_back_says = hold_back.3;
     })
 
+-- nothing is left, or a word `mid=TEXT`
+mid_some : (words : List (List ℕ)) (f : Option (List ℕ) → Command) (c : Command) → (mid_value words >>= (λ mid. Some (f mid))) ≡ Some c → (mid : Option (List ℕ)) × (words ≡ mid_words mid) × (f mid ≡ c)
+mid_some [] f c h = (None, refl, cc)
+mid_some (word ∷ []) f c h = by_text (behind (codes "mid=") word) refl h where
+  by_text : (o : Option (List ℕ)) → behind (codes "mid=") word ≡ o → (option_map Some o >>= (λ mid. Some (f mid))) ≡ Some c → (mid : Option (List ℕ)) × (word ∷ [] ≡ mid_words mid) × (f mid ≡ c)
+  by_text None e k = absurd cc
+  by_text (Some text) e k = (Some text, ap (λ (w : List ℕ). w ∷ []) (behind-sound (codes "mid=") word text e), cc)
+mid_some (word ∷ next ∷ words) f c h = absurd cc
+
 sample_says : (verb : List ℕ) (words : List (List ℕ)) (c : Command) → verb ≡ codes "sample" → sample_of words ≡ Some c → Says (verb ∷ words) c
 unfolding sample_of
 sample_says verb words c v h =
@@ -83,13 +94,13 @@ sample_says verb words c v h =
     let stream = step (number_below (2 ^ 64)) e.0.1 _ c e.4 in
     let time = step (number_below (2 ^ 64)) stream.0.1 _ c stream.4 in
     let bytes = step hex_of time.0.1 _ c time.4 in
-    let end = ended_some bytes.0.1 _ c bytes.4 in
-    subst (Says (verb ∷ words)) end.1 (record {
+    let end = mid_some bytes.0.1 _ c bytes.4 in
+    subst (Says (verb ∷ words)) end.2 (record {
       e = e.1;
       stream = stream.1;
       time = time.1;
       bytes = bytes.1;
-      words_are = glue v (e.2 ∙ under e.1 (stream.2 ∙ under stream.1 (time.2 ∙ under time.1 (bytes.2 ∙ under bytes.1 end.0))));
+      words_are = glue v (e.2 ∙ under e.1 (stream.2 ∙ under stream.1 (time.2 ∙ under time.1 (bytes.2 ∙ under bytes.1 end.1))));
       e_says = e.3;
       stream_says = stream.3;
       time_says = time.3;
@@ -150,9 +161,12 @@ read_open : (words : List (List ℕ)) (open' : _) (a : AreOpenWords words open')
 unfolding open_of
 read_open words open' a = rw (a.e_says, a.mid_says, a.ssrc_says, a.pt_says, a.hold_back_says) refl
 
-read_sample : (words : List (List ℕ)) (sample : _) (a : AreSampleWords words sample) → sample_of (a.e ∷ a.stream ∷ a.time ∷ a.bytes ∷ []) ≡ Some (Sample sample)
+read_sample : (words : List (List ℕ)) (sample : _) (a : AreSampleWords words sample) → sample_of (a.e ∷ a.stream ∷ a.time ∷ a.bytes ∷ mid_words sample.mid) ≡ Some (Sample sample)
 unfolding sample_of
-read_sample words sample a = rw (a.e_says, a.stream_says, a.time_says, a.bytes_say) refl
+read_sample words sample a = rw (a.e_says, a.stream_says, a.time_says, a.bytes_say, mid_again sample.mid) refl where
+  mid_again : (mid : Option (List ℕ)) → mid_value (mid_words mid) ≡ Some mid
+  mid_again None = refl
+  mid_again (Some text) = ap (option_map Some) (behind-append (codes "mid=") text)
 
 read_receive : (words : List (List ℕ)) (receive : _) (a : AreReceiveWords words receive) → receive_of (a.e ∷ a.bytes ∷ []) ≡ Some (Receive receive)
 unfolding receive_of

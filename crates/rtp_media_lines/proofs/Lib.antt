@@ -1,3 +1,4 @@
+pub mod Behind
 pub mod Each
 pub mod CommandWords
 pub mod InputLines

@@ -7,7 +7,7 @@ use Rattle.rtp_media_lines.specs.declared.line.Command.{Command}
 use Rattle.rtp_media_lines.specs.declared.line.Command.TheVariants.{Fixed, Send, Open, Sample, Receive, Poll}
 use Rattle.std.specs.Option.{option_map}
 use Rattle.rtp_media_lines.specs.ExchangeLines.{row_of, ext_of, end_of, offer_of, answer_of, accept_of, withdraw_of, connect_of}
-use Rattle.rtp_media_lines.specs.Words.{words_of, side_of, text_of, hex_of, dash_or, numbers_of, number_below, first, ended, ◌>>=◌}
+use Rattle.rtp_media_lines.specs.Words.{words_of, side_of, text_of, hex_of, dash_or, numbers_of, number_below, mid_value, first, ended, ◌>>=◌}
 
 -- fixed E
 unfoldable pub fixed_of : List (List ℕ) → Option Command
@@ -49,14 +49,15 @@ open_of words = do
   hold_back ← first (number_below (2 ^ 64)) pt.1
   ended hold_back.1 (Open (record { side = side.0; mid = mid.0; ssrc = ssrc.0; pt = pt.0; hold_back = hold_back.0 }))
 
--- sample E N TIME HEX
+-- sample E N TIME HEX [mid=TEXT]
 unfoldable pub sample_of : List (List ℕ) → Option Command
 sample_of words = do
   side ← first side_of words
   stream ← first (number_below (2 ^ 64)) side.1
   time ← first (number_below (2 ^ 64)) stream.1
   sample ← first hex_of time.1
-  ended sample.1 (Sample (record { side = side.0; stream = stream.0; time = time.0; sample = sample.0 }))
+  mid ← mid_value sample.1
+  Some (Sample (record { side = side.0; stream = stream.0; time = time.0; sample = sample.0; mid = mid }))
 
 -- receive E HEX
 unfoldable pub receive_of : List (List ℕ) → Option Command

@@ -1,5 +1,5 @@
 -- Which words a command is: the lines of the program, one by one.
-use Rattle.std.specs.Prelude.{◌≡◌, ℕ, ◌^◌, List, [], ◌∷◌, ◌++◌, codes, Some}
+use Rattle.std.specs.Prelude.{◌≡◌, ℕ, ◌^◌, List, [], ◌∷◌, ◌++◌, codes, Some, Option, None}
 use Rattle.rtp_media_lines.specs.declared.line.Command.{Command}
 use Rattle.rtp_media_lines.specs.declared.line.Command.TheVariants.{Fixed, Send, Open, Sample, Receive, Poll, Row, Ext, End, Offer, Answer, Accept, Withdraw, Connect}
 use Rattle.rtp_media_lines.specs.declared.line.SendCommand.{SendCommand}
@@ -53,13 +53,18 @@ pub record AreOpenWords (words : List (List ℕ)) (open' : OpenCommand) : Type 0
   pub pt_says : number_below (2 ^ 8) pt ≡ Some open'.pt
   pub hold_back_says : number_below (2 ^ 64) hold_back ≡ Some open'.hold_back
 
--- sample E N TIME HEX
+-- nothing, or `mid=TEXT`
+abbrev pub mid_words : Option (List ℕ) → List (List ℕ)
+mid_words None = []
+mid_words (Some text) = (codes "mid=" ++ text) ∷ []
+
+-- sample E N TIME HEX [mid=TEXT]
 pub record AreSampleWords (words : List (List ℕ)) (sample : SampleCommand) : Type 0 where
   pub e : List ℕ
   pub stream : List ℕ
   pub time : List ℕ
   pub bytes : List ℕ
-  pub words_are : words ≡ codes "sample" ∷ e ∷ stream ∷ time ∷ bytes ∷ []
+  pub words_are : words ≡ codes "sample" ∷ e ∷ stream ∷ time ∷ bytes ∷ mid_words sample.mid
   pub e_says : side_of e ≡ Some sample.side
   pub stream_says : number_below (2 ^ 64) stream ≡ Some sample.stream
   pub time_says : number_below (2 ^ 64) time ≡ Some sample.time

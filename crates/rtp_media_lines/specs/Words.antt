@@ -68,6 +68,18 @@ parts_in (Some rest) = comma_parts rest
 abbrev pub numbers_of : List ℕ → Option (List ℕ)
 numbers_of word = each_of (number_below 256) (comma_parts word)
 
+-- what stands behind the letters that a word begins with
+abbrev pub behind : List ℕ → List ℕ → Option (List ℕ)
+behind [] word = Some word
+behind (c ∷ letters) [] = None
+behind (c ∷ letters) (b ∷ word) = if b == c then behind letters word else None
+
+-- nothing, or one word `mid=TEXT`
+abbrev pub mid_value : List (List ℕ) → Option (Option (List ℕ))
+mid_value [] = Some None
+mid_value (word ∷ []) = option_map Some (behind (codes "mid=") word)
+mid_value (word ∷ next ∷ words) = None
+
 -- the words of what is left of a line, none where its last word has been read
 abbrev pub words_in : Option (List ℕ) → List (List ℕ)
 words_in None = []

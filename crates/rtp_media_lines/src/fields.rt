@@ -2,7 +2,7 @@
 
 ghost use Rattle.std.specs.Prelude.{◌≡◌, ◌+◌, ◌^◌, ◌≤◌, ◌∷◌, IsTrue, IfSome, ◌↔◌, slice_index, IfOk};
 ghost use Rattle.std.specs.Option.{option_copied};
-ghost use Rattle.rtp_media_lines.specs.Words.{side_of, number_below, text_of, hex_of, dash_or, numbers_of, comma_parts, parts_in, first};
+ghost use Rattle.rtp_media_lines.specs.Words.{side_of, number_below, text_of, hex_of, dash_or, numbers_of, comma_parts, parts_in, first, behind, mid_value};
 ghost use Rattle.rtp_media_lines.specs.Misreads.{Reads};
 
 use crate::misread::Misread;
@@ -192,4 +192,25 @@ pub(crate) fn text_or_dash_word(
     }
     let text = Text::from_str(alloc, word)?;
     Ok((Some(text), rest))
+}
+
+/// What stands behind the letters that the word begins with.
+fn behind<'a>(word: &'a str, letters: &str) -> Option<&'a str>
+    ensures { option_copied result ≡ behind letters.now word.now }
+{
+    word.strip_prefix(letters)
+}
+
+/// The text of the last word `mid=TEXT`; none where no word is left.
+pub(crate) fn mid_value(alloc: Global, words: Words<'_>) -> Result<Option<Text>, Misread>
+    ensures { Reads result (mid_value words.entry) }
+{
+    if words.is_empty() {
+        return Ok(None);
+    }
+    let (word, rest) = words.next()?;
+    let text = behind(word, "mid=").ok_or(Misread::NotUnderstood)?;
+    let text = Text::from_str(alloc, text)?;
+    rest.end()?;
+    Ok(Some(text))
 }

@@ -8,7 +8,7 @@ use crate::exchange::{
     AcceptCommand, AnswerCommand, ConnectCommand, EndCommand, ExtCommand, OfferCommand, RowCommand,
     accept_of, answer_of, connect_of, end_of, ext_of, offer_of, row_of, withdraw_of,
 };
-use crate::fields::{distances_word, hex_word, number_word, picture_id_word, side_word, text_word};
+use crate::fields::{distances_word, hex_word, mid_value, number_word, picture_id_word, side_word, text_word};
 use crate::misread::Misread;
 use crate::owned::{Bytes, Text};
 use crate::words::{Side, Words};
@@ -52,7 +52,7 @@ pub struct OpenCommand {
     pub hold_back: usize,
 }
 
-/// `sample E N TIME HEX`: send a sample.
+/// `sample E N TIME HEX [mid=TEXT]`: send a sample.
 #[derive(Drop)]
 pub struct SampleCommand {
     /// The end that sends.
@@ -63,6 +63,8 @@ pub struct SampleCommand {
     pub time: u64,
     /// The sample's bytes.
     pub sample: Bytes,
+    /// The media identification that its header extension carries (RFC 9143 15), where one is given.
+    pub mid: Option<Text>,
 }
 
 /// `receive E HEX`: hand an end a datagram.
@@ -259,12 +261,13 @@ fn sample_of(alloc: Global, words: Words<'_>) -> Result<Command, Misread>
     let (stream, rest) = number_word(rest, usize::MAX as u64)?;
     let (time, rest) = number_word(rest, u64::MAX)?;
     let (sample, rest) = hex_word(alloc, rest)?;
-    rest.end()?;
+    let mid = mid_value(alloc, rest)?;
     Ok(Command::Sample(SampleCommand {
         side,
         stream: stream as usize,
         time,
         sample,
+        mid,
     }))
 }
 
