@@ -4,7 +4,7 @@ use Rattle.std.specs.Str.{is_utf8}
 use Rattle.payload_core_base.specs.Codecs.{codec_named}
 use Rattle.rtp_wire.specs.Elements.{Numbering}
 use Rattle.rtp_wire.specs.Kinds.{extension_of}
-use Rattle.rtp_wire.specs.Maps.{empty_map, is_empty_map}
+use Rattle.rtp_wire.specs.Maps.{empty_map}
 use Rattle.rtp_wire.specs.Name.{name_of}
 use Rattle.sdp_formats_rows.specs.declared.format.FormatParams.{FormatParams}
 use Rattle.sdp_formats_rows.specs.Formats.{format_of, no_format}
@@ -87,11 +87,11 @@ AnswersExt old c new replies =
 
 -- end E ID: the draft is emptied, refused or not
 abbrev pub AnswersEnd : Desk → EndCommand → Option EndError → Desk → List Reply → Type 0
-AnswersEnd old c None new replies = (new ≡ clear_desk (Some (new_end c.session (only old.rows)))) × Prints replies reply.Done
+AnswersEnd old c None new replies = (new ≡ clear_desk (Some (new_end c.session old.exts (only old.rows)))) × Prints replies reply.Done
 AnswersEnd old c (Some error) new replies = (new ≡ clear_desk old.end) × Prints replies (reply.Refused (end_error_name error))
 
 abbrev pub refusal_of_draft : Desk → Option EndError
-refusal_of_draft desk = refusal_of_new desk.rows true (is_empty_map desk.exts)
+refusal_of_draft desk = refusal_of_new desk.rows true desk.exts
 
 -- the section that a word names
 abbrev pub wanted_of : SectionWord → Wanted

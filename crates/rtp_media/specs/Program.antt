@@ -3,9 +3,11 @@ use Rattle.std.specs.Prelude.{ℕ, ◌≡◌, ◌⊎◌, ◌&&◌, Bool, nat_lt,
 use Rattle.std.specs.Option.{option_map}
 use Rattle.rtp_wire.specs.Name.{name_of}
 use Rattle.rtp_wire.specs.Time.{Time}
+use Rattle.rtp_wire.specs.Values.{absent}
+use Rattle.rtp_wire.specs.declared.ExtensionValues.{ExtensionValues}
 use Rattle.rtp_media_runs.specs.Heard.{MediaUnit, poll_answer}
 use Rattle.rtp_media_streams.specs.Sending.{sent_datagrams, after_sample, failed_stream, refusal_of_sample}
-use Rattle.rtp_media_streams.specs.Receiving.{opened_receiver, polled_receiver}
+use Rattle.rtp_media_streams.specs.Receiving.{polled_receiver}
 use Rattle.rtp_media_streams.specs.declared.errors.SampleError.{SampleError}
 use Rattle.rtp_media_streams.specs.declared.errors.SampleError.TheVariants as sample_error
 use Rattle.rtp_media_ends.specs.declared.errors.OpenError.{OpenError}
@@ -15,7 +17,7 @@ use Rattle.rtp_media_ends.specs.declared.errors.PollFault.TheVariants as poll_fa
 use Rattle.rtp_media_ends.specs.declared.params.StreamParams.{StreamParams}
 use Rattle.rtp_media_ends.specs.declared.received.Received.{Received}
 use Rattle.rtp_media_ends.specs.declared.received.Received.TheVariants as received
-use Rattle.rtp_media_ends.specs.Ends.{EndState, fixed_end, refusal_of_open_sender, refusal_of_open_receiver, after_open_sender, with_new_receiver, with_sender, with_receiver, sender_at, receiver_at}
+use Rattle.rtp_media_ends.specs.Ends.{EndState, fixed_end, refusal_of_open_sender, refusal_of_open_receiver, after_open_sender, after_open_receiver, with_sender, with_receiver, sender_at, receiver_at}
 use Rattle.rtp_media_ends.specs.Params.{is_sound_params}
 use Rattle.rtp_media_ends.specs.Arrivals.{verdict_of, after_datagram}
 use Rattle.rtp_media_lines.specs.declared.line.Command.{Command}
@@ -83,7 +85,7 @@ send_step (Some e) c =
 
 abbrev pub receiver_step : EndState → OpenCommand → Option OpenError → EndStep
 receiver_step e c (Some error) = prints (Some e) (reply.Refused (open_error_name error))
-receiver_step e c None = becomes (with_new_receiver e (opened_receiver c.ssrc c.pt c.hold_back)) (reply.Receiver (length e.receivers))
+receiver_step e c None = becomes (after_open_receiver e (name_of 16 c.mid) c.ssrc c.pt c.hold_back) (reply.Receiver (length e.receivers))
 
 -- open E MID SSRC PT HOLDBACK
 abbrev pub open_step : Option EndState → OpenCommand → EndStep
@@ -94,18 +96,22 @@ open_step (Some e) c = receiver_step e c (refusal_of_open_receiver e (name_of 16
 abbrev pub time_of : EndState → SampleCommand → Time
 time_of e c = record { ticks = c.time; rate = (sender_at e c.stream).rate }
 
+-- the values that a sample is given: the name of its section, where one is (RFC 9143 15)
+abbrev pub values_given : Option (List ℕ) → ExtensionValues
+values_given mid = record absent { mid = option_map (name_of 16) mid }
+
 abbrev pub sent_step : EndState → SampleCommand → Option SampleError → EndStep
 sent_step e c (Some error) = prints (Some e) (reply.Refused (sample_error_name error))
 sent_step e c None = record {
-  end = Some (with_sender e c.stream (after_sample (sender_at e c.stream) (time_of e c) c.sample));
-  replies = map (λ d. reply.Datagram d) (sent_datagrams (sender_at e c.stream) (time_of e c) c.sample) ++ reply.Done ∷ [];
+  end = Some (with_sender e c.stream (after_sample (sender_at e c.stream) (time_of e c) (values_given c.mid) c.sample));
+  replies = map (λ d. reply.Datagram d) (sent_datagrams (sender_at e c.stream) (time_of e c) (values_given c.mid) c.sample) ++ reply.Done ∷ [];
 }
 
--- sample E N TIME HEX
+-- sample E N TIME HEX [mid=TEXT]
 abbrev pub sample_step : Option EndState → SampleCommand → EndStep
 sample_step None c = prints None reply.ErrorLine
 sample_step (Some e) c =
-    if nat_lt c.stream (length e.senders) then sent_step e c (refusal_of_sample (sender_at e c.stream) (time_of e c))
+    if nat_lt c.stream (length e.senders) then sent_step e c (refusal_of_sample (sender_at e c.stream) (time_of e c) (values_given c.mid))
     else prints (Some e) reply.ErrorLine
 
 abbrev pub verdict_reply : Received → Reply

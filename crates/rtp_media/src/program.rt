@@ -5,7 +5,7 @@ ghost use Rattle.std.specs.Io.KnownBytes.{Appends, Consumes, IsAtEnd};
 ghost use Rattle.rtp_media_lines.specs.Runs.{Printed, ReadsAll};
 ghost use Rattle.rtp_media_lines.specs.declared.line.Command.{Command};
 ghost use Rattle.rtp_media.specs.Exchanging.{clear_desk};
-ghost use Rattle.rtp_media.specs.Program.{IsAnswered, open_error_name, sample_error_name, fault_name, verdict_reply, unit_reply};
+ghost use Rattle.rtp_media.specs.Program.{IsAnswered, open_error_name, sample_error_name, fault_name, verdict_reply, unit_reply, values_given};
 ghost use Rattle.rtp_media.specs.Sides.{Gives, AnswersAt, ConnectsEnds, KeepsDraft, side_of, no_ends};
 
 mod exchanging;
@@ -18,7 +18,7 @@ use rtp_media_ends::{
 };
 use rtp_media_lines::{
     Bytes, Command, ConnectCommand, ErrorName, OpenCommand, PollCommand, ReceiveCommand, Reply,
-    Respond, RunFault, SampleCommand, SendCommand, Side, Status, run_lines,
+    Respond, RunFault, SampleCommand, SendCommand, Side, Status, Text, run_lines,
 };
 use rtp_wire::{ExtensionMap, ExtensionValues, MediaTime, Mid, Pt, Ssrc};
 use std::alloc::{AllocError, Global};
@@ -230,11 +230,23 @@ fn sample(
         return one(alloc, Reply::ErrorLine);
     }
     let time = MediaTime::new(command.time, end.clock_rate(command.stream));
-    let values = ExtensionValues::absent();
+    let values = values_given(&command.mid);
     match end.push_sample(command.stream, time, command.sample.as_slice(), &values) {
         Ok(datagrams) => datagram_replies(alloc, datagrams),
         Err(error) => one(alloc, Reply::Refused(sample_error_name(error))),
     }
+}
+
+/// The values that a sample is given.
+fn values_given(mid: &Option<Text>) -> ExtensionValues
+    ensures { result ≡ values_given mid.now }
+{
+    let mut values = ExtensionValues::absent();
+    values.mid = match mid {
+        Some(text) => Some(Mid::from(text.as_str())),
+        None => None,
+    };
+    values
 }
 
 /// The line for a datagram.
