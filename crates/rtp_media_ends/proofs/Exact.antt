@@ -20,6 +20,7 @@ use Rattle.rtp_media_runs.specs.Drained.{IsDrained}
 use Rattle.rtp_media_runs.proofs.Pieces.{piece-some}
 use Rattle.rtp_media_runs.proofs.FullArrival.{full-drained}
 use Rattle.rtp_media_streams.specs.Sending.{Sending, header_of, carried, as_carried, datagram_of, datagrams_from}
+use Rattle.rtp_media_streams.proofs.Sent.{writable}
 use Rattle.rtp_media_streams.specs.Receiving.{Receiving, values_of_header, values_read}
 use Rattle.rtp_media_ends.specs.Ends.{EndState, receiver_at}
 use Rattle.rtp_media_ends.specs.FullArrival.{after_datagrams, Answers, IsPolledOut, is_header_of, is_own_datagram, sent_datagram, units_of, HasAllOf}
@@ -36,18 +37,6 @@ IsSendable p = (p.time < 2 ^ 32) × (0 < length p.bytes) × AreValues p.values
 abbrev AreSendable : List Timed → Type 0
 AreSendable [] = Unit {0}
 AreSendable (p ∷ ps) = IsSendable p × AreSendable ps
-
-writable : (s : Sending) (x time : ℕ) (values : ExtensionValues) → s.pt < 128 → s.ssrc < 2 ^ 32 → time < 2 ^ 32 → AreValues values → IsWritable (header_of s x time values)
-writable s x time values pt ssrc t v = record {
-  payload_type = pt;
-  sequence_number = omega arith;
-  timestamp = t;
-  ssrc = ssrc;
-  csrc_count = omega arith;
-  csrc = λ k d h. absurd (omega arith);
-  csrc_slots = refl;
-  values = λ e. v;
-}
 
 content-some : (h : RtpHeader) (values : ExtensionValues) (bytes : List ℕ) → 0 < length bytes → content_event h values (Some bytes) ≡ Some (Comes h.sequence_number (content_of h.timestamp values bytes))
 content-some h values [] some = absurd (omega arith)

@@ -62,7 +62,8 @@ impl End {
     /// # Errors
     /// `EndError::Memory`.
     pub fn fixed(alloc: Global) -> Result<Self, EndError>
-        ensures { IfOk result (λ e. e ≡ fixed_end) }
+        ensures end { IfOk result (λ e. e ≡ fixed_end) }
+        ensures refused { IfErr result (λ e. e ≡ EndError.Memory) }
     {
         Ok(End {
             alloc,

@@ -4,9 +4,10 @@ use Rattle.std.proofs.lemmas.Bool.Decides.{nat_tests}
 use Rattle.std.specs.Prelude.{Some, None, if◌then◌else◌, nat_lt, nat_le, is_none, ◌||◌, slice_index_or}
 use Rattle.std.specs.List.{range_with_len}
 use Rattle.rtp_wire.specs.Time.{Time, checked_rebased}
-use Rattle.rtp_wire.specs.Header.{spelled, two_byte_length}
+use Rattle.rtp_wire.specs.Carried.{AreValues}
+use Rattle.rtp_wire.specs.Header.{spelled, two_byte_length, header_in, image, payload_in, IsWritable}
 use Rattle.rtp_wire.specs.declared.ExtensionValues.{ExtensionValues}
-use Rattle.rtp_wire.proofs.HeaderLaws.{length-spelled_within}
+use Rattle.rtp_wire.proofs.HeaderLaws.{length-spelled_within, header_in-spelled, payload_in-spelled}
 use Rattle.rtp_media_runs.specs.Opus.{Timed, timed, payloads, piece, piece_count}
 use Rattle.rtp_media_runs.proofs.Pieces.{piece-within}
 use Rattle.rtp_media_streams.specs.Sending.{Sending, Sample, header_of, longest_datagram, datagram_of, datagrams_from, sent_payloads, sent_datagrams, with_next, after_sample, datagrams_of, samples_of, refusal_of_sample}
@@ -72,3 +73,23 @@ pub samples-timed : (s : Sending) (xs : List Sample) (i : ℕ) (d : Timed) → i
 samples-timed s [] i d lt = absurd (omega arith)
 samples-timed s (x ∷ xs) zero d lt = omega arith
 samples-timed s (x ∷ xs) (suc i) d lt = samples-timed s xs i d (omega arith)
+
+-- what is written can be read
+pub writable : (s : Sending) (x time : ℕ) (values : ExtensionValues) → s.pt < 128 → s.ssrc < 2 ^ 32 → time < 2 ^ 32 → AreValues values → IsWritable (header_of s x time values)
+writable s x time values pt ssrc t v = record {
+  payload_type = pt;
+  sequence_number = omega arith;
+  timestamp = t;
+  ssrc = ssrc;
+  csrc_count = omega arith;
+  csrc = λ k d h. absurd (omega arith);
+  csrc_slots = refl;
+  values = λ e. v;
+}
+
+pub datagram-read : (s : Sending) (number : ℕ) (p : Timed) → s.pt < 128 → s.ssrc < 2 ^ 32 → p.time < 2 ^ 32 → AreValues p.values →
+    header_in s.map (datagram_of s number p) ≡ Some (image s.map (header_of s number p.time p.values))
+datagram-read s number p pt ssrc time values = header_in-spelled s.map (header_of s number p.time p.values) p.bytes (writable s number p.time p.values pt ssrc time values)
+
+pub datagram-payload : (s : Sending) (number : ℕ) (p : Timed) → payload_in (image s.map (header_of s number p.time p.values)) (datagram_of s number p) ≡ p.bytes
+datagram-payload s number p = payload_in-spelled s.map (header_of s number p.time p.values) p.bytes

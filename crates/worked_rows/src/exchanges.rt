@@ -1,23 +1,28 @@
 //! Offers, answers and what may be opened after them.
 
 use crate::streams::params;
+use crate::texts::{answer_22, offer_22};
 use rtp_media::{
-    CodecConfig, End, ExchangeError, MediaKind, OpenError, PayloadParams, SectionSpec, Session,
-    connect,
+    CodecConfig, End, EndError, ExchangeError, MediaKind, OpenError, PayloadParams, SectionSpec,
+    Session, connect,
 };
-use rtp_wire::{Direction, ExtensionMap, Mid, Pt, SessionId, Ssrc};
+use rtp_wire::{Direction, Extension, ExtensionMap, Mid, Pt, SessionId, Ssrc};
 use std::alloc::Global;
 use std::process::Abort;
 use std::test::Fail;
 
-const OFFER: &str =
-    "v=0\r\no=str0m-0.25.0 1 2 IN IP4 0.0.0.0\r\ns=-\r\nt=0 0\r\na=group:BUNDLE 0\r\nm=audio 9 UDP/TLS/RTP/SAVPF 111\r\nc=IN IP4 0.0.0.0\r\na=mid:0\r\na=sendrecv\r\na=rtpmap:111 opus/48000/2\r\na=rtcp-fb:111 transport-cc\r\na=fmtp:111 minptime=10;useinbandfec=1\r\na=ssrc:44 cname:str0m\r\n";
-
-const ANSWER: &str =
-    "v=0\r\no=str0m-0.25.0 2 2 IN IP4 0.0.0.0\r\ns=-\r\nt=0 0\r\na=group:BUNDLE 0\r\nm=audio 9 UDP/TLS/RTP/SAVPF 111\r\nc=IN IP4 0.0.0.0\r\na=mid:0\r\na=sendrecv\r\na=rtpmap:111 opus/48000/2\r\na=rtcp-fb:111 transport-cc\r\na=fmtp:111 minptime=10;useinbandfec=1\r\na=ssrc:45 cname:str0m\r\n";
-
-/// A new end of one Opus row.
+/// A new end of one Opus row without header extensions.
 fn opus_end(alloc: Global, session: u64, pt: u8) -> Result<End, Fail> {
+    Ok(end_with(alloc, session, pt, ExtensionMap::empty())??)
+}
+
+/// What making an end of one Opus row and of these header extensions answers.
+pub fn end_with(
+    alloc: Global,
+    session: u64,
+    pt: u8,
+    exts: ExtensionMap,
+) -> Result<Result<End, EndError>, Fail> {
     let mut usual = CodecConfig::empty(alloc);
     usual.enable_opus(true, false)?;
     let mut rows = Vec::new(alloc);
@@ -26,11 +31,11 @@ fn opus_end(alloc: Global, session: u64, pt: u8) -> Result<End, Fail> {
     }
     let config = CodecConfig::new_from_payload_params(rows);
     let session = Session::new(alloc, SessionId::from(session));
-    Ok(End::new(alloc, config, session, ExtensionMap::empty())?)
+    Ok(End::new(alloc, config, session, exts))
 }
 
 /// The section `0` of audio.
-fn audio(alloc: Global, dir: Direction, ssrc: u32) -> Result<Vec<SectionSpec>, Fail> {
+pub fn audio(alloc: Global, dir: Direction, ssrc: u32) -> Result<Vec<SectionSpec>, Fail> {
     let mut ssrcs = Vec::new(alloc);
     ssrcs.push(Ssrc::from(ssrc))?;
     let mut sections = Vec::new(alloc);
@@ -66,9 +71,9 @@ fn row_22_offer_and_answer(rt: HostRuntime) -> Result<(), Fail> {
     let mut b = opus_end(rt.alloc(), 2, 109)?;
     let wanted = Direction::SendRecv;
     let offer = a.offer(audio(rt.alloc(), wanted, 44)?)?;
-    assert_eq!(rt; offer.as_str(), OFFER);
+    assert_eq!(rt; offer.as_str(), offer_22(rt.alloc())?.as_str());
     let answer = b.answer(offer.as_str(), audio(rt.alloc(), wanted, 45)?)?;
-    assert_eq!(rt; answer.as_str(), ANSWER);
+    assert_eq!(rt; answer.as_str(), answer_22(rt.alloc())?.as_str());
     a.accept(answer.as_str())?;
     assert_eq!(rt; send(&rt, &mut a, 44, 109)?, Err(OpenError::RowNotAgreed));
     assert_eq!(rt; send(&rt, &mut b, 45, 109)?, Err(OpenError::RowNotAgreed));
@@ -83,16 +88,16 @@ fn row_22_offer_and_answer(rt: HostRuntime) -> Result<(), Fail> {
 fn row_22_calls_out_of_turn(rt: HostRuntime) -> Result<(), Fail> {
     let mut a = opus_end(rt.alloc(), 1, 111)?;
     let wanted = Direction::SendRecv;
-    assert!(rt; matches!(a.accept(ANSWER), Err(ExchangeError::OutOfTurn)));
+    let answer = answer_22(rt.alloc())?;
+    assert!(rt; matches!(a.accept(answer.as_str()), Err(ExchangeError::OutOfTurn)));
     a.offer(audio(rt.alloc(), wanted, 44)?)?;
     let second = a.offer(audio(rt.alloc(), wanted, 44)?);
     assert!(rt; matches!(second, Err(ExchangeError::OutOfTurn)));
-    assert!(rt; matches!(a.accept("v=0\r\n"), Err(ExchangeError::Unreadable(_))));
     assert!(rt; a.withdraw());
     assert!(rt; !a.withdraw());
-    assert!(rt; matches!(a.accept(ANSWER), Err(ExchangeError::OutOfTurn)));
+    assert!(rt; matches!(a.accept(answer.as_str()), Err(ExchangeError::OutOfTurn)));
     a.offer(audio(rt.alloc(), wanted, 44)?)?;
-    a.accept(ANSWER)?;
+    a.accept(answer.as_str())?;
     let third = a.offer(audio(rt.alloc(), wanted, 44)?);
     assert!(rt; matches!(third, Err(ExchangeError::OutOfTurn)));
     Ok(())
@@ -133,6 +138,17 @@ fn sixteen_pairs_of_directions(rt: HostRuntime) -> Result<(), Fail> {
             let from_b = wanted.is_sending() && offered.is_receiving();
             opens_as_agreed(&rt, &mut a, &mut b, [from_a, from_b])?;
         }
+    }
+    Ok(())
+}
+
+#[test]
+fn extensions_whose_text_cannot_stand_in_a_line(rt: HostRuntime) -> Result<(), Fail> {
+    for uri in ["", "urn:a b", "urn:a\r", "urn:a\n"] {
+        let mut exts = ExtensionMap::empty();
+        exts.set(3, Extension::from_sdp_uri(rt.alloc(), uri)?);
+        let refused = end_with(rt.alloc(), 1, 111, exts)?;
+        assert!(rt; matches!(refused, Err(EndError::NotWritable)));
     }
     Ok(())
 }

@@ -11,3 +11,7 @@ mod lines;
 mod samples;
 #[cfg(test)]
 mod streams;
+#[cfg(test)]
+mod texts;
+#[cfg(test)]
+mod values;

@@ -25,10 +25,11 @@ pub fn receiving_end(alloc: Global, hold_back: usize) -> Result<End, Fail> {
 
 /// The Opus datagram of SSRC 44 with this number, time 0 and a payload of one byte.
 pub fn datagram(number: u16, byte: u8) -> [u8; 13] {
-    let number = number.to_be_bytes();
-    [
-        0x80, 0x6f, number[0], number[1], 0, 0, 0, 0, 0, 0, 0, 44, byte,
-    ]
+    let mut bytes = *b"\x80\x6f\x00\x00\x00\x00\x00\x00\x00\x00\x00\x2c\x00";
+    bytes[2] = (number / 256) as u8;
+    bytes[3] = (number % 256) as u8;
+    bytes[12] = byte;
+    bytes
 }
 
 /// The same, owned.

@@ -1,4 +1,4 @@
-use Rattle.rtp_media_streams.proofs.Sent.{datagrams_of-consecutive, sent-short, samples-timed}
+use Rattle.rtp_media_streams.proofs.Sent.{datagrams_of-consecutive, sent-short, samples-timed, datagram-read, datagram-payload}
 use Rattle.rtp_media_streams.proofs.laws.datagrams_laws.Goals as goal
 
 pub returns-clause-consecutive : goal.returns-clause-consecutive
@@ -9,3 +9,9 @@ returns-clause-within c = sent-short
 
 pub returns-clause-timestamps : goal.returns-clause-timestamps
 returns-clause-timestamps c = samples-timed
+
+pub returns-clause-reads : goal.returns-clause-reads
+returns-clause-reads c = datagram-read
+
+pub returns-clause-payload : goal.returns-clause-payload
+returns-clause-payload c = datagram-payload
