@@ -1,0 +1,4 @@
+pub mod CutLemmas
+pub mod LayoutLemmas
+pub mod PlaceLemmas
+pub mod UnitLemmas
