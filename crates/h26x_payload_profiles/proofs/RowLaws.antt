@@ -1,16 +1,13 @@
 -- The rows of the profile table of H.264.
-use Rattle.std.proofs.Common.{◌≡◌, ℕ, zero, suc, ◌+◌, ◌<◌, ◌≤◌, Bool, true, false, cond, eqb, leb, leb-true, List, [], ◌∷◌, Option, Some, refl, sym, ap, ◌∙◌, subst, arith}
+use Rattle.std.proofs.Common.{◌≡◌, ℕ, zero, suc, ◌<◌, ◌≤◌, Bool, true, false, cond, eqb, leb, leb-true, List, [], ◌∷◌, Option, Some, refl, sym, ap, ◌∙◌, arith, inl, inr}
 use Rattle.std.specs.Prelude.{◌&&◌, bit_and, codes, count_by, find, not, option_map}
 use Rattle.std.proofs.lemmas.Bool.{false≢true}
-use Rattle.std.proofs.lemmas.Bool.Decides.{nat_tests}
+use Rattle.std.proofs.lemmas.Bool.Decides.{eqb_tells, nat_tests}
 use Rattle.h26x_payload_profiles.specs.H264Profile.{Row, has_digits, is_of_row, profile_of, rows}
-use Rattle.h26x_payload_profiles.specs.H264ProfileIdc.{profile_idc}
 use Rattle.h26x_payload_profiles.specs.H264ProfileLevel.{HasOneRow}
 use Rattle.h26x_payload_profiles.specs.H264Rows.{masked_profile}
 use Rattle.h26x_payload_profiles.specs.declared.h264.ProfileRow.{ProfileRow}
 use Rattle.h26x_payload_profiles.specs.declared.h264.TheConstants.{ROWS}
-use Rattle.h26x_payload_profiles.specs.declared.h264.H264ProfileIdc.{H264ProfileIdc}
-use Rattle.h26x_payload_profiles.specs.declared.h264.H264ProfileIdc.TheVariants.{X42, X4D, X58, X64, XF4}
 
 -- a test holds of every number below a bound
 abbrev all_below : (ℕ → Bool) → ℕ → Bool
@@ -95,29 +92,120 @@ same_profile iop idc (m ∷ ms) (r ∷ rs) is =
 -- the masks say what the digits say
 pub profile_of-masked : (idc iop : ℕ) → iop < 256 → masked_profile ROWS idc iop ≡ profile_of idc iop
 profile_of-masked idc iop lt =
-    same_profile iop idc ROWS rows (
-    (refl, (refl, (digits_x1xx0000 iop lt,
-    (refl, (refl, (digits_1xxx0000 iop lt,
-    (refl, (refl, (digits_11xx0000 iop lt,
-    (refl, (refl, (digits_x0xx0000 iop lt,
-    (refl, (refl, (digits_10xx0000 iop lt,
-    (refl, (refl, (digits_0x0x0000 iop lt,
-    (refl, (refl, (digits_00000000 iop lt,
-    (refl, (refl, (digits_00001100 iop lt,
-    (refl, (refl, (digits_00000000 iop lt,
-    tt))))))))))))))))))))))))))))
+    same_profile iop idc ROWS rows ((
+      refl,
+      (
+        refl,
+        (
+          digits_x1xx0000 iop lt,
+          (
+            refl,
+            (
+              refl,
+              (
+                digits_1xxx0000 iop lt,
+                (
+                  refl,
+                  (
+                    refl,
+                    (
+                      digits_11xx0000 iop lt,
+                      (
+                        refl,
+                        (
+                          refl,
+                          (
+                            digits_x0xx0000 iop lt,
+                            (
+                              refl,
+                              (
+                                refl,
+                                (
+                                  digits_10xx0000 iop lt,
+                                  (
+                                    refl,
+                                    (
+                                      refl,
+                                      (
+                                        digits_0x0x0000 iop lt,
+                                        (
+                                          refl,
+                                          (
+                                            refl,
+                                            (
+                                              digits_00000000 iop lt,
+                                              (
+                                                refl,
+                                                (
+                                                  refl,
+                                                  (
+                                                    digits_00001100 iop lt,
+                                                    (
+                                                      refl,
+                                                      (
+                                                        refl,
+                                                        (
+                                                          digits_00000000 iop lt,
+                                                          tt,
+                                                        ),
+                                                      ),
+                                                    ),
+                                                  ),
+                                                ),
+                                              ),
+                                            ),
+                                          ),
+                                        ),
+                                      ),
+                                    ),
+                                  ),
+                                ),
+                              ),
+                            ),
+                          ),
+                        ),
+                      ),
+                    ),
+                  ),
+                ),
+              ),
+            ),
+          ),
+        ),
+      ),
+    ))
 
-abbrev few_rows : H264ProfileIdc → ℕ → Bool
-few_rows idc iop = leb (count_by (is_of_row (profile_idc idc) iop) rows) 1
+abbrev few_rows : ℕ → ℕ → Bool
+few_rows idc iop = leb (count_by (is_of_row idc iop) rows) 1
 
-checked : (idc : H264ProfileIdc) → all_below (few_rows idc) 256 ≡ true
-checked X42 = refl
-checked X4D = refl
-checked X58 = refl
-checked X64 = refl
-checked XF4 = refl
+few_at : (known idc iop : ℕ) → all_below (few_rows known) 256 ≡ true → known ≡ idc → iop < 256 → count_by (is_of_row idc iop) rows ≤ 1
+few_at known idc iop checked same lt =
+    leb-true _ _ (ap (λ n. few_rows n iop) (sym same) ∙ holds_below (few_rows known) 256 iop checked lt)
+
+-- no row has another profile_idc
+none_at : (idc iop : ℕ) → eqb 66 idc ≡ false → eqb 77 idc ≡ false → eqb 88 idc ≡ false → eqb 100 idc ≡ false → eqb 244 idc ≡ false → count_by (is_of_row idc iop) rows ≡ 0
+none_at idc iop a b c d e = simp (a, b, c, d, e) refl
 
 pub has_one_row : HasOneRow
 has_one_row idc iop lt =
-    let few : few_rows idc iop ≡ true = holds_below (few_rows idc) 256 iop (checked idc) lt in
-    leb-true _ _ few
+    elim (eqb_tells 66 idc) [
+      | inl p ↦ few_at 66 idc iop refl p.1 lt
+      | inr a ↦
+          elim (eqb_tells 77 idc) [
+            | inl p ↦ few_at 77 idc iop refl p.1 lt
+            | inr b ↦
+                elim (eqb_tells 88 idc) [
+                  | inl p ↦ few_at 88 idc iop refl p.1 lt
+                  | inr c ↦
+                      elim (eqb_tells 100 idc) [
+                        | inl p ↦ few_at 100 idc iop refl p.1 lt
+                        | inr d ↦
+                            elim (eqb_tells 244 idc) [
+                              | inl p ↦ few_at 244 idc iop refl p.1 lt
+                              | inr e ↦
+                                  let none : count_by (is_of_row idc iop) rows ≡ 0 = none_at idc iop a.0 b.0 c.0 d.0 e.0 in omega (arith, none)
+                            ]
+                      ]
+                ]
+          ]
+    ]

@@ -1,5 +1,5 @@
 -- A profile and a level of H.264, and the number profile-level-id that session texts have for them (RFC 6184 8.1).
-use Rattle.std.specs.Prelude.{◌≡◌, ℕ, ◌/◌, ◌%◌, ◌<◌, ◌≤◌, count_by, nat_lt, ok_or, Option, Some, None, Result, if◌then◌else◌}
+use Rattle.std.specs.Prelude.{ℕ, ◌/◌, ◌%◌, ◌<◌, ◌≤◌, count_by, nat_lt, ok_or, Option, Some, None, Result, if◌then◌else◌}
 use Rattle.h26x_payload_profiles.specs.Tables.{with_number}
 use Rattle.h26x_payload_profiles.specs.H264LevelIdc.{level_idc, levels}
 use Rattle.h26x_payload_profiles.specs.H264Profile.{is_of_row, profile_of, rows}
@@ -40,4 +40,4 @@ fallback = record { profile = Baseline; level = Level1 }
 
 -- At most one row has two bytes.
 abbrev pub HasOneRow : Type 0
-HasOneRow = (idc : H264ProfileIdc) (iop : ℕ) → iop < 256 → count_by (is_of_row (profile_idc idc) iop) rows ≤ 1
+HasOneRow = (idc iop : ℕ) → iop < 256 → count_by (is_of_row idc iop) rows ≤ 1

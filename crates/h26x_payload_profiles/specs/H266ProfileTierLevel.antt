@@ -30,12 +30,14 @@ fallback = record { profile = profile.Main10; tier = tier.Main; level = Level3_1
 abbrev pub known_or_fallback : ℕ × ℕ × ℕ → H266ProfileTierLevel
 known_or_fallback numbers = unwrap_or (known numbers.0 numbers.1 numbers.2) fallback
 
+-- What three values that could be read mean.
+abbrev pub known_values : Option ℕ → Option ℕ → Option ℕ → Option H266ProfileTierLevel
+known_values (Some id) (Some flag) (Some level) = known id flag level
+known_values _ _ _ = None
+
 -- What three given values mean, each a number of 8 bits; one that isn't given is the fallback's.
 abbrev pub given : Option (List ℕ) → Option (List ℕ) → Option (List ℕ) → Option H266ProfileTierLevel
-given id flag level = known_values (given_or (profile_id fallback.profile) id) (given_or (tier_flag fallback.tier) flag) (given_or (level_id fallback.level) level) where
-  known_values : Option ℕ → Option ℕ → Option ℕ → Option H266ProfileTierLevel
-  known_values (Some i) (Some f) (Some l) = known i f l
-  known_values _ _ _ = None
+given id flag level = known_values (given_or (profile_id fallback.profile) id) (given_or (tier_flag fallback.tier) flag) (given_or (level_id fallback.level) level)
 
 -- The same with another level.
 abbrev pub at_level : H266ProfileTierLevel → H266Level → H266ProfileTierLevel

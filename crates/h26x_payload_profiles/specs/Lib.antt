@@ -11,5 +11,6 @@ pub mod H266Level
 pub mod H266Profile
 pub mod H266ProfileTierLevel
 pub mod H266Tier
+pub mod LevelsApart
 pub mod Tables
 pub mod Values

@@ -140,27 +140,7 @@ impl H264LevelIdc {
     pub fn ordinal(self) -> usize
         ensures { result ≡ place_of level_idc levels self }
     {
-        match self {
-            H264LevelIdc::Level1 => 0,
-            H264LevelIdc::Level1_1 => 1,
-            H264LevelIdc::Level1_2 => 2,
-            H264LevelIdc::Level1_3 => 3,
-            H264LevelIdc::Level2 => 4,
-            H264LevelIdc::Level2_1 => 5,
-            H264LevelIdc::Level2_2 => 6,
-            H264LevelIdc::Level3 => 7,
-            H264LevelIdc::Level3_1 => 8,
-            H264LevelIdc::Level3_2 => 9,
-            H264LevelIdc::Level4 => 10,
-            H264LevelIdc::Level4_1 => 11,
-            H264LevelIdc::Level4_2 => 12,
-            H264LevelIdc::Level5 => 13,
-            H264LevelIdc::Level5_1 => 14,
-            H264LevelIdc::Level5_2 => 15,
-            H264LevelIdc::Level6 => 16,
-            H264LevelIdc::Level6_1 => 17,
-            H264LevelIdc::Level6_2 => 18,
-        }
+        self as usize
     }
 }
 
@@ -363,10 +343,11 @@ impl TryFrom<u32> for H264ProfileLevel {
 
 /// What the tables of H.264 are: at most one row of the profile table has two bytes; a number finds the
 /// profile_idc or the level whose own it is, and no other; and the levels are ordered by their places, which is
-/// by their numbers.
+/// by their numbers. Where nothing is said, baseline at level 1 stands.
 pub fn h264_tables_law()
     ensures one_row { HasOneRow }
     ensures profile_idcs { IsTable profile_idc profile_idcs }
     ensures levels { IsTable level_idc levels }
     ensures rising { IsRising level_idc levels ⟦<H264LevelIdc as Ord>⟧.cmp }
+    ensures fallback { H264ProfileLevel.FALLBACK ≡ fallback }
 {}

@@ -205,21 +205,7 @@ impl H265Level {
     pub fn ordinal(self) -> usize
         ensures { result ≡ place_of level_id levels self }
     {
-        match self {
-            H265Level::Level1 => 0,
-            H265Level::Level2 => 1,
-            H265Level::Level2_1 => 2,
-            H265Level::Level3 => 3,
-            H265Level::Level3_1 => 4,
-            H265Level::Level4 => 5,
-            H265Level::Level4_1 => 6,
-            H265Level::Level5 => 7,
-            H265Level::Level5_1 => 8,
-            H265Level::Level5_2 => 9,
-            H265Level::Level6 => 10,
-            H265Level::Level6_1 => 11,
-            H265Level::Level6_2 => 12,
-        }
+        self as usize
     }
 }
 
@@ -351,4 +337,5 @@ pub fn h265_tables_law()
     ensures levels { IsTable level_id levels }
     ensures rising { IsRising level_id levels ⟦<H265Level as Ord>⟧.cmp }
     ensures comes_back { ComesBack }
+    ensures fallback { H265ProfileTierLevel.FALLBACK ≡ fallback }
 {}

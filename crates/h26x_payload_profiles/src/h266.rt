@@ -171,23 +171,7 @@ impl H266Level {
     pub fn ordinal(self) -> usize
         ensures { result ≡ place_of level_id levels self }
     {
-        match self {
-            H266Level::Level1 => 0,
-            H266Level::Level2 => 1,
-            H266Level::Level2_1 => 2,
-            H266Level::Level3 => 3,
-            H266Level::Level3_1 => 4,
-            H266Level::Level4 => 5,
-            H266Level::Level4_1 => 6,
-            H266Level::Level5 => 7,
-            H266Level::Level5_1 => 8,
-            H266Level::Level5_2 => 9,
-            H266Level::Level6 => 10,
-            H266Level::Level6_1 => 11,
-            H266Level::Level6_2 => 12,
-            H266Level::Level6_3 => 13,
-            H266Level::Level15_5 => 14,
-        }
+        self as usize
     }
 }
 
@@ -319,4 +303,5 @@ pub fn h266_tables_law()
     ensures levels { IsTable level_id levels }
     ensures rising { IsRising level_id levels ⟦<H266Level as Ord>⟧.cmp }
     ensures comes_back { ComesBack }
+    ensures fallback { H266ProfileTierLevel.FALLBACK ≡ fallback }
 {}
