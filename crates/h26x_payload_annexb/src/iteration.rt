@@ -29,14 +29,15 @@ pub fn nal_units(text: &[u8]) -> NalUnits<'_>
 }
 
 impl<'a> Iterator for NalUnits<'a> {
-    ghost use Rattle.std.specs.Iterator.{YieldsFirstRef, item_count};
     ghost use Rattle.h26x_payload_annexb.specs.UnitsLeft.{units_left};
+    ghost use Rattle.std.specs.Iterator.{YieldsFirstRef, at_most};
+    ghost use Rattle.std.specs.Prelude.{length};
 
     type Item = &'a [u8];
 
     ghost next_gives = { YieldsFirstRef units_left };
 
-    ghost remaining = { item_count units_left };
+    ghost remaining = { λ units. at_most (length units.rest.now) };
 
     fn next(&mut self) -> Option<&'a [u8]> {
         while !self.rest.is_empty() {

@@ -1,6 +1,7 @@
 //! What the cut of a text is.
 
 ghost use Rattle.h26x_payload_annexb.specs.Units.{ComesBack, CutLaw, UnitsLaw};
+ghost use Rattle.h26x_payload_annexb.specs.UnitsLeft.{HandsOutAll};
 
 /// Each text is put together in just one way: stretches that hold no start code, and between them start codes of
 /// two or more zeros and 01, each with all zeros before its 01. Its units are the stretches behind the start
@@ -10,4 +11,10 @@ pub fn cut_law()
     ensures cut { CutLaw }
     ensures units { UnitsLaw }
     ensures comes_back { ComesBack }
+{}
+
+/// The units that an iterator hands out until it answers None are all that it has left, in order; so those of
+/// a fresh one are the text's.
+pub fn nal_units_law()
+    ensures { HandsOutAll }
 {}

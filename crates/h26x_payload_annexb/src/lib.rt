@@ -6,7 +6,7 @@ mod laws;
 mod places;
 
 pub use iteration::{NalUnits, nal_units};
-pub use laws::cut_law;
+pub use laws::{cut_law, nal_units_law};
 
 #[cfg(test)]
 mod tests;

@@ -5,6 +5,7 @@ use std::process::Abort;
 
 // The text is cut into just these units.
 fn cuts(rt: &impl Abort, text: &[u8], want: &[&[u8]]) {
+    assert_eq!(rt; nal_units(text).count(), want.len());
     let mut units = nal_units(text);
     for unit in want {
         assert!(rt; units.next() == Some(*unit));

@@ -45,15 +45,15 @@ pub enum H264Profile {
 /// The profile_idc byte of a profile, named by its hexadecimal digits.
 #[derive(Clone, Copy, Debug, PartialEq, Eq, Hash, Drop)]
 pub enum H264ProfileIdc {
-    /// 66.
+    /// profile_idc 66, in rows of baseline and constrained baseline.
     X42,
-    /// 77.
+    /// profile_idc 77, in rows of main and constrained baseline.
     X4D,
-    /// 88.
+    /// profile_idc 88, in rows of baseline and constrained baseline.
     X58,
-    /// 100.
+    /// profile_idc 100, in rows of high and constrained high.
     X64,
-    /// 244.
+    /// profile_idc 244, in rows of high 4:4:4 predictive.
     XF4,
 }
 
@@ -281,7 +281,7 @@ fn masked_profile(idc: u8, iop: u8) -> Option<H264Profile>
         .map(|row| row.profile)
 }
 
-// The profile of the row that has the two bytes.
+// The same by the digits of the table, which the masks stand for.
 fn profile_of(idc: u8, iop: u8) -> Option<H264Profile>
     ensures { result ≡ profile_of idc iop }
 {

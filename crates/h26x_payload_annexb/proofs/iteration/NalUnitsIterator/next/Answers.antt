@@ -10,4 +10,4 @@ returns-clause-steps c =
     let rest = c.loop-stretch.self.rest.now in
     let empty : length rest ≡ 0 = grind (arith, nat_tests) in
     let end = ap units_behind (nil_from_length rest empty) ∙ units_behind-none in
-    (sym c.loop-stretch.invariant ∙ end, end)
+    (sym c.loop-stretch.invariant.0 ∙ end, end)
