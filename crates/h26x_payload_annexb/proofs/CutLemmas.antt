@@ -9,8 +9,11 @@ use Rattle.h26x_payload_annexb.proofs.LayoutLemmas.{code_bytes, no_code, not_zer
 abbrev pub layout : List ℕ → List Piece → Layout
 layout first pieces = record { first = first; pieces = pieces }
 
+abbrev pub piece : ℕ → List ℕ → Piece
+piece zeros stretch = record { zeros = zeros; stretch = stretch }
+
 -- a byte before a layout
-abbrev added : ℕ → Layout → Layout
+abbrev pub added : ℕ → Layout → Layout
 added a l = with_byte a l.first l.pieces
 
 no_code_in : (a b c : ℕ) (more : List ℕ) → HoldsNoCode (a ∷ b ∷ c ∷ more) → is_code a b c ≡ false
@@ -35,10 +38,10 @@ byte_added : (a : ℕ) (s : List ℕ) (ps : List Piece) → IsStretch (a ∷ s) 
 byte_added a [] [] is = refl
 byte_added a [] (p ∷ ps) is =
     let other : eqb a 0 ≡ false = not_zero a (λ e. is.1 [] (ap (λ x. x ∷ []) e)) in
-    ap (λ t. if t then layout [] (record { zeros = suc p.zeros; stretch = p.stretch } ∷ ps) else layout (a ∷ []) (p ∷ ps)) other
+    ap (λ t. if t then layout [] (piece (suc p.zeros) p.stretch ∷ ps) else layout (a ∷ []) (p ∷ ps)) other
 byte_added a (b ∷ []) ps is = refl
 byte_added a (b ∷ c ∷ more) ps is =
-    ap (λ t. if t then layout [] (record { zeros = 2; stretch = more } ∷ ps) else layout (a ∷ b ∷ c ∷ more) ps) (no_code_in a b c more (holds_none _ ps is))
+    ap (λ t. if t then layout [] (piece 2 more ∷ ps) else layout (a ∷ b ∷ c ∷ more) ps) (no_code_in a b c more (holds_none _ ps is))
 
 -- the 01 of a start code, and a zero before it
 one_added : (s : List ℕ) (ps : List Piece) → with_byte 1 s ps ≡ layout (1 ∷ s) ps
@@ -52,7 +55,7 @@ zero_added [] ps = refl
 zero_added (c ∷ more) ps = refl
 
 -- a start code before a text
-pub layout_of-code : (z : ℕ) (text s : List ℕ) (ps : List Piece) → 2 ≤ z → layout_of text ≡ layout s ps → layout_of (replicate z 0 ++ (1 ∷ text)) ≡ layout [] (record { zeros = z; stretch = s } ∷ ps)
+pub layout_of-code : (z : ℕ) (text s : List ℕ) (ps : List Piece) → 2 ≤ z → layout_of text ≡ layout s ps → layout_of (replicate z 0 ++ (1 ∷ text)) ≡ layout [] (piece z s ∷ ps)
 layout_of-code zero text s ps few e = absurd (omega arith)
 layout_of-code (suc zero) text s ps few e = absurd (omega arith)
 layout_of-code (suc (suc zero)) text s ps few e =
@@ -63,7 +66,7 @@ layout_of-code (suc (suc (suc z))) text s ps few e =
     ap (added 0) (layout_of-code (suc (suc z)) text s ps (omega arith) e)
 
 -- a stretch before pieces
-layout_of-stretch : (s : List ℕ) (ps : List Piece) → IsStretch s ps → layout_of (joined ps) ≡ layout [] ps → layout_of (s ++ joined ps) ≡ layout s ps
+pub layout_of-stretch : (s : List ℕ) (ps : List Piece) → IsStretch s ps → layout_of (joined ps) ≡ layout [] ps → layout_of (s ++ joined ps) ≡ layout s ps
 layout_of-stretch [] ps is e = e
 layout_of-stretch (a ∷ s) ps is e = ap (added a) (layout_of-stretch s ps (stretch_behind a s ps is) e) ∙ byte_added a s ps is
 
@@ -103,10 +106,10 @@ pair_added a b [] is = short_holds_none (a ∷ b ∷ []) (omega arith)
 pair_added a b (p ∷ ps) is = (short_holds_none (a ∷ b ∷ []) (omega arith), ends_added a b [] is.1)
 
 -- before a start code stands one more zero, or another byte
-before_code : (t : Bool) (a z : ℕ) (st : List ℕ) (ps : List Piece) → eqb a 0 ≡ t → ArePieces (record { zeros = z; stretch = st } ∷ ps)
-    → IsLaidOut (a ∷ joined (record { zeros = z; stretch = st } ∷ ps)) (if t then layout [] (record { zeros = suc z; stretch = st } ∷ ps) else layout (a ∷ []) (record { zeros = z; stretch = st } ∷ ps))
+before_code : (t : Bool) (a z : ℕ) (st : List ℕ) (ps : List Piece) → eqb a 0 ≡ t → ArePieces (piece z st ∷ ps)
+    → IsLaidOut (a ∷ joined (piece z st ∷ ps)) (if t then layout [] (piece (suc z) st ∷ ps) else layout (a ∷ []) (piece z st ∷ ps))
 before_code true a z st ps e are = record {
-  put_together = ap (λ x. x ∷ joined (record { zeros = z; stretch = st } ∷ ps)) (eqb-true a 0 e);
+  put_together = ap (λ x. x ∷ joined (piece z st ∷ ps)) (eqb-true a 0 e);
   is_first = (short_holds_none [] (omega arith), empty_ends);
   are_pieces = (omega (arith, are.0), are.1);
 }
@@ -118,7 +121,7 @@ before_code false a z st ps e are = record {
 
 -- a start code is completed, or a stretch has one more byte
 before_stretch : (t : Bool) (a b c : ℕ) (more : List ℕ) (ps : List Piece) → is_code a b c ≡ t → IsStretch (b ∷ c ∷ more) ps → ArePieces ps
-    → IsLaidOut (a ∷ b ∷ c ∷ (more ++ joined ps)) (if t then layout [] (record { zeros = 2; stretch = more } ∷ ps) else layout (a ∷ b ∷ c ∷ more) ps)
+    → IsLaidOut (a ∷ b ∷ c ∷ (more ++ joined ps)) (if t then layout [] (piece 2 more ∷ ps) else layout (a ∷ b ∷ c ∷ more) ps)
 before_stretch true a b c more ps e is are =
     let bytes = code_bytes a b c e in
     record {

@@ -5,16 +5,7 @@ use Rattle.h26x_payload_annexb.specs.Cut.{Layout, Piece, units_of_layout, units_
 use Rattle.h26x_payload_annexb.specs.Places.{HasCodeAt, HasNoCodeBefore}
 use Rattle.h26x_payload_annexb.specs.Units.{layout_of, units_behind, units_of, with_byte, with_front, without_zeros}
 use Rattle.h26x_payload_annexb.proofs.LayoutLemmas.{no_code}
-use Rattle.h26x_payload_annexb.proofs.CutLemmas.{layout_of-code}
-
-abbrev layout : List ℕ → List Piece → Layout
-layout first pieces = record { first = first; pieces = pieces }
-
-abbrev piece : ℕ → List ℕ → Piece
-piece zeros stretch = record { zeros = zeros; stretch = stretch }
-
-abbrev added : ℕ → Layout → Layout
-added a l = with_byte a l.first l.pieces
+use Rattle.h26x_payload_annexb.proofs.CutLemmas.{added, layout, layout_of-code, piece}
 
 code_shifted : (a : ℕ) (text : List ℕ) (k : ℕ) → HasCodeAt text k → HasCodeAt (a ∷ text) (suc k)
 code_shifted a text k at =

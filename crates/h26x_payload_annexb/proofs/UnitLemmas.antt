@@ -43,7 +43,7 @@ are_pieces_of [] are = tt
 are_pieces_of (u ∷ []) are = (omega arith, (are.holds_none, tt))
 are_pieces_of (u ∷ v ∷ us) are = (omega arith, ((are.0.0.holds_none, are.0.1), are_pieces_of (v ∷ us) are.1))
 
-unit_stays : (u : List ℕ) (us : List (List ℕ)) → 0 < length u → with_unit u us ≡ u ∷ us
+pub unit_stays : (u : List ℕ) (us : List (List ℕ)) → 0 < length u → with_unit u us ≡ u ∷ us
 unit_stays [] us some = absurd (omega arith)
 unit_stays (b ∷ bs) us some = refl
 
@@ -53,7 +53,7 @@ units_of_pieces_of [] are = refl
 units_of_pieces_of (u ∷ []) are = unit_stays u [] are.is_nonempty
 units_of_pieces_of (u ∷ v ∷ us) are = ap (with_unit u) (units_of_pieces_of (v ∷ us) are.1) ∙ unit_stays u (v ∷ us) are.0.0.is_nonempty
 
-no_first : (ps : List Piece) → units_of_layout [] ps ≡ units_of_pieces ps
+pub no_first : (ps : List Piece) → units_of_layout [] ps ≡ units_of_pieces ps
 no_first [] = refl
 no_first (p ∷ ps) = refl
 

@@ -1,5 +1,5 @@
 -- The cut of a text into NAL units (ITU-T H.264 annex B): the text is put together from start codes and stretches.
-use Rattle.std.specs.Prelude.{◌≡◌, ◌≢◌, ℕ, ◌<◌, ◌≤◌, List, [], ◌∷◌, ◌++◌, length, replicate}
+use Rattle.std.specs.Prelude.{◌≡◌, ◌≢◌, ℕ, ◌<◌, ◌≤◌, List, [], ◌∷◌, ◌++◌, ◌⊎◌, length, replicate}
 
 -- A start code, which is so many zeros and 01, and what stands behind it up to the next one.
 pub record Piece : Type 0 where
@@ -74,3 +74,14 @@ AreUnits (u ∷ v ∷ us) = (IsUnit u × EndsInNoZero u) × AreUnits (v ∷ us)
 abbrev pub text_of : List (List ℕ) → List ℕ
 text_of [] = []
 text_of (u ∷ us) = 0 ∷ 0 ∷ 0 ∷ 1 ∷ (u ++ text_of us)
+
+-- A start code stands at the text's front.
+pub record BeginsWithCode (text : List ℕ) : Type 0 where
+  pub zeros : ℕ
+  pub behind : List ℕ
+  pub enough : 2 ≤ zeros
+  pub put_together : text ≡ replicate zeros 0 ++ (1 ∷ behind)
+
+-- A unit reaches up to here: to the text's end, or to a start code, which has all the zeros before its 01.
+abbrev pub ReachesTo : List ℕ → List ℕ → Type 0
+ReachesTo unit behind = (behind ≡ []) ⊎ (BeginsWithCode behind × EndsInNoZero unit)

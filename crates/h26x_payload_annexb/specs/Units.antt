@@ -1,6 +1,6 @@
 -- The units of a text, by recursion from its end.
-use Rattle.std.specs.Prelude.{◌≡◌, ◌↔◌, ℕ, suc, ◌==◌, ◌&&◌, Bool, List, [], ◌∷◌, if◌then◌else◌}
-use Rattle.h26x_payload_annexb.specs.Cut.{AreUnits, IsCut, Layout, Piece, text_of, units_of_layout, units_of_pieces, with_unit}
+use Rattle.std.specs.Prelude.{◌≡◌, ◌↔◌, ℕ, suc, ◌==◌, ◌&&◌, Bool, List, [], ◌∷◌, ◌++◌, if◌then◌else◌}
+use Rattle.h26x_payload_annexb.specs.Cut.{AreUnits, IsCut, IsUnit, Layout, Piece, ReachesTo, text_of, units_of_layout, units_of_pieces, with_unit}
 
 -- The three bytes that end a start code.
 abbrev pub is_code : ℕ → ℕ → ℕ → Bool
@@ -50,3 +50,8 @@ UnitsLaw = (text : List ℕ) → AreUnits (units_of text)
 -- Units that are put behind start codes come back.
 abbrev pub ComesBack : Type 0
 ComesBack = (units : List (List ℕ)) → AreUnits units → units_of (text_of units) ≡ units
+
+-- What stands right behind a start code and reaches to the next one or the end is handed out, behind the units before it and before those behind it.
+abbrev pub PlaceLaw : Type 0
+PlaceLaw = (before unit behind : List ℕ) → IsUnit unit → ReachesTo unit behind
+    → units_of (before ++ (0 ∷ 0 ∷ 1 ∷ (unit ++ behind))) ≡ units_of (before ++ (0 ∷ 0 ∷ 1 ∷ [])) ++ (unit ∷ units_of behind)
