@@ -1,0 +1,5 @@
+pub mod CutLemmas
+pub mod LayoutLemmas
+pub mod PlaceLemmas
+pub mod SplitLemmas
+pub mod UnitLemmas

@@ -1,0 +1,5 @@
+use Rattle.h26x_payload_annexb.specs.Places.{HasNoCodeBefore}
+use Rattle.h26x_payload_annexb.proofs.places.code_place.Given as goal
+
+abbrev pub invariant-loop-i : goal.invariant-loop-i
+invariant-loop-i l = HasNoCodeBefore l.text l.i

@@ -1,0 +1,87 @@
+-- The cut of a text into NAL units (ITU-T H.264 annex B): the text is put together from start codes and stretches.
+use Rattle.std.specs.Prelude.{◌≡◌, ◌≢◌, ℕ, ◌<◌, ◌≤◌, List, [], ◌∷◌, ◌++◌, ◌⊎◌, length, replicate}
+
+-- A start code, which is so many zeros and 01, and what stands behind it up to the next one.
+pub record Piece : Type 0 where
+  pub zeros : ℕ
+  pub stretch : List ℕ
+
+-- A text's first stretch, which no start code precedes, and the pieces behind it.
+pub record Layout : Type 0 where
+  pub first : List ℕ
+  pub pieces : List Piece
+
+-- The text of pieces, one behind the other.
+abbrev pub joined : List Piece → List ℕ
+joined [] = []
+joined (p ∷ ps) = replicate p.zeros 0 ++ (1 ∷ (p.stretch ++ joined ps))
+
+-- No start code stands in it.
+abbrev pub HoldsNoCode : List ℕ → Type 0
+HoldsNoCode text = (before behind : List ℕ) → text ≢ before ++ (0 ∷ 0 ∷ 1 ∷ behind)
+
+abbrev pub EndsInNoZero : List ℕ → Type 0
+EndsInNoZero text = (before : List ℕ) → text ≢ before ++ 0 ∷ []
+
+-- A stretch holds no start code; and one that a start code follows doesn't end in a zero, since that start code has the longest run of zeros.
+abbrev pub IsStretch : List ℕ → List Piece → Type 0
+IsStretch text [] = HoldsNoCode text
+IsStretch text (p ∷ ps) = HoldsNoCode text × EndsInNoZero text
+
+-- Each start code has two zeros or more.
+abbrev pub ArePieces : List Piece → Type 0
+ArePieces [] = Unit {0}
+ArePieces (p ∷ ps) = (2 ≤ p.zeros) × (IsStretch p.stretch ps × ArePieces ps)
+
+-- A text is put together so.
+pub record IsLaidOut (text : List ℕ) (layout : Layout) : Type 0 where
+  pub put_together : text ≡ layout.first ++ joined layout.pieces
+  pub is_first : IsStretch layout.first layout.pieces
+  pub are_pieces : ArePieces layout.pieces
+
+-- A stretch is a unit unless it is empty.
+abbrev pub with_unit : List ℕ → List (List ℕ) → List (List ℕ)
+with_unit [] units = units
+with_unit (b ∷ bs) units = (b ∷ bs) ∷ units
+
+abbrev pub units_of_pieces : List Piece → List (List ℕ)
+units_of_pieces [] = []
+units_of_pieces (p ∷ ps) = with_unit p.stretch (units_of_pieces ps)
+
+-- The units stand behind the start codes; a text without one is a unit.
+abbrev pub units_of_layout : List ℕ → List Piece → List (List ℕ)
+units_of_layout first [] = with_unit first []
+units_of_layout first (p ∷ ps) = units_of_pieces (p ∷ ps)
+
+-- A text is cut into these units.
+pub record IsCut (text : List ℕ) (units : List (List ℕ)) : Type 0 where
+  pub layout : Layout
+  pub is_laid_out : IsLaidOut text layout
+  pub are_units : units ≡ units_of_layout layout.first layout.pieces
+
+-- A unit isn't empty, and holds no start code.
+pub record IsUnit (unit : List ℕ) : Type 0 where
+  pub is_nonempty : 0 < length unit
+  pub holds_none : HoldsNoCode unit
+
+-- These are units, and none but the last ends in a zero.
+abbrev pub AreUnits : List (List ℕ) → Type 0
+AreUnits [] = Unit {0}
+AreUnits (u ∷ []) = IsUnit u
+AreUnits (u ∷ v ∷ us) = (IsUnit u × EndsInNoZero u) × AreUnits (v ∷ us)
+
+-- The text of units, each behind 00 00 00 01.
+abbrev pub text_of : List (List ℕ) → List ℕ
+text_of [] = []
+text_of (u ∷ us) = 0 ∷ 0 ∷ 0 ∷ 1 ∷ (u ++ text_of us)
+
+-- A start code stands at the text's front.
+pub record BeginsWithCode (text : List ℕ) : Type 0 where
+  pub zeros : ℕ
+  pub behind : List ℕ
+  pub enough : 2 ≤ zeros
+  pub put_together : text ≡ replicate zeros 0 ++ (1 ∷ behind)
+
+-- A unit reaches up to here: to the text's end, or to a start code, which has all the zeros before its 01.
+abbrev pub ReachesTo : List ℕ → List ℕ → Type 0
+ReachesTo unit behind = (behind ≡ []) ⊎ (BeginsWithCode behind × EndsInNoZero unit)

@@ -1,0 +1,4 @@
+pub mod Cut
+pub mod Places
+pub mod Units
+pub mod UnitsLeft

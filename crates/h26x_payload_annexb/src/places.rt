@@ -1,0 +1,44 @@
+//! Where start codes stand.
+
+ghost use Rattle.std.specs.Prelude.{◌≡◌, ℕ, ◌+◌, ◌<◌, ◌≤◌, MatchOption, length};
+ghost use Rattle.h26x_payload_annexb.specs.Places.{HasCodeAt, HasNoCodeBefore};
+ghost use Rattle.h26x_payload_annexb.specs.Units.{units_behind, without_zeros};
+ghost use Rattle.h26x_payload_annexb.specs.Cut.{with_unit};
+
+// The place of the first 00 00 01.
+pub fn code_place(text: &[u8]) -> Option<usize>
+    ensures { MatchOption result (HasNoCodeBefore text.now (length text.now))
+        (λ place. HasCodeAt text.now place × HasNoCodeBefore text.now place) }
+{
+    for i in 0..text.len().saturating_sub(2) {
+        if text[i] == 0 && text[i + 1] == 0 && text[i + 2] == 1 {
+            return Some(i);
+        }
+    }
+    None
+}
+
+// A text without the zeros at its end.
+pub fn without_zeros(text: &[u8]) -> &[u8]
+    ensures { result.now ≡ without_zeros text.now }
+{
+    let mut kept = text;
+    while let Some((last, front)) = kept.split_last() {
+        if *last != 0 {
+            return kept;
+        }
+        kept = front;
+    }
+    kept
+}
+
+// What stands before the first start code, and behind it.
+pub fn first_stretch(text: &[u8]) -> (&[u8], &[u8])
+    ensures units { units_behind text.now ≡ with_unit result.0.now (units_behind result.1.now) }
+    ensures shorter { 0 < length text.now → length result.1.now < length text.now }
+{
+    match code_place(text) {
+        Some(place) => (without_zeros(&text[..place]), &text[place + 3..]),
+        None => (text, &[]),
+    }
+}

@@ -1,0 +1,16 @@
+pub mod H264LevelIdc
+pub mod H264Profile
+pub mod H264ProfileIdc
+pub mod H264ProfileLevel
+pub mod H264Rows
+pub mod H265Level
+pub mod H265Profile
+pub mod H265ProfileTierLevel
+pub mod H265Tier
+pub mod H266Level
+pub mod H266Profile
+pub mod H266ProfileTierLevel
+pub mod H266Tier
+pub mod LevelsApart
+pub mod Tables
+pub mod Values
