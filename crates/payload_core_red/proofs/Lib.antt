@@ -1,0 +1,4 @@
+pub mod CountLemmas
+pub mod FitLemmas
+pub mod LayoutLemmas
+pub mod SoundLemmas

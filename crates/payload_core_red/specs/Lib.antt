@@ -1,0 +1,4 @@
+pub mod Red
+pub mod RedReading
+pub mod RedSending
+pub mod RedViews
