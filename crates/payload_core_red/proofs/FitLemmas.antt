@@ -13,7 +13,7 @@ All-unmap P f xs all = λ k d lt. subst P (get_or-map f xs k d (f d) lt) (all k 
 room-fits : (b : Block) → fits b ≡ true → HasRoom (masked b)
 room-fits b is = record { pt = omega arith; timestamp_offset = grind (arith, nat_tests); payload = grind (arith, nat_tests) }
 
-filter-room : (bs : List Block) → All (λ b. HasRoom (masked b)) (filter fits bs)
+pub filter-room : (bs : List Block) → All (λ b. HasRoom (masked b)) (filter fits bs)
 filter-room [] = All-nil _
 filter-room (b ∷ bs) = by_test (fits b) refl (filter-room bs)
   where

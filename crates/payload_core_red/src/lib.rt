@@ -4,8 +4,18 @@
 mod block;
 mod decoder;
 mod encoder;
+mod history;
+mod laws;
+mod sender;
+mod sink;
 mod spelling;
 
 pub use block::{RedBlock, RedundantBlock};
 pub use decoder::{RedBlocks, RedDecoder};
 pub use encoder::RedEncoder;
+pub use laws::{red_law, red_wrap_law};
+pub use sender::RedSender;
+pub use sink::RedSink;
+
+#[cfg(test)]
+mod tests;
