@@ -1,6 +1,6 @@
 -- How many levels have room.
 use Rattle.std.proofs.Common.{◌≡◌, ℕ, ◌+◌, ◌<◌, ◌≤◌, List, get_or, length, take, sym, ap, ◌∙◌, arith}
-use Rattle.std.proofs.lemmas.List.{take-take, take_all}
+use Rattle.std.proofs.lemmas.List.{take-take}
 use Rattle.std.proofs.lemmas.List.Sums.{sum_by-take-le, sum_by_more}
 use Rattle.payload_core_red.specs.Red.{Block}
 use Rattle.payload_core_red.specs.RedWrapping.{IsLongestPrefix, bytes_of}

@@ -1,15 +1,13 @@
 -- What makes the laws hold.
-use Rattle.std.proofs.Common.{◌≡◌, ℕ, ◌+◌, ◌*◌, ◌%◌, ◌<◌, ◌≤◌, true, cond, leb, List, [], ◌∷◌, ◌++◌, Some, length, map, reverse, take, refl, sym, ap, ◌∙◌, inl, inr, arith}
-use Rattle.std.specs.Prelude.{All, filter, flat_map, sum_by}
+use Rattle.std.proofs.Common.{◌≡◌, ℕ, ◌+◌, ◌%◌, true, cond, List, [], ◌∷◌, ◌++◌, length, map, reverse, take, refl, sym, ap, ◌∙◌, inl, inr, arith}
+use Rattle.std.specs.Prelude.{All, filter, flat_map}
 use Rattle.std.proofs.lemmas.Bool.{cases_lt}
 use Rattle.std.proofs.lemmas.Bool.Decides.{nat_tests}
 use Rattle.std.proofs.lemmas.List.{length-append, reverse-append, take_all}
 use Rattle.std.proofs.lemmas.List.Elements.{All-head, All-tail}
 use Rattle.std.proofs.lemmas.List.Sums.{sum_by-append, sum_by-cons}
 use Rattle.payload_core_red.specs.Red.{Block, HasRoom, IsRed, header, spelled}
-use Rattle.payload_core_red.specs.RedHistory.{Redundancy}
 use Rattle.payload_core_red.specs.RedLaws.{PackedComesBack, ReadIsPackedAgain, WrapIsOne, WrapIsRead, WrapIsWithin}
-use Rattle.payload_core_red.specs.RedReading.{items_of, read_red}
 use Rattle.payload_core_red.specs.RedSending.{fits, masked, sent_blocks}
 use Rattle.payload_core_red.specs.RedWrapping.{IsLongestPrefix, bytes_of, levels}
 use Rattle.payload_core_red.proofs.FitLemmas.{sent-few, sent-room}

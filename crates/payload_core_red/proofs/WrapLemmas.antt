@@ -1,10 +1,10 @@
 -- What is sent for a payload.
 use Rattle.std.proofs.Common.{◌≡◌, ℕ, suc, ◌+◌, ◌-◌, ◌<◌, ◌≤◌, Bool, true, false, cond, List, [], ◌∷◌, ◌++◌, Option, Some, None, get_or, length, map, reverse, take, refl, sym, ap, ◌∙◌, arith}
-use Rattle.std.specs.Prelude.{All, AllPairs, filter, filter_map, slice_index_or}
+use Rattle.std.specs.Prelude.{All, AllPairs, filter, filter_map}
 use Rattle.std.specs.List.{cons_option}
 use Rattle.std.proofs.lemmas.List.{map-append, reverse-append}
 use Rattle.std.proofs.lemmas.List.Elements.{All-append, All-cons, All-head, All-nil, All-tail}
-use Rattle.payload_core_red.specs.Red.{Block, HasRoom}
+use Rattle.payload_core_red.specs.Red.{HasRoom}
 use Rattle.payload_core_red.specs.RedHistory.{AreDistances, Kept}
 use Rattle.payload_core_red.specs.RedSending.{fits, masked}
 use Rattle.payload_core_red.specs.RedWrapping.{level, levels}

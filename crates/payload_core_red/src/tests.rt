@@ -38,21 +38,27 @@ fn row_24(rt: HostRuntime) -> Result<(), Fail> {
 // The packet of RFC 2198 5: 14 bytes of LPC at type 7, and 84 bytes of DVI4 at type 5, 20 ms later at 8 kHz.
 #[test]
 fn lpc_beside_dvi4(rt: HostRuntime) -> Result<(), Fail> {
-    let redundant = vec![in rt.alloc(); RedundantBlock {
-        pt: 7 + 128,
-        timestamp_offset: 160,
-        payload: vec![in rt.alloc(); 0x77; 14]?,
-    }, RedundantBlock {
-        pt: 7,
-        timestamp_offset: 16_384,
-        payload: Vec::new(rt.alloc()),
-    }]?;
+    let redundant = vec![in rt.alloc();
+        RedundantBlock {
+            pt: 7 + 128,
+            timestamp_offset: 160,
+            payload: vec![in rt.alloc(); 0x77; 14]?,
+        },
+        RedundantBlock {
+            pt: 7,
+            timestamp_offset: 16_384,
+            payload: Vec::new(rt.alloc()),
+        },
+    ]?;
     assert!(rt; redundant[0].fits());
     assert!(rt; !redundant[1].fits());
     let packet = RedEncoder::encode(rt.alloc(), 5, &[0x55; 84], &redundant)?;
     assert_eq!(rt; packet.len(), 5 + 14 + 84);
-    assert_eq!(rt; packet[..6], [0x87, 0x02, 0x80, 0x0E, 0x05, 0x77]);
-    assert_eq!(rt; packet[18..20], [0x77, 0x55]);
+    assert_eq!(rt;
+        &packet[..6],
+        [0x87, 0x02, 0x80, 0x0E, 0x05, 0x77].as_slice()
+    );
+    assert_eq!(rt; &packet[18..20], [0x77, 0x55].as_slice());
     Ok(())
 }
 
@@ -88,14 +94,20 @@ fn levels_by_distance_and_budget(rt: HostRuntime) -> Result<(), Fail> {
         [96, 1].as_slice()
     );
     // Two bytes and one pass a budget of two.
-    assert_eq!(rt; sender.wrap(97, &[2, 2], 0, 2)?.as_slice(), [2, 2].as_slice());
+    assert_eq!(rt;
+        sender.wrap(97, &[2, 2], 0, 2)?.as_slice(),
+        [2, 2].as_slice()
+    );
     sender.sync(&[1, 2])?;
     // 1 + (4 + 2) + (4 + 1) + 1 bytes.
     let whole = [224, 0, 0x80, 1, 225, 0, 0x40, 2, 98, 1, 2, 2, 3];
     assert_eq!(rt; sender.wrap(98, &[3], 16, 13)?.as_slice(), whole.as_slice());
     // The next levels are 98 at 16 and 97 at 0; a byte is wanting for the second.
     let shallow = [226, 0, 0x40, 1, 99, 3, 4];
-    assert_eq!(rt; sender.wrap(99, &[4], 32, 12)?.as_slice(), shallow.as_slice());
+    assert_eq!(rt;
+        sender.wrap(99, &[4], 32, 12)?.as_slice(),
+        shallow.as_slice()
+    );
     Ok(())
 }
 

@@ -1,10 +1,9 @@
-use Rattle.std.proofs.Common.{◌≡◌, ℕ, ◌∷◌, [], ◌++◌, List, Option, Some, None, get_or, map, take, ap, sym, ◌∙◌, arith}
+use Rattle.std.proofs.Common.{◌≡◌, ℕ, ◌∷◌, [], ◌++◌, List, Some, None, get_or, map, ap, sym, ◌∙◌}
 use Rattle.std.specs.Prelude.{option_map}
 use Rattle.std.proofs.lemmas.List.{map_push}
-use Rattle.payload_core_red.specs.Red.{Block}
 use Rattle.payload_core_red.specs.RedHistory.{Kept, kept_of}
 use Rattle.payload_core_red.specs.RedViews.{old_block}
-use Rattle.payload_core_red.specs.RedWrapping.{level, levels}
+use Rattle.payload_core_red.specs.RedWrapping.{level}
 use Rattle.payload_core_red.proofs.LevelLemmas.{levels-none, levels-some, levels-unfit}
 use Rattle.payload_core_red.proofs.history.levels.Goals as goal
 use Rattle.payload_core_red.proofs.history.levels.Goals.{in-Some+then-fields_fit+in_ok-push, in-Some+else-fields_fit, in_default}

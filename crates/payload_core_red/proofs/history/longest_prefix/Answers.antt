@@ -1,6 +1,5 @@
-use Rattle.std.proofs.Common.{◌≡◌, ℕ, ◌+◌, ◌<◌, [], List, get_or, map, length, ap, sym, ◌∙◌, arith}
+use Rattle.std.proofs.Common.{◌≡◌, ℕ, ◌<◌, [], List, get_or, map, length, sym, arith}
 use Rattle.std.proofs.lemmas.List.{get_or-map, length-map}
-use Rattle.payload_core_red.specs.Red.{Block}
 use Rattle.payload_core_red.specs.RedViews.{old_block}
 use Rattle.payload_core_red.specs.declared.spelling.OldPayload.{OldPayload}
 use Rattle.payload_core_red.proofs.PrefixLemmas.{bytes-more, stops}

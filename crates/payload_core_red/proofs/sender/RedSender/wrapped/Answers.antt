@@ -1,4 +1,4 @@
-use Rattle.std.proofs.Common.{◌≡◌, ℕ, ◌+◌, ◌%◌, ◌≤◌, List, Vec, map, reverse, take, length, ap, sym, subst, ◌∙◌, arith}
+use Rattle.std.proofs.Common.{◌≡◌, ℕ, ◌%◌, List, map, reverse, take, length, ap, sym, subst, ◌∙◌, arith}
 use Rattle.std.specs.Prelude.{All, IfOk}
 use Rattle.std.proofs.lemmas.List.{length-map, length-reverse, length-take, take-map}
 use Rattle.std.proofs.lemmas.List.Elements.{All-take}
@@ -7,7 +7,7 @@ use Rattle.payload_core_red.specs.Red.{Block, HasRoom, IsRed}
 use Rattle.payload_core_red.specs.RedHistory.{AreDistances, Redundancy, kept_of}
 use Rattle.payload_core_red.specs.RedSending.{masked}
 use Rattle.payload_core_red.specs.RedViews.{old_block}
-use Rattle.payload_core_red.specs.RedWrapping.{IsLongestPrefix, IsWrap, levels}
+use Rattle.payload_core_red.specs.RedWrapping.{IsLongestPrefix, levels}
 use Rattle.payload_core_red.specs.declared.spelling.OldPayload.{OldPayload}
 use Rattle.payload_core_red.proofs.FitLemmas.{All-unmap}
 use Rattle.payload_core_red.proofs.WrapLemmas.{All-reverse, levels-few, levels-room, map-reverse}
@@ -49,16 +49,16 @@ returns-clause-wrapped c =
     let r : Redundancy = c.args.self.now in
     let ls : List Block = levels r.history r.distances c.args.time in
     let found : map old_block olds ≡ ls =
-        c.in_ok-olds.ensures.levels
-        ∙ ap (λ h. levels (map kept_of h) c.deref-2.result.now c.args.time) c.deref.ensures.value
-        ∙ ap (λ ds. levels (map kept_of c.self.inside.history.items) ds c.args.time) c.deref-2.ensures.value
-        ∙ ap (λ (v : Redundancy). levels v.history v.distances c.args.time) c.self.view_is in
+    c.in_ok-olds.ensures.levels
+    ∙ ap (λ h. levels (map kept_of h) c.deref-2.result.now c.args.time) c.deref.ensures.value
+    ∙ ap (λ ds. levels (map kept_of c.self.inside.history.items) ds c.args.time) c.deref-2.ensures.value
+    ∙ ap (λ (v : Redundancy). levels v.history v.distances c.args.time) c.self.view_is in
     let blocks : map old_block c.deref-4.result.now ≡ reverse (take count ls) =
-        ap (map old_block) sent ∙ map-reverse old_block (take count olds) ∙ ap reverse (sym (take-map old_block count olds)) ∙ ap (λ bs. reverse (take count bs)) found in
+    ap (map old_block) sent ∙ map-reverse old_block (take count olds) ∙ ap reverse (sym (take-map old_block count olds)) ∙ ap (λ bs. reverse (take count bs)) found in
     let P : List Block → Type 0 = λ bs. IfOk c.spell.result (λ packet. IsRed packet.items (map masked bs) pt payload) in
     let longest : IsLongestPrefix c.args.budget (length payload) ls count =
-        let L : List Block → Type 0 = λ bs. IsLongestPrefix c.args.budget (length payload) bs count in
-        subst L (ap (map old_block) c.deref-3.ensures.value ∙ found) c.longest_prefix-count.ensures in
+    let L : List Block → Type 0 = λ bs. IsLongestPrefix c.args.budget (length payload) bs count in
+    subst L (ap (map old_block) c.deref-3.ensures.value ∙ found) c.longest_prefix-count.ensures in
     IfOk-weaker c.spell.result _ _ (λ packet is. record {
       wrapped = λ le. record { count = count; longest = longest; is_red = is };
       unwrapped = λ lt. absurd (omega (arith, lt, c.if-budget-payload.false));
