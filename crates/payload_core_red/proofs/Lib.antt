@@ -1,4 +1,5 @@
 pub mod CountLemmas
+pub mod DistanceLemmas
 pub mod FitLemmas
 pub mod LayoutLemmas
 pub mod LevelLemmas

@@ -2,7 +2,7 @@
 
 ghost use Rattle.payload_core_red.specs.RedHistory.{AreDistances, keeping};
 ghost use Rattle.payload_core_red.specs.RedWrapping.{IsWrap};
-ghost use Rattle.std.specs.Prelude.{◌≡◌, ◌<◌, ◌∷◌, [], IfErr, IfOk, OnErr, OnOk, drop, length, take};
+ghost use Rattle.std.specs.Prelude.{◌≡◌, ◌<◌, ◌∷◌, ◌↔◌, [], IfErr, IfOk, IsTrue, OnErr, OnOk, drop, length, take};
 
 use crate::history::{KeptPayload, levels, longest_prefix};
 use crate::spelling::spell;
@@ -12,6 +12,9 @@ use std::marker::Model;
 
 // How many payloads are kept.
 const DEPTH: usize = 8;
+
+// The distance of the oldest of them.
+const GREATEST_DISTANCE: u32 = 8;
 
 /// Wraps payloads, each with some of those that were wrapped before it.
 ///
@@ -34,6 +37,23 @@ impl Model for RedSender {
 }
 
 impl RedSender {
+    /// Whether distances rise strictly, and are 1 to 8, which `new` and `sync` ask.
+    pub fn are_distances(distances: &[u32]) -> bool
+        ensures { IsTrue result ↔ AreDistances distances.now }
+    {
+        let mut previous = 0;
+        for distance in distances {
+            if *distance <= previous {
+                return false;
+            }
+            if *distance > GREATEST_DISTANCE {
+                return false;
+            }
+            previous = *distance;
+        }
+        true
+    }
+
     /// A sender that has wrapped nothing. Distances rise strictly, and are 1 to 8; there may be none. The only
     /// refusal is `Memory`.
     pub fn new(alloc: Global, distances: &[u32]) -> Result<Self, PacketError>

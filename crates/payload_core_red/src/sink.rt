@@ -7,7 +7,9 @@ use crate::sender::RedSender;
 use payload_core_base::{PacketError, PacketSink};
 use rtp_wire_extensions::ExtensionValues;
 
-/// Wraps each payload beside older ones, and hands it to an inner sink.
+/// Wraps each payload beside older ones, and hands it to an inner sink with its marker, time and values.
+///
+/// Where memory is wanting, the inner sink takes nothing, and the payload isn't kept for later ones.
 #[derive(Drop)]
 pub struct RedSink<S> {
     sink: S,

@@ -98,6 +98,8 @@ fn levels_by_distance_and_budget(rt: HostRuntime) -> Result<(), Fail> {
         sender.wrap(97, &[2, 2], 0, 2)?.as_slice(),
         [2, 2].as_slice()
     );
+    assert!(rt; RedSender::are_distances(&[1, 2]));
+    assert!(rt; !RedSender::are_distances(&[1, 9]));
     sender.sync(&[1, 2])?;
     // 1 + (4 + 2) + (4 + 1) + 1 bytes.
     let whole = [224, 0, 0x80, 1, 225, 0, 0x40, 2, 98, 1, 2, 2, 3];
