@@ -1,0 +1,50 @@
+//! Sending payloads with redundancy (RFC 2198 3).
+
+ghost use Rattle.payload_core_red.specs.Red.{IsRed};
+ghost use Rattle.payload_core_red.specs.RedSending.{fits, masked, sent_blocks};
+ghost use Rattle.payload_core_red.specs.RedViews.{block_of, old_block};
+ghost use Rattle.std.specs.Prelude.{◌≡◌, ◌%◌, IfErr, IfOk, map, filter, take};
+
+use crate::block::RedundantBlock;
+use crate::spelling::{MAX_BLOCKS, OldPayload, spell};
+use payload_core_base::PacketError;
+use std::alloc::Global;
+
+/// Packs older payloads beside a primary one.
+#[derive(Clone, Copy, Debug, Drop)]
+pub struct RedEncoder;
+
+// The first 32 blocks that fit.
+fn fitting(alloc: Global, blocks: &[RedundantBlock]) -> Result<Vec<OldPayload<'_>>, PacketError>
+    ensures fitting { IfOk result (λ olds. map old_block olds.items ≡ take 32 (filter fits (map block_of blocks.now))) }
+    ensures memory { IfErr result (λ e. e ≡ PacketError.Memory) }
+{
+    let mut olds = Vec::new(alloc);
+    for block in blocks {
+        if olds.len() < MAX_BLOCKS && block.fits() {
+            olds.push(OldPayload {
+                pt: block.pt,
+                timestamp_offset: block.timestamp_offset,
+                payload: &block.payload,
+            })?;
+        }
+    }
+    Ok(olds)
+}
+
+impl RedEncoder {
+    /// A packet with the first 32 of the blocks that fit, in their order, and the primary payload, all types
+    /// masked to seven bits (RFC 2198 3). The only refusal is `Memory`.
+    pub fn encode(
+        alloc: Global,
+        primary_pt: u8,
+        primary: &[u8],
+        redundant: &[RedundantBlock],
+    ) -> Result<Vec<u8>, PacketError>
+        ensures packet { IfOk result (λ packet. IsRed packet.items (sent_blocks (map block_of redundant.now)) (primary_pt % 128) primary.now) }
+        ensures memory { IfErr result (λ e. e ≡ PacketError.Memory) }
+    {
+        let blocks = fitting(alloc, redundant)?;
+        spell(alloc, &blocks, primary_pt, primary)
+    }
+}

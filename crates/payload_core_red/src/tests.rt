@@ -1,0 +1,158 @@
+//! Packets with redundancy, by worked rows and by hand from the layout of RFC 2198 3.
+
+use crate::{RedBlock, RedDecoder, RedEncoder, RedSender, RedSink, RedundantBlock};
+use payload_core_base::{PacketError, PacketSink};
+use rtp_wire_extensions::ExtensionValues;
+use std::test::Fail;
+
+// Row 24: Opus at 111 through RED, with the payload before each one.
+#[test]
+fn row_24(rt: HostRuntime) -> Result<(), Fail> {
+    let mut sender = RedSender::new(rt.alloc(), &[1])?;
+    let first = sender.wrap(111, &[1, 2, 3], 1000, 1199)?;
+    assert_eq!(rt; first.as_slice(), [0x6F, 1, 2, 3].as_slice());
+    let second = sender.wrap(111, &[4, 5], 1960, 1199)?;
+    let bytes = [0xEF, 0x0F, 0x00, 0x03, 0x6F, 1, 2, 3, 4, 5];
+    assert_eq!(rt; second.as_slice(), bytes.as_slice());
+    let mut blocks = RedDecoder::decode(&bytes)?;
+    let old = RedBlock {
+        pt: 111,
+        timestamp_offset: 960,
+        payload: &[1, 2, 3],
+        primary: false,
+    };
+    assert_eq!(rt; blocks.next(), Some(old));
+    let primary = RedBlock {
+        pt: 111,
+        timestamp_offset: 0,
+        payload: &[4, 5],
+        primary: true,
+    };
+    assert_eq!(rt; blocks.next(), Some(primary));
+    assert_eq!(rt; blocks.next(), None);
+    let other = RedDecoder::decode(&[0x60, 0x01])?.next().ok_or("nothing")?;
+    assert_eq!(rt; other.pt, 96);
+    Ok(())
+}
+
+// The packet of RFC 2198 5: 14 bytes of LPC at type 7, and 84 bytes of DVI4 at type 5, 20 ms later at 8 kHz.
+#[test]
+fn lpc_beside_dvi4(rt: HostRuntime) -> Result<(), Fail> {
+    let redundant = vec![in rt.alloc();
+        RedundantBlock {
+            pt: 7 + 128,
+            timestamp_offset: 160,
+            payload: vec![in rt.alloc(); 0x77; 14]?,
+        },
+        RedundantBlock {
+            pt: 7,
+            timestamp_offset: 16_384,
+            payload: Vec::new(rt.alloc()),
+        },
+    ]?;
+    assert!(rt; redundant[0].fits());
+    assert!(rt; !redundant[1].fits());
+    let packet = RedEncoder::encode(rt.alloc(), 5, &[0x55; 84], &redundant)?;
+    assert_eq!(rt; packet.len(), 5 + 14 + 84);
+    assert_eq!(rt;
+        &packet[..6],
+        [0x87, 0x02, 0x80, 0x0E, 0x05, 0x77].as_slice()
+    );
+    assert_eq!(rt; &packet[18..20], [0x77, 0x55].as_slice());
+    Ok(())
+}
+
+#[test]
+fn every_short_packet(rt: HostRuntime) -> Result<(), Fail> {
+    let mut count: u32 = 0;
+    assert!(rt;
+        matches!(
+            RedDecoder::decode(&[]),
+            Err(PacketError::ErrRedCorruptedPacket)
+        )
+    );
+    for a in 0..=255u8 {
+        if RedDecoder::decode(&[a]).is_ok() {
+            count = count.saturating_add(1);
+        }
+        for b in 0..=255u8 {
+            if RedDecoder::decode(&[a, b]).is_ok() {
+                count = count.saturating_add(1);
+            }
+        }
+    }
+    // F clear: a primary payload of no byte, or of one.
+    assert_eq!(rt; count, 128 + 128 * 256);
+    Ok(())
+}
+
+#[test]
+fn levels_by_distance_and_budget(rt: HostRuntime) -> Result<(), Fail> {
+    let mut sender = RedSender::new(rt.alloc(), &[])?;
+    assert_eq!(rt;
+        sender.wrap(96, &[1], 0xFFFF_FFF0, 9)?.as_slice(),
+        [96, 1].as_slice()
+    );
+    // Two bytes and one pass a budget of two.
+    assert_eq!(rt;
+        sender.wrap(97, &[2, 2], 0, 2)?.as_slice(),
+        [2, 2].as_slice()
+    );
+    assert!(rt; RedSender::are_distances(&[1, 2]));
+    assert!(rt; !RedSender::are_distances(&[1, 9]));
+    sender.sync(&[1, 2])?;
+    // 1 + (4 + 2) + (4 + 1) + 1 bytes.
+    let whole = [224, 0, 0x80, 1, 225, 0, 0x40, 2, 98, 1, 2, 2, 3];
+    assert_eq!(rt; sender.wrap(98, &[3], 16, 13)?.as_slice(), whole.as_slice());
+    // The next levels are 98 at 16 and 97 at 0; a byte is wanting for the second.
+    let shallow = [226, 0, 0x40, 1, 99, 3, 4];
+    assert_eq!(rt;
+        sender.wrap(99, &[4], 32, 12)?.as_slice(),
+        shallow.as_slice()
+    );
+    Ok(())
+}
+
+// Payloads that were sent.
+#[derive(Drop)]
+struct Sent {
+    payloads: Vec<Vec<u8>>,
+}
+
+impl PacketSink for Sent {
+    ghost use Rattle.std.specs.Prelude.{◌≡◌, ◌++◌, ◌∷◌, [], map};
+
+    ghost takes = { λ old o new. map (λ p. p.items) new.payloads.items ≡ map (λ p. p.items) old.payloads.items ++ o.payload ∷ [] };
+
+    ghost keeps = { λ old new. new.payloads.items ≡ old.payloads.items };
+
+    fn send(
+        &mut self,
+        payload: &[u8],
+        _marker: bool,
+        _time: u32,
+        _values: &ExtensionValues,
+    ) -> Result<(), PacketError> {
+        let copy = Vec::from_slice(*self.payloads.allocator(), payload)?;
+        self.payloads.push(copy)?;
+        Ok(())
+    }
+}
+
+#[test]
+fn through_a_sink(rt: HostRuntime) -> Result<(), Fail> {
+    let inner = Sent {
+        payloads: Vec::new(rt.alloc()),
+    };
+    let mut sink = RedSink::new(inner, RedSender::new(rt.alloc(), &[1])?, 111, 1200);
+    sink.send(&[1, 2, 3], false, 1000, &ExtensionValues::absent())?;
+    sink.send(&[4, 5], false, 1960, &ExtensionValues::absent())?;
+    let (sent, _) = sink.into_parts();
+    assert_eq!(rt; sent.payloads.len(), 2);
+    assert_eq!(rt; sent.payloads[0].as_slice(), [0x6F, 1, 2, 3].as_slice());
+    assert_eq!(rt;
+        sent.payloads[1].as_slice(),
+        [0xEF, 0x0F, 0x00, 0x03, 0x6F, 1, 2, 3, 4, 5].as_slice()
+    );
+    Ok(())
+}
