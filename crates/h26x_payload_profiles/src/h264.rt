@@ -26,7 +26,7 @@ pub enum H264ProfileError {
 }
 
 /// A profile of H.264 (RFC 6184 8.1, table 5).
-#[derive(Clone, Copy, Debug, PartialEq, Eq, Hash, Drop)]
+#[derive(Clone, Copy, Debug, PartialEq, Eq, Drop)]
 pub enum H264Profile {
     /// Constrained baseline.
     ConstrainedBaseline,
@@ -43,7 +43,7 @@ pub enum H264Profile {
 }
 
 /// The profile_idc byte of a profile, named by its hexadecimal digits.
-#[derive(Clone, Copy, Debug, PartialEq, Eq, Hash, Drop)]
+#[derive(Clone, Copy, Debug, PartialEq, Eq, Drop)]
 pub enum H264ProfileIdc {
     /// profile_idc 66, in rows of baseline and constrained baseline.
     X42,
@@ -93,7 +93,7 @@ impl TryFrom<u8> for H264ProfileIdc {
 }
 
 /// A level of H.264, level_idc being ten times the level; a later one is the greater.
-#[derive(Clone, Copy, Debug, PartialEq, Eq, PartialOrd, Ord, Hash, Drop)]
+#[derive(Clone, Copy, Debug, PartialEq, Eq, PartialOrd, Ord, Drop)]
 pub enum H264LevelIdc {
     /// Level 1, level_idc 10.
     Level1,
@@ -289,7 +289,7 @@ fn profile_of(idc: u8, iop: u8) -> Option<H264Profile>
 }
 
 /// A profile and a level of H.264.
-#[derive(Clone, Copy, Debug, PartialEq, Eq, Hash, Drop)]
+#[derive(Clone, Copy, Debug, PartialEq, Eq, Drop)]
 pub struct H264ProfileLevel {
     profile: H264Profile,
     level: H264LevelIdc,

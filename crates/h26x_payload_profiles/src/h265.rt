@@ -11,7 +11,7 @@ use crate::tables::{Numbered, find_number};
 use crate::values::given_or;
 
 /// A profile of H.265.
-#[derive(Clone, Copy, Debug, PartialEq, Eq, Hash, Drop)]
+#[derive(Clone, Copy, Debug, PartialEq, Eq, Drop)]
 pub enum H265Profile {
     /// Profile 1.
     Main,
@@ -89,7 +89,7 @@ impl Numbered for H265Profile {
 }
 
 /// A tier of H.265.
-#[derive(Clone, Copy, Debug, PartialEq, Eq, Hash, Drop)]
+#[derive(Clone, Copy, Debug, PartialEq, Eq, Drop)]
 pub enum H265Tier {
     /// The main tier, flag 0.
     Main,
@@ -125,7 +125,7 @@ impl Numbered for H265Tier {
 }
 
 /// A level of H.265; a later one is the greater.
-#[derive(Clone, Copy, Debug, PartialEq, Eq, PartialOrd, Ord, Hash, Drop)]
+#[derive(Clone, Copy, Debug, PartialEq, Eq, PartialOrd, Ord, Drop)]
 pub enum H265Level {
     /// Level 1, number 30.
     Level1,
@@ -218,7 +218,7 @@ impl Numbered for H265Level {
 }
 
 /// A profile, a tier and a level of H.265.
-#[derive(Clone, Copy, Debug, PartialEq, Eq, Hash, Drop)]
+#[derive(Clone, Copy, Debug, PartialEq, Eq, Drop)]
 pub struct H265ProfileTierLevel {
     profile: H265Profile,
     tier: H265Tier,

@@ -11,7 +11,7 @@ use crate::tables::{Numbered, find_number};
 use crate::values::given_or;
 
 /// A profile of H.266.
-#[derive(Clone, Copy, Debug, PartialEq, Eq, Hash, Drop)]
+#[derive(Clone, Copy, Debug, PartialEq, Eq, Drop)]
 pub enum H266Profile {
     /// Profile 1.
     Main10,
@@ -47,7 +47,7 @@ impl Numbered for H266Profile {
 }
 
 /// A tier of H.266.
-#[derive(Clone, Copy, Debug, PartialEq, Eq, Hash, Drop)]
+#[derive(Clone, Copy, Debug, PartialEq, Eq, Drop)]
 pub enum H266Tier {
     /// The main tier, flag 0.
     Main,
@@ -83,7 +83,7 @@ impl Numbered for H266Tier {
 }
 
 /// A level of H.266; a later one is the greater.
-#[derive(Clone, Copy, Debug, PartialEq, Eq, PartialOrd, Ord, Hash, Drop)]
+#[derive(Clone, Copy, Debug, PartialEq, Eq, PartialOrd, Ord, Drop)]
 pub enum H266Level {
     /// Level 1, number 16.
     Level1,
@@ -184,7 +184,7 @@ impl Numbered for H266Level {
 }
 
 /// A profile, a tier and a level of H.266.
-#[derive(Clone, Copy, Debug, PartialEq, Eq, Hash, Drop)]
+#[derive(Clone, Copy, Debug, PartialEq, Eq, Drop)]
 pub struct H266ProfileTierLevel {
     profile: H266Profile,
     tier: H266Tier,
