@@ -14,6 +14,13 @@ pub use Rattle.payload_core_buffer.specs.Packets
 pub use Rattle.payload_core_buffer.specs.Payloaders
 pub use Rattle.payload_core_buffer.specs.Pops
 pub use Rattle.payload_core_buffer.specs.Sending
+pub use Rattle.payload_core_red.specs.Red
+pub use Rattle.payload_core_red.specs.RedHistory
+pub use Rattle.payload_core_red.specs.RedLaws
+pub use Rattle.payload_core_red.specs.RedReading
+pub use Rattle.payload_core_red.specs.RedSending
+pub use Rattle.payload_core_red.specs.RedSinks
+pub use Rattle.payload_core_red.specs.RedWrapping
 pub use Rattle.payload_core_vp9.specs.Vp9
 pub use Rattle.payload_core_vp9.specs.Vp9Descriptor
 pub use Rattle.payload_core_vp9.specs.Vp9Layout

@@ -13,6 +13,10 @@ pub use payload_core_base::{
     Vp9CodecExtra, telephone_event_law,
 };
 pub use payload_core_buffer::{Depacketized, DepacketizingBuffer, MAX_HELD, Payloader, RtpMeta};
+pub use payload_core_red::{
+    RedBlock, RedBlocks, RedDecoder, RedEncoder, RedSender, RedSink, RedundantBlock, red_law,
+    red_wrap_law,
+};
 pub use payload_core_vp9::{Vp9Depacketizer, Vp9Packetizer, vp9_law, vp9_layout_law};
 pub use payload_core_vpx::{
     VP8_HEADER_SIZE, Vp8Depacketizer, Vp8Descriptor, Vp8DescriptorError, Vp8Packetizer, Vp8Patch,

@@ -8,7 +8,9 @@ use crate::exchange::{
     AcceptCommand, AnswerCommand, ConnectCommand, EndCommand, ExtCommand, OfferCommand, RowCommand,
     accept_of, answer_of, connect_of, end_of, ext_of, offer_of, row_of, withdraw_of,
 };
-use crate::fields::{distances_word, hex_word, mid_value, number_word, picture_id_word, side_word, text_word};
+use crate::fields::{
+    distances_word, hex_word, mid_value, number_word, picture_id_word, side_word, text_word,
+};
 use crate::misread::Misread;
 use crate::owned::{Bytes, Text};
 use crate::words::{Side, Words};

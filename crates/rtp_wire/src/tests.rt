@@ -458,3 +458,25 @@ fn runs(rt: HostRuntime) -> Result<(), Fail> {
     assert!(rt; verdicts.as_slice() == expected.as_slice());
     Ok(())
 }
+
+/// The example of the readme: what a datagram says under a map.
+fn read<'a>(datagram: &'a [u8], exts: &ExtensionMap) -> Option<(SeqNo, Option<Mid>, &'a [u8])> {
+    let header = RtpHeader::parse(datagram, exts)?;
+    let payload = unpad_payload(header.has_padding, &datagram[header.header_len..])?;
+    let number = header.sequence_number(None);
+    Some((number, header.ext_vals.mid, payload))
+}
+
+#[test]
+fn readme_example(rt: HostRuntime) -> Result<(), Fail> {
+    let mut exts = ExtensionMap::empty();
+    exts.set(4, Extension::RtpMid);
+    let datagram =
+        b"\x90\x6f\x00\x07\x00\x00\x00\x00\x00\x00\x00\x2c\xbe\xde\x00\x01\x40\x30\x00\x00\x01\x02";
+    let (number, mid, payload) = read(datagram, &exts).ok_or("a header")?;
+    assert!(rt; number.get() == 7);
+    assert!(rt; mid == Some(Mid::from("0")));
+    assert!(rt; payload == [1, 2].as_slice());
+    assert!(rt; read(&[0, 1, 2], &exts).is_none());
+    Ok(())
+}

@@ -37,8 +37,9 @@ fn stream_text(alloc: Global, command: &Command) -> Result<String, AllocError> {
         Command::Sample(sample) => {
             let bytes = sample.sample.as_slice();
             let stream = sample.stream;
+            let mid = sample.mid.as_ref().map_or("none", |mid| mid.as_str());
             format!(in alloc;
-                "sample {:?} {stream} {} {bytes:?}",
+                "sample {:?} {stream} {} {bytes:?} {mid}",
                 sample.side, sample.time
             )
         }
@@ -82,8 +83,10 @@ fn lines_that_are_understood(rt: HostRuntime) -> Result<(), Fail> {
             "send B vidéo 4294967295 255 18446744073709551615 18446744073709551615 0 [1, 2, 255] Some(65535)",
         ),
         ("open a 0 44 111 10", "open A 0 44 111 10"),
-        ("sample a 0 960 0aFf", "sample A 0 960 [10, 255]"),
-        ("sample b 007 00960 -", "sample B 7 960 []"),
+        ("sample a 0 960 0aFf", "sample A 0 960 [10, 255] none"),
+        ("sample a 0 960 01 mid=x", "sample A 0 960 [1] x"),
+        ("sample a 0 960 01 mid=", "sample A 0 960 [1] "),
+        ("sample b 007 00960 -", "sample B 7 960 [] none"),
         ("receive b 80", "receive B [128]"),
         ("receive b -", "receive B []"),
         ("poll a 0", "poll A 0"),
@@ -128,7 +131,8 @@ fn lines_that_are_not_understood(rt: HostRuntime) -> Result<(), Fail> {
         "sample a 0 960 0g",
         "sample a 0 960 --",
         "sample a 0 960 ",
-        "sample a 0 960 00 mid=0",
+        "sample a 0 960 00 mid",
+        "sample a 0 960 00 mid=0 ",
         "receive b",
         "receive b 0 0",
         "poll a",
