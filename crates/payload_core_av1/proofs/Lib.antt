@@ -1,0 +1,2 @@
+pub mod Leb128Lemmas
+pub mod ReaderLemmas

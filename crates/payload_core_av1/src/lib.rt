@@ -1,0 +1,8 @@
+//! AV1 payloads (RTP payload format for AV1).
+#![tactic(auto)]
+
+mod av1_receiver;
+mod leb128;
+mod obu;
+
+pub use av1_receiver::{Av1Depacketizer, detect_av1_keyframe};
