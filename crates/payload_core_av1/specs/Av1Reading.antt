@@ -1,5 +1,5 @@
 -- AV1 packets as they are read (RTP payload format for AV1, sections 4.3 to 4.5).
-use Rattle.std.specs.Prelude.{ℕ, zero, suc, ◌+◌, ◌-◌, ◌*◌, ◌/◌, ◌%◌, ◌==◌, ◌||◌, Bool, true, false, List, [], ◌∷◌, ◌++◌, length, take, drop, slice_index_or, Option, Some, None, Result, Ok, Err, if◌then◌else◌}
+use Rattle.std.specs.Prelude.{ℕ, zero, suc, ◌+◌, ◌-◌, ◌*◌, ◌/◌, ◌%◌, ◌==◌, ◌||◌, Bool, true, false, not, List, [], ◌∷◌, ◌++◌, length, take, drop, slice_index_or, Option, Some, None, Result, Ok, Err, if◌then◌else◌}
 use Rattle.payload_core_base.specs.Format.{Format, Fragment, Reading}
 use Rattle.payload_core_base.specs.declared.error.PacketError.{PacketError}
 use Rattle.payload_core_base.specs.declared.error.PacketError.TheVariants.{ErrShortPacket, ErrAv1CorruptedPacket}
@@ -116,7 +116,7 @@ read_av1 fragment extra (first ∷ b ∷ bs) = read_elements first fragment extr
 -- A packet without Z is a head, and the marker makes a tail.
 abbrev pub is_av1_head : List ℕ → Bool
 is_av1_head [] = false
-is_av1_head (first ∷ rest) = first / 128 % 2 == 0
+is_av1_head (first ∷ rest) = not (has_z first)
 
 -- Whether a packet has N, which stands on the first packet of a coded video sequence.
 abbrev pub is_av1_keyframe : List ℕ → Bool

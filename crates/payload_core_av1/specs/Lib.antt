@@ -4,3 +4,4 @@ pub mod Obus
 pub mod Av1Reading
 pub mod Av1ReadingViews
 pub mod Av1ReadingTypes
+pub mod Av1Layout

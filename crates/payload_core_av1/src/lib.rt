@@ -2,7 +2,9 @@
 #![tactic(auto)]
 
 mod av1_receiver;
+mod laws;
 mod leb128;
 mod obu;
 
+pub use laws::av1_layout_law;
 pub use av1_receiver::{Av1Depacketizer, detect_av1_keyframe};
