@@ -5,8 +5,8 @@ use Rattle.payload_core_base.specs.declared.error.PacketError.{PacketError}
 use Rattle.payload_core_base.specs.declared.error.PacketError.TheVariants.{ErrAv1CorruptedPacket, ErrShortPacket}
 use Rattle.payload_core_base.specs.declared.extra.CodecExtra.{CodecExtra}
 use Rattle.payload_core_base.specs.declared.extra.CodecExtra.TheVariants.{Av1}
-use Rattle.payload_core_av1.specs.Leb128.{Spells, size_limit}
-use Rattle.payload_core_av1.specs.Obus.{Obu, extension_bytes, has_extension, has_size, is_kept, whole_obu, with_its_size}
+use Rattle.payload_core_av1.specs.Leb128.{Spells}
+use Rattle.payload_core_av1.specs.Obus.{Obu, extension_bytes, has_extension, has_size, is_kept, payload_limit, with_its_size}
 use Rattle.payload_core_av1.specs.Av1Reading.{Begun, begun, complete, count_w, elements_of, has_n, has_y, has_z, opened, read_av1, was_keyframe}
 
 -- A part behind its size, and a rest behind it.
@@ -48,7 +48,7 @@ pub record IsObu (text : List ℕ) (o : Obu) : Type 0 where
   pub laid_out : text ≡ o.header ∷ (extension_bytes o.extension ++ (size ++ o.payload))
   pub is_extension : HasExtensionIf (has_extension o.header) o.extension
   pub is_size : IsSizeOf (has_size o.header) size o.payload
-  pub is_small : length text < size_limit
+  pub is_small : length o.payload < payload_limit
 
 -- What an element gives: nothing where it is empty or a unit that isn't kept, else the unit with its size.
 abbrev pub GivenBy : Bool → Obu → List ℕ → Type 0

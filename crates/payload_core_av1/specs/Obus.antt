@@ -52,10 +52,18 @@ abbrev pub obu_of : ℕ → Option ℕ → Option Cut → Option ObuCut
 obu_of header extension None = None
 obu_of header extension (Some cut) = Some (obu_cut header extension cut.part cut.rest)
 
+-- The size of a unit without S, and that of its payload, are spelled in eight bytes.
+abbrev pub payload_limit : ℕ
+payload_limit = 72057594037927934
+
+abbrev pub if_small : Option Cut → Option Cut
+if_small None = None
+if_small (Some cut) = if nat_lt (length cut.part) payload_limit then Some cut else None
+
 -- With S a payload has its size in front, without S it goes to the end.
 abbrev pub payload_in : Bool → List ℕ → Option Cut
-payload_in true bytes = sized_part bytes
-payload_in false bytes = Some (record { part = bytes; rest = [] })
+payload_in true bytes = if_small (sized_part bytes)
+payload_in false bytes = if_small (Some (record { part = bytes; rest = [] }))
 
 abbrev pub behind_header : ℕ → Bool → List ℕ → Option ObuCut
 behind_header header false bytes = obu_of header None (payload_in (has_size header) bytes)
@@ -76,7 +84,7 @@ if_whole (Some cut) = if_at_end cut.obu cut.rest
 
 -- The unit that a text is; with S it carries just its own size.
 abbrev pub whole_obu : List ℕ → Option Obu
-whole_obu bytes = if nat_lt (length bytes) size_limit then if_whole (first_obu bytes) else None
+whole_obu bytes = if_whole (first_obu bytes)
 
 -- Temporal delimiters, tile lists and padding stay behind.
 abbrev pub is_kept : Obu → Bool

@@ -6,9 +6,6 @@ ghost use Rattle.payload_core_av1.specs.Bounds.{bound_of};
 
 use payload_core_base::PacketError;
 
-/// Sizes below this, 2^56, are spelled in eight bytes.
-pub const SIZE_LIMIT: usize = 72_057_594_037_927_936;
-
 // The size that stands in front of a text in at most so many bytes, and what stands behind it.
 fn size_within(most: u8, text: &[u8]) -> Option<(usize, &[u8])>
     requires { most ≤ 8 }

@@ -6,5 +6,5 @@ mod laws;
 mod leb128;
 mod obu;
 
-pub use laws::av1_layout_law;
 pub use av1_receiver::{Av1Depacketizer, detect_av1_keyframe};
+pub use laws::av1_layout_law;

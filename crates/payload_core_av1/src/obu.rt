@@ -1,11 +1,13 @@
 //! Open bitstream units (AV1 bitstream specification 5.3.1 to 5.3.3).
 
-ghost use Rattle.payload_core_av1.specs.Leb128.{size_limit};
-ghost use Rattle.payload_core_av1.specs.Obus.{first_obu, has_extension, has_size, is_kept, obu, obu_cut, payload_in, whole_obu, with_its_size, with_size};
+ghost use Rattle.payload_core_av1.specs.Obus.{first_obu, has_extension, has_size, if_small, is_kept, obu, obu_cut, payload_in, payload_limit, whole_obu, with_its_size, with_size};
 ghost use Rattle.std.specs.Prelude.{◌≡◌, ◌+◌, ◌++◌, ◌<◌, ◌≤◌, IfErr, IfOk, IfSome, MatchOption, None, Some, length};
 
-use crate::leb128::{SIZE_LIMIT, push_size, sized_part};
+use crate::leb128::{push_size, sized_part};
 use payload_core_base::PacketError;
+
+// Payloads below this, 2^56 - 2 bytes, have sizes that are spelled in eight bytes, header included.
+const PAYLOAD_LIMIT: usize = 72_057_594_037_927_934;
 
 /// A unit: its header, with X an extension byte, and its payload.
 #[derive(Clone, Copy, Drop)]
@@ -36,17 +38,31 @@ fn with_size(header: u8) -> u8
     if has_size(header) { header } else { header + 2 }
 }
 
+// A payload and what stands behind it, if its size can be spelled.
+fn if_small<'a>(payload: &'a [u8], rest: &'a [u8]) -> Option<(&'a [u8], &'a [u8])>
+    ensures value { MatchOption result (if_small (Some (record { part = payload.now; rest = rest.now })) ≡ None)
+        (λ cut. if_small (Some (record { part = payload.now; rest = rest.now })) ≡ Some (record { part = cut.0.now; rest = cut.1.now })) }
+    ensures same { IfSome result (λ cut. (cut.0.now ≡ payload.now) × (cut.1.now ≡ rest.now) × (length payload.now < payload_limit)) }
+{
+    if payload.len() < PAYLOAD_LIMIT {
+        Some((payload, rest))
+    } else {
+        None
+    }
+}
+
 // The payload that stands in front of a text, with S behind its size, and what stands behind it.
 fn payload_in(has_size: bool, text: &[u8]) -> Option<(&[u8], &[u8])>
     ensures value { MatchOption result (payload_in has_size text.now ≡ None)
         (λ cut. payload_in has_size text.now ≡ Some (record { part = cut.0.now; rest = cut.1.now })) }
     ensures shorter { IfSome result (λ cut. length cut.0.now + length cut.1.now ≤ length text.now) }
+    ensures small { IfSome result (λ cut. length cut.0.now < payload_limit) }
 {
-    if has_size {
-        sized_part(text)
-    } else {
-        Some((text, &[]))
+    if !has_size {
+        return if_small(text, &[]);
     }
+    let (payload, rest) = sized_part(text)?;
+    if_small(payload, rest)
 }
 
 /// The unit that stands in front of a text, and what stands behind it.
@@ -54,6 +70,7 @@ pub fn first_obu(text: &[u8]) -> Option<(Obu<'_>, &[u8])>
     ensures value { MatchOption result (first_obu text.now ≡ None)
         (λ cut. first_obu text.now ≡ Some (obu_cut cut.0.header cut.0.extension cut.0.payload.now cut.1.now)) }
     ensures shorter { IfSome result (λ cut. length cut.0.payload.now + length cut.1.now < length text.now) }
+    ensures small { IfSome result (λ cut. length cut.0.payload.now < payload_limit) }
 {
     let (header, behind) = text.split_first()?;
     let header = *header;
@@ -86,11 +103,8 @@ pub fn first_obu(text: &[u8]) -> Option<(Obu<'_>, &[u8])>
 pub fn whole_obu(text: &[u8]) -> Option<Obu<'_>>
     ensures value { MatchOption result (whole_obu text.now ≡ None)
         (λ o. whole_obu text.now ≡ Some (obu o.header o.extension o.payload.now)) }
-    ensures small { IfSome result (λ o. length o.payload.now < size_limit) }
+    ensures small { IfSome result (λ o. length o.payload.now < payload_limit) }
 {
-    if text.len() >= SIZE_LIMIT {
-        return None;
-    }
     let (obu, rest) = first_obu(text)?;
     rest.is_empty().then_some(obu)
 }
@@ -105,7 +119,7 @@ impl Obu<'_> {
 
     /// Writes the unit with S and its size in the shortest form.
     pub fn push_with_size(&self, out: &mut Vec<u8>) -> Result<(), PacketError>
-        requires { length self.now.payload.now < size_limit }
+        requires { length self.now.payload.now < payload_limit }
         ensures written { IfOk result (λ _. out.new.items ≡ out.old.items ++ with_its_size (obu self.now.header self.now.extension self.now.payload.now)) }
         ensures memory { IfErr result (λ e. e ≡ PacketError.Memory) }
     {
