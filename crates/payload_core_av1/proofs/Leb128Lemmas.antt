@@ -50,3 +50,33 @@ bound-seven k le = let e : (7 - k) + k ≡ 7 = omega arith in omega (arith, boun
 pub bound-positive : (k : ℕ) → 1 ≤ bound_of k
 bound-positive zero = omega arith
 bound-positive (suc k) = omega (arith, bound-positive k)
+
+few_within : (k n : ℕ) → length (spelling_within k n) ≤ k + 1
+few_within zero n = omega arith
+few_within (suc k) n = by_test (ltb n 128) (few_within k (n / 128))
+  where
+    by_test : (t : Bool) → length (spelling_within k (n / 128)) ≤ k + 1 → length (if t then n ∷ [] else (128 + n % 128) ∷ spelling_within k (n / 128)) ≤ suc k + 1
+    by_test true h = omega arith
+    by_test false h = omega arith
+
+pub spelling-few : (n : ℕ) → length (spelling n) ≤ 8
+unfolding spelling
+spelling-few n = few_within 7 n
+
+pub spelling-len_more : (n : ℕ) → 128 ≤ n → n < size_limit → length (spelling n) ≡ 1 + length (spelling (n / 128))
+spelling-len_more n large small = omega (arith, ap length (spelling-more n large small))
+
+pub spelling-len_last : (n : ℕ) → n < 128 → length (spelling n) ≡ 1
+spelling-len_last n small = ap length (spelling-last n small)
+
+some_within : (k n : ℕ) → 0 < length (spelling_within k n)
+some_within zero n = omega arith
+some_within (suc k) n = by_test (ltb n 128)
+  where
+    by_test : (t : Bool) → 0 < length (if t then n ∷ [] else (128 + n % 128) ∷ spelling_within k (n / 128))
+    by_test true = omega arith
+    by_test false = omega arith
+
+pub spelling-some : (n : ℕ) → 0 < length (spelling n)
+unfolding spelling
+spelling-some n = some_within 7 n

@@ -4,3 +4,6 @@ pub mod SizeLaw
 pub mod ElementsLaw
 pub mod ObuLaw
 pub mod Av1LayoutLaw
+pub mod PrefixLemmas
+pub mod PackingLemmas
+pub mod SampleLemmas

@@ -54,3 +54,18 @@ pub fn push_size(out: &mut Vec<u8>, size: usize) -> Result<(), PacketError>
     out.push(left as u8)?;
     Ok(())
 }
+
+/// How many bytes a size has in its shortest form.
+pub fn size_len(size: usize) -> usize
+    requires { size < size_limit }
+    ensures value { result ≡ length (spelling size) }
+    ensures few { result ≤ 8 }
+{
+    let mut len = 1;
+    let mut left = size;
+    while left >= 128 {
+        left /= 128;
+        len += 1;
+    }
+    len
+}

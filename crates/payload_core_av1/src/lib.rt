@@ -2,6 +2,7 @@
 #![tactic(auto)]
 
 mod av1_receiver;
+mod av1_sender;
 mod laws;
 mod leb128;
 mod obu;

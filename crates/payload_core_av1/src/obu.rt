@@ -1,10 +1,12 @@
 //! Open bitstream units (AV1 bitstream specification 5.3.1 to 5.3.3).
 
-ghost use Rattle.payload_core_av1.specs.Obus.{first_obu, has_extension, has_size, if_small, is_kept, obu, obu_cut, payload_in, payload_limit, whole_obu, with_its_size, with_size};
+ghost use Rattle.payload_core_av1.specs.Obus.{first_obu, has_extension, has_size, if_small, is_kept, obu, obu_cut, payload_in, payload_limit, whole_obu, with_its_size, with_size, without_its_size, without_size};
+ghost use Rattle.payload_core_av1.specs.Samples.{is_sequence_header};
 ghost use Rattle.std.specs.Prelude.{◌≡◌, ◌+◌, ◌++◌, ◌<◌, ◌≤◌, IfErr, IfOk, IfSome, MatchOption, None, Some, length};
 
 use crate::leb128::{push_size, sized_part};
 use payload_core_base::PacketError;
+use std::alloc::Global;
 
 // Payloads below this, 2^56 - 2 bytes, have sizes that are spelled in eight bytes, header included.
 const PAYLOAD_LIMIT: usize = 72_057_594_037_927_934;
@@ -36,6 +38,13 @@ fn with_size(header: u8) -> u8
     ensures { result ≡ with_size header }
 {
     if has_size(header) { header } else { header + 2 }
+}
+
+// The header byte without S.
+fn without_size(header: u8) -> u8
+    ensures { result ≡ without_size header }
+{
+    if has_size(header) { header - 2 } else { header }
 }
 
 // A payload and what stands behind it, if its size can be spelled.
@@ -130,5 +139,26 @@ impl Obu<'_> {
         push_size(out, self.payload.len())?;
         out.extend_from_slice(self.payload)?;
         Ok(())
+    }
+
+    /// Whether the unit is a sequence header.
+    pub fn is_sequence_header(&self) -> bool
+        ensures { result ≡ is_sequence_header (obu self.now.header self.now.extension self.now.payload.now) }
+    {
+        self.header / 8 % 16 == 1
+    }
+
+    /// The bytes of the unit without S and size.
+    pub fn without_its_size(&self, alloc: Global) -> Result<Vec<u8>, PacketError>
+        ensures text { IfOk result (λ v. v.items ≡ without_its_size (obu self.now.header self.now.extension self.now.payload.now)) }
+        ensures memory { IfErr result (λ e. e ≡ PacketError.Memory) }
+    {
+        let mut text = Vec::new(alloc);
+        text.push(without_size(self.header))?;
+        if let Some(byte) = self.extension {
+            text.push(byte)?;
+        }
+        text.extend_from_slice(self.payload)?;
+        Ok(text)
     }
 }
