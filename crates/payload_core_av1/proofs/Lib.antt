@@ -7,3 +7,5 @@ pub mod Av1LayoutLaw
 pub mod PrefixLemmas
 pub mod PackingLemmas
 pub mod SampleLemmas
+pub mod SpellingLaw
+pub mod PacketsLaw

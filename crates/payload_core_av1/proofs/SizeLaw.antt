@@ -26,7 +26,7 @@ record IsRead (k : ℕ) (text : List ℕ) (s : Sized) : Type 0 where
   top_bits : HasTopBits size
   value : s.size ≡ spelled size
 
-top_cons : (b : ℕ) (size : List ℕ) → 128 ≤ b → HasTopBits size → HasTopBits (b ∷ size)
+pub top_cons : (b : ℕ) (size : List ℕ) → 128 ≤ b → HasTopBits size → HasTopBits (b ∷ size)
 top_cons b [] large top = absurd top
 top_cons b (c ∷ bs) large top = (large, top)
 

@@ -8,3 +8,4 @@ pub mod Av1Layout
 pub mod Samples
 pub mod Av1Packing
 pub mod Packets
+pub mod Av1Coding
