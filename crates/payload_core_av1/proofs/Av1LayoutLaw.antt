@@ -11,7 +11,7 @@ use Rattle.payload_core_av1.specs.Av1Layout.{IsAv1Packet, IsReadAs, LayoutLaw, R
 use Rattle.payload_core_av1.proofs.ElementsLaw.{elements-found, elements-read}
 use Rattle.payload_core_av1.proofs.ObuLaw.{all-given-found, all-given-read}
 
-long_read : (fragment : Fragment) (extra : CodecExtra) (first : ℕ) (body : List ℕ) → 0 < length body → read_av1 fragment extra (first ∷ body) ≡ read_elements first fragment extra (elements_of (count_w first) body)
+pub long_read : (fragment : Fragment) (extra : CodecExtra) (first : ℕ) (body : List ℕ) → 0 < length body → read_av1 fragment extra (first ∷ body) ≡ read_elements first fragment extra (elements_of (count_w first) body)
 long_read fragment extra first [] some = absurd (omega arith)
 long_read fragment extra first (b ∷ bs) some = refl
 

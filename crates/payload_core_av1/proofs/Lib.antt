@@ -9,3 +9,7 @@ pub mod PackingLemmas
 pub mod SampleLemmas
 pub mod SpellingLaw
 pub mod PacketsLaw
+pub mod UnitLemmas
+pub mod SplitLemmas
+pub mod Av1RunLaw
+pub mod Av1Law

@@ -1,8 +1,9 @@
 //! The laws of AV1 payloads.
 
-ghost use Rattle.payload_core_av1.specs.Av1Coding.{HeaderLaw, PacketsLaw, PrefixLaw, RefusedLaw, SpellingLaw};
+ghost use Rattle.payload_core_av1.specs.Av1Coding.{HeaderLaw, av1_coding, PacketsLaw, PrefixLaw, RefusedLaw, SpellingLaw};
 ghost use Rattle.payload_core_av1.specs.Av1Layout.{LayoutLaw, ReadLaw, ShortLaw};
-ghost use Rattle.payload_core_av1.specs.Samples.{SampleLaw};
+ghost use Rattle.payload_core_av1.specs.Samples.{KeptOnce, SampleLaw};
+ghost use Rattle.payload_core_base.specs.Law.{CodecLaw};
 
 /// Just those packets are read whose body is their elements, each behind its size but for the last of W, and
 /// whose complete elements are units: they give these units that are kept, each with its size, and leave the
@@ -12,6 +13,13 @@ pub fn av1_layout_law()
     ensures laid_out { LayoutLaw }
     ensures read { ReadLaw }
     ensures short { ShortLaw }
+{}
+
+/// AV1 keeps the codec law: the kept units of a sample, each with its size, are the parts of one unit, unless there
+/// are none or the limit is below 2; and keeping the units of what was kept keeps all of it.
+pub fn av1_law()
+    ensures codec { CodecLaw av1_coding }
+    ensures kept_once { KeptOnce }
 {}
 
 /// A sample that is units one behind the other is accepted, and no other one. Its packets have two to the limit's
