@@ -1,25 +1,24 @@
 -- What makes AV1 keep the codec law.
-use Rattle.std.proofs.Common.{◌≡◌, ℕ, zero, suc, ◌+◌, ◌-◌, ◌<◌, ◌≤◌, Bool, true, false, ltb, List, [], ◌∷◌, ◌++◌, length, take, drop, map, None, Some, Ok, Err, Option, Result, if◌then◌else◌, refl, sym, ap, subst, ◌∙◌, arith}
-use Rattle.std.specs.Prelude.{◌||◌, not, option_map, filter}
+use Rattle.std.proofs.Common.{◌≡◌, ℕ, zero, suc, ◌+◌, ◌<◌, ◌≤◌, Bool, true, false, ltb, List, [], ◌∷◌, length, drop, map, None, Some, Ok, Option, Result, if◌then◌else◌, refl, sym, ap, subst, ◌∙◌, arith}
+use Rattle.std.specs.Prelude.{not, option_map, filter}
 use mathlib.Core.Bool.{false≢true}
-use Rattle.std.specs.List.{All}
 use Rattle.std.proofs.lemmas.Bool.Decides.{nat_tests}
 use Rattle.std.proofs.lemmas.List.{drop-drop, drop-map, drop_all, length-drop, length-map, take_all}
 use Rattle.std.proofs.lemmas.List.Elements.{All-cons, All-nil}
-use Rattle.payload_core_base.specs.Format.{Fragment, Run, read_all}
+use Rattle.payload_core_base.specs.Format.{Run, read_all}
 use Rattle.payload_core_base.specs.Law.{AreFramesOf, AreWithin, CodecLaw, GivesFrom, HeadsGiveFinalRuns, IsFrameOf, IsSentAs, SendsUnits, joined, packet_at, payloads_of}
 use Rattle.payload_core_base.specs.Packing.{MarkedPacket, Sender, Sent, marked}
 use Rattle.payload_core_base.specs.declared.error.PacketError.{PacketError}
 use Rattle.payload_core_base.specs.declared.extra.CodecExtra.{CodecExtra}
 use Rattle.payload_core_base.proofs.FrameLemmas.{marker-tails}
 use Rattle.payload_core_av1.specs.Obus.{Obu, is_kept, with_its_size}
-use Rattle.payload_core_av1.specs.Av1Coding.{ArePackets, IsSample, av1_coding, av1_units, unit_of}
-use Rattle.payload_core_av1.specs.Av1Packing.{aggregation, av1_packing, back, front, is_cut, longest, pack_kept, packet_of, packets_of, packets_within, texts_of}
-use Rattle.payload_core_av1.specs.Av1Reading.{av1_format, has_z}
-use Rattle.payload_core_av1.specs.Samples.{AreObus, begins_sequence, kept_of, obus_of}
-use Rattle.payload_core_av1.proofs.Av1RunLaw.{Gave, IsBetween, gives_units, step}
+use Rattle.payload_core_av1.specs.Av1Coding.{ArePackets, av1_coding, unit_of}
+use Rattle.payload_core_av1.specs.Av1Packing.{av1_packing, back, front, is_cut, longest, pack_kept, packet_of, packets_of, packets_within, texts_of}
+use Rattle.payload_core_av1.specs.Av1Reading.{av1_format}
+use Rattle.payload_core_av1.specs.Samples.{begins_sequence, kept_of, obus_of}
+use Rattle.payload_core_av1.proofs.Av1RunLaw.{IsBetween, gives_units, step}
 use Rattle.payload_core_av1.proofs.PacketsLaw.{header_law, packets-are}
-use Rattle.payload_core_av1.proofs.PrefixLemmas.{longest-some, total-back, total-cons}
+use Rattle.payload_core_av1.proofs.PrefixLemmas.{longest-some, total-back}
 use Rattle.payload_core_av1.proofs.SampleLemmas.{AreSendable, kept-sendable, sample_law, sendable-texts}
 use Rattle.payload_core_av1.proofs.SplitLemmas.{glue, glue-nil}
 

@@ -1,13 +1,13 @@
 -- What makes just the packets be read that are laid out by their elements.
-use Rattle.std.proofs.Common.{◌≡◌, ℕ, zero, suc, ◌+◌, ◌<◌, ◌≤◌, Bool, true, false, List, [], ◌∷◌, ◌++◌, length, None, Some, Ok, Err, Option, Result, refl, sym, ap, subst, ◌∙◌, arith}
+use Rattle.std.proofs.Common.{◌≡◌, ℕ, ◌<◌, Bool, List, [], ◌∷◌, length, None, Some, Ok, Err, Option, refl, sym, ap, ◌∙◌, arith}
 use Rattle.std.specs.Prelude.{◌||◌}
 use Rattle.payload_core_base.specs.Format.{Fragment, Reading}
 use Rattle.payload_core_base.specs.declared.error.PacketError.{PacketError}
-use Rattle.payload_core_base.specs.declared.error.PacketError.TheVariants.{ErrAv1CorruptedPacket, ErrShortPacket}
+use Rattle.payload_core_base.specs.declared.error.PacketError.TheVariants.{ErrAv1CorruptedPacket}
 use Rattle.payload_core_base.specs.declared.extra.CodecExtra.{CodecExtra}
 use Rattle.payload_core_base.specs.declared.extra.CodecExtra.TheVariants.{Av1}
-use Rattle.payload_core_av1.specs.Av1Reading.{Begun, all_given, begun, complete, count_w, elements_of, has_n, has_y, has_z, opened, read_av1, read_begun, read_elements, reading_of, was_keyframe}
-use Rattle.payload_core_av1.specs.Av1Layout.{IsAv1Packet, IsReadAs, LayoutLaw, ReadLaw, ShortLaw}
+use Rattle.payload_core_av1.specs.Av1Reading.{Begun, all_given, begun, complete, count_w, elements_of, has_n, has_y, has_z, opened, read_av1, read_elements, reading_of, was_keyframe}
+use Rattle.payload_core_av1.specs.Av1Layout.{IsReadAs, LayoutLaw, ReadLaw, ShortLaw}
 use Rattle.payload_core_av1.proofs.ElementsLaw.{elements-found, elements-read}
 use Rattle.payload_core_av1.proofs.ObuLaw.{all-given-found, all-given-read}
 

@@ -1,9 +1,9 @@
 -- What the packets of texts give a receiver.
-use Rattle.std.proofs.Common.{◌≡◌, ℕ, zero, suc, ◌+◌, ◌-◌, ◌*◌, ◌<◌, ◌≤◌, Bool, true, false, ltb, leb, List, [], ◌∷◌, ◌++◌, length, take, drop, map, None, Some, Ok, Option, if◌then◌else◌, refl, sym, ap, subst, ◌∙◌, append_assoc, arith, inl, inr}
-use Rattle.std.specs.Prelude.{◌||◌, not}
+use Rattle.std.proofs.Common.{◌≡◌, ℕ, zero, suc, ◌+◌, ◌<◌, ◌≤◌, Bool, true, false, ltb, leb, List, [], ◌∷◌, ◌++◌, length, take, drop, map, None, Some, if◌then◌else◌, refl, sym, ap, subst, ◌∙◌, append_assoc, arith}
+use Rattle.std.specs.Prelude.{◌||◌}
 use Rattle.std.proofs.lemmas.Bool.Decides.{nat_tests}
-use Rattle.std.proofs.lemmas.List.{append-nil, drop_at, drop-map, length-append, length-map, take-append-drop, take-map, take_at}
-use Rattle.payload_core_base.specs.Format.{Fragment, Reading, Run, read_all, run_after, run_behind}
+use Rattle.std.proofs.lemmas.List.{append-nil, drop_at, drop-map, length-append, take-map, take_at}
+use Rattle.payload_core_base.specs.Format.{Fragment, Run, read_all, run_after, run_behind}
 use Rattle.payload_core_base.specs.Law.{joined}
 use Rattle.payload_core_base.specs.declared.extra.CodecExtra.{CodecExtra}
 use Rattle.payload_core_base.specs.declared.extra.CodecExtra.TheVariants.{Av1}
@@ -11,7 +11,7 @@ use Rattle.payload_core_av1.specs.Leb128.{size_limit, spelling}
 use Rattle.payload_core_av1.specs.Obus.{Obu, with_its_size, without_its_size}
 use Rattle.payload_core_av1.specs.Av1Layout.{AreSized, AreSizedButLast, IsBody, IsSized}
 use Rattle.payload_core_av1.specs.Av1Packing.{aggregation, back, body_from, count_field, front, is_cut, longest, packet_of, packets_within, sized, texts_of}
-use Rattle.payload_core_av1.specs.Av1Reading.{Begun, all_given, av1_format, begun, complete, count_w, elements_of, has_n, has_y, has_z, opened, read_av1, read_begun, read_elements, reading_of, was_keyframe}
+use Rattle.payload_core_av1.specs.Av1Reading.{Begun, all_given, av1_format, begun, count_w, has_n, has_y, has_z, opened, read_av1, read_begun, read_elements, reading_of, was_keyframe}
 use Rattle.payload_core_av1.specs.Packets.{AreTexts}
 use Rattle.payload_core_av1.proofs.Av1LayoutLaw.{long_read}
 use Rattle.payload_core_av1.proofs.ElementsLaw.{elements-read}
@@ -19,7 +19,7 @@ use Rattle.payload_core_av1.proofs.PacketsLaw.{header_law, longest-is}
 use Rattle.payload_core_av1.proofs.PrefixLemmas.{longest-some, texts-back, texts-front, total-back, total-cons}
 use Rattle.payload_core_av1.proofs.SampleLemmas.{AreSendable}
 use Rattle.payload_core_av1.proofs.SpellingLaw.{spelling-spells}
-use Rattle.payload_core_av1.proofs.SplitLemmas.{IsSplit, front-some, glue, glue-nil, split}
+use Rattle.payload_core_av1.proofs.SplitLemmas.{front-some, glue, split}
 use Rattle.payload_core_av1.proofs.UnitLemmas.{all-given-texts}
 
 sized_is : (e rest : List ℕ) → length e < size_limit → IsSized (sized e ++ rest) e rest

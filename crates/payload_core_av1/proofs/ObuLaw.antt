@@ -1,11 +1,11 @@
 -- What makes just the texts be read as units that are laid out so.
-use Rattle.std.proofs.Common.{◌≡◌, ℕ, zero, suc, ◌+◌, ◌<◌, ◌≤◌, Bool, true, false, ltb, List, [], ◌∷◌, ◌++◌, length, None, Some, Option, if◌then◌else◌, refl, sym, ap, subst, ◌∙◌, append_assoc, arith}
+use Rattle.std.proofs.Common.{◌≡◌, ℕ, ◌<◌, Bool, true, false, ltb, List, [], ◌∷◌, ◌++◌, length, None, Some, Option, if◌then◌else◌, refl, sym, ap, subst, ◌∙◌, append_assoc, arith}
 use Rattle.std.proofs.lemmas.Bool.Decides.{nat_tests}
 use Rattle.std.proofs.lemmas.List.{append-nil}
 use Rattle.payload_core_av1.specs.Leb128.{Cut, sized_part}
-use Rattle.payload_core_av1.specs.Obus.{Obu, ObuCut, behind_header, extension_bytes, first_obu, has_extension, has_size, if_at_end, if_small, if_whole, is_kept, obu, obu_cut, obu_of, payload_in, payload_limit, whole_obu, with_its_size}
+use Rattle.payload_core_av1.specs.Obus.{Obu, ObuCut, behind_header, extension_bytes, first_obu, has_extension, has_size, if_at_end, if_small, if_whole, is_kept, obu_cut, obu_of, payload_in, payload_limit, whole_obu, with_its_size}
 use Rattle.payload_core_av1.specs.Av1Reading.{all_given, given, given_by, joined_option}
-use Rattle.payload_core_av1.specs.Av1Layout.{AreGiven, GivenBy, HasExtensionIf, IsGiven, IsObu, IsSizeOf, IsSized}
+use Rattle.payload_core_av1.specs.Av1Layout.{AreGiven, GivenBy, HasExtensionIf, IsGiven, IsObu, IsSizeOf}
 use Rattle.payload_core_av1.proofs.SizeLaw.{sized-found, sized-read}
 
 behind_extension : (header : ℕ) (x : Bool) (extension : Option ℕ) (rest : List ℕ) → HasExtensionIf x extension → behind_header header x (extension_bytes extension ++ rest) ≡ obu_of header extension (payload_in (has_size header) rest)

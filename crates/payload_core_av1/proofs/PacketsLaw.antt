@@ -1,5 +1,5 @@
 -- What makes the packets of a sample those of the longest prefixes.
-use Rattle.std.proofs.Common.{◌≡◌, ℕ, zero, suc, ◌+◌, ◌-◌, ◌*◌, ◌/◌, ◌%◌, ◌<◌, ◌≤◌, Bool, true, false, ltb, leb, eqb, List, [], ◌∷◌, ◌++◌, length, take, drop, map, None, Some, Ok, Err, Option, Result, if◌then◌else◌, refl, sym, ap, subst, ◌∙◌, append_assoc, arith, inl, inr}
+use Rattle.std.proofs.Common.{◌≡◌, ℕ, zero, suc, ◌+◌, ◌-◌, ◌*◌, ◌<◌, ◌≤◌, Bool, true, false, ltb, leb, eqb, List, [], ◌∷◌, ◌++◌, length, take, drop, None, Some, Ok, Err, Option, Result, if◌then◌else◌, refl, sym, ap, subst, ◌∙◌, arith, inl, inr}
 use Rattle.std.specs.Prelude.{option_map, filter}
 use Rattle.std.proofs.lemmas.Bool.{cases_lt}
 use Rattle.std.proofs.lemmas.Bool.Decides.{nat_tests}
@@ -7,15 +7,14 @@ use Rattle.std.proofs.lemmas.List.{append-nil, drop_all, length-append, length-t
 use Rattle.payload_core_base.specs.Law.{joined}
 use Rattle.payload_core_base.specs.Packing.{Sender, Sent}
 use Rattle.payload_core_base.specs.declared.error.PacketError.{PacketError}
-use Rattle.payload_core_base.specs.declared.error.PacketError.TheVariants.{ErrAv1CorruptedPacket}
 use Rattle.payload_core_av1.specs.Leb128.{spelling}
 use Rattle.payload_core_av1.specs.Obus.{Obu, is_kept}
-use Rattle.payload_core_av1.specs.Samples.{begins_sequence, kept_of, obus_of}
+use Rattle.payload_core_av1.specs.Samples.{begins_sequence, obus_of}
 use Rattle.payload_core_av1.specs.Av1Reading.{count_w, has_n, has_y, has_z}
-use Rattle.payload_core_av1.specs.Av1Packing.{aggregation, back, body_from, count_field, front, is_cut, longest, pack_av1, pack_kept, packet_of, packets_of, packets_within, texts_of}
+use Rattle.payload_core_av1.specs.Av1Packing.{back, body_from, count_field, front, is_cut, longest, pack_kept, packets_of, packets_within, texts_of}
 use Rattle.payload_core_av1.specs.Av1Coding.{ArePackets, HeaderLaw, IsLongest, PacketsLaw, PrefixLaw, RefusedLaw}
 use Rattle.payload_core_av1.specs.Packets.{AreTexts}
-use Rattle.payload_core_av1.proofs.PrefixLemmas.{back-part, back-whole, body-none, front-part, front-behind, front-zero, greedy, greedy-fits, greedy-le, greedy-most, longest-greedy, longest-some, texts-back, total-back, total-cons}
+use Rattle.payload_core_av1.proofs.PrefixLemmas.{back-part, back-whole, front-part, front-behind, front-zero, greedy, greedy-fits, greedy-le, greedy-most, longest-greedy, longest-some, texts-back, total-back, total-cons}
 use Rattle.payload_core_av1.proofs.SampleLemmas.{kept-sendable, sendable-texts}
 
 -- the bits of a header that was put together

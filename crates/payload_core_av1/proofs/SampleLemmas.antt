@@ -1,15 +1,13 @@
 -- The units of a sample, one step at a time.
-use Rattle.std.proofs.Common.{◌≡◌, ℕ, zero, suc, ◌+◌, ◌-◌, ◌*◌, ◌/◌, ◌%◌, ◌<◌, ◌≤◌, Bool, true, false, List, [], ◌∷◌, ◌++◌, map, length, None, Some, Option, if◌then◌else◌, refl, sym, ap, subst, ◌∙◌, append_assoc, arith}
+use Rattle.std.proofs.Common.{◌≡◌, ℕ, zero, suc, ◌+◌, ◌<◌, ◌≤◌, Bool, true, false, List, [], ◌∷◌, ◌++◌, length, None, Some, Option, if◌then◌else◌, refl, sym, ap, subst, ◌∙◌, append_assoc, arith}
 use Rattle.std.specs.Prelude.{◌||◌, filter, option_map}
-use Rattle.std.specs.List.{list_any}
-use Rattle.std.proofs.lemmas.List.{append-nil, length-append, map-append}
-use Rattle.payload_core_av1.specs.Obus.{Obu, ObuCut, extension_bytes, first_obu, has_extension, has_size, is_kept, payload_limit, with_its_size, without_its_size}
+use Rattle.std.proofs.lemmas.List.{length-append, map-append}
+use Rattle.payload_core_av1.specs.Obus.{Obu, ObuCut, extension_bytes, first_obu, has_extension, is_kept, payload_limit, without_its_size}
 use Rattle.payload_core_av1.specs.Av1Layout.{HasExtensionIf, IsObu}
 use Rattle.payload_core_av1.specs.Av1Packing.{texts_of}
-use Rattle.payload_core_av1.specs.Leb128.{size_limit}
 use Rattle.payload_core_av1.specs.Packets.{AreTexts}
 use Rattle.payload_core_av1.specs.Samples.{AreObus, SampleLaw, and_obus, begins_sequence, is_sequence_header, kept_of, obu_in_front, obus_of, obus_within}
-use Rattle.payload_core_av1.proofs.ObuLaw.{IsFirst, first-found, first-read}
+use Rattle.payload_core_av1.proofs.ObuLaw.{first-found, first-read}
 
 -- a unit has a byte, so the rest behind it is shorter
 pub front-some : (text : List ℕ) (o : Obu) → IsObu text o → 0 < length text

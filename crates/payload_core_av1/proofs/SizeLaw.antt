@@ -1,8 +1,8 @@
 -- What makes sizes be read just where they are spelled.
-use Rattle.std.proofs.Common.{◌≡◌, ℕ, zero, suc, ◌+◌, ◌-◌, ◌*◌, ◌/◌, ◌%◌, ◌<◌, ◌≤◌, Bool, true, false, ltb, leb, List, [], ◌∷◌, ◌++◌, take, drop, length, None, Some, Option, if◌then◌else◌, refl, sym, ap, subst, ◌∙◌, append_assoc, arith}
+use Rattle.std.proofs.Common.{◌≡◌, ℕ, zero, suc, ◌+◌, ◌*◌, ◌%◌, ◌<◌, ◌≤◌, Bool, true, false, ltb, leb, List, [], ◌∷◌, ◌++◌, take, drop, length, None, Some, Option, if◌then◌else◌, refl, sym, ap, subst, ◌∙◌, arith}
 use Rattle.std.proofs.lemmas.Bool.Decides.{nat_tests}
-use Rattle.std.proofs.lemmas.List.{append-nil, drop_at, length-append, length-take-le, take-append-drop, take_at}
-use Rattle.payload_core_av1.specs.Leb128.{Cut, HasTopBits, Sized, Spells, behind_byte, cut_by, size_in, size_within, sized_part, spelled}
+use Rattle.std.proofs.lemmas.List.{drop_at, length-append, length-take-le, take-append-drop, take_at}
+use Rattle.payload_core_av1.specs.Leb128.{Cut, HasTopBits, Sized, behind_byte, cut_by, size_in, size_within, sized_part, spelled}
 use Rattle.payload_core_av1.specs.Av1Layout.{IsSized}
 
 read_size : (size rest : List ℕ) (k : ℕ) → HasTopBits size → length size ≤ k → size_within k (size ++ rest) ≡ Some (record { size = spelled size; rest = rest })

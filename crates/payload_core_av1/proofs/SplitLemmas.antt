@@ -1,10 +1,9 @@
 -- How a packet parts the texts that are left.
-use Rattle.std.proofs.Common.{◌≡◌, ℕ, zero, suc, ◌+◌, ◌-◌, ◌*◌, ◌<◌, ◌≤◌, Bool, true, false, ltb, leb, eqb, List, [], ◌∷◌, ◌++◌, length, take, drop, map, None, Some, Option, if◌then◌else◌, refl, sym, ap, subst, ◌∙◌, append_assoc, arith, inl, inr}
+use Rattle.std.proofs.Common.{◌≡◌, ℕ, ◌+◌, ◌-◌, ◌<◌, ◌≤◌, Bool, true, false, ltb, leb, eqb, List, [], ◌∷◌, ◌++◌, length, take, drop, None, Some, if◌then◌else◌, refl, sym, ap, subst, ◌∙◌, append_assoc, arith, inl, inr}
 use Rattle.std.proofs.lemmas.Bool.{cases_lt}
 use Rattle.std.proofs.lemmas.Bool.Decides.{nat_tests}
 use Rattle.std.proofs.lemmas.List.{length-append, length-take-le, take-append-drop}
 use Rattle.payload_core_base.specs.Law.{joined}
-use Rattle.payload_core_base.specs.Format.{Fragment}
 use Rattle.payload_core_av1.specs.Av1Packing.{back, front, is_cut}
 use Rattle.payload_core_av1.specs.Av1Reading.{complete, opened, opened_by}
 use Rattle.payload_core_av1.specs.Packets.{AreTexts}

@@ -1,5 +1,5 @@
 -- AV1 packets as their elements, one behind the other (RTP payload format for AV1, 4.3 to 4.5).
-use Rattle.std.specs.Prelude.{◌≡◌, ℕ, zero, suc, ◌<◌, ◌||◌, Bool, true, false, List, [], ◌∷◌, ◌++◌, length, Option, Some, None, Result, Ok, Err}
+use Rattle.std.specs.Prelude.{◌≡◌, ℕ, zero, suc, ◌<◌, ◌||◌, Bool, true, false, List, [], ◌∷◌, ◌++◌, length, Option, Some, None, Ok, Err}
 use Rattle.payload_core_base.specs.Format.{Fragment, Reading}
 use Rattle.payload_core_base.specs.declared.error.PacketError.{PacketError}
 use Rattle.payload_core_base.specs.declared.error.PacketError.TheVariants.{ErrAv1CorruptedPacket, ErrShortPacket}
@@ -7,7 +7,7 @@ use Rattle.payload_core_base.specs.declared.extra.CodecExtra.{CodecExtra}
 use Rattle.payload_core_base.specs.declared.extra.CodecExtra.TheVariants.{Av1}
 use Rattle.payload_core_av1.specs.Leb128.{Spells}
 use Rattle.payload_core_av1.specs.Obus.{Obu, extension_bytes, has_extension, has_size, is_kept, payload_limit, with_its_size}
-use Rattle.payload_core_av1.specs.Av1Reading.{Begun, begun, complete, count_w, elements_of, has_n, has_y, has_z, opened, read_av1, was_keyframe}
+use Rattle.payload_core_av1.specs.Av1Reading.{begun, complete, count_w, has_n, has_y, has_z, opened, read_av1, was_keyframe}
 
 -- A part behind its size, and a rest behind it.
 pub record IsSized (text part rest : List ℕ) : Type 0 where

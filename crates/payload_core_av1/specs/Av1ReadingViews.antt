@@ -1,5 +1,5 @@
 -- How the code of the reader holds what it reads.
-use Rattle.std.specs.Prelude.{◌≡◌, ℕ, Bool, List, ◌++◌, Option, Some, None}
+use Rattle.std.specs.Prelude.{◌≡◌, ℕ, List, ◌++◌, Option, Some, None}
 
 -- These bytes were put behind the old ones.
 abbrev pub Gathers : List ℕ → Option (List ℕ) → List ℕ → Type 0

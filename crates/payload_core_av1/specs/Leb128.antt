@@ -1,5 +1,5 @@
 -- Sizes as leb128 spells them (AV1 bitstream specification 4.10.5): seven bits a byte, the lowest first, and the top bit in each byte but the last. At most eight bytes.
-use Rattle.std.specs.Prelude.{◌≡◌, ℕ, zero, suc, ◌+◌, ◌-◌, ◌*◌, ◌/◌, ◌%◌, ◌<◌, ◌≤◌, List, [], ◌∷◌, ◌++◌, length, take, drop, nat_lt, nat_le, Option, Some, None, if◌then◌else◌}
+use Rattle.std.specs.Prelude.{◌≡◌, ℕ, zero, suc, ◌+◌, ◌*◌, ◌/◌, ◌%◌, ◌<◌, ◌≤◌, List, [], ◌∷◌, length, take, drop, nat_lt, nat_le, Option, Some, None, if◌then◌else◌}
 
 -- Eight bytes spell the sizes below this, 2^56.
 abbrev pub size_limit : ℕ

@@ -1,5 +1,5 @@
 -- Temporal units, and the units of them that are sent (AV1 bitstream specification 7.5; RTP payload format for AV1, 5).
-use Rattle.std.specs.Prelude.{◌≡◌, ℕ, zero, suc, ◌==◌, Bool, true, false, List, [], ◌∷◌, ◌++◌, length, map, filter, Option, Some, None, option_map}
+use Rattle.std.specs.Prelude.{◌≡◌, ℕ, zero, suc, ◌==◌, Bool, false, List, [], ◌∷◌, ◌++◌, length, filter, Option, Some, None, option_map}
 use Rattle.std.specs.List.{flat_map, list_any}
 use Rattle.payload_core_av1.specs.Obus.{Obu, ObuCut, first_obu, has_size, is_kept, type_of, with_its_size}
 use Rattle.payload_core_av1.specs.Av1Layout.{IsObu}

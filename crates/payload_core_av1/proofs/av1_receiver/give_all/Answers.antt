@@ -1,4 +1,4 @@
-use Rattle.std.proofs.Common.{◌≡◌, ℕ, ◌+◌, List, [], ◌∷◌, Some, None, map, drop, Bor, get_or, refl, ap, sym, ◌∙◌}
+use Rattle.std.proofs.Common.{◌≡◌, ℕ, ◌+◌, List, [], ◌∷◌, Some, map, drop, Bor, get_or, ap, sym, ◌∙◌}
 use Rattle.std.proofs.lemmas.List.{drop_more}
 use Rattle.payload_core_av1.specs.Av1Reading.{all_given, joined_option}
 use Rattle.payload_core_av1.proofs.ReaderLemmas.{given-go, given-stop, none_behind}

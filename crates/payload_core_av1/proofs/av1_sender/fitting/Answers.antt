@@ -1,5 +1,4 @@
-use Rattle.std.proofs.Common.{ℕ, ◌+◌, ◌<◌, ◌≤◌, length, arith, rules}
-use Rattle.payload_core_av1.specs.Leb128.{spelling}
+use Rattle.std.proofs.Common.{arith, rules}
 use Rattle.payload_core_av1.proofs.Leb128Lemmas.{spelling-some}
 use Rattle.payload_core_av1.proofs.PrefixLemmas.{fitting-first, fitting-later}
 use Rattle.payload_core_av1.proofs.av1_sender.fitting.Goals as goal

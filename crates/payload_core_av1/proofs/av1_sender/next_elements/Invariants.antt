@@ -1,4 +1,4 @@
-use Rattle.std.proofs.Common.{◌≡◌, ◌+◌, ◌++◌, ◌≤◌, map, length, vec_len}
+use Rattle.std.proofs.Common.{◌≡◌, ◌+◌, ◌++◌, map, length, vec_len}
 use Rattle.payload_core_av1.specs.Av1Packing.{back, front, is_cut, longest}
 use Rattle.payload_core_av1.specs.Packets.{AreTexts}
 use Rattle.payload_core_av1.proofs.PrefixLemmas.{greedy}

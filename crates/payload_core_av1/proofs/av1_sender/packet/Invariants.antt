@@ -1,4 +1,4 @@
-use Rattle.std.proofs.Common.{◌≡◌, ◌∷◌, ◌++◌, map, drop, length}
+use Rattle.std.proofs.Common.{◌≡◌, ◌++◌, map, drop}
 use Rattle.payload_core_av1.specs.Av1Packing.{body_from, packet_of}
 use Rattle.payload_core_av1.proofs.av1_sender.packet.Given as goal
 

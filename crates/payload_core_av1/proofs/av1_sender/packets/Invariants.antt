@@ -1,4 +1,4 @@
-use Rattle.std.proofs.Common.{◌≡◌, ◌++◌, ◌≤◌, map, length}
+use Rattle.std.proofs.Common.{◌≡◌, ◌++◌, map, length}
 use Rattle.payload_core_base.specs.Law.{joined}
 use Rattle.payload_core_av1.specs.Av1Packing.{packets_of, packets_within}
 use Rattle.payload_core_av1.specs.Packets.{AreTexts}

@@ -1,5 +1,4 @@
-use Rattle.std.proofs.Common.{◌≡◌, ◌-◌, ◌*◌, ◌<◌, ◌≤◌, arith}
-use Rattle.payload_core_av1.specs.Bounds.{bound_of}
+use Rattle.std.proofs.Common.{◌-◌, arith}
 use Rattle.payload_core_av1.proofs.Leb128Lemmas.{bound-positive, bound-seven, bound-step}
 use Rattle.payload_core_av1.proofs.leb128.+size_within.Goals as goal
 

@@ -1,5 +1,5 @@
-use Rattle.std.proofs.Common.{◌≡◌, ◌++◌, ◌∷◌, ◌/◌, ◌%◌, ◌+◌, ◌<◌, [], refl, sym, ap, ◌∙◌, append_assoc, arith}
-use Rattle.payload_core_av1.specs.Leb128.{size_limit, spelling}
+use Rattle.std.proofs.Common.{◌++◌, ◌∷◌, ◌/◌, ◌%◌, ◌+◌, [], sym, ap, ◌∙◌, append_assoc, arith}
+use Rattle.payload_core_av1.specs.Leb128.{spelling}
 use Rattle.payload_core_av1.proofs.Leb128Lemmas.{spelling-last, spelling-more}
 use Rattle.payload_core_av1.proofs.leb128.push_size.Goals as goal
 
