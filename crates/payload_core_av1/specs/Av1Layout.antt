@@ -1,4 +1,4 @@
--- AV1 packets as their elements, one behind the other (RTP payload format for AV1, 4.3 to 4.5).
+-- AV1 packets as their elements, one behind the other (RTP payload format for AV1, 4.4 and 4.5).
 use Rattle.std.specs.Prelude.{◌≡◌, ℕ, zero, suc, ◌<◌, ◌||◌, Bool, true, false, List, [], ◌∷◌, ◌++◌, length, Option, Some, None, Ok, Err}
 use Rattle.payload_core_base.specs.Format.{Fragment, Reading}
 use Rattle.payload_core_base.specs.declared.error.PacketError.{PacketError}

@@ -1,4 +1,4 @@
--- AV1 packets as they are sent (RTP payload format for AV1, 4.2 to 4.5 and 5).
+-- AV1 packets as they are sent (RTP payload format for AV1, 4.4, 4.5 and 5).
 use Rattle.std.specs.Prelude.{ℕ, zero, suc, ◌+◌, ◌-◌, ◌*◌, ◌==◌, Bool, false, List, [], ◌∷◌, ◌++◌, map, length, take, drop, nat_lt, nat_le, Option, Some, None, Result, Ok, Err, if◌then◌else◌}
 use Rattle.payload_core_base.specs.Law.{joined}
 use Rattle.payload_core_base.specs.Packing.{Packing, Sender, Sent}

@@ -1,4 +1,4 @@
--- AV1 packets as they are read (RTP payload format for AV1, sections 4.3 to 4.5).
+-- AV1 packets as they are read (RTP payload format for AV1, sections 4.4 and 4.5).
 use Rattle.std.specs.Prelude.{ℕ, zero, suc, ◌-◌, ◌/◌, ◌%◌, ◌==◌, ◌||◌, Bool, true, false, not, List, [], ◌∷◌, ◌++◌, length, take, slice_index_or, Option, Some, None, Result, Ok, Err, if◌then◌else◌}
 use Rattle.payload_core_base.specs.Format.{Format, Fragment, Reading}
 use Rattle.payload_core_base.specs.declared.error.PacketError.{PacketError}

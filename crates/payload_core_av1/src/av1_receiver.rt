@@ -1,4 +1,4 @@
-//! Reading AV1 payloads (RTP payload format for AV1, 4.3 to 4.5).
+//! Reading AV1 payloads (RTP payload format for AV1, 4.4 and 4.5).
 
 ghost use Rattle.payload_core_av1.specs.Av1Reading.{all_given, av1_format, begun, complete, counted_elements, elements_of, given, has_y, has_z, is_av1_keyframe, opened, opened_by, sized_elements, was_keyframe};
 ghost use Rattle.payload_core_av1.specs.Av1ReadingViews.{Gathers, or_else};
@@ -18,7 +18,7 @@ const Y: u8 = 0x40;
 
 const N: u8 = 0x08;
 
-/// Hands out the units of AV1 packets, each with its size (RTP payload format for AV1, 4.3 to 4.5).
+/// Hands out the units of AV1 packets, each with its size (RTP payload format for AV1, 4.4 and 4.5).
 #[derive(Drop)]
 pub struct Av1Depacketizer {
     alloc: Global,

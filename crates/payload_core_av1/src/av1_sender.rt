@@ -1,4 +1,4 @@
-//! Sending AV1 payloads (RTP payload format for AV1, 4.2 to 4.5 and 5).
+//! Sending AV1 payloads (RTP payload format for AV1, 4.4, 4.5 and 5).
 
 ghost use Rattle.payload_core_av1.specs.Av1Packing.{aggregation, av1_packing, back, body_from, count_field, front, is_cut, longest, packet_of, packets_of, sized, texts_of};
 ghost use Rattle.payload_core_av1.specs.Leb128.{size_limit};
