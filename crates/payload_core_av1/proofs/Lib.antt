@@ -1,0 +1,15 @@
+pub mod Leb128Lemmas
+pub mod ReaderLemmas
+pub mod SizeLaw
+pub mod ElementsLaw
+pub mod ObuLaw
+pub mod Av1LayoutLaw
+pub mod PrefixLemmas
+pub mod PackingLemmas
+pub mod SampleLemmas
+pub mod SpellingLaw
+pub mod PacketsLaw
+pub mod UnitLemmas
+pub mod SplitLemmas
+pub mod Av1RunLaw
+pub mod Av1Law
