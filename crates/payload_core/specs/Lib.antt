@@ -1,5 +1,16 @@
 pub use Rattle.payload_core_audio.specs.AmrWb
 pub use Rattle.payload_core_audio.specs.Plain
+pub use Rattle.payload_core_av1.specs.Av1Coding
+pub use Rattle.payload_core_av1.specs.Av1Layout
+pub use Rattle.payload_core_av1.specs.Av1Packets
+pub use Rattle.payload_core_av1.specs.Av1Packing
+pub use Rattle.payload_core_av1.specs.Av1Reading
+pub use Rattle.payload_core_av1.specs.Av1ReadingTypes
+pub use Rattle.payload_core_av1.specs.Av1ReadingViews
+pub use Rattle.payload_core_av1.specs.Bounds
+pub use Rattle.payload_core_av1.specs.Leb128
+pub use Rattle.payload_core_av1.specs.Obus
+pub use Rattle.payload_core_av1.specs.Samples
 pub use Rattle.payload_core_base.specs.Codecs
 pub use Rattle.payload_core_base.specs.Format
 pub use Rattle.payload_core_base.specs.Law

@@ -12,7 +12,7 @@ use Rattle.payload_core_av1.specs.Obus.{Obu, with_its_size, without_its_size}
 use Rattle.payload_core_av1.specs.Av1Layout.{AreSized, AreSizedButLast, IsBody, IsSized}
 use Rattle.payload_core_av1.specs.Av1Packing.{aggregation, back, body_from, count_field, front, is_cut, longest, packet_of, packets_within, sized, texts_of}
 use Rattle.payload_core_av1.specs.Av1Reading.{Begun, all_given, av1_format, begun, count_w, has_n, has_y, has_z, opened, read_av1, read_begun, read_elements, reading_of, was_keyframe}
-use Rattle.payload_core_av1.specs.Packets.{AreTexts}
+use Rattle.payload_core_av1.specs.Av1Packets.{AreTexts}
 use Rattle.payload_core_av1.proofs.Av1LayoutLaw.{long_read}
 use Rattle.payload_core_av1.proofs.ElementsLaw.{elements-read}
 use Rattle.payload_core_av1.proofs.PacketsLaw.{header_law, longest-is}

@@ -13,7 +13,7 @@ use Rattle.payload_core_av1.specs.Samples.{begins_sequence, obus_of}
 use Rattle.payload_core_av1.specs.Av1Reading.{count_w, has_n, has_y, has_z}
 use Rattle.payload_core_av1.specs.Av1Packing.{back, body_from, count_field, front, is_cut, longest, pack_kept, packets_of, packets_within, texts_of}
 use Rattle.payload_core_av1.specs.Av1Coding.{ArePackets, HeaderLaw, IsLongest, PacketsLaw, PrefixLaw, RefusedLaw}
-use Rattle.payload_core_av1.specs.Packets.{AreTexts}
+use Rattle.payload_core_av1.specs.Av1Packets.{AreTexts}
 use Rattle.payload_core_av1.proofs.PrefixLemmas.{back-part, back-whole, front-part, front-behind, front-zero, greedy, greedy-fits, greedy-le, greedy-most, longest-greedy, longest-some, texts-back, total-back, total-cons}
 use Rattle.payload_core_av1.proofs.SampleLemmas.{kept-sendable, sendable-texts}
 

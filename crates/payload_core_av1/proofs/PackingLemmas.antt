@@ -6,7 +6,7 @@ use Rattle.std.proofs.lemmas.List.{append-nil}
 use Rattle.payload_core_base.specs.Law.{joined}
 use Rattle.payload_core_av1.specs.Leb128.{size_limit, spelling}
 use Rattle.payload_core_av1.specs.Av1Packing.{back, body_from, front, is_cut, longest, packet_of, packets_within, sized}
-use Rattle.payload_core_av1.specs.Packets.{AreTexts, greatest_part}
+use Rattle.payload_core_av1.specs.Av1Packets.{AreTexts, greatest_part}
 use Rattle.payload_core_av1.proofs.PrefixLemmas.{back-whole, cut-whole, front-whole, greedy, greedy-whole, longest-some, texts-back, total-back, total-cons}
 
 -- a text that is taken as a whole

@@ -7,7 +7,7 @@ use Rattle.std.proofs.lemmas.List.{length-append, length-drop, length-take-le, t
 use Rattle.payload_core_base.specs.Law.{joined}
 use Rattle.payload_core_av1.specs.Leb128.{spelling}
 use Rattle.payload_core_av1.specs.Av1Packing.{back, body_from, fits, front, greatest, is_cut, longest, sized}
-use Rattle.payload_core_av1.specs.Packets.{AreTexts, greatest_part, last_len}
+use Rattle.payload_core_av1.specs.Av1Packets.{AreTexts, greatest_part, last_len}
 
 pub greatest-le : (test : ℕ → Bool) (n : ℕ) → greatest test n ≤ n
 greatest-le test zero = omega arith

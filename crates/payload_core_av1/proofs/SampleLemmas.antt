@@ -5,7 +5,7 @@ use Rattle.std.proofs.lemmas.List.{length-append, map-append}
 use Rattle.payload_core_av1.specs.Obus.{Obu, ObuCut, extension_bytes, first_obu, has_extension, is_kept, payload_limit, without_its_size}
 use Rattle.payload_core_av1.specs.Av1Layout.{HasExtensionIf, IsObu}
 use Rattle.payload_core_av1.specs.Av1Packing.{texts_of}
-use Rattle.payload_core_av1.specs.Packets.{AreTexts}
+use Rattle.payload_core_av1.specs.Av1Packets.{AreTexts}
 use Rattle.payload_core_av1.specs.Samples.{AreObus, SampleLaw, and_obus, begins_sequence, is_sequence_header, kept_of, obu_in_front, obus_of, obus_within}
 use Rattle.payload_core_av1.proofs.ObuLaw.{first-found, first-read}
 

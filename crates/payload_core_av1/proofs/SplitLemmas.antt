@@ -6,7 +6,7 @@ use Rattle.std.proofs.lemmas.List.{length-append, length-take-le, take-append-dr
 use Rattle.payload_core_base.specs.Law.{joined}
 use Rattle.payload_core_av1.specs.Av1Packing.{back, front, is_cut}
 use Rattle.payload_core_av1.specs.Av1Reading.{complete, opened, opened_by}
-use Rattle.payload_core_av1.specs.Packets.{AreTexts}
+use Rattle.payload_core_av1.specs.Av1Packets.{AreTexts}
 use Rattle.payload_core_av1.proofs.PrefixLemmas.{back-part, back-whole, cut-part, cut-whole, front-part, front-whole, front-zero, total-cons}
 use Rattle.payload_core_av1.proofs.ReaderLemmas.{complete-behind, opened-behind}
 

@@ -7,5 +7,5 @@ pub mod Av1ReadingTypes
 pub mod Av1Layout
 pub mod Samples
 pub mod Av1Packing
-pub mod Packets
+pub mod Av1Packets
 pub mod Av1Coding

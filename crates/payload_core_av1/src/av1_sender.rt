@@ -3,7 +3,7 @@
 ghost use Rattle.payload_core_av1.specs.Av1Packing.{aggregation, av1_packing, back, body_from, count_field, front, is_cut, longest, packet_of, packets_of, sized, texts_of};
 ghost use Rattle.payload_core_av1.specs.Leb128.{size_limit};
 ghost use Rattle.payload_core_av1.specs.Obus.{is_kept, obu as spec_obu};
-ghost use Rattle.payload_core_av1.specs.Packets.{AreTexts, greatest_part};
+ghost use Rattle.payload_core_av1.specs.Av1Packets.{AreTexts, greatest_part};
 ghost use Rattle.payload_core_av1.specs.Samples.{begins_sequence, kept_of};
 ghost use Rattle.std.specs.Prelude.{◌≡◌, ◌≢◌, ◌+◌, ◌++◌, ◌<◌, ◌≤◌, ◌∷◌, if◌then◌else◌, [], false, ◌||◌, nat_le, nat_lt, filter, option_map, IfErr, IfOk, List, None, Some, map, length};
 

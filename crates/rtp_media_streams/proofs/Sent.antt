@@ -61,8 +61,8 @@ fits s time values h =
     let last : nat_lt s.limit (longest_datagram s values) ≡ false =
     last-no (s.failed || nat_le (2 ^ 62) s.next) (is_none (checked_rebased time s.rate)) (nat_lt s.limit (longest_datagram s values)) StreamFailed TimeTooLarge LimitTooSmall h in
     lt-no s.limit (longest_datagram s values) last where
-  lt-no : (a b : ℕ) → nat_lt a b ≡ false → b ≤ a
-  lt-no a b h = grind (arith, nat_tests)
+      lt-no : (a b : ℕ) → nat_lt a b ≡ false → b ≤ a
+      lt-no a b h = grind (arith, nat_tests)
 
 pub sent-short : (s : Sending) (time : Time) (values : ExtensionValues) (bytes : List ℕ) → refusal_of_sample s time values ≡ None →
     (i : ℕ) (d : List ℕ) → i < length (sent_datagrams s time values bytes) → length (slice_index_or (sent_datagrams s time values bytes) i d) ≤ s.limit

@@ -16,7 +16,7 @@ fn sending_end(rt: &(impl AllocGlobal + Abort), mtu: usize, limit: usize) -> Res
     Ok(end)
 }
 
-/// What a sample of this time gives at stream 0.
+/// What a sample of this time, without values, gives at stream 0.
 fn push(
     rt: &impl Abort,
     end: &mut End,
@@ -24,14 +24,21 @@ fn push(
     rate: u32,
     bytes: &[u8],
 ) -> Result<Result<Vec<Datagram>, SampleError>, Fail> {
-    assert!(rt; end.is_sender(0));
     let rate = Frequency::new(rate).ok_or("a rate")?;
-    Ok(end.push_sample(
-        0,
-        MediaTime::new(ticks, rate),
-        bytes,
-        &ExtensionValues::absent(),
-    ))
+    let time = MediaTime::new(ticks, rate);
+    Ok(push_with(rt, end, time, bytes, &ExtensionValues::absent()))
+}
+
+/// What a sample gives at stream 0.
+pub fn push_with(
+    rt: &impl Abort,
+    end: &mut End,
+    time: MediaTime,
+    bytes: &[u8],
+    values: &ExtensionValues,
+) -> Result<Vec<Datagram>, SampleError> {
+    assert!(rt; end.is_sender(0));
+    end.push_sample(0, time, bytes, values)
 }
 
 #[test]

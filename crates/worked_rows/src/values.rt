@@ -3,8 +3,9 @@
 ghost use Rattle.std.specs.Prelude.{◌≤◌};
 
 use crate::exchanges::{audio, end_with};
+use crate::samples::push_with;
 use crate::streams::params;
-use rtp_media::{Datagram, End, connect};
+use rtp_media::{End, connect};
 use rtp_wire::{
     Direction, Extension, ExtensionMap, ExtensionValues, Frequency, MediaTime, Mid, Pt, Ssrc,
 };
@@ -22,13 +23,6 @@ fn mid_as(id: u8) -> ExtensionMap
     exts
 }
 
-/// What stream 0 sends of the sample `01 02 03` at 960.
-fn sent(rt: &impl Abort, end: &mut End, values: &ExtensionValues) -> Result<Vec<Datagram>, Fail> {
-    assert!(rt; end.is_sender(0));
-    let time = MediaTime::new(960, Frequency::FORTY_EIGHT_KHZ);
-    Ok(end.push_sample(0, time, &[1, 2, 3], values)?)
-}
-
 /// Sends row 23's samples from one end to the other.
 fn passes(rt: &impl Abort, from: &mut End, to: &mut End) -> Result<(), Fail> {
     let (mid, ssrc, pt) = (Mid::from("0"), Ssrc::from(44), Pt::from(111));
@@ -38,14 +32,15 @@ fn passes(rt: &impl Abort, from: &mut End, to: &mut End) -> Result<(), Fail> {
     assert_eq!(rt; to.open_receiver(mid, ssrc, pt, 127)?, 0);
     let mut values = ExtensionValues::absent();
     values.mid = Some(mid);
-    let first = sent(rt, from, &values)?;
+    let time = MediaTime::new(960, Frequency::FORTY_EIGHT_KHZ);
+    let first = push_with(rt, from, time, &[1, 2, 3], &values)?;
     assert_eq!(rt; first.len(), 1);
     let with_mid = [
         0x90, 0x6f, 0, 0, 0, 0, 0x03, 0xc0, 0, 0, 0, 44, 0xbe, 0xde, 0, 1, 0x40, 0x30, 0, 0, 1, 2,
         3,
     ];
     assert_eq!(rt; first[0].as_slice(), with_mid.as_slice());
-    let second = sent(rt, from, &ExtensionValues::absent())?;
+    let second = push_with(rt, from, time, &[1, 2, 3], &ExtensionValues::absent())?;
     assert_eq!(rt; second.len(), 1);
     let without = [
         0x90, 0x6f, 0, 1, 0, 0, 0x03, 0xc0, 0, 0, 0, 44, 0xbe, 0xde, 0, 0, 1, 2, 3,

@@ -2,7 +2,7 @@ use Rattle.std.proofs.Common.{◌≡◌, ℕ, ◌+◌, ◌-◌, ◌≤◌, ◌++
 use Rattle.std.proofs.lemmas.List.{map_push}
 use Rattle.payload_core_av1.specs.Leb128.{spelling}
 use Rattle.payload_core_av1.specs.Av1Packing.{back, front, is_cut}
-use Rattle.payload_core_av1.specs.Packets.{greatest_part}
+use Rattle.payload_core_av1.specs.Av1Packets.{greatest_part}
 use Rattle.payload_core_av1.proofs.PackingLemmas.{taken-whole}
 use Rattle.payload_core_av1.proofs.PrefixLemmas.{greedy, longest-greedy}
 use Rattle.payload_core_av1.proofs.av1_sender.next_elements.Goals as goal

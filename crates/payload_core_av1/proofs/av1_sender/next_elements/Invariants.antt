@@ -1,6 +1,6 @@
 use Rattle.std.proofs.Common.{◌≡◌, ◌+◌, ◌++◌, map, length, vec_len}
 use Rattle.payload_core_av1.specs.Av1Packing.{back, front, is_cut, longest}
-use Rattle.payload_core_av1.specs.Packets.{AreTexts}
+use Rattle.payload_core_av1.specs.Av1Packets.{AreTexts}
 use Rattle.payload_core_av1.proofs.PrefixLemmas.{greedy}
 use Rattle.payload_core_av1.proofs.av1_sender.next_elements.Given as goal
 

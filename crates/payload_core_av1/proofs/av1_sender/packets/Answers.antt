@@ -2,7 +2,7 @@ use Rattle.std.proofs.Common.{◌≡◌, ℕ, ◌+◌, ◌-◌, ◌<◌, ◌++�
 use Rattle.std.proofs.lemmas.List.{length-map, map_push}
 use Rattle.payload_core_base.specs.Law.{joined}
 use Rattle.payload_core_av1.specs.Av1Packing.{back, front, is_cut, longest, packet_of, packets_within}
-use Rattle.payload_core_av1.specs.Packets.{AreTexts}
+use Rattle.payload_core_av1.specs.Av1Packets.{AreTexts}
 use Rattle.payload_core_av1.proofs.PackingLemmas.{packets-go, total-less}
 use Rattle.payload_core_av1.proofs.PrefixLemmas.{texts-back, texts-front}
 use Rattle.payload_core_av1.proofs.ReaderLemmas.{not_empty}

@@ -1,5 +1,5 @@
 use Rattle.std.proofs.Common.{ℕ, List, Vec, Global, map, sym, ap, ◌∙◌, subst}
-use Rattle.payload_core_av1.specs.Packets.{AreTexts}
+use Rattle.payload_core_av1.specs.Av1Packets.{AreTexts}
 use Rattle.payload_core_av1.proofs.SampleLemmas.{kept-texts}
 use Rattle.payload_core_av1.proofs.av1_sender.Av1PacketizerPacketizer.packetize.Goals as goal
 
