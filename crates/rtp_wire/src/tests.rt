@@ -464,7 +464,8 @@ fn read<'a>(datagram: &'a [u8], exts: &ExtensionMap) -> Option<(SeqNo, Option<Mi
     let header = RtpHeader::parse(datagram, exts)?;
     let payload = unpad_payload(header.has_padding, &datagram[header.header_len..])?;
     let number = header.sequence_number(None);
-    Some((number, header.ext_vals.mid, payload))
+    let mid = header.ext_vals.mid;
+    Some((number, mid, payload))
 }
 
 #[test]
