@@ -459,25 +459,31 @@ fn runs(rt: HostRuntime) -> Result<(), Fail> {
     Ok(())
 }
 
-/// The example of the readme: what a datagram says under a map.
-fn read<'a>(datagram: &'a [u8], exts: &ExtensionMap) -> Option<(SeqNo, Option<Mid>, &'a [u8])> {
-    let header = RtpHeader::parse(datagram, exts)?;
-    let payload = unpad_payload(header.has_padding, &datagram[header.header_len..])?;
-    let number = header.sequence_number(None);
-    let mid = header.ext_vals.mid;
-    Some((number, mid, payload))
+/// The example of the readme: whether a datagram carries this section's name and payload.
+fn carries_mid(datagram: &[u8], exts: &ExtensionMap, mid: Mid, payload: &[u8]) -> bool {
+    let Some(header) = RtpHeader::parse(datagram, exts) else {
+        return false;
+    };
+    let behind = &datagram[header.header_len..];
+    unpad_payload(header.has_padding, behind) == Some(payload) && header.ext_vals.mid == Some(mid)
 }
 
 #[test]
 fn readme_example(rt: HostRuntime) -> Result<(), Fail> {
     let mut exts = ExtensionMap::empty();
     exts.set(4, Extension::RtpMid);
-    let datagram =
-        b"\x90\x6f\x00\x07\x00\x00\x00\x00\x00\x00\x00\x2c\xbe\xde\x00\x01\x40\x30\x00\x00\x01\x02";
-    let (number, mid, payload) = read(datagram, &exts).ok_or("a header")?;
-    assert!(rt; number.get() == 7);
-    assert!(rt; mid == Some(Mid::from("0")));
-    assert!(rt; payload == [1, 2].as_slice());
-    assert!(rt; read(&[0, 1, 2], &exts).is_none());
+    let mut datagram = [0; 22];
+    let header = RtpHeader {
+        ext_vals: ExtensionValues {
+            mid: Some(Mid::from("0")),
+            ..ExtensionValues::absent()
+        },
+        ..plain()
+    };
+    let len = write(&rt, &header, &exts, &mut datagram);
+    assert!(rt; len == 20);
+    assert!(rt; carries_mid(&datagram, &exts, Mid::from("0"), &[0, 0]));
+    assert!(rt; !carries_mid(&datagram, &exts, Mid::from("1"), &[0, 0]));
+    assert!(rt; !carries_mid(&[0, 1, 2], &exts, Mid::from("0"), &[]));
     Ok(())
 }

@@ -99,8 +99,8 @@ fn lines_that_are_understood(rt: HostRuntime) -> Result<(), Fail> {
 }
 
 #[test]
-fn lines_that_are_not_understood(rt: HostRuntime) -> Result<(), Fail> {
-    let table = [
+fn openings_that_are_not_understood(rt: HostRuntime) -> Result<(), Fail> {
+    for line in [
         " ",
         "fixed",
         "fixed c",
@@ -127,6 +127,18 @@ fn lines_that_are_not_understood(rt: HostRuntime) -> Result<(), Fail> {
         "open a 0 44 111",
         "open a 0 44 111 -",
         "open a 0 44 111 18446744073709551616",
+    ] {
+        let text = described(rt.alloc(), line.as_bytes())?;
+        assert_eq!(rt; text.as_str(), "error", "at {line}");
+    }
+    let no_text = described(rt.alloc(), b"open a \xff 44 111 10")?;
+    assert_eq!(rt; no_text.as_str(), "error");
+    Ok(())
+}
+
+#[test]
+fn samples_and_datagrams_that_are_not_understood(rt: HostRuntime) -> Result<(), Fail> {
+    for line in [
         "sample a 0 960 abc",
         "sample a 0 960 0g",
         "sample a 0 960 --",
@@ -139,13 +151,10 @@ fn lines_that_are_not_understood(rt: HostRuntime) -> Result<(), Fail> {
         "poll a 0x0",
         "poll a 0 0",
         "error line",
-    ];
-    for line in table {
+    ] {
         let text = described(rt.alloc(), line.as_bytes())?;
         assert_eq!(rt; text.as_str(), "error", "at {line}");
     }
-    let no_text = described(rt.alloc(), b"open a \xff 44 111 10")?;
-    assert_eq!(rt; no_text.as_str(), "error");
     Ok(())
 }
 
