@@ -5,7 +5,7 @@ ghost use Rattle.h26x_payload_annexb.specs.Places.{HasCodeAt, HasNoCodeBefore};
 ghost use Rattle.h26x_payload_annexb.specs.Units.{units_behind, without_zeros};
 ghost use Rattle.h26x_payload_annexb.specs.Cut.{with_unit};
 
-// The place of the first 00 00 01.
+/// The place of the first 00 00 01 (ITU-T H.264 annex B), from 0.
 pub fn code_place(text: &[u8]) -> Option<usize>
     ensures { MatchOption result (HasNoCodeBefore text.now (length text.now))
         (λ place. HasCodeAt text.now place × HasNoCodeBefore text.now place) }
@@ -18,7 +18,7 @@ pub fn code_place(text: &[u8]) -> Option<usize>
     None
 }
 
-// A text without the zeros at its end.
+/// A text without the zeros at its end.
 pub fn without_zeros(text: &[u8]) -> &[u8]
     ensures { result.now ≡ without_zeros text.now }
 {
@@ -32,7 +32,8 @@ pub fn without_zeros(text: &[u8]) -> &[u8]
     kept
 }
 
-// What stands before the first start code, and behind it.
+/// What stands before the first start code (ITU-T H.264 annex B), and behind it; all and nothing
+/// without one.
 pub fn first_stretch(text: &[u8]) -> (&[u8], &[u8])
     ensures units { units_behind text.now ≡ with_unit result.0.now (units_behind result.1.now) }
     ensures shorter { 0 < length text.now → length result.1.now < length text.now }

@@ -3,15 +3,16 @@
 ghost use Rattle.std.specs.Prelude.{◌≡◌, ℕ};
 ghost use Rattle.h26x_payload_profiles.specs.Tables.{with_number};
 
-// A value with a number of its own.
+/// A value with a number of its own.
 pub trait Numbered: Copy {
     ghost number: { Self → ℕ };
 
+    /// The number.
     fn number(self) -> u8
         ensures { result ≡ number self };
 }
 
-// The value of a table that has this number.
+/// The value of a table that has this number, if one has.
 pub fn find_number<T: Numbered>(table: &[T], wanted: u8) -> Option<T>
     ensures { result ≡ with_number T.number table.now wanted }
 {
