@@ -7,7 +7,7 @@ use Rattle.rtp_media_lines.specs.declared.line.Command.TheVariants.{Fixed, Send,
 use Rattle.rtp_media_lines.specs.Words.{side_of, text_of, hex_of, dash_or, numbers_of, number_below, behind, mid_value, ◌>>=◌}
 use Rattle.rtp_media_lines.proofs.Behind.{behind-sound, behind-append}
 use Rattle.rtp_media_lines.specs.Lines.{command_of, fixed_of, send_of, open_of, sample_of, receive_of, poll_of}
-use Rattle.rtp_media_lines.proofs.ReadSteps.{dispatch, same, ended_some, step, glue, under}
+use Rattle.rtp_media_lines.proofs.ReadSteps.{dispatch, same, ended_some, read_on, glue, under}
 use Rattle.rtp_media_lines.proofs.ExchangeWords.{exchange_says, read_row, read_ext, read_end, read_offer, read_answer, read_accept, read_withdraw, read_connect}
 use Rattle.rtp_media_lines.specs.Says.{Says, AreSendWords, AreOpenWords, AreSampleWords, mid_words, AreReceiveWords, ArePollWords}
 
@@ -16,67 +16,67 @@ use Rattle.rtp_media_lines.specs.Says.{Says, AreSendWords, AreOpenWords, AreSamp
 fixed_says : (verb : List ℕ) (words : List (List ℕ)) (c : Command) → verb ≡ codes "fixed" → fixed_of words ≡ Some c → Says (verb ∷ words) c
 unfolding fixed_of
 fixed_says verb words c v h =
-    let e = step side_of words _ c h in
-    let end = ended_some e.0.1 _ c e.4 in
-    subst (Says (verb ∷ words)) end.1 (e.1, glue v (e.2 ∙ under e.1 end.0), e.3)
+    read_on _ side_of words _ c h (λ e_word after_e e is_e says_e left_e.
+    let end = ended_some after_e _ c left_e in
+    subst (Says (verb ∷ words)) end.1 (e_word, glue v (is_e ∙ under e_word end.0), says_e))
 
 send_says : (verb : List ℕ) (words : List (List ℕ)) (c : Command) → verb ≡ codes "send" → send_of words ≡ Some c → Says (verb ∷ words) c
 unfolding send_of
 send_says verb words c v h =
-    let e = step side_of words _ c h in
-    let mid = step text_of e.0.1 _ c e.4 in
-    let ssrc = step (number_below (2 ^ 32)) mid.0.1 _ c mid.4 in
-    let pt = step (number_below (2 ^ 8)) ssrc.0.1 _ c ssrc.4 in
-    let number = step (number_below (2 ^ 64)) pt.0.1 _ c pt.4 in
-    let mtu = step (number_below (2 ^ 64)) number.0.1 _ c number.4 in
-    let limit = step (number_below (2 ^ 64)) mtu.0.1 _ c mtu.4 in
-    let distances = step (dash_or numbers_of) limit.0.1 _ c limit.4 in
-    let picture = step (dash_or (number_below (2 ^ 16))) distances.0.1 _ c distances.4 in
-    let end = ended_some picture.0.1 _ c picture.4 in
+    read_on _ side_of words _ c h (λ e_word after_e e is_e says_e left_e.
+    read_on _ text_of after_e _ c left_e (λ mid_word after_mid mid is_mid says_mid left_mid.
+    read_on _ (number_below (2 ^ 32)) after_mid _ c left_mid (λ ssrc_word after_ssrc ssrc is_ssrc says_ssrc left_ssrc.
+    read_on _ (number_below (2 ^ 8)) after_ssrc _ c left_ssrc (λ pt_word after_pt pt is_pt says_pt left_pt.
+    read_on _ (number_below (2 ^ 64)) after_pt _ c left_pt (λ number_word after_number number is_number says_number left_number.
+    read_on _ (number_below (2 ^ 64)) after_number _ c left_number (λ mtu_word after_mtu mtu is_mtu says_mtu left_mtu.
+    read_on _ (number_below (2 ^ 64)) after_mtu _ c left_mtu (λ limit_word after_limit limit is_limit says_limit left_limit.
+    read_on _ (dash_or numbers_of) after_limit _ c left_limit (λ distances_word after_distances distances is_distances says_distances left_distances.
+    read_on _ (dash_or (number_below (2 ^ 16))) after_distances _ c left_distances (λ picture_word after_picture picture is_picture says_picture left_picture.
+    let end = ended_some after_picture _ c left_picture in
     subst (Says (verb ∷ words)) end.1 (record {
-      e = e.1;
-      mid = mid.1;
-      ssrc = ssrc.1;
-      pt = pt.1;
-      first = number.1;
-      mtu = mtu.1;
-      limit = limit.1;
-      distances = distances.1;
-      picture = picture.1;
-      words_are = glue v (e.2 ∙ under e.1 (mid.2 ∙ under mid.1 (ssrc.2 ∙ under ssrc.1 (pt.2 ∙ under pt.1 (number.2 ∙ under number.1 (mtu.2 ∙ under mtu.1 (limit.2 ∙ under limit.1 (distances.2 ∙ under distances.1 (picture.2 ∙ under picture.1 end.0)))))))));
-      e_says = e.3;
-      mid_says = mid.3;
-      ssrc_says = ssrc.3;
-      pt_says = pt.3;
-      first_says = number.3;
-      mtu_says = mtu.3;
-      limit_says = limit.3;
-      distances_say = distances.3;
-      picture_says = picture.3;
-    })
+      e = e_word;
+      mid = mid_word;
+      ssrc = ssrc_word;
+      pt = pt_word;
+      first = number_word;
+      mtu = mtu_word;
+      limit = limit_word;
+      distances = distances_word;
+      picture = picture_word;
+      words_are = glue v (is_e ∙ under e_word (is_mid ∙ under mid_word (is_ssrc ∙ under ssrc_word (is_pt ∙ under pt_word (is_number ∙ under number_word (is_mtu ∙ under mtu_word (is_limit ∙ under limit_word (is_distances ∙ under distances_word (is_picture ∙ under picture_word end.0)))))))));
+      e_says = says_e;
+      mid_says = says_mid;
+      ssrc_says = says_ssrc;
+      pt_says = says_pt;
+      first_says = says_number;
+      mtu_says = says_mtu;
+      limit_says = says_limit;
+      distances_say = says_distances;
+      picture_says = says_picture;
+    }))))))))))
 
 open_says : (verb : List ℕ) (words : List (List ℕ)) (c : Command) → verb ≡ codes "open" → open_of words ≡ Some c → Says (verb ∷ words) c
 unfolding open_of
 open_says verb words c v h =
-    let e = step side_of words _ c h in
-    let mid = step text_of e.0.1 _ c e.4 in
-    let ssrc = step (number_below (2 ^ 32)) mid.0.1 _ c mid.4 in
-    let pt = step (number_below (2 ^ 8)) ssrc.0.1 _ c ssrc.4 in
-    let hold_back = step (number_below (2 ^ 64)) pt.0.1 _ c pt.4 in
-    let end = ended_some hold_back.0.1 _ c hold_back.4 in
+    read_on _ side_of words _ c h (λ e_word after_e e is_e says_e left_e.
+    read_on _ text_of after_e _ c left_e (λ mid_word after_mid mid is_mid says_mid left_mid.
+    read_on _ (number_below (2 ^ 32)) after_mid _ c left_mid (λ ssrc_word after_ssrc ssrc is_ssrc says_ssrc left_ssrc.
+    read_on _ (number_below (2 ^ 8)) after_ssrc _ c left_ssrc (λ pt_word after_pt pt is_pt says_pt left_pt.
+    read_on _ (number_below (2 ^ 64)) after_pt _ c left_pt (λ hold_back_word after_hold_back hold_back is_hold_back says_hold_back left_hold_back.
+    let end = ended_some after_hold_back _ c left_hold_back in
     subst (Says (verb ∷ words)) end.1 (record {
-      e = e.1;
-      mid = mid.1;
-      ssrc = ssrc.1;
-      pt = pt.1;
-      hold_back = hold_back.1;
-      words_are = glue v (e.2 ∙ under e.1 (mid.2 ∙ under mid.1 (ssrc.2 ∙ under ssrc.1 (pt.2 ∙ under pt.1 (hold_back.2 ∙ under hold_back.1 end.0)))));
-      e_says = e.3;
-      mid_says = mid.3;
-      ssrc_says = ssrc.3;
-      pt_says = pt.3;
-      hold_back_says = hold_back.3;
-    })
+      e = e_word;
+      mid = mid_word;
+      ssrc = ssrc_word;
+      pt = pt_word;
+      hold_back = hold_back_word;
+      words_are = glue v (is_e ∙ under e_word (is_mid ∙ under mid_word (is_ssrc ∙ under ssrc_word (is_pt ∙ under pt_word (is_hold_back ∙ under hold_back_word end.0)))));
+      e_says = says_e;
+      mid_says = says_mid;
+      ssrc_says = says_ssrc;
+      pt_says = says_pt;
+      hold_back_says = says_hold_back;
+    }))))))
 
 -- nothing is left, or a word `mid=TEXT`
 mid_some : (words : List (List ℕ)) (f : Option (List ℕ) → Command) (c : Command) → (mid_value words >>= (λ mid. Some (f mid))) ≡ Some c → (mid : Option (List ℕ)) × (words ≡ mid_words mid) × (f mid ≡ c)
@@ -90,50 +90,50 @@ mid_some (word ∷ next ∷ words) f c h = absurd cc
 sample_says : (verb : List ℕ) (words : List (List ℕ)) (c : Command) → verb ≡ codes "sample" → sample_of words ≡ Some c → Says (verb ∷ words) c
 unfolding sample_of
 sample_says verb words c v h =
-    let e = step side_of words _ c h in
-    let stream = step (number_below (2 ^ 64)) e.0.1 _ c e.4 in
-    let time = step (number_below (2 ^ 64)) stream.0.1 _ c stream.4 in
-    let bytes = step hex_of time.0.1 _ c time.4 in
-    let end = mid_some bytes.0.1 _ c bytes.4 in
+    read_on _ side_of words _ c h (λ e_word after_e e is_e says_e left_e.
+    read_on _ (number_below (2 ^ 64)) after_e _ c left_e (λ stream_word after_stream stream is_stream says_stream left_stream.
+    read_on _ (number_below (2 ^ 64)) after_stream _ c left_stream (λ time_word after_time time is_time says_time left_time.
+    read_on _ hex_of after_time _ c left_time (λ bytes_word after_bytes bytes is_bytes says_bytes left_bytes.
+    let end = mid_some after_bytes _ c left_bytes in
     subst (Says (verb ∷ words)) end.2 (record {
-      e = e.1;
-      stream = stream.1;
-      time = time.1;
-      bytes = bytes.1;
-      words_are = glue v (e.2 ∙ under e.1 (stream.2 ∙ under stream.1 (time.2 ∙ under time.1 (bytes.2 ∙ under bytes.1 end.1))));
-      e_says = e.3;
-      stream_says = stream.3;
-      time_says = time.3;
-      bytes_say = bytes.3;
-    })
+      e = e_word;
+      stream = stream_word;
+      time = time_word;
+      bytes = bytes_word;
+      words_are = glue v (is_e ∙ under e_word (is_stream ∙ under stream_word (is_time ∙ under time_word (is_bytes ∙ under bytes_word end.1))));
+      e_says = says_e;
+      stream_says = says_stream;
+      time_says = says_time;
+      bytes_say = says_bytes;
+    })))))
 
 receive_says : (verb : List ℕ) (words : List (List ℕ)) (c : Command) → verb ≡ codes "receive" → receive_of words ≡ Some c → Says (verb ∷ words) c
 unfolding receive_of
 receive_says verb words c v h =
-    let e = step side_of words _ c h in
-    let bytes = step hex_of e.0.1 _ c e.4 in
-    let end = ended_some bytes.0.1 _ c bytes.4 in
+    read_on _ side_of words _ c h (λ e_word after_e e is_e says_e left_e.
+    read_on _ hex_of after_e _ c left_e (λ bytes_word after_bytes bytes is_bytes says_bytes left_bytes.
+    let end = ended_some after_bytes _ c left_bytes in
     subst (Says (verb ∷ words)) end.1 (record {
-      e = e.1;
-      bytes = bytes.1;
-      words_are = glue v (e.2 ∙ under e.1 (bytes.2 ∙ under bytes.1 end.0));
-      e_says = e.3;
-      bytes_say = bytes.3;
-    })
+      e = e_word;
+      bytes = bytes_word;
+      words_are = glue v (is_e ∙ under e_word (is_bytes ∙ under bytes_word end.0));
+      e_says = says_e;
+      bytes_say = says_bytes;
+    })))
 
 poll_says : (verb : List ℕ) (words : List (List ℕ)) (c : Command) → verb ≡ codes "poll" → poll_of words ≡ Some c → Says (verb ∷ words) c
 unfolding poll_of
 poll_says verb words c v h =
-    let e = step side_of words _ c h in
-    let stream = step (number_below (2 ^ 64)) e.0.1 _ c e.4 in
-    let end = ended_some stream.0.1 _ c stream.4 in
+    read_on _ side_of words _ c h (λ e_word after_e e is_e says_e left_e.
+    read_on _ (number_below (2 ^ 64)) after_e _ c left_e (λ stream_word after_stream stream is_stream says_stream left_stream.
+    let end = ended_some after_stream _ c left_stream in
     subst (Says (verb ∷ words)) end.1 (record {
-      e = e.1;
-      stream = stream.1;
-      words_are = glue v (e.2 ∙ under e.1 (stream.2 ∙ under stream.1 end.0));
-      e_says = e.3;
-      stream_says = stream.3;
-    })
+      e = e_word;
+      stream = stream_word;
+      words_are = glue v (is_e ∙ under e_word (is_stream ∙ under stream_word end.0));
+      e_says = says_e;
+      stream_says = says_stream;
+    })))
 
 pub says_what_is_read : (words : List (List ℕ)) (c : Command) → command_of words ≡ Some c → Says words c
 says_what_is_read [] c h = cc h

@@ -9,7 +9,7 @@ use Rattle.rtp_media_lines.specs.Sections.{section_of, sections_of, sections_the
 use Rattle.rtp_media_lines.specs.ExchangeLines.{row_of, ext_of, end_of, offer_of, answer_of, accept_of, withdraw_of, connect_of}
 use Rattle.rtp_media_lines.specs.Lines.{exchange_command_of}
 use Rattle.rtp_media_lines.specs.Says.{Says, AreRowWords, AreExtWords, AreEndWords, AreOfferWords, AreAnswerWords, AreAcceptWords, AreConnectWords}
-use Rattle.rtp_media_lines.proofs.ReadSteps.{bind_some, step, ended_some, glue, under, dispatch, same}
+use Rattle.rtp_media_lines.proofs.ReadSteps.{bind_some, read_on, ended_some, glue, under, dispatch, same}
 
 some_is : {A : Type 0} {x y : A} → Some x ≡ Some y → x ≡ y
 some_is h = cc h
@@ -19,115 +19,115 @@ some_is h = cc h
 row_says : (verb : List ℕ) (words : List (List ℕ)) (c : Command) → verb ≡ codes "row" → row_of words ≡ Some c → Says (verb ∷ words) c
 unfolding row_of
 row_says verb words c v h =
-    let e = step side_of words _ c h in
-    let pt = step (number_below (2 ^ 8)) e.0.1 _ c e.4 in
-    let resend = step (dash_or (number_below (2 ^ 8))) pt.0.1 _ c pt.4 in
-    let red = step (dash_or (number_below (2 ^ 8))) resend.0.1 _ c resend.4 in
-    let codec = step text_of red.0.1 _ c red.4 in
-    let clock = step (number_below (2 ^ 32)) codec.0.1 _ c codec.4 in
-    let channels = step (dash_or (number_below (2 ^ 8))) clock.0.1 _ c clock.4 in
-    let format = step (dash_or text_of) channels.0.1 _ c channels.4 in
-    let end = ended_some format.0.1 _ c format.4 in
+    read_on _ side_of words _ c h (λ e_word after_e e is_e says_e left_e.
+    read_on _ (number_below (2 ^ 8)) after_e _ c left_e (λ pt_word after_pt pt is_pt says_pt left_pt.
+    read_on _ (dash_or (number_below (2 ^ 8))) after_pt _ c left_pt (λ resend_word after_resend resend is_resend says_resend left_resend.
+    read_on _ (dash_or (number_below (2 ^ 8))) after_resend _ c left_resend (λ red_word after_red red is_red says_red left_red.
+    read_on _ text_of after_red _ c left_red (λ codec_word after_codec codec is_codec says_codec left_codec.
+    read_on _ (number_below (2 ^ 32)) after_codec _ c left_codec (λ clock_word after_clock clock is_clock says_clock left_clock.
+    read_on _ (dash_or (number_below (2 ^ 8))) after_clock _ c left_clock (λ channels_word after_channels channels is_channels says_channels left_channels.
+    read_on _ (dash_or text_of) after_channels _ c left_channels (λ format_word after_format format is_format says_format left_format.
+    let end = ended_some after_format _ c left_format in
     subst (Says (verb ∷ words)) end.1 (record {
-      e = e.1;
-      pt = pt.1;
-      resend = resend.1;
-      red = red.1;
-      codec = codec.1;
-      clock = clock.1;
-      channels = channels.1;
-      format = format.1;
-      words_are = glue v (e.2 ∙ under e.1 (pt.2 ∙ under pt.1 (resend.2 ∙ under resend.1 (red.2 ∙ under red.1 (codec.2 ∙ under codec.1 (clock.2 ∙ under clock.1 (channels.2 ∙ under channels.1 (format.2 ∙ under format.1 end.0))))))));
-      e_says = e.3;
-      pt_says = pt.3;
-      resend_says = resend.3;
-      red_says = red.3;
-      codec_says = codec.3;
-      clock_says = clock.3;
-      channels_say = channels.3;
-      format_says = format.3;
-    })
+      e = e_word;
+      pt = pt_word;
+      resend = resend_word;
+      red = red_word;
+      codec = codec_word;
+      clock = clock_word;
+      channels = channels_word;
+      format = format_word;
+      words_are = glue v (is_e ∙ under e_word (is_pt ∙ under pt_word (is_resend ∙ under resend_word (is_red ∙ under red_word (is_codec ∙ under codec_word (is_clock ∙ under clock_word (is_channels ∙ under channels_word (is_format ∙ under format_word end.0))))))));
+      e_says = says_e;
+      pt_says = says_pt;
+      resend_says = says_resend;
+      red_says = says_red;
+      codec_says = says_codec;
+      clock_says = says_clock;
+      channels_say = says_channels;
+      format_says = says_format;
+    })))))))))
 
 ext_says : (verb : List ℕ) (words : List (List ℕ)) (c : Command) → verb ≡ codes "ext" → ext_of words ≡ Some c → Says (verb ∷ words) c
 unfolding ext_of
 ext_says verb words c v h =
-    let e = step side_of words _ c h in
-    let id = step (number_below (2 ^ 8)) e.0.1 _ c e.4 in
-    let uri = step text_of id.0.1 _ c id.4 in
-    let end = ended_some uri.0.1 _ c uri.4 in
+    read_on _ side_of words _ c h (λ e_word after_e e is_e says_e left_e.
+    read_on _ (number_below (2 ^ 8)) after_e _ c left_e (λ id_word after_id id is_id says_id left_id.
+    read_on _ text_of after_id _ c left_id (λ uri_word after_uri uri is_uri says_uri left_uri.
+    let end = ended_some after_uri _ c left_uri in
     subst (Says (verb ∷ words)) end.1 (record {
-      e = e.1;
-      id = id.1;
-      uri = uri.1;
-      words_are = glue v (e.2 ∙ under e.1 (id.2 ∙ under id.1 (uri.2 ∙ under uri.1 end.0)));
-      e_says = e.3;
-      id_says = id.3;
-      uri_says = uri.3;
-    })
+      e = e_word;
+      id = id_word;
+      uri = uri_word;
+      words_are = glue v (is_e ∙ under e_word (is_id ∙ under id_word (is_uri ∙ under uri_word end.0)));
+      e_says = says_e;
+      id_says = says_id;
+      uri_says = says_uri;
+    }))))
 
 end_says : (verb : List ℕ) (words : List (List ℕ)) (c : Command) → verb ≡ codes "end" → end_of words ≡ Some c → Says (verb ∷ words) c
 unfolding end_of
 end_says verb words c v h =
-    let e = step side_of words _ c h in
-    let session = step (number_below (2 ^ 64)) e.0.1 _ c e.4 in
-    let end = ended_some session.0.1 _ c session.4 in
+    read_on _ side_of words _ c h (λ e_word after_e e is_e says_e left_e.
+    read_on _ (number_below (2 ^ 64)) after_e _ c left_e (λ session_word after_session session is_session says_session left_session.
+    let end = ended_some after_session _ c left_session in
     subst (Says (verb ∷ words)) end.1 (record {
-      e = e.1;
-      session = session.1;
-      words_are = glue v (e.2 ∙ under e.1 (session.2 ∙ under session.1 end.0));
-      e_says = e.3;
-      session_says = session.3;
-    })
+      e = e_word;
+      session = session_word;
+      words_are = glue v (is_e ∙ under e_word (is_session ∙ under session_word end.0));
+      e_says = says_e;
+      session_says = says_session;
+    })))
 
 offer_says : (verb : List ℕ) (words : List (List ℕ)) (c : Command) → verb ≡ codes "offer" → offer_of words ≡ Some c → Says (verb ∷ words) c
 unfolding offer_of
 offer_says verb words c v h =
-    let e = step side_of words _ c h in
-    let sections = bind_some (sections_of e.0.1) _ c e.4 in
+    read_on _ side_of words _ c h (λ e_word after_e e is_e says_e left_e.
+    let sections = bind_some (sections_of after_e) _ c left_e in
     subst (Says (verb ∷ words)) (some_is sections.2) (record {
-      e = e.1;
-      sections = e.0.1;
-      words_are = glue v e.2;
-      e_says = e.3;
+      e = e_word;
+      sections = after_e;
+      words_are = glue v is_e;
+      e_says = says_e;
       sections_say = sections.1;
-    })
+    }))
 
 answer_says : (verb : List ℕ) (words : List (List ℕ)) (c : Command) → verb ≡ codes "answer" → answer_of words ≡ Some c → Says (verb ∷ words) c
 unfolding answer_of
 answer_says verb words c v h =
-    let e = step side_of words _ c h in
-    let text = step hex_of e.0.1 _ c e.4 in
-    let sections = bind_some (sections_of text.0.1) _ c text.4 in
+    read_on _ side_of words _ c h (λ e_word after_e e is_e says_e left_e.
+    read_on _ hex_of after_e _ c left_e (λ text_word after_text text is_text says_text left_text.
+    let sections = bind_some (sections_of after_text) _ c left_text in
     subst (Says (verb ∷ words)) (some_is sections.2) (record {
-      e = e.1;
-      text = text.1;
-      sections = text.0.1;
-      words_are = glue v (e.2 ∙ under e.1 text.2);
-      e_says = e.3;
-      text_says = text.3;
+      e = e_word;
+      text = text_word;
+      sections = after_text;
+      words_are = glue v (is_e ∙ under e_word is_text);
+      e_says = says_e;
+      text_says = says_text;
       sections_say = sections.1;
-    })
+    })))
 
 accept_says : (verb : List ℕ) (words : List (List ℕ)) (c : Command) → verb ≡ codes "accept" → accept_of words ≡ Some c → Says (verb ∷ words) c
 unfolding accept_of
 accept_says verb words c v h =
-    let e = step side_of words _ c h in
-    let text = step hex_of e.0.1 _ c e.4 in
-    let end = ended_some text.0.1 _ c text.4 in
+    read_on _ side_of words _ c h (λ e_word after_e e is_e says_e left_e.
+    read_on _ hex_of after_e _ c left_e (λ text_word after_text text is_text says_text left_text.
+    let end = ended_some after_text _ c left_text in
     subst (Says (verb ∷ words)) end.1 (record {
-      e = e.1;
-      text = text.1;
-      words_are = glue v (e.2 ∙ under e.1 (text.2 ∙ under text.1 end.0));
-      e_says = e.3;
-      text_says = text.3;
-    })
+      e = e_word;
+      text = text_word;
+      words_are = glue v (is_e ∙ under e_word (is_text ∙ under text_word end.0));
+      e_says = says_e;
+      text_says = says_text;
+    })))
 
 withdraw_says : (verb : List ℕ) (words : List (List ℕ)) (c : Command) → verb ≡ codes "withdraw" → withdraw_of words ≡ Some c → Says (verb ∷ words) c
 unfolding withdraw_of
 withdraw_says verb words c v h =
-    let e = step side_of words _ c h in
-    let end = ended_some e.0.1 _ c e.4 in
-    subst (Says (verb ∷ words)) end.1 (e.1, glue v (e.2 ∙ under e.1 end.0), e.3)
+    read_on _ side_of words _ c h (λ e_word after_e e is_e says_e left_e.
+    let end = ended_some after_e _ c left_e in
+    subst (Says (verb ∷ words)) end.1 (e_word, glue v (is_e ∙ under e_word end.0), says_e))
 
 -- the words before a slash, and those behind it
 abbrev Slashed : List (List ℕ) → List SectionWord × List (List ℕ) → Type 0

@@ -10,28 +10,20 @@ pub bind_some : {A B : Type 0} (o : Option A) (f : A → Option B) (y : B) → (
 bind_some (Some x) f y h = (x, refl, h)
 bind_some None f y h = cc h
 
-pub pair_of : {A : Type 0} (o : Option A) (rest : List (List ℕ)) (x : A × List (List ℕ)) → option_map (λ said. (said, rest)) o ≡ Some x → (o ≡ Some x.0) × (rest ≡ x.1)
-pair_of (Some said) rest x h = let e : (said, rest) ≡ x = cc h in (ap (λ (p : _). Some p.0) e, ap (λ p. p.1) e)
-pair_of None rest x h = cc h
-
--- a word was read
-pub first_some : {A : Type 0} (read : List ℕ → Option A) (words : List (List ℕ)) (x : A × List (List ℕ)) → first read words ≡ Some x
-    → (word : List ℕ) × (words ≡ word ∷ x.1) × (read word ≡ Some x.0)
-first_some read [] x h = cc h
-first_some read (word ∷ words) x h = let parts = pair_of (read word) words x h in (word, ap (λ rest. word ∷ rest) parts.1, parts.0)
-
 -- no word was left
 pub ended_some : {A : Type 0} (words : List (List ℕ)) (x y : A) → ended words x ≡ Some y → (words ≡ []) × (x ≡ y)
 ended_some [] x y h = (refl, cc h)
 ended_some (word ∷ words) x y h = cc h
 
--- the next word was read, and then the others
-pub step : {A B : Type 0} (read : List ℕ → Option A) (words : List (List ℕ)) (f : A × List (List ℕ) → Option B) (y : B) → (first read words >>= f) ≡ Some y
-    → (x : A × List (List ℕ)) × (word : List ℕ) × (words ≡ word ∷ x.1) × (read word ≡ Some x.0) × (f x ≡ Some y)
-step read words f y h =
-    let said = bind_some (first read words) f y h in
-    let word = first_some read words said.0 said.1 in
-    (said.0, word.0, word.1, word.2, said.2)
+-- what follows from the next word, what it says, and the words behind it
+pub read_on : {A B : Type 0} (P : Type 0) (read : List ℕ → Option A) (words : List (List ℕ)) (f : A × List (List ℕ) → Option B) (y : B)
+    → (first read words >>= f) ≡ Some y
+    → ((word : List ℕ) (rest : List (List ℕ)) (said : A) → words ≡ word ∷ rest → read word ≡ Some said → f (said, rest) ≡ Some y → P) → P
+read_on P read [] f y h then' = cc h
+read_on {A} P read (word ∷ rest) f y h then' = by_word (read word) refl h where
+  by_word : (said : Option A) → read word ≡ said → (option_map (λ x. (x, rest)) said >>= f) ≡ Some y → P
+  by_word None e k = cc k
+  by_word (Some x) e k = then' word rest x refl e k
 
 pub glue : {verb other : List ℕ} {words others : List (List ℕ)} → verb ≡ other → words ≡ others → verb ∷ words ≡ other ∷ others
 glue {other = other} {words = words} v w = ap (λ first. first ∷ words) v ∙ ap (λ rest. other ∷ rest) w
