@@ -1,5 +1,6 @@
 //! Datagrams that come late, twice, damaged or from elsewhere.
 
+use crate::calls::receive;
 use crate::streams::{datagram, owned, receiving_end};
 use rtp_media::{End, Received};
 use rtp_wire::SeqNo;
@@ -34,11 +35,11 @@ fn taken(number: u64) -> Received {
 #[test]
 fn row_12_polls_wait_for_a_missing_datagram(rt: HostRuntime) -> Result<(), Fail> {
     let mut end = receiving_end(rt.alloc(), 127)?;
-    assert_eq!(rt; end.receive(&datagram(0, 0xaa))?, taken(0));
+    assert_eq!(rt; receive(&mut end, &datagram(0, 0xaa))?, taken(0));
     expect_unit(&rt, &mut end, 0xaa, 0)?;
-    assert_eq!(rt; end.receive(&datagram(2, 0xcc))?, taken(2));
+    assert_eq!(rt; receive(&mut end, &datagram(2, 0xcc))?, taken(2));
     assert!(rt; next(&rt, &mut end)?.is_none());
-    assert_eq!(rt; end.receive(&datagram(1, 0xbb))?, taken(1));
+    assert_eq!(rt; receive(&mut end, &datagram(1, 0xbb))?, taken(1));
     expect_unit(&rt, &mut end, 0xbb, 1)?;
     expect_unit(&rt, &mut end, 0xcc, 2)?;
     assert!(rt; next(&rt, &mut end)?.is_none());
@@ -75,19 +76,22 @@ fn row_12_receive_all_hands_out_in_order(rt: HostRuntime) -> Result<(), Fail> {
 fn row_13_the_window_reaches_128_back(rt: HostRuntime) -> Result<(), Fail> {
     let mut end = receiving_end(rt.alloc(), 127)?;
     for number in 2..129 {
-        assert_eq!(rt; end.receive(&datagram(number, 1))?, taken(number as u64));
+        assert_eq!(rt;
+            receive(&mut end, &datagram(number, 1))?,
+            taken(number as u64)
+        );
     }
-    assert_eq!(rt; end.receive(&datagram(0, 1))?, Received::Refused);
-    assert_eq!(rt; end.receive(&datagram(1, 1))?, taken(1));
+    assert_eq!(rt; receive(&mut end, &datagram(0, 1))?, Received::Refused);
+    assert_eq!(rt; receive(&mut end, &datagram(1, 1))?, taken(1));
     Ok(())
 }
 
 #[test]
 fn row_13_numbers_count_on_past_16_bits(rt: HostRuntime) -> Result<(), Fail> {
     let mut end = receiving_end(rt.alloc(), 127)?;
-    assert_eq!(rt; end.receive(&datagram(0xffff, 0x0a))?, taken(65_535));
+    assert_eq!(rt; receive(&mut end, &datagram(0xffff, 0x0a))?, taken(65_535));
     let second = b"\x80\x6f\x00\x00\x00\x00\x03\xc0\x00\x00\x00\x2c\x0b";
-    assert_eq!(rt; end.receive(second)?, taken(65_536));
+    assert_eq!(rt; receive(&mut end, second)?, taken(65_536));
     expect_unit(&rt, &mut end, 0x0a, 65_535)?;
     expect_unit(&rt, &mut end, 0x0b, 65_536)?;
     assert!(rt; next(&rt, &mut end)?.is_none());
@@ -97,23 +101,23 @@ fn row_13_numbers_count_on_past_16_bits(rt: HostRuntime) -> Result<(), Fail> {
 #[test]
 fn row_14_what_is_not_taken(rt: HostRuntime) -> Result<(), Fail> {
     let mut end = receiving_end(rt.alloc(), 127)?;
-    assert_eq!(rt; end.receive(b"\x00\x01\x02")?, Received::Unreadable);
+    assert_eq!(rt; receive(&mut end, b"\x00\x01\x02")?, Received::Unreadable);
     let foreign = b"\x80\x70\x00\x00\x00\x00\x00\x00\x00\x00\x00\x2c\x05";
-    assert_eq!(rt; end.receive(foreign)?, Received::Foreign);
+    assert_eq!(rt; receive(&mut end, foreign)?, Received::Foreign);
     let too_much_padding = b"\xa0\x6f\x00\x00\x00\x00\x00\x00\x00\x00\x00\x2c\x01\x05";
-    assert_eq!(rt; end.receive(too_much_padding)?, Received::Damaged);
+    assert_eq!(rt; receive(&mut end, too_much_padding)?, Received::Damaged);
     let padding_alone = b"\xa0\x6f\x00\x00\x00\x00\x00\x00\x00\x00\x00\x2c\x01\x02";
-    assert_eq!(rt; end.receive(padding_alone)?, Received::Damaged);
-    assert_eq!(rt; end.receive(&datagram(0, 5))?, taken(0));
+    assert_eq!(rt; receive(&mut end, padding_alone)?, Received::Damaged);
+    assert_eq!(rt; receive(&mut end, &datagram(0, 5))?, taken(0));
     Ok(())
 }
 
 #[test]
 fn a_number_comes_twice(rt: HostRuntime) -> Result<(), Fail> {
     let mut end = receiving_end(rt.alloc(), 0)?;
-    assert_eq!(rt; end.receive(&datagram(7, 1))?, taken(7));
+    assert_eq!(rt; receive(&mut end, &datagram(7, 1))?, taken(7));
     expect_unit(&rt, &mut end, 1, 7)?;
-    assert_eq!(rt; end.receive(&datagram(7, 1))?, Received::Refused);
+    assert_eq!(rt; receive(&mut end, &datagram(7, 1))?, Received::Refused);
     assert!(rt; next(&rt, &mut end)?.is_none());
     Ok(())
 }

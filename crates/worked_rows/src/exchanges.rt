@@ -1,80 +1,29 @@
 //! Offers, answers and what may be opened after them.
 
-use crate::streams::params;
+use crate::calls::{accept, answer, audio, end_with, offer, open, opus_end, send};
 use crate::texts::{answer_22, offer_22};
-use rtp_media::{
-    CodecConfig, End, EndError, ExchangeError, MediaKind, OpenError, PayloadParams, SectionSpec,
-    Session, connect,
-};
-use rtp_wire::{Direction, Extension, ExtensionMap, Mid, Pt, SessionId, Ssrc};
+use rtp_media::{End, EndError, ExchangeError, OpenError, connect};
+use rtp_wire::{Direction, Extension, ExtensionMap};
 use std::alloc::Global;
 use std::process::Abort;
 use std::test::Fail;
 
-/// A new end of one Opus row without header extensions.
-fn opus_end(alloc: Global, session: u64, pt: u8) -> Result<End, Fail> {
-    Ok(end_with(alloc, session, pt, ExtensionMap::empty())??)
-}
-
-/// What making an end of one Opus row and of these header extensions answers.
-pub fn end_with(
-    alloc: Global,
-    session: u64,
-    pt: u8,
-    exts: ExtensionMap,
-) -> Result<Result<End, EndError>, Fail> {
-    let mut usual = CodecConfig::empty(alloc);
-    usual.enable_opus(true, false)?;
-    let mut rows = Vec::new(alloc);
-    for row in usual.params() {
-        rows.push(PayloadParams::new(Pt::from(pt), None, row.spec()))?;
-    }
-    let config = CodecConfig::new_from_payload_params(rows);
-    let session = Session::new(alloc, SessionId::from(session));
-    Ok(End::new(alloc, config, session, exts))
-}
-
-/// The section `0` of audio.
-pub fn audio(alloc: Global, dir: Direction, ssrc: u32) -> Result<Vec<SectionSpec>, Fail> {
-    let mut ssrcs = Vec::new(alloc);
-    ssrcs.push(Ssrc::from(ssrc))?;
-    let mut sections = Vec::new(alloc);
-    sections.push(SectionSpec {
-        mid: Mid::from("0"),
-        kind: MediaKind::Audio,
-        dir,
-        ssrcs,
-    })?;
-    Ok(sections)
-}
-
-/// What opening a sending stream in section `0` answers.
-fn send(
-    rt: &impl Abort,
-    end: &mut End,
-    ssrc: u32,
-    pt: u8,
-) -> Result<Result<usize, OpenError>, Fail> {
-    let params = params(1200, 1400);
-    assert!(rt; params.is_sound());
-    Ok(end.open_sender(Mid::from("0"), Ssrc::from(ssrc), Pt::from(pt), params))
-}
-
-/// What opening a receiving stream in section `0` answers.
-fn open(end: &mut End, ssrc: u32, pt: u8) -> Result<usize, OpenError> {
-    end.open_receiver(Mid::from("0"), Ssrc::from(ssrc), Pt::from(pt), 127)
+/// Two ends that exchanged the texts of row 22.
+fn exchanged(rt: &impl Abort, alloc: Global) -> Result<(End, End), Fail> {
+    let mut a = opus_end(alloc, 1, 111)?;
+    let mut b = opus_end(alloc, 2, 109)?;
+    let wanted = Direction::SendRecv;
+    let offer = offer(alloc, &mut a, wanted, 44)??;
+    assert_eq!(rt; offer.as_str(), offer_22());
+    let answer = answer(alloc, &mut b, offer.as_str(), wanted, 45)??;
+    assert_eq!(rt; answer.as_str(), answer_22());
+    accept(&mut a, answer.as_str())?;
+    Ok((a, b))
 }
 
 #[test]
 fn row_22_offer_and_answer(rt: HostRuntime) -> Result<(), Fail> {
-    let mut a = opus_end(rt.alloc(), 1, 111)?;
-    let mut b = opus_end(rt.alloc(), 2, 109)?;
-    let wanted = Direction::SendRecv;
-    let offer = a.offer(audio(rt.alloc(), wanted, 44)?)?;
-    assert_eq!(rt; offer.as_str(), offer_22(rt.alloc())?.as_str());
-    let answer = b.answer(offer.as_str(), audio(rt.alloc(), wanted, 45)?)?;
-    assert_eq!(rt; answer.as_str(), answer_22(rt.alloc())?.as_str());
-    a.accept(answer.as_str())?;
+    let (mut a, mut b) = exchanged(&rt, rt.alloc())?;
     assert_eq!(rt; send(&rt, &mut a, 44, 109)?, Err(OpenError::RowNotAgreed));
     assert_eq!(rt; send(&rt, &mut b, 45, 109)?, Err(OpenError::RowNotAgreed));
     assert_eq!(rt; send(&rt, &mut a, 44, 111)?, Ok(0));
@@ -84,22 +33,30 @@ fn row_22_offer_and_answer(rt: HostRuntime) -> Result<(), Fail> {
     Ok(())
 }
 
+/// Whether an end that has no offer pending refuses an answer for that.
+fn has_no_offer(end: &mut End) -> bool {
+    matches!(accept(end, answer_22()), Err(ExchangeError::OutOfTurn))
+}
+
+/// Whether an end refuses to offer, since it isn't its turn.
+fn may_not_offer(alloc: Global, end: &mut End) -> Result<bool, Fail> {
+    let refused = offer(alloc, end, Direction::SendRecv, 44)?;
+    Ok(matches!(refused, Err(ExchangeError::OutOfTurn)))
+}
+
 #[test]
 fn row_22_calls_out_of_turn(rt: HostRuntime) -> Result<(), Fail> {
-    let mut a = opus_end(rt.alloc(), 1, 111)?;
-    let wanted = Direction::SendRecv;
-    let answer = answer_22(rt.alloc())?;
-    assert!(rt; matches!(a.accept(answer.as_str()), Err(ExchangeError::OutOfTurn)));
-    a.offer(audio(rt.alloc(), wanted, 44)?)?;
-    let second = a.offer(audio(rt.alloc(), wanted, 44)?);
-    assert!(rt; matches!(second, Err(ExchangeError::OutOfTurn)));
+    let alloc = rt.alloc();
+    let mut a = opus_end(alloc, 1, 111)?;
+    assert!(rt; has_no_offer(&mut a));
+    offer(alloc, &mut a, Direction::SendRecv, 44)??;
+    assert!(rt; may_not_offer(alloc, &mut a)?);
     assert!(rt; a.withdraw());
     assert!(rt; !a.withdraw());
-    assert!(rt; matches!(a.accept(answer.as_str()), Err(ExchangeError::OutOfTurn)));
-    a.offer(audio(rt.alloc(), wanted, 44)?)?;
-    a.accept(answer.as_str())?;
-    let third = a.offer(audio(rt.alloc(), wanted, 44)?);
-    assert!(rt; matches!(third, Err(ExchangeError::OutOfTurn)));
+    assert!(rt; has_no_offer(&mut a));
+    offer(alloc, &mut a, Direction::SendRecv, 44)??;
+    accept(&mut a, answer_22())?;
+    assert!(rt; may_not_offer(alloc, &mut a)?);
     Ok(())
 }
 
@@ -119,6 +76,16 @@ fn opens_as_agreed(
     Ok(())
 }
 
+/// Two ends of which one offered this direction and the other wanted that one.
+fn connected(alloc: Global, offered: Direction, wanted: Direction) -> Result<(End, End), Fail> {
+    let mut a = opus_end(alloc, 1, 111)?;
+    let mut b = opus_end(alloc, 2, 109)?;
+    let sections_a = audio(alloc, offered, 44)?;
+    let sections_b = audio(alloc, wanted, 45)?;
+    connect(&mut a, &mut b, sections_a, sections_b)?;
+    Ok((a, b))
+}
+
 #[test]
 fn sixteen_pairs_of_directions(rt: HostRuntime) -> Result<(), Fail> {
     let all = [
@@ -129,11 +96,7 @@ fn sixteen_pairs_of_directions(rt: HostRuntime) -> Result<(), Fail> {
     ];
     for offered in all {
         for wanted in all {
-            let mut a = opus_end(rt.alloc(), 1, 111)?;
-            let mut b = opus_end(rt.alloc(), 2, 109)?;
-            let sections_a = audio(rt.alloc(), offered, 44)?;
-            let sections_b = audio(rt.alloc(), wanted, 45)?;
-            connect(&mut a, &mut b, sections_a, sections_b)?;
+            let (mut a, mut b) = connected(rt.alloc(), offered, wanted)?;
             let from_a = offered.is_sending() && wanted.is_receiving();
             let from_b = wanted.is_sending() && offered.is_receiving();
             opens_as_agreed(&rt, &mut a, &mut b, [from_a, from_b])?;

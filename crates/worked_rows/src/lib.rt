@@ -4,6 +4,8 @@
 #[cfg(test)]
 mod arrivals;
 #[cfg(test)]
+mod calls;
+#[cfg(test)]
 mod exchanges;
 #[cfg(test)]
 mod lines;

@@ -1,49 +1,43 @@
 //! Texts that ends read, and damaged ones that they refuse.
 
-use crate::exchanges::{audio, end_with};
-use rtp_media::ExchangeError;
-use rtp_wire::{Direction, ExtensionMap, Mid, Pt};
+use crate::calls::{accept, answer, offer, opus_end};
+use rtp_media::{End, ExchangeError};
+use rtp_wire::{Direction, Mid, Pt};
 use std::alloc::{AllocError, Global};
 use std::test::Fail;
 
-/// The lines of row 22's texts, of which the second and the last differ.
-fn lines(origin: &'static str, source: &'static str) -> [&'static str; 13] {
-    [
-        "v=0",
-        origin,
-        "s=-",
-        "t=0 0",
-        "a=group:BUNDLE 0",
-        "m=audio 9 UDP/TLS/RTP/SAVPF 111",
-        "c=IN IP4 0.0.0.0",
-        "a=mid:0",
-        "a=sendrecv",
-        "a=rtpmap:111 opus/48000/2",
-        "a=rtcp-fb:111 transport-cc",
-        "a=fmtp:111 minptime=10;useinbandfec=1",
-        source,
-    ]
-}
-
-fn text_of(alloc: Global, lines: &[&str]) -> Result<String, AllocError> {
-    let mut text = String::new(alloc);
-    for line in lines {
-        text.push_str(line)?;
-        text.push_str("\r\n")?;
-    }
-    Ok(text)
-}
-
 /// The offer of row 22.
-pub fn offer_22(alloc: Global) -> Result<String, AllocError> {
-    let lines = lines("o=str0m-0.25.0 1 2 IN IP4 0.0.0.0", "a=ssrc:44 cname:str0m");
-    text_of(alloc, &lines)
+pub fn offer_22() -> &'static str {
+    "v=0\r\n\
+     o=str0m-0.25.0 1 2 IN IP4 0.0.0.0\r\n\
+     s=-\r\n\
+     t=0 0\r\n\
+     a=group:BUNDLE 0\r\n\
+     m=audio 9 UDP/TLS/RTP/SAVPF 111\r\n\
+     c=IN IP4 0.0.0.0\r\n\
+     a=mid:0\r\n\
+     a=sendrecv\r\n\
+     a=rtpmap:111 opus/48000/2\r\n\
+     a=rtcp-fb:111 transport-cc\r\n\
+     a=fmtp:111 minptime=10;useinbandfec=1\r\n\
+     a=ssrc:44 cname:str0m\r\n"
 }
 
 /// The answer of row 22.
-pub fn answer_22(alloc: Global) -> Result<String, AllocError> {
-    let lines = lines("o=str0m-0.25.0 2 2 IN IP4 0.0.0.0", "a=ssrc:45 cname:str0m");
-    text_of(alloc, &lines)
+pub fn answer_22() -> &'static str {
+    "v=0\r\n\
+     o=str0m-0.25.0 2 2 IN IP4 0.0.0.0\r\n\
+     s=-\r\n\
+     t=0 0\r\n\
+     a=group:BUNDLE 0\r\n\
+     m=audio 9 UDP/TLS/RTP/SAVPF 111\r\n\
+     c=IN IP4 0.0.0.0\r\n\
+     a=mid:0\r\n\
+     a=sendrecv\r\n\
+     a=rtpmap:111 opus/48000/2\r\n\
+     a=rtcp-fb:111 transport-cc\r\n\
+     a=fmtp:111 minptime=10;useinbandfec=1\r\n\
+     a=ssrc:45 cname:str0m\r\n"
 }
 
 /// The text with a blank at the end of one line.
@@ -56,31 +50,40 @@ fn damaged(alloc: Global, text: &str, place: usize) -> Result<String, AllocError
     Ok(damaged)
 }
 
+/// Whether an end can't read the text as an offer.
+fn cannot_answer(alloc: Global, end: &mut End, text: &str) -> Result<bool, Fail> {
+    let refused = answer(alloc, end, text, Direction::SendRecv, 45)?;
+    Ok(matches!(refused, Err(ExchangeError::Unreadable(_))))
+}
+
+/// Whether an end can't read the text as an answer.
+fn cannot_accept(end: &mut End, text: &str) -> bool {
+    matches!(accept(end, text), Err(ExchangeError::Unreadable(_)))
+}
+
 #[test]
-fn damaged_texts_are_refused_and_change_nothing(rt: HostRuntime) -> Result<(), Fail> {
+fn damaged_offers_are_refused_and_change_nothing(rt: HostRuntime) -> Result<(), Fail> {
     let alloc = rt.alloc();
-    let wanted = Direction::SendRecv;
-    let mut a = end_with(alloc, 1, 111, ExtensionMap::empty())??;
-    let mut b = end_with(alloc, 2, 109, ExtensionMap::empty())??;
-    let offer = a.offer(audio(alloc, wanted, 44)?)?;
+    let mut b = opus_end(alloc, 2, 109)?;
     for place in 0..13 {
-        let text = damaged(alloc, offer.as_str(), place)?;
-        let refused = b.answer(text.as_str(), audio(alloc, wanted, 45)?);
-        assert!(rt;
-            matches!(refused, Err(ExchangeError::Unreadable(_))),
-            "at {place}"
-        );
+        let text = damaged(alloc, offer_22(), place)?;
+        assert!(rt; cannot_answer(alloc, &mut b, text.as_str())?, "at {place}");
         assert!(rt; b.agreed_row(Mid::from("0"), Pt::from(111)).is_none());
     }
-    let answer = b.answer(offer.as_str(), audio(alloc, wanted, 45)?)?;
+    let given = answer(alloc, &mut b, offer_22(), Direction::SendRecv, 45)??;
+    assert_eq!(rt; given.as_str(), answer_22());
+    Ok(())
+}
+
+#[test]
+fn damaged_answers_are_refused_and_change_nothing(rt: HostRuntime) -> Result<(), Fail> {
+    let alloc = rt.alloc();
+    let mut a = opus_end(alloc, 1, 111)?;
+    offer(alloc, &mut a, Direction::SendRecv, 44)??;
     for place in 0..13 {
-        let text = damaged(alloc, answer.as_str(), place)?;
-        let refused = a.accept(text.as_str());
-        assert!(rt;
-            matches!(refused, Err(ExchangeError::Unreadable(_))),
-            "at {place}"
-        );
+        let text = damaged(alloc, answer_22(), place)?;
+        assert!(rt; cannot_accept(&mut a, text.as_str()), "at {place}");
     }
-    a.accept(answer.as_str())?;
+    accept(&mut a, answer_22())?;
     Ok(())
 }

@@ -2,7 +2,7 @@
 
 ghost use Rattle.std.specs.Prelude.{◌≤◌};
 
-use crate::exchanges::{audio, end_with};
+use crate::calls::{audio, end_with};
 use crate::samples::push_with;
 use crate::streams::params;
 use rtp_media::{End, connect};

@@ -1,0 +1,97 @@
+//! Calls of ends as the examples make them. What they answer is compared with worked rows, so none of
+//! them says what it answers.
+
+use crate::streams::params;
+use rtp_media::{
+    CodecConfig, End, EndError, ExchangeError, MediaKind, OpenError, PayloadParams, Received,
+    SectionSpec, Session,
+};
+use rtp_wire::{Direction, ExtensionMap, Mid, Pt, SessionId, Ssrc};
+use std::alloc::Global;
+use std::process::Abort;
+use std::test::Fail;
+
+/// What making an end of one Opus row and of these header extensions answers.
+pub fn end_with(
+    alloc: Global,
+    session: u64,
+    pt: u8,
+    exts: ExtensionMap,
+) -> Result<Result<End, EndError>, Fail> {
+    let mut usual = CodecConfig::empty(alloc);
+    usual.enable_opus(true, false)?;
+    let mut rows = Vec::new(alloc);
+    for row in usual.params() {
+        rows.push(PayloadParams::new(Pt::from(pt), None, row.spec()))?;
+    }
+    let config = CodecConfig::new_from_payload_params(rows);
+    let session = Session::new(alloc, SessionId::from(session));
+    Ok(End::new(alloc, config, session, exts))
+}
+
+/// A new end of one Opus row without header extensions.
+pub fn opus_end(alloc: Global, session: u64, pt: u8) -> Result<End, Fail> {
+    Ok(end_with(alloc, session, pt, ExtensionMap::empty())??)
+}
+
+/// The section `0` of audio.
+pub fn audio(alloc: Global, dir: Direction, ssrc: u32) -> Result<Vec<SectionSpec>, Fail> {
+    let mut ssrcs = Vec::new(alloc);
+    ssrcs.push(Ssrc::from(ssrc))?;
+    let mut sections = Vec::new(alloc);
+    sections.push(SectionSpec {
+        mid: Mid::from("0"),
+        kind: MediaKind::Audio,
+        dir,
+        ssrcs,
+    })?;
+    Ok(sections)
+}
+
+/// Offers the section `0`.
+pub fn offer(
+    alloc: Global,
+    end: &mut End,
+    dir: Direction,
+    ssrc: u32,
+) -> Result<Result<String, ExchangeError>, Fail> {
+    Ok(end.offer(audio(alloc, dir, ssrc)?))
+}
+
+/// Answers an offer with the section `0`.
+pub fn answer(
+    alloc: Global,
+    end: &mut End,
+    text: &str,
+    dir: Direction,
+    ssrc: u32,
+) -> Result<Result<String, ExchangeError>, Fail> {
+    Ok(end.answer(text, audio(alloc, dir, ssrc)?))
+}
+
+/// Accepts an answer.
+pub fn accept(end: &mut End, text: &str) -> Result<(), ExchangeError> {
+    end.accept(text)
+}
+
+/// Opens a sending stream in section `0`.
+pub fn send(
+    rt: &impl Abort,
+    end: &mut End,
+    ssrc: u32,
+    pt: u8,
+) -> Result<Result<usize, OpenError>, Fail> {
+    let params = params(1200, 1400);
+    assert!(rt; params.is_sound());
+    Ok(end.open_sender(Mid::from("0"), Ssrc::from(ssrc), Pt::from(pt), params))
+}
+
+/// Opens a receiving stream in section `0`.
+pub fn open(end: &mut End, ssrc: u32, pt: u8) -> Result<usize, OpenError> {
+    end.open_receiver(Mid::from("0"), Ssrc::from(ssrc), Pt::from(pt), 127)
+}
+
+/// Takes a datagram in.
+pub fn receive(end: &mut End, datagram: &[u8]) -> Result<Received, Fail> {
+    Ok(end.receive(datagram)?)
+}
