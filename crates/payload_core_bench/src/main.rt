@@ -1,0 +1,145 @@
+//! How many packets and bytes a second are sent and read of each payload format, and how many packets a
+//! second a buffer takes and hands out. Counts are printed on standard output, times on standard error.
+#![tactic(auto)]
+
+mod buffers;
+mod formats;
+mod tally;
+
+use formats::LIMIT;
+use payload_core::{
+    AmrWbDepacketizer, AmrWbPacketizer, Av1Depacketizer, Av1Packetizer, Depacketizer,
+    G711Depacketizer, G711Packetizer, OpusDepacketizer, OpusPacketizer, Packetizer, RedEncoder,
+    RedSender, RedSink, RedundantBlock, Vp8Depacketizer, Vp8Packetizer, Vp9Depacketizer,
+    Vp9Packetizer,
+};
+use std::io;
+use std::time::{Duration, Instant};
+use tally::Tally;
+
+/// How often a sample of Opus or G.711 is sent and read.
+const AUDIO: u32 = 50_000;
+
+/// How often a sample of AMR-WB is sent and read.
+const SPEECH: u32 = 10_000;
+
+/// How often a frame of video is sent and read.
+const VIDEO: u32 = 2_000;
+
+/// How many packets are pushed into a full buffer.
+const TURNS: u32 = 2_000;
+
+/// Prints how many packets of a format were sent or read, and the time that it took.
+fn report(
+    rt: &HostRuntime,
+    format: &str,
+    way: &str,
+    count: Tally,
+    time: Duration,
+) -> io::Result<()> {
+    println!(*rt;
+        "{format} {way}: {} packets, {} bytes",
+        count.packets, count.bytes
+    )?;
+    let micros = time.as_micros().max(1);
+    let packets = count.packets as u128 * 1_000_000 / micros;
+    let bytes = count.bytes as u128 / micros;
+    eprintln!(*rt; "{format} {way}: {micros} us, {packets} packets and {bytes} MB a second")
+}
+
+/// Sends a sample of a format and reads its packets, so often.
+fn both_ways<P: Packetizer + Drop, D: Depacketizer + Drop>(
+    rt: &HostRuntime,
+    format: &str,
+    sample: &[u8],
+    rounds: u32,
+    mut packetizer: P,
+    mut depacketizer: D,
+) -> anyhow::Result<()> {
+    let packets = packetizer.packetize(rt.alloc(), LIMIT, sample)?;
+    let mut sent = Tally::new();
+    let start = Instant::now(rt)?;
+    formats::send(rt.alloc(), packetizer, &mut sent, sample, rounds)?;
+    report(rt, format, "sent", sent, start.elapsed(rt)?)?;
+    let start = Instant::now(rt)?;
+    let read = formats::receive(rt.alloc(), &mut depacketizer, &packets, rounds)?;
+    report(rt, format, "read", read, start.elapsed(rt)?)?;
+    Ok(())
+}
+
+/// Opus and G.711: samples of 20 ms.
+fn audio(rt: &HostRuntime) -> anyhow::Result<()> {
+    let (packetizer, depacketizer) = (OpusPacketizer::new(), OpusDepacketizer::new());
+    both_ways(rt, "Opus", &[7; 120], AUDIO, packetizer, depacketizer)?;
+    let (packetizer, depacketizer) = (G711Packetizer::new(), G711Depacketizer::new());
+    both_ways(rt, "G.711", &[7; 160], AUDIO, packetizer, depacketizer)
+}
+
+/// AMR-WB in one layout: samples of 20 ms at 23.85 kbit/s.
+fn speech(rt: &HostRuntime, format: &str, octet_align: bool) -> anyhow::Result<()> {
+    let mut sample = [7; 61];
+    sample[0] = 0x44;
+    let packetizer = AmrWbPacketizer::new(octet_align);
+    let depacketizer = AmrWbDepacketizer::new(octet_align);
+    both_ways(rt, format, &sample, SPEECH, packetizer, depacketizer)
+}
+
+/// Opus with one older payload beside each.
+fn redundant(rt: &HostRuntime) -> anyhow::Result<()> {
+    let alloc = rt.alloc();
+    let mut sink = RedSink::new(Tally::new(), RedSender::new(alloc, &[1])?, 111, LIMIT);
+    let start = Instant::now(rt)?;
+    formats::send(alloc, OpusPacketizer::new(), &mut sink, &[7; 120], AUDIO)?;
+    let time = start.elapsed(rt)?;
+    report(rt, "RED", "sent", sink.into_parts().0, time)?;
+    let old = RedundantBlock {
+        pt: 111,
+        timestamp_offset: 960,
+        payload: Vec::from_slice(alloc, &[7; 120])?,
+    };
+    let packet = RedEncoder::encode(alloc, 111, &[7; 120], &[old])?;
+    let start = Instant::now(rt)?;
+    let read = formats::receive_redundant(&packet, AUDIO)?;
+    report(rt, "RED", "read", read, start.elapsed(rt)?)?;
+    Ok(())
+}
+
+/// VP8, VP9 and AV1: frames of 12,000 bytes, for AV1 behind the header and the size of a unit.
+fn video(rt: &HostRuntime) -> anyhow::Result<()> {
+    let mut frame = Vec::new(rt.alloc());
+    for place in 0..12_000u32 {
+        frame.push((place % 256) as u8)?;
+    }
+    let packetizer = Vp8Packetizer::with_picture_id(Some(1));
+    both_ways(rt, "VP8", &frame, VIDEO, packetizer, Vp8Depacketizer::new())?;
+    let packetizer = Vp9Packetizer::with_picture_id(1);
+    both_ways(rt, "VP9", &frame, VIDEO, packetizer, Vp9Depacketizer::new())?;
+    let mut unit = Vec::from_slice(rt.alloc(), &[0x32, 0xE0, 0x5D])?;
+    unit.extend_from_slice(&frame)?;
+    let depacketizer = Av1Depacketizer::new(rt.alloc());
+    both_ways(rt, "AV1", &unit, VIDEO, Av1Packetizer::new(), depacketizer)
+}
+
+/// Pushes packets into a buffer in which so many wait, and pops after each.
+fn buffer(rt: &HostRuntime, waiting: u32) -> anyhow::Result<()> {
+    let mut buffer = buffers::filled(rt.alloc(), waiting)?;
+    let start = Instant::now(rt)?;
+    let units = buffers::turn(&mut buffer, waiting, TURNS)?;
+    let micros = start.elapsed(rt)?.as_micros().max(1);
+    println!(*rt; "buffer of {waiting} and one more: {TURNS} packets, {units} units")?;
+    let turns = TURNS as u128 * 1_000_000 / micros;
+    eprintln!(*rt;
+        "buffer of {waiting} and one more: {micros} us, {turns} pushes and pops a second"
+    )?;
+    Ok(())
+}
+
+fn main(rt: HostRuntime) -> anyhow::Result<()> {
+    audio(&rt)?;
+    speech(&rt, "AMR-WB octet-aligned", true)?;
+    speech(&rt, "AMR-WB bandwidth-efficient", false)?;
+    redundant(&rt)?;
+    video(&rt)?;
+    buffer(&rt, 15)?;
+    buffer(&rt, 4_095)
+}
