@@ -1,11 +1,17 @@
 //! Datagrams that come late, twice, damaged or from elsewhere.
 
-use crate::calls::receive;
+use crate::calls::{has_bytes, receive, receive_all, receive_hex};
 use crate::streams::{datagram, owned, receiving_end};
-use rtp_media::{End, Received};
+use rtp_media::{Datagram, End, Received};
 use rtp_wire::SeqNo;
+use std::alloc::Global;
 use std::process::Abort;
 use std::test::Fail;
+
+/// Takes in the datagram of this number with a payload of one byte.
+fn arrive(end: &mut End, number: u16, byte: u8) -> Result<Received, Fail> {
+    receive(end, &datagram(number, byte))
+}
 
 /// The next unit of stream 0, as its bytes and its first number.
 fn next(rt: &impl Abort, end: &mut End) -> Result<Option<(Vec<u8>, u64)>, Fail> {
@@ -35,40 +41,39 @@ fn taken(number: u64) -> Received {
 #[test]
 fn row_12_polls_wait_for_a_missing_datagram(rt: HostRuntime) -> Result<(), Fail> {
     let mut end = receiving_end(rt.alloc(), 127)?;
-    assert_eq!(rt; receive(&mut end, &datagram(0, 0xaa))?, taken(0));
+    assert_eq!(rt; arrive(&mut end, 0, 0xaa)?, taken(0));
     expect_unit(&rt, &mut end, 0xaa, 0)?;
-    assert_eq!(rt; receive(&mut end, &datagram(2, 0xcc))?, taken(2));
+    assert_eq!(rt; arrive(&mut end, 2, 0xcc)?, taken(2));
     assert!(rt; next(&rt, &mut end)?.is_none());
-    assert_eq!(rt; receive(&mut end, &datagram(1, 0xbb))?, taken(1));
+    assert_eq!(rt; arrive(&mut end, 1, 0xbb)?, taken(1));
     expect_unit(&rt, &mut end, 0xbb, 1)?;
     expect_unit(&rt, &mut end, 0xcc, 2)?;
     assert!(rt; next(&rt, &mut end)?.is_none());
     Ok(())
 }
 
+/// The datagrams of row 12 in the order 1, 0, 2.
+fn out_of_order(alloc: Global) -> Result<Vec<Datagram>, Fail> {
+    let mut datagrams = Vec::new(alloc);
+    datagrams.push(owned(alloc, 1, 0xbb)?)?;
+    datagrams.push(owned(alloc, 0, 0xaa)?)?;
+    datagrams.push(owned(alloc, 2, 0xcc)?)?;
+    Ok(datagrams)
+}
+
 #[test]
 fn row_12_receive_all_hands_out_in_order(rt: HostRuntime) -> Result<(), Fail> {
-    let alloc = rt.alloc();
-    let mut end = receiving_end(alloc, 127)?;
-    let mut datagrams = Vec::new(alloc);
-    for (number, byte) in [(1, 0xbb), (0, 0xaa), (2, 0xcc)] {
-        datagrams.push(owned(alloc, number, byte)?)?;
-    }
-    let all = end.receive_all(datagrams.as_slice())?;
+    let mut end = receiving_end(rt.alloc(), 127)?;
+    let datagrams = out_of_order(rt.alloc())?;
+    let (verdicts, answers) = receive_all(&mut end, datagrams.as_slice())?;
     assert_eq!(rt;
-        all.verdicts.as_slice(),
+        verdicts.as_slice(),
         [taken(1), taken(0), taken(2)].as_slice()
     );
-    assert_eq!(rt; all.polls.len(), 1);
-    let answers = all.polls[0].as_slice();
     assert_eq!(rt; answers.len(), 3);
-    let bytes = [0xaa, 0xbb, 0xcc];
-    for (answer, byte) in answers.iter().zip(bytes.iter()) {
-        match answer {
-            Ok(unit) => assert_eq!(rt; unit.bytes(), [*byte].as_slice()),
-            Err(_) => assert!(rt; false, "a fault"),
-        }
-    }
+    assert!(rt; has_bytes(&answers[0], b"\xaa"));
+    assert!(rt; has_bytes(&answers[1], b"\xbb"));
+    assert!(rt; has_bytes(&answers[2], b"\xcc"));
     Ok(())
 }
 
@@ -76,22 +81,19 @@ fn row_12_receive_all_hands_out_in_order(rt: HostRuntime) -> Result<(), Fail> {
 fn row_13_the_window_reaches_128_back(rt: HostRuntime) -> Result<(), Fail> {
     let mut end = receiving_end(rt.alloc(), 127)?;
     for number in 2..129 {
-        assert_eq!(rt;
-            receive(&mut end, &datagram(number, 1))?,
-            taken(number as u64)
-        );
+        assert_eq!(rt; arrive(&mut end, number, 1)?, taken(number as u64));
     }
-    assert_eq!(rt; receive(&mut end, &datagram(0, 1))?, Received::Refused);
-    assert_eq!(rt; receive(&mut end, &datagram(1, 1))?, taken(1));
+    assert_eq!(rt; arrive(&mut end, 0, 1)?, Received::Refused);
+    assert_eq!(rt; arrive(&mut end, 1, 1)?, taken(1));
     Ok(())
 }
 
 #[test]
 fn row_13_numbers_count_on_past_16_bits(rt: HostRuntime) -> Result<(), Fail> {
     let mut end = receiving_end(rt.alloc(), 127)?;
-    assert_eq!(rt; receive(&mut end, &datagram(0xffff, 0x0a))?, taken(65_535));
-    let second = b"\x80\x6f\x00\x00\x00\x00\x03\xc0\x00\x00\x00\x2c\x0b";
-    assert_eq!(rt; receive(&mut end, second)?, taken(65_536));
+    assert_eq!(rt; arrive(&mut end, 0xffff, 0x0a)?, taken(65_535));
+    let second = receive_hex(rt.alloc(), &mut end, "806f0000000003c00000002c0b")?;
+    assert_eq!(rt; second, taken(65_536));
     expect_unit(&rt, &mut end, 0x0a, 65_535)?;
     expect_unit(&rt, &mut end, 0x0b, 65_536)?;
     assert!(rt; next(&rt, &mut end)?.is_none());
@@ -101,23 +103,24 @@ fn row_13_numbers_count_on_past_16_bits(rt: HostRuntime) -> Result<(), Fail> {
 #[test]
 fn row_14_what_is_not_taken(rt: HostRuntime) -> Result<(), Fail> {
     let mut end = receiving_end(rt.alloc(), 127)?;
-    assert_eq!(rt; receive(&mut end, b"\x00\x01\x02")?, Received::Unreadable);
-    let foreign = b"\x80\x70\x00\x00\x00\x00\x00\x00\x00\x00\x00\x2c\x05";
-    assert_eq!(rt; receive(&mut end, foreign)?, Received::Foreign);
-    let too_much_padding = b"\xa0\x6f\x00\x00\x00\x00\x00\x00\x00\x00\x00\x2c\x01\x05";
-    assert_eq!(rt; receive(&mut end, too_much_padding)?, Received::Damaged);
-    let padding_alone = b"\xa0\x6f\x00\x00\x00\x00\x00\x00\x00\x00\x00\x2c\x01\x02";
-    assert_eq!(rt; receive(&mut end, padding_alone)?, Received::Damaged);
-    assert_eq!(rt; receive(&mut end, &datagram(0, 5))?, taken(0));
+    let too_short = receive_hex(rt.alloc(), &mut end, "000102")?;
+    assert_eq!(rt; too_short, Received::Unreadable);
+    let foreign = receive_hex(rt.alloc(), &mut end, "80700000000000000000002c05")?;
+    assert_eq!(rt; foreign, Received::Foreign);
+    let too_much_padding = receive_hex(rt.alloc(), &mut end, "a06f0000000000000000002c0105")?;
+    assert_eq!(rt; too_much_padding, Received::Damaged);
+    let padding_alone = receive_hex(rt.alloc(), &mut end, "a06f0000000000000000002c0102")?;
+    assert_eq!(rt; padding_alone, Received::Damaged);
+    assert_eq!(rt; arrive(&mut end, 0, 5)?, taken(0));
     Ok(())
 }
 
 #[test]
 fn a_number_comes_twice(rt: HostRuntime) -> Result<(), Fail> {
     let mut end = receiving_end(rt.alloc(), 0)?;
-    assert_eq!(rt; receive(&mut end, &datagram(7, 1))?, taken(7));
+    assert_eq!(rt; arrive(&mut end, 7, 1)?, taken(7));
     expect_unit(&rt, &mut end, 1, 7)?;
-    assert_eq!(rt; receive(&mut end, &datagram(7, 1))?, Received::Refused);
+    assert_eq!(rt; arrive(&mut end, 7, 1)?, Received::Refused);
     assert!(rt; next(&rt, &mut end)?.is_none());
     Ok(())
 }

@@ -3,8 +3,8 @@
 
 use crate::streams::params;
 use rtp_media::{
-    CodecConfig, End, EndError, ExchangeError, MediaKind, OpenError, PayloadParams, Received,
-    SectionSpec, Session,
+    CodecConfig, Datagram, End, EndError, ExchangeError, MediaKind, OpenError, PayloadParams,
+    PollFault, Received, ReceivedAll, SectionSpec, Session, Unit,
 };
 use rtp_wire::{Direction, ExtensionMap, Mid, Pt, SessionId, Ssrc};
 use std::alloc::Global;
@@ -94,4 +94,46 @@ pub fn open(end: &mut End, ssrc: u32, pt: u8) -> Result<usize, OpenError> {
 /// Takes a datagram in.
 pub fn receive(end: &mut End, datagram: &[u8]) -> Result<Received, Fail> {
     Ok(end.receive(datagram)?)
+}
+
+/// Takes in a datagram that is written in hexadecimal.
+pub fn receive_hex(alloc: Global, end: &mut End, digits: &str) -> Result<Received, Fail> {
+    let datagram = hex::decode(alloc, digits)?;
+    receive(end, datagram.as_slice())
+}
+
+/// Whether a datagram has the bytes that these digits write.
+pub fn is_hex(alloc: Global, datagram: &Datagram, digits: &str) -> Result<bool, Fail> {
+    let bytes = hex::decode(alloc, digits)?;
+    Ok(datagram.as_slice() == bytes.as_slice())
+}
+
+/// Takes datagrams in, and answers what was said of them, and what the one receiving stream handed out
+/// then.
+pub fn receive_all(
+    end: &mut End,
+    datagrams: &[Datagram],
+) -> Result<(Vec<Received>, Vec<Result<Unit, PollFault>>), Fail> {
+    let ReceivedAll {
+        verdicts,
+        mut polls,
+    } = end.receive_all(datagrams)?;
+    let answers = polls.pop().ok_or("a stream")?;
+    Ok((verdicts, answers.into_vec()))
+}
+
+/// Whether an answer is a unit of these bytes.
+pub fn has_bytes(answer: &Result<Unit, PollFault>, bytes: &[u8]) -> bool {
+    match answer {
+        Ok(unit) => unit.bytes() == bytes,
+        Err(_) => false,
+    }
+}
+
+/// Whether an answer is a unit of this time.
+pub fn has_time(answer: &Result<Unit, PollFault>, time: u32) -> bool {
+    match answer {
+        Ok(unit) => unit.time() == time,
+        Err(_) => false,
+    }
 }

@@ -2,13 +2,10 @@
 
 ghost use Rattle.std.specs.Prelude.{◌≤◌};
 
-use crate::calls::{audio, end_with};
+use crate::calls::{audio, end_with, is_hex, open, receive, send};
 use crate::samples::push_with;
-use crate::streams::params;
-use rtp_media::{End, connect};
-use rtp_wire::{
-    Direction, Extension, ExtensionMap, ExtensionValues, Frequency, MediaTime, Mid, Pt, Ssrc,
-};
+use rtp_media::{Datagram, End, connect};
+use rtp_wire::{Direction, Extension, ExtensionMap, ExtensionValues, Frequency, MediaTime, Mid};
 use std::alloc::Global;
 use std::process::Abort;
 use std::test::Fail;
@@ -23,35 +20,37 @@ fn mid_as(id: u8) -> ExtensionMap
     exts
 }
 
-/// Sends row 23's samples from one end to the other.
-fn passes(rt: &impl Abort, from: &mut End, to: &mut End) -> Result<(), Fail> {
-    let (mid, ssrc, pt) = (Mid::from("0"), Ssrc::from(44), Pt::from(111));
-    let params = params(1200, 1400);
-    assert!(rt; params.is_sound());
-    assert_eq!(rt; from.open_sender(mid, ssrc, pt, params)?, 0);
-    assert_eq!(rt; to.open_receiver(mid, ssrc, pt, 127)?, 0);
-    let mut values = ExtensionValues::absent();
-    values.mid = Some(mid);
+/// The sample of row 23 with these values, sent by stream 0.
+fn push(rt: &impl Abort, end: &mut End, values: &ExtensionValues) -> Result<Datagram, Fail> {
     let time = MediaTime::new(960, Frequency::FORTY_EIGHT_KHZ);
-    let first = push_with(rt, from, time, &[1, 2, 3], &values)?;
-    assert_eq!(rt; first.len(), 1);
-    let with_mid = [
-        0x90, 0x6f, 0, 0, 0, 0, 0x03, 0xc0, 0, 0, 0, 44, 0xbe, 0xde, 0, 1, 0x40, 0x30, 0, 0, 1, 2,
-        3,
-    ];
-    assert_eq!(rt; first[0].as_slice(), with_mid.as_slice());
-    let second = push_with(rt, from, time, &[1, 2, 3], &ExtensionValues::absent())?;
-    assert_eq!(rt; second.len(), 1);
-    let without = [
-        0x90, 0x6f, 0, 1, 0, 0, 0x03, 0xc0, 0, 0, 0, 44, 0xbe, 0xde, 0, 0, 1, 2, 3,
-    ];
-    assert_eq!(rt; second[0].as_slice(), without.as_slice());
-    let _ = to.receive(first[0].as_slice())?;
-    assert!(rt; to.is_receiver(0));
-    let unit = to.poll(0)?.ok_or("a unit")?;
-    assert_eq!(rt; unit.ext_vals().mid, Some(mid));
+    let mut sent = push_with(rt, end, time, &[1, 2, 3], values)?;
+    assert_eq!(rt; sent.len(), 1);
+    Ok(sent.pop().ok_or("a datagram")?)
+}
+
+/// The unit that stream 0 hands out has row 23's name and bytes.
+fn arrives(rt: &impl Abort, end: &mut End) -> Result<(), Fail> {
+    assert!(rt; end.is_receiver(0));
+    let unit = end.poll(0)?.ok_or("a unit")?;
+    assert_eq!(rt; unit.ext_vals().mid, Some(Mid::from("0")));
     assert_eq!(rt; unit.bytes(), [1, 2, 3].as_slice());
     Ok(())
+}
+
+/// Sends row 23's samples from one end to the other.
+fn passes(rt: &impl Abort, alloc: Global, from: &mut End, to: &mut End) -> Result<(), Fail> {
+    assert_eq!(rt; send(rt, from, 44, 111)?, Ok(0));
+    assert_eq!(rt; open(to, 44, 111), Ok(0));
+    let mut values = ExtensionValues::absent();
+    values.mid = Some(Mid::from("0"));
+    let first = push(rt, from, &values)?;
+    let with_mid = "906f0000000003c00000002cbede000140300000010203";
+    assert!(rt; is_hex(alloc, &first, with_mid)?);
+    let second = push(rt, from, &ExtensionValues::absent())?;
+    let without = "906f0001000003c00000002cbede0000010203";
+    assert!(rt; is_hex(alloc, &second, without)?);
+    receive(to, first.as_slice())?;
+    arrives(rt, to)
 }
 
 /// Two ends of different numbers that are connected, and the answer's text.
@@ -73,7 +72,7 @@ fn row_23_values_under_the_answers_numbers(rt: HostRuntime) -> Result<(), Fail> 
     let (mut a, mut b, answer) = connected(rt.alloc())?;
     let line = "\r\na=extmap:4 urn:ietf:params:rtp-hdrext:sdes:mid\r\n";
     assert!(rt; answer.as_str().contains(line));
-    passes(&rt, &mut a, &mut b)?;
-    passes(&rt, &mut b, &mut a)?;
+    passes(&rt, rt.alloc(), &mut a, &mut b)?;
+    passes(&rt, rt.alloc(), &mut b, &mut a)?;
     Ok(())
 }
