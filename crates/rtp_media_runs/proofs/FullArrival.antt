@@ -67,12 +67,18 @@ units-length : (n : ℕ) (ps : List Timed) → length (units_from n ps) ≡ leng
 units-length n [] = refl
 units-length n (p ∷ ps) = ap suc (units-length (n + 1) ps)
 
--- after full arrival polls until None hand out exactly the canonical units
-pub full-drained : (hold_back first : ℕ) (ps : List Timed) (arrivals : List ℕ) {t : Stream} {us : List MediaUnit} → first + length ps ≤ 2 ^ 62 → length ps ≤ 4096 → AreGoodArrivals first (length ps) [] arrivals →
-    IsDrained (after_events (fresh hold_back) (map (event_of (sender_of first ps)) (map Arrive arrivals))) us t → us ≡ units_from first ps
-full-drained hold_back first ps arrivals fits few good drained =
+-- after full arrival polls answer exactly the canonical units, and then None
+pub polls-heard : (hold_back first : ℕ) (ps : List Timed) (arrivals : List ℕ) → first + length ps ≤ 2 ^ 62 → length ps ≤ 4096 → AreGoodArrivals first (length ps) [] arrivals →
+    heard (after_events (fresh hold_back) (map (event_of (sender_of first ps)) (map Arrive arrivals))) (map (event_of (sender_of first ps)) (replicate (suc (length (units_from first ps))) Ask)) ≡ map Some (units_from first ps) ++ None ∷ []
+polls-heard hold_back first ps arrivals fits few good =
     let f : Sender = sender_of first ps in
     let polls : heard (after_events (fresh hold_back) (map (event_of f) (map Arrive arrivals))) (map (event_of f) (replicate (suc (length ps)) Ask)) ≡ map Some (units_from first ps) ++ None ∷ [] =
     sym (heard-arrivals f (fresh hold_back) arrivals (replicate (suc (length ps)) Ask)) ∙ heard-full hold_back first ps arrivals fits few good in
     let n : length ps ≡ length (units_from first ps) = sym (units-length first ps) in
-    drained-units f drained (units_from first ps) (rw (← n) polls)
+    rw (← n) polls
+
+-- polls until None hand out exactly the canonical units
+pub full-drained : (hold_back first : ℕ) (ps : List Timed) (arrivals : List ℕ) {t : Stream} {us : List MediaUnit} → first + length ps ≤ 2 ^ 62 → length ps ≤ 4096 → AreGoodArrivals first (length ps) [] arrivals →
+    IsDrained (after_events (fresh hold_back) (map (event_of (sender_of first ps)) (map Arrive arrivals))) us t → us ≡ units_from first ps
+full-drained hold_back first ps arrivals fits few good drained =
+    drained-units (sender_of first ps) drained (units_from first ps) (polls-heard hold_back first ps arrivals fits few good)
