@@ -12,8 +12,8 @@ use Rattle.rtp_media_streams.specs.declared.errors.SampleError.{SampleError}
 use Rattle.rtp_media_streams.specs.declared.errors.SampleError.TheVariants as sample_error
 use Rattle.rtp_media_ends.specs.declared.errors.OpenError.{OpenError}
 use Rattle.rtp_media_ends.specs.declared.errors.OpenError.TheVariants as open_error
-use Rattle.rtp_media_ends.specs.declared.errors.PollFault.{PollFault}
-use Rattle.rtp_media_ends.specs.declared.errors.PollFault.TheVariants as poll_fault
+use Rattle.rtp_media_streams.specs.declared.errors.PollFault.{PollFault}
+use Rattle.rtp_media_streams.specs.declared.errors.PollFault.TheVariants as poll_fault
 use Rattle.rtp_media_ends.specs.declared.params.StreamParams.{StreamParams}
 use Rattle.rtp_media_ends.specs.declared.received.Received.{Received}
 use Rattle.rtp_media_ends.specs.declared.received.Received.TheVariants as received

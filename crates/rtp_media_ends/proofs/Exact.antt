@@ -1,9 +1,9 @@
 -- All datagrams of a sending stream arrive, and the polls answer its units.
-use Rattle.std.proofs.Common.{◌≡◌, ℕ, zero, suc, ◌+◌, ◌-◌, ◌%◌, ◌^◌, ◌<◌, ◌≤◌, refl, sym, ◌∙◌, ap, ap₂, subst, arith, Bool, true, false, cond, ◌&&◌, List, [], ◌∷◌, ◌++◌, length, map, true≢false, add-zero}
+use Rattle.std.proofs.Common.{◌≡◌, ℕ, zero, suc, ◌+◌, ◌-◌, ◌%◌, ◌^◌, ◌<◌, refl, sym, ◌∙◌, ap, ap₂, subst, arith, Bool, true, false, cond, ◌&&◌, List, [], ◌∷◌, ◌++◌, length, map, true≢false, add-zero}
 use Rattle.std.proofs.lemmas.Bool.Decides.{nat_tests}
-use Rattle.std.specs.Prelude.{Option, Some, None, Ok, if◌then◌else◌, ◌==◌, filter, All, slice_index_or}
+use Rattle.std.specs.Prelude.{Option, Some, None, if◌then◌else◌, ◌==◌, filter, All, slice_index_or}
 use Rattle.std.proofs.lemmas.List.{length-map}
-use Rattle.std.specs.List.{filter_map, cons_option, range_with_len}
+use Rattle.std.specs.List.{filter_map, cons_option}
 use Rattle.rtp_wire.specs.Carried.{AreValues}
 use Rattle.rtp_wire.specs.Header.{header_in, payload_in, layout_of, IsWritable}
 use Rattle.rtp_wire.specs.Header as header
@@ -15,15 +15,18 @@ use Rattle.rtp_wire.specs.declared.header.RtpHeader.{RtpHeader}
 use Rattle.rtp_wire.proofs.HeaderLaws.{header_in-layout, header_in-spelled, payload_in-spelled, IsLayout-of}
 use Rattle.rtp_media_runs.specs.Heard.{Stream, Event, Comes, fresh, after_events}
 use Rattle.rtp_media_runs.specs.Schedules.{Arrive, event_of, AreGoodArrivals}
-use Rattle.rtp_media_runs.specs.Opus.{Timed, timed, content_of, content_at, sender_of, payloads, payloads_of, piece, piece_count}
-use Rattle.rtp_media_runs.specs.Drained.{IsDrained}
-use Rattle.rtp_media_runs.proofs.Pieces.{piece-some}
-use Rattle.rtp_media_runs.proofs.FullArrival.{full-drained}
+use Rattle.rtp_media_runs.specs.Opus.{Timed, timed, content_of, content_at, sender_of, payloads, payloads_of, units_from}
+use Rattle.rtp_media_runs.proofs.Pieces.{each-within}
+use Rattle.rtp_media_runs.proofs.FullArrival.{polls-heard}
+use Rattle.payload_core_base.specs.Law.{AreWithin}
+use Rattle.payload_core_base.specs.Pieces.{pieces}
+use Rattle.rtp_media_streams.specs.Polls.{Answers, AreAnswered, IsPolled}
+use Rattle.rtp_media_streams.proofs.Draining.{answered}
 use Rattle.rtp_media_streams.specs.Sending.{Sending, header_of, carried, as_carried, datagram_of, datagrams_from}
 use Rattle.rtp_media_streams.proofs.Sent.{writable}
 use Rattle.rtp_media_streams.specs.Receiving.{Receiving, values_of_header, values_read}
 use Rattle.rtp_media_ends.specs.Ends.{EndState, receiver_at}
-use Rattle.rtp_media_ends.specs.FullArrival.{after_datagrams, Answers, IsPolledOut, is_header_of, is_own_datagram, sent_datagram, units_of, HasAllOf}
+use Rattle.rtp_media_ends.specs.FullArrival.{after_datagrams, IsPolledOut, is_header_of, is_own_datagram, sent_datagram, units_of, HasAllOf}
 use Rattle.rtp_media_ends.specs.OwnEvents.{content_event, event_by, event_in, own_events}
 use Rattle.rtp_media_ends.proofs.Isolation.{isolated}
 
@@ -38,7 +41,7 @@ abbrev AreSendable : List Timed → Type 0
 AreSendable [] = Unit {0}
 AreSendable (p ∷ ps) = IsSendable p × AreSendable ps
 
-content-some : (h : RtpHeader) (values : ExtensionValues) (bytes : List ℕ) → 0 < length bytes → content_event h values (Some bytes) ≡ Some (Comes h.sequence_number (content_of h.timestamp values bytes))
+content-some : (h : RtpHeader) (values : ExtensionValues) (bytes : List ℕ) → 0 < length bytes → content_event h values (Some bytes) ≡ Some (Comes h.sequence_number (content_of h.timestamp h.marker values bytes))
 content-some h values [] some = absurd (omega arith)
 content-some h values (b ∷ bs) some = refl
 
@@ -48,7 +51,7 @@ carried_payloads s ps = map (as_carried s) ps
 
 -- a datagram that was sent is read as what it is
 sent-read : (s : Sending) (x : ℕ) (p : Timed) → s.pt < 128 → s.ssrc < 2 ^ 32 → IsSendable p →
-    event_in s.ssrc s.pt s.map (datagram_of s x p) ≡ Some (Comes (x % 65536) (content_of p.time (carried s p.values) p.bytes))
+    event_in s.ssrc s.pt s.map (datagram_of s x p) ≡ Some (Comes (x % 65536) (content_of p.time false (carried s p.values) p.bytes))
 sent-read s x p pt ssrc fits =
     let h : RtpHeader = header_of s x p.time p.values in
     let d : List ℕ = datagram_of s x p in
@@ -65,26 +68,25 @@ sent-read s x p pt ssrc fits =
 sent-event : (s : Sending) (ps : List Timed) (n i : ℕ) → s.pt < 128 → s.ssrc < 2 ^ 32 → AreSendable ps → i < length ps →
     event_in s.ssrc s.pt s.map (slice_index_or (datagrams_from s n ps) i []) ≡ Some (Comes ((n + i) % 65536) (content_at (carried_payloads s ps) i))
 sent-event s [] n i pt ssrc all lt = absurd (omega arith)
-sent-event s (p ∷ ps) n zero pt ssrc all lt = sent-read s n p pt ssrc all.0 ∙ ap (λ (k : ℕ). Some (Comes (k % 65536) (content_of p.time (carried s p.values) p.bytes))) (sym (add-zero n))
+sent-event s (p ∷ ps) n zero pt ssrc all lt = sent-read s n p pt ssrc all.0 ∙ ap (λ (k : ℕ). Some (Comes (k % 65536) (content_of p.time false (carried s p.values) p.bytes))) (sym (add-zero n))
 sent-event s (p ∷ ps) n (suc i) pt ssrc all lt =
     let e : n + 1 + i ≡ n + suc i = omega arith in
     sent-event s ps (n + 1) i pt ssrc all.1 (omega arith) ∙ ap (λ (k : ℕ). Some (Comes (k % 65536) (content_at (carried_payloads s ps) i))) e
 
 -- each payload of a sample can be sent
-pieces-sendable : (limit time i m : ℕ) (values : ExtensionValues) (bytes : List ℕ) → 0 < limit → time < 2 ^ 32 → AreValues values → i + m ≤ piece_count limit (length bytes) →
-    AreSendable (map (timed time values) (map (piece limit bytes) (range_with_len i m)))
-pieces-sendable limit time i zero values bytes pos t v h = tt
-pieces-sendable limit time i (suc m) values bytes pos t v h = ((t, piece-some limit i bytes pos (omega arith), v), pieces-sendable limit time (i + 1) m values bytes pos t v (omega arith))
+pieces-sendable : (limit time : ℕ) (values : ExtensionValues) (ps : List (List ℕ)) → time < 2 ^ 32 → AreValues values → AreWithin limit ps → AreSendable (map (timed time values) ps)
+pieces-sendable limit time values [] t v within = tt
+pieces-sendable limit time values (p ∷ ps) t v within = ((t, (within 0 p (omega arith)).0, v), pieces-sendable limit time values ps t v (λ k d h. within (suc k) d (omega arith)))
 
 All-append : (ps qs : List Timed) → AreSendable ps → AreSendable qs → AreSendable (ps ++ qs)
 All-append [] qs a b = b
 All-append (p ∷ ps) qs a b = (a.0, All-append ps qs a.1 b)
 
-payloads-sendable : (limit : ℕ) (samples : List Timed) → 0 < limit → All (λ s. s.time < 2 ^ 32) samples → All (λ s. AreValues s.values) samples → AreSendable (payloads limit samples)
-payloads-sendable limit [] pos all vs = tt
-payloads-sendable limit (s ∷ ss) pos all vs =
-    All-append (payloads_of limit s) (payloads limit ss) (pieces-sendable limit s.time 0 (piece_count limit (length s.bytes)) s.values s.bytes pos (all zero s (omega arith)) (vs zero s (omega arith)) (omega arith))
-    (payloads-sendable limit ss pos (λ k d h. all (suc k) d (omega arith)) (λ k d h. vs (suc k) d (omega arith)))
+payloads-sendable : (limit : ℕ) (samples : List Timed) → All (λ s. s.time < 2 ^ 32) samples → All (λ s. AreValues s.values) samples → AreSendable (payloads limit samples)
+payloads-sendable limit [] all vs = tt
+payloads-sendable limit (s ∷ ss) all vs =
+    All-append (payloads_of limit s) (payloads limit ss) (pieces-sendable limit s.time s.values (pieces limit s.bytes) (all zero s (omega arith)) (vs zero s (omega arith)) (each-within limit s.bytes))
+    (payloads-sendable limit ss (λ k d h. all (suc k) d (omega arith)) (λ k d h. vs (suc k) d (omega arith)))
 
 -- what is not the stream's own is no event of it
 own-filter : (ssrc pt : ℕ) (numbering : Numbering) (ds : List (List ℕ)) → own_events ssrc pt numbering (filter (is_own_datagram ssrc pt) ds) ≡ own_events ssrc pt numbering ds
@@ -117,18 +119,18 @@ arrivals-events s samples past (x ∷ xs) pt ssrc all good =
 -- exact after full arrival
 pub exact : (e : EndState) (stream hold_back : ℕ) (sender : Sending) (samples : List Timed) (arrivals : List ℕ) (ds : List (List ℕ)) (answers : Answers) (after : Receiving) →
     HasAllOf e stream hold_back sender samples arrivals ds → IsPolledOut (receiver_at (after_datagrams e ds) stream) answers after →
-    answers ≡ map Ok (units_of sender samples)
+    AreAnswered (units_of sender samples) answers
 exact e stream hold_back sender samples arrivals ds answers after all out =
     let ps : List Timed = payloads sender.mtu samples in
     let qs : List Timed = carried_payloads sender ps in
     let count : length qs ≡ length ps = length-map ps (as_carried sender) in
     let events : own_events sender.ssrc sender.pt sender.map ds ≡ map (event_of (sender_of sender.next qs)) (map Arrive arrivals) =
     sym (own-filter sender.ssrc sender.pt sender.map ds) ∙ ap (own_events sender.ssrc sender.pt sender.map) all.own
-    ∙ arrivals-events sender samples [] arrivals all.payload_type all.ssrc (payloads-sendable sender.mtu samples all.mtu all.timestamps all.values) all.arrive in
+    ∙ arrivals-events sender samples [] arrivals all.payload_type all.ssrc (payloads-sendable sender.mtu samples all.timestamps all.values) all.arrive in
     let alone : (receiver_at (after_datagrams e ds) stream).stream ≡ after_events (fresh hold_back) (map (event_of (sender_of sender.next qs)) (map Arrive arrivals)) =
     isolated ds e stream sender.ssrc sender.pt sender.map (ap (λ (r : Receiving). r.ssrc) all.fresh) (ap (λ (r : Receiving). r.pt) all.fresh) (ap (λ (r : Receiving). r.map) all.fresh) all.opened
     ∙ ap₂ (λ (s : Stream) (es : List Event). after_events s es) (ap (λ (r : Receiving). r.stream) all.fresh) events in
-    let drained : IsDrained (after_events (fresh hold_back) (map (event_of (sender_of sender.next qs)) (map Arrive arrivals))) out.units after.stream =
-    subst (λ (s : Stream). IsDrained s out.units after.stream) alone out.drained in
+    let polled : IsPolled (after_events (fresh hold_back) (map (event_of (sender_of sender.next qs)) (map Arrive arrivals))) answers after.stream =
+    subst (λ (s : Stream). IsPolled s answers after.stream) alone out.polled in
     let arrive : AreGoodArrivals sender.next (length qs) [] arrivals = subst (λ (n : ℕ). AreGoodArrivals sender.next n [] arrivals) (sym count) all.arrive in
-    out.answers_are ∙ ap (map Ok) (full-drained hold_back sender.next qs arrivals (omega (arith, all.numbers, count)) (omega (arith, all.few, count)) arrive drained)
+    answered (sender_of sender.next qs) polled (units_from sender.next qs) (polls-heard hold_back sender.next qs arrivals (omega (arith, all.numbers, count)) (omega (arith, all.few, count)) arrive)

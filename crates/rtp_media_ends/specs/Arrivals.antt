@@ -1,4 +1,4 @@
-use Rattle.std.specs.Prelude.{ℕ, List, [], ◌∷◌, Option, Some, None, position}
+use Rattle.std.specs.Prelude.{ℕ, Bool, List, [], ◌∷◌, Option, Some, None, position}
 use Rattle.rtp_wire.specs.Header.{header_in, payload_in}
 use Rattle.rtp_wire.specs.Maps.{empty_map}
 use Rattle.rtp_wire.specs.declared.ExtensionValues.{ExtensionValues}
@@ -10,19 +10,19 @@ use Rattle.rtp_media_ends.specs.declared.received.Received.{Received}
 use Rattle.rtp_media_ends.specs.declared.received.Received.TheVariants.{Unreadable, Foreign, Damaged, Refused, Taken}
 
 -- What a datagram is to an end: no RTP packet, of no receiving stream, one of a stream's own without a
--- payload, or one of its own with the 16 bits of its number, its timestamp, the values of its header
--- extensions under the stream's map, and its payload.
+-- payload, or one of its own with the 16 bits of its number, its timestamp, its marker, the values of its
+-- header extensions under the stream's map, and its payload.
 pub data Arrival : Type 0 where
   NoHeader : Arrival
   NoStream : Arrival
   NoPayload : Arrival
-  Own : (stream low time : ℕ) (values : ExtensionValues) (payload : List ℕ) → Arrival
+  Own : (stream low time : ℕ) (marker : Bool) (values : ExtensionValues) (payload : List ℕ) → Arrival
 
 -- the payload without its padding, if it has a byte
 abbrev pub own_of : ℕ → RtpHeader → ExtensionValues → Option (List ℕ) → Arrival
 own_of stream header values None = NoPayload
 own_of stream header values (Some []) = NoPayload
-own_of stream header values (Some (byte ∷ bytes)) = Own stream header.sequence_number header.timestamp values (byte ∷ bytes)
+own_of stream header values (Some (byte ∷ bytes)) = Own stream header.sequence_number header.timestamp header.marker values (byte ∷ bytes)
 
 abbrev pub arrival_for : List Receiving → Option ℕ → RtpHeader → List ℕ → Arrival
 arrival_for receivers None header datagram = NoStream
@@ -50,15 +50,15 @@ abbrev pub verdict_for : EndState → Arrival → Received
 verdict_for e NoHeader = Unreadable
 verdict_for e NoStream = Foreign
 verdict_for e NoPayload = Damaged
-verdict_for e (Own stream low time values payload) = verdict_on stream (taken_number (receiver_at e stream).stream low)
+verdict_for e (Own stream low time marker values payload) = verdict_on stream (taken_number (receiver_at e stream).stream low)
 
 -- The end after `receive`: one step of the stream whose own it is, and else as it was.
 abbrev pub after_arrival : EndState → Arrival → EndState
 after_arrival e NoHeader = e
 after_arrival e NoStream = e
 after_arrival e NoPayload = e
-after_arrival e (Own stream low time values payload) =
-    with_receiver e stream (with_stream (receiver_at e stream) (arrived (receiver_at e stream).stream low time values payload))
+after_arrival e (Own stream low time marker values payload) =
+    with_receiver e stream (with_stream (receiver_at e stream) (arrived (receiver_at e stream).stream low time marker values payload))
 
 abbrev pub verdict_of : EndState → List ℕ → Received
 verdict_of e datagram = verdict_for e (arrival_at e.receivers datagram)

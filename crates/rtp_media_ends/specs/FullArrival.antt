@@ -1,18 +1,17 @@
-use Rattle.std.specs.Prelude.{ℕ, ◌≡◌, ◌+◌, ◌-◌, ◌^◌, ◌<◌, ◌≤◌, ◌==◌, ◌&&◌, Bool, false, List, [], ◌∷◌, length, map, filter, All, Option, Some, None, Result, Ok, slice_index_or}
+use Rattle.std.specs.Prelude.{ℕ, ◌≡◌, ◌+◌, ◌-◌, ◌^◌, ◌<◌, ◌≤◌, ◌==◌, ◌&&◌, Bool, false, List, [], ◌∷◌, length, map, filter, All, Option, Some, None, slice_index_or}
 use Rattle.rtp_wire.specs.Carried.{AreValues}
 use Rattle.rtp_wire.specs.Header.{header_in}
 use Rattle.rtp_wire.specs.Maps.{empty_map}
 use Rattle.rtp_wire.specs.declared.header.RtpHeader.{RtpHeader}
 use Rattle.rtp_media_runs.specs.Heard.{MediaUnit}
-use Rattle.rtp_media_runs.specs.Drained.{IsDrained}
 use Rattle.rtp_media_runs.specs.Schedules.{AreGoodArrivals}
 use Rattle.rtp_media_runs.specs.Opus.{Timed, payloads, units_from}
+use Rattle.rtp_media_streams.specs.Polls.{Answers, IsPolled}
 use Rattle.rtp_media_streams.specs.Sending.{Sending, as_carried, datagrams_from}
 use Rattle.rtp_media_streams.specs.Receiving.{Receiving, opened_receiver, with_stream}
 use Rattle.rtp_media_ends.specs.Ends.{EndState, nth_receiver, receiver_at}
 use Rattle.rtp_media_ends.specs.Arrivals.{verdict_of, after_datagram, stream_for}
 use Rattle.rtp_media_ends.specs.declared.received.Received.{Received}
-use Rattle.rtp_media_ends.specs.declared.errors.PollFault.{PollFault}
 
 -- The verdicts on datagrams that are received one after the other.
 abbrev pub verdicts_of : EndState → List (List ℕ) → List Received
@@ -28,22 +27,16 @@ after_datagrams e (d ∷ ds) = after_datagrams (after_datagram e d) ds
 abbrev pub with_receivers : EndState → List Receiving → EndState
 with_receivers e rs = record { exchange = e.exchange; senders = e.senders; receivers = rs }
 
--- What polls of a stream answer.
-abbrev pub Answers : Type 0
-Answers = List (Result MediaUnit PollFault)
-
--- A receiving stream was polled until None: its answers, and the stream after them.
+-- A receiving stream was polled until None or want of memory: its answers, and the stream after them.
 pub record IsPolledOut (before : Receiving) (answers : Answers) (after : Receiving) : Type 0 where
-  pub units : List MediaUnit
-  pub drained : IsDrained before.stream units after.stream
-  pub answers_are : answers ≡ map Ok units
+  pub polled : IsPolled before.stream answers after.stream
   pub same_stream : after ≡ with_stream before after.stream
 
 -- the answers of the n-th stream
 abbrev pub answers_at : List Answers → ℕ → Answers
 answers_at answers n = slice_index_or answers n []
 
--- Each receiving stream was polled until None.
+-- Each receiving stream was polled until None or want of memory.
 pub record ArePolledOut (before : List Receiving) (answers : List Answers) (after : List Receiving) : Type 0 where
   pub as_many : length after ≡ length before
   pub as_many_answers : length answers ≡ length before
@@ -74,7 +67,6 @@ pub record HasAllOf (e : EndState) (stream hold_back : ℕ) (sender : Sending) (
   pub opened : stream_for e.receivers sender.ssrc sender.pt ≡ Some stream
   pub payload_type : sender.pt < 128
   pub ssrc : sender.ssrc < 2 ^ 32
-  pub mtu : 0 < sender.mtu
   pub timestamps : All (λ s. s.time < 2 ^ 32) samples
   pub values : All (λ s. AreValues s.values) samples
   pub numbers : sender.next + length (payloads sender.mtu samples) ≤ 2 ^ 62

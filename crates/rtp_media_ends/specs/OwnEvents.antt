@@ -15,7 +15,7 @@ use Rattle.rtp_media_streams.specs.Receiving.{values_read}
 abbrev pub content_event : RtpHeader → ExtensionValues → Option (List ℕ) → Option Event
 content_event h values None = None
 content_event h values (Some []) = None
-content_event h values (Some (b ∷ bs)) = Some (Comes h.sequence_number (content_of h.timestamp values (b ∷ bs)))
+content_event h values (Some (b ∷ bs)) = Some (Comes h.sequence_number (content_of h.timestamp h.marker values (b ∷ bs)))
 
 abbrev pub event_by : ℕ → ℕ → Numbering → Option RtpHeader → List ℕ → Option Event
 event_by ssrc pt map None d = None

@@ -17,13 +17,13 @@ ghost use Rattle.rtp_media_ends.specs.Params.{IsSound};
 mod exchanges;
 mod receive_all;
 
-use crate::errors::{OpenError, PollFault, ReceiveError};
+use crate::errors::{OpenError, ReceiveError};
 use crate::params::StreamParams;
 use crate::received::Received;
 pub use exchanges::connect;
 pub use receive_all::{Polls, ReceivedAll};
 use rtp_media_exchange::{AgreedSection, EndError, Exchange, PayloadParams};
-use rtp_media_streams::{Datagram, ReceivingStream, SampleError, SendingStream, Unit};
+use rtp_media_streams::{Datagram, PollFault, ReceivingStream, SampleError, SendingStream, Unit};
 use rtp_wire::{
     ExtensionMap, ExtensionValues, Frequency, MediaTime, Mid, Pt, RtpHeader, Ssrc, unpad_payload,
 };
@@ -235,7 +235,14 @@ impl End {
         };
         let receiver = &mut self.receivers[stream];
         let values = receiver.values_read(datagram);
-        match receiver.receive(header.sequence_number, header.timestamp, values, payload)? {
+        let taken = receiver.receive(
+            header.sequence_number,
+            header.timestamp,
+            header.marker,
+            values,
+            payload,
+        )?;
+        match taken {
             None => Ok(Received::Refused),
             Some(number) => Ok(Received::Taken(stream, number)),
         }
@@ -246,7 +253,7 @@ impl End {
     /// held back.
     ///
     /// # Errors
-    /// `PollFault`, with what waits as it was.
+    /// `PollFault::Memory`, only where a unit is ready, and the end is unchanged.
     pub fn poll(&mut self, stream: usize) -> Result<Option<Unit>, PollFault>
         requires { stream < length self.old.receivers }
         ensures answer { IfOk result (λ unit. unit ≡ poll_answer (receiver_at self.old stream).stream) }
@@ -256,7 +263,7 @@ impl End {
         ensures kept { OnErr result (self.new ≡ self.old) }
     {
         let receiver = &mut self.receivers[stream];
-        Ok(receiver.poll())
+        receiver.poll()
     }
 
     /// The row that a new sending stream sends, or why there is none.
@@ -373,7 +380,8 @@ fn stream_for(receivers: &[ReceivingStream], ssrc: Ssrc, pt: Pt) -> Option<usize
 /// The payload of a datagram without its padding, if it has a byte.
 fn payload_of<'a>(header: &RtpHeader, datagram: &'a [u8]) -> Option<&'a [u8]>
     requires { header.now.header_len ≤ length datagram.now }
-    ensures some { (stream : ℕ) (values : ExtensionValues) → IfSome result (λ payload. own_of stream header.now values (unpadded header.now.has_padding (payload_in header.now datagram.now)) ≡ Own stream header.now.sequence_number header.now.timestamp values payload.now) }
+    ensures some { (stream : ℕ) (values : ExtensionValues) → IfSome result (λ payload. own_of stream header.now values (unpadded header.now.has_padding (payload_in header.now datagram.now)) ≡ Own stream header.now.sequence_number header.now.timestamp header.now.marker values payload.now) }
+    ensures byte { IfSome result (λ payload. 0 < length payload.now) }
     ensures none { (stream : ℕ) (values : ExtensionValues) → IfNone result (own_of stream header.now values (unpadded header.now.has_padding (payload_in header.now datagram.now)) ≡ NoPayload) }
 {
     let payload = unpad_payload(header.has_padding, &datagram[header.header_len..])?;

@@ -1,6 +1,5 @@
 //! Why calls are refused.
 
-use payload_core_base::PacketError;
 use std::alloc::{AllocError, AllocFailed};
 use thiserror::Error;
 
@@ -70,15 +69,4 @@ impl From<AllocError> for ReceiveError {
     fn from(_error: AllocError) -> ReceiveError {
         ReceiveError::Memory
     }
-}
-
-/// Why a poll hands out nothing though a unit may be ready.
-#[derive(Clone, Copy, Debug, PartialEq, Eq, Drop, Error)]
-pub enum PollFault {
-    /// The payloads of the frame do not fit their format.
-    #[error("the payload is refused: {0}")]
-    Payload(PacketError),
-    /// Memory was wanting.
-    #[error("out of memory")]
-    Memory,
 }

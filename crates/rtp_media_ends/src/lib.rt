@@ -8,7 +8,7 @@ mod params;
 mod received;
 
 pub use end::{End, Polls, ReceivedAll, connect};
-pub use errors::{OpenError, PollFault, ReceiveError};
+pub use errors::{OpenError, ReceiveError};
 pub use laws::isolation_law;
 pub use params::StreamParams;
 pub use payload_core_base::PacketError;
@@ -17,4 +17,4 @@ pub use rtp_media_exchange::{
     Bandwidth, Codec, CodecConfig, CodecSpec, EndError, ExchangeError, FormatParams, MediaKind,
     PayloadParams, RoundError, SdpError, SectionSpec, Session, SessionAttribute,
 };
-pub use rtp_media_streams::{Datagram, SampleError, Unit};
+pub use rtp_media_streams::{Datagram, PollFault, SampleError, Unit};

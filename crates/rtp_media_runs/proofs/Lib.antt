@@ -1,6 +1,6 @@
+pub mod Frames
 pub mod Places
 pub mod Windows
 pub mod Runs
-pub mod Samples
 pub mod Pieces
 pub mod FullArrival

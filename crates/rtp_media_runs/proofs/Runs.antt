@@ -9,10 +9,13 @@ use Rattle.std.proofs.lemmas.List.{length-map}
 use Rattle.std.proofs.lemmas.List.FromFn.{length-range_with_len}
 use Rattle.std.proofs.lemmas.List.Elements.{filter_agree}
 use Rattle.rtp_wire.specs.Replay.{Window, is_accepted, recorded_in}
-use Rattle.rtp_media_runs.specs.Buffer.{Content, Packet, Buffer, with_packet, frames, above, pushed, popped, popped_of, buffer_after, bounded, is_ready}
-use Rattle.rtp_media_runs.specs.Heard.{Stream, MediaUnit, heard, fresh, taken_by, number_at, polled}
-use Rattle.rtp_media_runs.specs.Schedules.{Turn, Arrive, Ask, Sender, event_of, is_among, IsGoodArrival, AllCame, waiting, IsGoodPoll, next_after, IsTame, AreGoodArrivals, single, AreWhole, units_in}
-use Rattle.rtp_media_runs.proofs.Places.{packet, eqb-no, nat_lt-no, nat_le-yes, with_packet-place, frames-whole, above-below, length-filter-few, AllFrom, AllFrom-filter}
+use Rattle.payload_core_buffer.specs.Buffered.{held_with, is_done, pushed}
+use Rattle.payload_core_buffer.specs.Frames.{is_next}
+use Rattle.payload_core_buffer.specs.Packets.{Packet}
+use Rattle.rtp_media_runs.specs.Heard.{Content, Stream, MediaUnit, due, heard, fresh, taken_by, number_at, packet_of, poll_answer, polled, stream_behind, unit_among}
+use Rattle.rtp_media_runs.specs.Schedules.{Turn, Arrive, Ask, Sender, event_of, is_among, IsGoodArrival, AllCame, waiting, IsGoodPoll, next_after, IsTame, AreGoodArrivals, single, units_in}
+use Rattle.rtp_media_runs.proofs.Frames.{due-first, first_due, frame_here}
+use Rattle.rtp_media_runs.proofs.Places.{packet, eqb-no, nat_lt-no, held_with-place, limited-few, length-filter-few, AllFrom, AllFrom-filter}
 use Rattle.rtp_media_runs.proofs.Windows.{WindowIs, among-more, among-again, among-le-greatest, refused-again, accepted-first, IsWindowOf-more, IsWindowOf-first, IsWindowOf-again, widened-true}
 
 -- the packets that are held: those from next on that came
@@ -26,8 +29,8 @@ CutoffIs first next (Some c) = c + 1 ≡ next
 -- what the state is after these arrivals, and after all below next were handed out
 pub record IsReached (sender : Sender) (first count : ℕ) (past : List ℕ) (next : ℕ) (s : Stream) : Type 0 where
   pub window : WindowIs first past s.window
-  pub held : s.buffer.held ≡ held_of sender first count past next
-  pub cutoff : CutoffIs first next s.buffer.cutoff
+  pub held : s.held ≡ held_of sender first count past next
+  pub cutoff : CutoffIs first next s.cutoff
   pub passed : (y : ℕ) → first ≤ y → y < next → is_among past y ≡ true
   pub from_first : first ≤ next
   pub within : (y : ℕ) → is_among past y ≡ true → y < first + count
@@ -61,7 +64,7 @@ reach first [] w y z is came a b = absurd (true≢false (sym came))
 reach first (x ∷ xs) None y z is came a b = absurd is
 reach first (x ∷ xs) (Some w) y z is came a b = is.closed z a (omega (arith, is.greatest, among-le-greatest (x ∷ xs) y came))
 
-module _ (sender : Sender) (first count : ℕ) (fits : first + count ≤ 2 ^ 62) (whole : AreWhole sender) where
+module _ (sender : Sender) (first count : ℕ) (fits : first + count ≤ 2 ^ 62) where
   -- a number that came before changes nothing
   arrives-again : (past : List ℕ) (next : ℕ) (s : Stream) (x : ℕ) → IsReached sender first count past next s → IsGoodArrival first count past x → is_among past x ≡ true → IsReached sender first count (x ∷ past) next (taken_by s x (sender x))
   arrives-again past next s x is good came = rw (again first past s.window x is.window came) (record {
@@ -73,18 +76,18 @@ module _ (sender : Sender) (first count : ℕ) (fits : first + count ≤ 2 ^ 62)
     within = λ y h. is.within y (sym (among-again past x y came) ∙ h);
   })
 
-  not_passed : (next x : ℕ) (cutoff : Option ℕ) → CutoffIs first next cutoff → next ≤ x → Rattle.rtp_media_runs.specs.Buffer.is_passed cutoff x ≡ false
+  not_passed : (next x : ℕ) (cutoff : Option ℕ) → CutoffIs first next cutoff → next ≤ x → is_done cutoff x ≡ false
   not_passed next x None is h = refl
   not_passed next x (Some c) is h = grind (arith, nat_tests)
 
   arrives-anew : (past : List ℕ) (next : ℕ) (s : Stream) (x : ℕ) → IsReached sender first count past next s → IsGoodArrival first count past x → waiting first count (x ∷ past) next ≤ 4096 → is_among past x ≡ false → IsReached sender first count (x ∷ past) next (taken_by s x (sender x))
   arrives-anew past next s x is good few new =
       let ahead : next ≤ x = elim (cases_lt x next) [ inl below ↦ absurd (true≢false (sym (is.passed x good.from_first below) ∙ new)) | inr fine ↦ fine ] in
-      let e : with_packet (packet sender x) s.buffer.held ≡ held_of sender first count (x ∷ past) next =
-      rw is.held (with_packet-place sender (is_among past) x next (first + count - next) ahead (omega (arith, good.before_end)) new) in
+      let e : held_with (packet sender x) s.held ≡ held_of sender first count (x ∷ past) next =
+      rw is.held (held_with-place sender (is_among past) x next (first + count - next) ahead (omega (arith, good.before_end)) new) in
       let small : length (held_of sender first count (x ∷ past) next) ≤ 4096 = simp (length-map, length-filter) few in
-      let b : pushed s.buffer (packet sender x) ≡ record { held = held_of sender first count (x ∷ past) next; cutoff = s.buffer.cutoff } =
-      rw (not_passed next x s.buffer.cutoff is.cutoff ahead, e, nat_lt-no 4096 _ small) refl in
+      let b : pushed s.cutoff s.held (packet sender x) ≡ held_of sender first count (x ∷ past) next =
+      rw (not_passed next x s.cutoff is.cutoff ahead, e) (limited-few (held_of sender first count (x ∷ past) next) small) in
       rw (anew first count past s.window x is.window good new, b) (record {
         window = window-more first count past s.window x is.window good;
         held = refl;
@@ -100,10 +103,6 @@ module _ (sender : Sender) (first count : ℕ) (fits : first + count ≤ 2 ^ 62)
     go true e = arrives-again past next s x is good e
     go false e = arrives-anew past next s x is good few e
 
-  frames-held : (past : List ℕ) (next : ℕ) (s : Stream) → IsReached sender first count past next s →
-      frames s.buffer.held ≡ map (λ x. packet sender x ∷ []) (filter (is_among past) (range_with_len next (first + count - next)))
-  frames-held past next s is = rw is.held (frames-whole sender whole _)
-
   -- the numbers that came, from one that came on
   came-from : (past : List ℕ) (next : ℕ) → next < first + count → is_among past next ≡ true →
       filter (is_among past) (range_with_len next (first + count - next)) ≡ next ∷ filter (is_among past) (range_with_len (next + 1) (first + count - (next + 1)))
@@ -111,19 +110,38 @@ module _ (sender : Sender) (first count : ℕ) (fits : first + count ≤ 2 ^ 62)
       let e : first + count - next ≡ suc (first + count - (next + 1)) = omega arith in
       rw (e, came) refl
 
-  ready-next : (hold_back next : ℕ) (cutoff : Option ℕ) (more : List (List Packet)) → CutoffIs first next cutoff → is_ready hold_back cutoff (packet sender next ∷ []) more ≡ true
-  ready-next hold_back next None more h = refl
-  ready-next hold_back next (Some c) more h = grind (arith, nat_tests)
+  next-begins : (next : ℕ) (cutoff : Option ℕ) → CutoffIs first next cutoff → is_next cutoff next ≡ true
+  next-begins next None h = refl
+  next-begins next (Some c) h = grind (arith, nat_tests)
+
+  -- the packets that are held where the next one came
+  held-next : (past : List ℕ) (next : ℕ) (s : Stream) → IsReached sender first count past next s → is_among past next ≡ true → s.held ≡ packet sender next ∷ held_of sender first count past (next + 1)
+  held-next past next s is came = is.held ∙ ap (map (packet sender)) (came-from past next (is.within next came) came)
 
   -- a poll where the next unit came
-  poll-next : (past : List ℕ) (next : ℕ) (s : Stream) → IsReached sender first count past next s → is_among past next ≡ true → popped s.hold_back s.buffer ≡ Some (packet sender next ∷ [])
-  poll-next past next s is came =
-      rw (frames-held past next s is, came-from past next (is.within next came) came, ready-next s.hold_back next s.buffer.cutoff _ is.cutoff) refl
+  due-next : (past : List ℕ) (next : ℕ) (s : Stream) → IsReached sender first count past next s → is_among past next ≡ true → due s ≡ Some (frame_here 0)
+  unfolding due
+  due-next past next s is came =
+      due-first s.cutoff s.hold_back s.held
+      ∙ ap (first_due s.cutoff s.hold_back) (held-next past next s is came)
+      ∙ rw (next-begins next s.cutoff is.cutoff) refl
 
-  none-ready : (hold_back c : ℕ) (xs : List ℕ) → AllFrom (c + 2) xs → length xs ≤ hold_back → popped_of hold_back (Some c) (map (λ x. packet sender x ∷ []) xs) ≡ None
-  none-ready hold_back c [] all few = refl
-  none-ready hold_back c (x ∷ xs) all few =
-      let few' : length (map (λ x. packet sender x ∷ []) xs) + 1 ≤ hold_back = simp length-map (omega arith) in
+  answer-next : (past : List ℕ) (next : ℕ) (s : Stream) → IsReached sender first count past next s → is_among past next ≡ true → poll_answer s ≡ Some (single sender next)
+  unfolding poll_answer
+  answer-next past next s is came =
+      ap (unit_among s.held) (due-next past next s is came) ∙ ap (λ (ps : List Packet). unit_among ps (Some (frame_here 0))) (held-next past next s is came)
+
+  polled-next : (past : List ℕ) (next : ℕ) (s : Stream) → IsReached sender first count past next s → is_among past next ≡ true →
+      polled s ≡ record { hold_back = s.hold_back; window = s.window; held = held_of sender first count past (next + 1); cutoff = Some next }
+  unfolding polled
+  polled-next past next s is came =
+      ap (stream_behind s) (due-next past next s is came)
+      ∙ ap (λ (ps : List Packet). stream_behind (record { hold_back = s.hold_back; window = s.window; held = ps; cutoff = s.cutoff }) (Some (frame_here 0))) (held-next past next s is came)
+
+  none-due : (hold_back c : ℕ) (xs : List ℕ) → AllFrom (c + 2) xs → length xs ≤ hold_back → first_due (Some c) hold_back (map (packet sender) xs) ≡ None
+  none-due hold_back c [] all few = refl
+  none-due hold_back c (x ∷ xs) all few =
+      let few' : length (map (packet sender) (x ∷ xs)) ≤ hold_back = simp length-map few in
       rw (eqb-no x (c + 1) (omega (arith, all.0)), nat_lt-no hold_back _ few') refl
 
   -- where a number is missing, fewer than 128 above it came
@@ -140,7 +158,7 @@ module _ (sender : Sender) (first count : ℕ) (fits : first + count ≤ 2 ^ 62)
       go false e = e
 
   missing-none : (past : List ℕ) (next hold_back m : ℕ) (w : Option Window) (cutoff : Option ℕ) → WindowIs first past w → CutoffIs first next cutoff → IsGoodPoll first count hold_back past → first ≤ next → next + m ≤ first + count →
-      is_among past next ≡ false → popped_of hold_back cutoff (map (λ x. packet sender x ∷ []) (filter (is_among past) (range_with_len next m))) ≡ None
+      is_among past next ≡ false → first_due cutoff hold_back (map (packet sender) (filter (is_among past) (range_with_len next m))) ≡ None
   missing-none past next hold_back zero w cutoff is cut good h k missing = refl
   missing-none past next hold_back (suc m) w None is cut good h k missing =
       absurd (true≢false (sym (good.begun (omega (arith, cut))) ∙ ap (is_among past) (sym cut) ∙ missing))
@@ -148,23 +166,34 @@ module _ (sender : Sender) (first count : ℕ) (fits : first + count ≤ 2 ^ 62)
     | inl enough ↦
         let few : length (filter (is_among past) (range_with_len (next + 1) m)) ≤ 127 = few-behind past next m w is h missing in
         let e : next + 1 ≡ c + 2 = omega (arith, cut) in
-        rw (came-behind past next m missing) (none-ready hold_back c _ (subst (λ (z : ℕ). AllFrom z (filter (is_among past) (range_with_len (next + 1) m))) e (AllFrom-filter (is_among past) (next + 1) m)) (omega arith))
+        rw (came-behind past next m missing) (none-due hold_back c _ (subst (λ (z : ℕ). AllFrom z (filter (is_among past) (range_with_len (next + 1) m))) e (AllFrom-filter (is_among past) (next + 1) m)) (omega arith))
     | inr all ↦ absurd (true≢false (sym (all next h (omega arith)) ∙ missing))
   ]
 
   -- a poll where it is missing
-  poll-none : (past : List ℕ) (next : ℕ) (s : Stream) → IsReached sender first count past next s → next ≤ first + count → IsGoodPoll first count s.hold_back past → is_among past next ≡ false → popped s.hold_back s.buffer ≡ None
-  poll-none past next s is end good missing =
-      rw (frames-held past next s is) (missing-none past next s.hold_back (first + count - next) s.window s.buffer.cutoff is.window is.cutoff good is.from_first (omega arith) missing)
+  due-none : (past : List ℕ) (next : ℕ) (s : Stream) → IsReached sender first count past next s → next ≤ first + count → IsGoodPoll first count s.hold_back past → is_among past next ≡ false → due s ≡ None
+  unfolding due
+  due-none past next s is end good missing =
+      due-first s.cutoff s.hold_back s.held
+      ∙ ap (first_due s.cutoff s.hold_back) is.held
+      ∙ missing-none past next s.hold_back (first + count - next) s.window s.cutoff is.window is.cutoff good is.from_first (omega arith) missing
+
+  answer-none : (s : Stream) → due s ≡ None → poll_answer s ≡ None
+  unfolding poll_answer
+  answer-none s none = ap (unit_among s.held) none
+
+  polled-none : (s : Stream) → due s ≡ None → polled s ≡ s
+  unfolding polled
+  polled-none s none = ap (stream_behind s) none
 
   -- what the next poll answers, and what is left then
   abbrev next_unit : List ℕ → ℕ → Option MediaUnit
   next_unit past next = if is_among past next then Some (single sender next) else None
 
   after-next : (past : List ℕ) (next : ℕ) (s : Stream) → IsReached sender first count past next s → is_among past next ≡ true → IsReached sender first count past (next + 1) (polled s)
-  after-next past next s is came = rw (poll-next past next s is came) (record {
+  after-next past next s is came = rw (polled-next past next s is came) (record {
     window = is.window;
-    held = rw (is.held, came-from past next (is.within next came) came, nat_le-yes next next (omega arith)) (above-below sender (is_among past) next (next + 1) _ (omega arith));
+    held = refl;
     cutoff = refl;
     passed = λ y a b. elim (cases_lt y next) [ inl below ↦ is.passed y a below | inr at ↦ (let e : y ≡ next = omega arith in ap (is_among past) e ∙ came) ];
     from_first = omega (arith, is.from_first);
@@ -178,7 +207,7 @@ module _ (sender : Sender) (first count : ℕ) (fits : first + count ≤ 2 ^ 62)
   ideal past next (Ask ∷ ts) = next_unit past next ∷ ideal past (next_after past next) ts
 
   hold_back-taken : (s : Stream) (x : ℕ) (c : Content) → (taken_by s x c).hold_back ≡ s.hold_back
-  hold_back-taken s x c = elim (is_accepted s.window x) as (λ b. (cond b (record { hold_back = s.hold_back; window = Some (recorded_in s.window x); buffer = pushed s.buffer (record { number = x; content = c }) }) s).hold_back ≡ s.hold_back) [ true ↦ refl | false ↦ refl ]
+  hold_back-taken s x c = elim (is_accepted s.window x) as (λ b. (cond b (record { hold_back = s.hold_back; window = Some (recorded_in s.window x); held = pushed s.cutoff s.held (packet_of x c); cutoff = s.cutoff }) s).hold_back ≡ s.hold_back) [ true ↦ refl | false ↦ refl ]
 
   -- what is heard is what the numbers say
   pub heard-ideal : (hold_back : ℕ) (ts : List Turn) (past : List ℕ) (next : ℕ) (s : Stream) → s.hold_back ≡ hold_back → IsReached sender first count past next s → next ≤ first + count → IsTame first count hold_back past next ts →
@@ -191,12 +220,14 @@ module _ (sender : Sender) (first count : ℕ) (fits : first + count ≤ 2 ^ 62)
         (b : Bool) → is_among past next ≡ b → heard s (map (event_of sender) (Ask ∷ ts)) ≡ ideal past next (Ask ∷ ts)
     go ih true e =
         let rest : IsTame first count hold_back past (next + 1) ts = rw e at tame.1 in
-        let more : heard (polled s) (map (event_of sender) ts) ≡ ideal past (next + 1) ts = ih (next + 1) (polled s) k (after-next past next s is e) (omega (arith, is.within next e)) rest in
-        rw (e, poll-next past next s is e) (ap (λ (os : List (Option MediaUnit)). Some (single sender next) ∷ os) (rw (poll-next past next s is e) at more))
+        let held_back : (polled s).hold_back ≡ hold_back = ap (λ (t : Stream). t.hold_back) (polled-next past next s is e) ∙ k in
+        let more : heard (polled s) (map (event_of sender) ts) ≡ ideal past (next + 1) ts = ih (next + 1) (polled s) held_back (after-next past next s is e) (omega (arith, is.within next e)) rest in
+        rw (e, answer-next past next s is e) (ap (λ (os : List (Option MediaUnit)). Some (single sender next) ∷ os) more)
     go ih false e =
         let rest : IsTame first count hold_back past next ts = rw e at tame.1 in
         let good : IsGoodPoll first count s.hold_back past = rw k tame.0 in
-        rw (e, poll-none past next s is end good e) (ap (λ (os : List (Option MediaUnit)). None ∷ os) (ih next s k is end rest))
+        let none : due s ≡ None = due-none past next s is end good e in
+        rw (e, answer-none s none, polled-none s none) (ap (λ (os : List (Option MediaUnit)). None ∷ os) (ih next s k is end rest))
 
   abbrev pub Within : List ℕ → Type 0
   Within past = (y : ℕ) → is_among past y ≡ true → y < first + count

@@ -1,4 +1,3 @@
-pub mod Buffer
 pub mod Heard
 pub mod Schedules
 pub mod Opus

@@ -1,8 +1,7 @@
 use Rattle.std.specs.Prelude.{ℕ, ◌≡◌, ◌+◌, ◌-◌, ◌%◌, ◌<◌, ◌≤◌, ◌⊎◌, max, Bool, true, false, ◌||◌, ◌==◌, if◌then◌else◌, List, [], ◌∷◌, ◌++◌, count_by}
 use Rattle.std.specs.Prelude.{Option, None, Some}
 use Rattle.std.specs.List.{range_with_len}
-use Rattle.rtp_media_runs.specs.Buffer.{Content}
-use Rattle.rtp_media_runs.specs.Heard.{Event, Comes, Poll, MediaUnit, unit_of}
+use Rattle.rtp_media_runs.specs.Heard.{Content, Event, Comes, Poll, MediaUnit, packet_of, unit_of}
 
 -- An arrival of the datagram of this true number, or a poll.
 pub data Turn : Type 0 where
@@ -71,12 +70,7 @@ IsTame first count hold_back past next (Ask ∷ ts) =
 
 -- the unit of the one packet of this number
 abbrev pub single : Sender → ℕ → MediaUnit
-single sender x = unit_of (record { number = x; content = sender x } ∷ [])
-
--- each packet of the sender is head and tail
-pub record AreWhole (sender : Sender) : Type 0 where
-  pub head : (x : ℕ) → (sender x).head ≡ true
-  pub tail : (x : ℕ) → (sender x).tail ≡ true
+single sender x = unit_of (packet_of x (sender x) ∷ [])
 
 -- the answers that are units
 abbrev pub units_in : List (Option MediaUnit) → List MediaUnit

@@ -1,10 +1,12 @@
 //! What holds of every run.
 
-ghost use Rattle.std.specs.Prelude.{◌≡◌, ℕ, ◌+◌, ◌^◌, ◌<◌, ◌≤◌, List, [], ◌∷◌, ◌++◌, map, replicate, length};
-ghost use Rattle.std.specs.List.{range_with_len, flat_map};
+ghost use Rattle.std.specs.Prelude.{◌≡◌, ℕ, ◌+◌, ◌^◌, ◌<◌, ◌≤◌, List, [], ◌++◌, map, replicate, length};
+ghost use Rattle.std.specs.List.{range_with_len};
 ghost use Rattle.rtp_media_runs.specs.Heard.{Stream, MediaUnit, heard, fresh, after_events};
-ghost use Rattle.rtp_media_runs.specs.Schedules.{Sender, Turn, Arrive, Ask, event_of, single, units_in, AreWhole, AreGoodArrivals, IsTame};
-ghost use Rattle.rtp_media_runs.specs.Opus.{Timed, pieces, piece, piece_count, sender_of, units_from};
+ghost use Rattle.rtp_media_runs.specs.Schedules.{Sender, Turn, Arrive, Ask, event_of, single, units_in, AreGoodArrivals, IsTame};
+ghost use Rattle.payload_core_base.specs.Law.{AreFull, AreWithin, joined};
+ghost use Rattle.payload_core_base.specs.Pieces.{pieces};
+ghost use Rattle.rtp_media_runs.specs.Opus.{Timed, sender_of, units_from};
 ghost use Rattle.rtp_media_runs.specs.Drained.{IsDrained};
 
 /// All datagrams of a fresh stream come, once or more, none behind one that is 128 or more above it:
@@ -16,11 +18,11 @@ pub fn exact_after_full_arrival()
         units ≡ units_from first sent }
 {}
 
-/// Under a tame schedule that ends with enough polls the units are exactly those of the sender, where
-/// each of its datagrams is a frame.
+/// Under a tame schedule that ends with enough polls the units are exactly those of the sender's packets,
+/// each of which is a frame.
 pub fn exact_under_tame_schedule()
     ensures { (hold_back first count : ℕ) (sender : Sender) (turns : List Turn) →
-        first + count ≤ 2 ^ 62 → AreWhole sender → IsTame first count hold_back [] first (turns ++ replicate count Ask) →
+        first + count ≤ 2 ^ 62 → IsTame first count hold_back [] first (turns ++ replicate count Ask) →
         units_in (heard (fresh hold_back) (map (event_of sender) (turns ++ replicate count Ask)))
         ≡ map (single sender) (range_with_len first count) }
 {}
@@ -28,8 +30,7 @@ pub fn exact_under_tame_schedule()
 /// The pieces of a sample at a limit: they are the sample again, none is empty or passes the limit, and
 /// each but the last has exactly the limit's bytes.
 pub fn pieces_laws()
-    ensures whole { (limit : ℕ) (sample : List ℕ) → 0 < limit → flat_map (λ p. p) (pieces limit sample) ≡ sample }
-    ensures within { (limit i : ℕ) (sample : List ℕ) → length (piece limit sample i) ≤ limit }
-    ensures some { (limit i : ℕ) (sample : List ℕ) → 0 < limit → i < piece_count limit (length sample) → 0 < length (piece limit sample i) }
-    ensures full { (limit i : ℕ) (sample : List ℕ) → 0 < limit → i + 1 < piece_count limit (length sample) → length (piece limit sample i) ≡ limit }
+    ensures whole { (limit : ℕ) (sample : List ℕ) → 0 < limit → joined (pieces limit sample) ≡ sample }
+    ensures within { (limit : ℕ) (sample : List ℕ) → AreWithin limit (pieces limit sample) }
+    ensures full { (limit : ℕ) (sample : List ℕ) → AreFull limit (pieces limit sample) }
 {}

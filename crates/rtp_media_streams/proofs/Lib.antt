@@ -1,4 +1,4 @@
-pub mod Placing
 pub mod Cutting
+pub mod Polling
 pub mod Draining
 pub mod Sent

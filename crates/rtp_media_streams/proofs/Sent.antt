@@ -2,14 +2,15 @@
 use Rattle.std.proofs.Common.{◌≡◌, ℕ, zero, suc, ◌+◌, ◌<◌, ◌≤◌, ◌^◌, refl, sym, ◌∙◌, ap, subst, arith, Bool, true, false, List, [], ◌∷◌, ◌++◌, length, map, length-append}
 use Rattle.std.proofs.lemmas.Bool.Decides.{nat_tests}
 use Rattle.std.specs.Prelude.{Some, None, if◌then◌else◌, nat_lt, nat_le, is_none, ◌||◌, slice_index_or}
-use Rattle.std.specs.List.{range_with_len}
 use Rattle.rtp_wire.specs.Time.{Time, checked_rebased}
 use Rattle.rtp_wire.specs.Carried.{AreValues}
 use Rattle.rtp_wire.specs.Header.{spelled, two_byte_length, header_in, image, payload_in, IsWritable}
 use Rattle.rtp_wire.specs.declared.ExtensionValues.{ExtensionValues}
 use Rattle.rtp_wire.proofs.HeaderLaws.{length-spelled_within, header_in-spelled, payload_in-spelled}
-use Rattle.rtp_media_runs.specs.Opus.{Timed, timed, payloads, piece, piece_count}
-use Rattle.rtp_media_runs.proofs.Pieces.{piece-within}
+use Rattle.payload_core_base.specs.Law.{AreWithin}
+use Rattle.payload_core_base.specs.Pieces.{pieces}
+use Rattle.rtp_media_runs.specs.Opus.{Timed, timed, payloads}
+use Rattle.rtp_media_runs.proofs.Pieces.{each-within}
 use Rattle.rtp_media_streams.specs.Sending.{Sending, Sample, header_of, longest_datagram, datagram_of, datagrams_from, sent_payloads, sent_datagrams, with_next, after_sample, datagrams_of, samples_of, refusal_of_sample}
 use Rattle.rtp_media_streams.specs.declared.errors.SampleError.{SampleError}
 use Rattle.rtp_media_streams.specs.declared.errors.SampleError.TheVariants.{StreamFailed, TimeTooLarge, LimitTooSmall}
@@ -34,10 +35,10 @@ AreShort : ℕ → ExtensionValues → List Timed → Type 0
 AreShort limit values [] = Unit {0}
 AreShort limit values (p ∷ ps) = (length p.bytes ≤ limit) × (p.values ≡ values) × AreShort limit values ps
 
-pieces-short : (limit time i m : ℕ) (values : ExtensionValues) (bytes : List ℕ) → AreShort limit values (map (timed time values) (map (piece limit bytes) (range_with_len i m)))
+pieces-short : (limit time : ℕ) (values : ExtensionValues) (ps : List (List ℕ)) → AreWithin limit ps → AreShort limit values (map (timed time values) ps)
 unfolding AreShort
-pieces-short limit time i zero values bytes = tt
-pieces-short limit time i (suc m) values bytes = (piece-within limit i bytes, refl, pieces-short limit time (i + 1) m values bytes)
+pieces-short limit time values [] within = tt
+pieces-short limit time values (p ∷ ps) within = ((within 0 p (omega arith)).1, refl, pieces-short limit time values ps (λ k d h. within (suc k) d (omega arith)))
 
 header-short : (s : Sending) (n time : ℕ) (values same : ExtensionValues) → values ≡ same → length (spelled s.map (header_of s n time values)) ≤ two_byte_length s.map (header_of s 0 0 same)
 header-short s n time values same e = subst (λ (v : ExtensionValues). length (spelled s.map (header_of s n time values)) ≤ two_byte_length s.map (header_of s 0 0 v)) e (length-spelled_within s.map (header_of s n time values))
@@ -67,7 +68,7 @@ fits s time values h =
 pub sent-short : (s : Sending) (time : Time) (values : ExtensionValues) (bytes : List ℕ) → refusal_of_sample s time values ≡ None →
     (i : ℕ) (d : List ℕ) → i < length (sent_datagrams s time values bytes) → length (slice_index_or (sent_datagrams s time values bytes) i d) ≤ s.limit
 sent-short s time values bytes h =
-    datagrams-short s s.next s.limit values (sent_payloads s time values bytes) (pieces-short s.mtu _ 0 (piece_count s.mtu (length bytes)) values bytes) (fits s time values h)
+    datagrams-short s s.next s.limit values (sent_payloads s time values bytes) (pieces-short s.mtu _ values (pieces s.mtu bytes) (each-within s.mtu bytes)) (fits s time values h)
 
 pub samples-timed : (s : Sending) (xs : List Sample) (i : ℕ) (d : Timed) → i < length (samples_of s xs) → (slice_index_or (samples_of s xs) i d).time < 2 ^ 32
 samples-timed s [] i d lt = absurd (omega arith)

@@ -1,3 +1,4 @@
-pub mod Places
 pub mod Receiving
+pub mod Polls
 pub mod Sending
+pub mod Sinks

@@ -1,9 +1,13 @@
-use Rattle.std.specs.Prelude.{ℕ, Bool, ◌==◌, ◌&&◌, if◌then◌else◌, List, Option, Some, None}
+use Rattle.std.specs.Prelude.{ℕ, ◌<◌, Bool, ◌==◌, ◌&&◌, if◌then◌else◌, List, [], ◌∷◌, length, Option, Some, None}
 use Rattle.rtp_wire.specs.Header.{header_in}
 use Rattle.rtp_wire.specs.Replay.{is_accepted}
 use Rattle.rtp_wire.specs.Values.{Numbering, absent}
 use Rattle.rtp_wire.specs.declared.ExtensionValues.{ExtensionValues}
 use Rattle.rtp_wire.specs.declared.header.RtpHeader.{RtpHeader}
+use Rattle.payload_core_audio.specs.declared.opus.OpusDepacketizer.{OpusDepacketizer}
+use Rattle.payload_core_buffer.specs.Buffered.{Buffered}
+use Rattle.payload_core_buffer.specs.Packets.{Packet}
+use Rattle.rtp_wire.specs.Replay.{Window}
 use Rattle.rtp_media_runs.specs.Heard.{Stream, fresh, number_at, taken_by, polled}
 use Rattle.rtp_media_runs.specs.Opus.{content_of}
 
@@ -40,9 +44,18 @@ abbrev pub taken_number : Stream → ℕ → Option ℕ
 taken_number s low = if is_accepted s.window (number_at s low) then Some (number_at s low) else None
 
 -- the stream after it
-abbrev pub arrived : Stream → ℕ → ℕ → ExtensionValues → List ℕ → Stream
-arrived s low time values payload = taken_by s (number_at s low) (content_of time values payload)
+abbrev pub arrived : Stream → ℕ → ℕ → Bool → ExtensionValues → List ℕ → Stream
+arrived s low time marker values payload = taken_by s (number_at s low) (content_of time marker values payload)
 
 -- the stream after a poll
 abbrev pub polled_receiver : Receiving → Receiving
 polled_receiver r = with_stream r (polled r.stream)
+
+-- the stream of a window and a buffer
+abbrev pub stream_of : Option Window → Buffered OpusDepacketizer → Stream
+stream_of window b = record { hold_back = b.hold_back; window = window; held = b.held; cutoff = b.cutoff }
+
+-- No held packet is empty: a datagram without a payload is damaged.
+abbrev pub HaveBytes : List Packet → Type 0
+HaveBytes [] = Unit {0}
+HaveBytes (p ∷ ps) = (0 < length p.payload) × HaveBytes ps

@@ -30,24 +30,27 @@ opened_sender ssrc pt map rate first mtu limit = record { ssrc = ssrc; pt = pt; 
 abbrev pub is_sending : Sending → ℕ → ℕ → Bool
 is_sending s ssrc pt = (s.ssrc == ssrc) && (s.pt == pt)
 
--- The header of a datagram of a stream: an extension block exactly where the stream has header
--- extensions, no padding, no contributing source, and no marker, which audio does not set here
--- (RFC 3550 5.1, RFC 7587 4.1).
-abbrev pub header_of : Sending → ℕ → ℕ → ExtensionValues → RtpHeader
-header_of s number time values = record {
+-- The header of a datagram under an SSRC, a payload type and a map: an extension block exactly where the map
+-- has header extensions, no padding, and no contributing source (RFC 3550 5.1).
+abbrev pub stamped : ℕ → ℕ → Numbering → ℕ → Bool → ℕ → ExtensionValues → RtpHeader
+stamped ssrc pt map number marker time values = record {
   version = 2;
   has_padding = false;
-  has_extension = not (is_empty_map s.map);
+  has_extension = not (is_empty_map map);
   csrc_count = 0;
-  marker = false;
-  payload_type = s.pt;
+  marker = marker;
+  payload_type = pt;
   sequence_number = number % 65536;
   timestamp = time;
-  ssrc = s.ssrc;
+  ssrc = ssrc;
   csrc = replicate 15 0;
   ext_vals = values;
   header_len = 12;
 }
+
+-- The header of a datagram of a stream: audio sets no marker here (RFC 7587 4.1).
+abbrev pub header_of : Sending → ℕ → ℕ → ExtensionValues → RtpHeader
+header_of s number time values = stamped s.ssrc s.pt s.map number false time values
 
 -- The datagram of a number: its header, and behind it the payload.
 abbrev pub datagram_of : Sending → ℕ → Timed → List ℕ

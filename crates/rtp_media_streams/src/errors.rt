@@ -1,6 +1,7 @@
-//! Why samples are refused.
+//! Why samples are refused, and why polls hand out nothing.
 
-use std::alloc::{AllocError, AllocFailed};
+use payload_core_base::PacketError;
+use std::alloc::AllocError;
 use thiserror::Error;
 
 /// Why a sample is not sent; of several reasons the first listed is answered.
@@ -29,4 +30,15 @@ impl From<AllocError> for SampleError {
     fn from(_error: AllocError) -> SampleError {
         SampleError::Memory
     }
+}
+
+/// Why a poll hands out nothing though a unit may be ready.
+#[derive(Clone, Copy, Debug, PartialEq, Eq, Drop, Error)]
+pub enum PollFault {
+    /// The payloads of the frame do not fit their format.
+    #[error("the payload is refused: {0}")]
+    Payload(PacketError),
+    /// Memory was wanting.
+    #[error("out of memory")]
+    Memory,
 }

@@ -1,9 +1,10 @@
 //! What a poll hands out.
 
-ghost use Rattle.std.specs.Prelude.{◌≡◌, [], ◌∷◌};
-ghost use Rattle.rtp_media_runs.specs.Heard.{unit_of};
+ghost use Rattle.std.specs.Prelude.{◌≡◌};
+ghost use Rattle.payload_core_buffer.specs.Metas.{metas_of_unit};
+ghost use Rattle.rtp_media_runs.specs.Heard.{unit_from};
 
-use crate::buffer::HeldPacket;
+use payload_core_buffer::Depacketized;
 use rtp_wire::{ExtensionValues, SeqNo};
 use std::marker::Model;
 
@@ -15,8 +16,8 @@ pub struct Unit {
     bytes: Vec<u8>,
     time: u32,
     ext_vals: ExtensionValues,
-    first: u64,
-    last: u64,
+    first: SeqNo,
+    last: SeqNo,
 }
 
 impl Model for Unit {
@@ -28,19 +29,19 @@ impl Model for Unit {
 }
 
 impl Unit {
-    /// The unit of a packet that is a whole frame.
-    pub(crate) fn from_packet(packet: HeldPacket) -> Self
-        ensures { result ≡ unit_of (packet ∷ []) }
+    /// The unit of a complete frame.
+    pub(crate) fn from_frame(frame: Depacketized) -> Self
+        ensures { result ≡ unit_from (metas_of_unit frame) frame.bytes.items }
     {
-        let number = packet.number();
-        let time = packet.time();
-        let ext_vals = packet.ext_vals();
+        let numbers = frame.seq_range();
+        let time = frame.time();
+        let ext_vals = frame.ext_vals();
         Unit {
-            bytes: packet.into_bytes(),
+            bytes: frame.bytes,
             time,
             ext_vals,
-            first: number,
-            last: number,
+            first: *numbers.start(),
+            last: *numbers.end(),
         }
     }
 
@@ -69,14 +70,14 @@ impl Unit {
     pub fn first(&self) -> SeqNo
         ensures { result ≡ self.now.first }
     {
-        SeqNo::from(self.first)
+        self.first
     }
 
     /// The number of the last datagram.
     pub fn last(&self) -> SeqNo
         ensures { result ≡ self.now.last }
     {
-        SeqNo::from(self.last)
+        self.last
     }
 
     /// The bytes, without a copy.

@@ -1,12 +1,19 @@
 //! Receiving streams.
 
-ghost use Rattle.std.specs.Prelude.{◌≡◌, [], ◌∷◌, OnOk, OnErr, IfOk, OnSome, ◌<◌, length};
-ghost use Rattle.rtp_media_runs.specs.Heard.{poll_answer};
-ghost use Rattle.rtp_media_runs.specs.Drained.{IsDrained};
-ghost use Rattle.rtp_media_streams.specs.Receiving.{opened_receiver, with_stream, is_own, taken_number, arrived, values_read, polled_receiver};
+ghost use Rattle.std.specs.Prelude.{◌≡◌, ◌<◌, IfErr, IfOk, IsOk, None, OnErr, OnOk, OnSome, Option, Some, length};
+ghost use Rattle.rtp_wire.specs.Replay.{Window, greatest_in, is_accepted, recorded_in};
+ghost use Rattle.rtp_wire.specs.Widening.{widened};
+ghost use Rattle.payload_core_buffer.specs.Buffered.{pushed};
+ghost use Rattle.payload_core_buffer.specs.Packets.{packet_from};
+ghost use Rattle.rtp_media_runs.specs.Heard.{poll_answer, polled};
+ghost use Rattle.rtp_media_streams.specs.Polls.{IsPolled};
+ghost use Rattle.rtp_media_streams.specs.Receiving.{HaveBytes, opened_receiver, stream_of, with_stream, is_own, taken_number, arrived, values_read, polled_receiver};
 
-use crate::buffer::PacketBuffer;
+use crate::errors::PollFault;
 use crate::media_unit::Unit;
+use payload_core_audio::OpusDepacketizer;
+use payload_core_base::PacketError;
+use payload_core_buffer::{DepacketizingBuffer, RtpMeta};
 use rtp_wire::{
     ExtensionMap, ExtensionValues, Pt, RtpHeader, SeqNo, SeqNoWindow, Ssrc, extend_u16,
 };
@@ -20,13 +27,12 @@ pub struct ReceivingStream {
     ssrc: Ssrc,
     pt: Pt,
     exts: ExtensionMap,
-    hold_back: usize,
     window: Option<SeqNoWindow>,
-    buffer: PacketBuffer,
+    buffer: DepacketizingBuffer<OpusDepacketizer>,
 }
 
 impl Model for ReceivingStream {
-    ghost use Rattle.rtp_media_streams.specs.Receiving.{Receiving};
+    ghost use Rattle.rtp_media_streams.specs.Receiving.{HaveBytes, Receiving, stream_of};
     ghost use Rattle.rtp_wire.specs.Replay.{window_code};
     ghost use Rattle.std.specs.Coded.{codes};
 
@@ -34,7 +40,72 @@ impl Model for ReceivingStream {
 
     ghost coded = { Prim.hlevel (codes, window_code) };
 
-    ghost view = { λ r. record { ssrc = r.ssrc; pt = r.pt; map = r.exts; stream = record { hold_back = r.hold_back; window = r.window; buffer = r.buffer } } };
+    ghost view = { λ r. record { ssrc = r.ssrc; pt = r.pt; map = r.exts; stream = stream_of r.window r.buffer } };
+
+    ghost invariant = { λ r. HaveBytes r.buffer.held };
+}
+
+/// The number that these 16 bits stand for; before the first number they stand for themselves.
+fn number_of(window: &Option<SeqNoWindow>, low: u16) -> SeqNo
+    ensures { result ≡ widened (greatest_in window.now) low }
+{
+    match window {
+        None => SeqNo::from(extend_u16(None, low)),
+        Some(window) => SeqNo::from(extend_u16(Some(window.max_seq().get()), low)),
+    }
+}
+
+/// Whether a number is new; the first one is.
+fn accepts(window: &Option<SeqNoWindow>, number: SeqNo) -> bool
+    ensures { result ≡ is_accepted window.now number }
+{
+    match window {
+        None => true,
+        Some(window) => window.accepts(number),
+    }
+}
+
+/// Records a number; the first one makes the window.
+fn record(window: &mut Option<SeqNoWindow>, number: SeqNo)
+    ensures { window.new ≡ Some (recorded_in window.old number) }
+{
+    match window {
+        None => *window = Some(SeqNoWindow::new(number)),
+        Some(window) => window.update(number),
+    }
+}
+
+/// Holds a packet; the only refusal is want of memory.
+fn hold(
+    buffer: &mut DepacketizingBuffer<OpusDepacketizer>,
+    meta: RtpMeta,
+    payload: &[u8],
+) -> Result<(), AllocError>
+    ensures kept { OnOk result (buffer.new ≡ record buffer.old { held = pushed buffer.old.cutoff buffer.old.held (packet_from meta payload.now) }) }
+    ensures err { OnErr result (buffer.new ≡ buffer.old) }
+{
+    buffer.push(meta, payload).map_err(|_| AllocError)
+}
+
+/// Hands out the next frame as a unit; the only fault is want of memory, since no packet is empty.
+fn pop(buffer: &mut DepacketizingBuffer<OpusDepacketizer>) -> Result<Option<Unit>, PollFault>
+    requires { HaveBytes buffer.old.held }
+    ensures bytes { HaveBytes buffer.new.held }
+    ensures answer { IfOk result (λ unit. (window : Option Window) → unit ≡ poll_answer (stream_of window buffer.old)) }
+    ensures after { OnOk result ((window : Option Window) → stream_of window buffer.new ≡ polled (stream_of window buffer.old)) }
+    ensures none { (window : Option Window) → poll_answer (stream_of window buffer.old) ≡ None → IsOk result }
+    ensures fault { IfErr result (λ fault. fault ≡ PollFault.Memory) }
+    ensures kept { OnErr result ((window : Option Window) → stream_of window buffer.new ≡ stream_of window buffer.old) }
+    ensures fewer { IfOk result (λ unit. OnSome unit (length buffer.new.held < length buffer.old.held)) }
+{
+    match buffer.pop() {
+        Ok(Some(frame)) => Ok(Some(Unit::from_frame(frame))),
+        Ok(None) => Ok(None),
+        Err(e) => match e {
+            PacketError::Memory => Err(PollFault::Memory),
+            fault => Err(PollFault::Payload(fault)),
+        },
+    }
 }
 
 impl ReceivingStream {
@@ -48,9 +119,8 @@ impl ReceivingStream {
             ssrc,
             pt,
             exts,
-            hold_back,
             window: None,
-            buffer: PacketBuffer::new(alloc),
+            buffer: DepacketizingBuffer::new(alloc, OpusDepacketizer::new(), hold_back),
         }
     }
 
@@ -72,61 +142,68 @@ impl ReceivingStream {
         }
     }
 
-    /// Takes one datagram of its own in, by the 16 bits of its sequence number, its timestamp, the
-    /// values of its header extensions and its payload, and answers its widened number; None where
-    /// that is refused.
+    /// Takes one datagram of its own in, by the 16 bits of its sequence number, its timestamp, its marker,
+    /// the values of its header extensions and its payload, which has a byte, and answers its widened
+    /// number; None where that is refused.
     pub fn receive(
         &mut self,
         low: u16,
         time: u32,
+        marker: bool,
         ext_vals: ExtensionValues,
         payload: &[u8],
     ) -> Result<Option<SeqNo>, AllocError>
+        requires { 0 < length payload.now }
         ensures answer { IfOk result (λ taken. taken ≡ taken_number self.old.stream low) }
-        ensures after { OnOk result (self.new ≡ with_stream self.old (arrived self.old.stream low time ext_vals payload.now)) }
+        ensures after { OnOk result (self.new ≡ with_stream self.old (arrived self.old.stream low time marker ext_vals payload.now)) }
         ensures err { OnErr result (self.new ≡ self.old) }
     {
-        match &mut self.window {
-            None => {
-                let number = extend_u16(None, low);
-                self.buffer
-                    .push(number, time, ext_vals, payload.to_vec(self.alloc)?)?;
-                self.window = Some(SeqNoWindow::new(SeqNo::from(number)));
-                Ok(Some(SeqNo::from(number)))
-            }
-            Some(window) => {
-                let number = extend_u16(Some(window.max_seq().get()), low);
-                if !window.accepts(SeqNo::from(number)) {
-                    return Ok(None);
-                }
-                self.buffer
-                    .push(number, time, ext_vals, payload.to_vec(self.alloc)?)?;
-                window.update(SeqNo::from(number));
-                Ok(Some(SeqNo::from(number)))
-            }
+        let number = number_of(&self.window, low);
+        if !accepts(&self.window, number) {
+            return Ok(None);
         }
+        let meta = RtpMeta {
+            seq_no: number,
+            time,
+            marker,
+            ext_vals,
+        };
+        hold(&mut self.buffer, meta, payload)?;
+        record(&mut self.window, number);
+        Ok(Some(number))
     }
 
     /// Hands out the next unit, where one is ready.
-    pub fn poll(&mut self) -> Option<Unit>
-        ensures answer { result ≡ poll_answer self.old.stream }
-        ensures after { self.new ≡ polled_receiver self.old }
-        ensures fewer { OnSome result (length self.new.stream.buffer.held < length self.old.stream.buffer.held) }
+    ///
+    /// # Errors
+    /// `PollFault::Memory`, only where a unit is ready, which stays.
+    pub fn poll(&mut self) -> Result<Option<Unit>, PollFault>
+        ensures answer { IfOk result (λ unit. unit ≡ poll_answer self.old.stream) }
+        ensures after { OnOk result (self.new ≡ polled_receiver self.old) }
+        ensures none { poll_answer self.old.stream ≡ None → IsOk result }
+        ensures fault { IfErr result (λ fault. fault ≡ PollFault.Memory) }
+        ensures kept { OnErr result (self.new ≡ self.old) }
+        ensures fewer { IfOk result (λ unit. OnSome unit (length self.new.stream.held < length self.old.stream.held)) }
     {
-        let packet = self.buffer.pop(self.hold_back)?;
-        Some(Unit::from_packet(packet))
+        pop(&mut self.buffer)
     }
 
-    /// Polls until no unit is ready, and answers the units in order. Where memory for their list is
-    /// wanting, those that were polled are lost.
-    pub fn poll_all(&mut self) -> Result<Vec<Unit>, AllocError>
-        ensures drained { IfOk result (λ units. IsDrained self.old.stream units.items self.new.stream) }
+    /// Polls until no unit is ready or memory for one is wanting, and answers what the polls answered, in
+    /// order. Where memory for that list is wanting, what was polled is lost.
+    pub fn poll_all(&mut self) -> Result<Vec<Result<Unit, PollFault>>, AllocError>
+        ensures polled { IfOk result (λ answers. IsPolled self.old.stream answers.items self.new.stream) }
         ensures same { OnOk result (self.new ≡ with_stream self.old self.new.stream) }
     {
-        let mut units = Vec::new(self.alloc);
-        while let Some(unit) = self.poll() {
-            units.push(unit)?;
+        let mut answers = Vec::new(self.alloc);
+        loop {
+            match self.poll() {
+                Ok(None) => return Ok(answers),
+                Ok(Some(unit)) => answers.push(Ok(unit))?,
+                Err(fault) => {
+                    answers.push(Err(fault))?;
+                    return Ok(answers);
+                }
+            }
         }
-        Ok(units)
     }
 }

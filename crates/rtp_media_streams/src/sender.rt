@@ -7,12 +7,13 @@ ghost use Rattle.rtp_media_streams.specs.Sending.{opened_sender, is_sending, hea
 
 use crate::datagram::Datagram;
 use crate::errors::SampleError;
-use rtp_wire::{ExtensionMap, ExtensionValues, Frequency, MediaTime, Pt, RtpHeader, Ssrc};
-use std::alloc::{AllocError, Global};
+use crate::sink::{DatagramSink, Stamp};
+use payload_core_audio::OpusPacketizer;
+use payload_core_base::PacketError;
+use payload_core_buffer::Payloader;
+use rtp_wire::{ExtensionMap, ExtensionValues, Frequency, MediaTime, Pt, Ssrc};
+use std::alloc::Global;
 use std::marker::Model;
-
-/// The length of a header without extensions and contributing sources (RFC 3550 5.1).
-const FIXED_HEADER_LEN: usize = 12;
 
 /// The first number that is no longer sent.
 const END_OF_NUMBERS: u64 = 0x4000_0000_0000_0000;
@@ -21,9 +22,8 @@ const END_OF_NUMBERS: u64 = 0x4000_0000_0000_0000;
 #[derive(Drop)]
 pub struct SendingStream {
     alloc: Global,
-    ssrc: Ssrc,
-    pt: Pt,
-    exts: ExtensionMap,
+    stamp: Stamp,
+    payloader: Payloader<OpusPacketizer>,
     rate: Frequency,
     next: u64,
     mtu: usize,
@@ -38,9 +38,9 @@ impl Model for SendingStream {
     ghost Value = { Sending };
 
     ghost view = { λ s. record {
-      ssrc = s.ssrc;
-      pt = s.pt;
-      map = s.exts;
+      ssrc = s.stamp.ssrc;
+      pt = s.stamp.pt;
+      map = s.stamp.exts;
       rate = s.rate;
       next = s.next;
       mtu = s.mtu;
@@ -48,7 +48,7 @@ impl Model for SendingStream {
       failed = s.failed;
     } };
 
-    ghost invariant = { λ s. (s.pt < 128) × (0 < s.mtu) };
+    ghost invariant = { λ s. 0 < s.mtu };
 }
 
 impl SendingStream {
@@ -70,9 +70,8 @@ impl SendingStream {
     {
         SendingStream {
             alloc,
-            ssrc,
-            pt,
-            exts,
+            stamp: Stamp::new(ssrc, pt, exts),
+            payloader: Payloader::new(OpusPacketizer::new()),
             rate,
             next: first,
             mtu,
@@ -85,7 +84,7 @@ impl SendingStream {
     pub fn is_own(&self, ssrc: Ssrc, pt: Pt) -> bool
         ensures { result ≡ is_sending self.now ssrc pt }
     {
-        self.ssrc.get() == ssrc.get() && self.pt.get() == pt.get()
+        self.stamp.ssrc.get() == ssrc.get() && self.stamp.pt.get() == pt.get()
     }
 
     /// The clock rate of its timestamps, in ticks a second.
@@ -141,7 +140,8 @@ impl SendingStream {
         let time = time
             .checked_rebase(self.rate)
             .ok_or(SampleError::TimeTooLarge)?;
-        let header_len = self.header(0, 0, values).two_byte_len(&self.exts);
+        let header = self.stamp.header(0, false, 0, values);
+        let header_len = header.two_byte_len(&self.stamp.exts);
         if self.limit < header_len || self.limit - header_len < self.mtu {
             return Err(SampleError::LimitTooSmall);
         }
@@ -150,43 +150,18 @@ impl SendingStream {
 
     /// The datagrams of a sample of this timestamp.
     fn datagrams(
-        &self,
+        &mut self,
         time: u32,
         bytes: &[u8],
         values: &ExtensionValues,
-    ) -> Result<Vec<Datagram>, AllocError>
-        requires { self.now.next < 2 ^ 62 }
-        ensures sent { IfOk result (λ ds. ds.items ≡ datagrams_from self.now self.now.next (payloads_of self.now.mtu (timed time values.now bytes.now))) }
-        ensures count { IfOk result (λ ds. length ds.items ≤ length bytes.now) }
+    ) -> Result<Vec<Datagram>, PacketError>
+        requires { self.old.next < 2 ^ 62 }
+        ensures sent { IfOk result (λ ds. ds.items ≡ datagrams_from self.old self.old.next (payloads_of self.old.mtu (timed time values.now bytes.now))) }
+        ensures unchanged { self.new ≡ self.old }
     {
-        let mut datagrams = Vec::new(self.alloc);
-        let mut number = self.next;
-        for payload in bytes.chunks(self.mtu) {
-            let header = self.header(number, time, values);
-            datagrams.push(Datagram::new(self.alloc, &header, &self.exts, payload)?)?;
-            number += 1;
-        }
-        Ok(datagrams)
-    }
-
-    /// The header of the datagram of this number.
-    fn header(&self, number: u64, time: u32, values: &ExtensionValues) -> RtpHeader
-        ensures header { result ≡ header_of self.now number time values.now }
-        ensures payload_type { result.payload_type < 128 }
-    {
-        RtpHeader {
-            version: 2,
-            has_padding: false,
-            has_extension: !self.exts.is_empty(),
-            csrc_count: 0,
-            marker: false,
-            payload_type: self.pt,
-            sequence_number: (number % 65536) as u16,
-            timestamp: time,
-            ssrc: self.ssrc,
-            csrc: [0; 15],
-            ext_vals: *values,
-            header_len: FIXED_HEADER_LEN,
-        }
+        let mut sink = DatagramSink::new(self.alloc, &self.stamp, self.next);
+        self.payloader
+            .push_sample(self.alloc, &mut sink, self.mtu, time, bytes, values)?;
+        Ok(sink.into_datagrams())
     }
 }

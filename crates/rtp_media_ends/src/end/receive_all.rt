@@ -1,14 +1,15 @@
 //! Datagrams received one after the other, and then all units that are ready.
 
-ghost use Rattle.std.specs.Prelude.{◌≡◌, ◌<◌, ℕ, List, Ok, OnOk, IfOk, length, map};
+ghost use Rattle.std.specs.Prelude.{◌≡◌, ℕ, List, OnOk, IfOk};
 ghost use Rattle.rtp_media_runs.specs.Opus.{Timed};
+ghost use Rattle.rtp_media_streams.specs.Polls.{AreAnswered};
 ghost use Rattle.rtp_media_streams.specs.Sending.{Sending};
 ghost use Rattle.rtp_media_ends.specs.FullArrival.{verdicts_of, after_datagrams, ArePolledOut, IsPolledOut, HasAllOf, answers_at, units_of, with_receivers};
 
 use super::End;
-use crate::errors::{PollFault, ReceiveError};
+use crate::errors::ReceiveError;
 use crate::received::Received;
-use rtp_media_streams::{Datagram, ReceivingStream, Unit};
+use rtp_media_streams::{Datagram, PollFault, ReceivingStream, Unit};
 use std::alloc::{AllocError, Global};
 use std::marker::Model;
 
@@ -19,7 +20,7 @@ pub struct Polls {
 }
 
 impl Model for Polls {
-    ghost use Rattle.rtp_media_ends.specs.FullArrival.{Answers};
+    ghost use Rattle.rtp_media_streams.specs.Polls.{Answers};
 
     ghost Value = { Answers };
 
@@ -54,7 +55,7 @@ pub struct ReceivedAll {
 
 impl End {
     /// Takes datagrams in, one after the other, and then polls each receiving stream, in rising
-    /// number, until it answers None.
+    /// number, until it answers None or memory for a unit is wanting, which is its last answer then.
     ///
     /// # Errors
     /// `ReceiveError::Memory`, after a part of that was done.
@@ -62,10 +63,11 @@ impl End {
         ensures verdicts { IfOk result (λ all. all.verdicts.items ≡ verdicts_of self.old datagrams.now) }
         ensures polls { IfOk result (λ all. ArePolledOut (after_datagrams self.old datagrams.now).receivers all.polls.items self.new.receivers) }
         ensures others { OnOk result (self.new ≡ with_receivers (after_datagrams self.old datagrams.now) self.new.receivers) }
-        // All datagrams of a stream's samples came: its polls answer exactly the canonical units.
+        // All datagrams of a stream's samples came: its polls answer exactly the canonical units, unless
+        // memory for one was wanting.
         ensures exact { IfOk result (λ all. (stream hold_back : ℕ) (sender : Sending) (samples : List Timed) (arrivals : List ℕ) →
             HasAllOf self.old stream hold_back sender samples arrivals datagrams.now →
-            answers_at all.polls.items stream ≡ map Ok (units_of sender samples)) }
+            AreAnswered (units_of sender samples) (answers_at all.polls.items stream)) }
     {
         let verdicts = self.receive_each(datagrams)?;
         let polls = poll_each(self.alloc, &mut self.receivers)?;
@@ -85,23 +87,22 @@ impl End {
     }
 }
 
-/// Polls each stream until it answers None.
+/// Polls each stream until it answers None or memory is wanting.
 fn poll_each(alloc: Global, receivers: &mut Vec<ReceivingStream>) -> Result<Vec<Polls>, AllocError>
     ensures { IfOk result (λ polls. ArePolledOut receivers.old.items polls.items receivers.new.items) }
 {
     let mut polls = Vec::new(alloc);
     for stream in 0..receivers.len() {
         let receiver = &mut receivers[stream];
-        polls.push(poll_out(alloc, receiver)?)?;
+        polls.push(poll_out(receiver)?)?;
     }
     Ok(polls)
 }
 
-/// Polls a stream until it answers None.
-fn poll_out(alloc: Global, receiver: &mut ReceivingStream) -> Result<Polls, AllocError>
+/// Polls a stream until it answers None or memory is wanting.
+fn poll_out(receiver: &mut ReceivingStream) -> Result<Polls, AllocError>
     ensures { IfOk result (λ polls. IsPolledOut receiver.old polls receiver.new) }
 {
-    let units = receiver.poll_all()?;
-    let answers = units.into_iter().map(Ok).collect(alloc)?;
+    let answers = receiver.poll_all()?;
     Ok(Polls { answers })
 }

@@ -1,14 +1,12 @@
-use Rattle.rtp_media_runs.proofs.Pieces.{pieces-whole, piece-within, piece-some, piece-full}
+use Rattle.payload_core_base.proofs.PieceLemmas.{joined-pieces}
+use Rattle.rtp_media_runs.proofs.Pieces.{all-full, each-within}
 use Rattle.rtp_media_runs.proofs.laws.pieces_laws.Goals as goal
 
 pub returns-clause-whole : goal.returns-clause-whole
-returns-clause-whole c = pieces-whole
+returns-clause-whole c limit sample some = joined-pieces limit some sample
 
 pub returns-clause-within : goal.returns-clause-within
-returns-clause-within c = piece-within
-
-pub returns-clause-some : goal.returns-clause-some
-returns-clause-some c = piece-some
+returns-clause-within c = each-within
 
 pub returns-clause-full : goal.returns-clause-full
-returns-clause-full c = piece-full
+returns-clause-full c = all-full

@@ -1,19 +1,21 @@
-use Rattle.std.proofs.Common.{◌≡◌, sym, ◌∙◌, ap}
-use Rattle.std.specs.Prelude.{Some, None}
+use Rattle.std.proofs.Common.{◌≡◌, sym, ◌∙◌, ap, None, true≢false}
 use Rattle.rtp_media_runs.specs.Heard.{poll_answer}
-use Rattle.rtp_media_streams.specs.Receiving.{Receiving, with_stream, polled_receiver}
-use Rattle.rtp_media_streams.proofs.Draining.{drained-more, drained-done}
+use Rattle.rtp_media_streams.specs.Receiving.{Receiving, polled_receiver, with_stream}
+use Rattle.rtp_media_streams.proofs.Draining.{polled_more, polled_out, polled_short}
+use Rattle.rtp_media_streams.proofs.Polling.{polled_silent}
 use Rattle.rtp_media_streams.proofs.receiver.ReceivingStream.poll_all.Goals as goal
 
-pub loop-unit-preserved : goal.loop-unit-preserved
-loop-unit-preserved c =
-    let some : poll_answer c.loop-unit.self.stream ≡ Some c.in-Some.unit = sym c.poll.ensures.answer ∙ c.in-Some.is in
-    record {
-      same = rw (c.poll.ensures.after) (ap (λ (r : Receiving). with_stream r (polled_receiver c.loop-unit.self).stream) c.loop-unit.invariant.same);
-      drained = λ more after rest. drained-more _ _ _ _ _ _ more after some c.poll.ensures.after c.in_ok-push.ensures.items c.loop-unit.invariant.drained rest;
-    }
+pub returns-in-Ok-None-clause-polled : goal.returns-in-Ok-None-clause-polled
+returns-in-Ok-None-clause-polled c =
+    let none : poll_answer c.loop-answers.self.stream ≡ None = sym c.in-Ok-None.ensures.answer ∙ c.in-Ok-None.field-0-is in
+    polled_out _ _ _ _ none (ap (λ (r : Receiving). r.stream) c.in-Ok-None.ensures.after ∙ polled_silent c.loop-answers.self.stream none) c.loop-answers.invariant.so
 
-pub returns-clause-drained : goal.returns-clause-drained
-returns-clause-drained c =
-    let none : poll_answer c.loop-unit.self.stream ≡ None = sym c.poll.ensures.answer ∙ c.in_default.is in
-    drained-done _ _ _ _ none c.poll.ensures.after c.loop-unit.invariant.drained
+pub loop-answers-preserved : goal.loop-answers-preserved
+loop-answers-preserved c = record {
+  same = rw (c.in-Ok-Some.ensures.after) (ap (λ (r : Receiving). with_stream r (polled_receiver c.loop-answers.self).stream) c.loop-answers.invariant.same);
+  so = polled_more _ _ _ _ _ _ (sym c.in-Ok-Some.ensures.answer ∙ c.in-Ok-Some.field-0-is) c.in-Ok-Some.ensures.after c.in_ok-push-in-Ok-Some.ensures.items c.loop-answers.invariant.so;
+}
+
+pub returns-in-Err-clause-polled : goal.returns-in-Err-clause-polled
+returns-in-Err-clause-polled c =
+    polled_short _ _ _ _ _ _ (λ none. true≢false (sym (c.in-Err.ensures.none none))) (ap (λ (r : Receiving). r.stream) c.in-Err.ensures.kept) c.in-Err.ensures.fault c.in_ok-push-in-Err.ensures.items c.loop-answers.invariant.so

@@ -1,0 +1,117 @@
+//! Making datagrams of payloads.
+
+ghost use Rattle.std.specs.Prelude.{◌≡◌, ◌<◌, ◌^◌, []};
+ghost use Rattle.rtp_media_streams.specs.Sending.{stamped};
+
+use crate::datagram::Datagram;
+use payload_core_base::{PacketError, PacketSink};
+use rtp_wire::{ExtensionMap, ExtensionValues, Pt, RtpHeader, Ssrc};
+use std::alloc::Global;
+
+/// The length of a header without extensions and contributing sources (RFC 3550 5.1).
+const FIXED_HEADER_LEN: usize = 12;
+
+/// What all datagrams of a stream have alike: SSRC, payload type and map of header extensions.
+#[derive(Drop)]
+pub(crate) struct Stamp {
+    pub ssrc: Ssrc,
+    pub pt: Pt,
+    pub exts: ExtensionMap,
+    ghost payload_type: { pt < 128 },
+}
+
+impl Stamp {
+    /// The stamp of this SSRC, payload type and map of header extensions.
+    pub fn new(ssrc: Ssrc, pt: Pt, exts: ExtensionMap) -> Self
+        requires { pt < 128 }
+        ensures ssrc { result.ssrc ≡ ssrc }
+        ensures pt { result.pt ≡ pt }
+        ensures exts { result.exts ≡ exts }
+    {
+        Stamp { ssrc, pt, exts }
+    }
+
+    /// The header of the datagram of this number.
+    pub fn header(
+        &self,
+        number: u64,
+        marker: bool,
+        time: u32,
+        values: &ExtensionValues,
+    ) -> RtpHeader
+        ensures header { result ≡ stamped self.now.ssrc self.now.pt self.now.exts number marker time values.now }
+        ensures payload_type { result.payload_type < 128 }
+    {
+        RtpHeader {
+            version: 2,
+            has_padding: false,
+            has_extension: !self.exts.is_empty(),
+            csrc_count: 0,
+            marker,
+            payload_type: self.pt,
+            sequence_number: (number % 65536) as u16,
+            timestamp: time,
+            ssrc: self.ssrc,
+            csrc: [0; 15],
+            ext_vals: *values,
+            header_len: FIXED_HEADER_LEN,
+        }
+    }
+}
+
+/// Makes a datagram of each payload, under consecutive numbers.
+#[derive(Drop)]
+pub(crate) struct DatagramSink<'a> {
+    alloc: Global,
+    stamp: &'a Stamp,
+    first: u64,
+    datagrams: Vec<Datagram>,
+    ghost numbers: { first < 2 ^ 62 },
+}
+
+impl<'a> DatagramSink<'a> {
+    /// A sink that made nothing, and numbers from `first` on.
+    pub fn new(alloc: Global, stamp: &'a Stamp, first: u64) -> Self
+        requires { first < 2 ^ 62 }
+        ensures stamp { result.stamp.now ≡ stamp.now }
+        ensures first { result.first ≡ first }
+        ensures nothing { result.datagrams.items ≡ [] }
+    {
+        DatagramSink {
+            alloc,
+            stamp,
+            first,
+            datagrams: Vec::new(alloc),
+        }
+    }
+
+    /// The datagrams, in order.
+    pub fn into_datagrams(self) -> Vec<Datagram>
+        ensures { result ≡ self.entry.datagrams }
+    {
+        self.datagrams
+    }
+}
+
+impl PacketSink for DatagramSink<'_> {
+    ghost use Rattle.std.specs.Prelude.{◌≡◌};
+    ghost use Rattle.rtp_media_streams.specs.Sinks.{TakesOne};
+
+    ghost takes = { TakesOne };
+
+    ghost keeps = { λ old new. new.datagrams.items ≡ old.datagrams.items };
+
+    fn send(
+        &mut self,
+        payload: &[u8],
+        marker: bool,
+        time: u32,
+        values: &ExtensionValues,
+    ) -> Result<(), PacketError> {
+        let number = self.first + self.datagrams.len() as u64;
+        let header = self.stamp.header(number, marker, time, values);
+        let datagram = Datagram::new(self.alloc, &header, &self.stamp.exts, payload)?;
+        self.datagrams.push(datagram)?;
+        Ok(())
+    }
+}
