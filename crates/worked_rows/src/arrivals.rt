@@ -1,7 +1,7 @@
 //! Datagrams that come late, twice, damaged or from elsewhere.
 
 use crate::calls::{has_bytes, receive, receive_all, receive_hex};
-use crate::streams::{datagram, owned, receiving_end};
+use crate::streams::{datagram, receiving_end};
 use rtp_media::{Datagram, End, Received};
 use rtp_wire::SeqNo;
 use std::alloc::Global;
@@ -9,8 +9,9 @@ use std::process::Abort;
 use std::test::Fail;
 
 /// Takes in the datagram of this number with a payload of one byte.
-fn arrive(end: &mut End, number: u16, byte: u8) -> Result<Received, Fail> {
-    receive(end, &datagram(number, byte))
+fn arrive(alloc: Global, end: &mut End, number: u16, byte: u8) -> Result<Received, Fail> {
+    let datagram = datagram(alloc, number, byte)?;
+    receive(end, datagram.as_slice())
 }
 
 /// The next unit of stream 0, as its bytes and its first number.
@@ -41,11 +42,11 @@ fn taken(number: u64) -> Received {
 #[test]
 fn row_12_polls_wait_for_a_missing_datagram(rt: HostRuntime) -> Result<(), Fail> {
     let mut end = receiving_end(rt.alloc(), 127)?;
-    assert_eq!(rt; arrive(&mut end, 0, 0xaa)?, taken(0));
+    assert_eq!(rt; arrive(rt.alloc(), &mut end, 0, 0xaa)?, taken(0));
     expect_unit(&rt, &mut end, 0xaa, 0)?;
-    assert_eq!(rt; arrive(&mut end, 2, 0xcc)?, taken(2));
+    assert_eq!(rt; arrive(rt.alloc(), &mut end, 2, 0xcc)?, taken(2));
     assert!(rt; next(&rt, &mut end)?.is_none());
-    assert_eq!(rt; arrive(&mut end, 1, 0xbb)?, taken(1));
+    assert_eq!(rt; arrive(rt.alloc(), &mut end, 1, 0xbb)?, taken(1));
     expect_unit(&rt, &mut end, 0xbb, 1)?;
     expect_unit(&rt, &mut end, 0xcc, 2)?;
     assert!(rt; next(&rt, &mut end)?.is_none());
@@ -55,9 +56,9 @@ fn row_12_polls_wait_for_a_missing_datagram(rt: HostRuntime) -> Result<(), Fail>
 /// The datagrams of row 12 in the order 1, 0, 2.
 fn out_of_order(alloc: Global) -> Result<Vec<Datagram>, Fail> {
     let mut datagrams = Vec::new(alloc);
-    datagrams.push(owned(alloc, 1, 0xbb)?)?;
-    datagrams.push(owned(alloc, 0, 0xaa)?)?;
-    datagrams.push(owned(alloc, 2, 0xcc)?)?;
+    datagrams.push(datagram(alloc, 1, 0xbb)?)?;
+    datagrams.push(datagram(alloc, 0, 0xaa)?)?;
+    datagrams.push(datagram(alloc, 2, 0xcc)?)?;
     Ok(datagrams)
 }
 
@@ -81,17 +82,20 @@ fn row_12_receive_all_hands_out_in_order(rt: HostRuntime) -> Result<(), Fail> {
 fn row_13_the_window_reaches_128_back(rt: HostRuntime) -> Result<(), Fail> {
     let mut end = receiving_end(rt.alloc(), 127)?;
     for number in 2..129 {
-        assert_eq!(rt; arrive(&mut end, number, 1)?, taken(number as u64));
+        assert_eq!(rt;
+            arrive(rt.alloc(), &mut end, number, 1)?,
+            taken(number as u64)
+        );
     }
-    assert_eq!(rt; arrive(&mut end, 0, 1)?, Received::Refused);
-    assert_eq!(rt; arrive(&mut end, 1, 1)?, taken(1));
+    assert_eq!(rt; arrive(rt.alloc(), &mut end, 0, 1)?, Received::Refused);
+    assert_eq!(rt; arrive(rt.alloc(), &mut end, 1, 1)?, taken(1));
     Ok(())
 }
 
 #[test]
 fn row_13_numbers_count_on_past_16_bits(rt: HostRuntime) -> Result<(), Fail> {
     let mut end = receiving_end(rt.alloc(), 127)?;
-    assert_eq!(rt; arrive(&mut end, 0xffff, 0x0a)?, taken(65_535));
+    assert_eq!(rt; arrive(rt.alloc(), &mut end, 0xffff, 0x0a)?, taken(65_535));
     let second = receive_hex(rt.alloc(), &mut end, "806f0000000003c00000002c0b")?;
     assert_eq!(rt; second, taken(65_536));
     expect_unit(&rt, &mut end, 0x0a, 65_535)?;
@@ -111,16 +115,16 @@ fn row_14_what_is_not_taken(rt: HostRuntime) -> Result<(), Fail> {
     assert_eq!(rt; too_much_padding, Received::Damaged);
     let padding_alone = receive_hex(rt.alloc(), &mut end, "a06f0000000000000000002c0102")?;
     assert_eq!(rt; padding_alone, Received::Damaged);
-    assert_eq!(rt; arrive(&mut end, 0, 5)?, taken(0));
+    assert_eq!(rt; arrive(rt.alloc(), &mut end, 0, 5)?, taken(0));
     Ok(())
 }
 
 #[test]
 fn a_number_comes_twice(rt: HostRuntime) -> Result<(), Fail> {
     let mut end = receiving_end(rt.alloc(), 0)?;
-    assert_eq!(rt; arrive(&mut end, 7, 1)?, taken(7));
+    assert_eq!(rt; arrive(rt.alloc(), &mut end, 7, 1)?, taken(7));
     expect_unit(&rt, &mut end, 1, 7)?;
-    assert_eq!(rt; arrive(&mut end, 7, 1)?, Received::Refused);
+    assert_eq!(rt; arrive(rt.alloc(), &mut end, 7, 1)?, Received::Refused);
     assert!(rt; next(&rt, &mut end)?.is_none());
     Ok(())
 }

@@ -2,7 +2,7 @@
 
 use rtp_media::{Datagram, End, StreamParams};
 use rtp_wire::{Mid, Pt, Ssrc};
-use std::alloc::{AllocError, Global};
+use std::alloc::Global;
 use std::test::Fail;
 
 /// The parameters of a stream whose first number is 0.
@@ -24,15 +24,12 @@ pub fn receiving_end(alloc: Global, hold_back: usize) -> Result<End, Fail> {
 }
 
 /// The Opus datagram of SSRC 44 with this number, time 0 and a payload of one byte.
-pub fn datagram(number: u16, byte: u8) -> [u8; 13] {
-    let mut bytes = *b"\x80\x6f\x00\x00\x00\x00\x00\x00\x00\x00\x00\x2c\x00";
-    bytes[2] = (number / 256) as u8;
-    bytes[3] = (number % 256) as u8;
-    bytes[12] = byte;
-    bytes
-}
-
-/// The same, owned.
-pub fn owned(alloc: Global, number: u16, byte: u8) -> Result<Datagram, AllocError> {
-    Ok(Datagram::from_vec(datagram(number, byte).to_vec(alloc)?))
+pub fn datagram(alloc: Global, number: u16, byte: u8) -> Result<Datagram, Fail> {
+    let mut bytes = hex::decode(alloc, "806f")?;
+    bytes.push((number / 256) as u8)?;
+    bytes.push((number % 256) as u8)?;
+    let time_and_ssrc = hex::decode(alloc, "000000000000002c")?;
+    bytes.extend_from_slice(time_and_ssrc.as_slice())?;
+    bytes.push(byte)?;
+    Ok(Datagram::from_vec(bytes))
 }
