@@ -92,6 +92,35 @@ fn row_8_telephone_event(rt: HostRuntime) -> Result<(), Fail> {
 }
 
 #[test]
+fn dialed_digits(rt: HostRuntime) -> Result<(), Fail> {
+    // Dialing 911, the example of RFC 2833: 200 ms and 250 ms at their ends, and 50 ms so far.
+    let nine = TelephoneEvent {
+        event: 9,
+        end: true,
+        volume: 7,
+        duration: 200_000_000,
+    };
+    let parsed = TelephoneEvent::parse(&[9, 0x87, 0x06, 0x40], eight_khz()?);
+    assert_eq!(rt; parsed, Some(nine));
+    let one = TelephoneEvent {
+        event: 1,
+        end: true,
+        volume: 10,
+        duration: 250_000_000,
+    };
+    let parsed = TelephoneEvent::parse(&[1, 0x8A, 0x07, 0xD0], eight_khz()?);
+    assert_eq!(rt; parsed, Some(one));
+    let last = TelephoneEvent {
+        event: 1,
+        end: false,
+        volume: 20,
+        duration: 50_000_000,
+    };
+    assert_eq!(rt; last.to_bytes(eight_khz()?), Some([1, 0x14, 0x01, 0x90]));
+    Ok(())
+}
+
+#[test]
 fn telephone_reports_in_one_packet(rt: HostRuntime) -> Result<(), Fail> {
     let sample = [5, 0x4A, 3, 0x20, 6, 0x8A, 3, 0x20];
     let (packet, count) = first_packet(
@@ -158,6 +187,24 @@ fn amr_wb_of_two_frames(rt: HostRuntime) -> Result<(), Fail> {
     assert!(rt; matches!(short, Err(PacketError::ErrAmrWbCorruptedPacket)));
     let long = AmrWbPacketizer::new(true).packetize(rt.alloc(), 6, &[0x4C, 1, 2, 3, 4, 5]);
     assert!(rt; matches!(long, Err(PacketError::ErrPayloadTooLarge)));
+    Ok(())
+}
+
+#[test]
+fn amr_wb_of_four_frames(rt: HostRuntime) -> Result<(), Fail> {
+    // Mode request 1, and frames of types 0, 9, 15 and 1: 132 ones, 40 zeros, nothing and 177 ones.
+    let mut packet = Vec::from_slice(rt.alloc(), &[0x18, 0x73, 0xFC, 0x3F])?;
+    packet.extend_from_slice(&[0xFF; 16])?;
+    packet.extend_from_slice(&[0; 5])?;
+    packet.extend_from_slice(&[0xFF; 22])?;
+    packet.push(0x80)?;
+    let mut frames = Vec::from_slice(rt.alloc(), &[0x04])?;
+    frames.extend_from_slice(&[0xFF; 16])?;
+    frames.extend_from_slice(&[0xF0, 0x4C, 0, 0, 0, 0, 0, 0x7C, 0x0C])?;
+    frames.extend_from_slice(&[0xFF; 22])?;
+    frames.push(0x80)?;
+    let (unit, _) = read(rt.alloc(), &mut AmrWbDepacketizer::new(false), &packet)?;
+    assert_eq!(rt; unit.as_slice(), frames.as_slice());
     Ok(())
 }
 

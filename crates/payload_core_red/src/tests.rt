@@ -62,6 +62,34 @@ fn lpc_beside_dvi4(rt: HostRuntime) -> Result<(), Fail> {
     Ok(())
 }
 
+// Dialing 911, the example of RFC 2833: reports at type 97, of which the second and third begin 6,400 and
+// 11,200 ticks behind the first.
+#[test]
+fn dialed_digits(rt: HostRuntime) -> Result<(), Fail> {
+    let redundant = vec![in rt.alloc();
+        RedundantBlock {
+            pt: 97,
+            timestamp_offset: 11_200,
+            payload: Vec::from_slice(rt.alloc(), &[9, 0x87, 0x06, 0x40])?,
+        },
+        RedundantBlock {
+            pt: 97,
+            timestamp_offset: 4_800,
+            payload: Vec::from_slice(rt.alloc(), &[1, 0x8A, 0x07, 0xD0])?,
+        },
+    ]?;
+    let packet = RedEncoder::encode(rt.alloc(), 97, &[1, 0x14, 0x01, 0x90], &redundant)?;
+    let bytes = [
+        0xE1, 0xAF, 0x00, 0x04, 0xE1, 0x4B, 0x00, 0x04, 0x61, 9, 0x87, 0x06, 0x40, 1, 0x8A, 0x07,
+        0xD0, 1, 0x14, 0x01, 0x90,
+    ];
+    assert_eq!(rt; packet.as_slice(), bytes.as_slice());
+    let first = RedDecoder::decode(&bytes)?.next().ok_or("nothing")?;
+    assert_eq!(rt; first.timestamp_offset, 11_200);
+    assert_eq!(rt; first.payload, [9, 0x87, 0x06, 0x40].as_slice());
+    Ok(())
+}
+
 #[test]
 fn every_short_packet(rt: HostRuntime) -> Result<(), Fail> {
     let mut count: u32 = 0;

@@ -36,6 +36,29 @@ fn ids_of_three_widths(rt: HostRuntime) -> Result<(), Fail> {
 }
 
 #[test]
+fn ids_of_the_examples(rt: HostRuntime) -> Result<(), Fail> {
+    // The pictures 17 and 4711 of RFC 7741 4.5, and a packet without an id.
+    let short = Vp8Descriptor::parse(&[0x90, 0x80, 0x11, 0x30])?;
+    assert_eq!(rt; short.picture_id(), Some(17));
+    let long = Vp8Descriptor::parse(&[0x90, 0x80, 0x92, 0x67, 0x30])?;
+    assert_eq!(rt; long.picture_id(), Some(4711));
+    let none = Vp8Descriptor::parse(&[0x10, 0x31])?;
+    assert_eq!(rt; none.picture_id(), None);
+    let mut packetizer = Vp8Packetizer::with_picture_id(Some(4711));
+    let packets = packetizer.packetize(rt.alloc(), 6, &[0x30, 1, 2])?;
+    assert_eq!(rt; packets.len(), 2);
+    assert_eq!(rt;
+        packets[0].as_slice(),
+        [0x90, 0x80, 0x92, 0x67, 0x30, 1].as_slice()
+    );
+    assert_eq!(rt;
+        packets[1].as_slice(),
+        [0x80, 0x80, 0x92, 0x67, 2].as_slice()
+    );
+    Ok(())
+}
+
+#[test]
 fn descriptor_with_all_fields(rt: HostRuntime) -> Result<(), Fail> {
     let mut out = Vec::new(rt.alloc());
     let mut extra = CodecExtra::None;
