@@ -1,0 +1,5 @@
+pub mod H264Headers
+pub mod Fragments
+pub mod Aggregates
+pub mod H264Reading
+pub mod H264Views

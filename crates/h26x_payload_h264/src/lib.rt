@@ -1,0 +1,14 @@
+//! H.264 payloads (RFC 6184).
+#![tactic(auto)]
+
+mod constants;
+mod h264_receiver;
+mod headers;
+
+pub use constants::{
+    ANNEXB_NALUSTART_CODE, AUD_NALU_TYPE, FILLER_NALU_TYPE, FU_END_BITMASK, FU_START_BITMASK,
+    FUA_HEADER_SIZE, FUA_NALU_TYPE, FUB_NALU_TYPE, IDR_NALU_TYPE, NALU_REF_IDC_BITMASK,
+    NALU_TYPE_BITMASK, OUTPUT_STAP_AHEADER, PPS_NALU_TYPE, SPS_NALU_TYPE, STAPA_HEADER_SIZE,
+    STAPA_NALU_LENGTH_SIZE, STAPA_NALU_TYPE,
+};
+pub use h264_receiver::{H264Depacketizer, detect_h264_keyframe, detect_h264_nalu};
