@@ -1,1 +1,2 @@
 pub mod AggregateLemmas
+pub mod FragmentLemmas

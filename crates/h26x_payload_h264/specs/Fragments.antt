@@ -1,6 +1,7 @@
 -- Units that come in fragments (RFC 6184 5.8, RFC 7798 4.4.3, RFC 9328 4.3.3), and the start code that each unit is written behind.
 use Rattle.std.specs.Prelude.{ℕ, Bool, true, false, List, [], ◌∷◌, ◌++◌, Some, None}
 use Rattle.payload_core_base.specs.Format.{Fragment}
+use Rattle.payload_core_base.specs.Packing.{is_none_left}
 
 -- A unit behind its start code (ITU-T H.264 annex B).
 abbrev pub behind_code : List ℕ → List ℕ
@@ -25,3 +26,8 @@ written_at true (Some unit) = unit
 abbrev pub open_after : Bool → Fragment → Fragment
 open_after false fragment = fragment
 open_after true fragment = None
+
+-- The fragments of a unit's parts, each made of whether it is the first, whether it is the last, and its part.
+abbrev pub in_fragments : (Bool → Bool → List ℕ → List ℕ) → Bool → List (List ℕ) → List (List ℕ)
+in_fragments fragment first [] = []
+in_fragments fragment first (p ∷ ps) = fragment first (is_none_left ps) p ∷ in_fragments fragment false ps

@@ -3,6 +3,7 @@
 
 mod constants;
 mod h264_receiver;
+mod h264_sender;
 mod headers;
 
 pub use constants::{
@@ -12,3 +13,4 @@ pub use constants::{
     STAPA_NALU_LENGTH_SIZE, STAPA_NALU_TYPE,
 };
 pub use h264_receiver::{H264Depacketizer, detect_h264_keyframe, detect_h264_nalu};
+pub use h264_sender::H264Packetizer;
