@@ -6,3 +6,4 @@ pub mod H264Views
 pub mod Departures
 pub mod H264Packing
 pub mod H264Waiting
+pub mod H264Coding

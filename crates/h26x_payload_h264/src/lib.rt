@@ -5,6 +5,7 @@ mod constants;
 mod h264_receiver;
 mod h264_sender;
 mod headers;
+mod laws;
 
 pub use constants::{
     ANNEXB_NALUSTART_CODE, AUD_NALU_TYPE, FILLER_NALU_TYPE, FU_END_BITMASK, FU_START_BITMASK,
@@ -14,3 +15,4 @@ pub use constants::{
 };
 pub use h264_receiver::{H264Depacketizer, detect_h264_keyframe, detect_h264_nalu};
 pub use h264_sender::H264Packetizer;
+pub use laws::h264_law;
