@@ -4,3 +4,5 @@ pub mod BundleLemmas
 pub mod DepartureLemmas
 pub mod H264RunLaw
 pub mod H264Law
+pub mod FragmentRunLemmas
+pub mod H264FragmentLaw

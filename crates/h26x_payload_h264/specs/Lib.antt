@@ -7,3 +7,5 @@ pub mod Departures
 pub mod H264Packing
 pub mod H264Waiting
 pub mod H264Coding
+pub mod FragmentRuns
+pub mod H264Fragments
