@@ -1,5 +1,5 @@
 -- What fragments leave open, and what they complete.
-use Rattle.std.proofs.Common.{◌≡◌, ℕ, zero, suc, ◌+◌, ◌<◌, Bool, true, false, List, [], ◌∷◌, ◌++◌, ◌⊎◌, ◌↔◌, inl, inr, length, drop, None, Some, refl, sym, ap, subst, ◌∙◌, append_assoc, arith}
+use Rattle.std.proofs.Common.{◌≡◌, ℕ, Bool, true, false, List, [], ◌∷◌, ◌++◌, ◌⊎◌, ◌↔◌, inl, inr, length, drop, None, Some, refl, sym, ap, subst, ◌∙◌, append_assoc, arith}
 use mathlib.Core.Bool.{false≢true}
 use Rattle.std.specs.List.{flat_map}
 use Rattle.std.proofs.lemmas.List.{append-nil, length-append, same_from_push}
@@ -255,8 +255,7 @@ module _ (view : FragmentView) where
   ])
   ends_open h p (Some w) t no_start e =
       let l = t.sound w refl in
-      let whole : w ++ view.part p ≡ behind_code (unit_in view l.start (l.later ++ p ∷ [])) = ap (λ x. x ++ view.part p) l.unit_is ∙ ap behind_code (sym (unit_behind l.start p l.later)) in
-      (
+      let whole : w ++ view.part p ≡ behind_code (unit_in view l.start (l.later ++ p ∷ [])) = ap (λ x. x ++ view.part p) l.unit_is ∙ ap behind_code (sym (unit_behind l.start p l.later)) in (
         (λ u. (
           (λ written. record {
             before = l.before;

@@ -1,11 +1,10 @@
 -- Which units fragments write.
-use Rattle.std.proofs.Common.{◌≡◌, ℕ, Bool, true, false, List, [], ◌∷◌, ◌++◌, ◌↔◌, ◌⊎◌, None, Some, Ok, Err, Option, Result, refl, sym, ap, subst, ◌∙◌, append_assoc}
+use Rattle.std.proofs.Common.{◌≡◌, ℕ, Bool, true, false, List, [], ◌∷◌, ◌++◌, None, Some, Ok, Err, Option, Result, refl, sym, ap, subst, ◌∙◌, append_assoc}
 use Rattle.std.specs.Prelude.{◌||◌}
 use mathlib.Core.Bool.{false≢true}
 use Rattle.std.proofs.lemmas.List.{append-nil}
 use Rattle.payload_core_base.specs.Format.{Fragment, Reading, Run, read_all, run_after}
 use Rattle.payload_core_base.specs.declared.error.PacketError.{PacketError}
-use Rattle.payload_core_base.specs.declared.error.PacketError.TheVariants.{Memory}
 use Rattle.payload_core_base.specs.declared.extra.CodecExtra.{CodecExtra}
 use Rattle.payload_core_base.specs.declared.extra.CodecExtra.TheVariants.{H264}
 use Rattle.h26x_payload_h264.specs.declared.headers.PacketKind.{PacketKind}
@@ -83,7 +82,7 @@ rest_of ps f extra = read_all h264_format f extra ps
 
 run_tracks : (p : List ℕ) (ps h : List (List ℕ)) (f : Fragment) (extra : CodecExtra) (r : Result Given PacketError) → given f p ≡ r → Tracks h264_view h f
     → ((g : Given) → Tracks h264_view (h ++ p ∷ []) g.fragment → (rest_of ps g.fragment (H264 (record { is_keyframe = keyframe_of extra p }))).fault ≡ None
-        → Tracks h264_view ((h ++ p ∷ []) ++ ps) (rest_of ps g.fragment (H264 (record { is_keyframe = keyframe_of extra p }))).fragment)
+    → Tracks h264_view ((h ++ p ∷ []) ++ ps) (rest_of ps g.fragment (H264 (record { is_keyframe = keyframe_of extra p }))).fragment)
     → (run_after f extra (told (keyframe_of extra p) r) (rest_of ps)).fault ≡ None
     → Tracks h264_view (h ++ (p ∷ ps)) (run_after f extra (told (keyframe_of extra p) r) (rest_of ps)).fragment
 unfolding fault_of

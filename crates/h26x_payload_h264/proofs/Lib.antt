@@ -6,3 +6,4 @@ pub mod H264RunLaw
 pub mod H264Law
 pub mod FragmentRunLemmas
 pub mod H264FragmentLaw
+pub mod AggregateLaw

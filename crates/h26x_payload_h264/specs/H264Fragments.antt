@@ -3,7 +3,7 @@ use Rattle.std.specs.Prelude.{◌≡◌, ◌↔◌, ◌⊎◌, ℕ, Bool, true, 
 use Rattle.payload_core_base.specs.Format.{Reading, Run, read_all}
 use Rattle.payload_core_base.specs.declared.extra.CodecExtra.{CodecExtra}
 use Rattle.h26x_payload_h264.specs.declared.headers.PacketKind.{PacketKind}
-use Rattle.h26x_payload_h264.specs.declared.headers.PacketKind.TheVariants.{Single, Aggregate, Fragment, Unhandled}
+use Rattle.h26x_payload_h264.specs.declared.headers.PacketKind.TheVariants.{Fragment}
 use Rattle.h26x_payload_h264.specs.FragmentRuns.{CompletesUnit, FragmentView}
 use Rattle.h26x_payload_h264.specs.Fragments.{behind_code}
 use Rattle.h26x_payload_h264.specs.H264Headers.{begun_header, has_end, has_start, kind_of}

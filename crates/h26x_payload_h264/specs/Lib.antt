@@ -9,3 +9,4 @@ pub mod H264Waiting
 pub mod H264Coding
 pub mod FragmentRuns
 pub mod H264Fragments
+pub mod AggregateLayout

@@ -6,7 +6,7 @@ ghost use Rattle.std.specs.Prelude.{◌≡◌};
 use crate::constants::{FUA_NALU_TYPE, STAPA_NALU_TYPE};
 
 /// What a packet is by its first byte (RFC 6184 5.2).
-#[derive(Clone, Copy, Debug, PartialEq, Eq, Drop)]
+#[derive(Clone, Copy, Drop)]
 pub enum PacketKind {
     /// A unit alone.
     Single,
