@@ -15,16 +15,17 @@ use Rattle.payload_core_base.specs.Packing.{MarkedPacket, Sender, is_none_left, 
 use Rattle.payload_core_base.specs.Pieces.{pieces}
 use Rattle.payload_core_base.proofs.PieceLemmas.{joined-pieces, pieces-full, pieces-step, pieces-within}
 use Rattle.h26x_payload_h264.specs.Aggregates.{Aggregated, aggregated, sized, with_first}
-use Rattle.h26x_payload_h264.specs.Departures.{Departure, departures, units_in}
-use Rattle.h26x_payload_h264.specs.Departures.Departure.{Together, Alone}
-use Rattle.h26x_payload_h264.specs.Fragments.{behind_code, in_fragments}
+use Rattle.h26x_payload_units.specs.Departures.{Departure, EachUnit, departures, units_in}
+use Rattle.h26x_payload_units.specs.Departures.Departure.{Together, Alone}
+use Rattle.h26x_payload_units.specs.Fragments.{behind_code, in_fragments}
 use Rattle.h26x_payload_h264.specs.H264Coding.{AreSendable, FullLaw, GivesUnits, IsSendable, UnitsLaw, WithinLaw, h264_coding, h264_units_sent, unit_of}
 use Rattle.h26x_payload_h264.specs.H264Headers.{kind_of}
 use Rattle.h26x_payload_h264.specs.H264Packing.{can_leave, fragments_of, fu_a, h264_packing, h264_rules, packets_of, stap_a}
 use Rattle.h26x_payload_h264.specs.H264Reading.{begins_by, given, given_units, gives, h264_format}
 use Rattle.h26x_payload_h264.proofs.AggregateLemmas.{aggregated-first, aggregated-none}
-use Rattle.h26x_payload_h264.proofs.BundleLemmas.{AreBundles, GivesParts, IsBundle, bundled-frame, bundles-give}
-use Rattle.h26x_payload_h264.proofs.DepartureLemmas.{Each, HaveBytes, IsFitting, IsGood, departures-fit, departures-good}
+use Rattle.h26x_payload_units.proofs.BundleLemmas.{AreBundles, GivesParts, IsBundle, bundled-frame, bundles-give}
+use Rattle.h26x_payload_units.proofs.DepartureLemmas.{Each}
+use Rattle.h26x_payload_h264.proofs.DepartureLemmas.{HasByte, IsFitting, IsGood, departures-fit, departures-good}
 use Rattle.h26x_payload_h264.proofs.H264RunLaw.{fragments_bundle, given-run, kind_is, single_kind}
 use Rattle.h26x_payload_h264.specs.declared.headers.PacketKind.TheVariants.{Single}
 
@@ -104,7 +105,7 @@ all_parts [] = refl
 all_parts (d ∷ ds) = ap (λ t. parts_in d ++ t) (all_parts ds) ∙ sym (map-append behind_code (units_in d) (flat_map units_in ds))
 
 -- the units of a text have bytes
-have_bytes : (us : List (List ℕ)) → AreUnits us → HaveBytes us
+have_bytes : (us : List (List ℕ)) → AreUnits us → EachUnit HasByte us
 have_bytes [] are = tt
 have_bytes (u ∷ []) are = (are.is_nonempty, tt)
 have_bytes (u ∷ v ∷ us) are = (are.0.0.is_nonempty, have_bytes (v ∷ us) are.1)

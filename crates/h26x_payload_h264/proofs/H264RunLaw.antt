@@ -11,11 +11,11 @@ use Rattle.payload_core_base.specs.declared.extra.CodecExtra.{CodecExtra}
 use Rattle.payload_core_base.specs.declared.extra.CodecExtra.TheVariants.{H264}
 use Rattle.h26x_payload_h264.specs.declared.headers.PacketKind.{PacketKind}
 use Rattle.h26x_payload_h264.specs.declared.headers.PacketKind.TheVariants.{Single, Aggregate, Fragment as FragmentKind, Unhandled}
-use Rattle.h26x_payload_h264.specs.Fragments.{behind_code, in_fragments, open_after, put_behind, written_at}
+use Rattle.h26x_payload_units.specs.Fragments.{behind_code, in_fragments, open_after, put_behind, written_at}
 use Rattle.h26x_payload_h264.specs.H264Headers.{begun_header, has_end, has_start, kind_of, type_of}
 use Rattle.h26x_payload_h264.specs.H264Packing.{fu_a}
 use Rattle.h26x_payload_h264.specs.H264Reading.{Given, given, given_by, begins_by, gives, h264_format, shows_type, told, was_keyframe}
-use Rattle.h26x_payload_h264.proofs.BundleLemmas.{GivesParts, IsBundle, NoHeads}
+use Rattle.h26x_payload_units.proofs.BundleLemmas.{GivesParts, IsBundle, NoHeads}
 
 -- what a packet that gives this does to a run
 pub given-run : (fragment after : Fragment) (extra : CodecExtra) (p written : List ℕ) (qs : List (List ℕ)) → given fragment p ≡ gives written after

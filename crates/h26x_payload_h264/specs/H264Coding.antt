@@ -6,8 +6,8 @@ use Rattle.payload_core_base.specs.Format.{Run, read_all}
 use Rattle.payload_core_base.specs.Law.{AreFull, AreWithin, Coding}
 use Rattle.payload_core_base.specs.Packing.{Sender}
 use Rattle.payload_core_base.specs.declared.extra.CodecExtra.{CodecExtra}
-use Rattle.h26x_payload_h264.specs.Departures.{departures, units_sent}
-use Rattle.h26x_payload_h264.specs.Fragments.{behind_code}
+use Rattle.h26x_payload_units.specs.Departures.{EachUnit, departures, units_sent}
+use Rattle.h26x_payload_units.specs.Fragments.{behind_code}
 use Rattle.h26x_payload_h264.specs.H264Headers.{type_of}
 use Rattle.h26x_payload_h264.specs.H264Packing.{fragments_of, h264_packing, h264_rules, packets_of}
 use Rattle.h26x_payload_h264.specs.H264Reading.{h264_format}
@@ -18,8 +18,7 @@ IsSendable [] = ⊥
 IsSendable (header ∷ body) = (header < 128) × (1 ≤ type_of header) × (type_of header ≤ 23)
 
 abbrev pub AreSendable : List (List ℕ) → Type 0
-AreSendable [] = Unit {0}
-AreSendable (u ∷ us) = IsSendable u × AreSendable us
+AreSendable units = EachUnit IsSendable units
 
 -- The packets that a sample leaves in, and the units that are sent of it.
 abbrev pub packets_sent : Sender → ℕ → List ℕ → List (List ℕ)

@@ -1,11 +1,10 @@
 -- Fragmented H.264 units over any packets (RFC 6184 5.8).
-use Rattle.std.specs.Prelude.{◌≡◌, ◌↔◌, ◌⊎◌, ℕ, Bool, true, false, List, [], ◌∷◌, ◌++◌, None, Ok}
+use Rattle.std.specs.Prelude.{◌≡◌, ℕ, Bool, true, false, List, [], ◌∷◌, ◌++◌, None, Ok}
 use Rattle.payload_core_base.specs.Format.{Reading, Run, read_all}
 use Rattle.payload_core_base.specs.declared.extra.CodecExtra.{CodecExtra}
 use Rattle.h26x_payload_h264.specs.declared.headers.PacketKind.{PacketKind}
 use Rattle.h26x_payload_h264.specs.declared.headers.PacketKind.TheVariants.{Fragment}
-use Rattle.h26x_payload_h264.specs.FragmentRuns.{CompletesUnit, FragmentView}
-use Rattle.h26x_payload_h264.specs.Fragments.{behind_code}
+use Rattle.h26x_payload_units.specs.FragmentRuns.{FragmentView, WritesComplete}
 use Rattle.h26x_payload_h264.specs.H264Headers.{begun_header, has_end, has_start, kind_of}
 use Rattle.h26x_payload_h264.specs.H264Reading.{h264_format}
 
@@ -61,5 +60,4 @@ run_of ps extra = read_all h264_format None extra ps
 abbrev pub FragmentLaw : Type 0
 FragmentLaw = (ps : List (List ℕ)) (last : List ℕ) (extra after : CodecExtra) (reading : Reading) → (run_of ps extra).fault ≡ None → is_fu_a last ≡ true
     → h264_format.read (run_of ps extra).fragment after last ≡ Ok reading
-    → ((unit : List ℕ) → (reading.written ≡ behind_code unit) ↔ CompletesUnit h264_view (ps ++ last ∷ []) unit)
-    × ((reading.written ≡ []) ⊎ ((unit : List ℕ) × (reading.written ≡ behind_code unit)))
+    → WritesComplete h264_view (ps ++ last ∷ []) reading.written

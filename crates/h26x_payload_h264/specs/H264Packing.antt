@@ -6,10 +6,10 @@ use Rattle.payload_core_base.specs.Packing.{Packing, Sender, Sent}
 use Rattle.payload_core_base.specs.Pieces.{pieces}
 use Rattle.payload_core_base.specs.declared.error.PacketError.{PacketError}
 use Rattle.h26x_payload_h264.specs.Aggregates.{sized}
-use Rattle.h26x_payload_h264.specs.Departures.{Departure, Role, Rules, departures, waiting_after}
-use Rattle.h26x_payload_h264.specs.Departures.Departure.{Together, Alone}
-use Rattle.h26x_payload_h264.specs.Departures.Role.{Unsent, Waits, Leaves}
-use Rattle.h26x_payload_h264.specs.Fragments.{in_fragments}
+use Rattle.h26x_payload_units.specs.Departures.{Departure, Role, Rules, departures, waiting_after}
+use Rattle.h26x_payload_units.specs.Departures.Departure.{Together, Alone}
+use Rattle.h26x_payload_units.specs.Departures.Role.{Unsent, Waits, Leaves}
+use Rattle.h26x_payload_units.specs.Fragments.{in_fragments}
 use Rattle.h26x_payload_h264.specs.H264Headers.{type_of}
 
 abbrev pub unit_type : List ℕ → ℕ

@@ -9,7 +9,7 @@ use Rattle.payload_core_base.specs.declared.extra.CodecExtra.TheVariants.{H264}
 use Rattle.h26x_payload_h264.specs.declared.headers.PacketKind.{PacketKind}
 use Rattle.h26x_payload_h264.specs.declared.headers.PacketKind.TheVariants.{Single, Aggregate, Fragment as FragmentKind, Unhandled}
 use Rattle.h26x_payload_h264.specs.Aggregates.{aggregated}
-use Rattle.h26x_payload_h264.specs.Fragments.{behind_code, open_after, put_behind, written_at}
+use Rattle.h26x_payload_units.specs.Fragments.{behind_code, open_after, put_behind, written_at}
 use Rattle.h26x_payload_h264.specs.H264Headers.{begun_header, has_end, has_start, kind_of, type_of}
 
 -- A unit of this type.

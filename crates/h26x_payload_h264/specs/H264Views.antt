@@ -3,7 +3,7 @@ use Rattle.std.specs.Prelude.{ℕ, List, ◌++◌, Option, Some, None, Result, O
 use Rattle.std.specs.List.{flat_map}
 use Rattle.payload_core_base.specs.declared.error.PacketError.{PacketError}
 use Rattle.h26x_payload_h264.specs.Aggregates.{Aggregated}
-use Rattle.h26x_payload_h264.specs.Fragments.{behind_code}
+use Rattle.h26x_payload_units.specs.Fragments.{behind_code}
 
 -- The units of an aggregate without a fault, each behind a start code.
 abbrev pub written_units : List (List ℕ) → Option PacketError → Result (List ℕ) PacketError

@@ -1,7 +1,7 @@
 //! Reading H.264 payloads (RFC 6184 5.6, 5.7.1 and 5.8).
 
 ghost use Rattle.h26x_payload_h264.specs.Aggregates.{aggregated, only_fault, with_first};
-ghost use Rattle.h26x_payload_h264.specs.Fragments.{behind_code, gone_on, open_after, put_behind, written_at};
+ghost use Rattle.h26x_payload_units.specs.Fragments.{behind_code, gone_on, open_after, put_behind, written_at};
 ghost use Rattle.h26x_payload_h264.specs.H264Headers.{begun_header, has_end, has_start};
 ghost use Rattle.h26x_payload_h264.specs.H264Reading.{Adds, given, given_by, given_fragment, gives, h264_format, is_of_type, shows_type, starts_type, was_keyframe};
 ghost use Rattle.h26x_payload_h264.specs.H264Views.{written_before};

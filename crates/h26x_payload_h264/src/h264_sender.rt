@@ -2,8 +2,8 @@
 
 ghost use Rattle.h26x_payload_annexb.specs.Units.{units_of};
 ghost use Rattle.h26x_payload_h264.specs.Aggregates.{sized};
-ghost use Rattle.h26x_payload_h264.specs.Departures.{alone, departing, departures, together, waiting_after, waiting_behind};
-ghost use Rattle.h26x_payload_h264.specs.Departures.Role.{Leaves};
+ghost use Rattle.h26x_payload_units.specs.Departures.{alone, departing, departures, together, waiting_after, waiting_behind};
+ghost use Rattle.h26x_payload_units.specs.Departures.Role.{Leaves};
 ghost use Rattle.h26x_payload_h264.specs.H264Packing.{fragments_of, fu_a, h264_packing, h264_rules, packets_of, role_by, stap_a, unit_type};
 ghost use Rattle.h26x_payload_h264.specs.H264Waiting.{waiting_in};
 ghost use Rattle.std.specs.List.{flat_map};

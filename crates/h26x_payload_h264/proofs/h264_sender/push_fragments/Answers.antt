@@ -4,9 +4,9 @@ use Rattle.std.specs.Slice.Iter.{chunks_rest}
 use Rattle.payload_core_base.specs.Packing.{is_none_left}
 use Rattle.payload_core_base.specs.Pieces.{pieces}
 use Rattle.payload_core_base.proofs.PieceLemmas.{pieces-end, pieces-next}
-use Rattle.h26x_payload_h264.specs.Fragments.{in_fragments}
+use Rattle.h26x_payload_units.specs.Fragments.{in_fragments}
 use Rattle.h26x_payload_h264.specs.H264Packing.{fu_a}
-use Rattle.h26x_payload_h264.proofs.FragmentLemmas.{none_left-pieces}
+use Rattle.h26x_payload_units.proofs.FragmentLemmas.{none_left-pieces}
 use Rattle.h26x_payload_h264.proofs.h264_sender.push_fragments.Goals as goal
 
 pub overflow_sub-left : goal.overflow_sub-left

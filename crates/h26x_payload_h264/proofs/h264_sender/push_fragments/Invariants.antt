@@ -1,7 +1,7 @@
 use Rattle.std.proofs.Common.{◌≡◌, ◌-◌, ◌++◌, map, length}
 use Rattle.std.specs.Slice.Iter.{chunks_rest, chunks_size}
 use Rattle.payload_core_base.specs.Pieces.{pieces}
-use Rattle.h26x_payload_h264.specs.Fragments.{in_fragments}
+use Rattle.h26x_payload_units.specs.Fragments.{in_fragments}
 use Rattle.h26x_payload_h264.specs.H264Packing.{fragments_of, fu_a}
 use Rattle.h26x_payload_h264.proofs.h264_sender.push_fragments.Given as goal
 

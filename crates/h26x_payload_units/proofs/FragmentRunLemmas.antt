@@ -1,12 +1,12 @@
 -- What fragments leave open, and what they complete.
-use Rattle.std.proofs.Common.{◌≡◌, ℕ, Bool, true, false, List, [], ◌∷◌, ◌++◌, ◌⊎◌, ◌↔◌, inl, inr, length, drop, None, Some, refl, sym, ap, subst, ◌∙◌, append_assoc, arith}
+use Rattle.std.proofs.Common.{◌≡◌, ℕ, Bool, true, false, List, [], ◌∷◌, ◌++◌, ◌⊎◌, inl, inr, length, drop, None, Some, refl, sym, ap, subst, ◌∙◌, append_assoc, arith}
 use mathlib.Core.Bool.{false≢true}
 use Rattle.std.specs.List.{flat_map}
 use Rattle.std.proofs.lemmas.List.{append-nil, length-append, same_from_push}
 use Rattle.std.proofs.lemmas.List.Concat.{flat_map-append}
 use Rattle.payload_core_base.specs.Format.{Fragment}
-use Rattle.h26x_payload_h264.specs.FragmentRuns.{CompletesUnit, FragmentView, HaveNoEnd, HaveNoStart, LastAloneEnds, LeavesOpen, unit_in}
-use Rattle.h26x_payload_h264.specs.Fragments.{behind_code, gone_on, open_after, put_behind, written_at}
+use Rattle.h26x_payload_units.specs.FragmentRuns.{CompletesUnit, FragmentView, FragmentsLaw, HaveNoEnd, HaveNoStart, LastAloneEnds, LeavesOpen, WritesComplete, open_behind, open_behind_all, unit_in}
+use Rattle.h26x_payload_units.specs.Fragments.{behind_code, gone_on, open_after, put_behind, written_at}
 
 last_of : (ps : List (List ℕ)) → (ps ≡ []) ⊎ ((qs : List (List ℕ)) × ((q : List ℕ) × (ps ≡ qs ++ q ∷ [])))
 last_of [] = inl refl
@@ -188,17 +188,13 @@ module _ (view : FragmentView) where
   tracks-step h p f true false s_is e_is t = begins h p f s_is e_is
   tracks-step h p f false false s_is e_is t = goes_on h p f t s_is e_is
 
-  -- a unit is written exactly where it is complete
-  abbrev pub IsWritten : List (List ℕ) → List ℕ → Type 0
-  IsWritten ps written = ((unit : List ℕ) → (written ≡ behind_code unit) ↔ CompletesUnit view ps unit) × ((written ≡ []) ⊎ ((unit : List ℕ) × (written ≡ behind_code unit)))
-
   code_is : (u w : List ℕ) → behind_code u ≡ behind_code w → u ≡ w
   code_is u w e = ap (drop 4) e
 
   nothing_written : {A : Type 0} → (u : List ℕ) → [] ≡ behind_code u → A
   nothing_written u e = absurd (omega (arith, ap length e))
 
-  none_completed : (h : List (List ℕ)) (p : List ℕ) → ((u : List ℕ) → CompletesUnit view (h ++ p ∷ []) u → ⊥) → IsWritten (h ++ p ∷ []) []
+  none_completed : (h : List (List ℕ)) (p : List ℕ) → ((u : List ℕ) → CompletesUnit view (h ++ p ∷ []) u → ⊥) → WritesComplete view (h ++ p ∷ []) []
   none_completed h p refuted = ((λ u. ((λ e. nothing_written u e), (λ c. absurd (refuted u c)))), inl refl)
 
   completes_none : (h : List (List ℕ)) (p : List ℕ) → view.ends p ≡ false → (u : List ℕ) → CompletesUnit view (h ++ p ∷ []) u → ⊥
@@ -211,7 +207,7 @@ module _ (view : FragmentView) where
         never (view.ends p) (last_ends (c.start ∷ behind.others) p (subst L behind.later_is c.last_alone_ends)).1 no_end
   ]
 
-  starts_and_ends : (h : List (List ℕ)) (p : List ℕ) → view.starts p ≡ true → view.ends p ≡ true → IsWritten (h ++ p ∷ []) (behind_code (view.header p ++ view.part p))
+  starts_and_ends : (h : List (List ℕ)) (p : List ℕ) → view.starts p ≡ true → view.ends p ≡ true → WritesComplete view (h ++ p ∷ []) (behind_code (view.header p ++ view.part p))
   starts_and_ends h p s e = (
     (λ u. (
       (λ w. record {
@@ -248,7 +244,7 @@ module _ (view : FragmentView) where
         unit_is = refl;
       }
 
-  ends_open : (h : List (List ℕ)) (p : List ℕ) (f : Fragment) → Tracks h f → view.starts p ≡ false → view.ends p ≡ true → IsWritten (h ++ p ∷ []) (written_at true (gone_on f (view.part p)))
+  ends_open : (h : List (List ℕ)) (p : List ℕ) (f : Fragment) → Tracks h f → view.starts p ≡ false → view.ends p ≡ true → WritesComplete view (h ++ p ∷ []) (written_at true (gone_on f (view.part p)))
   ends_open h p None t no_start e = none_completed h p (λ u c. elim (split_last h c.before c.later p c.start c.put_together) [
     | inl itself ↦ never (view.starts p) (ap view.starts (sym itself.same_start) ∙ c.is_start) no_start
     | inr behind ↦ none_is_not (behind_code (unit_in view c.start behind.others)) (t.complete (behind_code (unit_in view c.start behind.others)) (was_open h p u c behind))
@@ -278,7 +274,16 @@ module _ (view : FragmentView) where
         inr (unit_in view l.start (l.later ++ p ∷ []), whole),
       )
 
-  pub written-complete : (h : List (List ℕ)) (p : List ℕ) (f : Fragment) (s e : Bool) → view.starts p ≡ s → view.ends p ≡ e → Tracks h f → IsWritten (h ++ p ∷ []) (written_at e (put_behind s (view.header p) (view.part p) f))
+  pub written-complete : (h : List (List ℕ)) (p : List ℕ) (f : Fragment) (s e : Bool) → view.starts p ≡ s → view.ends p ≡ e → Tracks h f → WritesComplete view (h ++ p ∷ []) (written_at e (put_behind s (view.header p) (view.part p) f))
   written-complete h p f s false s_is e_is t = none_completed h p (completes_none h p e_is)
   written-complete h p f true true s_is e_is t = starts_and_ends h p s_is e_is
   written-complete h p f false true s_is e_is t = ends_open h p f t s_is e_is
+
+tracks_all : (view : FragmentView) (ps h : List (List ℕ)) (f : Fragment) → Tracks view h f → Tracks view (h ++ ps) (open_behind_all view ps f)
+tracks_all view [] h f t = let T : List (List ℕ) → Type 0 = λ hs. Tracks view hs f in subst T (sym (append-nil h)) t
+tracks_all view (p ∷ ps) h f t =
+    let T : List (List ℕ) → Type 0 = λ hs. Tracks view hs (open_behind_all view ps (open_behind view p f)) in
+    subst T (append_assoc h (p ∷ []) ps) (tracks_all view ps (h ++ p ∷ []) (open_behind view p f) (tracks-step view h p f (view.starts p) (view.ends p) refl refl t))
+
+pub fragments_law : FragmentsLaw
+fragments_law view ps last = written-complete view ps last (open_behind_all view ps None) (view.starts last) (view.ends last) refl refl (tracks_all view ps [] None (tracks-none view))

@@ -81,3 +81,8 @@ units_in (Alone unit) = unit ∷ []
 -- The units that are sent of units, with the sets that waited before them.
 abbrev pub units_sent : Rules → ℕ → Waiting → List (List ℕ) → List (List ℕ)
 units_sent rules limit ws us = flat_map units_in (departures rules limit ws us)
+
+-- Units that are all so.
+abbrev pub EachUnit : (List ℕ → Type 0) → List (List ℕ) → Type 0
+EachUnit IsSo [] = Unit {0}
+EachUnit IsSo (u ∷ us) = IsSo u × EachUnit IsSo us
