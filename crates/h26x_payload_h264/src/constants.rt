@@ -47,6 +47,3 @@ pub const FU_END_BITMASK: u8 = 0x40;
 
 /// The first byte of the STAP-A packets that are sent: NRI 3 and type 24.
 pub const OUTPUT_STAP_AHEADER: u8 = 0x78;
-
-/// The start code that each unit is written behind (ITU-T H.264 annex B).
-pub const ANNEXB_NALUSTART_CODE: [u8; 4] = [0, 0, 0, 1];

@@ -1,15 +1,14 @@
 //! Reading H.264 payloads (RFC 6184 5.6, 5.7.1 and 5.8).
 
 ghost use Rattle.h26x_payload_h264.specs.Aggregates.{aggregated, only_fault, with_first};
-ghost use Rattle.h26x_payload_units.specs.Fragments.{behind_code, gone_on, open_after, put_behind, written_at};
-ghost use Rattle.h26x_payload_h264.specs.H264Headers.{begun_header, has_end, has_start};
-ghost use Rattle.h26x_payload_h264.specs.H264Reading.{Adds, given, given_by, given_fragment, gives, h264_format, is_of_type, shows_type, starts_type, was_keyframe};
+ghost use Rattle.h26x_payload_h264.specs.H264Reading.{Adds, given, given_by, given_fragment, h264_format, is_of_type, shows_type, starts_type, was_keyframe};
 ghost use Rattle.h26x_payload_h264.specs.H264Views.{written_before};
 ghost use Rattle.std.specs.List.{list_any};
-ghost use Rattle.std.specs.Prelude.{[], ◌∷◌, ◌≡◌, ◌≢◌, ◌++◌, ◌<◌, IfErr, IfOk, None, OnErr, OnOk, Some, length, option_map, true, Ok, Err};
+ghost use Rattle.std.specs.Prelude.{[], ◌≡◌, ◌≢◌, ◌<◌, Err, IfErr, IfOk, None, Ok, OnErr, OnOk, Some, length};
 
-use crate::constants::{ANNEXB_NALUSTART_CODE, IDR_NALU_TYPE};
+use crate::constants::IDR_NALU_TYPE;
 use crate::headers::{PacketKind, begun_header, has_end, has_start, kind_of, type_of};
+use h26x_payload_units::{OpenUnit, push_unit};
 use payload_core_base::{CodecExtra, Depacketizer, H264CodecExtra, PacketError};
 use std::alloc::Global;
 
@@ -18,23 +17,7 @@ use std::alloc::Global;
 #[derive(Drop)]
 pub struct H264Depacketizer {
     alloc: Global,
-    // The unit that has begun and not ended, behind its start code.
-    fragment: Option<Vec<u8>>,
-}
-
-// Writes a unit behind its start code.
-fn push_unit(unit: &[u8], out: &mut Vec<u8>) -> Result<(), PacketError>
-    ensures written { OnOk result (out.new.items ≡ out.old.items ++ behind_code unit.now) }
-    ensures unchanged { OnErr result (out.new.items ≡ out.old.items) }
-    ensures memory { IfErr result (λ e. e ≡ PacketError.Memory) }
-{
-    let len = out.len();
-    out.extend_from_slice(&ANNEXB_NALUSTART_CODE)?;
-    if let Err(e) = out.extend_from_slice(unit) {
-        out.truncate(len);
-        return Err(PacketError::from(e));
-    }
-    Ok(())
+    unit: OpenUnit,
 }
 
 // The first unit of an aggregate that is not empty, behind its size, and what stands behind it.
@@ -144,82 +127,24 @@ fn was_keyframe(extra: &CodecExtra) -> bool
     }
 }
 
-// A unit that begins with this header, behind its start code.
-fn begun(alloc: Global, header: u8, body: &[u8]) -> Result<Vec<u8>, PacketError>
-    ensures begun { IfOk result (λ v. v.items ≡ behind_code (header ∷ body.now)) }
-    ensures memory { IfErr result (λ e. e ≡ PacketError.Memory) }
-{
-    let mut unit = Vec::from_slice(alloc, &ANNEXB_NALUSTART_CODE)?;
-    unit.push(header)?;
-    unit.extend_from_slice(body)?;
-    Ok(unit)
-}
-
 impl H264Depacketizer {
     /// A depacketizer without an open fragment, which takes memory from `alloc` for the one that it keeps.
     pub fn new(alloc: Global) -> Self
-        ensures { option_map (λ v. v.items) result.fragment ≡ None }
+        ensures { result.unit ≡ None }
     {
         H264Depacketizer {
             alloc,
-            fragment: None,
+            unit: OpenUnit::new(alloc),
         }
-    }
-
-    // A fragment that begins a unit.
-    fn start(
-        &mut self,
-        header: u8,
-        is_end: bool,
-        body: &[u8],
-        out: &mut Vec<u8>,
-    ) -> Result<(), PacketError>
-        ensures given { let after = put_behind true (header ∷ []) body.now None in
-            OnOk result (Adds (gives (written_at is_end after) (open_after is_end after)) out.old.items out.new.items (option_map (λ v. v.items) self.new.fragment)) }
-        ensures unchanged { OnErr result ((option_map (λ v. v.items) self.new.fragment ≡ option_map (λ v. v.items) self.old.fragment) × (out.new.items ≡ out.old.items)) }
-        ensures memory { IfErr result (λ e. e ≡ PacketError.Memory) }
-    {
-        let unit = begun(self.alloc, header, body)?;
-        if is_end {
-            out.extend_from_slice(&unit)?;
-            self.fragment = None;
-            return Ok(());
-        }
-        self.fragment = Some(unit);
-        Ok(())
-    }
-
-    // A fragment that goes on with a unit.
-    fn go_on(&mut self, is_end: bool, body: &[u8], out: &mut Vec<u8>) -> Result<(), PacketError>
-        ensures given { let after = gone_on (option_map (λ v. v.items) self.old.fragment) body.now in
-            OnOk result (Adds (gives (written_at is_end after) (open_after is_end after)) out.old.items out.new.items (option_map (λ v. v.items) self.new.fragment)) }
-        ensures unchanged { OnErr result ((option_map (λ v. v.items) self.new.fragment ≡ option_map (λ v. v.items) self.old.fragment) × (out.new.items ≡ out.old.items)) }
-        ensures memory { IfErr result (λ e. e ≡ PacketError.Memory) }
-    {
-        let Some(unit) = &mut self.fragment else {
-            return Ok(());
-        };
-        if !is_end {
-            unit.extend_from_slice(body)?;
-            return Ok(());
-        }
-        let len = out.len();
-        out.extend_from_slice(unit)?;
-        if let Err(e) = out.extend_from_slice(body) {
-            out.truncate(len);
-            return Err(PacketError::from(e));
-        }
-        self.fragment = None;
-        Ok(())
     }
 
     // What a packet gives.
     fn give(&mut self, packet: &[u8], out: &mut Vec<u8>) -> Result<(), PacketError>
-        ensures given { let given = given (option_map (λ v. v.items) self.old.fragment) packet.now in
-            OnOk result (Adds given out.old.items out.new.items (option_map (λ v. v.items) self.new.fragment)) }
-        ensures refused { let given = given (option_map (λ v. v.items) self.old.fragment) packet.now in
+        ensures given { let given = given self.old.unit packet.now in
+            OnOk result (Adds given out.old.items out.new.items self.new.unit) }
+        ensures refused { let given = given self.old.unit packet.now in
             IfErr result (λ e. e ≢ PacketError.Memory → given ≡ Err e) }
-        ensures unchanged { OnErr result ((option_map (λ v. v.items) self.new.fragment ≡ option_map (λ v. v.items) self.old.fragment) × (out.new.items ≡ out.old.items)) }
+        ensures unchanged { OnErr result ((self.new.unit ≡ self.old.unit) × (out.new.items ≡ out.old.items)) }
     {
         let Some((first, body)) = packet.split_first() else {
             return Err(PacketError::ErrShortPacket);
@@ -234,11 +159,11 @@ impl H264Depacketizer {
 
     // What an aggregate gives.
     fn give_units(&mut self, body: &[u8], out: &mut Vec<u8>) -> Result<(), PacketError>
-        ensures given { let given = given_by PacketKind.Aggregate (option_map (λ v. v.items) self.old.fragment) 0 body.now in
-            OnOk result (Adds given out.old.items out.new.items (option_map (λ v. v.items) self.new.fragment)) }
-        ensures refused { let given = given_by PacketKind.Aggregate (option_map (λ v. v.items) self.old.fragment) 0 body.now in
+        ensures given { let given = given_by PacketKind.Aggregate self.old.unit 0 body.now in
+            OnOk result (Adds given out.old.items out.new.items self.new.unit) }
+        ensures refused { let given = given_by PacketKind.Aggregate self.old.unit 0 body.now in
             IfErr result (λ e. e ≢ PacketError.Memory → given ≡ Err e) }
-        ensures unchanged { OnErr result ((option_map (λ v. v.items) self.new.fragment ≡ option_map (λ v. v.items) self.old.fragment) × (out.new.items ≡ out.old.items)) }
+        ensures unchanged { OnErr result ((self.new.unit ≡ self.old.unit) × (out.new.items ≡ out.old.items)) }
     {
         let units = match units_of(self.alloc, body) {
             Ok(units) => units,
@@ -255,26 +180,25 @@ impl H264Depacketizer {
         body: &[u8],
         out: &mut Vec<u8>,
     ) -> Result<(), PacketError>
-        ensures given { let given = given_fragment (option_map (λ v. v.items) self.old.fragment) first body.now in
-            OnOk result (Adds given out.old.items out.new.items (option_map (λ v. v.items) self.new.fragment)) }
-        ensures refused { let given = given_fragment (option_map (λ v. v.items) self.old.fragment) first body.now in
+        ensures given { let given = given_fragment self.old.unit first body.now in
+            OnOk result (Adds given out.old.items out.new.items self.new.unit) }
+        ensures refused { let given = given_fragment self.old.unit first body.now in
             IfErr result (λ e. e ≢ PacketError.Memory → given ≡ Err e) }
-        ensures unchanged { OnErr result ((option_map (λ v. v.items) self.new.fragment ≡ option_map (λ v. v.items) self.old.fragment) × (out.new.items ≡ out.old.items)) }
+        ensures unchanged { OnErr result ((self.new.unit ≡ self.old.unit) × (out.new.items ≡ out.old.items)) }
     {
         let Some((fu, body)) = body.split_first() else {
             return Err(PacketError::ErrShortPacket);
         };
-        if has_start(*fu) {
-            return self.start(begun_header(first, *fu), has_end(*fu), body, out);
-        }
-        self.go_on(has_end(*fu), body, out)
+        let header = [begun_header(first, *fu)];
+        self.unit
+            .put(has_start(*fu), has_end(*fu), &header, body, out)
     }
 }
 
 impl Depacketizer for H264Depacketizer {
     ghost format = { λ _. h264_format };
 
-    ghost fragment = { λ d. option_map (λ v. v.items) d.fragment };
+    ghost fragment = { λ d. d.unit };
 
     fn depacketize(
         &mut self,

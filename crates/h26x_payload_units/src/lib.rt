@@ -4,5 +4,7 @@
 #![tactic(auto)]
 
 mod laws;
+mod open_unit;
 
 pub use laws::fragments_law;
+pub use open_unit::{ANNEXB_NALUSTART_CODE, OpenUnit, push_unit};
