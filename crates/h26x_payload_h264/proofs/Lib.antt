@@ -1,0 +1,6 @@
+pub mod AggregateLemmas
+pub mod DepartureLemmas
+pub mod H264RunLaw
+pub mod H264Law
+pub mod H264FragmentLaw
+pub mod AggregateLaw

@@ -1,0 +1,63 @@
+-- Fragmented H.264 units over any packets (RFC 6184 5.8).
+use Rattle.std.specs.Prelude.{◌≡◌, ℕ, Bool, true, false, List, [], ◌∷◌, ◌++◌, None, Ok}
+use Rattle.payload_core_base.specs.Format.{Reading, Run, read_all}
+use Rattle.payload_core_base.specs.declared.extra.CodecExtra.{CodecExtra}
+use Rattle.h26x_payload_h264.specs.declared.headers.PacketKind.{PacketKind}
+use Rattle.h26x_payload_h264.specs.declared.headers.PacketKind.TheVariants.{Fragment}
+use Rattle.h26x_payload_units.specs.FragmentRuns.{FragmentView, WritesComplete}
+use Rattle.h26x_payload_h264.specs.H264Headers.{begun_header, has_end, has_start, kind_of}
+use Rattle.h26x_payload_h264.specs.H264Reading.{h264_format}
+
+abbrev pub is_fragment_kind : PacketKind → Bool
+is_fragment_kind Fragment = true
+is_fragment_kind _ = false
+
+abbrev pub is_fu_a : List ℕ → Bool
+is_fu_a [] = false
+is_fu_a (first ∷ body) = is_fragment_kind (kind_of first)
+
+abbrev pub starts_by : PacketKind → List ℕ → Bool
+starts_by Fragment (fu ∷ part) = has_start fu
+starts_by _ body = false
+
+abbrev pub ends_by : PacketKind → List ℕ → Bool
+ends_by Fragment (fu ∷ part) = has_end fu
+ends_by _ body = false
+
+abbrev pub header_by : PacketKind → ℕ → List ℕ → List ℕ
+header_by Fragment first (fu ∷ part) = begun_header first fu ∷ []
+header_by _ first body = []
+
+abbrev pub part_by : PacketKind → List ℕ → List ℕ
+part_by Fragment (fu ∷ part) = part
+part_by _ body = []
+
+abbrev pub starts_unit : List ℕ → Bool
+starts_unit [] = false
+starts_unit (first ∷ body) = starts_by (kind_of first) body
+
+abbrev pub ends_unit : List ℕ → Bool
+ends_unit [] = false
+ends_unit (first ∷ body) = ends_by (kind_of first) body
+
+abbrev pub header_of : List ℕ → List ℕ
+header_of [] = []
+header_of (first ∷ body) = header_by (kind_of first) first body
+
+abbrev pub part_of : List ℕ → List ℕ
+part_of [] = []
+part_of (first ∷ body) = part_by (kind_of first) body
+
+-- S and E of an FU-A, the header of the unit that it begins, and its part. Other packets are no fragments.
+abbrev pub h264_view : FragmentView
+h264_view = record { starts = starts_unit; ends = ends_unit; header = header_of; part = part_of }
+
+-- What is read of these packets, from no open fragment.
+abbrev pub run_of : List (List ℕ) → CodecExtra → Run
+run_of ps extra = read_all h264_format None extra ps
+
+-- Behind packets without a refusal an accepted FU-A writes a unit, behind a start code, exactly where it completes that unit, and otherwise nothing.
+abbrev pub FragmentLaw : Type 0
+FragmentLaw = (ps : List (List ℕ)) (last : List ℕ) (extra after : CodecExtra) (reading : Reading) → (run_of ps extra).fault ≡ None → is_fu_a last ≡ true
+    → h264_format.read (run_of ps extra).fragment after last ≡ Ok reading
+    → WritesComplete h264_view (ps ++ last ∷ []) reading.written

@@ -1,0 +1,9 @@
+pub mod H264Headers
+pub mod Aggregates
+pub mod H264Reading
+pub mod H264Views
+pub mod H264Packing
+pub mod H264Waiting
+pub mod H264Coding
+pub mod H264Fragments
+pub mod AggregateLayout

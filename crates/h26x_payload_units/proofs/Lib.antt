@@ -1,0 +1,4 @@
+pub mod BundleLemmas
+pub mod DepartureLemmas
+pub mod FragmentLemmas
+pub mod FragmentRunLemmas

@@ -1,0 +1,3 @@
+pub mod Departures
+pub mod FragmentRuns
+pub mod Fragments

@@ -1,0 +1,10 @@
+//! Rules that the payload formats of H.264, H.265 and H.266 share, and what holds of them: which units of samples
+//! leave and which wait, how a unit is cut into fragments, and which units fragments give (RFC 6184, RFC 7798, RFC
+//! 9328).
+#![tactic(auto)]
+
+mod laws;
+mod open_unit;
+
+pub use laws::fragments_law;
+pub use open_unit::{ANNEXB_NALUSTART_CODE, OpenUnit, push_unit};

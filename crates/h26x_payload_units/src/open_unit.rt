@@ -1,0 +1,132 @@
+//! Units that are put together from fragments, and the start code that each unit is written behind.
+
+ghost use Rattle.h26x_payload_units.specs.Fragments.{behind_code, gone_on, open_after, put_behind, written_at};
+ghost use Rattle.std.specs.Prelude.{◌++◌, ◌≡◌, IfErr, IfOk, None, OnErr, OnOk, true};
+
+use payload_core_base::PacketError;
+use std::alloc::Global;
+use std::marker::Model;
+
+/// The start code that each unit is written behind (ITU-T H.264 annex B).
+pub const ANNEXB_NALUSTART_CODE: [u8; 4] = [0, 0, 0, 1];
+
+/// Writes a unit behind its start code. Where memory is wanting, `out` is as it was.
+pub fn push_unit(unit: &[u8], out: &mut Vec<u8>) -> Result<(), PacketError>
+    ensures written { OnOk result (out.new.items ≡ out.old.items ++ behind_code unit.now) }
+    ensures unchanged { OnErr result (out.new.items ≡ out.old.items) }
+    ensures memory { IfErr result (λ e. e ≡ PacketError.Memory) }
+{
+    let len = out.len();
+    out.extend_from_slice(&ANNEXB_NALUSTART_CODE)?;
+    if let Err(e) = out.extend_from_slice(unit) {
+        out.truncate(len);
+        return Err(PacketError::from(e));
+    }
+    Ok(())
+}
+
+// A unit that begins with this header, behind its start code.
+fn begun(alloc: Global, header: &[u8], part: &[u8]) -> Result<Vec<u8>, PacketError>
+    ensures begun { IfOk result (λ v. v.items ≡ behind_code (header.now ++ part.now)) }
+    ensures memory { IfErr result (λ e. e ≡ PacketError.Memory) }
+{
+    let mut unit = Vec::from_slice(alloc, &ANNEXB_NALUSTART_CODE)?;
+    unit.extend_from_slice(header)?;
+    unit.extend_from_slice(part)?;
+    Ok(unit)
+}
+
+/// A unit that has begun in a fragment and has not ended, if there is one.
+#[derive(Drop)]
+pub struct OpenUnit {
+    alloc: Global,
+    // The unit's bytes so far, behind its start code.
+    bytes: Option<Vec<u8>>,
+}
+
+impl Model for OpenUnit {
+    ghost use Rattle.payload_core_base.specs.Format.{Fragment};
+    ghost use Rattle.std.specs.Prelude.{option_map};
+
+    ghost Value = { Fragment };
+
+    ghost view = { λ u. option_map (λ v. v.items) u.bytes };
+}
+
+impl OpenUnit {
+    /// None, which takes memory from `alloc` for the one that it will keep.
+    pub fn new(alloc: Global) -> Self
+        ensures { result ≡ None }
+    {
+        OpenUnit { alloc, bytes: None }
+    }
+
+    /// Takes a fragment: with `is_start` it begins a unit with this header, whatever was open; else it goes on with
+    /// the open one, and is passed over where none is. With `is_end` the unit is then written behind its start code,
+    /// and none is open. Where memory is wanting, the open unit and `out` are as they were.
+    pub fn put(
+        &mut self,
+        is_start: bool,
+        is_end: bool,
+        header: &[u8],
+        part: &[u8],
+        out: &mut Vec<u8>,
+    ) -> Result<(), PacketError>
+        ensures written { OnOk result (out.new.items ≡ out.old.items ++ written_at is_end (put_behind is_start header.now part.now self.old)) }
+        ensures open_unit { OnOk result (self.new ≡ open_after is_end (put_behind is_start header.now part.now self.old)) }
+        ensures unchanged { OnErr result ((self.new ≡ self.old) × (out.new.items ≡ out.old.items)) }
+        ensures memory { IfErr result (λ e. e ≡ PacketError.Memory) }
+    {
+        if is_start {
+            return self.start(is_end, header, part, out);
+        }
+        self.go_on(is_end, part, out)
+    }
+
+    // A fragment that begins a unit.
+    fn start(
+        &mut self,
+        is_end: bool,
+        header: &[u8],
+        part: &[u8],
+        out: &mut Vec<u8>,
+    ) -> Result<(), PacketError>
+        ensures written { OnOk result (out.new.items ≡ out.old.items ++ written_at is_end (put_behind true header.now part.now None)) }
+        ensures open_unit { OnOk result (self.new ≡ open_after is_end (put_behind true header.now part.now None)) }
+        ensures unchanged { OnErr result ((self.new ≡ self.old) × (out.new.items ≡ out.old.items)) }
+        ensures memory { IfErr result (λ e. e ≡ PacketError.Memory) }
+    {
+        let unit = begun(self.alloc, header, part)?;
+        if is_end {
+            out.extend_from_slice(&unit)?;
+            self.bytes = None;
+            return Ok(());
+        }
+        self.bytes = Some(unit);
+        Ok(())
+    }
+
+    // A fragment that goes on with a unit.
+    fn go_on(&mut self, is_end: bool, part: &[u8], out: &mut Vec<u8>) -> Result<(), PacketError>
+        ensures written { OnOk result (out.new.items ≡ out.old.items ++ written_at is_end (gone_on self.old part.now)) }
+        ensures open_unit { OnOk result (self.new ≡ open_after is_end (gone_on self.old part.now)) }
+        ensures unchanged { OnErr result ((self.new ≡ self.old) × (out.new.items ≡ out.old.items)) }
+        ensures memory { IfErr result (λ e. e ≡ PacketError.Memory) }
+    {
+        let Some(unit) = &mut self.bytes else {
+            return Ok(());
+        };
+        if !is_end {
+            unit.extend_from_slice(part)?;
+            return Ok(());
+        }
+        let len = out.len();
+        out.extend_from_slice(unit)?;
+        if let Err(e) = out.extend_from_slice(part) {
+            out.truncate(len);
+            return Err(PacketError::from(e));
+        }
+        self.bytes = None;
+        Ok(())
+    }
+}
