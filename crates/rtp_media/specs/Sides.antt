@@ -63,7 +63,7 @@ ConnectsEnds (Some a) (Some b) c (Some after_a) (Some after_b) replies = Answers
 ConnectsEnds a b c after_a after_b replies = (after_a ≡ a) × (after_b ≡ b) × Prints replies reply.ErrorLine
 
 -- What the program does at a command.
-abbrev pub Gives : Ends → Command → Ends → List Reply → Type 0
+unfoldable pub Gives : Ends → Command → Ends → List Reply → Type 0
 Gives old (Connect c) new replies =
     ConnectsEnds old.a.end old.b.end c new.a.end new.b.end replies × KeepsDraft old.a new.a × KeepsDraft old.b new.b
 Gives old command new replies = IsAnsweredAt (side_of command) old command new replies

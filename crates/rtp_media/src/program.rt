@@ -81,6 +81,7 @@ impl Respond for Program {
 
     ghost gives = { Gives };
 
+    #[tactic(auto, unfolding(crate::specs::Sides::Gives))]
     fn respond(&mut self, alloc: Global, command: Command) -> Result<Vec<Reply>, AllocError> {
         match command {
             Command::Connect(command) => connect_desks(alloc, &mut self.a, &mut self.b, command),

@@ -65,11 +65,11 @@ receiver_refusal_in own None receivers ssrc pt = Some NoSection
 receiver_refusal_in own (Some a) receivers ssrc pt = refusal_by (a.row.pt == pt) (own_row_agrees own a.row) a.receives (is_named a.remote_ssrcs ssrc) (list_any (λ r. is_own r ssrc pt) receivers)
 
 -- Why `open_sender` is refused, want of memory aside.
-abbrev pub refusal_of_open_sender : EndState → List ℕ → ℕ → ℕ → Option OpenError
+unfoldable pub refusal_of_open_sender : EndState → List ℕ → ℕ → ℕ → Option OpenError
 refusal_of_open_sender e mid ssrc pt = sender_refusal_in e.exchange.row (section_of e.exchange.agreed mid) e.senders ssrc pt
 
 -- Why `open_receiver` is refused, want of memory aside.
-abbrev pub refusal_of_open_receiver : EndState → List ℕ → ℕ → ℕ → Option OpenError
+unfoldable pub refusal_of_open_receiver : EndState → List ℕ → ℕ → ℕ → Option OpenError
 refusal_of_open_receiver e mid ssrc pt = receiver_refusal_in e.exchange.row (section_of e.exchange.agreed mid) e.receivers ssrc pt
 
 -- the clock rate of a row's timestamps
@@ -82,12 +82,12 @@ abbrev pub stream_map : EndState → List ℕ → Numbering
 stream_map e mid = unwrap_or (agreed_map_of e.exchange.agreed mid) empty_map
 
 -- the end with a sending stream more, which sends the agreed row under the agreed map
-abbrev pub after_open_sender : EndState → List ℕ → ℕ → ℕ → StreamParams → EndState
+unfoldable pub after_open_sender : EndState → List ℕ → ℕ → ℕ → StreamParams → EndState
 after_open_sender e mid ssrc pt params =
     with_new_sender e (opened_sender ssrc pt (stream_map e mid) (rate_of (agreed_row_of e.exchange.agreed mid pt)) params.first params.mtu params.limit)
 
 -- the end with a receiving stream more, which reads under the agreed map
-abbrev pub after_open_receiver : EndState → List ℕ → ℕ → ℕ → ℕ → EndState
+unfoldable pub after_open_receiver : EndState → List ℕ → ℕ → ℕ → ℕ → EndState
 after_open_receiver e mid ssrc pt hold_back = with_new_receiver e (opened_receiver ssrc pt (stream_map e mid) hold_back)
 
 -- A fixed end without streams.

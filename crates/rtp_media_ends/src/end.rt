@@ -115,6 +115,7 @@ impl End {
     /// is missing, not locked, or means something else), `WrongDirection`, `SsrcNotNamed` (the
     /// section of this end doesn't name the SSRC) and `AlreadyOpen`; or `Memory`. The end is then
     /// unchanged.
+    #[tactic(auto, unfolding(crate::specs::Ends::after_open_sender))]
     pub fn open_sender(
         &mut self,
         mid: Mid,
@@ -152,6 +153,7 @@ impl End {
     /// # Errors
     /// As [`End::open_sender`]; `SsrcNotNamed` where the section of the other end doesn't name the
     /// SSRC.
+    #[tactic(auto, unfolding(crate::specs::Ends::after_open_receiver))]
     pub fn open_receiver(
         &mut self,
         mid: Mid,
@@ -267,6 +269,7 @@ impl End {
     }
 
     /// The row that a new sending stream sends, or why there is none.
+    #[tactic(auto, unfolding(crate::specs::Ends::refusal_of_open_sender))]
     fn sender_row(&self, mid: Mid, ssrc: Ssrc, pt: Pt) -> Result<PayloadParams, OpenError>
         ensures row { IfOk result (λ r. agreed_row_of self.now.exchange.agreed mid pt ≡ Some r) }
         ensures typed { OnOk result (pt < 128) }
@@ -287,6 +290,7 @@ impl End {
     }
 
     /// The row that a new receiving stream takes, or why there is none.
+    #[tactic(auto, unfolding(crate::specs::Ends::refusal_of_open_receiver))]
     fn receiver_row(&self, mid: Mid, ssrc: Ssrc, pt: Pt) -> Result<PayloadParams, OpenError>
         ensures row { IfOk result (λ r. agreed_row_of self.now.exchange.agreed mid pt ≡ Some r) }
         ensures opens { OnOk result (refusal_of_open_receiver self.now mid ssrc pt ≡ None) }

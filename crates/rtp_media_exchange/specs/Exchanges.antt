@@ -23,7 +23,7 @@ abbrev pub fresh : ℕ → Numbering → Option Row → Exchanged
 fresh session wanted row = record { session = session; wanted = wanted; row = row; pending = None; agreed = None }
 
 -- an end that has agreed as if by an exchange
-abbrev pub fixed : Exchanged
+unfoldable pub fixed : Exchanged
 fixed = record {
   session = 0;
   wanted = empty_map;

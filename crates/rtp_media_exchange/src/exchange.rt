@@ -80,6 +80,7 @@ impl Exchange {
     ///
     /// # Errors
     /// `AllocError` where memory is wanting.
+    #[tactic(auto, unfolding(crate::specs::Exchanges::fixed))]
     pub fn fixed(alloc: Global) -> Result<Self, AllocError>
         ensures { IfOk result (λ x. x ≡ fixed) }
     {

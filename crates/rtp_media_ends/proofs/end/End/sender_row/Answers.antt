@@ -7,6 +7,7 @@ use Rattle.rtp_media_ends.proofs.Openings.{sender-refusal}
 use Rattle.rtp_media_ends.proofs.end.End.sender_row.Goals as goal
 
 pub returns-clause-refused : goal.returns-clause-refused
+unfolding refusal_of_open_sender
 returns-clause-refused c =
     let e : refusal_of_open_sender c.args.self.now c.args.mid c.args.ssrc c.args.pt ≡ refusal_by (is_some c.row_of-row.result) c.agrees_with-agrees.result c.is_sending.result c.names_own.result c.is_sending-is_open.result =
     rw (← c.self.view_is) (sender-refusal c.self.inside.exchange.row c.self.inside.exchange.agreed _ c.args.mid c.args.ssrc c.args.pt _ c.row_of-row.result _ _ _ _ c.in_ok-section.ensures.found c.row_of-row.ensures.row (c.agrees_with-agrees.ensures ∙ ap (λ row. own_row_agrees c.self.inside.exchange.row row) c.row.ensures) c.is_sending.ensures c.names_own.ensures (rw c.deref.ensures.value at c.is_sending-is_open.ensures)) in
