@@ -4,12 +4,23 @@
 use crate::streams::params;
 use rtp_media::{
     CodecConfig, Datagram, End, EndError, ExchangeError, MediaKind, OpenError, PayloadParams,
-    PollFault, Received, ReceivedAll, SectionSpec, Session, Unit,
+    PollFault, Received, ReceivedAll, SectionSpec, Session, Unit, connect,
 };
-use rtp_wire::{Direction, ExtensionMap, Mid, Pt, SessionId, Ssrc};
+use rtp_wire::{Direction, Extension, ExtensionMap, Mid, Pt, SessionId, Ssrc};
 use std::alloc::Global;
 use std::process::Abort;
 use std::test::Fail;
+
+/// The usual Opus row, of this type.
+fn opus_rows(alloc: Global, pt: u8) -> Result<Vec<PayloadParams>, Fail> {
+    let mut usual = CodecConfig::empty(alloc);
+    usual.enable_opus(true, false)?;
+    let mut rows = Vec::new(alloc);
+    for row in usual.params() {
+        rows.push(PayloadParams::new(Pt::from(pt), None, row.spec()))?;
+    }
+    Ok(rows)
+}
 
 /// What making an end of one Opus row and of these header extensions answers.
 pub fn end_with(
@@ -18,20 +29,14 @@ pub fn end_with(
     pt: u8,
     exts: ExtensionMap,
 ) -> Result<Result<End, EndError>, Fail> {
-    let mut usual = CodecConfig::empty(alloc);
-    usual.enable_opus(true, false)?;
-    let mut rows = Vec::new(alloc);
-    for row in usual.params() {
-        rows.push(PayloadParams::new(Pt::from(pt), None, row.spec()))?;
-    }
-    let config = CodecConfig::new_from_payload_params(rows);
+    let config = CodecConfig::new_from_payload_params(opus_rows(alloc, pt)?);
     let session = Session::new(alloc, SessionId::from(session));
     Ok(End::new(alloc, config, session, exts))
 }
 
 /// A new end of one Opus row without header extensions.
 pub fn opus_end(alloc: Global, session: u64, pt: u8) -> Result<End, Fail> {
-    Ok(end_with(alloc, session, pt, ExtensionMap::empty())??)
+    Ok(end_with(alloc, session, pt, no_exts())??)
 }
 
 /// The section `0` of audio.
@@ -72,6 +77,35 @@ pub fn answer(
 /// Accepts an answer.
 pub fn accept(end: &mut End, text: &str) -> Result<(), ExchangeError> {
     end.accept(text)
+}
+
+/// Has `a` offer the section `0` this way and `b` answer it that way, and answers the answer's text.
+pub fn connect_ends(
+    alloc: Global,
+    a: &mut End,
+    b: &mut End,
+    ways: [Direction; 2],
+    ssrcs: [u32; 2],
+) -> Result<String, Fail> {
+    let [offered, wanted] = ways;
+    let [ssrc_a, ssrc_b] = ssrcs;
+    let sections_a = audio(alloc, offered, ssrc_a)?;
+    let sections_b = audio(alloc, wanted, ssrc_b)?;
+    let (_, answer) = connect(a, b, sections_a, sections_b)?;
+    Ok(answer)
+}
+
+/// No header extension.
+pub fn no_exts() -> ExtensionMap {
+    ExtensionMap::empty()
+}
+
+/// This extension alone, under a number from 1 to 16.
+pub fn one_ext(rt: &impl Abort, id: u8, ext: Extension) -> ExtensionMap {
+    assert!(rt; (1..=16).contains(&id));
+    let mut exts = no_exts();
+    exts.set(id, ext);
+    exts
 }
 
 /// Opens a sending stream in section `0`.
@@ -120,6 +154,17 @@ pub fn receive_all(
     } = end.receive_all(datagrams)?;
     let answers = polls.pop().ok_or("a stream")?;
     Ok((verdicts, answers.into_vec()))
+}
+
+/// The next unit of stream 0, where one is ready.
+pub fn next(rt: &impl Abort, end: &mut End) -> Result<Option<Unit>, Fail> {
+    assert!(rt; end.is_receiver(0));
+    Ok(end.poll(0)?)
+}
+
+/// Whether answers are units of these bytes.
+pub fn are_units(answers: &[Result<Unit, PollFault>], units: &[&[u8]]) -> bool {
+    answers.len() == units.len() && answers.iter().zip(units).all(|(a, b)| has_bytes(a, b))
 }
 
 /// Whether an answer is a unit of these bytes.

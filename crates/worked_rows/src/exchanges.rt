@@ -1,9 +1,9 @@
 //! Offers, answers and what may be opened after them.
 
-use crate::calls::{accept, answer, audio, end_with, offer, open, opus_end, send};
+use crate::calls::{accept, answer, connect_ends, end_with, offer, one_ext, open, opus_end, send};
 use crate::texts::{answer_22, offer_22};
-use rtp_media::{End, EndError, ExchangeError, OpenError, connect};
-use rtp_wire::{Direction, Extension, ExtensionMap};
+use rtp_media::{End, EndError, ExchangeError, OpenError};
+use rtp_wire::{Direction, Extension};
 use std::alloc::Global;
 use std::process::Abort;
 use std::test::Fail;
@@ -21,13 +21,25 @@ fn exchanged(rt: &impl Abort, alloc: Global) -> Result<(End, End), Fail> {
     Ok((a, b))
 }
 
+/// What opening a stream of this type answers.
+fn expect_send(
+    rt: &impl Abort,
+    end: &mut End,
+    ssrc: u32,
+    pt: u8,
+    want: Result<usize, OpenError>,
+) -> Result<(), Fail> {
+    assert_eq!(rt; send(rt, end, ssrc, pt)?, want);
+    Ok(())
+}
+
 #[test]
 fn row_22_offer_and_answer(rt: HostRuntime) -> Result<(), Fail> {
     let (mut a, mut b) = exchanged(&rt, rt.alloc())?;
-    assert_eq!(rt; send(&rt, &mut a, 44, 109)?, Err(OpenError::RowNotAgreed));
-    assert_eq!(rt; send(&rt, &mut b, 45, 109)?, Err(OpenError::RowNotAgreed));
-    assert_eq!(rt; send(&rt, &mut a, 44, 111)?, Ok(0));
-    assert_eq!(rt; send(&rt, &mut b, 45, 111)?, Ok(0));
+    expect_send(&rt, &mut a, 44, 109, Err(OpenError::RowNotAgreed))?;
+    expect_send(&rt, &mut b, 45, 109, Err(OpenError::RowNotAgreed))?;
+    expect_send(&rt, &mut a, 44, 111, Ok(0))?;
+    expect_send(&rt, &mut b, 45, 111, Ok(0))?;
     assert_eq!(rt; open(&mut a, 45, 111), Ok(0));
     assert_eq!(rt; open(&mut b, 44, 111), Ok(0));
     Ok(())
@@ -69,21 +81,25 @@ fn opens_as_agreed(
 ) -> Result<(), Fail> {
     let [from_a, from_b] = flows;
     let refused = Err(OpenError::WrongDirection);
-    assert_eq!(rt; send(rt, a, 44, 111)?, if from_a { Ok(0) } else { refused });
+    expect_send(rt, a, 44, 111, if from_a { Ok(0) } else { refused })?;
+    expect_send(rt, b, 45, 111, if from_b { Ok(0) } else { refused })?;
     assert_eq!(rt; open(b, 44, 111), if from_a { Ok(0) } else { refused });
-    assert_eq!(rt; send(rt, b, 45, 111)?, if from_b { Ok(0) } else { refused });
     assert_eq!(rt; open(a, 45, 111), if from_b { Ok(0) } else { refused });
     Ok(())
 }
 
-/// Two ends of which one offered this direction and the other wanted that one.
-fn connected(alloc: Global, offered: Direction, wanted: Direction) -> Result<(End, End), Fail> {
-    let mut a = opus_end(alloc, 1, 111)?;
-    let mut b = opus_end(alloc, 2, 109)?;
-    let sections_a = audio(alloc, offered, 44)?;
-    let sections_b = audio(alloc, wanted, 45)?;
-    connect(&mut a, &mut b, sections_a, sections_b)?;
-    Ok((a, b))
+/// Both ends are connected, and the openings go as the directions say.
+fn expect_openings(
+    rt: &(impl AllocGlobal + Abort),
+    offered: Direction,
+    wanted: Direction,
+) -> Result<(), Fail> {
+    let mut a = opus_end(rt.alloc(), 1, 111)?;
+    let mut b = opus_end(rt.alloc(), 2, 109)?;
+    connect_ends(rt.alloc(), &mut a, &mut b, [offered, wanted], [44, 45])?;
+    let from_a = offered.is_sending() && wanted.is_receiving();
+    let from_b = wanted.is_sending() && offered.is_receiving();
+    opens_as_agreed(rt, &mut a, &mut b, [from_a, from_b])
 }
 
 #[test]
@@ -96,10 +112,7 @@ fn sixteen_pairs_of_directions(rt: HostRuntime) -> Result<(), Fail> {
     ];
     for offered in all {
         for wanted in all {
-            let (mut a, mut b) = connected(rt.alloc(), offered, wanted)?;
-            let from_a = offered.is_sending() && wanted.is_receiving();
-            let from_b = wanted.is_sending() && offered.is_receiving();
-            opens_as_agreed(&rt, &mut a, &mut b, [from_a, from_b])?;
+            expect_openings(&rt, offered, wanted)?;
         }
     }
     Ok(())
@@ -108,9 +121,8 @@ fn sixteen_pairs_of_directions(rt: HostRuntime) -> Result<(), Fail> {
 #[test]
 fn extensions_whose_text_cannot_stand_in_a_line(rt: HostRuntime) -> Result<(), Fail> {
     for uri in ["", "urn:a b", "urn:a\r", "urn:a\n"] {
-        let mut exts = ExtensionMap::empty();
-        exts.set(3, Extension::from_sdp_uri(rt.alloc(), uri)?);
-        let refused = end_with(rt.alloc(), 1, 111, exts)?;
+        let ext = Extension::from_sdp_uri(rt.alloc(), uri)?;
+        let refused = end_with(rt.alloc(), 1, 111, one_ext(&rt, 3, ext))?;
         assert!(rt; matches!(refused, Err(EndError::NotWritable)));
     }
     Ok(())

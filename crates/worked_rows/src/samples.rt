@@ -1,6 +1,6 @@
 //! Samples that are sent, and samples that are not.
 
-use crate::calls::{has_bytes, has_time, receive_all};
+use crate::calls::{are_units, has_time, receive_all};
 use crate::streams::{params, receiving_end};
 use rtp_media::{Datagram, End, OpenError, SampleError};
 use rtp_wire::{ExtensionValues, Frequency, MediaTime, Mid, Pt, Ssrc};
@@ -71,11 +71,8 @@ fn a_sample_comes_out_as_it_went_in(rt: HostRuntime) -> Result<(), Fail> {
     assert_eq!(rt; empty.len(), 0);
     let sent = push(&rt, &mut sender, 20, 1000, &[1, 2, 3, 4, 5, 6])??;
     let (_, answers) = receive_all(&mut receiver, sent.as_slice())?;
-    assert_eq!(rt; answers.len(), 2);
-    assert!(rt; has_bytes(&answers[0], &[1, 2, 3, 4]));
-    assert!(rt; has_bytes(&answers[1], &[5, 6]));
-    assert!(rt; has_time(&answers[0], 960));
-    assert!(rt; has_time(&answers[1], 960));
+    assert!(rt; are_units(answers.as_slice(), &[&[1, 2, 3, 4], &[5, 6]]));
+    assert!(rt; answers.iter().all(|it| has_time(it, 960)));
     Ok(())
 }
 
