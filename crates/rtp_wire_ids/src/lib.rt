@@ -10,6 +10,3 @@ pub use direction::{Direction, direction_laws};
 pub use names::{Mid, Rid};
 pub use numbers::{Pt, SessionId, Ssrc};
 pub use sequence::SeqNo;
-
-#[cfg(test)]
-mod tests;

@@ -6,6 +6,3 @@ mod media_time;
 
 pub use frequency::{Frequency, ParseFrequencyError};
 pub use media_time::MediaTime;
-
-#[cfg(test)]
-mod tests;

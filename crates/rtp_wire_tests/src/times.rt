@@ -1,6 +1,6 @@
 //! Clock rates as text, and worked times.
 
-use super::*;
+use rtp_wire::{Frequency, MediaTime, ParseFrequencyError};
 use std::test::Fail;
 
 #[test]

@@ -1,6 +1,6 @@
 //! Printed text of identifiers, and numbers from headers.
 
-use super::*;
+use rtp_wire::{Direction, Mid, Pt, Rid, SeqNo, SessionId, Ssrc};
 use std::test::Fail;
 
 #[test]
