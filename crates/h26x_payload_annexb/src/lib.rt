@@ -7,6 +7,3 @@ mod places;
 
 pub use iteration::{NalUnits, nal_units};
 pub use laws::{cut_law, nal_units_law};
-
-#[cfg(test)]
-mod tests;

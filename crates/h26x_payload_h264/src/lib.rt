@@ -17,6 +17,3 @@ pub use h26x_payload_units::ANNEXB_NALUSTART_CODE;
 pub use h264_receiver::{H264Depacketizer, detect_h264_keyframe, detect_h264_nalu};
 pub use h264_sender::H264Packetizer;
 pub use laws::{h264_law, h264_reading_law};
-
-#[cfg(test)]
-mod tests;

@@ -14,6 +14,3 @@ pub use h264::{
 pub use h265::{H265Level, H265Profile, H265ProfileTierLevel, H265Tier, h265_tables_law};
 pub use h266::{H266Level, H266Profile, H266ProfileTierLevel, H266Tier, h266_tables_law};
 pub use laws::levels_apart_law;
-
-#[cfg(test)]
-mod tests;

@@ -1,4 +1,6 @@
+pub mod AggregateLemmas
 pub mod BundleLemmas
 pub mod DepartureLemmas
 pub mod FragmentLemmas
 pub mod FragmentRunLemmas
+pub mod NumberLemmas

@@ -1,3 +1,5 @@
+pub mod Aggregates
 pub mod Departures
 pub mod FragmentRuns
 pub mod Fragments
+pub mod Numbers

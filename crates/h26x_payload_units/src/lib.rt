@@ -1,10 +1,12 @@
 //! Rules that the payload formats of H.264, H.265 and H.266 share, and what holds of them: which units of samples
-//! leave and which wait, how a unit is cut into fragments, and which units fragments give (RFC 6184, RFC 7798, RFC
+//! leave and which wait, how units stand in an aggregate, how a unit is cut into fragments, and which units fragments give (RFC 6184, RFC 7798, RFC
 //! 9328).
 #![tactic(auto)]
 
+mod aggregates;
 mod laws;
 mod open_unit;
 
+pub use aggregates::{AggregateFault, aggregate_fault, aggregated_units, first_aggregated};
 pub use laws::fragments_law;
-pub use open_unit::{ANNEXB_NALUSTART_CODE, OpenUnit, push_unit};
+pub use open_unit::{ANNEXB_NALUSTART_CODE, OpenUnit, push_unit, push_unit_of};

@@ -25,6 +25,21 @@ pub fn push_unit(unit: &[u8], out: &mut Vec<u8>) -> Result<(), PacketError>
     Ok(())
 }
 
+/// Writes a unit of a header and a body behind its start code. Where memory is wanting, `out` is as it was.
+pub fn push_unit_of(header: &[u8], body: &[u8], out: &mut Vec<u8>) -> Result<(), PacketError>
+    ensures written { OnOk result (out.new.items ≡ out.old.items ++ behind_code (header.now ++ body.now)) }
+    ensures unchanged { OnErr result (out.new.items ≡ out.old.items) }
+    ensures memory { IfErr result (λ e. e ≡ PacketError.Memory) }
+{
+    let len = out.len();
+    push_unit(header, out)?;
+    if let Err(e) = out.extend_from_slice(body) {
+        out.truncate(len);
+        return Err(PacketError::from(e));
+    }
+    Ok(())
+}
+
 // A unit that begins with this header, behind its start code.
 fn begun(alloc: Global, header: &[u8], part: &[u8]) -> Result<Vec<u8>, PacketError>
     ensures begun { IfOk result (λ v. v.items ≡ behind_code (header.now ++ part.now)) }

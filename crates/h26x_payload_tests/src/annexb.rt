@@ -1,6 +1,6 @@
 //! Texts cut by hand, and all short ones.
 
-use crate::nal_units;
+use h26x_payload_annexb::nal_units;
 use std::process::Abort;
 
 // The text is cut into just these units.

@@ -1,6 +1,6 @@
 //! Packets of samples, and short packets; the bytes were put together by hand from the layout of RFC 6184.
 
-use crate::{H264Depacketizer, H264Packetizer, detect_h264_keyframe, detect_h264_nalu};
+use h26x_payload_h264::{H264Depacketizer, H264Packetizer, detect_h264_keyframe, detect_h264_nalu};
 use payload_core_base::{CodecExtra, Depacketizer, H264CodecExtra, PacketError, Packetizer};
 use std::alloc::Global;
 use std::process::Abort;

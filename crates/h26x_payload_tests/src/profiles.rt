@@ -1,6 +1,6 @@
 //! Numbers of real session texts, and all small ones.
 
-use crate::{
+use h26x_payload_profiles::{
     H264LevelIdc, H264Profile, H264ProfileIdc, H264ProfileLevel, H265Level, H265Profile,
     H265ProfileTierLevel, H265Tier, H266Level, H266Profile, H266ProfileTierLevel, H266Tier,
 };

@@ -1,0 +1,5 @@
+pub mod H265Headers
+pub mod H265Numbers
+pub mod H265Reading
+pub mod H265Packing
+pub mod H265Waiting

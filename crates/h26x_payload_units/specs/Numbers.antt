@@ -1,0 +1,21 @@
+-- Decoding order numbers of what leaves (RFC 7798 4.4, RFC 9328 4.3): the units that are sent are counted, modulo 65,536.
+use Rattle.std.specs.Prelude.{ℕ, ◌+◌, ◌%◌, List, [], ◌∷◌, length}
+use Rattle.h26x_payload_units.specs.Departures.{Departure, units_in}
+
+-- What leaves, and the number of its first unit.
+pub record Numbered : Type 0 where
+  pub number : ℕ
+  pub departure : Departure
+
+abbrev pub number_behind : ℕ → Departure → ℕ
+number_behind n d = (n + length (units_in d)) % 65536
+
+-- What leaves, where the first unit has this number.
+abbrev pub numbered : ℕ → List Departure → List Numbered
+numbered n [] = []
+numbered n (d ∷ ds) = record { number = n; departure = d } ∷ numbered (number_behind n d) ds
+
+-- The number of the next unit.
+abbrev pub number_after : ℕ → List Departure → ℕ
+number_after n [] = n
+number_after n (d ∷ ds) = number_after (number_behind n d) ds

@@ -1,0 +1,86 @@
+//! Units that stand in an aggregate, each behind its size (RFC 7798 4.4.2, RFC 9328 4.3.2).
+
+ghost use Rattle.h26x_payload_units.specs.Aggregates.{aggregated, only_fault, with_first};
+ghost use Rattle.h26x_payload_units.specs.Fragments.{behind_code};
+ghost use Rattle.std.specs.List.{flat_map};
+ghost use Rattle.std.specs.Prelude.{ℕ, ◌≡◌, ◌<◌, IfErr, IfOk, Some, length};
+
+use crate::open_unit::push_unit;
+use payload_core_base::PacketError;
+use std::alloc::Global;
+
+/// What is wrong with an aggregate behind its whole units.
+#[derive(Clone, Copy, Debug, PartialEq, Eq, Drop)]
+pub enum AggregateFault {
+    /// The bytes end before a size does.
+    CutShort,
+    /// A size passes the end.
+    PastEnd,
+}
+
+/// The first unit of an aggregate that is not empty, with `lead` bytes before its size, and what stands behind the
+/// unit.
+pub fn first_aggregated(lead: usize, body: &[u8]) -> Result<(&[u8], &[u8]), AggregateFault>
+    ensures unit { IfOk result (λ cut. (later : ℕ) → aggregated lead later body.now ≡ with_first cut.0.now (aggregated later later cut.1.now)) }
+    ensures shorter { IfOk result (λ cut. length cut.1.now < length body.now) }
+    ensures fault { IfErr result (λ e. 0 < length body.now → (later : ℕ) → aggregated lead later body.now ≡ only_fault (Some e)) }
+{
+    if body.len() < lead {
+        return Err(AggregateFault::CutShort);
+    }
+    let (_, sized) = body.split_at(lead);
+    let Some((high, rest)) = sized.split_first() else {
+        return Err(AggregateFault::CutShort);
+    };
+    let Some((low, rest)) = rest.split_first() else {
+        return Err(AggregateFault::CutShort);
+    };
+    let size = *high as usize * 256 + *low as usize;
+    if size > rest.len() {
+        return Err(AggregateFault::PastEnd);
+    }
+    Ok(rest.split_at(size))
+}
+
+/// What is wrong with an aggregate behind its whole units, if anything, with `lead` bytes before the first size and
+/// `later` before each later one.
+pub fn aggregate_fault(lead: usize, later: usize, body: &[u8]) -> Option<AggregateFault>
+    ensures { result ≡ (aggregated lead later body.now).fault }
+{
+    let mut lead = lead;
+    let mut rest = body;
+    while !rest.is_empty() {
+        let behind = match first_aggregated(lead, rest) {
+            Ok((_, behind)) => behind,
+            Err(e) => return Some(e),
+        };
+        lead = later;
+        rest = behind;
+    }
+    None
+}
+
+/// The whole units of an aggregate, each behind a start code, with `lead` bytes before the first size and `later`
+/// before each later one.
+pub fn aggregated_units(
+    alloc: Global,
+    lead: usize,
+    later: usize,
+    body: &[u8],
+) -> Result<Vec<u8>, PacketError>
+    ensures written { IfOk result (λ v. v.items ≡ flat_map behind_code (aggregated lead later body.now).units) }
+    ensures memory { IfErr result (λ e. e ≡ PacketError.Memory) }
+{
+    let mut written = Vec::new(alloc);
+    let mut lead = lead;
+    let mut rest = body;
+    while !rest.is_empty() {
+        let Ok((unit, behind)) = first_aggregated(lead, rest) else {
+            return Ok(written);
+        };
+        push_unit(unit, &mut written)?;
+        lead = later;
+        rest = behind;
+    }
+    Ok(written)
+}
