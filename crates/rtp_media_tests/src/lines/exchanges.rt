@@ -1,5 +1,5 @@
 use super::words::described;
-use crate::*;
+use rtp_media_lines::{Command, RowCommand, Sections};
 use std::alloc::{AllocError, Global};
 use std::test::Fail;
 

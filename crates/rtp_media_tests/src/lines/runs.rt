@@ -2,8 +2,9 @@
 
 ghost use Rattle.std.specs.Prelude.{◌≡◌};
 
-use crate::run::run_within;
-use crate::{Command, MAX_LINE_LENGTH, Reply, Respond, RunFault, Status, run_lines};
+use rtp_media_lines::{
+    Command, MAX_LINE_LENGTH, Reply, Respond, RunFault, Status, run_lines, run_within,
+};
 use std::alloc::{AllocError, Global};
 use std::io;
 use std::io::{ErrorKind, Read, Write};

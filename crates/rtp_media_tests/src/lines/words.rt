@@ -1,5 +1,5 @@
 use super::exchanges::exchange_text;
-use crate::*;
+use rtp_media_lines::{Bytes, Command, ErrorName, Line, OpenCommand, Reply, SendCommand, print};
 use std::alloc::{AllocError, Global};
 use std::test::Fail;
 
