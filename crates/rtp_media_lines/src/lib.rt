@@ -31,11 +31,8 @@ pub use owned::{Bytes, Text};
 pub use reply::{ErrorName, Reply, print};
 pub use respond::Respond;
 pub use round::printed_words_read_back;
-pub use run::{MAX_READS, run_lines};
+pub use run::{MAX_READS, run_lines, run_within};
 pub use sections::{SectionWord, Sections, Ssrcs};
 pub use status::{RunFault, Status};
 pub use words::Side;
 pub use writing::{WriteFault, write_whole};
-
-#[cfg(test)]
-mod tests;

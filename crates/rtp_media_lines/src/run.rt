@@ -138,7 +138,10 @@ pub fn run_lines<R: Read, W: Write, A: Respond>(
 }
 
 /// The same in at most `reads` reads.
-pub(crate) fn run_within<R: Read, W: Write, A: Respond>(
+///
+/// # Errors
+/// As [`run_lines`], and where the input doesn't end within `reads` reads.
+pub fn run_within<R: Read, W: Write, A: Respond>(
     alloc: Global,
     reads: usize,
     reader: &mut R,

@@ -18,7 +18,7 @@ use std::marker::Model;
 /// The synchronization sources that a section names (RFC 5576 4.1).
 #[derive(Drop)]
 pub struct Ssrcs {
-    items: Vec<u32>,
+    numbers: Vec<u32>,
 }
 
 impl Model for Ssrcs {
@@ -26,7 +26,7 @@ impl Model for Ssrcs {
 
     ghost Value = { List ℕ };
 
-    ghost view = { λ s. s.items.items };
+    ghost view = { λ s. s.numbers.items };
 }
 
 impl Ssrcs {
@@ -34,7 +34,7 @@ impl Ssrcs {
     pub fn as_slice(&self) -> &[u32]
         ensures { result.now ≡ self.now }
     {
-        self.items.as_slice()
+        self.numbers.as_slice()
     }
 }
 
@@ -111,18 +111,18 @@ fn ssrcs_of(alloc: Global, word: &str) -> Result<Ssrcs, Misread>
 {
     if word == "-" {
         return Ok(Ssrcs {
-            items: Vec::new(alloc),
+            numbers: Vec::new(alloc),
         });
     }
-    let mut items = Vec::new(alloc);
+    let mut numbers = Vec::new(alloc);
     let mut rest = Some(word);
     while let Some(text) = rest {
         let (number, after) = split_comma(text);
         let number = number_up_to(number, u32::MAX as u64).ok_or(Misread::NotUnderstood)?;
-        items.push(number as u32)?;
+        numbers.push(number as u32)?;
         rest = after;
     }
-    Ok(Ssrcs { items })
+    Ok(Ssrcs { numbers })
 }
 
 /// The text before the first colon, and what stands behind that colon.

@@ -12,6 +12,3 @@ pub use errors::SdpError;
 pub use laws::reading_law;
 pub use parse::is_uri;
 pub use session_text::{Extmap, SessionText};
-
-#[cfg(test)]
-mod tests;

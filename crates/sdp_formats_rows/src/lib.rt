@@ -17,6 +17,3 @@ pub use payload_core_base::{Codec, MediaKind};
 pub use row::PayloadParams;
 pub use rtp_wire::{Frequency, Pt};
 pub use spec::CodecSpec;
-
-#[cfg(test)]
-mod tests;

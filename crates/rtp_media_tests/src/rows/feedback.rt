@@ -1,6 +1,6 @@
 //! Rows and their feedback.
 
-use crate::{Codec, CodecSpec, FormatParams, Frequency, PayloadParams, Pt};
+use sdp_formats_rows::{Codec, CodecSpec, FormatParams, Frequency, PayloadParams, Pt};
 
 fn vp8() -> PayloadParams {
     let spec = CodecSpec {

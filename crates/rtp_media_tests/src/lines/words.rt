@@ -1,5 +1,5 @@
 use super::exchanges::exchange_text;
-use crate::*;
+use rtp_media_lines::{Bytes, Command, ErrorName, Line, OpenCommand, Reply, SendCommand, print};
 use std::alloc::{AllocError, Global};
 use std::test::Fail;
 
@@ -55,17 +55,31 @@ fn stream_text(alloc: Global, command: &Command) -> Result<String, AllocError> {
     }
 }
 
+fn command_text(alloc: Global, command: &Command) -> Result<String, AllocError> {
+    match command {
+        Command::Fixed(side) => format!(in alloc; "fixed {side:?}"),
+        Command::Send(send) => send_text(alloc, send),
+        command => stream_text(alloc, command),
+    }
+}
+
+fn line_text(alloc: Global, line: &Line) -> Result<String, AllocError> {
+    match line {
+        Line::Empty => String::from_str(alloc, "empty"),
+        Line::Command(command) => command_text(alloc, command),
+    }
+}
+
+fn parsed(alloc: Global, line: &[u8]) -> Result<Option<Line>, AllocError> {
+    Line::parse(alloc, line)
+}
+
 /// A line as it was understood.
 pub(super) fn described(alloc: Global, line: &[u8]) -> Result<String, AllocError> {
-    match Line::parse(alloc, line)? {
-        None => String::from_str(alloc, "error"),
-        Some(Line::Empty) => String::from_str(alloc, "empty"),
-        Some(Line::Command(command)) => match &command {
-            Command::Fixed(side) => format!(in alloc; "fixed {side:?}"),
-            Command::Send(send) => send_text(alloc, send),
-            other => stream_text(alloc, other),
-        },
-    }
+    let Some(line) = parsed(alloc, line)? else {
+        return String::from_str(alloc, "error");
+    };
+    line_text(alloc, &line)
 }
 
 #[test]

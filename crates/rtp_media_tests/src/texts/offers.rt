@@ -1,4 +1,4 @@
-use crate::*;
+use rtp_media_texts::{SdpError, SessionText};
 use std::alloc::{AllocError, Global};
 use std::test::Fail;
 

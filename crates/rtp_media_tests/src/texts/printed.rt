@@ -1,4 +1,4 @@
-use crate::*;
+use rtp_media_texts::{Extmap, SdpError, SessionText};
 use rtp_wire::{Direction, Mid, Pt, SessionId, Ssrc};
 use std::alloc::Global;
 use std::test::Fail;

@@ -1,3 +1,3 @@
 mod configs;
+mod feedback;
 mod formats;
-mod rows;

@@ -1,5 +1,5 @@
 use super::words::described;
-use crate::*;
+use rtp_media_lines::{AnswerCommand, Command, ConnectCommand, RowCommand, Sections};
 use std::alloc::{AllocError, Global};
 use std::test::Fail;
 
@@ -31,6 +31,17 @@ fn row_text(alloc: Global, row: &RowCommand) -> Result<String, AllocError> {
     )
 }
 
+fn answer_text(alloc: Global, answer: &AnswerCommand) -> Result<String, AllocError> {
+    let sections = sections_text(alloc, &answer.sections)?;
+    format!(in alloc; "answer {:?}{sections}", answer.text.as_slice())
+}
+
+fn connect_text(alloc: Global, connect: &ConnectCommand) -> Result<String, AllocError> {
+    let offered = sections_text(alloc, &connect.offered)?;
+    let answered = sections_text(alloc, &connect.answered)?;
+    format!(in alloc; "connect{offered} /{answered}")
+}
+
 /// A line of exchanges as it was understood.
 pub(super) fn exchange_text(alloc: Global, command: &Command) -> Result<String, AllocError> {
     match command {
@@ -41,17 +52,10 @@ pub(super) fn exchange_text(alloc: Global, command: &Command) -> Result<String, 
             let sections = sections_text(alloc, &offer.sections)?;
             format!(in alloc; "offer{sections}")
         }
-        Command::Answer(answer) => {
-            let sections = sections_text(alloc, &answer.sections)?;
-            format!(in alloc; "answer {:?}{sections}", answer.text.as_slice())
-        }
+        Command::Answer(answer) => answer_text(alloc, answer),
         Command::Accept(accept) => format!(in alloc; "accept {:?}", accept.text.as_slice()),
         Command::Withdraw(side) => format!(in alloc; "withdraw {side:?}"),
-        Command::Connect(connect) => {
-            let offered = sections_text(alloc, &connect.offered)?;
-            let answered = sections_text(alloc, &connect.answered)?;
-            format!(in alloc; "connect{offered} /{answered}")
-        }
+        Command::Connect(connect) => connect_text(alloc, connect),
         _ => String::from_str(alloc, "no exchange"),
     }
 }

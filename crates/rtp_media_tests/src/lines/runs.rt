@@ -2,8 +2,9 @@
 
 ghost use Rattle.std.specs.Prelude.{◌≡◌};
 
-use crate::run::run_within;
-use crate::{Command, MAX_LINE_LENGTH, Reply, Respond, RunFault, Status, run_lines};
+use rtp_media_lines::{
+    Bytes, Command, MAX_LINE_LENGTH, Reply, Respond, RunFault, Status, run_lines, run_within,
+};
 use std::alloc::{AllocError, Global};
 use std::io;
 use std::io::{ErrorKind, Read, Write};
@@ -21,21 +22,31 @@ impl Respond for Echo {
     ghost gives = { λ old command new replies. Unit {0} };
 
     fn respond(&mut self, alloc: Global, command: Command) -> Result<Vec<Reply>, AllocError> {
-        let mut replies = Vec::new(alloc);
-        match command {
-            Command::Fixed(_) => {
-                self.fixed = self.fixed.saturating_add(1);
-                replies.push(Reply::Sender(self.fixed))?;
-            }
-            Command::Receive(receive) => {
-                replies.push(Reply::Datagram(receive.datagram))?;
-                replies.push(Reply::Done)?;
-            }
-            Command::Poll(_) => replies.push(Reply::NoUnit)?,
-            _ => replies.push(Reply::ErrorLine)?,
-        }
-        Ok(replies)
+        replies_to(alloc, &command, &mut self.fixed)
     }
+}
+
+/// The replies to a command; `fixed` counts the ends that are replaced.
+fn replies_to(
+    alloc: Global,
+    command: &Command,
+    fixed: &mut usize,
+) -> Result<Vec<Reply>, AllocError> {
+    let mut replies = Vec::new(alloc);
+    match command {
+        Command::Fixed(_) => {
+            *fixed = fixed.saturating_add(1);
+            replies.push(Reply::Sender(*fixed))?;
+        }
+        Command::Receive(receive) => {
+            let bytes = Vec::from_slice(alloc, receive.datagram.as_slice())?;
+            replies.push(Reply::Datagram(Bytes::from_vec(bytes)))?;
+            replies.push(Reply::Done)?;
+        }
+        Command::Poll(_) => replies.push(Reply::NoUnit)?,
+        _ => replies.push(Reply::ErrorLine)?,
+    }
+    Ok(replies)
 }
 
 /// Gives its bytes in pieces of `step`, and then ends, or fails.

@@ -1,6 +1,6 @@
 //! Configs.
 
-use crate::{Codec, CodecConfig, FormatParams, Frequency, Pt};
+use sdp_formats_rows::{Codec, CodecConfig, FormatParams, Frequency, Pt};
 use std::test::Fail;
 
 #[test]

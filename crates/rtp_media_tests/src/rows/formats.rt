@@ -1,6 +1,6 @@
 //! Format parameters read from a line.
 
-use crate::FormatParams;
+use sdp_formats_rows::FormatParams;
 use std::test::Fail;
 
 #[test]
