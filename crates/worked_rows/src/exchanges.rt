@@ -3,7 +3,7 @@
 use crate::calls::{accept, answer, connect_ends, end_with, offer, one_ext, open, opus_end, send};
 use crate::texts::{answer_22, offer_22};
 use rtp_media::{End, EndError, ExchangeError, OpenError};
-use rtp_wire::{Direction, Extension};
+use rtp_wire::{Direction, Extension, Mid, Pt};
 use std::alloc::Global;
 use std::process::Abort;
 use std::test::Fail;
@@ -88,6 +88,13 @@ fn opens_as_agreed(
     Ok(())
 }
 
+/// Whether the end has agreed on a row of type 111, and on none of type 109.
+fn has_type_111(end: &End) -> bool {
+    let section = Mid::from("0");
+    end.agreed_row(section, Pt::from(111)).is_some()
+        && end.agreed_row(section, Pt::from(109)).is_none()
+}
+
 /// Both ends are connected, and the openings go as the directions say.
 fn expect_openings(
     rt: &(impl AllocGlobal + Abort),
@@ -97,6 +104,7 @@ fn expect_openings(
     let mut a = opus_end(rt.alloc(), 1, 111)?;
     let mut b = opus_end(rt.alloc(), 2, 109)?;
     connect_ends(rt.alloc(), &mut a, &mut b, [offered, wanted], [44, 45])?;
+    assert!(rt; has_type_111(&a) && has_type_111(&b));
     let from_a = offered.is_sending() && wanted.is_receiving();
     let from_b = wanted.is_sending() && offered.is_receiving();
     opens_as_agreed(rt, &mut a, &mut b, [from_a, from_b])
