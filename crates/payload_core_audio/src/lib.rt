@@ -17,6 +17,3 @@ pub use g7xx::{G7xxPacketizer, G711Depacketizer, G711Packetizer, G722Packetizer}
 pub use laws::{amr_wb_law, plain_laws, telephone_law};
 pub use opus::{OpusDepacketizer, OpusPacketizer};
 pub use telephone_event::{TelephoneEventDepacketizer, TelephoneEventPacketizer};
-
-#[cfg(test)]
-mod tests;

@@ -10,8 +10,3 @@ mod obu;
 pub use av1_receiver::{Av1Depacketizer, detect_av1_keyframe};
 pub use av1_sender::Av1Packetizer;
 pub use laws::{av1_law, av1_layout_law, av1_packets_law, av1_size_law};
-
-#[cfg(test)]
-mod encoded_tests;
-#[cfg(test)]
-mod tests;

@@ -21,6 +21,3 @@ pub use extra::{
 pub use packetizer::Packetizer;
 pub use sink::PacketSink;
 pub use telephone_event::{TelephoneEvent, TelephoneEvents, telephone_event_law};
-
-#[cfg(test)]
-mod tests;

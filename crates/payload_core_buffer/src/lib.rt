@@ -16,6 +16,3 @@ pub use depacketized::Depacketized;
 pub use held::RtpMeta;
 pub use payloader::Payloader;
 pub use place::MAX_HELD;
-
-#[cfg(test)]
-mod tests;

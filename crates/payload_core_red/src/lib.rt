@@ -16,6 +16,3 @@ pub use encoder::RedEncoder;
 pub use laws::{red_law, red_wrap_law};
 pub use sender::RedSender;
 pub use sink::RedSink;
-
-#[cfg(test)]
-mod tests;

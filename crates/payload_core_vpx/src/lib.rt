@@ -12,6 +12,3 @@ pub use vp8_descriptor::{Vp8Descriptor, Vp8DescriptorError, detect_vp8_keyframe}
 pub use vp8_patch::{Vp8Patch, Vp8PatchBuilder, Vp8PatchError};
 pub use vp8_receiver::Vp8Depacketizer;
 pub use vp8_sender::{VP8_HEADER_SIZE, Vp8Packetizer};
-
-#[cfg(test)]
-mod tests;

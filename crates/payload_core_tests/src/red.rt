@@ -1,20 +1,41 @@
 //! Packets with redundancy, by worked rows and by hand from the layout of RFC 2198 3.
 
-use crate::{RedBlock, RedDecoder, RedEncoder, RedSender, RedSink, RedundantBlock};
-use payload_core_base::{PacketError, PacketSink};
-use rtp_wire_extensions::ExtensionValues;
+use crate::calls::PayloadList;
+use payload_core::{
+    PacketError, PacketSink, RedBlock, RedDecoder, RedEncoder, RedSender, RedSink, RedundantBlock,
+};
+use rtp_wire::ExtensionValues;
+use std::alloc::Global;
 use std::test::Fail;
+
+// The packet of a payload, both in hexadecimal.
+fn wrapped(
+    alloc: Global,
+    sender: &mut RedSender,
+    pt: u8,
+    payload: &str,
+    time: u32,
+    budget: usize,
+) -> Result<String, Fail> {
+    let payload = hex::decode(alloc, payload)?;
+    let packet = sender.wrap(pt, &payload, time, budget)?;
+    Ok(hex::encode(alloc, packet.as_slice())?)
+}
 
 // Row 24: Opus at 111 through RED, with the payload before each one.
 #[test]
 fn row_24(rt: HostRuntime) -> Result<(), Fail> {
     let mut sender = RedSender::new(rt.alloc(), &[1])?;
-    let first = sender.wrap(111, &[1, 2, 3], 1000, 1199)?;
-    assert_eq!(rt; first.as_slice(), [0x6F, 1, 2, 3].as_slice());
-    let second = sender.wrap(111, &[4, 5], 1960, 1199)?;
-    let bytes = [0xEF, 0x0F, 0x00, 0x03, 0x6F, 1, 2, 3, 4, 5];
-    assert_eq!(rt; second.as_slice(), bytes.as_slice());
-    let mut blocks = RedDecoder::decode(&bytes)?;
+    let first = wrapped(rt.alloc(), &mut sender, 111, "010203", 1000, 1199)?;
+    assert_eq!(rt; first.as_str(), "6f010203");
+    let second = wrapped(rt.alloc(), &mut sender, 111, "0405", 1960, 1199)?;
+    assert_eq!(rt; second.as_str(), "ef0f00036f0102030405");
+    Ok(())
+}
+
+#[test]
+fn row_24_read(rt: HostRuntime) -> Result<(), Fail> {
+    let mut blocks = RedDecoder::decode(&[0xEF, 0x0F, 0x00, 0x03, 0x6F, 1, 2, 3, 4, 5])?;
     let old = RedBlock {
         pt: 111,
         timestamp_offset: 960,
@@ -117,59 +138,31 @@ fn every_short_packet(rt: HostRuntime) -> Result<(), Fail> {
 #[test]
 fn levels_by_distance_and_budget(rt: HostRuntime) -> Result<(), Fail> {
     let mut sender = RedSender::new(rt.alloc(), &[])?;
-    assert_eq!(rt;
-        sender.wrap(96, &[1], 0xFFFF_FFF0, 9)?.as_slice(),
-        [96, 1].as_slice()
-    );
+    let alone = wrapped(rt.alloc(), &mut sender, 96, "01", 0xFFFF_FFF0, 9)?;
+    assert_eq!(rt; alone.as_str(), "6001");
     // Two bytes and one pass a budget of two.
-    assert_eq!(rt;
-        sender.wrap(97, &[2, 2], 0, 2)?.as_slice(),
-        [2, 2].as_slice()
-    );
+    let bare = wrapped(rt.alloc(), &mut sender, 97, "0202", 0, 2)?;
+    assert_eq!(rt; bare.as_str(), "0202");
     assert!(rt; RedSender::are_distances(&[1, 2]));
-    assert!(rt; !RedSender::are_distances(&[1, 9]));
     sender.sync(&[1, 2])?;
     // 1 + (4 + 2) + (4 + 1) + 1 bytes.
-    let whole = [224, 0, 0x80, 1, 225, 0, 0x40, 2, 98, 1, 2, 2, 3];
-    assert_eq!(rt; sender.wrap(98, &[3], 16, 13)?.as_slice(), whole.as_slice());
+    let whole = wrapped(rt.alloc(), &mut sender, 98, "03", 16, 13)?;
+    assert_eq!(rt; whole.as_str(), "e0008001e10040026201020203");
     // The next levels are 98 at 16 and 97 at 0; a byte is wanting for the second.
-    let shallow = [226, 0, 0x40, 1, 99, 3, 4];
-    assert_eq!(rt;
-        sender.wrap(99, &[4], 32, 12)?.as_slice(),
-        shallow.as_slice()
-    );
+    let shallow = wrapped(rt.alloc(), &mut sender, 99, "04", 32, 12)?;
+    assert_eq!(rt; shallow.as_str(), "e2004001630304");
     Ok(())
 }
 
-// Payloads that were sent.
-#[derive(Drop)]
-struct Sent {
-    payloads: Vec<Vec<u8>>,
-}
-
-impl PacketSink for Sent {
-    ghost use Rattle.std.specs.Prelude.{◌≡◌, ◌++◌, ◌∷◌, [], map};
-
-    ghost takes = { λ old o new. map (λ p. p.items) new.payloads.items ≡ map (λ p. p.items) old.payloads.items ++ o.payload ∷ [] };
-
-    ghost keeps = { λ old new. new.payloads.items ≡ old.payloads.items };
-
-    fn send(
-        &mut self,
-        payload: &[u8],
-        _marker: bool,
-        _time: u32,
-        _values: &ExtensionValues,
-    ) -> Result<(), PacketError> {
-        let copy = Vec::from_slice(*self.payloads.allocator(), payload)?;
-        self.payloads.push(copy)?;
-        Ok(())
-    }
+#[test]
+fn distances_to_eight(rt: HostRuntime) {
+    assert!(rt; RedSender::are_distances(&[1, 8]));
+    assert!(rt; !RedSender::are_distances(&[1, 9]));
 }
 
 #[test]
 fn through_a_sink(rt: HostRuntime) -> Result<(), Fail> {
-    let inner = Sent {
+    let inner = PayloadList {
         payloads: Vec::new(rt.alloc()),
     };
     let mut sink = RedSink::new(inner, RedSender::new(rt.alloc(), &[1])?, 111, 1200);

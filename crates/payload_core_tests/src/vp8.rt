@@ -1,37 +1,32 @@
 //! Packets of frames with and without ids, short packets, descriptors and patches; the bytes were put together
 //! by hand from the layout of RFC 7741 4.2.
 
-use crate::{
-    Vp8Depacketizer, Vp8Descriptor, Vp8DescriptorError, Vp8Packetizer, Vp8PatchError,
-    detect_vp8_keyframe,
+use crate::calls::{refusal, sent, told};
+use payload_core::{
+    CodecExtra, Depacketizer, PacketError, Vp8CodecExtra, Vp8Depacketizer, Vp8Descriptor,
+    Vp8DescriptorError, Vp8Packetizer, Vp8PatchError, detect_vp8_keyframe,
 };
-use payload_core_base::{CodecExtra, Depacketizer, PacketError, Packetizer, Vp8CodecExtra};
 use std::test::Fail;
 
 #[test]
 fn row_11_vp8_without_an_id(rt: HostRuntime) -> Result<(), Fail> {
     let mut packetizer = Vp8Packetizer::with_picture_id(None);
-    let packets = packetizer.packetize(rt.alloc(), 3, &[0xAA, 0xBB, 0xCC])?;
-    assert_eq!(rt; packets.len(), 2);
-    assert_eq!(rt; packets[0].as_slice(), [0x10, 0xAA, 0xBB].as_slice());
-    assert_eq!(rt; packets[1].as_slice(), [0x00, 0xCC].as_slice());
-    assert_eq!(rt; packetizer.packetize(rt.alloc(), 1, &[0xAA])?.len(), 0);
-    assert_eq!(rt; packetizer.packetize(rt.alloc(), 3, &[])?.len(), 0);
+    let packets = sent(rt.alloc(), &mut packetizer, 3, "aabbcc")?;
+    assert_eq!(rt; packets.as_str(), " 10aabb 00cc");
+    assert_eq!(rt; sent(rt.alloc(), &mut packetizer, 1, "aa")?.len(), 0);
+    assert_eq!(rt; sent(rt.alloc(), &mut packetizer, 3, "")?.len(), 0);
     Ok(())
 }
 
 #[test]
 fn ids_of_three_widths(rt: HostRuntime) -> Result<(), Fail> {
     let mut packetizer = Vp8Packetizer::with_picture_id(Some(32_767));
-    let long = packetizer.packetize(rt.alloc(), 9, &[1])?;
-    assert_eq!(rt; long.len(), 1);
-    assert_eq!(rt; long[0].as_slice(), [0x90, 0x80, 0xFF, 0xFF, 1].as_slice());
-    let none = packetizer.packetize(rt.alloc(), 9, &[1])?;
-    assert_eq!(rt; none.len(), 1);
-    assert_eq!(rt; none[0].as_slice(), [0x10, 1].as_slice());
-    let short = packetizer.packetize(rt.alloc(), 9, &[1])?;
-    assert_eq!(rt; short.len(), 1);
-    assert_eq!(rt; short[0].as_slice(), [0x90, 0x80, 1, 1].as_slice());
+    let long = sent(rt.alloc(), &mut packetizer, 9, "01")?;
+    assert_eq!(rt; long.as_str(), " 9080ffff01");
+    let none = sent(rt.alloc(), &mut packetizer, 9, "01")?;
+    assert_eq!(rt; none.as_str(), " 1001");
+    let short = sent(rt.alloc(), &mut packetizer, 9, "01")?;
+    assert_eq!(rt; short.as_str(), " 90800101");
     Ok(())
 }
 
@@ -45,26 +40,16 @@ fn ids_of_the_examples(rt: HostRuntime) -> Result<(), Fail> {
     let none = Vp8Descriptor::parse(&[0x10, 0x31])?;
     assert_eq!(rt; none.picture_id(), None);
     let mut packetizer = Vp8Packetizer::with_picture_id(Some(4711));
-    let packets = packetizer.packetize(rt.alloc(), 6, &[0x30, 1, 2])?;
-    assert_eq!(rt; packets.len(), 2);
-    assert_eq!(rt;
-        packets[0].as_slice(),
-        [0x90, 0x80, 0x92, 0x67, 0x30, 1].as_slice()
-    );
-    assert_eq!(rt;
-        packets[1].as_slice(),
-        [0x80, 0x80, 0x92, 0x67, 2].as_slice()
-    );
+    let packets = sent(rt.alloc(), &mut packetizer, 6, "300102")?;
+    assert_eq!(rt; packets.as_str(), " 908092673001 8080926702");
     Ok(())
 }
 
 #[test]
 fn descriptor_with_all_fields(rt: HostRuntime) -> Result<(), Fail> {
-    let mut out = Vec::new(rt.alloc());
-    let mut extra = CodecExtra::None;
-    let packet = [0x90, 0xF0, 0x81, 0x02, 0x07, 0x05, 0x30, 0x31];
-    Vp8Depacketizer::new().depacketize(&packet, &mut out, &mut extra)?;
-    assert_eq!(rt; out.as_slice(), [0x30, 0x31].as_slice());
+    let mut depacketizer = Vp8Depacketizer::new();
+    let (unit, extra) = told(rt.alloc(), &mut depacketizer, "90f0810207053031")?;
+    assert_eq!(rt; unit.as_str(), "3031");
     assert_eq!(rt;
         extra,
         CodecExtra::Vp8(Vp8CodecExtra {
@@ -73,9 +58,8 @@ fn descriptor_with_all_fields(rt: HostRuntime) -> Result<(), Fail> {
             tl0_pic_idx: Some(7)
         })
     );
-    let cut = Vp8Depacketizer::new().depacketize(&packet[..6], &mut out, &mut extra);
-    assert!(rt; matches!(cut, Err(PacketError::ErrVP8CorruptedPacket)));
-    assert_eq!(rt; out.len(), 2);
+    let cut = refusal(rt.alloc(), &mut depacketizer, "90f081020705")?;
+    assert_eq!(rt; cut, PacketError::ErrVP8CorruptedPacket);
     Ok(())
 }
 
