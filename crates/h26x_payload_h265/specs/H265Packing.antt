@@ -54,7 +54,7 @@ h265_rules donl = record { role = λ unit. role_by (unit_type unit); needed = tr
 
 -- A fragment: the unit's header with type 49, then S, E and the unit's type, then, in the first, the unit's number, then a part of the unit.
 abbrev pub fragment : Bool → ℕ → ℕ → ℕ → Bool → Bool → List ℕ → List ℕ
-fragment donl number high low first last part = with_type high 49 ∷ low ∷ fu_byte first last (type_of high) ∷ (donl_bytes (donl && first) number ++ part)
+fragment donl number high low first last part = with_type high 49 ∷ low ∷ fu_byte first last (type_of high) ∷ (donl_bytes (first && donl) number ++ part)
 
 -- The parts of a unit behind its header, which fill the limit behind what stands before them.
 abbrev pub parts_of : Bool → ℕ → List ℕ → List (List ℕ)

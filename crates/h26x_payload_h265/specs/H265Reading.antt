@@ -16,8 +16,8 @@ use Rattle.h26x_payload_h265.specs.H265Headers.{fu_type, has_end, has_f, has_sta
 use Rattle.h26x_payload_h265.specs.H265Numbers.{dond_size, donl_size}
 
 -- The units that stand in an aggregate behind its header.
-abbrev pub units_in : Bool → List ℕ → Aggregated
-units_in donl body = aggregated (donl_size donl) (dond_size donl) body
+abbrev pub aggregated_in : Bool → List ℕ → Aggregated
+aggregated_in donl body = aggregated (donl_size donl) (dond_size donl) body
 
 -- A unit of a random access picture.
 abbrev pub is_irap_unit : List ℕ → Bool
@@ -27,7 +27,7 @@ is_irap_unit (high ∷ rest) = is_irap (type_of high)
 -- An aggregate with such a unit, behind its first byte.
 abbrev pub holds_irap : Bool → List ℕ → Bool
 holds_irap donl [] = false
-holds_irap donl (low ∷ body) = list_any is_irap_unit (units_in donl body).units
+holds_irap donl (low ∷ body) = list_any is_irap_unit (aggregated_in donl body).units
 
 -- A fragment with S of such a unit, behind its first byte.
 abbrev pub starts_irap : List ℕ → Bool
@@ -63,12 +63,12 @@ ends_short (Some PastEnd) = false
 -- A fragment without its FU header, or with S and without its number.
 abbrev pub is_fragment_short : Bool → List ℕ → Bool
 is_fragment_short donl [] = true
-is_fragment_short donl (fu ∷ part) = nat_lt (length part) (donl_size (donl && has_start fu))
+is_fragment_short donl (fu ∷ part) = nat_lt (length part) (donl_size (has_start fu && donl))
 
 -- Whether a packet is cut short behind its header: a unit alone without a byte behind header and number, an aggregate or a fragment that isn't whole.
 abbrev pub is_cut_short : Bool → PacketKind → List ℕ → Bool
 is_cut_short donl Single body = nat_le (length body) (donl_size donl)
-is_cut_short donl Aggregate body = ends_short (units_in donl body).fault
+is_cut_short donl Aggregate body = ends_short (aggregated_in donl body).fault
 is_cut_short donl FragmentKind body = is_fragment_short donl body
 is_cut_short donl Unhandled body = false
 
@@ -79,7 +79,7 @@ given_units fragment units (Some fault) = Err ErrH265CorruptedPacket
 
 -- A fragment's part of its unit.
 abbrev pub part_in : Bool → ℕ → List ℕ → List ℕ
-part_in donl fu part = drop (donl_size (donl && has_start fu)) part
+part_in donl fu part = drop (donl_size (has_start fu && donl)) part
 
 abbrev pub given_fragment : Bool → Fragment → ℕ → ℕ → List ℕ → Result Given PacketError
 given_fragment donl fragment high low [] = Err ErrShortPacket
@@ -89,7 +89,7 @@ given_fragment donl fragment high low (fu ∷ part) =
 
 abbrev pub given_by : Bool → PacketKind → Fragment → ℕ → ℕ → List ℕ → Result Given PacketError
 given_by donl Single fragment high low body = gives (behind_code (high ∷ low ∷ drop (donl_size donl) body)) fragment
-given_by donl Aggregate fragment high low body = given_units fragment (units_in donl body).units (units_in donl body).fault
+given_by donl Aggregate fragment high low body = given_units fragment (aggregated_in donl body).units (aggregated_in donl body).fault
 given_by donl FragmentKind fragment high low body = given_fragment donl fragment high low body
 given_by donl Unhandled fragment high low body = Err (NaluTypeIsNotHandled (type_of high))
 

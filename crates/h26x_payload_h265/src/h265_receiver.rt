@@ -1,7 +1,7 @@
 //! Reading H.265 payloads (RFC 7798 4.4).
 
 ghost use Rattle.h26x_payload_h265.specs.H265Numbers.{dond_size};
-ghost use Rattle.h26x_payload_h265.specs.H265Reading.{Adds, begins_by, given, given_by, given_fragment, h265_format, holds_irap, is_cut_short, is_irap_unit, shows_irap, starts_irap, units_in, was_keyframe};
+ghost use Rattle.h26x_payload_h265.specs.H265Reading.{Adds, begins_by, given, given_by, given_fragment, h265_format, holds_irap, is_cut_short, is_irap_unit, shows_irap, starts_irap, aggregated_in, was_keyframe};
 ghost use Rattle.h26x_payload_units.specs.Aggregates.{aggregated};
 ghost use Rattle.std.specs.List.{list_any};
 ghost use Rattle.std.specs.Prelude.{◌≡◌, ◌≢◌, Err, IfErr, None, OnErr, OnOk, false};
@@ -123,7 +123,7 @@ fn is_cut_short(donl: bool, kind: PacketKind, body: &[u8]) -> bool
         PacketKind::Aggregate => ends_short(donl, body),
         PacketKind::Fragment => match body.split_first() {
             Some((fu, part)) => {
-                part.len() < donl_size(donl && H265FragmentationUnitHeader(*fu).s())
+                part.len() < donl_size(H265FragmentationUnitHeader(*fu).s() && donl)
             }
             None => true,
         },
@@ -253,7 +253,7 @@ impl H265Depacketizer {
             return Err(PacketError::ErrShortPacket);
         };
         let fu = H265FragmentationUnitHeader(*fu);
-        let (_, part) = part.split_at(donl_size(self.donl && fu.s()));
+        let (_, part) = part.split_at(donl_size(fu.s() && self.donl));
         let header = [with_type(high, fu.fu_type()), low];
         self.unit.put(fu.s(), fu.e(), &header, part, out)
     }

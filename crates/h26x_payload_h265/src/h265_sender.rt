@@ -218,7 +218,7 @@ fn fragment(
     packet.push(with_type(cut.high, FRAGMENTATION_UNIT_TYPE))?;
     packet.push(cut.low)?;
     packet.push(H265FragmentationUnitHeader::new(first, last, type_of(cut.high)).0)?;
-    push_donl(form.donl && first, cut.number, &mut packet)?;
+    push_donl(first && form.donl, cut.number, &mut packet)?;
     packet.extend_from_slice(part)?;
     Ok(packet)
 }

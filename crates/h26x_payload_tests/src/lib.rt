@@ -6,4 +6,6 @@ mod annexb;
 #[cfg(test)]
 mod h264;
 #[cfg(test)]
+mod h265;
+#[cfg(test)]
 mod profiles;

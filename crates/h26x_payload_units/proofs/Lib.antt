@@ -1,3 +1,4 @@
+pub mod AggregateLaw
 pub mod AggregateLemmas
 pub mod BundleLemmas
 pub mod DepartureLemmas

@@ -1,3 +1,4 @@
+pub mod AggregateLayout
 pub mod Aggregates
 pub mod Departures
 pub mod FragmentRuns

@@ -1,5 +1,6 @@
 -- Decoding order numbers of what leaves (RFC 7798 4.4, RFC 9328 4.3): the units that are sent are counted, modulo 65,536.
-use Rattle.std.specs.Prelude.{ℕ, ◌+◌, ◌%◌, List, [], ◌∷◌, length}
+use Rattle.std.specs.Prelude.{◌≡◌, ℕ, ◌+◌, ◌%◌, ◌<◌, List, [], ◌∷◌, ◌++◌, length}
+use Rattle.std.specs.List.{flat_map}
 use Rattle.h26x_payload_units.specs.Departures.{Departure, units_in}
 
 -- What leaves, and the number of its first unit.
@@ -19,3 +20,8 @@ numbered n (d ∷ ds) = record { number = n; departure = d } ∷ numbered (numbe
 abbrev pub number_after : ℕ → List Departure → ℕ
 number_after n [] = n
 number_after n (d ∷ ds) = number_after (number_behind n d) ds
+
+-- The number behind what leaves is that of its units counted, and what leaves behind it goes on from there.
+abbrev pub NumbersLaw : Type 0
+NumbersLaw = (n : ℕ) (ds es : List Departure) → n < 65536
+    → (number_after n ds ≡ (n + length (flat_map units_in ds)) % 65536) × (numbered n (ds ++ es) ≡ numbered n ds ++ numbered (number_after n ds) es)

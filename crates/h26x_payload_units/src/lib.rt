@@ -8,5 +8,5 @@ mod laws;
 mod open_unit;
 
 pub use aggregates::{AggregateFault, aggregate_fault, aggregated_units, first_aggregated};
-pub use laws::fragments_law;
+pub use laws::{aggregates_law, fragments_law, numbers_law};
 pub use open_unit::{ANNEXB_NALUSTART_CODE, OpenUnit, push_unit, push_unit_of};
