@@ -1,7 +1,5 @@
 //! Whole runs over a small responder, and readers and writers that fail.
 
-ghost use Rattle.std.specs.Prelude.{◌≡◌};
-
 use rtp_media_lines::{
     Bytes, Command, MAX_LINE_LENGTH, Reply, Respond, RunFault, Status, run_lines, run_within,
 };
@@ -17,8 +15,6 @@ struct Echo {
 }
 
 impl Respond for Echo {
-    ghost use Rattle.std.specs.Prelude.{◌≡◌};
-
     ghost gives = { λ old command new replies. Unit {0} };
 
     fn respond(&mut self, alloc: Global, command: Command) -> Result<Vec<Reply>, AllocError> {
