@@ -1,6 +1,6 @@
 //! Payloads of the standards' layouts, and short packets.
 
-use crate::calls::{given, refusal, sent, told, unsent};
+use crate::calls::{gives, refusal, sends, tells, unsent};
 use payload_core::{
     AmrWbDepacketizer, AmrWbPacketizer, CodecExtra, ComfortNoiseDepacketizer,
     ComfortNoisePacketizer, Depacketizer, G711Depacketizer, G711Packetizer, OpusDepacketizer,
@@ -95,27 +95,30 @@ fn dialed_digits(rt: HostRuntime) -> Result<(), Fail> {
 
 #[test]
 fn telephone_reports_in_one_packet(rt: HostRuntime) -> Result<(), Fail> {
-    let packets = sent(
-        rt.alloc(),
-        &mut TelephoneEventPacketizer::new(),
-        8,
-        "054a0320068a0320",
-    )?;
-    assert_eq!(rt; packets.as_str(), " 054a0320068a0320");
-    let (unit, extra) = told(
-        rt.alloc(),
-        &mut TelephoneEventDepacketizer::new(eight_khz()?),
-        "054a0320068a0320",
-    )?;
-    assert_eq!(rt; unit.as_str(), "050a0320");
-    assert_eq!(rt;
-        extra,
-        CodecExtra::Tele(TelephoneEvent {
-            event: 5,
-            end: false,
-            volume: 10,
-            duration: 100_000_000
-        })
+    assert!(rt;
+        sends(
+            rt.alloc(),
+            &mut TelephoneEventPacketizer::new(),
+            8,
+            "054a0320068a0320",
+            " 054a0320068a0320"
+        )?
+    );
+    let extra = CodecExtra::Tele(TelephoneEvent {
+        event: 5,
+        end: false,
+        volume: 10,
+        duration: 100_000_000,
+    });
+    let mut depacketizer = TelephoneEventDepacketizer::new(eight_khz()?);
+    assert!(rt;
+        tells(
+            rt.alloc(),
+            &mut depacketizer,
+            "054a0320068a0320",
+            "050a0320",
+            extra
+        )?
     );
     Ok(())
 }
@@ -141,22 +144,40 @@ fn all_events_of_a_packet(rt: HostRuntime) -> Result<(), Fail> {
 #[test]
 fn row_9_amr_wb_layouts(rt: HostRuntime) -> Result<(), Fail> {
     let sample = "4c0102030405";
-    let aligned = sent(rt.alloc(), &mut AmrWbPacketizer::new(true), 1200, sample)?;
-    assert_eq!(rt; aligned.as_str(), " f04c0102030405");
-    let efficient = sent(rt.alloc(), &mut AmrWbPacketizer::new(false), 1200, sample)?;
-    assert_eq!(rt; efficient.as_str(), " f4c04080c10140");
-    let unit = given(
-        rt.alloc(),
-        &mut AmrWbDepacketizer::new(true),
-        "f04c0102030405",
-    )?;
-    assert_eq!(rt; unit.as_str(), sample);
-    let unit = given(
-        rt.alloc(),
-        &mut AmrWbDepacketizer::new(false),
-        "f4c04080c10140",
-    )?;
-    assert_eq!(rt; unit.as_str(), sample);
+    assert!(rt;
+        sends(
+            rt.alloc(),
+            &mut AmrWbPacketizer::new(true),
+            1200,
+            sample,
+            " f04c0102030405"
+        )?
+    );
+    assert!(rt;
+        sends(
+            rt.alloc(),
+            &mut AmrWbPacketizer::new(false),
+            1200,
+            sample,
+            " f4c04080c10140"
+        )?
+    );
+    assert!(rt;
+        gives(
+            rt.alloc(),
+            &mut AmrWbDepacketizer::new(true),
+            "f04c0102030405",
+            sample
+        )?
+    );
+    assert!(rt;
+        gives(
+            rt.alloc(),
+            &mut AmrWbDepacketizer::new(false),
+            "f4c04080c10140",
+            sample
+        )?
+    );
     Ok(())
 }
 
@@ -181,8 +202,14 @@ fn row_9_amr_wb_crossed(rt: HostRuntime) -> Result<(), Fail> {
 fn amr_wb_of_two_frames(rt: HostRuntime) -> Result<(), Fail> {
     // Mode request 15, then a comfort noise entry that is followed, and one without data.
     let mut depacketizer = AmrWbDepacketizer::new(true);
-    let unit = given(rt.alloc(), &mut depacketizer, "f0cc7c0908070605ee")?;
-    assert_eq!(rt; unit.as_str(), "4c09080706057c");
+    assert!(rt;
+        gives(
+            rt.alloc(),
+            &mut depacketizer,
+            "f0cc7c0908070605ee",
+            "4c09080706057c"
+        )?
+    );
     let short = unsent(rt.alloc(), &mut AmrWbPacketizer::new(true), 1200, "4c01")?;
     assert_eq!(rt; short, PacketError::ErrAmrWbCorruptedPacket);
     let long = unsent(
@@ -202,32 +229,55 @@ fn amr_wb_of_four_frames(rt: HostRuntime) -> Result<(), Fail> {
         ffffffffffffffffffffffffffffffffffffffffffff80";
     let frames = "04fffffffffffffffffffffffffffffffff04c00000000007c0c\
         ffffffffffffffffffffffffffffffffffffffffffff80";
-    let unit = given(rt.alloc(), &mut AmrWbDepacketizer::new(false), packet)?;
-    assert_eq!(rt; unit.as_str(), frames);
+    assert!(rt;
+        gives(
+            rt.alloc(),
+            &mut AmrWbDepacketizer::new(false),
+            packet,
+            frames
+        )?
+    );
     Ok(())
 }
 
 #[test]
 fn pieces_of_the_limit(rt: HostRuntime) -> Result<(), Fail> {
     let mut packetizer = OpusPacketizer::new();
-    let packets = sent(rt.alloc(), &mut packetizer, 2, "010203")?;
-    assert_eq!(rt; packets.as_str(), " 0102 03");
-    assert_eq!(rt; sent(rt.alloc(), &mut packetizer, 0, "01")?.len(), 0);
-    let none = sent(rt.alloc(), &mut G711Packetizer::new(), 2, "")?;
-    assert_eq!(rt; none.len(), 0);
-    let packets = sent(rt.alloc(), &mut G711Packetizer::new(), 3, "070809")?;
-    assert_eq!(rt; packets.as_str(), " 070809");
-    let unit = given(rt.alloc(), &mut G711Depacketizer::new(), "070809")?;
-    assert_eq!(rt; unit.as_str(), "070809");
+    assert!(rt; sends(rt.alloc(), &mut packetizer, 2, "010203", " 0102 03")?);
+    assert!(rt; sends(rt.alloc(), &mut packetizer, 0, "01", "")?);
+    assert!(rt; sends(rt.alloc(), &mut G711Packetizer::new(), 2, "", "")?);
+    assert!(rt;
+        sends(
+            rt.alloc(),
+            &mut G711Packetizer::new(),
+            3,
+            "070809",
+            " 070809"
+        )?
+    );
+    assert!(rt; gives(rt.alloc(), &mut G711Depacketizer::new(), "070809", "070809")?);
     Ok(())
 }
 
 #[test]
 fn noise_in_one_packet(rt: HostRuntime) -> Result<(), Fail> {
-    let packets = sent(rt.alloc(), &mut ComfortNoisePacketizer::new(), 2, "1e1f")?;
-    assert_eq!(rt; packets.as_str(), " 1e1f");
-    let unit = given(rt.alloc(), &mut ComfortNoiseDepacketizer::new(), "1e1f")?;
-    assert_eq!(rt; unit.as_str(), "1e1f");
+    assert!(rt;
+        sends(
+            rt.alloc(),
+            &mut ComfortNoisePacketizer::new(),
+            2,
+            "1e1f",
+            " 1e1f"
+        )?
+    );
+    assert!(rt;
+        gives(
+            rt.alloc(),
+            &mut ComfortNoiseDepacketizer::new(),
+            "1e1f",
+            "1e1f"
+        )?
+    );
     let refused = unsent(rt.alloc(), &mut ComfortNoisePacketizer::new(), 1, "1e1f")?;
     assert_eq!(rt; refused, PacketError::ErrPayloadTooLarge);
     Ok(())

@@ -1,7 +1,7 @@
 //! Packets of samples, sizes at each length's edge, and short packets; the bytes were put together by hand from
 //! the layout of the RTP payload format for AV1.
 
-use crate::calls::{given, refusal, sent, told, unsent};
+use crate::calls::{gives, refusal, sends, tells, unsent};
 use payload_core::{
     Av1CodecExtra, Av1Depacketizer, Av1Packetizer, CodecExtra, Depacketizer, PacketError,
     detect_av1_keyframe,
@@ -13,15 +13,12 @@ use std::test::Fail;
 fn row_10_av1(rt: HostRuntime) -> Result<(), Fail> {
     let sample = "12003203aabbcc";
     let mut packetizer = Av1Packetizer::new();
-    let whole = sent(rt.alloc(), &mut packetizer, 1500, sample)?;
-    assert_eq!(rt; whole.as_str(), " 1030aabbcc");
-    let cut = sent(rt.alloc(), &mut packetizer, 3, sample)?;
-    assert_eq!(rt; cut.as_str(), " 5030aa 90bbcc");
-    assert_eq!(rt; sent(rt.alloc(), &mut packetizer, 1, sample)?.len(), 0);
+    assert!(rt; sends(rt.alloc(), &mut packetizer, 1500, sample, " 1030aabbcc")?);
+    assert!(rt; sends(rt.alloc(), &mut packetizer, 3, sample, " 5030aa 90bbcc")?);
+    assert!(rt; sends(rt.alloc(), &mut packetizer, 1, sample, "")?);
     let mut depacketizer = Av1Depacketizer::new(rt.alloc());
-    assert_eq!(rt; given(rt.alloc(), &mut depacketizer, "90bbcc")?.len(), 0);
-    let unit = given(rt.alloc(), &mut depacketizer, "5030aa 90bbcc")?;
-    assert_eq!(rt; unit.as_str(), "3203aabbcc");
+    assert!(rt; gives(rt.alloc(), &mut depacketizer, "90bbcc", "")?);
+    assert!(rt; gives(rt.alloc(), &mut depacketizer, "5030aa 90bbcc", "3203aabbcc")?);
     Ok(())
 }
 
@@ -29,12 +26,33 @@ fn row_10_av1(rt: HostRuntime) -> Result<(), Fail> {
 fn elements_of_a_packet(rt: HostRuntime) -> Result<(), Fail> {
     let four = "1a01aa1a01bb1a01cc18dd";
     let mut packetizer = Av1Packetizer::new();
-    let three = sent(rt.alloc(), &mut packetizer, 1500, "1a01aa1a01bb1a01cc")?;
-    assert_eq!(rt; three.as_str(), " 300218aa0218bb18cc");
-    let all = sent(rt.alloc(), &mut packetizer, 1500, four)?;
-    assert_eq!(rt; all.as_str(), " 000218aa0218bb0218cc0218dd");
-    let tight = sent(rt.alloc(), &mut packetizer, 11, four)?;
-    assert_eq!(rt; tight.as_str(), " 300218aa0218bb18cc 1018dd");
+    assert!(rt;
+        sends(
+            rt.alloc(),
+            &mut packetizer,
+            1500,
+            "1a01aa1a01bb1a01cc",
+            " 300218aa0218bb18cc"
+        )?
+    );
+    assert!(rt;
+        sends(
+            rt.alloc(),
+            &mut packetizer,
+            1500,
+            four,
+            " 000218aa0218bb0218cc0218dd"
+        )?
+    );
+    assert!(rt;
+        sends(
+            rt.alloc(),
+            &mut packetizer,
+            11,
+            four,
+            " 300218aa0218bb18cc 1018dd"
+        )?
+    );
     let fault = unsent(rt.alloc(), &mut packetizer, 0, "1a02aa")?;
     assert_eq!(rt; fault, PacketError::ErrAv1CorruptedPacket);
     Ok(())
@@ -43,22 +61,35 @@ fn elements_of_a_packet(rt: HostRuntime) -> Result<(), Fail> {
 #[test]
 fn keyframes_and_sizes(rt: HostRuntime) -> Result<(), Fail> {
     let sample = "12000a0105328280000708";
-    let packets = sent(rt.alloc(), &mut Av1Packetizer::new(), 9, sample)?;
-    assert_eq!(rt; packets.as_str(), " 28020805300708");
+    assert!(rt;
+        sends(
+            rt.alloc(),
+            &mut Av1Packetizer::new(),
+            9,
+            sample,
+            " 28020805300708"
+        )?
+    );
     assert!(rt; detect_av1_keyframe(&[0x28, 2, 0x08, 5, 0x30, 7, 8]));
     assert!(rt; !detect_av1_keyframe(&[0xF7]));
     let mut depacketizer = Av1Depacketizer::new(rt.alloc());
-    let (unit, extra) = told(rt.alloc(), &mut depacketizer, "28020805300708")?;
-    assert_eq!(rt; extra, CodecExtra::Av1(Av1CodecExtra { is_keyframe: true }));
-    assert_eq!(rt; unit.as_str(), "0a010532020708");
+    let extra = CodecExtra::Av1(Av1CodecExtra { is_keyframe: true });
+    assert!(rt;
+        tells(
+            rt.alloc(),
+            &mut depacketizer,
+            "28020805300708",
+            "0a010532020708",
+            extra
+        )?
+    );
     Ok(())
 }
 
 #[test]
 fn sizes_of_elements(rt: HostRuntime) -> Result<(), Fail> {
     let mut depacketizer = Av1Depacketizer::new(rt.alloc());
-    let unit = given(rt.alloc(), &mut depacketizer, "103640810009")?;
-    assert_eq!(rt; unit.as_str(), "36400109");
+    assert!(rt; gives(rt.alloc(), &mut depacketizer, "103640810009", "36400109")?);
     let other = refusal(rt.alloc(), &mut depacketizer, "10320209")?;
     assert_eq!(rt; other, PacketError::ErrAv1CorruptedPacket);
     Ok(())

@@ -4,6 +4,7 @@
 
 use crate::calls::{outline, sent, told};
 use payload_core::{Av1CodecExtra, Av1Depacketizer, Av1Packetizer, CodecExtra};
+use std::alloc::Global;
 use std::test::Fail;
 
 // A temporal delimiter, a sequence header of 10 bytes and a frame of 250.
@@ -24,28 +25,30 @@ fn next_unit() -> &'static str {
      570720"
 }
 
+// Whether a unit is sent in packets of this outline, and they give it without its temporal delimiter and tell
+// whether it is a keyframe.
+fn goes_through(
+    alloc: Global,
+    mtu: usize,
+    unit: &str,
+    packets: &str,
+    is_keyframe: bool,
+) -> Result<bool, Fail> {
+    let sent = sent(alloc, &mut Av1Packetizer::new(), mtu, unit)?;
+    let mut depacketizer = Av1Depacketizer::new(alloc);
+    let (bytes, extra) = told(alloc, &mut depacketizer, sent.as_str())?;
+    Ok(
+        outline(alloc, sent.as_str())?.as_str() == packets
+            && Some(bytes.as_str()) == unit.strip_prefix("1200")
+            && extra == CodecExtra::Av1(Av1CodecExtra { is_keyframe }),
+    )
+}
+
 #[test]
 fn encoded_units(rt: HostRuntime) -> Result<(), Fail> {
-    let mut packetizer = Av1Packetizer::new();
-    let mut depacketizer = Av1Depacketizer::new(rt.alloc());
-    let packets = sent(rt.alloc(), &mut packetizer, 100, key_unit())?;
-    assert_eq!(rt;
-        outline(rt.alloc(), packets.as_str())?.as_str(),
-        " 68:100 d0:100 90:66"
-    );
-    let (unit, extra) = told(rt.alloc(), &mut depacketizer, packets.as_str())?;
-    assert!(rt; Some(unit.as_str()) == key_unit().strip_prefix("1200"));
-    assert_eq!(rt; extra, CodecExtra::Av1(Av1CodecExtra { is_keyframe: true }));
-    let packets = sent(rt.alloc(), &mut packetizer, 20, next_unit())?;
-    assert_eq!(rt;
-        outline(rt.alloc(), packets.as_str())?.as_str(),
-        " 50:20 d0:20 d0:20 d0:20 90:13"
-    );
-    let (unit, extra) = told(rt.alloc(), &mut depacketizer, packets.as_str())?;
-    assert!(rt; Some(unit.as_str()) == next_unit().strip_prefix("1200"));
-    assert_eq!(rt;
-        extra,
-        CodecExtra::Av1(Av1CodecExtra { is_keyframe: false })
-    );
+    let packets = " 68:100 d0:100 90:66";
+    assert!(rt; goes_through(rt.alloc(), 100, key_unit(), packets, true)?);
+    let packets = " 50:20 d0:20 d0:20 d0:20 90:13";
+    assert!(rt; goes_through(rt.alloc(), 20, next_unit(), packets, false)?);
     Ok(())
 }

@@ -22,6 +22,17 @@ pub fn sent<P: Packetizer>(
     Ok(text)
 }
 
+/// Whether a sample is sent as these packets, each in hexadecimal behind a blank.
+pub fn sends<P: Packetizer>(
+    alloc: Global,
+    packetizer: &mut P,
+    mtu: usize,
+    sample: &str,
+    packets: &str,
+) -> Result<bool, Fail> {
+    Ok(sent(alloc, packetizer, mtu, sample)?.as_str() == packets)
+}
+
 /// What packets give, in hexadecimal, and what is told of the last one. They stand in hexadecimal with
 /// blanks between them.
 pub fn told<D: Depacketizer>(
@@ -38,13 +49,26 @@ pub fn told<D: Depacketizer>(
     Ok((hex::encode(alloc, out.as_slice())?, extra))
 }
 
-/// What packets give, as [`told`].
-pub fn given<D: Depacketizer>(
+/// Whether packets give this unit, in hexadecimal.
+pub fn gives<D: Depacketizer>(
     alloc: Global,
     depacketizer: &mut D,
     packets: &str,
-) -> Result<String, Fail> {
-    Ok(told(alloc, depacketizer, packets)?.0)
+    unit: &str,
+) -> Result<bool, Fail> {
+    Ok(told(alloc, depacketizer, packets)?.0.as_str() == unit)
+}
+
+/// Whether packets give this unit, in hexadecimal, and tell this of it.
+pub fn tells<D: Depacketizer>(
+    alloc: Global,
+    depacketizer: &mut D,
+    packets: &str,
+    unit: &str,
+    extra: CodecExtra,
+) -> Result<bool, Fail> {
+    let (bytes, known) = told(alloc, depacketizer, packets)?;
+    Ok(bytes.as_str() == unit && known == extra)
 }
 
 /// What a packet in hexadecimal is refused with.

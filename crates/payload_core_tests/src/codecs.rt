@@ -5,12 +5,12 @@ use std::test::Fail;
 
 #[test]
 fn names_of_codecs(rt: HostRuntime) {
-    assert_eq!(rt; Codec::from("OPUS"), Codec::Opus);
-    assert_eq!(rt; Codec::from("Telephone-Event"), Codec::Tele);
-    assert_eq!(rt; Codec::from("null"), Codec::Unknown);
-    assert_eq!(rt; Codec::from("opus/48000"), Codec::Unknown);
-    assert_eq!(rt; Codec::Tele.kind(), MediaKind::Audio);
-    assert_eq!(rt; Codec::Rtx.kind(), MediaKind::Video);
+    assert!(rt; Codec::from("OPUS") == Codec::Opus);
+    assert!(rt; Codec::from("Telephone-Event") == Codec::Tele);
+    assert!(rt; Codec::from("null") == Codec::Unknown);
+    assert!(rt; Codec::from("opus/48000") == Codec::Unknown);
+    assert!(rt; Codec::Tele.kind() == MediaKind::Audio);
+    assert!(rt; Codec::Rtx.kind() == MediaKind::Video);
 }
 
 #[test]

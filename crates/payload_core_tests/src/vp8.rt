@@ -1,7 +1,7 @@
 //! Packets of frames with and without ids, short packets, descriptors and patches; the bytes were put together
 //! by hand from the layout of RFC 7741 4.2.
 
-use crate::calls::{refusal, sent, told};
+use crate::calls::{refusal, sends, tells};
 use payload_core::{
     CodecExtra, Depacketizer, PacketError, Vp8CodecExtra, Vp8Depacketizer, Vp8Descriptor,
     Vp8DescriptorError, Vp8Packetizer, Vp8PatchError, detect_vp8_keyframe,
@@ -11,52 +11,58 @@ use std::test::Fail;
 #[test]
 fn row_11_vp8_without_an_id(rt: HostRuntime) -> Result<(), Fail> {
     let mut packetizer = Vp8Packetizer::with_picture_id(None);
-    let packets = sent(rt.alloc(), &mut packetizer, 3, "aabbcc")?;
-    assert_eq!(rt; packets.as_str(), " 10aabb 00cc");
-    assert_eq!(rt; sent(rt.alloc(), &mut packetizer, 1, "aa")?.len(), 0);
-    assert_eq!(rt; sent(rt.alloc(), &mut packetizer, 3, "")?.len(), 0);
+    assert!(rt; sends(rt.alloc(), &mut packetizer, 3, "aabbcc", " 10aabb 00cc")?);
+    assert!(rt; sends(rt.alloc(), &mut packetizer, 1, "aa", "")?);
+    assert!(rt; sends(rt.alloc(), &mut packetizer, 3, "", "")?);
     Ok(())
 }
 
 #[test]
 fn ids_of_three_widths(rt: HostRuntime) -> Result<(), Fail> {
     let mut packetizer = Vp8Packetizer::with_picture_id(Some(32_767));
-    let long = sent(rt.alloc(), &mut packetizer, 9, "01")?;
-    assert_eq!(rt; long.as_str(), " 9080ffff01");
-    let none = sent(rt.alloc(), &mut packetizer, 9, "01")?;
-    assert_eq!(rt; none.as_str(), " 1001");
-    let short = sent(rt.alloc(), &mut packetizer, 9, "01")?;
-    assert_eq!(rt; short.as_str(), " 90800101");
+    assert!(rt; sends(rt.alloc(), &mut packetizer, 9, "01", " 9080ffff01")?);
+    assert!(rt; sends(rt.alloc(), &mut packetizer, 9, "01", " 1001")?);
+    assert!(rt; sends(rt.alloc(), &mut packetizer, 9, "01", " 90800101")?);
     Ok(())
 }
 
+// The picture id of a payload, where it has a descriptor with one.
+fn id_of(payload: &[u8]) -> Option<u16> {
+    match Vp8Descriptor::parse(payload) {
+        Ok(descriptor) => descriptor.picture_id(),
+        Err(_) => None,
+    }
+}
+
+// The pictures 17 and 4711 of RFC 7741 4.5, and a packet without an id.
 #[test]
 fn ids_of_the_examples(rt: HostRuntime) -> Result<(), Fail> {
-    // The pictures 17 and 4711 of RFC 7741 4.5, and a packet without an id.
-    let short = Vp8Descriptor::parse(&[0x90, 0x80, 0x11, 0x30])?;
-    assert_eq!(rt; short.picture_id(), Some(17));
-    let long = Vp8Descriptor::parse(&[0x90, 0x80, 0x92, 0x67, 0x30])?;
-    assert_eq!(rt; long.picture_id(), Some(4711));
-    let none = Vp8Descriptor::parse(&[0x10, 0x31])?;
-    assert_eq!(rt; none.picture_id(), None);
+    assert_eq!(rt; id_of(&[0x90, 0x80, 0x11, 0x30]), Some(17));
+    assert_eq!(rt; id_of(&[0x90, 0x80, 0x92, 0x67, 0x30]), Some(4711));
+    assert_eq!(rt; id_of(&[0x10, 0x31]), None);
+    assert!(rt; Vp8Descriptor::parse(&[0x10, 0x31]).is_ok());
     let mut packetizer = Vp8Packetizer::with_picture_id(Some(4711));
-    let packets = sent(rt.alloc(), &mut packetizer, 6, "300102")?;
-    assert_eq!(rt; packets.as_str(), " 908092673001 8080926702");
+    let packets = " 908092673001 8080926702";
+    assert!(rt; sends(rt.alloc(), &mut packetizer, 6, "300102", packets)?);
     Ok(())
 }
 
 #[test]
 fn descriptor_with_all_fields(rt: HostRuntime) -> Result<(), Fail> {
     let mut depacketizer = Vp8Depacketizer::new();
-    let (unit, extra) = told(rt.alloc(), &mut depacketizer, "90f0810207053031")?;
-    assert_eq!(rt; unit.as_str(), "3031");
-    assert_eq!(rt;
-        extra,
-        CodecExtra::Vp8(Vp8CodecExtra {
-            is_keyframe: true,
-            picture_id: Some(258),
-            tl0_pic_idx: Some(7)
-        })
+    let extra = CodecExtra::Vp8(Vp8CodecExtra {
+        is_keyframe: true,
+        picture_id: Some(258),
+        tl0_pic_idx: Some(7),
+    });
+    assert!(rt;
+        tells(
+            rt.alloc(),
+            &mut depacketizer,
+            "90f0810207053031",
+            "3031",
+            extra
+        )?
     );
     let cut = refusal(rt.alloc(), &mut depacketizer, "90f081020705")?;
     assert_eq!(rt; cut, PacketError::ErrVP8CorruptedPacket);

@@ -1,7 +1,7 @@
 //! Packets of frames, and descriptors that were joined from their fields' bits in the order of RFC 9628 4.2
 //! by a packer of its own.
 
-use crate::calls::{refusal, sent, told};
+use crate::calls::{gives, refusal, sends, tells};
 use payload_core::{
     CodecExtra, Depacketizer, PacketError, Vp9CodecExtra, Vp9Depacketizer, Vp9Packetizer,
 };
@@ -10,14 +10,20 @@ use std::test::Fail;
 #[test]
 fn frames_with_ids(rt: HostRuntime) -> Result<(), Fail> {
     let mut packetizer = Vp9Packetizer::with_picture_id(32_767);
-    let packets = sent(rt.alloc(), &mut packetizer, 5, "aabbcc")?;
-    assert_eq!(rt; packets.as_str(), " 98ffffaabb 94ffffcc");
-    let again = sent(rt.alloc(), &mut packetizer, 9, "01")?;
-    assert_eq!(rt; again.as_str(), " 9c800001");
+    assert!(rt;
+        sends(
+            rt.alloc(),
+            &mut packetizer,
+            5,
+            "aabbcc",
+            " 98ffffaabb 94ffffcc"
+        )?
+    );
+    assert!(rt; sends(rt.alloc(), &mut packetizer, 9, "01", " 9c800001")?);
     let mut fresh = Vp9Packetizer::new();
-    assert_eq!(rt; sent(rt.alloc(), &mut fresh, 3, "01")?.len(), 0);
-    assert_eq!(rt; sent(rt.alloc(), &mut fresh, 9, "")?.len(), 0);
-    assert_eq!(rt; sent(rt.alloc(), &mut fresh, 4, "01")?.len(), 9);
+    assert!(rt; sends(rt.alloc(), &mut fresh, 3, "01", "")?);
+    assert!(rt; sends(rt.alloc(), &mut fresh, 9, "", "")?);
+    assert!(rt; sends(rt.alloc(), &mut fresh, 4, "01", " 9c800001")?);
     Ok(())
 }
 
@@ -32,9 +38,7 @@ fn picture(id: u16) -> CodecExtra {
 fn descriptor_with_all_fields(rt: HostRuntime) -> Result<(), Fail> {
     let mut depacketizer = Vp9Depacketizer::new();
     let packet = "fa8102250b123802800168050002d00214012801025566";
-    let (unit, extra) = told(rt.alloc(), &mut depacketizer, packet)?;
-    assert_eq!(rt; unit.as_str(), "5566");
-    assert!(rt; extra == picture(258));
+    assert!(rt; tells(rt.alloc(), &mut depacketizer, packet, "5566", picture(258))?);
     let cut = "fa8102250b123802800168050002d0021401280102";
     let cut = refusal(rt.alloc(), &mut depacketizer, cut)?;
     assert_eq!(rt; cut, PacketError::ErrVP9CorruptedPacket);
@@ -44,11 +48,16 @@ fn descriptor_with_all_fields(rt: HostRuntime) -> Result<(), Fail> {
 #[test]
 fn other_descriptors(rt: HostRuntime) -> Result<(), Fail> {
     let mut depacketizer = Vp9Depacketizer::new();
-    let (unit, extra) = told(rt.alloc(), &mut depacketizer, "ac05250777")?;
-    assert_eq!(rt; unit.as_str(), "77");
-    assert!(rt; extra == picture(5));
-    let (unit, _) = told(rt.alloc(), &mut depacketizer, "5403050688 03e80099")?;
-    assert_eq!(rt; unit.as_str(), "8899");
+    assert!(rt;
+        tells(
+            rt.alloc(),
+            &mut depacketizer,
+            "ac05250777",
+            "77",
+            picture(5)
+        )?
+    );
+    assert!(rt; gives(rt.alloc(), &mut depacketizer, "5403050688 03e80099", "8899")?);
     let more = refusal(rt.alloc(), &mut depacketizer, "54030507")?;
     assert_eq!(rt; more, PacketError::ErrTooManyPDiff);
     Ok(())
