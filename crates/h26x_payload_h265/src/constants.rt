@@ -33,5 +33,11 @@ pub const FRAGMENT_HEADER_SIZE: usize = 3;
 /// How many bytes a decoding order number has.
 pub const DONL_SIZE: usize = 2;
 
+/// How many bytes the difference to the decoding order number before has.
+pub const DOND_SIZE: usize = 1;
+
+/// How many bytes the size of an aggregated unit has.
+pub const NALU_LENGTH_SIZE: usize = 2;
+
 /// No packet is longer.
 pub const MAX_PACKET_SIZE: usize = 1200;

@@ -1,12 +1,13 @@
 //! Reading H.265 payloads (RFC 7798 4.4).
 
-ghost use Rattle.h26x_payload_h265.specs.H265Numbers.{dond_size};
 ghost use Rattle.h26x_payload_h265.specs.H265Reading.{Adds, begins_by, given, given_by, given_fragment, h265_format, holds_irap, is_cut_short, is_irap_unit, shows_irap, starts_irap, aggregated_in, was_keyframe};
 ghost use Rattle.h26x_payload_units.specs.Aggregates.{aggregated};
 ghost use Rattle.std.specs.List.{list_any};
 ghost use Rattle.std.specs.Prelude.{◌≡◌, ◌≢◌, Err, IfErr, None, OnErr, OnOk, false};
 
-use crate::headers::{PacketKind, donl_size, has_f, is_irap, kind_of, type_of, with_type};
+use crate::headers::{
+    PacketKind, dond_size, donl_size, has_f, is_irap, kind_of, type_of, with_type,
+};
 use crate::nalu_header::H265FragmentationUnitHeader;
 use h26x_payload_units::{
     AggregateFault, OpenUnit, aggregate_fault, aggregated_units, first_aggregated, push_unit_of,
@@ -20,13 +21,6 @@ pub struct H265Depacketizer {
     alloc: Global,
     donl: bool,
     unit: OpenUnit,
-}
-
-// How many bytes DOND has, where it is sent.
-fn dond_size(donl: bool) -> usize
-    ensures { result ≡ dond_size donl }
-{
-    if donl { 1 } else { 0 }
 }
 
 // Whether a unit is of a random access picture.

@@ -1,11 +1,9 @@
 //! Sending H.265 payloads (RFC 7798 4.4).
 
 ghost use Rattle.h26x_payload_annexb.specs.Units.{units_of};
-ghost use Rattle.h26x_payload_h265.specs.H265Headers.{layer_of, tid_of};
-ghost use Rattle.h26x_payload_h265.specs.H265Numbers.{dond_bytes, donl_bytes, donl_size};
-ghost use Rattle.h26x_payload_h265.specs.H265Packing.{aggregate, alone_packets, fragment, fragments_of, h265_packing, h265_rules, packets_of, role_by, single, unit_type};
+ghost use Rattle.h26x_payload_h265.specs.H265Numbers.{donl_size};
+ghost use Rattle.h26x_payload_h265.specs.H265Packing.{fragment, fragments_of, h265_packing, h265_rules, packets_of, role_by, unit_type};
 ghost use Rattle.h26x_payload_h265.specs.H265Waiting.{waiting_in};
-ghost use Rattle.h26x_payload_units.specs.Aggregates.{sized};
 ghost use Rattle.h26x_payload_units.specs.Departures.{alone, departing, departures, together, waiting_after, waiting_behind};
 ghost use Rattle.h26x_payload_units.specs.Departures.Role.{Leaves};
 ghost use Rattle.h26x_payload_units.specs.Fragments.{in_fragments};
@@ -15,11 +13,11 @@ ghost use Rattle.std.specs.List.{flat_map};
 ghost use Rattle.std.specs.Prelude.{[], ◌∷◌, ◌≡◌, ◌++◌, ◌+◌, ◌-◌, ◌≤◌, IfErr, IfOk, None, OnOk, false, length, map, option_map};
 
 use crate::constants::{
-    AUD_NALU_TYPE, FILLER_NALU_TYPE, FRAGMENT_HEADER_SIZE, FRAGMENTATION_UNIT_TYPE,
-    MAX_PACKET_SIZE, NALU_HEADER_SIZE, PPS_NALU_TYPE, SPS_NALU_TYPE, VPS_NALU_TYPE,
+    AUD_NALU_TYPE, FILLER_NALU_TYPE, FRAGMENT_HEADER_SIZE, MAX_PACKET_SIZE, NALU_HEADER_SIZE,
+    NALU_LENGTH_SIZE, PPS_NALU_TYPE, SPS_NALU_TYPE, VPS_NALU_TYPE,
 };
-use crate::headers::{donl_size, type_of, with_type};
-use crate::nalu_header::H265FragmentationUnitHeader;
+use crate::h265_packets::{Cut, Form, aggregate, fragment, single, single_size};
+use crate::headers::{dond_size, donl_size, type_of};
 use h26x_payload_annexb::nal_units;
 use payload_core_base::{PacketError, Packetizer};
 use std::alloc::Global;
@@ -44,14 +42,6 @@ pub struct H265Packetizer {
     pps: Option<Vec<u8>>,
 }
 
-// How units are sent: with decoding order numbers or without, and the limit.
-#[derive(Clone, Copy, Drop)]
-struct Form {
-    alloc: Global,
-    donl: bool,
-    limit: usize,
-}
-
 // What is kept from unit to unit within a sample: the decoding order number of the next one, and the parameter sets
 // that wait.
 #[derive(Clone, Copy, Drop)]
@@ -72,89 +62,6 @@ fn unit_type(unit: &[u8]) -> u8
     }
 }
 
-// The layer of a unit, below 64. A byte that is not there counts as 0.
-fn layer_of(unit: &[u8]) -> u8
-    ensures { result ≡ layer_of unit.now }
-{
-    match unit {
-        [] => 0,
-        [high] => *high % 2 * 32,
-        [high, low, ..] => *high % 2 * 32 + *low / 8 % 32,
-    }
-}
-
-// TID of a unit, below 8. A byte that is not there counts as 0.
-fn tid_of(unit: &[u8]) -> u8
-    ensures { result ≡ tid_of unit.now }
-{
-    match unit {
-        [_, low, ..] => *low % 8,
-        _ => 0,
-    }
-}
-
-// Writes a decoding order number, where it is sent.
-fn push_donl(donl: bool, number: u16, out: &mut Vec<u8>) -> Result<(), PacketError>
-    ensures written { OnOk result (out.new.items ≡ out.old.items ++ donl_bytes donl number) }
-    ensures memory { IfErr result (λ e. e ≡ PacketError.Memory) }
-{
-    if donl {
-        out.push((number / 256) as u8)?;
-        out.push((number % 256) as u8)?;
-    }
-    Ok(())
-}
-
-// Writes a unit behind its size.
-fn push_sized(unit: &[u8], out: &mut Vec<u8>) -> Result<(), PacketError>
-    requires { length unit.now ≤ 65535 }
-    ensures written { OnOk result (out.new.items ≡ out.old.items ++ sized unit.now) }
-    ensures memory { IfErr result (λ e. e ≡ PacketError.Memory) }
-{
-    out.push((unit.len() / 256) as u8)?;
-    out.push((unit.len() % 256) as u8)?;
-    out.extend_from_slice(unit)?;
-    Ok(())
-}
-
-// Writes a later unit of an aggregate: DOND 0, where decoding order numbers are sent, and the unit behind its size.
-fn push_later(donl: bool, unit: &[u8], out: &mut Vec<u8>) -> Result<(), PacketError>
-    requires { length unit.now ≤ 65535 }
-    ensures written { OnOk result (out.new.items ≡ out.old.items ++ (dond_bytes donl ++ sized unit.now)) }
-    ensures memory { IfErr result (λ e. e ≡ PacketError.Memory) }
-{
-    if donl {
-        out.push(0)?;
-    }
-    push_sized(unit, out)
-}
-
-// The aggregate of three parameter sets.
-fn aggregate(
-    form: Form,
-    number: u16,
-    vps: &[u8],
-    sps: &[u8],
-    pps: &[u8],
-) -> Result<Vec<u8>, PacketError>
-    requires vps { length vps.now ≤ 65535 }
-    requires sps { length sps.now ≤ 65535 }
-    requires pps { length pps.now ≤ 65535 }
-    ensures packet { IfOk result (λ p. p.items ≡ aggregate form.donl number (vps.now ∷ sps.now ∷ pps.now ∷ [])) }
-    ensures memory { IfErr result (λ e. e ≡ PacketError.Memory) }
-{
-    let layer = layer_of(vps).min(layer_of(sps).min(layer_of(pps)));
-    let tid = tid_of(vps).min(tid_of(sps).min(tid_of(pps)));
-    let mut packet = Vec::new(form.alloc);
-    packet.push(96 + layer / 32)?;
-    packet.push(layer % 32 * 8 + tid)?;
-    push_donl(form.donl, number, &mut packet)?;
-    push_sized(vps, &mut packet)?;
-    push_later(form.donl, sps, &mut packet)?;
-    push_later(form.donl, pps, &mut packet)?;
-    Ok(packet)
-}
-
 // Sends three parameter sets together, where they can leave; the number of the next unit.
 fn push_together(
     form: Form,
@@ -171,56 +78,14 @@ fn push_together(
     if vps.len() > MAX_AGGREGATED || sps.len() > MAX_AGGREGATED || pps.len() > MAX_AGGREGATED {
         return Ok(number);
     }
-    let numbers = if form.donl { 4 } else { 0 };
-    let size = NALU_HEADER_SIZE + 6 + numbers + vps.len() + sps.len() + pps.len();
+    let numbers = donl_size(form.donl) + 2 * dond_size(form.donl);
+    let sizes = 3 * NALU_LENGTH_SIZE + vps.len() + sps.len() + pps.len();
+    let size = NALU_HEADER_SIZE + numbers + sizes;
     if size > form.limit {
         return Ok(number);
     }
     packets.push(aggregate(form, number, vps, sps, pps)?)?;
     Ok(number.wrapping_add(3))
-}
-
-// A unit alone.
-fn single(form: Form, number: u16, unit: &[u8]) -> Result<Vec<u8>, PacketError>
-    ensures packet { IfOk result (λ p. p.items ≡ single form.donl number unit.now) }
-    ensures memory { IfErr result (λ e. e ≡ PacketError.Memory) }
-{
-    if unit.len() <= NALU_HEADER_SIZE {
-        return Ok(Vec::from_slice(form.alloc, unit)?);
-    }
-    let (header, body) = unit.split_at(NALU_HEADER_SIZE);
-    let mut packet = Vec::from_slice(form.alloc, header)?;
-    push_donl(form.donl, number, &mut packet)?;
-    packet.extend_from_slice(body)?;
-    Ok(packet)
-}
-
-// A unit that is cut into fragments: the number and the header.
-#[derive(Clone, Copy, Drop)]
-struct Cut {
-    number: u16,
-    high: u8,
-    low: u8,
-}
-
-// A fragment of a unit.
-fn fragment(
-    form: Form,
-    cut: Cut,
-    first: bool,
-    last: bool,
-    part: &[u8],
-) -> Result<Vec<u8>, PacketError>
-    ensures packet { IfOk result (λ p. p.items ≡ fragment form.donl cut.number cut.high cut.low first last part.now) }
-    ensures memory { IfErr result (λ e. e ≡ PacketError.Memory) }
-{
-    let mut packet = Vec::new(form.alloc);
-    packet.push(with_type(cut.high, FRAGMENTATION_UNIT_TYPE))?;
-    packet.push(cut.low)?;
-    packet.push(H265FragmentationUnitHeader::new(first, last, type_of(cut.high)).0)?;
-    push_donl(first && form.donl, cut.number, &mut packet)?;
-    packet.extend_from_slice(part)?;
-    Ok(packet)
 }
 
 // Sends the later fragments of a unit.
@@ -268,16 +133,6 @@ fn push_fragments(
     let (part, rest) = body.split_at(room.min(body.len()));
     packets.push(fragment(form, cut, true, rest.is_empty(), part)?)?;
     push_later_fragments(form, cut, rest, packets)
-}
-
-// How many bytes a unit has alone.
-fn single_size(form: Form, unit: &[u8]) -> usize
-    ensures { result ≡ length (single form.donl 0 unit.now) }
-{
-    if unit.len() <= NALU_HEADER_SIZE {
-        return unit.len();
-    }
-    unit.len() + donl_size(form.donl)
 }
 
 // Sends a unit by itself, where it can leave; the number of the next unit.

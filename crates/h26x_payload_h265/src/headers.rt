@@ -1,10 +1,10 @@
 //! What the first bytes of H.265 packets say (RFC 7798 1.1.4 and 4.2).
 
 ghost use Rattle.h26x_payload_h265.specs.H265Headers.{has_f, is_irap, kind_of, type_of, with_type};
-ghost use Rattle.h26x_payload_h265.specs.H265Numbers.{donl_size};
+ghost use Rattle.h26x_payload_h265.specs.H265Numbers.{dond_size, donl_size};
 ghost use Rattle.std.specs.Prelude.{◌≡◌, ◌<◌};
 
-use crate::constants::{AGGREGATION_PACKET_TYPE, DONL_SIZE, FRAGMENTATION_UNIT_TYPE};
+use crate::constants::{AGGREGATION_PACKET_TYPE, DOND_SIZE, DONL_SIZE, FRAGMENTATION_UNIT_TYPE};
 
 /// What a packet is by its type (RFC 7798 4.2).
 #[derive(Clone, Copy, Drop)]
@@ -37,7 +37,7 @@ pub fn has_f(high: u8) -> bool
 pub fn is_irap(nalu_type: u8) -> bool
     ensures { result ≡ is_irap nalu_type }
 {
-    16 <= nalu_type && nalu_type <= 23
+    matches!(nalu_type, 16..=23)
 }
 
 /// What a packet is by its first byte.
@@ -65,4 +65,11 @@ pub fn donl_size(donl: bool) -> usize
     ensures { result ≡ donl_size donl }
 {
     if donl { DONL_SIZE } else { 0 }
+}
+
+/// How many bytes the difference to the number before has, if there is one.
+pub fn dond_size(donl: bool) -> usize
+    ensures { result ≡ dond_size donl }
+{
+    if donl { DOND_SIZE } else { 0 }
 }

@@ -2,6 +2,7 @@
 #![tactic(auto)]
 
 mod constants;
+mod h265_packets;
 mod h265_receiver;
 mod h265_sender;
 mod headers;

@@ -80,16 +80,14 @@ impl H265NALUHeader {
     pub fn is_idr_picture(&self) -> bool
         ensures { result ≡ is_idr (word_type self.now.0) }
     {
-        let nalu_type = self.nalu_type();
-        19 <= nalu_type && nalu_type <= 20
+        matches!(self.nalu_type(), 19..=20)
     }
 
     /// Whether the unit is of a random access picture: types 16 to 23.
     pub fn is_irap(&self) -> bool
         ensures { result ≡ is_irap (word_type self.now.0) }
     {
-        let nalu_type = self.nalu_type();
-        16 <= nalu_type && nalu_type <= 23
+        matches!(self.nalu_type(), 16..=23)
     }
 }
 
