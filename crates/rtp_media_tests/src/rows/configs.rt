@@ -1,19 +1,24 @@
 //! Configs.
 
 use sdp_formats_rows::{Codec, CodecConfig, FormatParams, Frequency, Pt};
+use std::alloc::AllocError;
 use std::test::Fail;
+
+fn enable_opus(config: &mut CodecConfig, enabled: bool, red: bool) -> Result<(), AllocError> {
+    config.enable_opus(enabled, red)
+}
 
 #[test]
 fn opus_is_replaced(rt: HostRuntime) -> Result<(), Fail> {
     let mut config = CodecConfig::empty(rt.alloc());
-    config.enable_opus(true, true)?;
+    enable_opus(&mut config, true, true)?;
     config.enable_vp8(true)?;
-    config.enable_opus(true, false)?;
+    enable_opus(&mut config, true, false)?;
     assert_eq!(rt; config.params().len(), 2);
     assert_eq!(rt; config.params()[0].spec().codec, Codec::Vp8);
     assert_eq!(rt; config.params()[1].pt(), Pt::from(111));
     assert_eq!(rt; config.params()[1].red(), None);
-    config.enable_opus(false, false)?;
+    enable_opus(&mut config, false, false)?;
     assert_eq!(rt; config.params().len(), 1);
     config.clear();
     assert_eq!(rt; config.params().len(), 0);

@@ -1,6 +1,6 @@
 use rtp_media_texts::{Extmap, SdpError, SessionText};
 use rtp_wire::{Direction, Mid, Pt, SessionId, Ssrc};
-use std::alloc::Global;
+use std::alloc::{AllocError, Global};
 use std::test::Fail;
 
 /// A text of the first session, of section 0 and type 111, with these SSRCs.
@@ -14,6 +14,14 @@ fn offer(alloc: Global, direction: Direction, transport_cc: bool, ssrcs: Vec<Ssr
         transport_cc,
         ssrcs,
     }
+}
+
+fn print(alloc: Global, text: &SessionText) -> Result<String, AllocError> {
+    text.print(alloc)
+}
+
+fn parse(alloc: Global, text: &str) -> Result<SessionText, SdpError> {
+    SessionText::parse(alloc, text)
 }
 
 #[test]
@@ -39,9 +47,9 @@ fn extensions_and_no_feedback(rt: HostRuntime) -> Result<(), Fail> {
         m=audio 9 UDP/TLS/RTP/SAVPF 111\r\nc=IN IP4 0.0.0.0\r\na=mid:0\r\na=inactive\r\n\
         a=extmap:4 urn:ietf:params:rtp-hdrext:sdes:mid\r\n\
         a=rtpmap:111 opus/48000/2\r\na=fmtp:111 minptime=10;useinbandfec=1\r\n";
-    let printed = text.print(alloc)?;
+    let printed = print(alloc, &text)?;
     assert_eq!(rt; printed.as_str(), wanted);
-    let read = SessionText::parse(alloc, printed.as_str())?;
+    let read = parse(alloc, printed.as_str())?;
     assert_eq!(rt; read.extmaps.len(), 1);
     assert_eq!(rt; read.extmaps[0].id, 4);
     assert_eq!(rt;
