@@ -1,10 +1,10 @@
 //! Frames of a toy codec, in and out of order, and what a payloader sends.
 
-use crate::calls::PayloadList;
+use crate::calls::{PayloadList, sends};
 use payload_core::{
     CodecExtra, Depacketizer, DepacketizingBuffer, PacketError, Payloader, RtpMeta,
 };
-use payload_core_toy::{AnyDepacketizer, ToyDepacketizer, ToyPacketizer};
+use payload_core_toy::{AnyDepacketizer, AnyPacketizer, ToyDepacketizer, ToyPacketizer};
 use rtp_wire::{ExtensionValues, SeqNo};
 use std::alloc::Global;
 use std::test::Fail;
@@ -142,6 +142,13 @@ fn over_a_boxed_depacketizer(rt: HostRuntime) -> Result<(), Fail> {
     let mut buffer = DepacketizingBuffer::new(alloc, boxed, 0);
     push(alloc, &mut buffer, meta(1, 0, false), "0101")?;
     assert!(rt; pops_behind(alloc, &mut buffer, meta(2, 0, true), "0302", "1 2 0102")?);
+    Ok(())
+}
+
+#[test]
+fn a_boxed_packetizer(rt: HostRuntime) -> Result<(), Fail> {
+    let mut boxed = AnyPacketizer::Boxed(Box::new(rt.alloc(), ToyPacketizer::new())?);
+    assert!(rt; sends(rt.alloc(), &mut boxed, 3, "010203", " 010102 0303")?);
     Ok(())
 }
 
