@@ -171,3 +171,31 @@ fn headers_h265(rt: HostRuntime) {
     let fu = H265FragmentationUnitHeader::new(true, false, 19);
     assert!(rt; fu.0 == 0x93 && fu.s() && !fu.e() && fu.fu_type() == 19);
 }
+
+// Whether a fresh depacketizer takes a packet.
+fn is_read(alloc: Global, packet: &[u8]) -> bool {
+    let mut out = Vec::new(alloc);
+    let mut extra = CodecExtra::None;
+    H265Depacketizer::new(alloc)
+        .depacketize(packet, &mut out, &mut extra)
+        .is_ok()
+}
+
+#[test]
+fn every_short_packet_h265(rt: HostRuntime) {
+    let mut ones: u32 = 0;
+    let mut twos: u32 = 0;
+    for a in 0..=255u8 {
+        if is_read(rt.alloc(), &[a]) {
+            ones = ones.saturating_add(1);
+        }
+        for b in 0..=255u8 {
+            if is_read(rt.alloc(), &[a, b]) {
+                twos = twos.saturating_add(1);
+            }
+        }
+    }
+    // Aggregates without a unit: type 48 and F clear.
+    assert_eq!(rt; ones, 0);
+    assert_eq!(rt; twos, 2 * 256);
+}
