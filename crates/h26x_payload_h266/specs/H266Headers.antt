@@ -31,7 +31,7 @@ abbrev pub has_f : ℕ → Bool
 has_f high = nat_le 128 high
 
 abbrev pub type_of : ℕ → ℕ
-type_of low = low / 8 % 32
+type_of low = low / 8
 
 -- Types 0 to 27 are units that stand alone, 28 is an aggregate, 29 a fragment.
 abbrev pub kind_of : ℕ → PacketKind

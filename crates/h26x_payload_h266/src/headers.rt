@@ -23,7 +23,7 @@ pub enum PacketKind {
 pub fn type_of(low: u8) -> u8
     ensures { result ≡ type_of low }
 {
-    low / 8 % 32
+    low / 8
 }
 
 /// F in the first byte of a header.
