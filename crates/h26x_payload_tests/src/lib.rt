@@ -8,4 +8,6 @@ mod h264;
 #[cfg(test)]
 mod h265;
 #[cfg(test)]
+mod h266;
+#[cfg(test)]
 mod profiles;

@@ -1,0 +1,12 @@
+use Rattle.std.proofs.Common.{◌≡◌, length}
+use Rattle.std.specs.List.{list_any}
+use Rattle.h26x_payload_units.specs.Aggregates.{aggregated}
+use Rattle.h26x_payload_h266.specs.H266Reading.{is_irap_unit}
+use Rattle.h26x_payload_h266.proofs.h266_receiver.has_irap.Given as goal
+
+-- what was passed over is none
+abbrev pub invariant-loop-rest : goal.invariant-loop-rest
+invariant-loop-rest l = list_any is_irap_unit (aggregated l.lead 0 l.rest).units ≡ list_any is_irap_unit (aggregated l.initial.lead 0 l.body).units
+
+abbrev pub decreases-loop-rest : goal.decreases-loop-rest
+decreases-loop-rest l = length l.rest

@@ -1,0 +1,64 @@
+-- What H.266 packets of a sample are to a receiver.
+use Rattle.std.specs.Prelude.{◌≡◌, ℕ, ◌+◌, ◌<◌, ◌≤◌, Bool, List, [], ◌∷◌, length, map, None}
+use Rattle.std.specs.List.{flat_map}
+use Rattle.h26x_payload_annexb.specs.Units.{units_of}
+use Rattle.payload_core_base.specs.Format.{Run, read_all}
+use Rattle.payload_core_base.specs.Law.{AreFull, AreWithin, CodecLaw, Coding}
+use Rattle.payload_core_base.specs.Packing.{Sender}
+use Rattle.payload_core_base.specs.declared.extra.CodecExtra.{CodecExtra}
+use Rattle.h26x_payload_units.specs.Departures.{EachUnit, units_sent}
+use Rattle.h26x_payload_units.specs.Fragments.{behind_code}
+use Rattle.h26x_payload_h266.specs.H266Headers.{type_of}
+use Rattle.h26x_payload_h266.specs.H266Numbers.{donl_size}
+use Rattle.h26x_payload_h266.specs.H266Packing.{fragments_of, h266_packing, h266_rules, least_limit, packets_sent}
+use Rattle.h26x_payload_h266.specs.H266Reading.{h266_format}
+
+-- F, the topmost bit of its header, is clear, its type is one of 0 to 27, and it has a byte behind its header.
+abbrev pub IsSendable : List ℕ → Type 0
+IsSendable [] = ⊥
+IsSendable (high ∷ []) = ⊥
+IsSendable (high ∷ low ∷ body) = (high < 128) × (type_of low ≤ 27) × (0 < length body)
+
+abbrev pub AreSendable : List (List ℕ) → Type 0
+AreSendable units = EachUnit IsSendable units
+
+-- The units that are sent of a sample.
+abbrev pub h266_units_sent : Bool → Sender → ℕ → List ℕ → List (List ℕ)
+h266_units_sent donl s mtu sample = units_sent (h266_rules donl) (least_limit mtu) s.waiting (units_of sample)
+
+-- The units that are sent, each behind a start code, are the parts of one unit, unless there are none.
+abbrev pub unit_of : List (List ℕ) → List (List (List ℕ))
+unit_of [] = []
+unit_of (u ∷ us) = map behind_code (u ∷ us) ∷ []
+
+abbrev pub h266_coding : Bool → Coding
+h266_coding donl = record {
+  packing = h266_packing donl;
+  format = h266_format donl;
+  IsReached = λ sender. Unit {0};
+  IsWellFormed = λ limit sample. AreSendable (units_of sample);
+  units = λ sender limit sample. unit_of (h266_units_sent donl sender limit sample);
+}
+
+-- The run had no fault, gave these units, each behind a start code, and left no fragment open.
+pub record GivesUnits (run : Run) (units : List (List ℕ)) : Type 0 where
+  pub no_fault : run.fault ≡ None
+  pub written : run.written ≡ flat_map behind_code units
+  pub closed : run.fragment ≡ None
+
+-- With decoding order numbers or without, H.266 keeps the codec law.
+abbrev pub KeepsCodecLaw : Type 0
+KeepsCodecLaw = (donl : Bool) → CodecLaw (h266_coding donl)
+
+-- A well-formed sample's packets give just the units that are sent of it.
+abbrev pub UnitsLaw : Type 0
+UnitsLaw = (donl : Bool) (s : Sender) (mtu : ℕ) (sample : List ℕ) (extra : CodecExtra) → AreSendable (units_of sample)
+    → GivesUnits (read_all (h266_format donl) None extra (packets_sent donl s mtu sample)) (h266_units_sent donl s mtu sample)
+
+-- No packet of any sample passes the limit, nor 1,200 bytes.
+abbrev pub WithinLaw : Type 0
+WithinLaw = (donl : Bool) (s : Sender) (mtu : ℕ) (sample : List ℕ) → AreWithin (least_limit mtu) (packets_sent donl s mtu sample)
+
+-- Each fragment of a unit but the last fills the limit.
+abbrev pub FullLaw : Type 0
+FullLaw = (donl : Bool) (limit number : ℕ) (unit : List ℕ) → 4 + donl_size donl ≤ limit → AreFull limit (fragments_of donl limit number unit)
