@@ -1,3 +1,4 @@
+pub mod Wrapping
 pub mod Cutting
 pub mod Polling
 pub mod Draining

@@ -1,5 +1,6 @@
-use Rattle.std.specs.Prelude.{ℕ, ◌<◌, Bool, ◌==◌, ◌&&◌, if◌then◌else◌, List, [], ◌∷◌, length, Option, Some, None}
-use Rattle.rtp_wire.specs.Header.{header_in}
+use Rattle.std.specs.Prelude.{ℕ, ◌<◌, Bool, ◌==◌, ◌&&◌, if◌then◌else◌, List, [], ◌∷◌, length, Option, Some, None, option_and_then}
+use Rattle.rtp_wire.specs.Header.{header_in, payload_in}
+use Rattle.rtp_wire.specs.Padding.{unpadded}
 use Rattle.rtp_wire.specs.Replay.{is_accepted}
 use Rattle.rtp_wire.specs.Values.{Numbering, absent}
 use Rattle.rtp_wire.specs.declared.ExtensionValues.{ExtensionValues}
@@ -10,22 +11,25 @@ use Rattle.payload_core_buffer.specs.Packets.{Packet}
 use Rattle.rtp_wire.specs.Replay.{Window}
 use Rattle.rtp_media_runs.specs.Heard.{Stream, fresh, number_at, taken_by, polled}
 use Rattle.rtp_media_runs.specs.Opus.{content_of}
+use Rattle.rtp_media_streams.specs.Redundant.{brought}
+use Rattle.rtp_media_streams.specs.Types.{has_type, share_type}
+use Rattle.rtp_media_streams.specs.declared.types.PayloadTypes.{PayloadTypes}
 
--- A receiving stream: whose datagrams it takes, by SSRC and payload type (RFC 3550 5.1), the numbers of
+-- A receiving stream: whose datagrams it takes, by SSRC and payload types (RFC 3550 5.1), the numbers of
 -- their header extensions (RFC 8285 5), and what it keeps of them.
 pub record Receiving : Type 0 where
   pub ssrc : ℕ
-  pub pt : ℕ
+  pub types : PayloadTypes
   pub map : Numbering
   pub stream : Stream
 
 -- a stream that heard nothing
-abbrev pub opened_receiver : ℕ → ℕ → Numbering → ℕ → Receiving
-opened_receiver ssrc pt map hold_back = record { ssrc = ssrc; pt = pt; map = map; stream = fresh hold_back }
+abbrev pub opened_receiver : ℕ → PayloadTypes → Numbering → ℕ → Receiving
+opened_receiver ssrc types map hold_back = record { ssrc = ssrc; types = types; map = map; stream = fresh hold_back }
 
 -- the same stream with other things kept
 abbrev pub with_stream : Receiving → Stream → Receiving
-with_stream r s = record { ssrc = r.ssrc; pt = r.pt; map = r.map; stream = s }
+with_stream r s = record { ssrc = r.ssrc; types = r.types; map = r.map; stream = s }
 
 abbrev pub values_of_header : Option RtpHeader → ExtensionValues
 values_of_header None = absent
@@ -35,9 +39,18 @@ values_of_header (Some h) = h.ext_vals
 abbrev pub values_read : Numbering → List ℕ → ExtensionValues
 values_read map datagram = values_of_header (header_in map datagram)
 
--- whether these datagrams are its own
+-- whether datagrams of this SSRC and type are its own
 abbrev pub is_own : Receiving → ℕ → ℕ → Bool
-is_own r ssrc pt = (r.ssrc == ssrc) && (r.pt == pt)
+is_own r ssrc pt = (r.ssrc == ssrc) && has_type r.types pt
+
+-- whether it has this SSRC and one of these payload types
+abbrev pub is_receiving : Receiving → ℕ → PayloadTypes → Bool
+is_receiving r ssrc types = (r.ssrc == ssrc) && share_type r.types types
+
+-- What a datagram of its own brings it: the payload without padding (RFC 3550 5.1) and, under the RED
+-- type, without redundancy (RFC 2198).
+abbrev pub media_payload : PayloadTypes → RtpHeader → List ℕ → Option (List ℕ)
+media_payload types header datagram = option_and_then (brought types header.payload_type) (unpadded header.has_padding (payload_in header datagram))
 
 -- the number of a datagram with these low bits, where it is taken
 abbrev pub taken_number : Stream → ℕ → Option ℕ

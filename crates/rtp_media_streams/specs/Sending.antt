@@ -1,34 +1,65 @@
-use Rattle.std.specs.Prelude.{ℕ, ◌+◌, ◌%◌, ◌^◌, Bool, true, false, not, ◌==◌, ◌&&◌, ◌||◌, nat_lt, nat_le, if◌then◌else◌, is_none, List, [], ◌∷◌, ◌++◌, length, replicate, map, Option, Some, None}
+use Rattle.std.specs.Prelude.{ℕ, ◌≡◌, ◌≢◌, ◌+◌, ◌-◌, ◌%◌, ◌^◌, Bool, true, false, not, ◌==◌, ◌&&◌, ◌||◌, nat_lt, nat_le, if◌then◌else◌, is_none, List, [], ◌∷◌, ◌++◌, length, replicate, map, Option, Some, None}
 use Rattle.rtp_wire.specs.Time.{Time, rebased_ticks, checked_rebased}
 use Rattle.rtp_wire.specs.Header.{spelled, image, two_byte_length}
 use Rattle.rtp_wire.specs.Maps.{is_empty_map}
 use Rattle.rtp_wire.specs.Values.{Numbering}
 use Rattle.rtp_wire.specs.declared.ExtensionValues.{ExtensionValues}
 use Rattle.rtp_wire.specs.declared.header.RtpHeader.{RtpHeader}
+use Rattle.payload_core_red.specs.RedHistory.{AreDistances, Redundancy}
 use Rattle.rtp_media_runs.specs.Opus.{Timed, timed, payloads_of}
+use Rattle.rtp_media_streams.specs.Redundant.{wraps, kept_after}
+use Rattle.rtp_media_streams.specs.Types.{share_type}
+use Rattle.rtp_media_streams.specs.declared.types.PayloadTypes.{PayloadTypes}
 use Rattle.rtp_media_streams.specs.declared.errors.SampleError.{SampleError}
 use Rattle.rtp_media_streams.specs.declared.errors.SampleError.TheVariants.{StreamFailed, TimeTooLarge, LimitTooSmall}
 
--- A sending stream: its SSRC and payload type (RFC 3550 5.1), the numbers of its header extensions (RFC
--- 8285 5), the clock rate of its timestamps, the number of its next datagram, the most bytes of a
--- payload and of a datagram, and whether memory was wanting in it.
+-- A sending stream: its SSRC, the payload types of its row and the one of its datagrams (RFC 3550 5.1),
+-- the numbers of its header extensions (RFC 8285 5), the clock rate of its timestamps, the number of its
+-- next datagram, the most bytes of a payload and of a datagram, what it keeps to send once more, where it
+-- adds redundancy (RFC 2198), and whether memory was wanting in it.
 pub record Sending : Type 0 where
   pub ssrc : ℕ
-  pub pt : ℕ
+  pub types : PayloadTypes
+  pub wire_type : ℕ
   pub map : Numbering
   pub rate : ℕ
   pub next : ℕ
   pub mtu : ℕ
   pub limit : ℕ
+  pub redundancy : Option Redundancy
   pub failed : Bool
 
 -- a stream that sent nothing
-abbrev pub opened_sender : ℕ → ℕ → Numbering → ℕ → ℕ → ℕ → ℕ → Sending
-opened_sender ssrc pt map rate first mtu limit = record { ssrc = ssrc; pt = pt; map = map; rate = rate; next = first; mtu = mtu; limit = limit; failed = false }
+abbrev pub opened_sender : ℕ → PayloadTypes → Numbering → ℕ → ℕ → ℕ → ℕ → Sending
+opened_sender ssrc types map rate first mtu limit = record {
+  ssrc = ssrc;
+  types = types;
+  wire_type = types.pt;
+  map = map;
+  rate = rate;
+  next = first;
+  mtu = mtu;
+  limit = limit;
+  redundancy = None;
+  failed = false;
+}
 
--- whether it has this SSRC and payload type
-abbrev pub is_sending : Sending → ℕ → ℕ → Bool
-is_sending s ssrc pt = (s.ssrc == ssrc) && (s.pt == pt)
+-- the stream that adds redundancy at these distances, under this type
+abbrev pub redundant_sender : Sending → ℕ → List ℕ → Sending
+redundant_sender s red distances = record s { wire_type = red; redundancy = Some (record { distances = distances; history = [] }) }
+
+-- Its datagrams have the row's type; with redundancy they have another, the row's RED type, and the
+-- distances are those of a sender.
+abbrev pub IsTypedBy : PayloadTypes → ℕ → Option Redundancy → Type 0
+IsTypedBy types wire None = wire ≡ types.pt
+IsTypedBy types wire (Some r) = (types.red ≡ Some wire) × (wire ≢ types.pt) × AreDistances r.distances
+
+abbrev pub IsTyped : Sending → Type 0
+IsTyped s = IsTypedBy s.types s.wire_type s.redundancy
+
+-- whether it has this SSRC and one of these payload types
+abbrev pub is_sending : Sending → ℕ → PayloadTypes → Bool
+is_sending s ssrc types = (s.ssrc == ssrc) && share_type s.types types
 
 -- The header of a datagram under an SSRC, a payload type and a map: an extension block exactly where the map
 -- has header extensions, no padding, and no contributing source (RFC 3550 5.1).
@@ -50,7 +81,7 @@ stamped ssrc pt map number marker time values = record {
 
 -- The header of a datagram of a stream: audio sets no marker here (RFC 7587 4.1).
 abbrev pub header_of : Sending → ℕ → ℕ → ExtensionValues → RtpHeader
-header_of s number time values = stamped s.ssrc s.pt s.map number false time values
+header_of s number time values = stamped s.ssrc s.wire_type s.map number false time values
 
 -- The datagram of a number: its header, and behind it the payload.
 abbrev pub datagram_of : Sending → ℕ → Timed → List ℕ
@@ -73,25 +104,50 @@ carried s values = (image s.map (header_of s 0 0 values)).ext_vals
 abbrev pub as_carried : Sending → Timed → Timed
 as_carried s sample = timed sample.time (carried s sample.values) sample.bytes
 
+-- the most bytes of a piece of a sample, with or without redundancy: one byte less where it is added
+abbrev pub limit_of_pieces : ℕ → Option Redundancy → ℕ
+limit_of_pieces mtu None = mtu
+limit_of_pieces mtu (Some r) = mtu - 1
+
+abbrev pub piece_limit : Sending → ℕ
+piece_limit s = limit_of_pieces s.mtu s.redundancy
+
 -- the payloads of a sample
 abbrev pub sent_payloads : Sending → Time → ExtensionValues → List ℕ → List Timed
-sent_payloads s time values bytes = payloads_of s.mtu (sample_of s time values bytes)
+sent_payloads s time values bytes = payloads_of (piece_limit s) (sample_of s time values bytes)
+
+-- Payloads as they go on the wire: as they are, or each behind older ones.
+abbrev pub on_wire : ℕ → ℕ → Option Redundancy → List Timed → List Timed
+on_wire pt mtu None ps = ps
+on_wire pt mtu (Some r) ps = wraps pt mtu r ps
+
+abbrev pub wire_payloads : Sending → List Timed → List Timed
+wire_payloads s ps = on_wire s.types.pt s.mtu s.redundancy ps
+
+-- what is kept after payloads
+abbrev pub still_kept : ℕ → Option Redundancy → List Timed → Option Redundancy
+still_kept pt None ps = None
+still_kept pt (Some r) ps = Some (kept_after pt r ps)
 
 -- The datagrams of a sample: its pieces, numbered from the stream's next number on.
 abbrev pub sent_datagrams : Sending → Time → ExtensionValues → List ℕ → List (List ℕ)
-sent_datagrams s time values bytes = datagrams_from s s.next (sent_payloads s time values bytes)
+sent_datagrams s time values bytes = datagrams_from s s.next (wire_payloads s (sent_payloads s time values bytes))
 
--- the stream with another next number
-abbrev pub with_next : Sending → ℕ → Sending
-with_next s next = record { ssrc = s.ssrc; pt = s.pt; map = s.map; rate = s.rate; next = next; mtu = s.mtu; limit = s.limit; failed = s.failed }
+-- the stream with another next number and other payloads kept
+abbrev pub with_next : Sending → ℕ → Option Redundancy → Sending
+with_next s next kept = record s { next = next; redundancy = kept }
+
+-- the stream after payloads
+abbrev pub after_payloads : Sending → List Timed → Sending
+after_payloads s ps = with_next s (s.next + length ps) (still_kept s.types.pt s.redundancy ps)
 
 -- The stream after a sample.
 abbrev pub after_sample : Sending → Time → ExtensionValues → List ℕ → Sending
-after_sample s time values bytes = with_next s (s.next + length (sent_payloads s time values bytes))
+after_sample s time values bytes = after_payloads s (sent_payloads s time values bytes)
 
--- the stream in which memory was wanting
+-- the stream in which memory was wanting: it sends no more, and keeps nothing for that
 abbrev pub failed_stream : Sending → Sending
-failed_stream s = record { ssrc = s.ssrc; pt = s.pt; map = s.map; rate = s.rate; next = s.next; mtu = s.mtu; limit = s.limit; failed = true }
+failed_stream s = record s { redundancy = None; failed = true }
 
 -- The longest datagram that a stream may make of a sample with these values: a whole payload behind the
 -- header with its values in the two-byte form (RFC 8285 4.3).

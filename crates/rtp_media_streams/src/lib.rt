@@ -5,13 +5,16 @@ mod datagram;
 mod errors;
 mod laws;
 mod media_unit;
+mod payload;
 mod receiver;
 mod sender;
 mod sink;
+mod types;
 
 pub use datagram::Datagram;
 pub use errors::{PollFault, SampleError};
-pub use laws::datagrams_laws;
+pub use laws::{datagrams_laws, redundancy_laws};
 pub use media_unit::Unit;
 pub use receiver::ReceivingStream;
 pub use sender::SendingStream;
+pub use types::PayloadTypes;

@@ -1,16 +1,18 @@
 //! Receiving streams.
 
-ghost use Rattle.std.specs.Prelude.{◌≡◌, ◌<◌, IfErr, IfOk, IsOk, None, OnErr, OnOk, OnSome, Option, Some, length};
+ghost use Rattle.std.specs.Prelude.{◌≡◌, ◌<◌, ◌≤◌, IfErr, IfOk, IsOk, MatchOption, None, OnErr, OnOk, OnSome, Option, Some, length};
 ghost use Rattle.rtp_wire.specs.Replay.{Window, greatest_in, is_accepted, recorded_in};
 ghost use Rattle.rtp_wire.specs.Widening.{widened};
 ghost use Rattle.payload_core_buffer.specs.Buffered.{pushed};
 ghost use Rattle.payload_core_buffer.specs.Packets.{packet_from};
 ghost use Rattle.rtp_media_runs.specs.Heard.{poll_answer, polled};
 ghost use Rattle.rtp_media_streams.specs.Polls.{IsPolled};
-ghost use Rattle.rtp_media_streams.specs.Receiving.{HaveBytes, opened_receiver, stream_of, with_stream, is_own, taken_number, arrived, values_read, polled_receiver};
+ghost use Rattle.rtp_media_streams.specs.Receiving.{HaveBytes, opened_receiver, stream_of, with_stream, is_own, is_receiving, media_payload, taken_number, arrived, values_read, polled_receiver};
 
 use crate::errors::PollFault;
 use crate::media_unit::Unit;
+use crate::payload::media_payload;
+use crate::types::PayloadTypes;
 use payload_core_audio::OpusDepacketizer;
 use payload_core_base::PacketError;
 use payload_core_buffer::{DepacketizingBuffer, RtpMeta};
@@ -25,7 +27,7 @@ use std::marker::Model;
 pub struct ReceivingStream {
     alloc: Global,
     ssrc: Ssrc,
-    pt: Pt,
+    types: PayloadTypes,
     exts: ExtensionMap,
     window: Option<SeqNoWindow>,
     buffer: DepacketizingBuffer<OpusDepacketizer>,
@@ -40,7 +42,7 @@ impl Model for ReceivingStream {
 
     ghost coded = { Prim.hlevel (codes, window_code) };
 
-    ghost view = { λ r. record { ssrc = r.ssrc; pt = r.pt; map = r.exts; stream = stream_of r.window r.buffer } };
+    ghost view = { λ r. record { ssrc = r.ssrc; types = r.types; map = r.exts; stream = stream_of r.window r.buffer } };
 
     ghost invariant = { λ r. HaveBytes r.buffer.held };
 }
@@ -109,15 +111,21 @@ fn pop(buffer: &mut DepacketizingBuffer<OpusDepacketizer>) -> Result<Option<Unit
 }
 
 impl ReceivingStream {
-    /// A stream of this SSRC, payload type and map of header extensions that heard nothing. Past a
-    /// missing packet a frame is handed out only once more than `hold_back` frames are complete.
-    pub fn new(alloc: Global, ssrc: Ssrc, pt: Pt, exts: ExtensionMap, hold_back: usize) -> Self
-        ensures { result ≡ opened_receiver ssrc pt exts hold_back }
+    /// A stream of this SSRC, these payload types and this map of header extensions that heard nothing.
+    /// Past a missing packet a frame is handed out only once more than `hold_back` frames are complete.
+    pub fn new(
+        alloc: Global,
+        ssrc: Ssrc,
+        types: PayloadTypes,
+        exts: ExtensionMap,
+        hold_back: usize,
+    ) -> Self
+        ensures { result ≡ opened_receiver ssrc types exts hold_back }
     {
         ReceivingStream {
             alloc,
             ssrc,
-            pt,
+            types,
             exts,
             window: None,
             buffer: DepacketizingBuffer::new(alloc, OpusDepacketizer::new(), hold_back),
@@ -128,7 +136,24 @@ impl ReceivingStream {
     pub fn is_own(&self, ssrc: Ssrc, pt: Pt) -> bool
         ensures { result ≡ is_own self.now ssrc pt }
     {
-        self.ssrc.get() == ssrc.get() && self.pt.get() == pt.get()
+        self.ssrc.get() == ssrc.get() && self.types.has(pt)
+    }
+
+    /// Whether the stream has this SSRC and one of these payload types.
+    pub fn shares(&self, ssrc: Ssrc, types: &PayloadTypes) -> bool
+        ensures { result ≡ is_receiving self.now ssrc types.now }
+    {
+        self.ssrc.get() == ssrc.get() && self.types.share(types)
+    }
+
+    /// What a datagram of its own brings it: the payload without padding (RFC 3550 5.1) and, under the
+    /// RED type, without redundancy (RFC 2198). None where the padding doesn't fit, redundancy can't be
+    /// read, or its primary payload has another type.
+    pub fn media_payload<'a>(&self, header: &RtpHeader, datagram: &'a [u8]) -> Option<&'a [u8]>
+        requires { header.now.header_len ≤ length datagram.now }
+        ensures { MatchOption result (media_payload self.now.types header.now datagram.now ≡ None) (λ media. media_payload self.now.types header.now datagram.now ≡ Some media.now) }
+    {
+        media_payload(&self.types, header, datagram)
     }
 
     /// The values of a datagram's header extensions, by the stream's map; none where no header is

@@ -1,18 +1,21 @@
 //! Sending streams.
 
-ghost use Rattle.std.specs.Prelude.{◌≡◌, ◌≢◌, ◌<◌, ◌≤◌, ◌+◌, ◌%◌, ◌^◌, Some, None, OnOk, IfOk, IfErr, length};
+ghost use Rattle.std.specs.Prelude.{◌≡◌, ◌≢◌, ◌<◌, ◌≤◌, ◌+◌, ◌%◌, ◌^◌, Some, None, OnOk, OnErr, IfOk, IfErr, length};
 ghost use Rattle.rtp_wire.specs.Time.{rebased_ticks};
 ghost use Rattle.rtp_media_runs.specs.Opus.{timed, payloads_of};
-ghost use Rattle.rtp_media_streams.specs.Sending.{opened_sender, is_sending, header_of, datagrams_from, sent_datagrams, after_sample, failed_stream, refusal_of_sample};
+ghost use Rattle.rtp_media_streams.specs.Sending.{opened_sender, redundant_sender, is_sending, header_of, piece_limit, wire_payloads, still_kept, with_next, datagrams_from, sent_datagrams, after_sample, failed_stream, refusal_of_sample};
+ghost use Rattle.payload_core_red.specs.RedHistory.{AreDistances};
 
 use crate::datagram::Datagram;
 use crate::errors::SampleError;
 use crate::sink::{DatagramSink, Stamp};
+use crate::types::PayloadTypes;
 use payload_core_audio::OpusPacketizer;
 use payload_core_base::PacketError;
 use payload_core_buffer::Payloader;
+use payload_core_red::{RedSender, RedSink};
 use rtp_wire::{ExtensionMap, ExtensionValues, Frequency, MediaTime, Pt, Ssrc};
-use std::alloc::Global;
+use std::alloc::{AllocError, Global};
 use std::marker::Model;
 
 /// The first number that is no longer sent.
@@ -22,8 +25,10 @@ const END_OF_NUMBERS: u64 = 0x4000_0000_0000_0000;
 #[derive(Drop)]
 pub struct SendingStream {
     alloc: Global,
+    types: PayloadTypes,
     stamp: Stamp,
     payloader: Payloader<OpusPacketizer>,
+    redundancy: Option<RedSender>,
     rate: Frequency,
     next: u64,
     mtu: usize,
@@ -39,12 +44,14 @@ impl Model for SendingStream {
 
     ghost view = { λ s. record {
       ssrc = s.stamp.ssrc;
-      pt = s.stamp.pt;
+      types = s.types;
+      wire_type = s.stamp.pt;
       map = s.stamp.exts;
       rate = s.rate;
       next = s.next;
       mtu = s.mtu;
       limit = s.limit;
+      redundancy = s.redundancy;
       failed = s.failed;
     } };
 
@@ -52,26 +59,29 @@ impl Model for SendingStream {
 }
 
 impl SendingStream {
-    /// A stream of this SSRC, payload type, map of header extensions and clock rate that sent nothing:
-    /// its datagrams are numbered from `first`, no payload passes `mtu` bytes and no datagram `limit`.
+    /// A stream of this SSRC, these payload types, this map of header extensions and this clock rate that
+    /// sent nothing: its datagrams are numbered from `first`, no payload passes `mtu` bytes and no
+    /// datagram `limit`. It adds no redundancy.
     pub fn new(
         alloc: Global,
         ssrc: Ssrc,
-        pt: Pt,
+        types: PayloadTypes,
         exts: ExtensionMap,
         rate: Frequency,
         first: u64,
         mtu: usize,
         limit: usize,
     ) -> Self
-        requires payload_type { pt < 128 }
+        requires payload_type { types.pt < 128 }
         requires mtu { 0 < mtu }
-        ensures { result ≡ opened_sender ssrc pt exts rate first mtu limit }
+        ensures { result ≡ opened_sender ssrc types exts rate first mtu limit }
     {
         SendingStream {
             alloc,
-            stamp: Stamp::new(ssrc, pt, exts),
+            types,
+            stamp: Stamp::new(ssrc, types.pt, exts),
             payloader: Payloader::new(OpusPacketizer::new()),
+            redundancy: None,
             rate,
             next: first,
             mtu,
@@ -80,11 +90,30 @@ impl SendingStream {
         }
     }
 
-    /// Whether the stream has this SSRC and payload type.
-    pub fn is_own(&self, ssrc: Ssrc, pt: Pt) -> bool
-        ensures { result ≡ is_sending self.now ssrc pt }
+    /// The stream with redundancy (RFC 2198): it sends each payload under this RED type, behind those
+    /// that were sent so many payloads before it as the distances say, as far as `mtu` has room for them.
+    ///
+    /// # Errors
+    /// `AllocError`.
+    pub fn with_red(self, red: Pt, distances: &[u32]) -> Result<Self, AllocError>
+        requires payload_type { red < 128 }
+        requires distances { AreDistances distances.now }
+        ensures { IfOk result (λ s. s ≡ redundant_sender self red distances.now) }
     {
-        self.stamp.ssrc.get() == ssrc.get() && self.stamp.pt.get() == pt.get()
+        let mut stream = self;
+        let Ok(sender) = RedSender::new(stream.alloc, distances) else {
+            return Err(AllocError);
+        };
+        stream.stamp = stream.stamp.with_type(red);
+        stream.redundancy = Some(sender);
+        Ok(stream)
+    }
+
+    /// Whether the stream has this SSRC and one of these payload types.
+    pub fn shares(&self, ssrc: Ssrc, types: &PayloadTypes) -> bool
+        ensures { result ≡ is_sending self.now ssrc types.now }
+    {
+        self.stamp.ssrc.get() == ssrc.get() && self.types.share(types)
     }
 
     /// The clock rate of its timestamps, in ticks a second.
@@ -96,7 +125,8 @@ impl SendingStream {
 
     /// The datagrams of a sample, each of at most `limit` bytes with a payload of at most `mtu`: its
     /// pieces one after the other, under consecutive numbers and one timestamp, each with all values
-    /// that the stream's map has a number for. An empty sample has none and uses no number.
+    /// that the stream's map has a number for. With redundancy a piece is one byte shorter at most, and
+    /// stands behind older ones. An empty sample has none and uses no number.
     ///
     /// # Errors
     /// The first that holds of `StreamFailed`, `TimeTooLarge` and `LimitTooSmall`, which change
@@ -121,6 +151,7 @@ impl SendingStream {
                 Ok(datagrams)
             }
             Err(_) => {
+                self.redundancy = None;
                 self.failed = true;
                 Err(SampleError::Memory)
             }
@@ -156,12 +187,24 @@ impl SendingStream {
         values: &ExtensionValues,
     ) -> Result<Vec<Datagram>, PacketError>
         requires { self.old.next < 2 ^ 62 }
-        ensures sent { IfOk result (λ ds. ds.items ≡ datagrams_from self.old self.old.next (payloads_of self.old.mtu (timed time values.now bytes.now))) }
-        ensures unchanged { self.new ≡ self.old }
+        ensures sent { let ps = payloads_of (piece_limit self.old) (timed time values.now bytes.now) in
+            IfOk result (λ ds. ds.items ≡ datagrams_from self.old self.old.next (wire_payloads self.old ps)) }
+        ensures kept { let ps = payloads_of (piece_limit self.old) (timed time values.now bytes.now) in
+            OnOk result (self.new ≡ with_next self.old self.old.next (still_kept self.old.types.pt self.old.redundancy ps)) }
+        ensures failed { OnErr result (failed_stream self.new ≡ failed_stream self.old) }
     {
-        let mut sink = DatagramSink::new(self.alloc, &self.stamp, self.next);
+        let sink = DatagramSink::new(self.alloc, &self.stamp, self.next);
+        let Some(sender) = self.redundancy.take() else {
+            let mut sink = sink;
+            self.payloader
+                .push_sample(self.alloc, &mut sink, self.mtu, time, bytes, values)?;
+            return Ok(sink.into_datagrams());
+        };
+        let mut sink = RedSink::new(sink, sender, self.types.pt.get(), self.mtu);
         self.payloader
-            .push_sample(self.alloc, &mut sink, self.mtu, time, bytes, values)?;
+            .push_sample(self.alloc, &mut sink, self.mtu - 1, time, bytes, values)?;
+        let (sink, sender) = sink.into_parts();
+        self.redundancy = Some(sender);
         Ok(sink.into_datagrams())
     }
 }

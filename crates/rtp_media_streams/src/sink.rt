@@ -31,6 +31,20 @@ impl Stamp {
         Stamp { ssrc, pt, exts }
     }
 
+    /// The stamp with another payload type.
+    pub fn with_type(self, pt: Pt) -> Self
+        requires { pt < 128 }
+        ensures ssrc { result.ssrc ≡ self.ssrc }
+        ensures pt { result.pt ≡ pt }
+        ensures exts { result.exts ≡ self.exts }
+    {
+        Stamp {
+            ssrc: self.ssrc,
+            pt,
+            exts: self.exts,
+        }
+    }
+
     /// The header of the datagram of this number.
     pub fn header(
         &self,
