@@ -1,24 +1,23 @@
 use Rattle.std.specs.Prelude.{ℕ, Bool, List, [], ◌∷◌, Option, Some, None, position}
-use Rattle.rtp_wire.specs.Header.{header_in, payload_in}
+use Rattle.rtp_wire.specs.Header.{header_in}
 use Rattle.rtp_wire.specs.Maps.{empty_map}
 use Rattle.rtp_wire.specs.declared.ExtensionValues.{ExtensionValues}
-use Rattle.rtp_wire.specs.Padding.{unpadded}
 use Rattle.rtp_wire.specs.declared.header.RtpHeader.{RtpHeader}
-use Rattle.rtp_media_streams.specs.Receiving.{Receiving, is_own, taken_number, arrived, values_read, with_stream}
+use Rattle.rtp_media_streams.specs.Receiving.{Receiving, is_own, media_payload, taken_number, arrived, values_read, with_stream}
 use Rattle.rtp_media_ends.specs.Ends.{EndState, nth_receiver, receiver_at, with_receiver}
 use Rattle.rtp_media_ends.specs.declared.received.Received.{Received}
 use Rattle.rtp_media_ends.specs.declared.received.Received.TheVariants.{Unreadable, Foreign, Damaged, Refused, Taken}
 
--- What a datagram is to an end: no RTP packet, of no receiving stream, one of a stream's own without a
--- payload, or one of its own with the 16 bits of its number, its timestamp, its marker, the values of its
--- header extensions under the stream's map, and its payload.
+-- What a datagram is to an end: no RTP packet, of no receiving stream, one of a stream's own that brings
+-- no payload, or one of its own with the 16 bits of its number, its timestamp, its marker, the values of
+-- its header extensions under the stream's map, and the payload that it brings.
 pub data Arrival : Type 0 where
   NoHeader : Arrival
   NoStream : Arrival
   NoPayload : Arrival
   Own : (stream low time : ℕ) (marker : Bool) (values : ExtensionValues) (payload : List ℕ) → Arrival
 
--- the payload without its padding, if it has a byte
+-- the payload, if there is one and it has a byte
 abbrev pub own_of : ℕ → RtpHeader → ExtensionValues → Option (List ℕ) → Arrival
 own_of stream header values None = NoPayload
 own_of stream header values (Some []) = NoPayload
@@ -27,7 +26,7 @@ own_of stream header values (Some (byte ∷ bytes)) = Own stream header.sequence
 abbrev pub arrival_for : List Receiving → Option ℕ → RtpHeader → List ℕ → Arrival
 arrival_for receivers None header datagram = NoStream
 arrival_for receivers (Some stream) header datagram =
-    own_of stream header (values_read (nth_receiver receivers stream).map datagram) (unpadded header.has_padding (payload_in header datagram))
+    own_of stream header (values_read (nth_receiver receivers stream).map datagram) (media_payload (nth_receiver receivers stream).types header datagram)
 
 -- the number of the receiving stream of an SSRC and a payload type
 abbrev pub stream_for : List Receiving → ℕ → ℕ → Option ℕ

@@ -2,11 +2,13 @@ use Rattle.std.specs.Prelude.{ℕ, Bool, not, ◌==◌, List, [], ◌∷◌, ◌
 use Rattle.std.specs.List.{list_any}
 use Rattle.rtp_wire.specs.Maps.{empty_map}
 use Rattle.rtp_wire.specs.Values.{Numbering}
-use Rattle.rtp_media_streams.specs.Sending.{Sending, opened_sender, is_sending}
-use Rattle.rtp_media_streams.specs.Receiving.{Receiving, opened_receiver, is_own}
+use Rattle.rtp_media_streams.specs.Sending.{Sending, opened_sender, redundant_sender, is_sending}
+use Rattle.rtp_media_streams.specs.Receiving.{Receiving, opened_receiver, is_receiving}
+use Rattle.rtp_media_streams.specs.declared.types.PayloadTypes.{PayloadTypes}
 use Rattle.sdp_formats_rows.specs.Rows.{Row}
 use Rattle.rtp_media_exchange.specs.Agreement.{Agreed, section_of, agreed_row_of, agreed_map_of, is_named, own_row_agrees}
 use Rattle.rtp_media_exchange.specs.Exchanges.{Exchanged, fresh, fixed}
+use Rattle.rtp_media_ends.specs.Params.{distances_of}
 use Rattle.rtp_media_ends.specs.declared.params.StreamParams.{StreamParams}
 use Rattle.rtp_media_ends.specs.declared.errors.OpenError.{OpenError}
 use Rattle.rtp_media_ends.specs.declared.errors.OpenError.TheVariants.{NoSection, RowNotAgreed, RowDiffers, WrongDirection, SsrcNotNamed, AlreadyOpen}
@@ -35,12 +37,20 @@ with_new_sender e s = record { exchange = e.exchange; senders = e.senders ++ s �
 abbrev pub with_new_receiver : EndState → Receiving → EndState
 with_new_receiver e r = record { exchange = e.exchange; senders = e.senders; receivers = e.receivers ++ r ∷ [] }
 
+-- the payload types of a row
+abbrev pub types_of : Row → PayloadTypes
+types_of row = record { pt = row.pt; red = row.red }
+
+-- those of no row
+abbrev pub no_types : PayloadTypes
+no_types = record { pt = 0; red = None }
+
 -- the n-th stream
 abbrev pub sender_at : EndState → ℕ → Sending
-sender_at e n = slice_index_or e.senders n (opened_sender 0 0 empty_map 1 0 1 0)
+sender_at e n = slice_index_or e.senders n (opened_sender 0 no_types empty_map 1 0 1 0)
 
 abbrev pub nth_receiver : List Receiving → ℕ → Receiving
-nth_receiver receivers n = slice_index_or receivers n (opened_receiver 0 0 empty_map 0)
+nth_receiver receivers n = slice_index_or receivers n (opened_receiver 0 no_types empty_map 0)
 
 abbrev pub receiver_at : EndState → ℕ → Receiving
 receiver_at e n = nth_receiver e.receivers n
@@ -58,11 +68,11 @@ refusal_by has_row agrees flows names is_open =
 
 abbrev pub sender_refusal_in : Option Row → Option Agreed → List Sending → ℕ → ℕ → Option OpenError
 sender_refusal_in own None senders ssrc pt = Some NoSection
-sender_refusal_in own (Some a) senders ssrc pt = refusal_by (a.row.pt == pt) (own_row_agrees own a.row) a.sends (is_named a.own_ssrcs ssrc) (list_any (λ s. is_sending s ssrc pt) senders)
+sender_refusal_in own (Some a) senders ssrc pt = refusal_by (a.row.pt == pt) (own_row_agrees own a.row) a.sends (is_named a.own_ssrcs ssrc) (list_any (λ s. is_sending s ssrc (types_of a.row)) senders)
 
 abbrev pub receiver_refusal_in : Option Row → Option Agreed → List Receiving → ℕ → ℕ → Option OpenError
 receiver_refusal_in own None receivers ssrc pt = Some NoSection
-receiver_refusal_in own (Some a) receivers ssrc pt = refusal_by (a.row.pt == pt) (own_row_agrees own a.row) a.receives (is_named a.remote_ssrcs ssrc) (list_any (λ r. is_own r ssrc pt) receivers)
+receiver_refusal_in own (Some a) receivers ssrc pt = refusal_by (a.row.pt == pt) (own_row_agrees own a.row) a.receives (is_named a.remote_ssrcs ssrc) (list_any (λ r. is_receiving r ssrc (types_of a.row)) receivers)
 
 -- Why `open_sender` is refused, want of memory aside.
 unfoldable pub refusal_of_open_sender : EndState → List ℕ → ℕ → ℕ → Option OpenError
@@ -81,14 +91,37 @@ rate_of (Some row) = row.spec.clock_rate
 abbrev pub stream_map : EndState → List ℕ → Numbering
 stream_map e mid = unwrap_or (agreed_map_of e.exchange.agreed mid) empty_map
 
+-- the payload types of a new stream, and its RED type
+abbrev pub types_in : Option Row → PayloadTypes
+types_in None = no_types
+types_in (Some row) = types_of row
+
+abbrev pub red_in : Option Row → Option ℕ
+red_in None = None
+red_in (Some row) = row.red
+
+abbrev pub agreed_types : EndState → List ℕ → ℕ → PayloadTypes
+agreed_types e mid pt = types_in (agreed_row_of e.exchange.agreed mid pt)
+
+abbrev pub agreed_red : EndState → List ℕ → ℕ → Option ℕ
+agreed_red e mid pt = red_in (agreed_row_of e.exchange.agreed mid pt)
+
+-- a new stream, which adds redundancy under the RED type where distances are given
+abbrev pub with_distances : Sending → Option ℕ → Option (List ℕ) → Sending
+with_distances s red None = s
+with_distances s red (Some distances) = redundant_sender s (unwrap_or red 0) distances
+
 -- the end with a sending stream more, which sends the agreed row under the agreed map
 unfoldable pub after_open_sender : EndState → List ℕ → ℕ → ℕ → StreamParams → EndState
 after_open_sender e mid ssrc pt params =
-    with_new_sender e (opened_sender ssrc pt (stream_map e mid) (rate_of (agreed_row_of e.exchange.agreed mid pt)) params.first params.mtu params.limit)
+    with_new_sender e
+    (with_distances
+    (opened_sender ssrc (agreed_types e mid pt) (stream_map e mid) (rate_of (agreed_row_of e.exchange.agreed mid pt)) params.first params.mtu params.limit)
+    (agreed_red e mid pt) (distances_of params))
 
 -- the end with a receiving stream more, which reads under the agreed map
 unfoldable pub after_open_receiver : EndState → List ℕ → ℕ → ℕ → ℕ → EndState
-after_open_receiver e mid ssrc pt hold_back = with_new_receiver e (opened_receiver ssrc pt (stream_map e mid) hold_back)
+after_open_receiver e mid ssrc pt hold_back = with_new_receiver e (opened_receiver ssrc (agreed_types e mid pt) (stream_map e mid) hold_back)
 
 -- A fixed end without streams.
 abbrev pub fixed_end : EndState

@@ -108,7 +108,8 @@ impl End {
     }
 
     /// Opens a sending stream of this SSRC for the agreed row of a payload type, and answers its
-    /// number, counted from 0.
+    /// number, counted from 0. Where `params` has distances, it sends under the row's RED type, each
+    /// payload behind older ones (RFC 2198).
     ///
     /// # Errors
     /// The first that holds of `NoSection`, `RowNotAgreed`, `RowDiffers` (the end's own row of the type
@@ -123,7 +124,7 @@ impl End {
         pt: Pt,
         params: StreamParams,
     ) -> Result<usize, OpenError>
-        requires { IsSound params }
+        requires { IsSound (agreed_red self.old mid pt) params }
         ensures number { IfOk result (λ n. n ≡ length self.old.senders) }
         ensures opens { OnOk result (refusal_of_open_sender self.old mid ssrc pt ≡ None) }
         ensures after { OnOk result (self.new ≡ after_open_sender self.old mid ssrc pt params) }
@@ -133,16 +134,18 @@ impl End {
         let row = self.sender_row(mid, ssrc, pt)?;
         let exts = self.stream_exts(mid)?;
         let number = self.senders.len();
-        self.senders.push(SendingStream::new(
+        let stream = SendingStream::new(
             self.alloc,
             ssrc,
-            pt,
+            types_of(&row),
             exts,
             row.spec().clock_rate,
             params.first,
             params.mtu,
             params.limit,
-        ))?;
+        );
+        let stream = with_distances(self.alloc, stream, row.red(), params.red.as_deref())?;
+        self.senders.push(stream)?;
         Ok(number)
     }
 
@@ -167,10 +170,11 @@ impl End {
         ensures refused { IfErr result (λ e. e ≢ OpenError.Memory → refusal_of_open_receiver self.old mid ssrc pt ≡ Some e) }
         ensures err { OnErr result (self.new ≡ self.old) }
     {
-        self.receiver_row(mid, ssrc, pt)?;
+        let row = self.receiver_row(mid, ssrc, pt)?;
+        let types = types_of(&row);
         let exts = self.stream_exts(mid)?;
         let number = self.receivers.len();
-        self.receivers.push(ReceivingStream::new(self.alloc, ssrc, pt, exts, hold_back))?;
+        self.receivers.push(ReceivingStream::new(self.alloc, ssrc, types, exts, hold_back))?;
         Ok(number)
     }
 
@@ -200,8 +204,9 @@ impl End {
         sender.push_sample(time, bytes, values)
     }
 
-    /// Takes a datagram in, and says what it is: of the stream whose SSRC and payload type it has, a
-    /// number that is new is recorded and its payload waits to be polled.
+    /// Takes a datagram in, and says what it is: of the stream whose SSRC and one of whose payload types
+    /// it has, a number that is new is recorded and its payload waits to be polled. Under the RED type
+    /// the payload is the primary one.
     ///
     /// # Errors
     /// `ReceiveError::Memory`; the end is unchanged.
@@ -232,10 +237,10 @@ impl End {
         let Some(stream) = stream_for(&self.receivers, header.ssrc, header.payload_type) else {
             return Ok(Received::Foreign);
         };
-        let Some(payload) = payload_of(&header, datagram) else {
+        let receiver = &mut self.receivers[stream];
+        let Some(payload) = payload_of(receiver, &header, datagram) else {
             return Ok(Received::Damaged);
         };
-        let receiver = &mut self.receivers[stream];
         let values = receiver.values_read(datagram);
         let taken = receiver.receive(
             header.sequence_number,
@@ -273,12 +278,13 @@ impl End {
     fn sender_row(&self, mid: Mid, ssrc: Ssrc, pt: Pt) -> Result<PayloadParams, OpenError>
         ensures row { IfOk result (λ r. agreed_row_of self.now.exchange.agreed mid pt ≡ Some r) }
         ensures typed { OnOk result (pt < 128) }
+        ensures red { IfOk result (λ r. IsRedOf r.pt r.red) }
         ensures opens { OnOk result (refusal_of_open_sender self.now mid ssrc pt ≡ None) }
         ensures refused { IfErr result (λ e. refusal_of_open_sender self.now mid ssrc pt ≡ Some e) }
     {
         let section = section_named(&self.exchange, mid)?;
         let row = section.row_of(pt);
-        let is_open = is_sending(&self.senders, ssrc, pt);
+        let is_open = is_sending(&self.senders, ssrc, &types_of(&section.row()));
         let agrees = self.exchange.agrees_with(&section.row());
         opened_row(
             row,
@@ -298,7 +304,7 @@ impl End {
     {
         let section = section_named(&self.exchange, mid)?;
         let row = section.row_of(pt);
-        let is_open = is_receiving(&self.receivers, ssrc, pt);
+        let is_open = is_receiving(&self.receivers, ssrc, &types_of(&section.row()));
         let agrees = self.exchange.agrees_with(&section.row());
         opened_row(
             row,
@@ -359,18 +365,53 @@ fn section_named(exchange: &Exchange, mid: Mid) -> Result<&AgreedSection, OpenEr
     }
 }
 
-/// Whether one of the streams has this SSRC and payload type.
-fn is_sending(senders: &[SendingStream], ssrc: Ssrc, pt: Pt) -> bool
-    ensures { result ≡ list_any (λ s. is_sending s ssrc pt) senders.now }
+/// The payload types of a row.
+fn types_of(row: &PayloadParams) -> PayloadTypes
+    ensures { result ≡ types_of row.now }
 {
-    senders.iter().any(|s| s.is_own(ssrc, pt))
+    PayloadTypes {
+        pt: row.pt(),
+        red: row.red(),
+    }
 }
 
-/// Whether one of the streams takes this SSRC and payload type.
-fn is_receiving(receivers: &[ReceivingStream], ssrc: Ssrc, pt: Pt) -> bool
-    ensures { result ≡ list_any (λ r. is_own r ssrc pt) receivers.now }
+/// The stream with redundancy under this RED type, where there are distances.
+fn with_distances(
+    alloc: Global,
+    stream: SendingStream,
+    red: Option<Pt>,
+    distances: Option<&[u8]>,
+) -> Result<SendingStream, AllocError>
+    requires types { IsSome distances → IfSome red (λ r. r < 128) }
+    requires distances { IfSome distances (λ ds. AreDistances ds.now) }
+    ensures { IfOk result (λ s. s ≡ with_distances stream red (option_map (λ ds. ds.now) distances)) }
 {
-    receivers.iter().any(|r| r.is_own(ssrc, pt))
+    let Some(distances) = distances else {
+        return Ok(stream);
+    };
+    let Some(red) = red else {
+        return Ok(stream);
+    };
+    let distances = distances.iter().map(|d| u32::from(*d)).collect(alloc)?;
+    stream.with_red(red, &distances)
+}
+
+/// Whether one of the streams has this SSRC and one of these payload types.
+fn is_sending(senders: &[SendingStream], ssrc: Ssrc, types: &PayloadTypes) -> bool
+    ensures { result ≡ list_any (λ s. is_sending s ssrc types.now) senders.now }
+{
+    senders.iter().any(|s| s.shares(ssrc, types))
+}
+
+/// Whether one of the streams takes this SSRC and one of these payload types.
+fn is_receiving(
+    receivers: &[ReceivingStream],
+    ssrc: Ssrc,
+    types: &PayloadTypes,
+) -> bool
+    ensures { result ≡ list_any (λ r. is_receiving r ssrc types.now) receivers.now }
+{
+    receivers.iter().any(|r| r.shares(ssrc, types))
 }
 
 /// The number of the stream that takes this SSRC and payload type.
@@ -381,14 +422,18 @@ fn stream_for(receivers: &[ReceivingStream], ssrc: Ssrc, pt: Pt) -> Option<usize
     receivers.iter().position(|r| r.is_own(ssrc, pt))
 }
 
-/// The payload of a datagram without its padding, if it has a byte.
-fn payload_of<'a>(header: &RtpHeader, datagram: &'a [u8]) -> Option<&'a [u8]>
+/// The payload that a datagram brings a stream, if there is one and it has a byte.
+fn payload_of<'a>(
+    receiver: &ReceivingStream,
+    header: &RtpHeader,
+    datagram: &'a [u8],
+) -> Option<&'a [u8]>
     requires { header.now.header_len ≤ length datagram.now }
-    ensures some { (stream : ℕ) (values : ExtensionValues) → IfSome result (λ payload. own_of stream header.now values (unpadded header.now.has_padding (payload_in header.now datagram.now)) ≡ Own stream header.now.sequence_number header.now.timestamp header.now.marker values payload.now) }
+    ensures some { (stream : ℕ) (values : ExtensionValues) → IfSome result (λ payload. own_of stream header.now values (media_payload receiver.now.types header.now datagram.now) ≡ Own stream header.now.sequence_number header.now.timestamp header.now.marker values payload.now) }
     ensures byte { IfSome result (λ payload. 0 < length payload.now) }
-    ensures none { (stream : ℕ) (values : ExtensionValues) → IfNone result (own_of stream header.now values (unpadded header.now.has_padding (payload_in header.now datagram.now)) ≡ NoPayload) }
+    ensures none { (stream : ℕ) (values : ExtensionValues) → IfNone result (own_of stream header.now values (media_payload receiver.now.types header.now datagram.now) ≡ NoPayload) }
 {
-    let payload = unpad_payload(header.has_padding, &datagram[header.header_len..])?;
+    let payload = receiver.media_payload(header, datagram)?;
     if payload.is_empty() {
         return None;
     }
