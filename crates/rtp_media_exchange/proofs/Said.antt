@@ -1,10 +1,10 @@
 -- A printed text says its section again, and what was agreed by it is what it says.
-use Rattle.std.proofs.Common.{◌≡◌, ℕ, zero, suc, ◌<◌, ◌^◌, Bool, true, false, cond, List, [], ◌∷◌, length, All, None, Some, refl, arith}
+use Rattle.std.proofs.Common.{◌≡◌, ℕ, zero, suc, ◌<◌, ◌^◌, Bool, true, false, cond, List, [], ◌∷◌, length, All, Option, None, Some, refl, arith}
 use Rattle.std.specs.Str.{bytes_eq}
 use Rattle.std.specs.Prelude.{◌==◌, slice_index_or}
-use Rattle.std.specs.Option.{option_map}
+use Rattle.std.specs.Option.{option_map, option_and}
 use Rattle.rtp_wire.specs.Name.{IsName}
-use Rattle.rtp_media_texts.specs.Section.{Section, IsSound, IsSoundExtmap}
+use Rattle.rtp_media_texts.specs.Section.{Section, IsSound, IsSoundExtmap, IsRedOf}
 use Rattle.rtp_media_texts.specs.Text.{text_of}
 use Rattle.rtp_media_texts.proofs.ReadingLaw.{reading_of-text_of}
 use Rattle.rtp_media_exchange.specs.Agreement.{Agreed, AgreesOn, agreed_by_answer, agreed_by_accept, row_in}
@@ -14,18 +14,24 @@ use Rattle.rtp_media_exchange.specs.Extensions.{answered_lines, is_answered}
 use Rattle.rtp_media_exchange.specs.Sections.{Wanted}
 use Rattle.rtp_media_exchange.specs.Offers.{said_by}
 
-pub said_again : (s : Section) → IsName 16 s.mid × (0 < length s.mid) → s.pt < 128 → All IsSoundExtmap s.extmaps → s.session < 2 ^ 64 → All (λ n. n < 2 ^ 32) s.ssrcs
+pub said_again : (s : Section) → IsName 16 s.mid × (0 < length s.mid) → s.pt < 128 → IsRedOf s.pt s.red → All IsSoundExtmap s.extmaps → s.session < 2 ^ 64 → All (λ n. n < 2 ^ 32) s.ssrcs
     → said_by (text_of s) ≡ Some s
-said_again s named typed extmaps session ssrcs =
+said_again s named typed red extmaps session ssrcs =
     let sound : IsSound s = record {
       session = session;
       mid = named.0;
       named = named.1;
       extmaps = extmaps;
       pt = omega (arith, typed);
+      red = red;
       ssrcs = ssrcs;
     } in
     reading_of-text_of s sound
+
+-- the RED type of an answer is the offer's, or none
+pub red_answered : (pt : ℕ) (own offered : Option ℕ) → IsRedOf pt offered → IsRedOf pt (option_and own offered)
+red_answered pt None offered h = tt
+red_answered pt (Some red) offered h = h
 
 -- the row of an agreement by its section's name
 pub row_by_name : (is_named : Bool) (a : Agreed) (pt : ℕ) → row_in (cond is_named (Some a) None) pt ≡ cond is_named (cond (a.row.pt == pt) (Some a.row) None) None

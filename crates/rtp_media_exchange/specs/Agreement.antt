@@ -31,7 +31,7 @@ pub record Agreed : Type 0 where
 abbrev pub fixed_agreement : Agreed
 fixed_agreement = record {
   mid = 48 ∷ [];
-  row = plain_row 111 true;
+  row = plain_row 111 true None;
   map = empty_map;
   own_ssrcs = 44 ∷ [];
   remote_ssrcs = 44 ∷ [];
@@ -39,9 +39,9 @@ fixed_agreement = record {
   receives = true;
 }
 
--- The row that a text's section lists.
+-- The row that a text's section lists, with its RED type.
 abbrev pub row_listed : Section → Row
-row_listed s = plain_row s.pt s.transport_cc
+row_listed s = plain_row s.pt s.transport_cc s.red
 
 -- What the end agrees on that answers an offer: it flows as the answer says.
 abbrev pub agreed_by_answer : Section → Section → Agreed

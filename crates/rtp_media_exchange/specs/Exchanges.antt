@@ -1,6 +1,6 @@
 -- What an end keeps of its exchanges, and how each call changes it.
 use Rattle.std.specs.Prelude.{ℕ, true, ◌&&◌, Option, Some, None}
-use Rattle.std.specs.Option.{option_map}
+use Rattle.std.specs.Option.{option_map, option_and}
 use Rattle.rtp_wire.specs.Maps.{empty_map}
 use Rattle.rtp_wire.specs.Values.{Numbering}
 use Rattle.rtp_media_texts.specs.Section.{Section}
@@ -27,15 +27,16 @@ unfoldable pub fixed : Exchanged
 fixed = record {
   session = 0;
   wanted = empty_map;
-  row = Some (record (plain_row 111 true) { locked = true });
+  row = Some (record (plain_row 111 true None) { locked = true });
   pending = None;
   agreed = Some fixed_agreement;
 }
 
 -- A round of one row: it takes the type over that the other end gave it, keeps its format, uses
--- transport-wide feedback where both do, and is locked.
+-- transport-wide feedback where both do, takes the other end's RED type over where it has one itself and
+-- has none where either end has none, and is locked.
 abbrev pub after_round : Row → Section → Row
-after_round row s = record row { pt = s.pt; transport_cc = row.transport_cc && s.transport_cc; locked = true }
+after_round row s = record row { pt = s.pt; transport_cc = row.transport_cc && s.transport_cc; red = option_and row.red s.red; locked = true }
 
 abbrev pub row_after : Option Row → Section → Option Row
 row_after row s = option_map (λ r. after_round r s) row

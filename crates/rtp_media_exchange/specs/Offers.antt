@@ -32,6 +32,7 @@ offer_of session exts row wanted = record {
   direction = wanted.dir;
   extmaps = lines_of_map exts;
   pt = row.pt;
+  red = row.red;
   transport_cc = row.transport_cc;
   ssrcs = wanted.ssrcs;
 }
@@ -57,6 +58,7 @@ answer_of session exts row wanted offer = record {
   direction = answered_direction offer.direction wanted.dir;
   extmaps = answered_lines exts offer.extmaps;
   pt = (after_round row offer).pt;
+  red = (after_round row offer).red;
   transport_cc = (after_round row offer).transport_cc;
   ssrcs = wanted.ssrcs;
 }

@@ -1,5 +1,5 @@
 -- The rows that an end can agree on, and a session that can be written.
-use Rattle.std.specs.Prelude.{ℕ, Bool, false, not, ◌&&◌, ◌==◌, nat_lt, is_none, Option, None, Some}
+use Rattle.std.specs.Prelude.{ℕ, Bool, true, false, not, ◌&&◌, ◌==◌, nat_lt, is_none, Option, None, Some}
 use Rattle.payload_core_base.specs.declared.codec.Codec.TheVariants.{Opus}
 use Rattle.sdp_formats_rows.specs.declared.format.FormatParams.{FormatParams}
 use Rattle.sdp_formats_rows.specs.declared.spec.CodecSpec.{CodecSpec}
@@ -31,15 +31,23 @@ is_opus_format f =
 abbrev pub is_opus : CodecSpec → Bool
 is_opus spec = is_codec spec.codec Opus && ((spec.clock_rate == 48000) && (is_number spec.channels 2 && is_opus_format spec.format))
 
--- no retransmissions, no redundancy, and no feedback that only video has
+-- no retransmissions, and no feedback that only video has
 abbrev pub is_alone : Row → Bool
-is_alone row =
-    is_none row.resend && (is_none row.red && (not row.nack && (not row.pli && (not row.fir && not row.remb))))
+is_alone row = is_none row.resend && (not row.nack && (not row.pli && (not row.fir && not row.remb)))
 
--- A row that an end can agree on: Opus alone, under a type of 7 bits.
+-- a type of 7 bits, where there is one
+abbrev pub is_type_or_none : Option ℕ → Bool
+is_type_or_none None = true
+is_type_or_none (Some t) = nat_lt t 128
+
+-- A row that an end can agree on: Opus, under a type of 7 bits, with a RED type of 7 bits or none.
 abbrev pub is_plain_row : Row → Bool
-is_plain_row row = nat_lt row.pt 128 && (is_alone row && is_opus row.spec)
+is_plain_row row = nat_lt row.pt 128 && (is_type_or_none row.red && (is_alone row && is_opus row.spec))
 
--- the plain row of a type, with or without transport-wide feedback
-abbrev pub plain_row : ℕ → Bool → Row
-plain_row pt transport_cc = record (new_row pt None opus_spec) { transport_cc = transport_cc }
+-- Whether the RED type of a row is its type.
+abbrev pub is_wrapped_by_itself : Row → Bool
+is_wrapped_by_itself row = is_number row.red row.pt
+
+-- the plain row of a type, with or without transport-wide feedback, and with a RED type or none
+abbrev pub plain_row : ℕ → Bool → Option ℕ → Row
+plain_row pt transport_cc red = record (new_row pt None opus_spec) { transport_cc = transport_cc; red = red }

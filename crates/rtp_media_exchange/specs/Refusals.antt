@@ -13,7 +13,7 @@ use Rattle.rtp_media_exchange.specs.declared.errors.EndError.TheVariants as faul
 use Rattle.rtp_media_exchange.specs.Exchanges.{Exchanged}
 use Rattle.rtp_media_exchange.specs.Extensions.{is_writable_map}
 use Rattle.rtp_media_exchange.specs.Offers.{row_for, said_by}
-use Rattle.rtp_media_exchange.specs.Plain.{is_plain_row}
+use Rattle.rtp_media_exchange.specs.Plain.{is_plain_row, is_wrapped_by_itself}
 use Rattle.rtp_media_exchange.specs.Sections.{Wanted, only}
 
 -- Why an exchange is refused.
@@ -49,11 +49,17 @@ abbrev pub else_refused : {A : Type 0} → Option A → Option A → Option A
 else_refused (Some why) next = Some why
 else_refused None next = next
 
--- Why an end can't be made: of its rows, and of a session with attributes or bandwidth, or a header
+-- Why the types of an end's row don't stand for one thing each: its RED type is its type.
+abbrev pub types_refusal : Option Row → Option EndError
+types_refusal None = None
+types_refusal (Some row) = if is_wrapped_by_itself row then Some (fault.TypesNotDistinct row.pt) else None
+
+-- Why an end can't be made: of its rows, of their types, and of a session with attributes or bandwidth, or a header
 -- extension whose text can't stand in a line.
 abbrev pub refusal_of_new : List Row → Bool → Numbering → Option EndError
 refusal_of_new rows is_bare exts =
-    else_refused (row_refusal rows) (if is_bare && is_writable_map exts then None else Some fault.NotWritable)
+    else_refused (row_refusal rows)
+    (else_refused (types_refusal (only rows)) (if is_bare && is_writable_map exts then None else Some fault.NotWritable))
 
 -- an offer is pending, or something was agreed
 abbrev pub is_engaged : Exchanged → Bool

@@ -1,7 +1,8 @@
 //! What an exchange agreed on.
 
-ghost use Rattle.std.specs.Prelude.{◌≡◌, ◌==◌, ◌<◌, IfOk, OnSome, Some, None, [], ◌∷◌};
+ghost use Rattle.std.specs.Prelude.{◌≡◌, ◌==◌, ◌<◌, IfOk, IfSome, OnSome, Some, None, [], ◌∷◌};
 ghost use Rattle.std.specs.Str.{bytes_eq};
+ghost use Rattle.rtp_media_texts.specs.Section.{IsRedOf};
 ghost use Rattle.rtp_media_exchange.specs.Agreement.{AgreesOn, fixed_agreement, agreed_by_answer, agreed_by_accept, row_in, is_named};
 ghost use Rattle.rtp_media_exchange.specs.Extensions.{map_of_lines};
 
@@ -27,6 +28,7 @@ pub struct AgreedSection {
 
 impl Model for AgreedSection {
     ghost use Rattle.rtp_media_exchange.specs.Agreement.{Agreed};
+    ghost use Rattle.rtp_media_texts.specs.Section.{IsRedOf};
     ghost use Rattle.std.specs.Prelude.{◌<◌};
 
     ghost Value = { Agreed };
@@ -41,7 +43,7 @@ impl Model for AgreedSection {
       receives = a.receives;
     } };
 
-    ghost invariant = { λ a. a.row.pt < 128 };
+    ghost invariant = { λ a. (a.row.pt < 128) × IsRedOf a.row.pt a.row.red };
 }
 
 impl AgreedSection {
@@ -52,7 +54,7 @@ impl AgreedSection {
     {
         Ok(AgreedSection {
             mid: Mid::from("0"),
-            row: plain_row(Pt::new_with_value(111), true),
+            row: plain_row(Pt::new_with_value(111), true, None),
             exts: ExtensionMap::empty(),
             own_ssrcs: vec![in alloc; Ssrc::from(44)]?,
             remote_ssrcs: vec![in alloc; Ssrc::from(44)]?,
@@ -65,13 +67,14 @@ impl AgreedSection {
     #[tactic(auto, using(crate::proofs::Said::agrees_by_answer))]
     pub(crate) fn by_answer(offer: SessionText, answer: SessionText, exts: ExtensionMap) -> Self
         requires typed { answer.pt < 128 }
+        requires red { IsRedOf answer.pt answer.red }
         requires exts { exts ≡ map_of_lines answer.extmaps }
         ensures value { result ≡ agreed_by_answer offer answer }
         ensures agrees { AgreesOn answer (Some result) }
     {
         AgreedSection {
             mid: answer.mid,
-            row: plain_row(answer.pt, answer.transport_cc),
+            row: plain_row(answer.pt, answer.transport_cc, answer.red),
             exts,
             sends: answer.direction.is_sending(),
             receives: answer.direction.is_receiving(),
@@ -84,13 +87,14 @@ impl AgreedSection {
     #[tactic(auto, using(crate::proofs::Said::agrees_by_accept))]
     pub(crate) fn by_accept(offered: SectionSpec, answer: SessionText, exts: ExtensionMap) -> Self
         requires typed { answer.pt < 128 }
+        requires red { IsRedOf answer.pt answer.red }
         requires exts { exts ≡ map_of_lines answer.extmaps }
         ensures value { result ≡ agreed_by_accept offered answer }
         ensures agrees { AgreesOn answer (Some result) }
     {
         AgreedSection {
             mid: answer.mid,
-            row: plain_row(answer.pt, answer.transport_cc),
+            row: plain_row(answer.pt, answer.transport_cc, answer.red),
             exts,
             sends: answer.direction.is_receiving() && offered.dir.is_sending(),
             receives: answer.direction.is_sending() && offered.dir.is_receiving(),
@@ -117,6 +121,7 @@ impl AgreedSection {
     pub fn row_of(&self, pt: Pt) -> Option<PayloadParams>
         ensures row { result ≡ row_in (Some self.now) pt }
         ensures typed { OnSome result (pt < 128) }
+        ensures red { IfSome result (λ row. IsRedOf row.pt row.red) }
     {
         if self.row.pt().get() == pt.get() {
             Some(self.row)

@@ -11,7 +11,7 @@ pub enum EndError {
     /// The row of this index is of a kind that an end can't agree on.
     #[error("row {0} is not plain")]
     RowNotPlain(usize),
-    /// A payload type stands for two things; this can't occur yet, since an end has one row.
+    /// A payload type stands for two things: it is a row's type and its RED type.
     #[error("payload type {0} stands for two things")]
     TypesNotDistinct(Pt),
     /// The session has attributes or bandwidth, or the URI of a header extension is empty or has a

@@ -15,7 +15,7 @@ use crate::agreement::AgreedSection;
 use crate::errors::{EndError, ExchangeError};
 use crate::extmaps::{is_writable, lines_of};
 use crate::meaning::means_same;
-use crate::plain::{check_rows, plain_row};
+use crate::plain::{check_rows, check_types, plain_row};
 use crate::section::{SectionSpec, only};
 use crate::session::Session;
 use payload_core_base::MediaKind;
@@ -49,7 +49,7 @@ impl Exchange {
     /// An end's exchanges before the first one: its rows, its session and its map of extensions.
     ///
     /// # Errors
-    /// The first that holds of `RowNotPlain` and `NotWritable`; or `Memory`.
+    /// The first that holds of `RowNotPlain`, `TypesNotDistinct` and `NotWritable`; or `Memory`.
     pub fn new(
         alloc: Global,
         config: &CodecConfig,
@@ -62,6 +62,7 @@ impl Exchange {
     {
         let rows = config.params();
         check_rows(rows)?;
+        check_types(rows)?;
         if !session.is_bare() || !is_writable(&exts) {
             return Err(EndError::NotWritable);
         }
@@ -84,7 +85,7 @@ impl Exchange {
     pub fn fixed(alloc: Global) -> Result<Self, AllocError>
         ensures { IfOk result (λ x. x ≡ fixed) }
     {
-        let mut row = plain_row(Pt::new_with_value(111), true);
+        let mut row = plain_row(Pt::new_with_value(111), true, None);
         row.lock();
         Ok(Exchange {
             alloc,
@@ -191,6 +192,7 @@ fn print_offer(
         direction: dir,
         extmaps: lines_of(alloc, exts)?,
         pt: row.pt(),
+        red: row.red(),
         transport_cc: row.fb_transport_cc(),
         ssrcs,
     };

@@ -1,13 +1,13 @@
 -- No line of a sound section holds a line feed.
-use Rattle.std.proofs.Common.{◌≡◌, ℕ, ◌<◌, ◌^◌, ◌≤◌, ◌==◌, not, Bool, true, false, List, [], ◌∷◌, ◌++◌, map, codes, decimal, All, refl, arith, lit<}
+use Rattle.std.proofs.Common.{◌≡◌, ℕ, ◌<◌, ◌^◌, ◌≤◌, ◌==◌, not, Bool, true, false, List, [], ◌∷◌, ◌++◌, map, codes, decimal, Option, None, Some, All, refl, arith, lit<}
 use Rattle.std.specs.List.{AllByRecursion}
 use Rattle.std.proofs.lemmas.List.Elements.{recursion_from_All, All-weaker}
 use Rattle.std.proofs.lemmas.List.Sums.{list_all-from_AllPass}
 use Rattle.rtp_wire.specs.Name.{IsName}
 use Rattle.rtp_wire.specs.declared.Direction.{Direction}
 use Rattle.rtp_wire.specs.declared.Direction.TheVariants.{SendOnly, RecvOnly, SendRecv, Inactive}
-use Rattle.rtp_media_texts.specs.Section.{ExtmapLine, Section, IsUriByte, IsSoundExtmap, IsSound}
-use Rattle.rtp_media_texts.specs.Text.{origin_line, group_line, session_lines, media_line, mid_line, direction_line, media_lines, extmap_line, rtpmap_line, feedback_line, feedback_lines, fmtp_line, ssrc_line, lines_of}
+use Rattle.rtp_media_texts.specs.Section.{ExtmapLine, Section, IsUriByte, IsRedOf, IsSoundExtmap, IsSound}
+use Rattle.rtp_media_texts.specs.Text.{origin_line, group_line, session_lines, types_of, media_line, mid_line, direction_line, media_lines, extmap_line, rtpmap_line, feedback_line, feedback_lines, fmtp_line, red_map_line, red_blocks_line, red_lines, ssrc_line, lines_of}
 use Rattle.rtp_media_texts.proofs.Feeds.{Lacks, Lacks-append, Lacks-decimal, Lacks-name, other_byte}
 
 -- a decimal number, and then these bytes
@@ -49,10 +49,14 @@ unfolding session_lines origin_line group_line
 clean_session session mid small name =
     (refl, (numbered session (codes " 2 IN IP4 0.0.0.0") small refl, (refl, (refl, (Lacks-name 10 mid (lit< tt) name, tt)))))
 
-clean_media : (pt : ℕ) (mid : List ℕ) (d : Direction) → pt ≤ 127 → IsName 16 mid → AllByRecursion (Lacks 10) (media_lines pt mid d)
+clean_types : (pt : ℕ) (red : Option ℕ) → pt ≤ 127 → IsRedOf pt red → Lacks 10 (types_of pt red)
+clean_types pt None small h = Lacks-decimal 10 pt (lit< tt) (omega arith)
+clean_types pt (Some r) small h = numbered pt (32 ∷ decimal r) (omega arith) (Lacks-decimal 10 r (lit< tt) (omega (arith, h.0)))
+
+clean_media : (pt : ℕ) (red : Option ℕ) (mid : List ℕ) (d : Direction) → pt ≤ 127 → IsRedOf pt red → IsName 16 mid → AllByRecursion (Lacks 10) (media_lines pt red mid d)
 unfolding media_lines media_line mid_line
-clean_media pt mid d small name =
-    (Lacks-decimal 10 pt (lit< tt) (omega arith), (refl, (Lacks-name 10 mid (lit< tt) name, (clean_direction d, tt))))
+clean_media pt red mid d small h name =
+    (clean_types pt red small h, (refl, (Lacks-name 10 mid (lit< tt) name, (clean_direction d, tt))))
 
 clean_rtpmap : (pt : ℕ) → pt ≤ 127 → Lacks 10 (rtpmap_line pt)
 unfolding rtpmap_line
@@ -67,12 +71,20 @@ clean_fmtp : (pt : ℕ) → pt ≤ 127 → Lacks 10 (fmtp_line pt)
 unfolding fmtp_line
 clean_fmtp pt small = numbered pt (codes " minptime=10;useinbandfec=1") (omega arith) refl
 
+clean_reds : (pt : ℕ) (red : Option ℕ) → pt ≤ 127 → IsRedOf pt red → AllByRecursion (Lacks 10) (red_lines pt red)
+unfolding red_map_line red_blocks_line
+clean_reds pt None small h = tt
+clean_reds pt (Some r) small h =
+    let fits : r < 2 ^ 64 = omega (arith, h.0) in
+    let blocks : Lacks 10 (32 ∷ (decimal pt ++ 47 ∷ decimal pt)) = numbered pt (47 ∷ decimal pt) (omega arith) (Lacks-decimal 10 pt (lit< tt) (omega arith)) in
+    (numbered r (codes " red/48000/2") fits refl, (numbered r (32 ∷ (decimal pt ++ 47 ∷ decimal pt)) fits blocks, tt))
+
 pub clean_lines : (s : Section) → IsSound s → AllByRecursion (Lacks 10) (lines_of s)
 clean_lines s h =
     clean_append (session_lines s.session s.mid) _ (clean_session s.session s.mid h.session h.mid)
-    (clean_append (media_lines s.pt s.mid s.direction) _ (clean_media s.pt s.mid s.direction h.pt h.mid)
+    (clean_append (media_lines s.pt s.red s.mid s.direction) _ (clean_media s.pt s.red s.mid s.direction h.pt h.red h.mid)
     (clean_append (map extmap_line s.extmaps) _ (clean_extmaps s.extmaps (recursion_from_All IsSoundExtmap s.extmaps h.extmaps)) (
       clean_rtpmap s.pt h.pt,
       clean_append (feedback_lines s.pt s.transport_cc) _ (clean_feedbacks s.pt s.transport_cc h.pt)
-          (clean_fmtp s.pt h.pt, clean_ssrcs s.ssrcs (recursion_from_All (λ n. n < 2 ^ 32) s.ssrcs h.ssrcs)),
+          (clean_fmtp s.pt h.pt, clean_append (red_lines s.pt s.red) _ (clean_reds s.pt s.red h.pt h.red) (clean_ssrcs s.ssrcs (recursion_from_All (λ n. n < 2 ^ 32) s.ssrcs h.ssrcs))),
     )))

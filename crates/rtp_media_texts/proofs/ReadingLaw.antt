@@ -6,9 +6,9 @@ use Rattle.std.proofs.lemmas.Bool.Decides.{nat_tests, Decides-eqb}
 use Rattle.std.proofs.lemmas.List.Elements.{All-weaker}
 use Rattle.std.proofs.lemmas.List.Sums.{AllPass-from_list_all, list_all-from_AllPass}
 use Rattle.std.proofs.lemmas.Slice.Eq.{bytes_eq-Decides}
-use Rattle.rtp_media_texts.specs.Section.{ExtmapLine, Section, IsUriByte, IsSoundExtmap, IsSound}
+use Rattle.rtp_media_texts.specs.Section.{ExtmapLine, Section, IsUriByte, IsRedOf, IsSoundExtmap, IsSound}
 use Rattle.rtp_media_texts.specs.Text.{text_of}
-use Rattle.rtp_media_texts.specs.Reading.{is_uri_byte, has_uri, is_plain, prints, candidate_of, reading_of}
+use Rattle.rtp_media_texts.specs.Reading.{is_uri_byte, has_uri, is_red_of, is_plain, prints, candidate_of, reading_of}
 use Rattle.rtp_media_texts.specs.Laws.{ReadsExactly}
 use Rattle.rtp_media_texts.proofs.Candidate.{candidate_of-text_of}
 use Rattle.rtp_media_texts.proofs.Feeds.{other_byte}
@@ -59,16 +59,28 @@ extmap_passes e h =
 sound_extmaps : (es : List ExtmapLine) → All (λ e. e.id < 2 ^ 8) es → All (λ e. has_uri e ≡ true) es → All IsSoundExtmap es
 sound_extmaps es ids uris = λ k d within. sound_extmap _ (ids k d within) (uris k d within)
 
+sound_red : (pt : ℕ) (red : Option ℕ) → is_red_of pt red ≡ true → IsRedOf pt red
+sound_red pt None h = tt
+sound_red pt (Some r) h =
+    let parts = both (nat_le r 127) (not (r == pt)) h in
+    (at_most r 127 parts.0, not_same r pt parts.1)
+
+red_passes : (pt : ℕ) (red : Option ℕ) → IsRedOf pt red → is_red_of pt red ≡ true
+red_passes pt None h = refl
+red_passes pt (Some r) h = rw (at_most_passes r 127 h.0, other_byte r pt h.1) refl
+
 sound_from_plain : (s : Section) → Fits s → is_plain s ≡ true → IsSound s
 sound_from_plain s fits h =
-    let first = both (nat_le s.pt 127) (not (length s.mid == 0) && list_all has_uri s.extmaps) h in
-    let second = both (not (length s.mid == 0)) (list_all has_uri s.extmaps) first.1 in
+    let first = both (nat_le s.pt 127) (is_red_of s.pt s.red && (not (length s.mid == 0) && list_all has_uri s.extmaps)) h in
+    let types = both (is_red_of s.pt s.red) (not (length s.mid == 0) && list_all has_uri s.extmaps) first.1 in
+    let second = both (not (length s.mid == 0)) (list_all has_uri s.extmaps) types.1 in
     record {
       session = fits.session;
       mid = fits.mid;
       named = some_length (length s.mid) second.0;
       extmaps = sound_extmaps s.extmaps fits.ids (AllPass-from_list_all has_uri s.extmaps second.1);
       pt = at_most s.pt 127 first.0;
+      red = sound_red s.pt s.red types.0;
       ssrcs = fits.ssrcs;
     }
 
@@ -76,6 +88,7 @@ plain_from_sound : (s : Section) → IsSound s → is_plain s ≡ true
 plain_from_sound s h =
     rw (
       at_most_passes s.pt 127 h.pt,
+      red_passes s.pt s.red h.red,
       length_passes (length s.mid) h.named,
       list_all-from_AllPass has_uri s.extmaps (All-weaker IsSoundExtmap (λ e. has_uri e ≡ true) extmap_passes s.extmaps h.extmaps),
     ) refl

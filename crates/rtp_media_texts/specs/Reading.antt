@@ -1,7 +1,7 @@
 -- What a text says: its lines say a section, and the text is read if that is what the section prints.
-use Rattle.std.specs.Prelude.{◌≡◌, ℕ, ◌==◌, ◌^◌, nat_lt, nat_le, Bool, false, not, ◌&&◌, ◌||◌, if◌then◌else◌, List, [], ◌∷◌, ◌++◌, length, fold, codes, Option, None, Some, unwrap_or, is_some, Result, Ok, Err}
+use Rattle.std.specs.Prelude.{◌≡◌, ℕ, ◌==◌, ◌^◌, nat_lt, nat_le, Bool, true, false, not, ◌&&◌, ◌||◌, if◌then◌else◌, List, [], ◌∷◌, ◌++◌, length, fold, codes, Option, None, Some, unwrap_or, is_some, Result, Ok, Err}
 use Rattle.std.specs.List.{list_all, before_first, after_first}
-use Rattle.std.specs.Option.{option_map}
+use Rattle.std.specs.Option.{option_map, option_or}
 use Rattle.std.specs.Str.{all_ascii_digits, bytes_eq}
 use Rattle.std.specs.Str.Lines.{lines}
 use Rattle.std.specs.Str.Parse.{digits_value}
@@ -58,11 +58,17 @@ extmap_in line = do
   id ← number_below (2 ^ 8) (before_first is_blank rest)
   Some (record { id = id; uri = after_first is_blank rest })
 
--- the payload type
+-- the payload type, which is the first word of the section's types
 abbrev pub pt_in : List ℕ → Option ℕ
 pt_in line = do
   rest ← behind (codes "m=audio 9 UDP/TLS/RTP/SAVPF ") line
-  number_below (2 ^ 8) rest
+  number_below (2 ^ 8) (before_first is_blank rest)
+
+-- the RED type, which is what stands behind it
+abbrev pub red_in : List ℕ → Option ℕ
+red_in line = do
+  rest ← behind (codes "m=audio 9 UDP/TLS/RTP/SAVPF ") line
+  number_below (2 ^ 8) (after_first is_blank rest)
 
 -- whether the line asks for feedback
 abbrev pub has_feedback : List ℕ → Bool
@@ -80,7 +86,7 @@ with_more xs (Some x) = xs ++ x ∷ []
 
 -- a section before any line
 abbrev pub nothing_said : Section
-nothing_said = record { session = 0; mid = []; direction = Inactive; extmaps = []; pt = 0; transport_cc = false; ssrcs = [] }
+nothing_said = record { session = 0; mid = []; direction = Inactive; extmaps = []; pt = 0; red = None; transport_cc = false; ssrcs = [] }
 
 -- what the lines so far and one more say
 unfoldable pub with_line : Section → List ℕ → Section
@@ -90,6 +96,7 @@ with_line s line = record {
   direction = unwrap_or (direction_in line) s.direction;
   extmaps = with_more s.extmaps (extmap_in line);
   pt = unwrap_or (pt_in line) s.pt;
+  red = option_or (red_in line) s.red;
   transport_cc = has_feedback line || s.transport_cc;
   ssrcs = with_more s.ssrcs (ssrc_in line);
 }
@@ -108,9 +115,14 @@ is_uri bytes = not (length bytes == 0) && list_all is_uri_byte bytes
 abbrev pub has_uri : ExtmapLine → Bool
 has_uri e = is_uri e.uri
 
--- whether the payload type has 7 bits, the name isn't empty, and each URI is one word
+-- whether a RED type has 7 bits and is another than Opus's
+abbrev pub is_red_of : ℕ → Option ℕ → Bool
+is_red_of pt None = true
+is_red_of pt (Some red) = nat_le red 127 && not (red == pt)
+
+-- whether the payload types have 7 bits and are distinct, the name isn't empty, and each URI is one word
 abbrev pub is_plain : Section → Bool
-is_plain s = nat_le s.pt 127 && (not (length s.mid == 0) && list_all has_uri s.extmaps)
+is_plain s = nat_le s.pt 127 && (is_red_of s.pt s.red && (not (length s.mid == 0) && list_all has_uri s.extmaps))
 
 -- whether the section is plain and prints the text
 abbrev pub prints : Section → List ℕ → Bool

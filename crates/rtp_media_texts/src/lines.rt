@@ -3,7 +3,7 @@
 ghost use Rattle.std.specs.Prelude.{◌≡◌, ◌+◌, ◌≤◌, ◌^◌, ◌<◌, IsTrue, IfSome, IfOk, ◌↔◌, slice_index};
 ghost use Rattle.std.specs.List.{before_first, after_first};
 ghost use Rattle.std.specs.Option.{option_copied};
-ghost use Rattle.rtp_media_texts.specs.Reading.{number_below, behind, is_blank, session_in, mid_in, direction_in, extmap_in, pt_in, has_feedback, ssrc_in};
+ghost use Rattle.rtp_media_texts.specs.Reading.{number_below, behind, is_blank, session_in, mid_in, direction_in, extmap_in, pt_in, red_in, has_feedback, ssrc_in};
 
 use crate::session_text::Extmap;
 use rtp_wire::{Direction, Mid, Pt, SessionId, Ssrc};
@@ -107,7 +107,18 @@ pub(crate) fn extmap_in(alloc: Global, line: &str) -> Result<Option<Extmap>, All
 pub(crate) fn pt_in(line: &str) -> Option<Pt>
     ensures { result ≡ pt_in line.now }
 {
-    let word = behind(line, "m=audio 9 UDP/TLS/RTP/SAVPF ")?;
+    let types = behind(line, "m=audio 9 UDP/TLS/RTP/SAVPF ")?;
+    let (word, _) = split_blank(types);
+    let number = number_up_to(word, u8::MAX as u64)?;
+    Some(Pt::new_with_value(number as u8))
+}
+
+/// The RED type, behind the payload type in the section's line (RFC 8866 5.14).
+pub(crate) fn red_in(line: &str) -> Option<Pt>
+    ensures { result ≡ red_in line.now }
+{
+    let types = behind(line, "m=audio 9 UDP/TLS/RTP/SAVPF ")?;
+    let (_, word) = split_blank(types);
     let number = number_up_to(word, u8::MAX as u64)?;
     Some(Pt::new_with_value(number as u8))
 }

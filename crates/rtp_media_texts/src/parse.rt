@@ -5,10 +5,12 @@ ghost use Rattle.std.specs.List.{list_all};
 ghost use Rattle.std.specs.Str.Lines.{lines};
 ghost use Rattle.rtp_media_texts.specs.Section.{Section, IsSound};
 ghost use Rattle.rtp_media_texts.specs.Text.{text_of};
-ghost use Rattle.rtp_media_texts.specs.Reading.{Reads, reading_of, candidate_of, with_line, with_more, nothing_said, extmap_in, is_plain, has_uri, is_uri, is_uri_byte, prints, IsUnread};
+ghost use Rattle.rtp_media_texts.specs.Reading.{Reads, reading_of, candidate_of, with_line, with_more, nothing_said, extmap_in, is_plain, is_red_of, has_uri, is_uri, is_uri_byte, prints, IsUnread};
 
 use crate::errors::SdpError;
-use crate::lines::{direction_in, extmap_in, has_feedback, mid_in, pt_in, session_in, ssrc_in};
+use crate::lines::{
+    direction_in, extmap_in, has_feedback, mid_in, pt_in, red_in, session_in, ssrc_in,
+};
 use crate::session_text::{Extmap, SessionText};
 use rtp_wire::{Direction, Mid, Pt, SessionId};
 use std::alloc::{AllocError, Global};
@@ -17,8 +19,9 @@ impl SessionText {
     /// What a text says that `print` gives; every other text is refused.
     ///
     /// # Errors
-    /// `ParseError` where the text is none that a sound value prints: a payload type up to 127, a
-    /// name that isn't empty, and URIs that aren't empty and hold no blank, CR or LF. Or `Memory`.
+    /// `ParseError` where the text is none that a sound value prints: a payload type up to 127, a RED
+    /// type up to 127 that is another one, a name that isn't empty, and URIs that aren't empty and hold
+    /// no blank, CR or LF. Or `Memory`.
     pub fn parse(alloc: Global, text: &str) -> Result<SessionText, SdpError>
         ensures reads { Reads result (reading_of text.now) }
         ensures sound { IfOk result (λ s. IsSound s) }
@@ -54,6 +57,7 @@ impl SessionText {
             direction: Direction::Inactive,
             extmaps: Vec::new(alloc),
             pt: Pt::new_with_value(0),
+            red: None,
             transport_cc: false,
             ssrcs: Vec::new(alloc),
         }
@@ -68,16 +72,21 @@ impl SessionText {
         self.direction = direction_in(line).unwrap_or(self.direction);
         push_some(&mut self.extmaps, extmap_in(alloc, line)?)?;
         self.pt = pt_in(line).unwrap_or(self.pt);
+        self.red = red_in(line).or(self.red);
         self.transport_cc = has_feedback(line) | self.transport_cc;
         push_some(&mut self.ssrcs, ssrc_in(line))?;
         Ok(())
     }
 
-    /// Whether the payload type has 7 bits, the name isn't empty, and each URI is one word.
+    /// Whether the payload types have 7 bits and are distinct, the name isn't empty, and each URI is
+    /// one word.
     fn is_plain(&self) -> bool
         ensures { result ≡ is_plain self.now }
     {
-        self.pt.get() <= 127 && !self.mid.as_str().is_empty() && have_uris(&self.extmaps)
+        self.pt.get() <= 127
+            && is_red_of(self.pt, self.red)
+            && !self.mid.as_str().is_empty()
+            && have_uris(&self.extmaps)
     }
 
     /// Whether it is plain, and prints the text.
@@ -107,6 +116,16 @@ fn push_some<T: Drop>(items: &mut Vec<T>, item: Option<T>) -> Result<(), AllocEr
         items.push(item)?;
     }
     Ok(())
+}
+
+/// Whether a RED type has 7 bits and is another than the payload type of Opus.
+fn is_red_of(pt: Pt, red: Option<Pt>) -> bool
+    ensures { result ≡ is_red_of pt red }
+{
+    match red {
+        None => true,
+        Some(red) => red.get() <= 127 && red.get() != pt.get(),
+    }
 }
 
 fn have_uris(extmaps: &[Extmap]) -> bool

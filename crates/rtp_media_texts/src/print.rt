@@ -1,7 +1,7 @@
 //! The text that is printed.
 
-ghost use Rattle.std.specs.Prelude.{◌≡◌, ◌++◌, IfOk, OnOk, string_bytes, map};
-ghost use Rattle.rtp_media_texts.specs.Text.{text_of, text_of_lines, ended, session_lines, media_lines, extmap_line, rtpmap_line, feedback_line, feedback_lines, fmtp_line, ssrc_line};
+ghost use Rattle.std.specs.Prelude.{◌≡◌, ◌++◌, Some, IfOk, OnOk, string_bytes, map};
+ghost use Rattle.rtp_media_texts.specs.Text.{text_of, text_of_lines, ended, session_lines, media_line, media_lines, extmap_line, rtpmap_line, feedback_line, feedback_lines, fmtp_line, red_lines, ssrc_line};
 
 use crate::session_text::{Extmap, SessionText};
 use rtp_wire::{Direction, Mid, Pt, SessionId, Ssrc};
@@ -18,11 +18,12 @@ impl SessionText {
     {
         let mut text = String::new(alloc);
         push_session(&mut text, self.session, self.mid)?;
-        push_media(&mut text, self.pt, self.mid, self.direction)?;
+        push_media(&mut text, self.pt, self.red, self.mid, self.direction)?;
         push_extmaps(&mut text, &self.extmaps)?;
         push_rtpmap(&mut text, self.pt)?;
         push_feedbacks(&mut text, self.pt, self.transport_cc)?;
         push_fmtp(&mut text, self.pt)?;
+        push_reds(&mut text, self.pt, self.red)?;
         push_ssrcs(&mut text, &self.ssrcs)?;
         Ok(text)
     }
@@ -39,14 +40,30 @@ fn push_session(text: &mut String, session: SessionId, mid: Mid) -> Result<(), A
     Ok(())
 }
 
-/// The lines of the section before its extensions.
-fn push_media(text: &mut String, pt: Pt, mid: Mid, direction: Direction) -> Result<(), AllocError>
-    ensures { OnOk result (string_bytes text.new ≡ string_bytes text.old ++ text_of_lines (media_lines pt mid direction)) }
+/// The line of the section.
+fn push_media_line(text: &mut String, pt: Pt, red: Option<Pt>) -> Result<(), AllocError>
+    ensures { OnOk result (string_bytes text.new ≡ string_bytes text.old ++ ended (media_line pt red)) }
 {
-    write!(
-        text,
-        "m=audio 9 UDP/TLS/RTP/SAVPF {pt}\r\nc=IN IP4 0.0.0.0\r\na=mid:{mid}\r\na={direction}\r\n"
-    )?;
+    let Some(red) = red else {
+        write!(text, "m=audio 9 UDP/TLS/RTP/SAVPF {pt}\r\n")?;
+        return Ok(());
+    };
+    write!(text, "m=audio 9 UDP/TLS/RTP/SAVPF {pt} {red}\r\n")?;
+    Ok(())
+}
+
+/// The lines of the section before its extensions.
+fn push_media(
+    text: &mut String,
+    pt: Pt,
+    red: Option<Pt>,
+    mid: Mid,
+    direction: Direction,
+) -> Result<(), AllocError>
+    ensures { OnOk result (string_bytes text.new ≡ string_bytes text.old ++ text_of_lines (media_lines pt red mid direction)) }
+{
+    push_media_line(text, pt, red)?;
+    write!(text, "c=IN IP4 0.0.0.0\r\na=mid:{mid}\r\na={direction}\r\n")?;
     Ok(())
 }
 
@@ -99,6 +116,27 @@ fn push_fmtp(text: &mut String, pt: Pt) -> Result<(), AllocError>
     ensures { OnOk result (string_bytes text.new ≡ string_bytes text.old ++ ended (fmtp_line pt)) }
 {
     write!(text, "a=fmtp:{pt} minptime=10;useinbandfec=1\r\n")?;
+    Ok(())
+}
+
+/// The lines of the RED type.
+fn push_red(text: &mut String, pt: Pt, red: Pt) -> Result<(), AllocError>
+    ensures { OnOk result (string_bytes text.new ≡ string_bytes text.old ++ text_of_lines (red_lines pt (Some red))) }
+{
+    write!(
+        text,
+        "a=rtpmap:{red} red/48000/2\r\na=fmtp:{red} {pt}/{pt}\r\n"
+    )?;
+    Ok(())
+}
+
+fn push_reds(text: &mut String, pt: Pt, red: Option<Pt>) -> Result<(), AllocError>
+    ensures { OnOk result (string_bytes text.new ≡ string_bytes text.old ++ text_of_lines (red_lines pt red)) }
+{
+    let Some(red) = red else {
+        return Ok(());
+    };
+    push_red(text, pt, red)?;
     Ok(())
 }
 

@@ -34,6 +34,8 @@ pub struct SessionText {
     pub extmaps: Vec<Extmap>,
     /// The payload type of Opus, 0 to 127 (RFC 8866 5.14).
     pub pt: Pt,
+    /// The payload type of redundant audio, 0 to 127 and another than Opus's, or none (RFC 2198).
+    pub red: Option<Pt>,
     /// Whether transport-wide feedback is used (`a=rtcp-fb` of RFC 4585 4.2).
     pub transport_cc: bool,
     /// The SSRCs that it names, in the order of their lines (RFC 5576 4.1).
@@ -51,6 +53,7 @@ impl Model for SessionText {
       direction = s.direction;
       extmaps = s.extmaps.items;
       pt = s.pt;
+      red = s.red;
       transport_cc = s.transport_cc;
       ssrcs = s.ssrcs.items;
     } };

@@ -1,6 +1,6 @@
 //! Rows: a payload type with its codec and feedback.
 
-ghost use Rattle.std.specs.Prelude.{◌≡◌, Some, true};
+ghost use Rattle.std.specs.Prelude.{◌≡◌, None, Some, true};
 ghost use Rattle.sdp_formats_rows.specs.Rows.{new_row};
 
 use crate::spec::CodecSpec;
@@ -103,6 +103,15 @@ impl PayloadParams {
             },
             ..self
         }
+    }
+
+    /// The same row without a RED type.
+    pub fn without_red(self) -> Self
+        ensures { result ≡ record self { red = None } }
+    {
+        let mut row = self;
+        row.types.red = None;
+        row
     }
 
     /// The same row under another payload type.

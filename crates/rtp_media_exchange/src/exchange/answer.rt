@@ -3,7 +3,7 @@
 ghost use Rattle.std.specs.Prelude.{◌≡◌, ◌<◌, ◌^◌, All, [], length, None, Some, string_bytes, IfOk, IfErr, OnOk, OnErr, IsSome};
 ghost use Rattle.std.specs.Option.{option_map};
 ghost use Rattle.rtp_wire.specs.Name.{IsName};
-ghost use Rattle.rtp_media_texts.specs.Section.{IsSound, IsSoundExtmap};
+ghost use Rattle.rtp_media_texts.specs.Section.{IsSound, IsSoundExtmap, IsRedOf};
 ghost use Rattle.rtp_media_texts.specs.Text.{text_of};
 ghost use Rattle.rtp_media_exchange.specs.Agreement.{AgreesOn, agreed_by_answer, agreed_by_accept};
 ghost use Rattle.rtp_media_exchange.specs.Exchanges.{Exchanged, with_answer, with_accept, after_round};
@@ -16,6 +16,7 @@ use super::Exchange;
 use crate::agreement::AgreedSection;
 use crate::errors::ExchangeError;
 use crate::extmaps::{answered, map_of};
+use crate::plain::with_red;
 use crate::section::{SectionSpec, only};
 use rtp_media_texts::{SdpError, SessionText};
 use rtp_wire::{Direction, ExtensionMap, SessionId, Ssrc};
@@ -116,7 +117,8 @@ fn pair(
 fn settled(row: PayloadParams, said: &SessionText) -> PayloadParams
     ensures { result ≡ after_round row said.now }
 {
-    let mut row = row.with_pt(said.pt);
+    let red = row.red().and(said.red);
+    let mut row = with_red(row, red).with_pt(said.pt);
     row.set_fb_transport_cc(row.fb_transport_cc() && said.transport_cc);
     row.lock();
     row
@@ -145,7 +147,7 @@ fn answered_direction(offered: Direction, wanted: Direction) -> Direction
 }
 
 /// What the answer to an offer says, of an end that wants these header extensions.
-#[tactic(auto, using(crate::proofs::Said::answered_sound))]
+#[tactic(auto, using(crate::proofs::Said::answered_sound, crate::proofs::Said::red_answered))]
 fn answer_to(
     alloc: Global,
     session: SessionId,
@@ -157,6 +159,7 @@ fn answer_to(
     requires sound { IsSound offer.now }
     ensures value { IfOk result (λ answer. answer ≡ answer_of session exts.now row wanted offer.now) }
     ensures extmaps { IfOk result (λ answer. All IsSoundExtmap answer.extmaps) }
+    ensures red { IfOk result (λ answer. IsRedOf answer.pt answer.red) }
 {
     let row = settled(row, offer);
     Ok(SessionText {
@@ -165,6 +168,7 @@ fn answer_to(
         direction: answered_direction(offer.direction, wanted.dir),
         extmaps: answered(alloc, exts, &offer.extmaps)?,
         pt: row.pt(),
+        red: row.red(),
         transport_cc: row.fb_transport_cc(),
         ssrcs: wanted.ssrcs,
     })
@@ -177,6 +181,7 @@ fn accepted(
     exts: ExtensionMap,
 ) -> Option<AgreedSection>
     requires typed { answer.pt < 128 }
+    requires red { IsRedOf answer.pt answer.red }
     requires exts { exts ≡ map_of_lines answer.extmaps }
     ensures value { result ≡ option_map (λ offered. agreed_by_accept offered answer) pending }
     ensures agrees { IsSome pending → AgreesOn answer result }
@@ -211,6 +216,7 @@ fn small_session(session: SessionId)
 fn print(alloc: Global, answer: &SessionText) -> Result<String, AllocError>
     requires named { (IsName 16 answer.now.mid) × (0 < length answer.now.mid) }
     requires typed { answer.now.pt < 128 }
+    requires red { IsRedOf answer.now.pt answer.now.red }
     requires extmaps { All IsSoundExtmap answer.now.extmaps }
     ensures text { IfOk result (λ text. string_bytes text ≡ text_of answer.now) }
     ensures said { IfOk result (λ text. said_by (string_bytes text) ≡ Some answer.now) }
