@@ -1,5 +1,5 @@
 -- What the program answers to each command, from the definitions of its calls.
-use Rattle.std.specs.Prelude.{ℕ, ◌≡◌, ◌⊎◌, ◌&&◌, Bool, nat_lt, is_none, if◌then◌else◌, List, [], ◌∷◌, ◌++◌, length, map, Option, Some, None}
+use Rattle.std.specs.Prelude.{ℕ, ◌≡◌, ◌⊎◌, Bool, nat_lt, if◌then◌else◌, List, [], ◌∷◌, ◌++◌, length, map, Option, Some, None}
 use Rattle.std.specs.Option.{option_map}
 use Rattle.rtp_wire.specs.Name.{name_of}
 use Rattle.rtp_wire.specs.Time.{Time}
@@ -17,7 +17,7 @@ use Rattle.rtp_media_streams.specs.declared.errors.PollFault.TheVariants as poll
 use Rattle.rtp_media_ends.specs.declared.params.StreamParams.{StreamParams}
 use Rattle.rtp_media_ends.specs.declared.received.Received.{Received}
 use Rattle.rtp_media_ends.specs.declared.received.Received.TheVariants as received
-use Rattle.rtp_media_ends.specs.Ends.{EndState, fixed_end, refusal_of_open_sender, refusal_of_open_receiver, after_open_sender, after_open_receiver, with_sender, with_receiver, sender_at, receiver_at}
+use Rattle.rtp_media_ends.specs.Ends.{EndState, agreed_red, fixed_end, refusal_of_open_sender, refusal_of_open_receiver, after_open_sender, after_open_receiver, with_sender, with_receiver, sender_at, receiver_at}
 use Rattle.rtp_media_ends.specs.Params.{is_sound_params}
 use Rattle.rtp_media_ends.specs.Arrivals.{verdict_of, after_datagram}
 use Rattle.rtp_media_lines.specs.declared.line.Command.{Command}
@@ -66,11 +66,11 @@ fault_name poll_fault.Memory = name.Memory
 
 -- the stream parameters that a command gives
 abbrev pub params_of : SendCommand → StreamParams
-params_of c = record { first = c.first; mtu = c.mtu; limit = c.limit; red = None; picture_id = c.picture_id }
+params_of c = record { first = c.first; mtu = c.mtu; limit = c.limit; red = c.distances; picture_id = c.picture_id }
 
--- a command's conditions: no row here has a RED type, so it gives no distances
-abbrev pub is_sound_send : SendCommand → Bool
-is_sound_send c = is_none c.distances && is_sound_params (params_of c)
+-- a command's conditions: distances are for a row with a RED type alone
+abbrev pub is_sound_send : EndState → SendCommand → Bool
+is_sound_send e c = is_sound_params (agreed_red e (name_of 16 c.mid) c.pt) (params_of c)
 
 abbrev pub sender_step : EndState → SendCommand → Option OpenError → EndStep
 sender_step e c (Some error) = prints (Some e) (reply.Refused (open_error_name error))
@@ -80,7 +80,7 @@ sender_step e c None = becomes (after_open_sender e (name_of 16 c.mid) c.ssrc c.
 abbrev pub send_step : Option EndState → SendCommand → EndStep
 send_step None c = prints None reply.ErrorLine
 send_step (Some e) c =
-    if is_sound_send c then sender_step e c (refusal_of_open_sender e (name_of 16 c.mid) c.ssrc c.pt)
+    if is_sound_send e c then sender_step e c (refusal_of_open_sender e (name_of 16 c.mid) c.ssrc c.pt)
     else prints (Some e) reply.ErrorLine
 
 abbrev pub receiver_step : EndState → OpenCommand → Option OpenError → EndStep

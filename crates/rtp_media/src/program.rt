@@ -4,6 +4,7 @@ ghost use Rattle.std.specs.Prelude.{◌≡◌, ◌≢◌, ℕ, ◌<◌, ◌++◌
 ghost use Rattle.std.specs.Io.KnownBytes.{Appends, Consumes, IsAtEnd};
 ghost use Rattle.rtp_media_lines.specs.Runs.{Printed, ReadsAll};
 ghost use Rattle.rtp_media_lines.specs.declared.line.Command.{Command};
+ghost use Rattle.rtp_media_ends.specs.Ends.{red_in};
 ghost use Rattle.rtp_media.specs.Exchanging.{clear_desk};
 ghost use Rattle.rtp_media.specs.Program.{IsAnswered, open_error_name, sample_error_name, fault_name, verdict_reply, unit_reply, values_given};
 ghost use Rattle.rtp_media.specs.Sides.{Gives, AnswersAt, ConnectsEnds, KeepsDraft, side_of, no_ends};
@@ -14,7 +15,8 @@ use exchanging::{
     accept, answer_offer, connect_ends, draft_ext, draft_row, make_end, offer, withdraw,
 };
 use rtp_media_ends::{
-    Datagram, End, OpenError, PayloadParams, PollFault, Received, SampleError, StreamParams, Unit,
+    Datagram, Distances, End, OpenError, PayloadParams, PollFault, Received, SampleError,
+    StreamParams, Unit,
 };
 use rtp_media_lines::{
     Bytes, Command, ConnectCommand, ErrorName, OpenCommand, PollCommand, ReceiveCommand, Reply,
@@ -182,21 +184,29 @@ fn send(
     let Some(end) = end else {
         return one(alloc, Reply::ErrorLine);
     };
+    let mid = Mid::from(command.mid.as_str());
+    let pt = Pt::from(command.pt);
     let params = StreamParams {
         first: command.first,
         mtu: command.mtu,
         limit: command.limit,
-        red: None,
+        red: command.distances.map(|d| Distances::from_vec(d.into_vec())),
         picture_id: command.picture_id,
     };
-    if command.distances.is_some() || !params.is_sound() {
+    if !params.is_sound(red_of(end.agreed_row(mid, pt))) {
         return one(alloc, Reply::ErrorLine);
     }
-    let mid = Mid::from(command.mid.as_str());
-    match end.open_sender(mid, Ssrc::from(command.ssrc), Pt::from(command.pt), params) {
+    match end.open_sender(mid, Ssrc::from(command.ssrc), pt, params) {
         Ok(stream) => one(alloc, Reply::Sender(stream)),
         Err(error) => one(alloc, Reply::Refused(open_error_name(error))),
     }
+}
+
+/// The RED type of a row, where there is one.
+fn red_of(row: Option<PayloadParams>) -> Option<Pt>
+    ensures { result ≡ red_in row }
+{
+    row?.red()
 }
 
 fn open(

@@ -1,22 +1,21 @@
 -- What datagrams do to one stream is what its own datagrams do.
 use Rattle.std.proofs.Common.{◌≡◌, ◌≢◌, ℕ, ◌<◌, refl, sym, ◌∙◌, ap, ap₂, subst, arith, Bool, true, false, ◌&&◌, List, [], ◌∷◌, length, true≢false}
 use Rattle.std.proofs.lemmas.Bool.Decides.{nat_tests}
-use Rattle.std.specs.Prelude.{nat_lt, Option, Some, None, if◌then◌else◌, ◌==◌, slice_set, slice_index_or}
+use Rattle.std.specs.Prelude.{◌||◌, nat_lt, Option, Some, None, if◌then◌else◌, ◌==◌, slice_set, slice_index_or}
 use Rattle.std.specs.List.{cons_option}
 use Rattle.std.proofs.lemmas.List.{get_or-set_same, get_or-set_other, length-set}
 use Rattle.std.proofs.lemmas.List.Quantifiers.{position-Some}
 use Rattle.std.proofs.lemmas.List.Folds.{position_or_len-set}
-use Rattle.rtp_wire.specs.Header.{header_in, payload_in}
+use Rattle.rtp_wire.specs.Header.{header_in}
 use Rattle.rtp_wire.specs.Maps.{empty_map}
-use Rattle.rtp_wire.specs.Values.{Numbering}
 use Rattle.rtp_wire.specs.declared.ExtensionValues.{ExtensionValues}
-use Rattle.rtp_wire.specs.Padding.{unpadded}
 use Rattle.rtp_wire.specs.declared.header.RtpHeader.{RtpHeader}
 use Rattle.rtp_media_runs.specs.Heard.{Stream, Event, heard_step, after_events}
-use Rattle.rtp_media_streams.specs.Receiving.{Receiving, opened_receiver, is_own, values_read, with_stream}
-use Rattle.rtp_media_ends.specs.Ends.{EndState, receiver_at}
+use Rattle.rtp_media_streams.specs.Receiving.{Receiving, opened_receiver, is_own, media_payload, values_read, with_stream}
+use Rattle.rtp_media_streams.specs.Types.{is_type}
+use Rattle.rtp_media_ends.specs.Ends.{EndState, no_types, receiver_at}
 use Rattle.rtp_media_ends.specs.Arrivals.{own_of, arrival_for, arrival_by, stream_for, after_arrival, after_datagram}
-use Rattle.rtp_media_ends.specs.FullArrival.{after_datagrams}
+use Rattle.rtp_media_ends.specs.FullArrival.{IsFound, after_datagrams}
 use Rattle.rtp_media_ends.specs.OwnEvents.{content_event, event_by, event_in, own_events}
 
 abbrev pub after_event : Stream → Option Event → Stream
@@ -24,7 +23,7 @@ after_event s None = s
 after_event s (Some e) = heard_step s e
 
 abbrev nobody : Receiving
-nobody = opened_receiver 0 0 empty_map 0
+nobody = opened_receiver 0 no_types empty_map 0
 
 abbrev nth : List Receiving → ℕ → Receiving
 nth rs n = slice_index_or rs n nobody
@@ -75,55 +74,65 @@ both-right true b h = h
 both-right false b h = absurd (true≢false (sym h))
 
 -- one datagram, by whether it is the stream's own
-step-by : (e : EndState) (n : ℕ) (h : RtpHeader) (d : List ℕ) (own : Bool) (o : Option ℕ) → stream_for e.receivers (receiver_at e n).ssrc (receiver_at e n).pt ≡ Some n →
+step-by : (e : EndState) (n : ℕ) (h : RtpHeader) (d : List ℕ) (own : Bool) (o : Option ℕ) → n < length e.receivers → IsFound e n (receiver_at e n) →
     is_own (receiver_at e n) h.ssrc h.payload_type ≡ own → stream_for e.receivers h.ssrc h.payload_type ≡ o →
-    Heard1 e n (if own then content_event h (values_read (receiver_at e n).map d) (unpadded h.has_padding (payload_in h d)) else None) (after_arrival e (arrival_for e.receivers o h d))
-step-by e n h d false None known b f = unchanged e n
-step-by e n h d false (Some m) known b f =
-    there e n m h (values_read (receiver_at e m).map d) (unpadded h.has_padding (payload_in h d)) (λ same. true≢false (sym (found-own e.receivers h.ssrc h.payload_type m f).1 ∙ ap (λ (k : ℕ). is_own (receiver_at e k) h.ssrc h.payload_type) (sym same) ∙ b))
-step-by e n h d true o known b f =
+    Heard1 e n (if own then content_event h (values_read (receiver_at e n).map d) (media_payload (receiver_at e n).types h d) else None) (after_arrival e (arrival_for e.receivers o h d))
+step-by e n h d false None lt known b f = unchanged e n
+step-by e n h d false (Some m) lt known b f =
+    there e n m h (values_read (receiver_at e m).map d) (media_payload (receiver_at e m).types h d) (λ same. true≢false (sym (found-own e.receivers h.ssrc h.payload_type m f).1 ∙ ap (λ (k : ℕ). is_own (receiver_at e k) h.ssrc h.payload_type) (sym same) ∙ b))
+step-by e n h d true o lt known b f =
     let s : (receiver_at e n).ssrc ≡ h.ssrc = eqb-is _ _ (both-left _ _ b) in
-    let t : (receiver_at e n).pt ≡ h.payload_type = eqb-is _ _ (both-right _ _ b) in
-    let is : o ≡ Some n = sym f ∙ sym (ap₂ (λ (x y : ℕ). stream_for e.receivers x y) s t) ∙ known in
-    subst (λ (q : Option ℕ). Heard1 e n (content_event h (values_read (receiver_at e n).map d) (unpadded h.has_padding (payload_in h d))) (after_arrival e (arrival_for e.receivers q h d))) (sym is)
-    (here e n h (values_read (receiver_at e n).map d) (unpadded h.has_padding (payload_in h d)) (found-own e.receivers (receiver_at e n).ssrc (receiver_at e n).pt n known).0)
+    let is : o ≡ Some n = sym f ∙ sym (ap (λ (x : ℕ). stream_for e.receivers x h.payload_type) s) ∙ known h.payload_type (both-right _ _ b) in
+    subst (λ (q : Option ℕ). Heard1 e n (content_event h (values_read (receiver_at e n).map d) (media_payload (receiver_at e n).types h d)) (after_arrival e (arrival_for e.receivers q h d))) (sym is)
+    (here e n h (values_read (receiver_at e n).map d) (media_payload (receiver_at e n).types h d) lt)
 
-step-header : (e : EndState) (n : ℕ) (d : List ℕ) (o : Option RtpHeader) → stream_for e.receivers (receiver_at e n).ssrc (receiver_at e n).pt ≡ Some n →
-    Heard1 e n (event_by (receiver_at e n).ssrc (receiver_at e n).pt (receiver_at e n).map o d) (after_arrival e (arrival_by e.receivers o d))
-step-header e n d None known = unchanged e n
-step-header e n d (Some h) known = step-by e n h d (is_own (receiver_at e n) h.ssrc h.payload_type) (stream_for e.receivers h.ssrc h.payload_type) known refl refl
+step-header : (e : EndState) (n : ℕ) (d : List ℕ) (o : Option RtpHeader) → n < length e.receivers → IsFound e n (receiver_at e n) →
+    Heard1 e n (event_by (receiver_at e n) o d) (after_arrival e (arrival_by e.receivers o d))
+step-header e n d None lt known = unchanged e n
+step-header e n d (Some h) lt known = step-by e n h d (is_own (receiver_at e n) h.ssrc h.payload_type) (stream_for e.receivers h.ssrc h.payload_type) lt known refl refl
+
+-- a stream that is found is there
+is-there : (e : EndState) (n : ℕ) (r : Receiving) → IsFound e n r → n < length e.receivers
+is-there e n r known = (found-own e.receivers r.ssrc r.types.pt n (known r.types.pt (first r.types.pt (is_type r.types.red r.types.pt)))).0 where
+  first : (a : ℕ) (b : Bool) → ((a == a) || b) ≡ true
+  first a b = either (a == a) b (grind (arith, nat_tests))
+    where
+      either : (x y : Bool) → x ≡ true → (x || y) ≡ true
+      either true y h = refl
+      either false y h = absurd (true≢false (sym h))
 
 -- one datagram
-step : (e : EndState) (n : ℕ) (d : List ℕ) → stream_for e.receivers (receiver_at e n).ssrc (receiver_at e n).pt ≡ Some n →
-    Heard1 e n (event_in (receiver_at e n).ssrc (receiver_at e n).pt (receiver_at e n).map d) (after_datagram e d)
-step e n d known = step-header e n d (header_in empty_map d) known
+step : (e : EndState) (n : ℕ) (d : List ℕ) → IsFound e n (receiver_at e n) → Heard1 e n (event_in (receiver_at e n) d) (after_datagram e d)
+step e n d known = step-header e n d (header_in empty_map d) (is-there e n (receiver_at e n) known) known
 
 after-option : (s : Stream) (o : Option Event) (es : List Event) → after_events (after_event s o) es ≡ after_events s (cons_option o es)
 after-option s None es = refl
 after-option s (Some e) es = refl
 
 -- The stream after a list of datagrams is the stream after its own ones.
-pub isolated : (ds : List (List ℕ)) (e : EndState) (n ssrc pt : ℕ) (map : Numbering) → (receiver_at e n).ssrc ≡ ssrc → (receiver_at e n).pt ≡ pt → (receiver_at e n).map ≡ map → stream_for e.receivers ssrc pt ≡ Some n →
-    (receiver_at (after_datagrams e ds) n).stream ≡ after_events (receiver_at e n).stream (own_events ssrc pt map ds)
-isolated [] e n ssrc pt map s t m known = refl
-isolated (d ∷ ds) e n ssrc pt map s t m known =
-    let known' : stream_for e.receivers (receiver_at e n).ssrc (receiver_at e n).pt ≡ Some n = rw (s, t) known in
-    let one : Heard1 e n (event_in (receiver_at e n).ssrc (receiver_at e n).pt (receiver_at e n).map d) (after_datagram e d) = step e n d known' in
-    let s' : (receiver_at (after_datagram e d) n).ssrc ≡ ssrc = ap (λ (r : Receiving). r.ssrc) one.stream ∙ s in
-    let t' : (receiver_at (after_datagram e d) n).pt ≡ pt = ap (λ (r : Receiving). r.pt) one.stream ∙ t in
-    let m' : (receiver_at (after_datagram e d) n).map ≡ map = ap (λ (r : Receiving). r.map) one.stream ∙ m in
-    let st : (receiver_at (after_datagram e d) n).stream ≡ after_event (receiver_at e n).stream (event_in ssrc pt map d) =
-    ap (λ (r : Receiving). r.stream) one.stream ∙ ap₂ (λ (x y : ℕ). after_event (receiver_at e n).stream (event_in x y (receiver_at e n).map d)) s t
-    ∙ ap (λ (x : Numbering). after_event (receiver_at e n).stream (event_in ssrc pt x d)) m in
-    isolated ds (after_datagram e d) n ssrc pt map s' t' m' (one.found ssrc pt ∙ known)
-    ∙ ap (λ (x : Stream). after_events x (own_events ssrc pt map ds)) st
-    ∙ after-option (receiver_at e n).stream (event_in ssrc pt map d) (own_events ssrc pt map ds)
+pub isolated : (ds : List (List ℕ)) (e : EndState) (n : ℕ) (r : Receiving) → receiver_at e n ≡ with_stream r (receiver_at e n).stream → IsFound e n r →
+    (receiver_at (after_datagrams e ds) n).stream ≡ after_events (receiver_at e n).stream (own_events r ds)
+isolated [] e n r same known = refl
+isolated (d ∷ ds) e n r same known =
+    let known' : IsFound e n (receiver_at e n) = subst (λ (x : Receiving). IsFound e n x) (sym same) known in
+    let one : Heard1 e n (event_in (receiver_at e n) d) (after_datagram e d) = step e n d known' in
+    let event : event_in (receiver_at e n) d ≡ event_in r d = ap (λ (x : Receiving). event_in x d) same in
+    let st : (receiver_at (after_datagram e d) n).stream ≡ after_event (receiver_at e n).stream (event_in r d) =
+    ap (λ (x : Receiving). x.stream) one.stream ∙ ap (after_event (receiver_at e n).stream) event in
+    let same' : receiver_at (after_datagram e d) n ≡ with_stream r (receiver_at (after_datagram e d) n).stream =
+    one.stream ∙ ap (λ (x : Receiving). with_stream x (after_event (receiver_at e n).stream (event_in (receiver_at e n) d))) same
+    ∙ ap (with_stream r) (sym (ap (λ (x : Receiving). x.stream) one.stream)) in
+    isolated ds (after_datagram e d) n r same' (λ pt has. one.found r.ssrc pt ∙ known pt has)
+    ∙ ap (λ (x : Stream). after_events x (own_events r ds)) st
+    ∙ after-option (receiver_at e n).stream (event_in r d) (own_events r ds)
 
 -- the streams are found as before
-pub found-after : (ds : List (List ℕ)) (e : EndState) (n ssrc pt : ℕ) → (receiver_at e n).ssrc ≡ ssrc → (receiver_at e n).pt ≡ pt → stream_for e.receivers ssrc pt ≡ Some n →
-    n < length (after_datagrams e ds).receivers
-found-after [] e n ssrc pt s t known = (found-own e.receivers ssrc pt n known).0
-found-after (d ∷ ds) e n ssrc pt s t known =
-    let known' : stream_for e.receivers (receiver_at e n).ssrc (receiver_at e n).pt ≡ Some n = rw (s, t) known in
-    let one : Heard1 e n (event_in (receiver_at e n).ssrc (receiver_at e n).pt (receiver_at e n).map d) (after_datagram e d) = step e n d known' in
-    found-after ds (after_datagram e d) n ssrc pt (ap (λ (r : Receiving). r.ssrc) one.stream ∙ s) (ap (λ (r : Receiving). r.pt) one.stream ∙ t) (one.found ssrc pt ∙ known)
+pub found-after : (ds : List (List ℕ)) (e : EndState) (n : ℕ) (r : Receiving) → receiver_at e n ≡ with_stream r (receiver_at e n).stream → IsFound e n r → n < length (after_datagrams e ds).receivers
+found-after [] e n r same known = is-there e n r known
+found-after (d ∷ ds) e n r same known =
+    let known' : IsFound e n (receiver_at e n) = subst (λ (x : Receiving). IsFound e n x) (sym same) known in
+    let one : Heard1 e n (event_in (receiver_at e n) d) (after_datagram e d) = step e n d known' in
+    let same' : receiver_at (after_datagram e d) n ≡ with_stream r (receiver_at (after_datagram e d) n).stream =
+    one.stream ∙ ap (λ (x : Receiving). with_stream x (after_event (receiver_at e n).stream (event_in (receiver_at e n) d))) same
+    ∙ ap (with_stream r) (sym (ap (λ (x : Receiving). x.stream) one.stream)) in
+    found-after ds (after_datagram e d) n r same' (λ pt has. one.found r.ssrc pt ∙ known pt has)

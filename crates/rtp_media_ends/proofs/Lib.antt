@@ -2,3 +2,4 @@ pub mod Openings
 pub mod Isolation
 pub mod Exact
 pub mod Agreements
+pub mod Rising

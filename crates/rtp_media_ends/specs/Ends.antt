@@ -8,7 +8,6 @@ use Rattle.rtp_media_streams.specs.declared.types.PayloadTypes.{PayloadTypes}
 use Rattle.sdp_formats_rows.specs.Rows.{Row}
 use Rattle.rtp_media_exchange.specs.Agreement.{Agreed, section_of, agreed_row_of, agreed_map_of, is_named, own_row_agrees}
 use Rattle.rtp_media_exchange.specs.Exchanges.{Exchanged, fresh, fixed}
-use Rattle.rtp_media_ends.specs.Params.{distances_of}
 use Rattle.rtp_media_ends.specs.declared.params.StreamParams.{StreamParams}
 use Rattle.rtp_media_ends.specs.declared.errors.OpenError.{OpenError}
 use Rattle.rtp_media_ends.specs.declared.errors.OpenError.TheVariants.{NoSection, RowNotAgreed, RowDiffers, WrongDirection, SsrcNotNamed, AlreadyOpen}
@@ -117,7 +116,7 @@ after_open_sender e mid ssrc pt params =
     with_new_sender e
     (with_distances
     (opened_sender ssrc (agreed_types e mid pt) (stream_map e mid) (rate_of (agreed_row_of e.exchange.agreed mid pt)) params.first params.mtu params.limit)
-    (agreed_red e mid pt) (distances_of params))
+    (agreed_red e mid pt) params.red)
 
 -- the end with a receiving stream more, which reads under the agreed map
 unfoldable pub after_open_receiver : EndState → List ℕ → ℕ → ℕ → ℕ → EndState

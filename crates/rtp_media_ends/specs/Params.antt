@@ -1,11 +1,7 @@
 use Rattle.std.specs.Prelude.{ℕ, ◌<◌, ◌≤◌, Bool, true, false, ◌&&◌, nat_lt, nat_le, List, [], ◌∷◌, Option, Some, None}
-use Rattle.std.specs.Option.{ForSome, option_map}
+use Rattle.std.specs.Option.{ForSome}
 use Rattle.payload_core_red.specs.RedHistory.{AreDistances}
 use Rattle.rtp_media_ends.specs.declared.params.StreamParams.{StreamParams}
-
--- the distances of redundancy, where there are any
-abbrev pub distances_of : StreamParams → Option (List ℕ)
-distances_of p = option_map (λ ds. ds.items) p.red
 
 -- Redundancy is for rows with a RED type alone: a payload has a byte more, and the distances rise and are
 -- 1 to 8.
@@ -18,7 +14,7 @@ IsRedundancy (Some red) mtu (Some distances) = (2 ≤ mtu) × AreDistances dista
 pub record IsSound (red : Option ℕ) (p : StreamParams) : Type 0 where
   pub first : p.first < 32768
   pub mtu : 0 < p.mtu
-  pub redundancy : IsRedundancy red p.mtu (distances_of p)
+  pub redundancy : IsRedundancy red p.mtu p.red
   pub picture_id : ForSome p.picture_id (λ id. id ≤ 32767)
 
 abbrev pub is_picture_id : Option ℕ → Bool
@@ -37,4 +33,4 @@ is_redundancy (Some red) mtu (Some distances) = nat_le 2 mtu && rise_above 0 dis
 
 -- The same as a test.
 abbrev pub is_sound_params : Option ℕ → StreamParams → Bool
-is_sound_params red p = nat_lt p.first 32768 && (nat_lt 0 p.mtu && (is_redundancy red p.mtu (distances_of p) && is_picture_id p.picture_id))
+is_sound_params red p = nat_lt p.first 32768 && (nat_lt 0 p.mtu && (is_redundancy red p.mtu p.red && is_picture_id p.picture_id))

@@ -1,32 +1,32 @@
 //! An end of a session.
 
-ghost use Rattle.std.specs.Prelude.{◌≡◌, ◌≢◌, ◌<◌, ◌==◌, ℕ, Some, None, length, OnOk, OnErr, IfOk, IfErr, IfSome, IfNone, IsOk, IsTrue, is_some, ◌≤◌, ◌↔◌};
+ghost use Rattle.std.specs.Prelude.{◌≡◌, ◌≢◌, ◌<◌, ◌==◌, ℕ, Some, None, length, OnOk, OnErr, IfOk, IfErr, IfSome, IfNone, IsOk, IsSome, IsSomeAnd, IsTrue, is_some, ◌≤◌, ◌↔◌};
 ghost use Rattle.std.specs.List.{list_any};
-ghost use Rattle.std.specs.Option.{ForSome};
-ghost use Rattle.rtp_media_streams.specs.Receiving.{is_own, values_read, polled_receiver};
+ghost use Rattle.std.specs.Option.{ForSome, option_map};
+ghost use Rattle.payload_core_red.specs.RedHistory.{AreDistances};
+ghost use Rattle.rtp_media_texts.specs.Section.{IsRedOf};
+ghost use Rattle.rtp_media_streams.specs.Receiving.{is_receiving, media_payload, polled_receiver};
 ghost use Rattle.rtp_media_streams.specs.Sending.{is_sending, sent_datagrams, after_sample, failed_stream, refusal_of_sample};
 ghost use Rattle.rtp_media_runs.specs.Heard.{poll_answer};
-ghost use Rattle.rtp_wire.specs.Header.{payload_in};
-ghost use Rattle.rtp_wire.specs.Padding.{unpadded};
 ghost use Rattle.rtp_wire.specs.declared.ExtensionValues.{ExtensionValues};
 ghost use Rattle.rtp_media_ends.specs.Arrivals.{Own, NoPayload, own_of, stream_for, verdict_for, after_arrival, arrival_by, verdict_of, after_datagram};
 ghost use Rattle.rtp_media_exchange.specs.Agreement.{agreed_row_of, section_of};
-ghost use Rattle.rtp_media_ends.specs.Ends.{fixed_end, refusal_by, refusal_of_open_sender, refusal_of_open_receiver, after_open_sender, after_open_receiver, stream_map, sender_at, receiver_at, with_sender, with_receiver};
+ghost use Rattle.rtp_media_ends.specs.Ends.{agreed_red, fixed_end, refusal_by, refusal_of_open_sender, refusal_of_open_receiver, after_open_sender, after_open_receiver, stream_map, types_of, with_distances, sender_at, receiver_at, with_sender, with_receiver};
 ghost use Rattle.rtp_media_ends.specs.Params.{IsSound};
 
 mod exchanges;
 mod receive_all;
 
 use crate::errors::{OpenError, ReceiveError};
-use crate::params::StreamParams;
+use crate::params::{Distances, StreamParams};
 use crate::received::Received;
 pub use exchanges::connect;
 pub use receive_all::{Polls, ReceivedAll};
 use rtp_media_exchange::{AgreedSection, EndError, Exchange, PayloadParams};
-use rtp_media_streams::{Datagram, PollFault, ReceivingStream, SampleError, SendingStream, Unit};
-use rtp_wire::{
-    ExtensionMap, ExtensionValues, Frequency, MediaTime, Mid, Pt, RtpHeader, Ssrc, unpad_payload,
+use rtp_media_streams::{
+    Datagram, PayloadTypes, PollFault, ReceivingStream, SampleError, SendingStream, Unit,
 };
+use rtp_wire::{ExtensionMap, ExtensionValues, Frequency, MediaTime, Mid, Pt, RtpHeader, Ssrc};
 use std::alloc::{AllocError, Global};
 use std::marker::Model;
 
@@ -144,7 +144,7 @@ impl End {
             params.mtu,
             params.limit,
         );
-        let stream = with_distances(self.alloc, stream, row.red(), params.red.as_deref())?;
+        let stream = with_distances(self.alloc, stream, row.red(), params.red.as_ref())?;
         self.senders.push(stream)?;
         Ok(number)
     }
@@ -284,8 +284,9 @@ impl End {
     {
         let section = section_named(&self.exchange, mid)?;
         let row = section.row_of(pt);
-        let is_open = is_sending(&self.senders, ssrc, &types_of(&section.row()));
-        let agrees = self.exchange.agrees_with(&section.row());
+        let agreed = section.row();
+        let agrees = self.exchange.agrees_with(&agreed);
+        let is_open = is_sending(&self.senders, ssrc, &types_of(&agreed));
         opened_row(
             row,
             agrees,
@@ -304,8 +305,9 @@ impl End {
     {
         let section = section_named(&self.exchange, mid)?;
         let row = section.row_of(pt);
-        let is_open = is_receiving(&self.receivers, ssrc, &types_of(&section.row()));
-        let agrees = self.exchange.agrees_with(&section.row());
+        let agreed = section.row();
+        let agrees = self.exchange.agrees_with(&agreed);
+        let is_open = is_receiving(&self.receivers, ssrc, &types_of(&agreed));
         opened_row(
             row,
             agrees,
@@ -380,11 +382,11 @@ fn with_distances(
     alloc: Global,
     stream: SendingStream,
     red: Option<Pt>,
-    distances: Option<&[u8]>,
+    distances: Option<&Distances>,
 ) -> Result<SendingStream, AllocError>
-    requires types { IsSome distances → IfSome red (λ r. r < 128) }
+    requires types { IsSome distances → IsSomeAnd red (λ r. r < 128) }
     requires distances { IfSome distances (λ ds. AreDistances ds.now) }
-    ensures { IfOk result (λ s. s ≡ with_distances stream red (option_map (λ ds. ds.now) distances)) }
+    ensures { IfOk result (λ s. s ≡ with_distances stream red (option_map (λ ds. ds.now) distances.entry)) }
 {
     let Some(distances) = distances else {
         return Ok(stream);
@@ -392,7 +394,7 @@ fn with_distances(
     let Some(red) = red else {
         return Ok(stream);
     };
-    let distances = distances.iter().map(|d| u32::from(*d)).collect(alloc)?;
+    let distances: Vec<u32> = distances.as_slice().iter().map(|d| u32::from(*d)).collect(alloc)?;
     stream.with_red(red, &distances)
 }
 
@@ -404,11 +406,7 @@ fn is_sending(senders: &[SendingStream], ssrc: Ssrc, types: &PayloadTypes) -> bo
 }
 
 /// Whether one of the streams takes this SSRC and one of these payload types.
-fn is_receiving(
-    receivers: &[ReceivingStream],
-    ssrc: Ssrc,
-    types: &PayloadTypes,
-) -> bool
+fn is_receiving(receivers: &[ReceivingStream], ssrc: Ssrc, types: &PayloadTypes) -> bool
     ensures { result ≡ list_any (λ r. is_receiving r ssrc types.now) receivers.now }
 {
     receivers.iter().any(|r| r.shares(ssrc, types))

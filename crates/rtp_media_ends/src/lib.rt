@@ -10,7 +10,7 @@ mod received;
 pub use end::{End, Polls, ReceivedAll, connect};
 pub use errors::{OpenError, ReceiveError};
 pub use laws::isolation_law;
-pub use params::StreamParams;
+pub use params::{Distances, StreamParams};
 pub use payload_core_base::PacketError;
 pub use received::Received;
 pub use rtp_media_exchange::{

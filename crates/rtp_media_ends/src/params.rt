@@ -1,9 +1,42 @@
 //! How a sending stream sends.
 
 ghost use Rattle.std.specs.Prelude.{◌≡◌, IsTrue, ◌↔◌};
-ghost use Rattle.rtp_media_ends.specs.Params.{IsSound, is_picture_id, is_redundancy, is_sound_params, distances_of, rise_above};
+ghost use Rattle.std.specs.Option.{option_map};
+ghost use Rattle.rtp_media_ends.specs.Params.{IsSound, is_redundancy, is_sound_params, rise_above};
 
 use rtp_wire::Pt;
+use std::marker::Model;
+
+/// How many payloads back those stand that each payload is sent behind (RFC 2198): rising, 1 to 8. Where
+/// there are none, payloads have the layout of redundancy without any.
+#[derive(Debug, Drop)]
+pub struct Distances {
+    distances: Vec<u8>,
+}
+
+impl Model for Distances {
+    ghost use Rattle.std.specs.Prelude.{List, ℕ};
+
+    ghost Value = { List ℕ };
+
+    ghost view = { λ d. d.distances.items };
+}
+
+impl Distances {
+    /// These distances.
+    pub fn from_vec(distances: Vec<u8>) -> Self
+        ensures { result ≡ distances.items }
+    {
+        Distances { distances }
+    }
+
+    /// The distances.
+    pub fn as_slice(&self) -> &[u8]
+        ensures { result.now ≡ self.now }
+    {
+        self.distances.as_slice()
+    }
+}
 
 /// How a sending stream numbers and cuts its samples.
 #[derive(Debug, Drop)]
@@ -14,9 +47,9 @@ pub struct StreamParams {
     pub mtu: usize,
     /// The most bytes of a datagram.
     pub limit: usize,
-    /// How many payloads back those stand that each payload is sent behind (RFC 2198): rising, 1 to 8.
-    /// None for a stream without redundancy, and for a row without a RED type.
-    pub red: Option<Vec<u8>>,
+    /// The distances of redundancy (RFC 2198): None for a stream without it, and for a row without a RED
+    /// type.
+    pub red: Option<Distances>,
     /// The first picture id of a video row, at most 32,767; other rows have none.
     pub picture_id: Option<u16>,
 }
@@ -35,25 +68,30 @@ fn are_distances(distances: &[u8]) -> bool
     true
 }
 
-fn is_redundancy(red: Option<Pt>, mtu: usize, distances: Option<&[u8]>) -> bool
-    ensures { result ≡ is_redundancy red mtu (option_map (λ ds. ds.now) distances) }
+fn is_redundancy(red: Option<Pt>, mtu: usize, distances: Option<&Distances>) -> bool
+    ensures { result ≡ is_redundancy red mtu (option_map (λ ds. ds.now) distances.entry) }
 {
     match distances {
         None => true,
-        Some(distances) => red.is_some() && mtu >= 2 && are_distances(distances),
+        Some(distances) => red.is_some() && mtu >= 2 && are_distances(distances.as_slice()),
     }
 }
 
 impl StreamParams {
     /// Whether a stream may be opened with these, for a row with this RED type, or without one.
-    #[tactic(auto, using(crate::proofs::Distances::sound_params))]
     pub fn is_sound(&self, red: Option<Pt>) -> bool
         ensures test { result ≡ is_sound_params red self.now }
         ensures sound { IsTrue result ↔ IsSound red self.now }
     {
+        self.passes(red)
+    }
+
+    fn passes(&self, red: Option<Pt>) -> bool
+        ensures { result ≡ is_sound_params red self.now }
+    {
         self.first < 32768
             && self.mtu > 0
-            && is_redundancy(red, self.mtu, self.red.as_deref())
+            && is_redundancy(red, self.mtu, self.red.as_ref())
             && match self.picture_id {
                 Some(id) => id <= 0x7fff,
                 None => true,

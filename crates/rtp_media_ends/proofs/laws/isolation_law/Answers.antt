@@ -4,4 +4,4 @@ use Rattle.rtp_media_ends.proofs.Isolation.{isolated}
 use Rattle.rtp_media_ends.proofs.laws.isolation_law.Goals as goal
 
 pub returns : goal.returns
-returns c end datagrams stream known = isolated datagrams end stream (receiver_at end stream).ssrc (receiver_at end stream).pt (receiver_at end stream).map refl refl refl known
+returns c end datagrams stream known = isolated datagrams end stream (receiver_at end stream) refl known

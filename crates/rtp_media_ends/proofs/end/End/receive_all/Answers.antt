@@ -1,6 +1,6 @@
-use Rattle.std.proofs.Common.{◌≡◌, ◌∙◌, ap, subst, List}
-use Rattle.rtp_media_streams.specs.Receiving.{Receiving}
-use Rattle.rtp_media_ends.specs.Ends.{EndState}
+use Rattle.std.proofs.Common.{◌≡◌, ◌∙◌, ap, sym, subst, List}
+use Rattle.rtp_media_streams.specs.Receiving.{Receiving, opened_receiver, with_stream}
+use Rattle.rtp_media_ends.specs.Ends.{EndState, receiver_at}
 use Rattle.rtp_media_ends.specs.FullArrival.{after_datagrams, ArePolledOut}
 use Rattle.rtp_media_ends.proofs.Exact.{exact}
 use Rattle.rtp_media_ends.proofs.Isolation.{found-after}
@@ -12,5 +12,7 @@ returns-clause-exact c stream hold_back sender samples arrivals all =
     ap (λ (e : EndState). e.receivers) (c.self.view_is ∙ c.in_ok-verdicts.ensures.after) in
     let polled : ArePolledOut (after_datagrams c.args.self.now c.args.datagrams.now).receivers c.in_ok-polls.polls.items c.poll_each.new.receivers.items =
     subst (λ (rs : List Receiving). ArePolledOut rs c.in_ok-polls.polls.items c.poll_each.new.receivers.items) receivers c.in_ok-polls.ensures in
+    let r : Receiving = opened_receiver sender.ssrc sender.types sender.map hold_back in
+    let same : receiver_at c.args.self.now stream ≡ with_stream r (receiver_at c.args.self.now stream).stream = all.fresh ∙ ap (with_stream r) (sym (ap (λ (x : Receiving). x.stream) all.fresh)) in
     exact c.args.self.now stream hold_back sender samples arrivals c.args.datagrams.now _ _ all
-    (polled.each stream (found-after c.args.datagrams.now c.args.self.now stream sender.ssrc sender.pt (ap (λ (r : Receiving). r.ssrc) all.fresh) (ap (λ (r : Receiving). r.pt) all.fresh) all.opened))
+    (polled.each stream (found-after c.args.datagrams.now c.args.self.now stream r same all.opened))
