@@ -54,8 +54,8 @@ abbrev pub types_refusal : Option Row → Option EndError
 types_refusal None = None
 types_refusal (Some row) = if is_wrapped_by_itself row then Some (fault.TypesNotDistinct row.pt) else None
 
--- Why an end can't be made: of its rows, of their types, and of a session with attributes or bandwidth, or a header
--- extension whose text can't stand in a line.
+-- Why an end can't be made: of its rows, of their types, and of a session with attributes or bandwidth, or
+-- a header extension whose text can't stand in a line.
 abbrev pub refusal_of_new : List Row → Bool → Numbering → Option EndError
 refusal_of_new rows is_bare exts =
     else_refused (row_refusal rows)

@@ -110,14 +110,14 @@ impl AgreedSection {
         self.mid.as_str() == mid.as_str()
     }
 
-    /// The agreed row.
+    /// The agreed row, with a RED type where both ends have one.
     pub fn row(&self) -> PayloadParams
         ensures { result ≡ self.now.row }
     {
         self.row
     }
 
-    /// The row of this type.
+    /// The row of this type; its RED type has 7 bits and is another one.
     pub fn row_of(&self, pt: Pt) -> Option<PayloadParams>
         ensures row { result ≡ row_in (Some self.now) pt }
         ensures typed { OnSome result (pt < 128) }

@@ -24,7 +24,9 @@ use sdp_formats_rows::PayloadParams;
 use std::alloc::{AllocError, Global};
 
 impl Exchange {
-    /// The text of the answer to an offer, of these sections; it is then agreed.
+    /// The text of the answer to an offer, of these sections; it is then agreed. The end's row takes the
+    /// offer's type over, and the offer's RED type where it has one itself (RFC 2198); it has none where
+    /// either end has none.
     ///
     /// # Errors
     /// The first that holds of `Unreadable`, `OutOfTurn`, `NotCorresponding` and `NoCommonRow`; or
@@ -56,7 +58,8 @@ impl Exchange {
         Ok(printed)
     }
 
-    /// Takes the text of the answer to the pending offer; it is then agreed.
+    /// Takes the text of the answer to the pending offer; it is then agreed. The end's row takes types over
+    /// from the answer as `answer` does from the offer.
     ///
     /// # Errors
     /// The first that holds of `Unreadable`, `OutOfTurn`, `NotCorresponding` and `NoCommonRow`; or
@@ -113,7 +116,8 @@ fn pair(
     row.ok_or(ExchangeError::NoCommonRow(said.mid))
 }
 
-/// The row as a round with the other end's row leaves it.
+/// The row as a round with the other end's row leaves it: with its types, and a RED type where both have
+/// one.
 fn settled(row: PayloadParams, said: &SessionText) -> PayloadParams
     ensures { result ≡ after_round row said.now }
 {
