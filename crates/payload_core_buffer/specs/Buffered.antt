@@ -48,7 +48,7 @@ pub record IsHeldInOrder (hs : List Held) : Type 0 where
   pub room : length hs ≤ 4096
   pub rising : IsRising (packets_of hs)
 
--- They are held by their numbers.
+-- The same of a map, which holds each packet at its number.
 pub record IsHeldByNumber (m : BTreeMap ℕ Held) : Type 0 where
   pub in_order : IsHeldInOrder (values m)
   pub keyed : keys m ≡ numbers_of (values m)
