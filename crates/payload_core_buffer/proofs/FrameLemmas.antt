@@ -1,17 +1,17 @@
 -- What is known of complete frames.
-use Rattle.std.proofs.Common.{◌≡◌, ℕ, zero, suc, ◌+◌, ◌<◌, ◌≤◌, Bool, true, false, eqb, Some, None, Option, List, [], ◌∷◌, ◌++◌, length, get_or, refl, sym, ap, subst, ◌∙◌, arith, inl, inr}
+use Rattle.std.proofs.Common.{◌≡◌, ℕ, zero, suc, ◌+◌, ◌<◌, ◌≤◌, Bool, true, false, eqb, Some, None, Option, List, [], ◌∷◌, ◌++◌, length, drop, get_or, refl, sym, ap, subst, ◌∙◌, arith, inl, inr}
 use Rattle.std.specs.List.{All, cons_option, filter_map, range_with_len}
 use Rattle.std.specs.Prelude.{is_some, if◌then◌else◌, ◌&&◌, not}
 use mathlib.Core.Bool.{false≢true}
 use Rattle.std.proofs.lemmas.Bool.{cases_lt, eqb-true}
 use Rattle.std.specs.Option.{option_to_list}
-use Rattle.std.proofs.lemmas.List.{get_or-map}
+use Rattle.std.proofs.lemmas.List.{get_or-map, length-drop}
 use Rattle.std.proofs.lemmas.List.Elements.{All-append, All-cons, All-head, All-nil, filter_map-append}
 use Rattle.payload_core_base.specs.Format.{Format}
 use Rattle.payload_core_buffer.specs.declared.frame.Frame.{Frame}
 use Rattle.payload_core_buffer.specs.declared.held.Held.{Held}
 use Rattle.payload_core_buffer.specs.Packets.{Packet, packet_of, packets_of}
-use Rattle.payload_core_buffer.specs.Frames.{IsFrame, no_packet, packet_at, number_at, time_at, is_head_at, is_tail_at, complete_frames, frames_among, frame_at, frame_of_run, goes_on, is_joined_at, kept_run, lowest_of, run_or_head, run_start}
+use Rattle.payload_core_buffer.specs.Frames.{IsFrame, no_packet, packet_at, number_at, time_at, is_head_at, is_tail_at, complete_frames, frames_among, frame_at, frame_of_run, is_joined_at, is_joined_to, kept_run, lowest_of, run_or_head, run_start}
 
 -- the packet at a place is the one held there
 pub packet_here : (hs : List Held) (i : ℕ) (h : Held) → i < length hs → h ≡ get_or hs i h → packet_at (packets_of hs) i ≡ packet_of h
@@ -21,19 +21,44 @@ pub length_packets : (hs : List Held) → length (packets_of hs) ≡ length hs
 length_packets [] = refl
 length_packets (h ∷ hs) = ap suc (length_packets hs)
 
--- a packet behind another goes on with its run by what the two are
-pub joined_from : (format : Format) (hs : List Held) (i j : ℕ) (p q : Held) → i ≡ j + 1 → i < length hs → p ≡ get_or hs j p → q ≡ get_or hs i q → goes_on format (packet_of p) (packet_of q) ≡ is_joined_at format (packets_of hs) i
-joined_from format hs i j p q e lt is_p is_q =
-    let here = packet_here hs j p (omega arith) is_p in
-    let there = packet_here hs i q lt is_q in
-    let next : i ≡ suc j = omega arith in
-    ap (λ x. goes_on format x (packet_of q)) (sym here) ∙ ap (λ x. goes_on format (packet_at (packets_of hs) j) x) (sym there)
-    ∙ ap (λ n. goes_on format (packet_at (packets_of hs) j) (packet_at (packets_of hs) n)) next
-    ∙ ap (λ n. is_joined_at format (packets_of hs) n) (sym next)
+-- the packet before a place
+abbrev pub before_at : List Packet → ℕ → Option Packet
+before_at ps zero = None
+before_at ps (suc k) = Some (packet_at ps k)
+
+pub before_more : (ps : List Packet) (i : ℕ) → before_at ps (i + 1) ≡ Some (packet_at ps i)
+before_more ps i = let e : i + 1 ≡ suc i = omega arith in ap (before_at ps) e
+
+-- a packet goes on with its run by the one before it
+joined_at : (format : Format) (ps : List Packet) (i : ℕ) → is_joined_to format (before_at ps i) (packet_at ps i) ≡ is_joined_at format ps i
+joined_at format ps zero = refl
+joined_at format ps (suc k) = refl
+
+-- the first of what is left behind some packets
+pub left_first : (hs : List Held) (i : ℕ) (h : Held) (left : List Held) → drop i hs ≡ h ∷ left → (i < length hs) × (h ≡ get_or hs i h) × (left ≡ drop (i + 1) hs)
+left_first [] zero h left e = cc
+left_first [] (suc i) h left e = cc
+left_first (x ∷ hs) zero h left e = (omega arith, cc, cc)
+left_first (x ∷ hs) (suc i) h left e =
+    let rest = left_first hs i h left e in
+    let next : drop (i + 1) hs ≡ drop (suc i + 1) (x ∷ hs) = let s : suc i + 1 ≡ suc (i + 1) = omega arith in ap (λ n. drop n (x ∷ hs)) (sym s) in
+    (omega (arith, rest.0), rest.1, rest.2 ∙ next)
+
+-- nothing is left behind all
+pub all_seen : (hs : List Held) (i : ℕ) (left : List Held) → i ≤ length hs → left ≡ drop i hs → left ≡ [] → i ≡ length (packets_of hs)
+all_seen hs i left le is none = omega (arith, length_packets hs, length-drop i hs, ap length is, ap length none)
 
 -- the run behind one packet more
 pub run_more : (format : Format) (ps : List Packet) (i : ℕ) → run_start format ps (i + 1) ≡ run_or_head (kept_run (is_joined_at format ps i) (run_start format ps i)) (is_head_at format ps i) i
 run_more format ps i = let e : i + 1 ≡ suc i = omega arith in ap (run_start format ps) e
+
+-- what is found at a packet that stands at a place
+module _ (format : Format) (ps : List Packet) (i : ℕ) (before : Option Packet) (p : Packet) (run : Option ℕ) (is_before : before ≡ before_at ps i) (is : p ≡ packet_at ps i) (is_run : run ≡ run_start format ps i) where
+  pub run_here : run_or_head (kept_run (is_joined_to format before p) run) (format.head p.payload) i ≡ run_start format ps (i + 1)
+  run_here = rw (is_before, is, is_run, joined_at format ps i) (sym (run_more format ps i))
+
+  pub frame_here : (end : Option ℕ) → end ≡ run_start format ps (i + 1) → frame_of_run (format.tail p.meta.marker p.payload) end (i + 1) ≡ frame_at format ps i
+  frame_here end is_end = rw (is, is_end) refl
 
 range_more : (a n : ℕ) → range_with_len a (suc n) ≡ range_with_len a n ++ (a + n) ∷ []
 range_more a zero = let e : a ≡ a + 0 = omega arith in ap (λ k. k ∷ []) e

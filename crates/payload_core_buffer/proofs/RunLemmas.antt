@@ -1,6 +1,13 @@
 -- What is known of packets that are read one after the other.
 use Rattle.std.proofs.Common.{◌≡◌, ℕ, ◌+◌, ◌<◌, List, [], ◌∷◌, ◌++◌, take, drop, length, get_or, Some, None, Result, Ok, Err, refl, sym, ap, ◌∙◌, append_assoc}
 use Rattle.std.proofs.lemmas.List.{append-nil, map-append, take_more, take-append-drop, drop_more, take-map}
+use Rattle.std.proofs.lemmas.Iterator.{YieldsList, YieldsList-from_take}
+use Rattle.std.proofs.lemmas.Iterator.Adapters.{YieldsList-from_skip}
+use Rattle.std.proofs.lemmas.Iterator.Consumers.{YieldsList-from_rest}
+use Rattle.std.specs.Iterator.Adapters.{skip_steps, take_steps}
+use Rattle.std.specs.Map.Iter.{TakesFirst, deref}
+use Rattle.std.specs.declared.iter.Skip.{Skip}
+use Rattle.std.specs.declared.iter.Take.{Take}
 use Rattle.payload_core_base.specs.Format.{Format, Fragment, Run, Reading, Gives, read_all, run_after, run_behind}
 use Rattle.payload_core_base.specs.declared.error.PacketError.{PacketError}
 use Rattle.payload_core_base.specs.declared.extra.CodecExtra.{CodecExtra}
@@ -77,3 +84,9 @@ payloads_around hs i h lt is =
 
 pub take_packets : (n : ℕ) (hs : List Held) → take n (packets_of hs) ≡ packets_of (take n hs)
 take_packets n hs = take-map packet_of n hs
+
+-- the packets of a frame come in their order
+module _ {from until : Take (Skip (List Held))} {skipped : Skip (List Held)} {all hs : List Held} {a n : ℕ} where
+  pub frame_road : from ≡ until → until.iter ≡ skipped → until.n ≡ n → skipped.iter ≡ all → skipped.n ≡ a → all ≡ hs → YieldsList (take_steps (skip_steps (TakesFirst deref))) deref from (take n (drop a hs))
+  frame_road same source count behind start is =
+      YieldsList-from_take n (YieldsList-from_skip a (YieldsList-from_rest hs (ap (λ (t : Take (Skip (List Held))). t.iter.iter) same ∙ ap (λ (t : Skip (List Held)). t.iter) source ∙ behind ∙ is)) (ap (λ (t : Take (Skip (List Held))). t.iter.n) same ∙ ap (λ (t : Skip (List Held)). t.n) source ∙ start)) (ap (λ (t : Take (Skip (List Held))). t.n) same ∙ count)

@@ -1,15 +1,17 @@
 -- What is known of a frame that is taken out of what is held.
 use Rattle.std.proofs.Common.{◌≡◌, ℕ, ◌-◌, List, [], ◌∷◌, map, take, drop, length, refl, sym, ap, ◌∙◌, arith}
+use Rattle.std.specs.BTreeMap.{BTreeMap, values}
+use Rattle.std.specs.Map.{values_of}
 use Rattle.std.specs.Prelude.{slice_range}
-use Rattle.std.proofs.lemmas.List.{drop-map, length-drop, length-take, take-map}
+use Rattle.std.proofs.lemmas.List.{drop-map, length-drop, length-map, length-take, take-map}
 use Rattle.payload_core_base.specs.Format.{Format, Fragment}
-use Rattle.payload_core_buffer.specs.Buffered.{IsHeldInOrder}
+use Rattle.payload_core_buffer.specs.Buffered.{IsHeldByNumber}
 use Rattle.payload_core_buffer.specs.Frames.{IsFrame, packets_between}
 use Rattle.payload_core_buffer.specs.Packets.{Packet, metas_of, packet_of, packets_of}
 use Rattle.payload_core_buffer.specs.Pops.{StopsIn}
 use Rattle.payload_core_buffer.specs.declared.frame.Frame.{Frame}
 use Rattle.payload_core_buffer.specs.declared.held.Held.{Held}
-use Rattle.payload_core_buffer.proofs.KeptLemmas.{rising-drop}
+use Rattle.payload_core_buffer.proofs.KeptLemmas.{drop_entries, keyed_drop, rising-drop}
 
 -- the packets of a frame are those that are held there
 pub between_is : (hs : List Held) (f : Frame) → packets_of (slice_range hs f.start f.end) ≡ packets_between (packets_of hs) f
@@ -20,14 +22,18 @@ metas_are [] = refl
 metas_are (h ∷ hs) = ap (λ ms. h.meta ∷ ms) (metas_are hs)
 
 -- what is left behind a frame
-pub left_is : (n : ℕ) (hs new : List Held) → new ≡ drop n hs → packets_of new ≡ drop n (packets_of hs)
-left_is n hs new is = ap packets_of is ∙ sym (drop-map packet_of n hs)
+module _ (n : ℕ) (m new : BTreeMap ℕ Held) (is : new.entries ≡ drop n m.entries) where
+  pub left_is : packets_of (values new) ≡ drop n (packets_of (values m))
+  left_is = ap (λ es. packets_of (values_of es)) is ∙ drop_entries n m.entries
 
-pub in_order_left : (n : ℕ) (hs new : List Held) → IsHeldInOrder hs → new ≡ drop n hs → IsHeldInOrder new
-in_order_left n hs new in_order is = record {
-  room = omega (arith, ap length is, in_order.room, length-drop n hs);
-  rising = rw (left_is n hs new is) (rising-drop n (packets_of hs) in_order.rising);
-}
+  pub by_number_left : IsHeldByNumber m → IsHeldByNumber new
+  by_number_left by_number = record {
+    in_order = record {
+      room = omega (arith, by_number.in_order.room, length-map m.entries (λ e. e.1), length-map new.entries (λ e. e.1), ap length is, length-drop n m.entries);
+      rising = rw left_is (rising-drop n (packets_of (values m)) by_number.in_order.rising);
+    };
+    keyed = rw is (keyed_drop n m.entries by_number.keyed);
+  }
 
 -- no packet of a frame was read
 pub stops_first : (format : Format) (before : Fragment) (ps : List Packet) (f : Frame) → IsFrame format ps f → StopsIn format before (packets_between ps f) before

@@ -1,8 +1,9 @@
 -- A buffer: what it holds, and what a push keeps.
-use Rattle.std.specs.Prelude.{ℕ, ℤ, ◌-◌, ◌<◌, ◌≤◌, Bool, false, List, [], ◌∷◌, Option, Some, None, length, drop, nat_le, if◌then◌else◌, refl}
+use Rattle.std.specs.BTreeMap.{BTreeMap, keys, values}
+use Rattle.std.specs.Prelude.{◌≡◌, ℕ, ℤ, ◌-◌, ◌<◌, ◌≤◌, Bool, false, List, [], ◌∷◌, Option, Some, None, length, drop, nat_le, if◌then◌else◌, refl}
 use Rattle.std.specs.Ordering.{nat_cmp, match_ordering}
 use Rattle.std.specs.Coded.{Coded, code_by, coded×, coded_ℕ, coded_ℤ, coded_bool, coded_list, coded_option}
-use Rattle.payload_core_buffer.specs.Packets.{Packet, packets_of}
+use Rattle.payload_core_buffer.specs.Packets.{Packet, numbers_of, packets_of}
 use Rattle.payload_core_buffer.specs.declared.held.Held.{Held}
 use Rattle.payload_core_buffer.specs.declared.held.RtpMeta.{RtpMeta}
 use Rattle.rtp_wire_extensions.specs.declared.values.AbsCaptureTime.{AbsCaptureTime}
@@ -46,6 +47,11 @@ IsRising (p ∷ q ∷ rest) = (p.meta.seq_no < q.meta.seq_no) × IsRising (q ∷
 pub record IsHeldInOrder (hs : List Held) : Type 0 where
   pub room : length hs ≤ 4096
   pub rising : IsRising (packets_of hs)
+
+-- The same of a map, which holds each packet at its number.
+pub record IsHeldByNumber (m : BTreeMap ℕ Held) : Type 0 where
+  pub in_order : IsHeldInOrder (values m)
+  pub keyed : keys m ≡ numbers_of (values m)
 
 -- What is held, and the packet at the place of its number; one whose number is held is dropped.
 abbrev pub held_with : Packet → List Packet → List Packet

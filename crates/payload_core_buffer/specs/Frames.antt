@@ -29,6 +29,11 @@ is_tail_at format ps k = format.tail (packet_at ps k).meta.marker (packet_at ps 
 abbrev pub goes_on : Format → Packet → Packet → Bool
 goes_on format p q = (q.meta.seq_no == p.meta.seq_no + 1) && ((q.meta.time == p.meta.time) && not (format.tail p.meta.marker p.payload))
 
+-- A packet goes on with the run of the one before it, where there is one.
+abbrev pub is_joined_to : Format → Option Packet → Packet → Bool
+is_joined_to format None q = false
+is_joined_to format (Some p) q = goes_on format p q
+
 -- The packet at a place goes on with the run of the one before it.
 abbrev pub is_joined_at : Format → List Packet → ℕ → Bool
 is_joined_at format ps zero = false

@@ -1,6 +1,5 @@
 pub mod Packets
 pub mod Metas
-pub mod Places
 pub mod Frames
 pub mod Buffered
 pub mod Pops

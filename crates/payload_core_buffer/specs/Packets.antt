@@ -17,6 +17,10 @@ packet_of h = packet_from h.meta h.payload.items
 abbrev pub packets_of : List Held → List Packet
 packets_of hs = map packet_of hs
 
+-- Their numbers.
+abbrev pub numbers_of : List Held → List ℕ
+numbers_of hs = map (λ h. h.meta.seq_no) hs
+
 abbrev pub payloads_of : List Packet → List (List ℕ)
 payloads_of ps = map (λ p. p.payload) ps
 

@@ -9,6 +9,7 @@ use crate::take::take_due;
 use payload_core_base::{Depacketizer, PacketError};
 use rtp_wire_ids::SeqNo;
 use std::alloc::Global;
+use std::collections::BTreeMap;
 use std::marker::Model;
 
 /// Holds packets by their numbers until their frame is complete, and hands the frames to a depacketizer.
@@ -17,23 +18,25 @@ use std::marker::Model;
 /// are all held, consecutive and of one time, with no tail among them. At most 4,096 packets are held.
 #[derive(Drop)]
 pub struct DepacketizingBuffer<D> {
+    alloc: Global,
     depacketizer: D,
     hold_back: usize,
-    held: Vec<Held>,
+    held: BTreeMap<u64, Held>,
     cutoff: Option<SeqNo>,
 }
 
 impl<D> Model for DepacketizingBuffer<D> {
-    ghost use Rattle.payload_core_buffer.specs.Buffered.{Buffered, IsHeldInOrder, buffered_code};
+    ghost use Rattle.payload_core_buffer.specs.Buffered.{Buffered, IsHeldByNumber, buffered_code};
     ghost use Rattle.payload_core_buffer.specs.Packets.{packets_of};
+    ghost use Rattle.std.specs.BTreeMap.{values};
 
     ghost Value = { Buffered D };
 
     ghost coded = { buffered_code D.code };
 
-    ghost view = { λ b. record { depacketizer = b.depacketizer; hold_back = b.hold_back; held = packets_of b.held.items; cutoff = b.cutoff } };
+    ghost view = { λ b. record { depacketizer = b.depacketizer; hold_back = b.hold_back; held = packets_of (values b.held); cutoff = b.cutoff } };
 
-    ghost invariant = { λ b. IsHeldInOrder b.held.items };
+    ghost invariant = { λ b. IsHeldByNumber b.held };
 }
 
 impl<D: Depacketizer> DepacketizingBuffer<D> {
@@ -49,9 +52,10 @@ impl<D: Depacketizer> DepacketizingBuffer<D> {
         ensures { result ≡ record { depacketizer = depacketizer; hold_back = hold_back; held = []; cutoff = None } }
     {
         DepacketizingBuffer {
+            alloc,
             depacketizer,
             hold_back,
-            held: Vec::new(alloc),
+            held: BTreeMap::new(alloc),
             cutoff: None,
         }
     }
@@ -66,7 +70,7 @@ impl<D: Depacketizer> DepacketizingBuffer<D> {
         if self.cutoff.is_some_and(|c| meta.seq_no.get() <= c.get()) {
             return Ok(());
         }
-        keep(&mut self.held, meta, payload)
+        keep(self.alloc, &mut self.held, meta, payload)
     }
 
     /// The lowest complete frame, where there is no cutoff, or it begins right behind the cutoff, or more
@@ -92,6 +96,7 @@ impl<D: Depacketizer> DepacketizingBuffer<D> {
             IfErr result (λ e. e ≡ PacketError.Memory → stays) }
     {
         take_due(
+            self.alloc,
             &mut self.depacketizer,
             &mut self.held,
             &mut self.cutoff,

@@ -1,13 +1,15 @@
 //! Complete frames among held packets.
 
-ghost use Rattle.payload_core_buffer.specs.Frames.{IsFrame, complete_frames, due_frame, frame_of_run, goes_on, is_joined_at, is_next, kept_run, lowest_of, number_at, run_or_head, run_start};
+ghost use Rattle.payload_core_buffer.specs.Frames.{IsFrame, complete_frames, due_frame, frame_of_run, goes_on, is_joined_to, is_next, kept_run, lowest_of, number_at, run_or_head};
 ghost use Rattle.payload_core_buffer.specs.Packets.{packet_of, packets_of};
-ghost use Rattle.std.specs.Option.{ForSome, option_to_list};
+ghost use Rattle.std.specs.BTreeMap.{btree_map_len, values};
+ghost use Rattle.std.specs.Option.{ForSome, option_map, option_to_list};
 ghost use Rattle.std.specs.Prelude.{◌≡◌, ◌+◌, ◌-◌, ◌<◌, ◌≤◌, ◌^◌, IfSome, if◌then◌else◌, is_some, length};
 
 use crate::held::Held;
 use payload_core_base::Depacketizer;
 use rtp_wire_ids::SeqNo;
+use std::collections::BTreeMap;
 
 /// The places from a frame's head up to behind its tail.
 #[derive(Clone, Copy, Drop)]
@@ -25,12 +27,14 @@ fn goes_on<D: Depacketizer>(depacketizer: &D, held: &Held, next: &Held) -> bool
         && !depacketizer.is_partition_tail(held.meta.marker, &held.payload)
 }
 
-// Whether the packet at place `i` goes on with the run of the one before it.
-fn is_joined<D: Depacketizer>(depacketizer: &D, held: &[Held], i: usize) -> bool
-    requires { i < length held.now }
-    ensures { result ≡ is_joined_at (D.format depacketizer.now) (packets_of held.now) i }
+// Whether a packet goes on with the run of the one before it, if there is one.
+fn is_joined<D: Depacketizer>(depacketizer: &D, before: Option<&Held>, held: &Held) -> bool
+    ensures { result ≡ is_joined_to (D.format depacketizer.now) (option_map (λ h. packet_of h.now) before.entry) (packet_of held.now) }
 {
-    i > 0 && goes_on(depacketizer, &held[i - 1], &held[i])
+    match before {
+        Some(before) => goes_on(depacketizer, before, held),
+        None => false,
+    }
 }
 
 // Where the run starts that is open behind a packet at place `i`, from the one that is open before it.
@@ -43,19 +47,20 @@ fn run_behind(run: Option<usize>, is_joined: bool, is_head: bool, i: usize) -> O
     }
 }
 
-// Where the run starts that is open behind place `i`, from the one that is open before it.
+// Where the run starts that is open behind the packet at place `i`, from the one that is open before it.
 fn run_at<D: Depacketizer>(
     depacketizer: &D,
-    held: &[Held],
+    before: Option<&Held>,
+    held: &Held,
     run: Option<usize>,
     i: usize,
 ) -> Option<usize>
-    requires in_range { i < length held.now }
-    requires before { run ≡ run_start (D.format depacketizer.now) (packets_of held.now) i }
-    ensures { result ≡ run_start (D.format depacketizer.now) (packets_of held.now) (i + 1) }
+    ensures { let format = D.format depacketizer.now in
+        let is_joined = is_joined_to format (option_map (λ h. packet_of h.now) before.entry) (packet_of held.now) in
+        result ≡ run_or_head (kept_run is_joined run) (format.head held.now.payload.items) i }
 {
-    let is_joined = is_joined(depacketizer, held, i);
-    let is_head = depacketizer.is_partition_head(&held[i].payload);
+    let is_joined = is_joined(depacketizer, before, held);
+    let is_head = depacketizer.is_partition_head(&held.payload);
     run_behind(run, is_joined, is_head, i)
 }
 
@@ -92,20 +97,22 @@ fn found_with(found: Found, frame: Option<Frame>) -> Found
 }
 
 // The complete frames.
-fn complete_frames<D: Depacketizer>(depacketizer: &D, held: &[Held]) -> Found
-    ensures lowest { result.lowest ≡ lowest_of (complete_frames (D.format depacketizer.now) (packets_of held.now)) }
-    ensures count { result.count ≡ length (complete_frames (D.format depacketizer.now) (packets_of held.now)) }
-    ensures frame { ForSome result.lowest (IsFrame (D.format depacketizer.now) (packets_of held.now)) }
+fn complete_frames<D: Depacketizer>(depacketizer: &D, held: &BTreeMap<u64, Held>) -> Found
+    ensures lowest { result.lowest ≡ lowest_of (complete_frames (D.format depacketizer.now) (packets_of (values held.now))) }
+    ensures count { result.count ≡ length (complete_frames (D.format depacketizer.now) (packets_of (values held.now))) }
+    ensures frame { ForSome result.lowest (IsFrame (D.format depacketizer.now) (packets_of (values held.now))) }
 {
+    let mut before = None;
     let mut run = None;
     let mut found = Found {
         lowest: None,
         count: 0,
     };
-    for (i, h) in held.iter().enumerate() {
-        run = run_at(depacketizer, held, run, i);
+    for (i, h) in held.values().enumerate() {
+        run = run_at(depacketizer, before, h, run, i);
         let is_tail = depacketizer.is_partition_tail(h.meta.marker, &h.payload);
         found = found_with(found, frame_of_run(is_tail, run, i + 1));
+        before = Some(h);
     }
     found
 }
@@ -121,23 +128,26 @@ fn is_next(cutoff: Option<SeqNo>, number: SeqNo) -> bool
 }
 
 /// The number of the packet at place `i`.
-pub fn number_at(held: &[Held], i: usize) -> SeqNo
-    requires { i < length held.now }
-    ensures { result ≡ number_at (packets_of held.now) i }
+pub fn number_at(held: &BTreeMap<u64, Held>, i: usize) -> SeqNo
+    requires { i < btree_map_len held.now }
+    ensures { result ≡ number_at (packets_of (values held.now)) i }
 {
-    held[i].meta.seq_no
+    match held.values().nth(i) {
+        Some(held) => held.meta.seq_no,
+        None => unreachable!(),
+    }
 }
 
 /// The frame that is handed on: the lowest, where it begins right behind the cutoff, or there is none, or
 /// more than `hold_back` are complete.
 pub fn due_frame<D: Depacketizer>(
     depacketizer: &D,
-    held: &[Held],
+    held: &BTreeMap<u64, Held>,
     cutoff: Option<SeqNo>,
     hold_back: usize,
 ) -> Option<Frame>
-    ensures due { result ≡ due_frame (D.format depacketizer.now) cutoff hold_back (packets_of held.now) }
-    ensures frame { IfSome result (IsFrame (D.format depacketizer.now) (packets_of held.now)) }
+    ensures due { result ≡ due_frame (D.format depacketizer.now) cutoff hold_back (packets_of (values held.now)) }
+    ensures frame { IfSome result (IsFrame (D.format depacketizer.now) (packets_of (values held.now))) }
 {
     let found = complete_frames(depacketizer, held);
     let Some(lowest) = found.lowest else {
