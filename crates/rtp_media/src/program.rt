@@ -4,7 +4,6 @@ ghost use Rattle.std.specs.Prelude.{◌≡◌, ◌≢◌, ℕ, ◌<◌, ◌++◌
 ghost use Rattle.std.specs.Io.KnownBytes.{Appends, Consumes, IsAtEnd};
 ghost use Rattle.rtp_media_lines.specs.Runs.{Printed, ReadsAll};
 ghost use Rattle.rtp_media_lines.specs.declared.line.Command.{Command};
-ghost use Rattle.rtp_media_ends.specs.Ends.{red_in};
 ghost use Rattle.rtp_media.specs.Exchanging.{clear_desk};
 ghost use Rattle.rtp_media.specs.Program.{IsAnswered, open_error_name, sample_error_name, fault_name, verdict_reply, unit_reply, values_given};
 ghost use Rattle.rtp_media.specs.Sides.{Gives, AnswersAt, ConnectsEnds, KeepsDraft, side_of, no_ends};
@@ -193,20 +192,13 @@ fn send(
         red: command.distances.map(|d| Distances::from_vec(d.into_vec())),
         picture_id: command.picture_id,
     };
-    if !params.is_sound(red_of(end.agreed_row(mid, pt))) {
+    if !params.is_sound(end.agreed_red(mid, pt)) {
         return one(alloc, Reply::ErrorLine);
     }
     match end.open_sender(mid, Ssrc::from(command.ssrc), pt, params) {
         Ok(stream) => one(alloc, Reply::Sender(stream)),
         Err(error) => one(alloc, Reply::Refused(open_error_name(error))),
     }
-}
-
-/// The RED type of a row, where there is one.
-fn red_of(row: Option<PayloadParams>) -> Option<Pt>
-    ensures { result ≡ red_in row }
-{
-    row?.red()
 }
 
 fn open(

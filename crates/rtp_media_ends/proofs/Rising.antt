@@ -66,14 +66,15 @@ picture-to (Some n) is = of-le n 32767 (is n refl)
 
 -- the test is what it says
 pub sound_params : (red : Option ℕ) (p : StreamParams) → (is_sound_params red p ≡ true) ↔ IsSound red p
-sound_params red p =
-    (λ h.
-    let r = right (nat_lt p.first 32768) _ h in
-    let s = right (nat_lt 0 p.mtu) _ r in
-    record {
-      first = lt-of p.first 32768 (left _ _ h);
-      mtu = lt-of 0 p.mtu (left _ _ r);
-      redundancy = redundancy-from red p.mtu p.red (left _ _ s);
-      picture_id = picture-from p.picture_id (right (is_redundancy red p.mtu p.red) _ s);
-    },
-    λ is. both (nat_lt p.first 32768) _ (of-lt p.first 32768 is.first) (both (nat_lt 0 p.mtu) _ (of-lt 0 p.mtu is.mtu) (both (is_redundancy red p.mtu p.red) _ (redundancy-to red p.mtu p.red is.redundancy) (picture-to p.picture_id is.picture_id))))
+sound_params red p = (
+  λ h.
+      let r = right (nat_lt p.first 32768) _ h in
+      let s = right (nat_lt 0 p.mtu) _ r in
+      record {
+        first = lt-of p.first 32768 (left _ _ h);
+        mtu = lt-of 0 p.mtu (left _ _ r);
+        redundancy = redundancy-from red p.mtu p.red (left _ _ s);
+        picture_id = picture-from p.picture_id (right (is_redundancy red p.mtu p.red) _ s);
+      },
+  λ is. both (nat_lt p.first 32768) _ (of-lt p.first 32768 is.first) (both (nat_lt 0 p.mtu) _ (of-lt 0 p.mtu is.mtu) (both (is_redundancy red p.mtu p.red) _ (redundancy-to red p.mtu p.red is.redundancy) (picture-to p.picture_id is.picture_id))),
+)

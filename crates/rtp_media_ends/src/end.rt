@@ -85,6 +85,14 @@ impl End {
         }
     }
 
+    /// The RED type of that row (RFC 2198): a sending stream of it may add redundancy exactly where there
+    /// is one.
+    pub fn agreed_red(&self, mid: Mid, pt: Pt) -> Option<Pt>
+        ensures { result ≡ agreed_red self.now mid pt }
+    {
+        self.agreed_row(mid, pt)?.red()
+    }
+
     /// Whether this is the number of a sending stream.
     pub fn is_sender(&self, stream: usize) -> bool
         ensures { IsTrue result ↔ (stream < length self.now.senders) }
@@ -394,7 +402,11 @@ fn with_distances(
     let Some(red) = red else {
         return Ok(stream);
     };
-    let distances: Vec<u32> = distances.as_slice().iter().map(|d| u32::from(*d)).collect(alloc)?;
+    let distances: Vec<u32> = distances
+        .as_slice()
+        .iter()
+        .map(|d| u32::from(*d))
+        .collect(alloc)?;
     stream.with_red(red, &distances)
 }
 

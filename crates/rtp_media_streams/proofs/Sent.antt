@@ -9,11 +9,12 @@ use Rattle.rtp_wire.specs.declared.ExtensionValues.{ExtensionValues}
 use Rattle.rtp_wire.proofs.HeaderLaws.{length-spelled_within, header_in-spelled, payload_in-spelled}
 use Rattle.payload_core_base.specs.Law.{AreWithin}
 use Rattle.payload_core_base.specs.Pieces.{pieces}
-use Rattle.payload_core_red.specs.RedHistory.{Redundancy, keeping}
+use Rattle.payload_core_red.specs.RedHistory.{AreDistances, Redundancy, keeping}
 use Rattle.rtp_media_runs.specs.Opus.{Timed, timed, payloads}
 use Rattle.rtp_media_runs.proofs.Pieces.{each-within}
-use Rattle.rtp_media_streams.specs.Sending.{Sending, Sample, header_of, longest_datagram, datagram_of, datagrams_from, limit_of_pieces, on_wire, piece_limit, sample_of, sent_payloads, sent_datagrams, still_kept, wire_payloads, with_next, after_sample, datagrams_of, samples_of, refusal_of_sample}
+use Rattle.rtp_media_streams.specs.Sending.{Sending, IsTyped, IsTypedBy, Sample, header_of, longest_datagram, datagram_of, datagrams_from, limit_of_pieces, on_wire, piece_limit, sample_of, sent_payloads, sent_datagrams, still_kept, wire_payloads, with_next, after_sample, datagrams_of, samples_of, refusal_of_sample}
 use Rattle.rtp_media_streams.specs.Redundant.{behind_older, kept_after, wraps}
+use Rattle.rtp_media_streams.specs.declared.types.PayloadTypes.{PayloadTypes}
 use Rattle.rtp_media_streams.specs.declared.errors.SampleError.{SampleError}
 use Rattle.rtp_media_streams.specs.declared.errors.SampleError.TheVariants.{StreamFailed, TimeTooLarge, LimitTooSmall}
 use Rattle.rtp_media_streams.proofs.Cutting.{datagrams_from-append, length-on_wire}
@@ -111,6 +112,31 @@ pub sent-short : (s : Sending) (time : Time) (values : ExtensionValues) (bytes :
 sent-short s time values bytes h =
     datagrams-short s s.next s.limit values (wire_payloads s (sent_payloads s time values bytes))
     (on_wire-short s.types.pt s.mtu (sample_of s time values bytes).time values s.redundancy (pieces (piece_limit s) bytes) (each-within (piece_limit s) bytes)) (fits s time values h)
+
+-- short payloads, one by one
+each-short : (limit : ℕ) (values : ExtensionValues) (ps : List Timed) → AreShort limit values ps → (i : ℕ) (d : Timed) → i < length ps → length (slice_index_or ps i d).bytes ≤ limit
+unfolding AreShort
+each-short limit values [] short i d lt = absurd (omega arith)
+each-short limit values (p ∷ ps) short zero d lt = short.0
+each-short limit values (p ∷ ps) short (suc i) d lt = each-short limit values ps short.2 i d (omega arith)
+
+pub payloads-within : (s : Sending) (time : Time) (values : ExtensionValues) (bytes : List ℕ) → (i : ℕ) (d : Timed) → i < length (wire_payloads s (sent_payloads s time values bytes)) →
+    length (slice_index_or (wire_payloads s (sent_payloads s time values bytes)) i d).bytes ≤ s.mtu
+payloads-within s time values bytes =
+    each-short s.mtu values (wire_payloads s (sent_payloads s time values bytes))
+    (on_wire-short s.types.pt s.mtu (sample_of s time values bytes).time values s.redundancy (pieces (piece_limit s) bytes) (each-within (piece_limit s) bytes))
+
+-- a sample changes neither types nor distances
+kept-distances : (pt : ℕ) (r : Redundancy) (ps : List Timed) → (kept_after pt r ps).distances ≡ r.distances
+kept-distances pt r [] = refl
+kept-distances pt r (p ∷ ps) = kept-distances pt (keeping r pt p.bytes p.time) ps
+
+typed-by : (types : PayloadTypes) (wire : ℕ) (o : Option Redundancy) (ps : List Timed) → IsTypedBy types wire o → IsTypedBy types wire (still_kept types.pt o ps)
+typed-by types wire None ps typed = typed
+typed-by types wire (Some r) ps typed = (typed.0, typed.1, subst AreDistances (sym (kept-distances types.pt r ps)) typed.2)
+
+pub still-typed : (s : Sending) (time : Time) (values : ExtensionValues) (bytes : List ℕ) → IsTyped s → IsTyped (after_sample s time values bytes)
+still-typed s time values bytes typed = typed-by s.types s.wire_type s.redundancy (sent_payloads s time values bytes) typed
 
 pub samples-timed : (s : Sending) (xs : List Sample) (i : ℕ) (d : Timed) → i < length (samples_of s xs) → (slice_index_or (samples_of s xs) i d).time < 2 ^ 32
 samples-timed s [] i d lt = absurd (omega arith)

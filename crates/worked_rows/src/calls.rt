@@ -11,15 +11,31 @@ use std::alloc::Global;
 use std::process::Abort;
 use std::test::Fail;
 
-/// The usual Opus row, of this type.
-fn opus_rows(alloc: Global, pt: u8) -> Result<Vec<PayloadParams>, Fail> {
+/// The usual Opus row, of this type, with this RED type or none.
+fn opus_rows(alloc: Global, pt: u8, red: Option<u8>) -> Result<Vec<PayloadParams>, Fail> {
     let mut usual = CodecConfig::empty(alloc);
     usual.enable_opus(true, false)?;
     let mut rows = Vec::new(alloc);
     for row in usual.params() {
-        rows.push(PayloadParams::new(Pt::from(pt), None, row.spec()))?;
+        let row = PayloadParams::new(Pt::from(pt), None, row.spec());
+        rows.push(match red {
+            Some(red) => row.with_red(Pt::from(red)),
+            None => row,
+        })?;
     }
     Ok(rows)
+}
+
+/// What making an end of an Opus row with redundancy answers.
+pub fn red_end(
+    alloc: Global,
+    session: u64,
+    pt: u8,
+    red: u8,
+) -> Result<Result<End, EndError>, Fail> {
+    let config = CodecConfig::new_from_payload_params(opus_rows(alloc, pt, Some(red))?);
+    let session = Session::new(alloc, SessionId::from(session));
+    Ok(End::new(alloc, config, session, no_exts()))
 }
 
 /// What making an end of one Opus row and of these header extensions answers.
@@ -29,7 +45,7 @@ pub fn end_with(
     pt: u8,
     exts: ExtensionMap,
 ) -> Result<Result<End, EndError>, Fail> {
-    let config = CodecConfig::new_from_payload_params(opus_rows(alloc, pt)?);
+    let config = CodecConfig::new_from_payload_params(opus_rows(alloc, pt, None)?);
     let session = Session::new(alloc, SessionId::from(session));
     Ok(End::new(alloc, config, session, exts))
 }
@@ -116,8 +132,9 @@ pub fn send(
     pt: u8,
 ) -> Result<Result<usize, OpenError>, Fail> {
     let params = params(1200, 1400);
-    assert!(rt; params.is_sound());
-    Ok(end.open_sender(Mid::from("0"), Ssrc::from(ssrc), Pt::from(pt), params))
+    let (mid, pt) = (Mid::from("0"), Pt::from(pt));
+    assert!(rt; params.is_sound(end.agreed_red(mid, pt)));
+    Ok(end.open_sender(mid, Ssrc::from(ssrc), pt, params))
 }
 
 /// Opens a receiving stream in section `0`.

@@ -10,6 +10,8 @@ mod exchanges;
 #[cfg(test)]
 mod lines;
 #[cfg(test)]
+mod redundancy;
+#[cfg(test)]
 mod samples;
 #[cfg(test)]
 mod streams;

@@ -5,7 +5,7 @@ use std::alloc::{AllocError, Global};
 use std::test::Fail;
 
 /// Lines, each ended by a line feed.
-fn text_of(alloc: Global, lines: &[&str]) -> Result<String, AllocError> {
+pub fn text_of(alloc: Global, lines: &[&str]) -> Result<String, AllocError> {
     let mut text = String::new(alloc);
     for line in lines {
         text.push_str(line)?;
@@ -15,7 +15,7 @@ fn text_of(alloc: Global, lines: &[&str]) -> Result<String, AllocError> {
 }
 
 /// What a run prints, and how it ends.
-fn printed(alloc: Global, input: &str) -> Result<(Vec<u8>, Status), Fail> {
+pub fn printed(alloc: Global, input: &str) -> Result<(Vec<u8>, Status), Fail> {
     let mut reader = input.as_bytes();
     let mut writer = Vec::new(alloc);
     let status = run(alloc, &mut reader, &mut writer)?;

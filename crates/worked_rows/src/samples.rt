@@ -11,8 +11,9 @@ use std::test::Fail;
 fn sending_end(rt: &(impl AllocGlobal + Abort), mtu: usize, limit: usize) -> Result<End, Fail> {
     let mut end = End::fixed(rt.alloc())?;
     let params = params(mtu, limit);
-    assert!(rt; params.is_sound());
-    let stream = end.open_sender(Mid::from("0"), Ssrc::from(44), Pt::from(111), params)?;
+    let (mid, pt) = (Mid::from("0"), Pt::from(111));
+    assert!(rt; params.is_sound(end.agreed_red(mid, pt)));
+    let stream = end.open_sender(mid, Ssrc::from(44), pt, params)?;
     assert_eq!(rt; stream, 0);
     Ok(end)
 }
@@ -88,8 +89,9 @@ fn openings_are_refused_by_name(rt: HostRuntime) -> Result<(), Fail> {
         ("0", ssrc, pt, OpenError::AlreadyOpen),
     ] {
         let params = params(1200, 1400);
-        assert!(rt; params.is_sound());
-        let refused = end.open_sender(Mid::from(mid), ssrc, pt, params);
+        let mid = Mid::from(mid);
+        assert!(rt; params.is_sound(end.agreed_red(mid, pt)));
+        let refused = end.open_sender(mid, ssrc, pt, params);
         assert_eq!(rt; refused, Err(want));
     }
     assert_eq!(rt; end.open_receiver(Mid::from("0"), ssrc, pt, 0), Ok(0));
