@@ -18,7 +18,7 @@ impl End {
     /// nothing.
     ///
     /// # Errors
-    /// The first that holds of `RowNotPlain` and `NotWritable`; or `Memory`.
+    /// The first that holds of `RowNotPlain`, `TypesNotDistinct` and `NotWritable`; or `Memory`.
     pub fn new(
         alloc: Global,
         config: CodecConfig,
