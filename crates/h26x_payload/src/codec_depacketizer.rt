@@ -1,6 +1,6 @@
 //! One depacketizer over all codecs.
 
-ghost use Rattle.h26x_payload.specs.Codings.{coding_of, first_settings, has_format, settings_of};
+ghost use Rattle.h26x_payload.specs.Codings.{Settings, coding_of, first_settings, has_format, settings_of};
 ghost use Rattle.std.specs.Prelude.{◌≡◌, Bool, Contains, IfSome, None, false, is_some};
 
 use h26x_payload_h264::H264Depacketizer;
@@ -97,6 +97,9 @@ impl CodecDepacketizer {
         ensures variant { codecs_of self.new ≡ codecs_of self.old }
         ensures format { let before = ⟦<CodecDepacketizer as Depacketizer>⟧.format self.old in
             ⟦<CodecDepacketizer as Depacketizer>⟧.format self.new ≡ format_under (settings_of octet_align sprop_max_don_diff clock_rate) before self.old }
+        ensures configured { (s : Settings) (has_id : Bool) (codec : Codec) → Contains (codecs_of self.old) codec →
+            ⟦<CodecDepacketizer as Depacketizer>⟧.format self.old ≡ (coding_of s has_id codec).format →
+            ⟦<CodecDepacketizer as Depacketizer>⟧.format self.new ≡ (coding_of (settings_of octet_align sprop_max_don_diff clock_rate) has_id codec).format }
         ensures fragment { ⟦<CodecDepacketizer as Depacketizer>⟧.fragment self.new ≡ ⟦<CodecDepacketizer as Depacketizer>⟧.fragment self.old }
         ensures others { is_set self.old ≡ false → self.new ≡ self.old }
     {

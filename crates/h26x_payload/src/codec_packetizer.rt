@@ -1,7 +1,7 @@
 //! One packetizer over all codecs.
 
-ghost use Rattle.h26x_payload.specs.Codings.{coding_of, first_sender, first_settings, has_format, settings_of};
-ghost use Rattle.std.specs.Prelude.{◌≡◌, ◌<◌, Contains, IfSome, false, is_some, unwrap_or};
+ghost use Rattle.h26x_payload.specs.Codings.{Settings, coding_of, first_sender, first_settings, has_format, settings_of};
+ghost use Rattle.std.specs.Prelude.{◌≡◌, ◌<◌, Bool, Contains, IfSome, false, is_some, unwrap_or};
 
 use h26x_payload_h264::H264Packetizer;
 use h26x_payload_h265::H265Packetizer;
@@ -108,6 +108,9 @@ impl CodecPacketizer {
         ensures variant { codecs_of self.new ≡ codecs_of self.old }
         ensures packing { let before = ⟦<CodecPacketizer as Packetizer>⟧.packing self.old in
             ⟦<CodecPacketizer as Packetizer>⟧.packing self.new ≡ packing_under (settings_of octet_align sprop_max_don_diff clock_rate) before self.old }
+        ensures configured { (s : Settings) (has_id : Bool) (codec : Codec) → Contains (codecs_of self.old) codec →
+            ⟦<CodecPacketizer as Packetizer>⟧.packing self.old ≡ (coding_of s has_id codec).packing →
+            ⟦<CodecPacketizer as Packetizer>⟧.packing self.new ≡ (coding_of (settings_of octet_align sprop_max_don_diff clock_rate) has_id codec).packing }
         ensures sender { let before = ⟦<CodecPacketizer as Packetizer>⟧.sender self.old in
             ⟦<CodecPacketizer as Packetizer>⟧.sender self.new ≡ sender_under before self.old }
         ensures others { is_set self.old ≡ false → self.new ≡ self.old }

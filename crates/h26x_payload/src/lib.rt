@@ -4,6 +4,7 @@
 
 mod codec_depacketizer;
 mod codec_packetizer;
+mod laws;
 
 pub use codec_depacketizer::CodecDepacketizer;
 pub use codec_packetizer::CodecPacketizer;
@@ -28,3 +29,4 @@ pub use h26x_payload_profiles::{
     H265Profile, H265ProfileTierLevel, H265Tier, H266Level, H266Profile, H266ProfileTierLevel,
     H266Tier, h264_tables_law, h265_tables_law, h266_tables_law, levels_apart_law,
 };
+pub use laws::{codec_law, pair_law};
