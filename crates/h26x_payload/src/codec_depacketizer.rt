@@ -103,11 +103,10 @@ impl CodecDepacketizer {
         ensures fragment { ⟦<CodecDepacketizer as Depacketizer>⟧.fragment self.new ≡ ⟦<CodecDepacketizer as Depacketizer>⟧.fragment self.old }
         ensures others { is_set self.old ≡ false → self.new ≡ self.old }
     {
+        let aligned = octet_align.unwrap_or(false);
         let donl = sprop_max_don_diff.unwrap_or(0) > 0;
         match self {
-            CodecDepacketizer::AmrWb(d) => *d = AmrWbDepacketizer::new(octet_align.unwrap_or(
-                false,
-            )),
+            CodecDepacketizer::AmrWb(d) => *d = AmrWbDepacketizer::new(aligned),
             CodecDepacketizer::Telephone(d) => *d = TelephoneEventDepacketizer::new(clock_rate),
             CodecDepacketizer::H265(d) => d.with_donl(donl),
             CodecDepacketizer::H266(d) => d.with_donl(donl),

@@ -115,9 +115,10 @@ impl CodecPacketizer {
             ⟦<CodecPacketizer as Packetizer>⟧.sender self.new ≡ sender_under before self.old }
         ensures others { is_set self.old ≡ false → self.new ≡ self.old }
     {
+        let aligned = octet_align.unwrap_or(false);
         let donl = sprop_max_don_diff.unwrap_or(0) > 0;
         match self {
-            CodecPacketizer::AmrWb(p) => *p = AmrWbPacketizer::new(octet_align.unwrap_or(false)),
+            CodecPacketizer::AmrWb(p) => *p = AmrWbPacketizer::new(aligned),
             CodecPacketizer::H265(p) => p.with_donl(donl),
             CodecPacketizer::H266(p) => p.with_donl(donl),
             _ => {}
