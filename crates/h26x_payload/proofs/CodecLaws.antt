@@ -1,0 +1,66 @@
+-- The codec law of every codec, from those of the codecs.
+use Rattle.std.proofs.Common.{ℕ, Bool}
+use mathlib.Core.Bool.{false≢true}
+use Rattle.payload_core_base.specs.Law.{CodecLaw}
+use Rattle.payload_core_base.specs.declared.codec.Codec.TheVariants.{Opus, PCMU, PCMA, G722, CN, AmrWb, H264, H265, H266, Vp8, Vp9, Av1, Tele, Rtx, Red, Null, Unknown}
+use Rattle.payload_core_audio.specs.AmrWb.{amr_wb_coding}
+use Rattle.payload_core_audio.specs.Plain.{noise_coding, pieces_coding}
+use Rattle.payload_core_audio.specs.Telephone.{telephone_coding}
+use Rattle.payload_core_vpx.specs.Vp8.{vp8_coding}
+use Rattle.payload_core_vp9.specs.Vp9.{vp9_coding}
+use Rattle.payload_core_av1.specs.Av1Coding.{av1_coding}
+use Rattle.h26x_payload_h264.specs.H264Coding.{h264_coding}
+use Rattle.h26x_payload_h265.specs.H265Coding.{h265_coding}
+use Rattle.h26x_payload_h266.specs.H266Coding.{h266_coding}
+use Rattle.h26x_payload.specs.Dispatch.{FirstIsReached, KeepCodecLaw}
+
+-- the laws of the codecs
+pub record TheLaws : Type 0 where
+  pub pieces : CodecLaw pieces_coding
+  pub noise : CodecLaw noise_coding
+  pub amr_wb : (octet_align : Bool) → CodecLaw (amr_wb_coding octet_align)
+  pub telephone : (rate : ℕ) → CodecLaw (telephone_coding rate)
+  pub vp8 : (has_id : Bool) → CodecLaw (vp8_coding has_id)
+  pub vp9 : CodecLaw vp9_coding
+  pub av1 : CodecLaw av1_coding
+  pub h264 : CodecLaw h264_coding
+  pub h265 : (donl : Bool) → CodecLaw (h265_coding donl)
+  pub h266 : (donl : Bool) → CodecLaw (h266_coding donl)
+
+pub keep_codec_law : TheLaws → KeepCodecLaw
+keep_codec_law l s has_id Opus = l.pieces
+keep_codec_law l s has_id PCMU = l.pieces
+keep_codec_law l s has_id PCMA = l.pieces
+keep_codec_law l s has_id G722 = l.pieces
+keep_codec_law l s has_id CN = l.noise
+keep_codec_law l s has_id AmrWb = l.amr_wb s.octet_align
+keep_codec_law l s has_id H264 = l.h264
+keep_codec_law l s has_id H265 = l.h265 s.donl
+keep_codec_law l s has_id H266 = l.h266 s.donl
+keep_codec_law l s has_id Vp8 = l.vp8 has_id
+keep_codec_law l s has_id Vp9 = l.vp9
+keep_codec_law l s has_id Av1 = l.av1
+keep_codec_law l s has_id Tele = l.telephone s.clock_rate
+keep_codec_law l s has_id Rtx = λ sender limit sample reached well_formed. absurd well_formed
+keep_codec_law l s has_id Red = λ sender limit sample reached well_formed. absurd well_formed
+keep_codec_law l s has_id Null = λ sender limit sample reached well_formed. absurd well_formed
+keep_codec_law l s has_id Unknown = λ sender limit sample reached well_formed. absurd well_formed
+
+pub first_is_reached : FirstIsReached
+first_is_reached s has_id Opus id is few = tt
+first_is_reached s has_id PCMU id is few = tt
+first_is_reached s has_id PCMA id is few = tt
+first_is_reached s has_id G722 id is few = tt
+first_is_reached s has_id CN id is few = tt
+first_is_reached s has_id AmrWb id is few = tt
+first_is_reached s has_id H264 id is few = tt
+first_is_reached s has_id H265 id is few = tt
+first_is_reached s has_id H266 id is few = tt
+first_is_reached s has_id Vp8 id is few = few
+first_is_reached s has_id Vp9 id is few = few
+first_is_reached s has_id Av1 id is few = tt
+first_is_reached s has_id Tele id is few = tt
+first_is_reached s has_id Rtx id is few = absurd (false≢true is)
+first_is_reached s has_id Red id is few = absurd (false≢true is)
+first_is_reached s has_id Null id is few = absurd (false≢true is)
+first_is_reached s has_id Unknown id is few = absurd (false≢true is)

@@ -1,0 +1,4 @@
+pub mod Codings
+pub mod Packetizers
+pub mod Depacketizers
+pub mod Dispatch

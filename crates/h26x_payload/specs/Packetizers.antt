@@ -1,0 +1,47 @@
+-- A packetizer over all codecs.
+use Rattle.std.specs.Prelude.{Bool, true, false, List, [], ◌∷◌}
+use Rattle.payload_core_base.specs.Packing.{Packing, Sender}
+use Rattle.payload_core_base.specs.declared.codec.Codec.{Codec}
+use Rattle.payload_core_base.specs.declared.codec.Codec.TheVariants as codecs
+use Rattle.payload_core_audio.specs.AmrWb.{amr_wb_packing}
+use Rattle.h26x_payload_h265.specs.H265Packing.{h265_packing}
+use Rattle.h26x_payload_h266.specs.H266Packing.{h266_packing}
+use Rattle.h26x_payload.specs.Codings.{Settings}
+use Rattle.h26x_payload.specs.declared.codec_packetizer.CodecPacketizer.{CodecPacketizer}
+use Rattle.h26x_payload.specs.declared.codec_packetizer.CodecPacketizer.TheVariants.{G711, G722, Opus, ComfortNoise, AmrWb, Telephone, Vp8, Vp9, Av1, H264, H265, H266, Boxed}
+
+-- The codecs that a packetizer is for: one that a caller boxed is for none that is known.
+abbrev pub codecs_of : {V : Type 0} {X : V → Type 0} → CodecPacketizer V X → List Codec
+codecs_of (G711 p) = codecs.PCMU ∷ codecs.PCMA ∷ []
+codecs_of (G722 p) = codecs.G722 ∷ []
+codecs_of (Opus p) = codecs.Opus ∷ []
+codecs_of (ComfortNoise p) = codecs.CN ∷ []
+codecs_of (AmrWb p) = codecs.AmrWb ∷ []
+codecs_of (Telephone p) = codecs.Tele ∷ []
+codecs_of (Vp8 p) = codecs.Vp8 ∷ []
+codecs_of (Vp9 p) = codecs.Vp9 ∷ []
+codecs_of (Av1 p) = codecs.Av1 ∷ []
+codecs_of (H264 p) = codecs.H264 ∷ []
+codecs_of (H265 p) = codecs.H265 ∷ []
+codecs_of (H266 p) = codecs.H266 ∷ []
+codecs_of (Boxed b) = []
+
+-- AMR-WB goes by the layout, H.265 and H.266 by whether there are decoding order numbers; the others stay as they were.
+abbrev pub packing_under : {V : Type 0} {X : V → Type 0} → Settings → Packing → CodecPacketizer V X → Packing
+packing_under s before (AmrWb p) = amr_wb_packing s.octet_align
+packing_under s before (H265 p) = h265_packing s.donl
+packing_under s before (H266 p) = h266_packing s.donl
+packing_under s before _ = before
+
+-- H.265 and H.266 count from 0 again.
+abbrev pub sender_under : {V : Type 0} {X : V → Type 0} → Sender → CodecPacketizer V X → Sender
+sender_under before (H265 p) = record { number = 0; waiting = before.waiting }
+sender_under before (H266 p) = record { number = 0; waiting = before.waiting }
+sender_under before _ = before
+
+-- Whether a setting concerns it.
+abbrev pub is_set : {V : Type 0} {X : V → Type 0} → CodecPacketizer V X → Bool
+is_set (AmrWb p) = true
+is_set (H265 p) = true
+is_set (H266 p) = true
+is_set _ = false

@@ -1,0 +1,40 @@
+//! The codec law, codec by codec and through one packetizer and one depacketizer over all codecs.
+
+ghost use Rattle.h26x_payload.specs.Dispatch.{FillPackets, FirstIsReached, KeepCodecLaw, PairKeepsCodecLaw};
+
+use crate::codec_depacketizer::CodecDepacketizer;
+use crate::codec_packetizer::CodecPacketizer;
+use h26x_payload_h264::h264_law;
+use h26x_payload_h265::h265_law;
+use h26x_payload_h266::h266_law;
+use payload_core_audio::{amr_wb_law, plain_laws, telephone_law};
+use payload_core_av1::av1_law;
+use payload_core_base::{Depacketizer, Packetizer};
+use payload_core_vp9::vp9_law;
+use payload_core_vpx::vp8_law;
+
+/// Each codec that `CodecPacketizer::new` answers keeps the codec law, whatever was negotiated, and its packetizer
+/// begins in a state of which the law speaks. Each VP8 and VP9 packet but a sample's last has just the limit's bytes.
+pub fn codec_law()
+    ensures codec { KeepCodecLaw }
+    ensures first { FirstIsReached }
+    ensures full { FillPackets }
+{
+    plain_laws();
+    amr_wb_law();
+    telephone_law();
+    vp8_law();
+    vp9_law();
+    av1_law();
+    h264_law();
+    h265_law();
+    h266_law();
+}
+
+/// A packetizer and a depacketizer of one codec under the same settings, as `new` and `configure_for` leave them, keep
+/// its codec law.
+pub fn pair_law(packetizer: &CodecPacketizer, depacketizer: &CodecDepacketizer)
+    ensures { PairKeepsCodecLaw (⟦<CodecPacketizer as Packetizer>⟧.packing packetizer.now) (⟦<CodecDepacketizer as Depacketizer>⟧.format depacketizer.now) }
+{
+    codec_law();
+}
