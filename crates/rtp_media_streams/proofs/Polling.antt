@@ -113,3 +113,12 @@ polled_silent s none = go (due s) refl none where
 pub on_err : {A E : Type 0} {P Q : Type 0} (r : Result A E) → (P → Q) → OnErr r P → OnErr r Q
 on_err (Ok a) f h = tt
 on_err (Err e) f h = f h
+
+-- no packet opens a fragment
+stays-closed : (fragment : Fragment) (extra : CodecExtra) (ps : List (List ℕ)) → (read_all plain_format fragment extra ps).fragment ≡ fragment
+stays-closed fragment extra [] = refl
+stays-closed fragment extra ([] ∷ ps) = refl
+stays-closed fragment extra ((b ∷ bs) ∷ ps) = stays-closed fragment extra ps
+
+pub run-closed : (ps : List Packet) → (run_of plain_format None ps).fragment ≡ None
+run-closed ps = stays-closed None _ (payloads_of ps)

@@ -5,7 +5,6 @@ use Rattle.rtp_wire.specs.Replay.{is_accepted}
 use Rattle.rtp_wire.specs.Values.{Numbering, absent}
 use Rattle.rtp_wire.specs.declared.ExtensionValues.{ExtensionValues}
 use Rattle.rtp_wire.specs.declared.header.RtpHeader.{RtpHeader}
-use Rattle.payload_core_audio.specs.declared.opus.OpusDepacketizer.{OpusDepacketizer}
 use Rattle.payload_core_buffer.specs.Buffered.{Buffered}
 use Rattle.payload_core_buffer.specs.Packets.{Packet}
 use Rattle.rtp_wire.specs.Replay.{Window}
@@ -65,7 +64,7 @@ abbrev pub polled_receiver : Receiving → Receiving
 polled_receiver r = with_stream r (polled r.stream)
 
 -- the stream of a window and a buffer
-abbrev pub stream_of : Option Window → Buffered OpusDepacketizer → Stream
+abbrev pub stream_of : {D : Type 0} → Option Window → Buffered D → Stream
 stream_of window b = record { hold_back = b.hold_back; window = window; held = b.held; cutoff = b.cutoff }
 
 -- No held packet is empty: a datagram without a payload is damaged.

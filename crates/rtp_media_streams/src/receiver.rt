@@ -3,6 +3,7 @@
 ghost use Rattle.std.specs.Prelude.{◌≡◌, ◌<◌, ◌≤◌, IfErr, IfOk, IsOk, MatchOption, None, OnErr, OnOk, OnSome, Option, Some, length};
 ghost use Rattle.rtp_wire.specs.Replay.{Window, greatest_in, is_accepted, recorded_in};
 ghost use Rattle.rtp_wire.specs.Widening.{widened};
+ghost use Rattle.payload_core_audio.specs.Plain.{plain_format};
 ghost use Rattle.payload_core_buffer.specs.Buffered.{pushed};
 ghost use Rattle.payload_core_buffer.specs.Packets.{packet_from};
 ghost use Rattle.rtp_media_runs.specs.Heard.{poll_answer, polled};
@@ -13,8 +14,9 @@ use crate::errors::PollFault;
 use crate::media_unit::Unit;
 use crate::payload::media_payload;
 use crate::types::PayloadTypes;
+use h26x_payload::CodecDepacketizer;
 use payload_core_audio::OpusDepacketizer;
-use payload_core_base::PacketError;
+use payload_core_base::{Depacketizer, PacketError};
 use payload_core_buffer::{DepacketizingBuffer, RtpMeta};
 use rtp_wire::{
     ExtensionMap, ExtensionValues, Pt, RtpHeader, SeqNo, SeqNoWindow, Ssrc, extend_u16,
@@ -30,10 +32,12 @@ pub struct ReceivingStream {
     types: PayloadTypes,
     exts: ExtensionMap,
     window: Option<SeqNoWindow>,
-    buffer: DepacketizingBuffer<OpusDepacketizer>,
+    buffer: DepacketizingBuffer<CodecDepacketizer>,
 }
 
 impl Model for ReceivingStream {
+    ghost use Rattle.payload_core_audio.specs.Plain.{plain_format};
+    ghost use Rattle.std.specs.Prelude.{◌≡◌, None};
     ghost use Rattle.rtp_media_streams.specs.Receiving.{HaveBytes, Receiving, stream_of};
     ghost use Rattle.rtp_wire.specs.Replay.{window_code};
     ghost use Rattle.std.specs.Coded.{codes};
@@ -44,7 +48,7 @@ impl Model for ReceivingStream {
 
     ghost view = { λ r. record { ssrc = r.ssrc; types = r.types; map = r.exts; stream = stream_of r.window r.buffer } };
 
-    ghost invariant = { λ r. HaveBytes r.buffer.held };
+    ghost invariant = { λ r. HaveBytes r.buffer.held × (⟦<CodecDepacketizer as Depacketizer>⟧.format r.buffer.depacketizer ≡ plain_format) × (⟦<CodecDepacketizer as Depacketizer>⟧.fragment r.buffer.depacketizer ≡ None) };
 }
 
 /// The number that these 16 bits stand for; before the first number they stand for themselves.
@@ -79,7 +83,7 @@ fn record(window: &mut Option<SeqNoWindow>, number: SeqNo)
 
 /// Holds a packet; the only refusal is want of memory.
 fn hold(
-    buffer: &mut DepacketizingBuffer<OpusDepacketizer>,
+    buffer: &mut DepacketizingBuffer<CodecDepacketizer>,
     meta: RtpMeta,
     payload: &[u8],
 ) -> Result<(), AllocError>
@@ -90,9 +94,13 @@ fn hold(
 }
 
 /// Hands out the next frame as a unit; the only fault is want of memory, since no packet is empty.
-fn pop(buffer: &mut DepacketizingBuffer<OpusDepacketizer>) -> Result<Option<Unit>, PollFault>
-    requires { HaveBytes buffer.old.held }
+fn pop(buffer: &mut DepacketizingBuffer<CodecDepacketizer>) -> Result<Option<Unit>, PollFault>
+    requires bytes { HaveBytes buffer.old.held }
+    requires format { ⟦<CodecDepacketizer as Depacketizer>⟧.format buffer.old.depacketizer ≡ plain_format }
+    requires closed { ⟦<CodecDepacketizer as Depacketizer>⟧.fragment buffer.old.depacketizer ≡ None }
     ensures bytes { HaveBytes buffer.new.held }
+    ensures format { ⟦<CodecDepacketizer as Depacketizer>⟧.format buffer.new.depacketizer ≡ plain_format }
+    ensures closed { ⟦<CodecDepacketizer as Depacketizer>⟧.fragment buffer.new.depacketizer ≡ None }
     ensures answer { IfOk result (λ unit. (window : Option Window) → unit ≡ poll_answer (stream_of window buffer.old)) }
     ensures after { OnOk result ((window : Option Window) → stream_of window buffer.new ≡ polled (stream_of window buffer.old)) }
     ensures none { (window : Option Window) → poll_answer (stream_of window buffer.old) ≡ None → IsOk result }
@@ -122,13 +130,14 @@ impl ReceivingStream {
     ) -> Self
         ensures { result ≡ opened_receiver ssrc types exts hold_back }
     {
+        let depacketizer = CodecDepacketizer::Opus(OpusDepacketizer::new());
         ReceivingStream {
             alloc,
             ssrc,
             types,
             exts,
             window: None,
-            buffer: DepacketizingBuffer::new(alloc, OpusDepacketizer::new(), hold_back),
+            buffer: DepacketizingBuffer::new(alloc, depacketizer, hold_back),
         }
     }
 

@@ -10,8 +10,9 @@ use crate::datagram::Datagram;
 use crate::errors::SampleError;
 use crate::sink::{DatagramSink, Stamp};
 use crate::types::PayloadTypes;
+use h26x_payload::CodecPacketizer;
 use payload_core_audio::OpusPacketizer;
-use payload_core_base::PacketError;
+use payload_core_base::{PacketError, Packetizer};
 use payload_core_buffer::Payloader;
 use payload_core_red::{RedSender, RedSink};
 use rtp_wire::{ExtensionMap, ExtensionValues, Frequency, MediaTime, Pt, Ssrc};
@@ -27,7 +28,7 @@ pub struct SendingStream {
     alloc: Global,
     types: PayloadTypes,
     stamp: Stamp,
-    payloader: Payloader<OpusPacketizer>,
+    payloader: Payloader<CodecPacketizer>,
     redundancy: Option<RedSender>,
     rate: Frequency,
     next: u64,
@@ -37,7 +38,9 @@ pub struct SendingStream {
 }
 
 impl Model for SendingStream {
-    ghost use Rattle.std.specs.Prelude.{◌<◌};
+    ghost use Rattle.payload_core_audio.specs.Plain.{pieces_packing};
+    ghost use Rattle.payload_core_buffer.specs.Payloaders.{packetizer_of};
+    ghost use Rattle.std.specs.Prelude.{◌≡◌, ◌<◌};
     ghost use Rattle.rtp_media_streams.specs.Sending.{Sending};
 
     ghost Value = { Sending };
@@ -55,7 +58,7 @@ impl Model for SendingStream {
       failed = s.failed;
     } };
 
-    ghost invariant = { λ s. 0 < s.mtu };
+    ghost invariant = { λ s. (0 < s.mtu) × (⟦<CodecPacketizer as Packetizer>⟧.packing (packetizer_of s.payloader) ≡ pieces_packing) };
 }
 
 impl SendingStream {
@@ -80,7 +83,7 @@ impl SendingStream {
             alloc,
             types,
             stamp: Stamp::new(ssrc, types.pt, exts),
-            payloader: Payloader::new(OpusPacketizer::new()),
+            payloader: Payloader::new(CodecPacketizer::Opus(OpusPacketizer::new())),
             redundancy: None,
             rate,
             next: first,
