@@ -1,1 +1,2 @@
 pub mod CodecLaws
+pub mod Runs

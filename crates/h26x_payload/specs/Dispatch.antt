@@ -1,8 +1,10 @@
 -- What holds of the payload formats of all codecs, and of a packetizer and a depacketizer of one.
-use Rattle.std.specs.Prelude.{◌≡◌, ℕ, ◌<◌, Bool, true}
-use Rattle.payload_core_base.specs.Format.{Format}
-use Rattle.payload_core_base.specs.Law.{CodecLaw, Coding, FillsPackets}
-use Rattle.payload_core_base.specs.Packing.{Packing}
+use Rattle.std.specs.Prelude.{◌≡◌, ℕ, ◌<◌, Bool, true, List, map, None, Result, Ok, Err}
+use Rattle.payload_core_base.specs.Format.{Format, Run, read_all}
+use Rattle.payload_core_base.specs.Law.{AreWithin, CodecLaw, Coding, FillsPackets, joined}
+use Rattle.payload_core_base.specs.Packing.{Packing, Sender, Sent}
+use Rattle.payload_core_base.specs.declared.error.PacketError.{PacketError}
+use Rattle.payload_core_base.specs.declared.extra.CodecExtra.{CodecExtra}
 use Rattle.payload_core_base.specs.declared.codec.Codec.{Codec}
 use Rattle.payload_core_base.specs.declared.codec.Codec.TheVariants.{Vp8, Vp9}
 use Rattle.h26x_payload.specs.Codings.{Settings, coding_of, first_sender, has_format}
@@ -29,6 +31,25 @@ through packing format coding = record {
   units = coding.units;
 }
 
--- A packetizer and a depacketizer that cut and read as a codec does under the same settings keep the codec law.
+-- The run had no fault, gave the bytes of these units, one behind the other, and left no fragment open.
+pub record GivesUnits (run : Run) (units : List (List (List ℕ))) : Type 0 where
+  pub no_fault : run.fault ≡ None
+  pub written : run.written ≡ joined (map joined units)
+  pub closed : run.fragment ≡ None
+
+-- The sample is accepted. Its packets have a byte to the limit's, and read in order with no fragment open before they give these units.
+abbrev pub SendsAndGives : Format → ℕ → Result Sent PacketError → List (List (List ℕ)) → Type 0
+SendsAndGives format limit (Ok sent) units = AreWithin limit sent.packets × ((extra : CodecExtra) → GivesUnits (read_all format None extra sent.packets) units)
+SendsAndGives format limit (Err e) units = ⊥
+
+-- A well-formed sample is cut into packets that give its units.
+abbrev pub ComesThrough : Coding → Type 0
+ComesThrough coding = (sender : Sender) (limit : ℕ) (sample : List ℕ) → coding.IsReached sender → coding.IsWellFormed limit sample → SendsAndGives coding.format limit (coding.packing.pack sender limit sample) (coding.units sender limit sample)
+
+-- A packetizer and a depacketizer that cut and read as a codec does under the same settings keep the codec law, and a well-formed sample comes through.
+pub record ArePair (packing : Packing) (format : Format) (coding : Coding) : Type 0 where
+  pub law : CodecLaw (through packing format coding)
+  pub comes_through : ComesThrough (through packing format coding)
+
 abbrev pub PairKeepsCodecLaw : Packing → Format → Type 0
-PairKeepsCodecLaw packing format = (s : Settings) (has_id : Bool) (codec : Codec) → packing ≡ (coding_of s has_id codec).packing → format ≡ (coding_of s has_id codec).format → CodecLaw (through packing format (coding_of s has_id codec))
+PairKeepsCodecLaw packing format = (s : Settings) (has_id : Bool) (codec : Codec) → packing ≡ (coding_of s has_id codec).packing → format ≡ (coding_of s has_id codec).format → ArePair packing format (coding_of s has_id codec)
