@@ -12,7 +12,7 @@ use Rattle.h26x_payload.specs.declared.codec_depacketizer.CodecDepacketizer.{Cod
 use Rattle.h26x_payload.specs.declared.codec_depacketizer.CodecDepacketizer.TheVariants.{G711, G722, Opus, ComfortNoise, AmrWb, Telephone, Vp8, Vp9, Av1, H264, H265, H266, Boxed}
 
 -- The codecs that a depacketizer is for: one that a caller boxed is for none that is known.
-abbrev pub codecs_of : {V : Type 0} {X : V → Type 0} → CodecDepacketizer V X → List Codec
+abbrev pub codecs_of : {B : Type 0} → CodecDepacketizer B → List Codec
 codecs_of (G711 d) = codecs.PCMU ∷ codecs.PCMA ∷ []
 codecs_of (G722 d) = codecs.G722 ∷ []
 codecs_of (Opus d) = codecs.Opus ∷ []
@@ -28,7 +28,7 @@ codecs_of (H266 d) = codecs.H266 ∷ []
 codecs_of (Boxed b) = []
 
 -- AMR-WB goes by the layout, H.265 and H.266 by whether there are decoding order numbers, telephone events by the clock rate; the others stay as they were.
-abbrev pub format_under : {V : Type 0} {X : V → Type 0} → Settings → Format → CodecDepacketizer V X → Format
+abbrev pub format_under : {B : Type 0} → Settings → Format → CodecDepacketizer B → Format
 format_under s before (AmrWb d) = amr_wb_format s.octet_align
 format_under s before (H265 d) = h265_format s.donl
 format_under s before (H266 d) = h266_format s.donl
@@ -36,7 +36,7 @@ format_under s before (Telephone d) = telephone_format s.clock_rate
 format_under s before _ = before
 
 -- Whether a setting concerns it.
-abbrev pub is_set : {V : Type 0} {X : V → Type 0} → CodecDepacketizer V X → Bool
+abbrev pub is_set : {B : Type 0} → CodecDepacketizer B → Bool
 is_set (AmrWb d) = true
 is_set (H265 d) = true
 is_set (H266 d) = true

@@ -11,7 +11,7 @@ use Rattle.h26x_payload.specs.declared.codec_packetizer.CodecPacketizer.{CodecPa
 use Rattle.h26x_payload.specs.declared.codec_packetizer.CodecPacketizer.TheVariants.{G711, G722, Opus, ComfortNoise, AmrWb, Telephone, Vp8, Vp9, Av1, H264, H265, H266, Boxed}
 
 -- The codecs that a packetizer is for: one that a caller boxed is for none that is known.
-abbrev pub codecs_of : {V : Type 0} {X : V → Type 0} → CodecPacketizer V X → List Codec
+abbrev pub codecs_of : {B : Type 0} → CodecPacketizer B → List Codec
 codecs_of (G711 p) = codecs.PCMU ∷ codecs.PCMA ∷ []
 codecs_of (G722 p) = codecs.G722 ∷ []
 codecs_of (Opus p) = codecs.Opus ∷ []
@@ -27,20 +27,20 @@ codecs_of (H266 p) = codecs.H266 ∷ []
 codecs_of (Boxed b) = []
 
 -- AMR-WB goes by the layout, H.265 and H.266 by whether there are decoding order numbers; the others stay as they were.
-abbrev pub packing_under : {V : Type 0} {X : V → Type 0} → Settings → Packing → CodecPacketizer V X → Packing
+abbrev pub packing_under : {B : Type 0} → Settings → Packing → CodecPacketizer B → Packing
 packing_under s before (AmrWb p) = amr_wb_packing s.octet_align
 packing_under s before (H265 p) = h265_packing s.donl
 packing_under s before (H266 p) = h266_packing s.donl
 packing_under s before _ = before
 
 -- H.265 and H.266 count from 0 again.
-abbrev pub sender_under : {V : Type 0} {X : V → Type 0} → Sender → CodecPacketizer V X → Sender
+abbrev pub sender_under : {B : Type 0} → Sender → CodecPacketizer B → Sender
 sender_under before (H265 p) = record { number = 0; waiting = before.waiting }
 sender_under before (H266 p) = record { number = 0; waiting = before.waiting }
 sender_under before _ = before
 
 -- Whether a setting concerns it.
-abbrev pub is_set : {V : Type 0} {X : V → Type 0} → CodecPacketizer V X → Bool
+abbrev pub is_set : {B : Type 0} → CodecPacketizer B → Bool
 is_set (AmrWb p) = true
 is_set (H265 p) = true
 is_set (H266 p) = true

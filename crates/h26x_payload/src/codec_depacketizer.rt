@@ -17,9 +17,9 @@ use payload_core_vpx::Vp8Depacketizer;
 use rtp_wire_time::Frequency;
 use std::alloc::Global;
 
-/// The depacketizer of a codec, or one that a caller boxed.
+/// The depacketizer of a codec, or another one: by default one that a caller boxed.
 #[derive(Drop)]
-pub enum CodecDepacketizer {
+pub enum CodecDepacketizer<B = Box<dyn Depacketizer + Drop>> {
     /// Of PCMU and PCMA.
     G711(G711Depacketizer),
     /// Of G.722.
@@ -44,11 +44,11 @@ pub enum CodecDepacketizer {
     H265(H265Depacketizer),
     /// Of H.266.
     H266(H266Depacketizer),
-    /// A caller's own.
-    Boxed(Box<dyn Depacketizer + Drop>),
+    /// Another one.
+    Boxed(B),
 }
 
-impl CodecDepacketizer {
+impl<B: Depacketizer> CodecDepacketizer<B> {
     ghost use Rattle.h26x_payload.specs.Depacketizers.{codecs_of, format_under, is_set};
 
     /// The depacketizer of a codec with no fragment open, which takes memory from `alloc` for the one that it keeps;
@@ -59,8 +59,8 @@ impl CodecDepacketizer {
     pub fn new(alloc: Global, codec: Codec) -> Option<Self>
         ensures some { is_some result ≡ has_format codec }
         ensures variant { IfSome result (λ d. Contains (codecs_of d) codec) }
-        ensures format { IfSome result (λ d. (has_id : Bool) → ⟦<CodecDepacketizer as Depacketizer>⟧.format d ≡ (coding_of first_settings has_id codec).format) }
-        ensures closed { IfSome result (λ d. ⟦<CodecDepacketizer as Depacketizer>⟧.fragment d ≡ None) }
+        ensures format { IfSome result (λ d. (has_id : Bool) → ⟦<CodecDepacketizer<B> as Depacketizer>⟧.format d ≡ (coding_of first_settings has_id codec).format) }
+        ensures closed { IfSome result (λ d. ⟦<CodecDepacketizer<B> as Depacketizer>⟧.fragment d ≡ None) }
     {
         match codec {
             Codec::PCMU | Codec::PCMA => Some(CodecDepacketizer::G711(G711Depacketizer::new())),
@@ -95,12 +95,12 @@ impl CodecDepacketizer {
         clock_rate: Frequency,
     )
         ensures variant { codecs_of self.new ≡ codecs_of self.old }
-        ensures format { let before = ⟦<CodecDepacketizer as Depacketizer>⟧.format self.old in
-            ⟦<CodecDepacketizer as Depacketizer>⟧.format self.new ≡ format_under (settings_of octet_align sprop_max_don_diff clock_rate) before self.old }
+        ensures format { let before = ⟦<CodecDepacketizer<B> as Depacketizer>⟧.format self.old in
+            ⟦<CodecDepacketizer<B> as Depacketizer>⟧.format self.new ≡ format_under (settings_of octet_align sprop_max_don_diff clock_rate) before self.old }
         ensures configured { (s : Settings) (has_id : Bool) (codec : Codec) → Contains (codecs_of self.old) codec →
-            ⟦<CodecDepacketizer as Depacketizer>⟧.format self.old ≡ (coding_of s has_id codec).format →
-            ⟦<CodecDepacketizer as Depacketizer>⟧.format self.new ≡ (coding_of (settings_of octet_align sprop_max_don_diff clock_rate) has_id codec).format }
-        ensures fragment { ⟦<CodecDepacketizer as Depacketizer>⟧.fragment self.new ≡ ⟦<CodecDepacketizer as Depacketizer>⟧.fragment self.old }
+            ⟦<CodecDepacketizer<B> as Depacketizer>⟧.format self.old ≡ (coding_of s has_id codec).format →
+            ⟦<CodecDepacketizer<B> as Depacketizer>⟧.format self.new ≡ (coding_of (settings_of octet_align sprop_max_don_diff clock_rate) has_id codec).format }
+        ensures fragment { ⟦<CodecDepacketizer<B> as Depacketizer>⟧.fragment self.new ≡ ⟦<CodecDepacketizer<B> as Depacketizer>⟧.fragment self.old }
         ensures others { is_set self.old ≡ false → self.new ≡ self.old }
     {
         let aligned = octet_align.unwrap_or(false);
@@ -115,7 +115,7 @@ impl CodecDepacketizer {
     }
 }
 
-impl Depacketizer for CodecDepacketizer {
+impl<B: Depacketizer> Depacketizer for CodecDepacketizer<B> {
     ghost use Rattle.h26x_payload.specs.declared.codec_depacketizer.CodecDepacketizer.{CodecDepacketizer};
 
     ghost format = { λ d. elim d [
@@ -131,7 +131,7 @@ impl Depacketizer for CodecDepacketizer {
       | CodecDepacketizer.H264 d ↦ ⟦<H264Depacketizer as Depacketizer>⟧.format d
       | CodecDepacketizer.H265 d ↦ ⟦<H265Depacketizer as Depacketizer>⟧.format d
       | CodecDepacketizer.H266 d ↦ ⟦<H266Depacketizer as Depacketizer>⟧.format d
-      | CodecDepacketizer.Boxed b ↦ (Depacketizer-box b).format b.value
+      | CodecDepacketizer.Boxed b ↦ B.format b
     ] };
 
     ghost fragment = { λ d. elim d [
@@ -147,7 +147,7 @@ impl Depacketizer for CodecDepacketizer {
       | CodecDepacketizer.H264 d ↦ ⟦<H264Depacketizer as Depacketizer>⟧.fragment d
       | CodecDepacketizer.H265 d ↦ ⟦<H265Depacketizer as Depacketizer>⟧.fragment d
       | CodecDepacketizer.H266 d ↦ ⟦<H266Depacketizer as Depacketizer>⟧.fragment d
-      | CodecDepacketizer.Boxed b ↦ (Depacketizer-box b).fragment b.value
+      | CodecDepacketizer.Boxed b ↦ B.fragment b
     ] };
 
     fn depacketize(

@@ -17,9 +17,9 @@ use payload_core_vpx::Vp8Packetizer;
 use rtp_wire_time::Frequency;
 use std::alloc::Global;
 
-/// The packetizer of a codec, or one that a caller boxed.
+/// The packetizer of a codec, or another one: by default one that a caller boxed.
 #[derive(Drop)]
-pub enum CodecPacketizer {
+pub enum CodecPacketizer<B = Box<dyn Packetizer + Drop>> {
     /// Of PCMU and PCMA.
     G711(G711Packetizer),
     /// Of G.722.
@@ -44,11 +44,11 @@ pub enum CodecPacketizer {
     H265(H265Packetizer),
     /// Of H.266.
     H266(H266Packetizer),
-    /// A caller's own.
-    Boxed(Box<dyn Packetizer + Drop>),
+    /// Another one.
+    Boxed(B),
 }
 
-impl CodecPacketizer {
+impl<B: Packetizer> CodecPacketizer<B> {
     ghost use Rattle.h26x_payload.specs.Packetizers.{codecs_of, is_set, packing_under, sender_under};
 
     /// The packetizer of a codec, without picture ids in VP8 and from picture id 0 on in VP9; None for Rtx, Red, Null
@@ -59,8 +59,8 @@ impl CodecPacketizer {
     pub fn new(codec: Codec) -> Option<Self>
         ensures some { is_some result ≡ has_format codec }
         ensures variant { IfSome result (λ p. Contains (codecs_of p) codec) }
-        ensures packing { IfSome result (λ p. ⟦<CodecPacketizer as Packetizer>⟧.packing p ≡ (coding_of first_settings false codec).packing) }
-        ensures sender { IfSome result (λ p. ⟦<CodecPacketizer as Packetizer>⟧.sender p ≡ first_sender 0 codec) }
+        ensures packing { IfSome result (λ p. ⟦<CodecPacketizer<B> as Packetizer>⟧.packing p ≡ (coding_of first_settings false codec).packing) }
+        ensures sender { IfSome result (λ p. ⟦<CodecPacketizer<B> as Packetizer>⟧.sender p ≡ first_sender 0 codec) }
     {
         Self::with_picture_id(codec, None)
     }
@@ -70,8 +70,8 @@ impl CodecPacketizer {
         requires { unwrap_or picture_id 0 < 32768 }
         ensures some { is_some result ≡ has_format codec }
         ensures variant { IfSome result (λ p. Contains (codecs_of p) codec) }
-        ensures packing { IfSome result (λ p. ⟦<CodecPacketizer as Packetizer>⟧.packing p ≡ (coding_of first_settings (is_some picture_id) codec).packing) }
-        ensures sender { IfSome result (λ p. ⟦<CodecPacketizer as Packetizer>⟧.sender p ≡ first_sender (unwrap_or picture_id 0) codec) }
+        ensures packing { IfSome result (λ p. ⟦<CodecPacketizer<B> as Packetizer>⟧.packing p ≡ (coding_of first_settings (is_some picture_id) codec).packing) }
+        ensures sender { IfSome result (λ p. ⟦<CodecPacketizer<B> as Packetizer>⟧.sender p ≡ first_sender (unwrap_or picture_id 0) codec) }
     {
         match codec {
             Codec::PCMU | Codec::PCMA => Some(CodecPacketizer::G711(G711Packetizer::new())),
@@ -106,13 +106,13 @@ impl CodecPacketizer {
         clock_rate: Frequency,
     )
         ensures variant { codecs_of self.new ≡ codecs_of self.old }
-        ensures packing { let before = ⟦<CodecPacketizer as Packetizer>⟧.packing self.old in
-            ⟦<CodecPacketizer as Packetizer>⟧.packing self.new ≡ packing_under (settings_of octet_align sprop_max_don_diff clock_rate) before self.old }
+        ensures packing { let before = ⟦<CodecPacketizer<B> as Packetizer>⟧.packing self.old in
+            ⟦<CodecPacketizer<B> as Packetizer>⟧.packing self.new ≡ packing_under (settings_of octet_align sprop_max_don_diff clock_rate) before self.old }
         ensures configured { (s : Settings) (has_id : Bool) (codec : Codec) → Contains (codecs_of self.old) codec →
-            ⟦<CodecPacketizer as Packetizer>⟧.packing self.old ≡ (coding_of s has_id codec).packing →
-            ⟦<CodecPacketizer as Packetizer>⟧.packing self.new ≡ (coding_of (settings_of octet_align sprop_max_don_diff clock_rate) has_id codec).packing }
-        ensures sender { let before = ⟦<CodecPacketizer as Packetizer>⟧.sender self.old in
-            ⟦<CodecPacketizer as Packetizer>⟧.sender self.new ≡ sender_under before self.old }
+            ⟦<CodecPacketizer<B> as Packetizer>⟧.packing self.old ≡ (coding_of s has_id codec).packing →
+            ⟦<CodecPacketizer<B> as Packetizer>⟧.packing self.new ≡ (coding_of (settings_of octet_align sprop_max_don_diff clock_rate) has_id codec).packing }
+        ensures sender { let before = ⟦<CodecPacketizer<B> as Packetizer>⟧.sender self.old in
+            ⟦<CodecPacketizer<B> as Packetizer>⟧.sender self.new ≡ sender_under before self.old }
         ensures others { is_set self.old ≡ false → self.new ≡ self.old }
     {
         let aligned = octet_align.unwrap_or(false);
@@ -126,7 +126,7 @@ impl CodecPacketizer {
     }
 }
 
-impl Packetizer for CodecPacketizer {
+impl<B: Packetizer> Packetizer for CodecPacketizer<B> {
     ghost use Rattle.h26x_payload.specs.declared.codec_packetizer.CodecPacketizer.{CodecPacketizer};
 
     ghost packing = { λ d. elim d [
@@ -142,7 +142,7 @@ impl Packetizer for CodecPacketizer {
       | CodecPacketizer.H264 p ↦ ⟦<H264Packetizer as Packetizer>⟧.packing p
       | CodecPacketizer.H265 p ↦ ⟦<H265Packetizer as Packetizer>⟧.packing p
       | CodecPacketizer.H266 p ↦ ⟦<H266Packetizer as Packetizer>⟧.packing p
-      | CodecPacketizer.Boxed b ↦ (Packetizer-box b).packing b.value
+      | CodecPacketizer.Boxed b ↦ B.packing b
     ] };
 
     ghost sender = { λ d. elim d [
@@ -158,7 +158,7 @@ impl Packetizer for CodecPacketizer {
       | CodecPacketizer.H264 p ↦ ⟦<H264Packetizer as Packetizer>⟧.sender p
       | CodecPacketizer.H265 p ↦ ⟦<H265Packetizer as Packetizer>⟧.sender p
       | CodecPacketizer.H266 p ↦ ⟦<H266Packetizer as Packetizer>⟧.sender p
-      | CodecPacketizer.Boxed b ↦ (Packetizer-box b).sender b.value
+      | CodecPacketizer.Boxed b ↦ B.sender b
     ] };
 
     fn packetize(

@@ -34,8 +34,11 @@ pub fn codec_law()
 /// A packetizer and a depacketizer of one codec under the same settings, as `new` and `configure_for` leave them, keep
 /// its codec law. The packets of a well-formed sample have a byte to the limit's and, read in order with no fragment
 /// open before, give the sample's units without a refusal and leave no fragment open.
-pub fn pair_law(packetizer: &CodecPacketizer, depacketizer: &CodecDepacketizer)
-    ensures { PairKeepsCodecLaw (⟦<CodecPacketizer as Packetizer>⟧.packing packetizer.now) (⟦<CodecDepacketizer as Depacketizer>⟧.format depacketizer.now) }
+pub fn pair_law<P: Packetizer, D: Depacketizer>(
+    packetizer: &CodecPacketizer<P>,
+    depacketizer: &CodecDepacketizer<D>,
+)
+    ensures { PairKeepsCodecLaw (⟦<CodecPacketizer<P> as Packetizer>⟧.packing packetizer.now) (⟦<CodecDepacketizer<D> as Depacketizer>⟧.format depacketizer.now) }
 {
     codec_law();
 }

@@ -5,6 +5,7 @@
 mod codec_depacketizer;
 mod codec_packetizer;
 mod laws;
+mod not_boxed;
 
 pub use codec_depacketizer::CodecDepacketizer;
 pub use codec_packetizer::CodecPacketizer;
@@ -30,3 +31,4 @@ pub use h26x_payload_profiles::{
     H266Tier, h264_tables_law, h265_tables_law, h266_tables_law, levels_apart_law,
 };
 pub use laws::{codec_law, pair_law};
+pub use not_boxed::NotBoxed;

@@ -1,10 +1,12 @@
 -- The payloads of a sample as its sink makes datagrams of them.
-use Rattle.std.proofs.Common.{◌≡◌, ℕ, suc, ◌+◌, ◌-◌, refl, sym, ◌∙◌, ap, ap₂, arith, false, List, [], ◌∷◌, ◌++◌, length, map, add-zero, append-nil, append_assoc, length-append}
+use Rattle.std.proofs.Common.{◌≡◌, ℕ, suc, ◌+◌, ◌-◌, refl, sym, ◌∙◌, ap, ap₂, subst, arith, false, List, [], ◌∷◌, ◌++◌, length, map, add-zero, append-nil, append_assoc, length-append}
 use Rattle.payload_core_audio.specs.Plain.{pieces_packing}
 use Rattle.std.specs.Prelude.{Option, Some, None}
 use Rattle.payload_core_base.specs.Law.{AreWithin}
-use Rattle.payload_core_base.specs.Outgoing.{TakesAll}
-use Rattle.payload_core_buffer.specs.Sending.{outgoing_from}
+use Rattle.payload_core_base.specs.Outgoing.{Outgoing, TakesAll}
+use Rattle.payload_core_base.specs.Packing.{Packing, Sender}
+use Rattle.payload_core_base.specs.Pieces.{pieces}
+use Rattle.payload_core_buffer.specs.Sending.{HasSent, outgoing_from}
 use Rattle.payload_core_red.specs.RedHistory.{Redundancy, keeping}
 use Rattle.payload_core_red.specs.RedSinks.{TakesWrapped}
 use Rattle.payload_core_red.specs.declared.sink.RedSink.{RedSink}
@@ -36,6 +38,12 @@ length-wraps pt budget r (p ∷ ps) = ap suc (length-wraps pt budget (keeping r 
 pub length-on_wire : (pt mtu : ℕ) (o : Option Redundancy) (ps : List Timed) → length (on_wire pt mtu o ps) ≡ length ps
 length-on_wire pt mtu None ps = refl
 length-on_wire pt mtu (Some r) ps = length-wraps pt mtu r ps
+
+-- a sample that was accepted where samples are cut into pieces
+pub sent-pieces : {S : Type 0} (takes : S → Outgoing → S → Type 0) (packing : Packing) (sender after : Sender) (mtu : ℕ) (bytes : List ℕ) (time : ℕ) (values : ExtensionValues) (old new : S) →
+    packing ≡ pieces_packing → HasSent takes packing (packing.pack sender mtu bytes) time values old new after → TakesAll takes old (outgoing_from pieces_packing (pieces mtu bytes) time values) new
+sent-pieces takes packing sender after mtu bytes time values old new is sent =
+    (subst (λ (p : Packing). HasSent takes p (p.pack sender mtu bytes) time values old new after) is sent).1
 
 -- what the datagrams of a stream have alike
 pub record IsStampOf (s : Sending) (stamp : Stamp) : Type 0 where

@@ -7,13 +7,13 @@ use Rattle.std.specs.Prelude.{Option, Some, None, Result, Ok, Err, OnErr}
 use Rattle.std.proofs.lemmas.Bool.{cases_lt}
 use Rattle.std.proofs.lemmas.List.{length-drop}
 use Rattle.payload_core_audio.specs.Plain.{plain_format, read_plain}
-use Rattle.payload_core_base.specs.Format.{Fragment, Run, read_all, run_after}
+use Rattle.payload_core_base.specs.Format.{Format, Fragment, Run, read_all, run_after}
 use Rattle.payload_core_base.specs.declared.error.PacketError.{PacketError}
 use Rattle.payload_core_base.specs.declared.extra.CodecExtra.{CodecExtra}
 use Rattle.payload_core_buffer.specs.Buffered.{held_with, is_done, limited, pushed}
 use Rattle.payload_core_buffer.specs.Frames.{due_frame, packets_between}
 use Rattle.payload_core_buffer.specs.Packets.{Packet, metas_of, payloads_of}
-use Rattle.payload_core_buffer.specs.Pops.{Faults, HandsOn, run_of}
+use Rattle.payload_core_buffer.specs.Pops.{Faults, HandsOn, Stays, run_of}
 use Rattle.payload_core_buffer.specs.declared.frame.Frame.{Frame}
 use Rattle.payload_core_buffer.specs.declared.held.RtpMeta.{RtpMeta}
 use Rattle.rtp_media_runs.specs.Heard.{Stream, due, poll_answer, polled, stream_behind, unit_among, unit_from}
@@ -122,3 +122,17 @@ stays-closed fragment extra ((b ∷ bs) ∷ ps) = stays-closed fragment extra ps
 
 pub run-closed : (ps : List Packet) → (run_of plain_format None ps).fragment ≡ None
 run-closed ps = stays-closed None _ (payloads_of ps)
+
+-- after a frame that was handed on, and where memory was wanting
+pub hands-closed : (format : Format) (before after : Fragment) (old new : List Packet) (due : Option Frame) (now : Option ℕ) (out : List ℕ) (told : CodecExtra) (known : List RtpMeta) →
+    format ≡ plain_format → before ≡ None → HandsOn format before after old new due now out told known → after ≡ None
+hands-closed format before after old new due now out told known plain closed hands =
+    hands.read.fragment
+    ∙ ap₂ (λ (f : Format) (g : Fragment). (run_of f g (packets_between old hands.frame)).fragment) plain closed
+    ∙ run-closed (packets_between old hands.frame)
+
+pub memory-closed : (format : Format) (before after : Fragment) (old new : List Packet) (due : Option Frame) (was now : Option ℕ) →
+    format ≡ plain_format → before ≡ None → Stays format before after old new due was now → after ≡ None
+memory-closed format before after old new due was now plain closed stays =
+    let read : List Packet = take stays.stops.count (packets_between old stays.frame) in
+    stays.stops.fragment ∙ ap₂ (λ (f : Format) (g : Fragment). (run_of f g read).fragment) plain closed ∙ run-closed read

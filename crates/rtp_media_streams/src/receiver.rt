@@ -14,7 +14,7 @@ use crate::errors::PollFault;
 use crate::media_unit::Unit;
 use crate::payload::media_payload;
 use crate::types::PayloadTypes;
-use h26x_payload::CodecDepacketizer;
+use h26x_payload::{CodecDepacketizer, NotBoxed};
 use payload_core_audio::OpusDepacketizer;
 use payload_core_base::{Depacketizer, PacketError};
 use payload_core_buffer::{DepacketizingBuffer, RtpMeta};
@@ -32,7 +32,7 @@ pub struct ReceivingStream {
     types: PayloadTypes,
     exts: ExtensionMap,
     window: Option<SeqNoWindow>,
-    buffer: DepacketizingBuffer<CodecDepacketizer>,
+    buffer: DepacketizingBuffer<CodecDepacketizer<NotBoxed>>,
 }
 
 impl Model for ReceivingStream {
@@ -48,7 +48,7 @@ impl Model for ReceivingStream {
 
     ghost view = { λ r. record { ssrc = r.ssrc; types = r.types; map = r.exts; stream = stream_of r.window r.buffer } };
 
-    ghost invariant = { λ r. HaveBytes r.buffer.held × (⟦<CodecDepacketizer as Depacketizer>⟧.format r.buffer.depacketizer ≡ plain_format) × (⟦<CodecDepacketizer as Depacketizer>⟧.fragment r.buffer.depacketizer ≡ None) };
+    ghost invariant = { λ r. HaveBytes r.buffer.held × (⟦<CodecDepacketizer<NotBoxed> as Depacketizer>⟧.format r.buffer.depacketizer ≡ plain_format) × (⟦<CodecDepacketizer<NotBoxed> as Depacketizer>⟧.fragment r.buffer.depacketizer ≡ None) };
 }
 
 /// The number that these 16 bits stand for; before the first number they stand for themselves.
@@ -83,7 +83,7 @@ fn record(window: &mut Option<SeqNoWindow>, number: SeqNo)
 
 /// Holds a packet; the only refusal is want of memory.
 fn hold(
-    buffer: &mut DepacketizingBuffer<CodecDepacketizer>,
+    buffer: &mut DepacketizingBuffer<CodecDepacketizer<NotBoxed>>,
     meta: RtpMeta,
     payload: &[u8],
 ) -> Result<(), AllocError>
@@ -94,13 +94,15 @@ fn hold(
 }
 
 /// Hands out the next frame as a unit; the only fault is want of memory, since no packet is empty.
-fn pop(buffer: &mut DepacketizingBuffer<CodecDepacketizer>) -> Result<Option<Unit>, PollFault>
+fn pop(
+    buffer: &mut DepacketizingBuffer<CodecDepacketizer<NotBoxed>>,
+) -> Result<Option<Unit>, PollFault>
     requires bytes { HaveBytes buffer.old.held }
-    requires format { ⟦<CodecDepacketizer as Depacketizer>⟧.format buffer.old.depacketizer ≡ plain_format }
-    requires closed { ⟦<CodecDepacketizer as Depacketizer>⟧.fragment buffer.old.depacketizer ≡ None }
+    requires format { ⟦<CodecDepacketizer<NotBoxed> as Depacketizer>⟧.format buffer.old.depacketizer ≡ plain_format }
+    requires closed { ⟦<CodecDepacketizer<NotBoxed> as Depacketizer>⟧.fragment buffer.old.depacketizer ≡ None }
     ensures bytes { HaveBytes buffer.new.held }
-    ensures format { ⟦<CodecDepacketizer as Depacketizer>⟧.format buffer.new.depacketizer ≡ plain_format }
-    ensures closed { ⟦<CodecDepacketizer as Depacketizer>⟧.fragment buffer.new.depacketizer ≡ None }
+    ensures format { ⟦<CodecDepacketizer<NotBoxed> as Depacketizer>⟧.format buffer.new.depacketizer ≡ plain_format }
+    ensures closed { ⟦<CodecDepacketizer<NotBoxed> as Depacketizer>⟧.fragment buffer.new.depacketizer ≡ None }
     ensures answer { IfOk result (λ unit. (window : Option Window) → unit ≡ poll_answer (stream_of window buffer.old)) }
     ensures after { OnOk result ((window : Option Window) → stream_of window buffer.new ≡ polled (stream_of window buffer.old)) }
     ensures none { (window : Option Window) → poll_answer (stream_of window buffer.old) ≡ None → IsOk result }

@@ -10,7 +10,7 @@ use crate::datagram::Datagram;
 use crate::errors::SampleError;
 use crate::sink::{DatagramSink, Stamp};
 use crate::types::PayloadTypes;
-use h26x_payload::CodecPacketizer;
+use h26x_payload::{CodecPacketizer, NotBoxed};
 use payload_core_audio::OpusPacketizer;
 use payload_core_base::{PacketError, Packetizer};
 use payload_core_buffer::Payloader;
@@ -28,7 +28,7 @@ pub struct SendingStream {
     alloc: Global,
     types: PayloadTypes,
     stamp: Stamp,
-    payloader: Payloader<CodecPacketizer>,
+    payloader: Payloader<CodecPacketizer<NotBoxed>>,
     redundancy: Option<RedSender>,
     rate: Frequency,
     next: u64,
@@ -58,7 +58,7 @@ impl Model for SendingStream {
       failed = s.failed;
     } };
 
-    ghost invariant = { λ s. (0 < s.mtu) × (⟦<CodecPacketizer as Packetizer>⟧.packing (packetizer_of s.payloader) ≡ pieces_packing) };
+    ghost invariant = { λ s. (0 < s.mtu) × (⟦<CodecPacketizer<NotBoxed> as Packetizer>⟧.packing (packetizer_of s.payloader) ≡ pieces_packing) };
 }
 
 impl SendingStream {

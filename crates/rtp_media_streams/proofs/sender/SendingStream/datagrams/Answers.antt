@@ -8,7 +8,7 @@ use Rattle.rtp_media_streams.specs.Sending.{Sending, datagrams_from, limit_of_pi
 use Rattle.payload_core_red.specs.declared.sink.RedSink.{RedSink}
 use Rattle.rtp_media_streams.specs.declared.sink.DatagramSink.{DatagramSink}
 use Rattle.rtp_media_streams.specs.declared.sink.Stamp.{Stamp}
-use Rattle.rtp_media_streams.proofs.Cutting.{IsStampOf, all_made, all_red_made}
+use Rattle.rtp_media_streams.proofs.Cutting.{IsStampOf, all_made, all_red_made, sent-pieces}
 use Rattle.rtp_media_streams.proofs.sender.SendingStream.datagrams.Goals as goal
 
 pub returns-in_default-clause-sent : goal.returns-in_default-clause-sent
@@ -26,7 +26,7 @@ returns-in_default-clause-sent c =
     let none : None ≡ s.redundancy = sym c.in_default.is ∙ c.take.ensures.value ∙ ap (λ (x : Sending). x.redundancy) view in
     let sample : Timed = timed c.args.time c.args.values.now c.args.bytes.now in
     ap (λ v. v.items) c.into_datagrams.ensures
-    ∙ all_made s c.args.time c.args.values.now (pieces c.self.inside.mtu c.args.bytes.now) c.new-sink.result c.push_sample.new.sink is first c.new-sink.ensures.nothing (rw (c.self.invariant.1) at c.in_ok-push_sample.ensures.sent).1
+    ∙ all_made s c.args.time c.args.values.now (pieces c.self.inside.mtu c.args.bytes.now) c.new-sink.result c.push_sample.new.sink is first c.new-sink.ensures.nothing (sent-pieces _ _ _ _ _ _ _ _ _ _ c.self.invariant.1 c.in_ok-push_sample.ensures.sent)
     ∙ ap (λ (n : ℕ). datagrams_from s s.next (payloads_of n sample)) mtu
     ∙ ap (λ (o : Option Redundancy). datagrams_from s s.next (on_wire s.types.pt s.mtu o (payloads_of (limit_of_pieces s.mtu o) sample))) none
 
@@ -52,7 +52,7 @@ returns-clause-sent c =
     let kept : Some old.sender ≡ s.redundancy = ap (λ (k : RedSink DatagramSink). Some k.sender) new ∙ sym c.in-Some.is ∙ c.take.ensures.value ∙ ap (λ (x : Sending). x.redundancy) view in
     let sample : Timed = timed c.args.time c.args.values.now c.args.bytes.now in
     let packets : List (List ℕ) = pieces (c.self.inside.mtu - 1) c.args.bytes.now in
-    let made = all_red_made s c.args.time c.args.values.now s.types.pt c.self.inside.mtu packets old c.push_sample-2.new.sink pt budget (each-within (c.self.inside.mtu - 1) c.args.bytes.now) is first nothing (rw (c.self.invariant.1) at c.in_ok-push_sample-2.ensures.sent).1 in
+    let made = all_red_made s c.args.time c.args.values.now s.types.pt c.self.inside.mtu packets old c.push_sample-2.new.sink pt budget (each-within (c.self.inside.mtu - 1) c.args.bytes.now) is first nothing (sent-pieces _ _ _ _ _ _ _ _ _ _ c.self.invariant.1 c.in_ok-push_sample-2.ensures.sent) in
     ap (λ v. v.items) c.into_datagrams-2.ensures
     ∙ ap (λ (k : DatagramSink). k.datagrams.items) c.into_parts-sink.ensures.sink
     ∙ made.0
@@ -80,7 +80,7 @@ returns-clause-kept c =
     let kept : Some old.sender ≡ s.redundancy = ap (λ (k : RedSink DatagramSink). Some k.sender) new ∙ sym c.in-Some.is ∙ c.take.ensures.value ∙ ap (λ (x : Sending). x.redundancy) view in
     let sample : Timed = timed c.args.time c.args.values.now c.args.bytes.now in
     let packets : List (List ℕ) = pieces (c.self.inside.mtu - 1) c.args.bytes.now in
-    let made = all_red_made s c.args.time c.args.values.now s.types.pt c.self.inside.mtu packets old c.push_sample-2.new.sink pt budget (each-within (c.self.inside.mtu - 1) c.args.bytes.now) is first nothing (rw (c.self.invariant.1) at c.in_ok-push_sample-2.ensures.sent).1 in
+    let made = all_red_made s c.args.time c.args.values.now s.types.pt c.self.inside.mtu packets old c.push_sample-2.new.sink pt budget (each-within (c.self.inside.mtu - 1) c.args.bytes.now) is first nothing (sent-pieces _ _ _ _ _ _ _ _ _ _ c.self.invariant.1 c.in_ok-push_sample-2.ensures.sent) in
     let after : Some c.into_parts-sink.result.1 ≡ still_kept s.types.pt s.redundancy (payloads_of (limit_of_pieces s.mtu s.redundancy) sample) =
     ap Some (c.into_parts-sink.ensures.sender ∙ made.1)
     ∙ ap (λ (n : ℕ). still_kept s.types.pt (Some old.sender) (payloads_of (limit_of_pieces n (Some old.sender)) sample)) mtu
