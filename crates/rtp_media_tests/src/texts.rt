@@ -1,2 +1,3 @@
 mod offers;
 mod printed;
+mod redundant;

@@ -11,6 +11,7 @@ fn offer(alloc: Global, direction: Direction, transport_cc: bool, ssrcs: Vec<Ssr
         direction,
         extmaps: Vec::new(alloc),
         pt: Pt::new_with_value(111),
+        red: None,
         transport_cc,
         ssrcs,
     }
