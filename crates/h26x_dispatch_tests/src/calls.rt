@@ -1,12 +1,11 @@
 //! Samples sent through a payloader and read through the buffer, in hexadecimal. What comes out is compared with
 //! texts from outside, so no call here says what it answers.
 
-use h26x_payload::{CodecDepacketizer, CodecPacketizer};
 use payload_core::{
-    Codec, CodecExtra, Depacketizer, DepacketizingBuffer, PacketError, PacketSink, Payloader,
+    CodecExtra, Depacketizer, DepacketizingBuffer, PacketError, PacketSink, Packetizer, Payloader,
     RtpMeta,
 };
-use rtp_wire::{ExtensionValues, Frequency, SeqNo};
+use rtp_wire::{ExtensionValues, SeqNo};
 use std::alloc::Global;
 use std::test::Fail;
 
@@ -43,44 +42,10 @@ impl PacketSink for PayloadList {
     }
 }
 
-/// A payloader over the packetizer of a codec, configured.
-pub fn payloader(
-    codec: Codec,
-    octet_align: Option<bool>,
-    sprop_max_don_diff: Option<u16>,
-) -> Result<Payloader<CodecPacketizer>, Fail> {
-    let mut packetizer = CodecPacketizer::new(codec).ok_or("no packetizer")?;
-    packetizer.configure_for(octet_align, sprop_max_don_diff, Frequency::NINETY_KHZ);
-    Ok(Payloader::new(packetizer))
-}
-
-/// The depacketizer of a codec, configured.
-pub fn depacketizer(
-    alloc: Global,
-    codec: Codec,
-    octet_align: Option<bool>,
-    sprop_max_don_diff: Option<u16>,
-) -> Result<CodecDepacketizer, Fail> {
-    let mut depacketizer = CodecDepacketizer::new(alloc, codec).ok_or("no depacketizer")?;
-    depacketizer.configure_for(octet_align, sprop_max_don_diff, Frequency::NINETY_KHZ);
-    Ok(depacketizer)
-}
-
-/// A buffer over the depacketizer of a codec, configured.
-pub fn buffer(
-    alloc: Global,
-    codec: Codec,
-    octet_align: Option<bool>,
-    sprop_max_don_diff: Option<u16>,
-) -> Result<DepacketizingBuffer<CodecDepacketizer>, Fail> {
-    let depacketizer = depacketizer(alloc, codec, octet_align, sprop_max_don_diff)?;
-    Ok(DepacketizingBuffer::new(alloc, depacketizer, 0))
-}
-
 /// The payloads of a sample.
-pub fn sent(
+pub fn sent<P: Packetizer>(
     alloc: Global,
-    payloader: &mut Payloader<CodecPacketizer>,
+    payloader: &mut Payloader<P>,
     mtu: usize,
     sample: &str,
 ) -> Result<PayloadList, Fail> {
@@ -113,9 +78,9 @@ pub fn printed(alloc: Global, list: &PayloadList) -> Result<String, Fail> {
 }
 
 /// Whether a sample is sent as these payloads.
-pub fn sends(
+pub fn sends<P: Packetizer>(
     alloc: Global,
-    payloader: &mut Payloader<CodecPacketizer>,
+    payloader: &mut Payloader<P>,
     mtu: usize,
     sample: &str,
     payloads: &str,
@@ -125,8 +90,8 @@ pub fn sends(
 }
 
 /// Puts in the payloads, numbered from `first` on.
-pub fn push_all(
-    buffer: &mut DepacketizingBuffer<CodecDepacketizer>,
+pub fn push_all<D: Depacketizer>(
+    buffer: &mut DepacketizingBuffer<D>,
     first: u64,
     list: &PayloadList,
 ) -> Result<(), Fail> {
@@ -139,8 +104,8 @@ pub fn push_all(
 }
 
 /// Puts in a payload.
-pub fn push(
-    buffer: &mut DepacketizingBuffer<CodecDepacketizer>,
+pub fn push<D: Depacketizer>(
+    buffer: &mut DepacketizingBuffer<D>,
     number: u64,
     marker: bool,
     payload: &[u8],
@@ -156,9 +121,9 @@ pub fn push(
 }
 
 /// The next unit in hexadecimal, or that there is none.
-pub fn next_unit(
+pub fn next_unit<D: Depacketizer>(
     alloc: Global,
-    buffer: &mut DepacketizingBuffer<CodecDepacketizer>,
+    buffer: &mut DepacketizingBuffer<D>,
 ) -> Result<String, Fail> {
     match buffer.pop()? {
         Some(unit) => Ok(hex::encode(alloc, unit.bytes.as_slice())?),
@@ -167,19 +132,19 @@ pub fn next_unit(
 }
 
 /// Whether the next unit is this.
-pub fn pops(
+pub fn pops<D: Depacketizer>(
     alloc: Global,
-    buffer: &mut DepacketizingBuffer<CodecDepacketizer>,
+    buffer: &mut DepacketizingBuffer<D>,
     unit: &str,
 ) -> Result<bool, Fail> {
     Ok(next_unit(alloc, buffer)?.as_str() == unit)
 }
 
 /// Whether a sample is sent as these payloads, and those give this unit and then none.
-pub fn carries(
+pub fn carries<P: Packetizer, D: Depacketizer>(
     alloc: Global,
-    payloader: &mut Payloader<CodecPacketizer>,
-    buffer: &mut DepacketizingBuffer<CodecDepacketizer>,
+    payloader: &mut Payloader<P>,
+    buffer: &mut DepacketizingBuffer<D>,
     mtu: usize,
     sample: &str,
     payloads: &str,
@@ -194,9 +159,9 @@ pub fn carries(
 }
 
 /// What a packet in hexadecimal is refused with.
-pub fn refusal(
+pub fn refusal<D: Depacketizer>(
     alloc: Global,
-    depacketizer: &mut CodecDepacketizer,
+    depacketizer: &mut D,
     packet: &str,
 ) -> Result<PacketError, Fail> {
     let packet = hex::decode(alloc, packet)?;

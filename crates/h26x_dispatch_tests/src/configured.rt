@@ -1,8 +1,10 @@
 //! What is negotiated beside the codec.
 
-use crate::calls::{buffer, carries, depacketizer, payloader, refusal, sends};
+use crate::calls::{carries, refusal, sends};
 use h26x_payload::{CodecDepacketizer, CodecPacketizer};
-use payload_core::{Codec, CodecExtra, Depacketizer, PacketError, Payloader, TelephoneEvent};
+use payload_core::{
+    Codec, CodecExtra, Depacketizer, DepacketizingBuffer, PacketError, Payloader, TelephoneEvent,
+};
 use rtp_wire::Frequency;
 use std::alloc::Global;
 use std::test::Fail;
@@ -17,8 +19,12 @@ fn is_carried(
     payload: &str,
     unit: &str,
 ) -> Result<bool, Fail> {
-    let mut payloader = payloader(codec, octet_align, sprop_max_don_diff)?;
-    let mut buffer = buffer(alloc, codec, octet_align, sprop_max_don_diff)?;
+    let mut packetizer = CodecPacketizer::new(codec).ok_or("none")?;
+    packetizer.configure_for(octet_align, sprop_max_don_diff, Frequency::NINETY_KHZ);
+    let mut payloader = Payloader::new(packetizer);
+    let mut depacketizer = CodecDepacketizer::new(alloc, codec).ok_or("none")?;
+    depacketizer.configure_for(octet_align, sprop_max_don_diff, Frequency::NINETY_KHZ);
+    let mut buffer = DepacketizingBuffer::new(alloc, depacketizer, 0);
     carries(alloc, &mut payloader, &mut buffer, 9, sample, payload, unit)
 }
 
@@ -74,8 +80,10 @@ fn row_9_layouts(rt: HostRuntime) -> Result<(), Fail> {
 
 #[test]
 fn row_9_the_other_layout(rt: HostRuntime) -> Result<(), Fail> {
-    let mut aligned = depacketizer(rt.alloc(), Codec::AmrWb, Some(true), None)?;
-    let mut efficient = depacketizer(rt.alloc(), Codec::AmrWb, None, None)?;
+    let mut aligned = CodecDepacketizer::new(rt.alloc(), Codec::AmrWb).ok_or("none")?;
+    aligned.configure_for(Some(true), None, Frequency::NINETY_KHZ);
+    let mut efficient = CodecDepacketizer::new(rt.alloc(), Codec::AmrWb).ok_or("none")?;
+    efficient.configure_for(None, None, Frequency::NINETY_KHZ);
     let corrupted = PacketError::ErrAmrWbCorruptedPacket;
     assert!(rt; refusal(rt.alloc(), &mut aligned, "f4c04080c10140")? == corrupted);
     assert!(rt; refusal(rt.alloc(), &mut efficient, "f04c0102030405")? == corrupted);

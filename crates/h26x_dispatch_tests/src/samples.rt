@@ -1,8 +1,10 @@
 //! A sample of each codec through payloader and buffer, nothing negotiated; the payloads stand in hexadecimal, with a
 //! star for the marker, and were put together by hand from the formats' layouts.
 
-use crate::calls::{buffer, carries, payloader};
-use payload_core::Codec;
+use crate::calls::carries;
+use h26x_payload::{CodecDepacketizer, CodecPacketizer};
+use payload_core::{Codec, DepacketizingBuffer, Payloader};
+use rtp_wire::Frequency;
 use std::alloc::Global;
 use std::test::Fail;
 
@@ -15,8 +17,12 @@ fn is_carried(
     payloads: &str,
     unit: &str,
 ) -> Result<bool, Fail> {
-    let mut payloader = payloader(codec, None, None)?;
-    let mut buffer = buffer(alloc, codec, None, None)?;
+    let mut packetizer = CodecPacketizer::new(codec).ok_or("none")?;
+    packetizer.configure_for(None, None, Frequency::NINETY_KHZ);
+    let mut payloader = Payloader::new(packetizer);
+    let mut depacketizer = CodecDepacketizer::new(alloc, codec).ok_or("none")?;
+    depacketizer.configure_for(None, None, Frequency::NINETY_KHZ);
+    let mut buffer = DepacketizingBuffer::new(alloc, depacketizer, 0);
     carries(
         alloc,
         &mut payloader,
