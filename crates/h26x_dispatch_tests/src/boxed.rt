@@ -2,7 +2,7 @@
 
 use crate::calls::{carries, sends};
 use h26x_payload::{CodecDepacketizer, CodecPacketizer};
-use payload_core::{DepacketizingBuffer, Payloader};
+use payload_core::{Depacketizer, DepacketizingBuffer, Packetizer, Payloader};
 use payload_core_toy::{ToyDepacketizer, ToyPacketizer};
 use rtp_wire::Frequency;
 use std::test::Fail;
@@ -10,10 +10,12 @@ use std::test::Fail;
 #[test]
 fn a_boxed_pair(rt: HostRuntime) -> Result<(), Fail> {
     let alloc = rt.alloc();
-    let mut packetizer = CodecPacketizer::Boxed(Box::new(alloc, ToyPacketizer::new())?);
+    let toy: Box<dyn Packetizer + Drop> = Box::new(alloc, ToyPacketizer::new())?;
+    let mut packetizer: CodecPacketizer = CodecPacketizer::Boxed(toy);
     packetizer.configure_for(Some(true), Some(1), Frequency::EIGHT_KHZ);
     let mut payloader = Payloader::new(packetizer);
-    let mut depacketizer = CodecDepacketizer::Boxed(Box::new(alloc, ToyDepacketizer::new(alloc))?);
+    let toy: Box<dyn Depacketizer + Drop> = Box::new(alloc, ToyDepacketizer::new(alloc))?;
+    let mut depacketizer: CodecDepacketizer = CodecDepacketizer::Boxed(toy);
     depacketizer.configure_for(Some(true), Some(1), Frequency::EIGHT_KHZ);
     let mut buffer = DepacketizingBuffer::new(alloc, depacketizer, 0);
     let payloads = " 010102 0303*";

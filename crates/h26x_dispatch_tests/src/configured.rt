@@ -1,7 +1,7 @@
 //! What is negotiated beside the codec.
 
 use crate::calls::{carries, refusal, sends};
-use h26x_payload::{CodecDepacketizer, CodecPacketizer};
+use h26x_payload::{CodecDepacketizer, CodecPacketizer, NotBoxed};
 use payload_core::{
     Codec, CodecExtra, Depacketizer, DepacketizingBuffer, PacketError, Payloader, TelephoneEvent,
 };
@@ -19,10 +19,10 @@ fn is_carried(
     payload: &str,
     unit: &str,
 ) -> Result<bool, Fail> {
-    let mut packetizer = CodecPacketizer::new(codec).ok_or("none")?;
+    let mut packetizer = CodecPacketizer::<NotBoxed>::new(codec).ok_or("none")?;
     packetizer.configure_for(octet_align, sprop_max_don_diff, Frequency::NINETY_KHZ);
     let mut payloader = Payloader::new(packetizer);
-    let mut depacketizer = CodecDepacketizer::new(alloc, codec).ok_or("none")?;
+    let mut depacketizer = CodecDepacketizer::<NotBoxed>::new(alloc, codec).ok_or("none")?;
     depacketizer.configure_for(octet_align, sprop_max_don_diff, Frequency::NINETY_KHZ);
     let mut buffer = DepacketizingBuffer::new(alloc, depacketizer, 0);
     carries(alloc, &mut payloader, &mut buffer, 9, sample, payload, unit)
@@ -80,9 +80,9 @@ fn row_9_layouts(rt: HostRuntime) -> Result<(), Fail> {
 
 #[test]
 fn row_9_the_other_layout(rt: HostRuntime) -> Result<(), Fail> {
-    let mut aligned = CodecDepacketizer::new(rt.alloc(), Codec::AmrWb).ok_or("none")?;
+    let mut aligned = CodecDepacketizer::<NotBoxed>::new(rt.alloc(), Codec::AmrWb).ok_or("none")?;
     aligned.configure_for(Some(true), None, Frequency::NINETY_KHZ);
-    let mut efficient = CodecDepacketizer::new(rt.alloc(), Codec::AmrWb).ok_or("none")?;
+    let mut efficient = CodecDepacketizer::<NotBoxed>::new(rt.alloc(), Codec::AmrWb).ok_or("none")?;
     efficient.configure_for(None, None, Frequency::NINETY_KHZ);
     let corrupted = PacketError::ErrAmrWbCorruptedPacket;
     assert!(rt; refusal(rt.alloc(), &mut aligned, "f4c04080c10140")? == corrupted);
@@ -127,7 +127,9 @@ fn other_codecs_stay(rt: HostRuntime) -> Result<(), Fail> {
 
 // How long the event of a report lasts, at a clock rate, or at none that was negotiated.
 fn duration(alloc: Global, clock_rate: Option<Frequency>) -> Result<Option<u64>, Fail> {
-    let mut depacketizer = CodecDepacketizer::new(alloc, Codec::Tele).ok_or("no depacketizer")?;
+    let mut depacketizer = CodecDepacketizer::<NotBoxed>::new(alloc, Codec::Tele).ok_or(
+        "no depacketizer",
+    )?;
     if let Some(clock_rate) = clock_rate {
         depacketizer.configure_for(None, None, clock_rate);
     }
@@ -150,11 +152,11 @@ fn clocks_of_events(rt: HostRuntime) -> Result<(), Fail> {
 
 #[test]
 fn first_picture_ids(rt: HostRuntime) -> Result<(), Fail> {
-    let vp8 = CodecPacketizer::with_picture_id(Codec::Vp8, Some(17)).ok_or("none")?;
+    let vp8 = CodecPacketizer::<NotBoxed>::with_picture_id(Codec::Vp8, Some(17)).ok_or("none")?;
     let mut payloader = Payloader::new(vp8);
     assert!(rt; sends(rt.alloc(), &mut payloader, 9, "01", " 90801101*")?);
     assert!(rt; sends(rt.alloc(), &mut payloader, 9, "01", " 90801201*")?);
-    let vp9 = CodecPacketizer::with_picture_id(Codec::Vp9, Some(17)).ok_or("none")?;
+    let vp9 = CodecPacketizer::<NotBoxed>::with_picture_id(Codec::Vp9, Some(17)).ok_or("none")?;
     let mut payloader = Payloader::new(vp9);
     assert!(rt; sends(rt.alloc(), &mut payloader, 9, "01", " 9c801101*")?);
     Ok(())

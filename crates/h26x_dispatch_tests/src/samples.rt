@@ -2,7 +2,7 @@
 //! star for the marker, and were put together by hand from the formats' layouts.
 
 use crate::calls::carries;
-use h26x_payload::{CodecDepacketizer, CodecPacketizer};
+use h26x_payload::{CodecDepacketizer, CodecPacketizer, NotBoxed};
 use payload_core::{Codec, DepacketizingBuffer, Payloader};
 use rtp_wire::Frequency;
 use std::alloc::Global;
@@ -17,10 +17,10 @@ fn is_carried(
     payloads: &str,
     unit: &str,
 ) -> Result<bool, Fail> {
-    let mut packetizer = CodecPacketizer::new(codec).ok_or("none")?;
+    let mut packetizer = CodecPacketizer::<NotBoxed>::new(codec).ok_or("none")?;
     packetizer.configure_for(None, None, Frequency::NINETY_KHZ);
     let mut payloader = Payloader::new(packetizer);
-    let mut depacketizer = CodecDepacketizer::new(alloc, codec).ok_or("none")?;
+    let mut depacketizer = CodecDepacketizer::<NotBoxed>::new(alloc, codec).ok_or("none")?;
     depacketizer.configure_for(None, None, Frequency::NINETY_KHZ);
     let mut buffer = DepacketizingBuffer::new(alloc, depacketizer, 0);
     carries(
