@@ -4,6 +4,8 @@
 #[cfg(test)]
 mod annexb;
 #[cfg(test)]
+mod calls;
+#[cfg(test)]
 mod h264;
 #[cfg(test)]
 mod h265;
@@ -11,3 +13,5 @@ mod h265;
 mod h266;
 #[cfg(test)]
 mod profiles;
+#[cfg(test)]
+mod rows;
