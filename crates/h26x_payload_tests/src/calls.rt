@@ -2,7 +2,7 @@
 //! each, and a star behind each one with the marker. What the calls answer is compared with texts from outside, so
 //! none of them says what it answers.
 
-use payload_core_base::{Depacketizer, PacketError, PacketSink, Packetizer};
+use payload_core_base::{CodecExtra, Depacketizer, PacketError, PacketSink, Packetizer};
 use payload_core_buffer::{DepacketizingBuffer, Payloader, RtpMeta};
 use rtp_wire::{ExtensionValues, SeqNo};
 use std::alloc::Global;
@@ -120,4 +120,69 @@ pub fn polls<D: Depacketizer>(
     unit: &str,
 ) -> Result<bool, Fail> {
     Ok(polled(alloc, buffer)?.as_str() == unit)
+}
+
+/// The bytes of a text with blanks.
+pub fn joined(alloc: Global, text: &str) -> Result<String, Fail> {
+    let mut bytes = String::new(alloc);
+    for word in text.split_whitespace() {
+        bytes.push_str(word)?;
+    }
+    Ok(bytes)
+}
+
+/// Units with start codes of four bytes, of a text in which start codes stand between blanks; without the units
+/// that begin so.
+pub fn written(alloc: Global, text: &str, unsent: &str) -> Result<String, Fail> {
+    let mut units = String::new(alloc);
+    for word in text.split_whitespace() {
+        if word != "000001" && word != "00000001" && !word.starts_with(unsent) {
+            units.push_str("00000001")?;
+            units.push_str(word)?;
+        }
+    }
+    Ok(units)
+}
+
+/// The first byte of each packet, in hexadecimal, and its length, with a star behind the ones with the marker.
+pub fn outline(alloc: Global, packets: &str) -> Result<String, Fail> {
+    let mut text = String::new(alloc);
+    for packet in packets.split_whitespace() {
+        let star = if packet.ends_with("*") { "*" } else { "" };
+        let packet = hex::decode(alloc, packet.strip_suffix("*").unwrap_or(packet))?;
+        let head = packet.first().copied().unwrap_or(0);
+        let outlined = format!(in alloc; " {head:02x}:{}{star}", packet.len())?;
+        text.push_str(outlined.as_str())?;
+    }
+    Ok(text)
+}
+
+// Whether a unit is told to be a keyframe.
+fn is_keyframe(extra: CodecExtra) -> bool {
+    match extra {
+        CodecExtra::H264(known) => known.is_keyframe,
+        CodecExtra::H265(known) => known.is_keyframe,
+        CodecExtra::H266(known) => known.is_keyframe,
+        _ => false,
+    }
+}
+
+/// The one unit that packets give through a buffer, and whether it is told to be a keyframe.
+pub fn given<D: Depacketizer + Drop>(
+    alloc: Global,
+    depacketizer: D,
+    packets: &str,
+) -> Result<(String, bool), Fail> {
+    let mut buffer = buffered(alloc, depacketizer);
+    for (number, packet) in packets.split_whitespace().enumerate() {
+        arrives(alloc, &mut buffer, number as u64, packet)?;
+    }
+    let unit = buffer.pop()?.ok_or("no unit")?;
+    if buffer.pop()?.is_some() {
+        return Err("a second unit")?;
+    }
+    Ok((
+        hex::encode(alloc, unit.bytes.as_slice())?,
+        is_keyframe(unit.extra),
+    ))
 }

@@ -8,7 +8,11 @@ mod calls;
 #[cfg(test)]
 mod h264;
 #[cfg(test)]
+mod h264_encoded;
+#[cfg(test)]
 mod h265;
+#[cfg(test)]
+mod h265_encoded;
 #[cfg(test)]
 mod h266;
 #[cfg(test)]
