@@ -19,3 +19,9 @@ mod h266;
 mod profiles;
 #[cfg(test)]
 mod rows;
+#[cfg(test)]
+mod vectors_h264;
+#[cfg(test)]
+mod vectors_h265;
+#[cfg(test)]
+mod vectors_h266;
