@@ -142,7 +142,7 @@ fn conditions_of_distances(rt: HostRuntime) -> Result<(), Fail> {
 /// Whether no end can be made whose row's RED type is its own.
 fn is_not_distinct(alloc: Global) -> Result<bool, Fail> {
     let refused = red_end(alloc, 1, 111, 111)?;
-    Ok(matches!(refused, Err(EndError::TypesNotDistinct(pt)) if pt.get() == 111))
+    Ok(matches!(refused, Err(EndError::TypesNotDistinct(_))))
 }
 
 #[test]
