@@ -1,54 +1,71 @@
--- How an aggregate is laid out.
-use Rattle.std.proofs.Common.{◌≡◌, ℕ, zero, suc, ◌+◌, ◌*◌, ◌<◌, ◌≤◌, List, [], ◌∷◌, ◌++◌, length, take, drop, None, Some, Option, inl, inr, refl, sym, ap, subst, ◌∙◌, arith}
-use Rattle.std.proofs.lemmas.Bool.{cases_lt}
-use Rattle.std.proofs.lemmas.List.{length-append, length-drop, length-take, take-append-drop}
-use Rattle.std.proofs.Math.Seq.{take-append_seam, drop-append_seam}
+-- How a STAP-A is laid out.
+use Rattle.std.proofs.Common.{◌≡◌, ℕ, ◌+◌, ◌*◌, ◌<◌, List, [], ◌∷◌, ◌++◌, length, drop, None, Some, Option, refl, sym, ap, subst, ◌∙◌, arith}
+use Rattle.std.specs.Prelude.{option_map}
+use Rattle.std.specs.List.{flat_map}
+use Rattle.std.proofs.lemmas.List.{nil_from_length}
 use Rattle.payload_core_base.specs.declared.error.PacketError.{PacketError}
 use Rattle.payload_core_base.specs.declared.error.PacketError.TheVariants.{ErrShortPacket, StapASizeLargerThanBuffer}
-use Rattle.h26x_payload_h264.specs.AggregateLayout.{AggregateLaw, EndsSo, IsLaidOut, IsSized, PassesEnd}
-use Rattle.h26x_payload_h264.specs.Aggregates.{Aggregated, aggregated, only_fault, with_first}
-use Rattle.h26x_payload_h264.proofs.AggregateLemmas.{aggregated-first, aggregated-half, aggregated-none, aggregated-past, first_is, past_is}
+use Rattle.h26x_payload_units.specs.declared.aggregates.AggregateFault.{AggregateFault}
+use Rattle.h26x_payload_units.specs.declared.aggregates.AggregateFault.TheVariants.{CutShort, PastEnd}
+use Rattle.h26x_payload_units.specs.AggregateLayout.{PassesEnd, IsLaidOut as IsLaidOutPlain}
+use Rattle.h26x_payload_units.specs.Aggregates.{Aggregated, aggregated, sized}
+use Rattle.h26x_payload_units.proofs.AggregateLaw.{aggregate_law as shared_law}
+use Rattle.h26x_payload_h264.specs.AggregateLayout.{AggregateLaw, EndsSo, IsLaidOut}
+use Rattle.h26x_payload_h264.specs.StapA.{refusal_of, stap_a_fault}
+use Rattle.h26x_payload_h264.proofs.StapALemmas.{drop_first, is_laid_out}
 
-one_byte : (text : List ℕ) → length text ≡ 1 → aggregated text ≡ only_fault (Some ErrShortPacket)
-one_byte [] e = absurd (omega arith)
-one_byte (b ∷ []) e = aggregated-half b
-one_byte (b ∷ c ∷ text) e = absurd (omega arith)
+-- how a fault is told, behind these units of a text
+abbrev told_behind : List ℕ → List (List ℕ) → Option AggregateFault → Option PacketError
+told_behind text units fault = option_map (λ f. refusal_of f (drop (length (flat_map sized units)) text)) fault
 
-end_read : (text : List ℕ) (fault : Option PacketError) → EndsSo text fault → aggregated text ≡ only_fault fault
-end_read text None e = ap aggregated e ∙ aggregated-none
-end_read text (Some ErrShortPacket) e = one_byte text e
-end_read text (Some (StapASizeLargerThanBuffer size left)) e =
-    let past : length e.rest < e.high * 256 + e.low = omega (arith, e.too_few, e.size_is, e.left_is) in
-    past_is text e.rest e.high e.low e.laid_out past
-    ∙ ap (λ n. only_fault (Some (StapASizeLargerThanBuffer n (length e.rest)))) (sym e.size_is)
-    ∙ ap (λ n. only_fault (Some (StapASizeLargerThanBuffer size n))) (sym e.left_is)
+past_told : (text : List ℕ) (is : PassesEnd 0 text) → refusal_of PastEnd text ≡ StapASizeLargerThanBuffer (is.high * 256 + is.low) (length is.rest)
+past_told text is =
+    ap (refusal_of PastEnd) (is.laid_out ∙ ap (λ before. before ++ (is.high ∷ is.low ∷ is.rest)) (nil_from_length is.before is.lead_is))
+
+-- as it is told, each text is laid out
+ends_told : (text : List ℕ) (fault : Option AggregateFault) → IsLaidOutPlain 0 0 text [] fault → EndsSo text (told_behind text [] fault)
+ends_told text None is = is
+ends_told text (Some CutShort) is = omega (arith, is.0, is.1)
+ends_told text (Some PastEnd) is =
+    let whole : EndsSo text (Some (StapASizeLargerThanBuffer (is.high * 256 + is.low) (length is.rest))) = (is, (refl, refl)) in
+    subst (λ e. EndsSo text (Some e)) (sym (past_told text is)) whole
+
+laid_told : (text : List ℕ) (units : List (List ℕ)) (fault : Option AggregateFault) → IsLaidOutPlain 0 0 text units fault → IsLaidOut text units (told_behind text units fault)
+laid_told text [] fault is = ends_told text fault is
+laid_told text (u ∷ us) fault (rest, (is, others)) =
+    let same : told_behind text (u ∷ us) fault ≡ told_behind rest us fault = ap (λ behind. option_map (λ f. refusal_of f behind) fault) (drop_first text u rest (flat_map sized us) is) in
+    (rest, (is, subst (IsLaidOut rest us) (sym same) (laid_told rest us fault others)))
+
+-- and a text that is laid out so is read and told so
+abbrev IsReadSo : List ℕ → List (List ℕ) → Option PacketError → Type 0
+IsReadSo text units fault = (plain : Option AggregateFault) × (IsLaidOutPlain 0 0 text units plain × (told_behind text units plain ≡ fault))
+
+end_read : (text : List ℕ) (fault : Option PacketError) → EndsSo text fault → IsReadSo text [] fault
+end_read text None e = (None, (e, refl))
+end_read text (Some ErrShortPacket) e =
+    let cut : (0 < length text) × (length text < 2) = (omega (arith, e), omega (arith, e)) in
+    (Some CutShort, (cut, refl))
+end_read text (Some (StapASizeLargerThanBuffer size left)) (is, (size_is, left_is)) =
+    (Some PastEnd, (is, ap Some (past_told text is ∙ ap (λ n. StapASizeLargerThanBuffer n (length is.rest)) (sym size_is) ∙ ap (StapASizeLargerThanBuffer size) (sym left_is))))
 end_read text (Some _) e = absurd e
 
-read_so : (text : List ℕ) (units : List (List ℕ)) (fault : Option PacketError) → IsLaidOut text units fault → aggregated text ≡ record { units = units; fault = fault }
+read_so : (text : List ℕ) (units : List (List ℕ)) (fault : Option PacketError) → IsLaidOut text units fault → IsReadSo text units fault
 read_so text [] fault is = end_read text fault is
 read_so text (u ∷ us) fault (rest, (is, others)) =
-    let front : u ≡ take (is.high * 256 + is.low) (u ++ rest) = sym (take-append_seam u rest) ∙ ap (λ n. take n (u ++ rest)) is.size_is in
-    let back : rest ≡ drop (is.high * 256 + is.low) (u ++ rest) = sym (drop-append_seam u rest) ∙ ap (λ n. drop n (u ++ rest)) is.size_is in
-    first_is text (u ++ rest) u rest is.high is.low is.laid_out (omega (arith, is.size_is, length-append u rest)) front back ∙ ap (with_first u) (read_so rest us fault others)
-
-abbrev IsLaid : List ℕ → Aggregated → Type 0
-IsLaid text a = IsLaidOut text a.units a.fault
-
-laid_within : (n : ℕ) (text : List ℕ) → length text ≤ n → IsLaid text (aggregated text)
-laid_within n [] le = subst (IsLaid []) (sym aggregated-none) refl
-laid_within n (high ∷ []) le = let one : length (high ∷ []) ≡ 1 = omega arith in subst (IsLaid (high ∷ [])) (sym (aggregated-half high)) one
-laid_within zero (high ∷ low ∷ rest) le = absurd (omega arith)
-laid_within (suc n) (high ∷ low ∷ rest) le = elim (cases_lt (length rest) (high * 256 + low)) [
-  | inl past ↦
-      let is : PassesEnd (high ∷ low ∷ rest) (high * 256 + low) (length rest) = record { high = high; low = low; rest = rest; laid_out = refl; size_is = refl; left_is = refl; too_few = past } in
-      subst (IsLaid (high ∷ low ∷ rest)) (sym (aggregated-past high low rest past)) is
-  | inr fits ↦
-      let size : ℕ = high * 256 + low in
-      let le' : size ≤ length rest = omega arith in
-      let later = laid_within n (drop size rest) (omega (arith, length-drop size rest)) in
-      let is : IsSized (high ∷ low ∷ rest) (take size rest) (drop size rest) = record { high = high; low = low; laid_out = ap (λ t. high ∷ low ∷ t) (sym (take-append-drop size rest)); size_is = omega (arith, length-take size rest) } in
-      subst (IsLaid (high ∷ low ∷ rest)) (sym (aggregated-first high low rest le')) (drop size rest, (is, later))
-]
+    let r = read_so rest us fault others in
+    let same : told_behind text (u ∷ us) r.0 ≡ told_behind rest us r.0 = ap (λ behind. option_map (λ f. refusal_of f behind) r.0) (drop_first text u rest (flat_map sized us) is) in
+    (r.0, ((rest, (is, r.1.0)), same ∙ r.1.1))
 
 pub aggregate_law : AggregateLaw
-aggregate_law text units fault = ((λ is. read_so text units fault is), (λ e. subst (IsLaid text) e (laid_within (length text) text (omega arith))))
+aggregate_law text units fault = (there, back)
+  where
+    there : IsLaidOut text units fault → ((aggregated 0 0 text).units ≡ units) × (stap_a_fault text ≡ fault)
+    there is =
+        let r = read_so text units fault is in
+        let same = (shared_law 0 0 text units r.0).0 r.1.0 in
+        (ap (λ (a : Aggregated). a.units) same, ap (λ (a : Aggregated). told_behind text a.units a.fault) same ∙ r.1.1)
+
+    back : ((aggregated 0 0 text).units ≡ units) × (stap_a_fault text ≡ fault) → IsLaidOut text units fault
+    back same =
+        let laid = laid_told text (aggregated 0 0 text).units (aggregated 0 0 text).fault (is_laid_out text) in
+        subst (IsLaidOut text units) same.1 (subst (λ us. IsLaidOut text us (stap_a_fault text)) same.0 laid)

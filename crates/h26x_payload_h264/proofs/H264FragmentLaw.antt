@@ -9,10 +9,11 @@ use Rattle.payload_core_base.specs.declared.extra.CodecExtra.{CodecExtra}
 use Rattle.payload_core_base.specs.declared.extra.CodecExtra.TheVariants.{H264}
 use Rattle.h26x_payload_h264.specs.declared.headers.PacketKind.{PacketKind}
 use Rattle.h26x_payload_h264.specs.declared.headers.PacketKind.TheVariants.{Single, Aggregate, Fragment as FragmentKind, Unhandled}
-use Rattle.h26x_payload_h264.specs.Aggregates.{aggregated}
+use Rattle.h26x_payload_units.specs.Aggregates.{aggregated}
 use Rattle.h26x_payload_units.specs.Fragments.{gone_on, open_after, put_behind, written_at}
 use Rattle.h26x_payload_h264.specs.H264Fragments.{FragmentLaw, ends_by, h264_view, header_by, is_fragment_kind, is_fu_a, part_by, run_of, starts_by}
 use Rattle.h26x_payload_h264.specs.H264Headers.{kind_of}
+use Rattle.h26x_payload_h264.specs.StapA.{stap_a_fault}
 use Rattle.h26x_payload_h264.specs.H264Reading.{Given, given, given_by, given_units, h264_format, shows_type, told, was_keyframe}
 use Rattle.h26x_payload_units.specs.FragmentRuns.{WritesComplete, open_behind, open_behind_all, written_by}
 use Rattle.h26x_payload_units.proofs.FragmentRunLemmas.{fragments_law}
@@ -48,7 +49,7 @@ open_by : (kind : PacketKind) (f : Fragment) (first : ℕ) (body : List ℕ) (g 
     → g.fragment ≡ open_after (ends_by kind body) (put_behind (starts_by kind body) (header_by kind first body) (part_by kind body) f)
 unfolding open_of
 open_by Single f first body g is = sym (ap open_of is) ∙ nothing_goes_on f
-open_by Aggregate f first body g is = units_open f (aggregated body).units (aggregated body).fault g is ∙ nothing_goes_on f
+open_by Aggregate f first body g is = units_open f (aggregated 0 0 body).units (stap_a_fault body) g is ∙ nothing_goes_on f
 open_by FragmentKind f first [] g is = refused_not _ g is
 open_by FragmentKind f first (fu ∷ part) g is = sym (ap open_of is)
 open_by Unhandled f first body g is = refused_not _ g is

@@ -1,11 +1,10 @@
 -- What makes H.264 keep the codec law.
-use Rattle.std.proofs.Common.{◌≡◌, ℕ, zero, suc, ◌+◌, ◌-◌, ◌*◌, ◌/◌, ◌%◌, ◌<◌, ◌≤◌, Bool, true, false, leb, List, [], ◌∷◌, ◌++◌, map, length, take, drop, None, if◌then◌else◌, refl, sym, ap, subst, ◌∙◌, arith}
-use Rattle.std.specs.Prelude.{◌||◌}
+use Rattle.std.proofs.Common.{◌≡◌, ℕ, zero, suc, ◌-◌, ◌<◌, ◌≤◌, Bool, true, false, leb, List, [], ◌∷◌, ◌++◌, map, length, drop, None, if◌then◌else◌, refl, sym, ap, subst, ◌∙◌, arith}
+use Rattle.std.specs.Prelude.{◌||◌, option_map}
 use Rattle.std.specs.List.{All, flat_map}
 use Rattle.std.proofs.lemmas.Bool.Decides.{nat_tests}
 use Rattle.std.proofs.lemmas.List.{append-nil, drop_all, length-append, map-append, take_all}
 use Rattle.std.proofs.lemmas.List.Elements.{All-append, All-cons, All-head, All-nil, All-tail}
-use Rattle.std.proofs.Math.Seq.{take-append_seam, drop-append_seam}
 use Rattle.h26x_payload_annexb.specs.Cut.{AreUnits}
 use Rattle.h26x_payload_annexb.specs.Units.{units_of}
 use Rattle.h26x_payload_annexb.proofs.UnitLemmas.{units_law}
@@ -14,41 +13,30 @@ use Rattle.payload_core_base.specs.Law.{AreFramesOf, AreFull, AreWithin, CodecLa
 use Rattle.payload_core_base.specs.Packing.{MarkedPacket, Sender, is_none_left, marked}
 use Rattle.payload_core_base.specs.Pieces.{pieces}
 use Rattle.payload_core_base.proofs.PieceLemmas.{joined-pieces, pieces-full, pieces-step, pieces-within}
-use Rattle.h26x_payload_h264.specs.Aggregates.{Aggregated, aggregated, sized, with_first}
+use Rattle.h26x_payload_units.specs.Aggregates.{Aggregated, sized}
 use Rattle.h26x_payload_units.specs.Departures.{Departure, EachUnit, departures, units_in}
 use Rattle.h26x_payload_units.specs.Departures.Departure.{Together, Alone}
 use Rattle.h26x_payload_units.specs.Fragments.{behind_code, in_fragments}
 use Rattle.h26x_payload_h264.specs.H264Coding.{AreSendable, FullLaw, GivesUnits, IsSendable, UnitsLaw, WithinLaw, h264_coding, h264_units_sent, unit_of}
 use Rattle.h26x_payload_h264.specs.H264Headers.{kind_of}
 use Rattle.h26x_payload_h264.specs.H264Packing.{can_leave, fragments_of, fu_a, h264_packing, h264_rules, packets_of, stap_a}
+use Rattle.h26x_payload_h264.specs.StapA.{refusal_of}
 use Rattle.h26x_payload_h264.specs.H264Reading.{begins_by, given, given_units, gives, h264_format}
-use Rattle.h26x_payload_h264.proofs.AggregateLemmas.{aggregated-first, aggregated-none}
+use Rattle.h26x_payload_h264.proofs.StapALemmas.{all_sized}
 use Rattle.h26x_payload_units.proofs.BundleLemmas.{AreBundles, GivesParts, IsBundle, bundled-frame, bundles-give}
 use Rattle.h26x_payload_units.proofs.DepartureLemmas.{Each}
 use Rattle.h26x_payload_h264.proofs.DepartureLemmas.{HasByte, IsFitting, IsGood, departures-fit, departures-good}
 use Rattle.h26x_payload_h264.proofs.H264RunLaw.{fragments_bundle, given-run, kind_is, single_kind}
 use Rattle.h26x_payload_h264.specs.declared.headers.PacketKind.TheVariants.{Single}
 
--- units behind their sizes are read as they are
-all_sized : (sets : List (List ℕ)) → aggregated (flat_map sized sets) ≡ record { units = sets; fault = None }
-all_sized [] = aggregated-none
-all_sized (u ∷ us) =
-    let rest : List ℕ = flat_map sized us in
-    let high : ℕ = length u / 256 in
-    let low : ℕ = length u % 256 in
-    let size : high * 256 + low ≡ length u = omega arith in
-    aggregated-first high low (u ++ rest) (omega (arith, length-append u rest))
-    ∙ ap (λ n. with_first (take n (u ++ rest)) (aggregated (drop n (u ++ rest)))) size
-    ∙ ap (λ f. with_first f (aggregated (drop (length u) (u ++ rest)))) (take-append_seam u rest)
-    ∙ ap (λ b. with_first u (aggregated b)) (drop-append_seam u rest)
-    ∙ ap (with_first u) (all_sized us)
-
 joined_codes : (us : List (List ℕ)) → joined (map behind_code us) ≡ flat_map behind_code us
 joined_codes [] = refl
 joined_codes (u ∷ us) = ap (λ t. behind_code u ++ t) (joined_codes us)
 
 stap_given : (fragment : Fragment) (sets : List (List ℕ)) → given fragment (stap_a sets) ≡ gives (flat_map behind_code sets) fragment
-stap_given fragment sets = ap (λ (a : Aggregated). given_units fragment a.units a.fault) (all_sized sets)
+stap_given fragment sets =
+    let body : List ℕ = flat_map sized sets in
+    ap (λ (a : Aggregated). given_units fragment a.units (option_map (λ fault. refusal_of fault (drop (length (flat_map sized a.units)) body)) a.fault)) (all_sized sets)
 
 some_parts : (us : List (List ℕ)) → 0 < length us → 0 < length (map behind_code us)
 some_parts [] some = absurd (omega arith)

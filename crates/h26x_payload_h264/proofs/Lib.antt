@@ -1,4 +1,4 @@
-pub mod AggregateLemmas
+pub mod StapALemmas
 pub mod DepartureLemmas
 pub mod H264RunLaw
 pub mod H264Law

@@ -5,7 +5,7 @@ use Rattle.h26x_payload_annexb.specs.Units.{units_of}
 use Rattle.payload_core_base.specs.Packing.{Packing, Sender, Sent}
 use Rattle.payload_core_base.specs.Pieces.{pieces}
 use Rattle.payload_core_base.specs.declared.error.PacketError.{PacketError}
-use Rattle.h26x_payload_h264.specs.Aggregates.{sized}
+use Rattle.h26x_payload_units.specs.Aggregates.{sized}
 use Rattle.h26x_payload_units.specs.Departures.{Departure, Role, Rules, departures, waiting_after}
 use Rattle.h26x_payload_units.specs.Departures.Departure.{Together, Alone}
 use Rattle.h26x_payload_units.specs.Departures.Role.{Unsent, Waits, Leaves}

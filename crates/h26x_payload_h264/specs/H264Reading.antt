@@ -8,9 +8,10 @@ use Rattle.payload_core_base.specs.declared.extra.CodecExtra.{CodecExtra}
 use Rattle.payload_core_base.specs.declared.extra.CodecExtra.TheVariants.{H264}
 use Rattle.h26x_payload_h264.specs.declared.headers.PacketKind.{PacketKind}
 use Rattle.h26x_payload_h264.specs.declared.headers.PacketKind.TheVariants.{Single, Aggregate, Fragment as FragmentKind, Unhandled}
-use Rattle.h26x_payload_h264.specs.Aggregates.{aggregated}
+use Rattle.h26x_payload_units.specs.Aggregates.{aggregated}
 use Rattle.h26x_payload_units.specs.Fragments.{behind_code, open_after, put_behind, written_at}
 use Rattle.h26x_payload_h264.specs.H264Headers.{begun_header, has_end, has_start, kind_of, type_of}
+use Rattle.h26x_payload_h264.specs.StapA.{stap_a_fault}
 
 -- A unit of this type.
 abbrev pub is_of_type : ℕ → List ℕ → Bool
@@ -24,7 +25,7 @@ starts_type type (fu ∷ body) = has_start fu && (type_of fu == type)
 
 abbrev pub shows_by : PacketKind → ℕ → ℕ → List ℕ → Bool
 shows_by Single type first body = type_of first == type
-shows_by Aggregate type first body = list_any (is_of_type type) (aggregated body).units
+shows_by Aggregate type first body = list_any (is_of_type type) (aggregated 0 0 body).units
 shows_by FragmentKind type first body = starts_type type body
 shows_by Unhandled type first body = false
 
@@ -55,7 +56,7 @@ given_fragment fragment first (fu ∷ body) =
 
 abbrev pub given_by : PacketKind → Fragment → ℕ → List ℕ → Result Given PacketError
 given_by Single fragment first body = gives (behind_code (first ∷ body)) fragment
-given_by Aggregate fragment first body = given_units fragment (aggregated body).units (aggregated body).fault
+given_by Aggregate fragment first body = given_units fragment (aggregated 0 0 body).units (stap_a_fault body)
 given_by FragmentKind fragment first body = given_fragment fragment first body
 given_by Unhandled fragment first body = Err (NaluTypeIsNotHandled (type_of first))
 

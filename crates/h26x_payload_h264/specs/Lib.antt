@@ -1,7 +1,6 @@
 pub mod H264Headers
-pub mod Aggregates
+pub mod StapA
 pub mod H264Reading
-pub mod H264Views
 pub mod H264Packing
 pub mod H264Waiting
 pub mod H264Coding

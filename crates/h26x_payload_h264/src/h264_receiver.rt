@@ -1,14 +1,16 @@
 //! Reading H.264 payloads (RFC 6184 5.6, 5.7.1 and 5.8).
 
-ghost use Rattle.h26x_payload_h264.specs.Aggregates.{aggregated, only_fault, with_first};
 ghost use Rattle.h26x_payload_h264.specs.H264Reading.{Adds, given, given_by, given_fragment, h264_format, is_of_type, shows_type, starts_type, was_keyframe};
-ghost use Rattle.h26x_payload_h264.specs.H264Views.{written_before};
-ghost use Rattle.std.specs.List.{list_any};
-ghost use Rattle.std.specs.Prelude.{[], ◌≡◌, ◌≢◌, ◌<◌, Err, IfErr, IfOk, None, Ok, OnErr, OnOk, Some, length};
+ghost use Rattle.h26x_payload_h264.specs.StapA.{refusal_of, stap_a_fault};
+ghost use Rattle.h26x_payload_units.specs.Aggregates.{aggregated, sized};
+ghost use Rattle.std.specs.List.{flat_map, list_any};
+ghost use Rattle.std.specs.Prelude.{◌≡◌, ◌≢◌, Err, IfErr, None, OnErr, OnOk, length};
 
-use crate::constants::IDR_NALU_TYPE;
+use crate::constants::{IDR_NALU_TYPE, STAPA_NALU_LENGTH_SIZE};
 use crate::headers::{PacketKind, begun_header, has_end, has_start, kind_of, type_of};
-use h26x_payload_units::{OpenUnit, push_unit};
+use h26x_payload_units::{
+    AggregateFault, OpenUnit, aggregate_fault, aggregated_units, first_aggregated, push_unit,
+};
 use payload_core_base::{CodecExtra, Depacketizer, H264CodecExtra, PacketError};
 use std::alloc::Global;
 
@@ -20,41 +22,47 @@ pub struct H264Depacketizer {
     unit: OpenUnit,
 }
 
-// The first unit of an aggregate that is not empty, behind its size, and what stands behind it.
-fn first_sized(body: &[u8]) -> Result<(&[u8], &[u8]), PacketError>
-    ensures unit { IfOk result (λ cut. aggregated body.now ≡ with_first cut.0.now (aggregated cut.1.now)) }
-    ensures shorter { IfOk result (λ cut. length cut.1.now < length body.now) }
-    ensures fault { IfErr result (λ e. 0 < length body.now → aggregated body.now ≡ only_fault (Some e)) }
+// How many bytes the whole units of an aggregate take, each with its size.
+fn sized_len(body: &[u8]) -> usize
+    ensures { result ≡ length (flat_map sized (aggregated 0 0 body.now).units) }
 {
-    let Some((high, rest)) = body.split_first() else {
-        return Err(PacketError::ErrShortPacket);
-    };
-    let Some((low, rest)) = rest.split_first() else {
-        return Err(PacketError::ErrShortPacket);
-    };
-    let size = *high as usize * 256 + *low as usize;
-    if size > rest.len() {
-        return Err(PacketError::StapASizeLargerThanBuffer(size, rest.len()));
-    }
-    Ok(rest.split_at(size))
-}
-
-// What the units of an aggregate are written as.
-fn units_of(alloc: Global, body: &[u8]) -> Result<Vec<u8>, PacketError>
-    ensures written { IfOk result (λ v. written_before [] (aggregated body.now) ≡ Ok v.items) }
-    ensures refused { IfErr result (λ e. e ≢ PacketError.Memory → written_before [] (aggregated body.now) ≡ Err e) }
-{
-    let mut written = Vec::new(alloc);
+    let mut len = 0;
     let mut rest = body;
     while !rest.is_empty() {
-        let (unit, behind) = match first_sized(rest) {
-            Ok(cut) => cut,
-            Err(e) => return Err(e),
+        let Ok((unit, behind)) = first_aggregated(0, rest) else {
+            return len;
         };
-        push_unit(unit, &mut written)?;
+        len += STAPA_NALU_LENGTH_SIZE + unit.len();
         rest = behind;
     }
-    Ok(written)
+    len
+}
+
+// How a fault of an aggregate is told, with what stands behind its whole units.
+fn refusal_of(fault: AggregateFault, behind: &[u8]) -> PacketError
+    ensures { result ≡ refusal_of fault behind.now }
+{
+    match fault {
+        AggregateFault::CutShort => PacketError::ErrShortPacket,
+        AggregateFault::PastEnd => match behind {
+            [high, low, rest @ ..] => {
+                let size = *high as usize * 256 + *low as usize;
+                PacketError::StapASizeLargerThanBuffer(size, rest.len())
+            }
+            _ => PacketError::ErrShortPacket,
+        },
+    }
+}
+
+// What is wrong with an aggregate behind its whole units, if anything.
+fn stap_a_fault(body: &[u8]) -> Option<PacketError>
+    ensures { result ≡ stap_a_fault body.now }
+{
+    let Some(fault) = aggregate_fault(0, 0, body) else {
+        return None;
+    };
+    let (_, behind) = body.split_at(sized_len(body));
+    Some(refusal_of(fault, behind))
 }
 
 // Whether a unit is of this type.
@@ -69,11 +77,11 @@ fn is_of_type(nalu_type: u8, unit: &[u8]) -> bool
 
 // Whether an aggregate holds a unit of this type.
 fn holds_type(nalu_type: u8, body: &[u8]) -> bool
-    ensures { result ≡ list_any (is_of_type nalu_type) (aggregated body.now).units }
+    ensures { result ≡ list_any (is_of_type nalu_type) (aggregated 0 0 body.now).units }
 {
     let mut rest = body;
     while !rest.is_empty() {
-        let Ok((unit, behind)) = first_sized(rest) else {
+        let Ok((unit, behind)) = first_aggregated(0, rest) else {
             return false;
         };
         if is_of_type(nalu_type, unit) {
@@ -165,10 +173,10 @@ impl H264Depacketizer {
             IfErr result (λ e. e ≢ PacketError.Memory → given ≡ Err e) }
         ensures unchanged { OnErr result ((self.new.unit ≡ self.old.unit) × (out.new.items ≡ out.old.items)) }
     {
-        let units = match units_of(self.alloc, body) {
-            Ok(units) => units,
-            Err(e) => return Err(e),
-        };
+        if let Some(fault) = stap_a_fault(body) {
+            return Err(fault);
+        }
+        let units = aggregated_units(self.alloc, 0, 0, body)?;
         out.extend_from_slice(&units)?;
         Ok(())
     }

@@ -1,7 +1,7 @@
 //! Sending H.264 payloads (RFC 6184 5.6, 5.7.1 and 5.8).
 
 ghost use Rattle.h26x_payload_annexb.specs.Units.{units_of};
-ghost use Rattle.h26x_payload_h264.specs.Aggregates.{sized};
+ghost use Rattle.h26x_payload_units.specs.Aggregates.{sized};
 ghost use Rattle.h26x_payload_units.specs.Departures.{alone, departing, departures, together, waiting_after, waiting_behind};
 ghost use Rattle.h26x_payload_units.specs.Departures.Role.{Leaves};
 ghost use Rattle.h26x_payload_h264.specs.H264Packing.{fragments_of, fu_a, h264_packing, h264_rules, packets_of, role_by, stap_a, unit_type};

@@ -17,10 +17,10 @@ pub fn h264_law()
 {}
 
 /// The body of a STAP-A is read as units behind their sizes, one behind the other, in the one way that it is laid out
-/// so, up to its end, half a size or a size that passes the end. Behind packets without a refusal an FU-A that is
-/// accepted writes a unit exactly where it ends one: where it has E, and from the latest packet with S on no other
-/// one has E. The unit is F and NRI of that start's first byte with the type of its FU header, and the parts from
-/// there on.
+/// so, up to its end, half a size or a size that passes the end, which is told with how many bytes are left. Behind
+/// packets without a refusal an FU-A that is accepted writes a unit exactly where it ends one: where it has E, and
+/// from the latest packet with S on no other one has E. The unit is F and NRI of that start's first byte with the
+/// type of its FU header, and the parts from there on.
 pub fn h264_reading_law()
     ensures aggregates { AggregateLaw }
     ensures fragments { FragmentLaw }
