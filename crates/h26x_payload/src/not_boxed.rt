@@ -1,38 +1,39 @@
-//! No object of a caller's.
+//! In place of a caller's object.
 
 use payload_core_base::{CodecExtra, Depacketizer, PacketError, Packetizer};
 use std::alloc::Global;
 
-/// No packetizer and no depacketizer: in the place of a caller's own it leaves those of the codecs alone.
-#[derive(Drop)]
-pub enum NotBoxed {}
+/// Stands where no caller's object is: it sends no packet, and takes each packet without giving anything.
+#[derive(Clone, Copy, Debug, PartialEq, Eq, Drop)]
+pub struct NotBoxed;
 
 impl Packetizer for NotBoxed {
-    ghost use Rattle.payload_core_audio.specs.Plain.{idle_sender, pieces_packing};
+    ghost use Rattle.h26x_payload.specs.Nothing.{no_packing};
+    ghost use Rattle.payload_core_audio.specs.Plain.{idle_sender};
 
-    ghost packing = { λ _. pieces_packing };
+    ghost packing = { λ _. no_packing };
 
     ghost sender = { λ _. idle_sender };
 
     fn packetize(
         &mut self,
-        _alloc: Global,
+        alloc: Global,
         _mtu: usize,
         _bytes: &[u8],
     ) -> Result<Vec<Vec<u8>>, PacketError> {
-        match *self {}
+        Ok(Vec::new(alloc))
     }
 
     fn is_marker(&mut self, _bytes: &[u8], _previous: Option<&[u8]>, _last: bool) -> bool {
-        match *self {}
+        false
     }
 }
 
 impl Depacketizer for NotBoxed {
-    ghost use Rattle.payload_core_audio.specs.Plain.{plain_format};
+    ghost use Rattle.h26x_payload.specs.Nothing.{no_format};
     ghost use Rattle.std.specs.Prelude.{None};
 
-    ghost format = { λ _. plain_format };
+    ghost format = { λ _. no_format };
 
     ghost fragment = { λ _. None };
 
@@ -42,14 +43,14 @@ impl Depacketizer for NotBoxed {
         _out: &mut Vec<u8>,
         _extra: &mut CodecExtra,
     ) -> Result<(), PacketError> {
-        match *self {}
+        Ok(())
     }
 
     fn is_partition_head(&self, _packet: &[u8]) -> bool {
-        match *self {}
+        false
     }
 
     fn is_partition_tail(&self, _marker: bool, _packet: &[u8]) -> bool {
-        match *self {}
+        false
     }
 }

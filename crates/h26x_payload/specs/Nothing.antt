@@ -1,0 +1,17 @@
+-- A packetizer and a depacketizer that stand where no caller's object is.
+use Rattle.std.specs.Prelude.{false, [], Ok}
+use Rattle.payload_core_base.specs.Format.{Format}
+use Rattle.payload_core_base.specs.Packing.{Packing}
+use Rattle.payload_core_audio.specs.Plain.{no_marker, sent_as}
+
+-- No packet is sent.
+abbrev pub no_packing : Packing
+no_packing = record { pack = λ sender limit sample. sent_as sender []; marks = no_marker }
+
+-- No packet is a head or a tail, and none gives anything.
+abbrev pub no_format : Format
+no_format = record {
+  head = λ packet. false;
+  tail = λ marker packet. false;
+  read = λ fragment extra packet. Ok (record { written = []; extra = extra; fragment = fragment });
+}
