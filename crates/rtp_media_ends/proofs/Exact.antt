@@ -40,10 +40,10 @@ eqb-same : (a : ℕ) → (a == a) ≡ true
 eqb-same a = grind (arith, nat_tests)
 
 -- a payload that can be sent
-abbrev IsSendable : Timed → Type 0
+abbrev pub IsSendable : Timed → Type 0
 IsSendable p = (p.time < 2 ^ 32) × (0 < length p.bytes) × AreValues p.values
 
-abbrev AreSendable : List Timed → Type 0
+abbrev pub AreSendable : List Timed → Type 0
 AreSendable [] = Unit {0}
 AreSendable (p ∷ ps) = IsSendable p × AreSendable ps
 
@@ -52,7 +52,7 @@ content-some h values [] some = absurd (omega arith)
 content-some h values (b ∷ bs) some = refl
 
 -- the payloads with the values that arrive
-abbrev carried_payloads : Sending → List Timed → List Timed
+abbrev pub carried_payloads : Sending → List Timed → List Timed
 carried_payloads s ps = map (as_carried s) ps
 
 both-true : (a b : Bool) → a ≡ true → b ≡ true → (a && b) ≡ true
@@ -79,7 +79,7 @@ brought-read s r x p bytes ssrc_is map_is typed brings wire ssrc time vs some =
     ∙ content-some bare (carried s p.values) bytes some
 
 -- the receiving stream of a sending one
-abbrev IsFor : Receiving → Sending → Type 0
+abbrev pub IsFor : Receiving → Sending → Type 0
 IsFor r s = (r.ssrc ≡ s.ssrc) × (r.types ≡ s.types) × (r.map ≡ s.map)
 
 own-type : (types : PayloadTypes) → has_type types types.pt ≡ true
@@ -97,7 +97,7 @@ red-type types wire h = either (types.pt == wire) (is_type types.red wire) (ap (
 brought-own : (types : PayloadTypes) (payload : List ℕ) → brought types types.pt payload ≡ Some payload
 brought-own types payload = ap (λ (t : Bool). if t then Some payload else option_and_then (primary_of types.pt) (read_red payload)) (eqb-same types.pt)
 
-sent-event : (s : Sending) (r : Receiving) (o : Option Redundancy) (ps : List Timed) (n i : ℕ) → IsFor r s → IsTypedBy s.types s.wire_type o → s.types.pt < 128 → s.wire_type < 128 → s.ssrc < 2 ^ 32 → AreSendable ps → i < length ps →
+pub sent-event : (s : Sending) (r : Receiving) (o : Option Redundancy) (ps : List Timed) (n i : ℕ) → IsFor r s → IsTypedBy s.types s.wire_type o → s.types.pt < 128 → s.wire_type < 128 → s.ssrc < 2 ^ 32 → AreSendable ps → i < length ps →
     event_in r (slice_index_or (datagrams_from s n (on_wire s.types.pt s.mtu o ps)) i []) ≡ Some (Comes ((n + i) % 65536) (content_at (carried_payloads s ps) i))
 sent-event s r o [] n i for typed pt wire ssrc all lt = absurd (omega arith)
 sent-event s r None (p ∷ ps) n zero for typed pt wire ssrc all lt =
@@ -127,7 +127,7 @@ All-append : (ps qs : List Timed) → AreSendable ps → AreSendable qs → AreS
 All-append [] qs a b = b
 All-append (p ∷ ps) qs a b = (a.0, All-append ps qs a.1 b)
 
-payloads-sendable : (limit : ℕ) (samples : List Timed) → All (λ s. s.time < 2 ^ 32) samples → All (λ s. AreValues s.values) samples → AreSendable (payloads limit samples)
+pub payloads-sendable : (limit : ℕ) (samples : List Timed) → All (λ s. s.time < 2 ^ 32) samples → All (λ s. AreValues s.values) samples → AreSendable (payloads limit samples)
 payloads-sendable limit [] all vs = tt
 payloads-sendable limit (s ∷ ss) all vs =
     All-append (payloads_of limit s) (payloads limit ss) (pieces-sendable limit s.time s.values (pieces limit s.bytes) (all zero s (omega arith)) (vs zero s (omega arith)) (each-within limit s.bytes))
@@ -172,7 +172,7 @@ exact e stream hold_back sender samples arrivals ds answers after all out =
     let count : length qs ≡ length ps = length-map ps (as_carried sender) in
     let events : own_events r ds ≡ map (event_of (sender_of sender.next qs)) (map Arrive arrivals) =
     sym (own-filter r ds) ∙ ap (own_events r) all.own
-    ∙ arrivals-events sender r samples [] arrivals (refl, refl, refl) all.typed all.payload_type all.wire_type all.ssrc (payloads-sendable (piece_limit sender) samples all.timestamps all.values) all.arrive in
+    ∙ arrivals-events sender r samples [] arrivals (refl, refl, refl) all.sound.typed all.sound.payload_type all.sound.wire_type all.sound.ssrc (payloads-sendable (piece_limit sender) samples all.timestamps all.values) all.arrive in
     let same : receiver_at e stream ≡ with_stream r (receiver_at e stream).stream = all.fresh ∙ ap (with_stream r) (sym (ap (λ (x : Receiving). x.stream) all.fresh)) in
     let alone : (receiver_at (after_datagrams e ds) stream).stream ≡ after_events (fresh hold_back) (map (event_of (sender_of sender.next qs)) (map Arrive arrivals)) =
     isolated ds e stream r same all.opened

@@ -3,3 +3,4 @@ pub mod Isolation
 pub mod Exact
 pub mod Agreements
 pub mod Rising
+pub mod Transparent

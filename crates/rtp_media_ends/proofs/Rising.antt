@@ -1,9 +1,8 @@
 -- Distances that rise, by a test.
-use Rattle.std.proofs.Common.{◌≡◌, ℕ, zero, suc, ◌<◌, ◌≤◌, ◌&&◌, refl, sym, ap, subst, ◌∙◌, arith, Bool, true, false, List, [], ◌∷◌, length, true≢false, ◌↔◌}
+use Rattle.std.proofs.Common.{◌≡◌, ℕ, zero, suc, ◌<◌, ◌≤◌, ◌&&◌, refl, sym, subst, arith, Bool, true, false, List, [], ◌∷◌, length, true≢false, ◌↔◌}
 use Rattle.std.proofs.lemmas.Bool.Decides.{nat_tests}
 use Rattle.std.specs.Option.{ForSome}
 use Rattle.std.specs.Prelude.{All, AllPairs, Option, Some, None, nat_lt, nat_le, slice_index}
-use Rattle.payload_core_red.specs.RedHistory.{AreDistances}
 use Rattle.payload_core_red.proofs.DistanceLemmas.{distances-from}
 use Rattle.rtp_media_ends.specs.Params.{IsRedundancy, IsSound, is_picture_id, is_redundancy, is_sound_params, rise_above}
 use Rattle.rtp_media_ends.specs.declared.params.StreamParams.{StreamParams}

@@ -69,16 +69,21 @@ units_of sender samples = units_from sender.next (map (as_carried sender) (paylo
 abbrev pub IsFound : EndState → ℕ → Receiving → Type 0
 IsFound e stream r = (pt : ℕ) → has_type r.types pt ≡ true → stream_for e.receivers r.ssrc pt ≡ Some stream
 
+-- A sending stream as an end opens it and keeps it: its types are of 7 bits, its datagrams are typed so,
+-- and its SSRC has 32 bits.
+pub record IsSender (s : Sending) : Type 0 where
+  pub typed : IsTyped s
+  pub payload_type : s.types.pt < 128
+  pub wire_type : s.wire_type < 128
+  pub ssrc : s.ssrc < 2 ^ 32
+
 -- Among these datagrams come all those of a sending stream's samples, once or more, and none behind
 -- one that is 128 or more above it; nobody else sends under its SSRC and types, and the receiving
 -- stream has the same types and map of header extensions and heard nothing before.
 pub record HasAllOf (e : EndState) (stream hold_back : ℕ) (sender : Sending) (samples : List Timed) (arrivals : List ℕ) (datagrams : List (List ℕ)) : Type 0 where
   pub fresh : receiver_at e stream ≡ opened_receiver sender.ssrc sender.types sender.map hold_back
   pub opened : IsFound e stream (opened_receiver sender.ssrc sender.types sender.map hold_back)
-  pub typed : IsTyped sender
-  pub payload_type : sender.types.pt < 128
-  pub wire_type : sender.wire_type < 128
-  pub ssrc : sender.ssrc < 2 ^ 32
+  pub sound : IsSender sender
   pub timestamps : All (λ s. s.time < 2 ^ 32) samples
   pub values : All (λ s. AreValues s.values) samples
   pub numbers : sender.next + length (payloads_sent sender samples) ≤ 2 ^ 62

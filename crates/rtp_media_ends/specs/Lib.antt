@@ -4,3 +4,4 @@ pub mod Connections
 pub mod Arrivals
 pub mod FullArrival
 pub mod OwnEvents
+pub mod Transparency

@@ -12,6 +12,7 @@ ghost use Rattle.rtp_wire.specs.declared.ExtensionValues.{ExtensionValues};
 ghost use Rattle.rtp_media_ends.specs.Arrivals.{Own, NoPayload, own_of, stream_for, verdict_for, after_arrival, arrival_by, verdict_of, after_datagram};
 ghost use Rattle.rtp_media_exchange.specs.Agreement.{agreed_row_of, section_of};
 ghost use Rattle.rtp_media_ends.specs.Ends.{agreed_red, fixed_end, refusal_by, refusal_of_open_sender, refusal_of_open_receiver, after_open_sender, after_open_receiver, stream_map, types_of, with_distances, sender_at, receiver_at, with_sender, with_receiver};
+ghost use Rattle.rtp_media_ends.specs.FullArrival.{IsSender};
 ghost use Rattle.rtp_media_ends.specs.Params.{IsSound};
 
 mod exchanges;
@@ -136,6 +137,7 @@ impl End {
         ensures number { IfOk result (λ n. n ≡ length self.old.senders) }
         ensures opens { OnOk result (refusal_of_open_sender self.old mid ssrc pt ≡ None) }
         ensures after { OnOk result (self.new ≡ after_open_sender self.old mid ssrc pt params) }
+        ensures sender { IfOk result (λ n. IsSender (sender_at self.new n)) }
         ensures refused { IfErr result (λ e. e ≢ OpenError.Memory → refusal_of_open_sender self.old mid ssrc pt ≡ Some e) }
         ensures err { OnErr result (self.new ≡ self.old) }
     {

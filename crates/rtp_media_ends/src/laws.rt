@@ -1,9 +1,13 @@
 //! What holds of every end.
 
-ghost use Rattle.std.specs.Prelude.{◌≡◌, ℕ, List};
+ghost use Rattle.std.specs.Prelude.{◌≡◌, ℕ, List, map};
 ghost use Rattle.rtp_media_runs.specs.Heard.{after_events};
 ghost use Rattle.rtp_media_ends.specs.Ends.{EndState, receiver_at};
-ghost use Rattle.rtp_media_ends.specs.FullArrival.{IsFound, after_datagrams};
+ghost use Rattle.rtp_media_ends.specs.FullArrival.{IsFound, after_datagrams, sent_datagram};
+ghost use Rattle.rtp_media_ends.specs.Transparency.{AreSent, AreTwins, Receives};
+ghost use Rattle.rtp_media_runs.specs.Opus.{Timed};
+ghost use Rattle.rtp_media_streams.specs.Receiving.{Receiving};
+ghost use Rattle.rtp_media_streams.specs.Sending.{Sending};
 ghost use Rattle.rtp_media_ends.specs.OwnEvents.{own_events};
 
 /// What datagrams do to a receiving stream is what its own ones do, those of its SSRC and payload types,
@@ -12,4 +16,12 @@ pub fn isolation_law()
     ensures { (end : EndState) (datagrams : List (List ℕ)) (stream : ℕ) → let receiver = receiver_at end stream in
         IsFound end stream receiver →
         (receiver_at (after_datagrams end datagrams) stream).stream ≡ after_events receiver.stream (own_events receiver datagrams) }
+{}
+
+/// Redundancy is transparent: whatever datagrams of a list of samples arrive, and in whatever order, a
+/// stream with redundancy and one without it bring a receiving stream the same.
+pub fn transparency_law()
+    ensures { (plain redundant : Sending) (receiver : Receiving) (samples : List Timed) (numbers : List ℕ) →
+        AreTwins plain redundant → Receives receiver plain → AreSent plain samples numbers →
+        own_events receiver (map (sent_datagram redundant samples) numbers) ≡ own_events receiver (map (sent_datagram plain samples) numbers) }
 {}
