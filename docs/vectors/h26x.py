@@ -176,12 +176,14 @@ def filled(header, size, seed):
 def h264():
     sets = [filled("67", 9, 1), filled("68", 3, 2)]
     slices = [filled("65", 20, 3), filled("65", 33, 4), filled("65", 7, 5)]
-    frame = [bytes.fromhex("09f0")] + sets + slices
-    shown("h264 by the profile, limit 19", frame[1:], by_profile(H264, frame, 19))
-    shown("h264 by the profile, limit 18", slices, by_profile(H264, frame, 18))
+    frame = sets + slices
+    units = [filled("09", 1, 0)] + frame + [filled("0c", 4, 0)]
+    for limit in (1200, 19):
+        shown(f"h264 by the profile, limit {limit}", frame, by_profile(H264, units, limit))
+    shown("h264 by the profile, limit 18", slices, by_profile(H264, units, 18))
     sent = [aggregated(H264, sets + slices[:1]), single(H264, slices[1]), single(H264, slices[2])]
-    shown("h264 sets and a slice in one aggregate", frame[1:], sent)
-    shown("h264 all in one aggregate", frame[1:], [aggregated(H264, frame[1:])])
+    shown("h264 sets and a slice in one aggregate", frame, sent)
+    shown("h264 all in one aggregate", frame, [aggregated(H264, frame)])
     low = [filled("06", 5, 6), filled("41", 30, 7), filled("01", 12, 8)]
     sent = [single(H264, low[0])] + fragments(H264, low[1], [1, 17, 12])
     sent += fragments(H264, low[2], [11, 1])
@@ -191,13 +193,14 @@ def h264():
 
 
 def of_two_bytes(name, codec, headers):
-    """H.265 and H.266: headers of a delimiter, the three sets, SEI, a slice of a keyframe, and two others of
-    higher layers or temporal ids."""
-    delimiter, vps, sps, pps, sei, key, high, layered = headers
+    """H.265 and H.266: headers of a delimiter, filler, the three sets, SEI, a slice of a keyframe, and two other
+    slices, of temporal id 2 and of layer 1."""
+    delimiter, filler, vps, sps, pps, sei, key, high, layered = headers
     sets = [filled(vps, 7, 1), filled(sps, 11, 2), filled(pps, 4, 3)]
     frame = sets + [filled(sei, 6, 4), filled(key, 45, 5), filled(key, 13, 6)]
-    units = [filled(delimiter, 1, 0)] + frame
-    shown(f"{name} by the profile, limit 36", frame, by_profile(codec, units, 36))
+    units = [filled(delimiter, 1, 0)] + frame + [filled(filler, 4, 0)]
+    for limit in (1200, 36):
+        shown(f"{name} by the profile, limit {limit}", frame, by_profile(codec, units, limit))
     shown(f"{name} by the profile, limit 35", frame[3:], by_profile(codec, units, 35))
     packets = by_profile(codec, units, 40, first_don=0)
     shown(f"{name} by the profile with DONL, limit 40", frame, packets)
@@ -213,11 +216,11 @@ def of_two_bytes(name, codec, headers):
 
 
 def h265():
-    of_two_bytes("h265", H265, ["4601", "4001", "4201", "4401", "4e01", "2601", "0203", "020b"])
+    of_two_bytes("h265", H265, ["4601", "4c01", "4001", "4201", "4401", "4e01", "2601", "0203", "020b"])
 
 
 def h266():
-    of_two_bytes("h266", H266, ["00a1", "0071", "0079", "0081", "00b9", "0039", "000b", "010a"])
+    of_two_bytes("h266", H266, ["00a1", "00c9", "0071", "0079", "0081", "00b9", "0039", "000b", "010a"])
 
 
 def outlined(packets):
@@ -234,8 +237,11 @@ def encoded(name, codec):
         for limit in (1200, 100):
             packets = by_profile(codec, units, limit)
             print(f"{name} {unit}, limit {limit}\n  outline {outlined(packets)}")
-        dons = by_profile(codec, units, 100, 0) if codec is not H264 else []
-        print(f"  packets {marked(packets)}\n  with DONL {outlined(dons) if dons else None}")
+            if codec is not H264:
+                print(f"  with DONL {outlined(by_profile(codec, units, limit, 0))}")
+    limit = 80
+    dons = None if codec is H264 else 0
+    print(f"{name} {unit}, limit {limit}\n  packets {marked(by_profile(codec, units, limit, dons))}")
 
 
 if __name__ == "__main__":

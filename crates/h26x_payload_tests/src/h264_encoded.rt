@@ -1,9 +1,9 @@
 //! Three access units of an encoder: x264 0.164.3095, `--input-res 64x64 --fps 25 --demuxer raw --input-csp i420 --aud
 //! --slices 4 --keyint 2 --min-keyint 2 --bframes 0 --qp 40 --threads 1`, of frames in 4:2:0 whose luma at (x, y) of
 //! frame n is 3x + 5y + 7n modulo 256 and whose chroma is 128. Its start codes, of three and of four bytes, stand
-//! between blanks. The packets' outlines are those of `docs/vectors/h26x.py`.
+//! between blanks. The packets, and their outlines, are those of `docs/vectors/h26x.py`.
 
-use crate::calls::{given, joined, outline, sent, written};
+use crate::calls::{given, joined, outline, sends, sent, written};
 use h26x_payload_h264::{H264Depacketizer, H264Packetizer};
 use payload_core_buffer::Payloader;
 use std::alloc::Global;
@@ -94,5 +94,28 @@ fn h264_third_unit(rt: HostRuntime) -> Result<(), Fail> {
     assert!(rt; goes_through(rt.alloc(), 1200, third_unit(), at_1200, true)?);
     let at_100 = " 78:34 65:58 65:99 65:100 65:60*";
     assert!(rt; goes_through(rt.alloc(), 100, third_unit(), at_100, true)?);
+    Ok(())
+}
+
+#[test]
+fn h264_third_unit_at_80(rt: HostRuntime) -> Result<(), Fail> {
+    let packets =
+        " 7800176764000aacb2084d080000030008000003019478913240000668ebc0e4b22c 6588820fff723e68740166b21078127534\
+         4939aa2234d2afaba22382cf1d3a8f551879673f79bd436f790ab8e6921d7008ca36549e1130bc09f9 7c85288820ff723e6880a\
+         fca2ba90af35f99eb445c92090e15207506728da826e10913e2e990024141895667a4f34c0c7bbcc59432adb04d3abcc41c2de5f\
+         ec1a11f63ba9cc8ac8d9600493d1f14f8ba 7c455fdac2750dbf5c6642475e8fba649b82ca414655 7c851222083fd7596c38b02\
+         0df7c94442392f7d8fbbd430023c0ba7696e50f00d8024163a5f4fa153f250acb52c6a022ec7cc3b85067c93d1aeb5a35b2c2071\
+         36978a8068949f186964b005c4a94e57d 7c4543476230c0043ddf15151015bbd73d11598b9895c9 651a22083f5fee1b84ca5a7\
+         55fb77c00000302bfff0cc8a1596b255e6b4c0cfe4ad94acc932233d8380c74ece471eb9c161a3d6240ea0ce51b504efd*";
+    let sample = joined(rt.alloc(), third_unit())?;
+    let mut payloader = Payloader::new(H264Packetizer::new());
+    let depacketizer = H264Depacketizer::new(rt.alloc());
+    assert!(rt; sends(rt.alloc(), &mut payloader, 80, sample.as_str(), packets)?);
+    let (bytes, is_keyframe) = given(rt.alloc(), depacketizer, packets)?;
+    assert_eq!(rt;
+        bytes.as_str(),
+        written(rt.alloc(), third_unit(), "09")?.as_str()
+    );
+    assert!(rt; is_keyframe);
     Ok(())
 }

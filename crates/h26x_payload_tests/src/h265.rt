@@ -173,29 +173,38 @@ fn headers_h265(rt: HostRuntime) {
 }
 
 // Whether a fresh depacketizer takes a packet.
-fn is_read(alloc: Global, packet: &[u8]) -> bool {
+fn is_read(alloc: Global, donl: bool, packet: &[u8]) -> bool {
     let mut out = Vec::new(alloc);
     let mut extra = CodecExtra::None;
-    H265Depacketizer::new(alloc)
+    let mut depacketizer = H265Depacketizer::new(alloc);
+    depacketizer.with_donl(donl);
+    depacketizer
         .depacketize(packet, &mut out, &mut extra)
         .is_ok()
 }
 
-#[test]
-fn every_short_packet_h265(rt: HostRuntime) {
+// How many packets of one byte, and of two, are taken.
+fn short_packets(alloc: Global, donl: bool) -> (u32, u32) {
     let mut ones: u32 = 0;
     let mut twos: u32 = 0;
     for a in 0..=255u8 {
-        if is_read(rt.alloc(), &[a]) {
+        if is_read(alloc, donl, &[a]) {
             ones = ones.saturating_add(1);
         }
         for b in 0..=255u8 {
-            if is_read(rt.alloc(), &[a, b]) {
+            if is_read(alloc, donl, &[a, b]) {
                 twos = twos.saturating_add(1);
             }
         }
     }
+    (ones, twos)
+}
+
+#[test]
+fn every_short_packet_h265(rt: HostRuntime) {
     // Aggregates without a unit: type 48 and F clear.
-    assert_eq!(rt; ones, 0);
-    assert_eq!(rt; twos, 2 * 256);
+    for donl in [false, true] {
+        assert!(rt; !is_read(rt.alloc(), donl, &[]));
+        assert_eq!(rt; short_packets(rt.alloc(), donl), (0, 2 * 256));
+    }
 }

@@ -1,10 +1,10 @@
 //! Three access units of an encoder: x265 3.5, `--input-res 64x64 --fps 25 --aud --repeat-headers --no-info --slices 4
 //! --keyint 2 --min-keyint 2 --bframes 0 --no-open-gop --qp 32 --frame-threads 1 --ctu 16 --max-tu-size 16 --min-cu-size
 //! 8`, of frames in 4:2:0 whose luma at (x, y) of frame n is 3x + 5y + 7n modulo 256 and whose chroma is 128. Its start
-//! codes, of three and of four bytes, stand between blanks. The packets' outlines are those of
+//! codes, of three and of four bytes, stand between blanks. The packets, and their outlines, are those of
 //! `docs/vectors/h26x.py`.
 
-use crate::calls::{given, joined, outline, sent, written};
+use crate::calls::{given, joined, outline, sends, sent, written};
 use h26x_payload_h265::{H265Depacketizer, H265Packetizer};
 use payload_core_buffer::Payloader;
 use std::alloc::Global;
@@ -112,5 +112,33 @@ fn h265_third_unit(rt: HostRuntime) -> Result<(), Fail> {
     assert!(rt; goes_through(rt.alloc(), 100, false, third_unit(), at_100, true)?);
     let numbered_at_100 = " 60:79 28:67 62:100 62:25 62:100 62:19 28:67*";
     assert!(rt; goes_through(rt.alloc(), 100, true, third_unit(), numbered_at_100, true)?);
+    Ok(())
+}
+
+#[test]
+fn h265_third_unit_at_80(rt: HostRuntime) -> Result<(), Fail> {
+    let packets =
+        " 60010000001840010c01ffff01600000030090000003000003001e92809000002542010101600000030090000003000003001ea\
+         0208105964aabcae01000003e8000061a80800000064401c171a212 28010003af36e8f9e42eed37ba8483437153b5e4469e2e42\
+         336d6af194edff3370098e64193bca13e773d31a03c7910e50119dad63641c81f87d6c1d394362b03d43bf 620194000428f360e\
+         8f9e42eed37ba82b6fa72fa5e51bd1de34ddb6c8fb15e4b70e4f58665b448da6b5113b69efb75c440177046694db74fb0d54fc45\
+         d5e77d878ad39fd006277adb0737942a08d5967 620154b7e3a929004ac52404893fe6c292fd56562fbb22bf11698461af503558\
+         dd344a85137d74bf486b0898e0 620194000530f360f4bfb5690fb1036671e034ac446ec18c5a79aff83e9aa7c5f884241c95844\
+         3fe264fb05b31b616d67ab54be34d33847116df8ff6ce6b873824364eff08082a8642b7f053d6e0032f 62015472e014e0d5bdec\
+         0e3b25fb455017fb1a19c8a295fd61d30a28a4b6efa24bdd1164882f5f 2801000638f360fb8c8d6074a02040037f9e8a4ae7c1a\
+         7b7686bc4d2bfd0f0a44361f15526b213bdef09668e2fd569cc7f41b161d97eb926f381a21a35cb17e311e1fe*";
+    let sample = joined(rt.alloc(), third_unit())?;
+    let mut packetizer = H265Packetizer::new();
+    packetizer.with_donl(true);
+    let mut depacketizer = H265Depacketizer::new(rt.alloc());
+    depacketizer.with_donl(true);
+    let mut payloader = Payloader::new(packetizer);
+    assert!(rt; sends(rt.alloc(), &mut payloader, 80, sample.as_str(), packets)?);
+    let (bytes, is_keyframe) = given(rt.alloc(), depacketizer, packets)?;
+    assert_eq!(rt;
+        bytes.as_str(),
+        written(rt.alloc(), third_unit(), "46")?.as_str()
+    );
+    assert!(rt; is_keyframe);
     Ok(())
 }

@@ -23,10 +23,11 @@ fn is_given(alloc: Global, packets: &str, units: &str, is_keyframe: bool) -> Res
     Ok(bytes.as_str() == units && told == is_keyframe)
 }
 
-// A delimiter, and what follows.
+// A delimiter, what follows, and filler.
 fn sample() -> &'static str {
-    "0000000109f0000000016711365b80a5ca274c71000000016812375c000000016513385d82a7cc294e7398bd1a3f6489aed330557a00\
-     0000016514395e83a8cd2a4f7499be1b40658aafd431567ba0c522476c91b613385d82a7cc0000000165153a5f84a9ce2b"
+    "000000010910000000016711365b80a5ca274c71000000016812375c000000016513385d82a7cc294e7398bd1a3f6489aed330557a00\
+     0000016514395e83a8cd2a4f7499be1b40658aafd431567ba0c522476c91b613385d82a7cc0000000165153a5f84a9ce2b000000010c\
+     10355a7f"
 }
 
 // SPS, PPS and three slices of a keyframe.
@@ -51,6 +52,16 @@ fn others() -> &'static str {
 fn reordered() -> &'static str {
     "0000000106163b6085aa0000000101183d6287acd12e53789dc21f0000000141173c6186abd02d52779cc11e43688db2d734597ea3c8\
      254a6f94b9163b60"
+}
+
+#[test]
+fn h264_packed_at_1200(rt: HostRuntime) -> Result<(), Fail> {
+    let packets =
+        " 78000a6711365b80a5ca274c7100046812375c 6513385d82a7cc294e7398bd1a3f6489aed330557a 6514395e83a8cd2a4f749\
+         9be1b40658aafd431567ba0c522476c91b613385d82a7cc 65153a5f84a9ce2b*";
+    assert!(rt; is_sent(rt.alloc(), 1200, sample(), packets)?);
+    assert!(rt; is_given(rt.alloc(), packets, frame(), true)?);
+    Ok(())
 }
 
 #[test]

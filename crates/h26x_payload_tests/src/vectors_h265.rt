@@ -33,11 +33,11 @@ fn is_given(
     Ok(bytes.as_str() == units && told == is_keyframe)
 }
 
-// A delimiter, and what follows.
+// A delimiter, what follows, and filler.
 fn sample() -> &'static str {
     "0000000146011000000001400111365b80a5ca2700000001420112375c81a6cb284d7297bc00000001440113385d82000000014e0114\
      395e83a8cd000000012601153a5f84a9ce2b50759abf1c41668bb0d532577ca1c623486d92b714395e83a8cd2a4f7499be1b40658aaf\
-     d431000000012601163b6085aacf2c51769bc01d42"
+     d431000000012601163b6085aacf2c51769bc01d42000000014c0110355a7f"
 }
 
 // VPS, SPS, PPS, SEI and two slices of a keyframe.
@@ -56,6 +56,17 @@ fn slices() -> &'static str {
 // Slices of temporal id 2, of layer 1, and of temporal id 2.
 fn others() -> &'static str {
     "000000010203173c6186abd02d52779c00000001020b183d6287acd12e53789dc21f44698eb31035000000010203193e6388ad"
+}
+
+#[test]
+fn h265_packed_at_1200(rt: HostRuntime) -> Result<(), Fail> {
+    let packets =
+        " 60010009400111365b80a5ca27000d420112375c81a6cb284d7297bc0006440113385d82 4e0114395e83a8cd 2601153a5f84a\
+         9ce2b50759abf1c41668bb0d532577ca1c623486d92b714395e83a8cd2a4f7499be1b40658aafd431 2601163b6085aacf2c5176\
+         9bc01d42*";
+    assert!(rt; is_sent(rt.alloc(), 1200, false, sample(), packets)?);
+    assert!(rt; is_given(rt.alloc(), false, packets, frame(), true)?);
+    Ok(())
 }
 
 #[test]

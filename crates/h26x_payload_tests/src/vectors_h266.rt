@@ -1,4 +1,5 @@
 //! Units and their packets as `docs/vectors/h26x.py` packs them from the layouts of RFC 9328 4.3.
+//! The units are made up: Debian 12 has no encoder of H.266.
 
 use crate::calls::{given, sends};
 use h26x_payload_h266::{H266Depacketizer, H266Packetizer};
@@ -33,11 +34,11 @@ fn is_given(
     Ok(bytes.as_str() == units && told == is_keyframe)
 }
 
-// A delimiter, and what follows.
+// A delimiter, what follows, and filler.
 fn sample() -> &'static str {
     "0000000100a11000000001007111365b80a5ca2700000001007912375c81a6cb284d7297bc00000001008113385d820000000100b914\
      395e83a8cd000000010039153a5f84a9ce2b50759abf1c41668bb0d532577ca1c623486d92b714395e83a8cd2a4f7499be1b40658aaf\
-     d431000000010039163b6085aacf2c51769bc01d42"
+     d431000000010039163b6085aacf2c51769bc01d420000000100c910355a7f"
 }
 
 // VPS, SPS, PPS, SEI and two slices of a keyframe.
@@ -56,6 +57,17 @@ fn slices() -> &'static str {
 // Slices of temporal id 2, of layer 1, and of temporal id 2.
 fn others() -> &'static str {
     "00000001000b173c6186abd02d52779c00000001010a183d6287acd12e53789dc21f44698eb3103500000001000b193e6388ad"
+}
+
+#[test]
+fn h266_packed_at_1200(rt: HostRuntime) -> Result<(), Fail> {
+    let packets =
+        " 00e10009007111365b80a5ca27000d007912375c81a6cb284d7297bc0006008113385d82 00b914395e83a8cd 0039153a5f84a\
+         9ce2b50759abf1c41668bb0d532577ca1c623486d92b714395e83a8cd2a4f7499be1b40658aafd431 0039163b6085aacf2c5176\
+         9bc01d42*";
+    assert!(rt; is_sent(rt.alloc(), 1200, false, sample(), packets)?);
+    assert!(rt; is_given(rt.alloc(), false, packets, frame(), true)?);
+    Ok(())
 }
 
 #[test]
