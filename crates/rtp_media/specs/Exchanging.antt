@@ -10,9 +10,7 @@ use Rattle.sdp_formats_rows.specs.declared.format.FormatParams.{FormatParams}
 use Rattle.sdp_formats_rows.specs.Formats.{format_of, no_format}
 use Rattle.sdp_formats_rows.specs.Rows.{Row, new_row}
 use Rattle.rtp_media_exchange.specs.declared.errors.EndError.{EndError}
-use Rattle.rtp_media_exchange.specs.declared.errors.EndError.TheVariants as end_error
 use Rattle.rtp_media_exchange.specs.declared.errors.ExchangeError.{ExchangeError}
-use Rattle.rtp_media_exchange.specs.declared.errors.ExchangeError.TheVariants as exchange_error
 use Rattle.rtp_media_exchange.specs.Exchanges.{with_offer}
 use Rattle.rtp_media_exchange.specs.Offers.{Offers, Answers, Accepts}
 use Rattle.rtp_media_exchange.specs.Refusals.{Names, refusal_of_new, refusal_of_offer, refusal_of_answer, refusal_of_accept}
@@ -25,34 +23,17 @@ use Rattle.rtp_media_lines.specs.declared.exchange.EndCommand.{EndCommand}
 use Rattle.rtp_media_lines.specs.declared.sections.SectionWord.{SectionWord}
 use Rattle.rtp_media_lines.specs.declared.reply.Reply.{Reply}
 use Rattle.rtp_media_lines.specs.declared.reply.Reply.TheVariants as reply
-use Rattle.rtp_media_lines.specs.declared.reply.ErrorName.{ErrorName}
-use Rattle.rtp_media_lines.specs.declared.reply.ErrorName.TheVariants as name
+use Rattle.rtp_media.specs.Names.{end_error_name, exchange_error_name}
 
--- What the program keeps of one side: its end, where there is one, and the draft of the next one.
-pub record Desk : Type 0 where
+-- What a letter stands for: its end, where there is one, and the draft of the next one.
+pub record EndAndDraft : Type 0 where
   pub end : Option EndState
   pub rows : List Row
   pub exts : Numbering
 
--- a side without an end and with an empty draft
-abbrev pub clear_desk : Option EndState → Desk
-clear_desk end = record { end = end; rows = []; exts = empty_map }
-
-abbrev pub end_error_name : EndError → ErrorName
-end_error_name (end_error.RowNotPlain index) = name.RowNotPlain
-end_error_name (end_error.TypesNotDistinct pt) = name.TypesNotDistinct
-end_error_name end_error.NotWritable = name.NotWritable
-end_error_name end_error.Memory = name.Memory
-
-abbrev pub exchange_error_name : ExchangeError → ErrorName
-exchange_error_name (exchange_error.Unreadable error) = name.Unreadable
-exchange_error_name exchange_error.OutOfTurn = name.OutOfTurn
-exchange_error_name (exchange_error.NotMedia mid) = name.NotMedia
-exchange_error_name exchange_error.NotCorresponding = name.NotCorresponding
-exchange_error_name (exchange_error.Round error) = name.Round
-exchange_error_name (exchange_error.NoCommonRow mid) = name.NoCommonRow
-exchange_error_name exchange_error.NotWritable = name.NotWritable
-exchange_error_name exchange_error.Memory = name.Memory
+-- this end or none, and an empty draft
+abbrev pub empty_draft : Option EndState → EndAndDraft
+empty_draft end = record { end = end; rows = []; exts = empty_map }
 
 -- one claim where a test holds, another one where it doesn't
 abbrev pub Where : Bool → Type 0 → Type 0 → Type 0
@@ -73,25 +54,25 @@ abbrev pub drafted_row : RowCommand → Row
 drafted_row c = record (new_row c.pt c.resend (record { codec = codec_named c.codec; clock_rate = c.clock_rate; channels = c.channels; format = format_for c.format })) { red = c.red }
 
 -- row E PT RTX RED CODEC CLOCK CHANNELS FMTP: a clock rate is at least 1
-abbrev pub AnswersRow : Desk → RowCommand → Desk → List Reply → Type 0
+abbrev pub AnswersRow : EndAndDraft → RowCommand → EndAndDraft → List Reply → Type 0
 AnswersRow old c new replies =
     Where (c.clock_rate == 0) ((new ≡ old) × Prints replies reply.ErrorLine)
     ((new ≡ record old { rows = old.rows ++ drafted_row c ∷ [] }) × Prints replies reply.Done)
 
 -- ext E ID URI: a number is 1 to 16
-abbrev pub AnswersExt : Desk → ExtCommand → Desk → List Reply → Type 0
+abbrev pub AnswersExt : EndAndDraft → ExtCommand → EndAndDraft → List Reply → Type 0
 AnswersExt old c new replies =
     Where (nat_le 1 c.id && nat_le c.id 16)
     ((new ≡ record old { exts = slice_set old.exts (c.id - 1) (Some (extension_of c.uri)) }) × Prints replies reply.Done)
     ((new ≡ old) × Prints replies reply.ErrorLine)
 
 -- end E ID: the draft is emptied, refused or not
-abbrev pub AnswersEnd : Desk → EndCommand → Option EndError → Desk → List Reply → Type 0
-AnswersEnd old c None new replies = (new ≡ clear_desk (Some (new_end c.session old.exts (only old.rows)))) × Prints replies reply.Done
-AnswersEnd old c (Some error) new replies = (new ≡ clear_desk old.end) × Prints replies (reply.Refused (end_error_name error))
+abbrev pub AnswersEnd : EndAndDraft → EndCommand → Option EndError → EndAndDraft → List Reply → Type 0
+AnswersEnd old c None new replies = (new ≡ empty_draft (Some (new_end c.session old.exts (only old.rows)))) × Prints replies reply.Done
+AnswersEnd old c (Some error) new replies = (new ≡ empty_draft old.end) × Prints replies (reply.Refused (end_error_name error))
 
-abbrev pub refusal_of_draft : Desk → Option EndError
-refusal_of_draft desk = refusal_of_new desk.rows true desk.exts
+abbrev pub refusal_of_draft : EndAndDraft → Option EndError
+refusal_of_draft kept = refusal_of_new kept.rows true kept.exts
 
 -- the section that a word names
 abbrev pub wanted_of : SectionWord → Wanted
@@ -100,9 +81,10 @@ wanted_of s = record { mid = name_of 16 s.mid; kind = s.kind; dir = s.direction;
 abbrev pub wanted_in : List SectionWord → List Wanted
 wanted_in sections = map wanted_of sections
 
--- an offer's text is printed
+-- an offer's text is printed, where nothing refuses it
 pub record PrintsOffer (e : EndState) (sections : List Wanted) (after : EndState) (replies : List Reply) : Type 0 where
   pub text : List ℕ
+  pub may_offer : refusal_of_offer e.exchange sections ≡ None
   pub offers : Offers e.exchange sections text
   pub is_pending : after ≡ offering e sections
   pub printed : Prints replies (reply.Text text)
@@ -119,9 +101,11 @@ abbrev pub AnswersOffer : EndState → List Wanted → EndState → List Reply �
 AnswersOffer e sections after replies =
     PrintsOffer e sections after replies ⊎ PrintsRefusal e after (λ error. Names error (refusal_of_offer e.exchange sections)) replies
 
--- an answer's text is printed
-pub record PrintsAnswer (e : EndState) (text : List ℕ) (sections : List Wanted) (after : EndState) (replies : List Reply) : Type 0 where
+-- an answer's text is printed, where nothing refuses it
+pub record PrintsAnswer (e : EndState) (text : List ℕ) (sections : List Wanted) (after : EndState)
+    (replies : List Reply) : Type 0 where
   pub answer : List ℕ
+  pub may_answer : refusal_of_answer e.exchange text sections ≡ None
   pub answers : Answers e.exchange text sections answer after.exchange
   pub streams : after ≡ with_exchange e after.exchange
   pub printed : Prints replies (reply.Text answer)
@@ -131,8 +115,9 @@ abbrev pub AnswersAnswer : EndState → List ℕ → List Wanted → EndState �
 AnswersAnswer e text sections after replies =
     PrintsAnswer e text sections after replies ⊎ PrintsRefusal e after (λ error. Names error (refusal_of_answer e.exchange text sections)) replies
 
--- an answer is accepted
+-- an answer is accepted, where nothing refuses it
 pub record PrintsAccept (e : EndState) (text : List ℕ) (after : EndState) (replies : List Reply) : Type 0 where
+  pub may_accept : refusal_of_accept e.exchange text ≡ None
   pub accepts : Accepts e.exchange text after.exchange
   pub streams : after ≡ with_exchange e after.exchange
   pub printed : Prints replies reply.Done

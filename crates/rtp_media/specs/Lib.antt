@@ -1,3 +1,4 @@
 pub mod Program
+pub mod Names
 pub mod Exchanging
-pub mod Sides
+pub mod ProgramState

@@ -1,5 +1,5 @@
 -- What the program answers to each command, from the definitions of its calls.
-use Rattle.std.specs.Prelude.{ℕ, ◌≡◌, ◌⊎◌, Bool, nat_lt, if◌then◌else◌, List, [], ◌∷◌, ◌++◌, length, map, Option, Some, None}
+use Rattle.std.specs.Prelude.{ℕ, ◌≡◌, ◌≢◌, ◌⊎◌, Bool, IsTrue, nat_lt, if◌then◌else◌, List, [], ◌∷◌, ◌++◌, length, map, Option, Some, None}
 use Rattle.std.specs.Option.{option_map}
 use Rattle.rtp_wire.specs.Name.{name_of}
 use Rattle.rtp_wire.specs.Time.{Time}
@@ -9,11 +9,7 @@ use Rattle.rtp_media_runs.specs.Heard.{MediaUnit, poll_answer}
 use Rattle.rtp_media_streams.specs.Sending.{sent_datagrams, after_sample, failed_stream, refusal_of_sample}
 use Rattle.rtp_media_streams.specs.Receiving.{polled_receiver}
 use Rattle.rtp_media_streams.specs.declared.errors.SampleError.{SampleError}
-use Rattle.rtp_media_streams.specs.declared.errors.SampleError.TheVariants as sample_error
 use Rattle.rtp_media_ends.specs.declared.errors.OpenError.{OpenError}
-use Rattle.rtp_media_ends.specs.declared.errors.OpenError.TheVariants as open_error
-use Rattle.rtp_media_streams.specs.declared.errors.PollFault.{PollFault}
-use Rattle.rtp_media_streams.specs.declared.errors.PollFault.TheVariants as poll_fault
 use Rattle.rtp_media_ends.specs.declared.params.StreamParams.{StreamParams}
 use Rattle.rtp_media_ends.specs.declared.received.Received.{Received}
 use Rattle.rtp_media_ends.specs.declared.received.Received.TheVariants as received
@@ -29,8 +25,7 @@ use Rattle.rtp_media_lines.specs.declared.line.ReceiveCommand.{ReceiveCommand}
 use Rattle.rtp_media_lines.specs.declared.line.PollCommand.{PollCommand}
 use Rattle.rtp_media_lines.specs.declared.reply.Reply.{Reply}
 use Rattle.rtp_media_lines.specs.declared.reply.Reply.TheVariants as reply
-use Rattle.rtp_media_lines.specs.declared.reply.ErrorName.{ErrorName}
-use Rattle.rtp_media_lines.specs.declared.reply.ErrorName.TheVariants as name
+use Rattle.rtp_media.specs.Names.{open_error_name, sample_error_name, memory}
 
 -- An end, where there is one, and what is printed.
 pub record EndStep : Type 0 where
@@ -44,25 +39,6 @@ prints end reply = record { end = end; replies = reply ∷ [] }
 -- one line is printed, and the end is this one
 abbrev pub becomes : EndState → Reply → EndStep
 becomes e reply = record { end = Some e; replies = reply ∷ [] }
-
-abbrev pub open_error_name : OpenError → ErrorName
-open_error_name open_error.NoSection = name.NoSection
-open_error_name open_error.RowNotAgreed = name.RowNotAgreed
-open_error_name open_error.RowDiffers = name.RowDiffers
-open_error_name open_error.WrongDirection = name.WrongDirection
-open_error_name open_error.SsrcNotNamed = name.SsrcNotNamed
-open_error_name open_error.AlreadyOpen = name.AlreadyOpen
-open_error_name open_error.Memory = name.Memory
-
-abbrev pub sample_error_name : SampleError → ErrorName
-sample_error_name sample_error.StreamFailed = name.StreamFailed
-sample_error_name sample_error.TimeTooLarge = name.TimeTooLarge
-sample_error_name sample_error.LimitTooSmall = name.LimitTooSmall
-sample_error_name sample_error.Memory = name.Memory
-
-abbrev pub fault_name : PollFault → ErrorName
-fault_name (poll_fault.Payload error) = name.Payload
-fault_name poll_fault.Memory = name.Memory
 
 -- the stream parameters that a command gives
 abbrev pub params_of : SendCommand → StreamParams
@@ -140,7 +116,7 @@ poll_step (Some e) c =
 -- What a command of streams does to the end that it names, and what is printed. The commands that make
 -- ends and exchange texts have definitions of their own.
 abbrev pub step_of : Option EndState → Command → EndStep
-step_of end (Fixed side) = becomes fixed_end reply.Done
+step_of end (Fixed letter) = becomes fixed_end reply.Done
 step_of end (Send c) = send_step end c
 step_of end (Open c) = open_step end c
 step_of end (Sample c) = sample_step end c
@@ -152,20 +128,34 @@ step_of end command = prints end reply.ErrorLine
 abbrev pub with_failed : Option EndState → ℕ → Option EndState
 with_failed end stream = option_map (λ e. with_sender e stream (failed_stream (sender_at e stream))) end
 
--- The same where the call is refused for want of memory.
-abbrev pub wanting_of : Option EndState → Command → EndStep
-wanting_of end (Fixed side) = prints end (reply.Refused name.Memory)
-wanting_of end (Send c) = prints end (reply.Refused name.Memory)
-wanting_of end (Open c) = prints end (reply.Refused name.Memory)
-wanting_of end (Sample c) = prints (with_failed end c.stream) (reply.Refused name.Memory)
-wanting_of end (Receive c) = prints end (reply.Refused name.Memory)
-wanting_of end (Poll c) = prints end (reply.Fault name.Memory)
-wanting_of end command = prints end (reply.Refused name.Memory)
+-- The same where the call runs out of memory.
+abbrev pub out_of_memory_step : Option EndState → Command → EndStep
+out_of_memory_step end (Sample c) = prints (with_failed end c.stream) (reply.Refused memory)
+out_of_memory_step end (Poll c) = prints end (reply.Fault memory)
+out_of_memory_step end command = prints end (reply.Refused memory)
+
+-- Whether a command makes a call that may want memory: its end is there, its conditions hold, and a poll
+-- has a unit to hand out.
+abbrev pub MayWantMemoryAt : EndState → Command → Type 0
+MayWantMemoryAt e (Send c) = IsTrue (is_sound_send e c)
+MayWantMemoryAt e (Open c) = Unit {0}
+MayWantMemoryAt e (Sample c) = IsTrue (nat_lt c.stream (length e.senders))
+MayWantMemoryAt e (Receive c) = Unit {0}
+MayWantMemoryAt e (Poll c) =
+    IsTrue (nat_lt c.stream (length e.receivers)) × (poll_answer (receiver_at e c.stream).stream ≢ None)
+MayWantMemoryAt e command = ⊥
+
+abbrev pub MayWantMemory : Option EndState → Command → Type 0
+MayWantMemory end (Fixed letter) = Unit {0}
+MayWantMemory None command = ⊥
+MayWantMemory (Some e) command = MayWantMemoryAt e command
 
 -- the end is this, and so are the replies
 abbrev pub IsStep : EndStep → Option EndState → List Reply → Type 0
 IsStep step end replies = (end ≡ step.end) × (replies ≡ step.replies)
 
--- A command is answered as stated, or its call is refused for want of memory.
+-- A command is answered as stated, or its call runs out of memory.
 abbrev pub IsAnswered : Option EndState → Command → Option EndState → List Reply → Type 0
-IsAnswered old command new replies = IsStep (step_of old command) new replies ⊎ IsStep (wanting_of old command) new replies
+IsAnswered old command new replies =
+    IsStep (step_of old command) new replies
+    ⊎ (MayWantMemory old command × IsStep (out_of_memory_step old command) new replies)

@@ -4,53 +4,52 @@ ghost use Rattle.std.specs.Prelude.{◌≡◌, ◌≢◌, ℕ, ◌<◌, ◌++◌
 ghost use Rattle.std.specs.Io.KnownBytes.{Appends, Consumes, IsAtEnd};
 ghost use Rattle.rtp_media_lines.specs.Runs.{Printed, ReadsAll};
 ghost use Rattle.rtp_media_lines.specs.declared.line.Command.{Command};
-ghost use Rattle.rtp_media.specs.Exchanging.{clear_desk};
-ghost use Rattle.rtp_media.specs.Program.{IsAnswered, open_error_name, sample_error_name, fault_name, verdict_reply, unit_reply, values_given};
-ghost use Rattle.rtp_media.specs.Sides.{Gives, AnswersAt, ConnectsEnds, KeepsDraft, side_of, no_ends};
+ghost use Rattle.rtp_media.specs.Exchanging.{empty_draft};
+ghost use Rattle.rtp_media.specs.Program.{IsAnswered, verdict_reply, unit_reply, values_given};
+ghost use Rattle.rtp_media.specs.ProgramState.{AnswersCommand, AnswersAt, ConnectsEnds, KeepsDraft, letter_of, initial_state};
 
 mod exchanging;
+mod names;
 
 use exchanging::{
     accept, answer_offer, connect_ends, draft_ext, draft_row, make_end, offer, withdraw,
 };
-use rtp_media_ends::{
-    Datagram, Distances, End, OpenError, PayloadParams, PollFault, Received, SampleError,
-    StreamParams, Unit,
-};
+use names::{fault_name, memory, open_error_name, sample_error_name};
+use rtp_media_ends::{Datagram, Distances, End, PayloadParams, Received, StreamParams, Unit};
 use rtp_media_lines::{
-    Bytes, Command, ConnectCommand, ErrorName, OpenCommand, PollCommand, ReceiveCommand, Reply,
-    Respond, RunFault, SampleCommand, SendCommand, Side, Status, Text, run_lines,
+    Bytes, Command, ConnectCommand, OpenCommand, PollCommand, ReceiveCommand, Reply,
+    Respond, RunFault, SampleCommand, SendCommand, Letter, Status, Text, run_lines,
 };
 use rtp_wire::{ExtensionMap, ExtensionValues, MediaTime, Mid, Pt, Ssrc};
 use std::alloc::{AllocError, Global};
 use std::io::{Read, Write};
 use std::marker::Model;
 
-/// One side: its end, and the draft of the next one.
+/// What a letter stands for: its end, and the draft of the next one.
 #[derive(Drop)]
-struct Desk {
+struct EndAndDraft {
     end: Option<End>,
     rows: Vec<PayloadParams>,
     exts: ExtensionMap,
 }
 
-impl Model for Desk {
-    ghost use Rattle.rtp_media.specs.Exchanging.{Desk as Side};
+impl Model for EndAndDraft {
+    ghost use Rattle.rtp_media.specs.Exchanging.{EndAndDraft as Kept};
     ghost use Rattle.rtp_wire.specs.Replay.{window_code};
     ghost use Rattle.std.specs.Coded.{codes};
 
-    ghost Value = { Side };
+    ghost Value = { Kept };
 
     ghost coded = { Prim.hlevel (codes, window_code) };
 
     ghost view = { λ d. record { end = d.end; rows = d.rows.items; exts = d.exts } };
 }
 
-impl Desk {
-    fn clear(alloc: Global) -> Desk
-        ensures { result ≡ clear_desk None }
+impl EndAndDraft {
+    fn clear(alloc: Global) -> EndAndDraft
+        ensures { result ≡ empty_draft None }
     {
-        Desk {
+        EndAndDraft {
             end: None,
             rows: Vec::new(alloc),
             exts: ExtensionMap::empty(),
@@ -58,19 +57,19 @@ impl Desk {
     }
 }
 
-/// The two sides that the lines speak of.
+/// What the two letters stand for.
 #[derive(Drop)]
 struct Program {
-    a: Desk,
-    b: Desk,
+    a: EndAndDraft,
+    b: EndAndDraft,
 }
 
 impl Model for Program {
-    ghost use Rattle.rtp_media.specs.Sides.{Ends};
+    ghost use Rattle.rtp_media.specs.ProgramState.{ProgramState};
     ghost use Rattle.rtp_wire.specs.Replay.{window_code};
     ghost use Rattle.std.specs.Coded.{codes};
 
-    ghost Value = { Ends };
+    ghost Value = { ProgramState };
 
     ghost coded = { Prim.hlevel (codes, window_code) };
 
@@ -78,27 +77,27 @@ impl Model for Program {
 }
 
 impl Respond for Program {
-    ghost use Rattle.rtp_media.specs.Sides.{Gives};
+    ghost use Rattle.rtp_media.specs.ProgramState.{AnswersCommand};
 
-    ghost gives = { Gives };
+    ghost gives = { AnswersCommand };
 
-    #[tactic(auto, unfolding(crate::specs::Sides::Gives))]
+    #[tactic(auto, unfolding(crate::specs::ProgramState::AnswersCommand))]
     fn respond(&mut self, alloc: Global, command: Command) -> Result<Vec<Reply>, AllocError> {
         match command {
-            Command::Connect(command) => connect_desks(alloc, &mut self.a, &mut self.b, command),
-            command => match command_side(&command) {
-                Side::A => answer(alloc, &mut self.a, command),
-                Side::B => answer(alloc, &mut self.b, command),
+            Command::Connect(command) => connect_both(alloc, &mut self.a, &mut self.b, command),
+            command => match command_letter(&command) {
+                Letter::A => answer(alloc, &mut self.a, command),
+                Letter::B => answer(alloc, &mut self.b, command),
             },
         }
     }
 }
 
-/// Connects the ends of both sides.
-fn connect_desks(
+/// Connects the ends of both letters.
+fn connect_both(
     alloc: Global,
-    a: &mut Desk,
-    b: &mut Desk,
+    a: &mut EndAndDraft,
+    b: &mut EndAndDraft,
     command: ConnectCommand,
 ) -> Result<Vec<Reply>, AllocError>
     ensures ends { IfOk result (λ replies. ConnectsEnds a.old.end b.old.end command a.new.end b.new.end replies.items) }
@@ -108,46 +107,46 @@ fn connect_desks(
     connect_ends(alloc, &mut a.end, &mut b.end, command)
 }
 
-/// The side that a command names.
-fn command_side(command: &Command) -> Side
-    ensures { result ≡ side_of command.now }
+/// The letter that a command names.
+fn command_letter(command: &Command) -> Letter
+    ensures { result ≡ letter_of command.now }
 {
     match command {
-        Command::Fixed(side) => *side,
-        Command::Send(command) => command.side,
-        Command::Open(command) => command.side,
-        Command::Sample(command) => command.side,
-        Command::Receive(command) => command.side,
-        Command::Poll(command) => command.side,
-        Command::Row(command) => command.side,
-        Command::Ext(command) => command.side,
-        Command::End(command) => command.side,
-        Command::Offer(command) => command.side,
-        Command::Answer(command) => command.side,
-        Command::Accept(command) => command.side,
-        Command::Withdraw(side) => *side,
-        Command::Connect(_) => Side::A,
+        Command::Fixed(letter) => *letter,
+        Command::Send(command) => command.letter,
+        Command::Open(command) => command.letter,
+        Command::Sample(command) => command.letter,
+        Command::Receive(command) => command.letter,
+        Command::Poll(command) => command.letter,
+        Command::Row(command) => command.letter,
+        Command::Ext(command) => command.letter,
+        Command::End(command) => command.letter,
+        Command::Offer(command) => command.letter,
+        Command::Answer(command) => command.letter,
+        Command::Accept(command) => command.letter,
+        Command::Withdraw(letter) => *letter,
+        Command::Connect(_) => Letter::A,
     }
 }
 
-/// Answers a command at its side; `connect` is none of one side.
-fn answer(alloc: Global, desk: &mut Desk, command: Command) -> Result<Vec<Reply>, AllocError>
-    ensures { IfOk result (λ replies. AnswersAt desk.old command desk.new replies.items) }
+/// Answers a command at what its letter stands for; `connect` has two letters and isn't for here.
+fn answer(alloc: Global, kept: &mut EndAndDraft, command: Command) -> Result<Vec<Reply>, AllocError>
+    ensures { IfOk result (λ replies. AnswersAt kept.old command kept.new replies.items) }
 {
     match command {
-        Command::Fixed(side) => fix(alloc, &mut desk.end, side),
-        Command::Send(command) => send(alloc, &mut desk.end, command),
-        Command::Open(command) => open(alloc, &mut desk.end, command),
-        Command::Sample(command) => sample(alloc, &mut desk.end, command),
-        Command::Receive(command) => receive(alloc, &mut desk.end, command),
-        Command::Poll(command) => poll(alloc, &mut desk.end, command),
-        Command::Row(command) => draft_row(alloc, desk, command),
-        Command::Ext(command) => draft_ext(alloc, desk, command),
-        Command::End(command) => make_end(alloc, desk, command),
-        Command::Offer(command) => offer(alloc, &mut desk.end, command),
-        Command::Answer(command) => answer_offer(alloc, &mut desk.end, command),
-        Command::Accept(command) => accept(alloc, &mut desk.end, command),
-        Command::Withdraw(side) => withdraw(alloc, &mut desk.end, side),
+        Command::Fixed(letter) => fix(alloc, &mut kept.end, letter),
+        Command::Send(command) => send(alloc, &mut kept.end, command),
+        Command::Open(command) => open(alloc, &mut kept.end, command),
+        Command::Sample(command) => sample(alloc, &mut kept.end, command),
+        Command::Receive(command) => receive(alloc, &mut kept.end, command),
+        Command::Poll(command) => poll(alloc, &mut kept.end, command),
+        Command::Row(command) => draft_row(alloc, kept, command),
+        Command::Ext(command) => draft_ext(alloc, kept, command),
+        Command::End(command) => make_end(alloc, kept, command),
+        Command::Offer(command) => offer(alloc, &mut kept.end, command),
+        Command::Answer(command) => answer_offer(alloc, &mut kept.end, command),
+        Command::Accept(command) => accept(alloc, &mut kept.end, command),
+        Command::Withdraw(letter) => withdraw(alloc, &mut kept.end, letter),
         Command::Connect(_) => one(alloc, Reply::ErrorLine),
     }
 }
@@ -161,15 +160,15 @@ pub(crate) fn one(alloc: Global, reply: Reply) -> Result<Vec<Reply>, AllocError>
     Ok(replies)
 }
 
-fn fix(alloc: Global, end: &mut Option<End>, _side: Side) -> Result<Vec<Reply>, AllocError>
-    ensures { IfOk result (λ replies. IsAnswered end.old (Command.Fixed _side) end.new replies.items) }
+fn fix(alloc: Global, end: &mut Option<End>, _letter: Letter) -> Result<Vec<Reply>, AllocError>
+    ensures { IfOk result (λ replies. IsAnswered end.old (Command.Fixed _letter) end.new replies.items) }
 {
     match End::fixed(alloc) {
         Ok(fixed) => {
             *end = Some(fixed);
             one(alloc, Reply::Done)
         }
-        Err(_) => one(alloc, Reply::Refused(ErrorName::Memory)),
+        Err(_) => one(alloc, Reply::Refused(memory())),
     }
 }
 
@@ -280,7 +279,7 @@ fn receive(
     };
     match end.receive(command.datagram.as_slice()) {
         Ok(received) => one(alloc, verdict_reply(received)),
-        Err(_) => one(alloc, Reply::Refused(ErrorName::Memory)),
+        Err(_) => one(alloc, Reply::Refused(memory())),
     }
 }
 
@@ -332,40 +331,6 @@ fn unit_reply(unit: Option<Unit>) -> Reply
     }
 }
 
-fn open_error_name(error: OpenError) -> ErrorName
-    ensures { result ≡ open_error_name error }
-{
-    match error {
-        OpenError::NoSection => ErrorName::NoSection,
-        OpenError::RowNotAgreed => ErrorName::RowNotAgreed,
-        OpenError::RowDiffers => ErrorName::RowDiffers,
-        OpenError::WrongDirection => ErrorName::WrongDirection,
-        OpenError::SsrcNotNamed => ErrorName::SsrcNotNamed,
-        OpenError::AlreadyOpen => ErrorName::AlreadyOpen,
-        OpenError::Memory => ErrorName::Memory,
-    }
-}
-
-fn sample_error_name(error: SampleError) -> ErrorName
-    ensures { result ≡ sample_error_name error }
-{
-    match error {
-        SampleError::StreamFailed => ErrorName::StreamFailed,
-        SampleError::TimeTooLarge => ErrorName::TimeTooLarge,
-        SampleError::LimitTooSmall => ErrorName::LimitTooSmall,
-        SampleError::Memory => ErrorName::Memory,
-    }
-}
-
-fn fault_name(fault: PollFault) -> ErrorName
-    ensures { result ≡ fault_name fault }
-{
-    match fault {
-        PollFault::Payload(_) => ErrorName::Payload,
-        PollFault::Memory => ErrorName::Memory,
-    }
-}
-
 /// Reads lines to the end of the input, answers each over two ends, and writes the replies.
 ///
 /// # Errors
@@ -376,13 +341,13 @@ pub fn run<R: Read, W: Write>(
     reader: &mut R,
     writer: &mut W,
 ) -> Result<Status, RunFault>
-    ensures read { IfOk result (λ status. (input : List ℕ) × (ends : Rattle.rtp_media.specs.Sides.Ends) ×
+    ensures read { IfOk result (λ status. (input : List ℕ) × (ends : Rattle.rtp_media.specs.ProgramState.ProgramState) ×
         ReadsAll (R.remaining reader.old) (R.remaining reader.new) input
-        × Printed Gives no_ends ends (W.contents writer.old) (W.contents writer.new) input status) }
+        × Printed AnswersCommand initial_state ends (W.contents writer.old) (W.contents writer.new) input status) }
 {
     let mut program = Program {
-        a: Desk::clear(alloc),
-        b: Desk::clear(alloc),
+        a: EndAndDraft::clear(alloc),
+        b: EndAndDraft::clear(alloc),
     };
     run_lines(alloc, reader, writer, &mut program)
 }

@@ -1,5 +1,5 @@
 -- Two ends that exchange an offer and an answer.
-use Rattle.std.specs.Prelude.{◌≡◌, ℕ, List, Option}
+use Rattle.std.specs.Prelude.{◌≡◌, ℕ, List, Option, None}
 use Rattle.rtp_media_exchange.specs.Agreement.{Agreed, agreed_row_of, agreed_map_of}
 use Rattle.rtp_media_exchange.specs.declared.errors.ExchangeError.{ExchangeError}
 use Rattle.rtp_media_exchange.specs.Exchanges.{with_offer}
@@ -12,10 +12,15 @@ use Rattle.rtp_media_ends.specs.Ends.{EndState, with_exchange}
 abbrev pub offering : EndState → List Wanted → EndState
 offering a sections = with_exchange a (with_offer a.exchange (only sections))
 
--- One end offered, the other one answered that text, and the first accepted the answer's; their streams stay.
-pub record Connects (a b : EndState) (sections_a sections_b : List Wanted) (offer answer : List ℕ) (after_a after_b : EndState) : Type 0 where
+-- One end offered, the other one answered that text, and the first accepted the answer's, each where
+-- nothing refuses it; their streams stay.
+pub record Connects (a b : EndState) (sections_a sections_b : List Wanted) (offer answer : List ℕ)
+    (after_a after_b : EndState) : Type 0 where
+  pub may_offer : refusal_of_offer a.exchange sections_a ≡ None
   pub offers : Offers a.exchange sections_a offer
+  pub may_answer : refusal_of_answer b.exchange offer sections_b ≡ None
   pub answers : Answers b.exchange offer sections_b answer after_b.exchange
+  pub may_accept : refusal_of_accept (with_offer a.exchange (only sections_a)) answer ≡ None
   pub accepts : Accepts (with_offer a.exchange (only sections_a)) answer after_a.exchange
   pub streams_a : after_a ≡ with_exchange a after_a.exchange
   pub streams_b : after_b ≡ with_exchange b after_b.exchange
@@ -32,16 +37,22 @@ pub data Stage : Type 0 where
   AtAccept : (offer answer : List ℕ) → Stage
 
 -- Nothing changes at a refused offer; behind it the offer stays pending, and a refused acceptance leaves
--- the other end agreed.
-abbrev pub RefusedAt : Stage → EndState → EndState → List Wanted → List Wanted → ExchangeError → EndState → EndState → Type 0
+-- the other end agreed. The calls before the refused one were not refused.
+abbrev pub RefusedAt : Stage → EndState → EndState → List Wanted → List Wanted → ExchangeError
+    → EndState → EndState → Type 0
 RefusedAt AtOffer a b sections_a sections_b e after_a after_b =
     Names e (refusal_of_offer a.exchange sections_a) × (after_a ≡ a) × (after_b ≡ b)
 RefusedAt (AtAnswer offer) a b sections_a sections_b e after_a after_b =
-    Offers a.exchange sections_a offer × Names e (refusal_of_answer b.exchange offer sections_b) × (after_a ≡ offering a sections_a) × (after_b ≡ b)
+    (refusal_of_offer a.exchange sections_a ≡ None) × Offers a.exchange sections_a offer
+    × Names e (refusal_of_answer b.exchange offer sections_b)
+    × (after_a ≡ offering a sections_a) × (after_b ≡ b)
 RefusedAt (AtAccept offer answer) a b sections_a sections_b e after_a after_b =
-    Offers a.exchange sections_a offer × Answers b.exchange offer sections_b answer after_b.exchange
+    (refusal_of_offer a.exchange sections_a ≡ None) × Offers a.exchange sections_a offer
+    × (refusal_of_answer b.exchange offer sections_b ≡ None)
+    × Answers b.exchange offer sections_b answer after_b.exchange
     × Names e (refusal_of_accept (with_offer a.exchange (only sections_a)) answer)
     × (after_a ≡ offering a sections_a) × (after_b ≡ with_exchange b after_b.exchange)
 
 abbrev pub IsRefused : EndState → EndState → List Wanted → List Wanted → ExchangeError → EndState → EndState → Type 0
-IsRefused a b sections_a sections_b e after_a after_b = (stage : Stage) × RefusedAt stage a b sections_a sections_b e after_a after_b
+IsRefused a b sections_a sections_b e after_a after_b =
+    (stage : Stage) × RefusedAt stage a b sections_a sections_b e after_a after_b

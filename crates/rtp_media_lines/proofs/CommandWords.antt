@@ -4,7 +4,7 @@ use Rattle.std.specs.Option.{option_map}
 use Rattle.std.specs.Str.{bytes_eq}
 use Rattle.rtp_media_lines.specs.declared.line.Command.{Command}
 use Rattle.rtp_media_lines.specs.declared.line.Command.TheVariants.{Fixed, Send, Open, Sample, Receive, Poll, Row, Ext, End, Offer, Answer, Accept, Withdraw, Connect}
-use Rattle.rtp_media_lines.specs.Words.{side_of, text_of, hex_of, dash_or, numbers_of, number_below, behind, mid_value, ◌>>=◌}
+use Rattle.rtp_media_lines.specs.Words.{letter_of, text_of, hex_of, dash_or, numbers_of, number_below, behind, mid_value, ◌>>=◌}
 use Rattle.rtp_media_lines.proofs.Behind.{behind-sound, behind-append}
 use Rattle.rtp_media_lines.specs.Lines.{command_of, fixed_of, send_of, open_of, sample_of, receive_of, poll_of}
 use Rattle.rtp_media_lines.proofs.ReadSteps.{dispatch, same, ended_some, read_on, glue, under}
@@ -16,14 +16,14 @@ use Rattle.rtp_media_lines.specs.Says.{Says, AreSendWords, AreOpenWords, AreSamp
 fixed_says : (verb : List ℕ) (words : List (List ℕ)) (c : Command) → verb ≡ codes "fixed" → fixed_of words ≡ Some c → Says (verb ∷ words) c
 unfolding fixed_of
 fixed_says verb words c v h =
-    read_on _ side_of words _ c h (λ e_word after_e e is_e says_e left_e.
+    read_on _ letter_of words _ c h (λ e_word after_e e is_e says_e left_e.
     let end = ended_some after_e _ c left_e in
     subst (Says (verb ∷ words)) end.1 (e_word, glue v (is_e ∙ under e_word end.0), says_e))
 
 send_says : (verb : List ℕ) (words : List (List ℕ)) (c : Command) → verb ≡ codes "send" → send_of words ≡ Some c → Says (verb ∷ words) c
 unfolding send_of
 send_says verb words c v h =
-    read_on _ side_of words _ c h (λ e_word after_e e is_e says_e left_e.
+    read_on _ letter_of words _ c h (λ e_word after_e e is_e says_e left_e.
     read_on _ text_of after_e _ c left_e (λ mid_word after_mid mid is_mid says_mid left_mid.
     read_on _ (number_below (2 ^ 32)) after_mid _ c left_mid (λ ssrc_word after_ssrc ssrc is_ssrc says_ssrc left_ssrc.
     read_on _ (number_below (2 ^ 8)) after_ssrc _ c left_ssrc (λ pt_word after_pt pt is_pt says_pt left_pt.
@@ -58,7 +58,7 @@ send_says verb words c v h =
 open_says : (verb : List ℕ) (words : List (List ℕ)) (c : Command) → verb ≡ codes "open" → open_of words ≡ Some c → Says (verb ∷ words) c
 unfolding open_of
 open_says verb words c v h =
-    read_on _ side_of words _ c h (λ e_word after_e e is_e says_e left_e.
+    read_on _ letter_of words _ c h (λ e_word after_e e is_e says_e left_e.
     read_on _ text_of after_e _ c left_e (λ mid_word after_mid mid is_mid says_mid left_mid.
     read_on _ (number_below (2 ^ 32)) after_mid _ c left_mid (λ ssrc_word after_ssrc ssrc is_ssrc says_ssrc left_ssrc.
     read_on _ (number_below (2 ^ 8)) after_ssrc _ c left_ssrc (λ pt_word after_pt pt is_pt says_pt left_pt.
@@ -90,7 +90,7 @@ mid_some (word ∷ next ∷ words) f c h = absurd cc
 sample_says : (verb : List ℕ) (words : List (List ℕ)) (c : Command) → verb ≡ codes "sample" → sample_of words ≡ Some c → Says (verb ∷ words) c
 unfolding sample_of
 sample_says verb words c v h =
-    read_on _ side_of words _ c h (λ e_word after_e e is_e says_e left_e.
+    read_on _ letter_of words _ c h (λ e_word after_e e is_e says_e left_e.
     read_on _ (number_below (2 ^ 64)) after_e _ c left_e (λ stream_word after_stream stream is_stream says_stream left_stream.
     read_on _ (number_below (2 ^ 64)) after_stream _ c left_stream (λ time_word after_time time is_time says_time left_time.
     read_on _ hex_of after_time _ c left_time (λ bytes_word after_bytes bytes is_bytes says_bytes left_bytes.
@@ -110,7 +110,7 @@ sample_says verb words c v h =
 receive_says : (verb : List ℕ) (words : List (List ℕ)) (c : Command) → verb ≡ codes "receive" → receive_of words ≡ Some c → Says (verb ∷ words) c
 unfolding receive_of
 receive_says verb words c v h =
-    read_on _ side_of words _ c h (λ e_word after_e e is_e says_e left_e.
+    read_on _ letter_of words _ c h (λ e_word after_e e is_e says_e left_e.
     read_on _ hex_of after_e _ c left_e (λ bytes_word after_bytes bytes is_bytes says_bytes left_bytes.
     let end = ended_some after_bytes _ c left_bytes in
     subst (Says (verb ∷ words)) end.1 (record {
@@ -124,7 +124,7 @@ receive_says verb words c v h =
 poll_says : (verb : List ℕ) (words : List (List ℕ)) (c : Command) → verb ≡ codes "poll" → poll_of words ≡ Some c → Says (verb ∷ words) c
 unfolding poll_of
 poll_says verb words c v h =
-    read_on _ side_of words _ c h (λ e_word after_e e is_e says_e left_e.
+    read_on _ letter_of words _ c h (λ e_word after_e e is_e says_e left_e.
     read_on _ (number_below (2 ^ 64)) after_e _ c left_e (λ stream_word after_stream stream is_stream says_stream left_stream.
     let end = ended_some after_stream _ c left_stream in
     subst (Says (verb ∷ words)) end.1 (record {
@@ -147,9 +147,9 @@ says_what_is_read (verb ∷ words) c h =
 
 -- ---- what stands there is read
 
-read_fixed : (e : List ℕ) (side : _) → side_of e ≡ Some side → fixed_of (e ∷ []) ≡ Some (Fixed side)
+read_fixed : (e : List ℕ) (letter : _) → letter_of e ≡ Some letter → fixed_of (e ∷ []) ≡ Some (Fixed letter)
 unfolding fixed_of
-read_fixed e side h = rw h refl
+read_fixed e letter h = rw h refl
 
 read_send : (words : List (List ℕ)) (send : _) (a : AreSendWords words send)
     → send_of (a.e ∷ a.mid ∷ a.ssrc ∷ a.pt ∷ a.first ∷ a.mtu ∷ a.limit ∷ a.distances ∷ a.picture ∷ []) ≡ Some (Send send)
@@ -180,7 +180,7 @@ abbrev Reads : Command → List (List ℕ) → Type 0
 Reads c words = command_of words ≡ Some c
 
 pub read_what_is_said : (words : List (List ℕ)) (c : Command) → Says words c → command_of words ≡ Some c
-read_what_is_said words (Fixed side) a = subst (Reads (Fixed side)) (sym a.1) (read_fixed a.0 side a.2)
+read_what_is_said words (Fixed letter) a = subst (Reads (Fixed letter)) (sym a.1) (read_fixed a.0 letter a.2)
 read_what_is_said words (Send send) a = subst (Reads (Send send)) (sym a.words_are) (read_send words send a)
 read_what_is_said words (Open open') a = subst (Reads (Open open')) (sym a.words_are) (read_open words open' a)
 read_what_is_said words (Sample sample) a = subst (Reads (Sample sample)) (sym a.words_are) (read_sample words sample a)
@@ -192,5 +192,5 @@ read_what_is_said words (End end') a = subst (Reads (End end')) (sym a.words_are
 read_what_is_said words (Offer offer) a = subst (Reads (Offer offer)) (sym a.words_are) (read_offer words offer a)
 read_what_is_said words (Answer answer) a = subst (Reads (Answer answer)) (sym a.words_are) (read_answer words answer a)
 read_what_is_said words (Accept accept) a = subst (Reads (Accept accept)) (sym a.words_are) (read_accept words accept a)
-read_what_is_said words (Withdraw side) a = subst (Reads (Withdraw side)) (sym a.1) (read_withdraw a.0 side a.2)
+read_what_is_said words (Withdraw letter) a = subst (Reads (Withdraw letter)) (sym a.1) (read_withdraw a.0 letter a.2)
 read_what_is_said words (Connect connect) a = subst (Reads (Connect connect)) (sym a.words_are) (read_connect words connect a)

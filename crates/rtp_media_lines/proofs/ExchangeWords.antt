@@ -4,7 +4,7 @@ use Rattle.std.specs.Str.{bytes_eq}
 use Rattle.rtp_media_lines.specs.declared.line.Command.{Command}
 use Rattle.rtp_media_lines.specs.declared.line.Command.TheVariants.{Row, Ext, End, Offer, Answer, Accept, Withdraw, Connect}
 use Rattle.rtp_media_lines.specs.declared.sections.SectionWord.{SectionWord}
-use Rattle.rtp_media_lines.specs.Words.{side_of, text_of, hex_of, dash_or, number_below}
+use Rattle.rtp_media_lines.specs.Words.{letter_of, text_of, hex_of, dash_or, number_below}
 use Rattle.rtp_media_lines.specs.Sections.{section_of, sections_of, sections_then_slash}
 use Rattle.rtp_media_lines.specs.ExchangeLines.{row_of, ext_of, end_of, offer_of, answer_of, accept_of, withdraw_of, connect_of}
 use Rattle.rtp_media_lines.specs.Lines.{exchange_command_of}
@@ -19,7 +19,7 @@ some_is h = cc h
 row_says : (verb : List ℕ) (words : List (List ℕ)) (c : Command) → verb ≡ codes "row" → row_of words ≡ Some c → Says (verb ∷ words) c
 unfolding row_of
 row_says verb words c v h =
-    read_on _ side_of words _ c h (λ e_word after_e e is_e says_e left_e.
+    read_on _ letter_of words _ c h (λ e_word after_e e is_e says_e left_e.
     read_on _ (number_below (2 ^ 8)) after_e _ c left_e (λ pt_word after_pt pt is_pt says_pt left_pt.
     read_on _ (dash_or (number_below (2 ^ 8))) after_pt _ c left_pt (λ resend_word after_resend resend is_resend says_resend left_resend.
     read_on _ (dash_or (number_below (2 ^ 8))) after_resend _ c left_resend (λ red_word after_red red is_red says_red left_red.
@@ -51,7 +51,7 @@ row_says verb words c v h =
 ext_says : (verb : List ℕ) (words : List (List ℕ)) (c : Command) → verb ≡ codes "ext" → ext_of words ≡ Some c → Says (verb ∷ words) c
 unfolding ext_of
 ext_says verb words c v h =
-    read_on _ side_of words _ c h (λ e_word after_e e is_e says_e left_e.
+    read_on _ letter_of words _ c h (λ e_word after_e e is_e says_e left_e.
     read_on _ (number_below (2 ^ 8)) after_e _ c left_e (λ id_word after_id id is_id says_id left_id.
     read_on _ text_of after_id _ c left_id (λ uri_word after_uri uri is_uri says_uri left_uri.
     let end = ended_some after_uri _ c left_uri in
@@ -68,7 +68,7 @@ ext_says verb words c v h =
 end_says : (verb : List ℕ) (words : List (List ℕ)) (c : Command) → verb ≡ codes "end" → end_of words ≡ Some c → Says (verb ∷ words) c
 unfolding end_of
 end_says verb words c v h =
-    read_on _ side_of words _ c h (λ e_word after_e e is_e says_e left_e.
+    read_on _ letter_of words _ c h (λ e_word after_e e is_e says_e left_e.
     read_on _ (number_below (2 ^ 64)) after_e _ c left_e (λ session_word after_session session is_session says_session left_session.
     let end = ended_some after_session _ c left_session in
     subst (Says (verb ∷ words)) end.1 (record {
@@ -82,7 +82,7 @@ end_says verb words c v h =
 offer_says : (verb : List ℕ) (words : List (List ℕ)) (c : Command) → verb ≡ codes "offer" → offer_of words ≡ Some c → Says (verb ∷ words) c
 unfolding offer_of
 offer_says verb words c v h =
-    read_on _ side_of words _ c h (λ e_word after_e e is_e says_e left_e.
+    read_on _ letter_of words _ c h (λ e_word after_e e is_e says_e left_e.
     let sections = bind_some (sections_of after_e) _ c left_e in
     subst (Says (verb ∷ words)) (some_is sections.2) (record {
       e = e_word;
@@ -95,7 +95,7 @@ offer_says verb words c v h =
 answer_says : (verb : List ℕ) (words : List (List ℕ)) (c : Command) → verb ≡ codes "answer" → answer_of words ≡ Some c → Says (verb ∷ words) c
 unfolding answer_of
 answer_says verb words c v h =
-    read_on _ side_of words _ c h (λ e_word after_e e is_e says_e left_e.
+    read_on _ letter_of words _ c h (λ e_word after_e e is_e says_e left_e.
     read_on _ hex_of after_e _ c left_e (λ text_word after_text text is_text says_text left_text.
     let sections = bind_some (sections_of after_text) _ c left_text in
     subst (Says (verb ∷ words)) (some_is sections.2) (record {
@@ -111,7 +111,7 @@ answer_says verb words c v h =
 accept_says : (verb : List ℕ) (words : List (List ℕ)) (c : Command) → verb ≡ codes "accept" → accept_of words ≡ Some c → Says (verb ∷ words) c
 unfolding accept_of
 accept_says verb words c v h =
-    read_on _ side_of words _ c h (λ e_word after_e e is_e says_e left_e.
+    read_on _ letter_of words _ c h (λ e_word after_e e is_e says_e left_e.
     read_on _ hex_of after_e _ c left_e (λ text_word after_text text is_text says_text left_text.
     let end = ended_some after_text _ c left_text in
     subst (Says (verb ∷ words)) end.1 (record {
@@ -125,7 +125,7 @@ accept_says verb words c v h =
 withdraw_says : (verb : List ℕ) (words : List (List ℕ)) (c : Command) → verb ≡ codes "withdraw" → withdraw_of words ≡ Some c → Says (verb ∷ words) c
 unfolding withdraw_of
 withdraw_says verb words c v h =
-    read_on _ side_of words _ c h (λ e_word after_e e is_e says_e left_e.
+    read_on _ letter_of words _ c h (λ e_word after_e e is_e says_e left_e.
     let end = ended_some after_e _ c left_e in
     subst (Says (verb ∷ words)) end.1 (e_word, glue v (is_e ∙ under e_word end.0), says_e))
 
@@ -197,9 +197,9 @@ pub read_accept : (words : List (List ℕ)) (accept : _) (a : AreAcceptWords wor
 unfolding accept_of
 read_accept words accept a = rw (a.e_says, a.text_says) refl
 
-pub read_withdraw : (e : List ℕ) (side : _) → side_of e ≡ Some side → withdraw_of (e ∷ []) ≡ Some (Withdraw side)
+pub read_withdraw : (e : List ℕ) (letter : _) → letter_of e ≡ Some letter → withdraw_of (e ∷ []) ≡ Some (Withdraw letter)
 unfolding withdraw_of
-read_withdraw e side h = rw h refl
+read_withdraw e letter h = rw h refl
 
 slash_says_nothing : section_of (codes "/") ≡ None
 unfolding section_of

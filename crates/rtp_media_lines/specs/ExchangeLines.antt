@@ -3,13 +3,13 @@ use Rattle.std.specs.Prelude.{ℕ, ◌^◌, List, Option, Some}
 use Rattle.rtp_media_lines.specs.declared.line.Command.{Command}
 use Rattle.rtp_media_lines.specs.declared.line.Command.TheVariants.{Row, Ext, End, Offer, Answer, Accept, Withdraw, Connect}
 use Rattle.rtp_media_lines.specs.Sections.{sections_of, sections_then_slash}
-use Rattle.rtp_media_lines.specs.Words.{side_of, text_of, hex_of, dash_or, number_below, first, ended, ◌>>=◌}
+use Rattle.rtp_media_lines.specs.Words.{letter_of, text_of, hex_of, dash_or, number_below, first, ended, ◌>>=◌}
 
 -- row E PT RTX RED CODEC CLOCK CHANNELS FMTP
 unfoldable pub row_of : List (List ℕ) → Option Command
 row_of words = do
-  side ← first side_of words
-  pt ← first (number_below (2 ^ 8)) side.1
+  letter ← first letter_of words
+  pt ← first (number_below (2 ^ 8)) letter.1
   resend ← first (dash_or (number_below (2 ^ 8))) pt.1
   red ← first (dash_or (number_below (2 ^ 8))) resend.1
   codec ← first text_of red.1
@@ -17,7 +17,7 @@ row_of words = do
   channels ← first (dash_or (number_below (2 ^ 8))) clock.1
   format ← first (dash_or text_of) channels.1
   ended format.1 (Row (record {
-    side = side.0;
+    letter = letter.0;
     pt = pt.0;
     resend = resend.0;
     red = red.0;
@@ -30,45 +30,45 @@ row_of words = do
 -- ext E ID URI
 unfoldable pub ext_of : List (List ℕ) → Option Command
 ext_of words = do
-  side ← first side_of words
-  id ← first (number_below (2 ^ 8)) side.1
+  letter ← first letter_of words
+  id ← first (number_below (2 ^ 8)) letter.1
   uri ← first text_of id.1
-  ended uri.1 (Ext (record { side = side.0; id = id.0; uri = uri.0 }))
+  ended uri.1 (Ext (record { letter = letter.0; id = id.0; uri = uri.0 }))
 
 -- end E ID
 unfoldable pub end_of : List (List ℕ) → Option Command
 end_of words = do
-  side ← first side_of words
-  session ← first (number_below (2 ^ 64)) side.1
-  ended session.1 (End (record { side = side.0; session = session.0 }))
+  letter ← first letter_of words
+  session ← first (number_below (2 ^ 64)) letter.1
+  ended session.1 (End (record { letter = letter.0; session = session.0 }))
 
 -- offer E SECTION..
 unfoldable pub offer_of : List (List ℕ) → Option Command
 offer_of words = do
-  side ← first side_of words
-  sections ← sections_of side.1
-  Some (Offer (record { side = side.0; sections = sections }))
+  letter ← first letter_of words
+  sections ← sections_of letter.1
+  Some (Offer (record { letter = letter.0; sections = sections }))
 
 -- answer E HEX SECTION..
 unfoldable pub answer_of : List (List ℕ) → Option Command
 answer_of words = do
-  side ← first side_of words
-  text ← first hex_of side.1
+  letter ← first letter_of words
+  text ← first hex_of letter.1
   sections ← sections_of text.1
-  Some (Answer (record { side = side.0; text = text.0; sections = sections }))
+  Some (Answer (record { letter = letter.0; text = text.0; sections = sections }))
 
 -- accept E HEX
 unfoldable pub accept_of : List (List ℕ) → Option Command
 accept_of words = do
-  side ← first side_of words
-  text ← first hex_of side.1
-  ended text.1 (Accept (record { side = side.0; text = text.0 }))
+  letter ← first letter_of words
+  text ← first hex_of letter.1
+  ended text.1 (Accept (record { letter = letter.0; text = text.0 }))
 
 -- withdraw E
 unfoldable pub withdraw_of : List (List ℕ) → Option Command
 withdraw_of words = do
-  side ← first side_of words
-  ended side.1 (Withdraw side.0)
+  letter ← first letter_of words
+  ended letter.1 (Withdraw letter.0)
 
 -- connect SECTION.. / SECTION..
 unfoldable pub connect_of : List (List ℕ) → Option Command

@@ -7,19 +7,19 @@ use Rattle.rtp_media_lines.specs.declared.line.Command.{Command}
 use Rattle.rtp_media_lines.specs.declared.line.Command.TheVariants.{Fixed, Send, Open, Sample, Receive, Poll}
 use Rattle.std.specs.Option.{option_map}
 use Rattle.rtp_media_lines.specs.ExchangeLines.{row_of, ext_of, end_of, offer_of, answer_of, accept_of, withdraw_of, connect_of}
-use Rattle.rtp_media_lines.specs.Words.{words_of, side_of, text_of, hex_of, dash_or, numbers_of, number_below, mid_value, first, ended, ◌>>=◌}
+use Rattle.rtp_media_lines.specs.Words.{words_of, letter_of, text_of, hex_of, dash_or, numbers_of, number_below, mid_value, first, ended, ◌>>=◌}
 
 -- fixed E
 unfoldable pub fixed_of : List (List ℕ) → Option Command
 fixed_of words = do
-  side ← first side_of words
-  ended side.1 (Fixed side.0)
+  letter ← first letter_of words
+  ended letter.1 (Fixed letter.0)
 
 -- send E MID SSRC PT FIRST MTU LIMIT DISTANCES PICTUREID
 unfoldable pub send_of : List (List ℕ) → Option Command
 send_of words = do
-  side ← first side_of words
-  mid ← first text_of side.1
+  letter ← first letter_of words
+  mid ← first text_of letter.1
   ssrc ← first (number_below (2 ^ 32)) mid.1
   pt ← first (number_below (2 ^ 8)) ssrc.1
   number ← first (number_below (2 ^ 64)) pt.1
@@ -28,7 +28,7 @@ send_of words = do
   distances ← first (dash_or numbers_of) limit.1
   picture ← first (dash_or (number_below (2 ^ 16))) distances.1
   ended picture.1 (Send (record {
-    side = side.0;
+    letter = letter.0;
     mid = mid.0;
     ssrc = ssrc.0;
     pt = pt.0;
@@ -42,36 +42,36 @@ send_of words = do
 -- open E MID SSRC PT HOLDBACK
 unfoldable pub open_of : List (List ℕ) → Option Command
 open_of words = do
-  side ← first side_of words
-  mid ← first text_of side.1
+  letter ← first letter_of words
+  mid ← first text_of letter.1
   ssrc ← first (number_below (2 ^ 32)) mid.1
   pt ← first (number_below (2 ^ 8)) ssrc.1
   hold_back ← first (number_below (2 ^ 64)) pt.1
-  ended hold_back.1 (Open (record { side = side.0; mid = mid.0; ssrc = ssrc.0; pt = pt.0; hold_back = hold_back.0 }))
+  ended hold_back.1 (Open (record { letter = letter.0; mid = mid.0; ssrc = ssrc.0; pt = pt.0; hold_back = hold_back.0 }))
 
 -- sample E N TIME HEX [mid=TEXT]
 unfoldable pub sample_of : List (List ℕ) → Option Command
 sample_of words = do
-  side ← first side_of words
-  stream ← first (number_below (2 ^ 64)) side.1
+  letter ← first letter_of words
+  stream ← first (number_below (2 ^ 64)) letter.1
   time ← first (number_below (2 ^ 64)) stream.1
   sample ← first hex_of time.1
   mid ← mid_value sample.1
-  Some (Sample (record { side = side.0; stream = stream.0; time = time.0; sample = sample.0; mid = mid }))
+  Some (Sample (record { letter = letter.0; stream = stream.0; time = time.0; sample = sample.0; mid = mid }))
 
 -- receive E HEX
 unfoldable pub receive_of : List (List ℕ) → Option Command
 receive_of words = do
-  side ← first side_of words
-  datagram ← first hex_of side.1
-  ended datagram.1 (Receive (record { side = side.0; datagram = datagram.0 }))
+  letter ← first letter_of words
+  datagram ← first hex_of letter.1
+  ended datagram.1 (Receive (record { letter = letter.0; datagram = datagram.0 }))
 
 -- poll E N
 unfoldable pub poll_of : List (List ℕ) → Option Command
 poll_of words = do
-  side ← first side_of words
-  stream ← first (number_below (2 ^ 64)) side.1
-  ended stream.1 (Poll (record { side = side.0; stream = stream.0 }))
+  letter ← first letter_of words
+  stream ← first (number_below (2 ^ 64)) letter.1
+  ended stream.1 (Poll (record { letter = letter.0; stream = stream.0 }))
 
 -- a command that makes an end or exchanges texts, by its first word
 abbrev pub exchange_command_of : List ℕ → List (List ℕ) → Option Command

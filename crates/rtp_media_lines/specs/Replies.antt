@@ -1,32 +1,8 @@
 -- What each reply prints.
 use Rattle.std.specs.Prelude.{ℕ, Bool, true, false, List, [], ◌∷◌, ◌++◌, codes, decimal}
 use Rattle.hex.specs.Hex.{encode_lower}
-use Rattle.rtp_media_lines.specs.declared.reply.ErrorName.{ErrorName}
-use Rattle.rtp_media_lines.specs.declared.reply.ErrorName.TheVariants.{NoSection, RowNotAgreed, RowDiffers, WrongDirection, SsrcNotNamed, AlreadyOpen, Memory, StreamFailed, TimeTooLarge, LimitTooSmall, Payload, RowNotPlain, TypesNotDistinct, NotWritable, Unreadable, OutOfTurn, NotMedia, NotCorresponding, Round, NoCommonRow}
 use Rattle.rtp_media_lines.specs.declared.reply.Reply.{Reply}
 use Rattle.rtp_media_lines.specs.declared.reply.Reply.TheVariants.{Done, ErrorLine, Refused, Sender, Receiver, Datagram, Unreadable, Foreign, Damaged, NotTaken, Taken, NextUnit, NoUnit, Fault, Text, NoOffer}
-
-abbrev pub name_of : ErrorName → List ℕ
-name_of NoSection = codes "NoSection"
-name_of RowNotAgreed = codes "RowNotAgreed"
-name_of RowDiffers = codes "RowDiffers"
-name_of WrongDirection = codes "WrongDirection"
-name_of SsrcNotNamed = codes "SsrcNotNamed"
-name_of AlreadyOpen = codes "AlreadyOpen"
-name_of Memory = codes "Memory"
-name_of StreamFailed = codes "StreamFailed"
-name_of TimeTooLarge = codes "TimeTooLarge"
-name_of LimitTooSmall = codes "LimitTooSmall"
-name_of Payload = codes "Payload"
-name_of RowNotPlain = codes "RowNotPlain"
-name_of TypesNotDistinct = codes "TypesNotDistinct"
-name_of NotWritable = codes "NotWritable"
-name_of Unreadable = codes "Unreadable"
-name_of OutOfTurn = codes "OutOfTurn"
-name_of NotMedia = codes "NotMedia"
-name_of NotCorresponding = codes "NotCorresponding"
-name_of Round = codes "Round"
-name_of NoCommonRow = codes "NoCommonRow"
 
 -- words parted by single blanks, and a line feed
 abbrev pub text_line : List (List ℕ) → List ℕ
@@ -43,7 +19,7 @@ hex_text (byte ∷ bytes) = encode_lower (byte ∷ bytes)
 abbrev pub reply_words : Reply → List (List ℕ)
 reply_words Done = codes "ok" ∷ []
 reply_words ErrorLine = codes "error" ∷ codes "line" ∷ []
-reply_words (Refused name) = codes "refused" ∷ name_of name ∷ []
+reply_words (Refused name) = codes "refused" ∷ name ∷ []
 reply_words (Sender stream) = codes "sender" ∷ decimal stream ∷ []
 reply_words (Receiver stream) = codes "receiver" ∷ decimal stream ∷ []
 reply_words (Datagram bytes) = codes "datagram" ∷ hex_text bytes ∷ []
@@ -54,7 +30,7 @@ reply_words NotTaken = codes "refused" ∷ []
 reply_words (Taken stream number) = codes "taken" ∷ decimal stream ∷ decimal number ∷ []
 reply_words (NextUnit first last time unit) = codes "unit" ∷ decimal first ∷ decimal last ∷ decimal time ∷ hex_text unit ∷ []
 reply_words NoUnit = codes "none" ∷ []
-reply_words (Fault name) = codes "fault" ∷ name_of name ∷ []
+reply_words (Fault name) = codes "fault" ∷ name ∷ []
 reply_words (Text bytes) = codes "text" ∷ hex_text bytes ∷ []
 reply_words NoOffer = codes "none" ∷ []
 

@@ -15,7 +15,7 @@ use Rattle.rtp_media_lines.specs.declared.exchange.AnswerCommand.{AnswerCommand}
 use Rattle.rtp_media_lines.specs.declared.exchange.AcceptCommand.{AcceptCommand}
 use Rattle.rtp_media_lines.specs.declared.exchange.ConnectCommand.{ConnectCommand}
 use Rattle.rtp_media_lines.specs.Sections.{sections_of}
-use Rattle.rtp_media_lines.specs.Words.{side_of, text_of, hex_of, dash_or, numbers_of, number_below}
+use Rattle.rtp_media_lines.specs.Words.{letter_of, text_of, hex_of, dash_or, numbers_of, number_below}
 
 -- send E MID SSRC PT FIRST MTU LIMIT DISTANCES PICTUREID
 pub record AreSendWords (words : List (List ℕ)) (send : SendCommand) : Type 0 where
@@ -29,7 +29,7 @@ pub record AreSendWords (words : List (List ℕ)) (send : SendCommand) : Type 0 
   pub distances : List ℕ
   pub picture : List ℕ
   pub words_are : words ≡ codes "send" ∷ e ∷ mid ∷ ssrc ∷ pt ∷ first ∷ mtu ∷ limit ∷ distances ∷ picture ∷ []
-  pub e_says : side_of e ≡ Some send.side
+  pub e_says : letter_of e ≡ Some send.letter
   pub mid_says : text_of mid ≡ Some send.mid
   pub ssrc_says : number_below (2 ^ 32) ssrc ≡ Some send.ssrc
   pub pt_says : number_below (2 ^ 8) pt ≡ Some send.pt
@@ -47,7 +47,7 @@ pub record AreOpenWords (words : List (List ℕ)) (open' : OpenCommand) : Type 0
   pub pt : List ℕ
   pub hold_back : List ℕ
   pub words_are : words ≡ codes "open" ∷ e ∷ mid ∷ ssrc ∷ pt ∷ hold_back ∷ []
-  pub e_says : side_of e ≡ Some open'.side
+  pub e_says : letter_of e ≡ Some open'.letter
   pub mid_says : text_of mid ≡ Some open'.mid
   pub ssrc_says : number_below (2 ^ 32) ssrc ≡ Some open'.ssrc
   pub pt_says : number_below (2 ^ 8) pt ≡ Some open'.pt
@@ -65,7 +65,7 @@ pub record AreSampleWords (words : List (List ℕ)) (sample : SampleCommand) : T
   pub time : List ℕ
   pub bytes : List ℕ
   pub words_are : words ≡ codes "sample" ∷ e ∷ stream ∷ time ∷ bytes ∷ mid_words sample.mid
-  pub e_says : side_of e ≡ Some sample.side
+  pub e_says : letter_of e ≡ Some sample.letter
   pub stream_says : number_below (2 ^ 64) stream ≡ Some sample.stream
   pub time_says : number_below (2 ^ 64) time ≡ Some sample.time
   pub bytes_say : hex_of bytes ≡ Some sample.sample
@@ -75,7 +75,7 @@ pub record AreReceiveWords (words : List (List ℕ)) (receive : ReceiveCommand) 
   pub e : List ℕ
   pub bytes : List ℕ
   pub words_are : words ≡ codes "receive" ∷ e ∷ bytes ∷ []
-  pub e_says : side_of e ≡ Some receive.side
+  pub e_says : letter_of e ≡ Some receive.letter
   pub bytes_say : hex_of bytes ≡ Some receive.datagram
 
 -- poll E N
@@ -83,7 +83,7 @@ pub record ArePollWords (words : List (List ℕ)) (poll : PollCommand) : Type 0 
   pub e : List ℕ
   pub stream : List ℕ
   pub words_are : words ≡ codes "poll" ∷ e ∷ stream ∷ []
-  pub e_says : side_of e ≡ Some poll.side
+  pub e_says : letter_of e ≡ Some poll.letter
   pub stream_says : number_below (2 ^ 64) stream ≡ Some poll.stream
 
 -- row E PT RTX RED CODEC CLOCK CHANNELS FMTP
@@ -97,7 +97,7 @@ pub record AreRowWords (words : List (List ℕ)) (row : RowCommand) : Type 0 whe
   pub channels : List ℕ
   pub format : List ℕ
   pub words_are : words ≡ codes "row" ∷ e ∷ pt ∷ resend ∷ red ∷ codec ∷ clock ∷ channels ∷ format ∷ []
-  pub e_says : side_of e ≡ Some row.side
+  pub e_says : letter_of e ≡ Some row.letter
   pub pt_says : number_below (2 ^ 8) pt ≡ Some row.pt
   pub resend_says : dash_or (number_below (2 ^ 8)) resend ≡ Some row.resend
   pub red_says : dash_or (number_below (2 ^ 8)) red ≡ Some row.red
@@ -112,7 +112,7 @@ pub record AreExtWords (words : List (List ℕ)) (ext : ExtCommand) : Type 0 whe
   pub id : List ℕ
   pub uri : List ℕ
   pub words_are : words ≡ codes "ext" ∷ e ∷ id ∷ uri ∷ []
-  pub e_says : side_of e ≡ Some ext.side
+  pub e_says : letter_of e ≡ Some ext.letter
   pub id_says : number_below (2 ^ 8) id ≡ Some ext.id
   pub uri_says : text_of uri ≡ Some ext.uri
 
@@ -121,7 +121,7 @@ pub record AreEndWords (words : List (List ℕ)) (end' : EndCommand) : Type 0 wh
   pub e : List ℕ
   pub session : List ℕ
   pub words_are : words ≡ codes "end" ∷ e ∷ session ∷ []
-  pub e_says : side_of e ≡ Some end'.side
+  pub e_says : letter_of e ≡ Some end'.letter
   pub session_says : number_below (2 ^ 64) session ≡ Some end'.session
 
 -- offer E SECTION..
@@ -129,7 +129,7 @@ pub record AreOfferWords (words : List (List ℕ)) (offer : OfferCommand) : Type
   pub e : List ℕ
   pub sections : List (List ℕ)
   pub words_are : words ≡ codes "offer" ∷ e ∷ sections
-  pub e_says : side_of e ≡ Some offer.side
+  pub e_says : letter_of e ≡ Some offer.letter
   pub sections_say : sections_of sections ≡ Some offer.sections
 
 -- answer E HEX SECTION..
@@ -138,7 +138,7 @@ pub record AreAnswerWords (words : List (List ℕ)) (answer : AnswerCommand) : T
   pub text : List ℕ
   pub sections : List (List ℕ)
   pub words_are : words ≡ codes "answer" ∷ e ∷ text ∷ sections
-  pub e_says : side_of e ≡ Some answer.side
+  pub e_says : letter_of e ≡ Some answer.letter
   pub text_says : hex_of text ≡ Some answer.text
   pub sections_say : sections_of sections ≡ Some answer.sections
 
@@ -147,7 +147,7 @@ pub record AreAcceptWords (words : List (List ℕ)) (accept : AcceptCommand) : T
   pub e : List ℕ
   pub text : List ℕ
   pub words_are : words ≡ codes "accept" ∷ e ∷ text ∷ []
-  pub e_says : side_of e ≡ Some accept.side
+  pub e_says : letter_of e ≡ Some accept.letter
   pub text_says : hex_of text ≡ Some accept.text
 
 -- connect SECTION.. / SECTION..
@@ -161,7 +161,7 @@ pub record AreConnectWords (words : List (List ℕ)) (connect : ConnectCommand) 
 -- the words are those of the command's line, in their order and no others
 abbrev pub Says : List (List ℕ) → Command → Type 0
 -- fixed E
-Says words (Fixed side) = (e : List ℕ) × (words ≡ codes "fixed" ∷ e ∷ []) × (side_of e ≡ Some side)
+Says words (Fixed letter) = (e : List ℕ) × (words ≡ codes "fixed" ∷ e ∷ []) × (letter_of e ≡ Some letter)
 Says words (Send send) = AreSendWords words send
 Says words (Open open') = AreOpenWords words open'
 Says words (Sample sample) = AreSampleWords words sample
@@ -174,5 +174,5 @@ Says words (Offer offer) = AreOfferWords words offer
 Says words (Answer answer) = AreAnswerWords words answer
 Says words (Accept accept) = AreAcceptWords words accept
 -- withdraw E
-Says words (Withdraw side) = (e : List ℕ) × (words ≡ codes "withdraw" ∷ e ∷ []) × (side_of e ≡ Some side)
+Says words (Withdraw letter) = (e : List ℕ) × (words ≡ codes "withdraw" ∷ e ∷ []) × (letter_of e ≡ Some letter)
 Says words (Connect connect) = AreConnectWords words connect

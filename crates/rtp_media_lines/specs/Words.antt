@@ -6,8 +6,8 @@ use Rattle.std.specs.Result.{result_ok}
 use Rattle.std.specs.Str.{all_ascii_digits, bytes_eq}
 use Rattle.std.specs.Str.Parse.{digits_value}
 use Rattle.hex.specs.Hex.{decode_of}
-use Rattle.rtp_media_lines.specs.declared.words.Side.{Side}
-use Rattle.rtp_media_lines.specs.declared.words.Side.TheVariants.{A, B}
+use Rattle.rtp_media_lines.specs.declared.words.Letter.{Letter}
+use Rattle.rtp_media_lines.specs.declared.words.Letter.TheVariants.{A, B}
 
 -- what stands between single blanks: two blanks, or one at an end, make an empty word
 abbrev pub words_of : List ℕ → List (List ℕ)
@@ -24,8 +24,8 @@ number_below limit word =
     else None
 
 -- the end that a letter names
-abbrev pub side_of : List ℕ → Option Side
-side_of word = if bytes_eq word (codes "a") then Some A else if bytes_eq word (codes "b") then Some B else None
+abbrev pub letter_of : List ℕ → Option Letter
+letter_of word = if bytes_eq word (codes "a") then Some A else if bytes_eq word (codes "b") then Some B else None
 
 -- any word that isn't empty
 abbrev pub text_of : List ℕ → Option (List ℕ)

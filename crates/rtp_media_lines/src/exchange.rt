@@ -4,20 +4,20 @@ ghost use Rattle.rtp_media_lines.specs.Misreads.{Reads};
 ghost use Rattle.rtp_media_lines.specs.ExchangeLines.{row_of, ext_of, end_of, offer_of, answer_of, accept_of, withdraw_of, connect_of};
 
 use crate::fields::{
-    hex_word, number_or_dash_word, number_word, side_word, text_or_dash_word, text_word,
+    hex_word, number_or_dash_word, number_word, letter_word, text_or_dash_word, text_word,
 };
 use crate::line::Command;
 use crate::misread::Misread;
 use crate::owned::{Bytes, Text};
 use crate::sections::{Sections, section_words, sections_before_slash};
-use crate::words::{Side, Words};
+use crate::words::{Letter, Words};
 use std::alloc::Global;
 
 /// `row E PT RTX RED CODEC CLOCK CHANNELS FMTP`: put a row into the draft of an end.
 #[derive(Drop)]
 pub struct RowCommand {
     /// The end whose draft it is.
-    pub side: Side,
+    pub letter: Letter,
     /// The payload type (RFC 3551 6).
     pub pt: u8,
     /// The type of retransmissions (RFC 4588), or none at a dash.
@@ -38,7 +38,7 @@ pub struct RowCommand {
 #[derive(Drop)]
 pub struct ExtCommand {
     /// The end whose draft it is.
-    pub side: Side,
+    pub letter: Letter,
     /// The number in headers (RFC 8285 4).
     pub id: u8,
     /// The URI that names the extension.
@@ -49,7 +49,7 @@ pub struct ExtCommand {
 #[derive(Clone, Copy, Debug, PartialEq, Eq)]
 pub struct EndCommand {
     /// The end.
-    pub side: Side,
+    pub letter: Letter,
     /// The number of its session (RFC 8866 5.2).
     pub session: u64,
 }
@@ -58,7 +58,7 @@ pub struct EndCommand {
 #[derive(Drop)]
 pub struct OfferCommand {
     /// The end that offers.
-    pub side: Side,
+    pub letter: Letter,
     /// The sections that it wants.
     pub sections: Sections,
 }
@@ -67,7 +67,7 @@ pub struct OfferCommand {
 #[derive(Drop)]
 pub struct AnswerCommand {
     /// The end that answers.
-    pub side: Side,
+    pub letter: Letter,
     /// The bytes of the offer's text.
     pub text: Bytes,
     /// The sections that it wants.
@@ -78,7 +78,7 @@ pub struct AnswerCommand {
 #[derive(Drop)]
 pub struct AcceptCommand {
     /// The end that offered.
-    pub side: Side,
+    pub letter: Letter,
     /// The bytes of the answer's text.
     pub text: Bytes,
 }
@@ -96,7 +96,7 @@ pub struct ConnectCommand {
 pub(crate) fn row_of(alloc: Global, words: Words<'_>) -> Result<Command, Misread>
     ensures { Reads result (row_of words.entry) }
 {
-    let (side, rest) = side_word(words)?;
+    let (letter, rest) = letter_word(words)?;
     let (pt, rest) = number_word(rest, u8::MAX as u64)?;
     let (resend, rest) = number_or_dash_word(rest)?;
     let (red, rest) = number_or_dash_word(rest)?;
@@ -106,7 +106,7 @@ pub(crate) fn row_of(alloc: Global, words: Words<'_>) -> Result<Command, Misread
     let (format, rest) = text_or_dash_word(alloc, rest)?;
     rest.end()?;
     Ok(Command::Row(RowCommand {
-        side,
+        letter,
         pt: pt as u8,
         resend,
         red,
@@ -121,12 +121,12 @@ pub(crate) fn row_of(alloc: Global, words: Words<'_>) -> Result<Command, Misread
 pub(crate) fn ext_of(alloc: Global, words: Words<'_>) -> Result<Command, Misread>
     ensures { Reads result (ext_of words.entry) }
 {
-    let (side, rest) = side_word(words)?;
+    let (letter, rest) = letter_word(words)?;
     let (id, rest) = number_word(rest, u8::MAX as u64)?;
     let (uri, rest) = text_word(alloc, rest)?;
     rest.end()?;
     Ok(Command::Ext(ExtCommand {
-        side,
+        letter,
         id: id as u8,
         uri,
     }))
@@ -136,30 +136,30 @@ pub(crate) fn ext_of(alloc: Global, words: Words<'_>) -> Result<Command, Misread
 pub(crate) fn end_of(words: Words<'_>) -> Result<Command, Misread>
     ensures { Reads result (end_of words.entry) }
 {
-    let (side, rest) = side_word(words)?;
+    let (letter, rest) = letter_word(words)?;
     let (session, rest) = number_word(rest, u64::MAX)?;
     rest.end()?;
-    Ok(Command::End(EndCommand { side, session }))
+    Ok(Command::End(EndCommand { letter, session }))
 }
 
 #[tactic(auto, unfolding(crate::specs::ExchangeLines::offer_of))]
 pub(crate) fn offer_of(alloc: Global, words: Words<'_>) -> Result<Command, Misread>
     ensures { Reads result (offer_of words.entry) }
 {
-    let (side, rest) = side_word(words)?;
+    let (letter, rest) = letter_word(words)?;
     let sections = section_words(alloc, rest)?;
-    Ok(Command::Offer(OfferCommand { side, sections }))
+    Ok(Command::Offer(OfferCommand { letter, sections }))
 }
 
 #[tactic(auto, unfolding(crate::specs::ExchangeLines::answer_of))]
 pub(crate) fn answer_of(alloc: Global, words: Words<'_>) -> Result<Command, Misread>
     ensures { Reads result (answer_of words.entry) }
 {
-    let (side, rest) = side_word(words)?;
+    let (letter, rest) = letter_word(words)?;
     let (text, rest) = hex_word(alloc, rest)?;
     let sections = section_words(alloc, rest)?;
     Ok(Command::Answer(AnswerCommand {
-        side,
+        letter,
         text,
         sections,
     }))
@@ -169,19 +169,19 @@ pub(crate) fn answer_of(alloc: Global, words: Words<'_>) -> Result<Command, Misr
 pub(crate) fn accept_of(alloc: Global, words: Words<'_>) -> Result<Command, Misread>
     ensures { Reads result (accept_of words.entry) }
 {
-    let (side, rest) = side_word(words)?;
+    let (letter, rest) = letter_word(words)?;
     let (text, rest) = hex_word(alloc, rest)?;
     rest.end()?;
-    Ok(Command::Accept(AcceptCommand { side, text }))
+    Ok(Command::Accept(AcceptCommand { letter, text }))
 }
 
 #[tactic(auto, unfolding(crate::specs::ExchangeLines::withdraw_of))]
 pub(crate) fn withdraw_of(words: Words<'_>) -> Result<Command, Misread>
     ensures { Reads result (withdraw_of words.entry) }
 {
-    let (side, rest) = side_word(words)?;
+    let (letter, rest) = letter_word(words)?;
     rest.end()?;
-    Ok(Command::Withdraw(side))
+    Ok(Command::Withdraw(letter))
 }
 
 #[tactic(auto, unfolding(crate::specs::ExchangeLines::connect_of))]

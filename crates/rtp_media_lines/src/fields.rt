@@ -2,23 +2,23 @@
 
 ghost use Rattle.std.specs.Prelude.{◌≡◌, ◌+◌, ◌^◌, ◌≤◌, ◌∷◌, IsTrue, IfSome, ◌↔◌, slice_index, IfOk};
 ghost use Rattle.std.specs.Option.{option_copied};
-ghost use Rattle.rtp_media_lines.specs.Words.{side_of, number_below, text_of, hex_of, dash_or, numbers_of, comma_parts, parts_in, first, behind, mid_value};
+ghost use Rattle.rtp_media_lines.specs.Words.{letter_of, number_below, text_of, hex_of, dash_or, numbers_of, comma_parts, parts_in, first, behind, mid_value};
 ghost use Rattle.rtp_media_lines.specs.Misreads.{Reads};
 
 use crate::misread::Misread;
 use crate::owned::{Bytes, Text};
-use crate::words::{Side, Words};
+use crate::words::{Letter, Words};
 use hex::FromHexError;
 use std::alloc::Global;
 
 /// The end that a letter names.
-fn side_of(word: &str) -> Option<Side>
-    ensures { result ≡ side_of word.now }
+fn letter_of(word: &str) -> Option<Letter>
+    ensures { result ≡ letter_of word.now }
 {
     if word == "a" {
-        Some(Side::A)
+        Some(Letter::A)
     } else if word == "b" {
-        Some(Side::B)
+        Some(Letter::B)
     } else {
         None
     }
@@ -99,12 +99,12 @@ pub(crate) fn split_comma(text: &str) -> (&str, Option<&str>)
 }
 
 /// The end that the next word names.
-pub(crate) fn side_word(words: Words<'_>) -> Result<(Side, Words<'_>), Misread>
-    ensures { Reads result (first side_of words.entry) }
+pub(crate) fn letter_word(words: Words<'_>) -> Result<(Letter, Words<'_>), Misread>
+    ensures { Reads result (first letter_of words.entry) }
 {
     let (word, rest) = words.next()?;
-    let side = side_of(word).ok_or(Misread::NotUnderstood)?;
-    Ok((side, rest))
+    let letter = letter_of(word).ok_or(Misread::NotUnderstood)?;
+    Ok((letter, rest))
 }
 
 /// The next word as a number up to `max`.

@@ -34,5 +34,5 @@ pub use round::printed_words_read_back;
 pub use run::{MAX_READS, run_lines, run_within};
 pub use sections::{SectionWord, Sections, Ssrcs};
 pub use status::{RunFault, Status};
-pub use words::Side;
+pub use words::Letter;
 pub use writing::{WriteFault, write_whole};

@@ -9,18 +9,18 @@ use crate::exchange::{
     accept_of, answer_of, connect_of, end_of, ext_of, offer_of, row_of, withdraw_of,
 };
 use crate::fields::{
-    distances_word, hex_word, mid_value, number_word, picture_id_word, side_word, text_word,
+    distances_word, hex_word, mid_value, number_word, picture_id_word, letter_word, text_word,
 };
 use crate::misread::Misread;
 use crate::owned::{Bytes, Text};
-use crate::words::{Side, Words};
+use crate::words::{Letter, Words};
 use std::alloc::{AllocError, Global};
 
 /// `send E MID SSRC PT FIRST MTU LIMIT DISTANCES PICTUREID`: open a sending stream.
 #[derive(Drop)]
 pub struct SendCommand {
     /// The end that sends.
-    pub side: Side,
+    pub letter: Letter,
     /// The media identification of the section (RFC 5888 4).
     pub mid: Text,
     /// The synchronization source (RFC 3550 3).
@@ -43,7 +43,7 @@ pub struct SendCommand {
 #[derive(Drop)]
 pub struct OpenCommand {
     /// The end that receives.
-    pub side: Side,
+    pub letter: Letter,
     /// The media identification of the section (RFC 5888 4).
     pub mid: Text,
     /// The synchronization source (RFC 3550 3).
@@ -58,7 +58,7 @@ pub struct OpenCommand {
 #[derive(Drop)]
 pub struct SampleCommand {
     /// The end that sends.
-    pub side: Side,
+    pub letter: Letter,
     /// The number of the sending stream.
     pub stream: usize,
     /// The time, at the clock rate of the stream's row.
@@ -73,7 +73,7 @@ pub struct SampleCommand {
 #[derive(Drop)]
 pub struct ReceiveCommand {
     /// The end that receives.
-    pub side: Side,
+    pub letter: Letter,
     /// The datagram's bytes.
     pub datagram: Bytes,
 }
@@ -82,7 +82,7 @@ pub struct ReceiveCommand {
 #[derive(Clone, Copy, Debug, PartialEq, Eq)]
 pub struct PollCommand {
     /// The end that receives.
-    pub side: Side,
+    pub letter: Letter,
     /// The number of the receiving stream.
     pub stream: usize,
 }
@@ -91,7 +91,7 @@ pub struct PollCommand {
 #[derive(Drop)]
 pub enum Command {
     /// `fixed E`: replace an end by the fixed one.
-    Fixed(Side),
+    Fixed(Letter),
     /// Open a sending stream.
     Send(SendCommand),
     /// Open a receiving stream.
@@ -115,7 +115,7 @@ pub enum Command {
     /// Take the answer to an offer.
     Accept(AcceptCommand),
     /// `withdraw E`: give up an offer.
-    Withdraw(Side),
+    Withdraw(Letter),
     /// Let `a` offer and `b` answer.
     Connect(ConnectCommand),
 }
@@ -204,16 +204,16 @@ fn exchange_command_of(alloc: Global, verb: &str, rest: Words<'_>) -> Result<Com
 fn fixed_of(words: Words<'_>) -> Result<Command, Misread>
     ensures { Reads result (fixed_of words.entry) }
 {
-    let (side, rest) = side_word(words)?;
+    let (letter, rest) = letter_word(words)?;
     rest.end()?;
-    Ok(Command::Fixed(side))
+    Ok(Command::Fixed(letter))
 }
 
 #[tactic(auto, unfolding(crate::specs::Lines::send_of))]
 fn send_of(alloc: Global, words: Words<'_>) -> Result<Command, Misread>
     ensures { Reads result (send_of words.entry) }
 {
-    let (side, rest) = side_word(words)?;
+    let (letter, rest) = letter_word(words)?;
     let (mid, rest) = text_word(alloc, rest)?;
     let (ssrc, rest) = number_word(rest, u32::MAX as u64)?;
     let (pt, rest) = number_word(rest, u8::MAX as u64)?;
@@ -224,7 +224,7 @@ fn send_of(alloc: Global, words: Words<'_>) -> Result<Command, Misread>
     let (picture_id, rest) = picture_id_word(rest)?;
     rest.end()?;
     Ok(Command::Send(SendCommand {
-        side,
+        letter,
         mid,
         ssrc: ssrc as u32,
         pt: pt as u8,
@@ -240,14 +240,14 @@ fn send_of(alloc: Global, words: Words<'_>) -> Result<Command, Misread>
 fn open_of(alloc: Global, words: Words<'_>) -> Result<Command, Misread>
     ensures { Reads result (open_of words.entry) }
 {
-    let (side, rest) = side_word(words)?;
+    let (letter, rest) = letter_word(words)?;
     let (mid, rest) = text_word(alloc, rest)?;
     let (ssrc, rest) = number_word(rest, u32::MAX as u64)?;
     let (pt, rest) = number_word(rest, u8::MAX as u64)?;
     let (hold_back, rest) = number_word(rest, usize::MAX as u64)?;
     rest.end()?;
     Ok(Command::Open(OpenCommand {
-        side,
+        letter,
         mid,
         ssrc: ssrc as u32,
         pt: pt as u8,
@@ -259,13 +259,13 @@ fn open_of(alloc: Global, words: Words<'_>) -> Result<Command, Misread>
 fn sample_of(alloc: Global, words: Words<'_>) -> Result<Command, Misread>
     ensures { Reads result (sample_of words.entry) }
 {
-    let (side, rest) = side_word(words)?;
+    let (letter, rest) = letter_word(words)?;
     let (stream, rest) = number_word(rest, usize::MAX as u64)?;
     let (time, rest) = number_word(rest, u64::MAX)?;
     let (sample, rest) = hex_word(alloc, rest)?;
     let mid = mid_value(alloc, rest)?;
     Ok(Command::Sample(SampleCommand {
-        side,
+        letter,
         stream: stream as usize,
         time,
         sample,
@@ -277,21 +277,21 @@ fn sample_of(alloc: Global, words: Words<'_>) -> Result<Command, Misread>
 fn receive_of(alloc: Global, words: Words<'_>) -> Result<Command, Misread>
     ensures { Reads result (receive_of words.entry) }
 {
-    let (side, rest) = side_word(words)?;
+    let (letter, rest) = letter_word(words)?;
     let (datagram, rest) = hex_word(alloc, rest)?;
     rest.end()?;
-    Ok(Command::Receive(ReceiveCommand { side, datagram }))
+    Ok(Command::Receive(ReceiveCommand { letter, datagram }))
 }
 
 #[tactic(auto, unfolding(crate::specs::Lines::poll_of))]
 fn poll_of(words: Words<'_>) -> Result<Command, Misread>
     ensures { Reads result (poll_of words.entry) }
 {
-    let (side, rest) = side_word(words)?;
+    let (letter, rest) = letter_word(words)?;
     let (stream, rest) = number_word(rest, usize::MAX as u64)?;
     rest.end()?;
     Ok(Command::Poll(PollCommand {
-        side,
+        letter,
         stream: stream as usize,
     }))
 }

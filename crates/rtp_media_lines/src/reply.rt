@@ -1,86 +1,40 @@
 //! What the program prints.
 
-ghost use Rattle.std.specs.Prelude.{◌≡◌, ◌++◌, IfOk, OnOk, OnErr, string_bytes, [], ◌∷◌};
+ghost use Rattle.std.specs.Prelude.{◌≡◌, ◌++◌, ℕ, List, IfOk, OnOk, OnErr, string_bytes, [], ◌∷◌};
 ghost use Rattle.std.specs.List.{flat_map, list_any};
 ghost use Rattle.rtp_media_lines.specs.Runs.{status_of};
-ghost use Rattle.rtp_media_lines.specs.Replies.{name_of, reply_text, hex_text, is_error_line, text_line};
+ghost use Rattle.rtp_media_lines.specs.Replies.{reply_text, hex_text, is_error_line, text_line};
 
 use crate::owned::Bytes;
 use crate::status::Status;
 use std::alloc::{AllocError, Global};
+use std::marker::Model;
 
 /// The name of an error's variant, without what the variant holds.
-#[derive(Clone, Copy, Debug, PartialEq, Eq)]
-pub enum ErrorName {
-    /// No agreed section has this media identification.
-    NoSection,
-    /// The section's agreed rows have none of this payload type.
-    RowNotAgreed,
-    /// The end's own row differs from the agreed one.
-    RowDiffers,
-    /// The section doesn't run in this direction.
-    WrongDirection,
-    /// The section names no such synchronization source.
-    SsrcNotNamed,
-    /// A stream of this source and type is open.
-    AlreadyOpen,
-    /// Memory ran out.
-    Memory,
-    /// The stream failed at an earlier sample.
-    StreamFailed,
-    /// The time has no place on the wire's clock.
-    TimeTooLarge,
-    /// A datagram may pass the limit.
-    LimitTooSmall,
-    /// The payload's format refuses.
-    Payload,
-    /// A row isn't of a kind that an end can agree on.
-    RowNotPlain,
-    /// A payload type stands for two things.
-    TypesNotDistinct,
-    /// The session, a name or an extension doesn't print as a text that reads as itself.
-    NotWritable,
-    /// The text isn't the text of an offer or an answer.
-    Unreadable,
-    /// An offer is pending, or none is, or the end has agreed.
-    OutOfTurn,
-    /// A section of the text is no audio or video over RTP.
-    NotMedia,
-    /// The sections of text and list don't correspond.
-    NotCorresponding,
-    /// The rows can't be settled against the remote's.
-    Round,
-    /// A section would list no row.
-    NoCommonRow,
+#[derive(Drop)]
+pub struct ErrorName {
+    name: &'static str,
+}
+
+impl Model for ErrorName {
+    ghost Value = { List ℕ };
+
+    ghost view = { λ n. n.name.now };
 }
 
 impl ErrorName {
-    /// The name as it is printed.
-    pub fn as_str(self) -> &'static str
-        ensures { result.now ≡ name_of self }
+    /// This name.
+    pub fn new(name: &'static str) -> ErrorName
+        ensures { result ≡ name.now }
     {
-        match self {
-            ErrorName::NoSection => "NoSection",
-            ErrorName::RowNotAgreed => "RowNotAgreed",
-            ErrorName::RowDiffers => "RowDiffers",
-            ErrorName::WrongDirection => "WrongDirection",
-            ErrorName::SsrcNotNamed => "SsrcNotNamed",
-            ErrorName::AlreadyOpen => "AlreadyOpen",
-            ErrorName::Memory => "Memory",
-            ErrorName::StreamFailed => "StreamFailed",
-            ErrorName::TimeTooLarge => "TimeTooLarge",
-            ErrorName::LimitTooSmall => "LimitTooSmall",
-            ErrorName::Payload => "Payload",
-            ErrorName::RowNotPlain => "RowNotPlain",
-            ErrorName::TypesNotDistinct => "TypesNotDistinct",
-            ErrorName::NotWritable => "NotWritable",
-            ErrorName::Unreadable => "Unreadable",
-            ErrorName::OutOfTurn => "OutOfTurn",
-            ErrorName::NotMedia => "NotMedia",
-            ErrorName::NotCorresponding => "NotCorresponding",
-            ErrorName::Round => "Round",
-            ErrorName::NoCommonRow => "NoCommonRow",
-        }
+        ErrorName { name }
+    }
+
+    /// The name as it is printed.
+    pub fn as_str(&self) -> &'static str
+        ensures { result.now ≡ self.now }
+    {
+        self.name
     }
 }
 

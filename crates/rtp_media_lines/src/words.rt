@@ -10,7 +10,7 @@ use std::marker::Model;
 
 /// One of the program's two ends.
 #[derive(Clone, Copy, Debug, PartialEq, Eq)]
-pub enum Side {
+pub enum Letter {
     /// The end `a`.
     A,
     /// The end `b`.

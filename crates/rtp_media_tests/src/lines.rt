@@ -1,3 +1,1 @@
-mod exchanges;
 mod runs;
-mod words;

@@ -1,3 +1,1 @@
-mod offers;
 mod printed;
-mod redundant;

@@ -3,18 +3,19 @@
 ghost use Rattle.std.specs.Prelude.{◌≡◌, [], ◌∷◌, None, Some, IfOk, IfSome, IfNone, true, false};
 ghost use Rattle.std.specs.Str.{is_utf8};
 ghost use Rattle.sdp_formats_rows.specs.Formats.{no_format};
-ghost use Rattle.rtp_media.specs.Exchanging.{Prints, AtEnd, WithText, wanted_of, wanted_in, drafted_row, format_for, AnswersRow, AnswersExt, AnswersEnd, AnswersOffer, AnswersAnswer, AnswersAccept, AnswersWithdraw, AnswersConnect, refusal_of_draft, clear_desk, end_error_name, exchange_error_name};
-ghost use Rattle.rtp_media.specs.Sides.{AnswersAt, ConnectsEnds};
+ghost use Rattle.rtp_media.specs.Exchanging.{Prints, AtEnd, WithText, wanted_of, wanted_in, drafted_row, format_for, AnswersRow, AnswersExt, AnswersEnd, AnswersOffer, AnswersAnswer, AnswersAccept, AnswersWithdraw, AnswersConnect, refusal_of_draft, empty_draft};
+ghost use Rattle.rtp_media.specs.ProgramState.{AnswersAt, ConnectsEnds};
 ghost use Rattle.rtp_media_lines.specs.declared.line.Command.TheVariants as command_is;
 
-use super::{Desk, one};
+use super::names::{end_error_name, exchange_error_name};
+use super::{EndAndDraft, one};
 use rtp_media_ends::{
-    Codec, CodecConfig, CodecSpec, End, EndError, ExchangeError, FormatParams, PayloadParams,
+    Codec, CodecConfig, CodecSpec, End, FormatParams, PayloadParams,
     SectionSpec, Session, connect,
 };
 use rtp_media_lines::{
-    AcceptCommand, AnswerCommand, Bytes, ConnectCommand, EndCommand, ErrorName, ExtCommand,
-    OfferCommand, Reply, RowCommand, SectionWord, Side, Text,
+    AcceptCommand, AnswerCommand, Bytes, ConnectCommand, EndCommand, ExtCommand,
+    OfferCommand, Reply, RowCommand, SectionWord, Letter, Text,
 };
 use rtp_wire::{Extension, ExtensionMap, Frequency, Mid, Pt, SessionId, Ssrc};
 use std::alloc::{AllocError, Global};
@@ -50,48 +51,48 @@ fn drafted_row(command: &RowCommand, clock_rate: Frequency) -> PayloadParams
 
 pub(super) fn draft_row(
     alloc: Global,
-    desk: &mut Desk,
+    kept: &mut EndAndDraft,
     command: RowCommand,
 ) -> Result<Vec<Reply>, AllocError>
-    ensures { IfOk result (λ replies. AnswersRow desk.old command desk.new replies.items) }
+    ensures { IfOk result (λ replies. AnswersRow kept.old command kept.new replies.items) }
 {
     let Some(clock_rate) = Frequency::new(command.clock_rate) else {
         return one(alloc, Reply::ErrorLine);
     };
-    desk.rows.push(drafted_row(&command, clock_rate))?;
+    kept.rows.push(drafted_row(&command, clock_rate))?;
     one(alloc, Reply::Done)
 }
 
 pub(super) fn draft_ext(
     alloc: Global,
-    desk: &mut Desk,
+    kept: &mut EndAndDraft,
     command: ExtCommand,
 ) -> Result<Vec<Reply>, AllocError>
-    ensures { IfOk result (λ replies. AnswersExt desk.old command desk.new replies.items) }
+    ensures { IfOk result (λ replies. AnswersExt kept.old command kept.new replies.items) }
 {
     if command.id < 1 || command.id > 16 {
         return one(alloc, Reply::ErrorLine);
     }
     let ext = Extension::from_sdp_uri(alloc, command.uri.as_str())?;
-    desk.exts.set(command.id, ext);
+    kept.exts.set(command.id, ext);
     one(alloc, Reply::Done)
 }
 
 /// Makes an end of a draft, which is emptied.
 pub(super) fn make_end(
     alloc: Global,
-    desk: &mut Desk,
+    kept: &mut EndAndDraft,
     command: EndCommand,
 ) -> Result<Vec<Reply>, AllocError>
-    ensures { IfOk result (λ replies. AnswersAt desk.old (command_is.End command) desk.new replies.items) }
+    ensures { IfOk result (λ replies. AnswersAt kept.old (command_is.End command) kept.new replies.items) }
 {
-    let rows = mem::replace(&mut desk.rows, Vec::new(alloc));
-    let exts = mem::replace(&mut desk.exts, ExtensionMap::empty());
+    let rows = mem::replace(&mut kept.rows, Vec::new(alloc));
+    let exts = mem::replace(&mut kept.exts, ExtensionMap::empty());
     let config = CodecConfig::new_from_payload_params(rows);
     let session = Session::new(alloc, SessionId::from(command.session));
     match End::new(alloc, config, session, exts) {
         Ok(end) => {
-            desk.end = Some(end);
+            kept.end = Some(end);
             one(alloc, Reply::Done)
         }
         Err(error) => one(alloc, Reply::Refused(end_error_name(error))),
@@ -215,7 +216,7 @@ fn accept_text(alloc: Global, end: &mut Option<End>, text: &str) -> Result<Vec<R
 pub(super) fn withdraw(
     alloc: Global,
     end: &mut Option<End>,
-    _side: Side,
+    _letter: Letter,
 ) -> Result<Vec<Reply>, AllocError>
     ensures { IfOk result (λ replies. AtEnd end.old end.new replies.items (λ e after. AnswersWithdraw e after replies.items)) }
 {
@@ -252,31 +253,5 @@ pub(super) fn connect_ends(
             Ok(replies)
         }
         Err(error) => one(alloc, Reply::Refused(exchange_error_name(&error))),
-    }
-}
-
-fn end_error_name(error: EndError) -> ErrorName
-    ensures { result ≡ end_error_name error }
-{
-    match error {
-        EndError::RowNotPlain(_) => ErrorName::RowNotPlain,
-        EndError::TypesNotDistinct(_) => ErrorName::TypesNotDistinct,
-        EndError::NotWritable => ErrorName::NotWritable,
-        EndError::Memory => ErrorName::Memory,
-    }
-}
-
-fn exchange_error_name(error: &ExchangeError) -> ErrorName
-    ensures { result ≡ exchange_error_name error.now }
-{
-    match error {
-        ExchangeError::Unreadable(_) => ErrorName::Unreadable,
-        ExchangeError::OutOfTurn => ErrorName::OutOfTurn,
-        ExchangeError::NotMedia(_) => ErrorName::NotMedia,
-        ExchangeError::NotCorresponding => ErrorName::NotCorresponding,
-        ExchangeError::Round(_) => ErrorName::Round,
-        ExchangeError::NoCommonRow(_) => ErrorName::NoCommonRow,
-        ExchangeError::NotWritable => ErrorName::NotWritable,
-        ExchangeError::Memory => ErrorName::Memory,
     }
 }
