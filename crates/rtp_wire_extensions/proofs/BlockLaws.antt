@@ -15,24 +15,24 @@ use Rattle.rtp_wire_extensions.specs.Elements.{Element, Step, padding, slot, slo
 use Rattle.rtp_wire_extensions.specs.Values.{Numbering, absent, form_of_profile, values_in_form, values_of, written_elements, profile_of, block_in_form, block_of, two_byte_block, is_mapped, image_values}
 use Rattle.rtp_wire_extensions.proofs.CarriedLaws.{and_this, with_carried, carry}
 
-if-then : {A : Type 0} (b : Bool) (x y : A) → b ≡ true → (if b then x else y) ≡ x
+pub if-then : {A : Type 0} (b : Bool) (x y : A) → b ≡ true → (if b then x else y) ≡ x
 if-then true x y h = refl
 if-then false x y h = absurd (true≢false (sym h))
 
-if-else : {A : Type 0} (b : Bool) (x y : A) → b ≡ false → (if b then x else y) ≡ y
+pub if-else : {A : Type 0} (b : Bool) (x y : A) → b ≡ false → (if b then x else y) ≡ y
 if-else true x y h = absurd (true≢false h)
 if-else false x y h = refl
 
-lt-no : (a b : ℕ) → b ≤ a → nat_lt a b ≡ false
+pub lt-no : (a b : ℕ) → b ≤ a → nat_lt a b ≡ false
 lt-no a b h = grind (arith, nat_tests)
 
-lt-of-no : (a b : ℕ) → nat_lt a b ≡ false → b ≤ a
+pub lt-of-no : (a b : ℕ) → nat_lt a b ≡ false → b ≤ a
 lt-of-no a b h = grind (arith, nat_tests)
 
-eq-no : (a b : ℕ) → a < b → (a == b) ≡ false
+pub eq-no : (a b : ℕ) → a < b → (a == b) ≡ false
 eq-no a b h = grind (arith, nat_tests)
 
-eq-above : (a b : ℕ) → b < a → (a == b) ≡ false
+pub eq-above : (a b : ℕ) → b < a → (a == b) ≡ false
 eq-above a b h = grind (arith, nat_tests)
 
 -- ---- steps
@@ -61,7 +61,7 @@ on_step-same : {A : Type 0} (o : Option Step) (x : A) (f g : Step → A) → ((s
 on_step-same None x f g h = refl
 on_step-same (Some s) x f g h = h s refl
 
-step-none : (one : Bool) → step one [] ≡ None
+pub step-none : (one : Bool) → step one [] ≡ None
 step-none true = refl
 step-none false = refl
 
@@ -129,7 +129,7 @@ taken-element id bytes rest n e =
     let back : drop n (bytes ++ rest) ≡ rest = drop_at bytes rest n (sym e) in
     if-else _ _ _ enough ∙ (λ i. Some (record { id = id; bytes = front i; rest = back i }))
 
-step-element : (one : Bool) (e : Element) (rest : List ℕ) → IsElement one e → step one (element_text one e ++ rest) ≡ Some (record { id = e.id; bytes = e.bytes; rest = rest })
+pub step-element : (one : Bool) (e : Element) (rest : List ℕ) → IsElement one e → step one (element_text one e ++ rest) ≡ Some (record { id = e.id; bytes = e.bytes; rest = rest })
 step-element true e rest h =
     let b = 16 * e.id + (length e.bytes - 1) in
     let id : b / 16 ≡ e.id = omega (arith, h.0, h.1, h.2, h.3) in

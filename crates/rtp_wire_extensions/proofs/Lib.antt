@@ -2,3 +2,4 @@ pub mod BlockLaws
 pub mod CarriedLaws
 pub mod MapLaws
 pub mod EntryLaws
+pub mod LayoutLaws

@@ -5,3 +5,4 @@ pub mod Iteration
 pub mod Kinds
 pub mod Maps
 pub mod Values
+pub mod BlockLayout

@@ -1,10 +1,13 @@
 //! Extension blocks, read and written.
 
-ghost use Rattle.std.specs.Prelude.{◌≡◌, ◌+◌, ◌*◌, ◌%◌, ◌≤◌, ◌<◌, ◌++◌, List, ℕ, true, Some, None, MatchOption, length};
-ghost use Rattle.rtp_wire_extensions.specs.Carried.{AreValues};
+ghost use Rattle.std.specs.Prelude.{◌≡◌, ◌≢◌, ◌⊎◌, ◌+◌, ◌*◌, ◌%◌, ◌≤◌, ◌<◌, ◌++◌, List, [], ◌∷◌, ℕ, Bool, true, false, Some, None, MatchOption, length};
+ghost use Rattle.rtp_wire_extensions.specs.BlockLayout.{AreBytes, IsLaidOut, Piece, may_have_length, said_by_pieces};
+ghost use Rattle.rtp_wire_extensions.specs.Carried.{AreValues, with_value};
 ghost use Rattle.rtp_wire_extensions.specs.Elements.{Numbering, step, taken, lookup, with_element, values_from, place_elements, are_one_byte, elements_text};
 ghost use Rattle.rtp_wire_extensions.specs.Maps.{form_for, form_if};
-ghost use Rattle.rtp_wire_extensions.specs.Values.{absent, values_of, block_of, two_byte_block, written_elements};
+ghost use Rattle.rtp_wire_extensions.specs.Values.{absent, form_of_profile, values_of, block_of, two_byte_block, written_elements};
+ghost use Rattle.rtp_wire_extensions.specs.declared.extension.Extension.{Extension};
+ghost use Rattle.rtp_wire_extensions.specs.declared.extension.Extension.TheVariants as extension_is;
 ghost use Rattle.rtp_wire_extensions.specs.declared.values.ExtensionValues.{ExtensionValues};
 ghost use Rattle.rtp_wire_extensions.specs.Written.{IsWritten};
 
@@ -13,8 +16,27 @@ use crate::reading::set_value;
 use crate::values::ExtensionValues;
 use crate::writing::put;
 
-/// The two-byte form is never the shorter one.
+/// The bytes of a block are laid out in one way as elements with bytes of padding between them, up to
+/// what ends them (RFC 8285 4.2 and 4.3), and its values are what these elements say: a value of a length
+/// that its extension hasn't says nothing, and of an orientation's byte the low two bits count. Elements
+/// stand under the profiles BEDE, in the one-byte form, and 1000 to 100F, in the two-byte form. The
+/// two-byte form is never the shorter one.
 pub fn block_laws()
+    ensures laid_out { (one : Bool) (bytes : List ℕ) → AreBytes bytes →
+        (pieces : List Piece) × (end : List ℕ) × IsLaidOut one bytes pieces end }
+    ensures read { (one : Bool) (map : Numbering) (bytes : List ℕ) (pieces : List Piece) (end : List ℕ)
+        (values : ExtensionValues) → IsLaidOut one bytes pieces end →
+        values_from one map (length bytes) bytes values ≡ said_by_pieces map pieces values }
+    ensures of_other_length { (ext : Extension) (bytes : List ℕ) (values : ExtensionValues) →
+        may_have_length ext (length bytes) ≡ false → with_value ext bytes values ≡ values }
+    ensures orientation { (byte : ℕ) (values : ExtensionValues) →
+        with_value extension_is.VideoOrientation (byte ∷ []) values
+        ≡ with_value extension_is.VideoOrientation (byte % 4 ∷ []) values }
+    ensures one_byte_profile { form_of_profile 48862 ≡ Some true }
+    ensures two_byte_profiles { (profile : ℕ) → 4096 ≤ profile → profile < 4112 →
+        form_of_profile profile ≡ Some false }
+    ensures other_profiles { (profile : ℕ) → profile ≢ 48862 → (profile < 4096) ⊎ (4112 ≤ profile) →
+        form_of_profile profile ≡ None }
     ensures within { (map : Numbering) (values : ExtensionValues) →
         length (block_of map values).content ≤ length (two_byte_block map values).content }
 {}

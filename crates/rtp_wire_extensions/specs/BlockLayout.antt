@@ -1,0 +1,74 @@
+-- How the bytes of an extension block are laid out: elements, bytes of padding, and what ends them
+-- (RFC 8285 4.2 and 4.3).
+use Rattle.std.specs.Prelude.{ℕ, ◌/◌, ◌%◌, ◌≡◌, ◌≤◌, ◌<◌, ◌⊎◌, ◌==◌, ◌||◌, Bool, true, false, List, [], ◌∷◌, ◌++◌, length}
+use Rattle.std.specs.List.{flat_map}
+use Rattle.rtp_wire_extensions.specs.declared.extension.Extension.{Extension}
+use Rattle.rtp_wire_extensions.specs.declared.extension.Extension.TheVariants.{AbsoluteSendTime, AbsoluteCaptureTime,
+    AudioLevel, VideoOrientation, TransportSequenceNumber, PlayoutDelay, VideoContentType, RtpStreamId,
+    RepairedRtpStreamId, RtpMid, UnknownUri}
+use Rattle.rtp_wire_extensions.specs.declared.values.ExtensionValues.{ExtensionValues}
+use Rattle.rtp_wire_extensions.specs.Elements.{Element, Numbering, element_text, lookup, with_element}
+
+-- A byte of padding, or an element.
+pub data Piece : Type 0 where
+  Padding : (byte : ℕ) → Piece
+  Holds : (element : Element) → Piece
+
+abbrev pub piece_text : Bool → Piece → List ℕ
+piece_text one (Padding byte) = byte ∷ []
+piece_text one (Holds element) = element_text one element
+
+-- One-byte form: a byte of padding has number 0, whatever its length says; numbers are 1 to 14, and a
+-- value has 1 to 16 bytes. Two-byte form: padding is 0, and a value may be empty.
+abbrev pub IsPiece : Bool → Piece → Type 0
+IsPiece true (Padding byte) = byte < 16
+IsPiece true (Holds e) = (1 ≤ e.id) × (e.id ≤ 14) × (1 ≤ length e.bytes) × (length e.bytes ≤ 16)
+IsPiece false (Padding byte) = byte ≡ 0
+IsPiece false (Holds e) = 1 ≤ e.id
+
+abbrev pub ArePieces : Bool → List Piece → Type 0
+ArePieces one [] = Unit {0}
+ArePieces one (piece ∷ pieces) = IsPiece one piece × ArePieces one pieces
+
+abbrev pub AreBytes : List ℕ → Type 0
+AreBytes [] = Unit {0}
+AreBytes (byte ∷ bytes) = (byte < 256) × AreBytes bytes
+
+-- What ends the elements: nothing is left, or number 15 in the one-byte form, or an element that passes
+-- the block's end.
+abbrev pub EndsElements : Bool → List ℕ → Type 0
+EndsElements true [] = Unit {0}
+EndsElements true (first ∷ rest) = (first / 16 ≡ 15) ⊎ ((1 ≤ first / 16) × (length rest ≤ first % 16))
+EndsElements false [] = Unit {0}
+EndsElements false (id ∷ []) = 1 ≤ id
+EndsElements false (id ∷ count ∷ rest) = (1 ≤ id) × (length rest < count)
+
+-- The bytes are these pieces, and what ends them.
+pub record IsLaidOut (one : Bool) (bytes : List ℕ) (pieces : List Piece) (end : List ℕ) : Type 0 where
+  pub spelled : bytes ≡ flat_map (piece_text one) pieces ++ end
+  pub are_pieces : ArePieces one pieces
+  pub ends : EndsElements one end
+
+-- The values with what pieces say, the last one of an extension counting; an element of a number that
+-- has no extension says nothing.
+abbrev pub said_by_piece : Numbering → Piece → ExtensionValues → ExtensionValues
+said_by_piece map (Padding byte) values = values
+said_by_piece map (Holds e) values = with_element (lookup map e.id) e.bytes values
+
+abbrev pub said_by_pieces : Numbering → List Piece → ExtensionValues → ExtensionValues
+said_by_pieces map [] values = values
+said_by_pieces map (piece ∷ pieces) values = said_by_pieces map pieces (said_by_piece map piece values)
+
+-- The lengths that an extension's value may have: a text has any.
+abbrev pub may_have_length : Extension → ℕ → Bool
+may_have_length AbsoluteSendTime n = n == 3
+may_have_length AbsoluteCaptureTime n = (n == 8) || (n == 16)
+may_have_length AudioLevel n = n == 1
+may_have_length VideoOrientation n = n == 1
+may_have_length TransportSequenceNumber n = n == 2
+may_have_length PlayoutDelay n = n == 3
+may_have_length VideoContentType n = n == 1
+may_have_length RtpStreamId n = true
+may_have_length RepairedRtpStreamId n = true
+may_have_length RtpMid n = true
+may_have_length (UnknownUri uri) n = false
