@@ -1,4 +1,5 @@
-use Rattle.std.specs.Prelude.{ℕ, ◌-◌, Bool, true, false, ◌==◌, ◌||◌, nat_lt, if◌then◌else◌, List, length, take, slice_index, Option, Some, None}
+use Rattle.std.specs.Prelude.{ℕ, ◌≡◌, ◌<◌, ◌-◌, Bool, true, false, ◌==◌, ◌||◌, nat_lt, if◌then◌else◌, List, ◌++◌}
+use Rattle.std.specs.Prelude.{length, take, slice_index, Option, Some, None}
 
 -- The payload in front of so many padding bytes, at least one.
 abbrev pub without : ℕ → List ℕ → Option (List ℕ)
@@ -10,3 +11,12 @@ without count payload =
 abbrev pub unpadded : Bool → List ℕ → Option (List ℕ)
 unpadded false payload = Some payload
 unpadded true payload = without (slice_index payload (length payload - 1)) payload
+
+-- Bytes of padding: at least one, and the last one counts them (RFC 3550 5.1).
+pub record IsPadding (padding : List ℕ) : Type 0 where
+  pub some_byte : 0 < length padding
+  pub counted : slice_index padding (length padding - 1) ≡ length padding
+
+-- A payload is these bytes and padding behind them.
+abbrev pub IsPadded : List ℕ → List ℕ → Type 0
+IsPadded payload body = (padding : List ℕ) × (payload ≡ body ++ padding) × IsPadding padding

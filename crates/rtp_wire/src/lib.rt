@@ -11,7 +11,7 @@ mod window;
 mod writing;
 
 pub use header::RtpHeader;
-pub use laws::{header_laws, widening_laws, window_laws};
+pub use laws::{header_laws, padding_laws, widening_laws, window_laws};
 pub use padding::unpad_payload;
 pub use rtp_wire_extensions::{
     AbsCaptureTime, Extension, ExtensionMap, ExtensionMapIter, ExtensionValues, ExtensionsForm,

@@ -1,24 +1,28 @@
 -- Blocks are laid out as pieces, and what is read is what the pieces say.
-use Rattle.std.proofs.Common.{◌≡◌, ℕ, zero, suc, ◌+◌, ◌*◌, ◌-◌, ◌/◌, ◌%◌, ◌<◌, ◌≤◌, Bool, true, false, true≢false, ◌==◌, refl,
-    sym, ap, ◌∙◌, ◌≢◌, arith, List, [], ◌∷◌, ◌++◌, length, take, drop, length-take, length-drop,
-    append_assoc, inl, inr}
+use Rattle.std.proofs.Common.{◌≡◌, ℕ, zero, suc, ◌+◌, ◌*◌, ◌-◌, ◌/◌, ◌%◌, ◌<◌, ◌≤◌, Bool, true, false, true≢false}
+use Rattle.std.proofs.Common.{◌==◌, refl, sym, ap, ◌∙◌, ◌≢◌, arith, List, [], ◌∷◌, ◌++◌, length, take, drop}
+use Rattle.std.proofs.Common.{length-take, length-drop, append_assoc, inl, inr}
 use Rattle.std.specs.Prelude.{if◌then◌else◌, Option, Some, None, nat_lt, ◌||◌, ◌⊎◌}
 use Rattle.std.specs.List.{flat_map}
 use Rattle.std.proofs.lemmas.Bool.Decides.{nat_tests}
 use Rattle.std.proofs.lemmas.List.{take-append-drop}
 use Rattle.rtp_wire_extensions.specs.declared.extension.Extension.{Extension}
-use Rattle.rtp_wire_extensions.specs.declared.extension.Extension.TheVariants.{AbsoluteSendTime, AbsoluteCaptureTime,
-    AudioLevel, VideoOrientation, TransportSequenceNumber, PlayoutDelay, VideoContentType, RtpStreamId,
-    RepairedRtpStreamId, RtpMid, UnknownUri}
+use Rattle.rtp_wire_extensions.specs.declared.extension.Extension.TheVariants.{AbsoluteSendTime, AbsoluteCaptureTime}
+use Rattle.rtp_wire_extensions.specs.declared.extension.Extension.TheVariants.{AudioLevel, VideoOrientation}
+use Rattle.rtp_wire_extensions.specs.declared.extension.Extension.TheVariants.{TransportSequenceNumber, PlayoutDelay}
+use Rattle.rtp_wire_extensions.specs.declared.extension.Extension.TheVariants.{VideoContentType, RtpStreamId}
+use Rattle.rtp_wire_extensions.specs.declared.extension.Extension.TheVariants.{RepairedRtpStreamId, RtpMid}
+use Rattle.rtp_wire_extensions.specs.declared.extension.Extension.TheVariants.{UnknownUri}
 use Rattle.rtp_wire_extensions.specs.declared.values.ExtensionValues.{ExtensionValues}
 use Rattle.rtp_wire_extensions.specs.Carried.{with_value}
-use Rattle.rtp_wire_extensions.specs.Elements.{Element, Numbering, Step, element_text, padding, lookup, on_step, step,
-    taken, taken_long, values_from, with_element}
+use Rattle.rtp_wire_extensions.specs.Elements.{Element, Numbering, Step, element_text, padding, lookup, on_step, step}
+use Rattle.rtp_wire_extensions.specs.Elements.{taken, taken_long, values_from, with_element}
 use Rattle.rtp_wire_extensions.specs.Values.{form_of_profile}
-use Rattle.rtp_wire_extensions.specs.BlockLayout.{Piece, Padding, Holds, piece_text, IsPiece, ArePieces, AreBytes,
-    EndsElements, IsLaidOut, said_by_piece, said_by_pieces, may_have_length}
-use Rattle.rtp_wire_extensions.proofs.BlockLaws.{if-then, if-else, lt-of-no, eq-no, step-element, values_from-end,
-    values_from-step}
+use Rattle.rtp_wire_extensions.specs.BlockLayout.{Piece, Padding, Holds, piece_text, IsPiece, ArePieces, AreBytes}
+use Rattle.rtp_wire_extensions.specs.BlockLayout.{EndsElements, IsLaidOut, said_by_piece, said_by_pieces}
+use Rattle.rtp_wire_extensions.specs.BlockLayout.{may_have_length}
+use Rattle.rtp_wire_extensions.proofs.BlockLaws.{if-then, if-else, lt-of-no, eq-no, step-element, values_from-end}
+use Rattle.rtp_wire_extensions.proofs.BlockLaws.{values_from-step}
 
 -- what a piece is read as
 abbrev piece_step : Piece → List ℕ → Step
@@ -52,7 +56,8 @@ one-past b rest false h = taken-past (b / 16) (b % 16 + 1) rest h
 step-ends : (one : Bool) (end : List ℕ) → EndsElements one end → step one end ≡ None
 step-ends true [] h = refl
 step-ends true (b ∷ rest) (inl h) =
-    if-else (b / 16 == 0) _ _ (eq-pos (b / 16) (omega (arith, h))) ∙ if-then (b / 16 == 15) _ _ (ap (λ (k : ℕ). k == 15) h)
+    if-else (b / 16 == 0) _ _ (eq-pos (b / 16) (omega (arith, h)))
+    ∙ if-then (b / 16 == 15) _ _ (ap (λ (k : ℕ). k == 15) h)
 step-ends true (b ∷ rest) (inr h) =
     if-else (b / 16 == 0) _ _ (eq-pos (b / 16) h.0) ∙ one-past b rest (b / 16 == 15) (omega (arith, h.1))
 step-ends false [] h = refl
@@ -76,11 +81,11 @@ pieces-read one map [] end v a e = values_from-end one map end v (step-ends one 
 pieces-read one map (p ∷ ps) end v a e =
     let rest = flat_map (piece_text one) ps ++ end in
     let split : flat_map (piece_text one) (p ∷ ps) ++ end ≡ piece_text one p ++ rest =
-        append_assoc (piece_text one p) (flat_map (piece_text one) ps) end in
+    append_assoc (piece_text one p) (flat_map (piece_text one) ps) end in
     ap (λ (ys : List ℕ). values_from one map (length ys) ys v) split
     ∙ values_from-step one map (piece_text one p ++ rest) v (piece_step p rest) (step-piece one p rest a.0)
     ∙ ap (λ (ys : List ℕ). values_from one map (length ys) ys
-        (with_element (lookup map (piece_step p rest).id) (piece_step p rest).bytes v)) (rest-of p rest)
+    (with_element (lookup map (piece_step p rest).id) (piece_step p rest).bytes v)) (rest-of p rest)
     ∙ ap (values_from one map (length rest) rest) (said-by map p rest v)
     ∙ pieces-read one map ps end (said_by_piece map p v) a.1 e
 
@@ -106,12 +111,16 @@ ended one bytes h = ([], bytes, record { spelled = refl; are_pieces = tt; ends =
 
 behind : (one : Bool) (p : Piece) (rest bytes : List ℕ) → IsPiece one p → bytes ≡ piece_text one p ++ rest →
     Layout one rest → Layout one bytes
-behind one p rest bytes is same (pieces, end, h) =
-    (p ∷ pieces, end, record {
-      spelled = same ∙ ap (λ (ys : List ℕ). piece_text one p ++ ys) h.spelled
+behind one p rest bytes is same (pieces, end, h) = (
+  p ∷ pieces,
+  end,
+  record {
+    spelled = same ∙ ap (λ (ys : List ℕ). piece_text one p ++ ys) h.spelled
         ∙ sym (append_assoc (piece_text one p) (flat_map (piece_text one) pieces) end);
-      are_pieces = (is, h.are_pieces);
-      ends = h.ends })
+    are_pieces = (is, h.are_pieces);
+    ends = h.ends;
+  },
+)
 
 -- an element with its bytes in front of what is behind it
 front : (k : ℕ) (rest : List ℕ) → k ≤ length rest → length (take k rest) ≡ k
@@ -123,7 +132,8 @@ one-by : (b : ℕ) (rest : List ℕ) (is_zero is_last is_past : Bool) → b < 25
     Layout true rest → Layout true (drop (b % 16 + 1) rest) → Layout true (b ∷ rest)
 one-by b rest true is_last is_past low zero' last past next beyond =
     behind true (Padding b) rest (b ∷ rest) (grind (arith, nat_tests)) refl next
-one-by b rest false true is_past low zero' last past next beyond = ended true (b ∷ rest) (inl (grind (arith, nat_tests)))
+one-by b rest false true is_past low zero' last past next beyond =
+    ended true (b ∷ rest) (inl (grind (arith, nat_tests)))
 one-by b rest false false true low zero' last past next beyond =
     let is : 1 ≤ b / 16 = grind (arith, nat_tests) in
     let passes : length rest ≤ b % 16 = grind (arith, nat_tests) in
@@ -138,8 +148,8 @@ one-by b rest false false false low zero' last past next beyond =
     let most : b / 16 ≤ 14 = grind (arith, nat_tests) in
     let short : b % 16 < 16 = omega arith in
     behind true (Holds e) (drop k rest) (b ∷ rest)
-        (some, most, omega (arith, count), omega (arith, count, short))
-        (λ i. first i ∷ sym (take-append-drop k rest) i) beyond
+    (some, most, omega (arith, count), omega (arith, count, short))
+    (λ i. first i ∷ sym (take-append-drop k rest) i) beyond
 
 -- in the two-byte form
 two-by : (id count : ℕ) (rest : List ℕ) (is_past : Bool) → 1 ≤ id → nat_lt (length rest) count ≡ is_past →
@@ -150,16 +160,16 @@ two-by id count rest false some past beyond =
     let e : Element = record { id = id; bytes = take count rest } in
     let long : length (take count rest) ≡ count = front count rest (lt-of-no (length rest) count past) in
     behind false (Holds e) (drop count rest) (id ∷ count ∷ rest) some
-        (λ i. id ∷ sym long i ∷ sym (take-append-drop count rest) i) beyond
+    (λ i. id ∷ sym long i ∷ sym (take-append-drop count rest) i) beyond
 
 layout-one : (n : ℕ) (bytes : List ℕ) → length bytes ≤ n → AreBytes bytes → Layout true bytes
 layout-one n [] short are = ended true [] tt
 layout-one zero (b ∷ rest) short are = absurd (omega arith)
 layout-one (suc n) (b ∷ rest) short are =
     one-by b rest (b / 16 == 0) (b / 16 == 15) (nat_lt (length rest) (b % 16 + 1)) are.0 refl refl refl
-        (layout-one n rest (omega arith) are.1)
-        (layout-one n (drop (b % 16 + 1) rest) (omega (arith, length-drop (b % 16 + 1) rest))
-            (AreBytes-drop (b % 16 + 1) rest are.1))
+    (layout-one n rest (omega arith) are.1)
+    (layout-one n (drop (b % 16 + 1) rest) (omega (arith, length-drop (b % 16 + 1) rest))
+    (AreBytes-drop (b % 16 + 1) rest are.1))
 
 layout-two : (n : ℕ) (bytes : List ℕ) → length bytes ≤ n → Layout false bytes
 layout-two n [] short = ended false [] tt
@@ -169,7 +179,7 @@ layout-two (suc n) (zero ∷ rest) short =
 layout-two (suc n) (suc id ∷ []) short = ended false (suc id ∷ []) (omega arith)
 layout-two (suc n) (suc id ∷ count ∷ rest) short =
     two-by (suc id) count rest (nat_lt (length rest) count) (omega arith) refl
-        (layout-two n (drop count rest) (omega (arith, length-drop count rest)))
+    (layout-two n (drop count rest) (omega (arith, length-drop count rest)))
 
 pub layout-of : (one : Bool) (bytes : List ℕ) → AreBytes bytes →
     (pieces : List Piece) × (end : List ℕ) × IsLaidOut one bytes pieces end
@@ -209,6 +219,7 @@ low_bits_of_orientation byte v =
 pub two_byte_profiles : (profile : ℕ) → 4096 ≤ profile → profile < 4112 → form_of_profile profile ≡ Some false
 two_byte_profiles profile least most = grind (arith, nat_tests)
 
-pub other_profiles : (profile : ℕ) → profile ≢ 48862 → (profile < 4096) ⊎ (4112 ≤ profile) → form_of_profile profile ≡ None
+pub other_profiles : (profile : ℕ) → profile ≢ 48862 → (profile < 4096) ⊎ (4112 ≤ profile) → form_of_profile profile
+    ≡ None
 other_profiles profile other (inl h) = grind (arith, nat_tests)
 other_profiles profile other (inr h) = grind (arith, nat_tests)

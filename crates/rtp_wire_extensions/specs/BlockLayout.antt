@@ -1,11 +1,15 @@
 -- How the bytes of an extension block are laid out: elements, bytes of padding, and what ends them
 -- (RFC 8285 4.2 and 4.3).
-use Rattle.std.specs.Prelude.{ℕ, ◌/◌, ◌%◌, ◌≡◌, ◌≤◌, ◌<◌, ◌⊎◌, ◌==◌, ◌||◌, Bool, true, false, List, [], ◌∷◌, ◌++◌, length}
+use Rattle.std.specs.Prelude.{ℕ, ◌/◌, ◌%◌, ◌≡◌, ◌≤◌, ◌<◌, ◌⊎◌, ◌==◌, ◌||◌, Bool, true, false, List, [], ◌∷◌, ◌++◌}
+use Rattle.std.specs.Prelude.{length}
 use Rattle.std.specs.List.{flat_map}
 use Rattle.rtp_wire_extensions.specs.declared.extension.Extension.{Extension}
-use Rattle.rtp_wire_extensions.specs.declared.extension.Extension.TheVariants.{AbsoluteSendTime, AbsoluteCaptureTime,
-    AudioLevel, VideoOrientation, TransportSequenceNumber, PlayoutDelay, VideoContentType, RtpStreamId,
-    RepairedRtpStreamId, RtpMid, UnknownUri}
+use Rattle.rtp_wire_extensions.specs.declared.extension.Extension.TheVariants.{AbsoluteSendTime, AbsoluteCaptureTime}
+use Rattle.rtp_wire_extensions.specs.declared.extension.Extension.TheVariants.{AudioLevel, VideoOrientation}
+use Rattle.rtp_wire_extensions.specs.declared.extension.Extension.TheVariants.{TransportSequenceNumber, PlayoutDelay}
+use Rattle.rtp_wire_extensions.specs.declared.extension.Extension.TheVariants.{VideoContentType, RtpStreamId}
+use Rattle.rtp_wire_extensions.specs.declared.extension.Extension.TheVariants.{RepairedRtpStreamId, RtpMid}
+use Rattle.rtp_wire_extensions.specs.declared.extension.Extension.TheVariants.{UnknownUri}
 use Rattle.rtp_wire_extensions.specs.declared.values.ExtensionValues.{ExtensionValues}
 use Rattle.rtp_wire_extensions.specs.Elements.{Element, Numbering, element_text, lookup, with_element}
 

@@ -1,9 +1,11 @@
 //! Which extension has which number.
 
-ghost use Rattle.std.specs.Prelude.{◌≡◌, ◌+◌, ◌-◌, ◌≤◌, ◌<◌, List, ℕ, suc, length, slice_set, Some, IfSome, IfOk, IsPermutation};
+ghost use Rattle.std.specs.Prelude.{◌≡◌, ◌+◌, ◌-◌, ◌≤◌, ◌<◌, List, ℕ, suc, length, slice_set, Some, IfSome, IfOk};
+ghost use Rattle.std.specs.Prelude.{IsPermutation};
 ghost use Rattle.std.specs.Option.{option_copied};
 ghost use Rattle.rtp_wire_extensions.specs.Elements.{slot_is, holds, carried_at, lookup};
-ghost use Rattle.rtp_wire_extensions.specs.Maps.{empty_map, is_empty_map, standard_map, place_of, id_of, moved, remapped};
+ghost use Rattle.rtp_wire_extensions.specs.Maps.{empty_map, is_empty_map, standard_map, place_of, id_of, moved};
+ghost use Rattle.rtp_wire_extensions.specs.Maps.{remapped};
 
 use crate::element::{ElementBytes, value_bytes};
 use crate::extension::Extension;

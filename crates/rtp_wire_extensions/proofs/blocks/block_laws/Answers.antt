@@ -1,7 +1,7 @@
 use Rattle.std.proofs.Common.{refl}
 use Rattle.rtp_wire_extensions.proofs.BlockLaws.{block_of-shorter}
-use Rattle.rtp_wire_extensions.proofs.LayoutLaws.{laid_out-read, layout-of, low_bits_of_orientation, of_other_length,
-    other_profiles, two_byte_profiles}
+use Rattle.rtp_wire_extensions.proofs.LayoutLaws.{laid_out-read, layout-of, low_bits_of_orientation, of_other_length}
+use Rattle.rtp_wire_extensions.proofs.LayoutLaws.{other_profiles, two_byte_profiles}
 use Rattle.rtp_wire_extensions.proofs.blocks.block_laws.Goals as goal
 
 pub returns : goal.returns
