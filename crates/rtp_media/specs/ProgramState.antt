@@ -1,6 +1,6 @@
 -- What the program does at each command.
 use Rattle.std.specs.Prelude.{◌≡◌, ◌⊎◌, List, Option, Some, None}
-use Rattle.rtp_media_ends.specs.ProgramState.{EndState}
+use Rattle.rtp_media_ends.specs.Ends.{EndState}
 use Rattle.rtp_media_lines.specs.declared.words.Letter.{Letter}
 use Rattle.rtp_media_lines.specs.declared.words.Letter.TheVariants.{A, B}
 use Rattle.rtp_media_lines.specs.declared.line.Command.{Command}

@@ -1,6 +1,6 @@
 //! What the program prints.
 
-ghost use Rattle.std.specs.Prelude.{◌≡◌, ◌++◌, ℕ, List, IfOk, OnOk, OnErr, string_bytes, [], ◌∷◌};
+ghost use Rattle.std.specs.Prelude.{◌≡◌, ◌++◌, IfOk, OnOk, OnErr, string_bytes, [], ◌∷◌};
 ghost use Rattle.std.specs.List.{flat_map, list_any};
 ghost use Rattle.rtp_media_lines.specs.Runs.{status_of};
 ghost use Rattle.rtp_media_lines.specs.Replies.{reply_text, hex_text, is_error_line, text_line};
@@ -17,6 +17,8 @@ pub struct ErrorName {
 }
 
 impl Model for ErrorName {
+    ghost use Rattle.std.specs.Prelude.{ℕ, List};
+
     ghost Value = { List ℕ };
 
     ghost view = { λ n. n.name.now };
