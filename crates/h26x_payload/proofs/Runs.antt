@@ -5,7 +5,7 @@ use Rattle.std.proofs.lemmas.List.Concat.{flat_map-cons}
 use Rattle.std.proofs.lemmas.Option.{none-some}
 use Rattle.payload_core_base.specs.Format.{Format, Fragment, Reading, Run, read_all, run_after, run_behind}
 use Rattle.payload_core_base.specs.Law.{AreFramesOf, CodecLaw, Coding, GivesFrom, SendsUnits, joined, payloads_of}
-use Rattle.payload_core_base.specs.Packing.{MarkedPacket, Packing, Sent, marked}
+use Rattle.payload_core_base.specs.Packing.{MarkedPacket, Packing, Sender, Sent, marked}
 use Rattle.payload_core_base.specs.declared.error.PacketError.{PacketError}
 use Rattle.payload_core_base.specs.declared.extra.CodecExtra.{CodecExtra}
 use Rattle.h26x_payload.specs.Dispatch.{ArePair, ComesThrough, GivesUnits, SendsAndGives, through}
@@ -49,12 +49,14 @@ frames_give format (parts ∷ units) ps frames extra =
     let cut : payloads_of (take n ps) ++ payloads_of (drop n ps) ≡ payloads_of ps = sym (map-append (λ (p : MarkedPacket). p.payload) (take n ps) (drop n ps)) ∙ ap payloads_of (take-append-drop n ps) in
     rw (sym cut) (unit_first format extra (payloads_of (take n ps)) (payloads_of (drop n ps)) parts units (frames.1.first_gives_all extra) (λ x. frames_give format units (drop n ps) frames.2 x))
 
-sent_gives : (coding : Coding) (limit : ℕ) (result : Result Sent PacketError) (units : List (List (List ℕ))) → SendsUnits coding limit result units → SendsAndGives coding.format limit result units
-sent_gives coding limit (Err e) units sends = absurd sends
-sent_gives coding limit (Ok sent) units sends = (sends.within, λ extra. rw (sym (payloads_marked coding.packing sent.packets)) (frames_give coding.format units (marked coding.packing sent.packets) sends.frames extra))
+sent_gives : (coding : Coding) (limit : ℕ) (result : Result Sent PacketError) (units : List (List (List ℕ))) (after : Sender)
+    → SendsUnits coding limit result units after → SendsAndGives coding.format limit result units
+sent_gives coding limit (Err e) units after sends = absurd sends
+sent_gives coding limit (Ok sent) units after sends = (sends.within, λ extra. rw (sym (payloads_marked coding.packing sent.packets)) (frames_give coding.format units (marked coding.packing sent.packets) sends.frames extra))
 
 pub comes_through : (coding : Coding) → CodecLaw coding → ComesThrough coding
-comes_through coding law sender limit sample reached well_formed = sent_gives coding limit (coding.packing.pack sender limit sample) (coding.units sender limit sample) (law sender limit sample reached well_formed)
+comes_through coding law sender limit sample reached well_formed = sent_gives coding limit (coding.packing.pack sender limit sample) (coding.units sender limit sample)
+    (coding.after sender limit sample) (law sender limit sample reached well_formed)
 
 pub pair_of : (coding : Coding) (packing : Packing) (format : Format) → packing ≡ coding.packing → format ≡ coding.format → CodecLaw coding → ArePair packing format coding
 pair_of coding packing format packs reads law =

@@ -44,6 +44,7 @@ no_coding = record {
   IsReached = λ sender. ⊥;
   IsWellFormed = λ limit sample. ⊥;
   units = λ sender limit sample. [];
+  after = λ sender limit sample. sender;
 }
 
 -- The payload format of a codec, with picture ids in VP8 or without.

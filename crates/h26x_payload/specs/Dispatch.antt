@@ -29,6 +29,7 @@ through packing format coding = record {
   IsReached = coding.IsReached;
   IsWellFormed = coding.IsWellFormed;
   units = coding.units;
+  after = coding.after;
 }
 
 -- The run had no fault, gave the bytes of these units, one behind the other, and left no fragment open.

@@ -172,6 +172,7 @@ h264_codec_law s limit sample reached are = record {
   reached = tt;
   within = within_law s limit sample;
   frames = frames_of limit (leaving s limit sample) (bundles_of s limit sample are) (fits_of s limit sample);
+  leaves = refl;
 }
 
 full_by : (header : ℕ) (first : Bool) (limit : ℕ) (ps : List (List ℕ)) → 3 ≤ limit → AreFull (limit - 2) ps → AreFull limit (in_fragments (fu_a header) first ps)

@@ -53,11 +53,15 @@ abbrev pub packets_of : ℕ → Departure → List (List ℕ)
 packets_of limit (Together sets) = stap_a sets ∷ []
 packets_of limit (Alone unit) = if nat_le (length unit) limit then unit ∷ [] else fragments_of limit unit
 
+-- The sets that wait after a sample's units.
+abbrev pub h264_after : Sender → ℕ → List ℕ → Sender
+h264_after s limit sample = record { number = s.number; waiting = waiting_after h264_rules s.waiting (units_of sample) }
+
 -- The packets of what leaves of a sample's units, and the sets that wait after them.
 abbrev pub pack_h264 : Sender → ℕ → List ℕ → Result Sent PacketError
 pack_h264 s limit sample = Ok (record {
   packets = flat_map (packets_of limit) (departures h264_rules limit s.waiting (units_of sample));
-  sender = record { number = s.number; waiting = waiting_after h264_rules s.waiting (units_of sample) };
+  sender = h264_after s limit sample;
 })
 
 -- The last packet of a sample has the marker.

@@ -210,6 +210,7 @@ h265_codec_law donl s mtu sample reached are = record {
   reached = tt;
   within = All-weaker (IsWithin (least_limit mtu)) (IsWithin mtu) (λ p fits. (fits.0, omega (arith, fits.1))) (packets_sent donl s mtu sample) (within_law donl s mtu sample);
   frames = frames_of donl (least_limit mtu) s.number (leaving donl s mtu sample) (bundles_of donl s mtu sample are) (fits_of donl s mtu sample);
+  leaves = refl;
 }
 
 later_full : (donl : Bool) (n high low limit : ℕ) (ps : List (List ℕ)) → 3 < limit → AreFull (limit - 3) ps → AreFull limit (in_fragments (fragment donl n high low) false ps)

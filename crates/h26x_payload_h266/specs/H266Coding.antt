@@ -10,7 +10,7 @@ use Rattle.h26x_payload_units.specs.Departures.{EachUnit, units_sent}
 use Rattle.h26x_payload_units.specs.Fragments.{behind_code}
 use Rattle.h26x_payload_h266.specs.H266Headers.{type_of}
 use Rattle.h26x_payload_h266.specs.H266Numbers.{donl_size}
-use Rattle.h26x_payload_h266.specs.H266Packing.{fragments_of, h266_packing, h266_rules, least_limit, packets_sent}
+use Rattle.h26x_payload_h266.specs.H266Packing.{fragments_of, h266_after, h266_packing, h266_rules, least_limit, packets_sent}
 use Rattle.h26x_payload_h266.specs.H266Reading.{h266_format}
 
 -- F, the topmost bit of its header, is clear, its type is one of 0 to 27, and it has a byte behind its header.
@@ -38,6 +38,7 @@ h266_coding donl = record {
   IsReached = λ sender. Unit {0};
   IsWellFormed = λ limit sample. AreSendable (units_of sample);
   units = λ sender limit sample. unit_of (h266_units_sent donl sender limit sample);
+  after = h266_after donl;
 }
 
 -- The run had no fault, gave these units, each behind a start code, and left no fragment open.

@@ -90,11 +90,18 @@ leaving donl s mtu sample = departures (h266_rules donl) (least_limit mtu) s.wai
 abbrev pub packets_sent : Bool → Sender → ℕ → List ℕ → List (List ℕ)
 packets_sent donl s mtu sample = flat_map (packets_of donl (least_limit mtu)) (numbered s.number (leaving donl s mtu sample))
 
+-- The number of the next unit, and the sets that wait then.
+abbrev pub h266_after : Bool → Sender → ℕ → List ℕ → Sender
+h266_after donl s mtu sample = record {
+  number = number_after s.number (leaving donl s mtu sample);
+  waiting = waiting_after (h266_rules donl) s.waiting (units_of sample);
+}
+
 -- The packets of what leaves, and the number of the next unit and the sets that wait then.
 abbrev pub pack_h266 : Bool → Sender → ℕ → List ℕ → Result Sent PacketError
 pack_h266 donl s mtu sample = Ok (record {
   packets = packets_sent donl s mtu sample;
-  sender = record { number = number_after s.number (leaving donl s mtu sample); waiting = waiting_after (h266_rules donl) s.waiting (units_of sample) };
+  sender = h266_after donl s mtu sample;
 })
 
 -- The last packet of a sample has the marker.

@@ -181,7 +181,7 @@ gives_frame o packet unit extra e =
     subst P (sym e) there
 
 by_test : (o : Bool) (sender : Sender) (limit : ℕ) (sample : List ℕ) (size : ℕ) (over : Bool) → over ≡ false → Some size ≡ speech_bits (header_at sample 0 / 8) → length (amr_wb_packet o sample size) ≤ limit
-    → SendsUnits (amr_wb_coding o) limit (if over then Err ErrPayloadTooLarge else sent_as sender (amr_wb_packet o sample size ∷ [])) (unit_of_piece (header_at sample 0 ∷ speech_of sample 8 size) ∷ [])
+    → SendsUnits (amr_wb_coding o) limit (if over then Err ErrPayloadTooLarge else sent_as sender (amr_wb_packet o sample size ∷ [])) (unit_of_piece (header_at sample 0 ∷ speech_of sample 8 size) ∷ []) sender
 by_test o sender limit sample size true e is fits = absurd (false≢true (sym e))
 by_test o sender limit sample size false e is fits =
     let packet : List ℕ = amr_wb_packet o sample size in
@@ -195,9 +195,10 @@ by_test o sender limit sample size false e is fits =
       reached = tt;
       within = All-cons (λ (p : List ℕ). (0 < length p) × (length p ≤ limit)) packet [] (some_byte o sample size, fits) (All-nil _);
       frames = whole-frames (amr_wb_packing o) (amr_wb_format o) (λ p. unit_of_piece unit) (packet ∷ []) (All-cons (λ (p : List ℕ). IsWhole (amr_wb_format o) p (unit_of_piece unit)) packet [] whole (All-nil _));
+      leaves = refl;
     }
 
-by_size : (o : Bool) (sender : Sender) (limit : ℕ) (sample : List ℕ) (size : Option ℕ) → sample_size sample ≡ size → IsSized o limit sample size → SendsUnits (amr_wb_coding o) limit (pack_sized o sender limit sample size) (unit_of_piece (speech_unit sample size) ∷ [])
+by_size : (o : Bool) (sender : Sender) (limit : ℕ) (sample : List ℕ) (size : Option ℕ) → sample_size sample ≡ size → IsSized o limit sample size → SendsUnits (amr_wb_coding o) limit (pack_sized o sender limit sample size) (unit_of_piece (speech_unit sample size) ∷ []) sender
 by_size o sender limit sample None e sized = absurd sized
 by_size o sender limit sample (Some size) e sized = by_test o sender limit sample size (ltb limit (length (amr_wb_packet o sample size))) (grind (arith, nat_tests)) (its_size (speech_bits (header_at sample 0 / 8)) (length sample) size e) sized
   where

@@ -34,17 +34,19 @@ pieces_law sender limit sample reached well_formed = record {
   reached = tt;
   within = within limit sample;
   frames = whole-frames pieces_packing plain_format unit_of_piece (pieces limit sample) (each_whole limit sample);
+  leaves = refl;
 }
 
 -- the one packet of a sample that doesn't pass the limit is its unit
-pub whole_sent : (sender : Sender) (limit : ℕ) (sample : List ℕ) → (0 < length sample) × (length sample ≤ limit) → IsSentAs noise_coding limit (record { packets = sample ∷ []; sender = sender }) (unit_of_piece sample ∷ [])
+pub whole_sent : (sender : Sender) (limit : ℕ) (sample : List ℕ) → (0 < length sample) × (length sample ≤ limit) → IsSentAs noise_coding limit (record { packets = sample ∷ []; sender = sender }) (unit_of_piece sample ∷ []) sender
 whole_sent sender limit sample well_formed = record {
   reached = tt;
   within = All-cons (λ (p : List ℕ). (0 < length p) × (length p ≤ limit)) sample [] well_formed (All-nil _);
   frames = whole-frames noise_packing plain_format unit_of_piece (sample ∷ []) (All-cons (λ (p : List ℕ). IsWhole plain_format p (unit_of_piece p)) sample [] (plain_whole sample well_formed.0) (All-nil _));
+  leaves = refl;
 }
 
-by_test : (sender : Sender) (limit : ℕ) (sample : List ℕ) (over : Bool) → over ≡ false → (0 < length sample) × (length sample ≤ limit) → SendsUnits noise_coding limit (if over then Err ErrPayloadTooLarge else sent_as sender (sample ∷ [])) (unit_of_piece sample ∷ [])
+by_test : (sender : Sender) (limit : ℕ) (sample : List ℕ) (over : Bool) → over ≡ false → (0 < length sample) × (length sample ≤ limit) → SendsUnits noise_coding limit (if over then Err ErrPayloadTooLarge else sent_as sender (sample ∷ [])) (unit_of_piece sample ∷ []) sender
 by_test sender limit sample true e well_formed = absurd (false≢true (sym e))
 by_test sender limit sample false e well_formed = whole_sent sender limit sample well_formed
 

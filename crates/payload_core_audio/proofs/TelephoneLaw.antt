@@ -19,7 +19,7 @@ report_whole rate event flags high low = record {
 }
 
 by_test : (rate limit event flags high low : ℕ) (sender : Sender) (over : Bool) → over ≡ false → 4 ≤ limit → let report : List ℕ = event ∷ flags ∷ high ∷ low ∷ [] in
-    SendsUnits (telephone_coding rate) limit (if over then Err ErrPayloadTooLarge else sent_as sender (report ∷ [])) (unit_of_piece (first_report report) ∷ [])
+    SendsUnits (telephone_coding rate) limit (if over then Err ErrPayloadTooLarge else sent_as sender (report ∷ [])) (unit_of_piece (first_report report) ∷ []) sender
 by_test rate limit event flags high low sender true e fits = absurd (false≢true (sym e))
 by_test rate limit event flags high low sender false e fits =
     let report : List ℕ = event ∷ flags ∷ high ∷ low ∷ [] in
@@ -27,6 +27,7 @@ by_test rate limit event flags high low sender false e fits =
       reached = tt;
       within = All-cons (λ (p : List ℕ). (0 < length p) × (length p ≤ limit)) report [] (omega arith, fits) (All-nil _);
       frames = whole-frames telephone_packing (telephone_format rate) (λ p. unit_of_piece (first_report p)) (report ∷ []) (All-cons (λ (p : List ℕ). IsWhole (telephone_format rate) p (unit_of_piece (first_report p))) report [] (report_whole rate event flags high low) (All-nil _));
+      leaves = refl;
     }
 
 pub telephone_codec_law : (rate : ℕ) → CodecLaw (telephone_coding rate)

@@ -7,7 +7,7 @@ use Rattle.payload_core_base.specs.Packing.{Packing, Sender, Sent}
 use Rattle.payload_core_base.specs.declared.error.PacketError.{PacketError}
 use Rattle.payload_core_base.specs.declared.error.PacketError.TheVariants.{ErrAmrWbCorruptedPacket, ErrPayloadTooLarge}
 use Rattle.payload_core_base.specs.declared.extra.CodecExtra.{CodecExtra}
-use Rattle.payload_core_audio.specs.Plain.{AnySender, no_marker, sent_as, unit_of_piece}
+use Rattle.payload_core_audio.specs.Plain.{AnySender, no_marker, sent_as, stays_idle, unit_of_piece}
 
 -- The bit at a place of a text, counted from the high bit of the first byte.
 abbrev pub bit_of : List ℕ → ℕ → ℕ
@@ -152,4 +152,5 @@ amr_wb_coding octet_align = record {
   IsReached = AnySender;
   IsWellFormed = λ limit sample. (0 < length sample) × IsSized octet_align limit sample (sample_size sample);
   units = λ sender limit sample. unit_of_piece (speech_unit sample (sample_size sample)) ∷ [];
+  after = stays_idle;
 }

@@ -50,6 +50,10 @@ unit_of_piece piece = piece ∷ []
 abbrev pub AnySender : Sender → Type 0
 AnySender sender = Unit {0}
 
+-- Nothing is kept between samples.
+abbrev pub stays_idle : Sender → ℕ → List ℕ → Sender
+stays_idle sender limit sample = sender
+
 -- Opus, G.711 and G.722: a sample with a byte is well-formed, and its units are its pieces.
 abbrev pub pieces_coding : Coding
 pieces_coding = record {
@@ -58,6 +62,7 @@ pieces_coding = record {
   IsReached = AnySender;
   IsWellFormed = λ limit sample. 0 < length sample;
   units = λ sender limit sample. map unit_of_piece (pieces limit sample);
+  after = stays_idle;
 }
 
 -- Comfort noise: a sample with a byte that doesn't pass the limit is well-formed, and is its unit.
@@ -68,4 +73,5 @@ noise_coding = record {
   IsReached = AnySender;
   IsWellFormed = λ limit sample. (0 < length sample) × (length sample ≤ limit);
   units = λ sender limit sample. unit_of_piece sample ∷ [];
+  after = stays_idle;
 }

@@ -125,8 +125,8 @@ within limit z n ts [] are = All-nil _
 within limit z n ts (p ∷ ps) (size, longest_is, p_is, long, more) =
     All-cons (λ (p : List ℕ). (0 < length p) × (length p ≤ limit)) p ps (omega (arith, long), omega (arith, longest_is.fits, ap length p_is)) (within limit (is_cut size ts) false (back size ts) ps more)
 
-sent_as : (s : Sender) (limit : ℕ) (os : List Obu) → 2 ≤ limit → AreSendable os → IsSentAs av1_coding limit (record { packets = packets_of limit (begins_sequence os) (texts_of os); sender = s }) (unit_of (Some os))
-sent_as s limit [] room are = record { reached = tt; within = All-nil _; frames = refl }
+sent_as : (s : Sender) (limit : ℕ) (os : List Obu) → 2 ≤ limit → AreSendable os → IsSentAs av1_coding limit (record { packets = packets_of limit (begins_sequence os) (texts_of os); sender = s }) (unit_of (Some os)) s
+sent_as s limit [] room are = record { reached = tt; within = All-nil _; frames = refl; leaves = refl }
 sent_as s limit (o ∷ os) room are =
     let n : Bool = begins_sequence (o ∷ os) in
     let packets : List (List ℕ) = packets_of limit n (texts_of (o ∷ os)) in
@@ -134,13 +134,14 @@ sent_as s limit (o ∷ os) room are =
       reached = tt;
       within = within limit false n (texts_of (o ∷ os)) packets (packets-are (length (joined (texts_of (o ∷ os)))) limit false n (texts_of (o ∷ os)) room (sendable-texts (o ∷ os) are) (omega arith));
       frames = one_unit (marked av1_packing packets) (map with_its_size (o ∷ os)) (sent-frame limit n o os room are);
+      leaves = refl;
     }
 
 abbrev sent_by : Sender → ℕ → List Obu → Bool → Result Sent PacketError
 sent_by s limit os t = Ok (record { packets = if t then [] else packets_of limit (begins_sequence os) (texts_of os); sender = s })
 
-by_room : (s : Sender) (limit : ℕ) (os : List Obu) (t : Bool) → ltb limit 2 ≡ t → AreSendable os → SendsUnits av1_coding limit (sent_by s limit os t) (if t then [] else unit_of (Some os))
-by_room s limit os true e are = record { reached = tt; within = All-nil _; frames = refl }
+by_room : (s : Sender) (limit : ℕ) (os : List Obu) (t : Bool) → ltb limit 2 ≡ t → AreSendable os → SendsUnits av1_coding limit (sent_by s limit os t) (if t then [] else unit_of (Some os)) s
+by_room s limit os true e are = record { reached = tt; within = All-nil _; frames = refl; leaves = refl }
 by_room s limit os false e are = sent_as s limit os (grind (arith, nat_tests)) are
 
 pub av1_codec_law : CodecLaw av1_coding
@@ -148,5 +149,5 @@ av1_codec_law s limit sample reached (some, (units_of, obus)) =
     let units : obus_of sample ≡ Some units_of = (sample_law sample units_of).0 obus in
     let os : List Obu = filter is_kept units_of in
     let kept : kept_of sample ≡ Some os = ap (λ q. option_map (λ os. filter is_kept os) q) units in
-    let U : Option (List Obu) → Type 0 = λ q. SendsUnits av1_coding limit (pack_kept s limit q) (if ltb limit 2 then [] else unit_of q) in
+    let U : Option (List Obu) → Type 0 = λ q. SendsUnits av1_coding limit (pack_kept s limit q) (if ltb limit 2 then [] else unit_of q) s in
     subst U (sym kept) (by_room s limit os (ltb limit 2) refl (kept-sendable sample os kept))

@@ -62,4 +62,5 @@ av1_coding = record {
   IsReached = λ sender. Unit {0};
   IsWellFormed = λ limit sample. IsSample sample;
   units = av1_units;
+  after = λ sender limit sample. sender;
 }

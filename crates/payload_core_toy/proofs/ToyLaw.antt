@@ -8,7 +8,7 @@ use Rattle.payload_core_base.specs.Law.{AreWithin, CodecLaw, IsFrameOf, SendsUni
 use Rattle.payload_core_base.specs.Packing.{Sender, marked}
 use Rattle.payload_core_base.specs.declared.error.PacketError.TheVariants.{ErrPayloadTooLarge}
 use Rattle.payload_core_base.proofs.FrameLemmas.{first-headed-frame, marker-tails}
-use Rattle.payload_core_toy.specs.Toy.{sent_as, toy_coding, toy_format, toy_packing}
+use Rattle.payload_core_toy.specs.Toy.{after_sample, sent_as, toy_coding, toy_format, toy_packing}
 
 whole_is : (s : List ℕ) → IsFrameOf toy_format (marked toy_packing ((0 ∷ s) ∷ [])) (s ∷ [])
 whole_is s = first-headed-frame toy_format (record { payload = 0 ∷ s; marker = true }) [] (s ∷ []) refl (λ k lt. absurd (omega arith)) (marker-tails toy_packing toy_format (record { marks = λ p last. refl; tail = λ marker p. refl }) ((0 ∷ s) ∷ [])) (λ extra. record { some_part = omega arith; no_fault = refl; written = refl; closed = refl })
@@ -27,16 +27,18 @@ two_within limit s some long fits =
 
 -- by whether the sample fits one packet
 by_test : (sender : Sender) (limit : ℕ) (s : List ℕ) (short : Bool) (long : Bool) → ltb (length s) limit ≡ short → long ≡ true → 0 < length s → length s + 1 < 2 * limit
-    → SendsUnits toy_coding limit (if short then sent_as sender ((0 ∷ s) ∷ []) else (if long then sent_as sender ((1 ∷ take (limit - 1) s) ∷ (3 ∷ drop (limit - 1) s) ∷ []) else Err ErrPayloadTooLarge)) ((s ∷ []) ∷ [])
+    → SendsUnits toy_coding limit (if short then sent_as sender ((0 ∷ s) ∷ []) else (if long then sent_as sender ((1 ∷ take (limit - 1) s) ∷ (3 ∷ drop (limit - 1) s) ∷ []) else Err ErrPayloadTooLarge)) ((s ∷ []) ∷ []) (after_sample sender)
 by_test sender limit s true long is e some fits = record {
   reached = tt;
   within = All-cons (λ (p : List ℕ). (0 < length p) × (length p ≤ limit)) (0 ∷ s) [] (omega arith, grind (arith, nat_tests)) (All-nil _);
   frames = (1, whole_is s, refl);
+  leaves = refl;
 }
 by_test sender limit s false true is e some fits = record {
   reached = tt;
   within = two_within limit s some (grind (arith, nat_tests)) fits;
   frames = (2, two_is _ _ s (take-append-drop (limit - 1) s), refl);
+  leaves = refl;
 }
 by_test sender limit s false false is e some fits = absurd (false≢true e)
 

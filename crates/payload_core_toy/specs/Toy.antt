@@ -44,9 +44,13 @@ is_toy_head (kind ∷ bytes) = (kind == 0) || (kind == 1)
 abbrev pub toy_format : Format
 toy_format = record { head = is_toy_head; tail = λ marker packet. marker; read = read_toy }
 
+-- One sample more, modulo 32,768.
+abbrev pub after_sample : Sender → Sender
+after_sample s = record { number = if nat_lt s.number 32767 then s.number + 1 else 0; waiting = s.waiting }
+
 -- These packets, and one sample more.
 abbrev pub sent_as : Sender → List (List ℕ) → Result Sent PacketError
-sent_as s ps = Ok (record { packets = ps; sender = record { number = if nat_lt s.number 32767 then s.number + 1 else 0; waiting = s.waiting } })
+sent_as s ps = Ok (record { packets = ps; sender = after_sample s })
 
 -- One whole unit, or a start and an end; a longer sample is refused, and an empty one sends nothing.
 abbrev pub pack_toy : Sender → ℕ → List ℕ → Result Sent PacketError
@@ -67,4 +71,5 @@ toy_coding = record {
   IsReached = λ sender. Unit {0};
   IsWellFormed = λ limit sample. (0 < length sample) × (length sample + 1 < 2 * limit);
   units = λ sender limit sample. (sample ∷ []) ∷ [];
+  after = λ sender limit sample. after_sample sender;
 }

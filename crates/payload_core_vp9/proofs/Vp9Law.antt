@@ -5,7 +5,7 @@ use Rattle.std.proofs.lemmas.Bool.Decides.{nat_tests}
 use Rattle.std.proofs.lemmas.List.{append-nil, drop_all, take_all}
 use Rattle.std.proofs.lemmas.List.Elements.{All-cons, All-head, All-nil, All-tail}
 use Rattle.payload_core_base.specs.Format.{Reading, read_all}
-use Rattle.payload_core_base.specs.Law.{AreFramesOf, AreFull, AreWithin, CodecLaw, FillsPackets, GivesFrom, IsFrameOf, IsSentAs, SendsFull, SendsUnits, joined, packet_at, payloads_of}
+use Rattle.payload_core_base.specs.Law.{AreFramesOf, AreFull, AreWithin, ChangesWhereSent, CodecLaw, FillsPackets, GivesFrom, IsFrameOf, IsSentAs, SendsFull, SendsUnits, SilenceKeepsState, joined, packet_at, payloads_of}
 use Rattle.payload_core_base.specs.Packing.{MarkedPacket, Sender, is_none_left, marked}
 use Rattle.payload_core_base.specs.Pieces.{pieces}
 use Rattle.payload_core_base.specs.declared.error.PacketError.{PacketError}
@@ -115,7 +115,7 @@ module _ (s : Sender) (limit : ℕ) (b : ℕ) (bs : List ℕ) (small : s.number 
       first-headed-frame vp9_format (record { payload = descriptor s.number true (is_none_left ps) ++ p; marker = is_none_left (described s.number false ps) }) (marked vp9_packing (described s.number false ps)) ((b ∷ bs) ∷ [])
       (head_is s.number true (is_none_left ps) p) (no_heads s.number ps) (marker-tails vp9_packing vp9_format (record { marks = λ q last. refl; tail = λ marker q. refl }) packets) gives
 
-  sent_frame : IsSentAs vp9_coding limit (record { packets = described s.number true cut; sender = after_frame s }) (((b ∷ bs) ∷ []) ∷ [])
+  sent_frame : IsSentAs vp9_coding limit (record { packets = described s.number true cut; sender = after_frame s }) (((b ∷ bs) ∷ []) ∷ []) (after_frame s)
   sent_frame =
       let some_size : 0 < size = omega arith in
       let step = pieces-step size (b ∷ bs) some_size (omega arith) in
@@ -129,11 +129,13 @@ module _ (s : Sender) (limit : ℕ) (b : ℕ) (bs : List ℕ) (small : s.number 
         reached = next_small s.number;
         within = described_within s.number true limit cut room within;
         frames = subst F (sym step) (one_unit (marked vp9_packing (described s.number true (p ∷ ps))) ((b ∷ bs) ∷ []) frame);
+        leaves = refl;
       }
 
 by_room : (s : Sender) (limit b : ℕ) (bs : List ℕ) (full : Bool) → leb limit 3 ≡ full → s.number < 32768
     → SendsUnits vp9_coding limit (if full then Ok (record { packets = []; sender = s }) else Ok (record { packets = described s.number true (pieces (limit - 3) (b ∷ bs)); sender = after_frame s })) (if full then [] else ((b ∷ bs) ∷ []) ∷ [])
-by_room s limit b bs true e small = record { reached = small; within = All-nil _; frames = refl }
+    (if full then s else after_frame s)
+by_room s limit b bs true e small = record { reached = small; within = All-nil _; frames = refl; leaves = refl }
 by_room s limit b bs false e small = sent_frame s limit b bs small (grind (arith, nat_tests))
 
 pub vp9_codec_law : CodecLaw vp9_coding
@@ -150,3 +152,20 @@ full_by s limit b bs false e =
 pub vp9_full : FillsPackets vp9_packing
 vp9_full s limit [] = λ k lt. absurd (omega arith)
 vp9_full s limit (b ∷ bs) = full_by s limit b bs (leb limit 3) refl
+
+-- a frame that is sent has a packet
+silent_by : (s : Sender) (limit b : ℕ) (bs : List ℕ) (full : Bool) → leb limit 3 ≡ full
+    → ChangesWhereSent s (if full then Ok (record { packets = []; sender = s })
+        else Ok (record { packets = described s.number true (pieces (limit - 3) (b ∷ bs)); sender = after_frame s }))
+silent_by s limit b bs true e = λ none. refl
+silent_by s limit b bs false e = λ none.
+    let room : 3 < limit = grind (arith, nat_tests) in
+    let size : ℕ = limit - 3 in
+    let step : pieces size (b ∷ bs) ≡ take size (b ∷ bs) ∷ pieces size (drop size (b ∷ bs)) = pieces-step size (b ∷ bs) (omega arith) (omega arith) in
+    let some : length (described s.number true (pieces size (b ∷ bs))) ≡ suc (length (described s.number false (pieces size (drop size (b ∷ bs))))) =
+      ap (λ ps. length (described s.number true ps)) step in
+    absurd (omega (arith, some, ap length none))
+
+pub vp9_silent : SilenceKeepsState vp9_packing
+vp9_silent s limit [] = λ none. refl
+vp9_silent s limit (b ∷ bs) = silent_by s limit b bs (leb limit 3) refl

@@ -23,6 +23,11 @@ next_id id = if nat_lt id 32767 then id + 1 else 0
 abbrev pub after_frame : Sender → Sender
 after_frame s = record { number = next_id s.number; waiting = s.waiting }
 
+-- An empty sample, and one of whose limit the descriptor leaves nothing, send no frame.
+abbrev pub vp9_after : Sender → ℕ → List ℕ → Sender
+vp9_after s limit [] = s
+vp9_after s limit (b ∷ bs) = if nat_le limit 3 then s else after_frame s
+
 -- A frame is cut into pieces of what the descriptor's three bytes leave of the limit; where they leave nothing, nothing is sent.
 abbrev pub pack_vp9 : Sender → ℕ → List ℕ → Result Sent PacketError
 pack_vp9 s limit [] = Ok (record { packets = []; sender = s })
@@ -45,4 +50,5 @@ vp9_coding = record {
   IsReached = λ sender. sender.number < 32768;
   IsWellFormed = λ limit sample. 0 < length sample;
   units = vp9_units;
+  after = vp9_after;
 }

@@ -5,7 +5,7 @@ use Rattle.std.proofs.lemmas.Bool.Decides.{nat_tests}
 use Rattle.std.proofs.lemmas.List.{append-nil, drop_all, length-append, take_all}
 use Rattle.std.proofs.lemmas.List.Elements.{All-cons, All-head, All-nil, All-tail}
 use Rattle.payload_core_base.specs.Format.{Reading, read_all}
-use Rattle.payload_core_base.specs.Law.{AreFramesOf, AreFull, AreWithin, CodecLaw, FillsPackets, GivesFrom, IsFrameOf, IsSentAs, SendsFull, SendsUnits, joined, packet_at, payloads_of}
+use Rattle.payload_core_base.specs.Law.{AreFramesOf, AreFull, AreWithin, ChangesWhereSent, CodecLaw, FillsPackets, GivesFrom, IsFrameOf, IsSentAs, SendsFull, SendsUnits, SilenceKeepsState, joined, packet_at, payloads_of}
 use Rattle.payload_core_base.specs.Packing.{MarkedPacket, Sender, is_none_left, marked}
 use Rattle.payload_core_base.specs.Pieces.{pieces}
 use Rattle.payload_core_base.specs.declared.error.PacketError.{PacketError}
@@ -140,7 +140,7 @@ module _ (has_id : Bool) (s : Sender) (limit : ℕ) (b : ℕ) (bs : List ℕ) (s
       first-headed-frame vp8_format (record { payload = descriptor has_id s.number true ++ p; marker = is_none_left (described has_id s.number false ps) }) (marked (vp8_packing has_id) (described has_id s.number false ps)) ((b ∷ bs) ∷ [])
       (head_is has_id s.number true p) (no_heads has_id s.number ps) (marker-tails (vp8_packing has_id) vp8_format (record { marks = λ q last. refl; tail = λ marker q. refl }) packets) gives
 
-  sent_frame : IsSentAs (vp8_coding has_id) limit (record { packets = described has_id s.number true cut; sender = after_frame s }) (((b ∷ bs) ∷ []) ∷ [])
+  sent_frame : IsSentAs (vp8_coding has_id) limit (record { packets = described has_id s.number true cut; sender = after_frame s }) (((b ∷ bs) ∷ []) ∷ []) (after_frame s)
   sent_frame =
       let some_size : 0 < size = omega arith in
       let step = pieces-step size (b ∷ bs) some_size (omega arith) in
@@ -154,11 +154,13 @@ module _ (has_id : Bool) (s : Sender) (limit : ℕ) (b : ℕ) (bs : List ℕ) (s
         reached = next_small s.number;
         within = described_within has_id s.number true limit cut room within;
         frames = subst F (sym step) (one_unit (marked (vp8_packing has_id) (described has_id s.number true (p ∷ ps))) ((b ∷ bs) ∷ []) frame);
+        leaves = refl;
       }
 
 by_room : (has_id : Bool) (s : Sender) (limit b : ℕ) (bs : List ℕ) (full : Bool) → leb limit (descriptor_size has_id s.number) ≡ full → s.number < 32768
     → SendsUnits (vp8_coding has_id) limit (if full then Ok (record { packets = []; sender = s }) else Ok (record { packets = described has_id s.number true (pieces (limit - descriptor_size has_id s.number) (b ∷ bs)); sender = after_frame s })) (if full then [] else ((b ∷ bs) ∷ []) ∷ [])
-by_room has_id s limit b bs true e small = record { reached = small; within = All-nil _; frames = refl }
+    (if full then s else after_frame s)
+by_room has_id s limit b bs true e small = record { reached = small; within = All-nil _; frames = refl; leaves = refl }
 by_room has_id s limit b bs false e small = sent_frame has_id s limit b bs small (grind (arith, nat_tests))
 
 pub vp8_codec_law : (has_id : Bool) → CodecLaw (vp8_coding has_id)
@@ -175,3 +177,23 @@ full_by has_id s limit b bs false e =
 pub vp8_full : (has_id : Bool) → FillsPackets (vp8_packing has_id)
 vp8_full has_id s limit [] = λ k lt. absurd (omega arith)
 vp8_full has_id s limit (b ∷ bs) = full_by has_id s limit b bs (leb limit (descriptor_size has_id s.number)) refl
+
+-- a frame that is sent has a packet
+silent_by : (has_id : Bool) (s : Sender) (limit b : ℕ) (bs : List ℕ) (full : Bool) → leb limit (descriptor_size has_id s.number) ≡ full
+    → ChangesWhereSent s (if full then Ok (record { packets = []; sender = s })
+        else Ok (record {
+          packets = described has_id s.number true (pieces (limit - descriptor_size has_id s.number) (b ∷ bs));
+          sender = after_frame s;
+        }))
+silent_by has_id s limit b bs true e = λ none. refl
+silent_by has_id s limit b bs false e = λ none.
+    let room : descriptor_size has_id s.number < limit = grind (arith, nat_tests) in
+    let size : ℕ = limit - descriptor_size has_id s.number in
+    let step : pieces size (b ∷ bs) ≡ take size (b ∷ bs) ∷ pieces size (drop size (b ∷ bs)) = pieces-step size (b ∷ bs) (omega arith) (omega arith) in
+    let some : length (described has_id s.number true (pieces size (b ∷ bs))) ≡ suc (length (described has_id s.number false (pieces size (drop size (b ∷ bs))))) =
+      ap (λ ps. length (described has_id s.number true ps)) step in
+    absurd (omega (arith, some, ap length none))
+
+pub vp8_silent : (has_id : Bool) → SilenceKeepsState (vp8_packing has_id)
+vp8_silent has_id s limit [] = λ none. refl
+vp8_silent has_id s limit (b ∷ bs) = silent_by has_id s limit b bs (leb limit (descriptor_size has_id s.number)) refl

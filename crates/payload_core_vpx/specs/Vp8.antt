@@ -39,6 +39,11 @@ next_id id = if nat_lt id 32767 then id + 1 else 0
 abbrev pub after_frame : Sender → Sender
 after_frame s = record { number = next_id s.number; waiting = s.waiting }
 
+-- An empty sample, and one of whose limit the descriptor leaves nothing, send no frame.
+abbrev pub vp8_after : Bool → Sender → ℕ → List ℕ → Sender
+vp8_after has_id s limit [] = s
+vp8_after has_id s limit (b ∷ bs) = if nat_le limit (descriptor_size has_id s.number) then s else after_frame s
+
 -- A frame is cut into pieces of what the descriptor leaves of the limit; where it leaves nothing, nothing is sent.
 abbrev pub pack_vp8 : Bool → Sender → ℕ → List ℕ → Result Sent PacketError
 pack_vp8 has_id s limit [] = Ok (record { packets = []; sender = s })
@@ -87,4 +92,5 @@ vp8_coding has_id = record {
   IsReached = λ sender. sender.number < 32768;
   IsWellFormed = λ limit sample. 0 < length sample;
   units = vp8_units has_id;
+  after = vp8_after has_id;
 }
