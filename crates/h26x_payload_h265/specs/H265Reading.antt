@@ -24,27 +24,22 @@ abbrev pub is_irap_unit : List ℕ → Bool
 is_irap_unit [] = false
 is_irap_unit (high ∷ rest) = is_irap (type_of high)
 
--- An aggregate with such a unit, behind its first byte.
-abbrev pub holds_irap : Bool → List ℕ → Bool
-holds_irap donl [] = false
-holds_irap donl (low ∷ body) = list_any is_irap_unit (aggregated_in donl body).units
-
--- A fragment with S of such a unit, behind its first byte.
+-- A fragment with S of such a unit, behind its header.
 abbrev pub starts_irap : List ℕ → Bool
 starts_irap [] = false
-starts_irap (low ∷ []) = false
-starts_irap (low ∷ fu ∷ part) = has_start fu && is_irap (fu_type fu)
+starts_irap (fu ∷ part) = has_start fu && is_irap (fu_type fu)
 
 abbrev pub shows_by : Bool → PacketKind → ℕ → List ℕ → Bool
-shows_by donl Single high rest = is_irap (type_of high)
-shows_by donl Aggregate high rest = holds_irap donl rest
-shows_by donl FragmentKind high rest = starts_irap rest
-shows_by donl Unhandled high rest = false
+shows_by donl Single high body = is_irap (type_of high)
+shows_by donl Aggregate high body = list_any is_irap_unit (aggregated_in donl body).units
+shows_by donl FragmentKind high body = starts_irap body
+shows_by donl Unhandled high body = false
 
--- Whether a packet shows a unit of a random access picture: is one, holds one, or starts one.
+-- Whether a packet with its whole header shows a unit of a random access picture: is one, holds one, or starts one.
 abbrev pub shows_irap : Bool → List ℕ → Bool
 shows_irap donl [] = false
-shows_irap donl (high ∷ rest) = shows_by donl (kind_of high) high rest
+shows_irap donl (high ∷ []) = false
+shows_irap donl (high ∷ low ∷ body) = shows_by donl (kind_of high) high body
 
 -- What an accepted packet gives: the bytes written, and the open unit after it.
 pub record Given : Type 0 where

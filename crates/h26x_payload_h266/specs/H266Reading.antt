@@ -36,7 +36,7 @@ shows_by donl Aggregate low body = list_any is_irap_unit (aggregated_in donl bod
 shows_by donl FragmentKind low body = starts_irap body
 shows_by donl Unhandled low body = false
 
--- Whether a packet shows a unit of a random access picture: is one, holds one, or starts one.
+-- Whether a packet with its whole header shows a unit of a random access picture: is one, holds one, or starts one.
 abbrev pub shows_irap : Bool → List ℕ → Bool
 shows_irap donl [] = false
 shows_irap donl (high ∷ []) = false

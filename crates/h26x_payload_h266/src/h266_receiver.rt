@@ -82,7 +82,8 @@ fn shows_irap(donl: bool, packet: &[u8]) -> bool
 }
 
 /// Whether a packet without decoding order numbers shows a random access picture, types 7 to 9 (ITU-T H.266 table
-/// 5): is a unit of one, aggregates one before any fault, or is the first fragment of one.
+/// 5): is a unit of one, aggregates one before any fault, or is the first fragment of one. A packet without its whole
+/// header of two bytes shows none.
 pub fn detect_h266_keyframe(packet: &[u8]) -> bool
     ensures { result ≡ shows_irap false packet.now }
 {

@@ -132,6 +132,8 @@ fn keyframes_h265(rt: HostRuntime) {
     assert!(rt; detect_h265_keyframe(&aggregate));
     assert!(rt; detect_h265_keyframe(&[0x62, 1, 0x93]));
     assert!(rt; !detect_h265_keyframe(&[0x62, 1, 0x53]));
+    assert!(rt; !detect_h265_keyframe(&[0x2E]));
+    assert!(rt; detect_h265_keyframe(&[0x2E, 1]));
 }
 
 // The packet is refused so.
