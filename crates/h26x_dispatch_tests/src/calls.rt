@@ -24,7 +24,8 @@ pub struct PayloadList {
 impl PacketSink for PayloadList {
     ghost use Rattle.std.specs.Prelude.{◌≡◌, ◌++◌, ◌∷◌, [], map};
 
-    ghost takes = { λ old o new. map (λ s. s.payload.items) new.sent.items ≡ map (λ s. s.payload.items) old.sent.items ++ o.payload ∷ [] };
+    ghost takes = { λ old o new. map (λ s. s.payload.items) new.sent.items
+        ≡ map (λ s. s.payload.items) old.sent.items ++ o.payload ∷ [] };
 
     ghost keeps = { λ old new. new.sent.items ≡ old.sent.items };
 

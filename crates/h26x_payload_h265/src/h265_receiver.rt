@@ -1,6 +1,8 @@
 //! Reading H.265 payloads (RFC 7798 4.4).
 
-ghost use Rattle.h26x_payload_h265.specs.H265Reading.{Adds, begins_by, given, given_by, given_fragment, h265_format, is_cut_short, is_irap_unit, shows_irap, starts_irap, aggregated_in, was_keyframe};
+ghost use Rattle.h26x_payload_h265.specs.H265Reading.{Adds, begins_by, given, given_by, given_fragment, h265_format};
+ghost use Rattle.h26x_payload_h265.specs.H265Reading.{is_cut_short, is_irap_unit, shows_irap, starts_irap};
+ghost use Rattle.h26x_payload_h265.specs.H265Reading.{aggregated_in, was_keyframe};
 ghost use Rattle.h26x_payload_units.specs.Aggregates.{aggregated};
 ghost use Rattle.std.specs.List.{list_any};
 ghost use Rattle.std.specs.Prelude.{◌≡◌, ◌≢◌, Err, IfErr, None, OnErr, OnOk, false};

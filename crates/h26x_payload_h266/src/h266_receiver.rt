@@ -1,6 +1,8 @@
 //! Reading H.266 payloads (RFC 9328 4.3).
 
-ghost use Rattle.h26x_payload_h266.specs.H266Reading.{Adds, begins_by, given, given_by, given_fragment, h266_format, is_cut_short, is_irap_unit, shows_irap, starts_irap, aggregated_in, was_keyframe};
+ghost use Rattle.h26x_payload_h266.specs.H266Reading.{Adds, begins_by, given, given_by, given_fragment, h266_format};
+ghost use Rattle.h26x_payload_h266.specs.H266Reading.{is_cut_short, is_irap_unit, shows_irap, starts_irap};
+ghost use Rattle.h26x_payload_h266.specs.H266Reading.{aggregated_in, was_keyframe};
 ghost use Rattle.h26x_payload_units.specs.Aggregates.{aggregated};
 ghost use Rattle.std.specs.List.{list_any};
 ghost use Rattle.std.specs.Prelude.{◌≡◌, ◌≢◌, Err, IfErr, None, OnErr, OnOk, false};

@@ -1,5 +1,6 @@
 -- Payloads without a header: each packet is a piece of a sample.
-use Rattle.std.specs.Prelude.{ℕ, ◌<◌, ◌≤◌, Bool, true, false, List, [], ◌∷◌, map, length, nat_lt, Result, Ok, Err, if◌then◌else◌}
+use Rattle.std.specs.Prelude.{ℕ, ◌<◌, ◌≤◌, Bool, true, false, List, [], ◌∷◌, map, length, nat_lt, Result, Ok, Err}
+use Rattle.std.specs.Prelude.{if◌then◌else◌}
 use Rattle.payload_core_base.specs.Format.{Format, Fragment, Reading}
 use Rattle.payload_core_base.specs.Law.{Coding}
 use Rattle.payload_core_base.specs.Packing.{Packing, Sender, Sent}
@@ -27,7 +28,8 @@ pieces_packing = record { pack = λ sender limit sample. sent_as sender (pieces 
 -- The one packet of a sample that can't be cut: none for an empty sample, and none that passes the limit.
 abbrev pub pack_whole : Sender → ℕ → List ℕ → Result Sent PacketError
 pack_whole sender limit [] = sent_as sender []
-pack_whole sender limit (b ∷ bs) = if nat_lt limit (length (b ∷ bs)) then Err ErrPayloadTooLarge else sent_as sender ((b ∷ bs) ∷ [])
+pack_whole sender limit (b ∷ bs) = if nat_lt limit (length (b ∷ bs)) then Err ErrPayloadTooLarge
+    else sent_as sender ((b ∷ bs) ∷ [])
 
 -- Comfort noise: the sample as it is (RFC 3389 4).
 abbrev pub noise_packing : Packing

@@ -2,6 +2,7 @@
 
 ghost use Rattle.payload_core_base.specs.Law.{CodecLaw, FillsPackets, SilenceKeepsState};
 ghost use Rattle.payload_core_vpx.specs.Vp8.{vp8_coding, vp8_packing};
+ghost use Rattle.payload_core_vpx.specs.Vp8KeyframeLaw.{KeyframeLaw};
 ghost use Rattle.payload_core_vpx.specs.Vp8PatchLaw.{PatchLaw};
 ghost use Rattle.std.specs.Prelude.{Bool};
 
@@ -19,4 +20,9 @@ pub fn vp8_law()
 /// and the patch of the payload's own ids restores it.
 pub fn vp8_patch_law()
     ensures { PatchLaw }
+{}
+
+/// Only a payload with S and of partition 0 begins a keyframe (RFC 7741 4.2).
+pub fn vp8_keyframe_law()
+    ensures { KeyframeLaw }
 {}

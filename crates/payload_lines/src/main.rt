@@ -12,8 +12,8 @@ use commands::answer;
 use formats::Formats;
 use std::io::{BufRead, BufReader};
 
-/// Answers each line by a line: a comment by itself, a command by what it gives, and another line, or a sample or packet
-/// that is refused, by the word `fault` and the reason.
+/// Answers each line by a line: a comment by itself, a command by what it gives, and another line, or a sample or
+/// packet that is refused, by the word `fault` and the reason.
 fn main(rt: HostRuntime) -> anyhow::Result<()> {
     let alloc = rt.alloc();
     let mut formats: Option<Formats> = None;

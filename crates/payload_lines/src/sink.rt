@@ -29,7 +29,8 @@ impl SentList {
 impl PacketSink for SentList {
     ghost use Rattle.std.specs.Prelude.{◌≡◌, ◌++◌, ◌∷◌, [], map};
 
-    ghost takes = { λ old o new. map (λ s. s.payload.items) new.sent.items ≡ map (λ s. s.payload.items) old.sent.items ++ o.payload ∷ [] };
+    ghost takes = { λ old o new. map (λ s. s.payload.items) new.sent.items
+        ≡ map (λ s. s.payload.items) old.sent.items ++ o.payload ∷ [] };
 
     ghost keeps = { λ old new. new.sent.items ≡ old.sent.items };
 

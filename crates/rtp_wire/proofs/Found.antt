@@ -1,5 +1,7 @@
 -- What is read is spelled so.
-use Rattle.std.proofs.Common.{◌≡◌, ℕ, zero, suc, ◌+◌, ◌*◌, ◌/◌, ◌%◌, ◌^◌, ◌<◌, ◌≤◌, refl, sym, ◌∙◌, ap, arith, Bool, true, false, true≢false, List, [], ◌∷◌, ◌++◌, length, take, drop, get_or, length-append, length-drop, length-take, append_assoc, subst}
+use Rattle.std.proofs.Common.{◌≡◌, ℕ, zero, suc, ◌+◌, ◌*◌, ◌/◌, ◌%◌, ◌^◌, ◌<◌, ◌≤◌, refl, sym, ◌∙◌, ap, arith, Bool}
+use Rattle.std.proofs.Common.{true, false, true≢false, List, [], ◌∷◌, ◌++◌, length, take, drop, get_or, length-append}
+use Rattle.std.proofs.Common.{length-drop, length-take, append_assoc, subst}
 use Rattle.std.specs.Prelude.{if◌then◌else◌, Option, Some, None, ◌==◌, ◌&&◌, nat_le, slice_index}
 use Rattle.std.specs.Int.{w16, w32, to_be_bytes, from_be_bytes}
 use Rattle.std.proofs.lemmas.Bool.Decides.{nat_tests}
@@ -7,7 +9,9 @@ use Rattle.std.proofs.lemmas.List.{drop-drop, get_or-drop, take-append-drop}
 use Rattle.std.proofs.lemmas.Nat.{be_bytes_2, be_bytes_4}
 use Rattle.rtp_wire_extensions.specs.Values.{Numbering, Block}
 use Rattle.rtp_wire.specs.declared.header.RtpHeader.{RtpHeader}
-use Rattle.rtp_wire.specs.Header.{half_at, words_in, has_bit, csrc_count_in, has_extension_in, block_at, header_length_in, is_header, block_in, values_in, slots, fields_in, header_in, header_of, layout_in, IsSpelled}
+use Rattle.rtp_wire.specs.Header.{u16_at, words_in, has_bit, csrc_count_in, has_extension_in, block_at}
+use Rattle.rtp_wire.specs.Header.{header_length_in, is_header, block_in, values_in, slots, fields_in, header_in}
+use Rattle.rtp_wire.specs.Header.{header_of, layout_in, IsSpelled}
 use Rattle.rtp_wire.specs.Layout.{bit, is_some_block, block_bytes, words, layout_bytes, IsBlock, IsLayout, IsBytes}
 use Rattle.rtp_wire.proofs.Words.{length-words_in}
 
@@ -32,8 +36,10 @@ four a b c d h k l m (suc (suc (suc (suc i)))) = omega arith
 half-again : (a b : ℕ) → a < 256 → b < 256 → a ∷ b ∷ [] ≡ to_be_bytes w16 (from_be_bytes w16 (a ∷ b ∷ []))
 half-again a b h k = sym (be_bytes_2 (a ∷ b ∷ []) (from_be_bytes w16 (a ∷ b ∷ [])) refl (two a b h k) refl)
 
-word-again : (a b c d : ℕ) → a < 256 → b < 256 → c < 256 → d < 256 → a ∷ b ∷ c ∷ d ∷ [] ≡ to_be_bytes w32 (from_be_bytes w32 (a ∷ b ∷ c ∷ d ∷ []))
-word-again a b c d h k l m = sym (be_bytes_4 (a ∷ b ∷ c ∷ d ∷ []) (from_be_bytes w32 (a ∷ b ∷ c ∷ d ∷ [])) refl (four a b c d h k l m) refl)
+word-again : (a b c d : ℕ) → a < 256 → b < 256 → c < 256 → d < 256 → a ∷ b ∷ c ∷ d ∷ []
+    ≡ to_be_bytes w32 (from_be_bytes w32 (a ∷ b ∷ c ∷ d ∷ []))
+word-again a b c d h k l m = sym (be_bytes_4 (a ∷ b ∷ c ∷ d ∷ []) (from_be_bytes w32 (a ∷ b ∷ c ∷ d ∷ [])) refl
+    (four a b c d h k l m) refl)
 
 bit-is : (n : ℕ) → n < 2 → bit (n == 1) ≡ n
 bit-is zero h = refl
@@ -41,7 +47,8 @@ bit-is (suc zero) h = refl
 bit-is (suc (suc n)) h = absurd (omega arith)
 
 -- words that are read are spelled so
-pub words-words_in : (n : ℕ) (bytes : List ℕ) → IsBytes bytes → 4 * n ≤ length bytes → bytes ≡ words (words_in n bytes) ++ drop (4 * n) bytes
+pub words-words_in : (n : ℕ) (bytes : List ℕ) → IsBytes bytes → 4 * n ≤ length bytes → bytes
+    ≡ words (words_in n bytes) ++ drop (4 * n) bytes
 words-words_in zero bytes h l = refl
 words-words_in (suc n) [] h l = absurd (omega arith)
 words-words_in (suc n) (a ∷ []) h l = absurd (omega arith)
@@ -49,20 +56,28 @@ words-words_in (suc n) (a ∷ b ∷ []) h l = absurd (omega arith)
 words-words_in (suc n) (a ∷ b ∷ c ∷ []) h l = absurd (omega arith)
 words-words_in (suc n) (a ∷ b ∷ c ∷ d ∷ bytes) h l =
     let this = word-again a b c d (h 0) (h 1) (h 2) (h 3) in
-    let more : bytes ≡ words (words_in n bytes) ++ drop (4 * n) bytes = words-words_in n bytes (λ i. h (suc (suc (suc (suc i))))) (omega arith) in
+    let more : bytes ≡ words (words_in n bytes) ++ drop (4 * n) bytes =
+    words-words_in n bytes (λ i. h (suc (suc (suc (suc i))))) (omega arith) in
     let step : 4 + 4 * n ≡ 4 * suc n = omega arith in
-    let end : drop (4 * n) bytes ≡ drop (4 * suc n) (a ∷ b ∷ c ∷ d ∷ bytes) = drop-drop (4 * n) 4 (a ∷ b ∷ c ∷ d ∷ bytes) ∙ ap (λ (k : ℕ). drop k (a ∷ b ∷ c ∷ d ∷ bytes)) step in
-    (λ i. this i ++ more i) ∙ ap (λ (ys : List ℕ). to_be_bytes w32 (from_be_bytes w32 (a ∷ b ∷ c ∷ d ∷ [])) ++ (words (words_in n bytes) ++ ys)) end
+    let end : drop (4 * n) bytes ≡ drop (4 * suc n) (a ∷ b ∷ c ∷ d ∷ bytes) =
+    drop-drop (4 * n) 4 (a ∷ b ∷ c ∷ d ∷ bytes) ∙ ap (λ (k : ℕ). drop k (a ∷ b ∷ c ∷ d ∷ bytes)) step in
+    (λ i. this i ++ more i) ∙ ap (λ (ys : List ℕ). to_be_bytes w32 (from_be_bytes w32 (a ∷ b ∷ c ∷ d ∷ []))
+    ++ (words (words_in n bytes) ++ ys)) end
 
 -- sources fit
-pub words_in-fit : (n : ℕ) (bytes : List ℕ) → IsBytes bytes → (k d : ℕ) → k < length (words_in n bytes) → get_or (words_in n bytes) k d < 2 ^ 32
+pub words_in-fit : (n : ℕ) (bytes : List ℕ) → IsBytes bytes → (k d : ℕ) → k < length (words_in n bytes)
+    → get_or (words_in n bytes) k d < 2 ^ 32
 words_in-fit zero bytes h k d l = absurd (omega arith)
 words_in-fit (suc n) bytes h zero d l = omega (arith, h 0, h 1, h 2, h 3)
 words_in-fit (suc n) bytes h (suc k) d l = words_in-fit n (drop 4 bytes) (IsBytes-drop 4 bytes h) k d (omega arith)
 
 -- a block that is read is spelled so
 block-found : (xs : List ℕ) → IsBytes xs → 4 + 4 * from_be_bytes w16 (drop 2 xs) ≤ length xs →
-    xs ≡ block_bytes (Some (record { profile = from_be_bytes w16 xs; content = take (4 * from_be_bytes w16 (drop 2 xs)) (drop 4 xs) })) ++ drop (4 + 4 * from_be_bytes w16 (drop 2 xs)) xs
+    xs ≡ block_bytes (Some (record {
+      profile = from_be_bytes w16 xs;
+      content =
+          take (4 * from_be_bytes w16 (drop 2 xs)) (drop 4 xs);
+    })) ++ drop (4 + 4 * from_be_bytes w16 (drop 2 xs)) xs
 block-found [] h l = absurd (omega arith)
 block-found (a ∷ []) h l = absurd (omega arith)
 block-found (a ∷ b ∷ []) h l = absurd (omega arith)
@@ -71,9 +86,11 @@ block-found (a ∷ b ∷ c ∷ d ∷ ys) h l =
     let w = from_be_bytes w16 (c ∷ d ∷ []) in
     let len : length (take (4 * w) ys) / 4 ≡ w = omega (arith, length-take (4 * w) ys) in
     let profile = half-again a b (h 0) (h 1) in
-    let count : c ∷ d ∷ [] ≡ to_be_bytes w16 (length (take (4 * w) ys) / 4) = half-again c d (h 2) (h 3) ∙ ap (to_be_bytes w16) (sym len) in
+    let count : c ∷ d ∷ [] ≡ to_be_bytes w16 (length (take (4 * w) ys) / 4) =
+    half-again c d (h 2) (h 3) ∙ ap (to_be_bytes w16) (sym len) in
     let end : drop (4 * w) ys ≡ drop (4 + 4 * w) (a ∷ b ∷ c ∷ d ∷ ys) = drop-drop (4 * w) 4 (a ∷ b ∷ c ∷ d ∷ ys) in
-    let content : ys ≡ take (4 * w) ys ++ drop (4 + 4 * w) (a ∷ b ∷ c ∷ d ∷ ys) = sym (take-append-drop (4 * w) ys) ∙ ap (λ (zs : List ℕ). take (4 * w) ys ++ zs) end in
+    let content : ys ≡ take (4 * w) ys ++ drop (4 + 4 * w) (a ∷ b ∷ c ∷ d ∷ ys) =
+    sym (take-append-drop (4 * w) ys) ∙ ap (λ (zs : List ℕ). take (4 * w) ys ++ zs) end in
     λ i. profile i ++ (count i ++ content i)
 
 if-then : {A : Type 0} (b : Bool) (x y : A) → b ≡ true → (if b then x else y) ≡ x
@@ -92,7 +109,8 @@ pub block_in-some : (bytes : List ℕ) → is_some_block (block_in bytes) ≡ ha
 block_in-some bytes = some-if (has_extension_in bytes) _
 
 -- the part behind the sources, by whether there is a block
-behind : (bytes : List ℕ) → IsBytes bytes → header_length_in bytes ≤ length bytes → (b : Bool) → has_extension_in bytes ≡ b →
+behind : (bytes : List ℕ) → IsBytes bytes → header_length_in bytes ≤ length bytes → (b : Bool)
+    → has_extension_in bytes ≡ b →
     drop (block_at bytes) bytes ≡ block_bytes (block_in bytes) ++ drop (header_length_in bytes) bytes
 behind bytes h l false e =
     let none : block_in bytes ≡ None = if-else (has_extension_in bytes) _ _ e in
@@ -102,11 +120,14 @@ behind bytes h l true e =
     let at = block_at bytes in
     let xs = drop at bytes in
     let words_at : drop 2 xs ≡ drop (at + 2) bytes = drop-drop 2 at bytes in
-    let w : from_be_bytes w16 (drop 2 xs) ≡ half_at bytes (at + 2) = ap (from_be_bytes w16) words_at in
-    let len : header_length_in bytes ≡ at + 4 + 4 * half_at bytes (at + 2) = if-then (has_extension_in bytes) _ _ e in
+    let w : from_be_bytes w16 (drop 2 xs) ≡ u16_at bytes (at + 2) = ap (from_be_bytes w16) words_at in
+    let len : header_length_in bytes ≡ at + 4 + 4 * u16_at bytes (at + 2) = if-then (has_extension_in bytes) _ _ e in
     let enough : 4 + 4 * from_be_bytes w16 (drop 2 xs) ≤ length xs = omega (arith, w, len, length-drop at bytes) in
-    let there : block_in bytes ≡ Some (record { profile = half_at bytes at; content = take (4 * half_at bytes (at + 2)) (drop (at + 4) bytes) }) = if-then (has_extension_in bytes) _ _ e in
-    let content : take (4 * from_be_bytes w16 (drop 2 xs)) (drop 4 xs) ≡ take (4 * half_at bytes (at + 2)) (drop (at + 4) bytes) =
+    let there : block_in bytes ≡ Some (record
+    { profile = u16_at bytes at; content = take (4 * u16_at bytes (at + 2)) (drop (at + 4) bytes) }) =
+    if-then (has_extension_in bytes) _ _ e in
+    let content : take (4 * from_be_bytes w16 (drop 2 xs)) (drop 4 xs)
+    ≡ take (4 * u16_at bytes (at + 2)) (drop (at + 4) bytes) =
     λ i. take (4 * w i) (drop-drop 4 at bytes i) in
     let same : at + (4 + 4 * from_be_bytes w16 (drop 2 xs)) ≡ header_length_in bytes = omega (arith, w, len) in
     let end : drop (4 + 4 * from_be_bytes w16 (drop 2 xs)) xs ≡ drop (header_length_in bytes) bytes =
@@ -116,11 +137,20 @@ behind bytes h l true e =
     ∙ ap (λ (b : Option Block). block_bytes b ++ drop (header_length_in bytes) bytes) (sym there)
 
 block-le : (bytes : List ℕ) (b : Bool) → has_extension_in bytes ≡ b → block_at bytes ≤ header_length_in bytes
-block-le bytes true e = omega (arith, if-then (has_extension_in bytes) (block_at bytes + 4 + 4 * half_at bytes (block_at bytes + 2)) (block_at bytes) e)
-block-le bytes false e = omega (arith, if-else (has_extension_in bytes) (block_at bytes + 4 + 4 * half_at bytes (block_at bytes + 2)) (block_at bytes) e)
+block-le bytes true e = omega (
+  arith,
+  if-then (has_extension_in bytes)
+      (block_at bytes + 4 + 4 * u16_at bytes (block_at bytes + 2)) (block_at bytes) e,
+)
+block-le bytes false e = omega (
+  arith,
+  if-else (has_extension_in bytes)
+      (block_at bytes + 4 + 4 * u16_at bytes (block_at bytes + 2)) (block_at bytes) e,
+)
 
 -- the first byte
-first-again : (b : ℕ) (x : Bool) (n : ℕ) → b / 64 ≡ 2 → x ≡ has_bit b 16 → n ≡ b % 16 → b ≡ 128 + 32 * bit (has_bit b 32) + 16 * bit x + n
+first-again : (b : ℕ) (x : Bool) (n : ℕ) → b / 64 ≡ 2 → x ≡ has_bit b 16 → n ≡ b % 16 → b
+    ≡ 128 + 32 * bit (has_bit b 32) + 16 * bit x + n
 first-again b x n v e c =
     let p : bit (has_bit b 32) ≡ b / 32 % 2 = bit-is (b / 32 % 2) (omega arith) in
     let q : bit x ≡ b / 16 % 2 = ap bit e ∙ bit-is (b / 16 % 2) (omega arith) in
@@ -129,7 +159,8 @@ first-again b x n v e c =
 second-again : (b : ℕ) → b < 256 → b ≡ 128 * bit (has_bit b 128) + b % 128
 second-again b h = let m : bit (has_bit b 128) ≡ b / 128 % 2 = bit-is (b / 128 % 2) (omega arith) in omega (arith, m)
 
-found-spelling : (bytes : List ℕ) → 12 ≤ length bytes → IsBytes bytes → slice_index bytes 0 / 64 ≡ 2 → header_length_in bytes ≤ length bytes →
+found-spelling : (bytes : List ℕ) → 12 ≤ length bytes → IsBytes bytes → slice_index bytes 0 / 64 ≡ 2
+    → header_length_in bytes ≤ length bytes →
     bytes ≡ layout_bytes (layout_in bytes) ++ drop (header_length_in bytes) bytes
 found-spelling [] long h v l = absurd (omega arith)
 found-spelling (b0 ∷ []) long h v l = absurd (omega arith)
@@ -147,7 +178,8 @@ found-spelling (b0 ∷ b1 ∷ b2 ∷ b3 ∷ b4 ∷ b5 ∷ b6 ∷ b7 ∷ b8 ∷ b
     let bytes = b0 ∷ b1 ∷ b2 ∷ b3 ∷ b4 ∷ b5 ∷ b6 ∷ b7 ∷ b8 ∷ b9 ∷ b10 ∷ b11 ∷ tail in
     let n = b0 % 16 in
     let few : 4 * n ≤ length tail = omega (arith, block-le bytes (has_extension_in bytes) refl, l) in
-    let first = first-again b0 (is_some_block (block_in bytes)) (length (words_in n tail)) v (block_in-some bytes) (length-words_in n tail) in
+    let first = first-again b0 (is_some_block (block_in bytes)) (length (words_in n tail)) v (block_in-some bytes)
+    (length-words_in n tail) in
     let second = second-again b1 (h 1) in
     let number = half-again b2 b3 (h 2) (h 3) in
     let time = word-again b4 b5 b6 b7 (h 4) (h 5) (h 6) (h 7) in
@@ -158,27 +190,44 @@ found-spelling (b0 ∷ b1 ∷ b2 ∷ b3 ∷ b4 ∷ b5 ∷ b6 ∷ b7 ∷ b8 ∷ b
     drop-drop (4 * n) 12 bytes ∙ behind bytes h l (has_extension_in bytes) refl in
     let end : tail ≡ (words (words_in n tail) ++ block_bytes (block_in bytes)) ++ drop (header_length_in bytes) bytes =
     sources ∙ ap (λ (ys : List ℕ). words (words_in n tail) ++ ys) rest
-    ∙ sym (append_assoc (words (words_in n tail)) (block_bytes (block_in bytes)) (drop (header_length_in bytes) bytes)) in
+    ∙ sym (append_assoc (words (words_in n tail)) (block_bytes (block_in bytes))
+    (drop (header_length_in bytes) bytes)) in
     λ i. first i ∷ second i ∷ (number i ++ (time i ++ (ssrc i ++ end i)))
 
-IsBlock-in : (bytes : List ℕ) → IsBytes bytes → header_length_in bytes ≤ length bytes → (b : Bool) → has_extension_in bytes ≡ b → IsBlock (block_in bytes)
+IsBlock-in : (bytes : List ℕ) → IsBytes bytes → header_length_in bytes ≤ length bytes → (b : Bool)
+    → has_extension_in bytes ≡ b → IsBlock (block_in bytes)
 IsBlock-in bytes h l false e = subst IsBlock (sym (if-else (has_extension_in bytes) _ _ e)) tt
 IsBlock-in bytes h l true e =
     let at = block_at bytes in
-    let len : header_length_in bytes ≡ at + 4 + 4 * half_at bytes (at + 2) = if-then (has_extension_in bytes) _ _ e in
-    let there : block_in bytes ≡ Some (record { profile = half_at bytes at; content = take (4 * half_at bytes (at + 2)) (drop (at + 4) bytes) }) = if-then (has_extension_in bytes) _ _ e in
-    let count : length (take (4 * half_at bytes (at + 2)) (drop (at + 4) bytes)) ≡ 4 * half_at bytes (at + 2) =
-    omega (arith, length-take (4 * half_at bytes (at + 2)) (drop (at + 4) bytes), length-drop (at + 4) bytes, len) in
-    let p : half_at bytes at < 2 ^ 16 = omega (arith, IsBytes-drop at bytes h 0, IsBytes-drop at bytes h 1) in
-    let w : half_at bytes (at + 2) < 2 ^ 16 = omega (arith, IsBytes-drop (at + 2) bytes h 0, IsBytes-drop (at + 2) bytes h 1) in
+    let len : header_length_in bytes ≡ at + 4 + 4 * u16_at bytes (at + 2) = if-then (has_extension_in bytes) _ _ e in
+    let there : block_in bytes ≡ Some (record
+    { profile = u16_at bytes at; content = take (4 * u16_at bytes (at + 2)) (drop (at + 4) bytes) }) =
+    if-then (has_extension_in bytes) _ _ e in
+    let count : length (take (4 * u16_at bytes (at + 2)) (drop (at + 4) bytes)) ≡ 4 * u16_at bytes (at + 2) =
+    omega (arith, length-take (4 * u16_at bytes (at + 2)) (drop (at + 4) bytes), length-drop (at + 4) bytes, len) in
+    let p : u16_at bytes at < 2 ^ 16 = omega (arith, IsBytes-drop at bytes h 0, IsBytes-drop at bytes h 1) in
+    let w : u16_at bytes (at + 2) < 2 ^ 16 =
+    omega (arith, IsBytes-drop (at + 2) bytes h 0, IsBytes-drop (at + 2) bytes h 1) in
     subst IsBlock (sym there) (p, omega (arith, count), omega (arith, count, w))
 
 IsLayout-in : (bytes : List ℕ) → IsBytes bytes → header_length_in bytes ≤ length bytes → IsLayout (layout_in bytes)
 IsLayout-in bytes h l = record {
   payload_type = omega arith;
   number = omega (arith, IsBytes-drop 2 bytes h 0, IsBytes-drop 2 bytes h 1);
-  time = omega (arith, IsBytes-drop 4 bytes h 0, IsBytes-drop 4 bytes h 1, IsBytes-drop 4 bytes h 2, IsBytes-drop 4 bytes h 3);
-  ssrc = omega (arith, IsBytes-drop 8 bytes h 0, IsBytes-drop 8 bytes h 1, IsBytes-drop 8 bytes h 2, IsBytes-drop 8 bytes h 3);
+  time = omega (
+    arith,
+    IsBytes-drop 4 bytes h 0,
+    IsBytes-drop 4 bytes h 1,
+    IsBytes-drop 4 bytes h 2,
+    IsBytes-drop 4 bytes h 3,
+  );
+  ssrc = omega (
+    arith,
+    IsBytes-drop 8 bytes h 0,
+    IsBytes-drop 8 bytes h 1,
+    IsBytes-drop 8 bytes h 2,
+    IsBytes-drop 8 bytes h 3,
+  );
   few = omega (arith, length-words_in (csrc_count_in bytes) (drop 12 bytes));
   csrc = words_in-fit (csrc_count_in bytes) (drop 12 bytes) (IsBytes-drop 12 bytes h);
   extension = IsBlock-in bytes h l (has_extension_in bytes) refl;
@@ -200,7 +249,8 @@ eq-of : (a b : ℕ) → (a == b) ≡ true → a ≡ b
 eq-of a b h = grind (arith, nat_tests)
 
 -- What is read is spelled so.
-pub header_in-found : (map : Numbering) (bytes : List ℕ) (header : RtpHeader) → IsBytes bytes → header_in map bytes ≡ Some header → IsSpelled map bytes header
+pub header_in-found : (map : Numbering) (bytes : List ℕ) (header : RtpHeader) → IsBytes bytes → header_in map bytes
+    ≡ Some header → IsSpelled map bytes header
 header_in-found map bytes header h e =
     let found = if-some (is_header bytes) (fields_in map bytes) header e in
     let tests = parts _ _ found.0 in
@@ -210,7 +260,13 @@ header_in-found map bytes header h e =
     let spelling = found-spelling bytes long h version len in
     let lay = layout_in bytes in
     let whole : header_length_in bytes ≡ length (layout_bytes lay) =
-    omega (arith, ap length spelling, length-append (layout_bytes lay) (drop (header_length_in bytes) bytes), length-drop (header_length_in bytes) bytes, len) in
+    omega (
+      arith,
+      ap length spelling,
+      length-append (layout_bytes lay) (drop (header_length_in bytes) bytes),
+      length-drop (header_length_in bytes) bytes,
+      len,
+    ) in
     let meaning : fields_in map bytes ≡ header_of map lay = λ i. record {
       version = 2;
       has_padding = lay.padding;

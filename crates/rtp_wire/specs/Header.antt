@@ -1,17 +1,20 @@
-use Rattle.std.specs.Prelude.{true, ℕ, ◌≡◌, ◌+◌, ◌*◌, ◌/◌, ◌%◌, ◌-◌, ◌<◌, ◌≤◌, ◌^◌, Bool, ◌==◌, ◌&&◌, nat_le, if◌then◌else◌, zero, suc, List, [], ◌∷◌, ◌++◌, length, take, drop, replicate, slice_index, All, Option, Some, None}
+use Rattle.std.specs.Prelude.{true, ℕ, ◌≡◌, ◌+◌, ◌*◌, ◌/◌, ◌%◌, ◌-◌, ◌<◌, ◌≤◌, ◌^◌, Bool, ◌==◌, ◌&&◌, nat_le}
+use Rattle.std.specs.Prelude.{if◌then◌else◌, zero, suc, List, [], ◌∷◌, ◌++◌, length, take, drop, replicate}
+use Rattle.std.specs.Prelude.{slice_index, All, Option, Some, None}
 use Rattle.std.specs.Int.{w16, w32, from_be_bytes}
 use Rattle.rtp_wire_extensions.specs.Carried.{AreValues}
-use Rattle.rtp_wire_extensions.specs.Values.{Numbering, Block, absent, values_of, block_of, two_byte_block, image_values}
+use Rattle.rtp_wire_extensions.specs.Values.{Numbering, Block, absent, values_of, block_of, two_byte_block}
+use Rattle.rtp_wire_extensions.specs.Values.{image_values}
 use Rattle.rtp_wire_extensions.specs.declared.values.ExtensionValues.{ExtensionValues}
 use Rattle.rtp_wire.specs.declared.header.RtpHeader.{RtpHeader}
 use Rattle.rtp_wire.specs.Layout.{Layout, is_some_block, layout_bytes, IsLayout}
 
 -- Numbers of two and of four bytes at a place.
-abbrev pub half_at : List ℕ → ℕ → ℕ
-half_at bytes at = from_be_bytes w16 (drop at bytes)
+abbrev pub u16_at : List ℕ → ℕ → ℕ
+u16_at bytes at = from_be_bytes w16 (drop at bytes)
 
-abbrev pub word_at : List ℕ → ℕ → ℕ
-word_at bytes at = from_be_bytes w32 (drop at bytes)
+abbrev pub u32_at : List ℕ → ℕ → ℕ
+u32_at bytes at = from_be_bytes w32 (drop at bytes)
 
 -- So many words, one behind the other.
 abbrev pub words_in : ℕ → List ℕ → List ℕ
@@ -34,7 +37,7 @@ block_at bytes = 12 + 4 * csrc_count_in bytes
 -- How long the header is.
 abbrev pub header_length_in : List ℕ → ℕ
 header_length_in bytes =
-    if has_extension_in bytes then block_at bytes + 4 + 4 * half_at bytes (block_at bytes + 2) else block_at bytes
+    if has_extension_in bytes then block_at bytes + 4 + 4 * u16_at bytes (block_at bytes + 2) else block_at bytes
 
 -- The version is 2, and nothing of the header passes the end.
 abbrev pub is_header : List ℕ → Bool
@@ -43,8 +46,8 @@ is_header bytes = (slice_index bytes 0 / 64 == 2) && nat_le (header_length_in by
 abbrev pub block_in : List ℕ → Option Block
 block_in bytes =
     if has_extension_in bytes then Some (record {
-      profile = half_at bytes (block_at bytes);
-      content = take (4 * half_at bytes (block_at bytes + 2)) (drop (block_at bytes + 4) bytes);
+      profile = u16_at bytes (block_at bytes);
+      content = take (4 * u16_at bytes (block_at bytes + 2)) (drop (block_at bytes + 4) bytes);
     }) else None
 
 abbrev pub values_in : Numbering → Option Block → ExtensionValues
@@ -63,9 +66,9 @@ fields_in map bytes = record {
   csrc_count = csrc_count_in bytes;
   marker = has_bit (slice_index bytes 1) 128;
   payload_type = slice_index bytes 1 % 128;
-  sequence_number = half_at bytes 2;
-  timestamp = word_at bytes 4;
-  ssrc = word_at bytes 8;
+  sequence_number = u16_at bytes 2;
+  timestamp = u32_at bytes 4;
+  ssrc = u32_at bytes 8;
   csrc = slots (words_in (csrc_count_in bytes) (drop 12 bytes));
   ext_vals = values_in map (block_in bytes);
   header_len = header_length_in bytes;
@@ -98,9 +101,9 @@ layout_in bytes = record {
   padding = has_bit (slice_index bytes 0) 32;
   marker = has_bit (slice_index bytes 1) 128;
   payload_type = slice_index bytes 1 % 128;
-  number = half_at bytes 2;
-  time = word_at bytes 4;
-  ssrc = word_at bytes 8;
+  number = u16_at bytes 2;
+  time = u32_at bytes 4;
+  ssrc = u32_at bytes 8;
   csrc = words_in (csrc_count_in bytes) (drop 12 bytes);
   extension = block_in bytes;
 }
@@ -137,7 +140,8 @@ spelled map header = layout_bytes (layout_of map header)
 -- The length of a header with each element in the two-byte form (RFC 8285 4.3).
 abbrev pub two_byte_length : Numbering → RtpHeader → ℕ
 two_byte_length map header =
-    12 + 4 * header.csrc_count + (if header.has_extension then 4 + length (two_byte_block map header.ext_vals).content else 0)
+    12 + 4 * header.csrc_count + (if header.has_extension
+    then 4 + length (two_byte_block map header.ext_vals).content else 0)
 
 -- The header that is read back where one was written: its wire image.
 abbrev pub image : Numbering → RtpHeader → RtpHeader

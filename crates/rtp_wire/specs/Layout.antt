@@ -1,4 +1,5 @@
-use Rattle.std.specs.Prelude.{slice_index, ℕ, ◌≡◌, ◌+◌, ◌*◌, ◌/◌, ◌<◌, ◌≤◌, ◌^◌, Bool, true, false, List, [], ◌∷◌, ◌++◌, length, All, Option, Some, None}
+use Rattle.std.specs.Prelude.{slice_index, ℕ, ◌≡◌, ◌+◌, ◌*◌, ◌/◌, ◌<◌, ◌≤◌, ◌^◌, Bool, true, false, List, [], ◌∷◌}
+use Rattle.std.specs.Prelude.{◌++◌, length, All, Option, Some, None}
 use Rattle.std.specs.List.{flat_map}
 use Rattle.std.specs.Int.{w16, w32, to_be_bytes}
 use Rattle.rtp_wire_extensions.specs.Values.{Block}
@@ -44,7 +45,8 @@ layout_bytes l = fixed_bytes l ++ words l.csrc ++ block_bytes l.extension
 
 abbrev pub IsBlock : Option Block → Type 0
 IsBlock None = Unit {0}
-IsBlock (Some b) = (b.profile < 2 ^ 16) × (length b.content ≡ 4 * (length b.content / 4)) × (length b.content / 4 < 2 ^ 16)
+IsBlock (Some b) = (b.profile < 2 ^ 16) × (length b.content ≡ 4 * (length b.content / 4))
+    × (length b.content / 4 < 2 ^ 16)
 
 -- What a header can say.
 pub record IsLayout (l : Layout) : Type 0 where

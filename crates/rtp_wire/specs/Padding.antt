@@ -1,4 +1,5 @@
-use Rattle.std.specs.Prelude.{ℕ, ◌-◌, Bool, true, false, ◌==◌, ◌||◌, nat_lt, if◌then◌else◌, List, length, take, slice_index, Option, Some, None}
+use Rattle.std.specs.Prelude.{ℕ, ◌-◌, Bool, true, false, ◌==◌, ◌||◌, nat_lt, if◌then◌else◌, List, length, take}
+use Rattle.std.specs.Prelude.{slice_index, Option, Some, None}
 
 -- The payload in front of so many padding bytes, at least one.
 abbrev pub without : ℕ → List ℕ → Option (List ℕ)

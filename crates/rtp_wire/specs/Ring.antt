@@ -9,4 +9,5 @@ flag flags y = slice_index_or flags (y % 128) false
 
 -- The numbers up to the greatest, less than 128 below it, whose flag is up.
 abbrev pub numbers_of : ℕ → List Bool → set.FinSet nat_cmp
-numbers_of greatest flags = set.from_list (filter (flag flags) (range_with_len (greatest - 127) (greatest + 1 - (greatest - 127))))
+numbers_of greatest flags = set.from_list
+    (filter (flag flags) (range_with_len (greatest - 127) (greatest + 1 - (greatest - 127))))

@@ -26,4 +26,5 @@ window_behind window (Some header) =
 -- Datagrams one after the other, at one window.
 abbrev pub receptions : Numbering → Option Window → List (List ℕ) → List Reception
 receptions map window [] = []
-receptions map window (d ∷ ds) = reception_of window (header_in map d) ∷ receptions map (window_behind window (header_in map d)) ds
+receptions map window (d ∷ ds) = reception_of window (header_in map d)
+    ∷ receptions map (window_behind window (header_in map d)) ds

@@ -17,8 +17,10 @@ pub record IsNearestOf (half previous low number : ℕ) : Type 0 where
 abbrev pub widened_of : ℕ → Option ℕ → ℕ → ℕ
 widened_of half None low = low
 widened_of half (Some previous) low =
-    if nat_lt (previous % (2 * half) + half) low then (previous - previous % (2 * half) + low + (2 ^ 64 - 2 * half)) % 2 ^ 64
-    else if nat_lt (low + half) (previous % (2 * half)) then (previous - previous % (2 * half) + low + 2 * half) % 2 ^ 64
+    if nat_lt (previous % (2 * half) + half) low
+    then (previous - previous % (2 * half) + low + (2 ^ 64 - 2 * half)) % 2 ^ 64
+    else if nat_lt (low + half) (previous % (2 * half))
+    then (previous - previous % (2 * half) + low + 2 * half) % 2 ^ 64
     else (previous - previous % (2 * half) + low) % 2 ^ 64
 
 -- The same for the 16 bits of a header.

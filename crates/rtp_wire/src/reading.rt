@@ -1,7 +1,9 @@
 //! Headers read.
 
 ghost use Rattle.std.specs.Prelude.{◌≡◌, ◌+◌, ◌*◌, ◌≤◌, ◌<◌, ℕ, length, drop, IsTrue, if◌then◌else◌};
-ghost use Rattle.rtp_wire.specs.Header.{half_at, word_at, words_in, slots, is_header, header_in, fields_in, header_length_in, has_bit, csrc_count_in, has_extension_in, block_at, block_in, values_in};
+ghost use Rattle.rtp_wire.specs.Header.{u16_at, u32_at, words_in, slots, is_header, header_in, fields_in};
+ghost use Rattle.rtp_wire.specs.Header.{header_length_in, has_bit, csrc_count_in, has_extension_in, block_at};
+ghost use Rattle.rtp_wire.specs.Header.{block_in, values_in};
 ghost use Rattle.rtp_wire.specs.Widening.{widened};
 
 use crate::header::RtpHeader;
@@ -10,17 +12,17 @@ use rtp_wire_extensions::{ExtensionMap, ExtensionValues};
 use rtp_wire_ids::{Pt, SeqNo, Ssrc};
 
 /// The number of two bytes at a place.
-fn half_at(bytes: &[u8], at: usize) -> u16
+fn u16_at(bytes: &[u8], at: usize) -> u16
     requires { at + 2 ≤ length bytes.now }
-    ensures { result ≡ half_at bytes.now at }
+    ensures { result ≡ u16_at bytes.now at }
 {
     u16::from_be_bytes([bytes[at], bytes[at + 1]])
 }
 
 /// The number of four bytes at a place.
-fn word_at(bytes: &[u8], at: usize) -> u32
+fn u32_at(bytes: &[u8], at: usize) -> u32
     requires { at + 4 ≤ length bytes.now }
-    ensures { result ≡ word_at bytes.now at }
+    ensures { result ≡ u32_at bytes.now at }
 {
     u32::from_be_bytes([bytes[at], bytes[at + 1], bytes[at + 2], bytes[at + 3]])
 }
@@ -51,7 +53,7 @@ fn header_length(bytes: &[u8]) -> Option<usize>
     if bytes.len() < block + 4 {
         return None;
     }
-    let len = block + 4 + 4 * half_at(bytes, block + 2) as usize;
+    let len = block + 4 + 4 * u16_at(bytes, block + 2) as usize;
     if len <= bytes.len() { Some(len) } else { None }
 }
 
@@ -63,7 +65,7 @@ fn csrc_of(bytes: &[u8]) -> [u32; 15]
     let mut csrc = [0; 15];
     let count = (bytes[0] % 16) as usize;
     for i in 0..count {
-        csrc[i] = word_at(bytes, 12 + 4 * i);
+        csrc[i] = u32_at(bytes, 12 + 4 * i);
     }
     csrc
 }
@@ -77,8 +79,8 @@ fn values_of(bytes: &[u8], exts: &ExtensionMap) -> ExtensionValues
         return ExtensionValues::absent();
     }
     let at = 12 + 4 * (bytes[0] % 16) as usize;
-    let len = 4 * half_at(bytes, at + 2) as usize;
-    exts.read_block(half_at(bytes, at), &bytes[at + 4..at + 4 + len])
+    let len = 4 * u16_at(bytes, at + 2) as usize;
+    exts.read_block(u16_at(bytes, at), &bytes[at + 4..at + 4 + len])
 }
 
 /// The header in front of the bytes, of this length.
@@ -94,9 +96,9 @@ fn fields_of(bytes: &[u8], exts: &ExtensionMap, header_len: usize) -> RtpHeader
         csrc_count: (bytes[0] % 16) as usize,
         marker: has_bit(bytes[1], 128),
         payload_type: Pt::from(bytes[1] % 128),
-        sequence_number: half_at(bytes, 2),
-        timestamp: word_at(bytes, 4),
-        ssrc: Ssrc::from(word_at(bytes, 8)),
+        sequence_number: u16_at(bytes, 2),
+        timestamp: u32_at(bytes, 4),
+        ssrc: Ssrc::from(u32_at(bytes, 8)),
         csrc: csrc_of(bytes),
         ext_vals: values_of(bytes, exts),
         header_len,

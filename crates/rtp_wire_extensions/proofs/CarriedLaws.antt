@@ -1,5 +1,6 @@
 -- Each kind's bytes hold its wire image.
-use Rattle.std.proofs.Common.{◌≡◌, ℕ, suc, ◌+◌, ◌*◌, ◌/◌, ◌%◌, ◌<◌, ◌^◌, Bool, true, false, true≢false, ◌&&◌, ◌||◌, refl, sym, ap, ◌∙◌, arith, List}
+use Rattle.std.proofs.Common.{◌≡◌, ℕ, suc, ◌+◌, ◌*◌, ◌/◌, ◌%◌, ◌<◌, ◌^◌, Bool, true, false, true≢false, ◌&&◌, ◌||◌}
+use Rattle.std.proofs.Common.{refl, sym, ap, ◌∙◌, arith, List}
 use Rattle.std.specs.Prelude.{if◌then◌else◌, Option, Some, None, IfSome, nat_lt, ◌==◌, ℤ, pos, negsuc, FitsSigned}
 use Rattle.std.specs.Int.{w16, w64, to_be_bytes, from_be_bytes, cast_signed, cast_unsigned}
 use Rattle.std.proofs.lemmas.Bool.Decides.{nat_tests}
@@ -9,11 +10,20 @@ use Rattle.std.proofs.lemmas.Str.{utf8_valid_len-IsUtf8}
 use Rattle.rtp_wire_ids.specs.Name.{name_of, IsName}
 use Rattle.rtp_wire_ids.proofs.NameLaws.{IsUtf8-name}
 use Rattle.rtp_wire_extensions.specs.declared.extension.Extension.{Extension}
-use Rattle.rtp_wire_extensions.specs.declared.extension.Extension.TheVariants.{AbsoluteSendTime, AbsoluteCaptureTime, AudioLevel, VideoOrientation, TransportSequenceNumber, PlayoutDelay, VideoContentType, RtpStreamId, RepairedRtpStreamId, RtpMid, UnknownUri}
+use Rattle.rtp_wire_extensions.specs.declared.extension.Extension.TheVariants.{AbsoluteSendTime, AbsoluteCaptureTime}
+use Rattle.rtp_wire_extensions.specs.declared.extension.Extension.TheVariants.{AudioLevel, VideoOrientation}
+use Rattle.rtp_wire_extensions.specs.declared.extension.Extension.TheVariants.{TransportSequenceNumber, PlayoutDelay}
+use Rattle.rtp_wire_extensions.specs.declared.extension.Extension.TheVariants.{VideoContentType, RtpStreamId}
+use Rattle.rtp_wire_extensions.specs.declared.extension.Extension.TheVariants.{RepairedRtpStreamId, RtpMid}
+use Rattle.rtp_wire_extensions.specs.declared.extension.Extension.TheVariants.{UnknownUri}
 use Rattle.rtp_wire_extensions.specs.declared.values.ExtensionValues.{ExtensionValues}
 use Rattle.rtp_wire_extensions.specs.declared.values.AbsCaptureTime.{AbsCaptureTime}
 use Rattle.rtp_wire_extensions.specs.Kinds.{same}
-use Rattle.rtp_wire_extensions.specs.Carried.{bit, level_number, level_byte, level_bytes, send_number, sent_time, send_bytes, transport_bytes, byte_bytes, delay_bytes, capture_bytes, value_bytes, is_text, minus, with_value, has_level, is_number, level_image, voice_image, send_image, delay_text, has_delay, least_image, most_image, values_for, IsCapture, AreValues}
+use Rattle.rtp_wire_extensions.specs.Carried.{bit, level_number, level_byte, level_bytes, send_number, sent_time}
+use Rattle.rtp_wire_extensions.specs.Carried.{send_bytes, transport_bytes, byte_bytes, delay_bytes, capture_bytes}
+use Rattle.rtp_wire_extensions.specs.Carried.{value_bytes, is_text, minus, with_value, has_level, is_number}
+use Rattle.rtp_wire_extensions.specs.Carried.{level_image, voice_image, send_image, delay_text, has_delay}
+use Rattle.rtp_wire_extensions.specs.Carried.{least_image, most_image, values_for, IsCapture, AreValues}
 
 -- one kind more
 abbrev pub and_this : Extension → (Extension → Bool) → Extension → Bool
@@ -91,15 +101,19 @@ is_text-name n text h = eq-true _ _ (utf8_valid_len-IsUtf8 text (IsUtf8-name n t
 
 module _ (p : Extension → Bool) (v : ExtensionValues) where
   carry-transport : (o : Option ℕ) → v.transport_cc ≡ o → IfSome o (λ n. n < 2 ^ 16) →
-      with_carried TransportSequenceNumber (transport_bytes o) (values_for p v) ≡ values_for (and_this TransportSequenceNumber p) v
-  carry-transport None e h = λ i. record (values_for p v) { transport_cc = if-none (p TransportSequenceNumber) v.transport_cc e i }
+      with_carried TransportSequenceNumber (transport_bytes o) (values_for p v)
+      ≡ values_for (and_this TransportSequenceNumber p) v
+  carry-transport None e h = λ i. record (values_for p v)
+      { transport_cc = if-none (p TransportSequenceNumber) v.transport_cc e i }
   carry-transport (Some n) e h =
-      let field : Some (from_be_bytes w16 (to_be_bytes w16 n)) ≡ v.transport_cc = ap (λ (k : ℕ). Some k) (from_be_bytes-to_be_bytes_2 n h) ∙ sym e in
+      let field : Some (from_be_bytes w16 (to_be_bytes w16 n)) ≡ v.transport_cc =
+      ap (λ (k : ℕ). Some k) (from_be_bytes-to_be_bytes_2 n h) ∙ sym e in
       λ i. record (values_for p v) { transport_cc = field i }
 
   carry-send : (o : Option ℕ) → v.abs_send_time ≡ o →
       with_carried AbsoluteSendTime (send_bytes o) (values_for p v) ≡ values_for (and_this AbsoluteSendTime p) v
-  carry-send None e = λ i. record (values_for p v) { abs_send_time = if-none (p AbsoluteSendTime) (send_image v.abs_send_time) (ap send_image e) i }
+  carry-send None e = λ i. record (values_for p v)
+      { abs_send_time = if-none (p AbsoluteSendTime) (send_image v.abs_send_time) (ap send_image e) i }
   carry-send (Some t) e =
       let n = send_number t in
       let field : Some (sent_time (n / 65536 * 65536 + n / 256 % 256 * 256 + n % 256)) ≡ send_image v.abs_send_time =
@@ -108,7 +122,8 @@ module _ (p : Extension → Bool) (v : ExtensionValues) where
 
   carry-orientation : (o : Option ℕ) → v.video_orientation ≡ o → IfSome o (λ n. n < 4) →
       with_carried VideoOrientation (byte_bytes o) (values_for p v) ≡ values_for (and_this VideoOrientation p) v
-  carry-orientation None e h = λ i. record (values_for p v) { video_orientation = if-none (p VideoOrientation) v.video_orientation e i }
+  carry-orientation None e h = λ i. record (values_for p v)
+      { video_orientation = if-none (p VideoOrientation) v.video_orientation e i }
   carry-orientation (Some n) e h =
       let low : n % 4 ≡ n = omega (arith, h) in
       let field : Some (n % 4) ≡ v.video_orientation = ap (λ (k : ℕ). Some k) low ∙ sym e in
@@ -116,10 +131,12 @@ module _ (p : Extension → Bool) (v : ExtensionValues) where
 
   carry-content : (o : Option ℕ) → v.video_content_type ≡ o →
       with_carried VideoContentType (byte_bytes o) (values_for p v) ≡ values_for (and_this VideoContentType p) v
-  carry-content None e = λ i. record (values_for p v) { video_content_type = if-none (p VideoContentType) v.video_content_type e i }
+  carry-content None e = λ i. record (values_for p v)
+      { video_content_type = if-none (p VideoContentType) v.video_content_type e i }
   carry-content (Some n) e = λ i. record (values_for p v) { video_content_type = sym e i }
 
-  carry-level : (z : ℤ) (a : Bool) (o : Option ℕ) → level_number z ≡ o → v.audio_level ≡ Some z → v.voice_activity ≡ Some a →
+  carry-level : (z : ℤ) (a : Bool) (o : Option ℕ) → level_number z ≡ o → v.audio_level ≡ Some z → v.voice_activity
+      ≡ Some a →
       with_carried AudioLevel (level_byte o a) (values_for p v) ≡ values_for (and_this AudioLevel p) v
   carry-level z a None n e f =
       let not : has_level v.audio_level v.voice_activity ≡ false = (λ i. has_level (e i) (f i)) ∙ ap is_number n in
@@ -130,7 +147,8 @@ module _ (p : Extension → Bool) (v : ExtensionValues) where
       let there : has_level v.audio_level v.voice_activity ≡ true = (λ i. has_level (e i) (f i)) ∙ ap is_number n in
       let number = level_number-some z k n in
       let level : Some (minus ((128 * bit a + k) % 128)) ≡ level_image v.audio_level v.voice_activity =
-      ap (λ (m : ℕ). Some (minus m)) (level-low a k number.0) ∙ ap (λ (m : ℤ). Some m) number.1 ∙ sym e ∙ sym (if-then _ _ _ there) in
+      ap (λ (m : ℕ). Some (minus m)) (level-low a k number.0) ∙ ap (λ (m : ℤ). Some m) number.1 ∙ sym e
+      ∙ sym (if-then _ _ _ there) in
       let voice : Some ((128 * bit a + k) / 128 == 1) ≡ voice_image v.audio_level v.voice_activity =
       ap (λ (b : Bool). Some b) (level-high a k number.0) ∙ sym f ∙ sym (if-then _ _ _ there) in
       λ i. record (values_for p v) { audio_level = level i; voice_activity = voice i }
@@ -149,7 +167,8 @@ module _ (p : Extension → Bool) (v : ExtensionValues) where
       λ i. record (values_for p v) { audio_level = level i; voice_activity = voice i }
   carry-audio (Some z) (Some a) e f = carry-level z a (level_number z) refl e f
 
-  carry-both : (a b : ℕ) (t : Bool) → (nat_lt a 4096 && nat_lt b 4096) ≡ t → v.play_delay_min ≡ Some a → v.play_delay_max ≡ Some b →
+  carry-both : (a b : ℕ) (t : Bool) → (nat_lt a 4096 && nat_lt b 4096) ≡ t → v.play_delay_min ≡ Some a
+      → v.play_delay_max ≡ Some b →
       with_carried PlayoutDelay (delay_text t a b) (values_for p v) ≡ values_for (and_this PlayoutDelay p) v
   carry-both a b false n e f =
       let not : has_delay v.play_delay_min v.play_delay_max ≡ false = (λ i. has_delay (e i) (f i)) ∙ n in
@@ -179,22 +198,28 @@ module _ (p : Extension → Bool) (v : ExtensionValues) where
       λ i. record (values_for p v) { play_delay_min = least i; play_delay_max = most i }
   carry-delay (Some a) (Some b) e f = carry-both a b (nat_lt a 4096 && nat_lt b 4096) refl e f
 
-  carry-time : (c : ℕ) (o : Option ℤ) → v.abs_capture_time ≡ Some (record { capture_time = c; clock_offset = o }) → c < 2 ^ 64 → IfSome o (λ z. FitsSigned w64 z) →
-      with_carried AbsoluteCaptureTime (capture_bytes (Some (record { capture_time = c; clock_offset = o }))) (values_for p v) ≡ values_for (and_this AbsoluteCaptureTime p) v
+  carry-time : (c : ℕ) (o : Option ℤ) → v.abs_capture_time ≡ Some (record { capture_time = c; clock_offset = o })
+      → c < 2 ^ 64 → IfSome o (λ z. FitsSigned w64 z) →
+      with_carried AbsoluteCaptureTime (capture_bytes (Some (record { capture_time = c; clock_offset = o })))
+      (values_for p v) ≡ values_for (and_this AbsoluteCaptureTime p) v
   carry-time c None e h k =
-      let field = ap (λ (m : ℕ). let t : AbsCaptureTime = record { capture_time = m; clock_offset = None } in Some t) (from_be_bytes-to_be_bytes_8 c h) ∙ sym e in
+      let field = ap (λ (m : ℕ). let t : AbsCaptureTime = record { capture_time = m; clock_offset = None } in Some t)
+      (from_be_bytes-to_be_bytes_8 c h) ∙ sym e in
       λ i. record (values_for p v) { abs_capture_time = field i }
   carry-time c (Some z) e h k =
       let small : cast_unsigned w64 z < 2 ^ 64 = cast-fits z k in
       let back : cast_signed w64 (from_be_bytes w64 (to_be_bytes w64 (cast_unsigned w64 z))) ≡ z =
       ap (cast_signed w64) (from_be_bytes-to_be_bytes_8 (cast_unsigned w64 z) small) ∙ to_z-of_z w64 z k in
       let this = from_be_bytes-to_be_bytes_8 c h in
-      let field = (λ i. let t : AbsCaptureTime = record { capture_time = this i; clock_offset = Some (back i) } in Some t) ∙ sym e in
+      let field = (λ i. let t : AbsCaptureTime = record { capture_time = this i; clock_offset = Some (back i) } in
+      Some t) ∙ sym e in
       λ i. record (values_for p v) { abs_capture_time = field i }
 
   carry-capture : (o : Option AbsCaptureTime) → v.abs_capture_time ≡ o → IfSome o IsCapture →
-      with_carried AbsoluteCaptureTime (capture_bytes o) (values_for p v) ≡ values_for (and_this AbsoluteCaptureTime p) v
-  carry-capture None e h = λ i. record (values_for p v) { abs_capture_time = if-none (p AbsoluteCaptureTime) v.abs_capture_time e i }
+      with_carried AbsoluteCaptureTime (capture_bytes o) (values_for p v)
+      ≡ values_for (and_this AbsoluteCaptureTime p) v
+  carry-capture None e h = λ i. record (values_for p v)
+      { abs_capture_time = if-none (p AbsoluteCaptureTime) v.abs_capture_time e i }
   carry-capture (Some t) e h = carry-time t.capture_time t.clock_offset e h.capture_time h.clock_offset
 
   carry-mid : (o : Option (List ℕ)) → v.mid ≡ o → IfSome o (λ text. IsName 16 text) →

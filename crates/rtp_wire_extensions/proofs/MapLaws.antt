@@ -34,7 +34,8 @@ copied_more [] n ext h e = absurd (omega arith)
 copied_more (x ∷ xs) zero ext h e = ap (λ (o : Option Extension). o ∷ copied_to xs 0) (sym e)
 copied_more (x ∷ xs) (suc n) ext h e = ap (λ (ys : Numbering). x ∷ ys) (copied_more xs n ext (omega arith) e)
 
-pub copied_none : (map : Numbering) (n : ℕ) → n < length map → slice_index_or map n None ≡ None → copied_to map n ≡ copied_to map (suc n)
+pub copied_none : (map : Numbering) (n : ℕ) → n < length map → slice_index_or map n None ≡ None → copied_to map n
+    ≡ copied_to map (suc n)
 copied_none [] n h e = absurd (omega arith)
 copied_none (x ∷ xs) zero h e = ap (λ (o : Option Extension). o ∷ copied_to xs 0) (sym e)
 copied_none (x ∷ xs) (suc n) h e = ap (λ (ys : Numbering). x ∷ ys) (copied_none xs n (omega arith) e)

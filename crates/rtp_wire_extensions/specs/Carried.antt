@@ -1,10 +1,17 @@
-use Rattle.std.specs.Prelude.{ℕ, zero, suc, ◌+◌, ◌*◌, ◌/◌, ◌%◌, ◌<◌, ◌^◌, Bool, true, false, ◌==◌, ◌&&◌, nat_lt, ℤ, pos, negsuc, if◌then◌else◌, List, [], ◌∷◌, ◌++◌, length, drop, slice_index, Option, Some, None, IfSome}
+use Rattle.std.specs.Prelude.{ℕ, zero, suc, ◌+◌, ◌*◌, ◌/◌, ◌%◌, ◌<◌, ◌^◌, Bool, true, false, ◌==◌, ◌&&◌, nat_lt, ℤ}
+use Rattle.std.specs.Prelude.{pos, negsuc, if◌then◌else◌, List, [], ◌∷◌, ◌++◌, length, drop, slice_index, Option}
+use Rattle.std.specs.Prelude.{Some, None, IfSome}
 use Rattle.std.specs.Int.{w16, w64, to_be_bytes, from_be_bytes, cast_signed, cast_unsigned}
 use Rattle.std.specs.Prelude.{FitsSigned}
 use Rattle.std.specs.Str.Lossy.{utf8_valid_len}
 use Rattle.rtp_wire_ids.specs.Name.{name_of, IsName}
 use Rattle.rtp_wire_extensions.specs.declared.extension.Extension.{Extension}
-use Rattle.rtp_wire_extensions.specs.declared.extension.Extension.TheVariants.{AbsoluteSendTime, AbsoluteCaptureTime, AudioLevel, VideoOrientation, TransportSequenceNumber, PlayoutDelay, VideoContentType, RtpStreamId, RepairedRtpStreamId, RtpMid, UnknownUri}
+use Rattle.rtp_wire_extensions.specs.declared.extension.Extension.TheVariants.{AbsoluteSendTime, AbsoluteCaptureTime}
+use Rattle.rtp_wire_extensions.specs.declared.extension.Extension.TheVariants.{AudioLevel, VideoOrientation}
+use Rattle.rtp_wire_extensions.specs.declared.extension.Extension.TheVariants.{TransportSequenceNumber, PlayoutDelay}
+use Rattle.rtp_wire_extensions.specs.declared.extension.Extension.TheVariants.{VideoContentType, RtpStreamId}
+use Rattle.rtp_wire_extensions.specs.declared.extension.Extension.TheVariants.{RepairedRtpStreamId, RtpMid}
+use Rattle.rtp_wire_extensions.specs.declared.extension.Extension.TheVariants.{UnknownUri}
 use Rattle.rtp_wire_extensions.specs.declared.values.ExtensionValues.{ExtensionValues}
 use Rattle.rtp_wire_extensions.specs.declared.values.AbsCaptureTime.{AbsCaptureTime}
 
@@ -92,13 +99,29 @@ sent_time number = number * 1000000 / 262144
 -- The values with what bytes of an extension say; bytes of a wrong length say nothing.
 abbrev pub with_value : Extension → List ℕ → ExtensionValues → ExtensionValues
 with_value AbsoluteSendTime bytes v =
-    if length bytes == 3 then record v { abs_send_time = Some (sent_time (slice_index bytes 0 * 65536 + slice_index bytes 1 * 256 + slice_index bytes 2)) } else v
+    if length bytes == 3 then record v {
+      abs_send_time =
+          Some (sent_time (slice_index bytes 0 * 65536 + slice_index bytes 1 * 256 + slice_index bytes 2));
+    } else v
 with_value AbsoluteCaptureTime bytes v =
-    if length bytes == 8 then record v { abs_capture_time = Some (record { capture_time = from_be_bytes w64 bytes; clock_offset = None }) }
-    else if length bytes == 16 then record v { abs_capture_time = Some (record { capture_time = from_be_bytes w64 bytes; clock_offset = Some (cast_signed w64 (from_be_bytes w64 (drop 8 bytes))) }) }
+    if length bytes == 8 then record v {
+      abs_capture_time =
+          Some (record { capture_time = from_be_bytes w64 bytes; clock_offset = None });
+    }
+    else if length bytes == 16 then record v {
+      abs_capture_time = Some (record {
+        capture_time = from_be_bytes w64 bytes;
+        clock_offset =
+            Some (cast_signed w64 (from_be_bytes w64 (drop 8 bytes)));
+      });
+    }
     else v
 with_value AudioLevel bytes v =
-    if length bytes == 1 then record v { audio_level = Some (minus (slice_index bytes 0 % 128)); voice_activity = Some (slice_index bytes 0 / 128 == 1) } else v
+    if length bytes == 1 then record v {
+      audio_level = Some (minus (slice_index bytes 0 % 128));
+      voice_activity =
+          Some (slice_index bytes 0 / 128 == 1);
+    } else v
 with_value VideoOrientation bytes v =
     if length bytes == 1 then record v { video_orientation = Some (slice_index bytes 0 % 4) } else v
 with_value TransportSequenceNumber bytes v =

@@ -1,4 +1,6 @@
-use Rattle.std.specs.Prelude.{ℕ, zero, suc, ◌+◌, ◌*◌, ◌/◌, ◌%◌, ◌-◌, Bool, true, false, ◌==◌, ◌&&◌, ◌||◌, nat_le, nat_lt, if◌then◌else◌, List, [], ◌∷◌, ◌++◌, length, take, drop, replicate, slice_index_or, Option, Some, None}
+use Rattle.std.specs.Prelude.{ℕ, zero, suc, ◌+◌, ◌*◌, ◌/◌, ◌%◌, ◌-◌, Bool, true, false, ◌==◌, ◌&&◌, ◌||◌, nat_le}
+use Rattle.std.specs.Prelude.{nat_lt, if◌then◌else◌, List, [], ◌∷◌, ◌++◌, length, take, drop, replicate}
+use Rattle.std.specs.Prelude.{slice_index_or, Option, Some, None}
 use Rattle.std.specs.List.{flat_map, list_all}
 use Rattle.rtp_wire_extensions.specs.declared.extension.Extension.{Extension}
 use Rattle.rtp_wire_extensions.specs.declared.values.ExtensionValues.{ExtensionValues}
@@ -85,7 +87,8 @@ padding rest = record { id = 0; bytes = []; rest = rest }
 -- An element of so many bytes, unless it passes the end.
 abbrev pub taken : ℕ → ℕ → List ℕ → Option Step
 taken id count rest =
-    if nat_lt (length rest) count then None else Some (record { id = id; bytes = take count rest; rest = drop count rest })
+    if nat_lt (length rest) count then None else Some
+    (record { id = id; bytes = take count rest; rest = drop count rest })
 
 -- id(4), length less 1 (4); id 0 is one padding byte, id 15 ends the reading (RFC 8285 4.2).
 abbrev pub step_one : List ℕ → Option Step
@@ -125,4 +128,5 @@ on_step (Some s) x f = f s
 abbrev pub values_from : Bool → Numbering → ℕ → List ℕ → ExtensionValues → ExtensionValues
 values_from one map zero bytes values = values
 values_from one map (suc fuel) bytes values =
-    on_step (step one bytes) values (λ s. values_from one map fuel s.rest (with_element (lookup map s.id) s.bytes values))
+    on_step (step one bytes) values (λ s. values_from one map fuel s.rest
+    (with_element (lookup map s.id) s.bytes values))

@@ -1,8 +1,12 @@
-use Rattle.std.specs.Prelude.{ℕ, suc, ◌-◌, Bool, true, false, ◌&&◌, nat_le, if◌then◌else◌, List, [], ◌∷◌, replicate, position, swap, is_none, Option, Some, None}
+use Rattle.std.specs.Prelude.{ℕ, suc, ◌-◌, Bool, true, false, ◌&&◌, nat_le, if◌then◌else◌, List, [], ◌∷◌, replicate}
+use Rattle.std.specs.Prelude.{position, swap, is_none, Option, Some, None}
 use Rattle.std.specs.Option.{option_map}
 use Rattle.std.specs.List.{list_all}
 use Rattle.rtp_wire_extensions.specs.declared.extension.Extension.{Extension}
-use Rattle.rtp_wire_extensions.specs.declared.extension.Extension.TheVariants.{AbsoluteSendTime, AudioLevel, VideoOrientation, TransportSequenceNumber, RtpStreamId, RepairedRtpStreamId, RtpMid}
+use Rattle.rtp_wire_extensions.specs.declared.extension.Extension.TheVariants.{AbsoluteSendTime, AudioLevel}
+use Rattle.rtp_wire_extensions.specs.declared.extension.Extension.TheVariants.{VideoOrientation}
+use Rattle.rtp_wire_extensions.specs.declared.extension.Extension.TheVariants.{TransportSequenceNumber, RtpStreamId}
+use Rattle.rtp_wire_extensions.specs.declared.extension.Extension.TheVariants.{RepairedRtpStreamId, RtpMid}
 use Rattle.rtp_wire_extensions.specs.declared.map.ExtensionsForm.{ExtensionsForm}
 use Rattle.rtp_wire_extensions.specs.declared.map.ExtensionsForm.TheVariants.{OneByte, TwoByte}
 use Rattle.rtp_wire_extensions.specs.declared.values.ExtensionValues.{ExtensionValues}

@@ -3,7 +3,8 @@ use Rattle.rtp_wire_extensions.specs.declared.values.ExtensionValues.{ExtensionV
 use Rattle.rtp_wire_extensions.specs.declared.extension.Extension.{Extension}
 use Rattle.rtp_wire_extensions.specs.Carried.{values_for}
 use Rattle.rtp_wire_extensions.specs.Elements as elements
-use Rattle.rtp_wire_extensions.specs.Elements.{Element, holds, elements_to, are_one_byte, elements_text, filled_text, values_from}
+use Rattle.rtp_wire_extensions.specs.Elements.{Element, holds, elements_to, are_one_byte, elements_text, filled_text}
+use Rattle.rtp_wire_extensions.specs.Elements.{values_from}
 
 -- The extension of each number, 1 first.
 abbrev pub Numbering : Type 0

@@ -1,8 +1,10 @@
 //! Extension blocks, read and written.
 
-ghost use Rattle.std.specs.Prelude.{◌≡◌, ◌+◌, ◌*◌, ◌%◌, ◌≤◌, ◌<◌, ◌++◌, List, ℕ, true, Some, None, MatchOption, length};
+ghost use Rattle.std.specs.Prelude.{◌≡◌, ◌+◌, ◌*◌, ◌%◌, ◌≤◌, ◌<◌, ◌++◌, List, ℕ, true, Some, None, MatchOption};
+ghost use Rattle.std.specs.Prelude.{length};
 ghost use Rattle.rtp_wire_extensions.specs.Carried.{AreValues};
-ghost use Rattle.rtp_wire_extensions.specs.Elements.{Numbering, step, taken, lookup, with_element, values_from, place_elements, are_one_byte, elements_text};
+ghost use Rattle.rtp_wire_extensions.specs.Elements.{Numbering, step, taken, lookup, with_element, values_from};
+ghost use Rattle.rtp_wire_extensions.specs.Elements.{place_elements, are_one_byte, elements_text};
 ghost use Rattle.rtp_wire_extensions.specs.Maps.{form_for, form_if};
 ghost use Rattle.rtp_wire_extensions.specs.Values.{absent, values_of, block_of, two_byte_block, written_elements};
 ghost use Rattle.rtp_wire_extensions.specs.declared.values.ExtensionValues.{ExtensionValues};
@@ -197,7 +199,8 @@ impl ExtensionMap {
     ) -> usize
         requires place { place < 16 }
         requires fits { one_byte ≡ true → are_one_byte (place_elements self.now values.now place) ≡ true }
-        requires room { at + length (elements_text one_byte (place_elements self.now values.now place)) ≤ length buf.old }
+        requires room { at + length (elements_text one_byte (place_elements self.now values.now place)) ≤ length
+            buf.old }
         ensures end { result ≡ at + length (elements_text one_byte (place_elements self.now values.now place)) }
         ensures written { (text before : List ℕ) → IsWritten text before buf.old → at ≡ length text →
             IsWritten (text ++ elements_text one_byte (place_elements self.now values.now place)) before buf.new }

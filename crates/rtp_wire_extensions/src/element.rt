@@ -1,7 +1,8 @@
 //! The bytes of each extension's value.
 
 ghost use Rattle.std.specs.Prelude.{◌≡◌, ◌≤◌, ◌<◌, length};
-ghost use Rattle.rtp_wire_extensions.specs.Carried.{level_number, level_bytes, send_bytes, transport_bytes, byte_bytes, delay_bytes, capture_bytes, value_bytes, AreValues};
+ghost use Rattle.rtp_wire_extensions.specs.Carried.{level_number, level_bytes, send_bytes, transport_bytes};
+ghost use Rattle.rtp_wire_extensions.specs.Carried.{byte_bytes, delay_bytes, capture_bytes, value_bytes, AreValues};
 
 use crate::extension::Extension;
 use crate::values::{AbsCaptureTime, ExtensionValues};

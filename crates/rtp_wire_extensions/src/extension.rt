@@ -118,7 +118,8 @@ impl Extension {
 
     /// The known extension that a URI names.
     fn known(uri: &str) -> Option<Extension>
-        ensures { MatchOption result (extension_of uri.now ≡ Extension.UnknownUri uri.now) (λ ext. ext ≡ extension_of uri.now) }
+        ensures { MatchOption result (extension_of uri.now ≡ Extension.UnknownUri uri.now)
+            (λ ext. ext ≡ extension_of uri.now) }
     {
         Some(match uri {
             ABS_SEND_TIME => Extension::AbsoluteSendTime,

@@ -1,9 +1,11 @@
 //! Which extension has which number.
 
-ghost use Rattle.std.specs.Prelude.{◌≡◌, ◌+◌, ◌-◌, ◌≤◌, ◌<◌, List, ℕ, suc, length, slice_set, Some, IfSome, IfOk, IsPermutation};
+ghost use Rattle.std.specs.Prelude.{◌≡◌, ◌+◌, ◌-◌, ◌≤◌, ◌<◌, List, ℕ, suc, length, slice_set, Some, IfSome, IfOk};
+ghost use Rattle.std.specs.Prelude.{IsPermutation};
 ghost use Rattle.std.specs.Option.{option_copied};
 ghost use Rattle.rtp_wire_extensions.specs.Elements.{slot_is, holds, carried_at, lookup};
-ghost use Rattle.rtp_wire_extensions.specs.Maps.{empty_map, is_empty_map, standard_map, place_of, id_of, moved, remapped};
+ghost use Rattle.rtp_wire_extensions.specs.Maps.{empty_map, is_empty_map, standard_map, place_of, id_of, moved};
+ghost use Rattle.rtp_wire_extensions.specs.Maps.{remapped};
 
 use crate::element::{ElementBytes, value_bytes};
 use crate::extension::Extension;
@@ -93,7 +95,12 @@ impl ExtensionMap {
         }
     }
 
-    #[tactic(auto, using(crate::proofs::MapLaws::copied_start, crate::proofs::MapLaws::copied_more, crate::proofs::MapLaws::copied_none, crate::proofs::MapLaws::copied_end))]
+    #[tactic(auto, using(
+        crate::proofs::MapLaws::copied_start,
+        crate::proofs::MapLaws::copied_more,
+        crate::proofs::MapLaws::copied_none,
+        crate::proofs::MapLaws::copied_end
+    ))]
     /// The same map again.
     ///
     /// # Errors

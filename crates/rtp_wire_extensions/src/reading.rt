@@ -10,7 +10,8 @@ use rtp_wire_ids::{Mid, Rid};
 
 /// The bytes as text, if they are UTF-8.
 fn text_of(bytes: &[u8]) -> Option<&str>
-    ensures { MatchOption result (is_text bytes.now ≡ false) (λ text. (is_text bytes.now ≡ true) × (text.now ≡ bytes.now)) }
+    ensures { MatchOption result (is_text bytes.now ≡ false)
+        (λ text. (is_text bytes.now ≡ true) × (text.now ≡ bytes.now)) }
 {
     match std::str::from_utf8(bytes) {
         Ok(text) => Some(text),

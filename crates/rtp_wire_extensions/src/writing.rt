@@ -7,7 +7,8 @@ ghost use Rattle.rtp_wire_extensions.specs.Written.{IsWritten};
 pub fn put(buf: &mut [u8], at: usize, bytes: &[u8]) -> usize
     requires { at + length bytes.now ≤ length buf.old }
     ensures end { result ≡ at + length bytes.now }
-    ensures written { (text before : List ℕ) → IsWritten text before buf.old → at ≡ length text → IsWritten (text ++ bytes.now) before buf.new }
+    ensures written { (text before : List ℕ) → IsWritten text before buf.old → at ≡ length text
+        → IsWritten (text ++ bytes.now) before buf.new }
 {
     let end = at + bytes.len();
     buf[at..end].copy_from_slice(bytes);

@@ -1,9 +1,11 @@
 -- Names kept in arrays.
-use Rattle.std.proofs.Common.{◌≡◌, ℕ, zero, suc, ◌+◌, ◌-◌, ◌<◌, ◌≤◌, refl, sym, ◌∙◌, ap, arith, List, [], ◌∷◌, ◌++◌, length, take, map, replicate, get_or, length-append, append_assoc}
+use Rattle.std.proofs.Common.{◌≡◌, ℕ, zero, suc, ◌+◌, ◌-◌, ◌<◌, ◌≤◌, refl, sym, ◌∙◌, ap, arith, List, [], ◌∷◌, ◌++◌}
+use Rattle.std.proofs.Common.{length, take, map, replicate, get_or, length-append, append_assoc}
 use Rattle.std.proofs.Common.{set as set_at}
 use Rattle.std.specs.Str.{IsUtf8}
 use Rattle.std.proofs.lemmas.Bool.Decides.{nat_tests}
-use Rattle.std.proofs.lemmas.List.{length-map, length-replicate, length-take, take-map, take-take, take_all, take_at, map_more, set-append_right, get_or_past}
+use Rattle.std.proofs.lemmas.List.{length-map, length-replicate, length-take, take-map, take-take, take_all, take_at}
+use Rattle.std.proofs.lemmas.List.{map_more, set-append_right, get_or_past}
 use Rattle.std.proofs.lemmas.Str.{IsUtf8-from_ascii}
 use Rattle.std.proofs.lemmas.List as lists
 use Rattle.rtp_wire_ids.specs.Name.{name_byte, name_of, IsName, filled, IsKept}
@@ -23,7 +25,9 @@ length-name_of n text = omega (arith, length-map (take n text) name_byte, length
 
 -- what was made a name is one
 pub name_of-name_of : (n : ℕ) (text : List ℕ) → name_of n (name_of n text) ≡ name_of n text
-name_of-name_of n text = ap (map name_byte) (take-map name_byte n (take n text) ∙ ap (map name_byte) (take-take n n text (omega arith))) ∙ map-twice (take n text)
+name_of-name_of n text = ap (map name_byte)
+    (take-map name_byte n (take n text) ∙ ap (map name_byte) (take-take n n text (omega arith)))
+    ∙ map-twice (take n text)
 
 ascii-map : (xs : List ℕ) (i : ℕ) → get_or (map name_byte xs) i 0 < 128
 ascii-map [] i = omega arith
@@ -42,11 +46,14 @@ take-filled n text = take_at text _ (length text) refl
 
 -- one more byte in front of the zeros
 pub fill_more : (n i : ℕ) (text : List ℕ) → i < n → i < length text →
-    set_at (map name_byte (take i text) ++ replicate (n - i) 0) i (name_byte (get_or text i 0)) ≡ map name_byte (take (i + 1) text) ++ replicate (n - (i + 1)) 0
+    set_at (map name_byte (take i text) ++ replicate (n - i) 0) i (name_byte (get_or text i 0))
+    ≡ map name_byte (take (i + 1) text) ++ replicate (n - (i + 1)) 0
 fill_more n i text a b =
     let k : n - i ≡ suc (n - (i + 1)) = omega arith in
-    let l : length (map name_byte (take i text)) ≡ i = omega (arith, length-map (take i text) name_byte, length-take i text) in
-    rw (k, map_more name_byte text i 0 b) (lists.set_at (map name_byte (take i text)) 0 (replicate (n - (i + 1)) 0) (name_byte (get_or text i 0)) i l
+    let l : length (map name_byte (take i text)) ≡ i =
+    omega (arith, length-map (take i text) name_byte, length-take i text) in
+    rw (k, map_more name_byte text i 0 b) (lists.set_at (map name_byte (take i text)) 0 (replicate (n - (i + 1)) 0)
+    (name_byte (get_or text i 0)) i l
     ∙ sym (append_assoc (map name_byte (take i text)) (name_byte (get_or text i 0) ∷ []) (replicate (n - (i + 1)) 0)))
 
 -- what is written over zeros is kept
@@ -58,5 +65,6 @@ IsKept-filled limit text named = record {
 }
 
 -- the name is the front of what is written over zeros
-pub IsKept-name : (limit len : ℕ) (bytes text : List ℕ) → bytes ≡ filled limit (name_of limit text) → len ≡ length (name_of limit text) → IsKept limit len bytes
+pub IsKept-name : (limit len : ℕ) (bytes text : List ℕ) → bytes ≡ filled limit (name_of limit text) → len
+    ≡ length (name_of limit text) → IsKept limit len bytes
 IsKept-name limit len bytes text e l = rw (e, l) (IsKept-filled limit (name_of limit text) (name_of-name_of limit text))

@@ -1,8 +1,10 @@
-use Rattle.std.specs.Prelude.{ℕ, ◌≡◌, ◌-◌, ◌≤◌, Bool, ◌&&◌, ◌||◌, ◌==◌, nat_le, if◌then◌else◌, List, ◌++◌, length, take, map, replicate}
+use Rattle.std.specs.Prelude.{ℕ, ◌≡◌, ◌-◌, ◌≤◌, Bool, ◌&&◌, ◌||◌, ◌==◌, nat_le, if◌then◌else◌, List, ◌++◌, length}
+use Rattle.std.specs.Prelude.{take, map, replicate}
 
 -- An ASCII letter or digit, or an underscore.
 abbrev pub is_name_byte : ℕ → Bool
-is_name_byte b = (nat_le 48 b && nat_le b 57) || ((nat_le 65 b && nat_le b 90) || ((nat_le 97 b && nat_le b 122) || (b == 95)))
+is_name_byte b = (nat_le 48 b && nat_le b 57)
+    || ((nat_le 65 b && nat_le b 90) || ((nat_le 97 b && nat_le b 122) || (b == 95)))
 
 abbrev pub name_byte : ℕ → ℕ
 name_byte b = if is_name_byte b then b else 95

@@ -20,7 +20,8 @@ time_cmp a b = nat_cmp (a.ticks * divisor b) (b.ticks * divisor a)
 abbrev pub time_eq : Time → Time → Bool
 time_eq a b = eq_by_cmp time_cmp a b
 
-scaled : (k a b : ℕ) → 0 < k → (o : Ordering) → MatchOrdering o (a < b) (a ≡ b) (b < a) → MatchOrdering o (a * k < b * k) (a * k ≡ b * k) (b * k < a * k)
+scaled : (k a b : ℕ) → 0 < k → (o : Ordering) → MatchOrdering o (a < b) (a ≡ b) (b < a)
+    → MatchOrdering o (a * k < b * k) (a * k ≡ b * k) (b * k < a * k)
 scaled k a b h Less m = mul-lt-mul_of_pos_right m h
 scaled k a b h Equal m = ap (λ (n : ℕ). n * k) m
 scaled k a b h Greater m = mul-lt-mul_of_pos_right m h
@@ -42,18 +43,21 @@ chain : (x p y q z r : ℕ) → 0 < p → 0 < q → 0 < r → x * q < y * p → 
 chain x p y q z r hp hq hr a b =
     let c : x * q * r < y * p * r = mul-lt-mul_of_pos_right a hr in
     let d : y * r * p < z * q * p = mul-lt-mul_of_pos_right b hp in
-    let e : x * r * q < z * p * q = rw (mul_right_comm x r q, mul_right_comm z p q) (lt_trans c (rw (mul_right_comm y p r) d)) in
+    let e : x * r * q < z * p * q = rw (mul_right_comm x r q, mul_right_comm z p q)
+    (lt_trans c (rw (mul_right_comm y p r) d)) in
     lt_of_mul-lt-mul_right q e
 
 -- Times are in one line as fractions.
 pub time_total : IsTotalOrder time_cmp
 time_total = record {
   antisymm = λ x y. nat_cmp_total.antisymm (x.ticks * divisor y) (y.ticks * divisor x);
-  trans = λ x y z a b. less-is _ _ (chain x.ticks (divisor x) y.ticks (divisor y) z.ticks (divisor z) (positive x) (positive y) (positive z) (less-of _ _ a) (less-of _ _ b));
+  trans = λ x y z a b. less-is _ _ (chain x.ticks (divisor x) y.ticks (divisor y) z.ticks (divisor z) (positive x)
+      (positive y) (positive z) (less-of _ _ a) (less-of _ _ b));
   congr = λ x y z a.
       let e : x.ticks * divisor y ≡ y.ticks * divisor x = equal-of _ _ a in
       nat_cmp-scale (divisor y) (x.ticks * divisor z) (z.ticks * divisor x) (positive y)
-      ∙ ap₂ nat_cmp (mul_right_comm x.ticks (divisor z) (divisor y) ∙ ap (λ (n : ℕ). n * divisor z) e ∙ mul_right_comm y.ticks (divisor x) (divisor z)) (mul_right_comm z.ticks (divisor x) (divisor y))
+      ∙ ap₂ nat_cmp (mul_right_comm x.ticks (divisor z) (divisor y) ∙ ap (λ (n : ℕ). n * divisor z) e
+      ∙ mul_right_comm y.ticks (divisor x) (divisor z)) (mul_right_comm z.ticks (divisor x) (divisor y))
       ∙ sym (nat_cmp-scale (divisor x) (y.ticks * divisor z) (z.ticks * divisor y) (positive x));
 } where
   positive : (t : Time) → 0 < divisor t

@@ -1,4 +1,5 @@
-use Rattle.std.specs.Prelude.{◌≡◌, List, Result, Ok, Err, ◌<◌, max, nat_le, ◌&&◌, ◌+◌, ◌-◌, Bool, ℕ, ◌*◌, ◌/◌, ◌^◌, ◌==◌, nat_lt, if◌then◌else◌, Option, Some, None}
+use Rattle.std.specs.Prelude.{◌≡◌, List, Result, Ok, Err, ◌<◌, max, nat_le, ◌&&◌, ◌+◌, ◌-◌, Bool, ℕ, ◌*◌, ◌/◌, ◌^◌}
+use Rattle.std.specs.Prelude.{◌==◌, nat_lt, if◌then◌else◌, Option, Some, None}
 use Rattle.std.specs.Str.Parse.{ParsesUnsigned}
 use Rattle.std.specs.declared.num.ParseIntError.{ParseIntError}
 use Rattle.rtp_wire_time.specs.declared.frequency.ParseFrequencyError.{ParseFrequencyError}
@@ -50,7 +51,8 @@ difference_of a b = record { ticks = first_ticks a b - second_ticks a b; rate = 
 
 -- The difference, where both fit and it isn't below zero.
 abbrev pub checked_difference : Time → Time → Option Time
-checked_difference a b = if both_fit a b && nat_le (second_ticks a b) (first_ticks a b) then Some (difference_of a b) else None
+checked_difference a b = if both_fit a b && nat_le (second_ticks a b) (first_ticks a b) then Some (difference_of a b)
+    else None
 
 -- What a text is as a clock rate: its number where it is one of 32 bits above 0.
 abbrev pub frequency_result : {E F : Type 0} → F → Result ℕ E → Result ℕ F

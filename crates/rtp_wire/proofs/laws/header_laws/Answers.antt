@@ -1,5 +1,6 @@
 use Rattle.rtp_wire.proofs.Found.{header_in-found}
-use Rattle.rtp_wire.proofs.HeaderLaws.{header_in-layout, header_in-spelled, payload_in-spelled, length-spelled_words, length-spelled_least, length-spelled_within}
+use Rattle.rtp_wire.proofs.HeaderLaws.{header_in-layout, header_in-spelled, payload_in-spelled, length-spelled_words}
+use Rattle.rtp_wire.proofs.HeaderLaws.{length-spelled_least, length-spelled_within}
 use Rattle.rtp_wire.proofs.laws.header_laws.Goals as goal
 
 pub returns-clause-found : goal.returns-clause-found

@@ -1,4 +1,6 @@
-use Rattle.rtp_wire.proofs.WideningLaws.{widened7-IsNearest, widened8-IsNearest, widened15-IsNearest, widened16-IsNearest, widened32-IsNearest, widened7-near, widened8-near, widened15-near, widened16-near, widened32-near}
+use Rattle.rtp_wire.proofs.WideningLaws.{widened7-IsNearest, widened8-IsNearest, widened15-IsNearest}
+use Rattle.rtp_wire.proofs.WideningLaws.{widened16-IsNearest, widened32-IsNearest, widened7-near, widened8-near}
+use Rattle.rtp_wire.proofs.WideningLaws.{widened15-near, widened16-near, widened32-near}
 use Rattle.rtp_wire.proofs.laws.widening_laws.Goals as goal
 
 pub returns-clause-nearest_u7 : goal.returns-clause-nearest_u7

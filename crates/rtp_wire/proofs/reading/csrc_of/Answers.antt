@@ -7,5 +7,6 @@ loop-i-preserved c =
     let few : c.loop-i.i < 15 = omega arith in
     record {
       count = c.loop-i.invariant.count;
-      placed = rw c.word_at.ensures (placed-more c.args.bytes.now c.loop-i.csrc c.loop-i.i c.loop-i.invariant.placed few);
+      placed = rw c.u32_at.ensures (placed-more c.args.bytes.now c.loop-i.csrc c.loop-i.i c.loop-i.invariant.placed
+          few);
     }

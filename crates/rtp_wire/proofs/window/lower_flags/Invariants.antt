@@ -7,5 +7,6 @@ use Rattle.rtp_wire.proofs.window.lower_flags.Given as goal
 abbrev pub invariant-loop-i : goal.invariant-loop-i
 invariant-loop-i l = record {
   counted : (l.count ≤ 128) × (l.greatest + l.count ≤ l.number);
-  lowered : (y : ℕ) → y ≤ l.number → l.number < y + 128 → flag l.flags y ≡ (nat_le (y + l.i) l.number && flag l.fn.flags y);
+  lowered : (y : ℕ) → y ≤ l.number → l.number < y + 128 → flag l.flags y
+      ≡ (nat_le (y + l.i) l.number && flag l.fn.flags y);
 }

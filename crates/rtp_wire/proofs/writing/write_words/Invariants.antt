@@ -8,5 +8,6 @@ abbrev pub invariant-loop-word : goal.invariant-loop-word
 invariant-loop-word l = record {
   end : l.end ≡ l.fn.at + 4 * l.word-index;
   room : length l.buf ≡ length l.fn.buf;
-  written : (text before : List ℕ) → IsWritten text before l.fn.buf → l.fn.at ≡ length text → IsWritten (text ++ words (take l.word-index l.words)) before l.buf;
+  written : (text before : List ℕ) → IsWritten text before l.fn.buf → l.fn.at ≡ length text
+      → IsWritten (text ++ words (take l.word-index l.words)) before l.buf;
 }

@@ -8,5 +8,6 @@ loop-i-preserved c =
     let b : c.loop-i.i < length c.args.text.now = omega (arith, c.loop-i.invariant.len, c.loop-i-test.true) in
     record {
       len = c.loop-i.invariant.len;
-      written = rw (c.name_byte.ensures, c.loop-i.invariant.written) (fill_more (length c.args.bytes.now) c.loop-i.i c.args.text.now a b);
+      written = rw (c.name_byte.ensures, c.loop-i.invariant.written)
+          (fill_more (length c.args.bytes.now) c.loop-i.i c.args.text.now a b);
     }

@@ -1,12 +1,16 @@
-use Rattle.std.proofs.Common.{◌≡◌, ℕ, ◌+◌, ◌-◌, ◌%◌, ◌++◌, ◌∷◌, [], List, length, take, ap, sym, subst, ◌∙◌, arith, append_assoc, length-append, length-take}
+use Rattle.std.proofs.Common.{◌≡◌, ℕ, ◌+◌, ◌-◌, ◌%◌, ◌++◌, ◌∷◌, [], List, length, take, ap, sym, subst, ◌∙◌, arith}
+use Rattle.std.proofs.Common.{append_assoc, length-append, length-take}
 use Rattle.rtp_wire_extensions.specs.Elements.{Element, elements_to, place_elements, elements_text, fill}
 use Rattle.rtp_wire_extensions.specs.Values.{block_of}
 use Rattle.rtp_wire_extensions.specs.Written.{IsWritten}
-use Rattle.rtp_wire_extensions.proofs.BlockLaws.{place-fits, room-more, content-length, content-is, written-is, text-more, length-text-more}
+use Rattle.rtp_wire_extensions.proofs.BlockLaws.{place-fits, room-more, content-length, content-is, written-is}
+use Rattle.rtp_wire_extensions.proofs.BlockLaws.{text-more, length-text-more}
 use Rattle.rtp_wire_extensions.proofs.map.ExtensionMap.write_block.Goals as goal
 
 pub write_place-end-requires-clause-fits : goal.write_place-end-requires-clause-fits
-write_place-end-requires-clause-fits c = λ e. place-fits c.args.self.now c.args.values.now c.loop-place.place (sym c.fits_one_byte-one_byte.ensures ∙ e) c.loop-place-test.true
+write_place-end-requires-clause-fits c =
+    λ e. place-fits c.args.self.now c.args.values.now c.loop-place.place (sym c.fits_one_byte-one_byte.ensures ∙ e)
+    c.loop-place-test.true
 
 pub write_place-end-requires-clause-room : goal.write_place-end-requires-clause-room
 write_place-end-requires-clause-room c =
@@ -31,8 +35,10 @@ loop-place-preserved c =
       end = omega (arith, c.loop-place.invariant.end, c.write_place-end.ensures.end, length-text-more one map v n);
       room = omega arith;
       written = λ text before was at.
-          let place : c.loop-place.end ≡ length (text ++ so_far) = omega (arith, c.loop-place.invariant.end, length-append text so_far) in
-          let more = c.write_place-end.ensures.written (text ++ so_far) before (c.loop-place.invariant.written text before was at) place in
+          let place : c.loop-place.end ≡ length (text ++ so_far) =
+          omega (arith, c.loop-place.invariant.end, length-append text so_far) in
+          let more = c.write_place-end.ensures.written (text ++ so_far) before
+          (c.loop-place.invariant.written text before was at) place in
           let joined : (text ++ so_far) ++ here ≡ text ++ elements_text one (elements_to map v (n + 1)) =
           append_assoc text so_far here ∙ ap (λ (ys : List ℕ). text ++ ys) (sym (text-more one map v n)) in
           subst (λ (ys : List ℕ). IsWritten ys before c.write_place-end.new.buf) joined more;
@@ -73,9 +79,12 @@ returns-clause-written c = λ text before was at.
     let so_far = elements_text one (elements_to map v n) in
     let d = c.loop-place.end - c.args.at in
     let count : d ≡ length so_far = omega (arith, c.loop-place.invariant.end) in
-    let place : c.loop-place.end ≡ length (text ++ so_far) = omega (arith, c.loop-place.invariant.end, length-append text so_far) in
-    let more = c.put.ensures.written (text ++ so_far) before (c.loop-place.invariant.written text before was at) place in
+    let place : c.loop-place.end ≡ length (text ++ so_far) =
+    omega (arith, c.loop-place.invariant.end, length-append text so_far) in
+    let more = c.put.ensures.written (text ++ so_far) before (c.loop-place.invariant.written text before was at)
+    place in
     let joined : (text ++ so_far) ++ take (fill d) (0 ∷ 0 ∷ 0 ∷ []) ≡ text ++ (block_of map v).content =
     append_assoc text so_far (take (fill d) (0 ∷ 0 ∷ 0 ∷ []))
-    ∙ ap (λ (ys : List ℕ). text ++ ys) (content-is map v one n d c.fits_one_byte-one_byte.ensures (omega arith) count) in
+    ∙ ap (λ (ys : List ℕ). text ++ ys) (content-is map v one n d c.fits_one_byte-one_byte.ensures (omega arith)
+    count) in
     subst (λ (ys : List ℕ). IsWritten ys before c.put.new.buf) joined more
