@@ -1,18 +1,11 @@
 #!/usr/bin/env python3
 """Packets of H.264, H.265 and H.266 access units, packed from the layouts of the standards alone.
 
-Run it with `python3 docs/vectors/h26x.py`. It prints units and their packets in hexadecimal, a star behind the
-packet with the marker, which `crates/h26x_payload_tests/src/vectors_*.rt` hold. It shares no code with the
-packetizers and depacketizers: a header here is a list of fields, each a value and its width in bits, as in
-`payloads.py`. Layouts: RFC 6184 5.6, 5.7.1 and 5.8; RFC 7798 4.4.1 to 4.4.3; RFC 9328 4.3.1 to 4.3.3.
+`lines.py` takes units and their packets from here. It shares no code with the packetizers and depacketizers: a header
+here is a list of fields, each a value and its width in bits, as in `payloads.py`. Layouts: RFC 6184 5.6, 5.7.1 and 5.8; RFC 7798 4.4.1 to 4.4.3; RFC 9328 4.3.1 to 4.3.3.
 """
 
-import re
-from pathlib import Path
-
 from payloads import joined, pieces
-
-TESTS = Path(__file__).parents[2] / "crates/h26x_payload_tests/src"
 
 START = bytes([0, 0, 0, 1])
 
@@ -156,16 +149,8 @@ def by_profile(codec, units, limit, first_don=None):
     return packets
 
 
-def marked(packets):
-    return " ".join(p.hex() for p in packets) + "*"
-
-
 def written(units):
     return b"".join(START + unit for unit in units).hex()
-
-
-def shown(name, units, packets):
-    print(f"{name}\n  unit    {written(units)}\n  packets {marked(packets)}")
 
 
 def filled(header, size, seed):
@@ -174,25 +159,27 @@ def filled(header, size, seed):
 
 
 def h264():
+    """For each case what it is, whether there are decoding order numbers, the units with which it is packed, if it is,
+    the limit, the units that come back, and the packets."""
     sets = [filled("67", 9, 1), filled("68", 3, 2)]
     slices = [filled("65", 20, 3), filled("65", 33, 4), filled("65", 7, 5)]
     frame = sets + slices
     units = [filled("09", 1, 0)] + frame + [filled("0c", 4, 0)]
     for limit in (1200, 19):
-        shown(f"h264 by the profile, limit {limit}", frame, by_profile(H264, units, limit))
-    shown("h264 by the profile, limit 18", slices, by_profile(H264, units, 18))
+        yield "by the profile", False, units, limit, frame, by_profile(H264, units, limit)
+    yield "by the profile, sets that do not fit", False, units, 18, slices, by_profile(H264, units, 18)
     sent = [aggregated(H264, sets + slices[:1]), single(H264, slices[1]), single(H264, slices[2])]
-    shown("h264 sets and a slice in one aggregate", frame, sent)
-    shown("h264 all in one aggregate", frame, [aggregated(H264, frame)])
+    yield "sets and a slice in one aggregate", False, None, 0, frame, sent
+    yield "all in one aggregate", False, None, 0, frame, [aggregated(H264, frame)]
     low = [filled("06", 5, 6), filled("41", 30, 7), filled("01", 12, 8)]
     sent = [single(H264, low[0])] + fragments(H264, low[1], [1, 17, 12])
     sent += fragments(H264, low[2], [11, 1])
-    shown("h264 uneven fragments of NRI 2 and 0", low, sent)
+    yield "uneven fragments of NRI 2 and 0", False, None, 0, low, sent
     sent = [aggregated(H264, [low[0], low[2]])] + fragments(H264, low[1], [29, 1])
-    shown("h264 fragments behind an aggregate of NRI 0", [low[0], low[2], low[1]], sent)
+    yield "fragments behind an aggregate of NRI 0", False, None, 0, [low[0], low[2], low[1]], sent
 
 
-def of_two_bytes(name, codec, headers):
+def of_two_bytes(codec, headers):
     """H.265 and H.266: headers of a delimiter, filler, the three sets, SEI, a slice of a keyframe, and two other
     slices, of temporal id 2 and of layer 1."""
     delimiter, filler, vps, sps, pps, sei, key, high, layered = headers
@@ -200,52 +187,23 @@ def of_two_bytes(name, codec, headers):
     frame = sets + [filled(sei, 6, 4), filled(key, 45, 5), filled(key, 13, 6)]
     units = [filled(delimiter, 1, 0)] + frame + [filled(filler, 4, 0)]
     for limit in (1200, 36):
-        shown(f"{name} by the profile, limit {limit}", frame, by_profile(codec, units, limit))
-    shown(f"{name} by the profile, limit 35", frame[3:], by_profile(codec, units, 35))
-    packets = by_profile(codec, units, 40, first_don=0)
-    shown(f"{name} by the profile with DONL, limit 40", frame, packets)
-    shown(f"{name} all in one aggregate", frame, [aggregated(codec, frame)])
+        yield "by the profile", False, units, limit, frame, by_profile(codec, units, limit)
+    yield "by the profile, sets that do not fit", False, units, 35, frame[3:], by_profile(codec, units, 35)
+    yield "by the profile with numbers", True, units, 40, frame, by_profile(codec, units, 40, first_don=0)
+    yield "all in one aggregate", False, None, 0, frame, [aggregated(codec, frame)]
     other = [filled(high, 10, 7), filled(layered, 18, 8), filled(high, 5, 9)]
     sent = [aggregated(codec, other[:2])] + fragments(codec, other[2], [2, 3], last=True)
-    shown(f"{name} layers in an aggregate, and fragments", other, sent)
+    yield "layers in an aggregate, and fragments", False, None, 0, other, sent
     sent = [aggregated(codec, other, [65533, 65534, 65536])]
-    shown(f"{name} numbers in an aggregate", other, sent)
+    yield "numbers in an aggregate", True, None, 0, other, sent
     sent = [single(codec, other[0], 65535)] + fragments(codec, other[1], [1, 16, 1], 65536, last=True)
     sent += [single(codec, other[2], 65537)]
-    shown(f"{name} numbers of single units and fragments", other, sent)
+    yield "numbers of single units and fragments", True, None, 0, other, sent
 
 
 def h265():
-    of_two_bytes("h265", H265, ["4601", "4c01", "4001", "4201", "4401", "4e01", "2601", "0203", "020b"])
+    return of_two_bytes(H265, ["4601", "4c01", "4001", "4201", "4401", "4e01", "2601", "0203", "020b"])
 
 
 def h266():
-    of_two_bytes("h266", H266, ["00a1", "00c9", "0071", "0079", "0081", "00b9", "0039", "000b", "010a"])
-
-
-def outlined(packets):
-    """The first byte of each packet and its length."""
-    return " ".join(f"{p[0]:02x}:{len(p)}" for p in packets) + "*"
-
-
-def encoded(name, codec):
-    """The access units of an encoder, which stand in the tests with blanks round start codes."""
-    text = (TESTS / f"{name}_encoded.rt").read_text()
-    for unit, words in re.findall(r"fn (\w+)\(\) -> &'static str {\s*\"([^\"]*)\"", text):
-        words = re.sub(r"\\\n\s*", "", words).split()
-        units = [bytes.fromhex(word) for word in words if word not in ("000001", "00000001")]
-        for limit in (1200, 100):
-            packets = by_profile(codec, units, limit)
-            print(f"{name} {unit}, limit {limit}\n  outline {outlined(packets)}")
-            if codec is not H264:
-                print(f"  with DONL {outlined(by_profile(codec, units, limit, 0))}")
-    limit = 80
-    dons = None if codec is H264 else 0
-    print(f"{name} {unit}, limit {limit}\n  packets {marked(by_profile(codec, units, limit, dons))}")
-
-
-if __name__ == "__main__":
-    encoded("h264", H264)
-    encoded("h265", H265)
-    for vectors in (h264, h265, h266):
-        vectors()
+    return of_two_bytes(H266, ["00a1", "00c9", "0071", "0079", "0081", "00b9", "0039", "000b", "010a"])

@@ -1,10 +1,9 @@
 #!/usr/bin/env python3
 """Payloads of small frames, packed from the layouts of the standards alone.
 
-Run it with `python3 docs/vectors/payloads.py`. It prints each frame and its packets in hexadecimal, which
-`crates/payload_core_tests/src/vectors_audio.rt` and `vectors_video.rt` hold. It shares no code with the
-packetizers and depacketizers: a payload here is a list of fields, each a value and its width in bits, written
-one behind the other with the most significant bit first.
+`lines.py` takes frames and their packets from here. It shares no code with the packetizers and depacketizers: a
+payload here is a list of fields, each a value and its width in bits, written one behind the other with the most
+significant bit first.
 """
 
 import math
@@ -23,10 +22,6 @@ def joined(fields):
 def pieces(frame, size):
     """The frame cut into pieces of this size, and a shorter last one."""
     return [frame[i : i + size] for i in range(0, len(frame), size)]
-
-
-def shown(name, frame, packets):
-    print(f"{name}\n  frame   {frame.hex()}\n  packets {' '.join(p.hex() for p in packets)}")
 
 
 # VP8: RFC 7741 4.2. The frame begins with the frame tag of RFC 6386 9.1, whose lowest bit is clear in a
@@ -57,22 +52,39 @@ def vp8_packets(frame, limit, **described):
     return [vp8_descriptor(int(i == 0), **described) + p for i, p in enumerate(pieces(frame, size))]
 
 
+def option(value):
+    return "None" if value is None else f"Some({value})"
+
+
+def flag(value):
+    return str(value).lower()
+
+
+def vp8_told(is_keyframe, picture_id=None, tl0=None):
+    ids = f"picture_id: {option(picture_id)}, tl0_pic_idx: {option(tl0)}"
+    return f"Vp8(Vp8CodecExtra {{ is_keyframe: {flag(is_keyframe)}, {ids} }})"
+
+
 def vp8():
+    """Each case: format, what it is, the limit at which it is packed, if it is, frame, packets, what is told."""
     # version 0, shown, a first partition of 9 bytes; then the start code and 16 by 16 samples
     tag = (9 << 5) | (1 << 4)
     keyframe = tag.to_bytes(3, "little") + bytes.fromhex("9d012a10001000") + bytes(range(0xA0, 0xAC))
     other = (tag | 1).to_bytes(3, "little") + bytes(range(0x50, 0x5B))
-    shown("vp8 keyframe without an id, limit 12", keyframe, vp8_packets(keyframe, 12))
-    shown("vp8 id 17 of 7 bits, limit 12", keyframe, vp8_packets(keyframe, 12, picture=(17, False)))
-    shown("vp8 id 4711 of 15 bits, limit 13", other, vp8_packets(other, 13, picture=(4711, True)))
+    yield "VP8", "keyframe without an id", 12, keyframe, vp8_packets(keyframe, 12), vp8_told(True)
+    packets = vp8_packets(keyframe, 12, picture=(17, False))
+    yield "VP8 id=17", "id of 7 bits", 12, keyframe, packets, vp8_told(True, 17)
+    packets = vp8_packets(other, 13, picture=(4711, True))
+    yield "VP8 id=4711", "id of 15 bits", 13, other, packets, vp8_told(False, 4711)
     layered = dict(picture=(4712, True), tl0=200, tid=(2, 1), key=21)
-    shown("vp8 layers, limit 16", keyframe, vp8_packets(keyframe, 16, **layered))
+    yield "VP8", "layers", None, keyframe, vp8_packets(keyframe, 16, **layered), vp8_told(True, 4712, 200)
     layered = dict(tl0=9, tid=(1, 0), non_reference=1)
-    shown("vp8 layers without an id, limit 12", other, vp8_packets(other, 12, **layered))
+    packets = vp8_packets(other, 12, **layered)
+    yield "VP8", "layers without an id", None, other, packets, vp8_told(False, None, 9)
     # The second partition begins with the third packet.
     parts = [(1, 0, keyframe[:8]), (0, 0, keyframe[8:12]), (1, 1, keyframe[12:18]), (0, 1, keyframe[18:])]
     packets = [vp8_descriptor(s, pid, picture=(5, False), key=30) + p for s, pid, p in parts]
-    shown("vp8 two partitions", keyframe, packets)
+    yield "VP8", "two partitions", None, keyframe, packets, vp8_told(True, 5)
 
 
 # VP9: RFC 9628 4.2.
@@ -123,22 +135,26 @@ def vp9_packets(frame, limit, structure=None, **described):
     return packets
 
 
+def vp9_told(picture_id):
+    return f"Vp9(Vp9CodecExtra {{ picture_id: {option(picture_id)} }})"
+
+
 def vp9():
     frame = bytes.fromhex("824983420000f0") + bytes(range(0x10, 0x1F))
     flexible = dict(flexible=True, picture=(300, True))
-    shown("vp9 flexible, id 300, limit 12", frame, vp9_packets(frame, 12, **flexible))
+    yield "VP9 id=300", "flexible", 12, frame, vp9_packets(frame, 12, **flexible), vp9_told(300)
     flexible["picture"] = (301, True)
-    shown("vp9 flexible, id 301, limit 40", frame, vp9_packets(frame, 40, **flexible))
+    yield "VP9 id=301", "flexible", 40, frame, vp9_packets(frame, 40, **flexible), vp9_told(301)
     deltas = dict(flexible=True, picture=(77, False), layer=(2, 1, 1, 1), diffs=[1, 2, 127])
-    shown("vp9 flexible, three references, limit 15", frame, vp9_packets(frame, 15, **deltas))
+    yield "VP9", "flexible, three references", None, frame, vp9_packets(frame, 15, **deltas), vp9_told(77)
     fixed = dict(flexible=False, picture=(32767, True), layer=(3, 0, 0, 0), tl0=254, diffs=[])
-    shown("vp9 layers by TL0PICIDX, limit 14", frame, vp9_packets(frame, 14, **fixed))
+    yield "VP9", "layers by TL0PICIDX", None, frame, vp9_packets(frame, 14, **fixed), vp9_told(32767)
     structure = vp9_structure([(320, 180), (640, 360)], [(0, 0, []), (1, 1, [1, 2])])
     fixed = dict(flexible=False, picture=(4, False), layer=(0, 0, 1, 1), tl0=3, z=1)
     packets = vp9_packets(frame, 24, structure=structure, **fixed)
-    shown("vp9 scalability structure, limit 24", frame, packets)
+    yield "VP9", "scalability structure", None, frame, packets, vp9_told(4)
     bare = dict(flexible=False, structure=vp9_structure([(64, 64)], None))
-    shown("vp9 sizes alone, limit 20", frame, vp9_packets(frame, 20, **bare))
+    yield "VP9", "sizes alone", None, frame, vp9_packets(frame, 20, **bare), vp9_told(None)
 
 
 # AMR-WB: RFC 4867 4.3 and 4.4. A frame in a file is a header byte and its speech bits in whole bytes (5.3).
@@ -183,13 +199,14 @@ def amr_wb_stored(frames):
 
 def amr_wb():
     for name, request, frames in [
-        ("amr-wb one frame of type 0", 15, [speech(0, 7)]),
-        ("amr-wb one frame of type 9", 15, [speech(9, 8)]),
-        ("amr-wb frames of types 9, 14, 0 and 9", 2, [speech(9, 1), speech(14, 0), speech(0, 2), speech(9, 3)]),
+        ("one frame of type 0", 15, [speech(0, 7)]),
+        ("one frame of type 9", 15, [speech(9, 8)]),
+        ("frames of types 9, 14, 0 and 9", 2, [speech(9, 1), speech(14, 0), speech(0, 2), speech(9, 3)]),
     ]:
         stored = amr_wb_stored(frames)
-        shown(name + ", octet-aligned", stored, [amr_wb_aligned(request, frames)])
-        shown(name + ", bandwidth-efficient", stored, [amr_wb_efficient(request, frames)])
+        limit = 20 if len(frames) == 1 else None
+        yield "AMR-WB aligned", name, limit, stored, [amr_wb_aligned(request, frames)], "None"
+        yield "AMR-WB", name, limit, stored, [amr_wb_efficient(request, frames)], "None"
 
 
 # Telephone events: RFC 4733 2.3, and several reports in one packet, each behind the one before it (2.5.1.5).
@@ -200,12 +217,20 @@ def report(event, end, volume, duration, reserved=0):
     return joined([(event, 8), (end, 1), (reserved, 1), (volume, 6), (duration, 16)])
 
 
+def tele_told(event, end, volume, ticks):
+    """A tick of 8,000 Hz is an eighth of a millisecond."""
+    fields = f"event: {event}, end: {flag(end)}, volume: {volume}, duration: {ticks * 125000}"
+    return f"Tele(TelephoneEvent {{ {fields} }})"
+
+
 def telephone():
     one = report(11, 1, 63, 65535)
-    shown("event 11 at its end, volume 63, 65,535 ticks", one, [one])
+    yield "telephone-event", "event 11 at its end", 12, one, [one], tele_told(11, True, 63, 65535)
     two = report(16, 1, 0, 800) + report(3, 0, 36, 160)
-    shown("events 16 and 3", two, [two])
-    shown("event 3, R set", report(3, 0, 36, 160), [report(3, 0, 36, 160, reserved=1)])
+    told = tele_told(16, True, 0, 800)
+    yield "telephone-event", "events 16 and 3", 12, two, [two], f"first {told}"
+    packets = [report(3, 0, 36, 160, reserved=1)]
+    yield "telephone-event", "R set", None, report(3, 0, 36, 160), packets, tele_told(3, False, 36, 160)
 
 
 # Opus: RFC 7587 4.2, a payload is one Opus packet. G.711: RFC 3551 4.5.14, a payload is its samples' bytes.
@@ -222,11 +247,7 @@ def mu_law(sample):
 def plain():
     # a TOC byte: configuration 31 (CELT, 20 ms), mono, one frame; then its bytes
     opus = joined([(31, 5), (0, 1), (0, 2)]) + bytes(range(0xC0, 0xCB))
-    shown("opus", opus, [opus])
+    yield "opus", "one packet", 12, opus, [opus], "None"
     tone = bytes(mu_law(round(8000 * math.sin(2 * math.pi * i / 8))) for i in range(20))
-    shown("g711 mu-law of a tone of 1 kHz, limit 8", tone, pieces(tone, 8))
-
-
-if __name__ == "__main__":
-    for vectors in (vp8, vp9, amr_wb, telephone, plain):
-        vectors()
+    for codec in ("PCMU", "PCMA", "G722"):
+        yield codec, "bytes of a tone of 1 kHz", 8, tone, pieces(tone, 8), "None"

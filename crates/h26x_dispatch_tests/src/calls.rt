@@ -2,8 +2,7 @@
 //! texts from outside, so no call here says what it answers.
 
 use payload_core::{
-    CodecExtra, Depacketizer, DepacketizingBuffer, PacketError, PacketSink, Packetizer, Payloader,
-    RtpMeta,
+    Depacketizer, DepacketizingBuffer, PacketError, PacketSink, Packetizer, Payloader, RtpMeta,
 };
 use rtp_wire::{ExtensionValues, SeqNo};
 use std::alloc::Global;
@@ -25,7 +24,8 @@ pub struct PayloadList {
 impl PacketSink for PayloadList {
     ghost use Rattle.std.specs.Prelude.{◌≡◌, ◌++◌, ◌∷◌, [], map};
 
-    ghost takes = { λ old o new. map (λ s. s.payload.items) new.sent.items ≡ map (λ s. s.payload.items) old.sent.items ++ o.payload ∷ [] };
+    ghost takes = { λ old o new. map (λ s. s.payload.items) new.sent.items
+        ≡ map (λ s. s.payload.items) old.sent.items ++ o.payload ∷ [] };
 
     ghost keeps = { λ old new. new.sent.items ≡ old.sent.items };
 
@@ -156,17 +156,4 @@ pub fn carries<P: Packetizer, D: Depacketizer>(
     }
     push_all(buffer, 7, &list)?;
     Ok(pops(alloc, buffer, unit)? && pops(alloc, buffer, "none")?)
-}
-
-/// What a packet in hexadecimal is refused with.
-pub fn refusal<D: Depacketizer>(
-    alloc: Global,
-    depacketizer: &mut D,
-    packet: &str,
-) -> Result<PacketError, Fail> {
-    let packet = hex::decode(alloc, packet)?;
-    let mut out = Vec::new(alloc);
-    let mut extra = CodecExtra::None;
-    let fault = depacketizer.depacketize(&packet, &mut out, &mut extra);
-    Ok(fault.err().ok_or("a packet that is read")?)
 }

@@ -5,11 +5,3 @@
 mod boxed;
 #[cfg(test)]
 mod calls;
-#[cfg(test)]
-mod codecs;
-#[cfg(test)]
-mod configured;
-#[cfg(test)]
-mod rows;
-#[cfg(test)]
-mod samples;

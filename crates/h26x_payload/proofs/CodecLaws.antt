@@ -2,7 +2,9 @@
 use Rattle.std.proofs.Common.{ℕ, Bool}
 use mathlib.Core.Bool.{false≢true}
 use Rattle.payload_core_base.specs.Law.{CodecLaw}
-use Rattle.payload_core_base.specs.declared.codec.Codec.TheVariants.{Opus, PCMU, PCMA, G722, CN, AmrWb, H264, H265, H266, Vp8, Vp9, Av1, Tele, Rtx, Red, Null, Unknown}
+use Rattle.payload_core_base.specs.declared.codec.Codec.TheVariants.{Opus, PCMU, PCMA, G722, CN, AmrWb, H264, H265}
+use Rattle.payload_core_base.specs.declared.codec.Codec.TheVariants.{H266, Vp8, Vp9, Av1, Tele, Rtx, Red, Null}
+use Rattle.payload_core_base.specs.declared.codec.Codec.TheVariants.{Unknown}
 use Rattle.payload_core_audio.specs.AmrWb.{amr_wb_coding}
 use Rattle.payload_core_audio.specs.Plain.{noise_coding, pieces_coding}
 use Rattle.payload_core_audio.specs.Telephone.{telephone_coding}

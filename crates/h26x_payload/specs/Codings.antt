@@ -3,7 +3,9 @@ use Rattle.std.specs.Prelude.{ℕ, Bool, true, false, nat_lt, List, [], ◌∷�
 use Rattle.payload_core_base.specs.Law.{Coding}
 use Rattle.payload_core_base.specs.Packing.{Sender}
 use Rattle.payload_core_base.specs.declared.codec.Codec.{Codec}
-use Rattle.payload_core_base.specs.declared.codec.Codec.TheVariants.{Opus, PCMU, PCMA, G722, CN, AmrWb, H264, H265, H266, Vp8, Vp9, Av1, Tele, Rtx, Red, Null, Unknown}
+use Rattle.payload_core_base.specs.declared.codec.Codec.TheVariants.{Opus, PCMU, PCMA, G722, CN, AmrWb, H264, H265}
+use Rattle.payload_core_base.specs.declared.codec.Codec.TheVariants.{H266, Vp8, Vp9, Av1, Tele, Rtx, Red, Null}
+use Rattle.payload_core_base.specs.declared.codec.Codec.TheVariants.{Unknown}
 use Rattle.payload_core_audio.specs.AmrWb.{amr_wb_coding}
 use Rattle.payload_core_audio.specs.Plain.{noise_coding, pieces_coding, plain_format, pieces_packing}
 use Rattle.payload_core_audio.specs.Telephone.{telephone_coding}
@@ -14,15 +16,24 @@ use Rattle.h26x_payload_h264.specs.H264Coding.{h264_coding}
 use Rattle.h26x_payload_h265.specs.H265Coding.{h265_coding}
 use Rattle.h26x_payload_h266.specs.H266Coding.{h266_coding}
 
--- What is negotiated beside the codec: AMR-WB's layout, whether H.265 and H.266 have decoding order numbers, and the clock rate of telephone events.
+-- What is negotiated beside the codec: AMR-WB's layout, whether H.265 and H.266 have decoding order numbers, and the
+-- clock rate of telephone events.
 pub record Settings : Type 0 where
   pub octet_align : Bool
   pub donl : Bool
   pub clock_rate : ℕ
 
--- What `octet-align`, `sprop-max-don-diff` and a clock rate say: a layout that isn't given is the bandwidth-efficient one (RFC 4867 8.1), and there are decoding order numbers where the greatest difference is given and above 0 (RFC 7798 7.1, RFC 9328 7.2).
+-- What `octet-align`, `sprop-max-don-diff` and a clock rate say: a layout that isn't given is the bandwidth-efficient
+-- one (RFC 4867 8.1), and there are decoding order numbers where the greatest difference is given and above 0 (RFC
+-- 7798 7.1, RFC 9328 7.2).
 abbrev pub settings_of : Option Bool → Option ℕ → ℕ → Settings
-settings_of octet_align max_don_diff clock_rate = record { octet_align = unwrap_or octet_align false; donl = nat_lt 0 (unwrap_or max_don_diff 0); clock_rate = clock_rate }
+settings_of octet_align max_don_diff clock_rate =
+    record {
+      octet_align = unwrap_or octet_align false;
+      donl = nat_lt 0 (unwrap_or max_don_diff 0);
+      clock_rate =
+          clock_rate;
+    }
 
 -- Where nothing is said, with telephone events at 8,000 Hz (RFC 4733 7.1.1).
 abbrev pub first_settings : Settings
@@ -44,6 +55,7 @@ no_coding = record {
   IsReached = λ sender. ⊥;
   IsWellFormed = λ limit sample. ⊥;
   units = λ sender limit sample. [];
+  after = λ sender limit sample. sender;
 }
 
 -- The payload format of a codec, with picture ids in VP8 or without.

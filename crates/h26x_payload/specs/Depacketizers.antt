@@ -9,7 +9,10 @@ use Rattle.h26x_payload_h265.specs.H265Reading.{h265_format}
 use Rattle.h26x_payload_h266.specs.H266Reading.{h266_format}
 use Rattle.h26x_payload.specs.Codings.{Settings}
 use Rattle.h26x_payload.specs.declared.codec_depacketizer.CodecDepacketizer.{CodecDepacketizer}
-use Rattle.h26x_payload.specs.declared.codec_depacketizer.CodecDepacketizer.TheVariants.{G711, G722, Opus, ComfortNoise, AmrWb, Telephone, Vp8, Vp9, Av1, H264, H265, H266, Boxed}
+use Rattle.h26x_payload.specs.declared.codec_depacketizer.CodecDepacketizer.TheVariants.{G711, G722, Opus}
+use Rattle.h26x_payload.specs.declared.codec_depacketizer.CodecDepacketizer.TheVariants.{ComfortNoise, AmrWb}
+use Rattle.h26x_payload.specs.declared.codec_depacketizer.CodecDepacketizer.TheVariants.{Telephone, Vp8, Vp9, Av1}
+use Rattle.h26x_payload.specs.declared.codec_depacketizer.CodecDepacketizer.TheVariants.{H264, H265, H266, Boxed}
 
 -- The codecs that a depacketizer is for: one that a caller boxed is for none that is known.
 abbrev pub codecs_of : {B : Type 0} → CodecDepacketizer B → List Codec
@@ -27,7 +30,8 @@ codecs_of (H265 d) = codecs.H265 ∷ []
 codecs_of (H266 d) = codecs.H266 ∷ []
 codecs_of (Boxed b) = []
 
--- AMR-WB goes by the layout, H.265 and H.266 by whether there are decoding order numbers, telephone events by the clock rate; the others stay as they were.
+-- AMR-WB goes by the layout, H.265 and H.266 by whether there are decoding order numbers, telephone events by the
+-- clock rate; the others stay as they were.
 abbrev pub format_under : {B : Type 0} → Settings → Format → CodecDepacketizer B → Format
 format_under s before (AmrWb d) = amr_wb_format s.octet_align
 format_under s before (H265 d) = h265_format s.donl

@@ -15,11 +15,13 @@ KeepCodecLaw = (s : Settings) (has_id : Bool) (codec : Codec) → CodecLaw (codi
 
 -- The law speaks of the state before the first sample, whatever the first picture id.
 abbrev pub FirstIsReached : Type 0
-FirstIsReached = (s : Settings) (has_id : Bool) (codec : Codec) (picture_id : ℕ) → has_format codec ≡ true → picture_id < 32768 → (coding_of s has_id codec).IsReached (first_sender picture_id codec)
+FirstIsReached = (s : Settings) (has_id : Bool) (codec : Codec) (picture_id : ℕ) → has_format codec ≡ true
+    → picture_id < 32768 → (coding_of s has_id codec).IsReached (first_sender picture_id codec)
 
 -- Each packet of VP8 and VP9 but a sample's last has just the limit's bytes.
 abbrev pub FillPackets : Type 0
-FillPackets = (s : Settings) (has_id : Bool) → FillsPackets (coding_of s has_id Vp8).packing × FillsPackets (coding_of s has_id Vp9).packing
+FillPackets = (s : Settings) (has_id : Bool) → FillsPackets (coding_of s has_id Vp8).packing
+    × FillsPackets (coding_of s has_id Vp9).packing
 
 -- A codec whose samples are cut so and whose packets are read so.
 abbrev pub through : Packing → Format → Coding → Coding
@@ -29,6 +31,7 @@ through packing format coding = record {
   IsReached = coding.IsReached;
   IsWellFormed = coding.IsWellFormed;
   units = coding.units;
+  after = coding.after;
 }
 
 -- The run had no fault, gave the bytes of these units, one behind the other, and left no fragment open.
@@ -37,19 +40,26 @@ pub record GivesUnits (run : Run) (units : List (List (List ℕ))) : Type 0 wher
   pub written : run.written ≡ joined (map joined units)
   pub closed : run.fragment ≡ None
 
--- The sample is accepted. Its packets have a byte to the limit's, and read in order with no fragment open before they give these units.
+-- The sample is accepted. Its packets have a byte to the limit's, and read in order with no fragment open before they
+-- give these units.
 abbrev pub SendsAndGives : Format → ℕ → Result Sent PacketError → List (List (List ℕ)) → Type 0
-SendsAndGives format limit (Ok sent) units = AreWithin limit sent.packets × ((extra : CodecExtra) → GivesUnits (read_all format None extra sent.packets) units)
+SendsAndGives format limit (Ok sent) units =
+    AreWithin limit sent.packets × ((extra : CodecExtra) → GivesUnits (read_all format None extra sent.packets) units)
 SendsAndGives format limit (Err e) units = ⊥
 
 -- A well-formed sample is cut into packets that give its units.
 abbrev pub ComesThrough : Coding → Type 0
-ComesThrough coding = (sender : Sender) (limit : ℕ) (sample : List ℕ) → coding.IsReached sender → coding.IsWellFormed limit sample → SendsAndGives coding.format limit (coding.packing.pack sender limit sample) (coding.units sender limit sample)
+ComesThrough coding = (sender : Sender) (limit : ℕ) (sample : List ℕ) → coding.IsReached sender
+    → coding.IsWellFormed limit sample → SendsAndGives coding.format limit (coding.packing.pack sender limit sample)
+    (coding.units sender limit sample)
 
--- A packetizer and a depacketizer that cut and read as a codec does under the same settings keep the codec law, and a well-formed sample comes through.
+-- A packetizer and a depacketizer that cut and read as a codec does under the same settings keep the codec law, and a
+-- well-formed sample comes through.
 pub record ArePair (packing : Packing) (format : Format) (coding : Coding) : Type 0 where
   pub law : CodecLaw (through packing format coding)
   pub comes_through : ComesThrough (through packing format coding)
 
 abbrev pub PairKeepsCodecLaw : Packing → Format → Type 0
-PairKeepsCodecLaw packing format = (s : Settings) (has_id : Bool) (codec : Codec) → packing ≡ (coding_of s has_id codec).packing → format ≡ (coding_of s has_id codec).format → ArePair packing format (coding_of s has_id codec)
+PairKeepsCodecLaw packing format = (s : Settings) (has_id : Bool) (codec : Codec) → packing
+    ≡ (coding_of s has_id codec).packing → format ≡ (coding_of s has_id codec).format
+    → ArePair packing format (coding_of s has_id codec)

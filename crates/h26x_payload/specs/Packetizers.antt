@@ -8,7 +8,9 @@ use Rattle.h26x_payload_h265.specs.H265Packing.{h265_packing}
 use Rattle.h26x_payload_h266.specs.H266Packing.{h266_packing}
 use Rattle.h26x_payload.specs.Codings.{Settings}
 use Rattle.h26x_payload.specs.declared.codec_packetizer.CodecPacketizer.{CodecPacketizer}
-use Rattle.h26x_payload.specs.declared.codec_packetizer.CodecPacketizer.TheVariants.{G711, G722, Opus, ComfortNoise, AmrWb, Telephone, Vp8, Vp9, Av1, H264, H265, H266, Boxed}
+use Rattle.h26x_payload.specs.declared.codec_packetizer.CodecPacketizer.TheVariants.{G711, G722, Opus, ComfortNoise}
+use Rattle.h26x_payload.specs.declared.codec_packetizer.CodecPacketizer.TheVariants.{AmrWb, Telephone, Vp8, Vp9, Av1}
+use Rattle.h26x_payload.specs.declared.codec_packetizer.CodecPacketizer.TheVariants.{H264, H265, H266, Boxed}
 
 -- The codecs that a packetizer is for: one that a caller boxed is for none that is known.
 abbrev pub codecs_of : {B : Type 0} → CodecPacketizer B → List Codec

@@ -59,7 +59,8 @@ impl<B: Depacketizer> CodecDepacketizer<B> {
     pub fn new(alloc: Global, codec: Codec) -> Option<Self>
         ensures some { is_some result ≡ has_format codec }
         ensures variant { IfSome result (λ d. Contains (codecs_of d) codec) }
-        ensures format { IfSome result (λ d. (has_id : Bool) → ⟦<CodecDepacketizer<B> as Depacketizer>⟧.format d ≡ (coding_of first_settings has_id codec).format) }
+        ensures format { IfSome result (λ d. (has_id : Bool) → ⟦<CodecDepacketizer<B> as Depacketizer>⟧.format d
+            ≡ (coding_of first_settings has_id codec).format) }
         ensures closed { IfSome result (λ d. ⟦<CodecDepacketizer<B> as Depacketizer>⟧.fragment d ≡ None) }
     {
         match codec {
@@ -96,11 +97,14 @@ impl<B: Depacketizer> CodecDepacketizer<B> {
     )
         ensures variant { codecs_of self.new ≡ codecs_of self.old }
         ensures format { let before = ⟦<CodecDepacketizer<B> as Depacketizer>⟧.format self.old in
-            ⟦<CodecDepacketizer<B> as Depacketizer>⟧.format self.new ≡ format_under (settings_of octet_align sprop_max_don_diff clock_rate) before self.old }
+            ⟦<CodecDepacketizer<B> as Depacketizer>⟧.format self.new
+            ≡ format_under (settings_of octet_align sprop_max_don_diff clock_rate) before self.old }
         ensures configured { (s : Settings) (has_id : Bool) (codec : Codec) → Contains (codecs_of self.old) codec →
             ⟦<CodecDepacketizer<B> as Depacketizer>⟧.format self.old ≡ (coding_of s has_id codec).format →
-            ⟦<CodecDepacketizer<B> as Depacketizer>⟧.format self.new ≡ (coding_of (settings_of octet_align sprop_max_don_diff clock_rate) has_id codec).format }
-        ensures fragment { ⟦<CodecDepacketizer<B> as Depacketizer>⟧.fragment self.new ≡ ⟦<CodecDepacketizer<B> as Depacketizer>⟧.fragment self.old }
+            ⟦<CodecDepacketizer<B> as Depacketizer>⟧.format self.new
+            ≡ (coding_of (settings_of octet_align sprop_max_don_diff clock_rate) has_id codec).format }
+        ensures fragment { ⟦<CodecDepacketizer<B> as Depacketizer>⟧.fragment self.new
+            ≡ ⟦<CodecDepacketizer<B> as Depacketizer>⟧.fragment self.old }
         ensures others { is_set self.old ≡ false → self.new ≡ self.old }
     {
         let aligned = octet_align.unwrap_or(false);

@@ -1,6 +1,7 @@
 //! One packetizer over all codecs.
 
-ghost use Rattle.h26x_payload.specs.Codings.{Settings, coding_of, first_sender, first_settings, has_format, settings_of};
+ghost use Rattle.h26x_payload.specs.Codings.{Settings, coding_of, first_sender, first_settings, has_format};
+ghost use Rattle.h26x_payload.specs.Codings.{settings_of};
 ghost use Rattle.std.specs.Prelude.{◌≡◌, ◌<◌, Bool, Contains, IfSome, false, is_some, unwrap_or};
 
 use h26x_payload_h264::H264Packetizer;
@@ -59,7 +60,8 @@ impl<B: Packetizer> CodecPacketizer<B> {
     pub fn new(codec: Codec) -> Option<Self>
         ensures some { is_some result ≡ has_format codec }
         ensures variant { IfSome result (λ p. Contains (codecs_of p) codec) }
-        ensures packing { IfSome result (λ p. ⟦<CodecPacketizer<B> as Packetizer>⟧.packing p ≡ (coding_of first_settings false codec).packing) }
+        ensures packing { IfSome result (λ p. ⟦<CodecPacketizer<B> as Packetizer>⟧.packing p
+            ≡ (coding_of first_settings false codec).packing) }
         ensures sender { IfSome result (λ p. ⟦<CodecPacketizer<B> as Packetizer>⟧.sender p ≡ first_sender 0 codec) }
     {
         Self::with_picture_id(codec, None)
@@ -70,8 +72,10 @@ impl<B: Packetizer> CodecPacketizer<B> {
         requires { unwrap_or picture_id 0 < 32768 }
         ensures some { is_some result ≡ has_format codec }
         ensures variant { IfSome result (λ p. Contains (codecs_of p) codec) }
-        ensures packing { IfSome result (λ p. ⟦<CodecPacketizer<B> as Packetizer>⟧.packing p ≡ (coding_of first_settings (is_some picture_id) codec).packing) }
-        ensures sender { IfSome result (λ p. ⟦<CodecPacketizer<B> as Packetizer>⟧.sender p ≡ first_sender (unwrap_or picture_id 0) codec) }
+        ensures packing { IfSome result (λ p. ⟦<CodecPacketizer<B> as Packetizer>⟧.packing p
+            ≡ (coding_of first_settings (is_some picture_id) codec).packing) }
+        ensures sender { IfSome result (λ p. ⟦<CodecPacketizer<B> as Packetizer>⟧.sender p
+            ≡ first_sender (unwrap_or picture_id 0) codec) }
     {
         match codec {
             Codec::PCMU | Codec::PCMA => Some(CodecPacketizer::G711(G711Packetizer::new())),
@@ -107,10 +111,12 @@ impl<B: Packetizer> CodecPacketizer<B> {
     )
         ensures variant { codecs_of self.new ≡ codecs_of self.old }
         ensures packing { let before = ⟦<CodecPacketizer<B> as Packetizer>⟧.packing self.old in
-            ⟦<CodecPacketizer<B> as Packetizer>⟧.packing self.new ≡ packing_under (settings_of octet_align sprop_max_don_diff clock_rate) before self.old }
+            ⟦<CodecPacketizer<B> as Packetizer>⟧.packing self.new
+            ≡ packing_under (settings_of octet_align sprop_max_don_diff clock_rate) before self.old }
         ensures configured { (s : Settings) (has_id : Bool) (codec : Codec) → Contains (codecs_of self.old) codec →
             ⟦<CodecPacketizer<B> as Packetizer>⟧.packing self.old ≡ (coding_of s has_id codec).packing →
-            ⟦<CodecPacketizer<B> as Packetizer>⟧.packing self.new ≡ (coding_of (settings_of octet_align sprop_max_don_diff clock_rate) has_id codec).packing }
+            ⟦<CodecPacketizer<B> as Packetizer>⟧.packing self.new
+            ≡ (coding_of (settings_of octet_align sprop_max_don_diff clock_rate) has_id codec).packing }
         ensures sender { let before = ⟦<CodecPacketizer<B> as Packetizer>⟧.sender self.old in
             ⟦<CodecPacketizer<B> as Packetizer>⟧.sender self.new ≡ sender_under before self.old }
         ensures others { is_set self.old ≡ false → self.new ≡ self.old }

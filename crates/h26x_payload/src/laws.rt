@@ -38,7 +38,8 @@ pub fn pair_law<P: Packetizer, D: Depacketizer>(
     packetizer: &CodecPacketizer<P>,
     depacketizer: &CodecDepacketizer<D>,
 )
-    ensures { PairKeepsCodecLaw (⟦<CodecPacketizer<P> as Packetizer>⟧.packing packetizer.now) (⟦<CodecDepacketizer<D> as Depacketizer>⟧.format depacketizer.now) }
+    ensures { PairKeepsCodecLaw (⟦<CodecPacketizer<P> as Packetizer>⟧.packing packetizer.now)
+        (⟦<CodecDepacketizer<D> as Depacketizer>⟧.format depacketizer.now) }
 {
     codec_law();
 }

@@ -1,5 +1,6 @@
 -- A text's zeros at its end, and its layout at each byte.
-use Rattle.std.proofs.Common.{◌≡◌, ◌≢◌, ℕ, Bool, true, false, eqb, List, [], ◌∷◌, ◌++◌, refl, ap, ◌∙◌, arith, eqb-true}
+use Rattle.std.proofs.Common.{◌≡◌, ◌≢◌, ℕ, Bool, true, false, eqb, List, [], ◌∷◌, ◌++◌, refl, ap, ◌∙◌, arith}
+use Rattle.std.proofs.Common.{eqb-true}
 use Rattle.std.specs.Prelude.{◌&&◌, if◌then◌else◌}
 use Rattle.std.proofs.lemmas.Bool.{false≢true}
 use Rattle.std.proofs.lemmas.Bool.Decides.{nat_tests}
@@ -13,7 +14,8 @@ all_three false y z never = refl
 
 -- other bytes are none
 pub no_code : (a b c : ℕ) → (a ≡ 0 → b ≡ 0 → c ≡ 1 → ⊥) → is_code a b c ≡ false
-no_code a b c never = all_three (eqb a 0) (eqb b 0) (eqb c 1) (λ e f g. never (eqb-true a 0 e) (eqb-true b 0 f) (eqb-true c 1 g))
+no_code a b c never = all_three (eqb a 0) (eqb b 0) (eqb c 1)
+    (λ e f g. never (eqb-true a 0 e) (eqb-true b 0 f) (eqb-true c 1 g))
 
 both : (x y : Bool) → (x && y) ≡ true → (x ≡ true) × (y ≡ true)
 both true true e = (refl, refl)

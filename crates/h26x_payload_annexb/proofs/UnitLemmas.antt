@@ -1,11 +1,13 @@
 -- What the units of a text are.
 use Rattle.std.proofs.Common.{◌≡◌, ℕ, ◌<◌, List, [], ◌∷◌, ◌++◌, length, refl, sym, ap, ◌∙◌, arith}
-use Rattle.h26x_payload_annexb.specs.Cut.{ArePieces, AreUnits, EndsInNoZero, HoldsNoCode, IsStretch, Piece, joined, text_of, units_of_layout, units_of_pieces, with_unit}
+use Rattle.h26x_payload_annexb.specs.Cut.{ArePieces, AreUnits, EndsInNoZero, HoldsNoCode, IsStretch, Piece, joined}
+use Rattle.h26x_payload_annexb.specs.Cut.{text_of, units_of_layout, units_of_pieces, with_unit}
 use Rattle.h26x_payload_annexb.specs.Units.{ComesBack, UnitsLaw, layout_of, units_of}
 use Rattle.h26x_payload_annexb.proofs.CutLemmas.{laid_out, layout_of-joined}
 
 -- a stretch that ends in no zero stands before units
-unit_before : (s : List ℕ) (us : List (List ℕ)) → HoldsNoCode s → EndsInNoZero s → AreUnits us → AreUnits (with_unit s us)
+unit_before : (s : List ℕ) (us : List (List ℕ)) → HoldsNoCode s → EndsInNoZero s → AreUnits us
+    → AreUnits (with_unit s us)
 unit_before [] us none ends are = are
 unit_before (b ∷ bs) [] none ends are = record { is_nonempty = omega arith; holds_none = none }
 unit_before (b ∷ bs) (u ∷ us) none ends are = ((record { is_nonempty = omega arith; holds_none = none }, ends), are)
@@ -17,15 +19,18 @@ last_unit (b ∷ bs) none = record { is_nonempty = omega arith; holds_none = non
 pieces_units : (ps : List Piece) → ArePieces ps → AreUnits (units_of_pieces ps)
 pieces_units [] are = tt
 pieces_units (p ∷ []) are = last_unit p.stretch are.1.0
-pieces_units (p ∷ q ∷ ps) are = unit_before p.stretch (units_of_pieces (q ∷ ps)) are.1.0.0 are.1.0.1 (pieces_units (q ∷ ps) are.1.1)
+pieces_units (p ∷ q ∷ ps) are = unit_before p.stretch (units_of_pieces (q ∷ ps)) are.1.0.0 are.1.0.1
+    (pieces_units (q ∷ ps) are.1.1)
 
-layout_units : (first : List ℕ) (ps : List Piece) → IsStretch first ps → ArePieces ps → AreUnits (units_of_layout first ps)
+layout_units : (first : List ℕ) (ps : List Piece) → IsStretch first ps → ArePieces ps
+    → AreUnits (units_of_layout first ps)
 layout_units first [] is are = last_unit first is
 layout_units first (p ∷ ps) is are = pieces_units (p ∷ ps) are
 
 pub units_law : UnitsLaw
 unfolding units_of
-units_law text = let is = laid_out text in layout_units (layout_of text).first (layout_of text).pieces is.is_first is.are_pieces
+units_law text = let is = laid_out text in
+    layout_units (layout_of text).first (layout_of text).pieces is.is_first is.are_pieces
 
 -- each unit behind a start code of three zeros
 pieces_of : List (List ℕ) → List Piece
@@ -51,7 +56,8 @@ units_of_pieces_of : (us : List (List ℕ)) → AreUnits us → units_of_pieces 
 unfolding pieces_of
 units_of_pieces_of [] are = refl
 units_of_pieces_of (u ∷ []) are = unit_stays u [] are.is_nonempty
-units_of_pieces_of (u ∷ v ∷ us) are = ap (with_unit u) (units_of_pieces_of (v ∷ us) are.1) ∙ unit_stays u (v ∷ us) are.0.0.is_nonempty
+units_of_pieces_of (u ∷ v ∷ us) are = ap (with_unit u) (units_of_pieces_of (v ∷ us) are.1)
+    ∙ unit_stays u (v ∷ us) are.0.0.is_nonempty
 
 pub no_first : (ps : List Piece) → units_of_layout [] ps ≡ units_of_pieces ps
 no_first [] = refl

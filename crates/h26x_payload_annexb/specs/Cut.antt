@@ -23,7 +23,8 @@ HoldsNoCode text = (before behind : List ℕ) → text ≢ before ++ (0 ∷ 0 �
 abbrev pub EndsInNoZero : List ℕ → Type 0
 EndsInNoZero text = (before : List ℕ) → text ≢ before ++ 0 ∷ []
 
--- A stretch holds no start code; and one that a start code follows doesn't end in a zero, since that start code has the longest run of zeros.
+-- A stretch holds no start code; and one that a start code follows doesn't end in a zero, since that start code has
+-- the longest run of zeros.
 abbrev pub IsStretch : List ℕ → List Piece → Type 0
 IsStretch text [] = HoldsNoCode text
 IsStretch text (p ∷ ps) = HoldsNoCode text × EndsInNoZero text

@@ -3,7 +3,8 @@ use Rattle.std.specs.Prelude.{◌≡◌, ℕ, ◌+◌, ◌<◌, List, slice_inde
 
 -- 00 00 01 stands there. A byte behind the end of a text counts as 0.
 abbrev pub HasCodeAt : List ℕ → ℕ → Type 0
-HasCodeAt text place = (slice_index text place ≡ 0) × ((slice_index text (place + 1) ≡ 0) × (slice_index text (place + 2) ≡ 1))
+HasCodeAt text place = (slice_index text place ≡ 0)
+    × ((slice_index text (place + 1) ≡ 0) × (slice_index text (place + 2) ≡ 1))
 
 abbrev pub HasNoCodeBefore : List ℕ → ℕ → Type 0
 HasNoCodeBefore text place = (k : ℕ) → k < place → HasCodeAt text k → ⊥

@@ -1,12 +1,14 @@
 -- The units of a text, by recursion from its end.
 use Rattle.std.specs.Prelude.{◌≡◌, ◌↔◌, ℕ, suc, ◌==◌, ◌&&◌, Bool, List, [], ◌∷◌, ◌++◌, if◌then◌else◌}
-use Rattle.h26x_payload_annexb.specs.Cut.{AreUnits, IsCut, IsUnit, Layout, Piece, ReachesTo, text_of, units_of_layout, units_of_pieces, with_unit}
+use Rattle.h26x_payload_annexb.specs.Cut.{AreUnits, IsCut, IsUnit, Layout, Piece, ReachesTo, text_of, units_of_layout}
+use Rattle.h26x_payload_annexb.specs.Cut.{units_of_pieces, with_unit}
 
 -- The three bytes that end a start code.
 abbrev pub is_code : ℕ → ℕ → ℕ → Bool
 is_code a b c = (a == 0) && ((b == 0) && (c == 1))
 
--- A byte before a first stretch and pieces: it completes a start code, or is a further zero of the first one, or stands in the first stretch.
+-- A byte before a first stretch and pieces: it completes a start code, or is a further zero of the first one, or
+-- stands in the first stretch.
 abbrev pub with_byte : ℕ → List ℕ → List Piece → Layout
 with_byte a [] [] = record { first = a ∷ []; pieces = [] }
 with_byte a [] (p ∷ ps) =
@@ -51,7 +53,9 @@ UnitsLaw = (text : List ℕ) → AreUnits (units_of text)
 abbrev pub ComesBack : Type 0
 ComesBack = (units : List (List ℕ)) → AreUnits units → units_of (text_of units) ≡ units
 
--- What stands right behind a start code and reaches to the next one or the end is handed out, behind the units before it and before those behind it.
+-- What stands right behind a start code and reaches to the next one or the end is handed out, behind the units before
+-- it and before those behind it.
 abbrev pub PlaceLaw : Type 0
 PlaceLaw = (before unit behind : List ℕ) → IsUnit unit → ReachesTo unit behind
-    → units_of (before ++ (0 ∷ 0 ∷ 1 ∷ (unit ++ behind))) ≡ units_of (before ++ (0 ∷ 0 ∷ 1 ∷ [])) ++ (unit ∷ units_of behind)
+    → units_of (before ++ (0 ∷ 0 ∷ 1 ∷ (unit ++ behind))) ≡ units_of (before ++ (0 ∷ 0 ∷ 1 ∷ []))
+    ++ (unit ∷ units_of behind)

@@ -10,4 +10,5 @@ units_left it = units_behind it.rest.now
 
 -- What is handed out until None are these units, all of them and in order.
 abbrev pub HandsOutAll : Type 0
-HandsOutAll = (it : NalUnits) (units : List (Bor (List ℕ))) → Drains (YieldsFirstRef units_left) it units → map (λ u. u.now) units ≡ units_left it
+HandsOutAll = (it : NalUnits) (units : List (Bor (List ℕ))) → Drains (YieldsFirstRef units_left) it units
+    → map (λ u. u.now) units ≡ units_left it

@@ -1,5 +1,6 @@
 -- What leaves of H.264 units.
-use Rattle.std.proofs.Common.{◌≡◌, ℕ, ◌<◌, ◌≤◌, Bool, true, false, leb, List, [], ◌∷◌, length, Some, None, refl, arith}
+use Rattle.std.proofs.Common.{◌≡◌, ℕ, ◌<◌, ◌≤◌, Bool, true, false, leb, List, [], ◌∷◌, length, Some, None, refl}
+use Rattle.std.proofs.Common.{arith}
 use Rattle.std.specs.Prelude.{◌&&◌}
 use mathlib.Core.Bool.{false≢true}
 use Rattle.std.proofs.lemmas.Bool.Decides.{nat_tests}
@@ -35,11 +36,15 @@ some_sets (Some set ∷ ws) e = omega arith
 
 sets_within : (limit : ℕ) (sets : List (List ℕ)) → can_join limit sets ≡ true → length (stap_a sets) ≤ limit
 sets_within limit sets e =
-    let fits : leb (length (stap_a sets)) limit ≡ true = (both (list_all (λ unit. leb (length unit) 65535) sets) (leb (length (stap_a sets)) limit) e).1 in
+    let fits : leb (length (stap_a sets)) limit ≡ true =
+    (both (list_all (λ unit. leb (length unit) 65535) sets) (leb (length (stap_a sets)) limit) e).1 in
     grind (arith, nat_tests)
 
-pub departures-fit : (limit : ℕ) (ws : Waiting) (us : List (List ℕ)) → EachUnit HasByte us → Each (IsFitting limit) (departures h264_rules limit ws us)
-departures-fit limit = departures-each h264_rules limit (IsFitting limit) HasByte (λ ws ready joins. (some_sets ws ready, sets_within limit (sets_in ws) joins)) (λ u some leaves. (some, leaves))
+pub departures-fit : (limit : ℕ) (ws : Waiting) (us : List (List ℕ)) → EachUnit HasByte us
+    → Each (IsFitting limit) (departures h264_rules limit ws us)
+departures-fit limit = departures-each h264_rules limit (IsFitting limit) HasByte
+    (λ ws ready joins. (some_sets ws ready, sets_within limit (sets_in ws) joins)) (λ u some leaves. (some, leaves))
 
-pub departures-good : (limit : ℕ) (ws : Waiting) (us : List (List ℕ)) → AreSendable us → Each IsGood (departures h264_rules limit ws us)
+pub departures-good : (limit : ℕ) (ws : Waiting) (us : List (List ℕ)) → AreSendable us
+    → Each IsGood (departures h264_rules limit ws us)
 departures-good limit = departures-each h264_rules limit IsGood IsSendable (λ ws ready joins. tt) (λ u is leaves. is)

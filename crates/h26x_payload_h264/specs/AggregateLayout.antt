@@ -6,11 +6,13 @@ use Rattle.h26x_payload_units.specs.AggregateLayout.{IsSized, PassesEnd}
 use Rattle.h26x_payload_units.specs.Aggregates.{aggregated}
 use Rattle.h26x_payload_h264.specs.StapA.{stap_a_fault}
 
--- What stands behind the last whole unit: nothing, or half a size, or a size that passes the end with so many bytes left.
+-- What stands behind the last whole unit: nothing, or half a size, or a size that passes the end with so many bytes
+-- left.
 abbrev pub EndsSo : List ℕ → Option PacketError → Type 0
 EndsSo text None = text ≡ []
 EndsSo text (Some ErrShortPacket) = length text ≡ 1
-EndsSo text (Some (StapASizeLargerThanBuffer size left)) = (is : PassesEnd 0 text) × ((size ≡ is.high * 256 + is.low) × (left ≡ length is.rest))
+EndsSo text (Some (StapASizeLargerThanBuffer size left)) =
+    (is : PassesEnd 0 text) × ((size ≡ is.high * 256 + is.low) × (left ≡ length is.rest))
 EndsSo text (Some _) = ⊥
 
 abbrev pub IsLaidOut : List ℕ → List (List ℕ) → Option PacketError → Type 0
@@ -19,4 +21,5 @@ IsLaidOut text (u ∷ us) fault = (rest : List ℕ) × (IsSized 0 text u rest ×
 
 -- Each text is laid out in just one way, and read so.
 abbrev pub AggregateLaw : Type 0
-AggregateLaw = (text : List ℕ) (units : List (List ℕ)) (fault : Option PacketError) → IsLaidOut text units fault ↔ (((aggregated 0 0 text).units ≡ units) × (stap_a_fault text ≡ fault))
+AggregateLaw = (text : List ℕ) (units : List (List ℕ)) (fault : Option PacketError)
+    → IsLaidOut text units fault ↔ (((aggregated 0 0 text).units ≡ units) × (stap_a_fault text ≡ fault))

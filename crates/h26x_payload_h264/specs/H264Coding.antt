@@ -9,7 +9,7 @@ use Rattle.payload_core_base.specs.declared.extra.CodecExtra.{CodecExtra}
 use Rattle.h26x_payload_units.specs.Departures.{EachUnit, departures, units_sent}
 use Rattle.h26x_payload_units.specs.Fragments.{behind_code}
 use Rattle.h26x_payload_h264.specs.H264Headers.{type_of}
-use Rattle.h26x_payload_h264.specs.H264Packing.{fragments_of, h264_packing, h264_rules, packets_of}
+use Rattle.h26x_payload_h264.specs.H264Packing.{fragments_of, h264_after, h264_packing, h264_rules, packets_of}
 use Rattle.h26x_payload_h264.specs.H264Reading.{h264_format}
 
 -- F, the topmost bit of its header, is clear, and its type is one of 1 to 23.
@@ -39,6 +39,7 @@ h264_coding = record {
   IsReached = λ sender. Unit {0};
   IsWellFormed = λ limit sample. AreSendable (units_of sample);
   units = λ sender limit sample. unit_of (h264_units_sent sender limit sample);
+  after = h264_after;
 }
 
 -- The run had no fault, gave these units, each behind a start code, and left no fragment open.

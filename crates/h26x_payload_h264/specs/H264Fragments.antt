@@ -56,8 +56,10 @@ h264_view = record { starts = starts_unit; ends = ends_unit; header = header_of;
 abbrev pub run_of : List (List ℕ) → CodecExtra → Run
 run_of ps extra = read_all h264_format None extra ps
 
--- Behind packets without a refusal an accepted FU-A writes a unit, behind a start code, exactly where it completes that unit, and otherwise nothing.
+-- Behind packets without a refusal an accepted FU-A writes a unit, behind a start code, exactly where it completes
+-- that unit, and otherwise nothing.
 abbrev pub FragmentLaw : Type 0
-FragmentLaw = (ps : List (List ℕ)) (last : List ℕ) (extra after : CodecExtra) (reading : Reading) → (run_of ps extra).fault ≡ None → is_fu_a last ≡ true
+FragmentLaw = (ps : List (List ℕ)) (last : List ℕ) (extra after : CodecExtra) (reading : Reading)
+    → (run_of ps extra).fault ≡ None → is_fu_a last ≡ true
     → h264_format.read (run_of ps extra).fragment after last ≡ Ok reading
     → WritesComplete h264_view (ps ++ last ∷ []) reading.written

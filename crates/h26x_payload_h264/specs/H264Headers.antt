@@ -1,4 +1,5 @@
--- The first bytes of H.264 packets: the NAL unit header, which is F, NRI in two bits and the type in five, and the FU header, which is S, E, R and the type (RFC 6184 1.3, 5.2 and 5.8).
+-- The first bytes of H.264 packets: the NAL unit header, which is F, NRI in two bits and the type in five, and the FU
+-- header, which is S, E, R and the type (RFC 6184 1.3, 5.2 and 5.8).
 use Rattle.std.specs.Prelude.{ℕ, ◌+◌, ◌*◌, ◌/◌, ◌%◌, ◌==◌, ◌&&◌, Bool, nat_le, if◌then◌else◌}
 use Rattle.h26x_payload_h264.specs.declared.headers.PacketKind.{PacketKind}
 use Rattle.h26x_payload_h264.specs.declared.headers.PacketKind.TheVariants.{Single, Aggregate, Fragment, Unhandled}

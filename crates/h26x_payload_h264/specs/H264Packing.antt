@@ -1,5 +1,6 @@
 -- H.264 packets as they are sent (RFC 6184 5.6, 5.7.1 and 5.8).
-use Rattle.std.specs.Prelude.{ℕ, ◌+◌, ◌-◌, ◌*◌, ◌/◌, ◌%◌, ◌==◌, ◌&&◌, ◌||◌, Bool, true, List, [], ◌∷◌, length, nat_le, Result, Ok, if◌then◌else◌}
+use Rattle.std.specs.Prelude.{ℕ, ◌+◌, ◌-◌, ◌*◌, ◌/◌, ◌%◌, ◌==◌, ◌&&◌, ◌||◌, Bool, true, List, [], ◌∷◌, length, nat_le}
+use Rattle.std.specs.Prelude.{Result, Ok, if◌then◌else◌}
 use Rattle.std.specs.List.{flat_map, list_all}
 use Rattle.h26x_payload_annexb.specs.Units.{units_of}
 use Rattle.payload_core_base.specs.Packing.{Packing, Sender, Sent}
@@ -37,11 +38,18 @@ abbrev pub can_leave : ℕ → List ℕ → Bool
 can_leave limit unit = nat_le (length unit) limit || nat_le 3 limit
 
 abbrev pub h264_rules : Rules
-h264_rules = record { role = λ unit. role_by (unit_type unit); needed = true ∷ true ∷ []; can_join = can_join; can_leave = can_leave }
+h264_rules = record {
+  role = λ unit. role_by (unit_type unit);
+  needed = true ∷ true ∷ [];
+  can_join =
+      can_join;
+  can_leave = can_leave;
+}
 
 -- An FU-A: NRI of the unit's header and type 28, then S, E and the unit's type, then a part of the unit.
 abbrev pub fu_a : ℕ → Bool → Bool → List ℕ → List ℕ
-fu_a header first last part = (header / 32 % 4 * 32 + 28) ∷ ((if first then 128 else 0) + (if last then 64 else 0) + type_of header) ∷ part
+fu_a header first last part = (header / 32 % 4 * 32 + 28)
+    ∷ ((if first then 128 else 0) + (if last then 64 else 0) + type_of header) ∷ part
 
 -- A unit behind its header, cut into parts that fill the limit.
 abbrev pub fragments_of : ℕ → List ℕ → List (List ℕ)
@@ -53,11 +61,15 @@ abbrev pub packets_of : ℕ → Departure → List (List ℕ)
 packets_of limit (Together sets) = stap_a sets ∷ []
 packets_of limit (Alone unit) = if nat_le (length unit) limit then unit ∷ [] else fragments_of limit unit
 
+-- The sets that wait after a sample's units.
+abbrev pub h264_after : Sender → ℕ → List ℕ → Sender
+h264_after s limit sample = record { number = s.number; waiting = waiting_after h264_rules s.waiting (units_of sample) }
+
 -- The packets of what leaves of a sample's units, and the sets that wait after them.
 abbrev pub pack_h264 : Sender → ℕ → List ℕ → Result Sent PacketError
 pack_h264 s limit sample = Ok (record {
   packets = flat_map (packets_of limit) (departures h264_rules limit s.waiting (units_of sample));
-  sender = record { number = s.number; waiting = waiting_after h264_rules s.waiting (units_of sample) };
+  sender = h264_after s limit sample;
 })
 
 -- The last packet of a sample has the marker.

@@ -1,5 +1,6 @@
 -- H.264 packets as they are read (RFC 6184 5.6, 5.7.1 and 5.8).
-use Rattle.std.specs.Prelude.{◌≡◌, ℕ, ◌==◌, ◌&&◌, ◌||◌, Bool, true, false, List, [], ◌∷◌, ◌++◌, Option, Some, None, Result, Ok, Err}
+use Rattle.std.specs.Prelude.{◌≡◌, ℕ, ◌==◌, ◌&&◌, ◌||◌, Bool, true, false, List, [], ◌∷◌, ◌++◌, Option, Some, None}
+use Rattle.std.specs.Prelude.{Result, Ok, Err}
 use Rattle.std.specs.List.{flat_map, list_any}
 use Rattle.payload_core_base.specs.Format.{Format, Fragment, Reading}
 use Rattle.payload_core_base.specs.declared.error.PacketError.{PacketError}
@@ -7,7 +8,8 @@ use Rattle.payload_core_base.specs.declared.error.PacketError.TheVariants.{ErrSh
 use Rattle.payload_core_base.specs.declared.extra.CodecExtra.{CodecExtra}
 use Rattle.payload_core_base.specs.declared.extra.CodecExtra.TheVariants.{H264}
 use Rattle.h26x_payload_h264.specs.declared.headers.PacketKind.{PacketKind}
-use Rattle.h26x_payload_h264.specs.declared.headers.PacketKind.TheVariants.{Single, Aggregate, Fragment as FragmentKind, Unhandled}
+use Rattle.h26x_payload_h264.specs.declared.headers.PacketKind.TheVariants.{Single, Aggregate}
+use Rattle.h26x_payload_h264.specs.declared.headers.PacketKind.TheVariants.{Fragment as FragmentKind, Unhandled}
 use Rattle.h26x_payload_units.specs.Aggregates.{aggregated}
 use Rattle.h26x_payload_units.specs.Fragments.{behind_code, open_after, put_behind, written_at}
 use Rattle.h26x_payload_h264.specs.H264Headers.{begun_header, has_end, has_start, kind_of, type_of}
@@ -69,12 +71,13 @@ abbrev pub was_keyframe : CodecExtra → Bool
 was_keyframe (H264 e) = e.is_keyframe
 was_keyframe _ = false
 
-abbrev pub told : Bool → Result Given PacketError → Result Reading PacketError
-told keyframe (Err e) = Err e
-told keyframe (Ok g) = Ok (record { written = g.written; extra = H264 (record { is_keyframe = keyframe }); fragment = g.fragment })
+abbrev pub extra_after : Bool → Result Given PacketError → Result Reading PacketError
+extra_after keyframe (Err e) = Err e
+extra_after keyframe (Ok g) = Ok (record
+    { written = g.written; extra = H264 (record { is_keyframe = keyframe }); fragment = g.fragment })
 
 abbrev pub read_h264 : Fragment → CodecExtra → List ℕ → Result Reading PacketError
-read_h264 fragment extra packet = told (was_keyframe extra || shows_type 5 packet) (given fragment packet)
+read_h264 fragment extra packet = extra_after (was_keyframe extra || shows_type 5 packet) (given fragment packet)
 
 -- A fragment is a head if it has S, and every other packet is one.
 abbrev pub begins_by : PacketKind → List ℕ → Bool

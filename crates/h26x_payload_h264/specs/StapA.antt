@@ -11,7 +11,8 @@ use Rattle.h26x_payload_units.specs.Aggregates.{aggregated, sized}
 abbrev pub behind_units : List ℕ → List ℕ
 behind_units body = drop (length (flat_map sized (aggregated 0 0 body).units)) body
 
--- How a fault is told, by what stands behind the whole units: half a size is a short packet; of a size that passes the end it is told how large it is and how many bytes are left.
+-- How a fault is told, by what stands behind the whole units: half a size is a short packet; of a size that passes
+-- the end it is told how large it is and how many bytes are left.
 abbrev pub refusal_of : AggregateFault → List ℕ → PacketError
 refusal_of CutShort behind = ErrShortPacket
 refusal_of PastEnd (high ∷ low ∷ rest) = StapASizeLargerThanBuffer (high * 256 + low) (length rest)

@@ -1,6 +1,7 @@
 //! Reading H.264 payloads (RFC 6184 5.6, 5.7.1 and 5.8).
 
-ghost use Rattle.h26x_payload_h264.specs.H264Reading.{Adds, given, given_by, given_fragment, h264_format, is_of_type, shows_type, starts_type, was_keyframe};
+ghost use Rattle.h26x_payload_h264.specs.H264Reading.{Adds, given, given_by, given_fragment, h264_format, is_of_type};
+ghost use Rattle.h26x_payload_h264.specs.H264Reading.{shows_type, starts_type, was_keyframe};
 ghost use Rattle.h26x_payload_h264.specs.StapA.{refusal_of, stap_a_fault};
 ghost use Rattle.h26x_payload_units.specs.Aggregates.{aggregated, sized};
 ghost use Rattle.std.specs.List.{flat_map, list_any};

@@ -2,12 +2,15 @@
 
 ghost use Rattle.h26x_payload_annexb.specs.Units.{units_of};
 ghost use Rattle.h26x_payload_units.specs.Aggregates.{sized};
-ghost use Rattle.h26x_payload_units.specs.Departures.{alone, departing, departures, together, waiting_after, waiting_behind};
+ghost use Rattle.h26x_payload_units.specs.Departures.{alone, departing, departures, together, waiting_after};
+ghost use Rattle.h26x_payload_units.specs.Departures.{waiting_behind};
 ghost use Rattle.h26x_payload_units.specs.Departures.Role.{Leaves};
-ghost use Rattle.h26x_payload_h264.specs.H264Packing.{fragments_of, fu_a, h264_packing, h264_rules, packets_of, role_by, stap_a, unit_type};
+ghost use Rattle.h26x_payload_h264.specs.H264Packing.{fragments_of, fu_a, h264_packing, h264_rules, packets_of};
+ghost use Rattle.h26x_payload_h264.specs.H264Packing.{role_by, stap_a, unit_type};
 ghost use Rattle.h26x_payload_h264.specs.H264Waiting.{waiting_in};
 ghost use Rattle.std.specs.List.{flat_map};
-ghost use Rattle.std.specs.Prelude.{[], ◌∷◌, ◌≡◌, ◌++◌, ◌<◌, ◌≤◌, IfErr, IfOk, None, OnOk, Some, length, map, option_map};
+ghost use Rattle.std.specs.Prelude.{[], ◌∷◌, ◌≡◌, ◌++◌, ◌<◌, ◌≤◌, IfErr, IfOk, None, OnOk, Some, length, map};
+ghost use Rattle.std.specs.Prelude.{option_map};
 
 use crate::constants::{
     AUD_NALU_TYPE, FILLER_NALU_TYPE, FUA_HEADER_SIZE, FUA_NALU_TYPE, OUTPUT_STAP_AHEADER,
@@ -85,7 +88,8 @@ fn push_together(
     pps: &[u8],
     packets: &mut Vec<Vec<u8>>,
 ) -> Result<(), PacketError>
-    ensures packets { OnOk result (map (λ p. p.items) packets.new.items ≡ map (λ p. p.items) packets.old.items ++ flat_map (packets_of limit) (together h264_rules limit (sps.now ∷ pps.now ∷ []))) }
+    ensures packets { OnOk result (map (λ p. p.items) packets.new.items ≡ map (λ p. p.items) packets.old.items
+        ++ flat_map (packets_of limit) (together h264_rules limit (sps.now ∷ pps.now ∷ []))) }
     ensures memory { IfErr result (λ e. e ≡ PacketError.Memory) }
 {
     if sps.len() > MAX_AGGREGATED || pps.len() > MAX_AGGREGATED {
@@ -127,7 +131,8 @@ fn push_fragments(
     packets: &mut Vec<Vec<u8>>,
 ) -> Result<(), PacketError>
     requires { 3 ≤ limit }
-    ensures packets { OnOk result (map (λ p. p.items) packets.new.items ≡ map (λ p. p.items) packets.old.items ++ fragments_of limit unit.now) }
+    ensures packets { OnOk result (map (λ p. p.items) packets.new.items ≡ map (λ p. p.items) packets.old.items
+        ++ fragments_of limit unit.now) }
     ensures memory { IfErr result (λ e. e ≡ PacketError.Memory) }
 {
     let Some((header, body)) = unit.split_first() else {
@@ -150,7 +155,8 @@ fn push_alone(
     unit: &[u8],
     packets: &mut Vec<Vec<u8>>,
 ) -> Result<(), PacketError>
-    ensures packets { OnOk result (map (λ p. p.items) packets.new.items ≡ map (λ p. p.items) packets.old.items ++ flat_map (packets_of limit) (alone h264_rules limit unit.now)) }
+    ensures packets { OnOk result (map (λ p. p.items) packets.new.items ≡ map (λ p. p.items) packets.old.items
+        ++ flat_map (packets_of limit) (alone h264_rules limit unit.now)) }
     ensures memory { IfErr result (λ e. e ≡ PacketError.Memory) }
 {
     if unit.len() <= limit {
@@ -171,8 +177,10 @@ fn push_leaving<'a>(
     waiting: WaitingSets<'a>,
     packets: &mut Vec<Vec<u8>>,
 ) -> Result<WaitingSets<'a>, PacketError>
-    ensures packets { OnOk result (map (λ p. p.items) packets.new.items ≡ map (λ p. p.items) packets.old.items ++ flat_map (packets_of limit) (departing h264_rules limit Leaves (waiting_in waiting.entry) unit.now)) }
-    ensures waiting { IfOk result (λ w. waiting_in w ≡ waiting_behind h264_rules Leaves (waiting_in waiting.entry) unit.now) }
+    ensures packets { OnOk result (map (λ p. p.items) packets.new.items ≡ map (λ p. p.items) packets.old.items
+        ++ flat_map (packets_of limit) (departing h264_rules limit Leaves (waiting_in waiting.entry) unit.now)) }
+    ensures waiting { IfOk result (λ w. waiting_in w
+        ≡ waiting_behind h264_rules Leaves (waiting_in waiting.entry) unit.now) }
     ensures memory { IfErr result (λ e. e ≡ PacketError.Memory) }
 {
     let Some(sps) = waiting.sps else {
@@ -199,8 +207,11 @@ fn push_unit<'a>(
     waiting: WaitingSets<'a>,
     packets: &mut Vec<Vec<u8>>,
 ) -> Result<WaitingSets<'a>, PacketError>
-    ensures packets { OnOk result (map (λ p. p.items) packets.new.items ≡ map (λ p. p.items) packets.old.items ++ flat_map (packets_of limit) (departing h264_rules limit (role_by (unit_type unit.now)) (waiting_in waiting.entry) unit.now)) }
-    ensures waiting { IfOk result (λ w. waiting_in w ≡ waiting_behind h264_rules (role_by (unit_type unit.now)) (waiting_in waiting.entry) unit.now) }
+    ensures packets { OnOk result (map (λ p. p.items) packets.new.items ≡ map (λ p. p.items) packets.old.items
+        ++ flat_map (packets_of limit) (departing h264_rules limit (role_by (unit_type unit.now))
+        (waiting_in waiting.entry) unit.now)) }
+    ensures waiting { IfOk result (λ w. waiting_in w
+        ≡ waiting_behind h264_rules (role_by (unit_type unit.now)) (waiting_in waiting.entry) unit.now) }
     ensures memory { IfErr result (λ e. e ≡ PacketError.Memory) }
 {
     match unit_type(unit) {
@@ -225,8 +236,10 @@ fn push_units<'a>(
     waiting: WaitingSets<'a>,
     packets: &mut Vec<Vec<u8>>,
 ) -> Result<WaitingSets<'a>, PacketError>
-    ensures packets { OnOk result (map (λ p. p.items) packets.new.items ≡ map (λ p. p.items) packets.old.items ++ flat_map (packets_of limit) (departures h264_rules limit (waiting_in waiting.entry) (units_of sample.now))) }
-    ensures waiting { IfOk result (λ w. waiting_in w ≡ waiting_after h264_rules (waiting_in waiting.entry) (units_of sample.now)) }
+    ensures packets { OnOk result (map (λ p. p.items) packets.new.items ≡ map (λ p. p.items) packets.old.items
+        ++ flat_map (packets_of limit) (departures h264_rules limit (waiting_in waiting.entry) (units_of sample.now))) }
+    ensures waiting { IfOk result (λ w. waiting_in w
+        ≡ waiting_after h264_rules (waiting_in waiting.entry) (units_of sample.now)) }
     ensures memory { IfErr result (λ e. e ≡ PacketError.Memory) }
 {
     let mut waiting = waiting;
@@ -273,7 +286,11 @@ impl H264Packetizer {
 impl Packetizer for H264Packetizer {
     ghost packing = { λ _. h264_packing };
 
-    ghost sender = { λ p. record { number = 0; waiting = option_map (λ v. v.items) p.sps ∷ option_map (λ v. v.items) p.pps ∷ [] } };
+    ghost sender = { λ p. record {
+      number = 0;
+      waiting =
+          option_map (λ v. v.items) p.sps ∷ option_map (λ v. v.items) p.pps ∷ [];
+    } };
 
     fn packetize(
         &mut self,

@@ -1,5 +1,6 @@
 -- What leaves of H.265 units.
-use Rattle.std.proofs.Common.{◌≡◌, ℕ, ◌<◌, ◌≤◌, Bool, true, false, leb, List, [], ◌∷◌, length, Some, None, refl, arith}
+use Rattle.std.proofs.Common.{◌≡◌, ℕ, ◌<◌, ◌≤◌, Bool, true, false, leb, List, [], ◌∷◌, length, Some, None, refl}
+use Rattle.std.proofs.Common.{arith}
 use Rattle.std.specs.Prelude.{◌&&◌}
 use mathlib.Core.Bool.{false≢true}
 use Rattle.std.proofs.lemmas.Bool.Decides.{nat_tests}
@@ -33,13 +34,20 @@ some_sets [] e = absurd (false≢true e)
 some_sets (None ∷ ws) e = absurd (false≢true e)
 some_sets (Some set ∷ ws) e = omega arith
 
-sets_within : (donl : Bool) (limit : ℕ) (sets : List (List ℕ)) → can_join donl limit sets ≡ true → length (aggregate donl 0 sets) ≤ limit
+sets_within : (donl : Bool) (limit : ℕ) (sets : List (List ℕ)) → can_join donl limit sets ≡ true
+    → length (aggregate donl 0 sets) ≤ limit
 sets_within donl limit sets e =
-    let fits : leb (length (aggregate donl 0 sets)) limit ≡ true = (both (list_all (λ unit. leb (length unit) 65535) sets) (leb (length (aggregate donl 0 sets)) limit) e).1 in
+    let fits : leb (length (aggregate donl 0 sets)) limit ≡ true =
+    (both (list_all (λ unit. leb (length unit) 65535) sets) (leb (length (aggregate donl 0 sets)) limit) e).1 in
     grind (arith, nat_tests)
 
-pub departures-fit : (donl : Bool) (limit : ℕ) (ws : Waiting) (us : List (List ℕ)) → EachUnit HasByte us → Each (IsFitting donl limit) (departures (h265_rules donl) limit ws us)
-departures-fit donl limit = departures-each (h265_rules donl) limit (IsFitting donl limit) HasByte (λ ws ready joins. (some_sets ws ready, sets_within donl limit (sets_in ws) joins)) (λ u some leaves. (some, leaves))
+pub departures-fit : (donl : Bool) (limit : ℕ) (ws : Waiting) (us : List (List ℕ)) → EachUnit HasByte us
+    → Each (IsFitting donl limit) (departures (h265_rules donl) limit ws us)
+departures-fit donl limit = departures-each (h265_rules donl) limit (IsFitting donl limit) HasByte
+    (λ ws ready joins. (some_sets ws ready, sets_within donl limit (sets_in ws) joins))
+    (λ u some leaves. (some, leaves))
 
-pub departures-good : (donl : Bool) (limit : ℕ) (ws : Waiting) (us : List (List ℕ)) → AreSendable us → Each IsGood (departures (h265_rules donl) limit ws us)
-departures-good donl limit = departures-each (h265_rules donl) limit IsGood IsSendable (λ ws ready joins. tt) (λ u is leaves. is)
+pub departures-good : (donl : Bool) (limit : ℕ) (ws : Waiting) (us : List (List ℕ)) → AreSendable us
+    → Each IsGood (departures (h265_rules donl) limit ws us)
+departures-good donl limit = departures-each (h265_rules donl) limit IsGood IsSendable (λ ws ready joins. tt)
+    (λ u is leaves. is)

@@ -1,5 +1,6 @@
 -- What the sender's code makes, piece by piece.
-use Rattle.std.proofs.Common.{◌≡◌, ℕ, ◌-◌, ◌<◌, ◌≤◌, Bool, true, false, eqb, List, ◌∷◌, ◌++◌, length, take, drop, min, sym, ap, ◌∙◌, inl, inr, arith}
+use Rattle.std.proofs.Common.{◌≡◌, ℕ, ◌-◌, ◌<◌, ◌≤◌, Bool, true, false, eqb, List, ◌∷◌, ◌++◌, length, take, drop, min}
+use Rattle.std.proofs.Common.{sym, ap, ◌∙◌, inl, inr, arith}
 use Rattle.std.proofs.lemmas.Bool.{cases_lt}
 use Rattle.std.proofs.lemmas.List.{drop_all, take_all}
 use Rattle.std.proofs.lemmas.List.Concat.{flat_map-append}
@@ -15,32 +16,42 @@ use Rattle.h26x_payload_h265.specs.H265Numbers.{donl_size}
 use Rattle.h26x_payload_h265.specs.H265Packing.{fragment, fragments_of}
 
 -- the packets of what leaves first, and of what leaves then
-pub packets_append : (packets : Numbered → List (List ℕ)) (n : ℕ) (ds es : List Departure) → flat_map packets (numbered n (ds ++ es)) ≡ flat_map packets (numbered n ds) ++ flat_map packets (numbered (number_after n ds) es)
-packets_append packets n ds es = ap (flat_map packets) (numbered_append n ds es) ∙ flat_map-append packets (numbered n ds) (numbered (number_after n ds) es)
+pub packets_append : (packets : Numbered → List (List ℕ)) (n : ℕ) (ds es : List Departure)
+    → flat_map packets (numbered n (ds ++ es)) ≡ flat_map packets (numbered n ds)
+    ++ flat_map packets (numbered (number_after n ds) es)
+packets_append packets n ds es = ap (flat_map packets) (numbered_append n ds es)
+    ∙ flat_map-append packets (numbered n ds) (numbered (number_after n ds) es)
 
 take_min : (n : ℕ) (text : List ℕ) → take (min n (length text)) text ≡ take n text
 take_min n text = elim (cases_lt n (length text)) [
   | inl less ↦ let e : min n (length text) ≡ n = omega arith in ap (λ k. take k text) e
-  | inr more ↦ let e : min n (length text) ≡ length text = omega arith in ap (λ k. take k text) e ∙ take_all (length text) text (omega arith) ∙ sym (take_all n text (omega arith))
+  | inr more ↦ let e : min n (length text) ≡ length text = omega arith in
+      ap (λ k. take k text) e ∙ take_all (length text) text (omega arith) ∙ sym (take_all n text (omega arith))
 ]
 
 drop_min : (n : ℕ) (text : List ℕ) → drop (min n (length text)) text ≡ drop n text
 drop_min n text = elim (cases_lt n (length text)) [
   | inl less ↦ let e : min n (length text) ≡ n = omega arith in ap (λ k. drop k text) e
-  | inr more ↦ let e : min n (length text) ≡ length text = omega arith in ap (λ k. drop k text) e ∙ drop_all (length text) text (omega arith) ∙ sym (drop_all n text (omega arith))
+  | inr more ↦ let e : min n (length text) ≡ length text = omega arith in
+      ap (λ k. drop k text) e ∙ drop_all (length text) text (omega arith) ∙ sym (drop_all n text (omega arith))
 ]
 
 -- the first fragment, and the later ones
-pub fragments_are : (donl : Bool) (limit number high low : ℕ) (unit body part rest : List ℕ) (room : ℕ) (last : Bool) → 4 ≤ limit → unit ≡ high ∷ low ∷ body → room ≡ min (limit - 3 - donl_size donl) (length body)
+pub fragments_are : (donl : Bool) (limit number high low : ℕ) (unit body part rest : List ℕ) (room : ℕ) (last : Bool)
+    → 4 ≤ limit → unit ≡ high ∷ low ∷ body → room ≡ min (limit - 3 - donl_size donl) (length body)
     → part ≡ take room body → rest ≡ drop room body → last ≡ eqb (length rest) 0
-    → fragment donl number high low true last part ∷ in_fragments (fragment donl number high low) false (pieces (limit - 3) rest) ≡ fragments_of donl limit number unit
+    → fragment donl number high low true last part
+    ∷ in_fragments (fragment donl number high low) false (pieces (limit - 3) rest)
+    ≡ fragments_of donl limit number unit
 fragments_are donl limit number high low unit body part rest room last enough unit_is room_is part_is rest_is last_is =
     let size : ℕ = limit - 3 - donl_size donl in
     let some_size : 0 < limit - 3 = omega arith in
     let part_as : part ≡ take size body = part_is ∙ ap (λ n. take n body) room_is ∙ take_min size body in
     let rest_as : rest ≡ drop size body = rest_is ∙ ap (λ n. drop n body) room_is ∙ drop_min size body in
-    let last_as : last ≡ is_none_left (pieces (limit - 3) rest) = last_is ∙ sym (none_left-pieces (limit - 3) rest some_size) in
-    ap (λ b. fragment donl number high low true b part ∷ in_fragments (fragment donl number high low) false (pieces (limit - 3) rest)) last_as
+    let last_as : last ≡ is_none_left (pieces (limit - 3) rest) =
+    last_is ∙ sym (none_left-pieces (limit - 3) rest some_size) in
+    ap (λ b. fragment donl number high low true b part
+    ∷ in_fragments (fragment donl number high low) false (pieces (limit - 3) rest)) last_as
     ∙ ap (λ t. in_fragments (fragment donl number high low) true (t ∷ pieces (limit - 3) rest)) part_as
     ∙ ap (λ t. in_fragments (fragment donl number high low) true (take size body ∷ pieces (limit - 3) t)) rest_as
     ∙ ap (fragments_of donl limit number) (sym unit_is)

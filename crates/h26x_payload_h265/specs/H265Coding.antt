@@ -10,7 +10,8 @@ use Rattle.h26x_payload_units.specs.Departures.{EachUnit, units_sent}
 use Rattle.h26x_payload_units.specs.Fragments.{behind_code}
 use Rattle.h26x_payload_h265.specs.H265Headers.{type_of}
 use Rattle.h26x_payload_h265.specs.H265Numbers.{donl_size}
-use Rattle.h26x_payload_h265.specs.H265Packing.{fragments_of, h265_packing, h265_rules, least_limit, packets_sent}
+use Rattle.h26x_payload_h265.specs.H265Packing.{fragments_of, h265_after, h265_packing, h265_rules, least_limit}
+use Rattle.h26x_payload_h265.specs.H265Packing.{packets_sent}
 use Rattle.h26x_payload_h265.specs.H265Reading.{h265_format}
 
 -- F, the topmost bit of its header, is clear, its type is one of 0 to 47, and it has a byte behind its header.
@@ -38,6 +39,7 @@ h265_coding donl = record {
   IsReached = λ sender. Unit {0};
   IsWellFormed = λ limit sample. AreSendable (units_of sample);
   units = λ sender limit sample. unit_of (h265_units_sent donl sender limit sample);
+  after = h265_after donl;
 }
 
 -- The run had no fault, gave these units, each behind a start code, and left no fragment open.
@@ -53,12 +55,15 @@ KeepsCodecLaw = (donl : Bool) → CodecLaw (h265_coding donl)
 -- A well-formed sample's packets give just the units that are sent of it.
 abbrev pub UnitsLaw : Type 0
 UnitsLaw = (donl : Bool) (s : Sender) (mtu : ℕ) (sample : List ℕ) (extra : CodecExtra) → AreSendable (units_of sample)
-    → GivesUnits (read_all (h265_format donl) None extra (packets_sent donl s mtu sample)) (h265_units_sent donl s mtu sample)
+    → GivesUnits (read_all (h265_format donl) None extra (packets_sent donl s mtu sample))
+    (h265_units_sent donl s mtu sample)
 
 -- No packet of any sample passes the limit, nor 1,200 bytes.
 abbrev pub WithinLaw : Type 0
-WithinLaw = (donl : Bool) (s : Sender) (mtu : ℕ) (sample : List ℕ) → AreWithin (least_limit mtu) (packets_sent donl s mtu sample)
+WithinLaw = (donl : Bool) (s : Sender) (mtu : ℕ) (sample : List ℕ)
+    → AreWithin (least_limit mtu) (packets_sent donl s mtu sample)
 
 -- Each fragment of a unit but the last fills the limit.
 abbrev pub FullLaw : Type 0
-FullLaw = (donl : Bool) (limit number : ℕ) (unit : List ℕ) → 4 + donl_size donl ≤ limit → AreFull limit (fragments_of donl limit number unit)
+FullLaw = (donl : Bool) (limit number : ℕ) (unit : List ℕ) → 4 + donl_size donl ≤ limit
+    → AreFull limit (fragments_of donl limit number unit)

@@ -1,4 +1,5 @@
--- The first bytes of H.265 units and packets: the header of two bytes, which is F, the type in six bits, the layer in six and TID in three, and the FU header, which is S, E and the type (RFC 7798 1.1.4, 4.2 and 4.4.3).
+-- The first bytes of H.265 units and packets: the header of two bytes, which is F, the type in six bits, the layer in
+-- six and TID in three, and the FU header, which is S, E and the type (RFC 7798 1.1.4, 4.2 and 4.4.3).
 use Rattle.std.specs.Prelude.{ℕ, ◌+◌, ◌*◌, ◌/◌, ◌%◌, ◌==◌, ◌&&◌, Bool, List, [], ◌∷◌, nat_le, if◌then◌else◌}
 use Rattle.h26x_payload_h265.specs.declared.headers.PacketKind.{PacketKind}
 use Rattle.h26x_payload_h265.specs.declared.headers.PacketKind.TheVariants.{Single, Aggregate, Fragment, Unhandled}

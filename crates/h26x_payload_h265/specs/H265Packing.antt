@@ -1,5 +1,6 @@
 -- H.265 packets as they are sent (RFC 7798 4.4).
-use Rattle.std.specs.Prelude.{ℕ, ◌+◌, ◌-◌, ◌*◌, ◌/◌, ◌%◌, ◌==◌, ◌&&◌, ◌||◌, Bool, true, List, [], ◌∷◌, ◌++◌, length, take, drop, min, nat_le, Result, Ok, if◌then◌else◌}
+use Rattle.std.specs.Prelude.{ℕ, ◌+◌, ◌-◌, ◌*◌, ◌/◌, ◌%◌, ◌==◌, ◌&&◌, ◌||◌, Bool, true, List, [], ◌∷◌, ◌++◌, length}
+use Rattle.std.specs.Prelude.{take, drop, min, nat_le, Result, Ok, if◌then◌else◌}
 use Rattle.std.specs.List.{flat_map, list_all}
 use Rattle.h26x_payload_annexb.specs.Units.{units_of}
 use Rattle.payload_core_base.specs.Packing.{Packing, Sender, Sent}
@@ -35,38 +36,52 @@ least part (u ∷ v ∷ us) = min (part u) (least part (v ∷ us))
 
 -- An aggregate: type 48 with the least layer and TID, then the units behind their sizes.
 abbrev pub aggregate : Bool → ℕ → List (List ℕ) → List ℕ
-aggregate donl number units = (96 + least layer_of units / 32) ∷ (least layer_of units % 32 * 8 + least tid_of units) ∷ in_aggregate (donl_bytes donl number) (dond_bytes donl) units
+aggregate donl number units = (96 + least layer_of units / 32) ∷ (least layer_of units % 32 * 8 + least tid_of units)
+    ∷ in_aggregate (donl_bytes donl number) (dond_bytes donl) units
 
 -- A unit alone: as it is, or with its number behind its header, if it has more than that.
 abbrev pub single : Bool → ℕ → List ℕ → List ℕ
-single donl number unit = if nat_le (length unit) 2 then unit else take 2 unit ++ (donl_bytes donl number ++ drop 2 unit)
+single donl number unit = if nat_le (length unit) 2 then unit
+    else take 2 unit ++ (donl_bytes donl number ++ drop 2 unit)
 
 -- Two bytes hold each size, and the aggregate is within the limit.
 abbrev pub can_join : Bool → ℕ → List (List ℕ) → Bool
-can_join donl limit units = list_all (λ unit. nat_le (length unit) 65535) units && nat_le (length (aggregate donl 0 units)) limit
+can_join donl limit units = list_all (λ unit. nat_le (length unit) 65535) units
+    && nat_le (length (aggregate donl 0 units)) limit
 
 -- A unit is within the limit, or the limit leaves room behind a fragment's header and number.
 abbrev pub can_leave : Bool → ℕ → List ℕ → Bool
 can_leave donl limit unit = nat_le (length (single donl 0 unit)) limit || nat_le (4 + donl_size donl) limit
 
 abbrev pub h265_rules : Bool → Rules
-h265_rules donl = record { role = λ unit. role_by (unit_type unit); needed = true ∷ true ∷ true ∷ []; can_join = can_join donl; can_leave = can_leave donl }
+h265_rules donl = record {
+  role = λ unit. role_by (unit_type unit);
+  needed = true ∷ true ∷ true ∷ [];
+  can_join =
+      can_join donl;
+  can_leave = can_leave donl;
+}
 
--- A fragment: the unit's header with type 49, then S, E and the unit's type, then, in the first, the unit's number, then a part of the unit.
+-- A fragment: the unit's header with type 49, then S, E and the unit's type, then, in the first, the unit's number,
+-- then a part of the unit.
 abbrev pub fragment : Bool → ℕ → ℕ → ℕ → Bool → Bool → List ℕ → List ℕ
-fragment donl number high low first last part = with_type high 49 ∷ low ∷ fu_byte first last (type_of high) ∷ (donl_bytes (first && donl) number ++ part)
+fragment donl number high low first last part = with_type high 49 ∷ low ∷ fu_byte first last (type_of high)
+    ∷ (donl_bytes (first && donl) number ++ part)
 
 -- The parts of a unit behind its header, which fill the limit behind what stands before them.
 abbrev pub parts_of : Bool → ℕ → List ℕ → List (List ℕ)
-parts_of donl limit body = take (limit - 3 - donl_size donl) body ∷ pieces (limit - 3) (drop (limit - 3 - donl_size donl) body)
+parts_of donl limit body = take (limit - 3 - donl_size donl) body
+    ∷ pieces (limit - 3) (drop (limit - 3 - donl_size donl) body)
 
 abbrev pub fragments_of : Bool → ℕ → ℕ → List ℕ → List (List ℕ)
 fragments_of donl limit number [] = []
 fragments_of donl limit number (high ∷ []) = []
-fragments_of donl limit number (high ∷ low ∷ body) = in_fragments (fragment donl number high low) true (parts_of donl limit body)
+fragments_of donl limit number (high ∷ low ∷ body) =
+    in_fragments (fragment donl number high low) true (parts_of donl limit body)
 
 abbrev pub alone_packets : Bool → ℕ → ℕ → List ℕ → List (List ℕ)
-alone_packets donl limit number unit = if nat_le (length (single donl number unit)) limit then single donl number unit ∷ [] else fragments_of donl limit number unit
+alone_packets donl limit number unit = if nat_le (length (single donl number unit)) limit
+    then single donl number unit ∷ [] else fragments_of donl limit number unit
 
 abbrev pub departure_packets : Bool → ℕ → ℕ → Departure → List (List ℕ)
 departure_packets donl limit number (Together sets) = aggregate donl number sets ∷ []
@@ -85,13 +100,21 @@ abbrev pub leaving : Bool → Sender → ℕ → List ℕ → List Departure
 leaving donl s mtu sample = departures (h265_rules donl) (least_limit mtu) s.waiting (units_of sample)
 
 abbrev pub packets_sent : Bool → Sender → ℕ → List ℕ → List (List ℕ)
-packets_sent donl s mtu sample = flat_map (packets_of donl (least_limit mtu)) (numbered s.number (leaving donl s mtu sample))
+packets_sent donl s mtu sample = flat_map (packets_of donl (least_limit mtu))
+    (numbered s.number (leaving donl s mtu sample))
+
+-- The number of the next unit, and the sets that wait then.
+abbrev pub h265_after : Bool → Sender → ℕ → List ℕ → Sender
+h265_after donl s mtu sample = record {
+  number = number_after s.number (leaving donl s mtu sample);
+  waiting = waiting_after (h265_rules donl) s.waiting (units_of sample);
+}
 
 -- The packets of what leaves, and the number of the next unit and the sets that wait then.
 abbrev pub pack_h265 : Bool → Sender → ℕ → List ℕ → Result Sent PacketError
 pack_h265 donl s mtu sample = Ok (record {
   packets = packets_sent donl s mtu sample;
-  sender = record { number = number_after s.number (leaving donl s mtu sample); waiting = waiting_after (h265_rules donl) s.waiting (units_of sample) };
+  sender = h265_after donl s mtu sample;
 })
 
 -- The last packet of a sample has the marker.

@@ -1,6 +1,8 @@
 //! Reading H.265 payloads (RFC 7798 4.4).
 
-ghost use Rattle.h26x_payload_h265.specs.H265Reading.{Adds, begins_by, given, given_by, given_fragment, h265_format, holds_irap, is_cut_short, is_irap_unit, shows_irap, starts_irap, aggregated_in, was_keyframe};
+ghost use Rattle.h26x_payload_h265.specs.H265Reading.{Adds, begins_by, given, given_by, given_fragment, h265_format};
+ghost use Rattle.h26x_payload_h265.specs.H265Reading.{is_cut_short, is_irap_unit, shows_irap, starts_irap};
+ghost use Rattle.h26x_payload_h265.specs.H265Reading.{aggregated_in, was_keyframe};
 ghost use Rattle.h26x_payload_units.specs.Aggregates.{aggregated};
 ghost use Rattle.std.specs.List.{list_any};
 ghost use Rattle.std.specs.Prelude.{◌≡◌, ◌≢◌, Err, IfErr, None, OnErr, OnOk, false};
@@ -52,26 +54,16 @@ fn has_irap(lead: usize, later: usize, body: &[u8]) -> bool
     false
 }
 
-// Whether an aggregate, behind its first byte, holds a unit of a random access picture.
-fn holds_irap(donl: bool, rest: &[u8]) -> bool
-    ensures { result ≡ holds_irap donl rest.now }
+// Whether a fragment, behind its header, starts a unit of a random access picture.
+fn starts_irap(body: &[u8]) -> bool
+    ensures { result ≡ starts_irap body.now }
 {
-    match rest.split_first() {
-        Some((_, body)) => has_irap(donl_size(donl), dond_size(donl), body),
-        None => false,
-    }
-}
-
-// Whether a fragment, behind its first byte, starts a unit of a random access picture.
-fn starts_irap(rest: &[u8]) -> bool
-    ensures { result ≡ starts_irap rest.now }
-{
-    match rest {
-        [_, fu, ..] => {
+    match body.first() {
+        Some(fu) => {
             let fu = H265FragmentationUnitHeader(*fu);
             fu.s() && is_irap(fu.fu_type())
         }
-        _ => false,
+        None => false,
     }
 }
 
@@ -82,16 +74,20 @@ fn shows_irap(donl: bool, packet: &[u8]) -> bool
     let Some((high, rest)) = packet.split_first() else {
         return false;
     };
+    let Some((_, body)) = rest.split_first() else {
+        return false;
+    };
     match kind_of(*high) {
         PacketKind::Single => is_irap(type_of(*high)),
-        PacketKind::Aggregate => holds_irap(donl, rest),
-        PacketKind::Fragment => starts_irap(rest),
+        PacketKind::Aggregate => has_irap(donl_size(donl), dond_size(donl), body),
+        PacketKind::Fragment => starts_irap(body),
         PacketKind::Unhandled => false,
     }
 }
 
 /// Whether a packet without decoding order numbers shows a random access picture, types 16 to 23 (ITU-T H.265 table
-/// 7-1): is a unit of one, aggregates one before any fault, or is the first fragment of one.
+/// 7-1): is a unit of one, aggregates one before any fault, or is the first fragment of one. A packet without its
+/// whole header of two bytes shows none.
 pub fn detect_h265_keyframe(packet: &[u8]) -> bool
     ensures { result ≡ shows_irap false packet.now }
 {

@@ -2,15 +2,18 @@
 
 ghost use Rattle.h26x_payload_annexb.specs.Units.{units_of};
 ghost use Rattle.h26x_payload_h265.specs.H265Numbers.{donl_size};
-ghost use Rattle.h26x_payload_h265.specs.H265Packing.{fragment, fragments_of, h265_packing, h265_rules, packets_of, role_by, unit_type};
+ghost use Rattle.h26x_payload_h265.specs.H265Packing.{fragment, fragments_of, h265_packing, h265_rules, packets_of};
+ghost use Rattle.h26x_payload_h265.specs.H265Packing.{role_by, unit_type};
 ghost use Rattle.h26x_payload_h265.specs.H265Waiting.{waiting_in};
-ghost use Rattle.h26x_payload_units.specs.Departures.{alone, departing, departures, together, waiting_after, waiting_behind};
+ghost use Rattle.h26x_payload_units.specs.Departures.{alone, departing, departures, together, waiting_after};
+ghost use Rattle.h26x_payload_units.specs.Departures.{waiting_behind};
 ghost use Rattle.h26x_payload_units.specs.Departures.Role.{Leaves};
 ghost use Rattle.h26x_payload_units.specs.Fragments.{in_fragments};
 ghost use Rattle.h26x_payload_units.specs.Numbers.{number_after, numbered};
 ghost use Rattle.payload_core_base.specs.Pieces.{pieces};
 ghost use Rattle.std.specs.List.{flat_map};
-ghost use Rattle.std.specs.Prelude.{[], ◌∷◌, ◌≡◌, ◌++◌, ◌+◌, ◌-◌, ◌≤◌, IfErr, IfOk, None, OnOk, false, length, map, option_map};
+ghost use Rattle.std.specs.Prelude.{[], ◌∷◌, ◌≡◌, ◌++◌, ◌+◌, ◌-◌, ◌≤◌, IfErr, IfOk, None, OnOk, false, length, map};
+ghost use Rattle.std.specs.Prelude.{option_map};
 
 use crate::constants::{
     AUD_NALU_TYPE, FILLER_NALU_TYPE, FRAGMENT_HEADER_SIZE, MAX_PACKET_SIZE, NALU_HEADER_SIZE,
@@ -71,8 +74,11 @@ fn push_together(
     pps: &[u8],
     packets: &mut Vec<Vec<u8>>,
 ) -> Result<u16, PacketError>
-    ensures packets { OnOk result (map (λ p. p.items) packets.new.items ≡ map (λ p. p.items) packets.old.items ++ flat_map (packets_of form.donl form.limit) (numbered number (together (h265_rules form.donl) form.limit (vps.now ∷ sps.now ∷ pps.now ∷ [])))) }
-    ensures number { IfOk result (λ n. n ≡ number_after number (together (h265_rules form.donl) form.limit (vps.now ∷ sps.now ∷ pps.now ∷ []))) }
+    ensures packets { OnOk result (map (λ p. p.items) packets.new.items ≡ map (λ p. p.items) packets.old.items
+        ++ flat_map (packets_of form.donl form.limit)
+        (numbered number (together (h265_rules form.donl) form.limit (vps.now ∷ sps.now ∷ pps.now ∷ [])))) }
+    ensures number { IfOk result (λ n. n ≡ number_after number
+        (together (h265_rules form.donl) form.limit (vps.now ∷ sps.now ∷ pps.now ∷ []))) }
     ensures memory { IfErr result (λ e. e ≡ PacketError.Memory) }
 {
     if vps.len() > MAX_AGGREGATED || sps.len() > MAX_AGGREGATED || pps.len() > MAX_AGGREGATED {
@@ -96,7 +102,8 @@ fn push_later_fragments(
     packets: &mut Vec<Vec<u8>>,
 ) -> Result<(), PacketError>
     requires { 4 ≤ form.limit }
-    ensures packets { OnOk result (map (λ p. p.items) packets.new.items ≡ map (λ p. p.items) packets.old.items ++ in_fragments (fragment form.donl cut.number cut.high cut.low) false (pieces (form.limit - 3) rest.now)) }
+    ensures packets { OnOk result (map (λ p. p.items) packets.new.items ≡ map (λ p. p.items) packets.old.items
+        ++ in_fragments (fragment form.donl cut.number cut.high cut.low) false (pieces (form.limit - 3) rest.now)) }
     ensures memory { IfErr result (λ e. e ≡ PacketError.Memory) }
 {
     let mut left = rest.len();
@@ -115,7 +122,8 @@ fn push_fragments(
     packets: &mut Vec<Vec<u8>>,
 ) -> Result<(), PacketError>
     requires { 4 + donl_size form.donl ≤ form.limit }
-    ensures packets { OnOk result (map (λ p. p.items) packets.new.items ≡ map (λ p. p.items) packets.old.items ++ fragments_of form.donl form.limit number unit.now) }
+    ensures packets { OnOk result (map (λ p. p.items) packets.new.items ≡ map (λ p. p.items) packets.old.items
+        ++ fragments_of form.donl form.limit number unit.now) }
     ensures memory { IfErr result (λ e. e ≡ PacketError.Memory) }
 {
     let Some((high, rest)) = unit.split_first() else {
@@ -142,7 +150,9 @@ fn push_alone(
     unit: &[u8],
     packets: &mut Vec<Vec<u8>>,
 ) -> Result<u16, PacketError>
-    ensures packets { OnOk result (map (λ p. p.items) packets.new.items ≡ map (λ p. p.items) packets.old.items ++ flat_map (packets_of form.donl form.limit) (numbered number (alone (h265_rules form.donl) form.limit unit.now))) }
+    ensures packets { OnOk result (map (λ p. p.items) packets.new.items ≡ map (λ p. p.items) packets.old.items
+        ++ flat_map (packets_of form.donl form.limit)
+        (numbered number (alone (h265_rules form.donl) form.limit unit.now))) }
     ensures number { IfOk result (λ n. n ≡ number_after number (alone (h265_rules form.donl) form.limit unit.now)) }
     ensures memory { IfErr result (λ e. e ≡ PacketError.Memory) }
 {
@@ -164,9 +174,15 @@ fn push_leaving<'a>(
     kept: Kept<'a>,
     packets: &mut Vec<Vec<u8>>,
 ) -> Result<Kept<'a>, PacketError>
-    ensures packets { OnOk result (map (λ p. p.items) packets.new.items ≡ map (λ p. p.items) packets.old.items ++ flat_map (packets_of form.donl form.limit) (numbered kept.entry.number (departing (h265_rules form.donl) form.limit Leaves (waiting_in kept.entry) unit.now))) }
-    ensures number { IfOk result (λ k. k.number ≡ number_after kept.entry.number (departing (h265_rules form.donl) form.limit Leaves (waiting_in kept.entry) unit.now)) }
-    ensures waiting { IfOk result (λ k. waiting_in k ≡ waiting_behind (h265_rules form.donl) Leaves (waiting_in kept.entry) unit.now) }
+    ensures packets { OnOk result (map (λ p. p.items) packets.new.items ≡ map (λ p. p.items) packets.old.items
+        ++ flat_map (packets_of form.donl form.limit)
+        (numbered kept.entry.number (departing (h265_rules form.donl) form.limit Leaves (waiting_in kept.entry)
+        unit.now))) }
+    ensures number { IfOk result (λ k. k.number
+        ≡ number_after kept.entry.number (departing (h265_rules form.donl) form.limit Leaves (waiting_in kept.entry)
+        unit.now)) }
+    ensures waiting { IfOk result (λ k. waiting_in k
+        ≡ waiting_behind (h265_rules form.donl) Leaves (waiting_in kept.entry) unit.now) }
     ensures memory { IfErr result (λ e. e ≡ PacketError.Memory) }
 {
     let Some(vps) = kept.vps else {
@@ -195,8 +211,11 @@ fn push_without<'a>(
     kept: Kept<'a>,
     packets: &mut Vec<Vec<u8>>,
 ) -> Result<Kept<'a>, PacketError>
-    ensures packets { OnOk result (map (λ p. p.items) packets.new.items ≡ map (λ p. p.items) packets.old.items ++ flat_map (packets_of form.donl form.limit) (numbered kept.entry.number (alone (h265_rules form.donl) form.limit unit.now))) }
-    ensures number { IfOk result (λ k. k.number ≡ number_after kept.entry.number (alone (h265_rules form.donl) form.limit unit.now)) }
+    ensures packets { OnOk result (map (λ p. p.items) packets.new.items ≡ map (λ p. p.items) packets.old.items
+        ++ flat_map (packets_of form.donl form.limit)
+        (numbered kept.entry.number (alone (h265_rules form.donl) form.limit unit.now))) }
+    ensures number { IfOk result (λ k. k.number
+        ≡ number_after kept.entry.number (alone (h265_rules form.donl) form.limit unit.now)) }
     ensures waiting { IfOk result (λ k. waiting_in k ≡ waiting_in kept.entry) }
     ensures memory { IfErr result (λ e. e ≡ PacketError.Memory) }
 {
@@ -216,9 +235,15 @@ fn push_unit<'a>(
     kept: Kept<'a>,
     packets: &mut Vec<Vec<u8>>,
 ) -> Result<Kept<'a>, PacketError>
-    ensures packets { OnOk result (map (λ p. p.items) packets.new.items ≡ map (λ p. p.items) packets.old.items ++ flat_map (packets_of form.donl form.limit) (numbered kept.entry.number (departing (h265_rules form.donl) form.limit (role_by (unit_type unit.now)) (waiting_in kept.entry) unit.now))) }
-    ensures number { IfOk result (λ k. k.number ≡ number_after kept.entry.number (departing (h265_rules form.donl) form.limit (role_by (unit_type unit.now)) (waiting_in kept.entry) unit.now)) }
-    ensures waiting { IfOk result (λ k. waiting_in k ≡ waiting_behind (h265_rules form.donl) (role_by (unit_type unit.now)) (waiting_in kept.entry) unit.now) }
+    ensures packets { OnOk result (map (λ p. p.items) packets.new.items ≡ map (λ p. p.items) packets.old.items
+        ++ flat_map (packets_of form.donl form.limit)
+        (numbered kept.entry.number (departing (h265_rules form.donl) form.limit (role_by (unit_type unit.now))
+        (waiting_in kept.entry) unit.now))) }
+    ensures number { IfOk result (λ k. k.number
+        ≡ number_after kept.entry.number (departing (h265_rules form.donl) form.limit (role_by (unit_type unit.now))
+        (waiting_in kept.entry) unit.now)) }
+    ensures waiting { IfOk result (λ k. waiting_in k
+        ≡ waiting_behind (h265_rules form.donl) (role_by (unit_type unit.now)) (waiting_in kept.entry) unit.now) }
     ensures memory { IfErr result (λ e. e ≡ PacketError.Memory) }
 {
     match unit_type(unit) {
@@ -252,9 +277,15 @@ fn push_units<'a>(
     kept: Kept<'a>,
     packets: &mut Vec<Vec<u8>>,
 ) -> Result<Kept<'a>, PacketError>
-    ensures packets { OnOk result (map (λ p. p.items) packets.new.items ≡ map (λ p. p.items) packets.old.items ++ flat_map (packets_of form.donl form.limit) (numbered kept.entry.number (departures (h265_rules form.donl) form.limit (waiting_in kept.entry) (units_of sample.now)))) }
-    ensures number { IfOk result (λ k. k.number ≡ number_after kept.entry.number (departures (h265_rules form.donl) form.limit (waiting_in kept.entry) (units_of sample.now))) }
-    ensures waiting { IfOk result (λ k. waiting_in k ≡ waiting_after (h265_rules form.donl) (waiting_in kept.entry) (units_of sample.now)) }
+    ensures packets { OnOk result (map (λ p. p.items) packets.new.items ≡ map (λ p. p.items) packets.old.items
+        ++ flat_map (packets_of form.donl form.limit)
+        (numbered kept.entry.number (departures (h265_rules form.donl) form.limit (waiting_in kept.entry)
+        (units_of sample.now)))) }
+    ensures number { IfOk result (λ k. k.number
+        ≡ number_after kept.entry.number (departures (h265_rules form.donl) form.limit (waiting_in kept.entry)
+        (units_of sample.now))) }
+    ensures waiting { IfOk result (λ k. waiting_in k
+        ≡ waiting_after (h265_rules form.donl) (waiting_in kept.entry) (units_of sample.now)) }
     ensures memory { IfErr result (λ e. e ≡ PacketError.Memory) }
 {
     let mut kept = kept;
@@ -320,7 +351,11 @@ impl H265Packetizer {
 impl Packetizer for H265Packetizer {
     ghost packing = { λ p. h265_packing p.donl };
 
-    ghost sender = { λ p. record { number = p.number; waiting = option_map (λ v. v.items) p.vps ∷ option_map (λ v. v.items) p.sps ∷ option_map (λ v. v.items) p.pps ∷ [] } };
+    ghost sender = { λ p. record {
+      number = p.number;
+      waiting =
+          option_map (λ v. v.items) p.vps ∷ option_map (λ v. v.items) p.sps ∷ option_map (λ v. v.items) p.pps ∷ [];
+    } };
 
     fn packetize(
         &mut self,

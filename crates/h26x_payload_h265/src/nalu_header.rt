@@ -1,6 +1,7 @@
 //! The header of an H.265 unit or packet, and that of a fragment (RFC 7798 1.1.4 and 4.4.3).
 
-ghost use Rattle.h26x_payload_h265.specs.H265Headers.{fu_byte, fu_type, has_end, has_start, header_word, is_idr, is_irap, word_has_f, word_layer, word_tid, word_type};
+ghost use Rattle.h26x_payload_h265.specs.H265Headers.{fu_byte, fu_type, has_end, has_start, header_word, is_idr};
+ghost use Rattle.h26x_payload_h265.specs.H265Headers.{is_irap, word_has_f, word_layer, word_tid, word_type};
 ghost use Rattle.std.specs.Prelude.{◌≡◌, ◌<◌, ◌==◌, nat_lt};
 
 use crate::constants::{AGGREGATION_PACKET_TYPE, FRAGMENTATION_UNIT_TYPE, PACI_PACKET_TYPE};

@@ -1,5 +1,6 @@
 -- Which units fragments write.
-use Rattle.std.proofs.Common.{◌≡◌, ℕ, Bool, true, false, List, [], ◌∷◌, ◌++◌, None, Some, Ok, Err, Option, Result, if◌then◌else◌, refl, sym, ap, subst, ◌∙◌}
+use Rattle.std.proofs.Common.{◌≡◌, ℕ, Bool, true, false, List, [], ◌∷◌, ◌++◌, None, Some, Ok, Err, Option, Result}
+use Rattle.std.proofs.Common.{if◌then◌else◌, refl, sym, ap, subst, ◌∙◌}
 use Rattle.std.specs.Prelude.{◌||◌}
 use mathlib.Core.Bool.{false≢true}
 use Rattle.std.proofs.lemmas.List.{append-nil}
@@ -8,12 +9,15 @@ use Rattle.payload_core_base.specs.declared.error.PacketError.{PacketError}
 use Rattle.payload_core_base.specs.declared.extra.CodecExtra.{CodecExtra}
 use Rattle.payload_core_base.specs.declared.extra.CodecExtra.TheVariants.{H266}
 use Rattle.h26x_payload_h266.specs.declared.headers.PacketKind.{PacketKind}
-use Rattle.h26x_payload_h266.specs.declared.headers.PacketKind.TheVariants.{Single, Aggregate, Fragment as FragmentKind, Unhandled}
+use Rattle.h26x_payload_h266.specs.declared.headers.PacketKind.TheVariants.{Single, Aggregate}
+use Rattle.h26x_payload_h266.specs.declared.headers.PacketKind.TheVariants.{Fragment as FragmentKind, Unhandled}
 use Rattle.h26x_payload_units.specs.declared.aggregates.AggregateFault.{AggregateFault}
-use Rattle.h26x_payload_units.specs.Fragments.{gone_on, open_after, put_behind, written_at}
-use Rattle.h26x_payload_h266.specs.H266Fragments.{FragmentLaw, ends_by, h266_view, header_by, is_fragment, is_fragment_kind, part_by, run_of, starts_by}
+use Rattle.h26x_payload_units.specs.Fragments.{continued, open_after, put_behind, written_at}
+use Rattle.h26x_payload_h266.specs.H266Fragments.{FragmentLaw, ends_by, h266_view, header_by, is_fragment}
+use Rattle.h26x_payload_h266.specs.H266Fragments.{is_fragment_kind, part_by, run_of, starts_by}
 use Rattle.h26x_payload_h266.specs.H266Headers.{has_f, kind_of}
-use Rattle.h26x_payload_h266.specs.H266Reading.{Given, aggregated_in, given, given_by, given_from, given_units, h266_format, is_cut_short, shows_irap, told, was_keyframe}
+use Rattle.h26x_payload_h266.specs.H266Reading.{Given, aggregated_in, given, given_by, given_from, given_units}
+use Rattle.h26x_payload_h266.specs.H266Reading.{h266_format, is_cut_short, shows_irap, extra_after, was_keyframe}
 use Rattle.h26x_payload_units.specs.FragmentRuns.{WritesComplete, open_behind, open_behind_all, written_by}
 use Rattle.h26x_payload_units.proofs.FragmentRunLemmas.{fragments_law}
 
@@ -35,32 +39,39 @@ unfolding is_ok
 refused_not e g is = absurd (false≢true (ap is_ok is))
 
 -- an accepted packet was not refused for its length or for F
-accepted : (short forbidden : Bool) (e d : PacketError) (r : Result Given PacketError) (g : Given) → (if short then Err e else (if forbidden then Err d else r)) ≡ Ok g → r ≡ Ok g
+accepted : (short forbidden : Bool) (e d : PacketError) (r : Result Given PacketError) (g : Given)
+    → (if short then Err e else (if forbidden then Err d else r)) ≡ Ok g → r ≡ Ok g
 accepted true forbidden e d r g is = refused_not e g is
 accepted false true e d r g is = refused_not d g is
 accepted false false e d r g is = is
 
-nothing_goes_on : (f : Fragment) → f ≡ gone_on f []
+nothing_goes_on : (f : Fragment) → f ≡ continued f []
 nothing_goes_on None = refl
 nothing_goes_on (Some w) = ap Some (sym (append-nil w))
 
-units_open : (f : Fragment) (units : List (List ℕ)) (fault : Option AggregateFault) (g : Given) → given_units f units fault ≡ Ok g → g.fragment ≡ f
+units_open : (f : Fragment) (units : List (List ℕ)) (fault : Option AggregateFault) (g : Given)
+    → given_units f units fault ≡ Ok g → g.fragment ≡ f
 unfolding open_of
 units_open f units None g is = sym (ap open_of is)
 units_open f units (Some e) g is = refused_not _ g is
 
 -- the open unit after a packet of each kind
-open_by : (donl : Bool) (kind : PacketKind) (f : Fragment) (high low : ℕ) (body : List ℕ) (g : Given) → given_by donl kind f high low body ≡ Ok g
-    → g.fragment ≡ open_after (ends_by kind body) (put_behind (starts_by kind body) (header_by kind high low body) (part_by donl kind body) f)
+open_by : (donl : Bool) (kind : PacketKind) (f : Fragment) (high low : ℕ) (body : List ℕ) (g : Given)
+    → given_by donl kind f high low body ≡ Ok g
+    → g.fragment ≡ open_after (ends_by kind body)
+    (put_behind (starts_by kind body) (header_by kind high low body) (part_by donl kind body) f)
 unfolding open_of
 open_by donl Single f high low body g is = sym (ap open_of is) ∙ nothing_goes_on f
-open_by donl Aggregate f high low body g is = units_open f (aggregated_in donl body).units (aggregated_in donl body).fault g is ∙ nothing_goes_on f
+open_by donl Aggregate f high low body g is =
+    units_open f (aggregated_in donl body).units (aggregated_in donl body).fault g is ∙ nothing_goes_on f
 open_by donl FragmentKind f high low [] g is = refused_not _ g is
 open_by donl FragmentKind f high low (fu ∷ part) g is = sym (ap open_of is)
 open_by donl Unhandled f high low body g is = refused_not _ g is
 
-written_in : (donl : Bool) (kind : PacketKind) (f : Fragment) (high low : ℕ) (body : List ℕ) (g : Given) → is_fragment_kind kind ≡ true → given_by donl kind f high low body ≡ Ok g
-    → g.written ≡ written_at (ends_by kind body) (put_behind (starts_by kind body) (header_by kind high low body) (part_by donl kind body) f)
+written_in : (donl : Bool) (kind : PacketKind) (f : Fragment) (high low : ℕ) (body : List ℕ) (g : Given)
+    → is_fragment_kind kind ≡ true → given_by donl kind f high low body ≡ Ok g
+    → g.written ≡ written_at (ends_by kind body)
+    (put_behind (starts_by kind body) (header_by kind high low body) (part_by donl kind body) f)
 unfolding written_of
 written_in donl Single f high low body g fragment is = absurd (false≢true fragment)
 written_in donl Aggregate f high low body g fragment is = absurd (false≢true fragment)
@@ -68,18 +79,24 @@ written_in donl FragmentKind f high low [] g fragment is = refused_not _ g is
 written_in donl FragmentKind f high low (fu ∷ part) g fragment is = sym (ap written_of is)
 written_in donl Unhandled f high low body g fragment is = absurd (false≢true fragment)
 
-by_kind : (donl : Bool) (kind : PacketKind) (f : Fragment) (high low : ℕ) (body : List ℕ) (g : Given) → given_from donl kind f high low body ≡ Ok g → given_by donl kind f high low body ≡ Ok g
-by_kind donl kind f high low body g is = accepted (is_cut_short donl kind body) (has_f high) _ _ (given_by donl kind f high low body) g is
+by_kind : (donl : Bool) (kind : PacketKind) (f : Fragment) (high low : ℕ) (body : List ℕ) (g : Given)
+    → given_from donl kind f high low body ≡ Ok g → given_by donl kind f high low body ≡ Ok g
+by_kind donl kind f high low body g is =
+    accepted (is_cut_short donl kind body) (has_f high) _ _ (given_by donl kind f high low body) g is
 
-open_is : (donl : Bool) (f : Fragment) (p : List ℕ) (g : Given) → given donl f p ≡ Ok g → g.fragment ≡ open_behind (h266_view donl) p f
+open_is : (donl : Bool) (f : Fragment) (p : List ℕ) (g : Given) → given donl f p ≡ Ok g → g.fragment
+    ≡ open_behind (h266_view donl) p f
 open_is donl f [] g is = refused_not _ g is
 open_is donl f (high ∷ []) g is = refused_not _ g is
-open_is donl f (high ∷ low ∷ body) g is = open_by donl (kind_of low) f high low body g (by_kind donl (kind_of low) f high low body g is)
+open_is donl f (high ∷ low ∷ body) g is =
+    open_by donl (kind_of low) f high low body g (by_kind donl (kind_of low) f high low body g is)
 
-written_is : (donl : Bool) (f : Fragment) (p : List ℕ) (g : Given) → is_fragment p ≡ true → given donl f p ≡ Ok g → g.written ≡ written_by (h266_view donl) p f
+written_is : (donl : Bool) (f : Fragment) (p : List ℕ) (g : Given) → is_fragment p ≡ true → given donl f p ≡ Ok g
+    → g.written ≡ written_by (h266_view donl) p f
 written_is donl f [] g fragment is = refused_not _ g is
 written_is donl f (high ∷ []) g fragment is = refused_not _ g is
-written_is donl f (high ∷ low ∷ body) g fragment is = written_in donl (kind_of low) f high low body g fragment (by_kind donl (kind_of low) f high low body g is)
+written_is donl f (high ∷ low ∷ body) g fragment is =
+    written_in donl (kind_of low) f high low body g fragment (by_kind donl (kind_of low) f high low body g is)
 
 abbrev keyframe_of : Bool → CodecExtra → List ℕ → Bool
 keyframe_of donl extra p = was_keyframe extra || shows_irap donl p
@@ -92,18 +109,25 @@ fault_of (Some e) = true
 abbrev rest_of : Bool → List (List ℕ) → Fragment → CodecExtra → Run
 rest_of donl ps f extra = read_all (h266_format donl) f extra ps
 
-run_after_packet : (donl : Bool) (p : List ℕ) (ps : List (List ℕ)) (f : Fragment) (extra : CodecExtra) (r : Result Given PacketError) → given donl f p ≡ r
-    → ((g : Given) (x : CodecExtra) → (rest_of donl ps g.fragment x).fault ≡ None → (rest_of donl ps g.fragment x).fragment ≡ open_behind_all (h266_view donl) ps g.fragment)
-    → (run_after f extra (told (keyframe_of donl extra p) r) (rest_of donl ps)).fault ≡ None
-    → (run_after f extra (told (keyframe_of donl extra p) r) (rest_of donl ps)).fragment ≡ open_behind_all (h266_view donl) ps (open_behind (h266_view donl) p f)
+run_after_packet : (donl : Bool) (p : List ℕ) (ps : List (List ℕ)) (f : Fragment) (extra : CodecExtra)
+    (r : Result Given PacketError) → given donl f p ≡ r
+    → ((g : Given) (x : CodecExtra) → (rest_of donl ps g.fragment x).fault ≡ None
+    → (rest_of donl ps g.fragment x).fragment ≡ open_behind_all (h266_view donl) ps g.fragment)
+    → (run_after f extra (extra_after (keyframe_of donl extra p) r) (rest_of donl ps)).fault ≡ None
+    → (run_after f extra (extra_after (keyframe_of donl extra p) r) (rest_of donl ps)).fragment
+    ≡ open_behind_all (h266_view donl) ps (open_behind (h266_view donl) p f)
 unfolding fault_of
 run_after_packet donl p ps f extra (Err e) is later none = absurd (false≢true (ap fault_of (sym none)))
-run_after_packet donl p ps f extra (Ok g) is later none = later g (H266 (record { is_keyframe = keyframe_of donl extra p })) none ∙ ap (open_behind_all (h266_view donl) ps) (open_is donl f p g is)
+run_after_packet donl p ps f extra (Ok g) is later none =
+    later g (H266 (record { is_keyframe = keyframe_of donl extra p })) none
+    ∙ ap (open_behind_all (h266_view donl) ps) (open_is donl f p g is)
 
 -- packets without a refusal leave open what their fragments do
-run_open : (donl : Bool) (ps : List (List ℕ)) (f : Fragment) (extra : CodecExtra) → (rest_of donl ps f extra).fault ≡ None → (rest_of donl ps f extra).fragment ≡ open_behind_all (h266_view donl) ps f
+run_open : (donl : Bool) (ps : List (List ℕ)) (f : Fragment) (extra : CodecExtra) → (rest_of donl ps f extra).fault
+    ≡ None → (rest_of donl ps f extra).fragment ≡ open_behind_all (h266_view donl) ps f
 run_open donl [] f extra none = refl
-run_open donl (p ∷ ps) f extra none = run_after_packet donl p ps f extra (given donl f p) refl (λ g x left. run_open donl ps g.fragment x left) none
+run_open donl (p ∷ ps) f extra none = run_after_packet donl p ps f extra (given donl f p) refl
+    (λ g x left. run_open donl ps g.fragment x left) none
 
 reading_of : Result Reading PacketError → List ℕ
 reading_of (Ok r) = r.written
@@ -114,7 +138,8 @@ is_read (Ok r) = true
 is_read (Err e) = false
 
 -- an accepted packet gave what was read
-gave : (r : Result Given PacketError) (k : Bool) (reading : Reading) → told k r ≡ Ok reading → (g : Given) × ((r ≡ Ok g) × (reading.written ≡ g.written))
+gave : (r : Result Given PacketError) (k : Bool) (reading : Reading) → extra_after k r ≡ Ok reading → (g : Given)
+    × ((r ≡ Ok g) × (reading.written ≡ g.written))
 unfolding reading_of is_read
 gave (Ok g) k reading is = (g, (refl, sym (ap reading_of is)))
 gave (Err e) k reading is = absurd (false≢true (ap is_read is))
@@ -124,4 +149,6 @@ fragment_law donl ps last extra after reading none fragment is =
     let f : Fragment = (run_of donl ps extra).fragment in
     let g = gave (given donl f last) (keyframe_of donl after last) reading is in
     let open_is : f ≡ open_behind_all (h266_view donl) ps None = run_open donl ps None extra none in
-    subst (WritesComplete (h266_view donl) (ps ++ last ∷ [])) (sym (g.1.1 ∙ written_is donl f last g.0 fragment g.1.0 ∙ ap (written_by (h266_view donl) last) open_is)) (fragments_law (h266_view donl) ps last)
+    subst (WritesComplete (h266_view donl) (ps ++ last ∷ []))
+    (sym (g.1.1 ∙ written_is donl f last g.0 fragment g.1.0 ∙ ap (written_by (h266_view donl) last) open_is))
+    (fragments_law (h266_view donl) ps last)

@@ -61,8 +61,10 @@ h266_view donl = record { starts = starts_unit; ends = ends_unit; header = heade
 abbrev pub run_of : Bool → List (List ℕ) → CodecExtra → Run
 run_of donl ps extra = read_all (h266_format donl) None extra ps
 
--- Behind packets without a refusal an accepted fragment writes a unit, behind a start code, exactly where it completes that unit, and otherwise nothing.
+-- Behind packets without a refusal an accepted fragment writes a unit, behind a start code, exactly where it
+-- completes that unit, and otherwise nothing.
 abbrev pub FragmentLaw : Type 0
-FragmentLaw = (donl : Bool) (ps : List (List ℕ)) (last : List ℕ) (extra after : CodecExtra) (reading : Reading) → (run_of donl ps extra).fault ≡ None → is_fragment last ≡ true
+FragmentLaw = (donl : Bool) (ps : List (List ℕ)) (last : List ℕ) (extra after : CodecExtra) (reading : Reading)
+    → (run_of donl ps extra).fault ≡ None → is_fragment last ≡ true
     → (h266_format donl).read (run_of donl ps extra).fragment after last ≡ Ok reading
     → WritesComplete (h266_view donl) (ps ++ last ∷ []) reading.written

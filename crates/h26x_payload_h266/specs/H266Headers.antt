@@ -1,4 +1,5 @@
--- The first bytes of H.266 units and packets: the header of two bytes, which is F, Z, the layer in six bits, the type in five and TID in three, and the FU header, which is S, E, P and the type (RFC 9328 1.1.4 and 4.3.3).
+-- The first bytes of H.266 units and packets: the header of two bytes, which is F, Z, the layer in six bits, the type
+-- in five and TID in three, and the FU header, which is S, E, P and the type (RFC 9328 1.1.4 and 4.3.3).
 use Rattle.std.specs.Prelude.{ℕ, ◌+◌, ◌*◌, ◌/◌, ◌%◌, ◌==◌, ◌&&◌, Bool, List, [], ◌∷◌, nat_le, if◌then◌else◌}
 use Rattle.h26x_payload_h266.specs.declared.headers.PacketKind.{PacketKind}
 use Rattle.h26x_payload_h266.specs.declared.headers.PacketKind.TheVariants.{Single, Aggregate, Fragment, Unhandled}
@@ -64,7 +65,8 @@ abbrev pub fu_type : ℕ → ℕ
 fu_type fu = fu % 32
 
 abbrev pub fu_byte : Bool → Bool → Bool → ℕ → ℕ
-fu_byte first last picture_end type = (if first then 128 else 0) + (if last then 64 else 0) + (if picture_end then 32 else 0) + type % 32
+fu_byte first last picture_end type = (if first then 128 else 0) + (if last then 64 else 0) +
+    (if picture_end then 32 else 0) + type % 32
 
 -- A header's second byte with another type.
 abbrev pub with_type : ℕ → ℕ → ℕ

@@ -1,9 +1,11 @@
 -- H.266 packets as they are read (RFC 9328 4.3).
-use Rattle.std.specs.Prelude.{◌≡◌, ℕ, ◌&&◌, ◌||◌, Bool, true, false, List, [], ◌∷◌, ◌++◌, length, drop, nat_le, nat_lt, Option, Some, None, Result, Ok, Err, if◌then◌else◌}
+use Rattle.std.specs.Prelude.{◌≡◌, ℕ, ◌&&◌, ◌||◌, Bool, true, false, List, [], ◌∷◌, ◌++◌, length, drop, nat_le}
+use Rattle.std.specs.Prelude.{nat_lt, Option, Some, None, Result, Ok, Err, if◌then◌else◌}
 use Rattle.std.specs.List.{flat_map, list_any}
 use Rattle.payload_core_base.specs.Format.{Format, Fragment, Reading}
 use Rattle.payload_core_base.specs.declared.error.PacketError.{PacketError}
-use Rattle.payload_core_base.specs.declared.error.PacketError.TheVariants.{ErrShortPacket, ErrH266CorruptedPacket, NaluTypeIsNotHandled}
+use Rattle.payload_core_base.specs.declared.error.PacketError.TheVariants.{ErrShortPacket, ErrH266CorruptedPacket}
+use Rattle.payload_core_base.specs.declared.error.PacketError.TheVariants.{NaluTypeIsNotHandled}
 use Rattle.payload_core_base.specs.declared.extra.CodecExtra.{CodecExtra}
 use Rattle.payload_core_base.specs.declared.extra.CodecExtra.TheVariants.{H266}
 use Rattle.h26x_payload_units.specs.declared.aggregates.AggregateFault.{AggregateFault}
@@ -11,8 +13,10 @@ use Rattle.h26x_payload_units.specs.declared.aggregates.AggregateFault.TheVarian
 use Rattle.h26x_payload_units.specs.Aggregates.{Aggregated, aggregated}
 use Rattle.h26x_payload_units.specs.Fragments.{behind_code, open_after, put_behind, written_at}
 use Rattle.h26x_payload_h266.specs.declared.headers.PacketKind.{PacketKind}
-use Rattle.h26x_payload_h266.specs.declared.headers.PacketKind.TheVariants.{Single, Aggregate, Fragment as FragmentKind, Unhandled}
-use Rattle.h26x_payload_h266.specs.H266Headers.{fu_type, has_end, has_f, has_start, is_irap, kind_of, type_of, with_type}
+use Rattle.h26x_payload_h266.specs.declared.headers.PacketKind.TheVariants.{Single, Aggregate}
+use Rattle.h26x_payload_h266.specs.declared.headers.PacketKind.TheVariants.{Fragment as FragmentKind, Unhandled}
+use Rattle.h26x_payload_h266.specs.H266Headers.{fu_type, has_end, has_f, has_start, is_irap, kind_of, type_of}
+use Rattle.h26x_payload_h266.specs.H266Headers.{with_type}
 use Rattle.h26x_payload_h266.specs.H266Numbers.{donl_size}
 
 -- The units that stand in an aggregate behind its header.
@@ -36,7 +40,7 @@ shows_by donl Aggregate low body = list_any is_irap_unit (aggregated_in donl bod
 shows_by donl FragmentKind low body = starts_irap body
 shows_by donl Unhandled low body = false
 
--- Whether a packet shows a unit of a random access picture: is one, holds one, or starts one.
+-- Whether a packet with its whole header shows a unit of a random access picture: is one, holds one, or starts one.
 abbrev pub shows_irap : Bool → List ℕ → Bool
 shows_irap donl [] = false
 shows_irap donl (high ∷ []) = false
@@ -61,7 +65,8 @@ abbrev pub is_fragment_short : Bool → List ℕ → Bool
 is_fragment_short donl [] = true
 is_fragment_short donl (fu ∷ part) = nat_lt (length part) (donl_size (has_start fu && donl))
 
--- Whether a packet is cut short behind its header: a unit alone without a byte behind header and number, an aggregate or a fragment that isn't whole.
+-- Whether a packet is cut short behind its header: a unit alone without a byte behind header and number, an aggregate
+-- or a fragment that isn't whole.
 abbrev pub is_cut_short : Bool → PacketKind → List ℕ → Bool
 is_cut_short donl Single body = nat_le (length body) (donl_size donl)
 is_cut_short donl Aggregate body = ends_short (aggregated_in donl body).fault
@@ -85,7 +90,8 @@ given_fragment donl fragment high low (fu ∷ part) =
 
 abbrev pub given_by : Bool → PacketKind → Fragment → ℕ → ℕ → List ℕ → Result Given PacketError
 given_by donl Single fragment high low body = gives (behind_code (high ∷ low ∷ drop (donl_size donl) body)) fragment
-given_by donl Aggregate fragment high low body = given_units fragment (aggregated_in donl body).units (aggregated_in donl body).fault
+given_by donl Aggregate fragment high low body =
+    given_units fragment (aggregated_in donl body).units (aggregated_in donl body).fault
 given_by donl FragmentKind fragment high low body = given_fragment donl fragment high low body
 given_by donl Unhandled fragment high low body = Err (NaluTypeIsNotHandled (type_of low))
 
@@ -106,12 +112,14 @@ abbrev pub was_keyframe : CodecExtra → Bool
 was_keyframe (H266 e) = e.is_keyframe
 was_keyframe _ = false
 
-abbrev pub told : Bool → Result Given PacketError → Result Reading PacketError
-told keyframe (Err e) = Err e
-told keyframe (Ok g) = Ok (record { written = g.written; extra = H266 (record { is_keyframe = keyframe }); fragment = g.fragment })
+abbrev pub extra_after : Bool → Result Given PacketError → Result Reading PacketError
+extra_after keyframe (Err e) = Err e
+extra_after keyframe (Ok g) = Ok (record
+    { written = g.written; extra = H266 (record { is_keyframe = keyframe }); fragment = g.fragment })
 
 abbrev pub read_h266 : Bool → Fragment → CodecExtra → List ℕ → Result Reading PacketError
-read_h266 donl fragment extra packet = told (was_keyframe extra || shows_irap donl packet) (given donl fragment packet)
+read_h266 donl fragment extra packet = extra_after (was_keyframe extra || shows_irap donl packet)
+    (given donl fragment packet)
 
 -- A fragment is a head if it has S, and every other packet is one, also one that is too short to show its type.
 abbrev pub begins_by : PacketKind → List ℕ → Bool

@@ -5,7 +5,8 @@ use Rattle.h26x_payload_units.specs.Departures.{Waiting, sets_in}
 use Rattle.h26x_payload_h266.specs.declared.h266_sender.Kept.{Kept}
 
 abbrev pub waiting_in : Kept → Waiting
-waiting_in kept = option_map (λ s. s.now) kept.vps ∷ option_map (λ s. s.now) kept.sps ∷ option_map (λ s. s.now) kept.pps ∷ []
+waiting_in kept = option_map (λ s. s.now) kept.vps ∷ option_map (λ s. s.now) kept.sps
+    ∷ option_map (λ s. s.now) kept.pps ∷ []
 
 -- A VPS, if one waits, then an SPS and a PPS.
 abbrev pub joining : Option (List ℕ) → List ℕ → List ℕ → List (List ℕ)

@@ -110,7 +110,8 @@ pub fn aggregate(
     requires vps { IfSome vps (λ s. length s.now ≤ 65535) }
     requires sps { length sps.now ≤ 65535 }
     requires pps { length pps.now ≤ 65535 }
-    ensures packet { IfOk result (λ p. p.items ≡ aggregate form.donl number (joining (option_map (λ s. s.now) vps.entry) sps.now pps.now)) }
+    ensures packet { IfOk result (λ p. p.items
+        ≡ aggregate form.donl number (joining (option_map (λ s. s.now) vps.entry) sps.now pps.now)) }
     ensures memory { IfErr result (λ e. e ≡ PacketError.Memory) }
 {
     let mut packet = Vec::new(form.alloc);

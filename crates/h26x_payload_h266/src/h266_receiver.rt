@@ -1,6 +1,8 @@
 //! Reading H.266 payloads (RFC 9328 4.3).
 
-ghost use Rattle.h26x_payload_h266.specs.H266Reading.{Adds, begins_by, given, given_by, given_fragment, h266_format, is_cut_short, is_irap_unit, shows_irap, starts_irap, aggregated_in, was_keyframe};
+ghost use Rattle.h26x_payload_h266.specs.H266Reading.{Adds, begins_by, given, given_by, given_fragment, h266_format};
+ghost use Rattle.h26x_payload_h266.specs.H266Reading.{is_cut_short, is_irap_unit, shows_irap, starts_irap};
+ghost use Rattle.h26x_payload_h266.specs.H266Reading.{aggregated_in, was_keyframe};
 ghost use Rattle.h26x_payload_units.specs.Aggregates.{aggregated};
 ghost use Rattle.std.specs.List.{list_any};
 ghost use Rattle.std.specs.Prelude.{◌≡◌, ◌≢◌, Err, IfErr, None, OnErr, OnOk, false};
@@ -82,7 +84,8 @@ fn shows_irap(donl: bool, packet: &[u8]) -> bool
 }
 
 /// Whether a packet without decoding order numbers shows a random access picture, types 7 to 9 (ITU-T H.266 table
-/// 5): is a unit of one, aggregates one before any fault, or is the first fragment of one.
+/// 5): is a unit of one, aggregates one before any fault, or is the first fragment of one. A packet without its whole
+/// header of two bytes shows none.
 pub fn detect_h266_keyframe(packet: &[u8]) -> bool
     ensures { result ≡ shows_irap false packet.now }
 {

@@ -1,6 +1,8 @@
 //! The header of an H.266 unit or packet, and that of a fragment (RFC 9328 1.1.4 and 4.3.3).
 
-ghost use Rattle.h26x_payload_h266.specs.H266Headers.{fu_byte, fu_type, has_end, has_picture_end, has_start, header_word, is_irap, word_has_f, word_has_z, word_layer, word_tid, word_type};
+ghost use Rattle.h26x_payload_h266.specs.H266Headers.{fu_byte, fu_type, has_end, has_picture_end, has_start};
+ghost use Rattle.h26x_payload_h266.specs.H266Headers.{header_word, is_irap, word_has_f, word_has_z, word_layer};
+ghost use Rattle.h26x_payload_h266.specs.H266Headers.{word_tid, word_type};
 ghost use Rattle.std.specs.Prelude.{◌≡◌, ◌==◌, ◌+◌, ◌*◌};
 
 use crate::constants::{AGGREGATION_PACKET_TYPE, FRAGMENTATION_UNIT_TYPE};

@@ -1,5 +1,6 @@
 -- The rows of the profile table of H.264.
-use Rattle.std.proofs.Common.{◌≡◌, ℕ, zero, suc, ◌<◌, ◌≤◌, Bool, true, false, cond, eqb, leb, leb-true, List, [], ◌∷◌, Option, Some, refl, sym, ap, ◌∙◌, arith, inl, inr}
+use Rattle.std.proofs.Common.{◌≡◌, ℕ, zero, suc, ◌<◌, ◌≤◌, Bool, true, false, cond, eqb, leb, leb-true, List, [], ◌∷◌}
+use Rattle.std.proofs.Common.{Option, Some, refl, sym, ap, ◌∙◌, arith, inl, inr}
 use Rattle.std.specs.Prelude.{◌&&◌, bit_and, codes, count_by, find, not, option_map}
 use Rattle.std.proofs.lemmas.Bool.{false≢true}
 use Rattle.std.proofs.lemmas.Bool.Decides.{eqb_tells, nat_tests}
@@ -66,8 +67,10 @@ digits_00001100 : (byte : ℕ) → byte < 256 → eqb (bit_and byte 255) 12 ≡ 
 digits_00001100 byte lt = agreed _ _ (holds_below (masked 255 12 (codes "00001100")) 256 byte refl lt)
 
 -- one row more, with a mask and with digits
-cond_step : (t u : Bool) (a : ProfileRow) (b : Row) (o : Option ProfileRow) (p : Option Row) → t ≡ u → a.profile ≡ b.profile → option_map (λ r. r.profile) o ≡ option_map (λ r. r.profile) p
-    → option_map (λ (r : ProfileRow). r.profile) (cond t (Some a) o) ≡ option_map (λ (r : Row). r.profile) (cond u (Some b) p)
+cond_step : (t u : Bool) (a : ProfileRow) (b : Row) (o : Option ProfileRow) (p : Option Row) → t ≡ u → a.profile
+    ≡ b.profile → option_map (λ r. r.profile) o ≡ option_map (λ r. r.profile) p
+    → option_map (λ (r : ProfileRow). r.profile) (cond t (Some a) o)
+    ≡ option_map (λ (r : Row). r.profile) (cond u (Some b) p)
 cond_step true true a b o p e f later = ap Some f
 cond_step true false a b o p e f later = absurd (false≢true (sym e))
 cond_step false true a b o p e f later = absurd (false≢true e)
@@ -78,9 +81,11 @@ abbrev SayTheSame : ℕ → List ProfileRow → List Row → Type 0
 SayTheSame iop [] [] = Unit {0}
 SayTheSame iop [] (r ∷ rs) = ⊥
 SayTheSame iop (m ∷ ms) [] = ⊥
-SayTheSame iop (m ∷ ms) (r ∷ rs) = (m.idc ≡ r.idc) × ((m.profile ≡ r.profile) × ((eqb (bit_and iop m.mask) m.bits ≡ has_digits r.digits iop) × SayTheSame iop ms rs))
+SayTheSame iop (m ∷ ms) (r ∷ rs) = (m.idc ≡ r.idc)
+    × ((m.profile ≡ r.profile) × ((eqb (bit_and iop m.mask) m.bits ≡ has_digits r.digits iop) × SayTheSame iop ms rs))
 
-same_profile : (iop idc : ℕ) (ms : List ProfileRow) (rs : List Row) → SayTheSame iop ms rs → masked_profile ms idc iop ≡ option_map (λ (r : Row). r.profile) (find (is_of_row idc iop) rs)
+same_profile : (iop idc : ℕ) (ms : List ProfileRow) (rs : List Row) → SayTheSame iop ms rs
+    → masked_profile ms idc iop ≡ option_map (λ (r : Row). r.profile) (find (is_of_row idc iop) rs)
 same_profile iop idc [] [] is = refl
 same_profile iop idc [] (r ∷ rs) is = absurd is
 same_profile iop idc (m ∷ ms) [] is = absurd is
@@ -178,12 +183,14 @@ profile_of-masked idc iop lt =
 abbrev few_rows : ℕ → ℕ → Bool
 few_rows idc iop = leb (count_by (is_of_row idc iop) rows) 1
 
-few_at : (known idc iop : ℕ) → all_below (few_rows known) 256 ≡ true → known ≡ idc → iop < 256 → count_by (is_of_row idc iop) rows ≤ 1
+few_at : (known idc iop : ℕ) → all_below (few_rows known) 256 ≡ true → known ≡ idc → iop < 256
+    → count_by (is_of_row idc iop) rows ≤ 1
 few_at known idc iop checked same lt =
     leb-true _ _ (ap (λ n. few_rows n iop) (sym same) ∙ holds_below (few_rows known) 256 iop checked lt)
 
 -- no row has another profile_idc
-none_at : (idc iop : ℕ) → eqb 66 idc ≡ false → eqb 77 idc ≡ false → eqb 88 idc ≡ false → eqb 100 idc ≡ false → eqb 244 idc ≡ false → count_by (is_of_row idc iop) rows ≡ 0
+none_at : (idc iop : ℕ) → eqb 66 idc ≡ false → eqb 77 idc ≡ false → eqb 88 idc ≡ false → eqb 100 idc ≡ false
+    → eqb 244 idc ≡ false → count_by (is_of_row idc iop) rows ≡ 0
 none_at idc iop a b c d e = simp (a, b, c, d, e) refl
 
 pub has_one_row : HasOneRow
@@ -203,7 +210,8 @@ has_one_row idc iop lt =
                             elim (eqb_tells 244 idc) [
                               | inl p ↦ few_at 244 idc iop refl p.1 lt
                               | inr e ↦
-                                  let none : count_by (is_of_row idc iop) rows ≡ 0 = none_at idc iop a.0 b.0 c.0 d.0 e.0 in omega (arith, none)
+                                  let none : count_by (is_of_row idc iop) rows ≡ 0 =
+                                  none_at idc iop a.0 b.0 c.0 d.0 e.0 in omega (arith, none)
                             ]
                       ]
                 ]

@@ -5,4 +5,5 @@ use Rattle.h26x_payload_profiles.specs.declared.h264.ProfileRow.{ProfileRow}
 
 -- The profile of the row whose masked bits the two bytes have.
 abbrev pub masked_profile : List ProfileRow → ℕ → ℕ → Option H264Profile
-masked_profile rows idc iop = option_map (λ r. r.profile) (find (λ r. (r.idc == idc) && (bit_and iop r.mask == r.bits)) rows)
+masked_profile rows idc iop = option_map (λ r. r.profile)
+    (find (λ r. (r.idc == idc) && (bit_and iop r.mask == r.bits)) rows)

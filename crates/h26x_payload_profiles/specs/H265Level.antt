@@ -1,10 +1,14 @@
 -- The levels of H.265 in rising order, and the numbers that session texts have for them (RFC 7798 7.1).
 use Rattle.std.specs.Prelude.{ℕ, List, [], ◌∷◌}
 use Rattle.h26x_payload_profiles.specs.declared.h265.H265Level.{H265Level}
-use Rattle.h26x_payload_profiles.specs.declared.h265.H265Level.TheVariants.{Level1, Level2, Level2_1, Level3, Level3_1, Level4, Level4_1, Level5, Level5_1, Level5_2, Level6, Level6_1, Level6_2}
+use Rattle.h26x_payload_profiles.specs.declared.h265.H265Level.TheVariants.{Level1, Level2, Level2_1, Level3}
+use Rattle.h26x_payload_profiles.specs.declared.h265.H265Level.TheVariants.{Level3_1, Level4, Level4_1, Level5}
+use Rattle.h26x_payload_profiles.specs.declared.h265.H265Level.TheVariants.{Level5_1, Level5_2, Level6, Level6_1}
+use Rattle.h26x_payload_profiles.specs.declared.h265.H265Level.TheVariants.{Level6_2}
 
 abbrev pub levels : List H265Level
-levels = Level1 ∷ Level2 ∷ Level2_1 ∷ Level3 ∷ Level3_1 ∷ Level4 ∷ Level4_1 ∷ Level5 ∷ Level5_1 ∷ Level5_2 ∷ Level6 ∷ Level6_1 ∷ Level6_2 ∷ []
+levels = Level1 ∷ Level2 ∷ Level2_1 ∷ Level3 ∷ Level3_1 ∷ Level4 ∷ Level4_1 ∷ Level5 ∷ Level5_1 ∷ Level5_2 ∷ Level6
+    ∷ Level6_1 ∷ Level6_2 ∷ []
 
 abbrev pub level_id : H265Level → ℕ
 level_id Level1 = 30

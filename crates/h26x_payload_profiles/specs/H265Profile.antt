@@ -1,10 +1,16 @@
 -- The profiles of H.265, and the numbers that session texts have for them (RFC 7798 7.1).
 use Rattle.std.specs.Prelude.{ℕ, List, [], ◌∷◌}
 use Rattle.h26x_payload_profiles.specs.declared.h265.H265Profile.{H265Profile}
-use Rattle.h26x_payload_profiles.specs.declared.h265.H265Profile.TheVariants.{Main, Main10, MainStillPicture, FormatRangeExtensions, HighThroughput, MultiviewMain, ScalableMain, ThreeDMain, ScreenContentCoding, ScreenContentCodingExtensions, HighThroughputScreenContentCoding}
+use Rattle.h26x_payload_profiles.specs.declared.h265.H265Profile.TheVariants.{Main, Main10, MainStillPicture}
+use Rattle.h26x_payload_profiles.specs.declared.h265.H265Profile.TheVariants.{FormatRangeExtensions, HighThroughput}
+use Rattle.h26x_payload_profiles.specs.declared.h265.H265Profile.TheVariants.{MultiviewMain, ScalableMain, ThreeDMain}
+use Rattle.h26x_payload_profiles.specs.declared.h265.H265Profile.TheVariants.{ScreenContentCoding}
+use Rattle.h26x_payload_profiles.specs.declared.h265.H265Profile.TheVariants.{ScreenContentCodingExtensions}
+use Rattle.h26x_payload_profiles.specs.declared.h265.H265Profile.TheVariants.{HighThroughputScreenContentCoding}
 
 abbrev pub profiles : List H265Profile
-profiles = Main ∷ Main10 ∷ MainStillPicture ∷ FormatRangeExtensions ∷ HighThroughput ∷ MultiviewMain ∷ ScalableMain ∷ ThreeDMain ∷ ScreenContentCoding ∷ ScreenContentCodingExtensions ∷ HighThroughputScreenContentCoding ∷ []
+profiles = Main ∷ Main10 ∷ MainStillPicture ∷ FormatRangeExtensions ∷ HighThroughput ∷ MultiviewMain ∷ ScalableMain
+    ∷ ThreeDMain ∷ ScreenContentCoding ∷ ScreenContentCodingExtensions ∷ HighThroughputScreenContentCoding ∷ []
 
 abbrev pub profile_id : H265Profile → ℕ
 profile_id Main = 1

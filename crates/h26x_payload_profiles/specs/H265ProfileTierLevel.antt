@@ -20,7 +20,8 @@ together _ _ _ = None
 
 -- What three numbers mean, where each is in its table.
 abbrev pub known : ℕ → ℕ → ℕ → Option H265ProfileTierLevel
-known id flag level = together (with_number profile_id profiles id) (with_number tier_flag tiers flag) (with_number level_id levels level)
+known id flag level = together (with_number profile_id profiles id) (with_number tier_flag tiers flag)
+    (with_number level_id levels level)
 
 -- What stands where nothing is said: the numbers 1, 0 and 93.
 abbrev pub fallback : H265ProfileTierLevel
@@ -37,7 +38,8 @@ known_values _ _ _ = None
 
 -- What three given values mean, each a number of 8 bits; one that isn't given is the fallback's.
 abbrev pub given : Option (List ℕ) → Option (List ℕ) → Option (List ℕ) → Option H265ProfileTierLevel
-given id flag level = known_values (given_or (profile_id fallback.profile) id) (given_or (tier_flag fallback.tier) flag) (given_or (level_id fallback.level) level)
+given id flag level = known_values (given_or (profile_id fallback.profile) id)
+    (given_or (tier_flag fallback.tier) flag) (given_or (level_id fallback.level) level)
 
 -- The same with another level.
 abbrev pub at_level : H265ProfileTierLevel → H265Level → H265ProfileTierLevel
@@ -45,4 +47,5 @@ at_level ptl level = record ptl { level = level }
 
 -- The three numbers of a value mean that value.
 abbrev pub ComesBack : Type 0
-ComesBack = (ptl : H265ProfileTierLevel) → known (profile_id ptl.profile) (tier_flag ptl.tier) (level_id ptl.level) ≡ Some ptl
+ComesBack = (ptl : H265ProfileTierLevel) → known (profile_id ptl.profile) (tier_flag ptl.tier) (level_id ptl.level)
+    ≡ Some ptl

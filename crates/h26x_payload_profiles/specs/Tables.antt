@@ -15,7 +15,8 @@ place_of number table x = count_by (λ y. nat_lt (number y) (number x)) table
 abbrev pub IsTable : {X : Type 0} → (X → ℕ) → List X → Type 0
 IsTable {X} number table = (wanted : ℕ) (x : X) → (with_number number table wanted ≡ Some x) ↔ (number x ≡ wanted)
 
--- A table is in rising order: each value stands at its place, and of two values the order is that of their places and that of their numbers.
+-- A table is in rising order: each value stands at its place, and of two values the order is that of their places and
+-- that of their numbers.
 pub record IsRising {X : Type 0} (number : X → ℕ) (table : List X) (cmp : X → X → Ordering) : Type 0 where
   pub stands : (x : X) → slice_get table (place_of number table x) ≡ Some x
   pub by_place : (x y : X) → cmp x y ≡ nat_cmp (place_of number table x) (place_of number table y)

@@ -10,7 +10,8 @@ all_digits (c ∷ cs) = nat_lt (digit_value c) 10 && all_digits cs
 -- The number of 8 bits that decimal digits write, a plus before them or not.
 abbrev pub byte_written : List ℕ → Option ℕ
 byte_written text =
-    if nat_lt 0 (length (without_leading_plus text)) && all_digits (without_leading_plus text) && nat_lt (digits_value 10 (without_leading_plus text)) 256
+    if nat_lt 0 (length (without_leading_plus text)) && all_digits (without_leading_plus text)
+    && nat_lt (digits_value 10 (without_leading_plus text)) 256
     then Some (digits_value 10 (without_leading_plus text))
     else None
 

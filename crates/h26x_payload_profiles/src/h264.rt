@@ -6,7 +6,8 @@ ghost use Rattle.h26x_payload_profiles.specs.H264LevelIdc.{level_idc, levels};
 ghost use Rattle.h26x_payload_profiles.specs.H264Profile.{profile_of};
 ghost use Rattle.h26x_payload_profiles.specs.H264Rows.{masked_profile};
 ghost use Rattle.h26x_payload_profiles.specs.H264ProfileIdc.{profile_idc, profile_idcs};
-ghost use Rattle.h26x_payload_profiles.specs.H264ProfileLevel.{HasOneRow, fallback, profile_level_of, read_level_idc, read_profile_idc, read_profile_level};
+ghost use Rattle.h26x_payload_profiles.specs.H264ProfileLevel.{HasOneRow, fallback, profile_level_of, read_level_idc};
+ghost use Rattle.h26x_payload_profiles.specs.H264ProfileLevel.{read_profile_idc, read_profile_level};
 
 use crate::tables::{Numbered, find_number};
 use thiserror::Error;

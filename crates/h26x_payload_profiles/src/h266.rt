@@ -5,7 +5,8 @@ ghost use Rattle.h26x_payload_profiles.specs.Tables.{IsRising, IsTable, place_of
 ghost use Rattle.h26x_payload_profiles.specs.H266Level.{level_id, levels};
 ghost use Rattle.h26x_payload_profiles.specs.H266Profile.{profile_id, profiles};
 ghost use Rattle.h26x_payload_profiles.specs.H266Tier.{tier_flag, tiers};
-ghost use Rattle.h26x_payload_profiles.specs.H266ProfileTierLevel.{ComesBack, at_level, fallback, given, known, known_or_fallback};
+ghost use Rattle.h26x_payload_profiles.specs.H266ProfileTierLevel.{ComesBack, at_level, fallback, given, known};
+ghost use Rattle.h26x_payload_profiles.specs.H266ProfileTierLevel.{known_or_fallback};
 
 use crate::tables::{Numbered, find_number};
 use crate::values::given_or;

@@ -4,24 +4,10 @@
 #[cfg(test)]
 mod annexb;
 #[cfg(test)]
-mod calls;
-#[cfg(test)]
 mod h264;
 #[cfg(test)]
-mod h264_encoded;
-#[cfg(test)]
 mod h265;
-#[cfg(test)]
-mod h265_encoded;
 #[cfg(test)]
 mod h266;
 #[cfg(test)]
 mod profiles;
-#[cfg(test)]
-mod rows;
-#[cfg(test)]
-mod vectors_h264;
-#[cfg(test)]
-mod vectors_h265;
-#[cfg(test)]
-mod vectors_h266;

@@ -1,4 +1,5 @@
--- The layout of an aggregate: units behind their sizes, one behind the other, with so many bytes before the first size and so many before each later one (RFC 7798 4.4.2, RFC 9328 4.3.2).
+-- The layout of an aggregate: units behind their sizes, one behind the other, with so many bytes before the first
+-- size and so many before each later one (RFC 7798 4.4.2, RFC 9328 4.3.2).
 use Rattle.std.specs.Prelude.{◌≡◌, ◌↔◌, ℕ, ◌+◌, ◌*◌, ◌<◌, List, [], ◌∷◌, ◌++◌, length, Option, Some, None}
 use Rattle.h26x_payload_units.specs.declared.aggregates.AggregateFault.{AggregateFault}
 use Rattle.h26x_payload_units.specs.declared.aggregates.AggregateFault.TheVariants.{CutShort, PastEnd}
@@ -31,8 +32,10 @@ EndsSo lead text (Some PastEnd) = PassesEnd lead text
 
 abbrev pub IsLaidOut : ℕ → ℕ → List ℕ → List (List ℕ) → Option AggregateFault → Type 0
 IsLaidOut lead later text [] fault = EndsSo lead text fault
-IsLaidOut lead later text (u ∷ us) fault = (rest : List ℕ) × (IsSized lead text u rest × IsLaidOut later later rest us fault)
+IsLaidOut lead later text (u ∷ us) fault =
+    (rest : List ℕ) × (IsSized lead text u rest × IsLaidOut later later rest us fault)
 
 -- Each text is laid out in just one way, and read so.
 abbrev pub AggregateLaw : Type 0
-AggregateLaw = (lead later : ℕ) (text : List ℕ) (units : List (List ℕ)) (fault : Option AggregateFault) → IsLaidOut lead later text units fault ↔ (aggregated lead later text ≡ record { units = units; fault = fault })
+AggregateLaw = (lead later : ℕ) (text : List ℕ) (units : List (List ℕ)) (fault : Option AggregateFault)
+    → IsLaidOut lead later text units fault ↔ (aggregated lead later text ≡ record { units = units; fault = fault })

@@ -1,5 +1,7 @@
--- Units that stand in an aggregate, each behind its size in two bytes, and other bytes before the sizes where a format has them (RFC 7798 4.4.2, RFC 9328 4.3.2).
-use Rattle.std.specs.Prelude.{ℕ, zero, suc, ◌+◌, ◌*◌, ◌/◌, ◌%◌, List, [], ◌∷◌, ◌++◌, length, take, drop, nat_le, Option, Some, None, if◌then◌else◌}
+-- Units that stand in an aggregate, each behind its size in two bytes, and other bytes before the sizes where a
+-- format has them (RFC 7798 4.4.2, RFC 9328 4.3.2).
+use Rattle.std.specs.Prelude.{ℕ, zero, suc, ◌+◌, ◌*◌, ◌/◌, ◌%◌, List, [], ◌∷◌, ◌++◌, length, take, drop, nat_le}
+use Rattle.std.specs.Prelude.{Option, Some, None, if◌then◌else◌}
 use Rattle.h26x_payload_units.specs.declared.aggregates.AggregateFault.{AggregateFault}
 use Rattle.h26x_payload_units.specs.declared.aggregates.AggregateFault.TheVariants.{CutShort, PastEnd}
 
@@ -27,19 +29,22 @@ with_first unit others = record { units = unit ∷ others.units; fault = others.
 abbrev pub only_fault : Option AggregateFault → Aggregated
 only_fault fault = record { units = []; fault = fault }
 
--- From a size on: the unit behind it, and what is behind that. Fewer than two bytes are no size, and a size past the end leaves no unit.
+-- From a size on: the unit behind it, and what is behind that. Fewer than two bytes are no size, and a size past the
+-- end leaves no unit.
 abbrev pub from_size : (List ℕ → Aggregated) → List ℕ → Aggregated
 from_size others [] = only_fault (Some CutShort)
 from_size others (high ∷ []) = only_fault (Some CutShort)
 from_size others (high ∷ low ∷ rest) =
-    if nat_le (high * 256 + low) (length rest) then with_first (take (high * 256 + low) rest) (others (drop (high * 256 + low) rest))
+    if nat_le (high * 256 + low) (length rest)
+    then with_first (take (high * 256 + low) rest) (others (drop (high * 256 + low) rest))
     else only_fault (Some PastEnd)
 
 -- At most so many units, with so many bytes before the first size and so many before each later one.
 abbrev pub aggregated_within : ℕ → ℕ → ℕ → List ℕ → Aggregated
 aggregated_within n lead later [] = only_fault None
 aggregated_within zero lead later (b ∷ bs) = only_fault None
-aggregated_within (suc n) lead later (b ∷ bs) = from_size (λ rest. aggregated_within n later later rest) (drop lead (b ∷ bs))
+aggregated_within (suc n) lead later (b ∷ bs) =
+    from_size (λ rest. aggregated_within n later later rest) (drop lead (b ∷ bs))
 
 unfoldable pub aggregated : ℕ → ℕ → List ℕ → Aggregated
 aggregated lead later body = aggregated_within (length body) lead later body

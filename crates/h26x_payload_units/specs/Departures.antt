@@ -1,8 +1,11 @@
--- Which units of samples leave and which wait (RFC 6184 5.2, RFC 7798 4.4, RFC 9328 4.3), by a codec's rules: a recursion on the list of units that knows no packets.
-use Rattle.std.specs.Prelude.{ℕ, zero, suc, ◌&&◌, ◌||◌, not, is_some, Bool, true, false, List, [], ◌∷◌, ◌++◌, map, Option, Some, None, if◌then◌else◌}
+-- Which units of samples leave and which wait (RFC 6184 5.2, RFC 7798 4.4, RFC 9328 4.3), by a codec's rules: a
+-- recursion on the list of units that knows no packets.
+use Rattle.std.specs.Prelude.{ℕ, zero, suc, ◌&&◌, ◌||◌, not, is_some, Bool, true, false, List, [], ◌∷◌, ◌++◌, map}
+use Rattle.std.specs.Prelude.{Option, Some, None, if◌then◌else◌}
 use Rattle.std.specs.List.{flat_map}
 
--- What becomes of a unit: a delimiter or filler isn't sent, a parameter set waits in the place of its kind, any other unit leaves.
+-- What becomes of a unit: a delimiter or filler isn't sent, a parameter set waits in the place of its kind, any other
+-- unit leaves.
 pub data Role : Type 0 where
   Unsent : Role
   Waits : ℕ → Role
@@ -33,7 +36,8 @@ are_ready (needed ∷ others) (w ∷ ws) = (not needed || is_some w) && are_read
 abbrev pub emptied : Waiting → Waiting
 emptied ws = map (λ w. None) ws
 
--- A codec's rules: what becomes of a unit, which places need a set, whether sets can leave together at a limit, and whether a unit can leave at it, whole or in fragments.
+-- A codec's rules: what becomes of a unit, which places need a set, whether sets can leave together at a limit, and
+-- whether a unit can leave at it, whole or in fragments.
 pub record Rules : Type 0 where
   pub role : List ℕ → Role
   pub needed : List Bool
@@ -57,7 +61,8 @@ alone rules limit unit = if rules.can_leave limit unit then Alone unit ∷ [] el
 abbrev pub departing : Rules → ℕ → Role → Waiting → List ℕ → List Departure
 departing rules limit Unsent ws unit = []
 departing rules limit (Waits k) ws unit = []
-departing rules limit Leaves ws unit = (if are_ready rules.needed ws then together rules limit (sets_in ws) else []) ++ alone rules limit unit
+departing rules limit Leaves ws unit = (if are_ready rules.needed ws then together rules limit (sets_in ws) else [])
+    ++ alone rules limit unit
 
 -- The sets that wait after a unit.
 abbrev pub waiting_behind : Rules → Role → Waiting → List ℕ → Waiting
@@ -68,7 +73,8 @@ waiting_behind rules Leaves ws unit = if are_ready rules.needed ws then emptied 
 -- What leaves of units, in order, and the sets that wait after them.
 abbrev pub departures : Rules → ℕ → Waiting → List (List ℕ) → List Departure
 departures rules limit ws [] = []
-departures rules limit ws (u ∷ us) = departing rules limit (rules.role u) ws u ++ departures rules limit (waiting_behind rules (rules.role u) ws u) us
+departures rules limit ws (u ∷ us) = departing rules limit (rules.role u) ws u
+    ++ departures rules limit (waiting_behind rules (rules.role u) ws u) us
 
 abbrev pub waiting_after : Rules → Waiting → List (List ℕ) → Waiting
 waiting_after rules ws [] = ws

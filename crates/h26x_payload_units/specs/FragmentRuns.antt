@@ -1,10 +1,12 @@
--- Units in the fragments of a run of packets (RFC 6184 5.8, RFC 7798 4.4.3, RFC 9328 4.3.3): a unit is complete at an end whose latest start has no earlier end since.
+-- Units in the fragments of a run of packets (RFC 6184 5.8, RFC 7798 4.4.3, RFC 9328 4.3.3): a unit is complete at an
+-- end whose latest start has no earlier end since.
 use Rattle.std.specs.Prelude.{◌≡◌, ◌↔◌, ◌⊎◌, ℕ, Bool, true, false, List, [], ◌∷◌, ◌++◌, None}
 use Rattle.std.specs.List.{flat_map}
 use Rattle.payload_core_base.specs.Format.{Fragment}
 use Rattle.h26x_payload_units.specs.Fragments.{behind_code, open_after, put_behind, written_at}
 
--- What a format says of fragments: whether a packet is one with S, whether it is one with E, the header of the unit that one with S begins, and its part of a unit. Of a packet that is no fragment: neither, and no part.
+-- What a format says of fragments: whether a packet is one with S, whether it is one with E, the header of the unit
+-- that one with S begins, and its part of a unit. Of a packet that is no fragment: neither, and no part.
 pub record FragmentView : Type 0 where
   pub starts : List ℕ → Bool
   pub ends : List ℕ → Bool
@@ -29,7 +31,8 @@ LastAloneEnds view (p ∷ q ∷ ps) = (view.ends p ≡ false) × LastAloneEnds v
 abbrev pub unit_in : FragmentView → List ℕ → List (List ℕ) → List ℕ
 unit_in view start later = view.header start ++ flat_map view.part (start ∷ later)
 
--- The last of these packets is an end. From the latest start on, which may be that packet itself, no other one is an end; and this is the unit that it began.
+-- The last of these packets is an end. From the latest start on, which may be that packet itself, no other one is an
+-- end; and this is the unit that it began.
 pub record CompletesUnit (view : FragmentView) (ps : List (List ℕ)) (unit : List ℕ) : Type 0 where
   pub before : List (List ℕ)
   pub start : List ℕ
@@ -40,7 +43,8 @@ pub record CompletesUnit (view : FragmentView) (ps : List (List ℕ)) (unit : Li
   pub last_alone_ends : LastAloneEnds view (start ∷ later)
   pub unit_is : unit ≡ unit_in view start later
 
--- From the latest start on no packet is an end; and this is what is open of the unit that it began, behind its start code.
+-- From the latest start on no packet is an end; and this is what is open of the unit that it began, behind its start
+-- code.
 pub record LeavesOpen (view : FragmentView) (ps : List (List ℕ)) (open_unit : List ℕ) : Type 0 where
   pub before : List (List ℕ)
   pub start : List ℕ
@@ -53,19 +57,24 @@ pub record LeavesOpen (view : FragmentView) (ps : List (List ℕ)) (open_unit : 
 
 -- The open unit after a packet, after packets, and what a packet writes.
 abbrev pub open_behind : FragmentView → List ℕ → Fragment → Fragment
-open_behind view p fragment = open_after (view.ends p) (put_behind (view.starts p) (view.header p) (view.part p) fragment)
+open_behind view p fragment = open_after (view.ends p)
+    (put_behind (view.starts p) (view.header p) (view.part p) fragment)
 
 abbrev pub open_behind_all : FragmentView → List (List ℕ) → Fragment → Fragment
 open_behind_all view [] fragment = fragment
 open_behind_all view (p ∷ ps) fragment = open_behind_all view ps (open_behind view p fragment)
 
 abbrev pub written_by : FragmentView → List ℕ → Fragment → List ℕ
-written_by view p fragment = written_at (view.ends p) (put_behind (view.starts p) (view.header p) (view.part p) fragment)
+written_by view p fragment = written_at (view.ends p)
+    (put_behind (view.starts p) (view.header p) (view.part p) fragment)
 
--- The last of these packets writes a unit, behind its start code, exactly where it completes that unit, and otherwise nothing.
+-- The last of these packets writes a unit, behind its start code, exactly where it completes that unit, and otherwise
+-- nothing.
 abbrev pub WritesComplete : FragmentView → List (List ℕ) → List ℕ → Type 0
-WritesComplete view ps written = ((unit : List ℕ) → (written ≡ behind_code unit) ↔ CompletesUnit view ps unit) × ((written ≡ []) ⊎ ((unit : List ℕ) × (written ≡ behind_code unit)))
+WritesComplete view ps written = ((unit : List ℕ) → (written ≡ behind_code unit) ↔ CompletesUnit view ps unit)
+    × ((written ≡ []) ⊎ ((unit : List ℕ) × (written ≡ behind_code unit)))
 
 -- So does each packet behind any others, where no unit was open before them.
 abbrev pub FragmentsLaw : Type 0
-FragmentsLaw = (view : FragmentView) (ps : List (List ℕ)) (last : List ℕ) → WritesComplete view (ps ++ last ∷ []) (written_by view last (open_behind_all view ps None))
+FragmentsLaw = (view : FragmentView) (ps : List (List ℕ)) (last : List ℕ)
+    → WritesComplete view (ps ++ last ∷ []) (written_by view last (open_behind_all view ps None))

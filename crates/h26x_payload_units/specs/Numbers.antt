@@ -1,4 +1,5 @@
--- Decoding order numbers of what leaves (RFC 7798 4.4, RFC 9328 4.3): the units that are sent are counted, modulo 65,536.
+-- Decoding order numbers of what leaves (RFC 7798 4.4, RFC 9328 4.3): the units that are sent are counted, modulo
+-- 65,536.
 use Rattle.std.specs.Prelude.{◌≡◌, ℕ, ◌+◌, ◌%◌, ◌<◌, List, [], ◌∷◌, ◌++◌, length}
 use Rattle.std.specs.List.{flat_map}
 use Rattle.h26x_payload_units.specs.Departures.{Departure, units_in}
@@ -24,4 +25,5 @@ number_after n (d ∷ ds) = number_after (number_behind n d) ds
 -- The number behind what leaves is that of its units counted, and what leaves behind it goes on from there.
 abbrev pub NumbersLaw : Type 0
 NumbersLaw = (n : ℕ) (ds es : List Departure) → n < 65536
-    → (number_after n ds ≡ (n + length (flat_map units_in ds)) % 65536) × (numbered n (ds ++ es) ≡ numbered n ds ++ numbered (number_after n ds) es)
+    → (number_after n ds ≡ (n + length (flat_map units_in ds)) % 65536)
+    × (numbered n (ds ++ es) ≡ numbered n ds ++ numbered (number_after n ds) es)

@@ -21,9 +21,11 @@ pub enum AggregateFault {
 /// The first unit of an aggregate that is not empty, with `lead` bytes before its size, and what stands behind the
 /// unit.
 pub fn first_aggregated(lead: usize, body: &[u8]) -> Result<(&[u8], &[u8]), AggregateFault>
-    ensures unit { IfOk result (λ cut. (later : ℕ) → aggregated lead later body.now ≡ with_first cut.0.now (aggregated later later cut.1.now)) }
+    ensures unit { IfOk result (λ cut. (later : ℕ) → aggregated lead later body.now
+        ≡ with_first cut.0.now (aggregated later later cut.1.now)) }
     ensures shorter { IfOk result (λ cut. length cut.1.now < length body.now) }
-    ensures fault { IfErr result (λ e. 0 < length body.now → (later : ℕ) → aggregated lead later body.now ≡ only_fault (Some e)) }
+    ensures fault { IfErr result (λ e. 0 < length body.now → (later : ℕ) → aggregated lead later body.now
+        ≡ only_fault (Some e)) }
 {
     if body.len() < lead {
         return Err(AggregateFault::CutShort);

@@ -1,6 +1,6 @@
 //! Rules that the payload formats of H.264, H.265 and H.266 share, and what holds of them: which units of samples
-//! leave and which wait, how units stand in an aggregate, how a unit is cut into fragments, and which units fragments give (RFC 6184, RFC 7798, RFC
-//! 9328).
+//! leave and which wait, how units stand in an aggregate, how a unit is cut into fragments, and which units fragments
+//! give (RFC 6184, RFC 7798, RFC 9328).
 #![tactic(auto)]
 
 mod aggregates;

@@ -1,6 +1,6 @@
 //! Units that are put together from fragments, and the start code that each unit is written behind.
 
-ghost use Rattle.h26x_payload_units.specs.Fragments.{behind_code, gone_on, open_after, put_behind, written_at};
+ghost use Rattle.h26x_payload_units.specs.Fragments.{behind_code, continued, open_after, put_behind, written_at};
 ghost use Rattle.std.specs.Prelude.{◌++◌, ◌≡◌, IfErr, IfOk, None, OnErr, OnOk, true};
 
 use payload_core_base::PacketError;
@@ -87,8 +87,10 @@ impl OpenUnit {
         part: &[u8],
         out: &mut Vec<u8>,
     ) -> Result<(), PacketError>
-        ensures written { OnOk result (out.new.items ≡ out.old.items ++ written_at is_end (put_behind is_start header.now part.now self.old)) }
-        ensures open_unit { OnOk result (self.new ≡ open_after is_end (put_behind is_start header.now part.now self.old)) }
+        ensures written { OnOk result (out.new.items ≡ out.old.items
+            ++ written_at is_end (put_behind is_start header.now part.now self.old)) }
+        ensures open_unit { OnOk result (self.new
+            ≡ open_after is_end (put_behind is_start header.now part.now self.old)) }
         ensures unchanged { OnErr result ((self.new ≡ self.old) × (out.new.items ≡ out.old.items)) }
         ensures memory { IfErr result (λ e. e ≡ PacketError.Memory) }
     {
@@ -106,7 +108,8 @@ impl OpenUnit {
         part: &[u8],
         out: &mut Vec<u8>,
     ) -> Result<(), PacketError>
-        ensures written { OnOk result (out.new.items ≡ out.old.items ++ written_at is_end (put_behind true header.now part.now None)) }
+        ensures written { OnOk result (out.new.items ≡ out.old.items
+            ++ written_at is_end (put_behind true header.now part.now None)) }
         ensures open_unit { OnOk result (self.new ≡ open_after is_end (put_behind true header.now part.now None)) }
         ensures unchanged { OnErr result ((self.new ≡ self.old) × (out.new.items ≡ out.old.items)) }
         ensures memory { IfErr result (λ e. e ≡ PacketError.Memory) }
@@ -123,8 +126,9 @@ impl OpenUnit {
 
     // A fragment that goes on with a unit.
     fn go_on(&mut self, is_end: bool, part: &[u8], out: &mut Vec<u8>) -> Result<(), PacketError>
-        ensures written { OnOk result (out.new.items ≡ out.old.items ++ written_at is_end (gone_on self.old part.now)) }
-        ensures open_unit { OnOk result (self.new ≡ open_after is_end (gone_on self.old part.now)) }
+        ensures written { OnOk result (out.new.items ≡ out.old.items
+            ++ written_at is_end (continued self.old part.now)) }
+        ensures open_unit { OnOk result (self.new ≡ open_after is_end (continued self.old part.now)) }
         ensures unchanged { OnErr result ((self.new ≡ self.old) × (out.new.items ≡ out.old.items)) }
         ensures memory { IfErr result (λ e. e ≡ PacketError.Memory) }
     {

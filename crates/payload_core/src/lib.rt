@@ -8,15 +8,17 @@ pub use payload_core_audio::{
     telephone_law,
 };
 pub use payload_core_av1::{
-    Av1Depacketizer, Av1Packetizer, av1_law, av1_layout_law, av1_packets_law, av1_size_law,
-    detect_av1_keyframe,
+    Av1Depacketizer, Av1Packetizer, av1_law, av1_layout_law, av1_open_law, av1_packets_law,
+    av1_size_law, detect_av1_keyframe,
 };
 pub use payload_core_base::{
     Av1CodecExtra, Codec, CodecExtra, Depacketizer, H264CodecExtra, H265CodecExtra, H266CodecExtra,
     MediaKind, PacketError, PacketSink, Packetizer, TelephoneEvent, TelephoneEvents, Vp8CodecExtra,
     Vp9CodecExtra, telephone_event_law,
 };
-pub use payload_core_buffer::{Depacketized, DepacketizingBuffer, MAX_HELD, Payloader, RtpMeta};
+pub use payload_core_buffer::{
+    Depacketized, DepacketizingBuffer, MAX_HELD, Payloader, RtpMeta, frames_law,
+};
 pub use payload_core_red::{
     RedBlock, RedBlocks, RedDecoder, RedEncoder, RedSender, RedSink, RedundantBlock, red_law,
     red_wrap_law,
@@ -24,5 +26,5 @@ pub use payload_core_red::{
 pub use payload_core_vp9::{Vp9Depacketizer, Vp9Packetizer, vp9_law, vp9_layout_law};
 pub use payload_core_vpx::{
     VP8_HEADER_SIZE, Vp8Depacketizer, Vp8Descriptor, Vp8DescriptorError, Vp8Packetizer, Vp8Patch,
-    Vp8PatchBuilder, Vp8PatchError, detect_vp8_keyframe, vp8_law, vp8_patch_law,
+    Vp8PatchBuilder, Vp8PatchError, detect_vp8_keyframe, vp8_keyframe_law, vp8_law, vp8_patch_law,
 };

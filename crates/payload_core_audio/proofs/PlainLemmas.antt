@@ -1,5 +1,6 @@
 -- What makes payloads without a header keep the codec law.
-use Rattle.std.proofs.Common.{◌≡◌, ℕ, zero, suc, ◌<◌, ◌≤◌, Bool, true, false, ltb, List, [], ◌∷◌, length, Err, if◌then◌else◌, refl, sym, subst, arith}
+use Rattle.std.proofs.Common.{◌≡◌, ℕ, zero, suc, ◌<◌, ◌≤◌, Bool, true, false, ltb, List, [], ◌∷◌, length, Err}
+use Rattle.std.proofs.Common.{if◌then◌else◌, refl, sym, subst, arith}
 use mathlib.Core.Bool.{false≢true}
 use Rattle.std.specs.List.{All}
 use Rattle.std.proofs.lemmas.List.Elements.{All-cons, All-nil, All-weaker}
@@ -10,7 +11,8 @@ use Rattle.payload_core_base.specs.declared.error.PacketError.TheVariants.{ErrPa
 use Rattle.std.proofs.lemmas.Bool.Decides.{nat_tests}
 use Rattle.payload_core_base.proofs.PieceLemmas.{pieces-none, pieces-within}
 use Rattle.payload_core_base.proofs.FrameLemmas.{IsWhole, whole-frames}
-use Rattle.payload_core_audio.specs.Plain.{plain_format, pieces_packing, pieces_coding, noise_coding, noise_packing, unit_of_piece, sent_as}
+use Rattle.payload_core_audio.specs.Plain.{plain_format, pieces_packing, pieces_coding, noise_coding, noise_packing}
+use Rattle.payload_core_audio.specs.Plain.{unit_of_piece, sent_as}
 
 -- a packet with a byte is a unit
 plain_whole : (p : List ℕ) → 0 < length p → IsWhole plain_format p (unit_of_piece p)
@@ -26,7 +28,9 @@ within zero sample = let P : List (List ℕ) → Type 0 = AreWithin 0 in subst P
 within (suc n) sample = pieces-within (suc n) (omega arith) sample
 
 each_whole : (limit : ℕ) (sample : List ℕ) → All (λ p. IsWhole plain_format p (unit_of_piece p)) (pieces limit sample)
-each_whole limit sample = All-weaker (λ (p : List ℕ). (0 < length p) × (length p ≤ limit)) (λ (p : List ℕ). IsWhole plain_format p (unit_of_piece p)) (λ p fits. plain_whole p fits.0) (pieces limit sample) (within limit sample)
+each_whole limit sample = All-weaker (λ (p : List ℕ). (0 < length p) × (length p ≤ limit))
+    (λ (p : List ℕ). IsWhole plain_format p (unit_of_piece p)) (λ p fits. plain_whole p fits.0) (pieces limit sample)
+    (within limit sample)
 
 -- the pieces of a sample are its units
 pub pieces_law : CodecLaw pieces_coding
@@ -34,20 +38,28 @@ pieces_law sender limit sample reached well_formed = record {
   reached = tt;
   within = within limit sample;
   frames = whole-frames pieces_packing plain_format unit_of_piece (pieces limit sample) (each_whole limit sample);
+  leaves = refl;
 }
 
 -- the one packet of a sample that doesn't pass the limit is its unit
-pub whole_sent : (sender : Sender) (limit : ℕ) (sample : List ℕ) → (0 < length sample) × (length sample ≤ limit) → IsSentAs noise_coding limit (record { packets = sample ∷ []; sender = sender }) (unit_of_piece sample ∷ [])
+pub whole_sent : (sender : Sender) (limit : ℕ) (sample : List ℕ) → (0 < length sample) × (length sample ≤ limit)
+    → IsSentAs noise_coding limit (record { packets = sample ∷ []; sender = sender }) (unit_of_piece sample ∷ []) sender
 whole_sent sender limit sample well_formed = record {
   reached = tt;
   within = All-cons (λ (p : List ℕ). (0 < length p) × (length p ≤ limit)) sample [] well_formed (All-nil _);
-  frames = whole-frames noise_packing plain_format unit_of_piece (sample ∷ []) (All-cons (λ (p : List ℕ). IsWhole plain_format p (unit_of_piece p)) sample [] (plain_whole sample well_formed.0) (All-nil _));
+  frames = whole-frames noise_packing plain_format unit_of_piece (sample ∷ [])
+      (All-cons (λ (p : List ℕ). IsWhole plain_format p (unit_of_piece p)) sample []
+      (plain_whole sample well_formed.0) (All-nil _));
+  leaves = refl;
 }
 
-by_test : (sender : Sender) (limit : ℕ) (sample : List ℕ) (over : Bool) → over ≡ false → (0 < length sample) × (length sample ≤ limit) → SendsUnits noise_coding limit (if over then Err ErrPayloadTooLarge else sent_as sender (sample ∷ [])) (unit_of_piece sample ∷ [])
+by_test : (sender : Sender) (limit : ℕ) (sample : List ℕ) (over : Bool) → over ≡ false → (0 < length sample)
+    × (length sample ≤ limit) → SendsUnits noise_coding limit
+    (if over then Err ErrPayloadTooLarge else sent_as sender (sample ∷ [])) (unit_of_piece sample ∷ []) sender
 by_test sender limit sample true e well_formed = absurd (false≢true (sym e))
 by_test sender limit sample false e well_formed = whole_sent sender limit sample well_formed
 
 pub noise_law : CodecLaw noise_coding
 noise_law sender limit [] reached well_formed = absurd (omega (arith, well_formed.0))
-noise_law sender limit (b ∷ bs) reached well_formed = by_test sender limit (b ∷ bs) (ltb limit (length (b ∷ bs))) (grind (arith, nat_tests)) well_formed
+noise_law sender limit (b ∷ bs) reached well_formed =
+    by_test sender limit (b ∷ bs) (ltb limit (length (b ∷ bs))) (grind (arith, nat_tests)) well_formed

@@ -1,13 +1,16 @@
 -- AMR-WB payloads (RFC 4867 4.3 and 4.4).
-use Rattle.std.specs.Prelude.{ℕ, zero, suc, ◌+◌, ◌-◌, ◌*◌, ◌/◌, ◌%◌, ◌^◌, ◌<◌, ◌≤◌, ◌==◌, Bool, true, false, List, [], ◌∷◌, ◌++◌, map, length, nat_lt, nat_le, slice_index, Option, Some, None, Result, Ok, Err, if◌then◌else◌}
+use Rattle.std.specs.Prelude.{ℕ, zero, suc, ◌+◌, ◌-◌, ◌*◌, ◌/◌, ◌%◌, ◌^◌, ◌<◌, ◌≤◌, ◌==◌, Bool, true, false, List, []}
+use Rattle.std.specs.Prelude.{◌∷◌, ◌++◌, map, length, nat_lt, nat_le, slice_index, Option, Some, None, Result, Ok}
+use Rattle.std.specs.Prelude.{Err, if◌then◌else◌}
 use Rattle.std.specs.List.{range_with_len}
 use Rattle.payload_core_base.specs.Format.{Format, Fragment, Reading}
 use Rattle.payload_core_base.specs.Law.{Coding}
 use Rattle.payload_core_base.specs.Packing.{Packing, Sender, Sent}
 use Rattle.payload_core_base.specs.declared.error.PacketError.{PacketError}
-use Rattle.payload_core_base.specs.declared.error.PacketError.TheVariants.{ErrAmrWbCorruptedPacket, ErrPayloadTooLarge}
+use Rattle.payload_core_base.specs.declared.error.PacketError.TheVariants.{ErrAmrWbCorruptedPacket}
+use Rattle.payload_core_base.specs.declared.error.PacketError.TheVariants.{ErrPayloadTooLarge}
 use Rattle.payload_core_base.specs.declared.extra.CodecExtra.{CodecExtra}
-use Rattle.payload_core_audio.specs.Plain.{AnySender, no_marker, sent_as, unit_of_piece}
+use Rattle.payload_core_audio.specs.Plain.{AnySender, no_marker, sent_as, stays_idle, unit_of_piece}
 
 -- The bit at a place of a text, counted from the high bit of the first byte.
 abbrev pub bit_of : List ℕ → ℕ → ℕ
@@ -15,7 +18,8 @@ bit_of bytes i = slice_index bytes (i / 8) / 2 ^ (7 - i % 8) % 2
 
 -- A byte of a bit string, and its first bytes.
 abbrev pub byte_from : (ℕ → ℕ) → ℕ → ℕ
-byte_from bit k = bit (8 * k) * 128 + bit (8 * k + 1) * 64 + bit (8 * k + 2) * 32 + bit (8 * k + 3) * 16 + bit (8 * k + 4) * 8 + bit (8 * k + 5) * 4 + bit (8 * k + 6) * 2 + bit (8 * k + 7)
+byte_from bit k = bit (8 * k) * 128 + bit (8 * k + 1) * 64 + bit (8 * k + 2) * 32 + bit (8 * k + 3) * 16 + bit
+    (8 * k + 4) * 8 + bit (8 * k + 5) * 4 + bit (8 * k + 6) * 2 + bit (8 * k + 7)
 
 abbrev pub bytes_from : (ℕ → ℕ) → ℕ → List ℕ
 bytes_from bit n = map (byte_from bit) (range_with_len 0 n)
@@ -30,7 +34,8 @@ speech_of bytes place size = bytes_from (field_of bytes place size) ((size + 7) 
 
 -- The entry of the table of contents at a place as the byte 0, FT(4), Q, 00 (RFC 4867 4.3.2 and 5.3).
 unfoldable pub header_at : List ℕ → ℕ → ℕ
-header_at bytes place = bit_of bytes (place + 1) * 64 + bit_of bytes (place + 2) * 32 + bit_of bytes (place + 3) * 16 + bit_of bytes (place + 4) * 8 + bit_of bytes (place + 5) * 4
+header_at bytes place = bit_of bytes (place + 1) * 64 + bit_of bytes (place + 2) * 32 + bit_of bytes (place + 3) * 16
+    + bit_of bytes (place + 4) * 8 + bit_of bytes (place + 5) * 4
 
 -- How many speech bits the frame types 0 to 9 have (3GPP TS 26.201).
 abbrev pub speech_table : List ℕ
@@ -40,7 +45,8 @@ speech_table = 132 ∷ 177 ∷ 253 ∷ 285 ∷ 317 ∷ 365 ∷ 397 ∷ 461 ∷ 4
 abbrev pub speech_bits : ℕ → Option ℕ
 speech_bits ft = if nat_lt ft 10 then Some (slice_index speech_table ft) else (if nat_lt ft 14 then None else Some 0)
 
--- In the octet-aligned layout the mode request, an entry and a frame's speech fill whole bytes; in the bandwidth-efficient one they have 4 bits, 6 bits, and as many as there are.
+-- In the octet-aligned layout the mode request, an entry and a frame's speech fill whole bytes; in the
+-- bandwidth-efficient one they have 4 bits, 6 bits, and as many as there are.
 abbrev pub head_size : Bool → ℕ
 head_size octet_align = if octet_align then 8 else 4
 
@@ -74,21 +80,27 @@ abbrev pub behind : List ℕ → Option (List ℕ) → Option (List ℕ)
 behind bytes None = None
 behind bytes (Some others) = Some (bytes ++ others)
 
--- A frame of this header and so many speech bits, and what follows its speech; a frame of another type, and one that is cut short, is a fault.
+-- A frame of this header and so many speech bits, and what follows its speech; a frame of another type, and one that
+-- is cut short, is a fault.
 abbrev pub frame_then : Bool → List ℕ → ℕ → Option ℕ → ℕ → (ℕ → Option (List ℕ)) → Option (List ℕ)
 frame_then octet_align bytes header None place others = None
 frame_then octet_align bytes header (Some size) place others =
-    if nat_le (place + field_size octet_align size) (8 * length bytes) then behind (header ∷ speech_of bytes place size) (others (place + field_size octet_align size)) else None
+    if nat_le (place + field_size octet_align size) (8 * length bytes)
+    then behind (header ∷ speech_of bytes place size) (others (place + field_size octet_align size)) else None
 
 -- So many frames from the k-th on, whose speech stands from a place on: each gives its header and its speech.
 abbrev pub frames_from : Bool → List ℕ → ℕ → ℕ → ℕ → Option (List ℕ)
 frames_from octet_align bytes zero k place = Some []
-frames_from octet_align bytes (suc n) k place = frame_then octet_align bytes (header_at bytes (entry_place octet_align k)) (speech_bits (header_at bytes (entry_place octet_align k) / 8)) place (λ next. frames_from octet_align bytes n (k + 1) next)
+frames_from octet_align bytes (suc n) k place =
+    frame_then octet_align bytes (header_at bytes (entry_place octet_align k))
+    (speech_bits (header_at bytes (entry_place octet_align k) / 8)) place
+    (λ next. frames_from octet_align bytes n (k + 1) next)
 
 -- The frames of a packet whose last entry is this one.
 abbrev pub frames_up_to : Bool → List ℕ → Option ℕ → Option (List ℕ)
 frames_up_to octet_align bytes None = None
-frames_up_to octet_align bytes (Some last) = frames_from octet_align bytes (last + 1) 0 (entry_place octet_align (last + 1))
+frames_up_to octet_align bytes (Some last) =
+    frames_from octet_align bytes (last + 1) 0 (entry_place octet_align (last + 1))
 
 abbrev pub frames_of : Bool → List ℕ → Option (List ℕ)
 frames_of octet_align bytes = frames_up_to octet_align bytes (last_entry octet_align bytes)
@@ -116,7 +128,9 @@ sample_size sample = size_if (speech_bits (header_at sample 0 / 8)) (length samp
 -- The bits of a bandwidth-efficient packet: 1111, F clear, FT, Q, the speech bits, and zeros.
 unfoldable pub efficient_bit : List ℕ → ℕ → ℕ → ℕ
 efficient_bit sample size i =
-    if nat_lt i 4 then 1 else (if i == 4 then 0 else (if nat_lt i 10 then bit_of sample (i - 4) else (if nat_lt i (size + 10) then bit_of sample (i - 2) else 0)))
+    if nat_lt i 4 then 1 else (if i == 4 then 0
+    else (if nat_lt i 10 then bit_of sample (i - 4)
+    else (if nat_lt i (size + 10) then bit_of sample (i - 2) else 0)))
 
 abbrev pub amr_wb_packet : Bool → List ℕ → ℕ → List ℕ
 amr_wb_packet true sample size = 240 ∷ header_at sample 0 ∷ speech_of sample 8 size
@@ -125,7 +139,8 @@ amr_wb_packet false sample size = bytes_from (efficient_bit sample size) ((size 
 abbrev pub pack_sized : Bool → Sender → ℕ → List ℕ → Option ℕ → Result Sent PacketError
 pack_sized octet_align sender limit sample None = Err ErrAmrWbCorruptedPacket
 pack_sized octet_align sender limit sample (Some size) =
-    if nat_lt limit (length (amr_wb_packet octet_align sample size)) then Err ErrPayloadTooLarge else sent_as sender (amr_wb_packet octet_align sample size ∷ [])
+    if nat_lt limit (length (amr_wb_packet octet_align sample size)) then Err ErrPayloadTooLarge
+    else sent_as sender (amr_wb_packet octet_align sample size ∷ [])
 
 -- One packet; another fault of the sample comes before the limit.
 abbrev pub pack_amr_wb : Bool → Sender → ℕ → List ℕ → Result Sent PacketError
@@ -152,4 +167,5 @@ amr_wb_coding octet_align = record {
   IsReached = AnySender;
   IsWellFormed = λ limit sample. (0 < length sample) × IsSized octet_align limit sample (sample_size sample);
   units = λ sender limit sample. unit_of_piece (speech_unit sample (sample_size sample)) ∷ [];
+  after = stays_idle;
 }

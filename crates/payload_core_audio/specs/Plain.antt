@@ -1,5 +1,6 @@
 -- Payloads without a header: each packet is a piece of a sample.
-use Rattle.std.specs.Prelude.{ℕ, ◌<◌, ◌≤◌, Bool, true, false, List, [], ◌∷◌, map, length, nat_lt, Result, Ok, Err, if◌then◌else◌}
+use Rattle.std.specs.Prelude.{ℕ, ◌<◌, ◌≤◌, Bool, true, false, List, [], ◌∷◌, map, length, nat_lt, Result, Ok, Err}
+use Rattle.std.specs.Prelude.{if◌then◌else◌}
 use Rattle.payload_core_base.specs.Format.{Format, Fragment, Reading}
 use Rattle.payload_core_base.specs.Law.{Coding}
 use Rattle.payload_core_base.specs.Packing.{Packing, Sender, Sent}
@@ -27,7 +28,8 @@ pieces_packing = record { pack = λ sender limit sample. sent_as sender (pieces 
 -- The one packet of a sample that can't be cut: none for an empty sample, and none that passes the limit.
 abbrev pub pack_whole : Sender → ℕ → List ℕ → Result Sent PacketError
 pack_whole sender limit [] = sent_as sender []
-pack_whole sender limit (b ∷ bs) = if nat_lt limit (length (b ∷ bs)) then Err ErrPayloadTooLarge else sent_as sender ((b ∷ bs) ∷ [])
+pack_whole sender limit (b ∷ bs) = if nat_lt limit (length (b ∷ bs)) then Err ErrPayloadTooLarge
+    else sent_as sender ((b ∷ bs) ∷ [])
 
 -- Comfort noise: the sample as it is (RFC 3389 4).
 abbrev pub noise_packing : Packing
@@ -50,6 +52,10 @@ unit_of_piece piece = piece ∷ []
 abbrev pub AnySender : Sender → Type 0
 AnySender sender = Unit {0}
 
+-- Nothing is kept between samples.
+abbrev pub stays_idle : Sender → ℕ → List ℕ → Sender
+stays_idle sender limit sample = sender
+
 -- Opus, G.711 and G.722: a sample with a byte is well-formed, and its units are its pieces.
 abbrev pub pieces_coding : Coding
 pieces_coding = record {
@@ -58,6 +64,7 @@ pieces_coding = record {
   IsReached = AnySender;
   IsWellFormed = λ limit sample. 0 < length sample;
   units = λ sender limit sample. map unit_of_piece (pieces limit sample);
+  after = stays_idle;
 }
 
 -- Comfort noise: a sample with a byte that doesn't pass the limit is well-formed, and is its unit.
@@ -68,4 +75,5 @@ noise_coding = record {
   IsReached = AnySender;
   IsWellFormed = λ limit sample. (0 < length sample) × (length sample ≤ limit);
   units = λ sender limit sample. unit_of_piece sample ∷ [];
+  after = stays_idle;
 }

@@ -8,13 +8,14 @@ use Rattle.payload_core_base.specs.declared.error.PacketError.{PacketError}
 use Rattle.payload_core_base.specs.declared.error.PacketError.TheVariants.{ErrPayloadTooLarge, InvalidTelephoneEvent}
 use Rattle.payload_core_base.specs.declared.extra.CodecExtra.{CodecExtra}
 use Rattle.payload_core_base.specs.declared.extra.CodecExtra.TheVariants.{Tele}
-use Rattle.payload_core_audio.specs.Plain.{AnySender, no_marker, sent_as, unit_of_piece}
+use Rattle.payload_core_audio.specs.Plain.{AnySender, no_marker, sent_as, stays_idle, unit_of_piece}
 
 -- The reports leave as they are, in one packet.
 abbrev pub pack_reports : Sender → ℕ → List ℕ → Result Sent PacketError
 pack_reports sender limit [] = sent_as sender []
 pack_reports sender limit (b ∷ bs) =
-    if is_reports (b ∷ bs) then (if nat_lt limit (length (b ∷ bs)) then Err ErrPayloadTooLarge else sent_as sender ((b ∷ bs) ∷ []))
+    if is_reports (b ∷ bs) then (if nat_lt limit (length (b ∷ bs)) then Err ErrPayloadTooLarge
+    else sent_as sender ((b ∷ bs) ∷ []))
     else Err InvalidTelephoneEvent
 
 abbrev pub telephone_packing : Packing
@@ -28,12 +29,18 @@ first_report _ = []
 -- The first report is written with R clear, and told as an event at the clock rate.
 abbrev pub reading_of_reports : ℕ → Fragment → List ℕ → Result Reading PacketError
 reading_of_reports rate fragment (event ∷ flags ∷ high ∷ low ∷ rest) =
-    Ok (record { written = first_report (event ∷ flags ∷ high ∷ low ∷ rest); extra = Tele (event_of rate event flags high low); fragment = fragment })
+    Ok (record {
+      written = first_report (event ∷ flags ∷ high ∷ low ∷ rest);
+      extra =
+          Tele (event_of rate event flags high low);
+      fragment = fragment;
+    })
 reading_of_reports rate fragment _ = Err InvalidTelephoneEvent
 
 -- A packet is a nonempty multiple of four bytes.
 abbrev pub read_reports : ℕ → Fragment → CodecExtra → List ℕ → Result Reading PacketError
-read_reports rate fragment extra packet = if is_reports packet then reading_of_reports rate fragment packet else Err InvalidTelephoneEvent
+read_reports rate fragment extra packet = if is_reports packet then reading_of_reports rate fragment packet
+    else Err InvalidTelephoneEvent
 
 -- Every packet is a head and a tail.
 abbrev pub telephone_format : ℕ → Format
@@ -47,4 +54,5 @@ telephone_coding rate = record {
   IsReached = AnySender;
   IsWellFormed = λ limit sample. (length sample ≡ 4) × (length sample ≤ limit);
   units = λ sender limit sample. unit_of_piece (first_report sample) ∷ [];
+  after = stays_idle;
 }

@@ -1,9 +1,12 @@
 //! AMR-WB payloads in both layouts (RFC 4867 4.3 and 4.4).
 
-ghost use Rattle.payload_core_audio.specs.AmrWb.{amr_wb_format, amr_wb_packet, amr_wb_packing, byte_from, efficient_bit, entry_place, entry_size, field_size, frames_from, frames_of, head_size, last_entry, sample_size, speech_bits};
+ghost use Rattle.payload_core_audio.specs.AmrWb.{amr_wb_format, amr_wb_packet, amr_wb_packing, byte_from};
+ghost use Rattle.payload_core_audio.specs.AmrWb.{efficient_bit, entry_place, entry_size, field_size, frames_from};
+ghost use Rattle.payload_core_audio.specs.AmrWb.{frames_of, head_size, last_entry, sample_size, speech_bits};
 ghost use Rattle.payload_core_audio.specs.BitPlaces.{place_of};
 ghost use Rattle.payload_core_audio.specs.Plain.{idle_sender};
-ghost use Rattle.std.specs.Prelude.{◌≡◌, ◌≢◌, ◌+◌, ◌*◌, ◌/◌, ◌<◌, ◌≤◌, ◌++◌, ◌-◌, IfErr, IfNone, IfOk, IfSome, List, None, Some, false, length, true, ℕ};
+ghost use Rattle.std.specs.Prelude.{◌≡◌, ◌≢◌, ◌+◌, ◌*◌, ◌/◌, ◌<◌, ◌≤◌, ◌++◌, ◌-◌, IfErr, IfNone, IfOk, IfSome, List};
+ghost use Rattle.std.specs.Prelude.{None, Some, false, length, true, ℕ};
 
 use crate::bits::BitPlace;
 use crate::field::{header_at, push_speech};
@@ -64,7 +67,8 @@ fn sample_size(bytes: &[u8]) -> Option<usize>
 // How many entries the table of contents of a packet has, and the place behind them, if all are there.
 fn entries(octet_align: bool, packet: &[u8]) -> Option<(usize, BitPlace)>
     ensures found { IfSome result (λ e. (last_entry octet_align packet.now ≡ Some (e.0 - 1)) × (0 < e.0)) }
-    ensures place { IfSome result (λ e. (place_of e.1 ≡ entry_place octet_align e.0) × (place_of e.1 ≤ 8 * length packet.now)) }
+    ensures place { IfSome result (λ e. (place_of e.1 ≡ entry_place octet_align e.0)
+        × (place_of e.1 ≤ 8 * length packet.now)) }
     ensures absent { IfNone result (last_entry octet_align packet.now ≡ None) }
 {
     if packet.is_empty() {
@@ -95,7 +99,8 @@ fn frames(
     requires entries { entry_place octet_align count ≤ 8 * length packet.now }
     requires speech { place_of speech ≤ 8 * length packet.now }
     ensures frames { IfOk result (λ v. frames_from octet_align packet.now count 0 (place_of speech) ≡ Some v.items) }
-    ensures refused { IfErr result (λ e. e ≢ PacketError.Memory → (e ≡ PacketError.ErrAmrWbCorruptedPacket) × (frames_from octet_align packet.now count 0 (place_of speech) ≡ None)) }
+    ensures refused { IfErr result (λ e. e ≢ PacketError.Memory → (e ≡ PacketError.ErrAmrWbCorruptedPacket)
+        × (frames_from octet_align packet.now count 0 (place_of speech) ≡ None)) }
 {
     let mut out = Vec::new(alloc);
     let mut entry = BitPlace::at(head_size(octet_align));

@@ -24,7 +24,8 @@ pub fn cut(alloc: Global, limit: usize, bytes: &[u8]) -> Result<Vec<Vec<u8>>, Pa
 
 /// The one packet of a sample that isn't cut; none of an empty sample.
 pub fn whole(alloc: Global, limit: usize, bytes: &[u8]) -> Result<Vec<Vec<u8>>, PacketError>
-    ensures packets { IfOk result (λ ps. pack_whole idle_sender limit bytes.now ≡ sent_as idle_sender (map (λ p. p.items) ps.items)) }
+    ensures packets { IfOk result (λ ps. pack_whole idle_sender limit bytes.now
+        ≡ sent_as idle_sender (map (λ p. p.items) ps.items)) }
     ensures refused { IfErr result (λ e. e ≢ PacketError.Memory → pack_whole idle_sender limit bytes.now ≡ Err e) }
 {
     let mut packets = Vec::new(alloc);

@@ -13,3 +13,4 @@ pub mod UnitLemmas
 pub mod SplitLemmas
 pub mod Av1RunLaw
 pub mod Av1Law
+pub mod OpenLaw

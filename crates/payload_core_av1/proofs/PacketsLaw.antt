@@ -1,5 +1,7 @@
 -- What makes the packets of a sample those of the longest prefixes.
-use Rattle.std.proofs.Common.{◌≡◌, ℕ, zero, suc, ◌+◌, ◌-◌, ◌*◌, ◌<◌, ◌≤◌, Bool, true, false, ltb, leb, eqb, List, [], ◌∷◌, ◌++◌, length, take, drop, None, Some, Ok, Err, Option, Result, if◌then◌else◌, refl, sym, ap, subst, ◌∙◌, arith, inl, inr}
+use Rattle.std.proofs.Common.{◌≡◌, ℕ, zero, suc, ◌+◌, ◌-◌, ◌*◌, ◌<◌, ◌≤◌, Bool, true, false, ltb, leb, eqb, List, []}
+use Rattle.std.proofs.Common.{◌∷◌, ◌++◌, length, take, drop, None, Some, Ok, Err, Option, Result, if◌then◌else◌, refl}
+use Rattle.std.proofs.Common.{sym, ap, subst, ◌∙◌, arith, inl, inr}
 use Rattle.std.specs.Prelude.{option_map, filter}
 use Rattle.std.proofs.lemmas.Bool.{cases_lt}
 use Rattle.std.proofs.lemmas.Bool.Decides.{nat_tests}
@@ -11,23 +13,49 @@ use Rattle.payload_core_av1.specs.Leb128.{spelling}
 use Rattle.payload_core_av1.specs.Obus.{Obu, is_kept}
 use Rattle.payload_core_av1.specs.Samples.{begins_sequence, obus_of}
 use Rattle.payload_core_av1.specs.Av1Reading.{count_w, has_n, has_y, has_z}
-use Rattle.payload_core_av1.specs.Av1Packing.{back, body_from, count_field, front, is_cut, longest, pack_kept, packets_of, packets_within, texts_of}
+use Rattle.payload_core_av1.specs.Av1Packing.{back, body_from, count_field, front, is_cut, longest, pack_kept}
+use Rattle.payload_core_av1.specs.Av1Packing.{packets_of, packets_within, texts_of}
 use Rattle.payload_core_av1.specs.Av1Coding.{ArePackets, HeaderLaw, IsLongest, PacketsLaw, PrefixLaw, RefusedLaw}
 use Rattle.payload_core_av1.specs.Av1Packets.{AreTexts}
-use Rattle.payload_core_av1.proofs.PrefixLemmas.{back-part, back-whole, front-part, front-behind, front-zero, greedy, greedy-fits, greedy-le, greedy-most, longest-greedy, longest-some, texts-back, total-back, total-cons}
+use Rattle.payload_core_av1.proofs.PrefixLemmas.{back-part, back-whole, front-part, front-behind, front-zero, greedy}
+use Rattle.payload_core_av1.proofs.PrefixLemmas.{greedy-fits, greedy-le, greedy-most, longest-greedy, longest-some}
+use Rattle.payload_core_av1.proofs.PrefixLemmas.{texts-back, total-back, total-cons}
 use Rattle.payload_core_av1.proofs.SampleLemmas.{kept-sendable, sendable-texts}
 
 -- the bits of a header that was put together
-bits : (z y n : Bool) (w : ℕ) → w < 4 → (has_z ((if z then 128 else 0) + (if y then 64 else 0) + 16 * w + (if n then 8 else 0)) ≡ z) × (has_y ((if z then 128 else 0) + (if y then 64 else 0) + 16 * w + (if n then 8 else 0)) ≡ y)
-    × (count_w ((if z then 128 else 0) + (if y then 64 else 0) + 16 * w + (if n then 8 else 0)) ≡ w) × (has_n ((if z then 128 else 0) + (if y then 64 else 0) + 16 * w + (if n then 8 else 0)) ≡ n)
+bits : (z y n : Bool) (w : ℕ) → w < 4 → (has_z
+    ((if z then 128 else 0) + (if y then 64 else 0) + 16 * w + (if n then 8 else 0)) ≡ z)
+    × (has_y ((if z then 128 else 0) + (if y then 64 else 0) + 16 * w + (if n then 8 else 0)) ≡ y)
+    × (count_w ((if z then 128 else 0) + (if y then 64 else 0) + 16 * w + (if n then 8 else 0)) ≡ w)
+    × (has_n ((if z then 128 else 0) + (if y then 64 else 0) + 16 * w + (if n then 8 else 0)) ≡ n)
 bits true true true w few = (grind (arith, nat_tests), grind (arith, nat_tests), omega arith, grind (arith, nat_tests))
 bits true true false w few = (grind (arith, nat_tests), grind (arith, nat_tests), omega arith, grind (arith, nat_tests))
 bits true false true w few = (grind (arith, nat_tests), grind (arith, nat_tests), omega arith, grind (arith, nat_tests))
-bits true false false w few = (grind (arith, nat_tests), grind (arith, nat_tests), omega arith, grind (arith, nat_tests))
+bits true false false w few = (
+  grind (arith, nat_tests),
+  grind (arith, nat_tests),
+  omega arith,
+  grind (arith, nat_tests),
+)
 bits false true true w few = (grind (arith, nat_tests), grind (arith, nat_tests), omega arith, grind (arith, nat_tests))
-bits false true false w few = (grind (arith, nat_tests), grind (arith, nat_tests), omega arith, grind (arith, nat_tests))
-bits false false true w few = (grind (arith, nat_tests), grind (arith, nat_tests), omega arith, grind (arith, nat_tests))
-bits false false false w few = (grind (arith, nat_tests), grind (arith, nat_tests), omega arith, grind (arith, nat_tests))
+bits false true false w few = (
+  grind (arith, nat_tests),
+  grind (arith, nat_tests),
+  omega arith,
+  grind (arith, nat_tests),
+)
+bits false false true w few = (
+  grind (arith, nat_tests),
+  grind (arith, nat_tests),
+  omega arith,
+  grind (arith, nat_tests),
+)
+bits false false false w few = (
+  grind (arith, nat_tests),
+  grind (arith, nat_tests),
+  omega arith,
+  grind (arith, nat_tests),
+)
 
 count_few : (count : ℕ) → count_field count < 4
 count_few count = by_test (leb count 3) refl
@@ -56,8 +84,10 @@ front_bytes (suc n) (e ∷ es) = elim (cases_lt (length e) (suc n)) [
   | inl behind ↦
       let m : ℕ = suc n - length e in
       let is : suc n ≡ length e + m = omega arith in
-      ap joined (front-behind (suc n) m e es is (omega arith)) ∙ ap (λ t. e ++ t) (front_bytes m es) ∙ sym (take_past (suc n) m e (joined es) is)
-  | inr inside ↦ ap joined (front-part (suc n) e es (omega arith) inside) ∙ append-nil (take (suc n) e) ∙ sym (take-append-le (suc n) e (joined es) inside)
+      ap joined (front-behind (suc n) m e es is (omega arith)) ∙ ap (λ t. e ++ t) (front_bytes m es)
+      ∙ sym (take_past (suc n) m e (joined es) is)
+  | inr inside ↦ ap joined (front-part (suc n) e es (omega arith) inside) ∙ append-nil (take (suc n) e)
+      ∙ sym (take-append-le (suc n) e (joined es) inside)
 ]
 
 back_bytes : (n : ℕ) (texts : List (List ℕ)) → joined (back n texts) ≡ drop n (joined texts)
@@ -67,14 +97,16 @@ back_bytes n (e ∷ es) = elim (cases_lt n (length e)) [
   | inr behind ↦
       let m : ℕ = n - length e in
       let is : n ≡ length e + m = omega arith in
-      ap (λ k. joined (back k (e ∷ es))) is ∙ ap joined (back-whole m e es) ∙ back_bytes m es ∙ sym (drop_past n m e (joined es) is)
+      ap (λ k. joined (back k (e ∷ es))) is ∙ ap joined (back-whole m e es) ∙ back_bytes m es
+      ∙ sym (drop_past n m e (joined es) is)
 ]
 
 pub prefix_law : PrefixLaw
 prefix_law n texts = (front_bytes n texts, back_bytes n texts)
 
 -- the longest prefix is that
-pub longest-is : (limit : ℕ) (z n : Bool) (texts : List (List ℕ)) → 2 ≤ limit → AreTexts texts → IsLongest limit z n texts (longest limit texts)
+pub longest-is : (limit : ℕ) (z n : Bool) (texts : List (List ℕ)) → 2 ≤ limit → AreTexts texts
+    → IsLongest limit z n texts (longest limit texts)
 longest-is limit z n texts room are =
     let l : ℕ = limit - 1 in
     let is : limit ≡ l + 1 = omega arith in
@@ -86,19 +118,27 @@ longest-is limit z n texts room are =
       no_longer = λ m lt le. omega (arith, greedy-most 0 l texts m are le lt);
     })
 
-body_some : (n : ℕ) (e : List ℕ) (es : List (List ℕ)) → 0 < n → AreTexts (e ∷ es) → 0 < length (body_from 0 (front n (e ∷ es)))
-body_some n e es some are = by_first (eqb n 0) (leb n (length e)) (grind (arith, nat_tests)) (take n e) (omega (arith, length-take n e, are.0)) (front (n - length e) es)
+body_some : (n : ℕ) (e : List ℕ) (es : List (List ℕ)) → 0 < n → AreTexts (e ∷ es)
+    → 0 < length (body_from 0 (front n (e ∷ es)))
+body_some n e es some are = by_first (eqb n 0) (leb n (length e)) (grind (arith, nat_tests)) (take n e)
+    (omega (arith, length-take n e, are.0)) (front (n - length e) es)
   where
     some_body : (f : List ℕ) (fs : List (List ℕ)) → 0 < length f → 0 < length (body_from 0 (f ∷ fs))
     some_body f [] some = some
-    some_body f (g ∷ gs) some = omega (arith, length-append (spelling (length f) ++ f) (body_from 1 (g ∷ gs)), length-append (spelling (length f)) f)
+    some_body f (g ∷ gs) some = omega (
+      arith,
+      length-append (spelling (length f) ++ f) (body_from 1 (g ∷ gs)),
+      length-append (spelling (length f)) f,
+    )
 
-    by_first : (t u : Bool) → t ≡ false → (part : List ℕ) → 0 < length part → (others : List (List ℕ)) → 0 < length (body_from 0 (if t then [] else (if u then part ∷ [] else e ∷ others)))
+    by_first : (t u : Bool) → t ≡ false → (part : List ℕ) → 0 < length part → (others : List (List ℕ))
+        → 0 < length (body_from 0 (if t then [] else (if u then part ∷ [] else e ∷ others)))
     by_first true u is part some others = absurd (cc)
     by_first false true is part some others = some_body part [] some
     by_first false false is part some others = some_body e others are.0
 
-pub packets-are : (k limit : ℕ) (z n : Bool) (texts : List (List ℕ)) → 2 ≤ limit → AreTexts texts → length (joined texts) ≤ k → ArePackets limit z n texts (packets_within k limit z n texts)
+pub packets-are : (k limit : ℕ) (z n : Bool) (texts : List (List ℕ)) → 2 ≤ limit → AreTexts texts
+    → length (joined texts) ≤ k → ArePackets limit z n texts (packets_within k limit z n texts)
 packets-are zero limit z n [] room are le = refl
 packets-are zero limit z n (e ∷ es) room are le = absurd (omega (arith, total-cons e es, are.0))
 packets-are (suc k) limit z n [] room are le = refl
@@ -110,15 +150,21 @@ packets-are (suc k) limit z n (e ∷ es) room are le =
       longest-is limit z n texts room are,
       refl,
       omega (arith, body_some size e es some are),
-      packets-are k limit (is_cut size texts) false (back size texts) room (texts-back size texts are) (omega (arith, total-back size texts, some)),
+      packets-are k limit (is_cut size texts) false (back size texts) room (texts-back size texts are)
+          (omega (arith, total-back size texts, some)),
     )
 
 abbrev sent_by : Sender → ℕ → List Obu → Bool → Result Sent PacketError
-sent_by s limit os t = Ok (record { packets = if t then [] else packets_of limit (begins_sequence os) (texts_of os); sender = s })
+sent_by s limit os t = Ok (record {
+  packets =
+      if t then [] else packets_of limit (begins_sequence os) (texts_of os);
+  sender = s;
+})
 
 sent_are : (s : Sender) (limit : ℕ) (os : List Obu) (sent : Sent) (t : Bool) → ltb limit 2 ≡ t → AreTexts (texts_of os)
     → sent_by s limit os t ≡ Ok sent
-    → (2 ≤ limit → ArePackets limit false (begins_sequence os) (texts_of os) sent.packets) × (limit < 2 → sent.packets ≡ [])
+    → (2 ≤ limit → ArePackets limit false (begins_sequence os) (texts_of os) sent.packets)
+    × (limit < 2 → sent.packets ≡ [])
 sent_are s limit os sent true e are is =
     let low : limit < 2 = grind (arith, nat_tests) in
     let same : record { packets = []; sender = s } ≡ sent = cc in
@@ -127,16 +173,24 @@ sent_are s limit os sent false e are is =
     let high : 2 ≤ limit = grind (arith, nat_tests) in
     let ps : List (List ℕ) = packets_of limit (begins_sequence os) (texts_of os) in
     let same : record { packets = ps; sender = s } ≡ sent = cc in
-    let P : Sent → Type 0 = λ x. ArePackets limit false (begins_sequence os) (texts_of os) x.packets in
-    ((λ room. subst P same (packets-are (length (joined (texts_of os))) limit false (begins_sequence os) (texts_of os) high are (omega arith))), (λ low. absurd (omega arith)))
+    let P : Sent → Type 0 = λ x. ArePackets limit false (begins_sequence os) (texts_of os) x.packets in (
+      (λ room. subst P same (packets-are (length (joined (texts_of os))) limit false (begins_sequence os)
+          (texts_of os) high are (omega arith))),
+      (λ low. absurd (omega arith)),
+    )
 
 pub packets_law : PacketsLaw
 packets_law s limit sample sent os is kept =
-    sent_are s limit os sent (ltb limit 2) refl (sendable-texts os (kept-sendable sample os kept)) (sym (ap (pack_kept s limit) kept) ∙ is)
+    sent_are s limit os sent (ltb limit 2) refl (sendable-texts os (kept-sendable sample os kept))
+    (sym (ap (pack_kept s limit) kept) ∙ is)
 
-refused_if : (s : Sender) (limit : ℕ) (q : Option (List Obu)) (e : PacketError) → pack_kept s limit (option_map (λ os. filter is_kept os) q) ≡ Err e → q ≡ None
+refused_if : (s : Sender) (limit : ℕ) (q : Option (List Obu)) (e : PacketError)
+    → pack_kept s limit (option_map (λ os. filter is_kept os) q) ≡ Err e → q ≡ None
 refused_if s limit None e is = refl
 refused_if s limit (Some os) e is = absurd (cc)
 
 pub refused_law : RefusedLaw
-refused_law s limit sample = ((λ none. ap (λ q. pack_kept s limit (option_map (λ os. filter is_kept os) q)) none), (λ e is. refused_if s limit (obus_of sample) e is))
+refused_law s limit sample = (
+  (λ none. ap (λ q. pack_kept s limit (option_map (λ os. filter is_kept os) q)) none),
+  (λ e is. refused_if s limit (obus_of sample) e is),
+)

@@ -1,13 +1,16 @@
 -- AV1 packets as their elements, one behind the other (RTP payload format for AV1, 4.4 and 4.5).
-use Rattle.std.specs.Prelude.{◌≡◌, ℕ, zero, suc, ◌<◌, ◌||◌, Bool, true, false, List, [], ◌∷◌, ◌++◌, length, Option, Some, None, Ok, Err}
+use Rattle.std.specs.Prelude.{◌≡◌, ℕ, zero, suc, ◌<◌, ◌||◌, Bool, true, false, List, [], ◌∷◌, ◌++◌, length, Option}
+use Rattle.std.specs.Prelude.{Some, None, Ok, Err}
 use Rattle.payload_core_base.specs.Format.{Fragment, Reading}
 use Rattle.payload_core_base.specs.declared.error.PacketError.{PacketError}
 use Rattle.payload_core_base.specs.declared.error.PacketError.TheVariants.{ErrAv1CorruptedPacket, ErrShortPacket}
 use Rattle.payload_core_base.specs.declared.extra.CodecExtra.{CodecExtra}
 use Rattle.payload_core_base.specs.declared.extra.CodecExtra.TheVariants.{Av1}
 use Rattle.payload_core_av1.specs.Leb128.{Spells}
-use Rattle.payload_core_av1.specs.Obus.{Obu, extension_bytes, has_extension, has_size, is_kept, payload_limit, with_its_size}
-use Rattle.payload_core_av1.specs.Av1Reading.{begun, complete, count_w, has_n, has_y, has_z, opened, read_av1, was_keyframe}
+use Rattle.payload_core_av1.specs.Obus.{Obu, extension_bytes, has_extension, has_size, is_kept, payload_limit}
+use Rattle.payload_core_av1.specs.Obus.{with_its_size}
+use Rattle.payload_core_av1.specs.Av1Reading.{begun, complete, count_w, has_n, has_y, has_z, opened, read_av1}
+use Rattle.payload_core_av1.specs.Av1Reading.{was_keyframe}
 
 -- A part behind its size, and a rest behind it.
 pub record IsSized (text part rest : List ℕ) : Type 0 where
@@ -62,24 +65,29 @@ IsGiven (b ∷ bs) bytes = (o : Obu) × IsObu (b ∷ bs) o × GivenBy (is_kept o
 -- What elements give, one behind the other.
 abbrev pub AreGiven : List (List ℕ) → List ℕ → Type 0
 AreGiven [] bytes = bytes ≡ []
-AreGiven (e ∷ es) bytes = (front : List ℕ) × (behind : List ℕ) × (bytes ≡ front ++ behind) × IsGiven e front × AreGiven es behind
+AreGiven (e ∷ es) bytes = (front : List ℕ) × (behind : List ℕ) × (bytes ≡ front ++ behind) × IsGiven e front
+    × AreGiven es behind
 
 -- A packet, what it gives, and the fragment that is open behind it.
-pub record IsAv1Packet (fragment : Fragment) (packet written : List ℕ) (after : Fragment) (keyframe : Bool) : Type 0 where
-  pub first : ℕ
-  pub body : List ℕ
-  pub elements : List (List ℕ)
-  pub laid_out : packet ≡ first ∷ body
-  pub some_body : 0 < length body
-  pub is_body : IsBody (count_w first) body elements
-  pub are_given : AreGiven (complete (has_y first) (begun (has_z first) fragment elements).elements) written
-  pub is_after : after ≡ opened (has_y first) (begun (has_z first) fragment elements).open_still (begun (has_z first) fragment elements).elements
-  pub is_keyframe : keyframe ≡ has_n first
+pub record IsAv1Packet (fragment : Fragment) (packet written : List ℕ) (after : Fragment) (keyframe : Bool) : Type 0
+  where
+    pub first : ℕ
+    pub body : List ℕ
+    pub elements : List (List ℕ)
+    pub laid_out : packet ≡ first ∷ body
+    pub some_body : 0 < length body
+    pub is_body : IsBody (count_w first) body elements
+    pub are_given : AreGiven (complete (has_y first) (begun (has_z first) fragment elements).elements) written
+    pub is_after : after ≡ opened (has_y first) (begun (has_z first) fragment elements).open_still
+        (begun (has_z first) fragment elements).elements
+    pub is_keyframe : keyframe ≡ has_n first
 
 -- Every such packet is read so.
 abbrev pub LayoutLaw : Type 0
-LayoutLaw = (fragment after : Fragment) (extra : CodecExtra) (packet written : List ℕ) (keyframe : Bool) → IsAv1Packet fragment packet written after keyframe
-    → read_av1 fragment extra packet ≡ Ok (record { written = written; extra = Av1 (record { is_keyframe = was_keyframe extra || keyframe }); fragment = after })
+LayoutLaw = (fragment after : Fragment) (extra : CodecExtra) (packet written : List ℕ) (keyframe : Bool)
+    → IsAv1Packet fragment packet written after keyframe
+    → read_av1 fragment extra packet ≡ Ok (record
+    { written = written; extra = Av1 (record { is_keyframe = was_keyframe extra || keyframe }); fragment = after })
 
 -- A reading is that of a packet that is laid out so.
 pub record IsReadAs (fragment : Fragment) (extra : CodecExtra) (packet : List ℕ) (r : Reading) : Type 0 where
@@ -89,9 +97,11 @@ pub record IsReadAs (fragment : Fragment) (extra : CodecExtra) (packet : List �
 
 -- And no other packet is read.
 abbrev pub ReadLaw : Type 0
-ReadLaw = (fragment : Fragment) (extra : CodecExtra) (packet : List ℕ) (r : Reading) → read_av1 fragment extra packet ≡ Ok r → IsReadAs fragment extra packet r
+ReadLaw = (fragment : Fragment) (extra : CodecExtra) (packet : List ℕ) (r : Reading) → read_av1 fragment extra packet
+    ≡ Ok r → IsReadAs fragment extra packet r
 
 -- A packet of fewer than two bytes is refused as short, and every other one that is refused as corrupted.
 abbrev pub ShortLaw : Type 0
-ShortLaw = (fragment : Fragment) (extra : CodecExtra) (packet : List ℕ) → (length packet < 2 → read_av1 fragment extra packet ≡ Err ErrShortPacket)
+ShortLaw = (fragment : Fragment) (extra : CodecExtra) (packet : List ℕ)
+    → (length packet < 2 → read_av1 fragment extra packet ≡ Err ErrShortPacket)
     × ((e : PacketError) → 1 < length packet → read_av1 fragment extra packet ≡ Err e → e ≡ ErrAv1CorruptedPacket)

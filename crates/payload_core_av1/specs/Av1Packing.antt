@@ -1,5 +1,6 @@
 -- AV1 packets as they are sent (RTP payload format for AV1, 4.4, 4.5 and 5).
-use Rattle.std.specs.Prelude.{ℕ, zero, suc, ◌+◌, ◌-◌, ◌*◌, ◌==◌, Bool, false, List, [], ◌∷◌, ◌++◌, map, length, take, drop, nat_lt, nat_le, Option, Some, None, Result, Ok, Err, if◌then◌else◌}
+use Rattle.std.specs.Prelude.{ℕ, zero, suc, ◌+◌, ◌-◌, ◌*◌, ◌==◌, Bool, false, List, [], ◌∷◌, ◌++◌, map, length, take}
+use Rattle.std.specs.Prelude.{drop, nat_lt, nat_le, Option, Some, None, Result, Ok, Err, if◌then◌else◌}
 use Rattle.payload_core_base.specs.Law.{joined}
 use Rattle.payload_core_base.specs.Packing.{Packing, Sender, Sent}
 use Rattle.payload_core_base.specs.declared.error.PacketError.{PacketError}
@@ -57,7 +58,8 @@ fits limit texts n = nat_le (1 + length (body_from 0 (front n texts))) limit
 unfoldable pub longest : ℕ → List (List ℕ) → ℕ
 longest limit texts = greatest (fits limit texts) (length (joined texts))
 
--- Packets, at most so many, each of the longest prefix of what is left. Z and Y tell a cut in front and at the end, N stands on the first.
+-- Packets, at most so many, each of the longest prefix of what is left. Z and Y tell a cut in front and at the end, N
+-- stands on the first.
 abbrev pub packets_within : ℕ → ℕ → Bool → Bool → List (List ℕ) → List (List ℕ)
 packets_within zero limit z n texts = []
 packets_within (suc k) limit z n [] = []
@@ -75,7 +77,8 @@ texts_of os = map without_its_size os
 
 abbrev pub pack_kept : Sender → ℕ → Option (List Obu) → Result Sent PacketError
 pack_kept s limit None = Err ErrAv1CorruptedPacket
-pack_kept s limit (Some os) = Ok (record { packets = if nat_lt limit 2 then [] else packets_of limit (begins_sequence os) (texts_of os); sender = s })
+pack_kept s limit (Some os) = Ok (record
+    { packets = if nat_lt limit 2 then [] else packets_of limit (begins_sequence os) (texts_of os); sender = s })
 
 -- A sample that isn't units one behind the other is refused. A limit below 2 leaves room for no byte behind the header.
 abbrev pub pack_av1 : Sender → ℕ → List ℕ → Result Sent PacketError

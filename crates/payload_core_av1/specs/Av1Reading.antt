@@ -1,5 +1,6 @@
 -- AV1 packets as they are read (RTP payload format for AV1, sections 4.4 and 4.5).
-use Rattle.std.specs.Prelude.{ℕ, zero, suc, ◌-◌, ◌/◌, ◌%◌, ◌==◌, ◌||◌, Bool, true, false, not, List, [], ◌∷◌, ◌++◌, length, take, slice_index_or, Option, Some, None, Result, Ok, Err, if◌then◌else◌}
+use Rattle.std.specs.Prelude.{ℕ, zero, suc, ◌-◌, ◌/◌, ◌%◌, ◌==◌, ◌||◌, Bool, true, false, not, List, [], ◌∷◌, ◌++◌}
+use Rattle.std.specs.Prelude.{length, take, slice_index_or, Option, Some, None, Result, Ok, Err, if◌then◌else◌}
 use Rattle.payload_core_base.specs.Format.{Format, Fragment, Reading}
 use Rattle.payload_core_base.specs.declared.error.PacketError.{PacketError}
 use Rattle.payload_core_base.specs.declared.error.PacketError.TheVariants.{ErrShortPacket, ErrAv1CorruptedPacket}
@@ -44,12 +45,14 @@ sized_elements (suc n) (b ∷ bs) = and_behind (sized_part (b ∷ bs)) (λ rest.
 abbrev pub elements_of : ℕ → List ℕ → Option (List (List ℕ))
 elements_of w body = if w == 0 then sized_elements (length body) body else counted_elements (w - 1) body
 
--- What the first element is to an open fragment: the elements that are then there, and the fragment that stays open beside them.
+-- What the first element is to an open fragment: the elements that are then there, and the fragment that stays open
+-- beside them.
 pub record Begun : Type 0 where
   pub open_still : Fragment
   pub elements : List (List ℕ)
 
--- With Z the first element goes on with the open fragment; it is passed over where none is open or where it is empty. Without Z an open fragment is given up.
+-- With Z the first element goes on with the open fragment; it is passed over where none is open or where it is empty.
+-- Without Z an open fragment is given up.
 abbrev pub begun : Bool → Fragment → List (List ℕ) → Begun
 begun false fragment elements = record { open_still = None; elements = elements }
 begun true fragment [] = record { open_still = None; elements = [] }
@@ -98,14 +101,16 @@ was_keyframe _ = false
 
 abbrev pub reading_of : Option (List ℕ) → Bool → Fragment → Result Reading PacketError
 reading_of None keyframe fragment = Err ErrAv1CorruptedPacket
-reading_of (Some written) keyframe fragment = Ok (record { written = written; extra = Av1 (record { is_keyframe = keyframe }); fragment = fragment })
+reading_of (Some written) keyframe fragment =
+    Ok (record { written = written; extra = Av1 (record { is_keyframe = keyframe }); fragment = fragment })
 
 abbrev pub read_begun : Bool → Bool → Begun → Result Reading PacketError
 read_begun y keyframe b = reading_of (all_given (complete y b.elements)) keyframe (opened y b.open_still b.elements)
 
 abbrev pub read_elements : ℕ → Fragment → CodecExtra → Option (List (List ℕ)) → Result Reading PacketError
 read_elements first fragment extra None = Err ErrAv1CorruptedPacket
-read_elements first fragment extra (Some es) = read_begun (has_y first) (was_keyframe extra || has_n first) (begun (has_z first) fragment es)
+read_elements first fragment extra (Some es) =
+    read_begun (has_y first) (was_keyframe extra || has_n first) (begun (has_z first) fragment es)
 
 -- A packet has its aggregation header and a byte behind it.
 abbrev pub read_av1 : Fragment → CodecExtra → List ℕ → Result Reading PacketError

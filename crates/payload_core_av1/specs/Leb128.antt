@@ -1,5 +1,7 @@
--- Sizes as leb128 spells them (AV1 bitstream specification 4.10.5): seven bits a byte, the lowest first, and the top bit in each byte but the last. At most eight bytes.
-use Rattle.std.specs.Prelude.{◌≡◌, ℕ, zero, suc, ◌+◌, ◌*◌, ◌/◌, ◌%◌, ◌<◌, ◌≤◌, List, [], ◌∷◌, length, take, drop, nat_lt, nat_le, Option, Some, None, if◌then◌else◌}
+-- Sizes as leb128 spells them (AV1 bitstream specification 4.10.5): seven bits a byte, the lowest first, and the top
+-- bit in each byte but the last. At most eight bytes.
+use Rattle.std.specs.Prelude.{◌≡◌, ℕ, zero, suc, ◌+◌, ◌*◌, ◌/◌, ◌%◌, ◌<◌, ◌≤◌, List, [], ◌∷◌, length, take, drop}
+use Rattle.std.specs.Prelude.{nat_lt, nat_le, Option, Some, None, if◌then◌else◌}
 
 -- Eight bytes spell the sizes below this, 2^56.
 abbrev pub size_limit : ℕ
@@ -35,7 +37,8 @@ behind_byte b (Some s) = Some (record { size = b % 128 + 128 * s.size; rest = s.
 abbrev pub size_within : ℕ → List ℕ → Option Sized
 size_within zero bytes = None
 size_within (suc k) [] = None
-size_within (suc k) (b ∷ bs) = if nat_lt b 128 then Some (record { size = b; rest = bs }) else behind_byte b (size_within k bs)
+size_within (suc k) (b ∷ bs) = if nat_lt b 128 then Some (record { size = b; rest = bs })
+    else behind_byte b (size_within k bs)
 
 unfoldable pub size_in : List ℕ → Option Sized
 size_in bytes = size_within 8 bytes
@@ -56,7 +59,8 @@ pub record Cut : Type 0 where
 
 abbrev pub cut_by : Option Sized → Option Cut
 cut_by None = None
-cut_by (Some s) = if nat_le s.size (length s.rest) then Some (record { part = take s.size s.rest; rest = drop s.size s.rest }) else None
+cut_by (Some s) = if nat_le s.size (length s.rest)
+    then Some (record { part = take s.size s.rest; rest = drop s.size s.rest }) else None
 
 -- The part of a text that stands behind its size, if all of it is there.
 abbrev pub sized_part : List ℕ → Option Cut

@@ -9,3 +9,4 @@ pub mod Samples
 pub mod Av1Packing
 pub mod Av1Packets
 pub mod Av1Coding
+pub mod Av1Open

@@ -1,5 +1,6 @@
 -- Open bitstream units (AV1 bitstream specification 5.3.1 to 5.3.3), and those of a temporal unit that are sent.
-use Rattle.std.specs.Prelude.{ℕ, ◌+◌, ◌-◌, ◌/◌, ◌%◌, ◌==◌, ◌||◌, Bool, true, false, not, List, [], ◌∷◌, ◌++◌, length, nat_lt, Option, Some, None, if◌then◌else◌}
+use Rattle.std.specs.Prelude.{ℕ, ◌+◌, ◌-◌, ◌/◌, ◌%◌, ◌==◌, ◌||◌, Bool, true, false, not, List, [], ◌∷◌, ◌++◌, length}
+use Rattle.std.specs.Prelude.{nat_lt, Option, Some, None, if◌then◌else◌}
 use Rattle.payload_core_av1.specs.Leb128.{Cut, sized_part, spelling}
 
 -- A header byte: a forbidden bit, the type in four bits, X, S and a reserved bit.

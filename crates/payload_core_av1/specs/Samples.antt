@@ -1,5 +1,6 @@
 -- Temporal units, and the units of them that are sent (AV1 bitstream specification 7.5; RTP payload format for AV1, 5).
-use Rattle.std.specs.Prelude.{◌≡◌, ℕ, zero, suc, ◌==◌, Bool, false, List, [], ◌∷◌, ◌++◌, length, filter, Option, Some, None, option_map}
+use Rattle.std.specs.Prelude.{◌≡◌, ℕ, zero, suc, ◌==◌, Bool, false, List, [], ◌∷◌, ◌++◌, length, filter, Option, Some}
+use Rattle.std.specs.Prelude.{None, option_map}
 use Rattle.std.specs.List.{flat_map, list_any}
 use Rattle.payload_core_av1.specs.Obus.{Obu, ObuCut, first_obu, has_size, is_kept, type_of, with_its_size}
 use Rattle.payload_core_av1.specs.Av1Layout.{IsObu}
@@ -24,7 +25,8 @@ obus_of sample = obus_within (length sample) sample
 -- The same as a relation: units one behind the other, of which the last alone may have no size.
 abbrev pub AreObus : List ℕ → List Obu → Type 0
 AreObus sample [] = sample ≡ []
-AreObus sample (o ∷ os) = (front : List ℕ) × (rest : List ℕ) × (sample ≡ front ++ rest) × IsObu front o × (has_size o.header ≡ false → rest ≡ []) × AreObus rest os
+AreObus sample (o ∷ os) = (front : List ℕ) × (rest : List ℕ) × (sample ≡ front ++ rest) × IsObu front o
+    × (has_size o.header ≡ false → rest ≡ []) × AreObus rest os
 
 -- The units of a sample that are sent.
 abbrev pub kept_of : List ℕ → Option (List Obu)
@@ -43,7 +45,8 @@ begins_sequence os = list_any is_sequence_header os
 
 -- Just the texts that are units one behind the other have units.
 abbrev pub SampleLaw : Type 0
-SampleLaw = (sample : List ℕ) (os : List Obu) → (AreObus sample os → obus_of sample ≡ Some os) × (obus_of sample ≡ Some os → AreObus sample os)
+SampleLaw = (sample : List ℕ) (os : List Obu) → (AreObus sample os → obus_of sample ≡ Some os)
+    × (obus_of sample ≡ Some os → AreObus sample os)
 
 -- Keeping twice is keeping once.
 abbrev pub KeptOnce : Type 0

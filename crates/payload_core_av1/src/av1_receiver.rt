@@ -1,10 +1,13 @@
 //! Reading AV1 payloads (RTP payload format for AV1, 4.4 and 4.5).
 
-ghost use Rattle.payload_core_av1.specs.Av1Reading.{all_given, av1_format, begun, complete, counted_elements, elements_of, given, has_y, has_z, is_av1_keyframe, opened, opened_by, sized_elements, was_keyframe};
+ghost use Rattle.payload_core_av1.specs.Av1Reading.{all_given, av1_format, begun, complete, counted_elements};
+ghost use Rattle.payload_core_av1.specs.Av1Reading.{elements_of, given, has_y, has_z, is_av1_keyframe, opened};
+ghost use Rattle.payload_core_av1.specs.Av1Reading.{opened_by, sized_elements, was_keyframe};
 ghost use Rattle.payload_core_av1.specs.Av1ReadingViews.{Gathers, or_else};
 ghost use Rattle.payload_core_av1.specs.Av1ReadingTypes.{fragment_after};
 ghost use Rattle.payload_core_base.specs.Format.{Fragment};
-ghost use Rattle.std.specs.Prelude.{[], ◌∷◌, ◌≡◌, ◌≢◌, ◌/◌, ◌%◌, ◌==◌, ◌<◌, ◌++◌, IfErr, IfOk, if◌then◌else◌, List, None, Some, map, option_map, length, ℕ, Option};
+ghost use Rattle.std.specs.Prelude.{[], ◌∷◌, ◌≡◌, ◌≢◌, ◌/◌, ◌%◌, ◌==◌, ◌<◌, ◌++◌, IfErr, IfOk, if◌then◌else◌, List};
+ghost use Rattle.std.specs.Prelude.{None, Some, map, option_map, length, ℕ, Option};
 
 use crate::leb128::sized_part;
 use crate::obu::whole_obu;
@@ -54,7 +57,8 @@ fn has_bit(byte: u8, weight: u8) -> bool
 // So many elements behind their sizes, and the rest as the last one.
 fn counted_elements(alloc: Global, count: u8, body: &[u8]) -> Result<Vec<&[u8]>, PacketError>
     ensures value { IfOk result (λ es. counted_elements count body.now ≡ Some (map (λ e. e.now) es.items)) }
-    ensures refused { IfErr result (λ e. e ≢ PacketError.Memory → (e ≡ PacketError.ErrAv1CorruptedPacket) × (counted_elements count body.now ≡ None)) }
+    ensures refused { IfErr result (λ e. e ≢ PacketError.Memory → (e ≡ PacketError.ErrAv1CorruptedPacket)
+        × (counted_elements count body.now ≡ None)) }
 {
     let mut elements = Vec::new(alloc);
     let mut rest = body;
@@ -72,7 +76,8 @@ fn counted_elements(alloc: Global, count: u8, body: &[u8]) -> Result<Vec<&[u8]>,
 // Elements behind their sizes up to the end.
 fn sized_elements(alloc: Global, body: &[u8]) -> Result<Vec<&[u8]>, PacketError>
     ensures value { IfOk result (λ es. sized_elements (length body.now) body.now ≡ Some (map (λ e. e.now) es.items)) }
-    ensures refused { IfErr result (λ e. e ≢ PacketError.Memory → (e ≡ PacketError.ErrAv1CorruptedPacket) × (sized_elements (length body.now) body.now ≡ None)) }
+    ensures refused { IfErr result (λ e. e ≢ PacketError.Memory → (e ≡ PacketError.ErrAv1CorruptedPacket)
+        × (sized_elements (length body.now) body.now ≡ None)) }
 {
     let mut elements = Vec::new(alloc);
     let mut rest = body;
@@ -89,7 +94,8 @@ fn sized_elements(alloc: Global, body: &[u8]) -> Result<Vec<&[u8]>, PacketError>
 // The elements of a packet: W of them, the last without a size; with W = 0 any number.
 fn elements_of(alloc: Global, w: u8, body: &[u8]) -> Result<Vec<&[u8]>, PacketError>
     ensures value { IfOk result (λ es. elements_of w body.now ≡ Some (map (λ e. e.now) es.items)) }
-    ensures refused { IfErr result (λ e. e ≢ PacketError.Memory → (e ≡ PacketError.ErrAv1CorruptedPacket) × (elements_of w body.now ≡ None)) }
+    ensures refused { IfErr result (λ e. e ≢ PacketError.Memory → (e ≡ PacketError.ErrAv1CorruptedPacket)
+        × (elements_of w body.now ≡ None)) }
 {
     if w == 0 {
         sized_elements(alloc, body)
@@ -101,7 +107,8 @@ fn elements_of(alloc: Global, w: u8, body: &[u8]) -> Result<Vec<&[u8]>, PacketEr
 // Writes the unit that a complete element is, if it is kept.
 fn give(element: &[u8], out: &mut Vec<u8>) -> Result<(), PacketError>
     ensures given { IfOk result (λ _. Gathers out.old.items (given element.now) out.new.items) }
-    ensures refused { IfErr result (λ e. e ≢ PacketError.Memory → (e ≡ PacketError.ErrAv1CorruptedPacket) × (given element.now ≡ None)) }
+    ensures refused { IfErr result (λ e. e ≢ PacketError.Memory → (e ≡ PacketError.ErrAv1CorruptedPacket)
+        × (given element.now ≡ None)) }
 {
     if element.is_empty() {
         return Ok(());
@@ -118,7 +125,8 @@ fn give(element: &[u8], out: &mut Vec<u8>) -> Result<(), PacketError>
 // Writes what complete elements give, one behind the other.
 fn give_all(elements: &[&[u8]], out: &mut Vec<u8>) -> Result<(), PacketError>
     ensures given { IfOk result (λ _. Gathers out.old.items (all_given (map (λ e. e.now) elements.now)) out.new.items) }
-    ensures refused { IfErr result (λ e. e ≢ PacketError.Memory → (e ≡ PacketError.ErrAv1CorruptedPacket) × (all_given (map (λ e. e.now) elements.now) ≡ None)) }
+    ensures refused { IfErr result (λ e. e ≢ PacketError.Memory → (e ≡ PacketError.ErrAv1CorruptedPacket)
+        × (all_given (map (λ e. e.now) elements.now) ≡ None)) }
 {
     for element in elements {
         match give(element, out) {
@@ -131,7 +139,8 @@ fn give_all(elements: &[&[u8]], out: &mut Vec<u8>) -> Result<(), PacketError>
 
 // The fragment that an element opens: none where it is empty.
 fn opened_by(alloc: Global, element: &[u8]) -> Result<Option<Vec<u8>>, PacketError>
-    ensures opened { IfOk result (λ f. (before : Fragment) → opened_by before element.now ≡ or_else (option_map (λ v. v.items) f) before) }
+    ensures opened { IfOk result (λ f. (before : Fragment) → opened_by before element.now
+        ≡ or_else (option_map (λ v. v.items) f) before) }
     ensures memory { IfErr result (λ e. e ≡ PacketError.Memory) }
 {
     if element.is_empty() {
@@ -148,9 +157,13 @@ fn gather(
     stays_open: bool,
     elements: &[&[u8]],
 ) -> Result<Gathered, PacketError>
-    ensures written { IfOk result (λ g. Gathers written.items (all_given (complete opens_last (map (λ e. e.now) elements.now))) g.written.items) }
-    ensures fragment { IfOk result (λ g. (before : Fragment) → opened opens_last (if stays_open then before else None) (map (λ e. e.now) elements.now) ≡ fragment_after before g) }
-    ensures refused { IfErr result (λ e. e ≢ PacketError.Memory → (e ≡ PacketError.ErrAv1CorruptedPacket) × (all_given (complete opens_last (map (λ e. e.now) elements.now)) ≡ None)) }
+    ensures written { IfOk result (λ g. Gathers written.items
+        (all_given (complete opens_last (map (λ e. e.now) elements.now))) g.written.items) }
+    ensures fragment { IfOk result (λ g. (before : Fragment)
+        → opened opens_last (if stays_open then before else None) (map (λ e. e.now) elements.now)
+        ≡ fragment_after before g) }
+    ensures refused { IfErr result (λ e. e ≢ PacketError.Memory → (e ≡ PacketError.ErrAv1CorruptedPacket)
+        × (all_given (complete opens_last (map (λ e. e.now) elements.now)) ≡ None)) }
 {
     if !opens_last {
         give_all(elements, &mut written)?;
@@ -185,9 +198,12 @@ fn gather_one(
     joined: Vec<u8>,
 ) -> Result<Gathered, PacketError>
     requires { 0 < length joined.items }
-    ensures written { IfOk result (λ g. Gathers written.items (all_given (complete opens_last (joined.items ∷ []))) g.written.items) }
-    ensures fragment { IfOk result (λ g. (before : Fragment) → opened opens_last None (joined.items ∷ []) ≡ fragment_after before g) }
-    ensures refused { IfErr result (λ e. e ≢ PacketError.Memory → (e ≡ PacketError.ErrAv1CorruptedPacket) × (all_given (complete opens_last (joined.items ∷ [])) ≡ None)) }
+    ensures written { IfOk result (λ g. Gathers written.items (all_given (complete opens_last (joined.items ∷ [])))
+        g.written.items) }
+    ensures fragment { IfOk result (λ g. (before : Fragment) → opened opens_last None (joined.items ∷ [])
+        ≡ fragment_after before g) }
+    ensures refused { IfErr result (λ e. e ≢ PacketError.Memory → (e ≡ PacketError.ErrAv1CorruptedPacket)
+        × (all_given (complete opens_last (joined.items ∷ [])) ≡ None)) }
 {
     let stays_open = false;
     if opens_last {
@@ -218,9 +234,12 @@ fn gather_joined(
     others: &[&[u8]],
 ) -> Result<Gathered, PacketError>
     requires { 0 < length joined.items }
-    ensures written { IfOk result (λ g. Gathers written.items (all_given (complete opens_last (joined.items ∷ map (λ e. e.now) others.now))) g.written.items) }
-    ensures fragment { IfOk result (λ g. (before : Fragment) → opened opens_last None (joined.items ∷ map (λ e. e.now) others.now) ≡ fragment_after before g) }
-    ensures refused { IfErr result (λ e. e ≢ PacketError.Memory → (e ≡ PacketError.ErrAv1CorruptedPacket) × (all_given (complete opens_last (joined.items ∷ map (λ e. e.now) others.now)) ≡ None)) }
+    ensures written { IfOk result (λ g. Gathers written.items
+        (all_given (complete opens_last (joined.items ∷ map (λ e. e.now) others.now))) g.written.items) }
+    ensures fragment { IfOk result (λ g. (before : Fragment)
+        → opened opens_last None (joined.items ∷ map (λ e. e.now) others.now) ≡ fragment_after before g) }
+    ensures refused { IfErr result (λ e. e ≢ PacketError.Memory → (e ≡ PacketError.ErrAv1CorruptedPacket)
+        × (all_given (complete opens_last (joined.items ∷ map (λ e. e.now) others.now)) ≡ None)) }
 {
     if others.is_empty() {
         return gather_one(written, opens_last, joined);
@@ -255,12 +274,17 @@ impl Av1Depacketizer {
 
     // What a packet's elements give behind the open fragment.
     fn gather_behind(&self, first: u8, elements: &[&[u8]]) -> Result<Gathered, PacketError>
-        ensures written { IfOk result (λ g. let all = begun (has_z first) (option_map (λ v. v.items) self.now.fragment) (map (λ e. e.now) elements.now) in
+        ensures written { IfOk result (λ g. let all =
+            begun (has_z first) (option_map (λ v. v.items) self.now.fragment) (map (λ e. e.now) elements.now) in
             all_given (complete (has_y first) all.elements) ≡ Some g.written.items) }
-        ensures fragment { IfOk result (λ g. let all = begun (has_z first) (option_map (λ v. v.items) self.now.fragment) (map (λ e. e.now) elements.now) in
-            opened (has_y first) all.open_still all.elements ≡ fragment_after (option_map (λ v. v.items) self.now.fragment) g) }
-        ensures refused { let all = begun (has_z first) (option_map (λ v. v.items) self.now.fragment) (map (λ e. e.now) elements.now) in
-            IfErr result (λ e. e ≢ PacketError.Memory → (e ≡ PacketError.ErrAv1CorruptedPacket) × (all_given (complete (has_y first) all.elements) ≡ None)) }
+        ensures fragment { IfOk result (λ g. let all =
+            begun (has_z first) (option_map (λ v. v.items) self.now.fragment) (map (λ e. e.now) elements.now) in
+            opened (has_y first) all.open_still all.elements
+            ≡ fragment_after (option_map (λ v. v.items) self.now.fragment) g) }
+        ensures refused { let all = begun (has_z first) (option_map (λ v. v.items) self.now.fragment)
+            (map (λ e. e.now) elements.now) in
+            IfErr result (λ e. e ≢ PacketError.Memory → (e ≡ PacketError.ErrAv1CorruptedPacket)
+            × (all_given (complete (has_y first) all.elements) ≡ None)) }
     {
         let opens_last = has_bit(first, Y);
         let written = Vec::new(self.alloc);

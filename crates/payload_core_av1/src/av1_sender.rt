@@ -1,11 +1,13 @@
 //! Sending AV1 payloads (RTP payload format for AV1, 4.4, 4.5 and 5).
 
-ghost use Rattle.payload_core_av1.specs.Av1Packing.{aggregation, av1_packing, back, body_from, count_field, front, is_cut, longest, packet_of, packets_of, sized, texts_of};
+ghost use Rattle.payload_core_av1.specs.Av1Packing.{aggregation, av1_packing, back, body_from, count_field, front};
+ghost use Rattle.payload_core_av1.specs.Av1Packing.{is_cut, longest, packet_of, packets_of, sized, texts_of};
 ghost use Rattle.payload_core_av1.specs.Leb128.{size_limit};
 ghost use Rattle.payload_core_av1.specs.Obus.{is_kept, obu as spec_obu};
 ghost use Rattle.payload_core_av1.specs.Av1Packets.{AreTexts, greatest_part};
 ghost use Rattle.payload_core_av1.specs.Samples.{begins_sequence, kept_of};
-ghost use Rattle.std.specs.Prelude.{◌≡◌, ◌≢◌, ◌+◌, ◌++◌, ◌<◌, ◌≤◌, ◌∷◌, if◌then◌else◌, [], false, ◌||◌, nat_le, nat_lt, filter, option_map, IfErr, IfOk, List, None, Some, map, length};
+ghost use Rattle.std.specs.Prelude.{◌≡◌, ◌≢◌, ◌+◌, ◌++◌, ◌<◌, ◌≤◌, ◌∷◌, if◌then◌else◌, [], false, ◌||◌, nat_le};
+ghost use Rattle.std.specs.Prelude.{nat_lt, filter, option_map, IfErr, IfOk, List, None, Some, map, length};
 
 use crate::leb128::{push_size, size_len};
 use crate::obu::{Obu, first_obu};
@@ -45,9 +47,12 @@ fn next_elements<'a>(
     texts: &mut VecDeque<&'a [u8]>,
 ) -> Result<(Vec<&'a [u8]>, bool), PacketError>
     requires { AreTexts (map (λ t. t.now) texts.old.items) }
-    ensures elements { IfOk result (λ e. map (λ t. t.now) e.0.items ≡ front (longest (room + 1) (map (λ t. t.now) texts.old.items)) (map (λ t. t.now) texts.old.items)) }
-    ensures cut { IfOk result (λ e. e.1 ≡ is_cut (longest (room + 1) (map (λ t. t.now) texts.old.items)) (map (λ t. t.now) texts.old.items)) }
-    ensures left { IfOk result (λ _. map (λ t. t.now) texts.new.items ≡ back (longest (room + 1) (map (λ t. t.now) texts.old.items)) (map (λ t. t.now) texts.old.items)) }
+    ensures elements { IfOk result (λ e. map (λ t. t.now) e.0.items
+        ≡ front (longest (room + 1) (map (λ t. t.now) texts.old.items)) (map (λ t. t.now) texts.old.items)) }
+    ensures cut { IfOk result (λ e. e.1 ≡ is_cut (longest (room + 1) (map (λ t. t.now) texts.old.items))
+        (map (λ t. t.now) texts.old.items)) }
+    ensures left { IfOk result (λ _. map (λ t. t.now) texts.new.items
+        ≡ back (longest (room + 1) (map (λ t. t.now) texts.old.items)) (map (λ t. t.now) texts.old.items)) }
     ensures memory { IfErr result (λ e. e ≡ PacketError.Memory) }
 {
     let mut elements = Vec::new(alloc);
@@ -91,7 +96,8 @@ fn has_size(place: usize, count: usize) -> bool
 // Writes an element, with its size in front or without.
 fn push_element(has_size: bool, element: &[u8], out: &mut Vec<u8>) -> Result<(), PacketError>
     requires { length element.now < size_limit }
-    ensures written { IfOk result (λ _. out.new.items ≡ out.old.items ++ (if has_size then sized element.now else element.now)) }
+    ensures written { IfOk result (λ _. out.new.items ≡ out.old.items
+        ++ (if has_size then sized element.now else element.now)) }
     ensures memory { IfErr result (λ e. e ≡ PacketError.Memory) }
 {
     if has_size {
@@ -130,7 +136,8 @@ fn packets(
 ) -> Result<Vec<Vec<u8>>, PacketError>
     requires limit { 2 ≤ limit }
     requires texts { AreTexts (map (λ t. t.now) texts.items) }
-    ensures packets { IfOk result (λ ps. map (λ p. p.items) ps.items ≡ packets_of limit begins (map (λ t. t.now) texts.entry.items)) }
+    ensures packets { IfOk result (λ ps. map (λ p. p.items) ps.items
+        ≡ packets_of limit begins (map (λ t. t.now) texts.entry.items)) }
     ensures memory { IfErr result (λ e. e ≡ PacketError.Memory) }
 {
     let mut texts = texts;
@@ -156,7 +163,8 @@ struct Kept {
 // Keeps a unit, if it is sent.
 fn keep(alloc: Global, obu: &Obu<'_>, kept: &mut Kept) -> Result<(), PacketError>
     ensures texts { let os = filter is_kept (spec_obu obu.now.header obu.now.extension obu.now.payload.now ∷ []) in
-        IfOk result (λ _. map (λ t. t.items) kept.new.texts.items ≡ map (λ t. t.items) kept.old.texts.items ++ texts_of os) }
+        IfOk result (λ _. map (λ t. t.items) kept.new.texts.items ≡ map (λ t. t.items) kept.old.texts.items
+        ++ texts_of os) }
     ensures begins { let os = filter is_kept (spec_obu obu.now.header obu.now.extension obu.now.payload.now ∷ []) in
         IfOk result (λ _. kept.new.begins ≡ (kept.old.begins || begins_sequence os)) }
     ensures memory { IfErr result (λ e. e ≡ PacketError.Memory) }
@@ -171,9 +179,11 @@ fn keep(alloc: Global, obu: &Obu<'_>, kept: &mut Kept) -> Result<(), PacketError
 
 // The units of a sample that are sent.
 fn kept_of(alloc: Global, sample: &[u8]) -> Result<Kept, PacketError>
-    ensures texts { IfOk result (λ k. option_map texts_of (kept_of sample.now) ≡ Some (map (λ t. t.items) k.texts.items)) }
+    ensures texts { IfOk result (λ k. option_map texts_of (kept_of sample.now)
+        ≡ Some (map (λ t. t.items) k.texts.items)) }
     ensures begins { IfOk result (λ k. option_map begins_sequence (kept_of sample.now) ≡ Some k.begins) }
-    ensures refused { IfErr result (λ e. e ≢ PacketError.Memory → (e ≡ PacketError.ErrAv1CorruptedPacket) × (kept_of sample.now ≡ None)) }
+    ensures refused { IfErr result (λ e. e ≢ PacketError.Memory → (e ≡ PacketError.ErrAv1CorruptedPacket)
+        × (kept_of sample.now ≡ None)) }
 {
     let mut kept = Kept {
         texts: Vec::new(alloc),

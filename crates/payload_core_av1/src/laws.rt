@@ -1,7 +1,9 @@
 //! The laws of AV1 payloads.
 
-ghost use Rattle.payload_core_av1.specs.Av1Coding.{HeaderLaw, av1_coding, PacketsLaw, PrefixLaw, RefusedLaw, SpellingLaw};
+ghost use Rattle.payload_core_av1.specs.Av1Coding.{HeaderLaw, av1_coding, PacketsLaw, PrefixLaw, RefusedLaw};
+ghost use Rattle.payload_core_av1.specs.Av1Coding.{SpellingLaw};
 ghost use Rattle.payload_core_av1.specs.Av1Layout.{LayoutLaw, ReadLaw, ShortLaw};
+ghost use Rattle.payload_core_av1.specs.Av1Open.{EmptyLaw, FreshLaw};
 ghost use Rattle.payload_core_av1.specs.Samples.{KeptOnce, SampleLaw};
 ghost use Rattle.payload_core_base.specs.Law.{CodecLaw};
 
@@ -37,4 +39,11 @@ pub fn av1_packets_law()
 /// A size is written in its shortest spelling.
 pub fn av1_size_law()
     ensures { SpellingLaw }
+{}
+
+/// A packet without Z is read alike, whatever fragment is open; one with Z whose one element is empty gives nothing, and
+/// leaves the open fragment as it was.
+pub fn av1_open_law()
+    ensures fresh { FreshLaw }
+    ensures empty { EmptyLaw }
 {}

@@ -1,7 +1,8 @@
 //! Sizes in leb128 (AV1 bitstream specification 4.10.5).
 
 ghost use Rattle.payload_core_av1.specs.Leb128.{cut_by, size_in, size_limit, size_within, sized_part, spelling};
-ghost use Rattle.std.specs.Prelude.{◌≡◌, ◌+◌, ◌++◌, ◌<◌, ◌≤◌, IfErr, IfOk, IfSome, MatchOption, None, Some, drop, length, take};
+ghost use Rattle.std.specs.Prelude.{◌≡◌, ◌+◌, ◌++◌, ◌<◌, ◌≤◌, IfErr, IfOk, IfSome, MatchOption, None, Some, drop};
+ghost use Rattle.std.specs.Prelude.{length, take};
 ghost use Rattle.payload_core_av1.specs.Bounds.{bound_of};
 
 use payload_core_base::PacketError;

@@ -9,4 +9,4 @@ mod obu;
 
 pub use av1_receiver::{Av1Depacketizer, detect_av1_keyframe};
 pub use av1_sender::Av1Packetizer;
-pub use laws::{av1_law, av1_layout_law, av1_packets_law, av1_size_law};
+pub use laws::{av1_law, av1_layout_law, av1_open_law, av1_packets_law, av1_size_law};

@@ -1,6 +1,8 @@
 //! Open bitstream units (AV1 bitstream specification 5.3.1 to 5.3.3).
 
-ghost use Rattle.payload_core_av1.specs.Obus.{first_obu, has_extension, has_size, if_small, is_kept, obu, obu_cut, payload_in, payload_limit, whole_obu, with_its_size, with_size, without_its_size, without_size};
+ghost use Rattle.payload_core_av1.specs.Obus.{first_obu, has_extension, has_size, if_small, is_kept, obu, obu_cut};
+ghost use Rattle.payload_core_av1.specs.Obus.{payload_in, payload_limit, whole_obu, with_its_size, with_size};
+ghost use Rattle.payload_core_av1.specs.Obus.{without_its_size, without_size};
 ghost use Rattle.payload_core_av1.specs.Samples.{is_sequence_header};
 ghost use Rattle.std.specs.Prelude.{◌≡◌, ◌+◌, ◌++◌, ◌<◌, ◌≤◌, IfErr, IfOk, IfSome, MatchOption, None, Some, length};
 
@@ -50,8 +52,10 @@ fn without_size(header: u8) -> u8
 // A payload and what stands behind it, if its size can be spelled.
 fn if_small<'a>(payload: &'a [u8], rest: &'a [u8]) -> Option<(&'a [u8], &'a [u8])>
     ensures value { MatchOption result (if_small (Some (record { part = payload.now; rest = rest.now })) ≡ None)
-        (λ cut. if_small (Some (record { part = payload.now; rest = rest.now })) ≡ Some (record { part = cut.0.now; rest = cut.1.now })) }
-    ensures same { IfSome result (λ cut. (cut.0.now ≡ payload.now) × (cut.1.now ≡ rest.now) × (length payload.now < payload_limit)) }
+        (λ cut. if_small (Some (record { part = payload.now; rest = rest.now }))
+        ≡ Some (record { part = cut.0.now; rest = cut.1.now })) }
+    ensures same { IfSome result (λ cut. (cut.0.now ≡ payload.now) × (cut.1.now ≡ rest.now)
+        × (length payload.now < payload_limit)) }
 {
     if payload.len() < PAYLOAD_LIMIT {
         Some((payload, rest))
@@ -129,7 +133,8 @@ impl Obu<'_> {
     /// Writes the unit with S and its size in the shortest form.
     pub fn push_with_size(&self, out: &mut Vec<u8>) -> Result<(), PacketError>
         requires { length self.now.payload.now < payload_limit }
-        ensures written { IfOk result (λ _. out.new.items ≡ out.old.items ++ with_its_size (obu self.now.header self.now.extension self.now.payload.now)) }
+        ensures written { IfOk result (λ _. out.new.items ≡ out.old.items
+            ++ with_its_size (obu self.now.header self.now.extension self.now.payload.now)) }
         ensures memory { IfErr result (λ e. e ≡ PacketError.Memory) }
     {
         out.push(with_size(self.header))?;
@@ -150,7 +155,8 @@ impl Obu<'_> {
 
     /// The bytes of the unit without S and size.
     pub fn without_its_size(&self, alloc: Global) -> Result<Vec<u8>, PacketError>
-        ensures text { IfOk result (λ v. v.items ≡ without_its_size (obu self.now.header self.now.extension self.now.payload.now)) }
+        ensures text { IfOk result (λ v. v.items
+            ≡ without_its_size (obu self.now.header self.now.extension self.now.payload.now)) }
         ensures memory { IfErr result (λ e. e ≡ PacketError.Memory) }
     {
         let mut text = Vec::new(alloc);

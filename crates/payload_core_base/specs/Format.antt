@@ -14,7 +14,8 @@ pub record Reading : Type 0 where
   pub extra : CodecExtra
   pub fragment : Fragment
 
--- A payload format as a receiver sees it: which packets are heads, which are tails by marker and bytes, and what a packet gives or why it is refused.
+-- A payload format as a receiver sees it: which packets are heads, which are tails by marker and bytes, and what a
+-- packet gives or why it is refused.
 pub record Format : Type 0 where
   pub head : List ℕ → Bool
   pub tail : Bool → List ℕ → Bool
@@ -29,7 +30,8 @@ Gives (Err e) old new extra fragment = ⊥
 abbrev pub Refuses : Result Reading PacketError → PacketError → Type 0
 Refuses r e = e ≢ Memory → r ≡ Err e
 
--- What packets give in their order, up to the first that is refused: the bytes, and the extra, the open fragment and the fault after them.
+-- What packets give in their order, up to the first that is refused: the bytes, and the extra, the open fragment and
+-- the fault after them.
 pub record Run : Type 0 where
   pub written : List ℕ
   pub extra : CodecExtra
@@ -48,4 +50,5 @@ run_after fragment extra (Err e) rest = record { written = []; extra = extra; fr
 -- What packets give in their order.
 abbrev pub read_all : Format → Fragment → CodecExtra → List (List ℕ) → Run
 read_all format fragment extra [] = record { written = []; extra = extra; fragment = fragment; fault = None }
-read_all format fragment extra (p ∷ ps) = run_after fragment extra (format.read fragment extra p) (λ f x. read_all format f x ps)
+read_all format fragment extra (p ∷ ps) =
+    run_after fragment extra (format.read fragment extra p) (λ f x. read_all format f x ps)

@@ -24,4 +24,5 @@ TakesAll {S} takes old (o ∷ os) new = (after : S) × takes old o after × Take
 
 -- A sink took the first of these, and refused one.
 abbrev pub TakesFirst : {S : Type 0} → (S → Outgoing → S → Type 0) → (S → S → Type 0) → S → List Outgoing → S → Type 0
-TakesFirst {S} takes keeps old os new = (n : ℕ) × (n ≤ length os) × (after : S) × TakesAll takes old (take n os) after × keeps after new
+TakesFirst {S} takes keeps old os new = (n : ℕ) × (n ≤ length os) × (after : S)
+    × TakesAll takes old (take n os) after × keeps after new

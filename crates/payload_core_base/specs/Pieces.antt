@@ -2,7 +2,8 @@
 use Rattle.std.specs.Prelude.{ℕ, ◌+◌, ◌-◌, ◌*◌, ◌/◌, List, map, length, take, drop}
 use Rattle.std.specs.List.{range_with_len}
 
--- A text of these many bytes has so many pieces of the limit's size, the last of which may be short: a quotient that is rounded up. At limit 0 there are none.
+-- A text of these many bytes has so many pieces of the limit's size, the last of which may be short: a quotient that
+-- is rounded up. At limit 0 there are none.
 abbrev pub piece_count : ℕ → ℕ → ℕ
 piece_count size limit = (size + limit - 1) / limit
 

@@ -1,7 +1,9 @@
 //! Codecs and kinds of media.
 
 ghost use Rattle.std.specs.Prelude.{◌≡◌};
-ghost use Rattle.payload_core_base.specs.Codecs.{codec_named, codec_name, is_audio_codec, is_video_codec, is_tele_codec, kind_of_codec, kind_name, is_audio_kind, is_video_kind, named_codecs};
+ghost use Rattle.payload_core_base.specs.Codecs.{codec_named, codec_name, is_audio_codec, is_video_codec};
+ghost use Rattle.payload_core_base.specs.Codecs.{is_tele_codec, kind_of_codec, kind_name, is_audio_kind};
+ghost use Rattle.payload_core_base.specs.Codecs.{is_video_kind, named_codecs};
 ghost use Rattle.std.specs.Array.Iter.{array_into_iter_items};
 
 use std::{array, fmt};

@@ -39,7 +39,8 @@ pub trait Depacketizer {
             OnOk result (Gives reading out.old.items out.new.items extra.new (fragment self.new)) }
         ensures refused { let reading = (format self.old).read (fragment self.old) extra.old packet.now in
             IfErr result (Refuses reading) }
-        ensures unchanged { OnErr result ((fragment self.new ≡ fragment self.old) × (out.new.items ≡ out.old.items) × (extra.new ≡ extra.old)) };
+        ensures unchanged { OnErr result ((fragment self.new ≡ fragment self.old) × (out.new.items ≡ out.old.items)
+            × (extra.new ≡ extra.old)) };
 
     /// Whether a unit may begin with this packet.
     fn is_partition_head(&self, packet: &[u8]) -> bool

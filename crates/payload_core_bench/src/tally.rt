@@ -38,7 +38,8 @@ impl Tally {
 impl PacketSink for Tally {
     ghost use Rattle.std.specs.Prelude.{length};
 
-    ghost takes = { λ old o new. (new.packets ≡ (old.packets + 1) % 2 ^ 64) × (new.bytes ≡ (old.bytes + length o.payload) % 2 ^ 64) };
+    ghost takes = { λ old o new. (new.packets ≡ (old.packets + 1) % 2 ^ 64)
+        × (new.bytes ≡ (old.bytes + length o.payload) % 2 ^ 64) };
 
     ghost keeps = { λ old new. new ≡ old };
 

@@ -1,5 +1,6 @@
 pub mod KeptLemmas
 pub mod FrameLemmas
+pub mod CompleteLemmas
 pub mod RunLemmas
 pub mod TakeLemmas
 pub mod SendingLemmas

@@ -8,14 +8,16 @@ use Rattle.payload_core_base.specs.Format.{Format, Fragment}
 use Rattle.payload_core_buffer.specs.Buffered.{IsHeldByNumber}
 use Rattle.payload_core_buffer.specs.Frames.{IsFrame, packets_between}
 use Rattle.payload_core_buffer.specs.Packets.{Packet, metas_of, packet_of, packets_of}
-use Rattle.payload_core_buffer.specs.Pops.{StopsIn}
+use Rattle.payload_core_buffer.specs.Pops.{ReadsPart}
 use Rattle.payload_core_buffer.specs.declared.frame.Frame.{Frame}
 use Rattle.payload_core_buffer.specs.declared.held.Held.{Held}
 use Rattle.payload_core_buffer.proofs.KeptLemmas.{drop_entries, keyed_drop, rising-drop}
 
 -- the packets of a frame are those that are held there
-pub between_is : (hs : List Held) (f : Frame) → packets_of (slice_range hs f.start f.end) ≡ packets_between (packets_of hs) f
-between_is hs f = sym (take-map packet_of (f.end - f.start) (drop f.start hs)) ∙ ap (take (f.end - f.start)) (sym (drop-map packet_of f.start hs))
+pub between_is : (hs : List Held) (f : Frame) → packets_of (slice_range hs f.start f.end)
+    ≡ packets_between (packets_of hs) f
+between_is hs f = sym (take-map packet_of (f.end - f.start) (drop f.start hs))
+    ∙ ap (take (f.end - f.start)) (sym (drop-map packet_of f.start hs))
 
 pub metas_are : (hs : List Held) → map (λ h. h.meta) hs ≡ metas_of (packets_of hs)
 metas_are [] = refl
@@ -29,17 +31,31 @@ module _ (n : ℕ) (m new : BTreeMap ℕ Held) (is : new.entries ≡ drop n m.en
   pub by_number_left : IsHeldByNumber m → IsHeldByNumber new
   by_number_left by_number = record {
     in_order = record {
-      room = omega (arith, by_number.in_order.room, length-map m.entries (λ e. e.1), length-map new.entries (λ e. e.1), ap length is, length-drop n m.entries);
+      room = omega (
+        arith,
+        by_number.in_order.room,
+        length-map m.entries (λ e. e.1),
+        length-map new.entries (λ e. e.1),
+        ap length is,
+        length-drop n m.entries,
+      );
       rising = rw left_is (rising-drop n (packets_of (values m)) by_number.in_order.rising);
     };
     keyed = rw is (keyed_drop n m.entries by_number.keyed);
   }
 
 -- no packet of a frame was read
-pub stops_first : (format : Format) (before : Fragment) (ps : List Packet) (f : Frame) → IsFrame format ps f → StopsIn format before (packets_between ps f) before
+pub stops_first : (format : Format) (before : Fragment) (ps : List Packet) (f : Frame) → IsFrame format ps f
+    → ReadsPart format before (packets_between ps f) before
 stops_first format before ps f frame = record {
   count = 0;
-  stopped = omega (arith, frame.not_empty, frame.in_range, length-take (f.end - f.start) (drop f.start ps), length-drop f.start ps);
+  stopped = omega (
+    arith,
+    frame.not_empty,
+    frame.in_range,
+    length-take (f.end - f.start) (drop f.start ps),
+    length-drop f.start ps,
+  );
   no_fault = refl;
   fragment = refl;
 }

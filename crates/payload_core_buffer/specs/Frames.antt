@@ -1,5 +1,6 @@
 -- Complete frames among held packets, which stand in rising number.
-use Rattle.std.specs.Prelude.{◌≡◌, ℕ, zero, suc, ◌+◌, ◌<◌, ◌≤◌, ◌==◌, ◌&&◌, ◌||◌, Bool, true, false, not, List, [], ◌∷◌, Option, Some, None, length, nat_lt, slice_range, slice_index_or, if◌then◌else◌}
+use Rattle.std.specs.Prelude.{◌≡◌, ℕ, zero, suc, ◌+◌, ◌<◌, ◌≤◌, ◌==◌, ◌&&◌, ◌||◌, Bool, true, false, not, List, []}
+use Rattle.std.specs.Prelude.{◌∷◌, Option, Some, None, length, nat_lt, slice_range, slice_index_or, if◌then◌else◌}
 use Rattle.std.specs.List.{filter_map, range_with_len}
 use Rattle.payload_core_base.specs.Format.{Format}
 use Rattle.payload_core_buffer.specs.Packets.{Packet}
@@ -25,9 +26,11 @@ is_head_at format ps k = format.head (packet_at ps k).payload
 abbrev pub is_tail_at : Format → List Packet → ℕ → Bool
 is_tail_at format ps k = format.tail (packet_at ps k).meta.marker (packet_at ps k).payload
 
--- The second packet goes on with the run of the first: it has the next number and the same time, and no unit ends between them.
+-- The second packet goes on with the run of the first: it has the next number and the same time, and no unit ends
+-- between them.
 abbrev pub goes_on : Format → Packet → Packet → Bool
-goes_on format p q = (q.meta.seq_no == p.meta.seq_no + 1) && ((q.meta.time == p.meta.time) && not (format.tail p.meta.marker p.payload))
+goes_on format p q = (q.meta.seq_no == p.meta.seq_no + 1)
+    && ((q.meta.time == p.meta.time) && not (format.tail p.meta.marker p.payload))
 
 -- A packet goes on with the run of the one before it, where there is one.
 abbrev pub is_joined_to : Format → Option Packet → Packet → Bool
@@ -53,7 +56,8 @@ run_or_head None false k = None
 -- The place of the least head from which a run goes on up to the last of the first so many packets.
 abbrev pub run_start : Format → List Packet → ℕ → Option ℕ
 run_start format ps zero = None
-run_start format ps (suc k) = run_or_head (kept_run (is_joined_at format ps k) (run_start format ps k)) (is_head_at format ps k) k
+run_start format ps (suc k) = run_or_head (kept_run (is_joined_at format ps k) (run_start format ps k))
+    (is_head_at format ps k) k
 
 -- The frame of a run whose last packet is a tail or isn't.
 abbrev pub frame_of_run : Bool → Option ℕ → ℕ → Option Frame
@@ -86,11 +90,13 @@ is_next (Some cutoff) number = number == cutoff + 1
 -- The lowest frame, where it is next or more than so many are complete.
 abbrev pub due_of : Option ℕ → ℕ → List Packet → Option Frame → ℕ → Option Frame
 due_of cutoff hold_back ps None count = None
-due_of cutoff hold_back ps (Some f) count = if is_next cutoff (number_at ps f.start) || nat_lt hold_back count then Some f else None
+due_of cutoff hold_back ps (Some f) count = if is_next cutoff (number_at ps f.start) || nat_lt hold_back count
+    then Some f else None
 
 -- The frame that is handed on.
 abbrev pub due_frame : Format → Option ℕ → ℕ → List Packet → Option Frame
-due_frame format cutoff hold_back ps = due_of cutoff hold_back ps (lowest_of (complete_frames format ps)) (length (complete_frames format ps))
+due_frame format cutoff hold_back ps = due_of cutoff hold_back ps (lowest_of (complete_frames format ps))
+    (length (complete_frames format ps))
 
 -- The places of a frame hold consecutive numbers of one time, the first is a head, and the last alone a tail.
 pub record IsFrame (format : Format) (ps : List Packet) (f : Frame) : Type 0 where

@@ -1,6 +1,7 @@
 pub mod Packets
 pub mod Metas
 pub mod Frames
+pub mod CompleteFrames
 pub mod Buffered
 pub mod Pops
 pub mod Sending

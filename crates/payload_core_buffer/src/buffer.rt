@@ -1,6 +1,6 @@
 //! The buffer.
 
-ghost use Rattle.std.specs.Prelude.{◌≡◌, ◌≢◌, [], IfErr, IfNone, IfOk, IfSome, None, OnErr, OnOk};
+ghost use Rattle.std.specs.Prelude.{◌≡◌, [], IfErr, IfNone, IfOk, None, OnErr, OnOk};
 
 use crate::depacketized::Depacketized;
 use crate::held::{Held, RtpMeta};
@@ -34,17 +34,21 @@ impl<D> Model for DepacketizingBuffer<D> {
 
     ghost coded = { buffered_code D.code };
 
-    ghost view = { λ b. record { depacketizer = b.depacketizer; hold_back = b.hold_back; held = packets_of (values b.held); cutoff = b.cutoff } };
+    ghost view = { λ b. record {
+      depacketizer = b.depacketizer;
+      hold_back = b.hold_back;
+      held =
+          packets_of (values b.held);
+      cutoff = b.cutoff;
+    } };
 
     ghost invariant = { λ b. IsHeldByNumber b.held };
 }
 
 impl<D: Depacketizer> DepacketizingBuffer<D> {
     ghost use Rattle.payload_core_buffer.specs.Buffered.{Buffered, pushed};
-    ghost use Rattle.payload_core_buffer.specs.Frames.{due_frame};
-    ghost use Rattle.payload_core_buffer.specs.Metas.{metas_of_unit};
     ghost use Rattle.payload_core_buffer.specs.Packets.{packet_from};
-    ghost use Rattle.payload_core_buffer.specs.Pops.{Faults, HandsOn, Stays};
+    ghost use Rattle.payload_core_buffer.specs.Pops.{Pops, pop_state};
 
     /// A buffer that holds nothing. While a packet before the lowest complete frame may still come, that
     /// frame waits until more than `hold_back` frames are complete.
@@ -63,7 +67,8 @@ impl<D: Depacketizer> DepacketizingBuffer<D> {
     /// Holds a packet, unless its number is at or below the cutoff, or held; with 4,096 held the lowest of
     /// the held and the new one is dropped. The only refusal is `Memory`, which changes nothing.
     pub fn push(&mut self, meta: RtpMeta, payload: &[u8]) -> Result<(), PacketError>
-        ensures kept { OnOk result (self.new ≡ record self.old { held = pushed self.old.cutoff self.old.held (packet_from meta payload.now) }) }
+        ensures kept { OnOk result (self.new ≡ record self.old
+            { held = pushed self.old.cutoff self.old.held (packet_from meta payload.now) }) }
         ensures unchanged { OnErr result (self.new ≡ self.old) }
         ensures memory { IfErr result (λ e. e ≡ PacketError.Memory) }
     {
@@ -83,17 +88,10 @@ impl<D: Depacketizer> DepacketizingBuffer<D> {
     pub fn pop(&mut self) -> Result<Option<Depacketized>, PacketError>
         ensures format { D.format self.new.depacketizer ≡ D.format self.old.depacketizer }
         ensures hold_back { self.new.hold_back ≡ self.old.hold_back }
-        ensures none { let due = due_frame (D.format self.old.depacketizer) self.old.cutoff self.old.hold_back self.old.held in
-            IfOk result (λ r. IfNone r ((due ≡ None) × (self.new ≡ self.old))) }
-        ensures handed_on { let due = due_frame (D.format self.old.depacketizer) self.old.cutoff self.old.hold_back self.old.held in
-            let hands_on = HandsOn (D.format self.old.depacketizer) (D.fragment self.old.depacketizer) (D.fragment self.new.depacketizer) self.old.held self.new.held due self.new.cutoff in
-            IfOk result (λ r. IfSome r (λ d. hands_on d.bytes.items d.extra (metas_of_unit d))) }
-        ensures fault { let due = due_frame (D.format self.old.depacketizer) self.old.cutoff self.old.hold_back self.old.held in
-            let faults = Faults (D.format self.old.depacketizer) (D.fragment self.old.depacketizer) (D.fragment self.new.depacketizer) self.old.held self.new.held due self.new.cutoff in
-            IfErr result (λ e. e ≢ PacketError.Memory → faults e) }
-        ensures memory { let due = due_frame (D.format self.old.depacketizer) self.old.cutoff self.old.hold_back self.old.held in
-            let stays = Stays (D.format self.old.depacketizer) (D.fragment self.old.depacketizer) (D.fragment self.new.depacketizer) self.old.held self.new.held due self.old.cutoff self.new.cutoff in
-            IfErr result (λ e. e ≡ PacketError.Memory → stays) }
+        ensures popped { let old = pop_state self.old.held self.old.cutoff (D.fragment self.old.depacketizer) in
+            let new = pop_state self.new.held self.new.cutoff (D.fragment self.new.depacketizer) in
+            Pops (D.format self.old.depacketizer) self.old.hold_back old new result }
+        ensures unchanged { IfOk result (λ r. IfNone r (self.new ≡ self.old)) }
     {
         take_due(
             self.alloc,

@@ -1,6 +1,8 @@
 //! Complete frames among held packets.
 
-ghost use Rattle.payload_core_buffer.specs.Frames.{IsFrame, complete_frames, due_frame, frame_of_run, goes_on, is_joined_to, is_next, kept_run, lowest_of, number_at, run_or_head};
+ghost use Rattle.payload_core_buffer.specs.Frames.{IsFrame, complete_frames, due_frame, frame_of_run, goes_on};
+ghost use Rattle.payload_core_buffer.specs.Frames.{is_joined_to, is_next, kept_run, lowest_of, number_at};
+ghost use Rattle.payload_core_buffer.specs.Frames.{run_or_head};
 ghost use Rattle.payload_core_buffer.specs.Packets.{packet_of, packets_of};
 ghost use Rattle.std.specs.BTreeMap.{btree_map_len, values};
 ghost use Rattle.std.specs.Option.{ForSome, option_map, option_to_list};
@@ -29,7 +31,8 @@ fn goes_on<D: Depacketizer>(depacketizer: &D, held: &Held, next: &Held) -> bool
 
 // Whether a packet goes on with the run of the one before it, if there is one.
 fn is_joined<D: Depacketizer>(depacketizer: &D, before: Option<&Held>, held: &Held) -> bool
-    ensures { result ≡ is_joined_to (D.format depacketizer.now) (option_map (λ h. packet_of h.now) before.entry) (packet_of held.now) }
+    ensures { result ≡ is_joined_to (D.format depacketizer.now) (option_map (λ h. packet_of h.now) before.entry)
+        (packet_of held.now) }
 {
     match before {
         Some(before) => goes_on(depacketizer, before, held),
@@ -98,7 +101,8 @@ fn found_with(found: Found, frame: Option<Frame>) -> Found
 
 // The complete frames.
 fn complete_frames<D: Depacketizer>(depacketizer: &D, held: &BTreeMap<u64, Held>) -> Found
-    ensures lowest { result.lowest ≡ lowest_of (complete_frames (D.format depacketizer.now) (packets_of (values held.now))) }
+    ensures lowest { result.lowest ≡ lowest_of
+        (complete_frames (D.format depacketizer.now) (packets_of (values held.now))) }
     ensures count { result.count ≡ length (complete_frames (D.format depacketizer.now) (packets_of (values held.now))) }
     ensures frame { ForSome result.lowest (IsFrame (D.format depacketizer.now) (packets_of (values held.now))) }
 {

@@ -25,9 +25,11 @@ fn send_all<P: Packetizer, S: PacketSink>(
 ) -> Result<(), PacketError>
     ensures packing { P.packing packetizer.new ≡ P.packing packetizer.old }
     ensures sender { P.sender packetizer.new ≡ P.sender packetizer.old }
-    ensures sent { let all = outgoing_from (P.packing packetizer.old) (map (λ p. p.items) packets.now) time values.now in
+    ensures sent { let all = outgoing_from (P.packing packetizer.old) (map (λ p. p.items) packets.now) time
+        values.now in
         OnOk result (TakesAll S.takes sink.old all sink.new) }
-    ensures stopped { let all = outgoing_from (P.packing packetizer.old) (map (λ p. p.items) packets.now) time values.now in
+    ensures stopped { let all = outgoing_from (P.packing packetizer.old) (map (λ p. p.items) packets.now) time
+        values.now in
         OnErr result (TakesFirst S.takes S.keeps sink.old all sink.new) }
     ensures memory { IfErr result (λ e. e ≡ PacketError.Memory) }
 {
@@ -56,8 +58,8 @@ impl<P: Packetizer> Payloader<P> {
     /// Cuts a sample into packets of at most `mtu` bytes, and hands them to the sink in order, with their
     /// markers, the RTP time and the values.
     ///
-    /// A refused sample sends nothing, and changes nothing. Where memory is wanting, either that holds, or
-    /// the sink took the first packets of the sample alone.
+    /// A refused sample sends nothing, and changes nothing. Where memory runs out, either that holds, or the
+    /// sink took the first packets of the sample alone.
     pub fn push_sample<S: PacketSink>(
         &mut self,
         alloc: Global,
@@ -70,13 +72,17 @@ impl<P: Packetizer> Payloader<P> {
         ensures packing { P.packing (packetizer_of self.new) ≡ P.packing (packetizer_of self.old) }
         ensures sent { let packing = P.packing (packetizer_of self.old) in
             let sent = packing.pack (P.sender (packetizer_of self.old)) mtu bytes.now in
-            OnOk result (HasSent S.takes packing sent time values.now sink.old sink.new (P.sender (packetizer_of self.new))) }
-        ensures refused { let sent = (P.packing (packetizer_of self.old)).pack (P.sender (packetizer_of self.old)) mtu bytes.now in
-            IfErr result (λ e. e ≢ PacketError.Memory → (sent ≡ Err e) × (sink.new ≡ sink.old) × (P.sender (packetizer_of self.new) ≡ P.sender (packetizer_of self.old))) }
+            let after = P.sender (packetizer_of self.new) in
+            OnOk result (HasSent S.takes packing sent time values.now sink.old sink.new after) }
+        ensures refused { let before = P.sender (packetizer_of self.old) in
+            let sent = (P.packing (packetizer_of self.old)).pack before mtu bytes.now in
+            let unsent = (sink.new ≡ sink.old) × (P.sender (packetizer_of self.new) ≡ before) in
+            IfErr result (λ e. e ≢ PacketError.Memory → (sent ≡ Err e) × unsent) }
         ensures memory { let packing = P.packing (packetizer_of self.old) in
             let sent = packing.pack (P.sender (packetizer_of self.old)) mtu bytes.now in
-            let unsent = (sink.new ≡ sink.old) × (P.sender (packetizer_of self.new) ≡ P.sender (packetizer_of self.old)) in
-            let stopped = StopsSending S.takes S.keeps packing sent time values.now sink.old sink.new (P.sender (packetizer_of self.new)) in
+            let after = P.sender (packetizer_of self.new) in
+            let unsent = (sink.new ≡ sink.old) × (after ≡ P.sender (packetizer_of self.old)) in
+            let stopped = StopsSending S.takes S.keeps packing sent time values.now sink.old sink.new after in
             IfErr result (λ e. e ≡ PacketError.Memory → unsent ⊎ stopped) }
     {
         let packets = match self.packetizer.packetize(alloc, mtu, bytes) {

@@ -22,7 +22,8 @@ pub fn keep(
 ) -> Result<(), PacketError>
     requires { IsHeldByNumber held.old }
     ensures by_number { IsHeldByNumber held.new }
-    ensures kept { OnOk result (packets_of (values held.new) ≡ limited (held_with (packet_from meta payload.now) (packets_of (values held.old)))) }
+    ensures kept { OnOk result (packets_of (values held.new)
+        ≡ limited (held_with (packet_from meta payload.now) (packets_of (values held.old)))) }
     ensures unchanged { OnErr result (held.new.entries ≡ held.old.entries) }
     ensures memory { IfErr result (λ e. e ≡ PacketError.Memory) }
 {

@@ -1,7 +1,7 @@
 //! Handing packets on to a depacketizer.
 
 ghost use Rattle.payload_core_buffer.specs.Packets.{packets_of};
-ghost use Rattle.payload_core_buffer.specs.Pops.{FaultsAs, IsReadAs, StopsIn, run_of};
+ghost use Rattle.payload_core_buffer.specs.Pops.{FaultsAs, IsReadAs, ReadsPart, run_of};
 ghost use Rattle.std.specs.BTreeMap.{values};
 ghost use Rattle.std.specs.Prelude.{◌≡◌, ◌≢◌, ◌≤◌, IfErr, IfOk, slice_range};
 
@@ -27,11 +27,14 @@ pub fn hand_on<D: Depacketizer>(
 ) -> Result<Unit, PacketError>
     requires { frame.start ≤ frame.end }
     ensures format { D.format depacketizer.new ≡ D.format depacketizer.old }
-    ensures read { let run = run_of (D.format depacketizer.old) (D.fragment depacketizer.old) (packets_of (slice_range (values held.now) frame.start frame.end)) in
+    ensures read { let run = run_of (D.format depacketizer.old) (D.fragment depacketizer.old)
+        (packets_of (slice_range (values held.now) frame.start frame.end)) in
         IfOk result (λ u. IsReadAs run u.bytes.items u.extra (D.fragment depacketizer.new)) }
-    ensures fault { let run = run_of (D.format depacketizer.old) (D.fragment depacketizer.old) (packets_of (slice_range (values held.now) frame.start frame.end)) in
+    ensures fault { let run = run_of (D.format depacketizer.old) (D.fragment depacketizer.old)
+        (packets_of (slice_range (values held.now) frame.start frame.end)) in
         IfErr result (λ e. e ≢ PacketError.Memory → FaultsAs run e (D.fragment depacketizer.new)) }
-    ensures memory { let stops = StopsIn (D.format depacketizer.old) (D.fragment depacketizer.old) (packets_of (slice_range (values held.now) frame.start frame.end)) (D.fragment depacketizer.new) in
+    ensures memory { let stops = ReadsPart (D.format depacketizer.old) (D.fragment depacketizer.old)
+        (packets_of (slice_range (values held.now) frame.start frame.end)) (D.fragment depacketizer.new) in
         IfErr result (λ e. e ≡ PacketError.Memory → stops) }
 {
     let mut bytes = Vec::new(alloc);

@@ -1,12 +1,11 @@
 //! Taking a complete frame out of what is held.
 
 ghost use Rattle.payload_core_buffer.specs.Buffered.{IsHeldByNumber};
-ghost use Rattle.payload_core_buffer.specs.Frames.{IsFrame, due_frame, number_at, packets_between};
-ghost use Rattle.payload_core_buffer.specs.Metas.{metas_of_unit};
-ghost use Rattle.payload_core_buffer.specs.Packets.{metas_of, packets_of};
-ghost use Rattle.payload_core_buffer.specs.Pops.{Faults, FaultsAs, HandsOn, IsReadAs, Stays, StopsIn, run_of};
-ghost use Rattle.std.specs.BTreeMap.{values};
-ghost use Rattle.std.specs.Prelude.{◌≡◌, ◌≢◌, ◌-◌, ◌≤◌, IfErr, IfNone, IfOk, IfSome, None, drop, map, slice_range};
+ghost use Rattle.payload_core_buffer.specs.Frames.{IsFrame, number_at};
+ghost use Rattle.payload_core_buffer.specs.Packets.{packets_of};
+ghost use Rattle.payload_core_buffer.specs.Pops.{Pops, Takes, pop_state};
+ghost use Rattle.std.specs.BTreeMap.{btree_map_len, values};
+ghost use Rattle.std.specs.Prelude.{◌≡◌, ◌-◌, ◌<◌, ◌≤◌, IfErr, IfNone, IfOk, Some, drop, map, slice_range};
 
 use crate::depacketized::Depacketized;
 use crate::frame::{Frame, due_frame, number_at};
@@ -24,7 +23,8 @@ fn metas(
     frame: Frame,
 ) -> Result<Vec<RtpMeta>, PacketError>
     requires { frame.start ≤ frame.end }
-    ensures metas { IfOk result (λ v. v.items ≡ map (λ h. h.meta) (slice_range (values held.now) frame.start frame.end)) }
+    ensures metas { IfOk result (λ v. v.items
+        ≡ map (λ h. h.meta) (slice_range (values held.now) frame.start frame.end)) }
     ensures memory { IfErr result (λ e. e ≡ PacketError.Memory) }
 {
     let packets = held
@@ -44,27 +44,33 @@ fn remove_front(held: &mut BTreeMap<u64, Held>, count: usize)
     }
 }
 
-/// Hands a frame on, and drops it with all before it; where memory is wanting, what is held stays.
+// Drops a frame with all before it, and moves the cutoff to its last number.
+fn finish(held: &mut BTreeMap<u64, Held>, cutoff: &mut Option<SeqNo>, frame: Frame)
+    requires some { 0 < frame.end }
+    requires within { frame.end ≤ btree_map_len held.old }
+    ensures gone { held.new.entries ≡ drop frame.end held.old.entries }
+    ensures moved { cutoff.new ≡ Some (number_at (packets_of (values held.old)) (frame.end - 1)) }
+{
+    *cutoff = Some(number_at(held, frame.end - 1));
+    remove_front(held, frame.end);
+}
+
+/// Hands a frame on, drops it with all before it, and moves the cutoff behind it; where memory runs out, what is held
+/// and the cutoff stay.
 pub fn take_frame<D: Depacketizer>(
     alloc: Global,
     depacketizer: &mut D,
     held: &mut BTreeMap<u64, Held>,
+    cutoff: &mut Option<SeqNo>,
     frame: Frame,
 ) -> Result<Depacketized, PacketError>
     requires frame { IsFrame (D.format depacketizer.old) (packets_of (values held.old)) frame }
     requires by_number { IsHeldByNumber held.old }
     ensures by_number { IsHeldByNumber held.new }
     ensures format { D.format depacketizer.new ≡ D.format depacketizer.old }
-    ensures read { let run = run_of (D.format depacketizer.old) (D.fragment depacketizer.old) (packets_between (packets_of (values held.old)) frame) in
-        IfOk result (λ d. IsReadAs run d.bytes.items d.extra (D.fragment depacketizer.new)) }
-    ensures metas { IfOk result (λ d. metas_of_unit d ≡ metas_of (packets_between (packets_of (values held.old)) frame)) }
-    ensures gone { IfOk result (λ _. packets_of (values held.new) ≡ drop frame.end (packets_of (values held.old))) }
-    ensures fault { let run = run_of (D.format depacketizer.old) (D.fragment depacketizer.old) (packets_between (packets_of (values held.old)) frame) in
-        IfErr result (λ e. e ≢ PacketError.Memory → FaultsAs run e (D.fragment depacketizer.new)) }
-    ensures gone_by_fault { IfErr result (λ e. e ≢ PacketError.Memory → packets_of (values held.new) ≡ drop frame.end (packets_of (values held.old))) }
-    ensures memory { let stops = StopsIn (D.format depacketizer.old) (D.fragment depacketizer.old) (packets_between (packets_of (values held.old)) frame) (D.fragment depacketizer.new) in
-        IfErr result (λ e. e ≡ PacketError.Memory → stops) }
-    ensures kept { IfErr result (λ e. e ≡ PacketError.Memory → packets_of (values held.new) ≡ packets_of (values held.old)) }
+    ensures taken { let old = pop_state (packets_of (values held.old)) cutoff.old (D.fragment depacketizer.old) in
+        let new = pop_state (packets_of (values held.new)) cutoff.new (D.fragment depacketizer.new) in
+        Takes (D.format depacketizer.old) old new frame result }
 {
     let meta = match metas(alloc, held, frame) {
         Ok(meta) => meta,
@@ -72,20 +78,20 @@ pub fn take_frame<D: Depacketizer>(
     };
     match hand_on(alloc, depacketizer, held, frame) {
         Ok(unit) => {
-            remove_front(held, frame.end);
+            finish(held, cutoff, frame);
             Ok(Depacketized::new(unit.bytes, unit.extra, meta))
         }
         Err(e) => match e {
             PacketError::Memory => Err(PacketError::Memory),
             fault => {
-                remove_front(held, frame.end);
+                finish(held, cutoff, frame);
                 Err(fault)
             }
         },
     }
 }
 
-/// Hands the frame on that is due, and moves the cutoff behind it.
+/// Hands the frame on that is due.
 pub fn take_due<D: Depacketizer>(
     alloc: Global,
     depacketizer: &mut D,
@@ -96,33 +102,17 @@ pub fn take_due<D: Depacketizer>(
     requires { IsHeldByNumber held.old }
     ensures by_number { IsHeldByNumber held.new }
     ensures format { D.format depacketizer.new ≡ D.format depacketizer.old }
-    ensures none { let due = due_frame (D.format depacketizer.old) cutoff.old hold_back (packets_of (values held.old)) in
-        IfOk result (λ r. IfNone r ((due ≡ None) × (depacketizer.new ≡ depacketizer.old) × (held.new ≡ held.old) × (cutoff.new ≡ cutoff.old))) }
-    ensures handed_on { let due = due_frame (D.format depacketizer.old) cutoff.old hold_back (packets_of (values held.old)) in
-        let hands_on = HandsOn (D.format depacketizer.old) (D.fragment depacketizer.old) (D.fragment depacketizer.new) (packets_of (values held.old)) (packets_of (values held.new)) due cutoff.new in
-        IfOk result (λ r. IfSome r (λ d. hands_on d.bytes.items d.extra (metas_of_unit d))) }
-    ensures fault { let due = due_frame (D.format depacketizer.old) cutoff.old hold_back (packets_of (values held.old)) in
-        let faults = Faults (D.format depacketizer.old) (D.fragment depacketizer.old) (D.fragment depacketizer.new) (packets_of (values held.old)) (packets_of (values held.new)) due cutoff.new in
-        IfErr result (λ e. e ≢ PacketError.Memory → faults e) }
-    ensures memory { let due = due_frame (D.format depacketizer.old) cutoff.old hold_back (packets_of (values held.old)) in
-        let stays = Stays (D.format depacketizer.old) (D.fragment depacketizer.old) (D.fragment depacketizer.new) (packets_of (values held.old)) (packets_of (values held.new)) due cutoff.old cutoff.new in
-        IfErr result (λ e. e ≡ PacketError.Memory → stays) }
+    ensures popped { let old = pop_state (packets_of (values held.old)) cutoff.old (D.fragment depacketizer.old) in
+        let new = pop_state (packets_of (values held.new)) cutoff.new (D.fragment depacketizer.new) in
+        Pops (D.format depacketizer.old) hold_back old new result }
+    ensures unchanged { IfOk result (λ r. IfNone r
+        ((depacketizer.new ≡ depacketizer.old) × (held.new ≡ held.old) × (cutoff.new ≡ cutoff.old))) }
 {
     let Some(frame) = due_frame(depacketizer, held, *cutoff, hold_back) else {
         return Ok(None);
     };
-    let last = number_at(held, frame.end - 1);
-    match take_frame(alloc, depacketizer, held, frame) {
-        Ok(unit) => {
-            *cutoff = Some(last);
-            Ok(Some(unit))
-        }
-        Err(e) => match e {
-            PacketError::Memory => Err(PacketError::Memory),
-            fault => {
-                *cutoff = Some(last);
-                Err(fault)
-            }
-        },
+    match take_frame(alloc, depacketizer, held, cutoff, frame) {
+        Ok(unit) => Ok(Some(unit)),
+        Err(fault) => Err(fault),
     }
 }

@@ -1,5 +1,6 @@
 -- The first header whose F is clear.
-use Rattle.std.proofs.Common.{◌≡◌, ℕ, zero, suc, ◌+◌, ◌*◌, ◌<◌, ◌≤◌, Bool, true, false, cond, ltb, List, Some, None, refl, sym, ap, ◌∙◌, inl, inr, arith}
+use Rattle.std.proofs.Common.{◌≡◌, ℕ, zero, suc, ◌+◌, ◌*◌, ◌<◌, ◌≤◌, Bool, true, false, cond, ltb, List, Some, None}
+use Rattle.std.proofs.Common.{refl, sym, ap, ◌∙◌, inl, inr, arith}
 use Rattle.std.specs.Prelude.{find, slice_index}
 use Rattle.std.specs.List.{range_with_len}
 use Rattle.std.proofs.lemmas.Bool.{cases_lt}
@@ -14,7 +15,8 @@ find-none p a (suc n) fails =
     ∙ find-none p (a + 1) n (λ j above below. fails j (omega arith) (omega arith))
 
 -- the first that passes
-find-some : (p : ℕ → Bool) (a n k : ℕ) → a ≤ k → k < a + n → p k ≡ true → ((j : ℕ) → a ≤ j → j < k → p j ≡ false) → find p (range_with_len a n) ≡ Some k
+find-some : (p : ℕ → Bool) (a n k : ℕ) → a ≤ k → k < a + n → p k ≡ true → ((j : ℕ) → a ≤ j → j < k → p j ≡ false)
+    → find p (range_with_len a n) ≡ Some k
 find-some p a zero k above below passes fails = absurd (omega arith)
 find-some p a (suc n) k above below passes fails = elim (cases_lt a k) [
   | inl less ↦
@@ -36,10 +38,17 @@ find-first : (p : ℕ → Bool) (a n k : ℕ) → find p (range_with_len a n) �
 find-first p a zero k is = absurd (cc)
 find-first p a (suc n) k is = by_test (p a) refl is (find-first p (a + 1) n k)
   where
-    by_test : (t : Bool) → p a ≡ t → cond t (Some a) (find p (range_with_len (a + 1) n)) ≡ Some k → (find p (range_with_len (a + 1) n) ≡ Some k → IsFirst p (a + 1) n k) → IsFirst p a (suc n) k
+    by_test : (t : Bool) → p a ≡ t → cond t (Some a) (find p (range_with_len (a + 1) n)) ≡ Some k
+        → (find p (range_with_len (a + 1) n) ≡ Some k → IsFirst p (a + 1) n k) → IsFirst p a (suc n) k
     by_test true e is' rest =
         let same : a ≡ k = cc in
-        record { above = omega arith; below = omega arith; passes = ap p (sym same) ∙ e; fails = λ j above below. absurd (omega (arith, same)) }
+        record {
+          above = omega arith;
+          below = omega arith;
+          passes = ap p (sym same) ∙ e;
+          fails =
+              λ j above below. absurd (omega (arith, same));
+        }
     by_test false e is' rest =
         let later = rest is' in
         record {
@@ -53,14 +62,17 @@ find-first p a (suc n) k is = by_test (p a) refl is (find-first p (a + 1) n k)
         }
 
 -- the first header with F clear
-pub count-is : (packet : List ℕ) (k : ℕ) → k ≤ 32 → slice_index packet (4 * k) < 128 → ((j : ℕ) → j < k → 128 ≤ slice_index packet (4 * j)) → count_of_blocks packet ≡ Some k
+pub count-is : (packet : List ℕ) (k : ℕ) → k ≤ 32 → slice_index packet (4 * k) < 128
+    → ((j : ℕ) → j < k → 128 ≤ slice_index packet (4 * j)) → count_of_blocks packet ≡ Some k
 unfolding count_of_blocks
 count-is packet k few clear set =
     let P : ℕ → Bool = λ k. ltb (slice_index packet (4 * k)) 128 in
-    find-some P 0 33 k (omega arith) (omega arith) (grind (arith, nat_tests)) (λ j above below. let s = set j below in grind (arith, nat_tests))
+    find-some P 0 33 k (omega arith) (omega arith) (grind (arith, nat_tests))
+    (λ j above below. let s = set j below in grind (arith, nat_tests))
 
 -- none of the first 33 has F clear
-pub count-none : (packet : List ℕ) → ((j : ℕ) → j < 33 → 128 ≤ slice_index packet (4 * j)) → count_of_blocks packet ≡ None
+pub count-none : (packet : List ℕ) → ((j : ℕ) → j < 33 → 128 ≤ slice_index packet (4 * j)) → count_of_blocks packet
+    ≡ None
 unfolding count_of_blocks
 count-none packet set =
     let P : ℕ → Bool = λ k. ltb (slice_index packet (4 * k)) 128 in

@@ -13,13 +13,15 @@ before ds k = slice_index (0 ∷ ds) k
 abbrev pub AreAbove : List ℕ → ℕ → Type 0
 AreAbove ds n = (k : ℕ) → k < n → (before ds k < slice_index ds k) × (slice_index ds k ≤ 8)
 
-rises : (ds : List ℕ) → AreAbove ds (length ds) → (i j : ℕ) → i < j → j < length ds → slice_index ds i < slice_index ds j
+rises : (ds : List ℕ) → AreAbove ds (length ds) → (i j : ℕ) → i < j → j < length ds
+    → slice_index ds i < slice_index ds j
 rises ds above i zero lt within = absurd (omega arith)
 rises ds above i (suc j) lt within =
     let step : slice_index ds j < slice_index ds (suc j) = (above (suc j) within).0 in
     elim (cases_lt i j) [
       | inl less ↦ let rest = rises ds above i j less (omega arith) in omega (arith, step, rest)
-      | inr more ↦ let same : j ≡ i = omega arith in let P : ℕ → Type 0 = λ k. slice_index ds k < slice_index ds (suc j) in subst P same step
+      | inr more ↦ let same : j ≡ i = omega arith in let P : ℕ → Type 0 =
+          λ k. slice_index ds k < slice_index ds (suc j) in subst P same step
     ]
 
 positive : (ds : List ℕ) → AreAbove ds (length ds) → (k : ℕ) → k < length ds → 0 < slice_index ds k

@@ -1,5 +1,6 @@
 -- What is sent for a payload.
-use Rattle.std.proofs.Common.{◌≡◌, ℕ, suc, ◌+◌, ◌-◌, ◌<◌, ◌≤◌, Bool, true, false, cond, List, [], ◌∷◌, ◌++◌, Option, Some, None, get_or, length, map, reverse, take, refl, sym, ap, ◌∙◌, arith}
+use Rattle.std.proofs.Common.{◌≡◌, ℕ, suc, ◌+◌, ◌-◌, ◌<◌, ◌≤◌, Bool, true, false, cond, List, [], ◌∷◌, ◌++◌, Option}
+use Rattle.std.proofs.Common.{Some, None, get_or, length, map, reverse, take, refl, sym, ap, ◌∙◌, arith}
 use Rattle.std.specs.Prelude.{All, AllPairs, filter, filter_map}
 use Rattle.std.specs.List.{cons_option}
 use Rattle.std.proofs.lemmas.List.{map-append, reverse-append}
@@ -20,13 +21,16 @@ pub All-reverse : {X : Type 0} (P : X → Type 0) (xs : List X) → All P xs →
 All-reverse P [] all = all
 All-reverse {X} P (x ∷ xs) all =
     let A : List X → Type 0 = All P in
-    Rattle.std.proofs.Common.subst A (sym (reverse-append (x ∷ []) xs)) (All-append P (reverse xs) (x ∷ []) (All-reverse P xs (All-tail P x xs all)) (All-cons P x [] (All-head P x xs all) (All-nil P)))
+    Rattle.std.proofs.Common.subst A (sym (reverse-append (x ∷ []) xs))
+    (All-append P (reverse xs) (x ∷ []) (All-reverse P xs (All-tail P x xs all))
+    (All-cons P x [] (All-head P x xs all) (All-nil P)))
 
 length-filter-le : {X : Type 0} (p : X → Bool) (xs : List X) → length (filter p xs) ≤ length xs
 length-filter-le p [] = omega arith
 length-filter-le p (x ∷ xs) = by_test (p x) (length-filter-le p xs)
   where
-    by_test : (t : Bool) → length (filter p xs) ≤ length xs → length (cond t (x ∷ filter p xs) (filter p xs)) ≤ suc (length xs)
+    by_test : (t : Bool) → length (filter p xs) ≤ length xs
+        → length (cond t (x ∷ filter p xs) (filter p xs)) ≤ suc (length xs)
     by_test true le = omega arith
     by_test false le = omega arith
 
@@ -34,16 +38,19 @@ length-filter_map-le : {X Y : Type 0} (h : X → Option Y) (xs : List X) → len
 length-filter_map-le h [] = omega arith
 length-filter_map-le h (x ∷ xs) = by_option (h x) (length-filter_map-le h xs)
   where
-    by_option : (o : Option _) → length (filter_map h xs) ≤ length xs → length (cons_option o (filter_map h xs)) ≤ suc (length xs)
+    by_option : (o : Option _) → length (filter_map h xs) ≤ length xs
+        → length (cons_option o (filter_map h xs)) ≤ suc (length xs)
     by_option None le = omega arith
     by_option (Some y) le = omega arith
 
 -- rising numbers above a and at most 8
-rising-few : (a : ℕ) (ds : List ℕ) → a ≤ 8 → AllPairs (λ a b. a < b) ds → All (λ d. (a < d) × (d ≤ 8)) ds → length ds ≤ 8 - a
+rising-few : (a : ℕ) (ds : List ℕ) → a ≤ 8 → AllPairs (λ a b. a < b) ds → All (λ d. (a < d) × (d ≤ 8)) ds
+    → length ds ≤ 8 - a
 rising-few a [] low pairs all = omega arith
 rising-few a (d ∷ ds) low pairs all =
     let here = All-head (λ (d : ℕ). (a < d) × (d ≤ 8)) d ds all in
-    let behind : All (λ e. (d < e) × (e ≤ 8)) ds = λ k e lt. (pairs 0 (suc k) e (omega arith) (omega arith), (all (suc k) e (omega arith)).1) in
+    let behind : All (λ e. (d < e) × (e ≤ 8)) ds =
+    λ k e lt. (pairs 0 (suc k) e (omega arith) (omega arith), (all (suc k) e (omega arith)).1) in
     let pairs' : AllPairs (λ a b. a < b) ds = λ i j e lt lt'. pairs (suc i) (suc j) e (omega arith) (omega arith) in
     omega (arith, here.0, here.1, rising-few d ds here.1 pairs' behind)
 

@@ -15,9 +15,11 @@ pub record HasRoom (b : Block) : Type 0 where
 
 -- The header of a block: F set, the type, the offset and the length, in 32 bits.
 abbrev pub header : Block → List ℕ
-header b = (128 + b.pt) ∷ b.timestamp_offset / 64 ∷ (b.timestamp_offset % 64 * 4 + length b.payload / 256) ∷ length b.payload % 256 ∷ []
+header b = (128 + b.pt) ∷ b.timestamp_offset / 64 ∷ (b.timestamp_offset % 64 * 4 + length b.payload / 256)
+    ∷ length b.payload % 256 ∷ []
 
--- The headers of the blocks, the primary payload's header, which is its type with F clear, the payloads of the blocks, and the primary payload.
+-- The headers of the blocks, the primary payload's header, which is its type with F clear, the payloads of the
+-- blocks, and the primary payload.
 abbrev pub spelled : List Block → ℕ → List ℕ → List ℕ
 spelled blocks pt primary = flat_map header blocks ++ (pt ∷ (flat_map (λ b. b.payload) blocks ++ primary))
 

@@ -11,7 +11,8 @@ pub record Kept : Type 0 where
 abbrev pub kept_of : KeptPayload → Kept
 kept_of k = record { pt = k.pt; time = k.time; payload = k.payload.items }
 
--- A sender: how far back the payloads stand that are sent once more, and the payloads that were wrapped, the newest first.
+-- A sender: how far back the payloads stand that are sent once more, and the payloads that were wrapped, the newest
+-- first.
 pub record Redundancy : Type 0 where
   pub distances : List ℕ
   pub history : List Kept
@@ -23,4 +24,8 @@ pub record AreDistances (distances : List ℕ) : Type 0 where
 
 -- The sender with one payload more, of which it keeps the newest eight.
 abbrev pub keeping : Redundancy → ℕ → List ℕ → ℕ → Redundancy
-keeping r pt payload time = record { distances = r.distances; history = take 8 (record { pt = pt; time = time; payload = payload } ∷ r.history) }
+keeping r pt payload time = record {
+  distances = r.distances;
+  history =
+      take 8 (record { pt = pt; time = time; payload = payload } ∷ r.history);
+}

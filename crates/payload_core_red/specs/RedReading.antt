@@ -1,5 +1,7 @@
 -- What a receiver is handed from a payload with redundancy (RFC 2198 3).
-use Rattle.std.specs.Prelude.{◌≡◌, ℕ, zero, suc, ◌+◌, ◌*◌, ◌/◌, ◌%◌, Bool, true, false, List, [], ◌∷◌, ◌++◌, Option, Some, None, drop, find, if◌then◌else◌, length, map, nat_le, nat_lt, option_and_then, slice_index, take}
+use Rattle.std.specs.Prelude.{◌≡◌, ℕ, zero, suc, ◌+◌, ◌*◌, ◌/◌, ◌%◌, Bool, true, false, List, [], ◌∷◌, ◌++◌, Option}
+use Rattle.std.specs.Prelude.{Some, None, drop, find, if◌then◌else◌, length, map, nat_le, nat_lt, option_and_then}
+use Rattle.std.specs.Prelude.{slice_index, take}
 use Rattle.std.specs.List.{range_with_len}
 use Rattle.payload_core_red.specs.Red.{Block, IsRed}
 
@@ -40,13 +42,19 @@ size_at headers = slice_index headers 2 % 4 * 256 + slice_index headers 3
 
 -- The block whose header stands in front of the headers, and whose payload in front of the payloads.
 abbrev pub block_at : List ℕ → List ℕ → Block
-block_at headers payloads = record { pt = pt_at headers; timestamp_offset = offset_at headers; payload = take (size_at headers) payloads }
+block_at headers payloads = record {
+  pt = pt_at headers;
+  timestamp_offset = offset_at headers;
+  payload =
+      take (size_at headers) payloads;
+}
 
 -- So many payloads, of which the last is the primary one.
 abbrev pub items_from : ℕ → List ℕ → List ℕ → List Item
 items_from zero headers payloads = []
 items_from (suc zero) headers payloads = primary_item (pt_at headers) payloads ∷ []
-items_from (suc (suc n)) headers payloads = redundant_item (block_at headers payloads) ∷ items_from (suc n) (drop 4 headers) (drop (size_at headers) payloads)
+items_from (suc (suc n)) headers payloads =
+    redundant_item (block_at headers payloads) ∷ items_from (suc n) (drop 4 headers) (drop (size_at headers) payloads)
 
 -- The bytes of the payloads of so many blocks.
 abbrev pub size_of_blocks : ℕ → List ℕ → ℕ
@@ -59,7 +67,8 @@ count_of_blocks packet = find (λ k. nat_lt (slice_index packet (4 * k)) 128) (r
 
 -- What a packet of so many blocks hands out, unless a header or a block passes its end.
 abbrev pub read_blocks : List ℕ → ℕ → Option (List Item)
-read_blocks packet n = if nat_le (4 * n + 1 + size_of_blocks n packet) (length packet) then Some (items_from (suc n) packet (drop (4 * n + 1) packet)) else None
+read_blocks packet n = if nat_le (4 * n + 1 + size_of_blocks n packet) (length packet)
+    then Some (items_from (suc n) packet (drop (4 * n + 1) packet)) else None
 
 -- What a packet hands out.
 abbrev pub read_red : List ℕ → Option (List Item)

@@ -5,8 +5,10 @@ use Rattle.payload_core_red.specs.RedHistory.{keeping}
 use Rattle.payload_core_red.specs.RedWrapping.{IsWrap}
 use Rattle.payload_core_red.specs.declared.sink.RedSink.{RedSink}
 
--- The inner sink took one payload, the wrap of this one, with its marker, time and values, and the sender keeps the payload.
-pub record TakesWrapped {S : Type 0} (takes : S → Outgoing → S → Type 0) (old : RedSink S) (o : Outgoing) (new : RedSink S) : Type 0 where
+-- The inner sink took one payload, the wrap of this one, with its marker, time and values, and the sender keeps the
+-- payload.
+pub record TakesWrapped {S : Type 0} (takes : S → Outgoing → S → Type 0) (old : RedSink S) (o : Outgoing)
+    (new : RedSink S) : Type 0 where
   pub sent : List ℕ
   pub is_wrap : IsWrap old.sender old.pt o.payload o.time old.budget sent
   pub taken : takes old.sink (outgoing sent o.marker o.time o.values) new.sink

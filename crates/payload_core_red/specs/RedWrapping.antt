@@ -1,5 +1,6 @@
 -- Which payloads are sent once more beside a new one (RFC 2198).
-use Rattle.std.specs.Prelude.{◌≡◌, ℕ, ◌+◌, ◌-◌, ◌%◌, ◌^◌, ◌<◌, ◌≤◌, List, Option, filter, filter_map, length, map, option_map, reverse, slice_get, sum_by, take}
+use Rattle.std.specs.Prelude.{◌≡◌, ℕ, ◌+◌, ◌-◌, ◌%◌, ◌^◌, ◌<◌, ◌≤◌, List, Option, filter, filter_map, length, map}
+use Rattle.std.specs.Prelude.{option_map, reverse, slice_get, sum_by, take}
 use Rattle.payload_core_red.specs.Red.{Block, IsRed}
 use Rattle.payload_core_red.specs.RedHistory.{Kept, Redundancy}
 use Rattle.payload_core_red.specs.RedSending.{fits, masked}

@@ -1,9 +1,11 @@
 //! Reading payloads with redundancy (RFC 2198 3).
 
 ghost use Rattle.payload_core_red.specs.Red.{IsNotRed};
-ghost use Rattle.payload_core_red.specs.RedReading.{IsReadAs, block_at, count_of_blocks, offset_at, pt_at, read_red, size_at, size_of_blocks};
+ghost use Rattle.payload_core_red.specs.RedReading.{IsReadAs, block_at, count_of_blocks, offset_at, pt_at, read_red};
+ghost use Rattle.payload_core_red.specs.RedReading.{size_at, size_of_blocks};
 ghost use Rattle.payload_core_red.specs.RedViews.{items_left};
-ghost use Rattle.std.specs.Prelude.{◌≡◌, ◌+◌, ◌*◌, ◌<◌, ◌≤◌, IfErr, IfOk, IfSome, MatchResult, None, Some, drop, length, slice_index, take};
+ghost use Rattle.std.specs.Prelude.{◌≡◌, ◌+◌, ◌*◌, ◌<◌, ◌≤◌, IfErr, IfOk, IfSome, MatchResult, None, Some, drop};
+ghost use Rattle.std.specs.Prelude.{length, slice_index, take};
 
 use crate::block::RedBlock;
 use crate::spelling::MAX_BLOCKS;
@@ -87,7 +89,8 @@ impl RedDecoder {
     /// A packet whose headers or blocks pass its end, or that has more than 32 blocks, is refused with
     /// `ErrRedCorruptedPacket`. No memory is taken.
     pub fn decode(packet: &[u8]) -> Result<RedBlocks<'_>, PacketError>
-        ensures read { MatchResult result (λ blocks. read_red packet.now ≡ Some (items_left blocks)) (λ e. read_red packet.now ≡ None) }
+        ensures read { MatchResult result (λ blocks. read_red packet.now ≡ Some (items_left blocks))
+            (λ e. read_red packet.now ≡ None) }
         ensures few { IfOk result (λ blocks. length (items_left blocks) ≤ 33) }
         ensures handed_out { IfOk result (λ blocks. IsReadAs packet.now (items_left blocks)) }
         ensures refused { IfErr result (λ e. (e ≡ PacketError.ErrRedCorruptedPacket) × IsNotRed packet.now) }

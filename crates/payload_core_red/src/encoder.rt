@@ -41,7 +41,8 @@ impl RedEncoder {
         primary: &[u8],
         redundant: &[RedundantBlock],
     ) -> Result<Vec<u8>, PacketError>
-        ensures packet { IfOk result (λ packet. IsRed packet.items (sent_blocks (map block_of redundant.now)) (primary_pt % 128) primary.now) }
+        ensures packet { IfOk result (λ packet. IsRed packet.items (sent_blocks (map block_of redundant.now))
+            (primary_pt % 128) primary.now) }
         ensures memory { IfErr result (λ e. e ≡ PacketError.Memory) }
     {
         let blocks = fitting(alloc, redundant)?;

@@ -40,7 +40,8 @@ pub fn levels<'a>(
     time: u32,
 ) -> Result<Vec<OldPayload<'a>>, PacketError>
     requires { All (λ d. (0 < d) × (d ≤ 8)) distances.now }
-    ensures levels { IfOk result (λ olds. map old_block olds.items ≡ levels (map kept_of history.now) distances.now time) }
+    ensures levels { IfOk result (λ olds. map old_block olds.items
+        ≡ levels (map kept_of history.now) distances.now time) }
     ensures memory { IfErr result (λ e. e ≡ PacketError.Memory) }
 {
     let mut olds = Vec::new(alloc);

@@ -1,6 +1,7 @@
 //! The laws of payloads with redundancy.
 
-ghost use Rattle.payload_core_red.specs.RedLaws.{PackedComesBack, ReadIsPackedAgain, ReadIsSpelled, SpelledIsRead, WrapIsOne, WrapIsRead, WrapIsWithin};
+ghost use Rattle.payload_core_red.specs.RedLaws.{PackedComesBack, ReadIsPackedAgain, ReadIsSpelled, SpelledIsRead};
+ghost use Rattle.payload_core_red.specs.RedLaws.{WrapIsOne, WrapIsRead, WrapIsWithin};
 
 /// Just those packets are read whose bytes are the headers of blocks, the primary payload's header, the payloads
 /// of the blocks and the primary payload. What is packed comes back: the first 32 blocks that fit and the primary

@@ -110,7 +110,11 @@ impl RedSender {
         budget: usize,
     ) -> Result<Vec<u8>, PacketError>
         ensures wrapped { IfOk result (λ sent. IsWrap self.old pt payload.now time budget sent.items) }
-        ensures kept { OnOk result (self.new ≡ record { distances = self.old.distances; history = record { pt = pt; time = time; payload = payload.now } ∷ self.old.history }) }
+        ensures kept { OnOk result (self.new ≡ record {
+          distances = self.old.distances;
+          history =
+              record { pt = pt; time = time; payload = payload.now } ∷ self.old.history;
+        }) }
         ensures unchanged { OnErr result (self.new ≡ self.old) }
         ensures memory { IfErr result (λ e. e ≡ PacketError.Memory) }
     {

@@ -50,7 +50,8 @@ pub fn spell(
 ) -> Result<Vec<u8>, PacketError>
     requires room { All (λ b. HasRoom (masked (old_block b))) blocks.now }
     requires few { length blocks.now ≤ 32 }
-    ensures packet { IfOk result (λ packet. IsRed packet.items (map masked (map old_block blocks.now)) (pt % 128) primary.now) }
+    ensures packet { IfOk result (λ packet. IsRed packet.items (map masked (map old_block blocks.now)) (pt % 128)
+        primary.now) }
     ensures memory { IfErr result (λ e. e ≡ PacketError.Memory) }
 {
     let mut packet = Vec::new(alloc);

@@ -117,7 +117,8 @@ pub struct PayloadList {
 impl PacketSink for PayloadList {
     ghost use Rattle.std.specs.Prelude.{◌≡◌, ◌++◌, ◌∷◌, [], map};
 
-    ghost takes = { λ old o new. map (λ p. p.items) new.payloads.items ≡ map (λ p. p.items) old.payloads.items ++ o.payload ∷ [] };
+    ghost takes = { λ old o new. map (λ p. p.items) new.payloads.items ≡ map (λ p. p.items) old.payloads.items
+        ++ o.payload ∷ [] };
 
     ghost keeps = { λ old new. new.payloads.items ≡ old.payloads.items };
 

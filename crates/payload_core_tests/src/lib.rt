@@ -16,10 +16,6 @@ mod codecs;
 #[cfg(test)]
 mod red;
 #[cfg(test)]
-mod vectors_audio;
-#[cfg(test)]
-mod vectors_video;
-#[cfg(test)]
 mod vp8;
 #[cfg(test)]
 mod vp9;

@@ -6,6 +6,7 @@ use payload_core::{
     CodecExtra, Depacketizer, PacketError, Vp8CodecExtra, Vp8Depacketizer, Vp8Descriptor,
     Vp8DescriptorError, Vp8Packetizer, Vp8PatchError, detect_vp8_keyframe,
 };
+use std::alloc::Global;
 use std::test::Fail;
 
 #[test]
@@ -158,4 +159,23 @@ fn keyframes(rt: HostRuntime) {
     assert!(rt; matches!(none, Err(Vp8DescriptorError::ShortPayload)));
     let cut = Vp8Descriptor::parse(&[0x90, 0x80, 0x05]);
     assert!(rt; matches!(cut, Err(Vp8DescriptorError::MalformedDescriptor)));
+}
+
+// The picture id, TL0PICIDX and KEYIDX of a packet of VP8.
+fn indices(alloc: Global, packet: &str) -> Result<String, Fail> {
+    let packet = hex::decode(alloc, packet)?;
+    let descriptor = Vp8Descriptor::parse(&packet)?;
+    let id = descriptor.picture_id().unwrap_or(0);
+    let tl0 = descriptor.tl0_pic_idx().unwrap_or(0);
+    let key = descriptor.key_idx().unwrap_or(0);
+    Ok(format!(in alloc; "{id} {tl0} {key}")?)
+}
+
+#[test]
+fn vp8_indices(rt: HostRuntime) -> Result<(), Fail> {
+    let layers = indices(rt.alloc(), "90f09268c8b53001009d012a10001000")?;
+    assert_eq!(rt; layers.as_str(), "4712 200 21");
+    let key_idx = indices(rt.alloc(), "9090051e3001009d012a1000")?;
+    assert_eq!(rt; key_idx.as_str(), "5 0 30");
+    Ok(())
 }

@@ -1,10 +1,13 @@
--- A toy codec: the first byte of a packet is 0 for a whole unit, and 1, 2 and 3 for the start, the middle and the end of one.
-use Rattle.std.specs.Prelude.{ℕ, ◌+◌, ◌-◌, ◌*◌, ◌<◌, Bool, true, false, ◌||◌, ◌==◌, List, [], ◌∷◌, ◌++◌, length, take, drop, nat_lt, Some, None, Ok, Err, Result, if◌then◌else◌}
+-- A toy codec: the first byte of a packet is 0 for a whole unit, and 1, 2 and 3 for the start, the middle and the end
+-- of one.
+use Rattle.std.specs.Prelude.{ℕ, ◌+◌, ◌-◌, ◌*◌, ◌<◌, Bool, true, false, ◌||◌, ◌==◌, List, [], ◌∷◌, ◌++◌, length, take}
+use Rattle.std.specs.Prelude.{drop, nat_lt, Some, None, Ok, Err, Result, if◌then◌else◌}
 use Rattle.payload_core_base.specs.Format.{Format, Fragment, Reading}
 use Rattle.payload_core_base.specs.Law.{Coding}
 use Rattle.payload_core_base.specs.Packing.{Packing, Sender, Sent}
 use Rattle.payload_core_base.specs.declared.error.PacketError.{PacketError}
-use Rattle.payload_core_base.specs.declared.error.PacketError.TheVariants.{ErrAv1CorruptedPacket, ErrPayloadTooLarge, ErrShortPacket}
+use Rattle.payload_core_base.specs.declared.error.PacketError.TheVariants.{ErrAv1CorruptedPacket, ErrPayloadTooLarge}
+use Rattle.payload_core_base.specs.declared.error.PacketError.TheVariants.{ErrShortPacket}
 use Rattle.payload_core_base.specs.declared.extra.CodecExtra.{CodecExtra}
 use Rattle.payload_core_base.specs.declared.extra.CodecExtra.TheVariants.{Av1}
 
@@ -44,16 +47,21 @@ is_toy_head (kind ∷ bytes) = (kind == 0) || (kind == 1)
 abbrev pub toy_format : Format
 toy_format = record { head = is_toy_head; tail = λ marker packet. marker; read = read_toy }
 
+-- One sample more, modulo 32,768.
+abbrev pub after_sample : Sender → Sender
+after_sample s = record { number = if nat_lt s.number 32767 then s.number + 1 else 0; waiting = s.waiting }
+
 -- These packets, and one sample more.
 abbrev pub sent_as : Sender → List (List ℕ) → Result Sent PacketError
-sent_as s ps = Ok (record { packets = ps; sender = record { number = if nat_lt s.number 32767 then s.number + 1 else 0; waiting = s.waiting } })
+sent_as s ps = Ok (record { packets = ps; sender = after_sample s })
 
 -- One whole unit, or a start and an end; a longer sample is refused, and an empty one sends nothing.
 abbrev pub pack_toy : Sender → ℕ → List ℕ → Result Sent PacketError
 pack_toy s limit [] = sent_as s []
 pack_toy s limit (b ∷ bs) =
     if nat_lt (length (b ∷ bs)) limit then sent_as s ((0 ∷ b ∷ bs) ∷ [])
-    else (if nat_lt (length (b ∷ bs) + 1) (2 * limit) then sent_as s ((1 ∷ take (limit - 1) (b ∷ bs)) ∷ (3 ∷ drop (limit - 1) (b ∷ bs)) ∷ [])
+    else (if nat_lt (length (b ∷ bs) + 1) (2 * limit)
+    then sent_as s ((1 ∷ take (limit - 1) (b ∷ bs)) ∷ (3 ∷ drop (limit - 1) (b ∷ bs)) ∷ [])
     else Err ErrPayloadTooLarge)
 
 abbrev pub toy_packing : Packing
@@ -67,4 +75,5 @@ toy_coding = record {
   IsReached = λ sender. Unit {0};
   IsWellFormed = λ limit sample. (0 < length sample) × (length sample + 1 < 2 * limit);
   units = λ sender limit sample. (sample ∷ []) ∷ [];
+  after = λ sender limit sample. after_sample sender;
 }

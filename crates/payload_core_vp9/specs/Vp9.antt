@@ -1,5 +1,6 @@
 -- VP9 payloads that are sent, in flexible mode (RFC 9628 4.2).
-use Rattle.std.specs.Prelude.{ℕ, ◌+◌, ◌-◌, ◌/◌, ◌%◌, ◌<◌, Bool, true, false, List, [], ◌∷◌, ◌++◌, length, nat_lt, nat_le, Result, Ok, if◌then◌else◌}
+use Rattle.std.specs.Prelude.{ℕ, ◌+◌, ◌-◌, ◌/◌, ◌%◌, ◌<◌, Bool, true, false, List, [], ◌∷◌, ◌++◌, length, nat_lt}
+use Rattle.std.specs.Prelude.{nat_le, Result, Ok, if◌then◌else◌}
 use Rattle.payload_core_base.specs.Law.{Coding}
 use Rattle.payload_core_base.specs.Packing.{Packing, Sender, Sent, is_none_left}
 use Rattle.payload_core_base.specs.Pieces.{pieces}
@@ -23,7 +24,13 @@ next_id id = if nat_lt id 32767 then id + 1 else 0
 abbrev pub after_frame : Sender → Sender
 after_frame s = record { number = next_id s.number; waiting = s.waiting }
 
--- A frame is cut into pieces of what the descriptor's three bytes leave of the limit; where they leave nothing, nothing is sent.
+-- An empty sample, and one of whose limit the descriptor leaves nothing, send no frame.
+abbrev pub vp9_after : Sender → ℕ → List ℕ → Sender
+vp9_after s limit [] = s
+vp9_after s limit (b ∷ bs) = if nat_le limit 3 then s else after_frame s
+
+-- A frame is cut into pieces of what the descriptor's three bytes leave of the limit; where they leave nothing,
+-- nothing is sent.
 abbrev pub pack_vp9 : Sender → ℕ → List ℕ → Result Sent PacketError
 pack_vp9 s limit [] = Ok (record { packets = []; sender = s })
 pack_vp9 s limit (b ∷ bs) =
@@ -34,7 +41,8 @@ pack_vp9 s limit (b ∷ bs) =
 abbrev pub vp9_packing : Packing
 vp9_packing = record { pack = pack_vp9; marks = λ packet last. last }
 
--- A frame with a byte is well-formed. It is one unit of one part, unless the limit leaves nothing behind the descriptor.
+-- A frame with a byte is well-formed. It is one unit of one part, unless the limit leaves nothing behind the
+-- descriptor.
 abbrev pub vp9_units : Sender → ℕ → List ℕ → List (List (List ℕ))
 vp9_units s limit sample = if nat_le limit 3 then [] else (sample ∷ []) ∷ []
 
@@ -45,4 +53,5 @@ vp9_coding = record {
   IsReached = λ sender. sender.number < 32768;
   IsWellFormed = λ limit sample. 0 < length sample;
   units = vp9_units;
+  after = vp9_after;
 }

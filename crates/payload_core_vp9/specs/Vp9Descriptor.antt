@@ -1,8 +1,10 @@
 -- The payload descriptor of VP9 (RFC 9628 4.2), as it is read. A text that is cut short has nothing behind the cut.
-use Rattle.std.specs.Prelude.{ℕ, zero, suc, ◌+◌, ◌*◌, ◌/◌, ◌%◌, ◌==◌, ◌&&◌, Bool, false, List, [], ◌∷◌, drop, slice_index, Option, Some, None, Result, Ok, Err, if◌then◌else◌}
+use Rattle.std.specs.Prelude.{ℕ, zero, suc, ◌+◌, ◌*◌, ◌/◌, ◌%◌, ◌==◌, ◌&&◌, Bool, false, List, [], ◌∷◌, drop}
+use Rattle.std.specs.Prelude.{slice_index, Option, Some, None, Result, Ok, Err, if◌then◌else◌}
 use Rattle.payload_core_base.specs.Format.{Format, Fragment, Reading}
 use Rattle.payload_core_base.specs.declared.error.PacketError.{PacketError}
-use Rattle.payload_core_base.specs.declared.error.PacketError.TheVariants.{ErrShortPacket, ErrTooManyPDiff, ErrVP9CorruptedPacket}
+use Rattle.payload_core_base.specs.declared.error.PacketError.TheVariants.{ErrShortPacket, ErrTooManyPDiff}
+use Rattle.payload_core_base.specs.declared.error.PacketError.TheVariants.{ErrVP9CorruptedPacket}
 use Rattle.payload_core_base.specs.declared.extra.CodecExtra.{CodecExtra}
 use Rattle.payload_core_base.specs.declared.extra.CodecExtra.TheVariants.{Vp9}
 
@@ -35,7 +37,8 @@ picture_id_size first text = if has_i first then (if has_bit 128 (slice_index te
 
 abbrev pub picture_id_of : ℕ → List ℕ → Option ℕ
 picture_id_of first text =
-    if has_i first then (if has_bit 128 (slice_index text 0) then Some (slice_index text 0 % 128 * 256 + slice_index text 1) else Some (slice_index text 0))
+    if has_i first then (if has_bit 128 (slice_index text 0)
+    then Some (slice_index text 0 % 128 * 256 + slice_index text 1) else Some (slice_index text 0))
     else None
 
 -- L: a byte of TID, U, SID and D, and without F one of TL0PICIDX.
@@ -48,7 +51,8 @@ has_n text k = has_bit 1 (slice_index text k)
 
 -- P and F: up to three references, one more behind each with N.
 abbrev pub references_size : ℕ → List ℕ → ℕ
-references_size first text = if has_p first && has_f first then (if has_n text 0 then (if has_n text 1 then 3 else 2) else 1) else 0
+references_size first text = if has_p first && has_f first
+    then (if has_n text 0 then (if has_n text 1 then 3 else 2) else 1) else 0
 
 -- The third reference has N.
 abbrev pub lists_too_many : ℕ → List ℕ → Bool
@@ -73,7 +77,8 @@ sizes_size flags = if has_bit 16 flags then 4 * (flags / 32 + 1) else 0
 
 -- V: the scalability structure, a byte of N_S, Y and G, and what these announce.
 abbrev pub behind_structure : ℕ → List ℕ → List ℕ
-behind_structure first text = if has_v first then behind_group (has_bit 8 (slice_index text 0)) (drop (1 + sizes_size (slice_index text 0)) text) else text
+behind_structure first text = if has_v first
+    then behind_group (has_bit 8 (slice_index text 0)) (drop (1 + sizes_size (slice_index text 0)) text) else text
 
 -- What stands behind the picture id and the layers.
 abbrev pub references_of : ℕ → List ℕ → List ℕ
@@ -81,12 +86,14 @@ references_of first rest = drop (layers_size first) (drop (picture_id_size first
 
 -- What stands behind the descriptor of this first byte.
 abbrev pub payload_of : ℕ → List ℕ → List ℕ
-payload_of first rest = behind_structure first (drop (references_size first (references_of first rest)) (references_of first rest))
+payload_of first rest = behind_structure first
+    (drop (references_size first (references_of first rest)) (references_of first rest))
 
 -- A payload has a byte.
 abbrev pub reading_of : Fragment → Option ℕ → List ℕ → Result Reading PacketError
 reading_of fragment id [] = Err ErrVP9CorruptedPacket
-reading_of fragment id (b ∷ bs) = Ok (record { written = b ∷ bs; extra = Vp9 (record { picture_id = id }); fragment = fragment })
+reading_of fragment id (b ∷ bs) = Ok (record
+    { written = b ∷ bs; extra = Vp9 (record { picture_id = id }); fragment = fragment })
 
 abbrev pub read_vp9 : Fragment → CodecExtra → List ℕ → Result Reading PacketError
 read_vp9 fragment extra [] = Err ErrShortPacket

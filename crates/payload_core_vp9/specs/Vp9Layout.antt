@@ -1,5 +1,6 @@
 -- Packets of VP9 as the fields of their descriptor, one behind the other, and a payload (RFC 9628 4.2).
-use Rattle.std.specs.Prelude.{◌≡◌, ⊤, ℕ, ◌+◌, ◌*◌, ◌/◌, ◌%◌, ◌<◌, ◌&&◌, Bool, true, false, zero, suc, List, [], ◌∷◌, ◌++◌, length, Option, Some, None, Ok, Err}
+use Rattle.std.specs.Prelude.{◌≡◌, ⊤, ℕ, ◌+◌, ◌*◌, ◌/◌, ◌%◌, ◌<◌, ◌&&◌, Bool, true, false, zero, suc, List, [], ◌∷◌}
+use Rattle.std.specs.Prelude.{◌++◌, length, Option, Some, None, Ok, Err}
 use Rattle.payload_core_base.specs.Format.{Fragment, Reading}
 use Rattle.payload_core_base.specs.declared.error.PacketError.TheVariants.{ErrTooManyPDiff}
 use Rattle.payload_core_base.specs.declared.extra.CodecExtra.{CodecExtra}
@@ -31,7 +32,8 @@ AreReferences _ _ = ⊥
 -- So many pictures, each a byte of TID, U and R, and R references.
 abbrev pub ArePictures : ℕ → List ℕ → Type 0
 ArePictures zero bytes = bytes ≡ []
-ArePictures (suc n) bytes = (byte : ℕ) × (references : List ℕ) × (rest : List ℕ) × (bytes ≡ byte ∷ (references ++ rest)) × (length references ≡ byte / 4 % 4) × ArePictures n rest
+ArePictures (suc n) bytes = (byte : ℕ) × (references : List ℕ) × (rest : List ℕ)
+    × (bytes ≡ byte ∷ (references ++ rest)) × (length references ≡ byte / 4 % 4) × ArePictures n rest
 
 -- With G there is a count of pictures, and the pictures.
 abbrev pub IsGroup : Bool → List ℕ → Type 0
@@ -41,7 +43,8 @@ IsGroup true bytes = (n : ℕ) × (pictures : List ℕ) × (bytes ≡ n ∷ pict
 -- With V there is a byte of N_S, Y and G, the sizes of the layers with Y, and the picture group.
 abbrev pub IsStructure : Bool → List ℕ → Type 0
 IsStructure false bytes = bytes ≡ []
-IsStructure true bytes = (flags : ℕ) × (sizes : List ℕ) × (group : List ℕ) × (bytes ≡ flags ∷ (sizes ++ group)) × (length sizes ≡ sizes_size flags) × IsGroup (has_bit 8 flags) group
+IsStructure true bytes = (flags : ℕ) × (sizes : List ℕ) × (group : List ℕ) × (bytes ≡ flags ∷ (sizes ++ group))
+    × (length sizes ≡ sizes_size flags) × IsGroup (has_bit 8 flags) group
 
 -- A packet with this picture id and this payload.
 pub record IsVp9Packet (packet : List ℕ) (id : Option ℕ) (payload : List ℕ) : Type 0 where
@@ -59,8 +62,10 @@ pub record IsVp9Packet (packet : List ℕ) (id : Option ℕ) (payload : List ℕ
 
 -- Every such packet is read, and gives this payload and this picture id.
 abbrev pub LayoutLaw : Type 0
-LayoutLaw = (fragment : Fragment) (extra : CodecExtra) (packet : List ℕ) (id : Option ℕ) (payload : List ℕ) → IsVp9Packet packet id payload
-    → read_vp9 fragment extra packet ≡ Ok (record { written = payload; extra = Vp9 (record { picture_id = id }); fragment = fragment })
+LayoutLaw = (fragment : Fragment) (extra : CodecExtra) (packet : List ℕ) (id : Option ℕ) (payload : List ℕ)
+    → IsVp9Packet packet id payload
+    → read_vp9 fragment extra packet ≡ Ok (record
+    { written = payload; extra = Vp9 (record { picture_id = id }); fragment = fragment })
 
 -- A reading is the payload and the picture id of a packet that is laid out so.
 pub record IsReadAs (fragment : Fragment) (packet : List ℕ) (r : Reading) : Type 0 where
@@ -71,7 +76,8 @@ pub record IsReadAs (fragment : Fragment) (packet : List ℕ) (r : Reading) : Ty
 
 -- And no other packet is read.
 abbrev pub ReadLaw : Type 0
-ReadLaw = (fragment : Fragment) (extra : CodecExtra) (packet : List ℕ) (r : Reading) → read_vp9 fragment extra packet ≡ Ok r → IsReadAs fragment packet r
+ReadLaw = (fragment : Fragment) (extra : CodecExtra) (packet : List ℕ) (r : Reading) → read_vp9 fragment extra packet
+    ≡ Ok r → IsReadAs fragment packet r
 
 -- A packet that lists a fourth reference: N is set in the third.
 pub record ListsFour (packet : List ℕ) : Type 0 where
@@ -93,4 +99,6 @@ pub record ListsFour (packet : List ℕ) : Type 0 where
 
 -- Just these are refused for it.
 abbrev pub TooManyLaw : Type 0
-TooManyLaw = (fragment : Fragment) (extra : CodecExtra) (packet : List ℕ) → (ListsFour packet → read_vp9 fragment extra packet ≡ Err ErrTooManyPDiff) × (read_vp9 fragment extra packet ≡ Err ErrTooManyPDiff → ListsFour packet)
+TooManyLaw = (fragment : Fragment) (extra : CodecExtra) (packet : List ℕ)
+    → (ListsFour packet → read_vp9 fragment extra packet ≡ Err ErrTooManyPDiff)
+    × (read_vp9 fragment extra packet ≡ Err ErrTooManyPDiff → ListsFour packet)

@@ -1,14 +1,16 @@
 //! The laws of VP9 payloads.
 
-ghost use Rattle.payload_core_base.specs.Law.{CodecLaw, FillsPackets};
+ghost use Rattle.payload_core_base.specs.Law.{CodecLaw, FillsPackets, SilenceKeepsState};
 ghost use Rattle.payload_core_vp9.specs.Vp9.{vp9_coding, vp9_packing};
 ghost use Rattle.payload_core_vp9.specs.Vp9Layout.{LayoutLaw, ReadLaw, TooManyLaw};
 
 /// VP9 keeps the codec law: a frame is one unit of one part, unless the limit leaves nothing behind the
-/// descriptor; and every packet but a frame's last has just the limit's bytes.
+/// descriptor; every packet but a frame's last has just the limit's bytes; and a sample without packets leaves the
+/// picture id as it was.
 pub fn vp9_law()
     ensures codec { CodecLaw vp9_coding }
     ensures full { FillsPackets vp9_packing }
+    ensures silent { SilenceKeepsState vp9_packing }
 {}
 
 /// Just those packets are read whose bytes are the fields of a descriptor, one behind the other, and a payload:

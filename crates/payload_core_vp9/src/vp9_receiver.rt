@@ -1,6 +1,8 @@
 //! Reading VP9 payloads (RFC 9628 4.2).
 
-ghost use Rattle.payload_core_vp9.specs.Vp9Descriptor.{behind_pictures, behind_structure, has_bit, layers_size, lists_too_many, payload_of, picture_id_of, picture_id_size, picture_size, references_of, references_size, vp9_format};
+ghost use Rattle.payload_core_vp9.specs.Vp9Descriptor.{behind_pictures, behind_structure, has_bit, layers_size};
+ghost use Rattle.payload_core_vp9.specs.Vp9Descriptor.{lists_too_many, payload_of, picture_id_of, picture_id_size};
+ghost use Rattle.payload_core_vp9.specs.Vp9Descriptor.{picture_size, references_of, references_size, vp9_format};
 ghost use Rattle.std.specs.Prelude.{◌≡◌, ◌<◌, ◌≤◌, None, drop, slice_index};
 
 use payload_core_base::{CodecExtra, Depacketizer, PacketError, Vp9CodecExtra};

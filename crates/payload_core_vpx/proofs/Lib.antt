@@ -1,3 +1,4 @@
 pub mod PatchLaw
 pub mod PatchWrites
 pub mod Vp8Law
+pub mod KeyframeLaw

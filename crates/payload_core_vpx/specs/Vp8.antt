@@ -1,5 +1,6 @@
 -- VP8 payloads (RFC 7741 4).
-use Rattle.std.specs.Prelude.{ℕ, ◌+◌, ◌-◌, ◌/◌, ◌%◌, ◌<◌, ◌==◌, ◌||◌, Bool, true, false, List, [], ◌∷◌, ◌++◌, drop, length, nat_lt, nat_le, Result, Ok, Err, if◌then◌else◌}
+use Rattle.std.specs.Prelude.{ℕ, ◌+◌, ◌-◌, ◌/◌, ◌%◌, ◌<◌, ◌==◌, ◌||◌, Bool, true, false, List, [], ◌∷◌, ◌++◌, drop}
+use Rattle.std.specs.Prelude.{length, nat_lt, nat_le, Result, Ok, Err, if◌then◌else◌}
 use Rattle.payload_core_base.specs.Format.{Format, Fragment, Reading}
 use Rattle.payload_core_base.specs.Law.{Coding}
 use Rattle.payload_core_base.specs.Packing.{Packing, Sender, Sent}
@@ -11,9 +12,11 @@ use Rattle.payload_core_base.specs.declared.extra.CodecExtra.TheVariants.{Vp8}
 use Rattle.payload_core_vpx.specs.Vp8Descriptor.{has_bit, layout_size, parsed, starts_keyframe}
 use Rattle.payload_core_vpx.specs.declared.vp8_descriptor.Vp8Descriptor.{Vp8Descriptor}
 use Rattle.payload_core_vpx.specs.declared.vp8_descriptor.Vp8DescriptorError.{Vp8DescriptorError}
-use Rattle.payload_core_vpx.specs.declared.vp8_descriptor.Vp8DescriptorError.TheVariants.{MalformedDescriptor, ShortPayload}
+use Rattle.payload_core_vpx.specs.declared.vp8_descriptor.Vp8DescriptorError.TheVariants.{MalformedDescriptor}
+use Rattle.payload_core_vpx.specs.declared.vp8_descriptor.Vp8DescriptorError.TheVariants.{ShortPayload}
 
--- The descriptor of a packet that is sent (RFC 7741 4.2): S on the first, and no id, an id of 7 bits, or one of 15 bits. An id of 0 is left out.
+-- The descriptor of a packet that is sent (RFC 7741 4.2): S on the first, and no id, an id of 7 bits, or one of 15
+-- bits. An id of 0 is left out.
 abbrev pub descriptor : Bool → ℕ → Bool → List ℕ
 descriptor false id first = (if first then 16 else 0) ∷ []
 descriptor true id first =
@@ -39,12 +42,21 @@ next_id id = if nat_lt id 32767 then id + 1 else 0
 abbrev pub after_frame : Sender → Sender
 after_frame s = record { number = next_id s.number; waiting = s.waiting }
 
+-- An empty sample, and one of whose limit the descriptor leaves nothing, send no frame.
+abbrev pub vp8_after : Bool → Sender → ℕ → List ℕ → Sender
+vp8_after has_id s limit [] = s
+vp8_after has_id s limit (b ∷ bs) = if nat_le limit (descriptor_size has_id s.number) then s else after_frame s
+
 -- A frame is cut into pieces of what the descriptor leaves of the limit; where it leaves nothing, nothing is sent.
 abbrev pub pack_vp8 : Bool → Sender → ℕ → List ℕ → Result Sent PacketError
 pack_vp8 has_id s limit [] = Ok (record { packets = []; sender = s })
 pack_vp8 has_id s limit (b ∷ bs) =
     if nat_le limit (descriptor_size has_id s.number) then Ok (record { packets = []; sender = s })
-    else Ok (record { packets = described has_id s.number true (pieces (limit - descriptor_size has_id s.number) (b ∷ bs)); sender = after_frame s })
+    else Ok (record {
+      packets = described has_id s.number true
+          (pieces (limit - descriptor_size has_id s.number) (b ∷ bs));
+      sender = after_frame s;
+    })
 
 -- The last packet of a frame has the marker.
 abbrev pub vp8_packing : Bool → Packing
@@ -56,12 +68,18 @@ was_keyframe (Vp8 extra) = extra.is_keyframe
 was_keyframe _ = false
 
 -- A frame is what stands behind the descriptor.
-abbrev pub reading_of : Fragment → CodecExtra → List ℕ → Result Vp8Descriptor Vp8DescriptorError → Result Reading PacketError
+abbrev pub reading_of : Fragment → CodecExtra → List ℕ → Result Vp8Descriptor Vp8DescriptorError
+    → Result Reading PacketError
 reading_of fragment extra p (Err ShortPayload) = Err ErrShortPacket
 reading_of fragment extra p (Err MalformedDescriptor) = Err ErrVP8CorruptedPacket
 reading_of fragment extra p (Ok d) = Ok (record {
   written = drop (layout_size d.shape) p;
-  extra = Vp8 (record { is_keyframe = was_keyframe extra || starts_keyframe d p; picture_id = d.picture_id; tl0_pic_idx = d.tl0_pic_idx });
+  extra = Vp8 (record {
+    is_keyframe = was_keyframe extra || starts_keyframe d p;
+    picture_id =
+        d.picture_id;
+    tl0_pic_idx = d.tl0_pic_idx;
+  });
   fragment = fragment;
 })
 
@@ -76,7 +94,8 @@ is_vp8_head (first ∷ rest) = has_bit 16 first
 abbrev pub vp8_format : Format
 vp8_format = record { head = is_vp8_head; tail = λ marker packet. marker; read = read_vp8 }
 
--- A frame with a byte is well-formed. It is one unit of one part, unless the limit leaves nothing behind the descriptor.
+-- A frame with a byte is well-formed. It is one unit of one part, unless the limit leaves nothing behind the
+-- descriptor.
 abbrev pub vp8_units : Bool → Sender → ℕ → List ℕ → List (List (List ℕ))
 vp8_units has_id s limit sample = if nat_le limit (descriptor_size has_id s.number) then [] else (sample ∷ []) ∷ []
 
@@ -87,4 +106,5 @@ vp8_coding has_id = record {
   IsReached = λ sender. sender.number < 32768;
   IsWellFormed = λ limit sample. 0 < length sample;
   units = vp8_units has_id;
+  after = vp8_after has_id;
 }

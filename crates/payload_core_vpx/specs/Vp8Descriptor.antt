@@ -1,9 +1,11 @@
 -- The payload descriptor of VP8 (RFC 7741 4.2). A byte behind the end of a payload counts as 0.
-use Rattle.std.specs.Prelude.{ℕ, ◌+◌, ◌*◌, ◌/◌, ◌%◌, ◌==◌, ◌&&◌, ◌||◌, Bool, true, false, List, [], ◌∷◌, drop, slice_index, Option, Some, None, Result, Ok, Err, if◌then◌else◌}
+use Rattle.std.specs.Prelude.{ℕ, ◌+◌, ◌*◌, ◌/◌, ◌%◌, ◌==◌, ◌&&◌, ◌||◌, Bool, true, false, List, [], ◌∷◌, drop}
+use Rattle.std.specs.Prelude.{slice_index, Option, Some, None, Result, Ok, Err, if◌then◌else◌}
 use Rattle.payload_core_vpx.specs.declared.vp8_descriptor.Shape.{Shape}
 use Rattle.payload_core_vpx.specs.declared.vp8_descriptor.Vp8Descriptor.{Vp8Descriptor}
 use Rattle.payload_core_vpx.specs.declared.vp8_descriptor.Vp8DescriptorError.{Vp8DescriptorError}
-use Rattle.payload_core_vpx.specs.declared.vp8_descriptor.Vp8DescriptorError.TheVariants.{MalformedDescriptor, ShortPayload}
+use Rattle.payload_core_vpx.specs.declared.vp8_descriptor.Vp8DescriptorError.TheVariants.{MalformedDescriptor}
+use Rattle.payload_core_vpx.specs.declared.vp8_descriptor.Vp8DescriptorError.TheVariants.{ShortPayload}
 
 -- The bit of this weight.
 abbrev pub has_bit : ℕ → ℕ → Bool
@@ -11,7 +13,15 @@ has_bit weight byte = byte / weight % 2 == 1
 
 -- What the X bit, the flags I, L, T and K, and the M bit announce. Without X there are no flags.
 abbrev pub shape_with : Bool → ℕ → Bool → Shape
-shape_with false flags m = record { is_extended = false; has_picture_id = false; is_long = false; has_tl0_pic_idx = false; has_key_byte = false; has_key_idx = false }
+shape_with false flags m = record {
+  is_extended = false;
+  has_picture_id = false;
+  is_long = false;
+  has_tl0_pic_idx =
+      false;
+  has_key_byte = false;
+  has_key_idx = false;
+}
 shape_with true flags m = record {
   is_extended = true;
   has_picture_id = has_bit 128 flags;
@@ -44,7 +54,8 @@ layout_size s = if s.is_extended then key_place s + (if s.has_key_byte then 1 el
 -- A picture id of 15 bits behind M, or of 7 bits.
 abbrev pub picture_id_in : Shape → List ℕ → Option ℕ
 picture_id_in s p =
-    if s.has_picture_id then (if s.is_long then Some (slice_index p 2 % 128 * 256 + slice_index p 3) else Some (slice_index p 2 % 128))
+    if s.has_picture_id then (if s.is_long then Some (slice_index p 2 % 128 * 256 + slice_index p 3)
+    else Some (slice_index p 2 % 128))
     else None
 
 abbrev pub tl0_pic_idx_in : Shape → List ℕ → Option ℕ

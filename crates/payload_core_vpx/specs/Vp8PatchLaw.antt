@@ -18,7 +18,8 @@ pub record ChangesIdsOnly (patch : Vp8Patch) (old new : List ℕ) : Type 0 where
   pub same_length : length new ≡ length old
   pub other_bytes : (k : ℕ) → IsApart patch k → slice_index new k ≡ slice_index old k
   pub m_bit : patch.shape.has_picture_id ≡ true → slice_index new 2 / 128 ≡ slice_index old 2 / 128
-  pub tid_and_y : patch.shape.has_key_idx ≡ true → slice_index new (key_place patch.shape) / 32 ≡ slice_index old (key_place patch.shape) / 32
+  pub tid_and_y : patch.shape.has_key_idx ≡ true → slice_index new (key_place patch.shape) / 32
+      ≡ slice_index old (key_place patch.shape) / 32
 
 -- A builder with a descriptor's own ids.
 abbrev pub own_ids : Vp8Descriptor → Vp8PatchBuilder
@@ -52,4 +53,5 @@ pub record PatchHolds (d : Vp8Descriptor) (b : Vp8PatchBuilder) (payload : List 
 
 -- So holds every patch that is built from a payload's descriptor, of that payload.
 abbrev pub PatchLaw : Type 0
-PatchLaw = (payload : List ℕ) (d : Vp8Descriptor) (b : Vp8PatchBuilder) → slice_index payload 3 < 256 → parsed payload ≡ Ok d → b.shape ≡ d.shape → refusal_of_build b ≡ None → PatchHolds d b payload
+PatchLaw = (payload : List ℕ) (d : Vp8Descriptor) (b : Vp8PatchBuilder) → slice_index payload 3 < 256
+    → parsed payload ≡ Ok d → b.shape ≡ d.shape → refusal_of_build b ≡ None → PatchHolds d b payload

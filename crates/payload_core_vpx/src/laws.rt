@@ -1,15 +1,18 @@
 //! The laws of VP8 payloads.
 
-ghost use Rattle.payload_core_base.specs.Law.{CodecLaw, FillsPackets};
+ghost use Rattle.payload_core_base.specs.Law.{CodecLaw, FillsPackets, SilenceKeepsState};
 ghost use Rattle.payload_core_vpx.specs.Vp8.{vp8_coding, vp8_packing};
+ghost use Rattle.payload_core_vpx.specs.Vp8KeyframeLaw.{KeyframeLaw};
 ghost use Rattle.payload_core_vpx.specs.Vp8PatchLaw.{PatchLaw};
 ghost use Rattle.std.specs.Prelude.{Bool};
 
 /// VP8 keeps the codec law, with ids and without: a frame is one unit of one part, unless the limit leaves
-/// nothing behind the descriptor; and every packet but a frame's last has just the limit's bytes.
+/// nothing behind the descriptor; every packet but a frame's last has just the limit's bytes; and a sample without
+/// packets leaves the picture id as it was.
 pub fn vp8_law()
     ensures codec { (has_id : Bool) → CodecLaw (vp8_coding has_id) }
     ensures full { (has_id : Bool) → FillsPackets (vp8_packing has_id) }
+    ensures silent { (has_id : Bool) → SilenceKeepsState (vp8_packing has_id) }
 {}
 
 /// A patch that was built from a payload's descriptor reaches the places that it writes, and changes the ids'
@@ -17,4 +20,9 @@ pub fn vp8_law()
 /// and the patch of the payload's own ids restores it.
 pub fn vp8_patch_law()
     ensures { PatchLaw }
+{}
+
+/// Only a payload with S and of partition 0 begins a keyframe (RFC 7741 4.2).
+pub fn vp8_keyframe_law()
+    ensures { KeyframeLaw }
 {}

@@ -1,6 +1,9 @@
 //! The payload descriptor of VP8 (RFC 7741 4.2).
 
-ghost use Rattle.payload_core_vpx.specs.Vp8Descriptor.{begins_keyframe, described_in, has_bit, key_idx_in, key_place, keyframe_in, layout_size, parsed, picture_id_in, picture_id_size, shape_of, starts_keyframe, tl0_pic_idx_in, tl0_place};
+ghost use Rattle.payload_core_vpx.specs.Vp8Descriptor.{begins_keyframe, described_in, has_bit, key_idx_in, key_place};
+ghost use Rattle.payload_core_vpx.specs.Vp8Descriptor.{keyframe_in, layout_size, parsed, picture_id_in};
+ghost use Rattle.payload_core_vpx.specs.Vp8Descriptor.{picture_id_size, shape_of, starts_keyframe, tl0_pic_idx_in};
+ghost use Rattle.payload_core_vpx.specs.Vp8Descriptor.{tl0_place};
 ghost use Rattle.payload_core_vpx.specs.Vp8Patches.{builder_of};
 ghost use Rattle.std.specs.Prelude.{◌≡◌, ◌<◌, ◌≤◌, drop, slice_index};
 

@@ -1,7 +1,10 @@
 //! Patches of the ids in VP8 payload descriptors (RFC 7741 4.2).
 
 ghost use Rattle.payload_core_vpx.specs.Vp8Descriptor.{key_place, tl0_place};
-ghost use Rattle.payload_core_vpx.specs.Vp8Patches.{Reaches, builder_of, key_idx_refusal, patch_of, patched, picture_id_end, picture_id_refusal, refusal_of_build, tl0_pic_idx_refusal, with_key_idx, with_picture_id, with_tl0_pic_idx};
+ghost use Rattle.payload_core_vpx.specs.Vp8Patches.{Reaches, builder_of, key_idx_refusal, patch_of, patched};
+ghost use Rattle.payload_core_vpx.specs.Vp8Patches.{picture_id_end, picture_id_refusal, refusal_of_build};
+ghost use Rattle.payload_core_vpx.specs.Vp8Patches.{tl0_pic_idx_refusal, with_key_idx, with_picture_id};
+ghost use Rattle.payload_core_vpx.specs.Vp8Patches.{with_tl0_pic_idx};
 ghost use Rattle.std.specs.Option.{ForSome};
 ghost use Rattle.std.specs.Prelude.{◌≡◌, ◌<◌, IfErr, IfOk, None, Some, length};
 

@@ -72,7 +72,8 @@ fn packets(
 ) -> Result<Vec<Vec<u8>>, PacketError>
     requires id { id < 32768 }
     requires size { 0 < size }
-    ensures packets { IfOk result (λ ps. map (λ p. p.items) ps.items ≡ described has_id id true (pieces size bytes.now)) }
+    ensures packets { IfOk result (λ ps. map (λ p. p.items) ps.items
+        ≡ described has_id id true (pieces size bytes.now)) }
     ensures memory { IfErr result (λ e. e ≡ PacketError.Memory) }
 {
     let mut packets = Vec::new(alloc);

@@ -13,7 +13,7 @@ use Rattle.payload_core_base.specs.declared.extra.CodecExtra.{CodecExtra}
 use Rattle.payload_core_buffer.specs.Buffered.{held_with, is_done, limited, pushed}
 use Rattle.payload_core_buffer.specs.Frames.{due_frame, packets_between}
 use Rattle.payload_core_buffer.specs.Packets.{Packet, metas_of, payloads_of}
-use Rattle.payload_core_buffer.specs.Pops.{Faults, HandsOn, Stays, run_of}
+use Rattle.payload_core_buffer.specs.Pops.{Faults, PopGives, PopKeeps, run_of}
 use Rattle.payload_core_buffer.specs.declared.frame.Frame.{Frame}
 use Rattle.payload_core_buffer.specs.declared.held.RtpMeta.{RtpMeta}
 use Rattle.rtp_media_runs.specs.Heard.{Stream, due, poll_answer, polled, stream_behind, unit_among, unit_from}
@@ -34,7 +34,7 @@ unfolding poll_answer due
 poll_some s f some none = let never : unit_among s.held (Some f) ≡ None = ap (unit_among s.held) (sym some) ∙ none in cc
 
 module _ (s : Stream) (before after : Fragment) (new : List Packet) (now : Option ℕ) (out : List ℕ) (told : CodecExtra) (known : List RtpMeta)
-    (hands : HandsOn plain_format before after s.held new (due_frame plain_format s.cutoff s.hold_back s.held) now out told known) where
+    (hands : PopGives plain_format before after s.held new (due_frame plain_format s.cutoff s.hold_back s.held) now out told known) where
   -- the unit of a frame that was handed on
   pub handed_unit : before ≡ None → Some (unit_from known out) ≡ poll_answer s
   unfolding poll_answer due
@@ -84,7 +84,7 @@ bytes_pushed cutoff p ps some have = elim (is_done cutoff p.meta.seq_no) as (λ 
 ]
 
 pub handed_bytes : (s : Stream) (before after : Fragment) (new : List Packet) (now : Option ℕ) (out : List ℕ) (told : CodecExtra) (known : List RtpMeta)
-    → HandsOn plain_format before after s.held new (due_frame plain_format s.cutoff s.hold_back s.held) now out told known → HaveBytes s.held → HaveBytes new
+    → PopGives plain_format before after s.held new (due_frame plain_format s.cutoff s.hold_back s.held) now out told known → HaveBytes s.held → HaveBytes new
 handed_bytes s before after new now out told known hands have = subst HaveBytes (sym hands.done.gone) (bytes-drop hands.frame.end s.held have)
 
 -- payloads with bytes meet no fault
@@ -125,14 +125,14 @@ run-closed ps = stays-closed None _ (payloads_of ps)
 
 -- after a frame that was handed on, and where memory was wanting
 pub hands-closed : (format : Format) (before after : Fragment) (old new : List Packet) (due : Option Frame) (now : Option ℕ) (out : List ℕ) (told : CodecExtra) (known : List RtpMeta) →
-    format ≡ plain_format → before ≡ None → HandsOn format before after old new due now out told known → after ≡ None
+    format ≡ plain_format → before ≡ None → PopGives format before after old new due now out told known → after ≡ None
 hands-closed format before after old new due now out told known plain closed hands =
     hands.read.fragment
     ∙ ap₂ (λ (f : Format) (g : Fragment). (run_of f g (packets_between old hands.frame)).fragment) plain closed
     ∙ run-closed (packets_between old hands.frame)
 
 pub memory-closed : (format : Format) (before after : Fragment) (old new : List Packet) (due : Option Frame) (was now : Option ℕ) →
-    format ≡ plain_format → before ≡ None → Stays format before after old new due was now → after ≡ None
+    format ≡ plain_format → before ≡ None → PopKeeps format before after old new due was now → after ≡ None
 memory-closed format before after old new due was now plain closed stays =
     let read : List Packet = take stays.stops.count (packets_between old stays.frame) in
     stays.stops.fragment ∙ ap₂ (λ (f : Format) (g : Fragment). (run_of f g read).fragment) plain closed ∙ run-closed read

@@ -138,6 +138,8 @@ fn elements_that_are_passed_over(rt: HostRuntime) {
 fn padding(rt: HostRuntime) {
     assert_eq!(rt; unpad_payload(false, &[1, 2]).map(|p| p.len()), Some(2));
     assert_eq!(rt; unpad_payload(true, &[9, 0, 2]).map(|p| p.len()), Some(1));
+    // Padding of the whole payload leaves an empty one.
+    assert_eq!(rt; unpad_payload(true, &[0, 0, 3]).map(|p| p.len()), Some(0));
     for bytes in [[].as_slice(), [0].as_slice(), [1, 5].as_slice()] {
         assert!(rt; unpad_payload(true, bytes).is_none());
     }

@@ -6,7 +6,8 @@ use Rattle.h26x_payload_h264.proofs.h264_receiver.holds_type.Given as goal
 
 -- what was passed over is of no such type
 abbrev pub invariant-loop-rest : goal.invariant-loop-rest
-invariant-loop-rest l = list_any (is_of_type l.nalu_type) (aggregated 0 0 l.rest).units ≡ list_any (is_of_type l.nalu_type) (aggregated 0 0 l.body).units
+invariant-loop-rest l = list_any (is_of_type l.nalu_type) (aggregated 0 0 l.rest).units
+    ≡ list_any (is_of_type l.nalu_type) (aggregated 0 0 l.body).units
 
 abbrev pub decreases-loop-rest : goal.decreases-loop-rest
 decreases-loop-rest l = length l.rest

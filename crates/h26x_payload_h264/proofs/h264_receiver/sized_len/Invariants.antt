@@ -5,7 +5,8 @@ use Rattle.h26x_payload_h264.proofs.h264_receiver.sized_len.Given as goal
 
 -- what was passed, and the units of the rest
 abbrev pub invariant-loop-rest : goal.invariant-loop-rest
-invariant-loop-rest l = l.len + length (flat_map sized (aggregated 0 0 l.rest).units) ≡ length (flat_map sized (aggregated 0 0 l.body).units)
+invariant-loop-rest l = l.len + length (flat_map sized (aggregated 0 0 l.rest).units)
+    ≡ length (flat_map sized (aggregated 0 0 l.body).units)
 
 abbrev pub decreases-loop-rest : goal.decreases-loop-rest
 decreases-loop-rest l = length l.rest

@@ -10,5 +10,7 @@ abbrev pub invariant-loop-part : goal.invariant-loop-part
 invariant-loop-part l = record {
   size : chunks_size l.part-iterator ≡ l.limit - 2;
   left : l.left ≡ length (chunks_rest l.part-iterator);
-  whole : map (λ p. p.items) l.packets.items ++ in_fragments (fu_a l.header) l.first (pieces (l.limit - 2) (chunks_rest l.part-iterator)) ≡ map (λ p. p.items) l.initial.packets.items ++ fragments_of l.limit l.unit;
+  whole : map (λ p. p.items) l.packets.items
+      ++ in_fragments (fu_a l.header) l.first (pieces (l.limit - 2) (chunks_rest l.part-iterator))
+      ≡ map (λ p. p.items) l.initial.packets.items ++ fragments_of l.limit l.unit;
 }

@@ -9,4 +9,5 @@ pub returns : goal.returns
 returns c =
     let rest = c.loop-rest.rest.now in
     let empty : length rest ≡ 0 = grind (arith, nat_tests) in
-    sym (ap (λ a. list_any is_irap_unit a.units) (none_is c.loop-rest.lead c.args.later rest empty)) ∙ c.loop-rest.invariant
+    sym (ap (λ a. list_any is_irap_unit a.units) (none_is c.loop-rest.lead c.args.later rest empty))
+    ∙ c.loop-rest.invariant

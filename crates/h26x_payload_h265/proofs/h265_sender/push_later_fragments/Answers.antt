@@ -1,4 +1,5 @@
-use Rattle.std.proofs.Common.{◌≡◌, ℕ, ◌-◌, ◌<◌, List, ◌∷◌, ◌++◌, false, eqb, map, min, length, sym, ◌∙◌, ap, append_assoc, arith}
+use Rattle.std.proofs.Common.{◌≡◌, ℕ, ◌-◌, ◌<◌, List, ◌∷◌, ◌++◌, false, eqb, map, min, length, sym, ◌∙◌, ap}
+use Rattle.std.proofs.Common.{append_assoc, arith}
 use Rattle.std.proofs.lemmas.List.{map-append, append-nil, length-append}
 use Rattle.std.specs.Slice.Iter.{chunks_rest}
 use Rattle.payload_core_base.specs.Packing.{is_none_left}
@@ -22,9 +23,12 @@ loop-part-preserved c =
     let size : ℕ = c.args.form.limit - 3 in
     let some_size : 0 < size = omega (arith, c.requires) in
     let rest : List ℕ = chunks_rest c.next.new.self in
-    let next = pieces-next size (chunks_rest c.loop-part.part-iterator) c.in-Some.part.now rest some_size steps.1.2 steps.1.0 (steps.1.1 ∙ ap (λ n. min n (length (chunks_rest c.loop-part.part-iterator))) whole.size) in
-    let left : c.loop-part.left - length c.in-Some.part.now ≡ length rest = omega (arith, whole.left, ap length steps.1.0, length-append c.in-Some.part.now rest) in
-    let last : is_none_left (pieces size rest) ≡ eqb (c.loop-part.left - length c.in-Some.part.now) 0 = none_left-pieces size rest some_size ∙ ap (λ n. eqb n 0) (sym left) in
+    let next = pieces-next size (chunks_rest c.loop-part.part-iterator) c.in-Some.part.now rest some_size steps.1.2
+    steps.1.0 (steps.1.1 ∙ ap (λ n. min n (length (chunks_rest c.loop-part.part-iterator))) whole.size) in
+    let left : c.loop-part.left - length c.in-Some.part.now ≡ length rest =
+    omega (arith, whole.left, ap length steps.1.0, length-append c.in-Some.part.now rest) in
+    let last : is_none_left (pieces size rest) ≡ eqb (c.loop-part.left - length c.in-Some.part.now) 0 =
+    none_left-pieces size rest some_size ∙ ap (λ n. eqb n 0) (sym left) in
     let before : List (List ℕ) = map (λ p. p.items) c.loop-part.packets.items in
     let cut = c.args.cut in
     let donl = c.args.form.donl in
@@ -33,8 +37,10 @@ loop-part-preserved c =
       left = left;
       whole =
           rw (c.in_ok-push.ensures.items, map-append, append_assoc, c.in_ok-fragment.ensures.packet)
-          (ap (λ e. before ++ fragment donl cut.number cut.high cut.low false e c.in-Some.part.now ∷ in_fragments (fragment donl cut.number cut.high cut.low) false (pieces size rest)) (sym last)
-          ∙ ap (λ ps. before ++ in_fragments (fragment donl cut.number cut.high cut.low) false ps) (sym next) ∙ whole.whole);
+          (ap (λ e. before ++ fragment donl cut.number cut.high cut.low false e c.in-Some.part.now
+          ∷ in_fragments (fragment donl cut.number cut.high cut.low) false (pieces size rest)) (sym last)
+          ∙ ap (λ ps. before ++ in_fragments (fragment donl cut.number cut.high cut.low) false ps) (sym next)
+          ∙ whole.whole);
     }
 
 pub returns-clause-packets : goal.returns-clause-packets
@@ -42,4 +48,6 @@ returns-clause-packets c =
     let whole = c.loop-part.invariant.whole in
     let cut = c.args.cut in
     let ps : List (List ℕ) = map (λ p. p.items) c.loop-part.packets.items in
-    sym (append-nil ps) ∙ ap (λ rest. ps ++ in_fragments (fragment c.args.form.donl cut.number cut.high cut.low) false rest) (sym (pieces-end (c.args.form.limit - 3) (chunks_rest c.loop-part.part-iterator) c.in-None.ensures.steps.1.0)) ∙ whole
+    sym (append-nil ps) ∙ ap (λ rest. ps ++ in_fragments (fragment c.args.form.donl cut.number cut.high cut.low)
+    false rest) (sym (pieces-end (c.args.form.limit - 3) (chunks_rest c.loop-part.part-iterator)
+    c.in-None.ensures.steps.1.0)) ∙ whole

@@ -10,6 +10,10 @@ abbrev pub invariant-loop-part : goal.invariant-loop-part
 invariant-loop-part l = record {
   size : chunks_size l.part-iterator ≡ l.form.limit - 3;
   left : l.left ≡ length (chunks_rest l.part-iterator);
-  whole : map (λ p. p.items) l.packets.items ++ in_fragments (fragment l.form.donl l.cut.number l.cut.high l.cut.low) false (pieces (l.form.limit - 3) (chunks_rest l.part-iterator))
-      ≡ map (λ p. p.items) l.initial.packets.items ++ in_fragments (fragment l.form.donl l.cut.number l.cut.high l.cut.low) false (pieces (l.form.limit - 3) l.rest);
+  whole : map (λ p. p.items) l.packets.items
+      ++ in_fragments (fragment l.form.donl l.cut.number l.cut.high l.cut.low) false
+      (pieces (l.form.limit - 3) (chunks_rest l.part-iterator))
+      ≡ map (λ p. p.items) l.initial.packets.items
+      ++ in_fragments (fragment l.form.donl l.cut.number l.cut.high l.cut.low) false
+      (pieces (l.form.limit - 3) l.rest);
 }

@@ -11,9 +11,18 @@ use Rattle.h26x_payload_h265.proofs.h265_sender.push_units.Given as goal
 -- what left so far, and what leaves of the units that are left
 abbrev pub invariant-loop-unit : goal.invariant-loop-unit
 invariant-loop-unit l = record {
-  packets : map (λ p. p.items) l.packets.items ++ flat_map (packets_of l.form.donl l.form.limit) (numbered l.kept.number (departures (h265_rules l.form.donl) l.form.limit (waiting_in l.kept) (units_left l.unit-iterator)))
-      ≡ map (λ p. p.items) l.initial.packets.items ++ flat_map (packets_of l.form.donl l.form.limit) (numbered l.initial.kept.number (departures (h265_rules l.form.donl) l.form.limit (waiting_in l.initial.kept) (units_of l.sample)));
-  number : number_after l.kept.number (departures (h265_rules l.form.donl) l.form.limit (waiting_in l.kept) (units_left l.unit-iterator))
-      ≡ number_after l.initial.kept.number (departures (h265_rules l.form.donl) l.form.limit (waiting_in l.initial.kept) (units_of l.sample));
-  waiting : waiting_after (h265_rules l.form.donl) (waiting_in l.kept) (units_left l.unit-iterator) ≡ waiting_after (h265_rules l.form.donl) (waiting_in l.initial.kept) (units_of l.sample);
+  packets : map (λ p. p.items) l.packets.items
+      ++ flat_map (packets_of l.form.donl l.form.limit)
+      (numbered l.kept.number (departures (h265_rules l.form.donl) l.form.limit (waiting_in l.kept)
+      (units_left l.unit-iterator)))
+      ≡ map (λ p. p.items) l.initial.packets.items
+      ++ flat_map (packets_of l.form.donl l.form.limit)
+      (numbered l.initial.kept.number (departures (h265_rules l.form.donl) l.form.limit
+      (waiting_in l.initial.kept) (units_of l.sample)));
+  number : number_after l.kept.number (departures (h265_rules l.form.donl) l.form.limit (waiting_in l.kept)
+      (units_left l.unit-iterator))
+      ≡ number_after l.initial.kept.number (departures (h265_rules l.form.donl) l.form.limit
+      (waiting_in l.initial.kept) (units_of l.sample));
+  waiting : waiting_after (h265_rules l.form.donl) (waiting_in l.kept) (units_left l.unit-iterator)
+      ≡ waiting_after (h265_rules l.form.donl) (waiting_in l.initial.kept) (units_of l.sample);
 }

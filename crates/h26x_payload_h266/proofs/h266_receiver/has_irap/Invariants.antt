@@ -6,7 +6,8 @@ use Rattle.h26x_payload_h266.proofs.h266_receiver.has_irap.Given as goal
 
 -- what was passed over is none
 abbrev pub invariant-loop-rest : goal.invariant-loop-rest
-invariant-loop-rest l = list_any is_irap_unit (aggregated l.lead 0 l.rest).units ≡ list_any is_irap_unit (aggregated l.initial.lead 0 l.body).units
+invariant-loop-rest l = list_any is_irap_unit (aggregated l.lead 0 l.rest).units
+    ≡ list_any is_irap_unit (aggregated l.initial.lead 0 l.body).units
 
 abbrev pub decreases-loop-rest : goal.decreases-loop-rest
 decreases-loop-rest l = length l.rest

@@ -1,7 +1,8 @@
 use Rattle.std.proofs.Common.{ℕ, List, ◌++◌, map, sym, ap, ◌∙◌, append_assoc}
 use Rattle.std.specs.List.{flat_map}
 use Rattle.h26x_payload_annexb.specs.UnitsLeft.{units_left}
-use Rattle.h26x_payload_units.specs.Departures.{Departure, Rules, Waiting, departing, departures, waiting_after, waiting_behind}
+use Rattle.h26x_payload_units.specs.Departures.{Departure, Rules, Waiting, departing, departures, waiting_after}
+use Rattle.h26x_payload_units.specs.Departures.{waiting_behind}
 use Rattle.h26x_payload_units.specs.Numbers.{Numbered, number_after, numbered}
 use Rattle.h26x_payload_units.proofs.NumberLemmas.{number_after_append}
 use Rattle.h26x_payload_h266.specs.H266Packing.{h266_rules, packets_of, role_by, unit_type}
@@ -28,9 +29,12 @@ loop-unit-preserved c =
     let now : List (List ℕ) = flat_map packets (numbered n ds) in
     record {
       packets =
-          ap (λ t. t ++ flat_map packets (numbered kept.number (departures rules limit (waiting_in kept) us))) sent.packets
-          ∙ ap (λ m. (before ++ now) ++ flat_map packets (numbered m (departures rules limit (waiting_in kept) us))) sent.number
-          ∙ ap (λ x. (before ++ now) ++ flat_map packets (numbered (number_after n ds) (departures rules limit x us))) sent.waiting
+          ap (λ t. t ++ flat_map packets (numbered kept.number (departures rules limit (waiting_in kept) us)))
+          sent.packets
+          ∙ ap (λ m. (before ++ now) ++ flat_map packets (numbered m (departures rules limit (waiting_in kept) us)))
+          sent.number
+          ∙ ap (λ x. (before ++ now) ++ flat_map packets
+          (numbered (number_after n ds) (departures rules limit x us))) sent.waiting
           ∙ append_assoc before now (flat_map packets (numbered (number_after n ds) (departures rules limit v us)))
           ∙ ap (λ t. before ++ t) (sym (packets_append packets n ds (departures rules limit v us)))
           ∙ ap (λ vs. before ++ flat_map packets (numbered n (departures rules limit w vs))) (sym steps)
@@ -41,5 +45,6 @@ loop-unit-preserved c =
           ∙ sym (number_after_append n ds (departures rules limit v us))
           ∙ ap (λ vs. number_after n (departures rules limit w vs)) (sym steps)
           ∙ whole.number;
-      waiting = ap (λ x. waiting_after rules x us) sent.waiting ∙ ap (waiting_after rules w) (sym steps) ∙ whole.waiting;
+      waiting = ap (λ x. waiting_after rules x us) sent.waiting ∙ ap (waiting_after rules w) (sym steps)
+          ∙ whole.waiting;
     }

@@ -19,5 +19,6 @@ own_found _ = refl
 
 pub returns : goal.returns
 returns c = λ one level same.
-    let clash : None ≡ Some level = sym (none_found one) ∙ ap (with_number h266_level_id levels) same ∙ own_found level in
+    let clash : None ≡ Some level = sym (none_found one) ∙ ap (with_number h266_level_id levels) same
+    ∙ own_found level in
     cc

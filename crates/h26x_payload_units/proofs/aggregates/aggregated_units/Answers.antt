@@ -11,4 +11,5 @@ returns-clause-written c =
     let rest = c.loop-rest.rest.now in
     let written = c.loop-rest.written.items in
     let empty : length rest ≡ 0 = grind (arith, nat_tests) in
-    sym (append-nil written) ∙ sym (ap (λ a. written ++ flat_map behind_code a.units) (none_is c.loop-rest.lead c.args.later rest empty)) ∙ c.loop-rest.invariant
+    sym (append-nil written) ∙ sym (ap (λ a. written ++ flat_map behind_code a.units)
+    (none_is c.loop-rest.lead c.args.later rest empty)) ∙ c.loop-rest.invariant

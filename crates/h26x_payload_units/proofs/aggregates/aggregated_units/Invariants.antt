@@ -6,7 +6,8 @@ use Rattle.h26x_payload_units.proofs.aggregates.aggregated_units.Given as goal
 
 -- what is written, and the units of the rest behind it
 abbrev pub invariant-loop-rest : goal.invariant-loop-rest
-invariant-loop-rest l = l.written.items ++ flat_map behind_code (aggregated l.lead l.later l.rest).units ≡ flat_map behind_code (aggregated l.initial.lead l.later l.body).units
+invariant-loop-rest l = l.written.items ++ flat_map behind_code (aggregated l.lead l.later l.rest).units
+    ≡ flat_map behind_code (aggregated l.initial.lead l.later l.body).units
 
 abbrev pub decreases-loop-rest : goal.decreases-loop-rest
 decreases-loop-rest l = length l.rest

@@ -2,7 +2,8 @@ use Rattle.std.proofs.Common.{◌≡◌, suc, ◌+◌, ◌-◌, ◌++◌, ◌∷
 use Rattle.std.proofs.lemmas.List.{append-nil}
 use Rattle.payload_core_audio.specs.AmrWb.{behind, entry_size, field_size, frames_from, header_at, speech_of}
 use Rattle.payload_core_audio.specs.BitPlaces.{place_of}
-use Rattle.payload_core_audio.proofs.AmrWbLemmas.{frames_go, frames_stop_room, frames_stop_type, is_room, next_entry, no_room}
+use Rattle.payload_core_audio.proofs.AmrWbLemmas.{frames_go, frames_stop_room, frames_stop_type, is_room, next_entry}
+use Rattle.payload_core_audio.proofs.AmrWbLemmas.{no_room}
 use Rattle.payload_core_audio.proofs.amr_wb.frames.Goals as goal
 
 pub returns-in_default-clause-refused : goal.returns-in_default-clause-refused
@@ -13,8 +14,10 @@ returns-in_default-clause-refused c =
     let header = c.header_at-header.ensures.value ∙ ap (header_at packet) c.loop.invariant.entry in
     λ other. (
       refl,
-      sym c.loop.invariant.frames ∙ ap (λ n. behind c.loop.out.items (frames_from c.args.octet_align packet n k (place_of c.loop.place))) left
-          ∙ frames_stop_type c.args.octet_align packet (c.args.count - (k + 1)) k (place_of c.loop.place) c.header_at-header.result c.loop.out.items header c.in_default.ensures.value,
+      sym c.loop.invariant.frames ∙ ap (λ n. behind c.loop.out.items
+          (frames_from c.args.octet_align packet n k (place_of c.loop.place))) left
+          ∙ frames_stop_type c.args.octet_align packet (c.args.count - (k + 1)) k (place_of c.loop.place)
+          c.header_at-header.result c.loop.out.items header c.in_default.ensures.value,
     )
 
 pub returns-then-not-has_room-clause-refused : goal.returns-then-not-has_room-clause-refused
@@ -25,8 +28,15 @@ returns-then-not-has_room-clause-refused c =
     let header = c.header_at-header.ensures.value ∙ ap (header_at packet) c.loop.invariant.entry in
     λ other. (
       refl,
-      sym c.loop.invariant.frames ∙ ap (λ n. behind c.loop.out.items (frames_from c.args.octet_align packet n k (place_of c.loop.place))) left
-          ∙ frames_stop_room c.args.octet_align packet (c.args.count - (k + 1)) k (place_of c.loop.place) c.header_at-header.result c.loop.out.items header c.in-Some.size c.in-Some.ensures.value (omega (arith, no_room _ _ (sym c.has_room.ensures ∙ c.if-not-has_room.true), c.field_size.ensures.value)),
+      sym c.loop.invariant.frames ∙ ap (λ n. behind c.loop.out.items
+          (frames_from c.args.octet_align packet n k (place_of c.loop.place))) left
+          ∙ frames_stop_room c.args.octet_align packet (c.args.count - (k + 1)) k (place_of c.loop.place)
+          c.header_at-header.result c.loop.out.items header c.in-Some.size c.in-Some.ensures.value
+          (omega (
+            arith,
+            no_room _ _ (sym c.has_room.ensures ∙ c.if-not-has_room.true),
+            c.field_size.ensures.value,
+          )),
     )
 
 pub loop-preserved : goal.loop-preserved
@@ -38,17 +48,26 @@ loop-preserved c =
     let left : c.args.count - k ≡ suc (c.args.count - (k + 1)) = omega arith in
     let header = c.header_at-header.ensures.value ∙ ap (header_at packet) c.loop.invariant.entry in
     let room = is_room _ _ (sym c.has_room.ensures ∙ c.if-not-has_room.false) in
-    let next : place_of c.after-place.result ≡ place_of c.loop.place + field_size o size = c.after-place.ensures ∙ ap (λ n. place_of c.loop.place + n) (c.field_size-in-loop.ensures.value) in
+    let next : place_of c.after-place.result ≡ place_of c.loop.place + field_size o size =
+    c.after-place.ensures ∙ ap (λ n. place_of c.loop.place + n) (c.field_size-in-loop.ensures.value) in
     let out = c.push_speech.new.out.items in
-    let written : out ≡ c.loop.out.items ++ (c.header_at-header.result ∷ speech_of packet (place_of c.loop.place) size) =
-    c.in_ok-push_speech.ensures.written ∙ ap (λ xs. xs ++ speech_of packet (place_of c.loop.place) size) c.in_ok-push.ensures.items ∙ append_assoc c.loop.out.items (c.header_at-header.result ∷ []) (speech_of packet (place_of c.loop.place) size) in
-    let go = frames_go o packet (c.args.count - (k + 1)) k (place_of c.loop.place) c.header_at-header.result c.loop.out.items header size c.in-Some.ensures.value (omega (arith, room, c.field_size.ensures.value)) in
+    let written : out ≡ c.loop.out.items ++ (c.header_at-header.result
+    ∷ speech_of packet (place_of c.loop.place) size) =
+    c.in_ok-push_speech.ensures.written ∙ ap (λ xs. xs ++ speech_of packet (place_of c.loop.place) size)
+    c.in_ok-push.ensures.items ∙ append_assoc c.loop.out.items (c.header_at-header.result ∷ [])
+    (speech_of packet (place_of c.loop.place) size) in
+    let go = frames_go o packet (c.args.count - (k + 1)) k (place_of c.loop.place) c.header_at-header.result
+    c.loop.out.items header size c.in-Some.ensures.value (omega (arith, room, c.field_size.ensures.value)) in
     record {
-      entry = c.after-entry.ensures ∙ ap (λ n. place_of c.loop.entry + n) c.entry_size.ensures ∙ ap (λ n. n + entry_size o) c.loop.invariant.entry ∙ next_entry o k;
+      entry = c.after-entry.ensures ∙ ap (λ n. place_of c.loop.entry + n) c.entry_size.ensures
+          ∙ ap (λ n. n + entry_size o) c.loop.invariant.entry ∙ next_entry o k;
       room = omega (arith, room, next, c.field_size.ensures.value);
       frames =
-          ap (λ xs. behind xs (frames_from o packet (c.args.count - (k + 1)) (k + 1) (place_of c.after-place.result))) written
-          ∙ ap (λ p. behind (c.loop.out.items ++ (c.header_at-header.result ∷ speech_of packet (place_of c.loop.place) size)) (frames_from o packet (c.args.count - (k + 1)) (k + 1) p)) next
+          ap (λ xs. behind xs (frames_from o packet (c.args.count - (k + 1)) (k + 1)
+          (place_of c.after-place.result))) written
+          ∙ ap (λ p. behind (c.loop.out.items ++ (c.header_at-header.result
+          ∷ speech_of packet (place_of c.loop.place) size))
+          (frames_from o packet (c.args.count - (k + 1)) (k + 1) p)) next
           ∙ sym go
           ∙ ap (λ n. behind c.loop.out.items (frames_from o packet n k (place_of c.loop.place))) (sym left)
           ∙ c.loop.invariant.frames;
@@ -59,4 +78,6 @@ returns-clause-frames c =
     let o = c.args.octet_align in
     let packet = c.args.packet.now in
     let none_left : c.args.count - c.loop.counter ≡ 0 = omega arith in
-    sym c.loop.invariant.frames ∙ ap (λ n. behind c.loop.out.items (frames_from o packet n c.loop.counter (place_of c.loop.place))) none_left ∙ ap Some (append-nil c.loop.out.items)
+    sym c.loop.invariant.frames ∙ ap (λ n. behind c.loop.out.items
+    (frames_from o packet n c.loop.counter (place_of c.loop.place))) none_left
+    ∙ ap Some (append-nil c.loop.out.items)

@@ -8,5 +8,6 @@ abbrev pub invariant-loop : goal.invariant-loop
 invariant-loop l = record {
   entry : place_of l.entry ≡ entry_place l.octet_align l.counter;
   room : place_of l.place ≤ 8 * length l.packet;
-  frames : behind l.out.items (frames_from l.octet_align l.packet (l.count - l.counter) l.counter (place_of l.place)) ≡ frames_from l.octet_align l.packet l.count 0 (place_of l.fn.speech);
+  frames : behind l.out.items (frames_from l.octet_align l.packet (l.count - l.counter) l.counter (place_of l.place))
+      ≡ frames_from l.octet_align l.packet l.count 0 (place_of l.fn.speech);
 }

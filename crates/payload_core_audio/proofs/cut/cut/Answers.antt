@@ -5,13 +5,16 @@ use Rattle.payload_core_base.proofs.PieceLemmas.{pieces-none, pieces-end, pieces
 use Rattle.payload_core_audio.proofs.cut.cut.Goals as goal
 
 pub returns-then-limit-eq0-clause-pieces : goal.returns-then-limit-eq0-clause-pieces
-returns-then-limit-eq0-clause-pieces c = rw (c.new-packets.ensures.items, c.if-limit-eq0.true) (sym (pieces-none c.args.bytes.now))
+returns-then-limit-eq0-clause-pieces c =
+    rw (c.new-packets.ensures.items, c.if-limit-eq0.true) (sym (pieces-none c.args.bytes.now))
 
 pub loop-piece-preserved : goal.loop-piece-preserved
 loop-piece-preserved c =
     let steps = c.in-Some.ensures.steps in
     let whole = c.loop-piece.invariant in
-    let next = pieces-next c.args.limit (chunks_rest c.loop-piece.piece-iterator) c.in-Some.piece.now (chunks_rest c.next.new.self) whole.some_limit steps.1.2 steps.1.0 (steps.1.1 ∙ ap (λ n. min n (length (chunks_rest c.loop-piece.piece-iterator))) whole.size) in
+    let next = pieces-next c.args.limit (chunks_rest c.loop-piece.piece-iterator) c.in-Some.piece.now
+    (chunks_rest c.next.new.self) whole.some_limit steps.1.2 steps.1.0
+    (steps.1.1 ∙ ap (λ n. min n (length (chunks_rest c.loop-piece.piece-iterator))) whole.size) in
     record {
       some_limit = whole.some_limit;
       size = steps.0 ∙ whole.size;
@@ -24,4 +27,6 @@ pub returns-clause-pieces : goal.returns-clause-pieces
 returns-clause-pieces c =
     let whole = c.loop-piece.invariant in
     let ps : List (List ℕ) = map (λ p. p.items) c.loop-piece.packets.items in
-    sym (append-nil ps) ∙ ap (λ rest. ps ++ rest) (sym (pieces-end c.args.limit (chunks_rest c.loop-piece.piece-iterator) c.in-None.ensures.steps.1.0)) ∙ whole.whole
+    sym (append-nil ps) ∙ ap (λ rest. ps ++ rest)
+    (sym (pieces-end c.args.limit (chunks_rest c.loop-piece.piece-iterator) c.in-None.ensures.steps.1.0))
+    ∙ whole.whole

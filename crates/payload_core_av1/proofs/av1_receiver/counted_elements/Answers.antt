@@ -12,7 +12,8 @@ returns-in_default-clause-refused c =
     let before : List (List ℕ) = map (λ (e : Bor (List ℕ)). e.now) c.loop.elements.items in
     λ other. (
       refl,
-      sym c.loop.invariant ∙ ap (λ n. all_in_front before (counted_elements n c.loop.rest.now)) left ∙ counted-stop (c.args.count - (c.loop.counter + 1)) c.loop.rest.now before c.in_default.ensures.value,
+      sym c.loop.invariant ∙ ap (λ n. all_in_front before (counted_elements n c.loop.rest.now)) left
+          ∙ counted-stop (c.args.count - (c.loop.counter + 1)) c.loop.rest.now before c.in_default.ensures.value,
     )
 
 pub loop-preserved : goal.loop-preserved
@@ -21,7 +22,9 @@ loop-preserved c =
     let left : c.args.count - c.loop.counter ≡ suc n = omega arith in
     let before : List (List ℕ) = map (λ (e : Bor (List ℕ)). e.now) c.loop.elements.items in
     let cut : Cut = record { part = c.in-Some.element.now; rest = c.in-Some.behind.now } in
-    ap (λ xs. all_in_front (map (λ (e : Bor (List ℕ)). e.now) xs) (counted_elements n cut.rest)) c.in_ok-push.ensures.items
-    ∙ ap (λ es. all_in_front es (counted_elements n cut.rest)) (map_push (λ (e : Bor (List ℕ)). e.now) c.loop.elements.items c.in-Some.element)
+    ap (λ xs. all_in_front (map (λ (e : Bor (List ℕ)). e.now) xs) (counted_elements n cut.rest))
+    c.in_ok-push.ensures.items
+    ∙ ap (λ es. all_in_front es (counted_elements n cut.rest))
+    (map_push (λ (e : Bor (List ℕ)). e.now) c.loop.elements.items c.in-Some.element)
     ∙ counted-go n c.loop.rest.now cut before c.in-Some.ensures.value
     ∙ ap (λ k. all_in_front before (counted_elements k c.loop.rest.now)) (sym left) ∙ c.loop.invariant

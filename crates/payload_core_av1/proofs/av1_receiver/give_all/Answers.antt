@@ -10,8 +10,10 @@ loop-element-preserved c =
     let i : ℕ = c.loop-element.element-index in
     let all : List (Bor (List ℕ)) = c.args.elements.now in
     let next : drop i all ≡ get_or all i none ∷ drop (i + 1) all = drop_more all i none c.loop-element-test.true in
-    given-go c.loop-element.out.items c.give.new.out.items (get_or all i none).now (map (λ (e : Bor (List ℕ)). e.now) (drop (i + 1) all)) c.in-Ok.ensures.given
-    ∙ ap (λ (xs : List (Bor (List ℕ))). joined_option (Some c.loop-element.out.items) (all_given (map (λ (e : Bor (List ℕ)). e.now) xs))) (sym next)
+    given-go c.loop-element.out.items c.give.new.out.items (get_or all i none).now
+    (map (λ (e : Bor (List ℕ)). e.now) (drop (i + 1) all)) c.in-Ok.ensures.given
+    ∙ ap (λ (xs : List (Bor (List ℕ))). joined_option (Some c.loop-element.out.items)
+    (all_given (map (λ (e : Bor (List ℕ)). e.now) xs))) (sym next)
     ∙ c.loop-element.invariant
 
 pub returns-in-Err-clause-refused : goal.returns-in-Err-clause-refused
@@ -24,6 +26,8 @@ returns-in-Err-clause-refused c =
       (c.in-Err.ensures.refused other).0,
       none_behind c.args.out.now.items (all_given (map (λ (e : Bor (List ℕ)). e.now) all)) (
           sym c.loop-element.invariant
-          ∙ ap (λ (xs : List (Bor (List ℕ))). joined_option (Some c.loop-element.out.items) (all_given (map (λ (e : Bor (List ℕ)). e.now) xs))) next
-          ∙ given-stop c.loop-element.out.items (get_or all i none).now (map (λ (e : Bor (List ℕ)). e.now) (drop (i + 1) all)) (c.in-Err.ensures.refused other).1),
+          ∙ ap (λ (xs : List (Bor (List ℕ))). joined_option (Some c.loop-element.out.items)
+          (all_given (map (λ (e : Bor (List ℕ)). e.now) xs))) next
+          ∙ given-stop c.loop-element.out.items (get_or all i none).now
+          (map (λ (e : Bor (List ℕ)). e.now) (drop (i + 1) all)) (c.in-Err.ensures.refused other).1),
     )

@@ -11,7 +11,9 @@ loop-rest-preserved c =
     let before : List (List ℕ) = map (λ (e : Bor (List ℕ)). e.now) c.loop-rest.elements.items in
     let cut : Cut = record { part = c.in-Some.element.now; rest = c.in-Some.behind.now } in
     let some : 0 < length c.loop-rest.rest.now = omega (arith, c.in-Some.ensures.shorter) in
-    ap (λ xs. all_in_front (map (λ (e : Bor (List ℕ)). e.now) xs) (sized_elements (length cut.rest) cut.rest)) c.in_ok-push.ensures.items
-    ∙ ap (λ es. all_in_front es (sized_elements (length cut.rest) cut.rest)) (map_push (λ (e : Bor (List ℕ)). e.now) c.loop-rest.elements.items c.in-Some.element)
+    ap (λ xs. all_in_front (map (λ (e : Bor (List ℕ)). e.now) xs) (sized_elements (length cut.rest) cut.rest))
+    c.in_ok-push.ensures.items
+    ∙ ap (λ es. all_in_front es (sized_elements (length cut.rest) cut.rest))
+    (map_push (λ (e : Bor (List ℕ)). e.now) c.loop-rest.elements.items c.in-Some.element)
     ∙ sized-go c.loop-rest.rest.now cut before some c.in-Some.ensures.value
     ∙ c.loop-rest.invariant

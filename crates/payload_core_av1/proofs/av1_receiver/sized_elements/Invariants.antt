@@ -5,7 +5,8 @@ use Rattle.payload_core_av1.proofs.av1_receiver.sized_elements.Given as goal
 
 -- the elements so far, and those that are left
 abbrev pub invariant-loop-rest : goal.invariant-loop-rest
-invariant-loop-rest l = all_in_front (map (λ e. e.now) l.elements.items) (sized_elements (length l.rest) l.rest) ≡ sized_elements (length l.body) l.body
+invariant-loop-rest l = all_in_front (map (λ e. e.now) l.elements.items) (sized_elements (length l.rest) l.rest)
+    ≡ sized_elements (length l.body) l.body
 
 abbrev pub decreases-loop-rest : goal.decreases-loop-rest
 decreases-loop-rest l = length l.rest

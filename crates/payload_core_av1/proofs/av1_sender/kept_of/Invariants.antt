@@ -7,8 +7,10 @@ use Rattle.payload_core_av1.proofs.av1_sender.kept_of.Given as goal
 -- the units so far, and those that are left
 abbrev pub invariant-loop-rest : goal.invariant-loop-rest
 invariant-loop-rest l = record {
-  texts : option_map (λ os. map (λ t. t.items) l.kept.texts.items ++ texts_of os) (kept_of l.rest) ≡ option_map texts_of (kept_of l.sample);
-  begins : option_map (λ os. l.kept.begins || begins_sequence os) (kept_of l.rest) ≡ option_map begins_sequence (kept_of l.sample);
+  texts : option_map (λ os. map (λ t. t.items) l.kept.texts.items ++ texts_of os) (kept_of l.rest)
+      ≡ option_map texts_of (kept_of l.sample);
+  begins : option_map (λ os. l.kept.begins || begins_sequence os) (kept_of l.rest)
+      ≡ option_map begins_sequence (kept_of l.sample);
 }
 
 abbrev pub decreases-loop-rest : goal.decreases-loop-rest

@@ -14,7 +14,9 @@ loop-text-init c =
     let none = c.new-elements.ensures in
     record {
       texts = c.requires;
-      elements = ap (λ (es : List (Bor (List ℕ))). map (λ (t : Bor (List ℕ)). t.now) es ++ front (greedy (vec_len c.new-elements.result) c.args.room texts) texts) none.items ∙ ap (λ n. front (greedy n c.args.room texts) texts) none.len ∙ ap (λ n. front n texts) same;
+      elements = ap (λ (es : List (Bor (List ℕ))). map (λ (t : Bor (List ℕ)). t.now) es
+          ++ front (greedy (vec_len c.new-elements.result) c.args.room texts) texts) none.items
+          ∙ ap (λ n. front (greedy n c.args.room texts) texts) none.len ∙ ap (λ n. front n texts) same;
       cut = ap (λ n. is_cut (greedy n c.args.room texts) texts) none.len ∙ ap (λ n. is_cut n texts) same;
       behind = ap (λ n. back (greedy n c.args.room texts) texts) none.len ∙ ap (λ n. back n texts) same;
     }
@@ -26,18 +28,24 @@ loop-text-preserved c =
     let others : List (List ℕ) = map (λ (t : Bor (List ℕ)). t.now) c.pop_front.new.self.items in
     let elements : List (List ℕ) = map (λ (t : Bor (List ℕ)). t.now) c.loop-text.elements.items in
     let e : List ℕ = c.in-Some.text.now in
-    let is : before ≡ e ∷ others = ap (λ (ts : List (Bor (List ℕ))). map (λ (t : Bor (List ℕ)). t.now) ts) c.in-Some.ensures.items in
+    let is : before ≡ e ∷ others = ap (λ (ts : List (Bor (List ℕ))). map (λ (t : Bor (List ℕ)). t.now) ts)
+    c.in-Some.ensures.items in
     let place : ℕ = vec_len c.loop-text.elements in
     let p : ℕ = vec_len c.push-in-Some.new.self in
-    let part : c.fitting-part.result ≡ greatest_part place c.loop-text.left (length e) = c.fitting-part.ensures ∙ ap (λ n. greatest_part n c.loop-text.left (length e)) c.len.ensures in
+    let part : c.fitting-part.result ≡ greatest_part place c.loop-text.left (length e) =
+    c.fitting-part.ensures ∙ ap (λ n. greatest_part n c.loop-text.left (length e)) c.len.ensures in
     let ge : length e ≤ greatest_part place c.loop-text.left (length e) = omega (arith, part) in
     let next : p ≡ place + 1 = c.in_ok-push-2.ensures.len in
-    let left : c.saturating_sub-left.result ≡ c.loop-text.left - (length (spelling (length e)) + length e) = omega (arith, c.saturating_sub-left.ensures, c.size_len.ensures.value) in
-    let taken = taken-whole place c.loop-text.left p c.saturating_sub-left.result e others before elements is inv.texts ge next left in
-    let pushed = ap (λ (es : List (Bor (List ℕ))). map (λ (t : Bor (List ℕ)). t.now) es) c.in_ok-push-2.ensures.items ∙ map_push (λ (t : Bor (List ℕ)). t.now) c.loop-text.elements.items c.in-Some.text in
+    let left : c.saturating_sub-left.result ≡ c.loop-text.left - (length (spelling (length e)) + length e) =
+    omega (arith, c.saturating_sub-left.ensures, c.size_len.ensures.value) in
+    let taken = taken-whole place c.loop-text.left p c.saturating_sub-left.result e others before elements is
+    inv.texts ge next left in
+    let pushed = ap (λ (es : List (Bor (List ℕ))). map (λ (t : Bor (List ℕ)). t.now) es) c.in_ok-push-2.ensures.items
+    ∙ map_push (λ (t : Bor (List ℕ)). t.now) c.loop-text.elements.items c.in-Some.text in
     record {
       texts = taken.texts_are;
-      elements = ap (λ (es : List (List ℕ)). es ++ front (greedy p c.saturating_sub-left.result others) others) pushed ∙ taken.elements_are ∙ inv.elements;
+      elements = ap (λ (es : List (List ℕ)). es ++ front (greedy p c.saturating_sub-left.result others) others)
+          pushed ∙ taken.elements_are ∙ inv.elements;
       cut = taken.cut_is ∙ inv.cut;
       behind = taken.behind_is ∙ inv.behind;
     }

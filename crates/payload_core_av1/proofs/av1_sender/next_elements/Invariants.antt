@@ -8,9 +8,15 @@ use Rattle.payload_core_av1.proofs.av1_sender.next_elements.Given as goal
 abbrev pub invariant-loop-text : goal.invariant-loop-text
 invariant-loop-text l = record {
   texts : AreTexts (map (λ t. t.now) l.texts.items);
-  elements : map (λ t. t.now) l.elements.items ++ front (greedy (vec_len l.elements) l.left (map (λ t. t.now) l.texts.items)) (map (λ t. t.now) l.texts.items) ≡ front (longest (l.room + 1) (map (λ t. t.now) l.initial.texts.items)) (map (λ t. t.now) l.initial.texts.items);
-  cut : is_cut (greedy (vec_len l.elements) l.left (map (λ t. t.now) l.texts.items)) (map (λ t. t.now) l.texts.items) ≡ is_cut (longest (l.room + 1) (map (λ t. t.now) l.initial.texts.items)) (map (λ t. t.now) l.initial.texts.items);
-  behind : back (greedy (vec_len l.elements) l.left (map (λ t. t.now) l.texts.items)) (map (λ t. t.now) l.texts.items) ≡ back (longest (l.room + 1) (map (λ t. t.now) l.initial.texts.items)) (map (λ t. t.now) l.initial.texts.items);
+  elements : map (λ t. t.now) l.elements.items
+      ++ front (greedy (vec_len l.elements) l.left (map (λ t. t.now) l.texts.items)) (map (λ t. t.now) l.texts.items)
+      ≡ front (longest (l.room + 1) (map (λ t. t.now) l.initial.texts.items))
+      (map (λ t. t.now) l.initial.texts.items);
+  cut : is_cut (greedy (vec_len l.elements) l.left (map (λ t. t.now) l.texts.items)) (map (λ t. t.now) l.texts.items)
+      ≡ is_cut (longest (l.room + 1) (map (λ t. t.now) l.initial.texts.items)) (map (λ t. t.now) l.initial.texts.items);
+  behind : back (greedy (vec_len l.elements) l.left (map (λ t. t.now) l.texts.items))
+      (map (λ t. t.now) l.texts.items) ≡ back (longest (l.room + 1) (map (λ t. t.now) l.initial.texts.items))
+      (map (λ t. t.now) l.initial.texts.items);
 }
 
 abbrev pub decreases-loop-text : goal.decreases-loop-text

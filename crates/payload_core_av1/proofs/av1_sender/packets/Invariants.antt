@@ -8,7 +8,9 @@ use Rattle.payload_core_av1.proofs.av1_sender.packets.Given as goal
 abbrev pub invariant-loop-alloc : goal.invariant-loop-alloc
 invariant-loop-alloc l = record {
   texts : AreTexts (map (λ t. t.now) l.texts.items);
-  packets : map (λ p. p.items) l.packets.items ++ packets_within (length (joined (map (λ t. t.now) l.texts.items))) l.limit l.z l.n (map (λ t. t.now) l.texts.items) ≡ packets_of l.limit l.begins (map (λ t. t.now) l.initial.texts.items);
+  packets : map (λ p. p.items) l.packets.items
+      ++ packets_within (length (joined (map (λ t. t.now) l.texts.items))) l.limit l.z l.n
+      (map (λ t. t.now) l.texts.items) ≡ packets_of l.limit l.begins (map (λ t. t.now) l.initial.texts.items);
 }
 
 abbrev pub decreases-loop-alloc : goal.decreases-loop-alloc

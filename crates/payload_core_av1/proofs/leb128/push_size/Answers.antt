@@ -9,9 +9,13 @@ loop-left-preserved c =
     record {
       small = omega arith;
       whole =
-          ap (λ xs. xs ++ spelling (n / 128)) c.in_ok-push.ensures.items ∙ append_assoc c.loop-left.out.items ((128 + n % 128) ∷ []) (spelling (n / 128))
-          ∙ ap (λ xs. c.loop-left.out.items ++ xs) (sym (spelling-more n (omega arith) (c.loop-left.invariant.small))) ∙ c.loop-left.invariant.whole;
+          ap (λ xs. xs ++ spelling (n / 128)) c.in_ok-push.ensures.items
+          ∙ append_assoc c.loop-left.out.items ((128 + n % 128) ∷ []) (spelling (n / 128))
+          ∙ ap (λ xs. c.loop-left.out.items ++ xs)
+          (sym (spelling-more n (omega arith) (c.loop-left.invariant.small))) ∙ c.loop-left.invariant.whole;
     }
 
 pub returns-clause-written : goal.returns-clause-written
-returns-clause-written c = c.in_ok-push-2.ensures.items ∙ ap (λ xs. c.loop-left.out.items ++ xs) (sym (spelling-last c.loop-left.left (omega arith))) ∙ c.loop-left.invariant.whole
+returns-clause-written c = c.in_ok-push-2.ensures.items
+    ∙ ap (λ xs. c.loop-left.out.items ++ xs) (sym (spelling-last c.loop-left.left (omega arith)))
+    ∙ c.loop-left.invariant.whole

@@ -5,7 +5,11 @@ use Rattle.payload_core_av1.proofs.leb128.size_len.Goals as goal
 pub loop-left-preserved : goal.loop-left-preserved
 loop-left-preserved c =
     let inv = c.loop-left.invariant in
-    record { small = omega arith; whole = omega (arith, spelling-len_more c.loop-left.left (omega arith) inv.small, inv.whole) }
+    record {
+      small = omega arith;
+      whole = omega
+          (arith, spelling-len_more c.loop-left.left (omega arith) inv.small, inv.whole);
+    }
 
 pub overflow_add-len : goal.overflow_add-len
 overflow_add-len c = omega (arith, c.loop-left.invariant.whole, spelling-few c.args.size)
@@ -14,4 +18,9 @@ pub returns-clause-value : goal.returns-clause-value
 returns-clause-value c = omega (arith, spelling-len_last c.loop-left.left (omega arith), c.loop-left.invariant.whole)
 
 pub returns-clause-few : goal.returns-clause-few
-returns-clause-few c = omega (arith, spelling-len_last c.loop-left.left (omega arith), c.loop-left.invariant.whole, spelling-few c.args.size)
+returns-clause-few c = omega (
+  arith,
+  spelling-len_last c.loop-left.left (omega arith),
+  c.loop-left.invariant.whole,
+  spelling-few c.args.size,
+)

@@ -11,5 +11,7 @@ invariant-loop-held g l =
     let d = g.D.Depacketizer in
     record {
       format : d.format l.depacketizer ≡ d.format l.fn.depacketizer;
-      read : IsReadAs (run_of (d.format l.fn.depacketizer) (d.fragment l.fn.depacketizer) (packets_of (take (length l.yielded) (slice_range (values l.held) l.fn.frame.start l.fn.frame.end)))) l.bytes.items l.extra (d.fragment l.depacketizer);
+      read : IsReadAs (run_of (d.format l.fn.depacketizer) (d.fragment l.fn.depacketizer)
+          (packets_of (take (length l.yielded) (slice_range (values l.held) l.fn.frame.start l.fn.frame.end))))
+          l.bytes.items l.extra (d.fragment l.depacketizer);
     }

@@ -1,37 +1,62 @@
-use Rattle.std.proofs.Common.{◌∙◌}
+use Rattle.std.proofs.Common.{◌∙◌, refl}
 use Rattle.std.specs.BTreeMap.{values}
 use Rattle.std.specs.Prelude.{slice_range}
 use Rattle.payload_core_buffer.proofs.TakeLemmas.{between_is, by_number_left, left_is, metas_are}
 use Rattle.payload_core_buffer.proofs.take.take_frame.Goals as goal
 
 pub returns-in-Ok-hand_on-clause-by_number : goal.returns-in-Ok-hand_on-clause-by_number
-returns-in-Ok-hand_on-clause-by_number g c = by_number_left c.args.frame.end c.args.held.now c.remove_front.new.held c.remove_front.ensures c.requires.by_number
+returns-in-Ok-hand_on-clause-by_number g c =
+    by_number_left c.args.frame.end c.args.held.now c.finish.new.held c.finish.ensures.gone c.requires.by_number
 
-pub returns-in-Ok-hand_on-clause-read : goal.returns-in-Ok-hand_on-clause-read
-returns-in-Ok-hand_on-clause-read g c =
-    rw (c.new.ensures.bytes, c.new.ensures.extra, ← between_is (values c.args.held.now) c.args.frame) c.in-Ok-hand_on.ensures.read
+pub returns-in-Ok-hand_on-clause-taken : goal.returns-in-Ok-hand_on-clause-taken
+returns-in-Ok-hand_on-clause-taken g c = record {
+  frame = c.args.frame;
+  is_due = refl;
+  is_frame = c.requires.frame;
+  read = rw (c.new.ensures.bytes, c.new.ensures.extra, ← between_is (values c.args.held.now) c.args.frame)
+      c.in-Ok-hand_on.ensures.read;
+  metas = rw (← between_is (values c.args.held.now) c.args.frame)
+      (c.new.ensures.metas ∙ c.in-Ok.ensures.metas
+      ∙ metas_are (slice_range (values c.args.held.now) c.args.frame.start c.args.frame.end));
+  done = record {
+    gone = left_is c.args.frame.end c.args.held.now c.finish.new.held c.finish.ensures.gone;
+    moved =
+        c.finish.ensures.moved;
+  };
+}
 
-pub returns-in-Ok-hand_on-clause-metas : goal.returns-in-Ok-hand_on-clause-metas
-returns-in-Ok-hand_on-clause-metas g c =
-    rw (← between_is (values c.args.held.now) c.args.frame) (c.new.ensures.metas ∙ c.in-Ok.ensures.metas ∙ metas_are (slice_range (values c.args.held.now) c.args.frame.start c.args.frame.end))
-
-pub returns-in-Ok-hand_on-clause-gone : goal.returns-in-Ok-hand_on-clause-gone
-returns-in-Ok-hand_on-clause-gone g c = left_is c.args.frame.end c.args.held.now c.remove_front.new.held c.remove_front.ensures
-
-pub returns-in-Memory-clause-memory : goal.returns-in-Memory-clause-memory
-returns-in-Memory-clause-memory g c = λ is. rw (← between_is (values c.args.held.now) c.args.frame) (c.in-Err-hand_on.ensures.memory c.in-Memory.is)
+pub returns-in-Memory-clause-taken : goal.returns-in-Memory-clause-taken
+returns-in-Memory-clause-taken g c = record {
+  fault = λ other. absurd (other refl);
+  memory = λ is. record {
+    frame = c.args.frame;
+    is_due = refl;
+    is_frame = c.requires.frame;
+    stops = rw (← between_is (values c.args.held.now) c.args.frame) (c.in-Err-hand_on.ensures.memory c.in-Memory.is);
+    held = refl;
+    cutoff = refl;
+  };
+}
 
 pub returns : goal.returns
 returns g c =
-    let gone = c.remove_front-in_default.ensures in
+    let gone = c.finish-in_default.ensures.gone in
     record {
-      by_number = by_number_left c.args.frame.end c.args.held.now c.remove_front-in_default.new.held gone c.requires.by_number;
+      by_number = by_number_left c.args.frame.end c.args.held.now c.finish-in_default.new.held gone
+          c.requires.by_number;
       format = c.in-Err-hand_on.ensures.format;
-      read = tt;
-      metas = tt;
-      gone = tt;
-      fault = λ other. rw (← between_is (values c.args.held.now) c.args.frame) (c.in-Err-hand_on.ensures.fault other);
-      gone_by_fault = λ other. left_is c.args.frame.end c.args.held.now c.remove_front-in_default.new.held gone;
-      memory = λ is. absurd (c.in_default.not-Memory is);
-      kept = λ is. absurd (c.in_default.not-Memory is);
+      taken = record {
+        fault = λ other. record {
+          frame = c.args.frame;
+          is_due = refl;
+          is_frame = c.requires.frame;
+          fault = rw (← between_is (values c.args.held.now) c.args.frame) (c.in-Err-hand_on.ensures.fault other);
+          done = record {
+            gone = left_is c.args.frame.end c.args.held.now c.finish-in_default.new.held gone;
+            moved =
+                c.finish-in_default.ensures.moved;
+          };
+        };
+        memory = λ is. absurd (c.in_default.not-Memory is);
+      };
     }

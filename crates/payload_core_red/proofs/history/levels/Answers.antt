@@ -6,7 +6,8 @@ use Rattle.payload_core_red.specs.RedViews.{old_block}
 use Rattle.payload_core_red.specs.RedWrapping.{level}
 use Rattle.payload_core_red.proofs.LevelLemmas.{levels-none, levels-some, levels-unfit}
 use Rattle.payload_core_red.proofs.history.levels.Goals as goal
-use Rattle.payload_core_red.proofs.history.levels.Goals.{in-Some+then-fields_fit+in_ok-push, in-Some+else-fields_fit, in_default}
+use Rattle.payload_core_red.proofs.history.levels.Goals.{in-Some+then-fields_fit+in_ok-push, in-Some+else-fields_fit}
+use Rattle.payload_core_red.proofs.history.levels.Goals.{in_default}
 
 pub loop-distance-preserved : goal.loop-distance-preserved
 loop-distance-preserved c =
@@ -18,17 +19,22 @@ loop-distance-preserved c =
     let whole = c.loop-distance.invariant in
     elim c.match-level.branch [
       | in-Some+then-fields_fit+in_ok-push w ↦
-          let there : level history time (get_or distances i 0) ≡ Some (old_block w.in-Some.old) = sym c.level.ensures ∙ ap (option_map old_block) w.in-Some.is in
+          let there : level history time (get_or distances i 0) ≡ Some (old_block w.in-Some.old) =
+          sym c.level.ensures ∙ ap (option_map old_block) w.in-Some.is in
           ap (λ v. map old_block v.items) w.olds-is
           ∙ ap (map old_block) w.in_ok-push.ensures.items
           ∙ map_push old_block c.loop-distance.olds.items w.in-Some.old
           ∙ ap (λ bs. bs ++ old_block w.in-Some.old ∷ []) whole
-          ∙ sym (levels-some history distances time i (old_block w.in-Some.old) lt there (sym w.fields_fit.ensures ∙ w.if-fields_fit.true))
+          ∙ sym (levels-some history distances time i (old_block w.in-Some.old) lt there
+          (sym w.fields_fit.ensures ∙ w.if-fields_fit.true))
       | in-Some+else-fields_fit w ↦
-          let there : level history time (get_or distances i 0) ≡ Some (old_block w.in-Some.old) = sym c.level.ensures ∙ ap (option_map old_block) w.in-Some.is in
+          let there : level history time (get_or distances i 0) ≡ Some (old_block w.in-Some.old) =
+          sym c.level.ensures ∙ ap (option_map old_block) w.in-Some.is in
           ap (λ v. map old_block v.items) w.olds-is ∙ whole
-          ∙ sym (levels-unfit history distances time i (old_block w.in-Some.old) lt there (sym w.fields_fit.ensures ∙ w.if-fields_fit.false))
+          ∙ sym (levels-unfit history distances time i (old_block w.in-Some.old) lt there
+          (sym w.fields_fit.ensures ∙ w.if-fields_fit.false))
       | in_default w ↦
-          let there : level history time (get_or distances i 0) ≡ None = sym c.level.ensures ∙ ap (option_map old_block) w.in_default.is in
+          let there : level history time (get_or distances i 0) ≡ None =
+          sym c.level.ensures ∙ ap (option_map old_block) w.in_default.is in
           ap (λ v. map old_block v.items) w.olds-is ∙ whole ∙ sym (levels-none history distances time i lt there)
     ]

@@ -6,4 +6,5 @@ use Rattle.payload_core_red.proofs.history.levels.Given as goal
 
 -- the levels at the distances so far
 abbrev pub invariant-loop-distance : goal.invariant-loop-distance
-invariant-loop-distance l = map old_block l.olds.items ≡ levels (map kept_of l.history) (take l.distance-index l.distances) l.time
+invariant-loop-distance l = map old_block l.olds.items
+    ≡ levels (map kept_of l.history) (take l.distance-index l.distances) l.time

@@ -20,7 +20,8 @@ returns-clause-packet c =
     record {
       is_spelled =
           c.in_ok-extend_from_slice-2.ensures.items
-          ∙ ap (λ t. t ++ primary) (c.loop-old.invariant ∙ ap (λ os. headers ++ (pt ∷ payloads_of (map masked (map old_block os)))) all)
+          ∙ ap (λ t. t ++ primary) (c.loop-old.invariant
+          ∙ ap (λ os. headers ++ (pt ∷ payloads_of (map masked (map old_block os)))) all)
           ∙ append_assoc headers (pt ∷ payloads_of (map masked blocks)) primary;
       few = omega (arith, c.requires.few, length-map olds old_block, length-map blocks masked);
       room = All-map HasRoom masked blocks (All-map (λ b. HasRoom (masked b)) old_block olds c.requires.room);

@@ -11,4 +11,5 @@ invariant-loop-block l = l.packet.items ≡ flat_map header (map masked (map old
 
 -- all headers, and the payloads so far
 abbrev pub invariant-loop-old : goal.invariant-loop-old
-invariant-loop-old l = l.packet.items ≡ flat_map header (map masked (map old_block l.blocks)) ++ (l.pt % 128 ∷ flat_map (λ b. b.payload) (map masked (map old_block (take l.old-index l.blocks))))
+invariant-loop-old l = l.packet.items ≡ flat_map header (map masked (map old_block l.blocks))
+    ++ (l.pt % 128 ∷ flat_map (λ b. b.payload) (map masked (map old_block (take l.old-index l.blocks))))

@@ -8,5 +8,7 @@ use Rattle.payload_core_vpx.proofs.vp8_sender.packets.Given as goal
 abbrev pub invariant-loop-piece : goal.invariant-loop-piece
 invariant-loop-piece l = record {
   size : chunks_size l.piece-iterator ≡ l.size;
-  whole : map (λ p. p.items) l.packets.items ++ described l.has_id l.id l.first (pieces l.size (chunks_rest l.piece-iterator)) ≡ described l.has_id l.id true (pieces l.size l.bytes);
+  whole : map (λ p. p.items) l.packets.items
+      ++ described l.has_id l.id l.first (pieces l.size (chunks_rest l.piece-iterator))
+      ≡ described l.has_id l.id true (pieces l.size l.bytes);
 }

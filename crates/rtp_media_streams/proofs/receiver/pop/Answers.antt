@@ -5,33 +5,33 @@ use Rattle.rtp_media_streams.proofs.Polling.{handed_bytes, handed_stream, handed
 use Rattle.rtp_media_streams.proofs.receiver.pop.Goals as goal
 
 pub returns-in-Ok-Some-clause-bytes : goal.returns-in-Ok-Some-clause-bytes
-returns-in-Ok-Some-clause-bytes c = handed_bytes (stream_of None c.args.buffer.now) _ _ _ _ _ _ _ (rw (c.requires.format, c.in-Ok-Some.field-0-is) at c.in-Ok-Some.ensures.handed_on) c.requires.bytes
+returns-in-Ok-Some-clause-bytes c = handed_bytes (stream_of None c.args.buffer.now) _ _ _ _ _ _ _ (rw (c.in-Ok-Some.field-0-is, c.requires.format) at c.in-Ok-Some.ensures.popped) c.requires.bytes
 
 pub returns-in-Ok-Some-clause-answer : goal.returns-in-Ok-Some-clause-answer
-returns-in-Ok-Some-clause-answer c = λ window. ap Some c.from_frame.ensures ∙ handed_unit (stream_of window c.args.buffer.now) _ _ _ _ _ _ _ (rw (c.requires.format, c.in-Ok-Some.field-0-is) at c.in-Ok-Some.ensures.handed_on) c.requires.closed
+returns-in-Ok-Some-clause-answer c = λ window. ap Some c.from_frame.ensures ∙ handed_unit (stream_of window c.args.buffer.now) _ _ _ _ _ _ _ (rw (c.in-Ok-Some.field-0-is, c.requires.format) at c.in-Ok-Some.ensures.popped) c.requires.closed
 
 pub returns-in-Ok-Some-clause-after : goal.returns-in-Ok-Some-clause-after
 returns-in-Ok-Some-clause-after c = λ window.
     ap (λ (n : ℕ). let s : Stream = record { hold_back = n; window = window; held = c.pop.new.self.held; cutoff = c.pop.new.self.cutoff } in s) c.in-Ok-Some.ensures.hold_back
-    ∙ handed_stream (stream_of window c.args.buffer.now) _ _ _ _ _ _ _ (rw (c.requires.format, c.in-Ok-Some.field-0-is) at c.in-Ok-Some.ensures.handed_on)
+    ∙ handed_stream (stream_of window c.args.buffer.now) _ _ _ _ _ _ _ (rw (c.in-Ok-Some.field-0-is, c.requires.format) at c.in-Ok-Some.ensures.popped)
 
 pub returns-in-Ok-Some-clause-closed : goal.returns-in-Ok-Some-clause-closed
-returns-in-Ok-Some-clause-closed c = hands-closed _ _ _ _ _ _ _ _ _ _ c.requires.format c.requires.closed (rw c.in-Ok-Some.field-0-is at c.in-Ok-Some.ensures.handed_on)
+returns-in-Ok-Some-clause-closed c = hands-closed _ _ _ _ _ _ _ _ _ _ c.requires.format c.requires.closed (rw c.in-Ok-Some.field-0-is at c.in-Ok-Some.ensures.popped)
 
 pub returns-in-Memory-clause-closed : goal.returns-in-Memory-clause-closed
-returns-in-Memory-clause-closed c = memory-closed _ _ _ _ _ _ _ _ c.requires.format c.requires.closed (c.in-Err.ensures.memory c.in-Memory.is)
+returns-in-Memory-clause-closed c = memory-closed _ _ _ _ _ _ _ _ c.requires.format c.requires.closed (c.in-Err.ensures.popped.memory c.in-Memory.is)
 
 pub returns-in-Ok-None-clause-answer : goal.returns-in-Ok-None-clause-answer
-returns-in-Ok-None-clause-answer c = λ window. sym (poll_none (stream_of window c.args.buffer.now) (rw (c.requires.format, c.in-Ok-None.field-0-is) at c.in-Ok-None.ensures.none).0)
+returns-in-Ok-None-clause-answer c = λ window. sym (poll_none (stream_of window c.args.buffer.now) (rw (c.in-Ok-None.field-0-is, c.requires.format) at c.in-Ok-None.ensures.popped).0)
 
 pub returns-in-Ok-None-clause-after : goal.returns-in-Ok-None-clause-after
 returns-in-Ok-None-clause-after c = λ window.
-    ap (stream_of window) (rw (c.requires.format, c.in-Ok-None.field-0-is) at c.in-Ok-None.ensures.none).1 ∙ sym (polled_none (stream_of window c.args.buffer.now) (rw (c.requires.format, c.in-Ok-None.field-0-is) at c.in-Ok-None.ensures.none).0)
+    ap (stream_of window) (rw c.in-Ok-None.field-0-is at c.in-Ok-None.ensures.unchanged) ∙ sym (polled_none (stream_of window c.args.buffer.now) (rw (c.in-Ok-None.field-0-is, c.requires.format) at c.in-Ok-None.ensures.popped).0)
 
 pub returns-in-Memory-clause-none : goal.returns-in-Memory-clause-none
 returns-in-Memory-clause-none c = λ window none.
-    let stays = rw (c.requires.format) at (c.in-Err.ensures.memory c.in-Memory.is) in
+    let stays = rw (c.requires.format) at (c.in-Err.ensures.popped.memory c.in-Memory.is) in
     absurd (poll_some (stream_of window c.args.buffer.now) stays.frame stays.is_due none)
 
 pub returns-in_default : goal.returns-in_default
-returns-in_default c = absurd (never_faults _ _ _ _ _ _ _ c.requires.bytes (rw (c.requires.format) at (c.in-Err.ensures.fault c.in_default.not-Memory)))
+returns-in_default c = absurd (never_faults _ _ _ _ _ _ _ c.requires.bytes (rw (c.requires.format) at (c.in-Err.ensures.popped.fault c.in_default.not-Memory)))

@@ -8,4 +8,5 @@ use Rattle.payload_core_base.proofs.codec.CodecFromRefStr.from.Given as goal
 -- the codecs that are left name the same
 abbrev pub invariant-loop-codec : goal.invariant-loop-codec
 invariant-loop-codec l =
-    unwrap_or (find (λ codec. str_eq_ignore_ascii_case (codec_name codec) l.text) (array_into_iter_items l.codec-iterator)) Unknown ≡ codec_named l.text
+    unwrap_or (find (λ codec. str_eq_ignore_ascii_case (codec_name codec) l.text)
+    (array_into_iter_items l.codec-iterator)) Unknown ≡ codec_named l.text

@@ -3,4 +3,7 @@ use Rattle.payload_core_red.proofs.DistanceLemmas.{distances-from}
 use Rattle.payload_core_red.proofs.sender.RedSender.are_distances.Goals as goal
 
 pub returns : goal.returns
-returns c = (λ _. distances-from c.args.distances.now (λ k below. c.loop-distance.invariant.above k (omega arith)), λ _. refl)
+returns c = (
+  λ _. distances-from c.args.distances.now (λ k below. c.loop-distance.invariant.above k (omega arith)),
+  λ _. refl,
+)

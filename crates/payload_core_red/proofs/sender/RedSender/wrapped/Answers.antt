@@ -19,31 +19,45 @@ R b = HasRoom (masked b)
 pub longest_prefix-count-requires-clause-room : goal.longest_prefix-count-requires-clause-room
 longest_prefix-count-requires-clause-room c =
     let olds : List OldPayload = c.in_ok-olds.olds.items in
-    let room : All R (map old_block olds) = subst (All R) (sym c.in_ok-olds.ensures.levels) (levels-room (map kept_of c.deref.result.now) c.deref-2.result.now c.args.time) in
+    let room : All R (map old_block olds) = subst (All R) (sym c.in_ok-olds.ensures.levels)
+    (levels-room (map kept_of c.deref.result.now) c.deref-2.result.now c.args.time) in
     subst (All (λ b. R (old_block b))) (sym c.deref-3.ensures.value) (All-unmap R old_block olds room)
 
 pub spell-requires-clause-room : goal.spell-requires-clause-room
 spell-requires-clause-room c =
     let olds : List OldPayload = c.in_ok-olds.olds.items in
     let Q : OldPayload → Type 0 = λ b. R (old_block b) in
-    let room : All R (map old_block olds) = subst (All R) (sym c.in_ok-olds.ensures.levels) (levels-room (map kept_of c.deref.result.now) c.deref-2.result.now c.args.time) in
-    let sent : c.deref-4.result.now ≡ reverse (take c.longest_prefix-count.result olds) = c.deref-4.ensures.value ∙ c.reverse.ensures.items ∙ ap reverse c.truncate.ensures.items in
-    subst (All Q) (sym sent) (All-reverse Q (take c.longest_prefix-count.result olds) (All-take Q c.longest_prefix-count.result olds (All-unmap R old_block olds room)))
+    let room : All R (map old_block olds) = subst (All R) (sym c.in_ok-olds.ensures.levels)
+    (levels-room (map kept_of c.deref.result.now) c.deref-2.result.now c.args.time) in
+    let sent : c.deref-4.result.now ≡ reverse (take c.longest_prefix-count.result olds) =
+    c.deref-4.ensures.value ∙ c.reverse.ensures.items ∙ ap reverse c.truncate.ensures.items in
+    subst (All Q) (sym sent) (All-reverse Q (take c.longest_prefix-count.result olds)
+    (All-take Q c.longest_prefix-count.result olds (All-unmap R old_block olds room)))
 
 pub spell-requires-clause-few : goal.spell-requires-clause-few
 spell-requires-clause-few c =
     let olds : List OldPayload = c.in_ok-olds.olds.items in
     let count : ℕ = c.longest_prefix-count.result in
-    let sent : c.deref-4.result.now ≡ reverse (take count olds) = c.deref-4.ensures.value ∙ c.reverse.ensures.items ∙ ap reverse c.truncate.ensures.items in
+    let sent : c.deref-4.result.now ≡ reverse (take count olds) =
+    c.deref-4.ensures.value ∙ c.reverse.ensures.items ∙ ap reverse c.truncate.ensures.items in
     let are : AreDistances c.deref-2.result.now = subst AreDistances (sym c.deref-2.ensures.value) c.self.invariant in
     let few = levels-few (map kept_of c.deref.result.now) c.deref-2.result.now c.args.time are in
-    omega (arith, ap length sent, length-reverse (take count olds), length-take count olds, length-map olds old_block, ap length c.in_ok-olds.ensures.levels, few)
+    omega (
+      arith,
+      ap length sent,
+      length-reverse (take count olds),
+      length-take count olds,
+      length-map olds old_block,
+      ap length c.in_ok-olds.ensures.levels,
+      few,
+    )
 
 pub returns-clause-wrapped : goal.returns-clause-wrapped
 returns-clause-wrapped c =
     let olds : List OldPayload = c.in_ok-olds.olds.items in
     let count : ℕ = c.longest_prefix-count.result in
-    let sent : c.deref-4.result.now ≡ reverse (take count olds) = c.deref-4.ensures.value ∙ c.reverse.ensures.items ∙ ap reverse c.truncate.ensures.items in
+    let sent : c.deref-4.result.now ≡ reverse (take count olds) =
+    c.deref-4.ensures.value ∙ c.reverse.ensures.items ∙ ap reverse c.truncate.ensures.items in
     let pt : ℕ = c.args.pt % 128 in
     let payload : List ℕ = c.args.payload.now in
     let r : Redundancy = c.args.self.now in
@@ -54,7 +68,8 @@ returns-clause-wrapped c =
     ∙ ap (λ ds. levels (map kept_of c.self.inside.history.items) ds c.args.time) c.deref-2.ensures.value
     ∙ ap (λ (v : Redundancy). levels v.history v.distances c.args.time) c.self.view_is in
     let blocks : map old_block c.deref-4.result.now ≡ reverse (take count ls) =
-    ap (map old_block) sent ∙ map-reverse old_block (take count olds) ∙ ap reverse (sym (take-map old_block count olds)) ∙ ap (λ bs. reverse (take count bs)) found in
+    ap (map old_block) sent ∙ map-reverse old_block (take count olds)
+    ∙ ap reverse (sym (take-map old_block count olds)) ∙ ap (λ bs. reverse (take count bs)) found in
     let P : List Block → Type 0 = λ bs. IfOk c.spell.result (λ packet. IsRed packet.items (map masked bs) pt payload) in
     let longest : IsLongestPrefix c.args.budget (length payload) ls count =
     let L : List Block → Type 0 = λ bs. IsLongestPrefix c.args.budget (length payload) bs count in

@@ -1,0 +1,161 @@
+//! The commands.
+
+use crate::formats::{Formats, depacketizer_of};
+use crate::printing::{hex_of, payloads, unit};
+use crate::sink::SentList;
+use crate::words::{bytes_of, next_word};
+use anyhow::anyhow;
+use h26x_payload::{detect_h264_keyframe, detect_h265_keyframe, detect_h266_keyframe};
+use payload_core::{
+    Codec, CodecExtra, Depacketizer, RtpMeta, detect_av1_keyframe, detect_vp8_keyframe,
+};
+use rtp_wire::{ExtensionValues, SeqNo};
+use std::alloc::Global;
+use std::str::SplitWhitespace;
+
+/// What a line gives: `codec NAME ..` takes up a payload format, the others are about the one that was taken up last.
+pub fn answer(alloc: Global, formats: &mut Option<Formats>, line: &str) -> anyhow::Result<String> {
+    let mut words = line.split_whitespace();
+    let Some(command) = words.next() else {
+        return Ok(String::new(alloc));
+    };
+    if command == "#" {
+        return Ok(String::from_str(alloc, line)?);
+    }
+    if command == "codec" {
+        let name = next_word(&mut words)?;
+        *formats = Some(Formats::of(alloc, name, &mut words)?);
+        return Ok(String::from_str(alloc, line)?);
+    }
+    match formats {
+        Some(formats) => of_format(alloc, formats, command, &mut words),
+        None => Err(anyhow!("no codec yet")),
+    }
+}
+
+// What a command gives about a payload format.
+fn of_format(
+    alloc: Global,
+    formats: &mut Formats,
+    command: &str,
+    words: &mut SplitWhitespace<'_>,
+) -> anyhow::Result<String> {
+    if command == "pack" {
+        return packed(alloc, formats, words);
+    }
+    if command == "read" {
+        return read(alloc, formats, words);
+    }
+    if command == "push" {
+        return pushed(alloc, formats, words);
+    }
+    if command == "pop" {
+        return unit(alloc, formats.buffer.pop()?);
+    }
+    if command == "short" {
+        return short_packets(alloc, formats);
+    }
+    let packet = bytes_of(alloc, next_word(words)?)?;
+    let is_so = if command == "head" {
+        depacketizer_of(alloc, formats.codec, formats.options)?.is_partition_head(&packet)
+    } else if command == "keyframe" {
+        is_keyframe(formats.codec, &packet)
+    } else {
+        return Err(anyhow!("no command {command}"));
+    };
+    Ok(String::from_str(alloc, if is_so { "yes" } else { "no" })?)
+}
+
+// `pack LIMIT SAMPLE`: the payloads that a sample is sent as.
+fn packed(
+    alloc: Global,
+    formats: &mut Formats,
+    words: &mut SplitWhitespace<'_>,
+) -> anyhow::Result<String> {
+    let limit = next_word(words)?.parse::<usize>()?;
+    let sample = bytes_of(alloc, next_word(words)?)?;
+    let mut sink = SentList::new(alloc);
+    let values = ExtensionValues::absent();
+    formats
+        .payloader
+        .push_sample(alloc, &mut sink, limit, 6000, &sample, &values)?;
+    payloads(alloc, &sink)
+}
+
+// `read PACKET ..`: the bytes that packets give, one after the other from no open fragment on, and what is told then.
+fn read(
+    alloc: Global,
+    formats: &Formats,
+    words: &mut SplitWhitespace<'_>,
+) -> anyhow::Result<String> {
+    let mut depacketizer = depacketizer_of(alloc, formats.codec, formats.options)?;
+    let mut bytes = Vec::new(alloc);
+    let mut extra = CodecExtra::None;
+    for word in words {
+        let packet = bytes_of(alloc, word.strip_suffix("*").unwrap_or(word))?;
+        if let Err(fault) = depacketizer.depacketize(&packet, &mut bytes, &mut extra) {
+            let so_far = hex_of(alloc, bytes.as_slice())?;
+            return Ok(format!(in alloc; "{so_far} {extra:?}, then {fault:?}")?);
+        }
+    }
+    let bytes = hex_of(alloc, bytes.as_slice())?;
+    Ok(format!(in alloc; "{bytes} {extra:?}")?)
+}
+
+// `push NUMBER TIME PACKET`: the packet is held, with the marker where a star stands behind it.
+fn pushed(
+    alloc: Global,
+    formats: &mut Formats,
+    words: &mut SplitWhitespace<'_>,
+) -> anyhow::Result<String> {
+    let number = next_word(words)?.parse::<u64>()?;
+    let time = next_word(words)?.parse::<u32>()?;
+    let word = next_word(words)?;
+    let packet = bytes_of(alloc, word.strip_suffix("*").unwrap_or(word))?;
+    let meta = RtpMeta {
+        seq_no: SeqNo::from(number),
+        time,
+        marker: word.ends_with("*"),
+        ext_vals: ExtensionValues::absent(),
+    };
+    formats.buffer.push(meta, &packet)?;
+    Ok(String::from_str(alloc, "pushed")?)
+}
+
+// Whether a packet is read from no open fragment on.
+fn is_read(alloc: Global, formats: &Formats, packet: &[u8]) -> anyhow::Result<bool> {
+    let mut depacketizer = depacketizer_of(alloc, formats.codec, formats.options)?;
+    let mut bytes = Vec::new(alloc);
+    let mut extra = CodecExtra::None;
+    Ok(
+        depacketizer
+            .depacketize(packet, &mut bytes, &mut extra)
+            .is_ok(),
+    )
+}
+
+// `short`: how many of the packets of no byte, one and two bytes are read.
+fn short_packets(alloc: Global, formats: &Formats) -> anyhow::Result<String> {
+    let none = u32::from(is_read(alloc, formats, &[])?);
+    let mut ones: u32 = 0;
+    let mut twos: u32 = 0;
+    for a in 0..=255u8 {
+        ones = ones.saturating_add(u32::from(is_read(alloc, formats, &[a])?));
+        for b in 0..=255u8 {
+            twos = twos.saturating_add(u32::from(is_read(alloc, formats, &[a, b])?));
+        }
+    }
+    Ok(format!(in alloc; "{none} of none, {ones} of one byte, {twos} of two")?)
+}
+
+// Whether a packet shows a keyframe of a codec that has a test of that.
+fn is_keyframe(codec: Codec, packet: &[u8]) -> bool {
+    match codec {
+        Codec::Vp8 => detect_vp8_keyframe(packet),
+        Codec::Av1 => detect_av1_keyframe(packet),
+        Codec::H264 => detect_h264_keyframe(packet),
+        Codec::H265 => detect_h265_keyframe(packet),
+        Codec::H266 => detect_h266_keyframe(packet),
+        _ => false,
+    }
+}

@@ -1,0 +1,109 @@
+//! The payload format that the next lines are about.
+
+use anyhow::anyhow;
+use h26x_payload::{CodecDepacketizer, CodecPacketizer, NotBoxed};
+use payload_core::{Codec, DepacketizingBuffer, Payloader};
+use rtp_wire::Frequency;
+use std::alloc::Global;
+use std::str::SplitWhitespace;
+
+/// What is negotiated of a payload format, the first picture id and the hold-back.
+#[derive(Clone, Copy, Drop)]
+pub struct Options {
+    octet_align: Option<bool>,
+    max_don_diff: Option<u16>,
+    clock_rate: Frequency,
+    picture_id: Option<u16>,
+    hold_back: usize,
+}
+
+/// A payload format: a payloader, and a buffer, with which samples are sent and packets arrive.
+#[derive(Drop)]
+pub struct Formats {
+    pub codec: Codec,
+    pub options: Options,
+    pub payloader: Payloader<CodecPacketizer<NotBoxed>>,
+    pub buffer: DepacketizingBuffer<CodecDepacketizer<NotBoxed>>,
+}
+
+/// A depacketizer of a codec with no open fragment.
+pub fn depacketizer_of(
+    alloc: Global,
+    codec: Codec,
+    options: Options,
+) -> anyhow::Result<CodecDepacketizer<NotBoxed>> {
+    let Some(mut depacketizer) = CodecDepacketizer::<NotBoxed>::new(alloc, codec) else {
+        return Err(anyhow!("no payload format of {codec}"));
+    };
+    depacketizer.configure_for(
+        options.octet_align,
+        options.max_don_diff,
+        options.clock_rate,
+    );
+    Ok(depacketizer)
+}
+
+/// A packetizer of a codec that sent nothing.
+pub fn packetizer_of(
+    alloc: Global,
+    codec: Codec,
+    options: Options,
+) -> anyhow::Result<CodecPacketizer<NotBoxed>> {
+    let picture_id = options.picture_id.filter(|id| *id < 32768);
+    let Some(mut packetizer) = CodecPacketizer::<NotBoxed>::with_picture_id(codec, picture_id)
+    else {
+        return Err(anyhow!("no payload format of {codec}"));
+    };
+    packetizer.configure_for(
+        options.octet_align,
+        options.max_don_diff,
+        options.clock_rate,
+    );
+    Ok(packetizer)
+}
+
+// The options that words say, each by its name.
+fn options_of(words: &mut SplitWhitespace<'_>) -> anyhow::Result<Options> {
+    let mut options = Options {
+        octet_align: None,
+        max_don_diff: None,
+        clock_rate: Frequency::EIGHT_KHZ,
+        picture_id: None,
+        hold_back: 127,
+    };
+    for word in words {
+        if word == "aligned" {
+            options.octet_align = Some(true);
+        } else if word == "16kHz" {
+            options.clock_rate = Frequency::SIXTEEN_KHZ;
+        } else if let Some(number) = word.strip_prefix("numbers=") {
+            options.max_don_diff = Some(number.parse::<u16>()?);
+        } else if let Some(number) = word.strip_prefix("id=") {
+            options.picture_id = Some(number.parse::<u16>()?);
+        } else if let Some(number) = word.strip_prefix("hold=") {
+            options.hold_back = number.parse::<usize>()?;
+        } else {
+            return Err(anyhow!("no option {word}"));
+        }
+    }
+    Ok(options)
+}
+
+impl Formats {
+    /// The payload format that words name: `NAME [aligned] [numbers=N] [id=N] [hold=N] [16kHz]`.
+    pub fn of(
+        alloc: Global,
+        name: &str,
+        words: &mut SplitWhitespace<'_>,
+    ) -> anyhow::Result<Formats> {
+        let codec = Codec::from(name);
+        let options = options_of(words)?;
+        let depacketizer = depacketizer_of(alloc, codec, options)?;
+        Ok(Formats {
+            codec,
+            options,
+            payloader: Payloader::new(packetizer_of(alloc, codec, options)?),
+            buffer: DepacketizingBuffer::new(alloc, depacketizer, options.hold_back),
+        })
+    }
+}

@@ -1,0 +1,28 @@
+//! Packs samples and reads packets of each codec, a line of standard input after the other. Its transcript holds
+//! samples and packets that were made outside, beside what they give.
+#![tactic(auto)]
+
+mod commands;
+mod formats;
+mod printing;
+mod sink;
+mod words;
+
+use commands::answer;
+use formats::Formats;
+use std::io::{BufRead, BufReader};
+
+/// Answers each line by a line: a comment by itself, a command by what it gives, and another line, or a sample or
+/// packet that is refused, by the word `fault` and the reason.
+fn main(rt: HostRuntime) -> anyhow::Result<()> {
+    let alloc = rt.alloc();
+    let mut formats: Option<Formats> = None;
+    for line in BufReader::new(alloc, rt.reader())?.lines(alloc) {
+        let line = line?;
+        match answer(alloc, &mut formats, line.as_str()) {
+            Ok(text) => println!(rt; "{text}")?,
+            Err(fault) => println!(rt; "fault {fault}")?,
+        }
+    }
+    Ok(())
+}

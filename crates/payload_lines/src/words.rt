@@ -1,0 +1,32 @@
+//! The words of a line.
+
+use anyhow::anyhow;
+use std::alloc::Global;
+use std::str::SplitWhitespace;
+
+/// The next word of a command, which has one.
+pub fn next_word<'a>(words: &mut SplitWhitespace<'a>) -> anyhow::Result<&'a str> {
+    match words.next() {
+        Some(word) => Ok(word),
+        None => Err(anyhow!("a word is missing")),
+    }
+}
+
+/// Bytes in hexadecimal, of which `+` joins parts, and `:N` behind a part repeats it so often; a dash stands for none.
+pub fn bytes_of(alloc: Global, word: &str) -> anyhow::Result<Vec<u8>> {
+    let mut bytes = Vec::new(alloc);
+    if word == "-" {
+        return Ok(bytes);
+    }
+    for part in word.split('+') {
+        let (part, count) = match part.split_once(':') {
+            Some((part, count)) => (part, count.parse::<u32>()?),
+            None => (part, 1),
+        };
+        let part = hex::decode(alloc, part)?;
+        for _ in 0..count {
+            bytes.extend_from_slice(&part)?;
+        }
+    }
+    Ok(bytes)
+}

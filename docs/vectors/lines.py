@@ -1,0 +1,78 @@
+#!/usr/bin/env python3
+"""Writes what `crates/payload_lines` reads and must answer: samples and packets that were packed from the layouts of
+the standards alone, beside rows that were put together by hand.
+
+Run it with `python3 docs/vectors/lines.py`. A row is a line and its answer; a row without one answers itself. The packers are `h26x.py` and `payloads.py`, the access units of encoders stand in `*_units.txt`.
+"""
+
+from pathlib import Path
+
+import h26x
+import payloads
+from rows import BY_HAND, told
+
+HERE = Path(__file__).parent
+CRATE = HERE.parents[1] / "crates/payload_lines"
+
+
+def spelled(packets, marker=True):
+    return " ".join(p.hex() for p in packets) + ("*" if marker else "")
+
+
+def of_units(codec, module, key_type, cases):
+    """Access units of H.264, H.265 and H.266."""
+    for what, numbers, packed, limit, units, packets in cases:
+        yield f"# {codec}, {what}", None
+        yield f"codec {codec} numbers={int(numbers)}", None
+        if packed is not None:
+            yield f"pack {limit} {h26x.written(packed)}", spelled(packets)
+        is_key = any(module.fields(u)["type"] in key_type for u in units)
+        yield f"read {spelled(packets)}", f"{h26x.written(units)} {told(codec, is_key)}"
+
+
+def encoded(codec, module, key_type):
+    """Access units of an encoder, at three limits, with numbers and without."""
+    for line in (HERE / f"{codec.lower()}_units.txt").read_text().splitlines():
+        if line.startswith("#"):
+            yield line, None
+            continue
+        words = line.split()
+        units = [bytes.fromhex(word) for word in words if word not in ("000001", "00000001")]
+        sent = [u for u in units if module.fields(u)["type"] not in module.unsent]
+        is_key = any(module.fields(u)["type"] in key_type for u in sent)
+        for limit in (1200, 100, 80):
+            for first in (None,) if codec == "H264" else (None, 0):
+                packets = h26x.by_profile(module, units, limit, first)
+                yield f"codec {codec} numbers={int(first is not None)}", None
+                yield f"pack {limit} {''.join(words)}", spelled(packets)
+                yield f"read {spelled(packets)}", f"{h26x.written(sent)} {told(codec, is_key)}"
+
+
+def of_frames(cases):
+    """Frames of VP8 and VP9, speech, events and plain audio."""
+    for codec, what, limit, frame, packets, extra in cases:
+        is_video = codec.startswith("VP")
+        yield f"# {codec.split()[0]}, {what}", None
+        yield f"codec {codec}", None
+        if limit is not None:
+            yield f"pack {limit} {frame.hex()}", spelled(packets, is_video)
+        given = frame[:4] if extra.startswith("first ") else frame
+        yield f"read {spelled(packets, is_video)}", f"{given.hex()} {extra.removeprefix('first ')}"
+
+
+def rows():
+    yield from BY_HAND
+    idr, irap, h266_irap = [5], range(16, 24), range(7, 10)
+    yield from of_units("H264", h26x.H264, idr, h26x.h264())
+    yield from of_units("H265", h26x.H265, irap, h26x.h265())
+    yield from of_units("H266", h26x.H266, h266_irap, h26x.h266())
+    yield from encoded("H264", h26x.H264, idr)
+    yield from encoded("H265", h26x.H265, irap)
+    for cases in (payloads.vp8, payloads.vp9, payloads.amr_wb, payloads.telephone, payloads.plain):
+        yield from of_frames(cases())
+
+
+if __name__ == "__main__":
+    written = list(rows())
+    (CRATE / "stdin").write_text("".join(line + "\n" for line, _ in written))
+    (CRATE / "stdout").write_text("".join((line if answer is None else answer) + "\n" for line, answer in written))
