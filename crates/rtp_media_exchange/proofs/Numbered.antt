@@ -1,5 +1,6 @@
 -- The map that lines say has, under each number, what the last line of that number says.
-use Rattle.std.proofs.Common.{◌≡◌, ◌≢◌, ℕ, zero, suc, ◌-◌, ◌<◌, ◌≤◌, nat_le, Bool, true, false, cond, ◌&&◌, Option, List, [], ◌∷◌, ◌++◌, length, replicate, All, fold, None, Some, refl, ◌∙◌, ap, arith}
+use Rattle.std.proofs.Common.{◌≡◌, ◌≢◌, ℕ, zero, suc, ◌-◌, ◌<◌, ◌≤◌, nat_le, Bool, true, false, cond, ◌&&◌, Option}
+use Rattle.std.proofs.Common.{List, [], ◌∷◌, ◌++◌, length, replicate, All, fold, None, Some, refl, ◌∙◌, ap, arith}
 use Rattle.std.specs.Prelude.{slice_set, slice_index_or}
 use Rattle.std.proofs.lemmas.List.{length-set, get_or-set_other}
 use Rattle.std.proofs.lemmas.Bool.Decides.{nat_tests}
@@ -17,7 +18,8 @@ nothing = None
 
 -- what a place of a map has once a line of some number was read
 abbrev after_line : Numbering → ℕ → Option Extension → ℕ → Option Extension
-after_line exts id said n = slice_index_or (cond (nat_le 1 id && nat_le id 16) (slice_set exts (id - 1) said) exts) n None
+after_line exts id said n = slice_index_or (cond (nat_le 1 id && nat_le id 16) (slice_set exts (id - 1) said) exts) n
+    None
 
 length_kept : (exts : Numbering) (line : ExtmapLine) → length (with_line_of exts line) ≡ length exts
 length_kept exts line = by (is_numbered line) where
@@ -33,9 +35,11 @@ apart : (n id : ℕ) → (nat_le 1 id && nat_le id 16) ≡ true → id ≢ suc n
 apart n id is other e = other (grind (arith, nat_tests))
 
 -- a line of another number leaves what a map has
-kept : (n id : ℕ) (exts : Numbering) (said : Option Extension) → id ≢ suc n → after_line exts id said n ≡ slice_index_or exts n None
+kept : (n id : ℕ) (exts : Numbering) (said : Option Extension) → id ≢ suc n → after_line exts id said n
+    ≡ slice_index_or exts n None
 kept n id exts said other = by (nat_le 1 id && nat_le id 16) refl where
-  by : (b : Bool) → (nat_le 1 id && nat_le id 16) ≡ b → slice_index_or (cond b (slice_set exts (id - 1) said) exts) n None ≡ slice_index_or exts n None
+  by : (b : Bool) → (nat_le 1 id && nat_le id 16) ≡ b
+      → slice_index_or (cond b (slice_set exts (id - 1) said) exts) n None ≡ slice_index_or exts n None
   by true is = get_or-set_other exts (id - 1) n said None (apart n id is other)
   by false is = refl
 
@@ -45,7 +49,8 @@ inside_more k size h = grind (arith)
 inside_first : (size : ℕ) → 0 < suc size
 inside_first size = grind (arith)
 
-others_keep : (n : ℕ) (exts : Numbering) (lines : List ExtmapLine) → All (λ l. l.id ≢ suc n) lines → slice_index_or (fold with_line_of exts lines) n None ≡ slice_index_or exts n None
+others_keep : (n : ℕ) (exts : Numbering) (lines : List ExtmapLine) → All (λ l. l.id ≢ suc n) lines
+    → slice_index_or (fold with_line_of exts lines) n None ≡ slice_index_or exts n None
 others_keep n exts [] others = refl
 others_keep n exts (line ∷ lines) others =
     others_keep n (with_line_of exts line) lines (λ k d inside. others (suc k) d (inside_more k (length lines) inside))
@@ -61,11 +66,14 @@ room : (n id size : ℕ) → id ≡ suc n → n < 16 → size ≡ 16 → id - 1 
 room n id size same inside long = grind (arith)
 
 -- a line of its number puts what it says there
-put : (n id : ℕ) (exts : Numbering) (said : Option Extension) → length exts ≡ 16 → n < 16 → id ≡ suc n → after_line exts id said n ≡ said
+put : (n id : ℕ) (exts : Numbering) (said : Option Extension) → length exts ≡ 16 → n < 16 → id ≡ suc n
+    → after_line exts id said n ≡ said
 put n id exts said long inside same =
-    rw (in_reach n id inside same) (get_or-set_at exts (id - 1) n said None (there n id same) (room n id (length exts) same inside long))
+    rw (in_reach n id inside same) (get_or-set_at exts (id - 1) n said None (there n id same)
+    (room n id (length exts) same inside long))
 
-pub last_counts : (id : ℕ) (before : List ExtmapLine) (line : ExtmapLine) (after : List ExtmapLine) → 1 ≤ id → id ≤ 16 → line.id ≡ id → All (λ l. l.id ≢ id) after
+pub last_counts : (id : ℕ) (before : List ExtmapLine) (line : ExtmapLine) (after : List ExtmapLine) → 1 ≤ id
+    → id ≤ 16 → line.id ≡ id → All (λ l. l.id ≢ id) after
     → lookup (map_of_lines (before ++ line ∷ after)) id ≡ Some (extension_of line.uri)
 last_counts zero before line after low high same others = absurd (none low) where
   none : 1 ≤ 0 → ⊥

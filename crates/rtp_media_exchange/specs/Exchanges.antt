@@ -36,14 +36,27 @@ fixed = record {
 -- transport-wide feedback where both do, takes the other end's RED type over where it has one itself and
 -- has none where either end has none, and is locked.
 abbrev pub after_round : Row → Section → Row
-after_round row s = record row { pt = s.pt; transport_cc = row.transport_cc && s.transport_cc; red = option_and row.red s.red; locked = true }
+after_round row s = record row {
+  pt = s.pt;
+  transport_cc = row.transport_cc && s.transport_cc;
+  red =
+      option_and row.red s.red;
+  locked = true;
+}
 
 abbrev pub row_after : Option Row → Section → Option Row
 row_after row s = option_map (λ r. after_round r s) row
 
 -- after an offer of this section
 abbrev pub with_offer : Exchanged → Option Wanted → Exchanged
-with_offer x wanted = record { session = x.session; wanted = x.wanted; row = x.row; pending = wanted; agreed = x.agreed }
+with_offer x wanted = record {
+  session = x.session;
+  wanted = x.wanted;
+  row = x.row;
+  pending = wanted;
+  agreed =
+      x.agreed;
+}
 
 -- after an offer was answered so
 abbrev pub with_answer : Exchanged → Section → Section → Exchanged

@@ -1,5 +1,6 @@
 -- The header extensions that offers and answers list (RFC 8285 5 and 8).
-use Rattle.std.specs.Prelude.{ℕ, ◌-◌, ◌&&◌, nat_le, Bool, List, map, filter, fold, slice_set, is_some, if◌then◌else◌, Some}
+use Rattle.std.specs.Prelude.{ℕ, ◌-◌, ◌&&◌, nat_le, Bool, List, map, filter, fold, slice_set, is_some, if◌then◌else◌}
+use Rattle.std.specs.Prelude.{Some}
 use Rattle.std.specs.List.{list_all}
 use Rattle.rtp_wire.specs.declared.Extension.{Extension}
 use Rattle.rtp_wire.specs.Iteration.{numbered}

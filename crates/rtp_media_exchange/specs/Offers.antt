@@ -72,7 +72,8 @@ pub record Offers (x : Exchanged) (sections : List Wanted) (text : List ℕ) : T
   pub text_is : text ≡ text_of (offer_of x.session x.wanted row wanted)
 
 -- The offer of a text was answered: the answer says the row as the round left it, and the end has agreed.
-pub record Answers (x : Exchanged) (text : List ℕ) (sections : List Wanted) (answer : List ℕ) (after : Exchanged) : Type 0 where
+pub record Answers (x : Exchanged) (text : List ℕ) (sections : List Wanted) (answer : List ℕ) (after : Exchanged)
+    : Type 0 where
   pub offer : Section
   pub wanted : Wanted
   pub row : Row

@@ -17,19 +17,22 @@ is_on (Some on) = on
 -- no parameter of another codec than Opus
 abbrev pub has_none_of_others : FormatParams → Bool
 has_none_of_others f =
-    is_none f.level_asymmetry_allowed && (is_none f.packetization_mode && (is_none f.profile_level_id && (is_none f.profile_id
+    is_none f.level_asymmetry_allowed && (is_none f.packetization_mode
+    && (is_none f.profile_level_id && (is_none f.profile_id
     && (is_none f.profile && (is_none f.level_idx && (is_none f.tier && (is_none f.sprop_max_don_diff
     && (is_none f.telephone_event_max && (is_none f.octet_align && is_none f.mode_set)))))))))
 
 -- `minptime=10;useinbandfec=1` and nothing else (RFC 7587 6.1)
 abbrev pub is_opus_format : FormatParams → Bool
 is_opus_format f =
-    (is_number f.min_p_time 10 && (is_on f.use_inband_fec && (is_none f.stereo && (is_none f.sprop_stereo && is_none f.use_dtx))))
+    (is_number f.min_p_time 10 && (is_on f.use_inband_fec
+    && (is_none f.stereo && (is_none f.sprop_stereo && is_none f.use_dtx))))
     && has_none_of_others f
 
 -- Opus at 48,000 Hz and two channels (RFC 7587 7) in that format
 abbrev pub is_opus : CodecSpec → Bool
-is_opus spec = is_codec spec.codec Opus && ((spec.clock_rate == 48000) && (is_number spec.channels 2 && is_opus_format spec.format))
+is_opus spec = is_codec spec.codec Opus &&
+    ((spec.clock_rate == 48000) && (is_number spec.channels 2 && is_opus_format spec.format))
 
 -- no retransmissions, and no feedback that only video has
 abbrev pub is_alone : Row → Bool

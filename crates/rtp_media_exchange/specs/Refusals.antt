@@ -1,5 +1,6 @@
 -- Why calls are refused, want of memory aside: the first reason that holds.
-use Rattle.std.specs.Prelude.{◌≡◌, ℕ, Bool, not, ◌&&◌, ◌||◌, ◌==◌, length, Result, Ok, Err, if◌then◌else◌, List, [], ◌∷◌, Option, Some, None, is_some}
+use Rattle.std.specs.Prelude.{◌≡◌, ℕ, Bool, not, ◌&&◌, ◌||◌, ◌==◌, length, Result, Ok, Err, if◌then◌else◌, List, []}
+use Rattle.std.specs.Prelude.{◌∷◌, Option, Some, None, is_some}
 use Rattle.std.specs.Str.{bytes_eq}
 use Rattle.payload_core_base.specs.Codecs.{is_audio_kind}
 use Rattle.rtp_wire.specs.Values.{Numbering}
@@ -59,7 +60,8 @@ types_refusal (Some row) = if is_wrapped_by_itself row then Some (fault.TypesNot
 abbrev pub refusal_of_new : List Row → Bool → Numbering → Option EndError
 refusal_of_new rows is_bare exts =
     else_refused (row_refusal rows)
-    (else_refused (types_refusal (only rows)) (if is_bare && is_writable_map exts then None else Some fault.NotWritable))
+    (else_refused (types_refusal (only rows))
+    (if is_bare && is_writable_map exts then None else Some fault.NotWritable))
 
 -- an offer is pending, or something was agreed
 abbrev pub is_engaged : Exchanged → Bool
@@ -92,7 +94,8 @@ refusal_of_pair row (Some wanted) s =
 -- Why `answer` is refused, by what the text says.
 abbrev pub refusal_of_answer_to : Exchanged → Option Section → List Wanted → Option Reason
 refusal_of_answer_to x None sections = Some Unreadable
-refusal_of_answer_to x (Some s) sections = if is_engaged x then Some OutOfTurn else refusal_of_pair x.row (only sections) s
+refusal_of_answer_to x (Some s) sections =
+    if is_engaged x then Some OutOfTurn else refusal_of_pair x.row (only sections) s
 
 -- Why `accept` is refused, by what the text says.
 abbrev pub refusal_of_accept_of : Exchanged → Option Section → Option Reason

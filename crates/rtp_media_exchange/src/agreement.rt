@@ -3,7 +3,8 @@
 ghost use Rattle.std.specs.Prelude.{◌≡◌, ◌==◌, ◌<◌, IfOk, IfSome, OnSome, Some, None, [], ◌∷◌};
 ghost use Rattle.std.specs.Str.{bytes_eq};
 ghost use Rattle.rtp_media_texts.specs.Section.{IsRedOf};
-ghost use Rattle.rtp_media_exchange.specs.Agreement.{AgreesOn, fixed_agreement, agreed_by_answer, agreed_by_accept, row_in, is_named};
+ghost use Rattle.rtp_media_exchange.specs.Agreement.{AgreesOn, fixed_agreement, agreed_by_answer, agreed_by_accept};
+ghost use Rattle.rtp_media_exchange.specs.Agreement.{row_in, is_named};
 ghost use Rattle.rtp_media_exchange.specs.Extensions.{map_of_lines};
 
 use crate::plain::plain_row;

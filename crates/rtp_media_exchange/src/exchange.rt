@@ -1,6 +1,7 @@
 //! Offers, answers and what they agree on.
 
-ghost use Rattle.std.specs.Prelude.{◌≡◌, ◌≢◌, ◌<◌, ◌&&◌, ℕ, List, Option, None, Some, true, false, not, is_some, string_bytes, IfOk, IfErr, OnOk, OnErr, IsTrue, ◌↔◌};
+ghost use Rattle.std.specs.Prelude.{◌≡◌, ◌≢◌, ◌<◌, ◌&&◌, ℕ, List, Option, None, Some, true, false, not, is_some};
+ghost use Rattle.std.specs.Prelude.{string_bytes, IfOk, IfErr, OnOk, OnErr, IsTrue, ◌↔◌};
 ghost use Rattle.std.specs.Option.{option_map, option_copied};
 ghost use Rattle.rtp_media_texts.specs.Text.{text_of};
 ghost use Rattle.rtp_media_exchange.specs.Agreement.{own_row_agrees};
@@ -42,7 +43,14 @@ impl Model for Exchange {
 
     ghost Value = { Exchanged };
 
-    ghost view = { λ x. record { session = x.session; wanted = x.exts; row = x.row; pending = x.pending; agreed = x.agreed } };
+    ghost view = { λ x. record {
+      session = x.session;
+      wanted = x.exts;
+      row = x.row;
+      pending = x.pending;
+      agreed =
+          x.agreed;
+    } };
 }
 
 impl Exchange {
@@ -58,7 +66,8 @@ impl Exchange {
     ) -> Result<Self, EndError>
         ensures new { IfOk result (λ x. x ≡ fresh session.now.id exts (only config.now.rows)) }
         ensures accepted { OnOk result (refusal_of_new config.now.rows session.now.is_bare exts ≡ None) }
-        ensures refused { IfErr result (λ e. e ≢ EndError.Memory → refusal_of_new config.now.rows session.now.is_bare exts ≡ Some e) }
+        ensures refused { IfErr result (λ e. e ≢ EndError.Memory
+            → refusal_of_new config.now.rows session.now.is_bare exts ≡ Some e) }
     {
         let rows = config.params();
         check_rows(rows)?;

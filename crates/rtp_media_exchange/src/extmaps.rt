@@ -2,7 +2,8 @@
 
 ghost use Rattle.std.specs.Prelude.{◌≡◌, ◌≤◌, ℕ, List, IfOk, All};
 ghost use Rattle.rtp_media_texts.specs.Section.{IsSoundExtmap};
-ghost use Rattle.rtp_media_exchange.specs.Extensions.{lines_of_map, is_writable_map, is_answered, is_numbered, has_extension, answered_lines, map_of_lines};
+ghost use Rattle.rtp_media_exchange.specs.Extensions.{lines_of_map, is_writable_map, is_answered, is_numbered};
+ghost use Rattle.rtp_media_exchange.specs.Extensions.{has_extension, answered_lines, map_of_lines};
 
 use rtp_media_texts::{Extmap, is_uri};
 use rtp_wire::{Extension, ExtensionMap, MAX_ID};

@@ -1,7 +1,8 @@
 //! The rows that an end can agree on.
 
 ghost use Rattle.std.specs.Prelude.{◌≡◌, None, Some, OnOk, IfErr};
-ghost use Rattle.rtp_media_exchange.specs.Plain.{is_opus_format, has_none_of_others, is_opus, is_alone, is_type_or_none, is_plain_row, is_wrapped_by_itself, plain_row};
+ghost use Rattle.rtp_media_exchange.specs.Plain.{is_opus_format, has_none_of_others, is_opus, is_alone};
+ghost use Rattle.rtp_media_exchange.specs.Plain.{is_type_or_none, is_plain_row, is_wrapped_by_itself, plain_row};
 ghost use Rattle.rtp_media_exchange.specs.Refusals.{row_refusal, types_refusal};
 ghost use Rattle.rtp_media_exchange.specs.Sections.{only};
 

@@ -3,35 +3,46 @@ use Rattle.std.proofs.Common.{◌≡◌, ℕ, ◌^◌, List, [], ◌∷◌, Opti
 use Rattle.std.specs.Option.{option_map}
 use Rattle.std.specs.Str.{bytes_eq}
 use Rattle.rtp_media_lines.specs.declared.line.Command.{Command}
-use Rattle.rtp_media_lines.specs.declared.line.Command.TheVariants.{Fixed, Send, Open, Sample, Receive, Poll, Row, Ext, End, Offer, Answer, Accept, Withdraw, Connect}
-use Rattle.rtp_media_lines.specs.Words.{letter_of, text_of, hex_of, dash_or, numbers_of, number_below, behind, mid_value, ◌>>=◌}
+use Rattle.rtp_media_lines.specs.declared.line.Command.TheVariants.{Fixed, Send, Open, Sample, Receive, Poll, Row}
+use Rattle.rtp_media_lines.specs.declared.line.Command.TheVariants.{Ext, End, Offer, Answer, Accept, Withdraw}
+use Rattle.rtp_media_lines.specs.declared.line.Command.TheVariants.{Connect}
+use Rattle.rtp_media_lines.specs.Words.{letter_of, text_of, hex_of, dash_or, numbers_of, number_below, behind}
+use Rattle.rtp_media_lines.specs.Words.{mid_value, ◌>>=◌}
 use Rattle.rtp_media_lines.proofs.Behind.{behind-sound, behind-append}
 use Rattle.rtp_media_lines.specs.Lines.{command_of, fixed_of, send_of, open_of, sample_of, receive_of, poll_of}
 use Rattle.rtp_media_lines.proofs.ReadSteps.{dispatch, same, ended_some, read_on, glue, under}
-use Rattle.rtp_media_lines.proofs.ExchangeWords.{exchange_says, read_row, read_ext, read_end, read_offer, read_answer, read_accept, read_withdraw, read_connect}
-use Rattle.rtp_media_lines.specs.Says.{Says, AreSendWords, AreOpenWords, AreSampleWords, mid_words, AreReceiveWords, ArePollWords}
+use Rattle.rtp_media_lines.proofs.ExchangeWords.{exchange_says, read_row, read_ext, read_end, read_offer, read_answer}
+use Rattle.rtp_media_lines.proofs.ExchangeWords.{read_accept, read_withdraw, read_connect}
+use Rattle.rtp_media_lines.specs.Says.{Says, AreSendWords, AreOpenWords, AreSampleWords, mid_words, AreReceiveWords}
+use Rattle.rtp_media_lines.specs.Says.{ArePollWords}
 
 -- ---- what is read stands there
 
-fixed_says : (verb : List ℕ) (words : List (List ℕ)) (c : Command) → verb ≡ codes "fixed" → fixed_of words ≡ Some c → Says (verb ∷ words) c
+fixed_says : (verb : List ℕ) (words : List (List ℕ)) (c : Command) → verb ≡ codes "fixed" → fixed_of words ≡ Some c
+    → Says (verb ∷ words) c
 unfolding fixed_of
 fixed_says verb words c v h =
     read_on _ letter_of words _ c h (λ e_word after_e e is_e says_e left_e.
     let end = ended_some after_e _ c left_e in
     subst (Says (verb ∷ words)) end.1 (e_word, glue v (is_e ∙ under e_word end.0), says_e))
 
-send_says : (verb : List ℕ) (words : List (List ℕ)) (c : Command) → verb ≡ codes "send" → send_of words ≡ Some c → Says (verb ∷ words) c
+send_says : (verb : List ℕ) (words : List (List ℕ)) (c : Command) → verb ≡ codes "send" → send_of words ≡ Some c
+    → Says (verb ∷ words) c
 unfolding send_of
 send_says verb words c v h =
     read_on _ letter_of words _ c h (λ e_word after_e e is_e says_e left_e.
     read_on _ text_of after_e _ c left_e (λ mid_word after_mid mid is_mid says_mid left_mid.
     read_on _ (number_below (2 ^ 32)) after_mid _ c left_mid (λ ssrc_word after_ssrc ssrc is_ssrc says_ssrc left_ssrc.
     read_on _ (number_below (2 ^ 8)) after_ssrc _ c left_ssrc (λ pt_word after_pt pt is_pt says_pt left_pt.
-    read_on _ (number_below (2 ^ 64)) after_pt _ c left_pt (λ number_word after_number number is_number says_number left_number.
+    read_on _ (number_below (2 ^ 64)) after_pt _ c left_pt
+    (λ number_word after_number number is_number says_number left_number.
     read_on _ (number_below (2 ^ 64)) after_number _ c left_number (λ mtu_word after_mtu mtu is_mtu says_mtu left_mtu.
-    read_on _ (number_below (2 ^ 64)) after_mtu _ c left_mtu (λ limit_word after_limit limit is_limit says_limit left_limit.
-    read_on _ (dash_or numbers_of) after_limit _ c left_limit (λ distances_word after_distances distances is_distances says_distances left_distances.
-    read_on _ (dash_or (number_below (2 ^ 16))) after_distances _ c left_distances (λ picture_word after_picture picture is_picture says_picture left_picture.
+    read_on _ (number_below (2 ^ 64)) after_mtu _ c left_mtu
+    (λ limit_word after_limit limit is_limit says_limit left_limit.
+    read_on _ (dash_or numbers_of) after_limit _ c left_limit
+    (λ distances_word after_distances distances is_distances says_distances left_distances.
+    read_on _ (dash_or (number_below (2 ^ 16))) after_distances _ c left_distances
+    (λ picture_word after_picture picture is_picture says_picture left_picture.
     let end = ended_some after_picture _ c left_picture in
     subst (Says (verb ∷ words)) end.1 (record {
       e = e_word;
@@ -43,7 +54,11 @@ send_says verb words c v h =
       limit = limit_word;
       distances = distances_word;
       picture = picture_word;
-      words_are = glue v (is_e ∙ under e_word (is_mid ∙ under mid_word (is_ssrc ∙ under ssrc_word (is_pt ∙ under pt_word (is_number ∙ under number_word (is_mtu ∙ under mtu_word (is_limit ∙ under limit_word (is_distances ∙ under distances_word (is_picture ∙ under picture_word end.0)))))))));
+      words_are = glue v (is_e ∙ under e_word (is_mid
+          ∙ under mid_word (is_ssrc ∙ under ssrc_word
+          (is_pt ∙ under pt_word (is_number ∙ under number_word
+          (is_mtu ∙ under mtu_word (is_limit ∙ under limit_word
+          (is_distances ∙ under distances_word (is_picture ∙ under picture_word end.0)))))))));
       e_says = says_e;
       mid_says = says_mid;
       ssrc_says = says_ssrc;
@@ -55,14 +70,16 @@ send_says verb words c v h =
       picture_says = says_picture;
     }))))))))))
 
-open_says : (verb : List ℕ) (words : List (List ℕ)) (c : Command) → verb ≡ codes "open" → open_of words ≡ Some c → Says (verb ∷ words) c
+open_says : (verb : List ℕ) (words : List (List ℕ)) (c : Command) → verb ≡ codes "open" → open_of words ≡ Some c
+    → Says (verb ∷ words) c
 unfolding open_of
 open_says verb words c v h =
     read_on _ letter_of words _ c h (λ e_word after_e e is_e says_e left_e.
     read_on _ text_of after_e _ c left_e (λ mid_word after_mid mid is_mid says_mid left_mid.
     read_on _ (number_below (2 ^ 32)) after_mid _ c left_mid (λ ssrc_word after_ssrc ssrc is_ssrc says_ssrc left_ssrc.
     read_on _ (number_below (2 ^ 8)) after_ssrc _ c left_ssrc (λ pt_word after_pt pt is_pt says_pt left_pt.
-    read_on _ (number_below (2 ^ 64)) after_pt _ c left_pt (λ hold_back_word after_hold_back hold_back is_hold_back says_hold_back left_hold_back.
+    read_on _ (number_below (2 ^ 64)) after_pt _ c left_pt
+    (λ hold_back_word after_hold_back hold_back is_hold_back says_hold_back left_hold_back.
     let end = ended_some after_hold_back _ c left_hold_back in
     subst (Says (verb ∷ words)) end.1 (record {
       e = e_word;
@@ -70,7 +87,9 @@ open_says verb words c v h =
       ssrc = ssrc_word;
       pt = pt_word;
       hold_back = hold_back_word;
-      words_are = glue v (is_e ∙ under e_word (is_mid ∙ under mid_word (is_ssrc ∙ under ssrc_word (is_pt ∙ under pt_word (is_hold_back ∙ under hold_back_word end.0)))));
+      words_are = glue v (is_e ∙ under e_word (is_mid
+          ∙ under mid_word (is_ssrc ∙ under ssrc_word
+          (is_pt ∙ under pt_word (is_hold_back ∙ under hold_back_word end.0)))));
       e_says = says_e;
       mid_says = says_mid;
       ssrc_says = says_ssrc;
@@ -79,20 +98,26 @@ open_says verb words c v h =
     }))))))
 
 -- nothing is left, or a word `mid=TEXT`
-mid_some : (words : List (List ℕ)) (f : Option (List ℕ) → Command) (c : Command) → (mid_value words >>= (λ mid. Some (f mid))) ≡ Some c → (mid : Option (List ℕ)) × (words ≡ mid_words mid) × (f mid ≡ c)
+mid_some : (words : List (List ℕ)) (f : Option (List ℕ) → Command) (c : Command)
+    → (mid_value words >>= (λ mid. Some (f mid))) ≡ Some c → (mid : Option (List ℕ)) × (words ≡ mid_words mid)
+    × (f mid ≡ c)
 mid_some [] f c h = (None, refl, cc)
 mid_some (word ∷ []) f c h = by_text (behind (codes "mid=") word) refl h where
-  by_text : (o : Option (List ℕ)) → behind (codes "mid=") word ≡ o → (option_map Some o >>= (λ mid. Some (f mid))) ≡ Some c → (mid : Option (List ℕ)) × (word ∷ [] ≡ mid_words mid) × (f mid ≡ c)
+  by_text : (o : Option (List ℕ)) → behind (codes "mid=") word ≡ o → (option_map Some o >>= (λ mid. Some (f mid)))
+      ≡ Some c → (mid : Option (List ℕ)) × (word ∷ [] ≡ mid_words mid) × (f mid ≡ c)
   by_text None e k = absurd cc
   by_text (Some text) e k = (Some text, ap (λ (w : List ℕ). w ∷ []) (behind-sound (codes "mid=") word text e), cc)
 mid_some (word ∷ next ∷ words) f c h = absurd cc
 
-sample_says : (verb : List ℕ) (words : List (List ℕ)) (c : Command) → verb ≡ codes "sample" → sample_of words ≡ Some c → Says (verb ∷ words) c
+sample_says : (verb : List ℕ) (words : List (List ℕ)) (c : Command) → verb ≡ codes "sample" → sample_of words
+    ≡ Some c → Says (verb ∷ words) c
 unfolding sample_of
 sample_says verb words c v h =
     read_on _ letter_of words _ c h (λ e_word after_e e is_e says_e left_e.
-    read_on _ (number_below (2 ^ 64)) after_e _ c left_e (λ stream_word after_stream stream is_stream says_stream left_stream.
-    read_on _ (number_below (2 ^ 64)) after_stream _ c left_stream (λ time_word after_time time is_time says_time left_time.
+    read_on _ (number_below (2 ^ 64)) after_e _ c left_e
+    (λ stream_word after_stream stream is_stream says_stream left_stream.
+    read_on _ (number_below (2 ^ 64)) after_stream _ c left_stream
+    (λ time_word after_time time is_time says_time left_time.
     read_on _ hex_of after_time _ c left_time (λ bytes_word after_bytes bytes is_bytes says_bytes left_bytes.
     let end = mid_some after_bytes _ c left_bytes in
     subst (Says (verb ∷ words)) end.2 (record {
@@ -100,14 +125,16 @@ sample_says verb words c v h =
       stream = stream_word;
       time = time_word;
       bytes = bytes_word;
-      words_are = glue v (is_e ∙ under e_word (is_stream ∙ under stream_word (is_time ∙ under time_word (is_bytes ∙ under bytes_word end.1))));
+      words_are = glue v (is_e ∙ under e_word (is_stream
+          ∙ under stream_word (is_time ∙ under time_word (is_bytes ∙ under bytes_word end.1))));
       e_says = says_e;
       stream_says = says_stream;
       time_says = says_time;
       bytes_say = says_bytes;
     })))))
 
-receive_says : (verb : List ℕ) (words : List (List ℕ)) (c : Command) → verb ≡ codes "receive" → receive_of words ≡ Some c → Says (verb ∷ words) c
+receive_says : (verb : List ℕ) (words : List (List ℕ)) (c : Command) → verb ≡ codes "receive" → receive_of words
+    ≡ Some c → Says (verb ∷ words) c
 unfolding receive_of
 receive_says verb words c v h =
     read_on _ letter_of words _ c h (λ e_word after_e e is_e says_e left_e.
@@ -121,11 +148,13 @@ receive_says verb words c v h =
       bytes_say = says_bytes;
     })))
 
-poll_says : (verb : List ℕ) (words : List (List ℕ)) (c : Command) → verb ≡ codes "poll" → poll_of words ≡ Some c → Says (verb ∷ words) c
+poll_says : (verb : List ℕ) (words : List (List ℕ)) (c : Command) → verb ≡ codes "poll" → poll_of words ≡ Some c
+    → Says (verb ∷ words) c
 unfolding poll_of
 poll_says verb words c v h =
     read_on _ letter_of words _ c h (λ e_word after_e e is_e says_e left_e.
-    read_on _ (number_below (2 ^ 64)) after_e _ c left_e (λ stream_word after_stream stream is_stream says_stream left_stream.
+    read_on _ (number_below (2 ^ 64)) after_e _ c left_e
+    (λ stream_word after_stream stream is_stream says_stream left_stream.
     let end = ended_some after_stream _ c left_stream in
     subst (Says (verb ∷ words)) end.1 (record {
       e = e_word;
@@ -143,7 +172,8 @@ says_what_is_read (verb ∷ words) c h =
     (dispatch (bytes_eq verb (codes "open")) _ _ _ _ (λ v. open_says verb words c (same verb _ v))
     (dispatch (bytes_eq verb (codes "sample")) _ _ _ _ (λ v. sample_says verb words c (same verb _ v))
     (dispatch (bytes_eq verb (codes "receive")) _ _ _ _ (λ v. receive_says verb words c (same verb _ v))
-    (dispatch (bytes_eq verb (codes "poll")) _ _ _ _ (λ v. poll_says verb words c (same verb _ v)) (exchange_says verb words c)))))) h
+    (dispatch (bytes_eq verb (codes "poll")) _ _ _ _ (λ v. poll_says verb words c (same verb _ v))
+    (exchange_says verb words c)))))) h
 
 -- ---- what stands there is read
 
@@ -152,27 +182,42 @@ unfolding fixed_of
 read_fixed e letter h = rw h refl
 
 read_send : (words : List (List ℕ)) (send : _) (a : AreSendWords words send)
-    → send_of (a.e ∷ a.mid ∷ a.ssrc ∷ a.pt ∷ a.first ∷ a.mtu ∷ a.limit ∷ a.distances ∷ a.picture ∷ []) ≡ Some (Send send)
+    → send_of (a.e ∷ a.mid ∷ a.ssrc ∷ a.pt ∷ a.first ∷ a.mtu ∷ a.limit ∷ a.distances ∷ a.picture ∷ [])
+    ≡ Some (Send send)
 unfolding send_of
 read_send words send a =
-    rw (a.e_says, a.mid_says, a.ssrc_says, a.pt_says, a.first_says, a.mtu_says, a.limit_says, a.distances_say, a.picture_says) refl
+    rw (
+      a.e_says,
+      a.mid_says,
+      a.ssrc_says,
+      a.pt_says,
+      a.first_says,
+      a.mtu_says,
+      a.limit_says,
+      a.distances_say,
+      a.picture_says,
+    ) refl
 
-read_open : (words : List (List ℕ)) (open' : _) (a : AreOpenWords words open') → open_of (a.e ∷ a.mid ∷ a.ssrc ∷ a.pt ∷ a.hold_back ∷ []) ≡ Some (Open open')
+read_open : (words : List (List ℕ)) (open' : _) (a : AreOpenWords words open')
+    → open_of (a.e ∷ a.mid ∷ a.ssrc ∷ a.pt ∷ a.hold_back ∷ []) ≡ Some (Open open')
 unfolding open_of
 read_open words open' a = rw (a.e_says, a.mid_says, a.ssrc_says, a.pt_says, a.hold_back_says) refl
 
-read_sample : (words : List (List ℕ)) (sample : _) (a : AreSampleWords words sample) → sample_of (a.e ∷ a.stream ∷ a.time ∷ a.bytes ∷ mid_words sample.mid) ≡ Some (Sample sample)
+read_sample : (words : List (List ℕ)) (sample : _) (a : AreSampleWords words sample)
+    → sample_of (a.e ∷ a.stream ∷ a.time ∷ a.bytes ∷ mid_words sample.mid) ≡ Some (Sample sample)
 unfolding sample_of
 read_sample words sample a = rw (a.e_says, a.stream_says, a.time_says, a.bytes_say, mid_again sample.mid) refl where
   mid_again : (mid : Option (List ℕ)) → mid_value (mid_words mid) ≡ Some mid
   mid_again None = refl
   mid_again (Some text) = ap (option_map Some) (behind-append (codes "mid=") text)
 
-read_receive : (words : List (List ℕ)) (receive : _) (a : AreReceiveWords words receive) → receive_of (a.e ∷ a.bytes ∷ []) ≡ Some (Receive receive)
+read_receive : (words : List (List ℕ)) (receive : _) (a : AreReceiveWords words receive)
+    → receive_of (a.e ∷ a.bytes ∷ []) ≡ Some (Receive receive)
 unfolding receive_of
 read_receive words receive a = rw (a.e_says, a.bytes_say) refl
 
-read_poll : (words : List (List ℕ)) (poll : _) (a : ArePollWords words poll) → poll_of (a.e ∷ a.stream ∷ []) ≡ Some (Poll poll)
+read_poll : (words : List (List ℕ)) (poll : _) (a : ArePollWords words poll) → poll_of (a.e ∷ a.stream ∷ [])
+    ≡ Some (Poll poll)
 unfolding poll_of
 read_poll words poll a = rw (a.e_says, a.stream_says) refl
 
@@ -184,7 +229,8 @@ read_what_is_said words (Fixed letter) a = subst (Reads (Fixed letter)) (sym a.1
 read_what_is_said words (Send send) a = subst (Reads (Send send)) (sym a.words_are) (read_send words send a)
 read_what_is_said words (Open open') a = subst (Reads (Open open')) (sym a.words_are) (read_open words open' a)
 read_what_is_said words (Sample sample) a = subst (Reads (Sample sample)) (sym a.words_are) (read_sample words sample a)
-read_what_is_said words (Receive receive) a = subst (Reads (Receive receive)) (sym a.words_are) (read_receive words receive a)
+read_what_is_said words (Receive receive) a =
+    subst (Reads (Receive receive)) (sym a.words_are) (read_receive words receive a)
 read_what_is_said words (Poll poll) a = subst (Reads (Poll poll)) (sym a.words_are) (read_poll words poll a)
 read_what_is_said words (Row row) a = subst (Reads (Row row)) (sym a.words_are) (read_row words row a)
 read_what_is_said words (Ext ext) a = subst (Reads (Ext ext)) (sym a.words_are) (read_ext words ext a)
@@ -193,4 +239,5 @@ read_what_is_said words (Offer offer) a = subst (Reads (Offer offer)) (sym a.wor
 read_what_is_said words (Answer answer) a = subst (Reads (Answer answer)) (sym a.words_are) (read_answer words answer a)
 read_what_is_said words (Accept accept) a = subst (Reads (Accept accept)) (sym a.words_are) (read_accept words accept a)
 read_what_is_said words (Withdraw letter) a = subst (Reads (Withdraw letter)) (sym a.1) (read_withdraw a.0 letter a.2)
-read_what_is_said words (Connect connect) a = subst (Reads (Connect connect)) (sym a.words_are) (read_connect words connect a)
+read_what_is_said words (Connect connect) a =
+    subst (Reads (Connect connect)) (sym a.words_are) (read_connect words connect a)

@@ -1,5 +1,6 @@
 -- Lines of an input that goes on.
-use Rattle.std.proofs.Common.{◌≡◌, ℕ, suc, ◌<◌, ◌==◌, nat_le, Bool, true, false, cond, List, [], ◌∷◌, ◌++◌, length, map, None, Some, refl, sym, ◌∙◌, ap, arith, append_assoc, append-nil, length-append}
+use Rattle.std.proofs.Common.{◌≡◌, ℕ, suc, ◌<◌, ◌==◌, nat_le, Bool, true, false, cond, List, [], ◌∷◌, ◌++◌, length}
+use Rattle.std.proofs.Common.{map, None, Some, refl, sym, ◌∙◌, ap, arith, append_assoc, append-nil, length-append}
 use Rattle.std.specs.List.{slice_split, flat_map, AllByRecursion}
 use Rattle.std.proofs.lemmas.Option.{cond_some}
 use Rattle.std.proofs.lemmas.Bool.Decides.{nat_tests}
@@ -10,7 +11,8 @@ abbrev is_feed : ℕ → Bool
 is_feed byte = byte == 10
 
 -- the first piece ends at the first line feed
-split-feed : (tail rest : List ℕ) → HasNoFeed tail → slice_split is_feed (tail ++ 10 ∷ rest) ≡ tail ∷ slice_split is_feed rest
+split-feed : (tail rest : List ℕ) → HasNoFeed tail → slice_split is_feed (tail ++ 10 ∷ rest) ≡ tail
+    ∷ slice_split is_feed rest
 split-feed [] rest h = refl
 split-feed (byte ∷ tail) rest h = let ih = split-feed tail rest h.1 in rw (h.0, ih) refl
 
@@ -18,7 +20,8 @@ split-whole : (tail : List ℕ) → HasNoFeed tail → slice_split is_feed tail 
 split-whole [] h = refl
 split-whole (byte ∷ tail) h = let ih = split-whole tail h.1 in rw (h.0, ih) refl
 
-before_more : (piece : List ℕ) (pieces : List (List ℕ)) → IsCons pieces → without_empty_last (piece ∷ pieces) ≡ piece ∷ without_empty_last pieces
+before_more : (piece : List ℕ) (pieces : List (List ℕ)) → IsCons pieces → without_empty_last (piece ∷ pieces) ≡ piece
+    ∷ without_empty_last pieces
 before_more piece pieces more = rw more.2 refl
 
 -- a line that is ended by a line feed, and the lines after it
@@ -47,18 +50,23 @@ unfolding lines_of
 lines_of-nothing = refl
 
 -- lines that are each ended, and then more
-ended_lines : (lines : List (List ℕ)) (rest : List ℕ) → AllByRecursion HasNoFeed lines → lines_of (flat_map with_feed lines ++ rest) ≡ map kept lines ++ lines_of rest
+ended_lines : (lines : List (List ℕ)) (rest : List ℕ) → AllByRecursion HasNoFeed lines
+    → lines_of (flat_map with_feed lines ++ rest) ≡ map kept lines ++ lines_of rest
 ended_lines [] rest h = refl
 ended_lines (line ∷ lines) rest h =
-    ap lines_of (append_assoc (with_feed line) (flat_map with_feed lines) rest ∙ append_assoc line (10 ∷ []) (flat_map with_feed lines ++ rest))
-    ∙ lines_of-feed line (flat_map with_feed lines ++ rest) h.0 ∙ ap (λ others. kept line ∷ others) (ended_lines lines rest h.1)
+    ap lines_of (append_assoc (with_feed line) (flat_map with_feed lines) rest
+    ∙ append_assoc line (10 ∷ []) (flat_map with_feed lines ++ rest))
+    ∙ lines_of-feed line (flat_map with_feed lines ++ rest) h.0
+    ∙ ap (λ others. kept line ∷ others) (ended_lines lines rest h.1)
 
-pub lines_of-ended : (lines : List (List ℕ)) → AllByRecursion HasNoFeed lines → lines_of (flat_map with_feed lines) ≡ map kept lines
+pub lines_of-ended : (lines : List (List ℕ)) → AllByRecursion HasNoFeed lines → lines_of (flat_map with_feed lines)
+    ≡ map kept lines
 lines_of-ended lines h =
     ap lines_of (sym (append-nil (flat_map with_feed lines))) ∙ ended_lines lines [] h
     ∙ ap (λ last. map kept lines ++ last) lines_of-nothing ∙ append-nil (map kept lines)
 
-pub lines_of-unended : (lines : List (List ℕ)) (byte : ℕ) (last : List ℕ) → AllByRecursion HasNoFeed lines → HasNoFeed (byte ∷ last)
+pub lines_of-unended : (lines : List (List ℕ)) (byte : ℕ) (last : List ℕ) → AllByRecursion HasNoFeed lines
+    → HasNoFeed (byte ∷ last)
     → lines_of (flat_map with_feed lines ++ byte ∷ last) ≡ map kept lines ++ kept (byte ∷ last) ∷ []
 lines_of-unended lines byte last h more =
     ended_lines lines (byte ∷ last) h ∙ ap (λ others. map kept lines ++ others) (lines_of-last byte last more)
@@ -77,7 +85,8 @@ longer_kept : (len : ℕ) (fits : Bool) (tail : List ℕ) (byte : ℕ) → fits 
     → longer (cond fits (Some tail) None) byte ≡ kept (tail ++ byte ∷ [])
 longer_kept len true tail byte e same = refl
 longer_kept len false tail byte e same =
-    let long : nat_le (length (tail ++ byte ∷ [])) 1048576 ≡ false = still_long len _ e (omega (arith, length-append tail (byte ∷ []))) in
+    let long : nat_le (length (tail ++ byte ∷ [])) 1048576 ≡ false =
+    still_long len _ e (omega (arith, length-append tail (byte ∷ []))) in
     rw long refl
 
 pub longer-kept : (tail : List ℕ) (byte : ℕ) → longer (kept tail) byte ≡ kept (tail ++ byte ∷ [])

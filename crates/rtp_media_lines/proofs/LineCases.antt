@@ -11,7 +11,8 @@ pub line_of-empty : (bytes : List ℕ) → (length bytes == 0) ≡ true → line
 unfolding line_of
 line_of-empty bytes h = rw h refl
 
-pub line_of-text : (bytes : List ℕ) → (length bytes == 0) ≡ false → IsUtf8 bytes → line_of bytes ≡ option_map line.Command (command_of (words_of bytes))
+pub line_of-text : (bytes : List ℕ) → (length bytes == 0) ≡ false → IsUtf8 bytes → line_of bytes
+    ≡ option_map line.Command (command_of (words_of bytes))
 unfolding line_of
 line_of-text bytes h text = let e = is_utf8-from_IsUtf8 bytes text in rw (h, e) refl
 
@@ -21,4 +22,5 @@ not_text false h = refl
 
 pub line_of-other : (bytes : List ℕ) → (length bytes == 0) ≡ false → (IsUtf8 bytes → ⊥) → line_of bytes ≡ None
 unfolding line_of
-line_of-other bytes h other = let e = not_text (is_utf8 bytes) (λ text. other (IsUtf8-from_is_utf8 bytes text)) in rw (h, e) refl
+line_of-other bytes h other = let e = not_text (is_utf8 bytes) (λ text. other (IsUtf8-from_is_utf8 bytes text)) in
+    rw (h, e) refl

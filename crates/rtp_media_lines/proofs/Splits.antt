@@ -1,5 +1,6 @@
 -- Parting a text at a byte.
-use Rattle.std.proofs.Common.{◌≡◌, ℕ, suc, ◌+◌, ◌<◌, ◌==◌, Bool, true, false, not, cond, List, [], ◌∷◌, length, None, Some, refl, ◌∙◌, ap, arith, Bor, lit<}
+use Rattle.std.proofs.Common.{◌≡◌, ℕ, suc, ◌+◌, ◌<◌, ◌==◌, Bool, true, false, not, cond, List, [], ◌∷◌, length, None}
+use Rattle.std.proofs.Common.{Some, refl, ◌∙◌, ap, arith, Bor, lit<}
 use Rattle.std.specs.List.{slice_split, onto_first, position_or_len}
 use Rattle.std.proofs.lemmas.Bool.{cond_both}
 use Rattle.std.proofs.lemmas.List.Splits.{slice_split_first}
@@ -29,34 +30,41 @@ unsplit_step true m x xs parts h ih = absurd (omega arith)
 unsplit_step false m x xs parts h ih = ap (onto_first x) (ih (omega arith))
 
 -- where no element passes there is one part
-pub slice_split-whole : {X : Type 0} (p : X → Bool) (xs : List X) → position_or_len p xs ≡ length xs → slice_split p xs ≡ xs ∷ []
+pub slice_split-whole : {X : Type 0} (p : X → Bool) (xs : List X) → position_or_len p xs ≡ length xs
+    → slice_split p xs ≡ xs ∷ []
 slice_split-whole p [] h = refl
-slice_split-whole p (x ∷ xs) h = unsplit_step (p x) (position_or_len p xs) x xs (slice_split p xs) h (slice_split-whole p xs)
+slice_split-whole p (x ∷ xs) h = unsplit_step (p x) (position_or_len p xs) x xs (slice_split p xs) h
+    (slice_split-whole p xs)
 
 -- the parts of a text whose first separator was found
-split_at_byte : (byte : ℕ) (text : List ℕ) (part rest : Bor (List ℕ)) → byte < 128 → IsSplitOnceResult byte text (Some (part, rest))
+split_at_byte : (byte : ℕ) (text : List ℕ) (part rest : Bor (List ℕ)) → byte < 128
+    → IsSplitOnceResult byte text (Some (part, rest))
     → slice_split (λ b. b == byte) text ≡ part.now ∷ slice_split (λ b. b == byte) rest.now
 split_at_byte byte text part rest ascii h =
     let found = split_once_first byte text (Some (part, rest)) h ascii in
     slice_split_first (λ b. b == byte) text 0 found.0 ∙ rw (found.1, found.2) refl
 
 -- the part of a text without a separator
-split_nowhere : (byte : ℕ) (text : List ℕ) → byte < 128 → IsSplitOnceResult byte text None → slice_split (λ b. b == byte) text ≡ text ∷ []
+split_nowhere : (byte : ℕ) (text : List ℕ) → byte < 128 → IsSplitOnceResult byte text None
+    → slice_split (λ b. b == byte) text ≡ text ∷ []
 split_nowhere byte text ascii h = slice_split-whole (λ b. b == byte) text (split_once_first byte text None h ascii)
 
-pub words_of-split : (line : List ℕ) (word rest : Bor (List ℕ)) → IsSplitOnceResult 32 line (Some (word, rest)) → words_of line ≡ word.now ∷ words_of rest.now
+pub words_of-split : (line : List ℕ) (word rest : Bor (List ℕ)) → IsSplitOnceResult 32 line (Some (word, rest))
+    → words_of line ≡ word.now ∷ words_of rest.now
 words_of-split line word rest h = split_at_byte 32 line word rest (lit< tt) h
 
 pub words_of-whole : (line : List ℕ) → IsSplitOnceResult 32 line None → words_of line ≡ line ∷ []
 words_of-whole line h = split_nowhere 32 line (lit< tt) h
 
-pub comma_parts-split : (text : List ℕ) (part rest : Bor (List ℕ)) → IsSplitOnceResult 44 text (Some (part, rest)) → comma_parts text ≡ part.now ∷ comma_parts rest.now
+pub comma_parts-split : (text : List ℕ) (part rest : Bor (List ℕ)) → IsSplitOnceResult 44 text (Some (part, rest))
+    → comma_parts text ≡ part.now ∷ comma_parts rest.now
 comma_parts-split text part rest h = split_at_byte 44 text part rest (lit< tt) h
 
 pub comma_parts-whole : (text : List ℕ) → IsSplitOnceResult 44 text None → comma_parts text ≡ text ∷ []
 comma_parts-whole text h = split_nowhere 44 text (lit< tt) h
 
-pub colon_parts-split : (text : List ℕ) (part rest : Bor (List ℕ)) → IsSplitOnceResult 58 text (Some (part, rest)) → colon_parts text ≡ part.now ∷ colon_parts rest.now
+pub colon_parts-split : (text : List ℕ) (part rest : Bor (List ℕ)) → IsSplitOnceResult 58 text (Some (part, rest))
+    → colon_parts text ≡ part.now ∷ colon_parts rest.now
 colon_parts-split text part rest h = split_at_byte 58 text part rest (lit< tt) h
 
 pub colon_parts-whole : (text : List ℕ) → IsSplitOnceResult 58 text None → colon_parts text ≡ text ∷ []

@@ -1,7 +1,8 @@
 -- What the lines say that make ends and exchange their texts.
 use Rattle.std.specs.Prelude.{ℕ, ◌^◌, List, Option, Some}
 use Rattle.rtp_media_lines.specs.declared.line.Command.{Command}
-use Rattle.rtp_media_lines.specs.declared.line.Command.TheVariants.{Row, Ext, End, Offer, Answer, Accept, Withdraw, Connect}
+use Rattle.rtp_media_lines.specs.declared.line.Command.TheVariants.{Row, Ext, End, Offer, Answer, Accept, Withdraw}
+use Rattle.rtp_media_lines.specs.declared.line.Command.TheVariants.{Connect}
 use Rattle.rtp_media_lines.specs.Sections.{sections_of, sections_then_slash}
 use Rattle.rtp_media_lines.specs.Words.{letter_of, text_of, hex_of, dash_or, number_below, first, ended, ◌>>=◌}
 

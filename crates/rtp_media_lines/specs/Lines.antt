@@ -6,8 +6,10 @@ use Rattle.rtp_media_lines.specs.declared.line.Line.TheVariants as line
 use Rattle.rtp_media_lines.specs.declared.line.Command.{Command}
 use Rattle.rtp_media_lines.specs.declared.line.Command.TheVariants.{Fixed, Send, Open, Sample, Receive, Poll}
 use Rattle.std.specs.Option.{option_map}
-use Rattle.rtp_media_lines.specs.ExchangeLines.{row_of, ext_of, end_of, offer_of, answer_of, accept_of, withdraw_of, connect_of}
-use Rattle.rtp_media_lines.specs.Words.{words_of, letter_of, text_of, hex_of, dash_or, numbers_of, number_below, mid_value, first, ended, ◌>>=◌}
+use Rattle.rtp_media_lines.specs.ExchangeLines.{row_of, ext_of, end_of, offer_of, answer_of, accept_of, withdraw_of}
+use Rattle.rtp_media_lines.specs.ExchangeLines.{connect_of}
+use Rattle.rtp_media_lines.specs.Words.{words_of, letter_of, text_of, hex_of, dash_or, numbers_of, number_below}
+use Rattle.rtp_media_lines.specs.Words.{mid_value, first, ended, ◌>>=◌}
 
 -- fixed E
 unfoldable pub fixed_of : List (List ℕ) → Option Command
@@ -47,7 +49,14 @@ open_of words = do
   ssrc ← first (number_below (2 ^ 32)) mid.1
   pt ← first (number_below (2 ^ 8)) ssrc.1
   hold_back ← first (number_below (2 ^ 64)) pt.1
-  ended hold_back.1 (Open (record { letter = letter.0; mid = mid.0; ssrc = ssrc.0; pt = pt.0; hold_back = hold_back.0 }))
+  ended hold_back.1 (Open (record {
+    letter = letter.0;
+    mid = mid.0;
+    ssrc = ssrc.0;
+    pt = pt.0;
+    hold_back =
+        hold_back.0;
+  }))
 
 -- sample E N TIME HEX [mid=TEXT]
 unfoldable pub sample_of : List (List ℕ) → Option Command

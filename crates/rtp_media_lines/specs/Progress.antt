@@ -10,14 +10,16 @@ use Rattle.rtp_media_lines.specs.Replies.{reply_text}
 use Rattle.rtp_media_lines.specs.Runs.{Answers, AnswersAll, Printed, status_of}
 
 -- one line was answered: its replies were printed, and nothing else
-pub record PrintedOne {S : Type 0} (gives : S → Command → S → List Reply → Type 0) (old : S) (line : Option (List ℕ)) (new : S) (before after : Option (List ℕ)) (status : Status) : Type 0 where
+pub record PrintedOne {S : Type 0} (gives : S → Command → S → List Reply → Type 0) (old : S) (line : Option (List ℕ))
+    (new : S) (before after : Option (List ℕ)) (status : Status) : Type 0 where
   pub replies : List Reply
   pub answers : Answers gives old line new replies
   pub printed : Appends before after (flat_map reply_text replies)
   pub status_is : status ≡ status_of replies
 
 -- of the bytes seen so far the ended lines are answered, and the last line, which may go on, is held
-pub record Progress {S : Type 0} (gives : S → Command → S → List Reply → Type 0) (start : S) (before : Option (List ℕ)) (seen : List ℕ)
+pub record Progress {S : Type 0} (gives : S → Command → S → List Reply → Type 0) (start : S)
+    (before : Option (List ℕ)) (seen : List ℕ)
     (state : S) (after : Option (List ℕ)) (held : Option (List ℕ)) (status : Status) : Type 0 where
   pub ended : List (Option (List ℕ))
   pub tail : List ℕ

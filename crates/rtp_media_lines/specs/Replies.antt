@@ -2,7 +2,9 @@
 use Rattle.std.specs.Prelude.{ℕ, Bool, true, false, List, [], ◌∷◌, ◌++◌, codes, decimal}
 use Rattle.hex.specs.Hex.{encode_lower}
 use Rattle.rtp_media_lines.specs.declared.reply.Reply.{Reply}
-use Rattle.rtp_media_lines.specs.declared.reply.Reply.TheVariants.{Done, ErrorLine, Refused, Sender, Receiver, Datagram, Unreadable, Foreign, Damaged, NotTaken, Taken, NextUnit, NoUnit, Fault, Text, NoOffer}
+use Rattle.rtp_media_lines.specs.declared.reply.Reply.TheVariants.{Done, ErrorLine, Refused, Sender, Receiver}
+use Rattle.rtp_media_lines.specs.declared.reply.Reply.TheVariants.{Datagram, Unreadable, Foreign, Damaged, NotTaken}
+use Rattle.rtp_media_lines.specs.declared.reply.Reply.TheVariants.{Taken, NextUnit, NoUnit, Fault, Text, NoOffer}
 
 -- words parted by single blanks, and a line feed
 abbrev pub text_line : List (List ℕ) → List ℕ
@@ -28,7 +30,8 @@ reply_words Foreign = codes "foreign" ∷ []
 reply_words Damaged = codes "damaged" ∷ []
 reply_words NotTaken = codes "refused" ∷ []
 reply_words (Taken stream number) = codes "taken" ∷ decimal stream ∷ decimal number ∷ []
-reply_words (NextUnit first last time unit) = codes "unit" ∷ decimal first ∷ decimal last ∷ decimal time ∷ hex_text unit ∷ []
+reply_words (NextUnit first last time unit) =
+    codes "unit" ∷ decimal first ∷ decimal last ∷ decimal time ∷ hex_text unit ∷ []
 reply_words NoUnit = codes "none" ∷ []
 reply_words (Fault name) = codes "fault" ∷ name ∷ []
 reply_words (Text bytes) = codes "text" ∷ hex_text bytes ∷ []

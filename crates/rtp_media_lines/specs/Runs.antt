@@ -33,14 +33,16 @@ module _ {S : Type 0} (gives : S → Command → S → List Reply → Type 0) wh
   abbrev pub AnswersAll : S → List (Option (List ℕ)) → S → List Reply → Type 0
   AnswersAll old [] new replies = (new ≡ old) × (replies ≡ [])
   AnswersAll old (line ∷ lines) new replies =
-      (mid : S) × (first : List Reply) × (others : List Reply) × Answers old line mid first × AnswersAll mid lines new others × (replies ≡ first ++ others)
+      (mid : S) × (first : List Reply) × (others : List Reply) × Answers old line mid first
+      × AnswersAll mid lines new others × (replies ≡ first ++ others)
 
 -- whether an error line was printed
 abbrev pub status_of : List Reply → Status
 status_of replies = if list_any is_error_line replies then status.ErrorLine else status.Success
 
 -- a program that read this input answered its lines, printed the replies and nothing else
-pub record Printed {S : Type 0} (gives : S → Command → S → List Reply → Type 0) (old new : S) (before after : Option (List ℕ)) (input : List ℕ) (status : Status) : Type 0 where
+pub record Printed {S : Type 0} (gives : S → Command → S → List Reply → Type 0) (old new : S)
+    (before after : Option (List ℕ)) (input : List ℕ) (status : Status) : Type 0 where
   pub replies : List Reply
   pub answers : AnswersAll gives old (lines_of input) new replies
   pub printed : Appends before after (flat_map reply_text replies)

@@ -1,7 +1,9 @@
 -- Which words a command is: the lines of the program, one by one.
 use Rattle.std.specs.Prelude.{◌≡◌, ℕ, ◌^◌, List, [], ◌∷◌, ◌++◌, codes, Some, Option, None}
 use Rattle.rtp_media_lines.specs.declared.line.Command.{Command}
-use Rattle.rtp_media_lines.specs.declared.line.Command.TheVariants.{Fixed, Send, Open, Sample, Receive, Poll, Row, Ext, End, Offer, Answer, Accept, Withdraw, Connect}
+use Rattle.rtp_media_lines.specs.declared.line.Command.TheVariants.{Fixed, Send, Open, Sample, Receive, Poll, Row}
+use Rattle.rtp_media_lines.specs.declared.line.Command.TheVariants.{Ext, End, Offer, Answer, Accept, Withdraw}
+use Rattle.rtp_media_lines.specs.declared.line.Command.TheVariants.{Connect}
 use Rattle.rtp_media_lines.specs.declared.line.SendCommand.{SendCommand}
 use Rattle.rtp_media_lines.specs.declared.line.OpenCommand.{OpenCommand}
 use Rattle.rtp_media_lines.specs.declared.line.SampleCommand.{SampleCommand}

@@ -11,7 +11,8 @@ use Rattle.rtp_media_lines.specs.Words.{number_below, each_of, comma_parts, firs
 
 -- `audio` or `video`
 abbrev pub kind_of : List ℕ → Option MediaKind
-kind_of word = if bytes_eq word (codes "audio") then Some Audio else if bytes_eq word (codes "video") then Some Video else None
+kind_of word = if bytes_eq word (codes "audio") then Some Audio else if bytes_eq word (codes "video") then Some Video
+    else None
 
 -- one of the four words of a direction
 abbrev pub direction_of : List ℕ → Option Direction

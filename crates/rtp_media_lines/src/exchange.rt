@@ -1,10 +1,11 @@
 //! The lines that make ends and exchange their texts.
 
 ghost use Rattle.rtp_media_lines.specs.Misreads.{Reads};
-ghost use Rattle.rtp_media_lines.specs.ExchangeLines.{row_of, ext_of, end_of, offer_of, answer_of, accept_of, withdraw_of, connect_of};
+ghost use Rattle.rtp_media_lines.specs.ExchangeLines.{row_of, ext_of, end_of, offer_of, answer_of, accept_of};
+ghost use Rattle.rtp_media_lines.specs.ExchangeLines.{withdraw_of, connect_of};
 
 use crate::fields::{
-    hex_word, number_or_dash_word, number_word, letter_word, text_or_dash_word, text_word,
+    hex_word, letter_word, number_or_dash_word, number_word, text_or_dash_word, text_word,
 };
 use crate::line::Command;
 use crate::misread::Misread;

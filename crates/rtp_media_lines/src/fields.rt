@@ -2,7 +2,8 @@
 
 ghost use Rattle.std.specs.Prelude.{◌≡◌, ◌+◌, ◌^◌, ◌≤◌, ◌∷◌, IsTrue, IfSome, ◌↔◌, slice_index, IfOk};
 ghost use Rattle.std.specs.Option.{option_copied};
-ghost use Rattle.rtp_media_lines.specs.Words.{letter_of, number_below, text_of, hex_of, dash_or, numbers_of, comma_parts, parts_in, first, behind, mid_value};
+ghost use Rattle.rtp_media_lines.specs.Words.{letter_of, number_below, text_of, hex_of, dash_or, numbers_of};
+ghost use Rattle.rtp_media_lines.specs.Words.{comma_parts, parts_in, first, behind, mid_value};
 ghost use Rattle.rtp_media_lines.specs.Misreads.{Reads};
 
 use crate::misread::Misread;

@@ -2,14 +2,15 @@
 
 ghost use Rattle.std.specs.Prelude.{◌≡◌, IfOk};
 ghost use Rattle.rtp_media_lines.specs.Misreads.{Reads};
-ghost use Rattle.rtp_media_lines.specs.Lines.{line_of, command_of, exchange_command_of, fixed_of, send_of, open_of, sample_of, receive_of, poll_of};
+ghost use Rattle.rtp_media_lines.specs.Lines.{line_of, command_of, exchange_command_of, fixed_of, send_of, open_of};
+ghost use Rattle.rtp_media_lines.specs.Lines.{sample_of, receive_of, poll_of};
 
 use crate::exchange::{
     AcceptCommand, AnswerCommand, ConnectCommand, EndCommand, ExtCommand, OfferCommand, RowCommand,
     accept_of, answer_of, connect_of, end_of, ext_of, offer_of, row_of, withdraw_of,
 };
 use crate::fields::{
-    distances_word, hex_word, mid_value, number_word, picture_id_word, letter_word, text_word,
+    distances_word, hex_word, letter_word, mid_value, number_word, picture_id_word, text_word,
 };
 use crate::misread::Misread;
 use crate::owned::{Bytes, Text};

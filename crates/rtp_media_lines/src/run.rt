@@ -26,7 +26,8 @@ fn replies_to<A: Respond>(
     line: Option<&[u8]>,
     responder: &mut A,
 ) -> Result<Vec<Reply>, AllocError>
-    ensures { IfOk result (λ replies. Answers A.gives responder.old (option_copied line.entry) responder.new replies.items) }
+    ensures { IfOk result (λ replies. Answers A.gives responder.old (option_copied line.entry) responder.new
+        replies.items) }
 {
     let line = match line {
         None => None,
@@ -52,7 +53,8 @@ fn answer_line<W: Write, A: Respond>(
     responder: &mut A,
     writer: &mut W,
 ) -> Result<Status, RunFault>
-    ensures { IfOk result (PrintedOne A.gives responder.old (option_copied line.entry) responder.new (W.contents writer.old) (W.contents writer.new)) }
+    ensures { IfOk result (PrintedOne A.gives responder.old (option_copied line.entry) responder.new
+        (W.contents writer.old) (W.contents writer.new)) }
 {
     let replies = replies_to(alloc, line, responder)?;
     let text = print(alloc, replies.as_slice())?;
@@ -69,7 +71,8 @@ fn take_byte<W: Write, A: Respond>(
     responder: &mut A,
     writer: &mut W,
 ) -> Result<Status, RunFault>
-    ensures { IfOk result (λ later. GoesOn A.gives (byte ∷ []) responder.old (W.contents writer.old) line.old status responder.new (W.contents writer.new) line.new later) }
+    ensures { IfOk result (λ later. GoesOn A.gives (byte ∷ []) responder.old (W.contents writer.old) line.old status
+        responder.new (W.contents writer.new) line.new later) }
 {
     if byte != b'\n' {
         line.push(byte)?;
@@ -89,7 +92,8 @@ fn take_piece<W: Write, A: Respond>(
     responder: &mut A,
     writer: &mut W,
 ) -> Result<Status, RunFault>
-    ensures { IfOk result (λ later. GoesOn A.gives piece.now responder.old (W.contents writer.old) line.old status responder.new (W.contents writer.new) line.new later) }
+    ensures { IfOk result (λ later. GoesOn A.gives piece.now responder.old (W.contents writer.old) line.old status
+        responder.new (W.contents writer.new) line.new later) }
 {
     let mut status = status;
     for byte in piece {
@@ -106,7 +110,8 @@ fn take_end<W: Write, A: Respond>(
     responder: &mut A,
     writer: &mut W,
 ) -> Result<Status, RunFault>
-    ensures { IfOk result (λ later. Ends A.gives responder.old (W.contents writer.old) line.now status responder.new (W.contents writer.new) later) }
+    ensures { IfOk result (λ later. Ends A.gives responder.old (W.contents writer.old) line.now status responder.new
+        (W.contents writer.new) later) }
 {
     if line.is_empty() {
         return Ok(status);
@@ -129,7 +134,8 @@ pub fn run_lines<R: Read, W: Write, A: Respond>(
     writer: &mut W,
     responder: &mut A,
 ) -> Result<Status, RunFault>
-    ensures read { IfOk result (λ status. (input : List ℕ) × ReadsAll (R.remaining reader.old) (R.remaining reader.new) input
+    ensures read { IfOk result (λ status. (input : List ℕ)
+        × ReadsAll (R.remaining reader.old) (R.remaining reader.new) input
         × Printed A.gives responder.old responder.new (W.contents writer.old) (W.contents writer.new) input status) }
     ensures known { IfOk result (λ status. IfSome (R.remaining reader.old) (λ input.
         Printed A.gives responder.old responder.new (W.contents writer.old) (W.contents writer.new) input status)) }

@@ -2,7 +2,8 @@
 
 ghost use Rattle.std.specs.Prelude.{◌≡◌, ℕ, ◌^◌, List, [], ◌∷◌, IfOk, IfErr};
 ghost use Rattle.std.specs.Option.{option_copied};
-ghost use Rattle.rtp_media_lines.specs.Sections.{kind_of, direction_of, ssrcs_of, colon_parts, colon_parts_in, section_of, sections_of, sections_then_slash};
+ghost use Rattle.rtp_media_lines.specs.Sections.{kind_of, direction_of, ssrcs_of, colon_parts, colon_parts_in};
+ghost use Rattle.rtp_media_lines.specs.Sections.{section_of, sections_of, sections_then_slash};
 ghost use Rattle.rtp_media_lines.specs.Words.{comma_parts, parts_in, ended};
 ghost use Rattle.rtp_media_lines.specs.Misreads.{Reads};
 
@@ -137,7 +138,8 @@ fn split_colon(text: &str) -> (&str, Option<&str>)
 
 /// The next of the parts that stand between single colons.
 fn next_part(parts: Option<&str>) -> Result<(&str, Option<&str>), Misread>
-    ensures found { IfOk result (λ x. colon_parts_in (option_copied parts.entry) ≡ x.0.now ∷ colon_parts_in (option_copied x.1)) }
+    ensures found { IfOk result (λ x. colon_parts_in (option_copied parts.entry) ≡ x.0.now
+        ∷ colon_parts_in (option_copied x.1)) }
     ensures none { IfErr result (λ e. (e ≡ Misread.NotUnderstood) × (colon_parts_in (option_copied parts.entry) ≡ [])) }
 {
     match parts {

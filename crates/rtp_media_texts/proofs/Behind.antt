@@ -1,5 +1,6 @@
 -- What stands behind the words that a line begins with.
-use Rattle.std.proofs.Common.{◌≡◌, ℕ, ◌+◌, ◌==◌, true, List, [], ◌∷◌, ◌++◌, length, drop, Option, None, Some, Bor, refl, sym, ◌∙◌, ap}
+use Rattle.std.proofs.Common.{◌≡◌, ℕ, ◌+◌, ◌==◌, true, List, [], ◌∷◌, ◌++◌, length, drop, Option, None, Some, Bor}
+use Rattle.std.proofs.Common.{refl, sym, ◌∙◌, ap}
 use Rattle.std.proofs.lemmas.Bool.{cond_both}
 use Rattle.std.proofs.lemmas.Bool.Decides.{Decides-eqb}
 use Rattle.std.specs.Option.{MatchOption, option_copied}
@@ -26,8 +27,10 @@ none_if None never = refl
 none_if (Some x) never = absurd (never x refl)
 
 pub behind-strip : (words line : List ℕ) (r : Option (Bor (List ℕ)))
-    → MatchOption r (LacksTextAt words line 0) (λ x. (n : ℕ) × FindsTextPrefix words line (Some n) × (x.now ≡ drop n line) × (length x.now + n ≡ length line))
+    → MatchOption r (LacksTextAt words line 0)
+    (λ x. (n : ℕ) × FindsTextPrefix words line (Some n) × (x.now ≡ drop n line) × (length x.now + n ≡ length line))
     → option_copied r ≡ behind words line
-behind-strip words line None lacks = sym (none_if (behind words line) (λ rest same. lacks rest (behind-sound words line rest same)))
+behind-strip words line None lacks = sym
+    (none_if (behind words line) (λ rest same. lacks rest (behind-sound words line rest same)))
 behind-strip words line (Some x) found =
     sym (ap (behind words) found.1.1 ∙ behind-append words (drop found.0 line) ∙ ap Some (sym found.2))

@@ -1,5 +1,6 @@
 -- Lines hold no line feed, and numbers and names hold no blank.
-use Rattle.std.proofs.Common.{◌≡◌, ◌≢◌, ℕ, ◌<◌, ◌^◌, ◌==◌, Bool, true, not, ◌&&◌, List, [], ◌∷◌, ◌++◌, take, map, decimal, refl, sym, ◌∙◌, ap, arith}
+use Rattle.std.proofs.Common.{◌≡◌, ◌≢◌, ℕ, ◌<◌, ◌^◌, ◌==◌, Bool, true, not, ◌&&◌, List, [], ◌∷◌, ◌++◌, take, map}
+use Rattle.std.proofs.Common.{decimal, refl, sym, ◌∙◌, ap, arith}
 use Rattle.std.specs.Char.{is_ascii_digit}
 use Rattle.std.specs.List.{list_all}
 use Rattle.std.specs.Str.{all_ascii_digits}
@@ -16,14 +17,16 @@ Lacks c bytes = list_all (λ b. not (b == c)) bytes ≡ true
 pub Lacks-append : (c : ℕ) (xs ys : List ℕ) → Lacks c xs → Lacks c ys → Lacks c (xs ++ ys)
 Lacks-append c xs ys first second = list_all-append (λ b. not (b == c)) xs ys ∙ rw (first, second) refl
 
-digit_other : (c d : ℕ) (digits others : Bool) → c < 48 → (is_ascii_digit d && digits) ≡ true → (digits ≡ true → others ≡ true) → (not (d == c) && others) ≡ true
+digit_other : (c d : ℕ) (digits others : Bool) → c < 48 → (is_ascii_digit d && digits) ≡ true
+    → (digits ≡ true → others ≡ true) → (not (d == c) && others) ≡ true
 digit_other c d digits others low h step = grind (arith, nat_tests)
 
 -- digits are none of the bytes below them
 pub Lacks-digits : (c : ℕ) (digits : List ℕ) → c < 48 → all_ascii_digits digits ≡ true → Lacks c digits
 Lacks-digits c [] low h = refl
 Lacks-digits c (d ∷ digits) low h =
-    digit_other c d (all_ascii_digits digits) (list_all (λ b. not (b == c)) digits) low h (λ rest. Lacks-digits c digits low rest)
+    digit_other c d (all_ascii_digits digits) (list_all (λ b. not (b == c)) digits) low h
+    (λ rest. Lacks-digits c digits low rest)
 
 pub Lacks-decimal : (c n : ℕ) → c < 48 → n < 2 ^ 64 → Lacks c (decimal n)
 Lacks-decimal c n low small = Lacks-digits c (decimal n) low (digits_decimal own n small)

@@ -1,5 +1,6 @@
 -- A text reads as a section exactly if the section is sound and the text is its own.
-use Rattle.std.proofs.Common.{◌≡◌, ◌≢◌, ℕ, ◌<◌, ◌≤◌, ◌==◌, nat_le, ◌^◌, Bool, true, false, not, ◌&&◌, cond, List, length, All, Option, None, Some, refl, sym, ◌∙◌, ap, subst, arith}
+use Rattle.std.proofs.Common.{◌≡◌, ◌≢◌, ℕ, ◌<◌, ◌≤◌, ◌==◌, nat_le, ◌^◌, Bool, true, false, not, ◌&&◌, cond, List}
+use Rattle.std.proofs.Common.{length, All, Option, None, Some, refl, sym, ◌∙◌, ap, subst, arith}
 use Rattle.std.specs.List.{list_all}
 use Rattle.std.specs.Str.{bytes_eq}
 use Rattle.std.proofs.lemmas.Bool.Decides.{nat_tests, Decides-eqb}
@@ -49,14 +50,20 @@ sound_extmap e id h =
     record {
       id = id;
       named = some_length (length e.uri) parts.0;
-      uri = All-weaker (λ b. is_uri_byte b ≡ true) IsUriByte uri_byte e.uri (AllPass-from_list_all is_uri_byte e.uri parts.1);
+      uri = All-weaker (λ b. is_uri_byte b ≡ true) IsUriByte uri_byte e.uri
+          (AllPass-from_list_all is_uri_byte e.uri parts.1);
     }
 
 extmap_passes : (e : ExtmapLine) → IsSoundExtmap e → has_uri e ≡ true
 extmap_passes e h =
-    rw (length_passes (length e.uri) h.named, list_all-from_AllPass is_uri_byte e.uri (All-weaker IsUriByte (λ b. is_uri_byte b ≡ true) uri_byte_passes e.uri h.uri)) refl
+    rw (
+      length_passes (length e.uri) h.named,
+      list_all-from_AllPass is_uri_byte e.uri (All-weaker IsUriByte (λ b. is_uri_byte b ≡ true) uri_byte_passes
+          e.uri h.uri),
+    ) refl
 
-sound_extmaps : (es : List ExtmapLine) → All (λ e. e.id < 2 ^ 8) es → All (λ e. has_uri e ≡ true) es → All IsSoundExtmap es
+sound_extmaps : (es : List ExtmapLine) → All (λ e. e.id < 2 ^ 8) es → All (λ e. has_uri e ≡ true) es
+    → All IsSoundExtmap es
 sound_extmaps es ids uris = λ k d within. sound_extmap _ (ids k d within) (uris k d within)
 
 sound_red : (pt : ℕ) (red : Option ℕ) → is_red_of pt red ≡ true → IsRedOf pt red
@@ -71,7 +78,8 @@ red_passes pt (Some r) h = rw (at_most_passes r 127 h.0, other_byte r pt h.1) re
 
 sound_from_plain : (s : Section) → Fits s → is_plain s ≡ true → IsSound s
 sound_from_plain s fits h =
-    let first = both (nat_le s.pt 127) (is_red_of s.pt s.red && (not (length s.mid == 0) && list_all has_uri s.extmaps)) h in
+    let first = both (nat_le s.pt 127) (is_red_of s.pt s.red
+    && (not (length s.mid == 0) && list_all has_uri s.extmaps)) h in
     let types = both (is_red_of s.pt s.red) (not (length s.mid == 0) && list_all has_uri s.extmaps) first.1 in
     let second = both (not (length s.mid == 0)) (list_all has_uri s.extmaps) types.1 in
     record {
@@ -90,7 +98,8 @@ plain_from_sound s h =
       at_most_passes s.pt 127 h.pt,
       red_passes s.pt s.red h.red,
       length_passes (length s.mid) h.named,
-      list_all-from_AllPass has_uri s.extmaps (All-weaker IsSoundExtmap (λ e. has_uri e ≡ true) extmap_passes s.extmaps h.extmaps),
+      list_all-from_AllPass has_uri s.extmaps (All-weaker IsSoundExtmap (λ e. has_uri e ≡ true) extmap_passes
+          s.extmaps h.extmaps),
     ) refl
 
 chosen : (b : Bool) (c s : Section) → cond b (Some c) None ≡ Some s → (b ≡ true) × (c ≡ s)
@@ -106,7 +115,8 @@ pub reading_of-sound : (text : List ℕ) (s : Section) → reading_of text ≡ S
 unfolding reading_of
 reading_of-sound text s h =
     let found = chosen (prints (candidate_of text) text) (candidate_of text) s h in
-    subst (λ (c : Section). IsSound c × (text_of c ≡ text)) found.1 (prints_sound (candidate_of text) text (candidate_of-fits text) found.0)
+    subst (λ (c : Section). IsSound c × (text_of c ≡ text)) found.1
+    (prints_sound (candidate_of text) text (candidate_of-fits text) found.0)
 
 sound_prints : (s : Section) → IsSound s → prints s (text_of s) ≡ true
 sound_prints s h = rw (plain_from_sound s h, (bytes_eq-Decides (text_of s) (text_of s)).1 refl) refl

@@ -1,5 +1,7 @@
 -- What a text says: its lines say a section, and the text is read if that is what the section prints.
-use Rattle.std.specs.Prelude.{◌≡◌, ℕ, ◌==◌, ◌^◌, nat_lt, nat_le, Bool, true, false, not, ◌&&◌, ◌||◌, if◌then◌else◌, List, [], ◌∷◌, ◌++◌, length, fold, codes, Option, None, Some, unwrap_or, is_some, Result, Ok, Err}
+use Rattle.std.specs.Prelude.{◌≡◌, ℕ, ◌==◌, ◌^◌, nat_lt, nat_le, Bool, true, false, not, ◌&&◌, ◌||◌, if◌then◌else◌}
+use Rattle.std.specs.Prelude.{List, [], ◌∷◌, ◌++◌, length, fold, codes, Option, None, Some, unwrap_or, is_some}
+use Rattle.std.specs.Prelude.{Result, Ok, Err}
 use Rattle.std.specs.List.{list_all, before_first, after_first}
 use Rattle.std.specs.Option.{option_map, option_or}
 use Rattle.std.specs.Str.{all_ascii_digits, bytes_eq}
@@ -21,7 +23,8 @@ None >>= f = None
 -- the number that decimal digits alone write, where it is below the limit
 abbrev pub number_below : ℕ → List ℕ → Option ℕ
 number_below limit word =
-    if (nat_lt 0 (length word) && all_ascii_digits word) && nat_lt (digits_value 10 word) limit then Some (digits_value 10 word)
+    if (nat_lt 0 (length word) && all_ascii_digits word) && nat_lt (digits_value 10 word) limit
+    then Some (digits_value 10 word)
     else None
 
 -- what stands behind the words that a line begins with
@@ -86,7 +89,17 @@ with_more xs (Some x) = xs ++ x ∷ []
 
 -- a section before any line
 abbrev pub nothing_said : Section
-nothing_said = record { session = 0; mid = []; direction = Inactive; extmaps = []; pt = 0; red = None; transport_cc = false; ssrcs = [] }
+nothing_said = record {
+  session = 0;
+  mid = [];
+  direction = Inactive;
+  extmaps = [];
+  pt = 0;
+  red = None;
+  transport_cc =
+      false;
+  ssrcs = [];
+}
 
 -- what the lines so far and one more say
 unfoldable pub with_line : Section → List ℕ → Section

@@ -3,7 +3,8 @@
 ghost use Rattle.std.specs.Prelude.{◌≡◌, ◌+◌, ◌≤◌, ◌^◌, ◌<◌, IsTrue, IfSome, IfOk, ◌↔◌, slice_index};
 ghost use Rattle.std.specs.List.{before_first, after_first};
 ghost use Rattle.std.specs.Option.{option_copied};
-ghost use Rattle.rtp_media_texts.specs.Reading.{number_below, behind, is_blank, session_in, mid_in, direction_in, extmap_in, pt_in, red_in, has_feedback, ssrc_in};
+ghost use Rattle.rtp_media_texts.specs.Reading.{number_below, behind, is_blank, session_in, mid_in, direction_in};
+ghost use Rattle.rtp_media_texts.specs.Reading.{extmap_in, pt_in, red_in, has_feedback, ssrc_in};
 
 use crate::session_text::Extmap;
 use rtp_wire::{Direction, Mid, Pt, SessionId, Ssrc};

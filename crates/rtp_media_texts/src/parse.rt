@@ -5,7 +5,9 @@ ghost use Rattle.std.specs.List.{list_all};
 ghost use Rattle.std.specs.Str.Lines.{lines};
 ghost use Rattle.rtp_media_texts.specs.Section.{Section, IsSound};
 ghost use Rattle.rtp_media_texts.specs.Text.{text_of};
-ghost use Rattle.rtp_media_texts.specs.Reading.{Reads, reading_of, candidate_of, with_line, with_more, nothing_said, extmap_in, is_plain, is_red_of, has_uri, is_uri, is_uri_byte, prints, IsUnread};
+ghost use Rattle.rtp_media_texts.specs.Reading.{Reads, reading_of, candidate_of, with_line, with_more, nothing_said};
+ghost use Rattle.rtp_media_texts.specs.Reading.{extmap_in, is_plain, is_red_of, has_uri, is_uri, is_uri_byte, prints};
+ghost use Rattle.rtp_media_texts.specs.Reading.{IsUnread};
 
 use crate::errors::SdpError;
 use crate::lines::{

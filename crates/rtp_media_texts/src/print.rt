@@ -1,7 +1,9 @@
 //! The text that is printed.
 
 ghost use Rattle.std.specs.Prelude.{◌≡◌, ◌++◌, Some, IfOk, OnOk, string_bytes, map};
-ghost use Rattle.rtp_media_texts.specs.Text.{text_of, text_of_lines, ended, session_lines, media_line, media_lines, extmap_line, rtpmap_line, feedback_line, feedback_lines, fmtp_line, red_lines, ssrc_line};
+ghost use Rattle.rtp_media_texts.specs.Text.{text_of, text_of_lines, ended, session_lines, media_line, media_lines};
+ghost use Rattle.rtp_media_texts.specs.Text.{extmap_line, rtpmap_line, feedback_line, feedback_lines, fmtp_line};
+ghost use Rattle.rtp_media_texts.specs.Text.{red_lines, ssrc_line};
 
 use crate::session_text::{Extmap, SessionText};
 use rtp_wire::{Direction, Mid, Pt, SessionId, Ssrc};
@@ -60,7 +62,8 @@ fn push_media(
     mid: Mid,
     direction: Direction,
 ) -> Result<(), AllocError>
-    ensures { OnOk result (string_bytes text.new ≡ string_bytes text.old ++ text_of_lines (media_lines pt red mid direction)) }
+    ensures { OnOk result (string_bytes text.new ≡ string_bytes text.old
+        ++ text_of_lines (media_lines pt red mid direction)) }
 {
     push_media_line(text, pt, red)?;
     write!(text, "c=IN IP4 0.0.0.0\r\na=mid:{mid}\r\na={direction}\r\n")?;
@@ -77,7 +80,8 @@ fn push_extmap(text: &mut String, extmap: &Extmap) -> Result<(), AllocError>
 }
 
 fn push_extmaps(text: &mut String, extmaps: &[Extmap]) -> Result<(), AllocError>
-    ensures { OnOk result (string_bytes text.new ≡ string_bytes text.old ++ text_of_lines (map extmap_line extmaps.now)) }
+    ensures { OnOk result (string_bytes text.new ≡ string_bytes text.old
+        ++ text_of_lines (map extmap_line extmaps.now)) }
 {
     for extmap in extmaps {
         push_extmap(text, extmap)?;
@@ -102,7 +106,8 @@ fn push_feedback(text: &mut String, pt: Pt) -> Result<(), AllocError>
 }
 
 fn push_feedbacks(text: &mut String, pt: Pt, transport_cc: bool) -> Result<(), AllocError>
-    ensures { OnOk result (string_bytes text.new ≡ string_bytes text.old ++ text_of_lines (feedback_lines pt transport_cc)) }
+    ensures { OnOk result (string_bytes text.new ≡ string_bytes text.old
+        ++ text_of_lines (feedback_lines pt transport_cc)) }
 {
     if !transport_cc {
         return Ok(());

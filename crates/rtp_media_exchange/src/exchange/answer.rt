@@ -1,6 +1,7 @@
 //! Answers to offers, and their acceptance.
 
-ghost use Rattle.std.specs.Prelude.{◌≡◌, ◌<◌, ◌^◌, All, [], length, None, Some, string_bytes, IfOk, IfErr, OnOk, OnErr, IsSome};
+ghost use Rattle.std.specs.Prelude.{◌≡◌, ◌<◌, ◌^◌, All, [], length, None, Some, string_bytes, IfOk, IfErr, OnOk};
+ghost use Rattle.std.specs.Prelude.{OnErr, IsSome};
 ghost use Rattle.std.specs.Option.{option_map};
 ghost use Rattle.rtp_wire.specs.Name.{IsName};
 ghost use Rattle.rtp_media_texts.specs.Section.{IsSound, IsSoundExtmap, IsRedOf};
@@ -8,8 +9,10 @@ ghost use Rattle.rtp_media_texts.specs.Text.{text_of};
 ghost use Rattle.rtp_media_exchange.specs.Agreement.{AgreesOn, agreed_by_answer, agreed_by_accept};
 ghost use Rattle.rtp_media_exchange.specs.Exchanges.{Exchanged, with_answer, with_accept, after_round};
 ghost use Rattle.rtp_media_exchange.specs.Extensions.{map_of_lines};
-ghost use Rattle.rtp_media_exchange.specs.Offers.{Answers, Accepts, AgreesOnText, answer_of, answered_direction, flow, said_by};
-ghost use Rattle.rtp_media_exchange.specs.Refusals.{Names, ReadsText, refusal_of_answer, refusal_of_pair, refusal_of_accept, corresponds};
+ghost use Rattle.rtp_media_exchange.specs.Offers.{Answers, Accepts, AgreesOnText, answer_of, answered_direction};
+ghost use Rattle.rtp_media_exchange.specs.Offers.{flow, said_by};
+ghost use Rattle.rtp_media_exchange.specs.Refusals.{Names, ReadsText, refusal_of_answer, refusal_of_pair};
+ghost use Rattle.rtp_media_exchange.specs.Refusals.{refusal_of_accept, corresponds};
 ghost use Rattle.rtp_media_exchange.specs.Sections.{only};
 
 use super::Exchange;

@@ -11,5 +11,6 @@ abbrev pub invariant-loop-ext : goal.invariant-loop-ext
 invariant-loop-ext l = record {
   next : (goal.iterator-loop-ext).can_next l.ext-iterator;
   finite : (goal.iterator-loop-ext).is_finite l.ext-iterator;
-  all : (l.writable && list_all (λ entry. is_uri (uri_of entry.1)) (entries_left l.ext-iterator)) ≡ is_writable_map l.exts;
+  all : (l.writable && list_all (λ entry. is_uri (uri_of entry.1)) (entries_left l.ext-iterator))
+      ≡ is_writable_map l.exts;
 }

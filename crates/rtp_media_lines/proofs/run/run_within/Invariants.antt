@@ -7,4 +7,5 @@ use Rattle.rtp_media_lines.proofs.run.run_within.Given as goal
 abbrev pub invariant-loop : goal.invariant-loop
 invariant-loop g l =
     (seen : List ℕ) × Consumes (g.R.Read.remaining l.fn.reader) (g.R.Read.remaining l.reader) seen
-    × Progress g.A.Respond.gives l.fn.responder (g.W.Write.contents l.fn.writer) seen l.responder (g.W.Write.contents l.writer) l.line l.status
+    × Progress g.A.Respond.gives l.fn.responder (g.W.Write.contents l.fn.writer) seen l.responder
+    (g.W.Write.contents l.writer) l.line l.status

@@ -5,7 +5,8 @@ use Rattle.rtp_media_lines.proofs.run.take_byte.Goals as goal
 pub returns-then-byte-ne10 : goal.returns-then-byte-ne10
 returns-then-byte-ne10 g c = λ start before seen p.
     let pushed = c.in_ok-push.ensures in
-    rw pushed (Progress-byte g.A.Respond.gives start before seen _ _ _ _ c.args.byte (other_byte c.args.byte c.if-byte-ne10.true) p)
+    rw pushed (Progress-byte g.A.Respond.gives start before seen _ _ _ _ c.args.byte
+    (other_byte c.args.byte c.if-byte-ne10.true) p)
 
 pub returns : goal.returns
 returns g c = λ start before seen p.

@@ -9,4 +9,5 @@ pub returns : goal.returns
 returns g c = λ start before seen p.
     let one = rw c.text.ensures at c.in_ok-last.ensures in
     let joined = c.and.ensures in
-    rw joined (Printed-last g.A.Respond.gives start before seen _ _ _ _ _ _ _ (λ empty. cc (c.is_empty.ensures.1 empty, c.if-is_empty.false)) p one)
+    rw joined (Printed-last g.A.Respond.gives start before seen _ _ _ _ _ _ _
+    (λ empty. cc (c.is_empty.ensures.1 empty, c.if-is_empty.false)) p one)

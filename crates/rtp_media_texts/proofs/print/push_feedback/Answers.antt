@@ -5,4 +5,5 @@ use Rattle.rtp_media_texts.proofs.print.push_feedback.Goals as goal
 
 pub returns : goal.returns
 unfolding feedback_line
-returns c = c.in_ok-write.ensures.bytes ∙ ap (λ t. string_bytes c.args.text.now ++ t) (line_written (codes "a=rtcp-fb:") (decimal c.args.pt) (codes " transport-cc"))
+returns c = c.in_ok-write.ensures.bytes ∙ ap (λ t. string_bytes c.args.text.now ++ t)
+    (line_written (codes "a=rtcp-fb:") (decimal c.args.pt) (codes " transport-cc"))

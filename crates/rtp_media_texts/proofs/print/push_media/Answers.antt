@@ -9,5 +9,7 @@ unfolding media_lines mid_line direction_line
 returns c =
     let rest = codes "c=IN IP4 0.0.0.0" ++ 13 ∷ 10 ∷ codes "a=mid:" in
     c.in_ok-write.ensures.bytes
-    ∙ ap (λ t. t ++ (rest ++ (c.args.mid ++ (13 ∷ 10 ∷ (codes "a=" ++ (direction.text_of c.args.direction ++ 13 ∷ 10 ∷ [])))))) c.in_ok-push_media_line.ensures
-    ∙ media_written (string_bytes c.args.text.now) (media_line c.args.pt c.args.red) rest c.args.mid (codes "a=") (direction.text_of c.args.direction)
+    ∙ ap (λ t. t ++ (rest ++ (c.args.mid ++ (13 ∷ 10
+    ∷ (codes "a=" ++ (direction.text_of c.args.direction ++ 13 ∷ 10 ∷ [])))))) c.in_ok-push_media_line.ensures
+    ∙ media_written (string_bytes c.args.text.now) (media_line c.args.pt c.args.red) rest c.args.mid (codes "a=")
+    (direction.text_of c.args.direction)

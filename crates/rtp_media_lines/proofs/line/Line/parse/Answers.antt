@@ -8,7 +8,8 @@ pub returns-then-is_empty : goal.returns-then-is_empty
 returns-then-is_empty c = sym (line_of-empty c.args.bytes.now (sym c.is_empty.ensures ∙ c.if-is_empty.true))
 
 pub returns-in_default : goal.returns-in_default
-returns-in_default c = sym (line_of-other c.args.bytes.now (sym c.is_empty.ensures ∙ c.if-is_empty.false) c.in_default.ensures.cases.0)
+returns-in_default c = sym (line_of-other c.args.bytes.now (sym c.is_empty.ensures ∙ c.if-is_empty.false)
+    c.in_default.ensures.cases.0)
 
 pub returns-in-Ok-command_of : goal.returns-in-Ok-command_of
 returns-in-Ok-command_of c =

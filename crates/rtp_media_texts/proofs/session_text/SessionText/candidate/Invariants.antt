@@ -5,4 +5,5 @@ use Rattle.rtp_media_texts.proofs.session_text.SessionText.candidate.Given as go
 
 -- the lines that are left make the whole of what was said so far
 abbrev pub invariant-loop-line : goal.invariant-loop-line
-invariant-loop-line l = fold with_line l.candidate (drop l.line-index (map (λ x. x.now) l.line-items)) ≡ candidate_of l.fn.text
+invariant-loop-line l = fold with_line l.candidate (drop l.line-index (map (λ x. x.now) l.line-items))
+    ≡ candidate_of l.fn.text
