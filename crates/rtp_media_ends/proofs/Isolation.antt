@@ -10,20 +10,22 @@ use Rattle.rtp_wire.specs.Header.{header_in}
 use Rattle.rtp_wire.specs.Maps.{empty_map}
 use Rattle.rtp_wire.specs.declared.ExtensionValues.{ExtensionValues}
 use Rattle.rtp_wire.specs.declared.header.RtpHeader.{RtpHeader}
-use Rattle.rtp_media_runs.specs.Heard.{Stream, Event, heard_step, after_events}
+use Rattle.payload_core_base.specs.Format.{Format}
+use Rattle.rtp_media_runs.specs.Hearing.{Stream, Event, heard_step, after_events}
 use Rattle.rtp_media_streams.specs.Receiving.{Receiving, opened_receiver, is_own, media_payload, values_read, with_stream}
+use Rattle.rtp_media_streams.specs.Rows.{format_of}
 use Rattle.rtp_media_streams.specs.Types.{is_type}
-use Rattle.rtp_media_ends.specs.Ends.{EndState, no_types, receiver_at}
+use Rattle.rtp_media_ends.specs.Ends.{EndState, no_row_format, no_types, receiver_at}
 use Rattle.rtp_media_ends.specs.Arrivals.{own_of, arrival_for, arrival_by, stream_for, after_arrival, after_datagram}
 use Rattle.rtp_media_ends.specs.FullArrival.{IsFound, after_datagrams}
 use Rattle.rtp_media_ends.specs.OwnEvents.{content_event, event_by, event_in, own_events}
 
-abbrev pub after_event : Stream → Option Event → Stream
-after_event s None = s
-after_event s (Some e) = heard_step s e
+abbrev pub after_event : Format → Stream → Option Event → Stream
+after_event format s None = s
+after_event format s (Some e) = heard_step format s e
 
 abbrev nobody : Receiving
-nobody = opened_receiver 0 no_types empty_map 0
+nobody = opened_receiver 0 no_types empty_map no_row_format 0
 
 abbrev nth : List Receiving → ℕ → Receiving
 nth rs n = slice_index_or rs n nobody
@@ -38,7 +40,7 @@ found-own rs ssrc pt m e = let f = position-Some (λ r. is_own r ssrc pt) rs m n
 
 -- what is known of the end after an arrival
 record Heard1 (e : EndState) (n : ℕ) (event : Option Event) (after : EndState) : Type 0 where
-  stream : receiver_at after n ≡ with_stream (receiver_at e n) (after_event (receiver_at e n).stream event)
+  stream : receiver_at after n ≡ with_stream (receiver_at e n) (after_event (format_of (receiver_at e n).row) (receiver_at e n).stream event)
   found : (ssrc pt : ℕ) → stream_for after.receivers ssrc pt ≡ stream_for e.receivers ssrc pt
 
 unchanged : (e : EndState) (n : ℕ) → Heard1 e n None e
@@ -105,34 +107,43 @@ is-there e n r known = (found-own e.receivers r.ssrc r.types.pt n (known r.types
 step : (e : EndState) (n : ℕ) (d : List ℕ) → IsFound e n (receiver_at e n) → Heard1 e n (event_in (receiver_at e n) d) (after_datagram e d)
 step e n d known = step-header e n d (header_in empty_map d) (is-there e n (receiver_at e n) known) known
 
-after-option : (s : Stream) (o : Option Event) (es : List Event) → after_events (after_event s o) es ≡ after_events s (cons_option o es)
-after-option s None es = refl
-after-option s (Some e) es = refl
+after-option : (format : Format) (s : Stream) (o : Option Event) (es : List Event) → after_events format (after_event format s o) es ≡ after_events format s (cons_option o es)
+after-option format s None es = refl
+after-option format s (Some e) es = refl
+
+-- the stream after one datagram
+module _ (e : EndState) (n : ℕ) (r : Receiving) (d : List ℕ) (same : receiver_at e n ≡ with_stream r (receiver_at e n).stream) (known : IsFound e n r) where
+  one : Heard1 e n (event_in (receiver_at e n) d) (after_datagram e d)
+  one = step e n d (subst (λ (x : Receiving). IsFound e n x) (sym same) known)
+
+  stream-is : (receiver_at (after_datagram e d) n).stream ≡ after_event (format_of r.row) (receiver_at e n).stream (event_in r d)
+  stream-is =
+      ap (λ (x : Receiving). x.stream) one.stream
+      ∙ ap₂ (λ (f : Format) (o : Option Event). after_event f (receiver_at e n).stream o) (ap (λ (x : Receiving). format_of x.row) same) (ap (λ (x : Receiving). event_in x d) same)
+
+  same-again : receiver_at (after_datagram e d) n ≡ with_stream r (receiver_at (after_datagram e d) n).stream
+  same-again =
+      one.stream ∙ ap (λ (x : Receiving). with_stream x (after_event (format_of (receiver_at e n).row) (receiver_at e n).stream (event_in (receiver_at e n) d))) same
+      ∙ ap (with_stream r) (sym (ap (λ (x : Receiving). x.stream) one.stream))
+
+  known-again : IsFound (after_datagram e d) n r
+  known-again = λ pt has. one.found r.ssrc pt ∙ known pt has
 
 -- The stream after a list of datagrams is the stream after its own ones.
 pub isolated : (ds : List (List ℕ)) (e : EndState) (n : ℕ) (r : Receiving) → receiver_at e n ≡ with_stream r (receiver_at e n).stream → IsFound e n r →
-    (receiver_at (after_datagrams e ds) n).stream ≡ after_events (receiver_at e n).stream (own_events r ds)
+    (receiver_at (after_datagrams e ds) n).stream ≡ after_events (format_of r.row) (receiver_at e n).stream (own_events r ds)
 isolated [] e n r same known = refl
 isolated (d ∷ ds) e n r same known =
-    let known' : IsFound e n (receiver_at e n) = subst (λ (x : Receiving). IsFound e n x) (sym same) known in
-    let one : Heard1 e n (event_in (receiver_at e n) d) (after_datagram e d) = step e n d known' in
-    let event : event_in (receiver_at e n) d ≡ event_in r d = ap (λ (x : Receiving). event_in x d) same in
-    let st : (receiver_at (after_datagram e d) n).stream ≡ after_event (receiver_at e n).stream (event_in r d) =
-    ap (λ (x : Receiving). x.stream) one.stream ∙ ap (after_event (receiver_at e n).stream) event in
-    let same' : receiver_at (after_datagram e d) n ≡ with_stream r (receiver_at (after_datagram e d) n).stream =
-    one.stream ∙ ap (λ (x : Receiving). with_stream x (after_event (receiver_at e n).stream (event_in (receiver_at e n) d))) same
-    ∙ ap (with_stream r) (sym (ap (λ (x : Receiving). x.stream) one.stream)) in
-    isolated ds (after_datagram e d) n r same' (λ pt has. one.found r.ssrc pt ∙ known pt has)
-    ∙ ap (λ (x : Stream). after_events x (own_events r ds)) st
-    ∙ after-option (receiver_at e n).stream (event_in r d) (own_events r ds)
+    isolated ds (after_datagram e d) n r (same-again e n r d same known) (known-again e n r d same known)
+    ∙ ap (λ (x : Stream). after_events (format_of r.row) x (own_events r ds)) (stream-is e n r d same known)
+    ∙ after-option (format_of r.row) (receiver_at e n).stream (event_in r d) (own_events r ds)
 
--- the streams are found as before
+-- it is there, and else as before
 pub found-after : (ds : List (List ℕ)) (e : EndState) (n : ℕ) (r : Receiving) → receiver_at e n ≡ with_stream r (receiver_at e n).stream → IsFound e n r → n < length (after_datagrams e ds).receivers
 found-after [] e n r same known = is-there e n r known
-found-after (d ∷ ds) e n r same known =
-    let known' : IsFound e n (receiver_at e n) = subst (λ (x : Receiving). IsFound e n x) (sym same) known in
-    let one : Heard1 e n (event_in (receiver_at e n) d) (after_datagram e d) = step e n d known' in
-    let same' : receiver_at (after_datagram e d) n ≡ with_stream r (receiver_at (after_datagram e d) n).stream =
-    one.stream ∙ ap (λ (x : Receiving). with_stream x (after_event (receiver_at e n).stream (event_in (receiver_at e n) d))) same
-    ∙ ap (with_stream r) (sym (ap (λ (x : Receiving). x.stream) one.stream)) in
-    found-after ds (after_datagram e d) n r same' (λ pt has. one.found r.ssrc pt ∙ known pt has)
+found-after (d ∷ ds) e n r same known = found-after ds (after_datagram e d) n r (same-again e n r d same known) (known-again e n r d same known)
+
+pub same-after : (ds : List (List ℕ)) (e : EndState) (n : ℕ) (r : Receiving) → receiver_at e n ≡ with_stream r (receiver_at e n).stream → IsFound e n r →
+    receiver_at (after_datagrams e ds) n ≡ with_stream r (receiver_at (after_datagrams e ds) n).stream
+same-after [] e n r same known = same
+same-after (d ∷ ds) e n r same known = same-after ds (after_datagram e d) n r (same-again e n r d same known) (known-again e n r d same known)
