@@ -1,15 +1,13 @@
 -- What the program answers to each command, from the definitions of its calls.
-use Rattle.std.specs.Prelude.{ℕ, ◌≡◌, ◌⊎◌, Bool, nat_lt, if◌then◌else◌, List, [], ◌∷◌, ◌++◌, length, map, Option, Some, None, Ok, Err}
+use Rattle.std.specs.Prelude.{ℕ, ◌≡◌, ◌⊎◌, Bool, nat_lt, if◌then◌else◌, List, [], ◌∷◌, ◌++◌, length, map, Option, Some, None}
 use Rattle.std.specs.Option.{option_map}
 use Rattle.rtp_wire.specs.Name.{name_of}
 use Rattle.rtp_wire.specs.Time.{Time}
 use Rattle.rtp_wire.specs.Values.{absent}
 use Rattle.rtp_wire.specs.declared.ExtensionValues.{ExtensionValues}
-use Rattle.rtp_media_runs.specs.Hearing.{Answer, MediaUnit, poll_answer}
-use Rattle.rtp_media_streams.specs.Sending.{HasFailed, sent_datagrams, after_sample, refusal_of_sample}
-use Rattle.rtp_media_streams.specs.Polls.{IsInterrupted}
-use Rattle.rtp_media_streams.specs.Receiving.{polled_receiver, with_stream}
-use Rattle.rtp_media_streams.specs.Rows.{format_of}
+use Rattle.rtp_media_runs.specs.Heard.{MediaUnit, poll_answer}
+use Rattle.rtp_media_streams.specs.Sending.{sent_datagrams, after_sample, failed_stream, refusal_of_sample}
+use Rattle.rtp_media_streams.specs.Receiving.{polled_receiver}
 use Rattle.rtp_media_streams.specs.declared.errors.SampleError.{SampleError}
 use Rattle.rtp_media_streams.specs.declared.errors.SampleError.TheVariants as sample_error
 use Rattle.rtp_media_ends.specs.declared.errors.OpenError.{OpenError}
@@ -60,7 +58,6 @@ abbrev pub sample_error_name : SampleError → ErrorName
 sample_error_name sample_error.StreamFailed = name.StreamFailed
 sample_error_name sample_error.TimeTooLarge = name.TimeTooLarge
 sample_error_name sample_error.LimitTooSmall = name.LimitTooSmall
-sample_error_name (sample_error.Payload error) = name.Payload
 sample_error_name sample_error.Memory = name.Memory
 
 abbrev pub fault_name : PollFault → ErrorName
@@ -97,7 +94,7 @@ open_step (Some e) c = receiver_step e c (refusal_of_open_receiver e (name_of 16
 
 -- a command's time, at the clock rate of its stream's row
 abbrev pub time_of : EndState → SampleCommand → Time
-time_of e c = record { ticks = c.time; rate = (sender_at e c.stream).row.clock_rate }
+time_of e c = record { ticks = c.time; rate = (sender_at e c.stream).rate }
 
 -- the values that a sample is given: the name of its section, where one is (RFC 9143 15)
 abbrev pub values_given : Option (List ℕ) → ExtensionValues
@@ -114,7 +111,7 @@ sent_step e c None = record {
 abbrev pub sample_step : Option EndState → SampleCommand → EndStep
 sample_step None c = prints None reply.ErrorLine
 sample_step (Some e) c =
-    if nat_lt c.stream (length e.senders) then sent_step e c (refusal_of_sample (sender_at e c.stream) (time_of e c) (values_given c.mid) c.sample)
+    if nat_lt c.stream (length e.senders) then sent_step e c (refusal_of_sample (sender_at e c.stream) (time_of e c) (values_given c.mid))
     else prints (Some e) reply.ErrorLine
 
 abbrev pub verdict_reply : Received → Reply
@@ -133,15 +130,11 @@ abbrev pub unit_reply : Option MediaUnit → Reply
 unit_reply None = reply.NoUnit
 unit_reply (Some unit) = reply.NextUnit unit.first unit.last unit.time unit.bytes
 
-abbrev pub poll_reply : Answer → Reply
-poll_reply (Ok unit) = unit_reply unit
-poll_reply (Err error) = reply.Fault name.Payload
-
 -- poll E N
 abbrev pub poll_step : Option EndState → PollCommand → EndStep
 poll_step None c = prints None reply.ErrorLine
 poll_step (Some e) c =
-    if nat_lt c.stream (length e.receivers) then becomes (with_receiver e c.stream (polled_receiver (receiver_at e c.stream))) (poll_reply (poll_answer (format_of (receiver_at e c.stream).row) (receiver_at e c.stream).stream))
+    if nat_lt c.stream (length e.receivers) then becomes (with_receiver e c.stream (polled_receiver (receiver_at e c.stream))) (unit_reply (poll_answer (receiver_at e c.stream).stream))
     else prints (Some e) reply.ErrorLine
 
 -- What a command of streams does to the end that it names, and what is printed. The commands that make
@@ -155,30 +148,24 @@ step_of end (Receive c) = receive_step end c
 step_of end (Poll c) = poll_step end c
 step_of end command = prints end reply.ErrorLine
 
--- a sending stream failed, and nothing else changed
-abbrev pub FailsIn : Option EndState → ℕ → Option EndState → Type 0
-FailsIn (Some e) stream (Some f) = HasFailed (sender_at e stream) (sender_at f stream) × (f ≡ with_sender e stream (sender_at f stream))
-FailsIn (Some e) stream None = ⊥
-FailsIn None stream new = ⊥
+-- the end whose sending stream failed
+abbrev pub with_failed : Option EndState → ℕ → Option EndState
+with_failed end stream = option_map (λ e. with_sender e stream (failed_stream (sender_at e stream))) end
 
--- a poll found no memory: its frame stays, and nothing but the open fragment changed
-abbrev pub StaysIn : Option EndState → ℕ → Option EndState → Type 0
-StaysIn (Some e) stream (Some f) =
-    IsInterrupted (format_of (receiver_at e stream).row) (receiver_at e stream).stream (receiver_at f stream).stream
-    × (f ≡ with_receiver e stream (with_stream (receiver_at e stream) (receiver_at f stream).stream))
-StaysIn (Some e) stream None = ⊥
-StaysIn None stream new = ⊥
+-- The same where the call is refused for want of memory.
+abbrev pub wanting_of : Option EndState → Command → EndStep
+wanting_of end (Fixed side) = prints end (reply.Refused name.Memory)
+wanting_of end (Send c) = prints end (reply.Refused name.Memory)
+wanting_of end (Open c) = prints end (reply.Refused name.Memory)
+wanting_of end (Sample c) = prints (with_failed end c.stream) (reply.Refused name.Memory)
+wanting_of end (Receive c) = prints end (reply.Refused name.Memory)
+wanting_of end (Poll c) = prints end (reply.Fault name.Memory)
+wanting_of end command = prints end (reply.Refused name.Memory)
 
 -- the end is this, and so are the replies
 abbrev pub IsStep : EndStep → Option EndState → List Reply → Type 0
 IsStep step end replies = (end ≡ step.end) × (replies ≡ step.replies)
 
--- The call of a command is refused for want of memory.
-abbrev pub WantsMemory : Option EndState → Command → Option EndState → List Reply → Type 0
-WantsMemory old (Sample c) new replies = FailsIn old c.stream new × (replies ≡ reply.Refused name.Memory ∷ [])
-WantsMemory old (Poll c) new replies = StaysIn old c.stream new × (replies ≡ reply.Fault name.Memory ∷ [])
-WantsMemory old command new replies = IsStep (prints old (reply.Refused name.Memory)) new replies
-
 -- A command is answered as stated, or its call is refused for want of memory.
 abbrev pub IsAnswered : Option EndState → Command → Option EndState → List Reply → Type 0
-IsAnswered old command new replies = IsStep (step_of old command) new replies ⊎ WantsMemory old command new replies
+IsAnswered old command new replies = IsStep (step_of old command) new replies ⊎ IsStep (wanting_of old command) new replies

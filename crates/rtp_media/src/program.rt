@@ -353,7 +353,6 @@ fn sample_error_name(error: SampleError) -> ErrorName
         SampleError::StreamFailed => ErrorName::StreamFailed,
         SampleError::TimeTooLarge => ErrorName::TimeTooLarge,
         SampleError::LimitTooSmall => ErrorName::LimitTooSmall,
-        SampleError::Payload(_) => ErrorName::Payload,
         SampleError::Memory => ErrorName::Memory,
     }
 }

@@ -1,5 +1,5 @@
 -- Streams as an end opens them.
-use Rattle.std.proofs.Common.{◌≡◌, ◌≢◌, ℕ, ◌+◌, ◌<◌, ◌≤◌, ◌^◌, Bool, true, false, List, refl, sym, ◌∙◌, ap, arith}
+use Rattle.std.proofs.Common.{◌≡◌, ℕ, ◌<◌, ◌≤◌, ◌^◌, Bool, true, false, List, refl, sym, ◌∙◌, ap, arith}
 use Rattle.std.proofs.lemmas.Bool.Decides.{nat_tests}
 use Rattle.std.specs.Option.{ForSome}
 use Rattle.std.specs.Prelude.{Option, Some, None, is_some, unwrap_or, if◌then◌else◌, ◌==◌}
@@ -20,18 +20,31 @@ small-id : (o : Option ℕ) → ForSome o (λ id. id ≤ 32767) → unwrap_or o 
 small-id None h = omega arith
 small-id (Some n) h = omega (arith, h n refl)
 
-pub opened-sound : FirstIsReached → (ssrc : ℕ) (row : Row) (map : Numbering) (params : StreamParams) → row.pt < 128 → IsRedOf row.pt row.red → has_format row.spec.codec ≡ true → ssrc < 2 ^ 32 → IsSound row.red params →
-    IsSender (with_distances (opened_sender ssrc (types_of row) map (row_format_of row) params.picture_id params.first params.mtu params.limit) row.red params.red)
+pub opened-sound : FirstIsReached → (ssrc : ℕ) (row : Row) (map : Numbering) (params : StreamParams) → row.pt < 128
+    → IsRedOf row.pt row.red → has_format row.spec.codec ≡ true → ssrc < 2 ^ 32 → IsSound row.red params →
+    IsSender (with_distances (opened_sender ssrc (types_of row) map (row_format_of row) params.picture_id
+    params.first params.mtu params.limit) row.red params.red)
 unfolding first_state
 opened-sound law ssrc row map params pt of has fits sound = go row.red params.red refl of sound.redundancy where
-  reached : (coding_in (row_format_of row) (is_some params.picture_id)).IsReached (first_state (row_format_of row) params.picture_id)
-  reached = law (settings_in (row_format_of row)) (is_some params.picture_id) row.spec.codec (unwrap_or params.picture_id 0) has (small-id params.picture_id sound.picture_id)
+  reached : (coding_in (row_format_of row) (is_some params.picture_id)).IsReached
+      (first_state (row_format_of row) params.picture_id)
+  reached = law (settings_in (row_format_of row)) (is_some params.picture_id) row.spec.codec
+      (unwrap_or params.picture_id 0) has (small-id params.picture_id sound.picture_id)
 
-  go : (red : Option ℕ) (distances : Option (List ℕ)) → row.red ≡ red → IsRedOf row.pt red → IsRedundancy red params.mtu distances →
-      IsSender (with_distances (opened_sender ssrc (types_of row) map (row_format_of row) params.picture_id params.first params.mtu params.limit) red distances)
+  go : (red : Option ℕ) (distances : Option (List ℕ)) → row.red ≡ red → IsRedOf row.pt red
+      → IsRedundancy red params.mtu distances →
+      IsSender (with_distances (opened_sender ssrc (types_of row) map (row_format_of row) params.picture_id
+      params.first params.mtu params.limit) red distances)
   go red None e of r = record { typed = refl; payload_type = pt; wire_type = pt; ssrc = fits; reached = reached }
   go None (Some ds) e of r = absurd r
-  go (Some w) (Some ds) e of r = record { typed = (e, of.1, r.1); payload_type = pt; wire_type = omega (arith, of.0); ssrc = fits; reached = reached }
+  go (Some w) (Some ds) e of r = record {
+    typed = (e, of.1, r.1);
+    payload_type = pt;
+    wire_type =
+        omega (arith, of.0);
+    ssrc = fits;
+    reached = reached;
+  }
 
 -- a row of a type has it
 pub row-typed : (a : Option Agreed) (pt : ℕ) (row : Row) → row_in a pt ≡ Some row → row.pt ≡ pt

@@ -1,6 +1,7 @@
 -- The refusals of openings, by what holds of the section.
-use Rattle.std.proofs.Common.{◌≡◌, ◌≢◌, ℕ, ◌<◌, ◌^◌, Bool, true, false, List, refl, arith}
-use Rattle.std.specs.Prelude.{Option, Some, None, Result, Ok, Err, IfOk, unwrap_or, is_some, if◌then◌else◌, ◌==◌, ◌&&◌}
+use Rattle.std.proofs.Common.{◌≡◌, ℕ, Bool, true, false, List, refl}
+use Rattle.std.specs.Prelude.{Option, Some, None, Result, Ok, Err, IfOk, is_some, if◌then◌else◌, ◌==◌}
+use Rattle.std.specs.Prelude.{◌&&◌}
 use Rattle.h26x_payload.specs.Codings.{has_format}
 use Rattle.std.specs.List.{list_any}
 use Rattle.rtp_media_streams.specs.Sending as sending
@@ -18,15 +19,24 @@ some-format true r = inner (has_format r.spec.codec) where
   inner false = refl
 some-format false r = refl
 
-pub sender-refusal : (own : Option Row) (agreed : Option Agreed) (senders : List Sending) (mid : List ℕ) (ssrc pt : ℕ) (a : Agreed) (row : Option Row) (agrees flows names is_open : Bool) →
-    section_of agreed mid ≡ Some a → row ≡ with_format (row_in (Some a) pt) → agrees ≡ own_row_agrees own a.row → flows ≡ a.sends → names ≡ is_named a.own_ssrcs ssrc → is_open ≡ list_any (λ s. sending.conflicts_with s ssrc (types_of a.row)) senders →
+pub sender-refusal : (own : Option Row) (agreed : Option Agreed) (senders : List Sending) (mid : List ℕ)
+    (ssrc pt : ℕ) (a : Agreed) (row : Option Row) (agrees flows names is_open : Bool) →
+    section_of agreed mid ≡ Some a → row ≡ with_format (row_in (Some a) pt) → agrees ≡ own_row_agrees own a.row
+    → flows ≡ a.sends → names ≡ is_named a.own_ssrcs ssrc → is_open
+    ≡ list_any (λ s. sending.conflicts_with s ssrc (types_of a.row)) senders →
     sender_refusal_in own (section_of agreed mid) senders ssrc pt ≡ refusal_by (is_some row) agrees flows names is_open
-sender-refusal own agreed senders mid ssrc pt a row agrees flows names is_open s r g f n o = rw (s, r, g, f, n, o, some-format (a.row.pt == pt) a.row) refl
+sender-refusal own agreed senders mid ssrc pt a row agrees flows names is_open s r g f n o =
+    rw (s, r, g, f, n, o, some-format (a.row.pt == pt) a.row) refl
 
-pub receiver-refusal : (own : Option Row) (agreed : Option Agreed) (receivers : List Receiving) (mid : List ℕ) (ssrc pt : ℕ) (a : Agreed) (row : Option Row) (agrees flows names is_open : Bool) →
-    section_of agreed mid ≡ Some a → row ≡ with_format (row_in (Some a) pt) → agrees ≡ own_row_agrees own a.row → flows ≡ a.receives → names ≡ is_named a.remote_ssrcs ssrc → is_open ≡ list_any (λ r. receiving.conflicts_with r ssrc (types_of a.row)) receivers →
-    receiver_refusal_in own (section_of agreed mid) receivers ssrc pt ≡ refusal_by (is_some row) agrees flows names is_open
-receiver-refusal own agreed receivers mid ssrc pt a row agrees flows names is_open s r g f n o = rw (s, r, g, f, n, o, some-format (a.row.pt == pt) a.row) refl
+pub receiver-refusal : (own : Option Row) (agreed : Option Agreed) (receivers : List Receiving) (mid : List ℕ)
+    (ssrc pt : ℕ) (a : Agreed) (row : Option Row) (agrees flows names is_open : Bool) →
+    section_of agreed mid ≡ Some a → row ≡ with_format (row_in (Some a) pt) → agrees ≡ own_row_agrees own a.row
+    → flows ≡ a.receives → names ≡ is_named a.remote_ssrcs ssrc → is_open
+    ≡ list_any (λ r. receiving.conflicts_with r ssrc (types_of a.row)) receivers →
+    receiver_refusal_in own (section_of agreed mid) receivers ssrc pt
+    ≡ refusal_by (is_some row) agrees flows names is_open
+receiver-refusal own agreed receivers mid ssrc pt a row agrees flows names is_open s r g f n o =
+    rw (s, r, g, f, n, o, some-format (a.row.pt == pt) a.row) refl
 
 -- a row that has a payload format is the row
 pub format-some : (o : Option Row) (r : Row) → with_format o ≡ Some r → o ≡ Some r

@@ -13,7 +13,8 @@ abbrev pub offering : EndState → List Wanted → EndState
 offering a sections = with_exchange a (with_offer a.exchange (only sections))
 
 -- One end offered, the other one answered that text, and the first accepted the answer's; their streams stay.
-pub record Connects (a b : EndState) (sections_a sections_b : List Wanted) (offer answer : List ℕ) (after_a after_b : EndState) : Type 0 where
+pub record Connects (a b : EndState) (sections_a sections_b : List Wanted) (offer answer : List ℕ)
+    (after_a after_b : EndState) : Type 0 where
   pub offers : Offers a.exchange sections_a offer
   pub answers : Answers b.exchange offer sections_b answer after_b.exchange
   pub accepts : Accepts (with_offer a.exchange (only sections_a)) answer after_a.exchange
@@ -33,15 +34,18 @@ pub data Stage : Type 0 where
 
 -- Nothing changes at a refused offer; behind it the offer stays pending, and a refused acceptance leaves
 -- the other end agreed.
-abbrev pub RefusedAt : Stage → EndState → EndState → List Wanted → List Wanted → ExchangeError → EndState → EndState → Type 0
+abbrev pub RefusedAt : Stage → EndState → EndState → List Wanted → List Wanted → ExchangeError → EndState → EndState
+    → Type 0
 RefusedAt AtOffer a b sections_a sections_b e after_a after_b =
     Names e (refusal_of_offer a.exchange sections_a) × (after_a ≡ a) × (after_b ≡ b)
 RefusedAt (AtAnswer offer) a b sections_a sections_b e after_a after_b =
-    Offers a.exchange sections_a offer × Names e (refusal_of_answer b.exchange offer sections_b) × (after_a ≡ offering a sections_a) × (after_b ≡ b)
+    Offers a.exchange sections_a offer × Names e (refusal_of_answer b.exchange offer sections_b)
+    × (after_a ≡ offering a sections_a) × (after_b ≡ b)
 RefusedAt (AtAccept offer answer) a b sections_a sections_b e after_a after_b =
     Offers a.exchange sections_a offer × Answers b.exchange offer sections_b answer after_b.exchange
     × Names e (refusal_of_accept (with_offer a.exchange (only sections_a)) answer)
     × (after_a ≡ offering a sections_a) × (after_b ≡ with_exchange b after_b.exchange)
 
 abbrev pub IsRefused : EndState → EndState → List Wanted → List Wanted → ExchangeError → EndState → EndState → Type 0
-IsRefused a b sections_a sections_b e after_a after_b = (stage : Stage) × RefusedAt stage a b sections_a sections_b e after_a after_b
+IsRefused a b sections_a sections_b e after_a after_b =
+    (stage : Stage) × RefusedAt stage a b sections_a sections_b e after_a after_b

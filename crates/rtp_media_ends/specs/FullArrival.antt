@@ -1,11 +1,13 @@
-use Rattle.std.specs.Prelude.{ℕ, ◌≡◌, ◌+◌, ◌-◌, ◌^◌, ◌<◌, ◌≤◌, ◌==◌, ◌&&◌, Bool, true, false, List, [], ◌∷◌, length, map, filter, All, Option, Some, None, slice_index_or}
+use Rattle.std.specs.Prelude.{ℕ, ◌≡◌, ◌+◌, ◌-◌, ◌^◌, ◌<◌, ◌≤◌, ◌==◌, ◌&&◌, Bool, true, false, List, [], ◌∷◌, length}
+use Rattle.std.specs.Prelude.{map, filter, All, Option, Some, None, slice_index_or}
 use Rattle.rtp_wire.specs.Carried.{AreValues}
 use Rattle.rtp_wire.specs.Header.{header_in}
 use Rattle.rtp_wire.specs.Maps.{empty_map}
 use Rattle.rtp_wire.specs.declared.header.RtpHeader.{RtpHeader}
 use Rattle.payload_core_base.specs.Law.{Coding}
 use Rattle.rtp_media_runs.specs.Samples.{Timed}
-use Rattle.rtp_media_schedules.specs.Samples.{AreWellFormed, SentSample, canonical_units, packets_of, sent_by, whole_unit}
+use Rattle.rtp_media_schedules.specs.Samples.{AreWellFormed, SentSample, canonical_units, packets_of, sent_by}
+use Rattle.rtp_media_schedules.specs.Samples.{whole_unit}
 use Rattle.rtp_media_schedules.specs.Turns.{AreGoodArrivals}
 use Rattle.rtp_media_streams.specs.Polls.{Answers, IsPolled}
 use Rattle.rtp_media_streams.specs.Rows.{coding_in, format_of}
@@ -44,7 +46,8 @@ answers_at answers n = slice_index_or answers n []
 pub record ArePolledOut (before : List Receiving) (answers : List Answers) (after : List Receiving) : Type 0 where
   pub as_many : length after ≡ length before
   pub as_many_answers : length answers ≡ length before
-  pub each : (n : ℕ) → n < length before → IsPolledOut (nth_receiver before n) (answers_at answers n) (nth_receiver after n)
+  pub each : (n : ℕ) → n < length before → IsPolledOut (nth_receiver before n) (answers_at answers n)
+      (nth_receiver after n)
 
 abbrev pub is_header_of : ℕ → PayloadTypes → Option RtpHeader → Bool
 is_header_of ssrc types None = false
@@ -95,7 +98,8 @@ pub record AreSound (s : Sending) (samples : List Sample) : Type 0 where
 -- Among these datagrams come all those of a sending stream's samples, once or more, and none behind
 -- one that is 128 or more above it; nobody else sends under its SSRC and types, and the receiving
 -- stream has the same types, map of header extensions and row, and heard nothing before.
-pub record HasAllOf (e : EndState) (stream hold_back : ℕ) (sender : Sending) (samples : List Sample) (arrivals : List ℕ) (datagrams : List (List ℕ)) : Type 0 where
+pub record HasAllOf (e : EndState) (stream hold_back : ℕ) (sender : Sending) (samples : List Sample)
+    (arrivals : List ℕ) (datagrams : List (List ℕ)) : Type 0 where
   pub fresh : receiver_at e stream ≡ opened_receiver sender.ssrc sender.types sender.map sender.row hold_back
   pub opened : IsFound e stream (opened_receiver sender.ssrc sender.types sender.map sender.row hold_back)
   pub sound : IsSender sender

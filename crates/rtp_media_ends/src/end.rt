@@ -1,6 +1,7 @@
 //! An end of a session.
 
-ghost use Rattle.std.specs.Prelude.{◌≡◌, ◌≢◌, ◌<◌, ◌==◌, ℕ, Some, None, length, true, Ok, Err, OnOk, OnErr, IfOk, IfErr, IfSome, IfNone, IsOk, IsSome, IsSomeAnd, IsTrue, is_some, ◌≤◌, ◌↔◌};
+ghost use Rattle.std.specs.Prelude.{◌≡◌, ◌≢◌, ◌<◌, ◌==◌, ℕ, Some, None, length, true, Ok, Err, OnOk, OnErr, IfOk};
+ghost use Rattle.std.specs.Prelude.{IfErr, IfSome, IfNone, IsOk, IsSome, IsSomeAnd, IsTrue, is_some, ◌≤◌, ◌↔◌};
 ghost use Rattle.std.specs.List.{list_any};
 ghost use Rattle.std.specs.Option.{ForSome, option_map};
 ghost use Rattle.payload_core_red.specs.RedHistory.{AreDistances};
@@ -14,9 +15,13 @@ ghost use Rattle.rtp_media_streams.specs.Sending as sending;
 ghost use Rattle.rtp_media_streams.specs.Sending.{HasFailed, sent_datagrams, after_sample, refusal_of_sample};
 ghost use Rattle.rtp_media_runs.specs.Hearing.{poll_answer};
 ghost use Rattle.rtp_wire.specs.declared.ExtensionValues.{ExtensionValues};
-ghost use Rattle.rtp_media_ends.specs.Arrivals.{Own, NoPayload, own_of, stream_for, verdict_for, after_arrival, arrival_by, verdict_of, after_datagram};
+ghost use Rattle.rtp_media_ends.specs.Arrivals.{Own, NoPayload, own_of, stream_for, verdict_for, after_arrival};
+ghost use Rattle.rtp_media_ends.specs.Arrivals.{arrival_by, verdict_of, after_datagram};
 ghost use Rattle.rtp_media_exchange.specs.Agreement.{agreed_row_of, section_of};
-ghost use Rattle.rtp_media_ends.specs.Ends.{agreed_red, fixed_end, refusal_by, refusal_of_open_sender, refusal_of_open_receiver, after_open_sender, after_open_receiver, row_format_of, stream_map, types_of, with_format, with_distances, sender_at, receiver_at, with_sender, with_receiver};
+ghost use Rattle.rtp_media_ends.specs.Ends.{agreed_red, fixed_end, refusal_by, refusal_of_open_sender};
+ghost use Rattle.rtp_media_ends.specs.Ends.{refusal_of_open_receiver, after_open_sender, after_open_receiver};
+ghost use Rattle.rtp_media_ends.specs.Ends.{row_format_of, stream_map, types_of, with_format, with_distances};
+ghost use Rattle.rtp_media_ends.specs.Ends.{sender_at, receiver_at, with_sender, with_receiver};
 ghost use Rattle.rtp_media_ends.specs.FullArrival.{IsSender};
 ghost use Rattle.rtp_media_ends.specs.Params.{IsSound};
 
@@ -27,9 +32,9 @@ use crate::errors::{OpenError, ReceiveError};
 use crate::params::{Distances, StreamParams};
 use crate::received::Received;
 pub use exchanges::connect;
-pub use receive_all::{Polls, ReceivedAll};
 use h26x_payload::codec_law;
 use payload_core_base::Codec;
+pub use receive_all::{Polls, ReceivedAll};
 use rtp_media_exchange::{AgreedSection, EndError, Exchange, PayloadParams};
 use rtp_media_streams::{
     Datagram, PayloadTypes, PollFault, ReceivingStream, RowFormat, SampleError, SendingStream, Unit,
@@ -145,7 +150,8 @@ impl End {
         ensures opens { OnOk result (refusal_of_open_sender self.old mid ssrc pt ≡ None) }
         ensures after { OnOk result (self.new ≡ after_open_sender self.old mid ssrc pt params) }
         ensures sender { IfOk result (λ n. IsSender (sender_at self.new n)) }
-        ensures refused { IfErr result (λ e. e ≢ OpenError.Memory → refusal_of_open_sender self.old mid ssrc pt ≡ Some e) }
+        ensures refused { IfErr result (λ e. e ≢ OpenError.Memory → refusal_of_open_sender self.old mid ssrc pt
+            ≡ Some e) }
         ensures unchanged { OnErr result (self.new ≡ self.old) }
     {
         codec_law();
@@ -186,7 +192,8 @@ impl End {
         ensures number { IfOk result (λ n. n ≡ length self.old.receivers) }
         ensures opens { OnOk result (refusal_of_open_receiver self.old mid ssrc pt ≡ None) }
         ensures after { OnOk result (self.new ≡ after_open_receiver self.old mid ssrc pt hold_back) }
-        ensures refused { IfErr result (λ e. e ≢ OpenError.Memory → refusal_of_open_receiver self.old mid ssrc pt ≡ Some e) }
+        ensures refused { IfErr result (λ e. e ≢ OpenError.Memory → refusal_of_open_receiver self.old mid ssrc pt
+            ≡ Some e) }
         ensures unchanged { OnErr result (self.new ≡ self.old) }
     {
         let row = self.receiver_row(mid, ssrc, pt)?;
@@ -214,12 +221,17 @@ impl End {
         values: &ExtensionValues,
     ) -> Result<Vec<Datagram>, SampleError>
         requires { stream < length self.old.senders }
-        ensures sent { IfOk result (λ ds. ds.items ≡ sent_datagrams (sender_at self.old stream) time values.now bytes.now) }
-        ensures accepted { OnOk result (refusal_of_sample (sender_at self.old stream) time values.now bytes.now ≡ None) }
-        ensures after { OnOk result (self.new ≡ with_sender self.old stream (after_sample (sender_at self.old stream) time values.now bytes.now)) }
-        ensures refused { IfErr result (λ e. e ≢ SampleError.Memory → refusal_of_sample (sender_at self.old stream) time values.now bytes.now ≡ Some e) }
+        ensures sent { IfOk result (λ ds. ds.items
+            ≡ sent_datagrams (sender_at self.old stream) time values.now bytes.now) }
+        ensures accepted { OnOk result (refusal_of_sample (sender_at self.old stream) time values.now bytes.now
+            ≡ None) }
+        ensures after { OnOk result (self.new ≡ with_sender self.old stream
+            (after_sample (sender_at self.old stream) time values.now bytes.now)) }
+        ensures refused { IfErr result (λ e. e ≢ SampleError.Memory
+            → refusal_of_sample (sender_at self.old stream) time values.now bytes.now ≡ Some e) }
         ensures unchanged { IfErr result (λ e. e ≢ SampleError.Memory → self.new ≡ self.old) }
-        ensures failed { IfErr result (λ e. e ≡ SampleError.Memory → HasFailed (sender_at self.old stream) (sender_at self.new stream)) }
+        ensures failed { IfErr result (λ e. e ≡ SampleError.Memory
+            → HasFailed (sender_at self.old stream) (sender_at self.new stream)) }
         ensures others { self.new ≡ with_sender self.old stream (sender_at self.new stream) }
     {
         let sender = &mut self.senders[stream];
@@ -249,8 +261,10 @@ impl End {
         datagram: &[u8],
     ) -> Result<Received, ReceiveError>
         requires { ForSome header (λ h. h.header_len ≤ length datagram.now) }
-        ensures verdict { IfOk result (λ v. v ≡ verdict_for self.old (arrival_by self.old.receivers header datagram.now)) }
-        ensures after { OnOk result (self.new ≡ after_arrival self.old (arrival_by self.old.receivers header datagram.now)) }
+        ensures verdict { IfOk result (λ v. v ≡ verdict_for self.old
+            (arrival_by self.old.receivers header datagram.now)) }
+        ensures after { OnOk result (self.new ≡ after_arrival self.old
+            (arrival_by self.old.receivers header datagram.now)) }
         ensures unchanged { OnErr result (self.new ≡ self.old) }
     {
         let Some(header) = header else {
@@ -289,13 +303,18 @@ impl End {
         requires { stream < length self.old.receivers }
         ensures answer { let receiver = receiver_at self.old stream in
             IfOk result (λ unit. given (poll_answer (format_of receiver.row) receiver.stream) ≡ Ok unit) }
-        ensures after { OnOk result (self.new ≡ with_receiver self.old stream (polled_receiver (receiver_at self.old stream))) }
+        ensures after { OnOk result (self.new ≡ with_receiver self.old stream
+            (polled_receiver (receiver_at self.old stream))) }
         ensures fault { let receiver = receiver_at self.old stream in
-            IfErr result (λ fault. fault ≢ PollFault.Memory → given (poll_answer (format_of receiver.row) receiver.stream) ≡ Err fault) }
-        ensures behind { IfErr result (λ fault. fault ≢ PollFault.Memory → self.new ≡ with_receiver self.old stream (polled_receiver (receiver_at self.old stream))) }
+            IfErr result (λ fault. fault ≢ PollFault.Memory
+            → given (poll_answer (format_of receiver.row) receiver.stream) ≡ Err fault) }
+        ensures behind { IfErr result (λ fault. fault ≢ PollFault.Memory → self.new
+            ≡ with_receiver self.old stream (polled_receiver (receiver_at self.old stream))) }
         ensures memory { let receiver = receiver_at self.old stream in
-            IfErr result (λ fault. fault ≡ PollFault.Memory → IsInterrupted (format_of receiver.row) receiver.stream (receiver_at self.new stream).stream) }
-        ensures others { self.new ≡ with_receiver self.old stream (with_stream (receiver_at self.old stream) (receiver_at self.new stream).stream) }
+            IfErr result (λ fault. fault ≡ PollFault.Memory
+            → IsInterrupted (format_of receiver.row) receiver.stream (receiver_at self.new stream).stream) }
+        ensures others { self.new ≡ with_receiver self.old stream
+            (with_stream (receiver_at self.old stream) (receiver_at self.new stream).stream) }
     {
         let receiver = &mut self.receivers[stream];
         receiver.poll()
@@ -496,9 +515,14 @@ fn payload_of<'a>(
     datagram: &'a [u8],
 ) -> Option<&'a [u8]>
     requires { header.now.header_len ≤ length datagram.now }
-    ensures some { (stream : ℕ) (values : ExtensionValues) → IfSome result (λ payload. own_of stream header.now values (media_payload receiver.now.types header.now datagram.now) ≡ Own stream header.now.sequence_number header.now.timestamp header.now.marker values payload.now) }
+    ensures some { (stream : ℕ) (values : ExtensionValues)
+        → IfSome result (λ payload. own_of stream header.now values
+        (media_payload receiver.now.types header.now datagram.now)
+        ≡ Own stream header.now.sequence_number header.now.timestamp header.now.marker values payload.now) }
     ensures byte { IfSome result (λ payload. 0 < length payload.now) }
-    ensures none { (stream : ℕ) (values : ExtensionValues) → IfNone result (own_of stream header.now values (media_payload receiver.now.types header.now datagram.now) ≡ NoPayload) }
+    ensures none { (stream : ℕ) (values : ExtensionValues)
+        → IfNone result (own_of stream header.now values (media_payload receiver.now.types header.now datagram.now)
+        ≡ NoPayload) }
 {
     let payload = receiver.media_payload(header, datagram)?;
     if payload.is_empty() {

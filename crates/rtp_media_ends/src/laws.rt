@@ -17,7 +17,8 @@ use h26x_payload::codec_law;
 pub fn isolation_law()
     ensures { (end : EndState) (datagrams : List (List ℕ)) (stream : ℕ) → let receiver = receiver_at end stream in
         IsFound end stream receiver →
-        (receiver_at (after_datagrams end datagrams) stream).stream ≡ after_events (format_of receiver.row) receiver.stream (own_events receiver datagrams) }
+        (receiver_at (after_datagrams end datagrams) stream).stream
+        ≡ after_events (format_of receiver.row) receiver.stream (own_events receiver datagrams) }
 {}
 
 /// Redundancy is transparent: whatever datagrams of a list of samples arrive, and in whatever order, a
@@ -25,7 +26,8 @@ pub fn isolation_law()
 pub fn transparency_law()
     ensures { (plain redundant : Sending) (receiver : Receiving) (samples : List Sample) (numbers : List ℕ) →
         AreTwins plain redundant → Receives receiver plain → AreSent plain samples numbers →
-        own_events receiver (map (sent_datagram redundant samples) numbers) ≡ own_events receiver (map (sent_datagram plain samples) numbers) }
+        own_events receiver (map (sent_datagram redundant samples) numbers)
+        ≡ own_events receiver (map (sent_datagram plain samples) numbers) }
 {
     codec_law();
 }

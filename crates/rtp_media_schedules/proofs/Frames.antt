@@ -1,8 +1,8 @@
 -- A complete frame of held packets, of which the first is a sent frame's: it ends with that frame, and gives a
 -- final run of its parts.
-use Rattle.std.proofs.Common.{◌≡◌, ℕ, zero, suc, ◌+◌, ◌-◌, ◌<◌, ◌≤◌, refl, sym, ◌∙◌, ap, subst, subst₂, arith, true,
-    false, List, [], length, map, drop, get_or, inl, inr, true≢false, add-zero, get_or-take, get_or-drop,
-    length-drop, ext_get_or}
+use Rattle.std.proofs.Common.{◌≡◌, ℕ, zero, suc, ◌+◌, ◌-◌, ◌<◌, ◌≤◌, refl, sym, ◌∙◌, ap, subst, subst₂, arith, true}
+use Rattle.std.proofs.Common.{false, List, [], length, map, drop, get_or, inl, inr, true≢false, add-zero, get_or-take}
+use Rattle.std.proofs.Common.{get_or-drop, length-drop, ext_get_or}
 use Rattle.std.specs.Prelude.{Option, None, Some, Ok}
 use Rattle.std.proofs.lemmas.Bool.{cases_lt}
 use Rattle.std.proofs.lemmas.List.{get_or-map, length-map, length-take-le}

@@ -1,6 +1,6 @@
 -- Full arrival, and then polls.
-use Rattle.std.proofs.Common.{◌≡◌, ℕ, zero, suc, ◌+◌, ◌-◌, ◌^◌, ◌≤◌, refl, sym, ◌∙◌, ap, subst, arith, List, [], ◌∷◌,
-    ◌++◌, length, map, replicate, inr, append_assoc}
+use Rattle.std.proofs.Common.{◌≡◌, ℕ, zero, suc, ◌+◌, ◌-◌, ◌^◌, ◌≤◌, refl, sym, ◌∙◌, ap, subst, arith, List, [], ◌∷◌}
+use Rattle.std.proofs.Common.{◌++◌, length, map, replicate, inr, append_assoc}
 use Rattle.std.specs.List.{range_with_len}
 use Rattle.std.specs.Prelude.{Ok}
 use Rattle.std.proofs.lemmas.List.Sums.{count_by-le-length}
@@ -10,8 +10,8 @@ use Rattle.rtp_media_schedules.specs.Turns.{Turn, Arrive, Ask, AllCame, AreGoodA
 use Rattle.rtp_media_runs.specs.Samples.{timed_unit}
 use Rattle.rtp_media_runs.specs.Hearing.{EndsSilent, fresh, handed_out, heard}
 use Rattle.rtp_media_schedules.specs.Orders.{IsTame, first_size, left_after, next_after}
-use Rattle.rtp_media_schedules.specs.Samples.{AreSentAs, SentSample, canonical_units, datagrams, frame_sizes,
-    packets_of, whole_unit}
+use Rattle.rtp_media_schedules.specs.Samples.{AreSentAs, SentSample, canonical_units, datagrams, frame_sizes}
+use Rattle.rtp_media_schedules.specs.Samples.{packets_of, whole_unit}
 use Rattle.rtp_media_schedules.specs.Sending.{numbered, sizes, total}
 use Rattle.rtp_media_schedules.proofs.Ready.{all-passed}
 use Rattle.rtp_media_schedules.proofs.Samples.{HaveFrames, frames-of, count-is, sizes-are, exact-samples}

@@ -1,6 +1,7 @@
 -- When the next frame is due: exactly where all of its packets came.
-use Rattle.std.proofs.Common.{◌≡◌, ◌≢◌, ℕ, zero, suc, ◌+◌, ◌-◌, ◌<◌, ◌≤◌, refl, sym, ◌∙◌, ap, ap₂, subst, arith,
-    Bool, true, false, cond, List, [], ◌∷◌, ◌++◌, length, map, get_or, inl, inr, true≢false, length-append, add-zero}
+use Rattle.std.proofs.Common.{◌≡◌, ◌≢◌, ℕ, zero, suc, ◌+◌, ◌-◌, ◌<◌, ◌≤◌, refl, sym, ◌∙◌, ap, ap₂, subst, arith, Bool}
+use Rattle.std.proofs.Common.{true, false, cond, List, [], ◌∷◌, ◌++◌, length, map, get_or, inl, inr, true≢false}
+use Rattle.std.proofs.Common.{length-append, add-zero}
 use Rattle.std.specs.Prelude.{Option, None, Some, nat_lt, filter, ◌||◌, ◌&&◌, ◌==◌, not, if◌then◌else◌}
 use Rattle.std.specs.List.{cons_option, filter_map, range_with_len, list_all}
 use Rattle.std.proofs.Math.ListN.{get_or-append}
@@ -10,9 +11,9 @@ use Rattle.std.proofs.lemmas.List.FromFn.{length-range_with_len, get_or-range_wi
 use Rattle.payload_core_base.specs.Format.{Format}
 use Rattle.payload_core_base.specs.Law as law
 use Rattle.payload_core_base.specs.Law.{IsFrameOf}
-use Rattle.payload_core_buffer.specs.Frames.{IsFrame, complete_frames, due_frame, due_of, frame_at, frame_of_run,
-    frames_among, is_head_at, is_joined_at, is_next, is_tail_at, kept_run, lowest_of, number_at, packet_at,
-    run_or_head, run_start, time_at}
+use Rattle.payload_core_buffer.specs.Frames.{IsFrame, complete_frames, due_frame, due_of, frame_at, frame_of_run}
+use Rattle.payload_core_buffer.specs.Frames.{frames_among, is_head_at, is_joined_at, is_next, is_tail_at, kept_run}
+use Rattle.payload_core_buffer.specs.Frames.{lowest_of, number_at, packet_at, run_or_head, run_start, time_at}
 use Rattle.payload_core_buffer.specs.Packets.{Packet}
 use Rattle.payload_core_buffer.specs.declared.frame.Frame.{Frame}
 use Rattle.payload_core_buffer.proofs.FrameLemmas.{lowest_is}

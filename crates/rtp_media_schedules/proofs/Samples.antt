@@ -1,6 +1,6 @@
 -- Samples as frames.
-use Rattle.std.proofs.Common.{◌≡◌, ℕ, suc, ◌+◌, ◌%◌, ◌^◌, ◌<◌, ◌≤◌, refl, sym, ◌∙◌, ap, ap₂, subst, subst₂, arith,
-    false, List, [], ◌∷◌, ◌++◌, length, map, take, drop, length-append, take-append-drop}
+use Rattle.std.proofs.Common.{◌≡◌, ℕ, suc, ◌+◌, ◌%◌, ◌^◌, ◌<◌, ◌≤◌, refl, sym, ◌∙◌, ap, ap₂, subst, subst₂, arith}
+use Rattle.std.proofs.Common.{false, List, [], ◌∷◌, ◌++◌, length, map, take, drop, length-append, take-append-drop}
 use Rattle.std.specs.Prelude.{None, Some, Result, Ok, Err, if◌then◌else◌}
 use Rattle.std.specs.List.{flat_map}
 use Rattle.std.proofs.lemmas.List.{map-append}
@@ -14,14 +14,15 @@ use Rattle.rtp_wire.specs.declared.ExtensionValues.{ExtensionValues}
 use Rattle.rtp_media_runs.specs.Hearing.{Content, MediaUnit, content_of}
 use Rattle.rtp_media_runs.specs.Samples.{Timed, sent_or, timed, timed_unit}
 use Rattle.rtp_media_schedules.specs.Turns.{Turn, Arrive, Ask, event_of}
-use Rattle.rtp_media_runs.specs.Hearing.{Answer, EndsSilent, Stream, after_events, fresh, handed_out, heard,
-    number_at, poll_answer, polled, taken_by}
+use Rattle.rtp_media_runs.specs.Hearing.{Answer, EndsSilent, Stream, after_events, fresh, handed_out, heard}
+use Rattle.rtp_media_runs.specs.Hearing.{number_at, poll_answer, polled, taken_by}
 use Rattle.rtp_media_schedules.specs.Legal.{IsFinalRunOf, IsLegal, Ended, Silent, PassedOver, HandedOut}
 use Rattle.rtp_media_schedules.specs.Orders.{IsSane, IsTame, first_size}
-use Rattle.rtp_media_schedules.specs.Samples.{AreSentAs, AreWellFormed, SentSample, canonical_units, contents_by,
-    datagrams, frame_sizes, packets_of, sent_by, sizes_from, units_in, whole_unit}
-use Rattle.rtp_media_schedules.specs.Sending.{AreFrames, AreWhole, Canonical, SentFrame, canonical_from, contents,
-    contents_in, numbered, sizes, total, whole}
+use Rattle.rtp_media_schedules.specs.Samples.{AreSentAs, AreWellFormed, SentSample, canonical_units, contents_by}
+use Rattle.rtp_media_schedules.specs.Samples.{datagrams, frame_sizes, packets_of, sent_by, sizes_from, units_in}
+use Rattle.rtp_media_schedules.specs.Samples.{whole_unit}
+use Rattle.rtp_media_schedules.specs.Sending.{AreFrames, AreWhole, Canonical, SentFrame, canonical_from, contents}
+use Rattle.rtp_media_schedules.specs.Sending.{contents_in, numbered, sizes, total, whole}
 use Rattle.rtp_media_schedules.proofs.Sane.{legal}
 use Rattle.rtp_media_schedules.proofs.Tame.{exact}
 

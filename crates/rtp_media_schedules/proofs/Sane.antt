@@ -1,6 +1,6 @@
 -- A whole run under a sane schedule.
-use Rattle.std.proofs.Common.{◌≡◌, ℕ, ◌+◌, ◌-◌, ◌%◌, ◌^◌, ◌<◌, ◌≤◌, refl, ◌∙◌, ap, ap₂, subst, arith, Bool, true,
-    false, List, [], ◌∷◌, ◌++◌, map, length, drop, get_or, true≢false}
+use Rattle.std.proofs.Common.{◌≡◌, ℕ, ◌+◌, ◌-◌, ◌%◌, ◌^◌, ◌<◌, ◌≤◌, refl, ◌∙◌, ap, ap₂, subst, arith, Bool, true}
+use Rattle.std.proofs.Common.{false, List, [], ◌∷◌, ◌++◌, map, length, drop, get_or, true≢false}
 use Rattle.std.specs.Prelude.{Option, None, Some, Ok, slice_index_or, if◌then◌else◌, nat_lt, ◌||◌}
 use Rattle.std.proofs.lemmas.Bool.Decides.{nat_tests}
 use Rattle.std.proofs.lemmas.List.{drop-map, get_or-map, get_or-append-add, length-map}
@@ -9,8 +9,8 @@ use Rattle.payload_core_base.specs.Format.{Format, Fragment}
 use Rattle.payload_core_base.specs.Law as law
 use Rattle.payload_core_base.specs.Packing.{MarkedPacket}
 use Rattle.payload_core_buffer.specs.Buffered.{is_done, pushed, limited, held_with}
-use Rattle.payload_core_buffer.specs.Frames.{IsFrame, complete_frames, due_of, is_next, lowest_of, number_at,
-    packets_between}
+use Rattle.payload_core_buffer.specs.Frames.{IsFrame, complete_frames, due_of, is_next, lowest_of, number_at}
+use Rattle.payload_core_buffer.specs.Frames.{packets_between}
 use Rattle.payload_core_buffer.specs.Packets.{Packet, metas_of}
 use Rattle.payload_core_buffer.specs.declared.frame.Frame.{Frame}
 use Rattle.payload_core_buffer.proofs.FrameLemmas.{lowest_is}
@@ -21,12 +21,12 @@ use Rattle.rtp_wire.specs.Replay.{Window, accepts, is_accepted, recorded_in, gre
 use Rattle.rtp_wire.specs.Widening.{widened}
 use Rattle.rtp_wire.proofs.WideningLaws.{widened-near}
 use Rattle.rtp_media_runs.specs.Hearing as hearing
-use Rattle.rtp_media_runs.specs.Hearing.{Stream, Answer, answer_among, answer_of, due, fresh, heard, poll_answer,
-    polled, run_among, stream_behind, taken_by}
+use Rattle.rtp_media_runs.specs.Hearing.{Stream, Answer, answer_among, answer_of, due, fresh, heard, poll_answer}
+use Rattle.rtp_media_runs.specs.Hearing.{polled, run_among, stream_behind, taken_by}
 use Rattle.rtp_media_schedules.specs.Legal.{IsFinalRunOf, IsLegal, Ended, Silent}
 use Rattle.rtp_media_schedules.specs.Orders.{IsSane, IsSaneArrival}
-use Rattle.rtp_media_schedules.specs.Sending.{SentFrame, AreFrames, canonical, canonical_from, contents, contents_in,
-    no_content, sender_of, sizes, total}
+use Rattle.rtp_media_schedules.specs.Sending.{SentFrame, AreFrames, canonical, canonical_from, contents, contents_in}
+use Rattle.rtp_media_schedules.specs.Sending.{no_content, sender_of, sizes, total}
 use Rattle.rtp_media_schedules.proofs.Frames.{GivesUnit, content_at, gives-unit, cutoff-behind, rises-behind}
 use Rattle.rtp_media_schedules.proofs.Located.{AreBrought, Located, locate}
 use Rattle.rtp_media_schedules.proofs.Numbers.{IsHeld, Rises-from, Rises-below, held-limited}

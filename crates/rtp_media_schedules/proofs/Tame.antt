@@ -1,6 +1,7 @@
 -- A whole run under a tame schedule.
-use Rattle.std.proofs.Common.{◌≡◌, ◌≢◌, ℕ, zero, suc, ◌+◌, ◌-◌, ◌%◌, ◌^◌, ◌<◌, ◌≤◌, refl, sym, ◌∙◌, ap, ap₂, subst,
-    arith, Bool, true, false, List, [], ◌∷◌, ◌++◌, length, map, drop, get_or, true≢false, inl, inr, drop_at}
+use Rattle.std.proofs.Common.{◌≡◌, ◌≢◌, ℕ, zero, suc, ◌+◌, ◌-◌, ◌%◌, ◌^◌, ◌<◌, ◌≤◌, refl, sym, ◌∙◌, ap, ap₂, subst}
+use Rattle.std.proofs.Common.{arith, Bool, true, false, List, [], ◌∷◌, ◌++◌, length, map, drop, get_or, true≢false}
+use Rattle.std.proofs.Common.{inl, inr, drop_at}
 use Rattle.std.specs.Prelude.{Option, None, Some, Ok, filter, if◌then◌else◌}
 use Rattle.std.specs.List.{range_with_len}
 use Rattle.std.proofs.lemmas.Bool.Decides.{nat_tests}
@@ -17,22 +18,24 @@ use Rattle.payload_core_buffer.specs.Packets.{Packet, metas_of}
 use Rattle.payload_core_buffer.specs.declared.held.RtpMeta.{RtpMeta}
 use Rattle.rtp_wire.specs.Replay.{Window, is_accepted, recorded_in}
 use Rattle.rtp_media_runs.specs.Hearing.{Content, MediaUnit, packet_of}
-use Rattle.rtp_media_schedules.specs.Turns.{Turn, Arrive, Ask, Sender, event_of, is_among, IsGoodArrival, AllCame,
-    waiting}
+use Rattle.rtp_media_schedules.specs.Turns.{Turn, Arrive, Ask, Sender, event_of, is_among, IsGoodArrival, AllCame}
+use Rattle.rtp_media_schedules.specs.Turns.{waiting}
 use Rattle.rtp_media_schedules.proofs.Places.{packet, held_with-place, limited-few, length-filter-few}
-use Rattle.rtp_media_schedules.proofs.Windows.{WindowIs, among-more, among-again, among-le-greatest, refused-again,
-    accepted-first, IsWindowOf-more, IsWindowOf-first, IsWindowOf-again, widened-true}
+use Rattle.rtp_media_schedules.proofs.Windows.{WindowIs, among-more, among-again, among-le-greatest, refused-again}
+use Rattle.rtp_media_schedules.proofs.Windows.{accepted-first, IsWindowOf-more, IsWindowOf-first, IsWindowOf-again}
+use Rattle.rtp_media_schedules.proofs.Windows.{widened-true}
 use Rattle.rtp_media_runs.specs.Hearing as hearing
-use Rattle.rtp_media_runs.specs.Hearing.{Stream, Answer, after_events, answer_among, due, fresh, handed_out, heard,
-    poll_answer, polled, run_among, stream_behind, taken_by}
+use Rattle.rtp_media_runs.specs.Hearing.{Stream, Answer, after_events, answer_among, due, fresh, handed_out, heard}
+use Rattle.rtp_media_runs.specs.Hearing.{poll_answer, polled, run_among, stream_behind, taken_by}
 use Rattle.rtp_media_schedules.specs.Legal.{IsFinalRunOf}
 use Rattle.rtp_media_schedules.specs.Orders.{IsGoodPoll, IsTame, first_size, has_come, left_after, next_after}
-use Rattle.rtp_media_schedules.specs.Sending.{SentFrame, AreFrames, AreWhole, canonical, canonical_from, sender_of,
-    sizes, total, whole}
+use Rattle.rtp_media_schedules.specs.Sending.{SentFrame, AreFrames, AreWhole, canonical, canonical_from, sender_of}
+use Rattle.rtp_media_schedules.specs.Sending.{sizes, total, whole}
 use Rattle.rtp_media_schedules.proofs.Frames.{Brings, GivesUnit, cutoff-behind, gives-unit}
 use Rattle.rtp_media_schedules.proofs.Located.{AreBrought}
-use Rattle.rtp_media_schedules.proofs.Ready.{Misses, all-pass, all-passed, Rises-filter, due-front, filter-come,
-    filter-missing, filter-passes, front, misses, none-due, none-held, number-in}
+use Rattle.rtp_media_schedules.proofs.Ready.{Misses, all-pass, all-passed, Rises-filter, due-front, filter-come}
+use Rattle.rtp_media_schedules.proofs.Ready.{filter-missing, filter-passes, front, misses, none-due, none-held}
+use Rattle.rtp_media_schedules.proofs.Ready.{number-in}
 use Rattle.rtp_media_schedules.proofs.Sane.{CutoffIs, due-is, poll_answer-is, polled-is, sender-brings}
 
 -- the window refuses what came before and accepts the rest

@@ -10,7 +10,8 @@ use Rattle.payload_core_buffer.specs.Packets.{Packet, metas_of}
 use Rattle.payload_core_buffer.specs.Pops.{Faults, HandsOn, Stays}
 use Rattle.payload_core_buffer.specs.declared.frame.Frame.{Frame}
 use Rattle.payload_core_buffer.specs.declared.held.RtpMeta.{RtpMeta}
-use Rattle.rtp_media_runs.specs.Hearing.{Answer, Stream, answer_among, answer_by, due, poll_answer, polled, run_among, stream_behind, unit_from}
+use Rattle.rtp_media_runs.specs.Hearing.{Answer, Stream, answer_among, answer_by, due, poll_answer, polled, run_among}
+use Rattle.rtp_media_runs.specs.Hearing.{stream_behind, unit_from}
 use Rattle.rtp_media_streams.specs.Polls.{IsInterrupted}
 use Rattle.rtp_media_streams.specs.Receiving.{Receiving, polled_receiver, with_stream}
 use Rattle.rtp_media_streams.specs.Rows.{format_of}
@@ -24,12 +25,18 @@ if_err (Ok a) f h = tt
 if_err (Err e) f h = f e h
 
 -- a stream of which this is the rest, after a poll
-pub after_poll : {A E : Type 0} (res : Result A E) (f : Format) (x r : Receiving) (old new : Stream) → x ≡ r → f ≡ format_of r.row → old ≡ r.stream → OnOk res (new ≡ polled f old) → OnOk res (with_stream x new ≡ polled_receiver r)
-after_poll res f x r old new same format is = on_ok res (λ h. ap (λ (y : Receiving). with_stream y new) same ∙ ap (with_stream r) (h ∙ ap₂ polled format is))
+pub after_poll : {A E : Type 0} (res : Result A E) (f : Format) (x r : Receiving) (old new : Stream) → x ≡ r → f
+    ≡ format_of r.row → old ≡ r.stream → OnOk res (new ≡ polled f old)
+    → OnOk res (with_stream x new ≡ polled_receiver r)
+after_poll res f x r old new same format is =
+    on_ok res (λ h. ap (λ (y : Receiving). with_stream y new) same ∙ ap (with_stream r) (h ∙ ap₂ polled format is))
 
-pub behind_fault : {A E : Type 0} (P : E → Type 0) (res : Result A E) (f : Format) (x r : Receiving) (old new : Stream) → x ≡ r → f ≡ format_of r.row → old ≡ r.stream →
+pub behind_fault : {A E : Type 0} (P : E → Type 0) (res : Result A E) (f : Format) (x r : Receiving)
+    (old new : Stream) → x ≡ r → f ≡ format_of r.row → old ≡ r.stream →
     IfErr res (λ e. P e → new ≡ polled f old) → IfErr res (λ e. P e → with_stream x new ≡ polled_receiver r)
-behind_fault P res f x r old new same format is = if_err {P = λ e. P e → new ≡ polled f old} {Q = λ e. P e → with_stream x new ≡ polled_receiver r} res (λ e h p. ap (λ (y : Receiving). with_stream y new) same ∙ ap (with_stream r) (h p ∙ ap₂ polled format is))
+behind_fault P res f x r old new same format is =
+    if_err {P = λ e. P e → new ≡ polled f old} {Q = λ e. P e → with_stream x new ≡ polled_receiver r} res
+    (λ e h p. ap (λ (y : Receiving). with_stream y new) same ∙ ap (with_stream r) (h p ∙ ap₂ polled format is))
 
 module _ (format : Format) (s : Stream) where
   abbrev due_now : Option Frame
@@ -55,53 +62,80 @@ module _ (format : Format) (s : Stream) where
 
   -- a stream with these things kept
   abbrev kept : ℕ → List Packet → Option ℕ → Fragment → Stream
-  kept hold_back held cutoff fragment = record { hold_back = hold_back; window = s.window; held = held; cutoff = cutoff; fragment = fragment }
+  kept hold_back held cutoff fragment = record
+      { hold_back = hold_back; window = s.window; held = held; cutoff = cutoff; fragment = fragment }
 
   -- a frame was handed on
-  module _ (after : Fragment) (new : List Packet) (now : Option ℕ) (out : List ℕ) (told : CodecExtra) (known : List RtpMeta) (hands : HandsOn format s.fragment after s.held new due_now now out told known) where
+  module _ (after : Fragment) (new : List Packet) (now : Option ℕ) (out : List ℕ) (told : CodecExtra)
+      (known : List RtpMeta) (hands : HandsOn format s.fragment after s.held new due_now now out told known) where
     abbrev run : Run
     run = run_among format s.fragment s.held hands.frame
 
     pub handed_answer : poll_answer format s ≡ Ok (Some (unit_from known out told))
     handed_answer =
         poll_some hands.frame hands.is_due
-        ∙ ap (λ (o : Option PacketError). answer_by o (metas_of (packets_between s.held hands.frame)) run.written run.extra) hands.read.no_fault
-        ∙ ap₂ (λ (metas : List RtpMeta) (bytes : List ℕ). let a : Answer = Ok (Some (unit_from metas bytes run.extra)) in a) (sym hands.metas) (sym hands.read.bytes)
-        ∙ ap (λ (extra : CodecExtra). let a : Answer = Ok (Some (unit_from known out extra)) in a) (sym hands.read.extra)
+        ∙ ap (λ (o : Option PacketError). answer_by o (metas_of (packets_between s.held hands.frame)) run.written
+        run.extra) hands.read.no_fault
+        ∙ ap₂ (λ (metas : List RtpMeta) (bytes : List ℕ). let a : Answer =
+        Ok (Some (unit_from metas bytes run.extra)) in a) (sym hands.metas) (sym hands.read.bytes)
+        ∙ ap (λ (extra : CodecExtra). let a : Answer = Ok (Some (unit_from known out extra)) in a)
+        (sym hands.read.extra)
 
     pub handed_stream : (hold_back : ℕ) → hold_back ≡ s.hold_back → kept hold_back new now after ≡ polled format s
     handed_stream hold_back same =
         ap (λ (n : ℕ). kept n new now after) same
-        ∙ ap₂ (λ (held : List Packet) (cutoff : Option ℕ). kept s.hold_back held cutoff after) hands.done.gone hands.done.moved
-        ∙ ap (λ (f : Fragment). kept s.hold_back (drop hands.frame.end s.held) (Some (number_at s.held (hands.frame.end - 1))) f) hands.read.fragment
+        ∙ ap₂ (λ (held : List Packet) (cutoff : Option ℕ). kept s.hold_back held cutoff after) hands.done.gone
+        hands.done.moved
+        ∙ ap (λ (f : Fragment). kept s.hold_back (drop hands.frame.end s.held)
+        (Some (number_at s.held (hands.frame.end - 1))) f) hands.read.fragment
         ∙ sym (polled_some hands.frame hands.is_due)
 
     pub handed_fewer : length new < length s.held
-    handed_fewer = omega (arith, hands.is_frame.not_empty, hands.is_frame.in_range, ap length hands.done.gone, length-drop hands.frame.end s.held)
+    handed_fewer = omega (
+      arith,
+      hands.is_frame.not_empty,
+      hands.is_frame.in_range,
+      ap length hands.done.gone,
+      length-drop hands.frame.end s.held,
+    )
 
   -- a packet of a frame was refused
-  module _ (after : Fragment) (new : List Packet) (now : Option ℕ) (e : PacketError) (faults : Faults format s.fragment after s.held new due_now now e) where
+  module _ (after : Fragment) (new : List Packet) (now : Option ℕ) (e : PacketError)
+      (faults : Faults format s.fragment after s.held new due_now now e) where
     pub fault_answer : poll_answer format s ≡ Err e
     fault_answer =
         poll_some faults.frame faults.is_due
-        ∙ ap (λ (o : Option PacketError). answer_by o (metas_of (packets_between s.held faults.frame)) (run_among format s.fragment s.held faults.frame).written (run_among format s.fragment s.held faults.frame).extra) faults.fault.fault
+        ∙ ap (λ (o : Option PacketError). answer_by o (metas_of (packets_between s.held faults.frame))
+        (run_among format s.fragment s.held faults.frame).written
+        (run_among format s.fragment s.held faults.frame).extra) faults.fault.fault
 
     pub fault_stream : (hold_back : ℕ) → hold_back ≡ s.hold_back → kept hold_back new now after ≡ polled format s
     fault_stream hold_back same =
         ap (λ (n : ℕ). kept n new now after) same
-        ∙ ap₂ (λ (held : List Packet) (cutoff : Option ℕ). kept s.hold_back held cutoff after) faults.done.gone faults.done.moved
-        ∙ ap (λ (f : Fragment). kept s.hold_back (drop faults.frame.end s.held) (Some (number_at s.held (faults.frame.end - 1))) f) faults.fault.fragment
+        ∙ ap₂ (λ (held : List Packet) (cutoff : Option ℕ). kept s.hold_back held cutoff after) faults.done.gone
+        faults.done.moved
+        ∙ ap (λ (f : Fragment). kept s.hold_back (drop faults.frame.end s.held)
+        (Some (number_at s.held (faults.frame.end - 1))) f) faults.fault.fragment
         ∙ sym (polled_some faults.frame faults.is_due)
 
     pub fault_fewer : length new < length s.held
-    fault_fewer = omega (arith, faults.is_frame.not_empty, faults.is_frame.in_range, ap length faults.done.gone, length-drop faults.frame.end s.held)
+    fault_fewer = omega (
+      arith,
+      faults.is_frame.not_empty,
+      faults.is_frame.in_range,
+      ap length faults.done.gone,
+      length-drop faults.frame.end s.held,
+    )
 
   -- memory was wanting
-  pub interrupted : (after : Fragment) (new : List Packet) (now : Option ℕ) (hold_back : ℕ) → hold_back ≡ s.hold_back → Stays format s.fragment after s.held new due_now s.cutoff now → IsInterrupted format s (kept hold_back new now after)
+  pub interrupted : (after : Fragment) (new : List Packet) (now : Option ℕ) (hold_back : ℕ) → hold_back ≡ s.hold_back
+      → Stays format s.fragment after s.held new due_now s.cutoff now
+      → IsInterrupted format s (kept hold_back new now after)
   unfolding due
   interrupted after new now hold_back same stays = record {
     frame = stays.frame;
     is_due = stays.is_due;
     stops = stays.stops;
-    stays = ap (λ (n : ℕ). kept n new now after) same ∙ ap₂ (λ (held : List Packet) (cutoff : Option ℕ). kept s.hold_back held cutoff after) stays.held stays.cutoff;
+    stays = ap (λ (n : ℕ). kept n new now after) same
+        ∙ ap₂ (λ (held : List Packet) (cutoff : Option ℕ). kept s.hold_back held cutoff after) stays.held stays.cutoff;
   }

@@ -1,5 +1,7 @@
 -- Sending streams.
-use Rattle.std.specs.Prelude.{ℕ, ◌≡◌, ◌≢◌, ◌+◌, ◌-◌, ◌%◌, ◌^◌, Bool, true, false, not, ◌==◌, ◌&&◌, ◌||◌, nat_lt, nat_le, if◌then◌else◌, is_none, is_some, List, [], ◌∷◌, ◌++◌, length, replicate, Option, Some, None, Result, Ok, Err}
+use Rattle.std.specs.Prelude.{ℕ, ◌≡◌, ◌≢◌, ◌+◌, ◌-◌, ◌%◌, ◌^◌, Bool, true, false, not, ◌==◌, ◌&&◌, ◌||◌, nat_lt}
+use Rattle.std.specs.Prelude.{nat_le, if◌then◌else◌, is_none, is_some, List, [], ◌∷◌, ◌++◌, length, replicate, Option}
+use Rattle.std.specs.Prelude.{Some, None, Result, Ok, Err}
 use Rattle.payload_core_base.specs.Outgoing.{Outgoing}
 use Rattle.payload_core_base.specs.Packing.{Sender, Sent}
 use Rattle.payload_core_base.specs.declared.error.PacketError.{PacketError}
@@ -18,7 +20,8 @@ use Rattle.rtp_media_streams.specs.Types.{share_type}
 use Rattle.rtp_media_streams.specs.declared.row_format.RowFormat.{RowFormat}
 use Rattle.rtp_media_streams.specs.declared.types.PayloadTypes.{PayloadTypes}
 use Rattle.rtp_media_streams.specs.declared.errors.SampleError.{SampleError}
-use Rattle.rtp_media_streams.specs.declared.errors.SampleError.TheVariants.{StreamFailed, TimeTooLarge, LimitTooSmall, Payload}
+use Rattle.rtp_media_streams.specs.declared.errors.SampleError.TheVariants.{StreamFailed, TimeTooLarge, LimitTooSmall}
+use Rattle.rtp_media_streams.specs.declared.errors.SampleError.TheVariants.{Payload}
 
 -- A sending stream: its SSRC, the payload types of its row and the one of its datagrams (RFC 3550 5.1),
 -- the numbers of its header extensions (RFC 8285 5), what its row says of its payloads and whether they have
@@ -58,7 +61,8 @@ opened_sender ssrc types map row picture_id first mtu limit = record {
 
 -- the stream that adds redundancy at these distances, under this type
 abbrev pub redundant_sender : Sending → ℕ → List ℕ → Sending
-redundant_sender s red distances = record s { wire_type = red; redundancy = Some (record { distances = distances; history = [] }) }
+redundant_sender s red distances = record s
+    { wire_type = red; redundancy = Some (record { distances = distances; history = [] }) }
 
 -- Its datagrams have the row's type; with redundancy they have another, the row's RED type, and the
 -- distances are those of a sender.
@@ -168,7 +172,8 @@ after_sample s time values bytes = after_payloads s (sent s bytes).sender (sent_
 -- Memory was wanting in the stream: it sends no more. What it keeps for later samples may have moved on, and
 -- nothing else changes.
 abbrev pub HasFailed : Sending → Sending → Type 0
-HasFailed before after = after ≡ record before { packetizer = after.packetizer; redundancy = after.redundancy; failed = true }
+HasFailed before after = after ≡ record before
+    { packetizer = after.packetizer; redundancy = after.redundancy; failed = true }
 
 -- The longest datagram that a stream may make of a sample with these values: a whole payload behind the
 -- header with its values in the two-byte form (RFC 8285 4.3).
@@ -195,7 +200,8 @@ first_refusal (Some e) later = Some e
 
 -- Why a sample is refused, want of memory aside: the first that holds.
 abbrev pub refusal_of_sample : Sending → Time → ExtensionValues → List ℕ → Option SampleError
-refusal_of_sample s time values bytes = first_refusal (refusal_before_payload s time values) (payload_refusal (packed s bytes))
+refusal_of_sample s time values bytes = first_refusal (refusal_before_payload s time values)
+    (payload_refusal (packed s bytes))
 
 -- A sample with its time and its values of header extensions.
 pub record Sample : Type 0 where
@@ -206,7 +212,8 @@ pub record Sample : Type 0 where
 -- The datagrams of samples, pushed one after the other.
 abbrev pub datagrams_of : Sending → List Sample → List (List ℕ)
 datagrams_of s [] = []
-datagrams_of s (x ∷ xs) = sent_datagrams s x.time x.values x.bytes ++ datagrams_of (after_sample s x.time x.values x.bytes) xs
+datagrams_of s (x ∷ xs) = sent_datagrams s x.time x.values x.bytes
+    ++ datagrams_of (after_sample s x.time x.values x.bytes) xs
 
 -- the stream after them
 abbrev pub after_samples : Sending → List Sample → Sending
@@ -216,7 +223,8 @@ after_samples s (x ∷ xs) = after_samples (after_sample s x.time x.values x.byt
 -- The payloads of samples, pushed one after the other.
 abbrev pub payloads_of_samples : Sending → List Sample → List Outgoing
 payloads_of_samples s [] = []
-payloads_of_samples s (x ∷ xs) = sent_payloads s x.time x.values x.bytes ++ payloads_of_samples (after_sample s x.time x.values x.bytes) xs
+payloads_of_samples s (x ∷ xs) = sent_payloads s x.time x.values x.bytes
+    ++ payloads_of_samples (after_sample s x.time x.values x.bytes) xs
 
 -- The samples as they arrive: with their timestamps, and the values that are carried.
 abbrev pub samples_of : Sending → List Sample → List Timed

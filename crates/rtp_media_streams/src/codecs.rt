@@ -10,13 +10,11 @@ use payload_core_base::{Depacketizer, Packetizer};
 use std::alloc::Global;
 
 /// The packetizer of a row, with picture ids from this one on or without.
-pub(crate) fn packetizer_for(
-    row: &RowFormat,
-    picture_id: Option<u16>,
-) -> CodecPacketizer<NotBoxed>
+pub(crate) fn packetizer_for(row: &RowFormat, picture_id: Option<u16>) -> CodecPacketizer<NotBoxed>
     requires codec { has_format row.now.codec ≡ true }
     requires picture_id { unwrap_or picture_id 0 < 32768 }
-    ensures packing { ⟦<CodecPacketizer<NotBoxed> as Packetizer>⟧.packing result ≡ packing_of row.now (is_some picture_id) }
+    ensures packing { ⟦<CodecPacketizer<NotBoxed> as Packetizer>⟧.packing result
+        ≡ packing_of row.now (is_some picture_id) }
     ensures sender { ⟦<CodecPacketizer<NotBoxed> as Packetizer>⟧.sender result ≡ first_state row.now picture_id }
 {
     let mut packetizer = CodecPacketizer::with_picture_id(row.codec, picture_id).unwrap();

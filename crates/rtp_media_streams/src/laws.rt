@@ -11,7 +11,10 @@ ghost use Rattle.payload_core_red.specs.RedHistory.{AreDistances, Redundancy};
 ghost use Rattle.payload_core_red.specs.RedWrapping.{IsWrap};
 ghost use Rattle.rtp_media_streams.specs.Redundant.{behind_older, unwrapped, wrapped};
 ghost use Rattle.rtp_media_streams.specs.declared.types.PayloadTypes.{PayloadTypes};
-ghost use Rattle.rtp_media_streams.specs.Sending.{Sending, IsTyped, Sample, after_sample, header_of, datagram_of, datagrams_of, datagrams_from, packet_limit, payloads_of_samples, sent, sent_datagrams, sent_payloads, refusal_of_sample, wire_payloads};
+ghost use Rattle.rtp_media_streams.specs.Sending.{Sending, IsTyped, Sample, after_sample, header_of, datagram_of};
+ghost use Rattle.rtp_media_streams.specs.Sending.{datagrams_of, datagrams_from, packet_limit, payloads_of_samples};
+ghost use Rattle.rtp_media_streams.specs.Sending.{sent, sent_datagrams, sent_payloads, refusal_of_sample};
+ghost use Rattle.rtp_media_streams.specs.Sending.{wire_payloads};
 
 /// Samples that are pushed one after the other give the payloads of all of them under consecutive
 /// numbers, with redundancy each behind older ones, of the samples before too. Where no packet of an accepted
@@ -29,7 +32,8 @@ pub fn datagrams_laws()
         All (λ o. length o.payload ≤ s.mtu) (wire_payloads s (sent_payloads s time values bytes)) }
     ensures typed { (s : Sending) (time : Time) (values : ExtensionValues) (bytes : List ℕ) → IsTyped s →
         IsTyped (after_sample s time values bytes) }
-    ensures reads { (s : Sending) (number : ℕ) (o : Outgoing) → s.wire_type < 128 → s.ssrc < 2 ^ 32 → o.time < 2 ^ 32 → AreValues o.values →
+    ensures reads { (s : Sending) (number : ℕ) (o : Outgoing) → s.wire_type < 128 → s.ssrc < 2 ^ 32 → o.time < 2 ^ 32
+        → AreValues o.values →
         header_in s.map (datagram_of s number o) ≡ Some (image s.map (header_of s number o.marker o.time o.values)) }
     ensures payload { (s : Sending) (number : ℕ) (o : Outgoing) →
         payload_in (image s.map (header_of s number o.marker o.time o.values)) (datagram_of s number o) ≡ o.payload }
@@ -41,7 +45,9 @@ pub fn datagrams_laws()
 pub fn redundancy_laws()
     ensures wraps { (pt budget : ℕ) (r : Redundancy) (o : Outgoing) → AreDistances r.distances →
         IsWrap r pt o.payload o.time budget (wrapped pt budget r o) }
-    ensures within { (pt budget : ℕ) (r : Redundancy) (o : Outgoing) → length o.payload + 1 ≤ budget → length (wrapped pt budget r o) ≤ budget }
-    ensures brings { (types : PayloadTypes) (wire budget : ℕ) (r : Redundancy) (o : Outgoing) → types.pt < 128 → wire ≢ types.pt → AreDistances r.distances →
+    ensures within { (pt budget : ℕ) (r : Redundancy) (o : Outgoing) → length o.payload + 1 ≤ budget
+        → length (wrapped pt budget r o) ≤ budget }
+    ensures brings { (types : PayloadTypes) (wire budget : ℕ) (r : Redundancy) (o : Outgoing) → types.pt < 128
+        → wire ≢ types.pt → AreDistances r.distances →
         length o.payload + 1 ≤ budget → unwrapped types wire (wrapped types.pt budget r o) ≡ Some o.payload }
 {}

@@ -1,6 +1,7 @@
 //! Receiving streams.
 
-ghost use Rattle.std.specs.Prelude.{◌≡◌, ◌≢◌, ◌<◌, ◌≤◌, IfErr, IfOk, IsOk, MatchOption, None, OnErr, OnOk, OnSome, Option, Some, true, length};
+ghost use Rattle.std.specs.Prelude.{◌≡◌, ◌≢◌, ◌<◌, ◌≤◌, IfErr, IfOk, IsOk, MatchOption, None, OnErr, OnOk, OnSome};
+ghost use Rattle.std.specs.Prelude.{Option, Some, true, length};
 ghost use Rattle.std.specs.Prelude.{Ok, Err};
 ghost use Rattle.h26x_payload.specs.Codings.{has_format};
 ghost use Rattle.rtp_wire.specs.Replay.{Window, greatest_in, is_accepted, recorded_in};
@@ -10,7 +11,9 @@ ghost use Rattle.payload_core_buffer.specs.Buffered.{pushed};
 ghost use Rattle.payload_core_buffer.specs.Packets.{packet_from};
 ghost use Rattle.rtp_media_runs.specs.Hearing.{poll_answer, polled};
 ghost use Rattle.rtp_media_streams.specs.Polls.{IsInterrupted, IsPolled, given};
-ghost use Rattle.rtp_media_streams.specs.Receiving.{opened_receiver, stream_of, with_stream, is_own, conflicts_with, media_payload, taken_number, arrived, values_read, polled_receiver};
+ghost use Rattle.rtp_media_streams.specs.Receiving.{opened_receiver, stream_of, with_stream, is_own, conflicts_with};
+ghost use Rattle.rtp_media_streams.specs.Receiving.{media_payload, taken_number, arrived, values_read};
+ghost use Rattle.rtp_media_streams.specs.Receiving.{polled_receiver};
 ghost use Rattle.rtp_media_streams.specs.Rows.{format_of};
 
 use crate::codecs::depacketizer_for;
@@ -56,10 +59,12 @@ impl Model for ReceivingStream {
       types = r.types;
       map = r.exts;
       row = r.row;
-      stream = stream_of r.window r.buffer (⟦<CodecDepacketizer<NotBoxed> as Depacketizer>⟧.fragment r.buffer.depacketizer);
+      stream = stream_of r.window r.buffer
+          (⟦<CodecDepacketizer<NotBoxed> as Depacketizer>⟧.fragment r.buffer.depacketizer);
     } };
 
-    ghost invariant = { λ r. ⟦<CodecDepacketizer<NotBoxed> as Depacketizer>⟧.format r.buffer.depacketizer ≡ format_of r.row };
+    ghost invariant = { λ r. ⟦<CodecDepacketizer<NotBoxed> as Depacketizer>⟧.format r.buffer.depacketizer
+        ≡ format_of r.row };
 }
 
 /// The number that these 16 bits stand for; before the first number they stand for themselves.
@@ -98,7 +103,8 @@ fn hold(
     meta: RtpMeta,
     payload: &[u8],
 ) -> Result<(), AllocError>
-    ensures kept { OnOk result (buffer.new ≡ record buffer.old { held = pushed buffer.old.cutoff buffer.old.held (packet_from meta payload.now) }) }
+    ensures kept { OnOk result (buffer.new ≡ record buffer.old
+        { held = pushed buffer.old.cutoff buffer.old.held (packet_from meta payload.now) }) }
     ensures unchanged { OnErr result (buffer.new ≡ buffer.old) }
 {
     buffer.push(meta, payload).map_err(|_| AllocError)
@@ -108,32 +114,42 @@ fn hold(
 fn pop(
     buffer: &mut DepacketizingBuffer<CodecDepacketizer<NotBoxed>>,
 ) -> Result<Option<Unit>, PollFault>
-    ensures format { ⟦<CodecDepacketizer<NotBoxed> as Depacketizer>⟧.format buffer.new.depacketizer ≡ ⟦<CodecDepacketizer<NotBoxed> as Depacketizer>⟧.format buffer.old.depacketizer }
+    ensures format { ⟦<CodecDepacketizer<NotBoxed> as Depacketizer>⟧.format buffer.new.depacketizer
+        ≡ ⟦<CodecDepacketizer<NotBoxed> as Depacketizer>⟧.format buffer.old.depacketizer }
     ensures answer { (window : Option Window) →
-        let old = stream_of window buffer.old (⟦<CodecDepacketizer<NotBoxed> as Depacketizer>⟧.fragment buffer.old.depacketizer) in
+        let old = stream_of window buffer.old
+            (⟦<CodecDepacketizer<NotBoxed> as Depacketizer>⟧.fragment buffer.old.depacketizer) in
         let format = ⟦<CodecDepacketizer<NotBoxed> as Depacketizer>⟧.format buffer.old.depacketizer in
         IfOk result (λ unit. given (poll_answer format old) ≡ Ok unit) }
     ensures after { (window : Option Window) →
-        let old = stream_of window buffer.old (⟦<CodecDepacketizer<NotBoxed> as Depacketizer>⟧.fragment buffer.old.depacketizer) in
-        let new = stream_of window buffer.new (⟦<CodecDepacketizer<NotBoxed> as Depacketizer>⟧.fragment buffer.new.depacketizer) in
+        let old = stream_of window buffer.old
+            (⟦<CodecDepacketizer<NotBoxed> as Depacketizer>⟧.fragment buffer.old.depacketizer) in
+        let new = stream_of window buffer.new
+            (⟦<CodecDepacketizer<NotBoxed> as Depacketizer>⟧.fragment buffer.new.depacketizer) in
         let format = ⟦<CodecDepacketizer<NotBoxed> as Depacketizer>⟧.format buffer.old.depacketizer in
         OnOk result (new ≡ polled format old) }
     ensures fault { (window : Option Window) →
-        let old = stream_of window buffer.old (⟦<CodecDepacketizer<NotBoxed> as Depacketizer>⟧.fragment buffer.old.depacketizer) in
+        let old = stream_of window buffer.old
+            (⟦<CodecDepacketizer<NotBoxed> as Depacketizer>⟧.fragment buffer.old.depacketizer) in
         let format = ⟦<CodecDepacketizer<NotBoxed> as Depacketizer>⟧.format buffer.old.depacketizer in
         IfErr result (λ fault. fault ≢ PollFault.Memory → given (poll_answer format old) ≡ Err fault) }
     ensures behind { (window : Option Window) →
-        let old = stream_of window buffer.old (⟦<CodecDepacketizer<NotBoxed> as Depacketizer>⟧.fragment buffer.old.depacketizer) in
-        let new = stream_of window buffer.new (⟦<CodecDepacketizer<NotBoxed> as Depacketizer>⟧.fragment buffer.new.depacketizer) in
+        let old = stream_of window buffer.old
+            (⟦<CodecDepacketizer<NotBoxed> as Depacketizer>⟧.fragment buffer.old.depacketizer) in
+        let new = stream_of window buffer.new
+            (⟦<CodecDepacketizer<NotBoxed> as Depacketizer>⟧.fragment buffer.new.depacketizer) in
         let format = ⟦<CodecDepacketizer<NotBoxed> as Depacketizer>⟧.format buffer.old.depacketizer in
         IfErr result (λ fault. fault ≢ PollFault.Memory → new ≡ polled format old) }
     ensures memory { (window : Option Window) →
-        let old = stream_of window buffer.old (⟦<CodecDepacketizer<NotBoxed> as Depacketizer>⟧.fragment buffer.old.depacketizer) in
-        let new = stream_of window buffer.new (⟦<CodecDepacketizer<NotBoxed> as Depacketizer>⟧.fragment buffer.new.depacketizer) in
+        let old = stream_of window buffer.old
+            (⟦<CodecDepacketizer<NotBoxed> as Depacketizer>⟧.fragment buffer.old.depacketizer) in
+        let new = stream_of window buffer.new
+            (⟦<CodecDepacketizer<NotBoxed> as Depacketizer>⟧.fragment buffer.new.depacketizer) in
         let format = ⟦<CodecDepacketizer<NotBoxed> as Depacketizer>⟧.format buffer.old.depacketizer in
         IfErr result (λ fault. fault ≡ PollFault.Memory → IsInterrupted format old new) }
     ensures fewer { IfOk result (λ unit. OnSome unit (length buffer.new.held < length buffer.old.held)) }
-    ensures fewer_at_faults { IfErr result (λ fault. fault ≢ PollFault.Memory → length buffer.new.held < length buffer.old.held) }
+    ensures fewer_at_faults { IfErr result (λ fault. fault ≢ PollFault.Memory
+        → length buffer.new.held < length buffer.old.held) }
 {
     match buffer.pop() {
         Ok(Some(frame)) => Ok(Some(Unit::from_frame(frame))),
@@ -194,7 +210,8 @@ impl ReceivingStream {
     /// read, or its primary payload has another type.
     pub fn media_payload<'a>(&self, header: &RtpHeader, datagram: &'a [u8]) -> Option<&'a [u8]>
         requires { header.now.header_len ≤ length datagram.now }
-        ensures { MatchOption result (media_payload self.now.types header.now datagram.now ≡ None) (λ media. media_payload self.now.types header.now datagram.now ≡ Some media.now) }
+        ensures { MatchOption result (media_payload self.now.types header.now datagram.now ≡ None)
+            (λ media. media_payload self.now.types header.now datagram.now ≡ Some media.now) }
     {
         media_payload(&self.types, header, datagram)
     }
@@ -222,7 +239,8 @@ impl ReceivingStream {
         payload: &[u8],
     ) -> Result<Option<SeqNo>, AllocError>
         ensures answer { IfOk result (λ taken. taken ≡ taken_number self.old.stream low) }
-        ensures after { OnOk result (self.new ≡ with_stream self.old (arrived self.old.stream low time marker ext_vals payload.now)) }
+        ensures after { OnOk result (self.new ≡ with_stream self.old
+            (arrived self.old.stream low time marker ext_vals payload.now)) }
         ensures unchanged { OnErr result (self.new ≡ self.old) }
     {
         let number = number_of(&self.window, low);
@@ -248,12 +266,15 @@ impl ReceivingStream {
     pub fn poll(&mut self) -> Result<Option<Unit>, PollFault>
         ensures answer { IfOk result (λ unit. given (poll_answer (format_of self.old.row) self.old.stream) ≡ Ok unit) }
         ensures after { OnOk result (self.new ≡ polled_receiver self.old) }
-        ensures fault { IfErr result (λ fault. fault ≢ PollFault.Memory → given (poll_answer (format_of self.old.row) self.old.stream) ≡ Err fault) }
+        ensures fault { IfErr result (λ fault. fault ≢ PollFault.Memory
+            → given (poll_answer (format_of self.old.row) self.old.stream) ≡ Err fault) }
         ensures behind { IfErr result (λ fault. fault ≢ PollFault.Memory → self.new ≡ polled_receiver self.old) }
-        ensures memory { IfErr result (λ fault. fault ≡ PollFault.Memory → IsInterrupted (format_of self.old.row) self.old.stream self.new.stream) }
+        ensures memory { IfErr result (λ fault. fault ≡ PollFault.Memory
+            → IsInterrupted (format_of self.old.row) self.old.stream self.new.stream) }
         ensures same { self.new ≡ with_stream self.old self.new.stream }
         ensures fewer { IfOk result (λ unit. OnSome unit (length self.new.stream.held < length self.old.stream.held)) }
-        ensures fewer_at_faults { IfErr result (λ fault. fault ≢ PollFault.Memory → length self.new.stream.held < length self.old.stream.held) }
+        ensures fewer_at_faults { IfErr result (λ fault. fault ≢ PollFault.Memory
+            → length self.new.stream.held < length self.old.stream.held) }
     {
         pop(&mut self.buffer)
     }
@@ -261,7 +282,8 @@ impl ReceivingStream {
     /// Polls until no unit is ready or memory for one is wanting, and answers what the polls answered, in
     /// order. Where memory for that list is wanting, what was polled is lost.
     pub fn poll_all(&mut self) -> Result<Vec<Result<Unit, PollFault>>, AllocError>
-        ensures polled { IfOk result (λ answers. IsPolled (format_of self.old.row) self.old.stream answers.items self.new.stream) }
+        ensures polled { IfOk result (λ answers. IsPolled (format_of self.old.row) self.old.stream answers.items
+            self.new.stream) }
         ensures same { self.new ≡ with_stream self.old self.new.stream }
     {
         let mut answers = Vec::new(self.alloc);

@@ -1,10 +1,15 @@
 //! Sending streams.
 
-ghost use Rattle.std.specs.Prelude.{◌≡◌, ◌≢◌, ◌<◌, ◌≤◌, ◌+◌, ◌%◌, ◌^◌, Some, None, true, OnOk, OnErr, IfOk, IfErr, length, is_some, unwrap_or};
+ghost use Rattle.std.specs.Prelude.{◌≡◌, ◌≢◌, ◌<◌, ◌≤◌, ◌+◌, ◌%◌, ◌^◌, Some, None, true, OnOk, OnErr, IfOk, IfErr};
+ghost use Rattle.std.specs.Prelude.{length, is_some, unwrap_or};
 ghost use Rattle.h26x_payload.specs.Codings.{has_format};
 ghost use Rattle.rtp_wire.specs.Time.{rebased_ticks, checked_rebased};
 ghost use Rattle.rtp_media_streams.specs.Rows.{rtp_rate};
-ghost use Rattle.rtp_media_streams.specs.Sending.{HasFailed, opened_sender, redundant_sender, conflicts_with, longest_datagram, payload_refusal, packed, payloads_at, sent, timestamp, wire_payloads, still_kept, with_next, datagrams_from, sent_datagrams, after_sample, refusal_before_payload, refusal_of_sample};
+ghost use Rattle.rtp_media_streams.specs.Sending.{HasFailed, opened_sender, redundant_sender, conflicts_with};
+ghost use Rattle.rtp_media_streams.specs.Sending.{longest_datagram, payload_refusal, packed, payloads_at, sent};
+ghost use Rattle.rtp_media_streams.specs.Sending.{timestamp, wire_payloads, still_kept, with_next, datagrams_from};
+ghost use Rattle.rtp_media_streams.specs.Sending.{sent_datagrams, after_sample, refusal_before_payload};
+ghost use Rattle.rtp_media_streams.specs.Sending.{refusal_of_sample};
 ghost use Rattle.payload_core_red.specs.RedHistory.{AreDistances};
 
 use crate::codecs::packetizer_for;
@@ -63,7 +68,8 @@ impl Model for SendingStream {
       failed = s.failed;
     } };
 
-    ghost invariant = { λ s. (0 < s.mtu) × (⟦<CodecPacketizer<NotBoxed> as Packetizer>⟧.packing (packetizer_of s.payloader) ≡ packing_of s.row s.has_id) };
+    ghost invariant = { λ s. (0 < s.mtu) × (⟦<CodecPacketizer<NotBoxed> as Packetizer>⟧.packing
+        (packetizer_of s.payloader) ≡ packing_of s.row s.has_id) };
 }
 
 impl SendingStream {
@@ -158,7 +164,8 @@ impl SendingStream {
         ensures sent { IfOk result (λ ds. ds.items ≡ sent_datagrams self.old time values.now bytes.now) }
         ensures accepted { OnOk result (refusal_of_sample self.old time values.now bytes.now ≡ None) }
         ensures after { OnOk result (self.new ≡ after_sample self.old time values.now bytes.now) }
-        ensures refused { IfErr result (λ e. e ≢ SampleError.Memory → refusal_of_sample self.old time values.now bytes.now ≡ Some e) }
+        ensures refused { IfErr result (λ e. e ≢ SampleError.Memory
+            → refusal_of_sample self.old time values.now bytes.now ≡ Some e) }
         ensures unchanged { IfErr result (λ e. e ≢ SampleError.Memory → self.new ≡ self.old) }
         ensures failed { IfErr result (λ e. e ≡ SampleError.Memory → HasFailed self.old self.new) }
     {
@@ -183,7 +190,8 @@ impl SendingStream {
         ensures word { IfOk result (λ word. word ≡ timestamp self.now time) }
         ensures accepted { OnOk result (refusal_before_payload self.now time values.now ≡ None) }
         ensures next { OnOk result (self.now.next < 2 ^ 62) }
-        ensures refused { IfErr result (λ e. (e ≢ SampleError.Memory) × (refusal_before_payload self.now time values.now ≡ Some e)) }
+        ensures refused { IfErr result (λ e. (e ≢ SampleError.Memory)
+            × (refusal_before_payload self.now time values.now ≡ Some e)) }
     {
         if self.failed || self.next >= END_OF_NUMBERS {
             return Err(SampleError::StreamFailed);
@@ -206,11 +214,15 @@ impl SendingStream {
         values: &ExtensionValues,
     ) -> Result<Vec<Datagram>, PacketError>
         requires { self.old.next < 2 ^ 62 }
-        ensures sent { IfOk result (λ ds. ds.items ≡ datagrams_from self.old self.old.next (wire_payloads self.old (payloads_at self.old time values.now bytes.now))) }
-        ensures kept { let kept = still_kept self.old.types.pt self.old.redundancy (payloads_at self.old time values.now bytes.now) in
+        ensures sent { IfOk result (λ ds. ds.items
+            ≡ datagrams_from self.old self.old.next (wire_payloads self.old
+            (payloads_at self.old time values.now bytes.now))) }
+        ensures kept { let kept = still_kept self.old.types.pt self.old.redundancy
+            (payloads_at self.old time values.now bytes.now) in
             OnOk result (self.new ≡ with_next self.old self.old.next (sent self.old bytes.now).sender kept) }
         ensures accepted { OnOk result (payload_refusal (packed self.old bytes.now) ≡ None) }
-        ensures refused { IfErr result (λ e. e ≢ PacketError.Memory → payload_refusal (packed self.old bytes.now) ≡ Some (SampleError.Payload e)) }
+        ensures refused { IfErr result (λ e. e ≢ PacketError.Memory → payload_refusal (packed self.old bytes.now)
+            ≡ Some (SampleError.Payload e)) }
         ensures unchanged { IfErr result (λ e. e ≢ PacketError.Memory → self.new ≡ self.old) }
         ensures others { self.new ≡ with_next self.old self.old.next self.new.packetizer self.new.redundancy }
     {
@@ -222,9 +234,9 @@ impl SendingStream {
             return Ok(sink.into_datagrams());
         };
         let mut sink = RedSink::new(sink, sender, self.types.pt.get(), self.mtu);
-        let pushed =
-            self.payloader
-                .push_sample(self.alloc, &mut sink, self.mtu - 1, time, bytes, values);
+        let pushed = self
+            .payloader
+            .push_sample(self.alloc, &mut sink, self.mtu - 1, time, bytes, values);
         let (sink, sender) = sink.into_parts();
         self.redundancy = Some(sender);
         pushed?;

@@ -16,5 +16,7 @@ pub returns-clause-sender : goal.returns-clause-sender
 unfolding first_state
 returns-clause-sender c =
     c.configure_for.ensures.sender
-    ∙ ap (λ s. sender_under s c.unwrap-packetizer.result) (rw c.unwrap-packetizer.ensures at c.with_picture_id.ensures.sender)
-    ∙ first-kept c.unwrap-packetizer.result c.args.row.now.codec (unwrap_or c.args.picture_id 0) (rw c.unwrap-packetizer.ensures at c.with_picture_id.ensures.variant)
+    ∙ ap (λ s. sender_under s c.unwrap-packetizer.result)
+    (rw c.unwrap-packetizer.ensures at c.with_picture_id.ensures.sender)
+    ∙ first-kept c.unwrap-packetizer.result c.args.row.now.codec (unwrap_or c.args.picture_id 0)
+    (rw c.unwrap-packetizer.ensures at c.with_picture_id.ensures.variant)

@@ -1,4 +1,5 @@
-use Rattle.rtp_media_streams.proofs.Sent.{datagrams_of-consecutive, payloads-within, still-typed, sent-short, datagram-read, datagram-payload}
+use Rattle.rtp_media_streams.proofs.Sent.{datagrams_of-consecutive, payloads-within, still-typed, sent-short}
+use Rattle.rtp_media_streams.proofs.Sent.{datagram-read, datagram-payload}
 use Rattle.rtp_media_streams.proofs.laws.datagrams_laws.Goals as goal
 
 pub returns-clause-consecutive : goal.returns-clause-consecutive

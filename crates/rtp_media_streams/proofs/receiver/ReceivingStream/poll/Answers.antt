@@ -24,7 +24,8 @@ returns-clause-after c =
 
 pub returns-clause-fault : goal.returns-clause-fault
 returns-clause-fault c =
-    subst₂ (λ (f : Format) (s : Stream). IfErr c.pop.result (λ fault. fault ≢ Memory → given (poll_answer f s) ≡ Err fault))
+    subst₂ (λ (f : Format) (s : Stream). IfErr c.pop.result
+    (λ fault. fault ≢ Memory → given (poll_answer f s) ≡ Err fault))
     (c.self.invariant ∙ ap (λ (r : Receiving). format_of r.row) c.self.view_is)
     (ap (λ (r : Receiving). r.stream) c.self.view_is)
     (c.pop.ensures.fault c.self.inside.window)

@@ -11,8 +11,10 @@ pub returns-in-Ok-None-clause-polled : goal.returns-in-Ok-None-clause-polled
 returns-in-Ok-None-clause-polled c =
     let s : Stream = c.loop-answers.self.stream in
     let row = ap (λ (r : Receiving). format_of r.row) c.loop-answers.invariant.same in
-    polled_out (format_of c.args.self.now.row) c.args.self.now.stream s c.poll.new.self.stream c.loop-answers.answers.items
-    (subst (λ (f : Format). given (poll_answer f s) ≡ Ok None) row (rw c.in-Ok-None.field-0-is at c.in-Ok-None.ensures.answer))
+    polled_out (format_of c.args.self.now.row) c.args.self.now.stream s c.poll.new.self.stream
+    c.loop-answers.answers.items
+    (subst (λ (f : Format). given (poll_answer f s) ≡ Ok None) row
+    (rw c.in-Ok-None.field-0-is at c.in-Ok-None.ensures.answer))
     (ap (λ (r : Receiving). r.stream) c.in-Ok-None.ensures.after ∙ ap (λ (f : Format). polled f s) row)
     c.loop-answers.invariant.so
 
@@ -21,9 +23,12 @@ loop-answers-preserved-in-Continue-1 c =
     let s : Stream = c.loop-answers.self.stream in
     let row = ap (λ (r : Receiving). format_of r.row) c.loop-answers.invariant.same in
     record {
-      same = c.in-Ok-Some.ensures.same ∙ ap (λ (r : Receiving). with_stream r c.poll.new.self.stream) c.loop-answers.invariant.same;
-      so = polled_more (format_of c.args.self.now.row) c.args.self.now.stream s c.poll.new.self.stream c.in-Ok-Some.unit c.loop-answers.answers.items c.push.new.self.items
-          (subst (λ (f : Format). given (poll_answer f s) ≡ Ok (Some c.in-Ok-Some.unit)) row (rw c.in-Ok-Some.field-0-is at c.in-Ok-Some.ensures.answer))
+      same = c.in-Ok-Some.ensures.same ∙ ap (λ (r : Receiving). with_stream r c.poll.new.self.stream)
+          c.loop-answers.invariant.same;
+      so = polled_more (format_of c.args.self.now.row) c.args.self.now.stream s c.poll.new.self.stream
+          c.in-Ok-Some.unit c.loop-answers.answers.items c.push.new.self.items
+          (subst (λ (f : Format). given (poll_answer f s) ≡ Ok (Some c.in-Ok-Some.unit)) row
+          (rw c.in-Ok-Some.field-0-is at c.in-Ok-Some.ensures.answer))
           (ap (λ (r : Receiving). r.stream) c.in-Ok-Some.ensures.after ∙ ap (λ (f : Format). polled f s) row)
           c.in_ok-push-in-Ok-Some.ensures.items
           c.loop-answers.invariant.so;
@@ -32,8 +37,10 @@ loop-answers-preserved-in-Continue-1 c =
 pub returns-in-Memory-clause-polled : goal.returns-in-Memory-clause-polled
 returns-in-Memory-clause-polled c =
     let row = ap (λ (r : Receiving). format_of r.row) c.loop-answers.invariant.same in
-    polled_short (format_of c.args.self.now.row) c.args.self.now.stream c.loop-answers.self.stream c.poll.new.self.stream c.loop-answers.answers.items c.push-in-Memory.new.self.items
-    (subst (λ (f : Format). IsInterrupted f c.loop-answers.self.stream c.poll.new.self.stream) row (c.in-Err.ensures.memory c.in-Memory.is))
+    polled_short (format_of c.args.self.now.row) c.args.self.now.stream c.loop-answers.self.stream
+    c.poll.new.self.stream c.loop-answers.answers.items c.push-in-Memory.new.self.items
+    (subst (λ (f : Format). IsInterrupted f c.loop-answers.self.stream c.poll.new.self.stream) row
+    (c.in-Err.ensures.memory c.in-Memory.is))
     c.in_ok-push-in-Memory.ensures.items
     c.loop-answers.invariant.so
 
@@ -42,11 +49,15 @@ loop-answers-preserved c =
     let s : Stream = c.loop-answers.self.stream in
     let row = ap (λ (r : Receiving). format_of r.row) c.loop-answers.invariant.same in
     record {
-      same = c.in-Err.ensures.same ∙ ap (λ (r : Receiving). with_stream r c.poll.new.self.stream) c.loop-answers.invariant.same;
-      so = polled_fault (format_of c.args.self.now.row) c.args.self.now.stream s c.poll.new.self.stream c.in-Err.fault c.loop-answers.answers.items c.push-in_default.new.self.items
+      same = c.in-Err.ensures.same ∙ ap (λ (r : Receiving). with_stream r c.poll.new.self.stream)
+          c.loop-answers.invariant.same;
+      so = polled_fault (format_of c.args.self.now.row) c.args.self.now.stream s c.poll.new.self.stream
+          c.in-Err.fault c.loop-answers.answers.items c.push-in_default.new.self.items
           c.in_default.not-Memory
-          (subst (λ (f : Format). given (poll_answer f s) ≡ Err c.in-Err.fault) row (c.in-Err.ensures.fault c.in_default.not-Memory))
-          (ap (λ (r : Receiving). r.stream) (c.in-Err.ensures.behind c.in_default.not-Memory) ∙ ap (λ (f : Format). polled f s) row)
+          (subst (λ (f : Format). given (poll_answer f s) ≡ Err c.in-Err.fault) row
+          (c.in-Err.ensures.fault c.in_default.not-Memory))
+          (ap (λ (r : Receiving). r.stream) (c.in-Err.ensures.behind c.in_default.not-Memory)
+          ∙ ap (λ (f : Format). polled f s) row)
           c.in_ok-push-in_default.ensures.items
           c.loop-answers.invariant.so;
     }

@@ -12,10 +12,13 @@ returns-in-Ok-clause-after c =
     let word : payloads_at s c.in_ok-time.time c.args.values.now c.args.bytes.now ≡ all =
     ap (λ (w : ℕ). payloads_at s w c.args.values.now c.args.bytes.now) c.in_ok-time.ensures.word in
     let count : length c.in-Ok.datagrams.items ≡ length all =
-    ap length c.in-Ok.ensures.sent ∙ length-datagrams_from s s.next _ ∙ length-on_wire s.types.pt s.mtu s.redundancy _ ∙ ap length word in
+    ap length c.in-Ok.ensures.sent ∙ length-datagrams_from s s.next _
+    ∙ length-on_wire s.types.pt s.mtu s.redundancy _ ∙ ap length word in
     let n : c.len.result ≡ length all = omega (arith, count) in
     let next : c.self.inside.next ≡ s.next = ap (λ (x : Sending). x.next) same in
     let sum : c.self.inside.next + c.len.result ≡ s.next + length all = omega arith in
     ap (λ (x : Sending). with_next x (c.self.inside.next + c.len.result) x.packetizer x.redundancy) same
-    ∙ ap (λ (k : ℕ). with_next s k (sent s c.args.bytes.now).sender (still_kept s.types.pt s.redundancy (payloads_at s c.in_ok-time.time c.args.values.now c.args.bytes.now))) sum
-    ∙ ap (λ (ps : List Outgoing). with_next s (s.next + length all) (sent s c.args.bytes.now).sender (still_kept s.types.pt s.redundancy ps)) word
+    ∙ ap (λ (k : ℕ). with_next s k (sent s c.args.bytes.now).sender
+    (still_kept s.types.pt s.redundancy (payloads_at s c.in_ok-time.time c.args.values.now c.args.bytes.now))) sum
+    ∙ ap (λ (ps : List Outgoing). with_next s (s.next + length all) (sent s c.args.bytes.now).sender
+    (still_kept s.types.pt s.redundancy ps)) word
