@@ -44,6 +44,7 @@ abbrev pub sample_error_name : SampleError → List ℕ
 sample_error_name sample_error.StreamFailed = codes "StreamFailed"
 sample_error_name sample_error.TimeTooLarge = codes "TimeTooLarge"
 sample_error_name sample_error.LimitTooSmall = codes "LimitTooSmall"
+sample_error_name (sample_error.Payload error) = codes "Payload"
 sample_error_name sample_error.Memory = memory
 
 abbrev pub fault_name : PollFault → List ℕ

@@ -1,13 +1,15 @@
 -- What the program answers to each command, from the definitions of its calls.
-use Rattle.std.specs.Prelude.{ℕ, ◌≡◌, ◌≢◌, ◌⊎◌, Bool, IsTrue, nat_lt, if◌then◌else◌, List, [], ◌∷◌, ◌++◌, length, map, Option, Some, None}
+use Rattle.std.specs.Prelude.{ℕ, ◌≡◌, ◌≢◌, ◌⊎◌, Bool, IsTrue, nat_lt, if◌then◌else◌, List, [], ◌∷◌, ◌++◌, length, map, Option, Some, None, Ok, Err}
 use Rattle.std.specs.Option.{option_map}
 use Rattle.rtp_wire.specs.Name.{name_of}
 use Rattle.rtp_wire.specs.Time.{Time}
 use Rattle.rtp_wire.specs.Values.{absent}
 use Rattle.rtp_wire.specs.declared.ExtensionValues.{ExtensionValues}
-use Rattle.rtp_media_runs.specs.Heard.{MediaUnit, poll_answer}
-use Rattle.rtp_media_streams.specs.Sending.{sent_datagrams, after_sample, failed_stream, refusal_of_sample}
-use Rattle.rtp_media_streams.specs.Receiving.{polled_receiver}
+use Rattle.rtp_media_runs.specs.Hearing.{MediaUnit, poll_answer}
+use Rattle.rtp_media_streams.specs.Polls.{IsInterrupted, PollResult, given}
+use Rattle.rtp_media_streams.specs.Rows.{format_of}
+use Rattle.rtp_media_streams.specs.Sending.{HasFailed, sent_datagrams, after_sample, refusal_of_sample}
+use Rattle.rtp_media_streams.specs.Receiving.{Receiving, polled_receiver, with_stream}
 use Rattle.rtp_media_streams.specs.declared.errors.SampleError.{SampleError}
 use Rattle.rtp_media_ends.specs.declared.errors.OpenError.{OpenError}
 use Rattle.rtp_media_ends.specs.declared.params.StreamParams.{StreamParams}
@@ -25,7 +27,7 @@ use Rattle.rtp_media_lines.specs.declared.line.ReceiveCommand.{ReceiveCommand}
 use Rattle.rtp_media_lines.specs.declared.line.PollCommand.{PollCommand}
 use Rattle.rtp_media_lines.specs.declared.reply.Reply.{Reply}
 use Rattle.rtp_media_lines.specs.declared.reply.Reply.TheVariants as reply
-use Rattle.rtp_media.specs.Names.{open_error_name, sample_error_name, memory}
+use Rattle.rtp_media.specs.Names.{fault_name, memory, open_error_name, sample_error_name}
 
 -- An end, where there is one, and what is printed.
 pub record EndStep : Type 0 where
@@ -70,7 +72,7 @@ open_step (Some e) c = receiver_step e c (refusal_of_open_receiver e (name_of 16
 
 -- a command's time, at the clock rate of its stream's row
 abbrev pub time_of : EndState → SampleCommand → Time
-time_of e c = record { ticks = c.time; rate = (sender_at e c.stream).rate }
+time_of e c = record { ticks = c.time; rate = (sender_at e c.stream).row.clock_rate }
 
 -- the values that a sample is given: the name of its section, where one is (RFC 9143 15)
 abbrev pub values_given : Option (List ℕ) → ExtensionValues
@@ -87,7 +89,7 @@ sent_step e c None = record {
 abbrev pub sample_step : Option EndState → SampleCommand → EndStep
 sample_step None c = prints None reply.ErrorLine
 sample_step (Some e) c =
-    if nat_lt c.stream (length e.senders) then sent_step e c (refusal_of_sample (sender_at e c.stream) (time_of e c) (values_given c.mid))
+    if nat_lt c.stream (length e.senders) then sent_step e c (refusal_of_sample (sender_at e c.stream) (time_of e c) (values_given c.mid) c.sample)
     else prints (Some e) reply.ErrorLine
 
 abbrev pub verdict_reply : Received → Reply
@@ -106,11 +108,20 @@ abbrev pub unit_reply : Option MediaUnit → Reply
 unit_reply None = reply.NoUnit
 unit_reply (Some unit) = reply.NextUnit unit.first unit.last unit.time unit.bytes
 
+abbrev pub poll_reply : PollResult → Reply
+poll_reply (Ok unit) = unit_reply unit
+poll_reply (Err fault) = reply.Fault (fault_name fault)
+
+-- what a poll of a receiving stream answers
+abbrev pub poll_result : Receiving → PollResult
+poll_result r = given (poll_answer (format_of r.row) r.stream)
+
 -- poll E N
 abbrev pub poll_step : Option EndState → PollCommand → EndStep
 poll_step None c = prints None reply.ErrorLine
 poll_step (Some e) c =
-    if nat_lt c.stream (length e.receivers) then becomes (with_receiver e c.stream (polled_receiver (receiver_at e c.stream))) (unit_reply (poll_answer (receiver_at e c.stream).stream))
+    if nat_lt c.stream (length e.receivers) then
+      becomes (with_receiver e c.stream (polled_receiver (receiver_at e c.stream))) (poll_reply (poll_result (receiver_at e c.stream)))
     else prints (Some e) reply.ErrorLine
 
 -- What a command of streams does to the end that it names, and what is printed. The commands that make
@@ -124,38 +135,37 @@ step_of end (Receive c) = receive_step end c
 step_of end (Poll c) = poll_step end c
 step_of end command = prints end reply.ErrorLine
 
--- the end whose sending stream failed
-abbrev pub with_failed : Option EndState → ℕ → Option EndState
-with_failed end stream = option_map (λ e. with_sender e stream (failed_stream (sender_at e stream))) end
-
--- The same where the call runs out of memory.
-abbrev pub out_of_memory_step : Option EndState → Command → EndStep
-out_of_memory_step end (Sample c) = prints (with_failed end c.stream) (reply.Refused memory)
-out_of_memory_step end (Poll c) = prints end (reply.Fault memory)
-out_of_memory_step end command = prints end (reply.Refused memory)
-
--- Whether a command makes a call that may want memory: its end is there, its conditions hold, and a poll
--- has a unit to hand out.
-abbrev pub MayWantMemoryAt : EndState → Command → Type 0
-MayWantMemoryAt e (Send c) = IsTrue (is_sound_send e c)
-MayWantMemoryAt e (Open c) = Unit {0}
-MayWantMemoryAt e (Sample c) = IsTrue (nat_lt c.stream (length e.senders))
-MayWantMemoryAt e (Receive c) = Unit {0}
-MayWantMemoryAt e (Poll c) =
-    IsTrue (nat_lt c.stream (length e.receivers)) × (poll_answer (receiver_at e c.stream).stream ≢ None)
-MayWantMemoryAt e command = ⊥
-
-abbrev pub MayWantMemory : Option EndState → Command → Type 0
-MayWantMemory end (Fixed letter) = Unit {0}
-MayWantMemory None command = ⊥
-MayWantMemory (Some e) command = MayWantMemoryAt e command
-
 -- the end is this, and so are the replies
 abbrev pub IsStep : EndStep → Option EndState → List Reply → Type 0
 IsStep step end replies = (end ≡ step.end) × (replies ≡ step.replies)
 
+-- A sending stream ran out of memory: it is marked as failed, and the others stay.
+abbrev pub SenderFails : EndState → ℕ → EndState → Type 0
+SenderFails e n after = HasFailed (sender_at e n) (sender_at after n) × (after ≡ with_sender e n (sender_at after n))
+
+-- A poll ran out of memory, which only one that has a unit to hand out does: its frame stays.
+abbrev pub PollStops : EndState → ℕ → EndState → Type 0
+PollStops e n after =
+    IsInterrupted (format_of (receiver_at e n).row) (receiver_at e n).stream (receiver_at after n).stream
+    × (after ≡ with_receiver e n (with_stream (receiver_at e n) (receiver_at after n).stream))
+
+-- A command's call runs out of memory, which only one does whose conditions hold.
+abbrev pub RunsOutAt : EndState → Command → EndState → List Reply → Type 0
+RunsOutAt e (Send c) after replies =
+    IsTrue (is_sound_send e c) × (after ≡ e) × (replies ≡ reply.Refused memory ∷ [])
+RunsOutAt e (Open c) after replies = (after ≡ e) × (replies ≡ reply.Refused memory ∷ [])
+RunsOutAt e (Sample c) after replies =
+    IsTrue (nat_lt c.stream (length e.senders)) × SenderFails e c.stream after × (replies ≡ reply.Refused memory ∷ [])
+RunsOutAt e (Receive c) after replies = (after ≡ e) × (replies ≡ reply.Refused memory ∷ [])
+RunsOutAt e (Poll c) after replies =
+    IsTrue (nat_lt c.stream (length e.receivers)) × PollStops e c.stream after × (replies ≡ reply.Fault memory ∷ [])
+RunsOutAt e command after replies = ⊥
+
+abbrev pub RunsOut : Option EndState → Command → Option EndState → List Reply → Type 0
+RunsOut old (Fixed letter) new replies = (new ≡ old) × (replies ≡ reply.Refused memory ∷ [])
+RunsOut (Some e) command (Some after) replies = RunsOutAt e command after replies
+RunsOut old command new replies = ⊥
+
 -- A command is answered as stated, or its call runs out of memory.
 abbrev pub IsAnswered : Option EndState → Command → Option EndState → List Reply → Type 0
-IsAnswered old command new replies =
-    IsStep (step_of old command) new replies
-    ⊎ (MayWantMemory old command × IsStep (out_of_memory_step old command) new replies)
+IsAnswered old command new replies = IsStep (step_of old command) new replies ⊎ RunsOut old command new replies

@@ -8,7 +8,8 @@ use Rattle.rtp_media_ends.specs.Connections.{HaveOneAgreement}
 same_section : (s t : Section) → Some s ≡ Some t → s ≡ t
 same_section s t h = cc h
 
-pub one_agreement : (text : List ℕ) (a b : Option Agreed) → AgreesOnText text a → AgreesOnText text b → HaveOneAgreement a b
+pub one_agreement : (text : List ℕ) (a b : Option Agreed) → AgreesOnText text a → AgreesOnText text b
+    → HaveOneAgreement a b
 one_agreement text a b x y =
     let same = same_section x.0 y.0 (sym x.1 ∙ y.1) in
     record {

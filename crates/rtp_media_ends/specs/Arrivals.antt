@@ -3,7 +3,8 @@ use Rattle.rtp_wire.specs.Header.{header_in}
 use Rattle.rtp_wire.specs.Maps.{empty_map}
 use Rattle.rtp_wire.specs.declared.ExtensionValues.{ExtensionValues}
 use Rattle.rtp_wire.specs.declared.header.RtpHeader.{RtpHeader}
-use Rattle.rtp_media_streams.specs.Receiving.{Receiving, is_own, media_payload, taken_number, arrived, values_read, with_stream}
+use Rattle.rtp_media_streams.specs.Receiving.{Receiving, is_own, media_payload, taken_number, arrived, values_read}
+use Rattle.rtp_media_streams.specs.Receiving.{with_stream}
 use Rattle.rtp_media_ends.specs.Ends.{EndState, nth_receiver, receiver_at, with_receiver}
 use Rattle.rtp_media_ends.specs.declared.received.Received.{Received}
 use Rattle.rtp_media_ends.specs.declared.received.Received.TheVariants.{Unreadable, Foreign, Damaged, Refused, Taken}
@@ -21,12 +22,14 @@ pub data Arrival : Type 0 where
 abbrev pub own_of : ℕ → RtpHeader → ExtensionValues → Option (List ℕ) → Arrival
 own_of stream header values None = NoPayload
 own_of stream header values (Some []) = NoPayload
-own_of stream header values (Some (byte ∷ bytes)) = Own stream header.sequence_number header.timestamp header.marker values (byte ∷ bytes)
+own_of stream header values (Some (byte ∷ bytes)) =
+    Own stream header.sequence_number header.timestamp header.marker values (byte ∷ bytes)
 
 abbrev pub arrival_for : List Receiving → Option ℕ → RtpHeader → List ℕ → Arrival
 arrival_for receivers None header datagram = NoStream
 arrival_for receivers (Some stream) header datagram =
-    own_of stream header (values_read (nth_receiver receivers stream).map datagram) (media_payload (nth_receiver receivers stream).types header datagram)
+    own_of stream header (values_read (nth_receiver receivers stream).map datagram)
+    (media_payload (nth_receiver receivers stream).types header datagram)
 
 -- the number of the receiving stream of an SSRC and a payload type
 abbrev pub stream_for : List Receiving → ℕ → ℕ → Option ℕ
@@ -34,7 +37,8 @@ stream_for receivers ssrc pt = position (λ r. is_own r ssrc pt) receivers
 
 abbrev pub arrival_by : List Receiving → Option RtpHeader → List ℕ → Arrival
 arrival_by receivers None datagram = NoHeader
-arrival_by receivers (Some header) datagram = arrival_for receivers (stream_for receivers header.ssrc header.payload_type) header datagram
+arrival_by receivers (Some header) datagram =
+    arrival_for receivers (stream_for receivers header.ssrc header.payload_type) header datagram
 
 -- What a datagram is to an end with these receiving streams (RFC 3550 5.1).
 abbrev pub arrival_at : List Receiving → List ℕ → Arrival
@@ -49,7 +53,8 @@ abbrev pub verdict_for : EndState → Arrival → Received
 verdict_for e NoHeader = Unreadable
 verdict_for e NoStream = Foreign
 verdict_for e NoPayload = Damaged
-verdict_for e (Own stream low time marker values payload) = verdict_on stream (taken_number (receiver_at e stream).stream low)
+verdict_for e (Own stream low time marker values payload) =
+    verdict_on stream (taken_number (receiver_at e stream).stream low)
 
 -- The end after `receive`: one step of the stream whose own it is, and else as it was.
 abbrev pub after_arrival : EndState → Arrival → EndState
@@ -57,7 +62,8 @@ after_arrival e NoHeader = e
 after_arrival e NoStream = e
 after_arrival e NoPayload = e
 after_arrival e (Own stream low time marker values payload) =
-    with_receiver e stream (with_stream (receiver_at e stream) (arrived (receiver_at e stream).stream low time marker values payload))
+    with_receiver e stream (with_stream (receiver_at e stream)
+    (arrived (receiver_at e stream).stream low time marker values payload))
 
 abbrev pub verdict_of : EndState → List ℕ → Received
 verdict_of e datagram = verdict_for e (arrival_at e.receivers datagram)

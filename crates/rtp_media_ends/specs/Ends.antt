@@ -1,16 +1,24 @@
-use Rattle.std.specs.Prelude.{ℕ, Bool, not, ◌==◌, List, [], ◌∷◌, ◌++◌, Option, Some, None, if◌then◌else◌, unwrap_or, slice_set, slice_index_or}
+use Rattle.std.specs.Prelude.{ℕ, Bool, not, ◌==◌, ◌&&◌, List, [], ◌∷◌, ◌++◌, Option, Some, None, if◌then◌else◌}
+use Rattle.std.specs.Prelude.{unwrap_or, slice_set, slice_index_or}
 use Rattle.std.specs.List.{list_any}
 use Rattle.rtp_wire.specs.Maps.{empty_map}
 use Rattle.rtp_wire.specs.Values.{Numbering}
-use Rattle.rtp_media_streams.specs.Sending.{Sending, opened_sender, redundant_sender, is_sending}
-use Rattle.rtp_media_streams.specs.Receiving.{Receiving, opened_receiver, is_receiving}
+use Rattle.payload_core_base.specs.declared.codec.Codec.TheVariants.{Unknown}
+use Rattle.h26x_payload.specs.Codings.{has_format}
+use Rattle.rtp_media_streams.specs.Sending as sending
+use Rattle.rtp_media_streams.specs.Sending.{Sending, opened_sender, redundant_sender}
+use Rattle.rtp_media_streams.specs.Receiving as receiving
+use Rattle.rtp_media_streams.specs.Receiving.{Receiving, opened_receiver}
+use Rattle.rtp_media_streams.specs.declared.row_format.RowFormat.{RowFormat}
 use Rattle.rtp_media_streams.specs.declared.types.PayloadTypes.{PayloadTypes}
 use Rattle.sdp_formats_rows.specs.Rows.{Row}
-use Rattle.rtp_media_exchange.specs.Agreement.{Agreed, section_of, agreed_row_of, agreed_map_of, is_named, own_row_agrees}
+use Rattle.rtp_media_exchange.specs.Agreement.{Agreed, section_of, agreed_row_of, agreed_map_of, is_named}
+use Rattle.rtp_media_exchange.specs.Agreement.{own_row_agrees}
 use Rattle.rtp_media_exchange.specs.Exchanges.{Exchanged, fresh, fixed}
 use Rattle.rtp_media_ends.specs.declared.params.StreamParams.{StreamParams}
 use Rattle.rtp_media_ends.specs.declared.errors.OpenError.{OpenError}
-use Rattle.rtp_media_ends.specs.declared.errors.OpenError.TheVariants.{NoSection, RowNotAgreed, RowDiffers, WrongDirection, SsrcNotNamed, AlreadyOpen}
+use Rattle.rtp_media_ends.specs.declared.errors.OpenError.TheVariants.{NoSection, RowNotAgreed, RowDiffers}
+use Rattle.rtp_media_ends.specs.declared.errors.OpenError.TheVariants.{WrongDirection, SsrcNotNamed, AlreadyOpen}
 
 -- What an end keeps: its exchanges, and its streams by number.
 pub record EndState : Type 0 where
@@ -44,17 +52,36 @@ types_of row = record { pt = row.pt; red = row.red }
 abbrev pub no_types : PayloadTypes
 no_types = record { pt = 0; red = None }
 
+-- what a row says of its payloads
+abbrev pub row_format_of : Row → RowFormat
+row_format_of row = record {
+  codec = row.spec.codec;
+  clock_rate = row.spec.clock_rate;
+  octet_align = row.spec.format.octet_align;
+  sprop_max_don_diff = row.spec.format.sprop_max_don_diff;
+}
+
+-- that of no row
+abbrev pub no_row_format : RowFormat
+no_row_format = record { codec = Unknown; clock_rate = 1; octet_align = None; sprop_max_don_diff = None }
+
 -- the n-th stream
 abbrev pub sender_at : EndState → ℕ → Sending
-sender_at e n = slice_index_or e.senders n (opened_sender 0 no_types empty_map 1 0 1 0)
+sender_at e n = slice_index_or e.senders n (opened_sender 0 no_types empty_map no_row_format None 0 1 0)
 
 abbrev pub nth_receiver : List Receiving → ℕ → Receiving
-nth_receiver receivers n = slice_index_or receivers n (opened_receiver 0 no_types empty_map 0)
+nth_receiver receivers n = slice_index_or receivers n (opened_receiver 0 no_types empty_map no_row_format 0)
 
 abbrev pub receiver_at : EndState → ℕ → Receiving
 receiver_at e n = nth_receiver e.receivers n
 
--- Why no stream can be opened in a section, by whether it has the row, the end's own row agrees with it,
+-- a row, where its codec has a payload format
+abbrev pub with_format : Option Row → Option Row
+with_format None = None
+with_format (Some row) = if has_format row.spec.codec then Some row else None
+
+-- Why no stream can be opened in a section, by whether it has the row, of a codec with a payload format, the end's
+-- own row agrees with it,
 -- it flows this way, is named an SSRC by its sender, and has such a stream: the first that holds.
 abbrev pub refusal_by : Bool → Bool → Bool → Bool → Bool → Option OpenError
 refusal_by has_row agrees flows names is_open =
@@ -67,28 +94,37 @@ refusal_by has_row agrees flows names is_open =
 
 abbrev pub sender_refusal_in : Option Row → Option Agreed → List Sending → ℕ → ℕ → Option OpenError
 sender_refusal_in own None senders ssrc pt = Some NoSection
-sender_refusal_in own (Some a) senders ssrc pt = refusal_by (a.row.pt == pt) (own_row_agrees own a.row) a.sends (is_named a.own_ssrcs ssrc) (list_any (λ s. is_sending s ssrc (types_of a.row)) senders)
+sender_refusal_in own (Some a) senders ssrc pt =
+    refusal_by ((a.row.pt == pt) && has_format a.row.spec.codec) (own_row_agrees own a.row) a.sends
+    (is_named a.own_ssrcs ssrc) (list_any (λ s. sending.conflicts_with s ssrc (types_of a.row)) senders)
 
 abbrev pub receiver_refusal_in : Option Row → Option Agreed → List Receiving → ℕ → ℕ → Option OpenError
 receiver_refusal_in own None receivers ssrc pt = Some NoSection
-receiver_refusal_in own (Some a) receivers ssrc pt = refusal_by (a.row.pt == pt) (own_row_agrees own a.row) a.receives (is_named a.remote_ssrcs ssrc) (list_any (λ r. is_receiving r ssrc (types_of a.row)) receivers)
+receiver_refusal_in own (Some a) receivers ssrc pt =
+    refusal_by ((a.row.pt == pt) && has_format a.row.spec.codec) (own_row_agrees own a.row) a.receives
+    (is_named a.remote_ssrcs ssrc) (list_any (λ r. receiving.conflicts_with r ssrc (types_of a.row)) receivers)
 
 -- Why `open_sender` is refused, want of memory aside.
 unfoldable pub refusal_of_open_sender : EndState → List ℕ → ℕ → ℕ → Option OpenError
-refusal_of_open_sender e mid ssrc pt = sender_refusal_in e.exchange.row (section_of e.exchange.agreed mid) e.senders ssrc pt
+refusal_of_open_sender e mid ssrc pt = sender_refusal_in e.exchange.row (section_of e.exchange.agreed mid) e.senders
+    ssrc pt
 
 -- Why `open_receiver` is refused, want of memory aside.
 unfoldable pub refusal_of_open_receiver : EndState → List ℕ → ℕ → ℕ → Option OpenError
-refusal_of_open_receiver e mid ssrc pt = receiver_refusal_in e.exchange.row (section_of e.exchange.agreed mid) e.receivers ssrc pt
-
--- the clock rate of a row's timestamps
-abbrev pub rate_of : Option Row → ℕ
-rate_of None = 1
-rate_of (Some row) = row.spec.clock_rate
+refusal_of_open_receiver e mid ssrc pt =
+    receiver_refusal_in e.exchange.row (section_of e.exchange.agreed mid) e.receivers ssrc pt
 
 -- the map of header extensions of a new stream: the agreed one
 abbrev pub stream_map : EndState → List ℕ → Numbering
 stream_map e mid = unwrap_or (agreed_map_of e.exchange.agreed mid) empty_map
+
+-- what the row of a new stream says of its payloads
+abbrev pub row_format_in : Option Row → RowFormat
+row_format_in None = no_row_format
+row_format_in (Some row) = row_format_of row
+
+abbrev pub agreed_format : EndState → List ℕ → ℕ → RowFormat
+agreed_format e mid pt = row_format_in (agreed_row_of e.exchange.agreed mid pt)
 
 -- the payload types of a new stream, and its RED type
 abbrev pub types_in : Option Row → PayloadTypes
@@ -115,12 +151,15 @@ unfoldable pub after_open_sender : EndState → List ℕ → ℕ → ℕ → Str
 after_open_sender e mid ssrc pt params =
     with_new_sender e
     (with_distances
-    (opened_sender ssrc (agreed_types e mid pt) (stream_map e mid) (rate_of (agreed_row_of e.exchange.agreed mid pt)) params.first params.mtu params.limit)
+    (opened_sender ssrc (agreed_types e mid pt) (stream_map e mid) (agreed_format e mid pt) params.picture_id
+    params.first params.mtu params.limit)
     (agreed_red e mid pt) params.red)
 
 -- the end with a receiving stream more, which reads under the agreed map
 unfoldable pub after_open_receiver : EndState → List ℕ → ℕ → ℕ → ℕ → EndState
-after_open_receiver e mid ssrc pt hold_back = with_new_receiver e (opened_receiver ssrc (agreed_types e mid pt) (stream_map e mid) hold_back)
+after_open_receiver e mid ssrc pt hold_back =
+    with_new_receiver e (opened_receiver ssrc (agreed_types e mid pt) (stream_map e mid) (agreed_format e mid pt)
+    hold_back)
 
 -- A fixed end without streams.
 abbrev pub fixed_end : EndState

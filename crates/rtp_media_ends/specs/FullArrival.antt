@@ -1,13 +1,17 @@
-use Rattle.std.specs.Prelude.{ℕ, ◌≡◌, ◌+◌, ◌-◌, ◌^◌, ◌<◌, ◌≤◌, ◌==◌, ◌&&◌, Bool, true, false, List, [], ◌∷◌, length, map, filter, All, Option, Some, None, slice_index_or}
+use Rattle.std.specs.Prelude.{ℕ, ◌≡◌, ◌+◌, ◌-◌, ◌^◌, ◌<◌, ◌≤◌, ◌==◌, ◌&&◌, Bool, true, false, List, [], ◌∷◌, length}
+use Rattle.std.specs.Prelude.{map, filter, All, Option, Some, None, slice_index_or}
 use Rattle.rtp_wire.specs.Carried.{AreValues}
 use Rattle.rtp_wire.specs.Header.{header_in}
 use Rattle.rtp_wire.specs.Maps.{empty_map}
 use Rattle.rtp_wire.specs.declared.header.RtpHeader.{RtpHeader}
-use Rattle.rtp_media_runs.specs.Heard.{MediaUnit}
-use Rattle.rtp_media_runs.specs.Schedules.{AreGoodArrivals}
-use Rattle.rtp_media_runs.specs.Opus.{Timed, payloads, units_from}
+use Rattle.payload_core_base.specs.Law.{Coding}
+use Rattle.rtp_media_runs.specs.Samples.{Timed}
+use Rattle.rtp_media_schedules.specs.Samples.{AreWellFormed, SentSample, canonical_units, packets_of, sent_by}
+use Rattle.rtp_media_schedules.specs.Samples.{whole_unit}
+use Rattle.rtp_media_schedules.specs.Turns.{AreGoodArrivals}
 use Rattle.rtp_media_streams.specs.Polls.{Answers, IsPolled}
-use Rattle.rtp_media_streams.specs.Sending.{Sending, IsTyped, as_carried, datagrams_from, piece_limit, wire_payloads}
+use Rattle.rtp_media_streams.specs.Rows.{coding_in, format_of}
+use Rattle.rtp_media_streams.specs.Sending.{Sample, Sending, IsTyped, datagrams_of, packet_limit, samples_of}
 use Rattle.rtp_media_streams.specs.Receiving.{Receiving, opened_receiver, with_stream}
 use Rattle.rtp_media_streams.specs.Types.{has_type}
 use Rattle.rtp_media_streams.specs.declared.types.PayloadTypes.{PayloadTypes}
@@ -31,7 +35,7 @@ with_receivers e rs = record { exchange = e.exchange; senders = e.senders; recei
 
 -- A receiving stream was polled until None or want of memory: its answers, and the stream after them.
 pub record IsPolledOut (before : Receiving) (answers : Answers) (after : Receiving) : Type 0 where
-  pub polled : IsPolled before.stream answers after.stream
+  pub polled : IsPolled (format_of before.row) before.stream answers after.stream
   pub same_stream : after ≡ with_stream before after.stream
 
 -- the answers of the n-th stream
@@ -42,7 +46,8 @@ answers_at answers n = slice_index_or answers n []
 pub record ArePolledOut (before : List Receiving) (answers : List Answers) (after : List Receiving) : Type 0 where
   pub as_many : length after ≡ length before
   pub as_many_answers : length answers ≡ length before
-  pub each : (n : ℕ) → n < length before → IsPolledOut (nth_receiver before n) (answers_at answers n) (nth_receiver after n)
+  pub each : (n : ℕ) → n < length before → IsPolledOut (nth_receiver before n) (answers_at answers n)
+      (nth_receiver after n)
 
 abbrev pub is_header_of : ℕ → PayloadTypes → Option RtpHeader → Bool
 is_header_of ssrc types None = false
@@ -52,41 +57,54 @@ is_header_of ssrc types (Some header) = (ssrc == header.ssrc) && has_type types 
 abbrev pub is_own_datagram : ℕ → PayloadTypes → List ℕ → Bool
 is_own_datagram ssrc types datagram = is_header_of ssrc types (header_in empty_map datagram)
 
--- the payloads of samples that a stream sends, without redundancy
-abbrev pub payloads_sent : Sending → List Timed → List Timed
-payloads_sent sender samples = payloads (piece_limit sender) samples
+-- the payload format of a sending stream
+abbrev pub coding_of : Sending → Coding
+coding_of s = coding_in s.row s.has_id
 
--- the datagram of a number, of samples that a stream sends
-abbrev pub sent_datagram : Sending → List Timed → ℕ → List ℕ
-sent_datagram sender samples number = slice_index_or (datagrams_from sender sender.next (wire_payloads sender (payloads_sent sender samples))) (number - sender.next) []
+-- Samples as a stream sends them and as they arrive: packets, and the units that they make.
+abbrev pub sent_samples : Sending → List Sample → List SentSample
+sent_samples s samples = sent_by (coding_of s) (packet_limit s) s.packetizer (samples_of s samples)
 
--- The canonical units of a stream's samples: their payloads, each with the values that arrive where the
--- sample's are sent. Redundancy isn't seen in them.
-abbrev pub units_of : Sending → List Timed → List MediaUnit
-units_of sender samples = units_from sender.next (map (as_carried sender) (payloads_sent sender samples))
+-- how many datagrams they have
+abbrev pub count_of : Sending → List Sample → ℕ
+count_of s samples = length (packets_of (sent_samples s samples))
+
+-- the datagram of a number
+abbrev pub sent_datagram : Sending → List Sample → ℕ → List ℕ
+sent_datagram s samples number = slice_index_or (datagrams_of s samples) (number - s.next) []
+
+-- The canonical units of a stream's samples, with the values that arrive. Redundancy isn't seen in them.
+abbrev pub units_of : Sending → List Sample → List Timed
+units_of s samples = map whole_unit (canonical_units s.next (sent_samples s samples))
 
 -- the end takes what has the SSRC of this stream and one of its types as this stream's own
 abbrev pub IsFound : EndState → ℕ → Receiving → Type 0
 IsFound e stream r = (pt : ℕ) → has_type r.types pt ≡ true → stream_for e.receivers r.ssrc pt ≡ Some stream
 
--- A sending stream as an end opens it and keeps it: its types are of 7 bits, its datagrams are typed so,
--- and its SSRC has 32 bits.
+-- A sending stream as an end opens it and keeps it: its types are of 7 bits, its datagrams are typed so, its
+-- SSRC has 32 bits, and the codec law speaks of what its packetizer keeps.
 pub record IsSender (s : Sending) : Type 0 where
   pub typed : IsTyped s
   pub payload_type : s.types.pt < 128
   pub wire_type : s.wire_type < 128
   pub ssrc : s.ssrc < 2 ^ 32
+  pub reached : (coding_of s).IsReached s.packetizer
+
+-- Samples that a stream sends: each is well-formed for its codec, and its values can be written.
+pub record AreSound (s : Sending) (samples : List Sample) : Type 0 where
+  pub well_formed : AreWellFormed (coding_of s) (packet_limit s) (samples_of s samples)
+  pub values : All (λ x. AreValues x.values) samples
 
 -- Among these datagrams come all those of a sending stream's samples, once or more, and none behind
 -- one that is 128 or more above it; nobody else sends under its SSRC and types, and the receiving
--- stream has the same types and map of header extensions and heard nothing before.
-pub record HasAllOf (e : EndState) (stream hold_back : ℕ) (sender : Sending) (samples : List Timed) (arrivals : List ℕ) (datagrams : List (List ℕ)) : Type 0 where
-  pub fresh : receiver_at e stream ≡ opened_receiver sender.ssrc sender.types sender.map hold_back
-  pub opened : IsFound e stream (opened_receiver sender.ssrc sender.types sender.map hold_back)
+-- stream has the same types, map of header extensions and row, and heard nothing before.
+pub record HasAllOf (e : EndState) (stream hold_back : ℕ) (sender : Sending) (samples : List Sample)
+    (arrivals : List ℕ) (datagrams : List (List ℕ)) : Type 0 where
+  pub fresh : receiver_at e stream ≡ opened_receiver sender.ssrc sender.types sender.map sender.row hold_back
+  pub opened : IsFound e stream (opened_receiver sender.ssrc sender.types sender.map sender.row hold_back)
   pub sound : IsSender sender
-  pub timestamps : All (λ s. s.time < 2 ^ 32) samples
-  pub values : All (λ s. AreValues s.values) samples
-  pub numbers : sender.next + length (payloads_sent sender samples) ≤ 2 ^ 62
-  pub few : length (payloads_sent sender samples) ≤ 4096
+  pub samples_sound : AreSound sender samples
+  pub numbers : sender.next + count_of sender samples ≤ 2 ^ 62
+  pub few : count_of sender samples ≤ 4096
   pub own : filter (is_own_datagram sender.ssrc sender.types) datagrams ≡ map (sent_datagram sender samples) arrivals
-  pub arrive : AreGoodArrivals sender.next (length (payloads_sent sender samples)) [] arrivals
+  pub arrive : AreGoodArrivals sender.next (count_of sender samples) [] arrivals

@@ -4,19 +4,20 @@ use Rattle.rtp_wire.specs.Header.{header_in}
 use Rattle.rtp_wire.specs.Maps.{empty_map}
 use Rattle.rtp_wire.specs.declared.ExtensionValues.{ExtensionValues}
 use Rattle.rtp_wire.specs.declared.header.RtpHeader.{RtpHeader}
-use Rattle.rtp_media_runs.specs.Heard.{Event, Comes}
-use Rattle.rtp_media_runs.specs.Opus.{content_of}
+use Rattle.rtp_media_runs.specs.Hearing.{Event, Comes, content_of}
 use Rattle.rtp_media_streams.specs.Receiving.{Receiving, is_own, media_payload, values_read}
 
 -- What a payload is to the stream: nothing, or the arrival of a number's low bits with its content.
 abbrev pub content_event : RtpHeader → ExtensionValues → Option (List ℕ) → Option Event
 content_event h values None = None
 content_event h values (Some []) = None
-content_event h values (Some (b ∷ bs)) = Some (Comes h.sequence_number (content_of h.timestamp h.marker values (b ∷ bs)))
+content_event h values (Some (b ∷ bs)) =
+    Some (Comes h.sequence_number (content_of h.timestamp h.marker values (b ∷ bs)))
 
 abbrev pub event_by : Receiving → Option RtpHeader → List ℕ → Option Event
 event_by r None d = None
-event_by r (Some h) d = if is_own r h.ssrc h.payload_type then content_event h (values_read r.map d) (media_payload r.types h d) else None
+event_by r (Some h) d = if is_own r h.ssrc h.payload_type
+    then content_event h (values_read r.map d) (media_payload r.types h d) else None
 
 -- What a datagram is to a stream, by its SSRC, payload types and map of header extensions (RFC 3550 5.1).
 abbrev pub event_in : Receiving → List ℕ → Option Event

@@ -33,4 +33,5 @@ is_redundancy (Some red) mtu (Some distances) = nat_le 2 mtu && rise_above 0 dis
 
 -- The same as a test.
 abbrev pub is_sound_params : Option ℕ → StreamParams → Bool
-is_sound_params red p = nat_lt p.first 32768 && (nat_lt 0 p.mtu && (is_redundancy red p.mtu p.red && is_picture_id p.picture_id))
+is_sound_params red p = nat_lt p.first 32768
+    && (nat_lt 0 p.mtu && (is_redundancy red p.mtu p.red && is_picture_id p.picture_id))

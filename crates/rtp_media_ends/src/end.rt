@@ -1,17 +1,27 @@
 //! An end of a session.
 
-ghost use Rattle.std.specs.Prelude.{◌≡◌, ◌≢◌, ◌<◌, ◌==◌, ℕ, Some, None, length, OnOk, OnErr, IfOk, IfErr, IfSome, IfNone, IsOk, IsSome, IsSomeAnd, IsTrue, is_some, ◌≤◌, ◌↔◌};
+ghost use Rattle.std.specs.Prelude.{◌≡◌, ◌≢◌, ◌<◌, ◌==◌, ℕ, Some, None, length, true, Ok, Err, OnOk, OnErr, IfOk};
+ghost use Rattle.std.specs.Prelude.{IfErr, IfSome, IfNone, IsOk, IsSome, IsSomeAnd, IsTrue, is_some, ◌≤◌, ◌↔◌};
 ghost use Rattle.std.specs.List.{list_any};
 ghost use Rattle.std.specs.Option.{ForSome, option_map};
 ghost use Rattle.payload_core_red.specs.RedHistory.{AreDistances};
 ghost use Rattle.rtp_media_texts.specs.Section.{IsRedOf};
-ghost use Rattle.rtp_media_streams.specs.Receiving.{is_receiving, media_payload, polled_receiver};
-ghost use Rattle.rtp_media_streams.specs.Sending.{is_sending, sent_datagrams, after_sample, failed_stream, refusal_of_sample};
-ghost use Rattle.rtp_media_runs.specs.Heard.{poll_answer};
+ghost use Rattle.h26x_payload.specs.Codings.{has_format};
+ghost use Rattle.rtp_media_streams.specs.Polls.{IsInterrupted, given};
+ghost use Rattle.rtp_media_streams.specs.Receiving as receiving;
+ghost use Rattle.rtp_media_streams.specs.Receiving.{media_payload, polled_receiver, with_stream};
+ghost use Rattle.rtp_media_streams.specs.Rows.{format_of};
+ghost use Rattle.rtp_media_streams.specs.Sending as sending;
+ghost use Rattle.rtp_media_streams.specs.Sending.{HasFailed, sent_datagrams, after_sample, refusal_of_sample};
+ghost use Rattle.rtp_media_runs.specs.Hearing.{poll_answer};
 ghost use Rattle.rtp_wire.specs.declared.ExtensionValues.{ExtensionValues};
-ghost use Rattle.rtp_media_ends.specs.Arrivals.{Own, NoPayload, own_of, stream_for, verdict_for, after_arrival, arrival_by, verdict_of, after_datagram};
+ghost use Rattle.rtp_media_ends.specs.Arrivals.{Own, NoPayload, own_of, stream_for, verdict_for, after_arrival};
+ghost use Rattle.rtp_media_ends.specs.Arrivals.{arrival_by, verdict_of, after_datagram};
 ghost use Rattle.rtp_media_exchange.specs.Agreement.{agreed_row_of, section_of};
-ghost use Rattle.rtp_media_ends.specs.Ends.{agreed_red, fixed_end, refusal_by, refusal_of_open_sender, refusal_of_open_receiver, after_open_sender, after_open_receiver, stream_map, types_of, with_distances, sender_at, receiver_at, with_sender, with_receiver};
+ghost use Rattle.rtp_media_ends.specs.Ends.{agreed_red, fixed_end, refusal_by, refusal_of_open_sender};
+ghost use Rattle.rtp_media_ends.specs.Ends.{refusal_of_open_receiver, after_open_sender, after_open_receiver};
+ghost use Rattle.rtp_media_ends.specs.Ends.{row_format_of, stream_map, types_of, with_format, with_distances};
+ghost use Rattle.rtp_media_ends.specs.Ends.{sender_at, receiver_at, with_sender, with_receiver};
 ghost use Rattle.rtp_media_ends.specs.FullArrival.{IsSender};
 ghost use Rattle.rtp_media_ends.specs.Params.{IsSound};
 
@@ -22,10 +32,12 @@ use crate::errors::{OpenError, ReceiveError};
 use crate::params::{Distances, StreamParams};
 use crate::received::Received;
 pub use exchanges::connect;
+use h26x_payload::codec_law;
+use payload_core_base::Codec;
 pub use receive_all::{Polls, ReceivedAll};
 use rtp_media_exchange::{AgreedSection, EndError, Exchange, PayloadParams};
 use rtp_media_streams::{
-    Datagram, PayloadTypes, PollFault, ReceivingStream, SampleError, SendingStream, Unit,
+    Datagram, PayloadTypes, PollFault, ReceivingStream, RowFormat, SampleError, SendingStream, Unit,
 };
 use rtp_wire::{ExtensionMap, ExtensionValues, Frequency, MediaTime, Mid, Pt, RtpHeader, Ssrc};
 use std::alloc::{AllocError, Global};
@@ -108,10 +120,10 @@ impl End {
         stream < self.receivers.len()
     }
 
-    /// The clock rate of a sending stream's timestamps, in ticks a second.
+    /// The clock rate of a sending stream's samples, in ticks a second.
     pub fn clock_rate(&self, stream: usize) -> Frequency
         requires { stream < length self.now.senders }
-        ensures { result ≡ (sender_at self.now stream).rate }
+        ensures { result ≡ (sender_at self.now stream).row.clock_rate }
     {
         self.senders[stream].clock_rate()
     }
@@ -138,9 +150,11 @@ impl End {
         ensures opens { OnOk result (refusal_of_open_sender self.old mid ssrc pt ≡ None) }
         ensures after { OnOk result (self.new ≡ after_open_sender self.old mid ssrc pt params) }
         ensures sender { IfOk result (λ n. IsSender (sender_at self.new n)) }
-        ensures refused { IfErr result (λ e. e ≢ OpenError.Memory → refusal_of_open_sender self.old mid ssrc pt ≡ Some e) }
-        ensures err { OnErr result (self.new ≡ self.old) }
+        ensures refused { IfErr result (λ e. e ≢ OpenError.Memory → refusal_of_open_sender self.old mid ssrc pt
+            ≡ Some e) }
+        ensures unchanged { OnErr result (self.new ≡ self.old) }
     {
+        codec_law();
         let row = self.sender_row(mid, ssrc, pt)?;
         let exts = self.stream_exts(mid)?;
         let number = self.senders.len();
@@ -149,7 +163,8 @@ impl End {
             ssrc,
             types_of(&row),
             exts,
-            row.spec().clock_rate,
+            row_format_of(&row),
+            params.picture_id,
             params.first,
             params.mtu,
             params.limit,
@@ -177,23 +192,26 @@ impl End {
         ensures number { IfOk result (λ n. n ≡ length self.old.receivers) }
         ensures opens { OnOk result (refusal_of_open_receiver self.old mid ssrc pt ≡ None) }
         ensures after { OnOk result (self.new ≡ after_open_receiver self.old mid ssrc pt hold_back) }
-        ensures refused { IfErr result (λ e. e ≢ OpenError.Memory → refusal_of_open_receiver self.old mid ssrc pt ≡ Some e) }
-        ensures err { OnErr result (self.new ≡ self.old) }
+        ensures refused { IfErr result (λ e. e ≢ OpenError.Memory → refusal_of_open_receiver self.old mid ssrc pt
+            ≡ Some e) }
+        ensures unchanged { OnErr result (self.new ≡ self.old) }
     {
         let row = self.receiver_row(mid, ssrc, pt)?;
         let types = types_of(&row);
         let exts = self.stream_exts(mid)?;
         let number = self.receivers.len();
-        self.receivers.push(ReceivingStream::new(self.alloc, ssrc, types, exts, hold_back))?;
+        let format = row_format_of(&row);
+        let stream = ReceivingStream::new(self.alloc, ssrc, types, exts, format, hold_back);
+        self.receivers.push(stream)?;
         Ok(number)
     }
 
-    /// The datagrams of a sample, which a sending stream sends: its pieces of at most `mtu` bytes,
-    /// under consecutive numbers, each with all values that the stream's map has a number for. An
-    /// empty sample has none and uses no number.
+    /// The datagrams of a sample, which a sending stream sends: its packets of at most `mtu` bytes,
+    /// under consecutive numbers, each with all values that the stream's map has a number for. A
+    /// sample without packets has none and uses no number.
     ///
     /// # Errors
-    /// The first that holds of `StreamFailed`, `TimeTooLarge` and `LimitTooSmall`, and the end is
+    /// The first that holds of `StreamFailed`, `TimeTooLarge`, `LimitTooSmall` and `Payload`, and the end is
     /// unchanged; or `Memory`, and the stream sends no more, while all else is unchanged.
     pub fn push_sample(
         &mut self,
@@ -203,12 +221,18 @@ impl End {
         values: &ExtensionValues,
     ) -> Result<Vec<Datagram>, SampleError>
         requires { stream < length self.old.senders }
-        ensures sent { IfOk result (λ ds. ds.items ≡ sent_datagrams (sender_at self.old stream) time values.now bytes.now) }
-        ensures accepted { OnOk result (refusal_of_sample (sender_at self.old stream) time values.now ≡ None) }
-        ensures after { OnOk result (self.new ≡ with_sender self.old stream (after_sample (sender_at self.old stream) time values.now bytes.now)) }
-        ensures refused { IfErr result (λ e. e ≢ SampleError.Memory → refusal_of_sample (sender_at self.old stream) time values.now ≡ Some e) }
+        ensures sent { IfOk result (λ ds. ds.items
+            ≡ sent_datagrams (sender_at self.old stream) time values.now bytes.now) }
+        ensures accepted { OnOk result (refusal_of_sample (sender_at self.old stream) time values.now bytes.now
+            ≡ None) }
+        ensures after { OnOk result (self.new ≡ with_sender self.old stream
+            (after_sample (sender_at self.old stream) time values.now bytes.now)) }
+        ensures refused { IfErr result (λ e. e ≢ SampleError.Memory
+            → refusal_of_sample (sender_at self.old stream) time values.now bytes.now ≡ Some e) }
         ensures unchanged { IfErr result (λ e. e ≢ SampleError.Memory → self.new ≡ self.old) }
-        ensures failed { IfErr result (λ e. e ≡ SampleError.Memory → self.new ≡ with_sender self.old stream (failed_stream (sender_at self.old stream))) }
+        ensures failed { IfErr result (λ e. e ≡ SampleError.Memory
+            → HasFailed (sender_at self.old stream) (sender_at self.new stream)) }
+        ensures others { self.new ≡ with_sender self.old stream (sender_at self.new stream) }
     {
         let sender = &mut self.senders[stream];
         sender.push_sample(time, bytes, values)
@@ -223,7 +247,7 @@ impl End {
     pub fn receive(&mut self, datagram: &[u8]) -> Result<Received, ReceiveError>
         ensures verdict { IfOk result (λ v. v ≡ verdict_of self.old datagram.now) }
         ensures after { OnOk result (self.new ≡ after_datagram self.old datagram.now) }
-        ensures err { OnErr result (self.new ≡ self.old) }
+        ensures unchanged { OnErr result (self.new ≡ self.old) }
     {
         let exts = ExtensionMap::empty();
         let header = RtpHeader::parse(datagram, &exts);
@@ -237,9 +261,11 @@ impl End {
         datagram: &[u8],
     ) -> Result<Received, ReceiveError>
         requires { ForSome header (λ h. h.header_len ≤ length datagram.now) }
-        ensures verdict { IfOk result (λ v. v ≡ verdict_for self.old (arrival_by self.old.receivers header datagram.now)) }
-        ensures after { OnOk result (self.new ≡ after_arrival self.old (arrival_by self.old.receivers header datagram.now)) }
-        ensures err { OnErr result (self.new ≡ self.old) }
+        ensures verdict { IfOk result (λ v. v ≡ verdict_for self.old
+            (arrival_by self.old.receivers header datagram.now)) }
+        ensures after { OnOk result (self.new ≡ after_arrival self.old
+            (arrival_by self.old.receivers header datagram.now)) }
+        ensures unchanged { OnErr result (self.new ≡ self.old) }
     {
         let Some(header) = header else {
             return Ok(Received::Unreadable);
@@ -270,14 +296,25 @@ impl End {
     /// held back.
     ///
     /// # Errors
-    /// `PollFault::Memory`, only where a unit is ready, and the end is unchanged.
+    /// `PollFault::Payload` where a packet of the next frame is refused, which is then done with; or
+    /// `PollFault::Memory`, only where a frame is ready, and it stays, while some of its packets may have
+    /// been read. All else is unchanged.
     pub fn poll(&mut self, stream: usize) -> Result<Option<Unit>, PollFault>
         requires { stream < length self.old.receivers }
-        ensures answer { IfOk result (λ unit. unit ≡ poll_answer (receiver_at self.old stream).stream) }
-        ensures after { OnOk result (self.new ≡ with_receiver self.old stream (polled_receiver (receiver_at self.old stream))) }
-        ensures none { poll_answer (receiver_at self.old stream).stream ≡ None → IsOk result }
-        ensures fault { IfErr result (λ fault. fault ≡ PollFault.Memory) }
-        ensures kept { OnErr result (self.new ≡ self.old) }
+        ensures answer { let receiver = receiver_at self.old stream in
+            IfOk result (λ unit. given (poll_answer (format_of receiver.row) receiver.stream) ≡ Ok unit) }
+        ensures after { OnOk result (self.new ≡ with_receiver self.old stream
+            (polled_receiver (receiver_at self.old stream))) }
+        ensures fault { let receiver = receiver_at self.old stream in
+            IfErr result (λ fault. fault ≢ PollFault.Memory
+            → given (poll_answer (format_of receiver.row) receiver.stream) ≡ Err fault) }
+        ensures behind { IfErr result (λ fault. fault ≢ PollFault.Memory → self.new
+            ≡ with_receiver self.old stream (polled_receiver (receiver_at self.old stream))) }
+        ensures memory { let receiver = receiver_at self.old stream in
+            IfErr result (λ fault. fault ≡ PollFault.Memory
+            → IsInterrupted (format_of receiver.row) receiver.stream (receiver_at self.new stream).stream) }
+        ensures others { self.new ≡ with_receiver self.old stream
+            (with_stream (receiver_at self.old stream) (receiver_at self.new stream).stream) }
     {
         let receiver = &mut self.receivers[stream];
         receiver.poll()
@@ -289,14 +326,15 @@ impl End {
         ensures row { IfOk result (λ r. agreed_row_of self.now.exchange.agreed mid pt ≡ Some r) }
         ensures typed { OnOk result (pt < 128) }
         ensures red { IfOk result (λ r. IsRedOf r.pt r.red) }
+        ensures format { IfOk result (λ r. has_format r.spec.codec ≡ true) }
         ensures opens { OnOk result (refusal_of_open_sender self.now mid ssrc pt ≡ None) }
         ensures refused { IfErr result (λ e. refusal_of_open_sender self.now mid ssrc pt ≡ Some e) }
     {
         let section = section_named(&self.exchange, mid)?;
-        let row = section.row_of(pt);
+        let row = with_format(section.row_of(pt));
         let agreed = section.row();
         let agrees = self.exchange.agrees_with(&agreed);
-        let is_open = is_sending(&self.senders, ssrc, &types_of(&agreed));
+        let is_open = conflicts_with_sender(&self.senders, ssrc, &types_of(&agreed));
         opened_row(
             row,
             agrees,
@@ -310,14 +348,15 @@ impl End {
     #[tactic(auto, unfolding(crate::specs::Ends::refusal_of_open_receiver))]
     fn receiver_row(&self, mid: Mid, ssrc: Ssrc, pt: Pt) -> Result<PayloadParams, OpenError>
         ensures row { IfOk result (λ r. agreed_row_of self.now.exchange.agreed mid pt ≡ Some r) }
+        ensures format { IfOk result (λ r. has_format r.spec.codec ≡ true) }
         ensures opens { OnOk result (refusal_of_open_receiver self.now mid ssrc pt ≡ None) }
         ensures refused { IfErr result (λ e. refusal_of_open_receiver self.now mid ssrc pt ≡ Some e) }
     {
         let section = section_named(&self.exchange, mid)?;
-        let row = section.row_of(pt);
+        let row = with_format(section.row_of(pt));
         let agreed = section.row();
         let agrees = self.exchange.agrees_with(&agreed);
-        let is_open = is_receiving(&self.receivers, ssrc, &types_of(&agreed));
+        let is_open = conflicts_with_receiver(&self.receivers, ssrc, &types_of(&agreed));
         opened_row(
             row,
             agrees,
@@ -387,6 +426,41 @@ fn types_of(row: &PayloadParams) -> PayloadTypes
     }
 }
 
+/// What a row says of its payloads.
+fn row_format_of(row: &PayloadParams) -> RowFormat
+    ensures { result ≡ row_format_of row.now }
+{
+    let spec = row.spec();
+    RowFormat {
+        codec: spec.codec,
+        clock_rate: spec.clock_rate,
+        octet_align: spec.format.octet_align,
+        sprop_max_don_diff: spec.format.sprop_max_don_diff,
+    }
+}
+
+/// Whether payloads of the codec have a format of their own.
+fn has_format(codec: Codec) -> bool
+    ensures { result ≡ has_format codec }
+{
+    match codec {
+        Codec::Rtx | Codec::Red | Codec::Null | Codec::Unknown => false,
+        _ => true,
+    }
+}
+
+/// The row, where its codec has a payload format.
+fn with_format(row: Option<PayloadParams>) -> Option<PayloadParams>
+    ensures { result ≡ with_format row }
+{
+    let row = row?;
+    if has_format(row.spec().codec) {
+        Some(row)
+    } else {
+        None
+    }
+}
+
 /// The stream with redundancy under this RED type, where there are distances.
 fn with_distances(
     alloc: Global,
@@ -412,18 +486,18 @@ fn with_distances(
     stream.with_red(red, &distances)
 }
 
-/// Whether one of the streams has this SSRC and one of these payload types.
-fn is_sending(senders: &[SendingStream], ssrc: Ssrc, types: &PayloadTypes) -> bool
-    ensures { result ≡ list_any (λ s. is_sending s ssrc types.now) senders.now }
+/// Whether one of the streams could send the datagrams of one of this SSRC and these payload types.
+fn conflicts_with_sender(senders: &[SendingStream], ssrc: Ssrc, types: &PayloadTypes) -> bool
+    ensures { result ≡ list_any (λ s. sending.conflicts_with s ssrc types.now) senders.now }
 {
-    senders.iter().any(|s| s.shares(ssrc, types))
+    senders.iter().any(|s| s.conflicts_with(ssrc, types))
 }
 
-/// Whether one of the streams takes this SSRC and one of these payload types.
-fn is_receiving(receivers: &[ReceivingStream], ssrc: Ssrc, types: &PayloadTypes) -> bool
-    ensures { result ≡ list_any (λ r. is_receiving r ssrc types.now) receivers.now }
+/// Whether one of the streams could take the datagrams of one of this SSRC and these payload types.
+fn conflicts_with_receiver(receivers: &[ReceivingStream], ssrc: Ssrc, types: &PayloadTypes) -> bool
+    ensures { result ≡ list_any (λ r. receiving.conflicts_with r ssrc types.now) receivers.now }
 {
-    receivers.iter().any(|r| r.shares(ssrc, types))
+    receivers.iter().any(|r| r.conflicts_with(ssrc, types))
 }
 
 /// The number of the stream that takes this SSRC and payload type.
@@ -441,9 +515,14 @@ fn payload_of<'a>(
     datagram: &'a [u8],
 ) -> Option<&'a [u8]>
     requires { header.now.header_len ≤ length datagram.now }
-    ensures some { (stream : ℕ) (values : ExtensionValues) → IfSome result (λ payload. own_of stream header.now values (media_payload receiver.now.types header.now datagram.now) ≡ Own stream header.now.sequence_number header.now.timestamp header.now.marker values payload.now) }
+    ensures some { (stream : ℕ) (values : ExtensionValues)
+        → IfSome result (λ payload. own_of stream header.now values
+        (media_payload receiver.now.types header.now datagram.now)
+        ≡ Own stream header.now.sequence_number header.now.timestamp header.now.marker values payload.now) }
     ensures byte { IfSome result (λ payload. 0 < length payload.now) }
-    ensures none { (stream : ℕ) (values : ExtensionValues) → IfNone result (own_of stream header.now values (media_payload receiver.now.types header.now datagram.now) ≡ NoPayload) }
+    ensures none { (stream : ℕ) (values : ExtensionValues)
+        → IfNone result (own_of stream header.now values (media_payload receiver.now.types header.now datagram.now)
+        ≡ NoPayload) }
 {
     let payload = receiver.media_payload(header, datagram)?;
     if payload.is_empty() {

@@ -1,27 +1,33 @@
 //! What holds of every end.
 
 ghost use Rattle.std.specs.Prelude.{◌≡◌, ℕ, List, map};
-ghost use Rattle.rtp_media_runs.specs.Heard.{after_events};
+ghost use Rattle.rtp_media_runs.specs.Hearing.{after_events};
 ghost use Rattle.rtp_media_ends.specs.Ends.{EndState, receiver_at};
 ghost use Rattle.rtp_media_ends.specs.FullArrival.{IsFound, after_datagrams, sent_datagram};
 ghost use Rattle.rtp_media_ends.specs.Transparency.{AreSent, AreTwins, Receives};
-ghost use Rattle.rtp_media_runs.specs.Opus.{Timed};
 ghost use Rattle.rtp_media_streams.specs.Receiving.{Receiving};
-ghost use Rattle.rtp_media_streams.specs.Sending.{Sending};
+ghost use Rattle.rtp_media_streams.specs.Rows.{format_of};
+ghost use Rattle.rtp_media_streams.specs.Sending.{Sample, Sending};
 ghost use Rattle.rtp_media_ends.specs.OwnEvents.{own_events};
+
+use h26x_payload::codec_law;
 
 /// What datagrams do to a receiving stream is what its own ones do, those of its SSRC and payload types,
 /// whatever else came between them.
 pub fn isolation_law()
     ensures { (end : EndState) (datagrams : List (List ℕ)) (stream : ℕ) → let receiver = receiver_at end stream in
         IsFound end stream receiver →
-        (receiver_at (after_datagrams end datagrams) stream).stream ≡ after_events receiver.stream (own_events receiver datagrams) }
+        (receiver_at (after_datagrams end datagrams) stream).stream
+        ≡ after_events (format_of receiver.row) receiver.stream (own_events receiver datagrams) }
 {}
 
 /// Redundancy is transparent: whatever datagrams of a list of samples arrive, and in whatever order, a
 /// stream with redundancy and one without it bring a receiving stream the same.
 pub fn transparency_law()
-    ensures { (plain redundant : Sending) (receiver : Receiving) (samples : List Timed) (numbers : List ℕ) →
+    ensures { (plain redundant : Sending) (receiver : Receiving) (samples : List Sample) (numbers : List ℕ) →
         AreTwins plain redundant → Receives receiver plain → AreSent plain samples numbers →
-        own_events receiver (map (sent_datagram redundant samples) numbers) ≡ own_events receiver (map (sent_datagram plain samples) numbers) }
-{}
+        own_events receiver (map (sent_datagram redundant samples) numbers)
+        ≡ own_events receiver (map (sent_datagram plain samples) numbers) }
+{
+    codec_law();
+}

@@ -1,4 +1,2 @@
-pub mod Heard
-pub mod Schedules
-pub mod Opus
-pub mod Drained
+pub mod Hearing
+pub mod Samples

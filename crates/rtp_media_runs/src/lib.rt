@@ -1,6 +1,6 @@
-//! What a receiving stream answers over a whole run of datagrams and polls.
+//! What a receiving stream hears, and what it answers to its polls.
 #![tactic(auto)]
 
 mod laws;
 
-pub use laws::{exact_after_full_arrival, exact_under_tame_schedule, pieces_laws};
+pub use laws::run_laws;

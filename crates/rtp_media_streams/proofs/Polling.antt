@@ -1,138 +1,141 @@
 -- What a pop of the buffer is to the stream.
-use Rattle.std.proofs.Common.{◌≡◌, ◌≢◌, ℕ, zero, suc, ◌-◌, ◌<◌, refl, sym, ◌∙◌, ap, ap₂, subst, arith, true, false, cond, List, [], ◌∷◌, length, take, drop, inl, inr}
-use Rattle.std.specs.Cmp.{nat_cmp_is}
-use Rattle.std.specs.Ordering.{match_ordering}
-use Rattle.std.specs.declared.cmp.Ordering.TheVariants.{Less, Equal, Greater}
-use Rattle.std.specs.Prelude.{Option, Some, None, Result, Ok, Err, OnErr}
-use Rattle.std.proofs.lemmas.Bool.{cases_lt}
+use Rattle.std.proofs.Common.{◌≡◌, ℕ, ◌-◌, ◌<◌, sym, ◌∙◌, ap, ap₂, arith, List, length, drop}
+use Rattle.std.specs.Prelude.{Option, Some, None, Result, Ok, Err, IfErr, OnOk}
 use Rattle.std.proofs.lemmas.List.{length-drop}
-use Rattle.payload_core_audio.specs.Plain.{plain_format, read_plain}
-use Rattle.payload_core_base.specs.Format.{Format, Fragment, Run, read_all, run_after}
+use Rattle.payload_core_base.specs.Format.{Format, Fragment, Run}
 use Rattle.payload_core_base.specs.declared.error.PacketError.{PacketError}
 use Rattle.payload_core_base.specs.declared.extra.CodecExtra.{CodecExtra}
-use Rattle.payload_core_buffer.specs.Buffered.{held_with, is_done, limited, pushed}
-use Rattle.payload_core_buffer.specs.Frames.{due_frame, packets_between}
-use Rattle.payload_core_buffer.specs.Packets.{Packet, metas_of, payloads_of}
-use Rattle.payload_core_buffer.specs.Pops.{Faults, PopGives, PopKeeps, run_of}
+use Rattle.payload_core_buffer.specs.Frames.{due_frame, number_at, packets_between}
+use Rattle.payload_core_buffer.specs.Packets.{Packet, metas_of}
+use Rattle.payload_core_buffer.specs.Pops.{Faults, PopGives, PopKeeps}
 use Rattle.payload_core_buffer.specs.declared.frame.Frame.{Frame}
 use Rattle.payload_core_buffer.specs.declared.held.RtpMeta.{RtpMeta}
-use Rattle.rtp_media_runs.specs.Heard.{Stream, due, poll_answer, polled, stream_behind, unit_among, unit_from}
-use Rattle.rtp_media_streams.specs.Receiving.{HaveBytes}
+use Rattle.rtp_media_runs.specs.Hearing.{Answer, Stream, answer_among, answer_by, due, poll_answer, polled, run_among}
+use Rattle.rtp_media_runs.specs.Hearing.{stream_behind, unit_from}
+use Rattle.rtp_media_streams.specs.Polls.{IsInterrupted}
+use Rattle.rtp_media_streams.specs.Receiving.{Receiving, polled_receiver, with_stream}
+use Rattle.rtp_media_streams.specs.Rows.{format_of}
 
--- nothing is due
-pub poll_none : (s : Stream) → due_frame plain_format s.cutoff s.hold_back s.held ≡ None → poll_answer s ≡ None
-unfolding poll_answer due
-poll_none s none = ap (unit_among s.held) none
+pub on_ok : {A E P Q : Type 0} (r : Result A E) → (P → Q) → OnOk r P → OnOk r Q
+on_ok (Ok a) f h = f h
+on_ok (Err e) f h = tt
 
-pub polled_none : (s : Stream) → due_frame plain_format s.cutoff s.hold_back s.held ≡ None → polled s ≡ s
-unfolding polled due
-polled_none s none = ap (stream_behind s) none
+pub if_err : {A E : Type 0} {P Q : E → Type 0} (r : Result A E) → ((e : E) → P e → Q e) → IfErr r P → IfErr r Q
+if_err (Ok a) f h = tt
+if_err (Err e) f h = f e h
 
--- a poll answers something only where a frame is due
-pub poll_some : (s : Stream) (f : Frame) → due_frame plain_format s.cutoff s.hold_back s.held ≡ Some f → poll_answer s ≢ None
-unfolding poll_answer due
-poll_some s f some none = let never : unit_among s.held (Some f) ≡ None = ap (unit_among s.held) (sym some) ∙ none in cc
+-- a stream of which this is the rest, after a poll
+pub after_poll : {A E : Type 0} (res : Result A E) (f : Format) (x r : Receiving) (old new : Stream) → x ≡ r → f
+    ≡ format_of r.row → old ≡ r.stream → OnOk res (new ≡ polled f old)
+    → OnOk res (with_stream x new ≡ polled_receiver r)
+after_poll res f x r old new same format is =
+    on_ok res (λ h. ap (λ (y : Receiving). with_stream y new) same ∙ ap (with_stream r) (h ∙ ap₂ polled format is))
 
-module _ (s : Stream) (before after : Fragment) (new : List Packet) (now : Option ℕ) (out : List ℕ) (told : CodecExtra) (known : List RtpMeta)
-    (hands : PopGives plain_format before after s.held new (due_frame plain_format s.cutoff s.hold_back s.held) now out told known) where
-  -- the unit of a frame that was handed on
-  pub handed_unit : before ≡ None → Some (unit_from known out) ≡ poll_answer s
+pub behind_fault : {A E : Type 0} (P : E → Type 0) (res : Result A E) (f : Format) (x r : Receiving)
+    (old new : Stream) → x ≡ r → f ≡ format_of r.row → old ≡ r.stream →
+    IfErr res (λ e. P e → new ≡ polled f old) → IfErr res (λ e. P e → with_stream x new ≡ polled_receiver r)
+behind_fault P res f x r old new same format is =
+    if_err {P = λ e. P e → new ≡ polled f old} {Q = λ e. P e → with_stream x new ≡ polled_receiver r} res
+    (λ e h p. ap (λ (y : Receiving). with_stream y new) same ∙ ap (with_stream r) (h p ∙ ap₂ polled format is))
+
+module _ (format : Format) (s : Stream) where
+  abbrev due_now : Option Frame
+  due_now = due_frame format s.cutoff s.hold_back s.held
+
+  -- nothing is due
+  pub poll_none : due_now ≡ None → poll_answer format s ≡ Ok None
   unfolding poll_answer due
-  handed_unit closed =
-      ap₂ (λ (metas : List RtpMeta) (bytes : List ℕ). Some (unit_from metas bytes)) hands.metas hands.read.bytes
-      ∙ ap (λ (fragment : Fragment). Some (unit_from (metas_of (packets_between s.held hands.frame)) (run_of plain_format fragment (packets_between s.held hands.frame)).written)) closed
-      ∙ ap (unit_among s.held) (sym hands.is_due)
+  poll_none none = ap (answer_among format s.fragment s.held) none
 
-  -- the stream behind it
-  pub handed_stream : record { hold_back = s.hold_back; window = s.window; held = new; cutoff = now } ≡ polled s
+  pub polled_none : due_now ≡ None → polled format s ≡ s
   unfolding polled due
-  handed_stream =
-      ap₂ (λ (held : List Packet) (cutoff : Option ℕ). let t : Stream = record { hold_back = s.hold_back; window = s.window; held = held; cutoff = cutoff } in t) hands.done.gone hands.done.moved
-      ∙ ap (stream_behind s) (sym hands.is_due)
+  polled_none none = ap (stream_behind format s) none
 
-  -- fewer packets are held
-  pub handed_fewer : length new < length s.held
-  handed_fewer = omega (arith, hands.is_frame.not_empty, hands.is_frame.in_range, ap length hands.done.gone, length-drop hands.frame.end s.held)
+  -- a frame is due
+  poll_some : (f : Frame) → due_now ≡ Some f → poll_answer format s ≡ answer_among format s.fragment s.held (Some f)
+  unfolding poll_answer due
+  poll_some f some = ap (answer_among format s.fragment s.held) some
 
--- what is held has bytes
-bytes-drop : (n : ℕ) (ps : List Packet) → HaveBytes ps → HaveBytes (drop n ps)
-bytes-drop zero ps have = have
-bytes-drop (suc n) [] have = tt
-bytes-drop (suc n) (p ∷ ps) have = bytes-drop n ps have.1
+  polled_some : (f : Frame) → due_now ≡ Some f → polled format s ≡ stream_behind format s (Some f)
+  unfolding polled due
+  polled_some f some = ap (stream_behind format s) some
 
-bytes-take : (n : ℕ) (ps : List Packet) → HaveBytes ps → HaveBytes (take n ps)
-bytes-take zero ps have = tt
-bytes-take (suc n) [] have = tt
-bytes-take (suc n) (p ∷ ps) have = (have.0, bytes-take n ps have.1)
+  -- a stream with these things kept
+  abbrev kept : ℕ → List Packet → Option ℕ → Fragment → Stream
+  kept hold_back held cutoff fragment = record
+      { hold_back = hold_back; window = s.window; held = held; cutoff = cutoff; fragment = fragment }
 
-bytes-held_with : (p : Packet) (ps : List Packet) → 0 < length p.payload → HaveBytes ps → HaveBytes (held_with p ps)
-bytes-held_with p [] some have = (some, tt)
-bytes-held_with p (q ∷ qs) some have =
-    elim (cases_lt p.meta.seq_no q.meta.seq_no) [
-      | inl less ↦ subst HaveBytes (ap (λ o. match_ordering o (p ∷ q ∷ qs) (q ∷ qs) (q ∷ held_with p qs)) (nat_cmp_is p.meta.seq_no q.meta.seq_no Less less)) (some, have)
-      | inr le ↦ elim (cases_lt q.meta.seq_no p.meta.seq_no) [
-        | inl more ↦ subst HaveBytes (ap (λ o. match_ordering o (p ∷ q ∷ qs) (q ∷ qs) (q ∷ held_with p qs)) (nat_cmp_is p.meta.seq_no q.meta.seq_no Greater more)) (have.0, bytes-held_with p qs some have.1)
-        | inr ge ↦ let same : p.meta.seq_no ≡ q.meta.seq_no = omega arith in
-            subst HaveBytes (ap (λ o. match_ordering o (p ∷ q ∷ qs) (q ∷ qs) (q ∷ held_with p qs)) (nat_cmp_is p.meta.seq_no q.meta.seq_no Equal same)) have
-      ]
-    ]
+  -- a frame was handed on
+  module _ (after : Fragment) (new : List Packet) (now : Option ℕ) (out : List ℕ) (extra_after : CodecExtra)
+      (known : List RtpMeta) (hands : PopGives format s.fragment after s.held new due_now now out extra_after known) where
+    abbrev run : Run
+    run = run_among format s.fragment s.held hands.frame
 
-pub bytes_pushed : (cutoff : Option ℕ) (p : Packet) (ps : List Packet) → 0 < length p.payload → HaveBytes ps → HaveBytes (pushed cutoff ps p)
-bytes_pushed cutoff p ps some have = elim (is_done cutoff p.meta.seq_no) as (λ b. HaveBytes (cond b ps (limited (held_with p ps)))) [
-  | true ↦ have
-  | false ↦ bytes-drop (length (held_with p ps) - 4096) (held_with p ps) (bytes-held_with p ps some have)
-]
+    pub handed_answer : poll_answer format s ≡ Ok (Some (unit_from known out extra_after))
+    handed_answer =
+        poll_some hands.frame hands.is_due
+        ∙ ap (λ (o : Option PacketError). answer_by o (metas_of (packets_between s.held hands.frame)) run.written
+        run.extra) hands.read.no_fault
+        ∙ ap₂ (λ (metas : List RtpMeta) (bytes : List ℕ). let a : Answer =
+        Ok (Some (unit_from metas bytes run.extra)) in a) (sym hands.metas) (sym hands.read.bytes)
+        ∙ ap (λ (extra : CodecExtra). let a : Answer = Ok (Some (unit_from known out extra)) in a)
+        (sym hands.read.extra)
 
-pub handed_bytes : (s : Stream) (before after : Fragment) (new : List Packet) (now : Option ℕ) (out : List ℕ) (told : CodecExtra) (known : List RtpMeta)
-    → PopGives plain_format before after s.held new (due_frame plain_format s.cutoff s.hold_back s.held) now out told known → HaveBytes s.held → HaveBytes new
-handed_bytes s before after new now out told known hands have = subst HaveBytes (sym hands.done.gone) (bytes-drop hands.frame.end s.held have)
+    pub handed_stream : (hold_back : ℕ) → hold_back ≡ s.hold_back → kept hold_back new now after ≡ polled format s
+    handed_stream hold_back same =
+        ap (λ (n : ℕ). kept n new now after) same
+        ∙ ap₂ (λ (held : List Packet) (cutoff : Option ℕ). kept s.hold_back held cutoff after) hands.done.gone
+        hands.done.moved
+        ∙ ap (λ (f : Fragment). kept s.hold_back (drop hands.frame.end s.held)
+        (Some (number_at s.held (hands.frame.end - 1))) f) hands.read.fragment
+        ∙ sym (polled_some hands.frame hands.is_due)
 
--- payloads with bytes meet no fault
-read-on : (fragment : Fragment) (extra : CodecExtra) (bytes : List ℕ) (rest : Fragment → CodecExtra → Run) → 0 < length bytes → (run_after fragment extra (read_plain fragment extra bytes) rest).fault ≡ (rest fragment extra).fault
-read-on fragment extra [] rest some = absurd (omega arith)
-read-on fragment extra (b ∷ bs) rest some = refl
+    pub handed_fewer : length new < length s.held
+    handed_fewer = omega (
+      arith,
+      hands.is_frame.not_empty,
+      hands.is_frame.in_range,
+      ap length hands.done.gone,
+      length-drop hands.frame.end s.held,
+    )
 
-no-fault : (ps : List Packet) (fragment : Fragment) (extra : CodecExtra) → HaveBytes ps → (read_all plain_format fragment extra (payloads_of ps)).fault ≡ None
-no-fault [] fragment extra have = refl
-no-fault (p ∷ ps) fragment extra have = read-on fragment extra p.payload (λ f x. read_all plain_format f x (payloads_of ps)) have.0 ∙ no-fault ps fragment extra have.1
+  -- a packet of a frame was refused
+  module _ (after : Fragment) (new : List Packet) (now : Option ℕ) (e : PacketError)
+      (faults : Faults format s.fragment after s.held new due_now now e) where
+    pub fault_answer : poll_answer format s ≡ Err e
+    fault_answer =
+        poll_some faults.frame faults.is_due
+        ∙ ap (λ (o : Option PacketError). answer_by o (metas_of (packets_between s.held faults.frame))
+        (run_among format s.fragment s.held faults.frame).written
+        (run_among format s.fragment s.held faults.frame).extra) faults.fault.fault
 
-pub never_faults : (before after : Fragment) (old new : List Packet) (due : Option Frame) (now : Option ℕ) (e : PacketError) → HaveBytes old → Faults plain_format before after old new due now e → ⊥
-never_faults before after old new due now e have faults =
-    let none = no-fault (packets_between old faults.frame) before _ (bytes-take (faults.frame.end - faults.frame.start) (drop faults.frame.start old) (bytes-drop faults.frame.start old have)) in
-    let never : None ≡ Some e = sym none ∙ faults.fault.fault in
-    cc
+    pub fault_stream : (hold_back : ℕ) → hold_back ≡ s.hold_back → kept hold_back new now after ≡ polled format s
+    fault_stream hold_back same =
+        ap (λ (n : ℕ). kept n new now after) same
+        ∙ ap₂ (λ (held : List Packet) (cutoff : Option ℕ). kept s.hold_back held cutoff after) faults.done.gone
+        faults.done.moved
+        ∙ ap (λ (f : Fragment). kept s.hold_back (drop faults.frame.end s.held)
+        (Some (number_at s.held (faults.frame.end - 1))) f) faults.fault.fragment
+        ∙ sym (polled_some faults.frame faults.is_due)
 
--- a poll that answers None changes nothing
-pub polled_silent : (s : Stream) → poll_answer s ≡ None → polled s ≡ s
-unfolding poll_answer polled
-polled_silent s none = go (due s) refl none where
-  go : (o : Option Frame) → due s ≡ o → unit_among s.held o ≡ None → stream_behind s o ≡ s
-  go None e none = refl
-  go (Some f) e none = cc
+    pub fault_fewer : length new < length s.held
+    fault_fewer = omega (
+      arith,
+      faults.is_frame.not_empty,
+      faults.is_frame.in_range,
+      ap length faults.done.gone,
+      length-drop faults.frame.end s.held,
+    )
 
-pub on_err : {A E : Type 0} {P Q : Type 0} (r : Result A E) → (P → Q) → OnErr r P → OnErr r Q
-on_err (Ok a) f h = tt
-on_err (Err e) f h = f h
-
--- no packet opens a fragment
-stays-closed : (fragment : Fragment) (extra : CodecExtra) (ps : List (List ℕ)) → (read_all plain_format fragment extra ps).fragment ≡ fragment
-stays-closed fragment extra [] = refl
-stays-closed fragment extra ([] ∷ ps) = refl
-stays-closed fragment extra ((b ∷ bs) ∷ ps) = stays-closed fragment extra ps
-
-pub run-closed : (ps : List Packet) → (run_of plain_format None ps).fragment ≡ None
-run-closed ps = stays-closed None _ (payloads_of ps)
-
--- after a frame that was handed on, and where memory was wanting
-pub hands-closed : (format : Format) (before after : Fragment) (old new : List Packet) (due : Option Frame) (now : Option ℕ) (out : List ℕ) (told : CodecExtra) (known : List RtpMeta) →
-    format ≡ plain_format → before ≡ None → PopGives format before after old new due now out told known → after ≡ None
-hands-closed format before after old new due now out told known plain closed hands =
-    hands.read.fragment
-    ∙ ap₂ (λ (f : Format) (g : Fragment). (run_of f g (packets_between old hands.frame)).fragment) plain closed
-    ∙ run-closed (packets_between old hands.frame)
-
-pub memory-closed : (format : Format) (before after : Fragment) (old new : List Packet) (due : Option Frame) (was now : Option ℕ) →
-    format ≡ plain_format → before ≡ None → PopKeeps format before after old new due was now → after ≡ None
-memory-closed format before after old new due was now plain closed stays =
-    let read : List Packet = take stays.stops.count (packets_between old stays.frame) in
-    stays.stops.fragment ∙ ap₂ (λ (f : Format) (g : Fragment). (run_of f g read).fragment) plain closed ∙ run-closed read
+  -- memory was wanting
+  pub interrupted : (after : Fragment) (new : List Packet) (now : Option ℕ) (hold_back : ℕ) → hold_back ≡ s.hold_back
+      → PopKeeps format s.fragment after s.held new due_now s.cutoff now
+      → IsInterrupted format s (kept hold_back new now after)
+  unfolding due
+  interrupted after new now hold_back same stays = record {
+    frame = stays.frame;
+    is_due = stays.is_due;
+    stops = stays.stops;
+    stays = ap (λ (n : ℕ). kept n new now after) same
+        ∙ ap₂ (λ (held : List Packet) (cutoff : Option ℕ). kept s.hold_back held cutoff after) stays.held stays.cutoff;
+  }

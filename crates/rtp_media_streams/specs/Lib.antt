@@ -1,6 +1,7 @@
-pub mod Receiving
-pub mod Polls
+pub mod Types
+pub mod Rows
+pub mod Redundant
 pub mod Sending
 pub mod Sinks
-pub mod Types
-pub mod Redundant
+pub mod Receiving
+pub mod Polls

@@ -1,25 +1,57 @@
-use Rattle.std.specs.Prelude.{◌≡◌, ◌<◌, ◌⊎◌, ℕ, List, [], ◌∷◌, ◌++◌, length, map, take, Some, None, Result, Ok, Err}
-use Rattle.rtp_media_runs.specs.Heard.{Stream, MediaUnit, poll_answer, polled}
+-- What polls of a receiving stream answer.
+use Rattle.std.specs.Prelude.{◌≡◌, ◌<◌, ◌⊎◌, ℕ, List, [], ◌∷◌, ◌++◌, Option, length, map, take, Some, None, Result}
+use Rattle.std.specs.Prelude.{Ok, Err}
+use Rattle.payload_core_base.specs.Format.{Format}
+use Rattle.payload_core_base.specs.declared.error.PacketError.{PacketError}
+use Rattle.payload_core_buffer.specs.Frames.{packets_between}
+use Rattle.payload_core_buffer.specs.Pops.{ReadsPart}
+use Rattle.payload_core_buffer.specs.declared.frame.Frame.{Frame}
+use Rattle.rtp_media_runs.specs.Hearing.{Answer, MediaUnit, Stream, due, poll_answer, polled}
+use Rattle.rtp_media_runs.specs.Samples.{Timed, timed}
 use Rattle.rtp_media_streams.specs.declared.errors.PollFault.{PollFault}
-use Rattle.rtp_media_streams.specs.declared.errors.PollFault.TheVariants.{Memory}
+use Rattle.rtp_media_streams.specs.declared.errors.PollFault.TheVariants.{Memory, Payload}
 
--- What polls of a stream answer.
+-- What one poll answers.
+abbrev pub PollResult : Type 0
+PollResult = Result (Option MediaUnit) PollFault
+
+-- an answer as a poll gives it where memory is found
+abbrev pub given : Answer → PollResult
+given (Ok unit) = Ok unit
+given (Err e) = Err (Payload e)
+
+-- Memory was wanting for a frame that is due: all stays but the fragment, which is the one that some of its
+-- packets leave open.
+pub record IsInterrupted (format : Format) (before after : Stream) : Type 0 where
+  pub frame : Frame
+  pub is_due : due format before ≡ Some frame
+  pub stops : ReadsPart format before.fragment (packets_between before.held frame) after.fragment
+  pub stays : after ≡ record before { fragment = after.fragment }
+
+-- What polls of a stream answer that hand something out.
 abbrev pub Answers : Type 0
 Answers = List (Result MediaUnit PollFault)
 
 -- Polls until None or want of memory: what they answer one after the other, and the stream after them.
--- Memory can be wanting only where a unit is ready, which stays.
-pub data IsPolled : Stream → Answers → Stream → Type 0 where
-  Silent : {s : Stream} (none : poll_answer s ≡ None) → IsPolled s [] s
-  HandsOut : {s t : Stream} {u : MediaUnit} {os : Answers} (some : poll_answer s ≡ Some u) (rest : IsPolled (polled s) os t) → IsPolled s (Ok u ∷ os) t
-  WantsMemory : {s : Stream} {u : MediaUnit} (some : poll_answer s ≡ Some u) → IsPolled s (Err Memory ∷ []) s
+pub data IsPolled (format : Format) : Stream → Answers → Stream → Type 0 where
+  Silent : {s : Stream} (none : poll_answer format s ≡ Ok None) → IsPolled format s [] s
+  HandsOut : {s t : Stream} {u : MediaUnit} {os : Answers} (some : poll_answer format s ≡ Ok (Some u))
+      (rest : IsPolled format (polled format s) os t) → IsPolled format s (Ok u ∷ os) t
+  Faults : {s t : Stream} {e : PacketError} {os : Answers} (fault : poll_answer format s ≡ Err e)
+      (rest : IsPolled format (polled format s) os t) → IsPolled format s (Err (Payload e) ∷ os) t
+  WantsMemory : {s t : Stream} (wants : IsInterrupted format s t) → IsPolled format s (Err Memory ∷ []) t
+
+-- what is handed out, without its numbers and what its format tells beside
+abbrev pub timed_answer : Result MediaUnit PollFault → Result Timed PollFault
+timed_answer (Ok u) = Ok (timed u.time u.values u.bytes)
+timed_answer (Err e) = Err e
 
 -- The answers are the first of these units, but not all, and then want of memory.
-pub record IsCutShort (units : List MediaUnit) (answers : Answers) : Type 0 where
+pub record IsCutShort (units : List Timed) (answers : Answers) : Type 0 where
   pub count : ℕ
   pub stopped : count < length units
-  pub answers_are : answers ≡ map Ok (take count units) ++ Err Memory ∷ []
+  pub answers_are : map timed_answer answers ≡ map Ok (take count units) ++ Err Memory ∷ []
 
 -- The answers are these units, unless memory was wanting.
-abbrev pub AreAnswered : List MediaUnit → Answers → Type 0
-AreAnswered units answers = (answers ≡ map Ok units) ⊎ IsCutShort units answers
+abbrev pub AreAnswered : List Timed → Answers → Type 0
+AreAnswered units answers = (map timed_answer answers ≡ map Ok units) ⊎ IsCutShort units answers

@@ -8,10 +8,12 @@ use Rattle.rtp_media_streams.specs.declared.sink.Stamp.{Stamp}
 
 -- the datagram of a number: the header, and behind it the payload
 abbrev pub datagram_with : Stamp → ℕ → Outgoing → List ℕ
-datagram_with stamp number o = spelled stamp.exts (stamped stamp.ssrc stamp.pt stamp.exts number o.marker o.time o.values) ++ o.payload
+datagram_with stamp number o = spelled stamp.exts
+    (stamped stamp.ssrc stamp.pt stamp.exts number o.marker o.time o.values) ++ o.payload
 
 -- A payload more is a datagram more, under the next number.
 pub record TakesOne (old : DatagramSink) (o : Outgoing) (new : DatagramSink) : Type 0 where
   pub stamp : new.stamp.now ≡ old.stamp.now
   pub first : new.first ≡ old.first
-  pub datagrams : new.datagrams.items ≡ old.datagrams.items ++ datagram_with old.stamp.now (old.first + length old.datagrams.items) o ∷ []
+  pub datagrams : new.datagrams.items ≡ old.datagrams.items
+      ++ datagram_with old.stamp.now (old.first + length old.datagrams.items) o ∷ []

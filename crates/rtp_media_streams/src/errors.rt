@@ -16,6 +16,9 @@ pub enum SampleError {
     /// A payload of `mtu` bytes and its header pass the limit of a datagram.
     #[error("a datagram would pass the limit")]
     LimitTooSmall,
+    /// The codec does not take the sample.
+    #[error("the sample is refused: {0}")]
+    Payload(PacketError),
     /// Memory was wanting.
     #[error("out of memory")]
     Memory,

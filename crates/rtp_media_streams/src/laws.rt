@@ -1,41 +1,53 @@
 //! What holds of the datagrams of samples.
 
-ghost use Rattle.std.specs.Prelude.{◌≡◌, ◌≢◌, ◌+◌, ◌≤◌, ◌<◌, ℕ, List, length, All, None, Some, ◌^◌};
+ghost use Rattle.std.specs.Prelude.{◌≡◌, ◌≢◌, ◌+◌, ◌≤◌, ◌<◌, ℕ, Bool, List, length, All, None, Some, ◌^◌};
+ghost use Rattle.payload_core_base.specs.Law.{AreWithin};
+ghost use Rattle.payload_core_base.specs.Outgoing.{Outgoing};
 ghost use Rattle.rtp_wire.specs.Carried.{AreValues};
 ghost use Rattle.rtp_wire.specs.Header.{header_in, image, payload_in};
 ghost use Rattle.rtp_wire.specs.Time.{Time};
 ghost use Rattle.rtp_wire.specs.declared.ExtensionValues.{ExtensionValues};
 ghost use Rattle.payload_core_red.specs.RedHistory.{AreDistances, Redundancy};
 ghost use Rattle.payload_core_red.specs.RedWrapping.{IsWrap};
-ghost use Rattle.rtp_media_runs.specs.Opus.{Timed, payloads};
-ghost use Rattle.rtp_media_streams.specs.Redundant.{behind_older, brought};
+ghost use Rattle.rtp_media_streams.specs.Redundant.{behind_older, unwrapped, wrapped};
 ghost use Rattle.rtp_media_streams.specs.declared.types.PayloadTypes.{PayloadTypes};
-ghost use Rattle.rtp_media_streams.specs.Sending.{Sending, IsTyped, Sample, after_sample, header_of, datagram_of, datagrams_of, datagrams_from, piece_limit, samples_of, sent_datagrams, sent_payloads, refusal_of_sample, wire_payloads};
+ghost use Rattle.rtp_media_streams.specs.Sending.{Sending, IsTyped, Sample, after_sample, header_of, datagram_of};
+ghost use Rattle.rtp_media_streams.specs.Sending.{datagrams_of, datagrams_from, packet_limit, payloads_of_samples};
+ghost use Rattle.rtp_media_streams.specs.Sending.{sent, sent_datagrams, sent_payloads, refusal_of_sample};
+ghost use Rattle.rtp_media_streams.specs.Sending.{wire_payloads};
 
 /// Samples that are pushed one after the other give the payloads of all of them under consecutive
-/// numbers, with redundancy each behind older ones, of the samples before too. No payload passes `mtu`, and
-/// no datagram of an accepted sample passes the limit. The timestamps are 32 bits. A datagram reads under the stream's map as its header's wire image, with the sample's values that the map has a
-/// number for, and behind it stands the payload.
+/// numbers, with redundancy each behind older ones, of the samples before too. Where no packet of an accepted
+/// sample passes its limit, as the codec law says of each well-formed one, no payload passes `mtu` and no
+/// datagram the limit. A datagram reads under the stream's map as its header's wire image, with the sample's
+/// values that the map has a number for, and behind it stands the payload.
 pub fn datagrams_laws()
-    ensures consecutive { (s : Sending) (samples : List Sample) → datagrams_of s samples ≡ datagrams_from s s.next (wire_payloads s (payloads (piece_limit s) (samples_of s samples))) }
-    ensures within { (s : Sending) (time : Time) (values : ExtensionValues) (bytes : List ℕ) → refusal_of_sample s time values ≡ None →
+    ensures consecutive { (s : Sending) (samples : List Sample) →
+        datagrams_of s samples ≡ datagrams_from s s.next (wire_payloads s (payloads_of_samples s samples)) }
+    ensures within { (s : Sending) (time : Time) (values : ExtensionValues) (bytes : List ℕ) →
+        refusal_of_sample s time values bytes ≡ None → AreWithin (packet_limit s) (sent s bytes).packets →
         All (λ d. length d ≤ s.limit) (sent_datagrams s time values bytes) }
     ensures payloads { (s : Sending) (time : Time) (values : ExtensionValues) (bytes : List ℕ) →
-        All (λ p. length p.bytes ≤ s.mtu) (wire_payloads s (sent_payloads s time values bytes)) }
-    ensures typed { (s : Sending) (time : Time) (values : ExtensionValues) (bytes : List ℕ) → IsTyped s → IsTyped (after_sample s time values bytes) }
-    ensures reads { (s : Sending) (number : ℕ) (p : Timed) → s.wire_type < 128 → s.ssrc < 2 ^ 32 → p.time < 2 ^ 32 → AreValues p.values →
-        header_in s.map (datagram_of s number p) ≡ Some (image s.map (header_of s number p.time p.values)) }
-    ensures payload { (s : Sending) (number : ℕ) (p : Timed) → payload_in (image s.map (header_of s number p.time p.values)) (datagram_of s number p) ≡ p.bytes }
-    ensures timestamps { (s : Sending) (samples : List Sample) → All (λ p. p.time < 2 ^ 32) (samples_of s samples) }
+        AreWithin (packet_limit s) (sent s bytes).packets →
+        All (λ o. length o.payload ≤ s.mtu) (wire_payloads s (sent_payloads s time values bytes)) }
+    ensures typed { (s : Sending) (time : Time) (values : ExtensionValues) (bytes : List ℕ) → IsTyped s →
+        IsTyped (after_sample s time values bytes) }
+    ensures reads { (s : Sending) (number : ℕ) (o : Outgoing) → s.wire_type < 128 → s.ssrc < 2 ^ 32 → o.time < 2 ^ 32
+        → AreValues o.values →
+        header_in s.map (datagram_of s number o) ≡ Some (image s.map (header_of s number o.marker o.time o.values)) }
+    ensures payload { (s : Sending) (number : ℕ) (o : Outgoing) →
+        payload_in (image s.map (header_of s number o.marker o.time o.values)) (datagram_of s number o) ≡ o.payload }
 {}
 
-/// A payload that is one byte shorter than the budget, or more, stands behind the longest prefix of the
-/// older ones that the budget has room for, as a sender of redundancy wraps it; and a stream of its type
-/// takes just it out again (RFC 2198).
+/// What is sent for a payload is the payload behind the longest prefix of the older ones that the budget has
+/// room for, as a sender of redundancy wraps it; and where it is one byte shorter than the budget, or more, a
+/// stream of its type takes just it out again (RFC 2198).
 pub fn redundancy_laws()
-    ensures wraps { (pt budget : ℕ) (r : Redundancy) (p : Timed) → AreDistances r.distances → length p.bytes + 1 ≤ budget →
-        IsWrap r pt p.bytes p.time budget (behind_older pt budget r p) }
-    ensures within { (pt budget : ℕ) (r : Redundancy) (p : Timed) → length p.bytes + 1 ≤ budget → length (behind_older pt budget r p) ≤ budget }
-    ensures brings { (types : PayloadTypes) (wire budget : ℕ) (r : Redundancy) (p : Timed) → types.pt < 128 → wire ≢ types.pt → AreDistances r.distances →
-        brought types wire (behind_older types.pt budget r p) ≡ Some p.bytes }
+    ensures wraps { (pt budget : ℕ) (r : Redundancy) (o : Outgoing) → AreDistances r.distances →
+        IsWrap r pt o.payload o.time budget (wrapped pt budget r o) }
+    ensures within { (pt budget : ℕ) (r : Redundancy) (o : Outgoing) → length o.payload + 1 ≤ budget
+        → length (wrapped pt budget r o) ≤ budget }
+    ensures brings { (types : PayloadTypes) (wire budget : ℕ) (r : Redundancy) (o : Outgoing) → types.pt < 128
+        → wire ≢ types.pt → AreDistances r.distances →
+        length o.payload + 1 ≤ budget → unwrapped types wire (wrapped types.pt budget r o) ≡ Some o.payload }
 {}

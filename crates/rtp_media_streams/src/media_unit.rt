@@ -2,15 +2,16 @@
 
 ghost use Rattle.std.specs.Prelude.{◌≡◌};
 ghost use Rattle.payload_core_buffer.specs.Metas.{metas_of_unit};
-ghost use Rattle.rtp_media_runs.specs.Heard.{unit_from};
+ghost use Rattle.rtp_media_runs.specs.Hearing.{unit_from};
 
+use payload_core_base::CodecExtra;
 use payload_core_buffer::Depacketized;
 use rtp_wire::{ExtensionValues, SeqNo};
 use std::marker::Model;
 
-/// An audio packet as it was sampled: its bytes, its RTP timestamp (RFC 3550 5.1), the widened sequence
-/// numbers of the first and the last datagram that it came in, and the values of the last one's header
-/// extensions (RFC 8285).
+/// A video frame or an audio packet: its bytes, its RTP timestamp (RFC 3550 5.1), the widened sequence numbers
+/// of the first and the last datagram that it came in, the values of the last one's header extensions
+/// (RFC 8285), and what its codec tells beside.
 #[derive(Drop)]
 pub struct Unit {
     bytes: Vec<u8>,
@@ -18,20 +19,28 @@ pub struct Unit {
     ext_vals: ExtensionValues,
     first: SeqNo,
     last: SeqNo,
+    extra: CodecExtra,
 }
 
 impl Model for Unit {
-    ghost use Rattle.rtp_media_runs.specs.Heard.{MediaUnit};
+    ghost use Rattle.rtp_media_runs.specs.Hearing.{MediaUnit};
 
     ghost Value = { MediaUnit };
 
-    ghost view = { λ u. record { first = u.first; last = u.last; time = u.time; values = u.ext_vals; bytes = u.bytes.items } };
+    ghost view = { λ u. record {
+      first = u.first;
+      last = u.last;
+      time = u.time;
+      values = u.ext_vals;
+      bytes = u.bytes.items;
+      extra = u.extra;
+    } };
 }
 
 impl Unit {
     /// The unit of a complete frame.
     pub(crate) fn from_frame(frame: Depacketized) -> Self
-        ensures { result ≡ unit_from (metas_of_unit frame) frame.bytes.items }
+        ensures { result ≡ unit_from (metas_of_unit frame) frame.bytes.items frame.extra }
     {
         let numbers = frame.seq_range();
         let time = frame.time();
@@ -42,6 +51,7 @@ impl Unit {
             ext_vals,
             first: *numbers.start(),
             last: *numbers.end(),
+            extra: frame.extra,
         }
     }
 
@@ -64,6 +74,13 @@ impl Unit {
         ensures { result ≡ self.now.values }
     {
         self.ext_vals
+    }
+
+    /// What its codec tells beside the bytes, as whether it is a keyframe.
+    pub fn extra(&self) -> CodecExtra
+        ensures { result ≡ self.now.extra }
+    {
+        self.extra
     }
 
     /// The number of the first datagram.
@@ -90,6 +107,7 @@ impl Unit {
             ext_vals: _,
             first: _,
             last: _,
+            extra: _,
         } = self;
         bytes
     }

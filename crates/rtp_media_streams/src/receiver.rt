@@ -1,21 +1,28 @@
 //! Receiving streams.
 
-ghost use Rattle.std.specs.Prelude.{◌≡◌, ◌<◌, ◌≤◌, IfErr, IfOk, IsOk, MatchOption, None, OnErr, OnOk, OnSome, Option, Some, length};
+ghost use Rattle.std.specs.Prelude.{◌≡◌, ◌≢◌, ◌<◌, ◌≤◌, IfErr, IfOk, IsOk, MatchOption, None, OnErr, OnOk, OnSome};
+ghost use Rattle.std.specs.Prelude.{Option, Some, true, length};
+ghost use Rattle.std.specs.Prelude.{Ok, Err};
+ghost use Rattle.h26x_payload.specs.Codings.{has_format};
 ghost use Rattle.rtp_wire.specs.Replay.{Window, greatest_in, is_accepted, recorded_in};
 ghost use Rattle.rtp_wire.specs.Widening.{widened};
-ghost use Rattle.payload_core_audio.specs.Plain.{plain_format};
+ghost use Rattle.payload_core_base.specs.Format.{Format};
 ghost use Rattle.payload_core_buffer.specs.Buffered.{pushed};
 ghost use Rattle.payload_core_buffer.specs.Packets.{packet_from};
-ghost use Rattle.rtp_media_runs.specs.Heard.{poll_answer, polled};
-ghost use Rattle.rtp_media_streams.specs.Polls.{IsPolled};
-ghost use Rattle.rtp_media_streams.specs.Receiving.{HaveBytes, opened_receiver, stream_of, with_stream, is_own, is_receiving, media_payload, taken_number, arrived, values_read, polled_receiver};
+ghost use Rattle.rtp_media_runs.specs.Hearing.{poll_answer, polled};
+ghost use Rattle.rtp_media_streams.specs.Polls.{IsInterrupted, IsPolled, given};
+ghost use Rattle.rtp_media_streams.specs.Receiving.{opened_receiver, stream_of, with_stream, is_own, conflicts_with};
+ghost use Rattle.rtp_media_streams.specs.Receiving.{media_payload, taken_number, arrived, values_read};
+ghost use Rattle.rtp_media_streams.specs.Receiving.{polled_receiver};
+ghost use Rattle.rtp_media_streams.specs.Rows.{format_of};
 
+use crate::codecs::depacketizer_for;
 use crate::errors::PollFault;
 use crate::media_unit::Unit;
 use crate::payload::media_payload;
+use crate::row_format::RowFormat;
 use crate::types::PayloadTypes;
 use h26x_payload::{CodecDepacketizer, NotBoxed};
-use payload_core_audio::OpusDepacketizer;
 use payload_core_base::{Depacketizer, PacketError};
 use payload_core_buffer::{DepacketizingBuffer, RtpMeta};
 use rtp_wire::{
@@ -31,14 +38,15 @@ pub struct ReceivingStream {
     ssrc: Ssrc,
     types: PayloadTypes,
     exts: ExtensionMap,
+    row: RowFormat,
     window: Option<SeqNoWindow>,
     buffer: DepacketizingBuffer<CodecDepacketizer<NotBoxed>>,
 }
 
 impl Model for ReceivingStream {
-    ghost use Rattle.payload_core_audio.specs.Plain.{plain_format};
-    ghost use Rattle.std.specs.Prelude.{◌≡◌, None};
-    ghost use Rattle.rtp_media_streams.specs.Receiving.{HaveBytes, Receiving, stream_of};
+    ghost use Rattle.std.specs.Prelude.{◌≡◌};
+    ghost use Rattle.rtp_media_streams.specs.Receiving.{Receiving, stream_of};
+    ghost use Rattle.rtp_media_streams.specs.Rows.{format_of};
     ghost use Rattle.rtp_wire.specs.Replay.{window_code};
     ghost use Rattle.std.specs.Coded.{codes};
 
@@ -46,9 +54,17 @@ impl Model for ReceivingStream {
 
     ghost coded = { Prim.hlevel (codes, window_code) };
 
-    ghost view = { λ r. record { ssrc = r.ssrc; types = r.types; map = r.exts; stream = stream_of r.window r.buffer } };
+    ghost view = { λ r. record {
+      ssrc = r.ssrc;
+      types = r.types;
+      map = r.exts;
+      row = r.row;
+      stream = stream_of r.window r.buffer
+          (⟦<CodecDepacketizer<NotBoxed> as Depacketizer>⟧.fragment r.buffer.depacketizer);
+    } };
 
-    ghost invariant = { λ r. HaveBytes r.buffer.held × (⟦<CodecDepacketizer<NotBoxed> as Depacketizer>⟧.format r.buffer.depacketizer ≡ plain_format) × (⟦<CodecDepacketizer<NotBoxed> as Depacketizer>⟧.fragment r.buffer.depacketizer ≡ None) };
+    ghost invariant = { λ r. ⟦<CodecDepacketizer<NotBoxed> as Depacketizer>⟧.format r.buffer.depacketizer
+        ≡ format_of r.row };
 }
 
 /// The number that these 16 bits stand for; before the first number they stand for themselves.
@@ -87,28 +103,53 @@ fn hold(
     meta: RtpMeta,
     payload: &[u8],
 ) -> Result<(), AllocError>
-    ensures kept { OnOk result (buffer.new ≡ record buffer.old { held = pushed buffer.old.cutoff buffer.old.held (packet_from meta payload.now) }) }
-    ensures err { OnErr result (buffer.new ≡ buffer.old) }
+    ensures kept { OnOk result (buffer.new ≡ record buffer.old
+        { held = pushed buffer.old.cutoff buffer.old.held (packet_from meta payload.now) }) }
+    ensures unchanged { OnErr result (buffer.new ≡ buffer.old) }
 {
     buffer.push(meta, payload).map_err(|_| AllocError)
 }
 
-/// Hands out the next frame as a unit; the only fault is want of memory, since no packet is empty.
+/// Hands out the next frame as a unit.
 fn pop(
     buffer: &mut DepacketizingBuffer<CodecDepacketizer<NotBoxed>>,
 ) -> Result<Option<Unit>, PollFault>
-    requires bytes { HaveBytes buffer.old.held }
-    requires format { ⟦<CodecDepacketizer<NotBoxed> as Depacketizer>⟧.format buffer.old.depacketizer ≡ plain_format }
-    requires closed { ⟦<CodecDepacketizer<NotBoxed> as Depacketizer>⟧.fragment buffer.old.depacketizer ≡ None }
-    ensures bytes { HaveBytes buffer.new.held }
-    ensures format { ⟦<CodecDepacketizer<NotBoxed> as Depacketizer>⟧.format buffer.new.depacketizer ≡ plain_format }
-    ensures closed { ⟦<CodecDepacketizer<NotBoxed> as Depacketizer>⟧.fragment buffer.new.depacketizer ≡ None }
-    ensures answer { IfOk result (λ unit. (window : Option Window) → unit ≡ poll_answer (stream_of window buffer.old)) }
-    ensures after { OnOk result ((window : Option Window) → stream_of window buffer.new ≡ polled (stream_of window buffer.old)) }
-    ensures none { (window : Option Window) → poll_answer (stream_of window buffer.old) ≡ None → IsOk result }
-    ensures fault { IfErr result (λ fault. fault ≡ PollFault.Memory) }
-    ensures kept { OnErr result ((window : Option Window) → stream_of window buffer.new ≡ stream_of window buffer.old) }
+    ensures format { ⟦<CodecDepacketizer<NotBoxed> as Depacketizer>⟧.format buffer.new.depacketizer
+        ≡ ⟦<CodecDepacketizer<NotBoxed> as Depacketizer>⟧.format buffer.old.depacketizer }
+    ensures answer { (window : Option Window) →
+        let old = stream_of window buffer.old
+            (⟦<CodecDepacketizer<NotBoxed> as Depacketizer>⟧.fragment buffer.old.depacketizer) in
+        let format = ⟦<CodecDepacketizer<NotBoxed> as Depacketizer>⟧.format buffer.old.depacketizer in
+        IfOk result (λ unit. given (poll_answer format old) ≡ Ok unit) }
+    ensures after { (window : Option Window) →
+        let old = stream_of window buffer.old
+            (⟦<CodecDepacketizer<NotBoxed> as Depacketizer>⟧.fragment buffer.old.depacketizer) in
+        let new = stream_of window buffer.new
+            (⟦<CodecDepacketizer<NotBoxed> as Depacketizer>⟧.fragment buffer.new.depacketizer) in
+        let format = ⟦<CodecDepacketizer<NotBoxed> as Depacketizer>⟧.format buffer.old.depacketizer in
+        OnOk result (new ≡ polled format old) }
+    ensures fault { (window : Option Window) →
+        let old = stream_of window buffer.old
+            (⟦<CodecDepacketizer<NotBoxed> as Depacketizer>⟧.fragment buffer.old.depacketizer) in
+        let format = ⟦<CodecDepacketizer<NotBoxed> as Depacketizer>⟧.format buffer.old.depacketizer in
+        IfErr result (λ fault. fault ≢ PollFault.Memory → given (poll_answer format old) ≡ Err fault) }
+    ensures behind { (window : Option Window) →
+        let old = stream_of window buffer.old
+            (⟦<CodecDepacketizer<NotBoxed> as Depacketizer>⟧.fragment buffer.old.depacketizer) in
+        let new = stream_of window buffer.new
+            (⟦<CodecDepacketizer<NotBoxed> as Depacketizer>⟧.fragment buffer.new.depacketizer) in
+        let format = ⟦<CodecDepacketizer<NotBoxed> as Depacketizer>⟧.format buffer.old.depacketizer in
+        IfErr result (λ fault. fault ≢ PollFault.Memory → new ≡ polled format old) }
+    ensures memory { (window : Option Window) →
+        let old = stream_of window buffer.old
+            (⟦<CodecDepacketizer<NotBoxed> as Depacketizer>⟧.fragment buffer.old.depacketizer) in
+        let new = stream_of window buffer.new
+            (⟦<CodecDepacketizer<NotBoxed> as Depacketizer>⟧.fragment buffer.new.depacketizer) in
+        let format = ⟦<CodecDepacketizer<NotBoxed> as Depacketizer>⟧.format buffer.old.depacketizer in
+        IfErr result (λ fault. fault ≡ PollFault.Memory → IsInterrupted format old new) }
     ensures fewer { IfOk result (λ unit. OnSome unit (length buffer.new.held < length buffer.old.held)) }
+    ensures fewer_at_faults { IfErr result (λ fault. fault ≢ PollFault.Memory
+        → length buffer.new.held < length buffer.old.held) }
 {
     match buffer.pop() {
         Ok(Some(frame)) => Ok(Some(Unit::from_frame(frame))),
@@ -121,23 +162,30 @@ fn pop(
 }
 
 impl ReceivingStream {
-    /// A stream of this SSRC, these payload types and this map of header extensions that heard nothing.
-    /// Past a missing packet a frame is handed out only once more than `hold_back` frames are complete.
+    /// A stream of this SSRC, these payload types, this map of header extensions and this row that heard
+    /// nothing. Past a missing packet a frame is handed out only once more than `hold_back` frames are
+    /// complete.
+    ///
+    /// # Conditions
+    /// The row's codec has a payload format: it is none of Rtx, Red, Null and Unknown.
     pub fn new(
         alloc: Global,
         ssrc: Ssrc,
         types: PayloadTypes,
         exts: ExtensionMap,
+        row: RowFormat,
         hold_back: usize,
     ) -> Self
-        ensures { result ≡ opened_receiver ssrc types exts hold_back }
+        requires { has_format row.codec ≡ true }
+        ensures { result ≡ opened_receiver ssrc types exts row hold_back }
     {
-        let depacketizer = CodecDepacketizer::Opus(OpusDepacketizer::new());
+        let depacketizer = depacketizer_for(alloc, &row);
         ReceivingStream {
             alloc,
             ssrc,
             types,
             exts,
+            row,
             window: None,
             buffer: DepacketizingBuffer::new(alloc, depacketizer, hold_back),
         }
@@ -150,9 +198,9 @@ impl ReceivingStream {
         self.ssrc.get() == ssrc.get() && self.types.has(pt)
     }
 
-    /// Whether the stream has this SSRC and one of these payload types.
-    pub fn shares(&self, ssrc: Ssrc, types: &PayloadTypes) -> bool
-        ensures { result ≡ is_receiving self.now ssrc types.now }
+    /// Whether its datagrams could be those of another stream of this SSRC and these payload types.
+    pub fn conflicts_with(&self, ssrc: Ssrc, types: &PayloadTypes) -> bool
+        ensures { result ≡ conflicts_with self.now ssrc types.now }
     {
         self.ssrc.get() == ssrc.get() && self.types.share(types)
     }
@@ -162,7 +210,8 @@ impl ReceivingStream {
     /// read, or its primary payload has another type.
     pub fn media_payload<'a>(&self, header: &RtpHeader, datagram: &'a [u8]) -> Option<&'a [u8]>
         requires { header.now.header_len ≤ length datagram.now }
-        ensures { MatchOption result (media_payload self.now.types header.now datagram.now ≡ None) (λ media. media_payload self.now.types header.now datagram.now ≡ Some media.now) }
+        ensures { MatchOption result (media_payload self.now.types header.now datagram.now ≡ None)
+            (λ media. media_payload self.now.types header.now datagram.now ≡ Some media.now) }
     {
         media_payload(&self.types, header, datagram)
     }
@@ -179,7 +228,7 @@ impl ReceivingStream {
     }
 
     /// Takes one datagram of its own in, by the 16 bits of its sequence number, its timestamp, its marker,
-    /// the values of its header extensions and its payload, which has a byte, and answers its widened
+    /// the values of its header extensions and its payload, and answers its widened
     /// number; None where that is refused.
     pub fn receive(
         &mut self,
@@ -189,10 +238,10 @@ impl ReceivingStream {
         ext_vals: ExtensionValues,
         payload: &[u8],
     ) -> Result<Option<SeqNo>, AllocError>
-        requires { 0 < length payload.now }
         ensures answer { IfOk result (λ taken. taken ≡ taken_number self.old.stream low) }
-        ensures after { OnOk result (self.new ≡ with_stream self.old (arrived self.old.stream low time marker ext_vals payload.now)) }
-        ensures err { OnErr result (self.new ≡ self.old) }
+        ensures after { OnOk result (self.new ≡ with_stream self.old
+            (arrived self.old.stream low time marker ext_vals payload.now)) }
+        ensures unchanged { OnErr result (self.new ≡ self.old) }
     {
         let number = number_of(&self.window, low);
         if !accepts(&self.window, number) {
@@ -212,14 +261,20 @@ impl ReceivingStream {
     /// Hands out the next unit, where one is ready.
     ///
     /// # Errors
-    /// `PollFault::Memory`, only where a unit is ready, which stays.
+    /// `PollFault::Payload` where a packet of the next frame is refused, which is then done with, or
+    /// `PollFault::Memory`, only where a frame is ready, which stays; some of its packets may have been read.
     pub fn poll(&mut self) -> Result<Option<Unit>, PollFault>
-        ensures answer { IfOk result (λ unit. unit ≡ poll_answer self.old.stream) }
+        ensures answer { IfOk result (λ unit. given (poll_answer (format_of self.old.row) self.old.stream) ≡ Ok unit) }
         ensures after { OnOk result (self.new ≡ polled_receiver self.old) }
-        ensures none { poll_answer self.old.stream ≡ None → IsOk result }
-        ensures fault { IfErr result (λ fault. fault ≡ PollFault.Memory) }
-        ensures kept { OnErr result (self.new ≡ self.old) }
+        ensures fault { IfErr result (λ fault. fault ≢ PollFault.Memory
+            → given (poll_answer (format_of self.old.row) self.old.stream) ≡ Err fault) }
+        ensures behind { IfErr result (λ fault. fault ≢ PollFault.Memory → self.new ≡ polled_receiver self.old) }
+        ensures memory { IfErr result (λ fault. fault ≡ PollFault.Memory
+            → IsInterrupted (format_of self.old.row) self.old.stream self.new.stream) }
+        ensures same { self.new ≡ with_stream self.old self.new.stream }
         ensures fewer { IfOk result (λ unit. OnSome unit (length self.new.stream.held < length self.old.stream.held)) }
+        ensures fewer_at_faults { IfErr result (λ fault. fault ≢ PollFault.Memory
+            → length self.new.stream.held < length self.old.stream.held) }
     {
         pop(&mut self.buffer)
     }
@@ -227,18 +282,22 @@ impl ReceivingStream {
     /// Polls until no unit is ready or memory for one is wanting, and answers what the polls answered, in
     /// order. Where memory for that list is wanting, what was polled is lost.
     pub fn poll_all(&mut self) -> Result<Vec<Result<Unit, PollFault>>, AllocError>
-        ensures polled { IfOk result (λ answers. IsPolled self.old.stream answers.items self.new.stream) }
-        ensures same { OnOk result (self.new ≡ with_stream self.old self.new.stream) }
+        ensures polled { IfOk result (λ answers. IsPolled (format_of self.old.row) self.old.stream answers.items
+            self.new.stream) }
+        ensures same { self.new ≡ with_stream self.old self.new.stream }
     {
         let mut answers = Vec::new(self.alloc);
         loop {
             match self.poll() {
                 Ok(None) => return Ok(answers),
                 Ok(Some(unit)) => answers.push(Ok(unit))?,
-                Err(fault) => {
-                    answers.push(Err(fault))?;
-                    return Ok(answers);
-                }
+                Err(fault) => match fault {
+                    PollFault::Memory => {
+                        answers.push(Err(PollFault::Memory))?;
+                        return Ok(answers);
+                    }
+                    fault => answers.push(Err(fault))?,
+                },
             }
         }
     }

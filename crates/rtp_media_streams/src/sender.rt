@@ -1,17 +1,24 @@
 //! Sending streams.
 
-ghost use Rattle.std.specs.Prelude.{◌≡◌, ◌≢◌, ◌<◌, ◌≤◌, ◌+◌, ◌%◌, ◌^◌, Some, None, OnOk, OnErr, IfOk, IfErr, length};
-ghost use Rattle.rtp_wire.specs.Time.{rebased_ticks};
-ghost use Rattle.rtp_media_runs.specs.Opus.{timed, payloads_of};
-ghost use Rattle.rtp_media_streams.specs.Sending.{opened_sender, redundant_sender, is_sending, header_of, piece_limit, wire_payloads, still_kept, with_next, datagrams_from, sent_datagrams, after_sample, failed_stream, refusal_of_sample};
+ghost use Rattle.std.specs.Prelude.{◌≡◌, ◌≢◌, ◌<◌, ◌≤◌, ◌+◌, ◌%◌, ◌^◌, Some, None, true, OnOk, OnErr, IfOk, IfErr};
+ghost use Rattle.std.specs.Prelude.{length, is_some, unwrap_or};
+ghost use Rattle.h26x_payload.specs.Codings.{has_format};
+ghost use Rattle.rtp_wire.specs.Time.{rebased_ticks, checked_rebased};
+ghost use Rattle.rtp_media_streams.specs.Rows.{rtp_rate};
+ghost use Rattle.rtp_media_streams.specs.Sending.{HasFailed, opened_sender, redundant_sender, conflicts_with};
+ghost use Rattle.rtp_media_streams.specs.Sending.{longest_datagram, payload_refusal, packed, payloads_at, sent};
+ghost use Rattle.rtp_media_streams.specs.Sending.{timestamp, wire_payloads, still_kept, with_next, datagrams_from};
+ghost use Rattle.rtp_media_streams.specs.Sending.{sent_datagrams, after_sample, refusal_before_payload};
+ghost use Rattle.rtp_media_streams.specs.Sending.{refusal_of_sample};
 ghost use Rattle.payload_core_red.specs.RedHistory.{AreDistances};
 
+use crate::codecs::packetizer_for;
 use crate::datagram::Datagram;
 use crate::errors::SampleError;
+use crate::row_format::{RowFormat, rtp_rate_of};
 use crate::sink::{DatagramSink, Stamp};
 use crate::types::PayloadTypes;
 use h26x_payload::{CodecPacketizer, NotBoxed};
-use payload_core_audio::OpusPacketizer;
 use payload_core_base::{PacketError, Packetizer};
 use payload_core_buffer::Payloader;
 use payload_core_red::{RedSender, RedSink};
@@ -28,9 +35,10 @@ pub struct SendingStream {
     alloc: Global,
     types: PayloadTypes,
     stamp: Stamp,
+    row: RowFormat,
+    has_id: bool,
     payloader: Payloader<CodecPacketizer<NotBoxed>>,
     redundancy: Option<RedSender>,
-    rate: Frequency,
     next: u64,
     mtu: usize,
     limit: usize,
@@ -38,9 +46,9 @@ pub struct SendingStream {
 }
 
 impl Model for SendingStream {
-    ghost use Rattle.payload_core_audio.specs.Plain.{pieces_packing};
     ghost use Rattle.payload_core_buffer.specs.Payloaders.{packetizer_of};
     ghost use Rattle.std.specs.Prelude.{◌≡◌, ◌<◌};
+    ghost use Rattle.rtp_media_streams.specs.Rows.{packing_of};
     ghost use Rattle.rtp_media_streams.specs.Sending.{Sending};
 
     ghost Value = { Sending };
@@ -50,42 +58,55 @@ impl Model for SendingStream {
       types = s.types;
       wire_type = s.stamp.pt;
       map = s.stamp.exts;
-      rate = s.rate;
+      row = s.row;
+      has_id = s.has_id;
       next = s.next;
       mtu = s.mtu;
       limit = s.limit;
+      packetizer = ⟦<CodecPacketizer<NotBoxed> as Packetizer>⟧.sender (packetizer_of s.payloader);
       redundancy = s.redundancy;
       failed = s.failed;
     } };
 
-    ghost invariant = { λ s. (0 < s.mtu) × (⟦<CodecPacketizer<NotBoxed> as Packetizer>⟧.packing (packetizer_of s.payloader) ≡ pieces_packing) };
+    ghost invariant = { λ s. (0 < s.mtu) × (⟦<CodecPacketizer<NotBoxed> as Packetizer>⟧.packing
+        (packetizer_of s.payloader) ≡ packing_of s.row s.has_id) };
 }
 
 impl SendingStream {
-    /// A stream of this SSRC, these payload types, this map of header extensions and this clock rate that
-    /// sent nothing: its datagrams are numbered from `first`, no payload passes `mtu` bytes and no
-    /// datagram `limit`. It adds no redundancy.
+    /// A stream of this SSRC, these payload types, this map of header extensions and this row that sent
+    /// nothing: its datagrams are numbered from `first`, no payload passes `mtu` bytes and no datagram
+    /// `limit`. VP8 and VP9 frames have picture ids from `picture_id` on, VP8 frames none without it. It
+    /// adds no redundancy.
+    ///
+    /// # Conditions
+    /// The row's codec has a payload format: it is none of Rtx, Red, Null and Unknown. The payload type is
+    /// below 128, `mtu` is at least 1, and the picture id at most 32,767.
     pub fn new(
         alloc: Global,
         ssrc: Ssrc,
         types: PayloadTypes,
         exts: ExtensionMap,
-        rate: Frequency,
+        row: RowFormat,
+        picture_id: Option<u16>,
         first: u64,
         mtu: usize,
         limit: usize,
     ) -> Self
+        requires codec { has_format row.codec ≡ true }
         requires payload_type { types.pt < 128 }
         requires mtu { 0 < mtu }
-        ensures { result ≡ opened_sender ssrc types exts rate first mtu limit }
+        requires picture_id { unwrap_or picture_id 0 < 32768 }
+        ensures { result ≡ opened_sender ssrc types exts row picture_id first mtu limit }
     {
+        let packetizer = packetizer_for(&row, picture_id);
         SendingStream {
             alloc,
             types,
             stamp: Stamp::new(ssrc, types.pt, exts),
-            payloader: Payloader::new(CodecPacketizer::Opus(OpusPacketizer::new())),
+            row,
+            has_id: picture_id.is_some(),
+            payloader: Payloader::new(packetizer),
             redundancy: None,
-            rate,
             next: first,
             mtu,
             limit,
@@ -112,28 +133,28 @@ impl SendingStream {
         Ok(stream)
     }
 
-    /// Whether the stream has this SSRC and one of these payload types.
-    pub fn shares(&self, ssrc: Ssrc, types: &PayloadTypes) -> bool
-        ensures { result ≡ is_sending self.now ssrc types.now }
+    /// Whether its datagrams could be those of another stream of this SSRC and these payload types.
+    pub fn conflicts_with(&self, ssrc: Ssrc, types: &PayloadTypes) -> bool
+        ensures { result ≡ conflicts_with self.now ssrc types.now }
     {
         self.stamp.ssrc.get() == ssrc.get() && self.types.share(types)
     }
 
-    /// The clock rate of its timestamps, in ticks a second.
+    /// The clock rate of its samples, in ticks a second.
     pub fn clock_rate(&self) -> Frequency
-        ensures { result ≡ self.now.rate }
+        ensures { result ≡ self.now.row.clock_rate }
     {
-        self.rate
+        self.row.clock_rate
     }
 
     /// The datagrams of a sample, each of at most `limit` bytes with a payload of at most `mtu`: its
-    /// pieces one after the other, under consecutive numbers and one timestamp, each with all values
-    /// that the stream's map has a number for. With redundancy a piece is one byte shorter at most, and
-    /// stands behind older ones. An empty sample has none and uses no number.
+    /// packets one after the other, under consecutive numbers and one timestamp, each with all values
+    /// that the stream's map has a number for. With redundancy a packet is one byte shorter at most, and
+    /// stands behind older ones. A sample without packets has none and uses no number.
     ///
     /// # Errors
-    /// The first that holds of `StreamFailed`, `TimeTooLarge` and `LimitTooSmall`, which change
-    /// nothing; or `Memory`, and the stream sends no more.
+    /// The first that holds of `StreamFailed`, `TimeTooLarge`, `LimitTooSmall` and `Payload` (the codec
+    /// doesn't take the sample), which change nothing; or `Memory`, and the stream sends no more.
     pub fn push_sample(
         &mut self,
         time: MediaTime,
@@ -141,11 +162,12 @@ impl SendingStream {
         values: &ExtensionValues,
     ) -> Result<Vec<Datagram>, SampleError>
         ensures sent { IfOk result (λ ds. ds.items ≡ sent_datagrams self.old time values.now bytes.now) }
-        ensures accepted { OnOk result (refusal_of_sample self.old time values.now ≡ None) }
+        ensures accepted { OnOk result (refusal_of_sample self.old time values.now bytes.now ≡ None) }
         ensures after { OnOk result (self.new ≡ after_sample self.old time values.now bytes.now) }
-        ensures refused { IfErr result (λ e. e ≢ SampleError.Memory → refusal_of_sample self.old time values.now ≡ Some e) }
+        ensures refused { IfErr result (λ e. e ≢ SampleError.Memory
+            → refusal_of_sample self.old time values.now bytes.now ≡ Some e) }
         ensures unchanged { IfErr result (λ e. e ≢ SampleError.Memory → self.new ≡ self.old) }
-        ensures failed { IfErr result (λ e. e ≡ SampleError.Memory → self.new ≡ failed_stream self.old) }
+        ensures failed { IfErr result (λ e. e ≡ SampleError.Memory → HasFailed self.old self.new) }
     {
         let time = self.timestamp(time, values)?;
         match self.datagrams(time, bytes, values) {
@@ -153,27 +175,29 @@ impl SendingStream {
                 self.next += datagrams.len() as u64;
                 Ok(datagrams)
             }
-            Err(_) => {
-                self.redundancy = None;
-                self.failed = true;
-                Err(SampleError::Memory)
-            }
+            Err(e) => match e {
+                PacketError::Memory => {
+                    self.failed = true;
+                    Err(SampleError::Memory)
+                }
+                refusal => Err(SampleError::Payload(refusal)),
+            },
         }
     }
 
-    /// The timestamp of a sample, or why it is refused.
+    /// The timestamp of a sample, or why it is refused whatever its bytes are.
     fn timestamp(&self, time: MediaTime, values: &ExtensionValues) -> Result<u32, SampleError>
-        ensures word { IfOk result (λ word. word ≡ rebased_ticks time self.now.rate % 2 ^ 32) }
-        ensures accepted { OnOk result (refusal_of_sample self.now time values.now ≡ None) }
+        ensures word { IfOk result (λ word. word ≡ timestamp self.now time) }
+        ensures accepted { OnOk result (refusal_before_payload self.now time values.now ≡ None) }
         ensures next { OnOk result (self.now.next < 2 ^ 62) }
-        ensures refused { IfErr result (λ e. (e ≢ SampleError.Memory) × (refusal_of_sample self.now time values.now ≡ Some e)) }
+        ensures refused { IfErr result (λ e. (e ≢ SampleError.Memory)
+            × (refusal_before_payload self.now time values.now ≡ Some e)) }
     {
         if self.failed || self.next >= END_OF_NUMBERS {
             return Err(SampleError::StreamFailed);
         }
-        let time = time
-            .checked_rebase(self.rate)
-            .ok_or(SampleError::TimeTooLarge)?;
+        let rate = rtp_rate_of(self.row.codec, self.row.clock_rate);
+        let time = time.checked_rebase(rate).ok_or(SampleError::TimeTooLarge)?;
         let header = self.stamp.header(0, false, 0, values);
         let header_len = header.two_byte_len(&self.stamp.exts);
         if self.limit < header_len || self.limit - header_len < self.mtu {
@@ -190,11 +214,17 @@ impl SendingStream {
         values: &ExtensionValues,
     ) -> Result<Vec<Datagram>, PacketError>
         requires { self.old.next < 2 ^ 62 }
-        ensures sent { let ps = payloads_of (piece_limit self.old) (timed time values.now bytes.now) in
-            IfOk result (λ ds. ds.items ≡ datagrams_from self.old self.old.next (wire_payloads self.old ps)) }
-        ensures kept { let ps = payloads_of (piece_limit self.old) (timed time values.now bytes.now) in
-            OnOk result (self.new ≡ with_next self.old self.old.next (still_kept self.old.types.pt self.old.redundancy ps)) }
-        ensures failed { OnErr result (failed_stream self.new ≡ failed_stream self.old) }
+        ensures sent { IfOk result (λ ds. ds.items
+            ≡ datagrams_from self.old self.old.next (wire_payloads self.old
+            (payloads_at self.old time values.now bytes.now))) }
+        ensures kept { let kept = still_kept self.old.types.pt self.old.redundancy
+            (payloads_at self.old time values.now bytes.now) in
+            OnOk result (self.new ≡ with_next self.old self.old.next (sent self.old bytes.now).sender kept) }
+        ensures accepted { OnOk result (payload_refusal (packed self.old bytes.now) ≡ None) }
+        ensures refused { IfErr result (λ e. e ≢ PacketError.Memory → payload_refusal (packed self.old bytes.now)
+            ≡ Some (SampleError.Payload e)) }
+        ensures unchanged { IfErr result (λ e. e ≢ PacketError.Memory → self.new ≡ self.old) }
+        ensures others { self.new ≡ with_next self.old self.old.next self.new.packetizer self.new.redundancy }
     {
         let sink = DatagramSink::new(self.alloc, &self.stamp, self.next);
         let Some(sender) = self.redundancy.take() else {
@@ -204,10 +234,12 @@ impl SendingStream {
             return Ok(sink.into_datagrams());
         };
         let mut sink = RedSink::new(sink, sender, self.types.pt.get(), self.mtu);
-        self.payloader
-            .push_sample(self.alloc, &mut sink, self.mtu - 1, time, bytes, values)?;
+        let pushed = self
+            .payloader
+            .push_sample(self.alloc, &mut sink, self.mtu - 1, time, bytes, values);
         let (sink, sender) = sink.into_parts();
         self.redundancy = Some(sender);
+        pushed?;
         Ok(sink.into_datagrams())
     }
 }

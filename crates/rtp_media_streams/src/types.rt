@@ -44,7 +44,7 @@ impl PayloadTypes {
     }
 
     /// Whether they have one in common.
-    pub fn share(&self, others: &PayloadTypes) -> bool
+    pub(crate) fn share(&self, others: &PayloadTypes) -> bool
         ensures { result ≡ share_type self.now others.now }
     {
         self.has(others.pt) || self.has_red(others.red)

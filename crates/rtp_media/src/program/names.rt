@@ -64,6 +64,7 @@ pub(super) fn sample_error_name(error: SampleError) -> ErrorName
         SampleError::StreamFailed => ErrorName::new("StreamFailed"),
         SampleError::TimeTooLarge => ErrorName::new("TimeTooLarge"),
         SampleError::LimitTooSmall => ErrorName::new("LimitTooSmall"),
+        SampleError::Payload(_) => ErrorName::new("Payload"),
         SampleError::Memory => memory(),
     }
 }

@@ -3,7 +3,8 @@
 ghost use Rattle.std.specs.Prelude.{◌≡◌, ◌≢◌, None, Some, is_some, string_bytes, IfOk, IfErr, OnOk, OnErr};
 ghost use Rattle.rtp_media_exchange.specs.Exchanges.{with_offer};
 ghost use Rattle.rtp_media_exchange.specs.Offers.{Offers, Answers, Accepts, AgreesOnText};
-ghost use Rattle.rtp_media_exchange.specs.Refusals.{Names, refusal_of_new, refusal_of_offer, refusal_of_answer, refusal_of_accept};
+ghost use Rattle.rtp_media_exchange.specs.Refusals.{Names, refusal_of_new, refusal_of_offer, refusal_of_answer};
+ghost use Rattle.rtp_media_exchange.specs.Refusals.{refusal_of_accept};
 ghost use Rattle.rtp_media_exchange.specs.Sections.{only};
 ghost use Rattle.rtp_media_ends.specs.Ends.{new_end, with_exchange};
 ghost use Rattle.rtp_media_ends.specs.Connections.{Connects, HaveOneAgreement, IsRefused};
@@ -27,7 +28,8 @@ impl End {
     ) -> Result<Self, EndError>
         ensures new { IfOk result (λ e. e ≡ new_end session.id exts (only config.rows)) }
         ensures accepted { OnOk result (refusal_of_new config.rows session.is_bare exts ≡ None) }
-        ensures refused { IfErr result (λ e. e ≢ EndError.Memory → refusal_of_new config.rows session.is_bare exts ≡ Some e) }
+        ensures refused { IfErr result (λ e. e ≢ EndError.Memory → refusal_of_new config.rows session.is_bare exts
+            ≡ Some e) }
     {
         Ok(End {
             alloc,
@@ -45,7 +47,8 @@ impl End {
     pub fn offer(&mut self, sections: Vec<SectionSpec>) -> Result<String, ExchangeError>
         ensures text { IfOk result (λ text. Offers self.old.exchange sections.items (string_bytes text)) }
         ensures accepted { OnOk result (refusal_of_offer self.old.exchange sections.items ≡ None) }
-        ensures after { OnOk result (self.new ≡ with_exchange self.old (with_offer self.old.exchange (only sections.items))) }
+        ensures after { OnOk result (self.new ≡ with_exchange self.old
+            (with_offer self.old.exchange (only sections.items))) }
         ensures refused { IfErr result (λ e. Names e (refusal_of_offer self.old.exchange sections.items)) }
         ensures unchanged { OnErr result (self.new ≡ self.old) }
     {
@@ -63,7 +66,8 @@ impl End {
         text: &str,
         sections: Vec<SectionSpec>,
     ) -> Result<String, ExchangeError>
-        ensures text { IfOk result (λ answer. Answers self.old.exchange text.now sections.items (string_bytes answer) self.new.exchange) }
+        ensures text { IfOk result (λ answer. Answers self.old.exchange text.now sections.items (string_bytes answer)
+            self.new.exchange) }
         ensures agreed { IfOk result (λ answer. AgreesOnText (string_bytes answer) self.new.exchange.agreed) }
         ensures accepted { OnOk result (refusal_of_answer self.old.exchange text.now sections.items ≡ None) }
         ensures streams { self.new ≡ with_exchange self.old self.new.exchange }
@@ -114,7 +118,8 @@ pub fn connect(
     sections_a: Vec<SectionSpec>,
     sections_b: Vec<SectionSpec>,
 ) -> Result<(String, String), ExchangeError>
-    ensures texts { IfOk result (λ texts. Connects a.old b.old sections_a.items sections_b.items (string_bytes texts.0) (string_bytes texts.1) a.new b.new) }
+    ensures texts { IfOk result (λ texts. Connects a.old b.old sections_a.items sections_b.items
+        (string_bytes texts.0) (string_bytes texts.1) a.new b.new) }
     ensures agree { OnOk result (HaveOneAgreement a.new.exchange.agreed b.new.exchange.agreed) }
     ensures refused { IfErr result (λ e. IsRefused a.old b.old sections_a.items sections_b.items e a.new b.new) }
 {

@@ -1,14 +1,15 @@
 //! Datagrams received one after the other, and then all units that are ready.
 
 ghost use Rattle.std.specs.Prelude.{◌≡◌, ℕ, List, OnOk, IfOk};
-ghost use Rattle.rtp_media_runs.specs.Opus.{Timed};
 ghost use Rattle.rtp_media_streams.specs.Polls.{AreAnswered};
-ghost use Rattle.rtp_media_streams.specs.Sending.{Sending};
-ghost use Rattle.rtp_media_ends.specs.FullArrival.{verdicts_of, after_datagrams, ArePolledOut, IsPolledOut, HasAllOf, answers_at, units_of, with_receivers};
+ghost use Rattle.rtp_media_streams.specs.Sending.{Sample, Sending};
+ghost use Rattle.rtp_media_ends.specs.FullArrival.{verdicts_of, after_datagrams, ArePolledOut, IsPolledOut, HasAllOf};
+ghost use Rattle.rtp_media_ends.specs.FullArrival.{answers_at, units_of, with_receivers};
 
 use super::End;
 use crate::errors::ReceiveError;
 use crate::received::Received;
+use h26x_payload::codec_law;
 use rtp_media_streams::{Datagram, PollFault, ReceivingStream, Unit};
 use std::alloc::{AllocError, Global};
 use std::marker::Model;
@@ -61,14 +62,18 @@ impl End {
     /// `ReceiveError::Memory`, after a part of that was done.
     pub fn receive_all(&mut self, datagrams: &[Datagram]) -> Result<ReceivedAll, ReceiveError>
         ensures verdicts { IfOk result (λ all. all.verdicts.items ≡ verdicts_of self.old datagrams.now) }
-        ensures polls { IfOk result (λ all. ArePolledOut (after_datagrams self.old datagrams.now).receivers all.polls.items self.new.receivers) }
-        ensures others { OnOk result (self.new ≡ with_receivers (after_datagrams self.old datagrams.now) self.new.receivers) }
+        ensures polls { IfOk result (λ all. ArePolledOut (after_datagrams self.old datagrams.now).receivers
+            all.polls.items self.new.receivers) }
+        ensures others { OnOk result (self.new ≡ with_receivers (after_datagrams self.old datagrams.now)
+            self.new.receivers) }
         // All datagrams of a stream's samples came: its polls answer exactly the canonical units, unless
         // memory for one was wanting.
-        ensures exact { IfOk result (λ all. (stream hold_back : ℕ) (sender : Sending) (samples : List Timed) (arrivals : List ℕ) →
+        ensures exact { IfOk result (λ all. (stream hold_back : ℕ) (sender : Sending) (samples : List Sample)
+            (arrivals : List ℕ) →
             HasAllOf self.old stream hold_back sender samples arrivals datagrams.now →
             AreAnswered (units_of sender samples) (answers_at all.polls.items stream)) }
     {
+        codec_law();
         let verdicts = self.receive_each(datagrams)?;
         let polls = poll_each(self.alloc, &mut self.receivers)?;
         Ok(ReceivedAll { verdicts, polls })

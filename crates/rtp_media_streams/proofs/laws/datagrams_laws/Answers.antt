@@ -1,4 +1,5 @@
-use Rattle.rtp_media_streams.proofs.Sent.{datagrams_of-consecutive, payloads-within, still-typed, sent-short, samples-timed, datagram-read, datagram-payload}
+use Rattle.rtp_media_streams.proofs.Sent.{datagrams_of-consecutive, payloads-within, still-typed, sent-short}
+use Rattle.rtp_media_streams.proofs.Sent.{datagram-read, datagram-payload}
 use Rattle.rtp_media_streams.proofs.laws.datagrams_laws.Goals as goal
 
 pub returns-clause-consecutive : goal.returns-clause-consecutive
@@ -6,9 +7,6 @@ returns-clause-consecutive c s samples = datagrams_of-consecutive samples s
 
 pub returns-clause-within : goal.returns-clause-within
 returns-clause-within c = sent-short
-
-pub returns-clause-timestamps : goal.returns-clause-timestamps
-returns-clause-timestamps c = samples-timed
 
 pub returns-clause-reads : goal.returns-clause-reads
 returns-clause-reads c = datagram-read

@@ -10,9 +10,13 @@ pub returns-clause-exact : goal.returns-clause-exact
 returns-clause-exact c stream hold_back sender samples arrivals all =
     let receivers : c.self.inside.receivers.items ≡ (after_datagrams c.args.self.now c.args.datagrams.now).receivers =
     ap (λ (e : EndState). e.receivers) (c.self.view_is ∙ c.in_ok-verdicts.ensures.after) in
-    let polled : ArePolledOut (after_datagrams c.args.self.now c.args.datagrams.now).receivers c.in_ok-polls.polls.items c.poll_each.new.receivers.items =
-    subst (λ (rs : List Receiving). ArePolledOut rs c.in_ok-polls.polls.items c.poll_each.new.receivers.items) receivers c.in_ok-polls.ensures in
-    let r : Receiving = opened_receiver sender.ssrc sender.types sender.map hold_back in
-    let same : receiver_at c.args.self.now stream ≡ with_stream r (receiver_at c.args.self.now stream).stream = all.fresh ∙ ap (with_stream r) (sym (ap (λ (x : Receiving). x.stream) all.fresh)) in
-    exact c.args.self.now stream hold_back sender samples arrivals c.args.datagrams.now _ _ all
+    let polled : ArePolledOut (after_datagrams c.args.self.now c.args.datagrams.now).receivers
+    c.in_ok-polls.polls.items c.poll_each.new.receivers.items =
+    subst (λ (rs : List Receiving). ArePolledOut rs c.in_ok-polls.polls.items c.poll_each.new.receivers.items)
+    receivers c.in_ok-polls.ensures in
+    let r : Receiving = opened_receiver sender.ssrc sender.types sender.map sender.row hold_back in
+    let same : receiver_at c.args.self.now stream ≡ with_stream r (receiver_at c.args.self.now stream).stream =
+    all.fresh ∙ ap (with_stream r) (sym (ap (λ (x : Receiving). x.stream) all.fresh)) in
+    exact c.codec_law.ensures.codec c.args.self.now stream hold_back sender samples arrivals c.args.datagrams.now _ _
+    all
     (polled.each stream (found-after c.args.datagrams.now c.args.self.now stream r same all.opened))

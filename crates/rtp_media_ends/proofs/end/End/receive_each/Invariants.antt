@@ -6,5 +6,6 @@ use Rattle.rtp_media_ends.proofs.end.End.receive_each.Given as goal
 abbrev pub invariant-loop-datagram : goal.invariant-loop-datagram
 invariant-loop-datagram l = record {
   after : after_datagrams l.self (drop l.datagram-index l.datagrams) ≡ after_datagrams l.initial.self l.datagrams;
-  verdicts : l.verdicts.items ++ verdicts_of l.self (drop l.datagram-index l.datagrams) ≡ verdicts_of l.initial.self l.datagrams;
+  verdicts : l.verdicts.items ++ verdicts_of l.self (drop l.datagram-index l.datagrams)
+      ≡ verdicts_of l.initial.self l.datagrams;
 }

@@ -1,16 +1,61 @@
-use Rattle.std.proofs.Common.{◌≡◌, ◌∙◌, ap, sym, subst, Some, IfErr}
-use Rattle.rtp_media_exchange.specs.Agreement.{own_row_agrees}
+use Rattle.std.proofs.Common.{◌≡◌, ◌∙◌, ap, sym, subst, None, Some, IfErr, IfSome, OnOk}
+use Rattle.rtp_media_exchange.specs.Agreement.{Agreed, agreed_row_of, own_row_agrees, row_in}
+use Rattle.sdp_formats_rows.specs.Rows.{Row}
 use Rattle.std.specs.Prelude.{Option, is_some}
 use Rattle.std.specs.List.{list_any}
-use Rattle.rtp_media_streams.specs.Sending.{is_sending}
+use Rattle.rtp_media_texts.specs.Section.{IsRedOf}
+use Rattle.rtp_media_streams.specs.Sending as sending
 use Rattle.rtp_media_ends.specs.declared.errors.OpenError.{OpenError}
-use Rattle.rtp_media_ends.specs.Ends.{refusal_by, types_of, refusal_of_open_sender}
-use Rattle.rtp_media_ends.proofs.Openings.{sender-refusal}
+use Rattle.rtp_media_ends.specs.Ends.{EndState, refusal_by, types_of, with_format, refusal_of_open_sender}
+use Rattle.rtp_media_ends.proofs.Openings.{format-some, if_ok, sender-refusal}
 use Rattle.rtp_media_ends.proofs.end.End.sender_row.Goals as goal
 
 pub returns-clause-refused : goal.returns-clause-refused
 unfolding refusal_of_open_sender
 returns-clause-refused c =
-    let e : refusal_of_open_sender c.args.self.now c.args.mid c.args.ssrc c.args.pt ≡ refusal_by (is_some c.row_of-row.result) c.agrees_with-agrees.result c.is_sending.result c.names_own.result c.is_sending-is_open.result =
-    rw (← c.self.view_is) (sender-refusal c.self.inside.exchange.row c.self.inside.exchange.agreed _ c.args.mid c.args.ssrc c.args.pt _ c.row_of-row.result _ _ _ _ c.in_ok-section.ensures.found c.row_of-row.ensures.row (c.agrees_with-agrees.ensures ∙ ap (λ row. own_row_agrees c.self.inside.exchange.row row) c.row-agreed.ensures) c.is_sending.ensures c.names_own.ensures ((rw c.deref.ensures.value at c.is_sending-is_open.ensures) ∙ ap (λ types. list_any (λ s. is_sending s c.args.ssrc types) c.self.inside.senders.items) (c.types_of.ensures ∙ ap types_of c.row-agreed.ensures))) in
+    let e : refusal_of_open_sender c.args.self.now c.args.mid c.args.ssrc c.args.pt
+    ≡ refusal_by (is_some c.with_format-row.result) c.agrees_with-agrees.result c.is_sending.result
+    c.names_own.result c.conflicts_with_sender-is_open.result =
+    rw (← c.self.view_is) (sender-refusal c.self.inside.exchange.row c.self.inside.exchange.agreed _ c.args.mid
+    c.args.ssrc c.args.pt _ c.with_format-row.result _ _ _ _ c.in_ok-section.ensures.found
+    (c.with_format-row.ensures ∙ ap with_format c.row_of.ensures.row)
+    (c.agrees_with-agrees.ensures ∙ ap (λ row. own_row_agrees c.self.inside.exchange.row row)
+    c.row-agreed.ensures) c.is_sending.ensures c.names_own.ensures
+    ((rw c.deref.ensures.value at c.conflicts_with_sender-is_open.ensures)
+    ∙ ap (λ types. list_any (λ s. sending.conflicts_with s c.args.ssrc types)
+    c.self.inside.senders.items) (c.types_of.ensures
+    ∙ ap types_of c.row-agreed.ensures))) in
     subst (λ (o : Option OpenError). IfErr c.opened_row.result (λ e. o ≡ Some e)) (sym e) c.opened_row.ensures.refused
+
+pub returns-clause-opens : goal.returns-clause-opens
+unfolding refusal_of_open_sender
+returns-clause-opens c =
+    let e : refusal_of_open_sender c.args.self.now c.args.mid c.args.ssrc c.args.pt
+    ≡ refusal_by (is_some c.with_format-row.result) c.agrees_with-agrees.result c.is_sending.result
+    c.names_own.result c.conflicts_with_sender-is_open.result =
+    rw (← c.self.view_is) (sender-refusal c.self.inside.exchange.row c.self.inside.exchange.agreed _ c.args.mid
+    c.args.ssrc c.args.pt _ c.with_format-row.result _ _ _ _ c.in_ok-section.ensures.found
+    (c.with_format-row.ensures ∙ ap with_format c.row_of.ensures.row)
+    (c.agrees_with-agrees.ensures ∙ ap (λ row. own_row_agrees c.self.inside.exchange.row row)
+    c.row-agreed.ensures) c.is_sending.ensures c.names_own.ensures
+    ((rw c.deref.ensures.value at c.conflicts_with_sender-is_open.ensures)
+    ∙ ap (λ types. list_any (λ s. sending.conflicts_with s c.args.ssrc types)
+    c.self.inside.senders.items) (c.types_of.ensures
+    ∙ ap types_of c.row-agreed.ensures))) in
+    subst (λ (o : Option OpenError). OnOk c.opened_row.result (o ≡ None)) (sym e) c.opened_row.ensures.opens
+
+pub returns-clause-row : goal.returns-clause-row
+returns-clause-row c =
+    if_ok (λ r. c.with_format-row.result ≡ Some r)
+    (λ r. agreed_row_of c.args.self.now.exchange.agreed c.args.mid c.args.pt ≡ Some r) c.opened_row.result
+    (λ r h. ap (λ (x : EndState). agreed_row_of x.exchange.agreed c.args.mid c.args.pt) (sym c.self.view_is)
+    ∙ ap (λ (a : Option Agreed). row_in a c.args.pt) c.in_ok-section.ensures.found
+    ∙ sym c.row_of.ensures.row ∙ format-some c.row_of.result r (sym c.with_format-row.ensures ∙ h))
+    c.opened_row.ensures.row
+
+pub returns-clause-red : goal.returns-clause-red
+returns-clause-red c =
+    if_ok (λ r. c.with_format-row.result ≡ Some r) (λ r. IsRedOf r.pt r.red) c.opened_row.result
+    (λ r h. subst (λ (o : Option Row). IfSome o (λ x. IsRedOf x.pt x.red))
+    (format-some c.row_of.result r (sym c.with_format-row.ensures ∙ h)) c.row_of.ensures.red)
+    c.opened_row.ensures.row

@@ -8,6 +8,7 @@ abbrev pub invariant-loop-stream : goal.invariant-loop-stream
 invariant-loop-stream l = record {
   streams : length l.receivers.items ≡ length l.initial.receivers.items;
   polls : length l.polls.items ≡ l.stream;
-  done : (n : ℕ) → n < l.stream → IsPolledOut (nth_receiver l.initial.receivers.items n) (answers_at l.polls.items n) (nth_receiver l.receivers.items n);
+  done : (n : ℕ) → n < l.stream → IsPolledOut (nth_receiver l.initial.receivers.items n) (answers_at l.polls.items n)
+      (nth_receiver l.receivers.items n);
   ahead : (n : ℕ) → l.stream ≤ n → nth_receiver l.receivers.items n ≡ nth_receiver l.initial.receivers.items n;
 }

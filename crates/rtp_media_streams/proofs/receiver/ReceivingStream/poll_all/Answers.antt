@@ -1,21 +1,63 @@
-use Rattle.std.proofs.Common.{◌≡◌, sym, ◌∙◌, ap, None, true≢false}
-use Rattle.rtp_media_runs.specs.Heard.{poll_answer}
-use Rattle.rtp_media_streams.specs.Receiving.{Receiving, polled_receiver, with_stream}
-use Rattle.rtp_media_streams.proofs.Draining.{polled_more, polled_out, polled_short}
-use Rattle.rtp_media_streams.proofs.Polling.{polled_silent}
+use Rattle.std.proofs.Common.{◌≡◌, ◌∙◌, ap, subst, None, Some, Ok, Err}
+use Rattle.payload_core_base.specs.Format.{Format}
+use Rattle.rtp_media_runs.specs.Hearing.{Stream, poll_answer, polled}
+use Rattle.rtp_media_streams.specs.Polls.{IsInterrupted, given}
+use Rattle.rtp_media_streams.specs.Receiving.{Receiving, with_stream}
+use Rattle.rtp_media_streams.specs.Rows.{format_of}
+use Rattle.rtp_media_streams.proofs.Draining.{polled_fault, polled_more, polled_out, polled_short}
 use Rattle.rtp_media_streams.proofs.receiver.ReceivingStream.poll_all.Goals as goal
 
 pub returns-in-Ok-None-clause-polled : goal.returns-in-Ok-None-clause-polled
 returns-in-Ok-None-clause-polled c =
-    let none : poll_answer c.loop-answers.self.stream ≡ None = sym c.in-Ok-None.ensures.answer ∙ c.in-Ok-None.field-0-is in
-    polled_out _ _ _ _ none (ap (λ (r : Receiving). r.stream) c.in-Ok-None.ensures.after ∙ polled_silent c.loop-answers.self.stream none) c.loop-answers.invariant.so
+    let s : Stream = c.loop-answers.self.stream in
+    let row = ap (λ (r : Receiving). format_of r.row) c.loop-answers.invariant.same in
+    polled_out (format_of c.args.self.now.row) c.args.self.now.stream s c.poll.new.self.stream
+    c.loop-answers.answers.items
+    (subst (λ (f : Format). given (poll_answer f s) ≡ Ok None) row
+    (rw c.in-Ok-None.field-0-is at c.in-Ok-None.ensures.answer))
+    (ap (λ (r : Receiving). r.stream) c.in-Ok-None.ensures.after ∙ ap (λ (f : Format). polled f s) row)
+    c.loop-answers.invariant.so
+
+pub loop-answers-preserved-in-Continue-1 : goal.loop-answers-preserved-in-Continue-1
+loop-answers-preserved-in-Continue-1 c =
+    let s : Stream = c.loop-answers.self.stream in
+    let row = ap (λ (r : Receiving). format_of r.row) c.loop-answers.invariant.same in
+    record {
+      same = c.in-Ok-Some.ensures.same ∙ ap (λ (r : Receiving). with_stream r c.poll.new.self.stream)
+          c.loop-answers.invariant.same;
+      so = polled_more (format_of c.args.self.now.row) c.args.self.now.stream s c.poll.new.self.stream
+          c.in-Ok-Some.unit c.loop-answers.answers.items c.push.new.self.items
+          (subst (λ (f : Format). given (poll_answer f s) ≡ Ok (Some c.in-Ok-Some.unit)) row
+          (rw c.in-Ok-Some.field-0-is at c.in-Ok-Some.ensures.answer))
+          (ap (λ (r : Receiving). r.stream) c.in-Ok-Some.ensures.after ∙ ap (λ (f : Format). polled f s) row)
+          c.in_ok-push-in-Ok-Some.ensures.items
+          c.loop-answers.invariant.so;
+    }
+
+pub returns-in-Memory-clause-polled : goal.returns-in-Memory-clause-polled
+returns-in-Memory-clause-polled c =
+    let row = ap (λ (r : Receiving). format_of r.row) c.loop-answers.invariant.same in
+    polled_short (format_of c.args.self.now.row) c.args.self.now.stream c.loop-answers.self.stream
+    c.poll.new.self.stream c.loop-answers.answers.items c.push-in-Memory.new.self.items
+    (subst (λ (f : Format). IsInterrupted f c.loop-answers.self.stream c.poll.new.self.stream) row
+    (c.in-Err.ensures.memory c.in-Memory.is))
+    c.in_ok-push-in-Memory.ensures.items
+    c.loop-answers.invariant.so
 
 pub loop-answers-preserved : goal.loop-answers-preserved
-loop-answers-preserved c = record {
-  same = rw (c.in-Ok-Some.ensures.after) (ap (λ (r : Receiving). with_stream r (polled_receiver c.loop-answers.self).stream) c.loop-answers.invariant.same);
-  so = polled_more _ _ _ _ _ _ (sym c.in-Ok-Some.ensures.answer ∙ c.in-Ok-Some.field-0-is) c.in-Ok-Some.ensures.after c.in_ok-push-in-Ok-Some.ensures.items c.loop-answers.invariant.so;
-}
-
-pub returns-in-Err-clause-polled : goal.returns-in-Err-clause-polled
-returns-in-Err-clause-polled c =
-    polled_short _ _ _ _ _ _ (λ none. true≢false (sym (c.in-Err.ensures.none none))) (ap (λ (r : Receiving). r.stream) c.in-Err.ensures.kept) c.in-Err.ensures.fault c.in_ok-push-in-Err.ensures.items c.loop-answers.invariant.so
+loop-answers-preserved c =
+    let s : Stream = c.loop-answers.self.stream in
+    let row = ap (λ (r : Receiving). format_of r.row) c.loop-answers.invariant.same in
+    record {
+      same = c.in-Err.ensures.same ∙ ap (λ (r : Receiving). with_stream r c.poll.new.self.stream)
+          c.loop-answers.invariant.same;
+      so = polled_fault (format_of c.args.self.now.row) c.args.self.now.stream s c.poll.new.self.stream
+          c.in-Err.fault c.loop-answers.answers.items c.push-in_default.new.self.items
+          c.in_default.not-Memory
+          (subst (λ (f : Format). given (poll_answer f s) ≡ Err c.in-Err.fault) row
+          (c.in-Err.ensures.fault c.in_default.not-Memory))
+          (ap (λ (r : Receiving). r.stream) (c.in-Err.ensures.behind c.in_default.not-Memory)
+          ∙ ap (λ (f : Format). polled f s) row)
+          c.in_ok-push-in_default.ensures.items
+          c.loop-answers.invariant.so;
+    }

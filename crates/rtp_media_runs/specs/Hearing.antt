@@ -1,0 +1,167 @@
+-- What a receiving stream of any payload format answers over a whole run of its own datagrams and polls.
+use Rattle.std.specs.Prelude.{◌≡◌, ℕ, ◌-◌, Bool, if◌then◌else◌, List, [], ◌∷◌, length, drop, slice_index_or}
+use Rattle.std.specs.Prelude.{Option, None, Some, Result, Ok, Err}
+use Rattle.payload_core_base.specs.Format.{Format, Fragment, Run}
+use Rattle.payload_core_base.specs.declared.error.PacketError.{PacketError}
+use Rattle.payload_core_base.specs.declared.extra.CodecExtra.{CodecExtra}
+use Rattle.payload_core_buffer.specs.Buffered.{pushed}
+use Rattle.payload_core_buffer.specs.Frames as frames
+use Rattle.payload_core_buffer.specs.Frames.{due_frame, no_packet, packets_between}
+use Rattle.payload_core_buffer.specs.Packets.{Packet, metas_of, packet_from}
+use Rattle.payload_core_buffer.specs.Pops.{run_of}
+use Rattle.payload_core_buffer.specs.declared.frame.Frame.{Frame}
+use Rattle.payload_core_buffer.specs.declared.held.RtpMeta.{RtpMeta}
+use Rattle.rtp_wire.specs.Replay.{Window, is_accepted, recorded_in, greatest_in}
+use Rattle.rtp_wire.specs.Widening.{widened}
+use Rattle.rtp_wire.specs.declared.ExtensionValues.{ExtensionValues}
+
+-- What a taken datagram gives besides its number: the RTP timestamp and the marker (RFC 3550 5.1), the
+-- values of its header extensions (RFC 8285), and the payload.
+pub record Content : Type 0 where
+  pub time : ℕ
+  pub marker : Bool
+  pub values : ExtensionValues
+  pub bytes : List ℕ
+
+abbrev pub content_of : ℕ → Bool → ExtensionValues → List ℕ → Content
+content_of time marker values bytes = record { time = time; marker = marker; values = values; bytes = bytes }
+
+-- what is known of it under a number
+abbrev pub meta_of : ℕ → Content → RtpMeta
+meta_of number content = record { seq_no = number; time = content.time; marker = content.marker; ext_vals =
+    content.values }
+
+-- its packet under a number
+abbrev pub packet_of : ℕ → Content → Packet
+packet_of number content = packet_from (meta_of number content) content.bytes
+
+-- What a poll hands out: the numbers of the first and the last packet of a frame, its RTP timestamp, the values
+-- of the last packet's header extensions, what its format reads of its payloads, and what it tells beside.
+pub record MediaUnit : Type 0 where
+  pub first : ℕ
+  pub last : ℕ
+  pub time : ℕ
+  pub values : ExtensionValues
+  pub bytes : List ℕ
+  pub extra : CodecExtra
+
+abbrev pub meta_at : List RtpMeta → ℕ → RtpMeta
+meta_at metas k = slice_index_or metas k no_packet.meta
+
+-- the unit of packets of which this is known, and that gave these bytes and this extra
+abbrev pub unit_from : List RtpMeta → List ℕ → CodecExtra → MediaUnit
+unit_from metas bytes extra = record {
+  first = (meta_at metas 0).seq_no;
+  last = (meta_at metas (length metas - 1)).seq_no;
+  time = (meta_at metas 0).time;
+  values = (meta_at metas (length metas - 1)).ext_vals;
+  bytes = bytes;
+  extra = extra;
+}
+
+-- What happens to a stream: one of its datagrams comes, with the low 16 bits of its number, or it is polled.
+pub data Event : Type 0 where
+  Comes : (low : ℕ) (content : Content) → Event
+  Poll : Event
+
+-- What a stream keeps of its own datagrams and polls: how many complete frames may wait, the numbers that
+-- came, the packets that are held, the last number that is done with, and the fragment that the packets
+-- handed on so far leave open.
+pub record Stream : Type 0 where
+  pub hold_back : ℕ
+  pub window : Option Window
+  pub held : List Packet
+  pub cutoff : Option ℕ
+  pub fragment : Fragment
+
+-- a stream that heard nothing
+abbrev pub fresh : ℕ → Stream
+fresh hold_back = record { hold_back = hold_back; window = None; held = []; cutoff = None; fragment = None }
+
+-- What a poll answers: that no unit is ready, a unit, or why a packet of its frame is refused.
+abbrev pub Answer : Type 0
+Answer = Result (Option MediaUnit) PacketError
+
+abbrev pub answer_by : Option PacketError → List RtpMeta → List ℕ → CodecExtra → Answer
+answer_by None metas bytes extra = Ok (Some (unit_from metas bytes extra))
+answer_by (Some e) metas bytes extra = Err e
+
+-- the answer that packets give, of which this is known and which were read so
+abbrev pub answer_of : List RtpMeta → Run → Answer
+answer_of metas run = answer_by run.fault metas run.written run.extra
+
+-- what is read of the packets of a frame
+abbrev pub run_among : Format → Fragment → List Packet → Frame → Run
+run_among format fragment held frame = run_of format fragment (packets_between held frame)
+
+abbrev pub answer_among : Format → Fragment → List Packet → Option Frame → Answer
+answer_among format fragment held None = Ok None
+answer_among format fragment held (Some frame) =
+    answer_of (metas_of (packets_between held frame)) (run_among format fragment held frame)
+
+-- the number that the low bits stand for at this stream
+abbrev pub number_at : Stream → ℕ → ℕ
+number_at s low = widened (greatest_in s.window) low
+
+-- the stream after a datagram of a number, which the window refuses or the buffer takes
+abbrev pub taken_by : Stream → ℕ → Content → Stream
+taken_by s number content =
+    if is_accepted s.window number
+    then record {
+      hold_back = s.hold_back;
+      window = Some (recorded_in s.window number);
+      held = pushed s.cutoff s.held (packet_of number content);
+      cutoff = s.cutoff;
+      fragment = s.fragment;
+    }
+    else s
+
+-- the places of the frame that a poll hands out
+unfoldable pub due : Format → Stream → Option Frame
+due format s = due_frame format s.cutoff s.hold_back s.held
+
+-- the stream behind a frame: all up to its end is gone, whether it was read or refused
+abbrev pub stream_behind : Format → Stream → Option Frame → Stream
+stream_behind format s None = s
+stream_behind format s (Some frame) = record {
+  hold_back = s.hold_back;
+  window = s.window;
+  held = drop frame.end s.held;
+  cutoff = Some (frames.number_at s.held (frame.end - 1));
+  fragment = (run_among format s.fragment s.held frame).fragment;
+}
+
+unfoldable pub polled : Format → Stream → Stream
+polled format s = stream_behind format s (due format s)
+
+unfoldable pub poll_answer : Format → Stream → Answer
+poll_answer format s = answer_among format s.fragment s.held (due format s)
+
+-- one step on own events
+abbrev pub heard_step : Format → Stream → Event → Stream
+heard_step format s (Comes low content) = taken_by s (number_at s low) content
+heard_step format s Poll = polled format s
+
+-- The answers to the polls of a list of own events.
+abbrev pub heard : Format → Stream → List Event → List Answer
+heard format s [] = []
+heard format s (Comes low content ∷ es) = heard format (taken_by s (number_at s low) content) es
+heard format s (Poll ∷ es) = poll_answer format s ∷ heard format (polled format s) es
+
+-- the stream after a list of own events
+abbrev pub after_events : Format → Stream → List Event → Stream
+after_events format s [] = s
+after_events format s (e ∷ es) = after_events format (heard_step format s e) es
+
+-- The answers without those of None.
+abbrev pub handed_out : List Answer → List (Result MediaUnit PacketError)
+handed_out [] = []
+handed_out (Ok None ∷ os) = handed_out os
+handed_out (Ok (Some u) ∷ os) = Ok u ∷ handed_out os
+handed_out (Err e ∷ os) = Err e ∷ handed_out os
+
+-- There is a last answer, and it is None.
+abbrev pub EndsSilent : List Answer → Type 0
+EndsSilent [] = ⊥
+EndsSilent (o ∷ []) = o ≡ Ok None
+EndsSilent (o ∷ p ∷ os) = EndsSilent (p ∷ os)

@@ -1,0 +1,6 @@
+pub mod Turns
+pub mod Orders
+pub mod Sending
+pub mod Samples
+pub mod Legal
+pub mod TrueNumbers

@@ -1,0 +1,54 @@
+-- Arrivals and polls by true numbers.
+use Rattle.std.specs.Prelude.{ℕ, ◌≡◌, ◌+◌, ◌-◌, ◌%◌, ◌<◌, ◌≤◌, max, Bool, true, false, ◌||◌, ◌==◌, List, [], ◌∷◌,
+    count_by}
+use Rattle.std.specs.List.{range_with_len}
+use Rattle.rtp_media_runs.specs.Hearing.{Content, Event, Comes, Poll}
+
+-- An arrival of the datagram of this true number, or a poll.
+pub data Turn : Type 0 where
+  Arrive : (number : ℕ) → Turn
+  Ask : Turn
+
+-- what the sender's datagrams bring, by true number
+abbrev pub Sender : Type 0
+Sender = ℕ → Content
+
+-- what a turn is to the stream, which sees 16 bits of the number (RFC 3550 5.1)
+abbrev pub event_of : Sender → Turn → Event
+event_of sender (Arrive x) = Comes (x % 65536) (sender x)
+event_of sender Ask = Poll
+
+-- is this number among those?
+abbrev pub is_among : List ℕ → ℕ → Bool
+is_among [] x = false
+is_among (y ∷ ys) x = (x == y) || is_among ys x
+
+abbrev pub greatest_of : List ℕ → ℕ
+greatest_of [] = 0
+greatest_of (y ∷ ys) = max y (greatest_of ys)
+
+-- Less than 32,768 from the greatest that came before, or the first one below 65,536.
+abbrev pub IsNear : List ℕ → ℕ → Type 0
+IsNear [] x = x < 65536
+IsNear (y ∷ ys) x = (x < greatest_of (y ∷ ys) + 32768) × (greatest_of (y ∷ ys) < x + 32768)
+
+-- An arrival of one of a stream's numbers, near those that came before, newest first; each number that is 128
+-- or more below it came already.
+pub record IsGoodArrival (first count : ℕ) (past : List ℕ) (x : ℕ) : Type 0 where
+  pub from_first : first ≤ x
+  pub before_end : x < first + count
+  pub near : IsNear past x
+  pub in_reach : (y : ℕ) → first ≤ y → y + 128 ≤ x → is_among past y ≡ true
+
+-- each number of the stream came
+abbrev pub AllCame : ℕ → ℕ → List ℕ → Type 0
+AllCame first count past = (y : ℕ) → first ≤ y → y < first + count → is_among past y ≡ true
+
+-- good arrivals, of all numbers in the end
+abbrev pub AreGoodArrivals : ℕ → ℕ → List ℕ → List ℕ → Type 0
+AreGoodArrivals first count past [] = AllCame first count past
+AreGoodArrivals first count past (x ∷ xs) = IsGoodArrival first count past x × AreGoodArrivals first count (x ∷ past) xs
+
+-- how many of the numbers that came were not handed out, where next is the first of these
+abbrev pub waiting : ℕ → ℕ → List ℕ → ℕ → ℕ
+waiting first count past next = count_by (is_among past) (range_with_len next (first + count - next))

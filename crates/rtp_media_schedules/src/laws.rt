@@ -1,0 +1,65 @@
+//! What holds of every run.
+
+ghost use Rattle.std.specs.Prelude.{◌≡◌, ℕ, ◌+◌, ◌^◌, ◌≤◌, List, [], ◌∷◌, ◌++◌, length, map, replicate, suc, Ok, None};
+ghost use Rattle.payload_core_base.specs.Format.{Format};
+ghost use Rattle.rtp_media_schedules.specs.Turns.{Sender, Turn, AreGoodArrivals, Arrive, Ask, event_of};
+ghost use Rattle.rtp_media_runs.specs.Samples.{timed_unit};
+ghost use Rattle.rtp_media_runs.specs.Hearing.{Answer, after_events, EndsSilent, fresh, handed_out, heard, Poll, Stream};
+ghost use Rattle.rtp_media_schedules.specs.Legal.{IsLegal, IsSelection};
+ghost use Rattle.rtp_media_schedules.specs.Orders.{IsSane, IsTame, first_size};
+ghost use Rattle.rtp_media_schedules.specs.Samples.{AreSentAs, SentSample, canonical_units, datagrams, frame_sizes,
+    packets_of, whole_unit};
+ghost use Rattle.rtp_media_schedules.specs.TrueNumbers.{AreTrueNumbers, arrived};
+ghost use Rattle.rtp_media_schedules.specs.Sending.{Canonical, numbered};
+
+/// Under every sane schedule the answers are a legal selection of the canonical units, for every format.
+pub fn legal_under_sane_schedule()
+    ensures { (format : Format) (hold_back first : ℕ) (samples : List SentSample) (turns : List Turn) →
+        let events = map (event_of (numbered first (datagrams samples))) turns in
+        AreSentAs format samples → first + length (packets_of samples) ≤ 2 ^ 62
+            → IsSane first (length (packets_of samples)) [] turns →
+        IsLegal (canonical_units first samples) (heard format (fresh hold_back) events) }
+{}
+
+/// A legal selection has strictly rising places, one for each unit that is handed out, at which the unit
+/// stands that it is, or of which it is a final run of parts; and no fault is answered.
+pub fn selections_have_places()
+    ensures { (units : List Canonical) (answers : List Answer) → IsLegal units answers → IsSelection units answers }
+{}
+
+/// Under a tame schedule that ends by a poll that answers None the answers are exactly the canonical units.
+pub fn exact_under_tame_schedule()
+    ensures { (format : Format) (hold_back first : ℕ) (samples : List SentSample) (turns : List Turn) →
+        let events = map (event_of (numbered first (datagrams samples))) (turns ++ Ask ∷ []) in
+        let sizes = frame_sizes format samples in
+        AreSentAs format samples → first + length (packets_of samples) ≤ 2 ^ 62 →
+        IsTame first (length (packets_of samples)) hold_back (first_size sizes) [] first sizes (turns ++ Ask ∷ []) →
+        EndsSilent (heard format (fresh hold_back) events) →
+        map timed_unit (handed_out (heard format (fresh hold_back) events))
+            ≡ map (λ c. Ok (whole_unit c)) (canonical_units first samples) }
+{}
+
+/// All datagrams of at most 4,096 come, once or more, none behind one that is 128 or more above it: then
+/// polls until None give exactly the canonical units, whatever is held back.
+pub fn exact_after_full_arrival()
+    ensures { (format : Format) (hold_back first polls : ℕ) (samples : List SentSample) (arrivals : List ℕ) →
+        let events = map (event_of (numbered first (datagrams samples))) (map Arrive arrivals ++ replicate (suc polls) Ask) in
+        AreSentAs format samples → first + length (packets_of samples) ≤ 2 ^ 62 → length (packets_of samples) ≤ 4096 →
+        AreGoodArrivals first (length (packets_of samples)) [] arrivals →
+        EndsSilent (heard format (fresh hold_back) events) →
+        map timed_unit (handed_out (heard format (fresh hold_back) events))
+            ≡ map (λ c. Ok (whole_unit c)) (canonical_units first samples) }
+{}
+
+/// Under every sane schedule the window says what came, each packet that is held is the sender's of its
+/// number, and the low bits of a next arrival stand for its number.
+pub fn true_numbers()
+    ensures { (format : Format) (sender : Sender) (hold_back first count : ℕ) (turns : List Turn) →
+        first + count ≤ 2 ^ 62 → IsSane first count [] turns →
+        AreTrueNumbers sender first count (arrived [] turns) (after_events format (fresh hold_back) (map (event_of sender) turns)) }
+{}
+
+/// Polls come to an end: after at most as many as packets are held, one answers None.
+pub fn polls_come_to_an_end()
+    ensures { (format : Format) (s : Stream) → EndsSilent (heard format s (replicate (suc (length s.held)) Poll)) }
+{}

@@ -1,0 +1,10 @@
+//! Whole runs over every schedule of arrivals and polls, for every payload format: legal under each sane one,
+//! exact under each tame one.
+#![tactic(auto)]
+
+mod laws;
+
+pub use laws::{
+    exact_after_full_arrival, exact_under_tame_schedule, legal_under_sane_schedule,
+    polls_come_to_an_end, selections_have_places, true_numbers,
+};
