@@ -8,7 +8,7 @@ use Rattle.sdp_formats_forms.specs.Numbers.{number_below}
 use Rattle.sdp_formats_forms.specs.Split.{split_first, halves, behind}
 use Rattle.sdp_formats_types.specs.declared.candidate.Candidate.{Candidate}
 use Rattle.sdp_formats_types.specs.declared.candidate.RelatedAddress.{RelatedAddress}
-use Rattle.sdp_formats_ice.specs.declared.candidate.Fields.{Fields}
+use Rattle.sdp_formats_ice.specs.declared.candidates.Fields.{Fields}
 use Rattle.sdp_formats_ice.specs.Words.{protocol_word, kind_word, tcptype_word}
 
 -- what is read, and a text that may be left
