@@ -1,6 +1,9 @@
 -- Format parameters, one by one (RFC 8866 6.15).
-use Rattle.std.specs.Prelude.{ℕ, ◌^◌, Bool, true, false, not, ◌&&◌, ◌||◌, List, [], ◌∷◌, ◌++◌, map, filter, codes, Option, Some, None, if◌then◌else◌}
+use Rattle.std.specs.Prelude.{ℕ, ◌^◌, Bool, true, false, ◌&&◌, ◌||◌, List, [], ◌∷◌, ◌++◌, map, nat_eq, codes, Option, Some, None, if◌then◌else◌}
+use Rattle.std.specs.Char.{to_ascii_lowercase}
+use Rattle.std.specs.Cmp.Lexicographic.{pointwise}
 use Rattle.std.specs.List.{list_any}
+use Rattle.indexmap.specs.IndexMap.{insert_entry}
 use Rattle.std.specs.Str.{bytes_eq, str_eq_ignore_ascii_case}
 use Rattle.h26x_payload_profiles.specs.H265ProfileTierLevel.{given as given_265}
 use Rattle.h26x_payload_profiles.specs.H266ProfileTierLevel.{given as given_266}
@@ -88,24 +91,25 @@ is_level None = false
 abbrev pub gives_level : Pair → Bool
 gives_level p = is_level (key_named p.key)
 
--- Whether two pairs are of one key, in any ASCII case (RFC 4855 3).
-abbrev pub same_key : Pair → Pair → Bool
-same_key p q = str_eq_ignore_ascii_case p.key q.key
+-- The value of a name among pairs: that of the last pair of the name.
+abbrev pub or_before : Bool → List ℕ → Option (List ℕ) → Option (List ℕ)
+or_before true value before = Some value
+or_before false value before = before
 
--- The pairs with one more: its value replaces that of its key, else it stands behind all.
-abbrev pub with_pair : List Pair → Pair → List Pair
-with_pair [] p = p ∷ []
-with_pair (q ∷ qs) p = if same_key q p then record q { value = p.value } ∷ qs else q ∷ with_pair qs p
+abbrev pub last_value : List ℕ → Option (List ℕ) → List Pair → Option (List ℕ)
+last_value name before [] = before
+last_value name before (p ∷ ps) = last_value name (or_before (str_eq_ignore_ascii_case name p.key) p.value before) ps
 
--- Each key once, at its first place with its last value.
-abbrev pub with_pairs : List Pair → List Pair → List Pair
+-- Each key once, in lower case, at its first place with its last value (RFC 4855 3).
+abbrev pub Entries : Type 0
+Entries = List (List ℕ × List ℕ)
+
+abbrev pub with_pair : Entries → Pair → Entries
+with_pair before p = insert_entry (pointwise nat_eq) before (map to_ascii_lowercase p.key) p.value
+
+abbrev pub with_pairs : Entries → List Pair → Entries
 with_pairs before [] = before
 with_pairs before (p ∷ ps) = with_pairs (with_pair before p) ps
-
--- The value of a name among pairs.
-abbrev pub value_of : List ℕ → List Pair → Option (List ℕ)
-value_of name [] = None
-value_of name (p ∷ ps) = if str_eq_ignore_ascii_case name p.key then Some p.value else value_of name ps
 
 -- The profile, tier and level that three values mean: of H.265, else of H.266, else none.
 abbrev pub level_266 : Option Level266 → List FormatParam
@@ -119,18 +123,22 @@ level_param None other = level_266 other
 abbrev pub levels_of : Option (List ℕ) → Option (List ℕ) → Option (List ℕ) → List FormatParam
 levels_of id tier level = level_param (given_265 id tier level) (given_266 id tier level)
 
--- One of the three keys of a profile, tier and level.
+-- One of the three keys of a profile, tier and level, in lower case.
 abbrev pub is_level_name : List ℕ → Bool
-is_level_name k = str_eq_ignore_ascii_case (codes "profile-id") k || (str_eq_ignore_ascii_case (codes "tier-flag") k || str_eq_ignore_ascii_case (codes "level-id") k)
+is_level_name k = bytes_eq k (codes "profile-id") || (bytes_eq k (codes "tier-flag") || bytes_eq k (codes "level-id"))
 
-abbrev pub other_pair : Pair → Bool
-other_pair p = not (is_level_name p.key)
+abbrev pub onto_others : List ℕ × List ℕ → List FormatParam → List FormatParam
+onto_others e others = if is_level_name e.0 then others else param_of e.0 e.1 ∷ others
+
+abbrev pub others_of : Entries → List FormatParam
+others_of [] = []
+others_of (e ∷ es) = onto_others e (others_of es)
 
 abbrev pub level_params : List Pair → List FormatParam
 level_params ps =
-    levels_of (value_of (codes "profile-id") ps) (value_of (codes "tier-flag") ps) (value_of (codes "level-id") ps)
-    ++ map pair_param (filter other_pair ps)
+    levels_of (last_value (codes "profile-id") None ps) (last_value (codes "tier-flag") None ps) (last_value (codes "level-id") None ps)
+    ++ others_of (with_pairs [] ps)
 
 -- The parameters of some pairs. Where one gives a tier or level, each key counts once, and the three keys of a profile, tier and level are one parameter in front of the others (RFC 7798 7.1, RFC 9328 7.2).
 abbrev pub params_of : List Pair → List FormatParam
-params_of ps = if list_any gives_level ps then level_params (with_pairs [] ps) else map pair_param ps
+params_of ps = if list_any gives_level ps then level_params ps else map pair_param ps
