@@ -51,8 +51,8 @@ limits_behind t (Some rest) = typed_limits rest
 limits_behind t None = untyped_limits t
 
 -- `pt=TYPE` and restrictions, or restrictions alone
-abbrev pub limits : List ℕ → Option Limits
-limits t = limits_behind t (behind (codes "pt=") t)
+abbrev pub limits_of : List ℕ → Option Limits
+limits_of t = limits_behind t (behind (codes "pt=") t)
 
 abbrev pub maybe_limits : Option Limits → Limits
 maybe_limits None = no_limits
@@ -66,4 +66,4 @@ make_rid id d l = Rid id d l.pt l.restriction
 
 -- `NAME DIRECTION[ LIMITS]` (RFC 8851 4)
 abbrev pub rid : Form MediaAttribute
-rid = made (λ x. make_rid (make_id x.0) x.1.0 (maybe_limits x.1.1)) (cut 32 name (cut_maybe 32 (told way) (told limits)))
+rid = made (λ x. make_rid (make_id x.0) x.1.0 (maybe_limits x.1.1)) (cut 32 name (cut_maybe 32 (told way) (told limits_of)))

@@ -4,7 +4,7 @@ ghost use Rattle.std.specs.Prelude.{◌≡◌};
 ghost use Rattle.std.specs.Option.{option_copied};
 ghost use Rattle.sdp_formats_forms.specs.Form.{maybe};
 ghost use Rattle.sdp_formats_forms.specs.Refusals.{Gives, GivesBy};
-ghost use Rattle.sdp_formats_streams.specs.Rids.{way, no_limits, of_type, later_limits, typed_limits, untyped_limits, limits, maybe_limits, rid};
+ghost use Rattle.sdp_formats_streams.specs.Rids.{way, no_limits, of_type, later_limits, typed_limits, untyped_limits, limits_of, maybe_limits, rid};
 
 use crate::names::name;
 use rtp_wire::Pt;
@@ -82,8 +82,8 @@ fn untyped_limits(alloc: Global, text: &str) -> Result<Limits, Refusal>
     })
 }
 
-fn limits(alloc: Global, text: &str) -> Result<Limits, Refusal>
-    ensures { Gives result (limits text.now) }
+fn limits_of(alloc: Global, text: &str) -> Result<Limits, Refusal>
+    ensures { Gives result (limits_of text.now) }
 {
     match stripped(text, "pt=") {
         Some(rest) => typed_limits(alloc, rest),
@@ -92,10 +92,10 @@ fn limits(alloc: Global, text: &str) -> Result<Limits, Refusal>
 }
 
 fn maybe_limits(alloc: Global, text: Option<&str>) -> Result<Option<Limits>, Refusal>
-    ensures { Gives result (maybe limits (option_copied text.entry)) }
+    ensures { Gives result (maybe limits_of (option_copied text.entry)) }
 {
     match text {
-        Some(text) => Ok(Some(limits(alloc, text)?)),
+        Some(text) => Ok(Some(limits_of(alloc, text)?)),
         None => Ok(None),
     }
 }
