@@ -2,6 +2,7 @@
 #![tactic(auto)]
 
 mod candidate;
+mod consistency;
 mod fingerprint;
 mod media;
 mod session;
@@ -9,6 +10,7 @@ mod setup;
 mod streams;
 
 pub use candidate::{Candidate, CandidateKind, IceCreds, Protocol, RelatedAddress, TcpType};
+pub use consistency::Inconsistency;
 pub use fingerprint::Fingerprint;
 pub use media::{MediaAttribute, MediaLine, MediaType, Proto, RtpMap};
 pub use sdp_formats_forms::{Listed, Text};
