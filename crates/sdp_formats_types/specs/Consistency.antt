@@ -4,6 +4,8 @@ use Rattle.std.specs.List.{list_all, list_any}
 use Rattle.sdp_formats_params.specs.declared.FormatParam.{FormatParam}
 use Rattle.sdp_formats_params.specs.declared.FormatParam.TheVariants.{Apt}
 use Rattle.sdp_formats_types.specs.Media.{is_direction}
+use Rattle.sdp_formats_types.specs.declared.consistency.Counted.{Counted}
+use Rattle.sdp_formats_types.specs.declared.consistency.Counted.TheVariants as counted
 use Rattle.sdp_formats_types.specs.declared.consistency.Inconsistency.{Inconsistency}
 use Rattle.sdp_formats_types.specs.declared.consistency.Inconsistency.TheVariants.{MissingMid, SeveralMids, SeveralSetups, Directions, NoPayloadType, RtpMaps, ConflictingApts}
 use Rattle.sdp_formats_types.specs.declared.media.MediaAttribute.{MediaAttribute}
@@ -12,16 +14,25 @@ use Rattle.sdp_formats_types.specs.declared.media.MediaLine.{MediaLine}
 use Rattle.sdp_formats_types.specs.declared.media.Proto.{Proto}
 use Rattle.sdp_formats_types.specs.declared.media.Proto.TheVariants.{Srtp, Sctp}
 
-abbrev pub is_mid : MediaAttribute → Bool
+unfoldable pub is_mid : MediaAttribute → Bool
 is_mid (Mid m) = true
 is_mid _ = false
 
-abbrev pub is_setup : MediaAttribute → Bool
+unfoldable pub is_setup : MediaAttribute → Bool
 is_setup (Setup s) = true
 is_setup _ = false
 
-abbrev pub is_direction_of : MediaAttribute → Bool
+unfoldable pub is_direction_of : MediaAttribute → Bool
 is_direction_of a = is_direction a
+
+-- what is counted in a section
+abbrev pub is_of : Counted → MediaAttribute → Bool
+is_of counted.Mid a = is_mid a
+is_of counted.Setup a = is_setup a
+is_of counted.Direction a = is_direction_of a
+
+abbrev pub count_of : Counted → MediaLine → ℕ
+count_of kind m = count_by (is_of kind) m.attrs
 
 -- a line that maps this payload type
 abbrev pub maps_type : ℕ → MediaAttribute → Bool
@@ -76,16 +87,16 @@ last_fault_of m =
 
 abbrev pub later_fault_of : MediaLine → Option Inconsistency
 later_fault_of m =
-    if is_rtp m.proto && not (count_by is_direction_of m.attrs == 1) then Some Directions
+    if is_rtp m.proto && not (count_of counted.Direction m == 1) then Some Directions
     else if (is_rtp m.proto && (length m.pts == 0)) && not m.disabled then Some NoPayloadType
     else last_fault_of m
 
 -- the first fault of a section, in this order
 abbrev pub fault_of : MediaLine → Option Inconsistency
 fault_of m =
-    if count_by is_mid m.attrs == 0 then Some MissingMid
-    else if nat_lt 1 (count_by is_mid m.attrs) then Some SeveralMids
-    else if nat_lt 1 (count_by is_setup m.attrs) then Some SeveralSetups
+    if count_of counted.Mid m == 0 then Some MissingMid
+    else if nat_lt 1 (count_of counted.Mid m) then Some SeveralMids
+    else if nat_lt 1 (count_of counted.Setup m) then Some SeveralSetups
     else later_fault_of m
 
 abbrev pub is_consistent : MediaLine → Bool

@@ -1,12 +1,20 @@
 //! Whether a section is free of faults.
 
 ghost use Rattle.std.specs.Prelude.{◌≡◌, count_by};
-ghost use Rattle.std.specs.List.{list_all};
-ghost use Rattle.sdp_formats_types.specs.Consistency.{is_mid, is_setup, is_direction_of, maps_type, is_static, is_mapped, are_mapped, gives_apt, apt_differs, apts_agree_with, values_agree, attribute_agrees, apts_agree, fault_of, later_fault_of, last_fault_of, is_consistent};
+ghost use Rattle.std.specs.List.{list_all, list_any};
+ghost use Rattle.sdp_formats_types.specs.Consistency.{is_mid, is_setup, is_direction_of, is_of, maps_type, is_static, is_mapped, are_mapped, gives_apt, apt_differs, apts_agree_with, values_agree, attribute_agrees, apts_agree, fault_of, later_fault_of, last_fault_of, is_consistent};
 
 use crate::media::{MediaAttribute, MediaLine, Proto};
 use rtp_wire::Pt;
 use sdp_formats_params::FormatParam;
+
+// What is counted in a section.
+#[derive(Clone, Copy, Drop)]
+enum Counted {
+    Mid,
+    Setup,
+    Direction,
+}
 
 /// What is wrong with a section.
 #[derive(Clone, Copy, Debug, PartialEq, Eq, Drop)]
@@ -27,12 +35,14 @@ pub enum Inconsistency {
     ConflictingApts,
 }
 
+#[tactic(auto, unfolding(crate::specs::Consistency::is_mid))]
 fn is_mid(attribute: &MediaAttribute) -> bool
     ensures { result ≡ is_mid attribute.now }
 {
     matches!(attribute, MediaAttribute::Mid(_))
 }
 
+#[tactic(auto, unfolding(crate::specs::Consistency::is_setup))]
 fn is_setup(attribute: &MediaAttribute) -> bool
     ensures { result ≡ is_setup attribute.now }
 {
@@ -55,28 +65,27 @@ fn is_static(pt: Pt) -> bool
     number == 0 || number == 8 || number == 9 || number == 13
 }
 
-fn count_mids(attributes: &[MediaAttribute]) -> usize
-    ensures { result ≡ count_by is_mid attributes.now }
-{
-    attributes.iter().filter(|attribute| is_mid(*attribute)).count()
-}
-
-fn count_setups(attributes: &[MediaAttribute]) -> usize
-    ensures { result ≡ count_by is_setup attributes.now }
-{
-    attributes.iter().filter(|attribute| is_setup(*attribute)).count()
-}
-
+#[tactic(auto, unfolding(crate::specs::Consistency::is_direction_of))]
 fn is_direction_of(attribute: &MediaAttribute) -> bool
     ensures { result ≡ is_direction_of attribute.now }
 {
     attribute.is_direction()
 }
 
-fn count_directions(attributes: &[MediaAttribute]) -> usize
-    ensures { result ≡ count_by is_direction_of attributes.now }
+fn is_of(kind: Counted, attribute: &MediaAttribute) -> bool
+    ensures { result ≡ is_of kind attribute.now }
 {
-    attributes.iter().filter(|attribute| is_direction_of(*attribute)).count()
+    match kind {
+        Counted::Mid => is_mid(attribute),
+        Counted::Setup => is_setup(attribute),
+        Counted::Direction => is_direction_of(attribute),
+    }
+}
+
+fn count(attributes: &[MediaAttribute], kind: Counted) -> usize
+    ensures { result ≡ count_by (is_of kind) attributes.now }
+{
+    attributes.iter().filter(|attribute| is_of(kind, *attribute)).count()
 }
 
 fn count_maps(attributes: &[MediaAttribute], pt: Pt) -> usize
@@ -114,12 +123,18 @@ fn apts_agree_with(attributes: &[MediaAttribute], pt: Pt, apt: Pt) -> bool
     attributes.iter().all(|attribute| attribute_agrees(attribute, pt, apt))
 }
 
+fn has_other_apt(values: &[FormatParam], apt: Pt) -> bool
+    ensures { result ≡ list_any (apt_differs apt) values.now }
+{
+    values.iter().any(|param| apt_differs(apt, param))
+}
+
 fn attribute_agrees(attribute: &MediaAttribute, pt: Pt, apt: Pt) -> bool
     ensures { result ≡ attribute_agrees pt apt attribute.now }
 {
     match attribute {
         MediaAttribute::Fmtp { pt: other, values } => {
-            *other != pt || !values.as_slice().iter().any(|param| apt_differs(apt, param))
+            *other != pt || !has_other_apt(values.as_slice(), apt)
         }
         _ => true,
     }
@@ -134,14 +149,17 @@ fn values_agree(attributes: &[MediaAttribute], pt: Pt, param: &FormatParam) -> b
     }
 }
 
+fn all_agree(attributes: &[MediaAttribute], pt: Pt, values: &[FormatParam]) -> bool
+    ensures { result ≡ list_all (values_agree attributes.now pt) values.now }
+{
+    values.iter().all(|param| values_agree(attributes, pt, param))
+}
+
 fn gives_apt(attributes: &[MediaAttribute], attribute: &MediaAttribute) -> bool
     ensures { result ≡ gives_apt attributes.now attribute.now }
 {
     match attribute {
-        MediaAttribute::Fmtp { pt, values } => values
-            .as_slice()
-            .iter()
-            .all(|param| values_agree(attributes, *pt, param)),
+        MediaAttribute::Fmtp { pt, values } => all_agree(attributes, *pt, values.as_slice()),
         _ => true,
     }
 }
@@ -157,14 +175,14 @@ impl MediaLine {
     pub fn check_consistent(&self) -> Option<Inconsistency>
         ensures { result ≡ fault_of self.now }
     {
-        let mids = count_mids(self.attrs.as_slice());
+        let mids = count(self.attrs.as_slice(), Counted::Mid);
         if mids == 0 {
             return Some(Inconsistency::MissingMid);
         }
         if mids > 1 {
             return Some(Inconsistency::SeveralMids);
         }
-        if count_setups(self.attrs.as_slice()) > 1 {
+        if count(self.attrs.as_slice(), Counted::Setup) > 1 {
             return Some(Inconsistency::SeveralSetups);
         }
         self.later_fault()
@@ -174,7 +192,7 @@ impl MediaLine {
         ensures { result ≡ later_fault_of self.now }
     {
         let is_rtp = self.proto == Proto::Srtp;
-        if is_rtp && count_directions(self.attrs.as_slice()) != 1 {
+        if is_rtp && count(self.attrs.as_slice(), Counted::Direction) != 1 {
             return Some(Inconsistency::Directions);
         }
         if is_rtp && self.pts.as_slice().is_empty() && !self.disabled {
