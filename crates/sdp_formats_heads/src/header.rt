@@ -4,21 +4,20 @@ ghost use Rattle.std.specs.Prelude.{◌≡◌};
 ghost use Rattle.sdp_formats_forms.specs.Refusals.{Gives, GivesBy};
 
 use crate::originator::origin;
-use rtp_wire::SessionId;
 use sdp_formats_forms::{Refusal, behind, split, text_of};
 use sdp_formats_steps::{Lined, Stepped, line_of};
 use sdp_formats_types::Bandwidth;
 use std::alloc::Global;
 
-/// The line `o=`.
+/// The line `o=`: the session's number.
 pub struct OriginLine;
 
-impl Lined<SessionId> for OriginLine {
+impl Lined<u64> for OriginLine {
     ghost use Rattle.sdp_formats_heads.specs.Lines.{origin_line};
 
     ghost form = { origin_line };
 
-    fn read(_alloc: Global, content: &str) -> Result<SessionId, Refusal> {
+    fn read(_alloc: Global, content: &str) -> Result<u64, Refusal> {
         origin(behind(content, "o=")?)
     }
 

@@ -6,7 +6,6 @@ ghost use Rattle.std.specs.List.{list_all};
 ghost use Rattle.sdp_formats_forms.specs.Refusals.{Gives, GivesBy};
 ghost use Rattle.sdp_formats_heads.specs.Heads.{origin, session_number};
 
-use rtp_wire::SessionId;
 use sdp_formats_forms::{Refusal, number_64, some, split};
 
 fn has_digits_alone(text: &str) -> bool
@@ -15,17 +14,17 @@ fn has_digits_alone(text: &str) -> bool
     text.bytes().all(|byte| byte.is_ascii_digit())
 }
 
-fn session_number(text: &str) -> Result<SessionId, Refusal>
+fn session_number(text: &str) -> Result<u64, Refusal>
     ensures { Gives result (session_number text.now) }
 {
     if !has_digits_alone(text) {
         return Err(Refusal::Unfit);
     }
-    Ok(SessionId::from(number_64(text)?))
+    number_64(text)
 }
 
 // What stands behind `o=`.
-pub(crate) fn origin(value: &str) -> Result<SessionId, Refusal>
+pub(crate) fn origin(value: &str) -> Result<u64, Refusal>
     ensures { Gives result (origin.reads value.now) }
 {
     let (user, rest) = split(value, ' ')?;
