@@ -20,7 +20,7 @@ pub session-read : (t : List ℕ) (r : Session × Bor (List ℕ)) → ReadsSessi
 unfolding ReadsSession
 session-read t r h = h
 
-pub session-unread : (t : List ℕ) → ReadsSession t (Err Unfit) → (session : Session) (rest : List ℕ) → SessionSays t session rest → ⊥
+pub session-unread : (t : List ℕ) → ReadsSession t (Err Unfit) → (session : Session) (rest : List ℕ)
+    → SessionSays t session rest → ⊥
 unfolding ReadsSession
 session-unread t h = h
-

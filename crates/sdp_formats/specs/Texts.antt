@@ -11,16 +11,19 @@ use Rattle.sdp_formats.specs.declared.error.SdpError.TheVariants.{ParseError, In
 abbrev pub SaysNothing : List ℕ → Type 0
 SaysNothing text = (sdp : Sdp) (rest : List ℕ) → SdpSays text sdp rest → ⊥
 
--- What is read is what the text says, and the only such; and where nothing is read for another cause than memory, the text says nothing.
+-- What is read is what the text says, and the only such; and where nothing is read for another cause than memory, the
+-- text says nothing.
 abbrev pub ParsesSdp : List ℕ → Result (Sdp × Bor (List ℕ)) SdpError → Type 0
-ParsesSdp text (Ok r) = SdpSays text r.0 r.1.now × ((sdp : Sdp) (rest : List ℕ) → SdpSays text sdp rest → (sdp ≡ r.0) × (rest ≡ r.1.now))
+ParsesSdp text (Ok r) = SdpSays text r.0 r.1.now
+    × ((sdp : Sdp) (rest : List ℕ) → SdpSays text sdp rest → (sdp ≡ r.0) × (rest ≡ r.1.now))
 ParsesSdp text (Err Memory) = Unit {0}
 ParsesSdp text (Err (ParseError t)) = SaysNothing text
 ParsesSdp text (Err (Inconsistent t)) = ⊥
 
 -- The same of what stands before the first section.
 abbrev pub ParsesSession : List ℕ → Result (Session × Bor (List ℕ)) SdpError → Type 0
-ParsesSession text (Ok r) = SessionSays text r.0 r.1.now × ((session : Session) (rest : List ℕ) → SessionSays text session rest → (session ≡ r.0) × (rest ≡ r.1.now))
+ParsesSession text (Ok r) = SessionSays text r.0 r.1.now
+    × ((session : Session) (rest : List ℕ) → SessionSays text session rest → (session ≡ r.0) × (rest ≡ r.1.now))
 ParsesSession text (Err Memory) = Unit {0}
 ParsesSession text (Err (ParseError t)) = (session : Session) (rest : List ℕ) → SessionSays text session rest → ⊥
 ParsesSession text (Err (Inconsistent t)) = ⊥

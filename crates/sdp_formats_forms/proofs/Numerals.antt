@@ -1,5 +1,6 @@
 -- Numbers in decimal digits.
-use Rattle.std.proofs.Common.{◌≡◌, Option, ℕ, ◌^◌, ◌<◌, Bool, true, false, ◌&&◌, cond, List, [], ◌∷◌, length, nat_lt, None, Some, Result, Ok, Err, refl, sym, ◌∙◌, ap, arith}
+use Rattle.std.proofs.Common.{◌≡◌, Option, ℕ, ◌^◌, ◌<◌, Bool, true, false, ◌&&◌, cond, List, [], ◌∷◌, length, nat_lt}
+use Rattle.std.proofs.Common.{None, Some, Result, Ok, Err, refl, sym, ◌∙◌, ap, arith}
 use Rattle.std.specs.Char.{digit_value}
 use Rattle.std.specs.Option.{ok_or}
 use Rattle.std.specs.Result.{result_ok, OkIff}
@@ -25,7 +26,10 @@ all_digits-true (c ∷ cs) h = tested (digit_value c) (all_digits cs) h.0 (all_d
 
 pub all_digits-are : (ds : List ℕ) → all_digits ds ≡ true → AllDigits 10 ds
 all_digits-are [] h = tt
-all_digits-are (c ∷ cs) h = (first_digit (digit_value c) (all_digits cs) h, all_digits-are cs (other_digits (nat_lt (digit_value c) 10) (all_digits cs) h))
+all_digits-are (c ∷ cs) h = (
+  first_digit (digit_value c) (all_digits cs) h,
+  all_digits-are cs (other_digits (nat_lt (digit_value c) 10) (all_digits cs) h),
+)
 
 pub accepted : (digits : Bool) (len value limit : ℕ) → digits ≡ true → 0 < len → value < limit
     → cond (nat_lt 0 len && digits && nat_lt value limit) (Some value) None ≡ Some value
@@ -37,10 +41,13 @@ refused true len value limit fails = grind (arith, nat_tests)
 refused false len value limit fails = grind (arith, nat_tests)
 
 -- what `parse` makes of a text
-pub number-gives : {E : Type 0} (k : ℕ) (text : List ℕ) (r : Result ℕ E) → ParsesUnsigned k 10 text r → Gives (ok_or (result_ok r) Unfit) (number_below (2 ^ k) text)
+pub number-gives : {E : Type 0} (k : ℕ) (text : List ℕ) (r : Result ℕ E) → ParsesUnsigned k 10 text r
+    → Gives (ok_or (result_ok r) Unfit) (number_below (2 ^ k) text)
 number-gives k text (Ok n) h =
     let ds = without_leading_plus text in
-    accepted (all_digits ds) (length ds) (digits_value 10 ds) (2 ^ k) (all_digits-true ds h.0.0.1) h.0.0.0 h.0.1 ∙ ap Some (sym h.1)
+    accepted (all_digits ds) (length ds) (digits_value 10 ds) (2 ^ k) (all_digits-true ds h.0.0.1) h.0.0.0 h.0.1
+    ∙ ap Some (sym h.1)
 number-gives k text (Err e) h =
     let ds = without_leading_plus text in
-    refused (all_digits ds) (length ds) (digits_value 10 ds) (2 ^ k) (λ digits some fits. h ((some, all_digits-are ds digits), fits))
+    refused (all_digits ds) (length ds) (digits_value 10 ds) (2 ^ k)
+    (λ digits some fits. h ((some, all_digits-are ds digits), fits))

@@ -61,10 +61,12 @@ maybe f None = Some None
 maybe f (Some t) = option_map Some (f t)
 
 -- one form before the first such byte, and one behind it where there is such a byte
-abbrev pub both_maybe : {A B : Type 0} → (List ℕ → Option A) → (Option (List ℕ) → Option B) → List ℕ × Option (List ℕ) → Option (A × B)
+abbrev pub both_maybe : {A B : Type 0} → (List ℕ → Option A) → (Option (List ℕ) → Option B) → List ℕ
+    × Option (List ℕ) → Option (A × B)
 both_maybe f g h = f h.0 >>= λ a. g h.1 >>= λ b. Some (a, b)
 
-abbrev pub SaysMaybe : {A B : Type 0} → ℕ → (List ℕ → A → Type 0) → (List ℕ → B → Type 0) → List ℕ → A → Option B → Type 0
+abbrev pub SaysMaybe : {A B : Type 0} → ℕ → (List ℕ → A → Type 0) → (List ℕ → B → Type 0) → List ℕ → A → Option B
+    → Type 0
 SaysMaybe c F G t a None = Lacks c t × F t a
 SaysMaybe c F G t a (Some b) = (front back : List ℕ) × (t ≡ front ++ c ∷ back) × Lacks c front × F front a × G back b
 

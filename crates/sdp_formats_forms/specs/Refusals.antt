@@ -5,7 +5,8 @@ use Rattle.std.specs.Option.{option_copied}
 use Rattle.sdp_formats_forms.specs.declared.refusal.Refusal.{Refusal}
 use Rattle.sdp_formats_forms.specs.declared.refusal.Refusal.TheVariants.{Unfit, Memory}
 
--- A reader answers what a form says of the text, and that it is unfit exactly where the form says nothing, unless memory runs out.
+-- A reader answers what a form says of the text, and that it is unfit exactly where the form says nothing, unless
+-- memory runs out.
 abbrev pub GivesBy : {A B : Type 0} → (A → B) → Result A Refusal → Option B → Type 0
 GivesBy view (Ok x) said = said ≡ Some (view x)
 GivesBy view (Err Unfit) said = said ≡ None

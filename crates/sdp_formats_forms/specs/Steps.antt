@@ -3,11 +3,13 @@ use Rattle.std.proofs.Common.{◌≡◌, Option, None, Some, List, [], ◌∷◌
 use Rattle.std.specs.Option.{option_map}
 use Rattle.sdp_formats_forms.specs.Bind.{◌>>=◌}
 
-pub bind_some : {A B : Type 0} (o : Option A) (f : A → Option B) (b : B) → (o >>= f) ≡ Some b → (a : A) × (o ≡ Some a) × (f a ≡ Some b)
+pub bind_some : {A B : Type 0} (o : Option A) (f : A → Option B) (b : B) → (o >>= f) ≡ Some b → (a : A)
+    × (o ≡ Some a) × (f a ≡ Some b)
 bind_some None f b h = absurd (cc)
 bind_some (Some a) f b h = (a, refl, h)
 
-pub map_some : {A B : Type 0} (h : A → B) (o : Option A) (b : B) → option_map h o ≡ Some b → (a : A) × (o ≡ Some a) × (b ≡ h a)
+pub map_some : {A B : Type 0} (h : A → B) (o : Option A) (b : B) → option_map h o ≡ Some b → (a : A) × (o ≡ Some a)
+    × (b ≡ h a)
 map_some h None b e = absurd (cc)
 map_some h (Some a) b e = (a, refl, cc)
 

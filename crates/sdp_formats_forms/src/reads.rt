@@ -42,7 +42,11 @@ fn part(text: &str, at: char) -> (&str, Option<&str>)
 /// # Errors
 ///
 /// `Unfit` where a word isn't of the form, `Memory` where memory is wanting.
-pub fn list_of<T: Drop, R: Reads<T>>(alloc: Global, text: &str, at: char) -> Result<Listed<T>, Refusal>
+pub fn list_of<T: Drop, R: Reads<T>>(
+    alloc: Global,
+    text: &str,
+    at: char,
+) -> Result<Listed<T>, Refusal>
     requires { at < 128 }
     ensures { Gives result (each R.reads (parts at text.now)) }
 {

@@ -1,5 +1,6 @@
 -- The lines `o=` and `m=` (RFC 8866 5.2 and 5.14).
-use Rattle.std.specs.Prelude.{ℕ, ◌^◌, ◌==◌, Bool, ◌||◌, List, [], Option, Some, None, length, is_some, unwrap_or, codes, if◌then◌else◌}
+use Rattle.std.specs.Prelude.{ℕ, ◌^◌, ◌==◌, Bool, ◌||◌, List, [], Option, Some, None, length, is_some, unwrap_or}
+use Rattle.std.specs.Prelude.{codes, if◌then◌else◌}
 use Rattle.std.specs.Char.{is_ascii_digit}
 use Rattle.std.specs.List.{list_all}
 use Rattle.std.specs.Option.{option_map}
@@ -22,7 +23,8 @@ abbrev pub origin : Form ℕ
 origin = made (λ x. x.1.0) (cut 32 any_text (cut 32 (told session_number) any_text))
 
 abbrev pub is_begun : List ℕ → Bool
-is_begun t = is_some (behind (codes "audio") t) || (is_some (behind (codes "video") t) || is_some (behind (codes "application") t))
+is_begun t = is_some (behind (codes "audio") t)
+    || (is_some (behind (codes "video") t) || is_some (behind (codes "application") t))
 
 abbrev pub unknown_type : List ℕ → Option MediaType
 unknown_type t = if is_begun t then None else option_map Unknown (some_text t)
@@ -58,4 +60,5 @@ make_head x = record { typ = x.0; disabled = bytes_eq x.1 (codes "0"); proto = x
 
 -- `KIND PORT PROTOCOL TYPE ..` (RFC 8866 5.14)
 abbrev pub media_line : Form MediaHead
-media_line = made (λ x. make_head (x.0, x.1.0, x.1.1.0, x.1.1.1)) (cut 32 (told media_type) (cut 32 any_text (cut 32 (told proto) (told formats))))
+media_line = made (λ x. make_head (x.0, x.1.0, x.1.1.0, x.1.1.1))
+    (cut 32 (told media_type) (cut 32 any_text (cut 32 (told proto) (told formats))))

@@ -9,7 +9,7 @@ use Rattle.sdp_formats_heads.specs.declared.passed.Passed.{Passed}
 use Rattle.sdp_formats_types.specs.declared.session.Bandwidth.{Bandwidth}
 
 abbrev pub passed : Passed
-passed = record { }
+passed = record {}
 
 -- this text alone
 abbrev pub exactly : List ℕ → Form Passed
@@ -34,7 +34,8 @@ name_line = after (codes "s=") something
 -- `i=`, `u=`, `e=`, `p=`, `c=`, `z=` and `k=` (RFC 8866 5.4 to 5.7, 5.11 and 5.12)
 abbrev pub other_line : Form Passed
 other_line =
-    either (after (codes "i=") something) (either (after (codes "u=") something) (either (after (codes "e=") something) (either (after (codes "p=") something)
+    either (after (codes "i=") something) (either (after (codes "u=") something)
+    (either (after (codes "e=") something) (either (after (codes "p=") something)
     (either (after (codes "c=") something) (either (after (codes "z=") something) (after (codes "k=") something))))))
 
 abbrev pub make_bandwidth : List ℕ × List ℕ → Bandwidth

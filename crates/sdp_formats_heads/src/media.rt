@@ -3,7 +3,8 @@
 ghost use Rattle.std.specs.Prelude.{◌≡◌, codes};
 ghost use Rattle.std.specs.Str.{bytes_eq};
 ghost use Rattle.sdp_formats_forms.specs.Refusals.{Gives, GivesBy};
-ghost use Rattle.sdp_formats_heads.specs.Heads.{media_type, unknown_type, is_begun, proto, pt_number, formats, media_line};
+ghost use Rattle.sdp_formats_heads.specs.Heads.{media_type, unknown_type, is_begun, proto, pt_number, formats};
+ghost use Rattle.sdp_formats_heads.specs.Heads.{media_line};
 
 use rtp_wire::Pt;
 use sdp_formats_forms::{

@@ -81,6 +81,14 @@ candidate t = do
   kind ← kind_word (halves 32 place.2).0
   fields ← candidate_fields (halves 32 place.2).1
   Some (record {
-    foundation = foundation; component_id = component; proto = protocol; prio = priority; addr = place.0; port = place.1; kind = kind;
-    related = fields.related; tcptype = fields.tcptype; ufrag = fields.ufrag;
+    foundation = foundation;
+    component_id = component;
+    proto = protocol;
+    prio = priority;
+    addr = place.0;
+    port = place.1;
+    kind = kind;
+    related = fields.related;
+    tcptype = fields.tcptype;
+    ufrag = fields.ufrag;
   })

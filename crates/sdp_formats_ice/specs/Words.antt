@@ -6,7 +6,8 @@ use Rattle.sdp_formats_types.specs.declared.setup.Setup.TheVariants.{ActPass, Ac
 use Rattle.sdp_formats_types.specs.declared.candidate.Protocol.{Protocol}
 use Rattle.sdp_formats_types.specs.declared.candidate.Protocol.TheVariants.{Udp, Tcp, SslTcp, Tls}
 use Rattle.sdp_formats_types.specs.declared.candidate.CandidateKind.{CandidateKind}
-use Rattle.sdp_formats_types.specs.declared.candidate.CandidateKind.TheVariants.{Host, PeerReflexive, ServerReflexive, Relayed}
+use Rattle.sdp_formats_types.specs.declared.candidate.CandidateKind.TheVariants.{Host, PeerReflexive, ServerReflexive}
+use Rattle.sdp_formats_types.specs.declared.candidate.CandidateKind.TheVariants.{Relayed}
 use Rattle.sdp_formats_types.specs.declared.candidate.TcpType.{TcpType}
 use Rattle.sdp_formats_types.specs.declared.candidate.TcpType.TheVariants as tcp
 

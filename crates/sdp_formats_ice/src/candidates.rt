@@ -5,12 +5,13 @@ ghost use Rattle.std.specs.Option.{option_copied};
 ghost use Rattle.sdp_formats_forms.specs.Form.{maybe};
 ghost use Rattle.sdp_formats_forms.specs.Refusals.{Gives, GivesBy, fielded};
 ghost use Rattle.sdp_formats_ice.specs.Words.{tcptype_word};
-ghost use Rattle.sdp_formats_ice.specs.Candidates.{related_in, related_field, with_rest, related_rest, candidate_fields, candidate_place, placed, candidate};
+ghost use Rattle.sdp_formats_ice.specs.Candidates.{related_in, related_field, with_rest, related_rest};
+ghost use Rattle.sdp_formats_ice.specs.Candidates.{candidate_fields, candidate_place, placed, candidate};
 
 use crate::words::{kind_of, protocol_of, tcptype_of};
 use sdp_formats_forms::{
-    Refusal, Text, behind, copied, copy, field, halves, number_16, number_32, some, split, stripped,
-    text_of,
+    Refusal, Text, behind, copied, copy, field, halves, number_16, number_32, some, split,
+    stripped, text_of,
 };
 use sdp_formats_types::{Candidate, RelatedAddress, TcpType};
 use std::alloc::Global;

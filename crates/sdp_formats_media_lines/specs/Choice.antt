@@ -1,7 +1,11 @@
 -- Which kind of line an attribute is: the first, in this order, that fits (RFC 8866 5.13).
 use Rattle.std.specs.Prelude.{codes}
 use Rattle.sdp_formats_forms.specs.Form.{Form, told, any_text, made, after, either}
-use Rattle.sdp_formats_media_lines.specs.Kinds.{ice_ufrag_line, ice_pwd_line, ice_options_line, fingerprint_line, setup_line, mid_line, sctp_port_line, max_message_size_line, sctp_init_line, extmap_line, msid_line, rtcp_line, candidate_line, rtpmap_line, rtcp_fb_line, fmtp_line, rid_line, simulcast_line, ssrc_group_line, ssrc_line, direction_word, mux_word, end_word}
+use Rattle.sdp_formats_media_lines.specs.Kinds.{ice_ufrag_line, ice_pwd_line, ice_options_line, fingerprint_line}
+use Rattle.sdp_formats_media_lines.specs.Kinds.{setup_line, mid_line, sctp_port_line, max_message_size_line}
+use Rattle.sdp_formats_media_lines.specs.Kinds.{sctp_init_line, extmap_line, msid_line, rtcp_line, candidate_line}
+use Rattle.sdp_formats_media_lines.specs.Kinds.{rtpmap_line, rtcp_fb_line, fmtp_line, rid_line, simulcast_line}
+use Rattle.sdp_formats_media_lines.specs.Kinds.{ssrc_group_line, ssrc_line, direction_word, mux_word, end_word}
 use Rattle.sdp_formats_types.specs.declared.media.MediaAttribute.{MediaAttribute}
 use Rattle.sdp_formats_types.specs.declared.media.MediaAttribute.TheVariants.{Unused}
 

@@ -12,7 +12,12 @@ use Rattle.sdp_formats_streams.specs.Rids.{rid}
 use Rattle.sdp_formats_streams.specs.Simulcasts.{simulcast}
 use Rattle.sdp_formats_streams.specs.Sources.{extmap, msid, ssrc, ssrc_group}
 use Rattle.sdp_formats_types.specs.declared.media.MediaAttribute.{MediaAttribute}
-use Rattle.sdp_formats_types.specs.declared.media.MediaAttribute.TheVariants.{Candidate, EndOfCandidates, Fingerprint, IceOptions, IcePwd, IceUfrag, Inactive, MaxMessageSize, Mid, Msid, RecvOnly, Rtcp, RtcpMux, RtcpMuxOnly, RtcpRsize, SctpInit, SctpPort, SendOnly, SendRecv, Setup, Simulcast}
+use Rattle.sdp_formats_types.specs.declared.media.MediaAttribute.TheVariants.{Candidate, EndOfCandidates, Fingerprint}
+use Rattle.sdp_formats_types.specs.declared.media.MediaAttribute.TheVariants.{IceOptions, IcePwd, IceUfrag, Inactive}
+use Rattle.sdp_formats_types.specs.declared.media.MediaAttribute.TheVariants.{MaxMessageSize, Mid, Msid, RecvOnly}
+use Rattle.sdp_formats_types.specs.declared.media.MediaAttribute.TheVariants.{Rtcp, RtcpMux, RtcpMuxOnly, RtcpRsize}
+use Rattle.sdp_formats_types.specs.declared.media.MediaAttribute.TheVariants.{SctpInit, SctpPort, SendOnly, SendRecv}
+use Rattle.sdp_formats_types.specs.declared.media.MediaAttribute.TheVariants.{Setup, Simulcast}
 
 abbrev pub ice_ufrag_line : Form MediaAttribute
 ice_ufrag_line = after (codes "ice-ufrag:") (made IceUfrag any_text)

@@ -2,7 +2,8 @@
 
 ghost use Rattle.std.specs.Prelude.{◌≡◌};
 ghost use Rattle.sdp_formats_forms.specs.Refusals.{Gives, GivesBy};
-ghost use Rattle.sdp_formats_media_lines.specs.Kinds.{extmap_line, msid_line, rtpmap_line, rtcp_fb_line, fmtp_line, rid_line, simulcast_line, ssrc_group_line, ssrc_line};
+ghost use Rattle.sdp_formats_media_lines.specs.Kinds.{extmap_line, msid_line, rtpmap_line, rtcp_fb_line, fmtp_line};
+ghost use Rattle.sdp_formats_media_lines.specs.Kinds.{rid_line, simulcast_line, ssrc_group_line, ssrc_line};
 
 use sdp_formats_forms::{Refusal, behind};
 use sdp_formats_row_lines::{fmtp, rtcp_fb, rtpmap};

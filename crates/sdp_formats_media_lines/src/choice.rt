@@ -3,10 +3,17 @@
 ghost use Rattle.std.specs.Prelude.{◌≡◌};
 ghost use Rattle.sdp_formats_forms.specs.Refusals.{Gives, GivesBy};
 ghost use Rattle.sdp_formats_media_lines.specs.Kinds.{direction_word, mux_word, end_word};
-ghost use Rattle.sdp_formats_media_lines.specs.Choice.{media_attribute, second_attribute, third_attribute, last_attribute};
+ghost use Rattle.sdp_formats_media_lines.specs.Choice.{media_attribute, second_attribute, third_attribute};
+ghost use Rattle.sdp_formats_media_lines.specs.Choice.{last_attribute};
 
-use crate::attributes::{extmap_line, fmtp_line, msid_line, rid_line, rtcp_fb_line, rtpmap_line, simulcast_line, ssrc_group_line, ssrc_line};
-use crate::transport::{candidate_line, fingerprint_line, ice_options_line, ice_pwd_line, ice_ufrag_line, max_message_size_line, mid_line, rtcp_line, sctp_init_line, sctp_port_line, setup_line};
+use crate::attributes::{
+    extmap_line, fmtp_line, msid_line, rid_line, rtcp_fb_line, rtpmap_line, simulcast_line,
+    ssrc_group_line, ssrc_line,
+};
+use crate::transport::{
+    candidate_line, fingerprint_line, ice_options_line, ice_pwd_line, ice_ufrag_line,
+    max_message_size_line, mid_line, rtcp_line, sctp_init_line, sctp_port_line, setup_line,
+};
 use sdp_formats_forms::{Refusal, behind, fitted, text_of};
 use sdp_formats_pairs::pairs_law;
 use sdp_formats_steps::{Lined, Stepped, line_of};

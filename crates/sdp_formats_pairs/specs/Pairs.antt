@@ -1,5 +1,6 @@
 -- Keys and values (RFC 8866 6.15), blanks and tabs round `;`.
-use Rattle.std.specs.Prelude.{◌≡◌, ◌==◌, ◌||◌, ◌&&◌, ℕ, Bool, false, not, List, [], ◌∷◌, length, Option, Some, None, codes, if◌then◌else◌}
+use Rattle.std.specs.Prelude.{◌≡◌, ◌==◌, ◌||◌, ◌&&◌, ℕ, Bool, false, not, List, [], ◌∷◌, length, Option, Some, None}
+use Rattle.std.specs.Prelude.{codes, if◌then◌else◌}
 use Rattle.std.specs.Option.{option_or}
 use Rattle.std.specs.Borrow.{Bor}
 use Rattle.std.specs.List.{list_all}
@@ -86,6 +87,7 @@ ends_open (b ∷ c ∷ t) = ends_open (c ∷ t)
 abbrev pub all_read : List Pair × List ℕ → Option (List Pair)
 all_read x = if length x.1 == 0 then Some x.0 else None
 
--- Pairs with semicolons between and none at the end, blanks before a key alone; no pair where nothing stands there (RFC 8851 4).
+-- Pairs with semicolons between and none at the end, blanks before a key alone; no pair where nothing stands there
+-- (RFC 8851 4).
 unfoldable pub restrictions_of : List ℕ → Option (List Pair)
 restrictions_of t = if ends_open t then None else all_read (run restriction_at (length t) t)

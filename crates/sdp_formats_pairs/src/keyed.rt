@@ -5,7 +5,8 @@ ghost use Rattle.std.specs.List.{list_all};
 ghost use Rattle.std.specs.Option.{option_copied};
 ghost use Rattle.sdp_formats_forms.specs.Refusals.{Gives, GivesBy};
 ghost use Rattle.sdp_formats_forms.specs.Split.{behind};
-ghost use Rattle.sdp_formats_pairs.specs.Pairs.{word, is_word_byte, is_blank, behind_blank, unblanked, word_before, padded, pair_at, pairs_of, or_empty, whole, with_rest};
+ghost use Rattle.sdp_formats_pairs.specs.Pairs.{word, is_word_byte, is_blank, behind_blank, unblanked, word_before};
+ghost use Rattle.sdp_formats_pairs.specs.Pairs.{padded, pair_at, pairs_of, or_empty, whole, with_rest};
 
 use sdp_formats_forms::{Listed, Refusal, Text, copy, halves, some, split, stripped};
 use sdp_formats_params::Pair;

@@ -1,5 +1,6 @@
 -- Numbers in digits.
-use Rattle.std.proofs.Common.{◌≡◌, ◌≢◌, ◌==◌, Option, Bor, ℕ, ◌^◌, ◌<◌, Bool, true, false, ◌&&◌, cond, List, [], ◌∷◌, length, nat_lt, None, Some, Result, Ok, Err, refl, sym, ◌∙◌, ap, arith}
+use Rattle.std.proofs.Common.{◌≡◌, ◌≢◌, ◌==◌, Option, Bor, ℕ, ◌^◌, ◌<◌, Bool, true, false, ◌&&◌, cond, List, [], ◌∷◌}
+use Rattle.std.proofs.Common.{length, nat_lt, None, Some, Result, Ok, Err, refl, sym, ◌∙◌, ap, arith}
 use Rattle.std.specs.Char.{digit_value}
 use Rattle.std.specs.Option.{MatchOption, option_copied}
 use Rattle.std.specs.Result.{result_ok, OkIff}
@@ -23,8 +24,10 @@ all_digits-true radix (c ∷ cs) h = tested (digit_value c) radix (all_digits ra
 
 all_digits-are : (radix : ℕ) (ds : List ℕ) → all_digits radix ds ≡ true → AllDigits radix ds
 all_digits-are radix [] h = tt
-all_digits-are radix (c ∷ cs) h =
-    (first_digit (digit_value c) radix (all_digits radix cs) h, all_digits-are radix cs (other_digits (nat_lt (digit_value c) radix) (all_digits radix cs) h))
+all_digits-are radix (c ∷ cs) h = (
+  first_digit (digit_value c) radix (all_digits radix cs) h,
+  all_digits-are radix cs (other_digits (nat_lt (digit_value c) radix) (all_digits radix cs) h),
+)
 
 accepted : (digits : Bool) (len value limit : ℕ) → digits ≡ true → 0 < len → value < limit
     → cond (nat_lt 0 len && digits && nat_lt value limit) (Some value) None ≡ Some value
@@ -35,15 +38,20 @@ refused : (digits : Bool) (len value limit : ℕ) → ((digits ≡ true) → (0 
 refused true len value limit fails = grind (arith, nat_tests)
 refused false len value limit fails = grind (arith, nat_tests)
 
-by_digits : {E : Type 0} (k radix : ℕ) (ds : List ℕ) (r : Result ℕ E) → OkIff r (IsNumeral radix ds × (digits_value radix ds < 2 ^ k)) (digits_value radix ds)
-    → result_ok r ≡ cond (nat_lt 0 (length ds) && all_digits radix ds && nat_lt (digits_value radix ds) (2 ^ k)) (Some (digits_value radix ds)) None
+by_digits : {E : Type 0} (k radix : ℕ) (ds : List ℕ) (r : Result ℕ E)
+    → OkIff r (IsNumeral radix ds × (digits_value radix ds < 2 ^ k)) (digits_value radix ds)
+    → result_ok r ≡ cond (nat_lt 0 (length ds) && all_digits radix ds && nat_lt (digits_value radix ds) (2 ^ k))
+    (Some (digits_value radix ds)) None
 by_digits k radix ds (Ok n) h =
-    ap Some h.1 ∙ sym (accepted (all_digits radix ds) (length ds) (digits_value radix ds) (2 ^ k) (all_digits-true radix ds h.0.0.1) h.0.0.0 h.0.1)
+    ap Some h.1 ∙ sym (accepted (all_digits radix ds) (length ds) (digits_value radix ds) (2 ^ k)
+    (all_digits-true radix ds h.0.0.1) h.0.0.0 h.0.1)
 by_digits k radix ds (Err e) h =
-    sym (refused (all_digits radix ds) (length ds) (digits_value radix ds) (2 ^ k) (λ digits some fits. h ((some, all_digits-are radix ds digits), fits)))
+    sym (refused (all_digits radix ds) (length ds) (digits_value radix ds) (2 ^ k)
+    (λ digits some fits. h ((some, all_digits-are radix ds digits), fits)))
 
 -- what `parse` makes of a text
-pub number_below-parse : {E : Type 0} (k radix : ℕ) (text : List ℕ) (r : Result ℕ E) → ParsesUnsigned k radix text r → result_ok r ≡ number_below (2 ^ k) radix text
+pub number_below-parse : {E : Type 0} (k radix : ℕ) (text : List ℕ) (r : Result ℕ E) → ParsesUnsigned k radix text r
+    → result_ok r ≡ number_below (2 ^ k) radix text
 number_below-parse k radix text r h = by_digits k radix (without_leading_plus text) r h
 
 other_first : (byte b : ℕ) (bytes : List ℕ) → b ≢ byte → cond (b == byte) (Some bytes) None ≡ None
@@ -54,7 +62,9 @@ same_first byte bytes = grind (arith, nat_tests)
 
 -- what is left where a first byte is taken off
 pub behind-strips : (byte : ℕ) (text : List ℕ) (rest : Option (Bor (List ℕ)))
-    → MatchOption rest ((bytes : List ℕ) → text ≢ byte ∷ bytes) (λ x. text ≡ byte ∷ x.now) → option_copied rest ≡ behind byte text
+    → MatchOption rest ((bytes : List ℕ) → text ≢ byte ∷ bytes) (λ x. text ≡ byte ∷ x.now) → option_copied rest
+    ≡ behind byte text
 behind-strips byte text (Some x) h = rw h (sym (same_first byte x.now))
 behind-strips byte [] None h = refl
-behind-strips byte (b ∷ bytes) None h = sym (other_first byte b bytes (λ same. h bytes (ap (λ first. first ∷ bytes) same)))
+behind-strips byte (b ∷ bytes) None h = sym
+    (other_first byte b bytes (λ same. h bytes (ap (λ first. first ∷ bytes) same)))

@@ -1,5 +1,6 @@
 -- Numbers and modes in a format text.
-use Rattle.std.specs.Prelude.{ℕ, ◌^◌, Bool, true, ◌&&◌, List, [], ◌∷◌, length, nat_lt, nat_le, ◌==◌, bit_or, option_and_then, Option, Some, None, if◌then◌else◌}
+use Rattle.std.specs.Prelude.{ℕ, ◌^◌, Bool, true, ◌&&◌, List, [], ◌∷◌, length, nat_lt, nat_le, ◌==◌, bit_or}
+use Rattle.std.specs.Prelude.{option_and_then, Option, Some, None, if◌then◌else◌}
 use Rattle.std.specs.Char.{digit_value, is_ascii_digit}
 use Rattle.std.specs.Str.{trim}
 use Rattle.std.specs.List.{list_all}

@@ -1,5 +1,6 @@
 -- Format parameters, one by one (RFC 8866 6.15).
-use Rattle.std.specs.Prelude.{ℕ, ◌^◌, Bool, true, false, ◌&&◌, ◌||◌, List, [], ◌∷◌, ◌++◌, map, nat_eq, codes, Option, Some, None, if◌then◌else◌}
+use Rattle.std.specs.Prelude.{ℕ, ◌^◌, Bool, true, false, ◌&&◌, ◌||◌, List, [], ◌∷◌, ◌++◌, map, nat_eq, codes, Option}
+use Rattle.std.specs.Prelude.{Some, None, if◌then◌else◌}
 use Rattle.std.specs.Char.{to_ascii_lowercase}
 use Rattle.std.specs.Cmp.Lexicographic.{pointwise}
 use Rattle.std.specs.List.{list_any}
@@ -13,7 +14,14 @@ use Rattle.sdp_formats_params.specs.declared.key.Key.{Key}
 use Rattle.sdp_formats_params.specs.declared.key.Key.TheVariants as key
 use Rattle.sdp_formats_params.specs.declared.pairs.Pair.{Pair}
 use Rattle.sdp_formats_params.specs.declared.param.FormatParam.{FormatParam}
-use Rattle.sdp_formats_params.specs.declared.param.FormatParam.TheVariants.{MinPTime, Stereo, SpropStereo, UseInbandFec, UseDtx, LevelAsymmetryAllowed, PacketizationMode, ProfileLevelId, ProfileId, Profile, LevelIdx, Tier, H265ProfileTierLevel, H266ProfileTierLevel, SpropMaxDonDiff, TelephoneEvents, OctetAlign, ModeSet, AmrWbUnsupported, Apt, Unknown}
+use Rattle.sdp_formats_params.specs.declared.param.FormatParam.TheVariants.{MinPTime, Stereo, SpropStereo}
+use Rattle.sdp_formats_params.specs.declared.param.FormatParam.TheVariants.{UseInbandFec, UseDtx}
+use Rattle.sdp_formats_params.specs.declared.param.FormatParam.TheVariants.{LevelAsymmetryAllowed, PacketizationMode}
+use Rattle.sdp_formats_params.specs.declared.param.FormatParam.TheVariants.{ProfileLevelId, ProfileId, Profile}
+use Rattle.sdp_formats_params.specs.declared.param.FormatParam.TheVariants.{LevelIdx, Tier, H265ProfileTierLevel}
+use Rattle.sdp_formats_params.specs.declared.param.FormatParam.TheVariants.{H266ProfileTierLevel, SpropMaxDonDiff}
+use Rattle.sdp_formats_params.specs.declared.param.FormatParam.TheVariants.{TelephoneEvents, OctetAlign, ModeSet}
+use Rattle.sdp_formats_params.specs.declared.param.FormatParam.TheVariants.{AmrWbUnsupported, Apt, Unknown}
 use Rattle.sdp_formats_params.specs.Keys.{key_named, is_level_key}
 use Rattle.sdp_formats_params.specs.Numbers.{number_below, profile_level, up_to, modes_of, range_of}
 
@@ -63,7 +71,8 @@ value_param key.LevelId v = Unknown
 abbrev pub other_param : List ℕ → List ℕ → FormatParam
 other_param k v =
     if str_eq_ignore_ascii_case (codes "apt") k then word_param Apt (byte_value v)
-    else if (str_eq_ignore_ascii_case (codes "crc") k || str_eq_ignore_ascii_case (codes "robust-sorting") k) && bytes_eq v (codes "1") then AmrWbUnsupported
+    else if (str_eq_ignore_ascii_case (codes "crc") k || str_eq_ignore_ascii_case (codes "robust-sorting") k)
+    && bytes_eq v (codes "1") then AmrWbUnsupported
     else if str_eq_ignore_ascii_case (codes "mode-change-period") k && bytes_eq v (codes "2") then AmrWbUnsupported
     else if str_eq_ignore_ascii_case (codes "interleaving") k then AmrWbUnsupported
     else Unknown
@@ -136,9 +145,11 @@ others_of (e ∷ es) = onto_others e (others_of es)
 
 abbrev pub level_params : List Pair → List FormatParam
 level_params ps =
-    levels_of (last_value (codes "profile-id") None ps) (last_value (codes "tier-flag") None ps) (last_value (codes "level-id") None ps)
+    levels_of (last_value (codes "profile-id") None ps) (last_value (codes "tier-flag") None ps)
+    (last_value (codes "level-id") None ps)
     ++ others_of (with_pairs [] ps)
 
--- The parameters of some pairs. Where one gives a tier or level, each key counts once, and the three keys of a profile, tier and level are one parameter in front of the others (RFC 7798 7.1, RFC 9328 7.2).
+-- The parameters of some pairs. Where one gives a tier or level, each key counts once, and the three keys of a
+-- profile, tier and level are one parameter in front of the others (RFC 7798 7.1, RFC 9328 7.2).
 abbrev pub params_of : List Pair → List FormatParam
 params_of ps = if list_any gives_level ps then level_params ps else map pair_param ps

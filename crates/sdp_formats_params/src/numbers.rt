@@ -4,7 +4,8 @@ ghost use Rattle.std.specs.Prelude.{◌≡◌, ◌^◌, ◌≤◌};
 ghost use Rattle.std.specs.Char.{is_ascii_digit};
 ghost use Rattle.std.specs.List.{list_all};
 ghost use Rattle.std.specs.Option.{option_copied};
-ghost use Rattle.sdp_formats_params.specs.Numbers.{number_below, profile_level, up_to, modes_of, with_mode, behind, range_end, range_of};
+ghost use Rattle.sdp_formats_params.specs.Numbers.{number_below, profile_level, up_to, modes_of, with_mode, behind};
+ghost use Rattle.sdp_formats_params.specs.Numbers.{range_end, range_of};
 
 use crate::parts::split_comma;
 

@@ -6,7 +6,9 @@ ghost use Rattle.std.specs.List.{list_any};
 ghost use Rattle.std.specs.Str.{str_eq_ignore_ascii_case};
 ghost use Rattle.sdp_formats_params.specs.declared.param.FormatParam.{FormatParam};
 ghost use Rattle.std.specs.Option.{option_copied};
-ghost use Rattle.sdp_formats_params.specs.Params.{pair_param, gives_level, is_level, or_before, last_value, with_pairs, with_pair, levels_of, is_level_name, onto_others, others_of, level_params, params_of};
+ghost use Rattle.sdp_formats_params.specs.Params.{pair_param, gives_level, is_level, or_before, last_value};
+ghost use Rattle.sdp_formats_params.specs.Params.{with_pairs, with_pair, levels_of, is_level_name, onto_others};
+ghost use Rattle.sdp_formats_params.specs.Params.{others_of, level_params, params_of};
 
 use crate::key::Key;
 use crate::pairs::Pair;
@@ -50,7 +52,8 @@ fn pair_params(alloc: Global, pairs: &[Pair]) -> Result<Vec<FormatParam>, AllocE
 }
 
 fn named_value<'a>(pair: &'a Pair, name: &str, before: Option<&'a str>) -> Option<&'a str>
-    ensures { option_copied result ≡ or_before (str_eq_ignore_ascii_case name.now pair.now.key) pair.now.value (option_copied before.entry) }
+    ensures { option_copied result ≡ or_before (str_eq_ignore_ascii_case name.now pair.now.key) pair.now.value
+        (option_copied before.entry) }
 {
     if has_name(pair.key.as_str(), name) {
         return Some(pair.value.as_str());
@@ -97,7 +100,8 @@ fn levels(
     tier_flag: Option<&str>,
     level_id: Option<&str>,
 ) -> Result<Vec<FormatParam>, AllocError>
-    ensures { IfOk result (λ params. params.items ≡ levels_of (option_copied profile_id.entry) (option_copied tier_flag.entry) (option_copied level_id.entry)) }
+    ensures { IfOk result (λ params. params.items
+        ≡ levels_of (option_copied profile_id.entry) (option_copied tier_flag.entry) (option_copied level_id.entry)) }
 {
     let mut params = Vec::new(alloc);
     if let Some(ptl) = H265ProfileTierLevel::from_fmtp(profile_id, tier_flag, level_id) {
@@ -117,7 +121,8 @@ fn is_level_name(key: &str) -> bool
 }
 
 fn push_other(params: &mut Vec<FormatParam>, key: &str, value: &str) -> Result<(), AllocError>
-    ensures { OnOk result ((more : List FormatParam) → params.new.items ++ more ≡ params.old.items ++ onto_others (key.now, value.now) more) }
+    ensures { OnOk result ((more : List FormatParam) → params.new.items ++ more ≡ params.old.items
+        ++ onto_others (key.now, value.now) more) }
 {
     if is_level_name(key) {
         return Ok(());

@@ -23,4 +23,5 @@ make_map x = record { codec = codec_named x.0; clock_rate = x.1.0; channels = x.
 
 -- `TYPE CODEC/CLOCK[/CHANNELS]` (RFC 8866 6.6)
 abbrev pub rtpmap : Form MediaAttribute
-rtpmap = made (λ x. RtpMap x.0 (make_map x.1)) (cut 32 payload_type (cut 47 any_text (cut_maybe 47 clock_rate (number (2 ^ 8)))))
+rtpmap = made (λ x. RtpMap x.0 (make_map x.1))
+    (cut 32 payload_type (cut 47 any_text (cut_maybe 47 clock_rate (number (2 ^ 8)))))

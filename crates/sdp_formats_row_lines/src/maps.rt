@@ -4,9 +4,11 @@ ghost use Rattle.std.specs.Prelude.{◌≡◌, ◌≤◌, ◌<◌};
 ghost use Rattle.sdp_formats_forms.specs.Refusals.{Gives, GivesBy};
 ghost use Rattle.sdp_formats_row_lines.specs.Maps.{payload_type, clock_rate, rtcp_fb, rtpmap};
 
-use rtp_wire::{Frequency, Pt};
 use payload_core_base::Codec;
-use sdp_formats_forms::{Refusal, halves, maybe_number_8, number_8, number_32, some, split, text_of};
+use rtp_wire::{Frequency, Pt};
+use sdp_formats_forms::{
+    Refusal, halves, maybe_number_8, number_8, number_32, some, split, text_of,
+};
 use sdp_formats_types::{MediaAttribute, RtpMap};
 use std::alloc::Global;
 

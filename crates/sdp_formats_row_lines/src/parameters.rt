@@ -4,7 +4,8 @@ ghost use Rattle.std.specs.Prelude.{◌≡◌, ◌^◌, ◌∷◌, [], Some};
 ghost use Rattle.std.specs.Char.{is_ascii_digit};
 ghost use Rattle.std.specs.List.{list_all};
 ghost use Rattle.sdp_formats_forms.specs.Refusals.{Gives, GivesBy};
-ghost use Rattle.sdp_formats_row_lines.specs.Parameters.{key_values, slash_list, range, parameters, listed_fmtp, bare_fmtp, fmtp};
+ghost use Rattle.sdp_formats_row_lines.specs.Parameters.{key_values, slash_list, range, parameters, listed_fmtp};
+ghost use Rattle.sdp_formats_row_lines.specs.Parameters.{bare_fmtp, fmtp};
 
 use crate::maps::payload_type;
 use rtp_wire::Pt;

@@ -1,7 +1,9 @@
 -- Which kind of line an attribute is: the first, in this order, that fits (RFC 8866 5.13).
 use Rattle.std.specs.Prelude.{codes}
 use Rattle.sdp_formats_forms.specs.Form.{Form, told, any_text, made, after, either}
-use Rattle.sdp_formats_session_lines.specs.Kinds.{group_line, msid_semantic_line, ice_ufrag_line, ice_pwd_line, ice_options_line, fingerprint_line, setup_line, candidate_line, ice_lite, end_word}
+use Rattle.sdp_formats_session_lines.specs.Kinds.{group_line, msid_semantic_line, ice_ufrag_line, ice_pwd_line}
+use Rattle.sdp_formats_session_lines.specs.Kinds.{ice_options_line, fingerprint_line, setup_line, candidate_line}
+use Rattle.sdp_formats_session_lines.specs.Kinds.{ice_lite, end_word}
 use Rattle.sdp_formats_types.specs.declared.session.SessionAttribute.{SessionAttribute}
 use Rattle.sdp_formats_types.specs.declared.session.SessionAttribute.TheVariants.{Unused}
 

@@ -31,7 +31,8 @@ mids_of (Some mids) = mids
 
 -- `MEANING MID ..`, a blank at the end or none (RFC 5888 5)
 abbrev pub group : Form SessionAttribute
-group = made (λ x. Group x.0 (mids_of x.1)) (through without_last (cut_maybe 32 any_text (separated 32 (told mid_word))))
+group = made (λ x. Group x.0 (mids_of x.1))
+    (through without_last (cut_maybe 32 any_text (separated 32 (told mid_word))))
 
 -- `MEANING STREAM ..`, a blank before it or none
 abbrev pub msid_semantic : Form SessionAttribute

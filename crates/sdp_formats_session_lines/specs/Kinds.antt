@@ -7,7 +7,9 @@ use Rattle.sdp_formats_ice.specs.Digest.{fingerprint}
 use Rattle.sdp_formats_ice.specs.Words.{setup_word}
 use Rattle.sdp_formats_session_lines.specs.Groups.{group, msid_semantic}
 use Rattle.sdp_formats_types.specs.declared.session.SessionAttribute.{SessionAttribute}
-use Rattle.sdp_formats_types.specs.declared.session.SessionAttribute.TheVariants.{IceLite, IceUfrag, IcePwd, IceOptions, Fingerprint, Setup, Candidate, EndOfCandidates}
+use Rattle.sdp_formats_types.specs.declared.session.SessionAttribute.TheVariants.{IceLite, IceUfrag, IcePwd}
+use Rattle.sdp_formats_types.specs.declared.session.SessionAttribute.TheVariants.{IceOptions, Fingerprint, Setup}
+use Rattle.sdp_formats_types.specs.declared.session.SessionAttribute.TheVariants.{Candidate, EndOfCandidates}
 
 abbrev pub group_line : Form SessionAttribute
 group_line = after (codes "group:") group

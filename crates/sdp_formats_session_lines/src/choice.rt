@@ -4,7 +4,10 @@ ghost use Rattle.std.specs.Prelude.{◌≡◌};
 ghost use Rattle.sdp_formats_forms.specs.Refusals.{Gives, GivesBy};
 ghost use Rattle.sdp_formats_session_lines.specs.Choice.{session_attribute, later_attribute};
 
-use crate::kinds::{candidate_line, end_word, fingerprint_line, group_line, ice_lite, ice_options_line, ice_pwd_line, ice_ufrag_line, msid_semantic_line, setup_line};
+use crate::kinds::{
+    candidate_line, end_word, fingerprint_line, group_line, ice_lite, ice_options_line,
+    ice_pwd_line, ice_ufrag_line, msid_semantic_line, setup_line,
+};
 use sdp_formats_forms::{Refusal, behind, fitted, text_of};
 use sdp_formats_steps::{Lined, Stepped, line_of};
 use sdp_formats_types::SessionAttribute;

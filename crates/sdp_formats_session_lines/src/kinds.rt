@@ -2,7 +2,9 @@
 
 ghost use Rattle.std.specs.Prelude.{◌≡◌};
 ghost use Rattle.sdp_formats_forms.specs.Refusals.{Gives, GivesBy};
-ghost use Rattle.sdp_formats_session_lines.specs.Kinds.{group_line, msid_semantic_line, ice_ufrag_line, ice_pwd_line, ice_options_line, fingerprint_line, setup_line, candidate_line, ice_lite, end_word};
+ghost use Rattle.sdp_formats_session_lines.specs.Kinds.{group_line, msid_semantic_line, ice_ufrag_line, ice_pwd_line};
+ghost use Rattle.sdp_formats_session_lines.specs.Kinds.{ice_options_line, fingerprint_line, setup_line};
+ghost use Rattle.sdp_formats_session_lines.specs.Kinds.{candidate_line, ice_lite, end_word};
 
 use crate::groups::{group, msid_semantic};
 use sdp_formats_forms::{Refusal, behind, text_of};

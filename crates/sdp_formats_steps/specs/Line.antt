@@ -1,5 +1,6 @@
 -- A line of a text.
-use Rattle.std.specs.Prelude.{◌≡◌, ◌≢◌, ◌⊎◌, ◌++◌, ◌==◌, ◌||◌, ℕ, Bool, List, [], ◌∷◌, Option, Some, None, length, if◌then◌else◌}
+use Rattle.std.specs.Prelude.{◌≡◌, ◌≢◌, ◌⊎◌, ◌++◌, ◌==◌, ◌||◌, ℕ, Bool, List, [], ◌∷◌, Option, Some, None, length}
+use Rattle.std.specs.Prelude.{if◌then◌else◌}
 use Rattle.std.specs.Borrow.{Bor}
 use Rattle.std.specs.List.{list_any}
 use Rattle.std.specs.Option.{option_map}
@@ -7,9 +8,11 @@ use Rattle.sdp_formats_forms.specs.Split.{Lacks, halves}
 
 -- how a line ends: by LF, by CR LF, or with the text
 abbrev pub IsEnded : List ℕ → List ℕ → List ℕ → Type 0
-IsEnded text content rest = (text ≡ content ++ 10 ∷ rest) ⊎ (text ≡ content ++ 13 ∷ 10 ∷ rest) ⊎ ((text ≡ content) × (rest ≡ []))
+IsEnded text content rest = (text ≡ content ++ 10 ∷ rest) ⊎ (text ≡ content ++ 13 ∷ 10 ∷ rest)
+    ⊎ ((text ≡ content) × (rest ≡ []))
 
--- The text begins with a line of this content, which isn't empty and holds neither CR nor LF, and the rest stands behind the line's end.
+-- The text begins with a line of this content, which isn't empty and holds neither CR nor LF, and the rest stands
+-- behind the line's end.
 abbrev pub IsLine : List ℕ → List ℕ → List ℕ → Type 0
 IsLine text content rest = IsEnded text content rest × Lacks 10 content × Lacks 13 content × (content ≢ [])
 

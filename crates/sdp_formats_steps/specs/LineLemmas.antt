@@ -1,13 +1,17 @@
 -- A line of a text is what the reader cuts off.
-use Rattle.std.proofs.Common.{◌<◌, ◌+◌, arith, ◌≡◌, ◌≢◌, ◌⊎◌, ◌++◌, ◌==◌, ◌||◌, ℕ, suc, Bool, true, false, cond, List, [], ◌∷◌, length, Option, Some, None, refl, sym, ◌∙◌, ap, subst, inl, inr, ⊎_elim, append_assoc}
+use Rattle.std.proofs.Common.{◌<◌, ◌+◌, arith, ◌≡◌, ◌≢◌, ◌⊎◌, ◌++◌, ◌==◌, ◌||◌, ℕ, suc, Bool, true, false, cond, List}
+use Rattle.std.proofs.Common.{[], ◌∷◌, length, Option, Some, None, refl, sym, ◌∙◌, ap, subst, inl, inr, ⊎_elim}
+use Rattle.std.proofs.Common.{append_assoc}
 use Rattle.std.proofs.lemmas.Bool.{cases_Bool}
 use Rattle.std.proofs.lemmas.Bool.Decides.{Decides-eqb}
 use Rattle.sdp_formats_forms.specs.Split.{Lacks, halves, halves_of, split_first}
 use Rattle.sdp_formats_forms.specs.Form.{Form, IsExact}
-use Rattle.sdp_formats_forms.specs.Cuts.{IsCut, somewhere, nowhere, cut_of, split_first-at, split_first-nowhere, same_byte, other_byte, same_or_not}
+use Rattle.sdp_formats_forms.specs.Cuts.{IsCut, somewhere, nowhere, cut_of, split_first-at, split_first-nowhere}
+use Rattle.sdp_formats_forms.specs.Cuts.{same_byte, other_byte, same_or_not}
 use Rattle.sdp_formats_forms.specs.Steps.{none_some, some_same}
 use Rattle.sdp_formats_steps.specs.Step.{Step, IsFunctional, IsShortening}
-use Rattle.sdp_formats_steps.specs.Line.{IsEnded, IsLine, LineOf, has_return, without_return, passed_line, line_in, next_line}
+use Rattle.sdp_formats_steps.specs.Line.{IsEnded, IsLine, LineOf, has_return, without_return, passed_line, line_in}
+use Rattle.sdp_formats_steps.specs.Line.{next_line}
 
 false_true : (b : Bool) → b ≡ true → b ≡ false → ⊥
 false_true true h k = cc
@@ -52,7 +56,9 @@ without-lacks (b ∷ c ∷ t) h = ap (λ x. b ∷ x) (without-lacks (c ∷ t) h.
 -- what is left of a piece without its CR
 split_return : (t : List ℕ) → (t ≡ without_return t ++ 13 ∷ []) ⊎ (t ≡ without_return t)
 split_return [] = inr refl
-split_return (b ∷ []) = ⊎_elim (λ e. inl (ap (λ x. x ∷ []) e ∙ sym (ap (λ x. x ++ 13 ∷ []) (same_byte b 13 [] (b ∷ []) e)))) (λ h. inr (sym (other_byte b 13 [] (b ∷ []) h))) (same_or_not b 13)
+split_return (b ∷ []) = ⊎_elim (λ e. inl
+    (ap (λ x. x ∷ []) e ∙ sym (ap (λ x. x ++ 13 ∷ []) (same_byte b 13 [] (b ∷ []) e))))
+    (λ h. inr (sym (other_byte b 13 [] (b ∷ []) h))) (same_or_not b 13)
 split_return (b ∷ c ∷ t) = ⊎_elim (λ e. inl (ap (λ x. b ∷ x) e)) (λ e. inr (ap (λ x. b ∷ x) e)) (split_return (c ∷ t))
 
 lacks-front : (k : ℕ) (a b : List ℕ) → Lacks k (a ++ b) → Lacks k a
@@ -82,15 +88,21 @@ passed-sound c r x h =
     (lacks-return c two.1, some_length c two.0, p.1)
 
 passed-complete : (c r : List ℕ) → Lacks 13 c → c ≢ [] → passed_line c r ≡ Some (c, r)
-passed-complete c r h k = ap (λ b. cond b None (Some (c, r))) (or_both (length c == 0) (has_return c) (length_some c k) (return-lacks c h))
+passed-complete c r h k = ap (λ b. cond b None (Some (c, r)))
+    (or_both (length c == 0) (has_return c) (length_some c k) (return-lacks c h))
 
-by_return : (t front back : List ℕ) → t ≡ front ++ 10 ∷ back → Lacks 10 front → (w : List ℕ) → (front ≡ w ++ 13 ∷ []) ⊎ (front ≡ w) → IsEnded t w back × Lacks 10 w
-by_return t front back whole lacks w (inl e) = (inr (inl (whole ∙ ap (λ x. x ++ 10 ∷ back) e ∙ append_assoc w (13 ∷ []) (10 ∷ back))), lacks-front 10 w (13 ∷ []) (subst (Lacks 10) e lacks))
+by_return : (t front back : List ℕ) → t ≡ front ++ 10 ∷ back → Lacks 10 front → (w : List ℕ) → (front ≡ w ++ 13 ∷ [])
+    ⊎ (front ≡ w) → IsEnded t w back × Lacks 10 w
+by_return t front back whole lacks w (inl e) = (
+  inr (inl (whole ∙ ap (λ x. x ++ 10 ∷ back) e ∙ append_assoc w (13 ∷ []) (10 ∷ back))),
+  lacks-front 10 w (13 ∷ []) (subst (Lacks 10) e lacks),
+)
 by_return t front back whole lacks w (inr e) = (inl (whole ∙ ap (λ x. x ++ 10 ∷ back) e), subst (Lacks 10) e lacks)
 
 by_cut : (t : List ℕ) (x : List ℕ × List ℕ) → IsCut 10 t → next_line t ≡ Some x → IsLine t x.0 x.1
 by_cut t x (somewhere front back whole lacks) h =
-    let at : halves 10 t ≡ (front, Some back) = ap (halves_of t) (ap (split_first 10) whole ∙ split_first-at 10 front back lacks) in
+    let at : halves 10 t ≡ (front, Some back) =
+    ap (halves_of t) (ap (split_first 10) whole ∙ split_first-at 10 front back lacks) in
     let w = without_return front in
     let p = passed-sound w back x (sym (ap line_in at) ∙ h) in
     let e = by_return t front back whole lacks w (split_return front) in
@@ -109,7 +121,8 @@ ended t c r (inl e) h k n =
     ∙ ap (λ x. passed_line x r) (without-lacks c k) ∙ passed-complete c r k n
 ended t c r (inr (inl e)) h k n =
     let whole : t ≡ (c ++ 13 ∷ []) ++ 10 ∷ r = e ∙ sym (append_assoc c (13 ∷ []) (10 ∷ r)) in
-    ap line_in (ap (halves_of t) (ap (split_first 10) whole ∙ split_first-at 10 (c ++ 13 ∷ []) r (lacks-both 10 c (13 ∷ []) h ((λ e. cc), tt))))
+    ap line_in (ap (halves_of t) (ap (split_first 10) whole
+    ∙ split_first-at 10 (c ++ 13 ∷ []) r (lacks-both 10 c (13 ∷ []) h ((λ e. cc), tt))))
     ∙ ap (λ x. passed_line x r) (without-at c) ∙ passed-complete c r k n
 ended t c r (inr (inr e)) h k n =
     ap line_in (ap (halves_of t) (split_first-nowhere 10 t (subst (Lacks 10) (sym e.0) h)))

@@ -2,7 +2,8 @@
 
 ghost use Rattle.std.specs.Prelude.{◌≡◌};
 ghost use Rattle.std.specs.Option.{option_map};
-ghost use Rattle.sdp_formats_steps.specs.Line.{has_return, without_return, next_line, passed_line, two_texts, TakesLine};
+ghost use Rattle.sdp_formats_steps.specs.Line.{has_return, without_return, next_line, passed_line, two_texts};
+ghost use Rattle.sdp_formats_steps.specs.Line.{TakesLine};
 
 use sdp_formats_forms::halves;
 

@@ -39,7 +39,10 @@ pub fn many<T: Drop, S: Stepped<T>>(alloc: Global, text: &str) -> Result<(Listed
 /// # Errors
 ///
 /// `Memory` where memory is wanting, and no other.
-pub fn perhaps<T: Drop, S: Stepped<T>>(alloc: Global, text: &str) -> Result<(Option<T>, &str), Refusal>
+pub fn perhaps<T: Drop, S: Stepped<T>>(
+    alloc: Global,
+    text: &str,
+) -> Result<(Option<T>, &str), Refusal>
     ensures { Finds (Perhaps S.says) text.now result }
 {
     match fitted(S::step(alloc, text))? {

@@ -66,4 +66,5 @@ make_rid id d l = Rid id d l.pt l.restriction
 
 -- `NAME DIRECTION[ LIMITS]` (RFC 8851 4)
 abbrev pub rid : Form MediaAttribute
-rid = made (λ x. make_rid (make_id x.0) x.1.0 (maybe_limits x.1.1)) (cut 32 name (cut_maybe 32 (told way) (told limits_of)))
+rid = made (λ x. make_rid (make_id x.0) x.1.0 (maybe_limits x.1.1))
+    (cut 32 name (cut_maybe 32 (told way) (told limits_of)))

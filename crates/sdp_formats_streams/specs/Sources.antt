@@ -9,7 +9,8 @@ use Rattle.sdp_formats_types.specs.declared.media.MediaAttribute.TheVariants.{Ex
 
 -- `NUMBER[/DIRECTION] URI[ TEXT]` (RFC 8285 8)
 abbrev pub extmap : Form MediaAttribute
-extmap = made (λ x. ExtMap x.0.0 (extension_of x.1.0)) (cut 32 (cut_maybe 47 (number (2 ^ 8)) any_text) (cut_maybe 32 any_text any_text))
+extmap = made (λ x. ExtMap x.0.0 (extension_of x.1.0))
+    (cut 32 (cut_maybe 47 (number (2 ^ 8)) any_text) (cut_maybe 32 any_text any_text))
 
 -- `STREAM TRACK` (RFC 8830 2)
 abbrev pub make_names : List ℕ × List ℕ → Names

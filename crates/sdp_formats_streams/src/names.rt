@@ -14,7 +14,8 @@ fn is_name_char(c: char) -> bool
     ensures { result ≡ is_name_char c }
 {
     let category = GeneralCategory::for_char(c);
-    GeneralCategoryGroup::Letter.contains(category) || GeneralCategoryGroup::Number.contains(category)
+    GeneralCategoryGroup::Letter.contains(category)
+        || GeneralCategoryGroup::Number.contains(category)
 }
 
 fn has_name_chars(text: &str) -> bool

@@ -4,7 +4,8 @@ ghost use Rattle.std.specs.Prelude.{◌≡◌};
 ghost use Rattle.std.specs.Option.{option_copied};
 ghost use Rattle.sdp_formats_forms.specs.Form.{maybe};
 ghost use Rattle.sdp_formats_forms.specs.Refusals.{Gives, GivesBy};
-ghost use Rattle.sdp_formats_streams.specs.Rids.{way, no_limits, of_type, later_limits, typed_limits, untyped_limits, limits_of, maybe_limits, rid};
+ghost use Rattle.sdp_formats_streams.specs.Rids.{way, no_limits, of_type, later_limits, typed_limits, untyped_limits};
+ghost use Rattle.sdp_formats_streams.specs.Rids.{limits_of, maybe_limits, rid};
 
 use crate::names::name;
 use rtp_wire::Pt;

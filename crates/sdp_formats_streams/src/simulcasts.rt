@@ -4,14 +4,13 @@ ghost use Rattle.std.specs.Prelude.{◌≡◌, ◌∷◌, [], Some, false};
 ghost use Rattle.std.specs.Option.{option_copied};
 ghost use Rattle.sdp_formats_forms.specs.Form.{maybe};
 ghost use Rattle.sdp_formats_forms.specs.Refusals.{Gives, GivesBy};
-ghost use Rattle.sdp_formats_streams.specs.Simulcasts.{layer_name, layer, first_layer, groups, direction_layers, is_other, other_layers, sent, simulcast};
+ghost use Rattle.sdp_formats_streams.specs.Simulcasts.{layer_name, layer, first_layer, groups, direction_layers};
+ghost use Rattle.sdp_formats_streams.specs.Simulcasts.{is_other, other_layers, sent, simulcast};
 
 use crate::names::name;
 use crate::rids::way;
 use sdp_formats_forms::{Listed, Reads, Refusal, halves, list_of, split, stripped};
-use sdp_formats_types::{
-    RestrictionId, RidDirection, Simulcast, SimulcastGroups, SimulcastLayer,
-};
+use sdp_formats_types::{RestrictionId, RidDirection, Simulcast, SimulcastGroups, SimulcastLayer};
 use std::alloc::Global;
 
 // One of several alternatives for a layer.
@@ -102,7 +101,11 @@ fn layers_of(alloc: Global, other: Option<OneWay>) -> Listed<SimulcastLayer>
     }
 }
 
-fn made(direction: RidDirection, one: Listed<SimulcastLayer>, other: Listed<SimulcastLayer>) -> Simulcast
+fn made(
+    direction: RidDirection,
+    one: Listed<SimulcastLayer>,
+    other: Listed<SimulcastLayer>,
+) -> Simulcast
     ensures { result ≡ sent direction one other }
 {
     match direction {

@@ -3,8 +3,7 @@
 #![tactic(auto)]
 
 use sdp_formats::{MediaAttribute, MediaLine, SdpError, SessionAttribute, sdp_parser};
-use std::fs;
-use std::io;
+use std::{fs, io};
 
 fn is_unused(attribute: &MediaAttribute) -> bool {
     matches!(attribute, MediaAttribute::Unused(_))
@@ -16,7 +15,10 @@ fn is_unused_in_session(attribute: &SessionAttribute) -> bool {
 
 fn print_section(rt: &HostRuntime, section: &MediaLine) -> io::Result<()> {
     let attributes = section.attrs.as_slice();
-    let unused = attributes.iter().filter(|attribute| is_unused(*attribute)).count();
+    let unused = attributes
+        .iter()
+        .filter(|attribute| is_unused(*attribute))
+        .count();
     let count = attributes.len();
     let types = section.pts.as_slice().len();
     println!(*rt; "  section: {types} types, {count} attributes, {unused} unused")
@@ -32,7 +34,10 @@ fn print_text(rt: &HostRuntime, name: &str, text: &str) -> io::Result<()> {
                 .filter(|attribute| is_unused_in_session(*attribute))
                 .count();
             let left = rest.len();
-            println!(*rt; "{name}: session {}, {count} attributes, {unused} unused, {left} bytes left", sdp.session.id)?;
+            println!(*rt;
+                "{name}: session {}, {count} attributes, {unused} unused, {left} bytes left",
+                sdp.session.id
+            )?;
             for section in sdp.media_lines.as_slice() {
                 print_section(rt, section)?;
             }

@@ -1,5 +1,6 @@
 -- Faults of a section.
-use Rattle.std.specs.Prelude.{ℕ, ◌==◌, Bool, true, false, not, ◌&&◌, ◌||◌, List, Option, Some, None, is_none, count_by, nat_lt, length, if◌then◌else◌}
+use Rattle.std.specs.Prelude.{ℕ, ◌==◌, Bool, true, false, not, ◌&&◌, ◌||◌, List, Option, Some, None, is_none}
+use Rattle.std.specs.Prelude.{count_by, nat_lt, length, if◌then◌else◌}
 use Rattle.std.specs.List.{list_all, list_any}
 use Rattle.sdp_formats_params.specs.declared.FormatParam.{FormatParam}
 use Rattle.sdp_formats_params.specs.declared.FormatParam.TheVariants.{Apt}
@@ -7,7 +8,10 @@ use Rattle.sdp_formats_types.specs.Media.{is_direction}
 use Rattle.sdp_formats_types.specs.declared.consistency.Counted.{Counted}
 use Rattle.sdp_formats_types.specs.declared.consistency.Counted.TheVariants as counted
 use Rattle.sdp_formats_types.specs.declared.consistency.Inconsistency.{Inconsistency}
-use Rattle.sdp_formats_types.specs.declared.consistency.Inconsistency.TheVariants.{MissingMid, SeveralMids, SeveralSetups, Directions, NoPayloadType, RtpMaps, ConflictingApts}
+use Rattle.sdp_formats_types.specs.declared.consistency.Inconsistency.TheVariants.{MissingMid, SeveralMids}
+use Rattle.sdp_formats_types.specs.declared.consistency.Inconsistency.TheVariants.{SeveralSetups, Directions}
+use Rattle.sdp_formats_types.specs.declared.consistency.Inconsistency.TheVariants.{NoPayloadType, RtpMaps}
+use Rattle.sdp_formats_types.specs.declared.consistency.Inconsistency.TheVariants.{ConflictingApts}
 use Rattle.sdp_formats_types.specs.declared.media.MediaAttribute.{MediaAttribute}
 use Rattle.sdp_formats_types.specs.declared.media.MediaAttribute.TheVariants.{Mid, Setup, RtpMap, Fmtp}
 use Rattle.sdp_formats_types.specs.declared.media.MediaLine.{MediaLine}

@@ -2,7 +2,10 @@
 
 ghost use Rattle.std.specs.Prelude.{◌≡◌, count_by};
 ghost use Rattle.std.specs.List.{list_all, list_any};
-ghost use Rattle.sdp_formats_types.specs.Consistency.{is_mid, is_setup, is_direction_of, is_of, maps_type, is_static, is_mapped, are_mapped, gives_apt, apt_differs, apts_agree_with, values_agree, attribute_agrees, apts_agree, fault_of, later_fault_of, last_fault_of, is_consistent};
+ghost use Rattle.sdp_formats_types.specs.Consistency.{is_mid, is_setup, is_direction_of, is_of, maps_type, is_static};
+ghost use Rattle.sdp_formats_types.specs.Consistency.{is_mapped, are_mapped, gives_apt, apt_differs, apts_agree_with};
+ghost use Rattle.sdp_formats_types.specs.Consistency.{values_agree, attribute_agrees, apts_agree, fault_of};
+ghost use Rattle.sdp_formats_types.specs.Consistency.{later_fault_of, last_fault_of, is_consistent};
 
 use crate::media::{MediaAttribute, MediaLine, Proto};
 use rtp_wire::Pt;
@@ -85,13 +88,19 @@ fn is_of(kind: Counted, attribute: &MediaAttribute) -> bool
 fn count(attributes: &[MediaAttribute], kind: Counted) -> usize
     ensures { result ≡ count_by (is_of kind) attributes.now }
 {
-    attributes.iter().filter(|attribute| is_of(kind, *attribute)).count()
+    attributes
+        .iter()
+        .filter(|attribute| is_of(kind, *attribute))
+        .count()
 }
 
 fn count_maps(attributes: &[MediaAttribute], pt: Pt) -> usize
     ensures { result ≡ count_by (maps_type pt) attributes.now }
 {
-    attributes.iter().filter(|attribute| maps_type(pt, *attribute)).count()
+    attributes
+        .iter()
+        .filter(|attribute| maps_type(pt, *attribute))
+        .count()
 }
 
 fn is_mapped(attributes: &[MediaAttribute], pt: Pt) -> bool
@@ -120,7 +129,9 @@ fn apt_differs(apt: Pt, param: &FormatParam) -> bool
 fn apts_agree_with(attributes: &[MediaAttribute], pt: Pt, apt: Pt) -> bool
     ensures { result ≡ apts_agree_with attributes.now pt apt }
 {
-    attributes.iter().all(|attribute| attribute_agrees(attribute, pt, apt))
+    attributes
+        .iter()
+        .all(|attribute| attribute_agrees(attribute, pt, apt))
 }
 
 fn has_other_apt(values: &[FormatParam], apt: Pt) -> bool
@@ -152,7 +163,9 @@ fn values_agree(attributes: &[MediaAttribute], pt: Pt, param: &FormatParam) -> b
 fn all_agree(attributes: &[MediaAttribute], pt: Pt, values: &[FormatParam]) -> bool
     ensures { result ≡ list_all (values_agree attributes.now pt) values.now }
 {
-    values.iter().all(|param| values_agree(attributes, pt, param))
+    values
+        .iter()
+        .all(|param| values_agree(attributes, pt, param))
 }
 
 fn gives_apt(attributes: &[MediaAttribute], attribute: &MediaAttribute) -> bool
@@ -167,7 +180,9 @@ fn gives_apt(attributes: &[MediaAttribute], attribute: &MediaAttribute) -> bool
 fn apts_agree(attributes: &[MediaAttribute]) -> bool
     ensures { result ≡ apts_agree attributes.now }
 {
-    attributes.iter().all(|attribute| gives_apt(attributes, attribute))
+    attributes
+        .iter()
+        .all(|attribute| gives_apt(attributes, attribute))
 }
 
 impl MediaLine {

@@ -4,4 +4,5 @@ use Rattle.sdp_formats_forms.specs.Exact.{told-exact, made-exact, after-exact, c
 use Rattle.sdp_formats_heads.proofs.header.OriginLineLinedU64.exact_law.Goals as goal
 
 pub returns : goal.returns
-returns c = after-exact (codes "o=") _ (made-exact _ _ (cut-exact 32 _ _ (told-exact some_text) (cut-exact 32 _ _ (told-exact _) (told-exact some_text))))
+returns c = after-exact (codes "o=") _ (made-exact _ _
+    (cut-exact 32 _ _ (told-exact some_text) (cut-exact 32 _ _ (told-exact _) (told-exact some_text))))

@@ -4,4 +4,6 @@ use Rattle.sdp_formats_forms.specs.Exact.{told-exact, made-exact, after-exact, c
 use Rattle.sdp_formats_heads.proofs.media.HeadLineLinedMediaHead.exact_law.Goals as goal
 
 pub returns : goal.returns
-returns c = after-exact (codes "m=") _ (made-exact _ _ (cut-exact 32 _ _ (told-exact _) (cut-exact 32 _ _ (told-exact some_text) (cut-exact 32 _ _ (told-exact _) (told-exact _)))))
+returns c = after-exact (codes "m=") _ (made-exact _ _
+    (cut-exact 32 _ _ (told-exact _) (cut-exact 32 _ _ (told-exact some_text)
+    (cut-exact 32 _ _ (told-exact _) (told-exact _)))))

@@ -5,10 +5,12 @@ use Rattle.std.proofs.lemmas.Slice.Eq.{bytes_eq-Decides}
 use Rattle.sdp_formats_params.specs.Keys.{is_name_of, key_name}
 use Rattle.sdp_formats_params.proofs.key.Key.has_name.Goals as goal
 
-told : (name text : List ℕ) (r : Bool) → (IsTrue r ↔ (map to_ascii_lowercase name ≡ map to_ascii_lowercase text)) → r ≡ str_eq_ignore_ascii_case name text
+told : (name text : List ℕ) (r : Bool) → (IsTrue r ↔ (map to_ascii_lowercase name ≡ map to_ascii_lowercase text)) → r
+    ≡ str_eq_ignore_ascii_case name text
 told name text r h = search (rules, bytes_eq-Decides)
 
-shown : (name shows text : List ℕ) (r : Bool) → shows ≡ name → (IsTrue r ↔ (map to_ascii_lowercase shows ≡ map to_ascii_lowercase text)) → r ≡ str_eq_ignore_ascii_case name text
+shown : (name shows text : List ℕ) (r : Bool) → shows ≡ name
+    → (IsTrue r ↔ (map to_ascii_lowercase shows ≡ map to_ascii_lowercase text)) → r ≡ str_eq_ignore_ascii_case name text
 shown name shows text r e h = rw (← e) (told shows text r h)
 
 pub returns : goal.returns
