@@ -1,2 +1,0 @@
-pub mod Splits
-pub mod Digits

@@ -3,11 +3,11 @@ use Rattle.std.specs.Prelude.{ℕ, ◌^◌, Bool, true, false, List, [], ◌∷�
 use Rattle.std.specs.List.{list_any}
 use Rattle.std.specs.Str.{bytes_eq, trim}
 use Rattle.sdp_formats_rows.specs.declared.format.FormatParams.{FormatParams}
-use Rattle.sdp_formats_rows.specs.declared.key.Key.{Key}
-use Rattle.sdp_formats_rows.specs.declared.key.Key.TheVariants.{MinPTime, Stereo, SpropStereo, UseInbandFec, UseDtx, LevelAsymmetryAllowed, PacketizationMode, ProfileLevelId, ProfileId, Profile, LevelIdx, Tier, SpropMaxDonDiff, OctetAlign, ModeSet, TierFlag, LevelId}
-use Rattle.sdp_formats_rows.specs.Keys.{key_named, is_level_key}
-use Rattle.sdp_formats_rows.specs.Numbers.{number_below, profile_level, up_to, modes_of, range_of}
-use Rattle.sdp_formats_rows.specs.Parts.{parts}
+use Rattle.sdp_formats_params.specs.declared.key.Key.{Key}
+use Rattle.sdp_formats_params.specs.declared.key.Key.TheVariants.{MinPTime, Stereo, SpropStereo, UseInbandFec, UseDtx, LevelAsymmetryAllowed, PacketizationMode, ProfileLevelId, ProfileId, Profile, LevelIdx, Tier, SpropMaxDonDiff, OctetAlign, ModeSet, TierFlag, LevelId}
+use Rattle.sdp_formats_params.specs.Keys.{key_named, is_level_key}
+use Rattle.sdp_formats_params.specs.Numbers.{number_below, profile_level, up_to, modes_of, range_of}
+use Rattle.sdp_formats_params.specs.Parts.{parts}
 
 -- No parameter given.
 abbrev pub no_format : FormatParams

@@ -1,6 +1,3 @@
-pub mod Parts
-pub mod Numbers
-pub mod Keys
 pub mod Formats
 pub mod Rows
 pub mod Texts

@@ -3,9 +3,9 @@ use Rattle.std.specs.Prelude.{ℕ, ◌==◌, ◌&&◌, nat_le, ◌^◌, ◌-◌,
 use Rattle.std.specs.Fmt.{digits, padded_integral, format_spec}
 use Rattle.std.specs.Option.{option_map}
 use Rattle.sdp_formats_rows.specs.declared.format.FormatParams.{FormatParams}
-use Rattle.sdp_formats_rows.specs.declared.key.Key.{Key}
-use Rattle.sdp_formats_rows.specs.declared.key.Key.TheVariants.{MinPTime, Stereo, SpropStereo, UseInbandFec, UseDtx, LevelAsymmetryAllowed, PacketizationMode, ProfileLevelId, ProfileId, Profile, LevelIdx, Tier, SpropMaxDonDiff, OctetAlign, ModeSet}
-use Rattle.sdp_formats_rows.specs.Keys.{key_name}
+use Rattle.sdp_formats_params.specs.declared.key.Key.{Key}
+use Rattle.sdp_formats_params.specs.declared.key.Key.TheVariants.{MinPTime, Stereo, SpropStereo, UseInbandFec, UseDtx, LevelAsymmetryAllowed, PacketizationMode, ProfileLevelId, ProfileId, Profile, LevelIdx, Tier, SpropMaxDonDiff, OctetAlign, ModeSet}
+use Rattle.sdp_formats_params.specs.Keys.{key_name}
 
 -- A parameter with its value, `key=value`.
 abbrev pub pair_text : Key → List ℕ → List ℕ

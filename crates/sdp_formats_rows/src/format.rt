@@ -3,11 +3,12 @@
 ghost use Rattle.std.specs.Prelude.{◌≡◌};
 ghost use Rattle.std.specs.List.{list_any};
 ghost use Rattle.sdp_formats_rows.specs.Formats.{no_format, replaced, is_on, with_value, with_key, with_range, with_fields, has_level, gives_level, format_of};
-ghost use Rattle.sdp_formats_rows.specs.Parts.{parts};
+ghost use Rattle.sdp_formats_params.specs.Parts.{parts};
 
-use crate::key::Key;
-use crate::numbers::{byte_of, don_diff_of, modes_of, profile_level_of, range_of, word_of};
-use crate::parts::{split_equals, split_semicolon};
+use sdp_formats_params::{
+    Key, byte_of, don_diff_of, modes_of, profile_level_of, range_of, split_equals, split_semicolon,
+    word_of,
+};
 
 /// Format parameters of a codec, as `a=fmtp` gives them (RFC 8866 6.15); None is not given.
 ///

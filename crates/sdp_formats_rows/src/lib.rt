@@ -3,9 +3,6 @@
 
 mod config;
 mod format;
-mod key;
-mod numbers;
-mod parts;
 mod printing;
 mod row;
 mod rows;

@@ -6,8 +6,7 @@ ghost use Rattle.std.specs.Option.{option_map};
 ghost use Rattle.sdp_formats_rows.specs.Texts.{number_text, flag_number, flag_text, profile_level_text, range_text, has_mode, set_modes, behind_commas, listed, modes_text, opus_pieces, h264_pieces, video_pieces, other_pieces, separated, with_piece, with_pieces, format_text};
 
 use crate::format::FormatParams;
-use crate::key::Key;
-use crate::numbers::bit_of;
+use sdp_formats_params::{Key, bit_of};
 use std::alloc::{AllocError, Global};
 
 fn push_separator(text: &mut String) -> Result<(), AllocError>

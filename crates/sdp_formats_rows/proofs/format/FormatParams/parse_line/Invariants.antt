@@ -1,6 +1,6 @@
 use Rattle.std.proofs.Common.{◌≡◌, length}
 use Rattle.std.specs.Option.{option_copied}
-use Rattle.sdp_formats_rows.specs.Parts.{parts_in}
+use Rattle.sdp_formats_params.specs.Parts.{parts_in}
 use Rattle.sdp_formats_rows.specs.Formats.{with_parts, format_of}
 use Rattle.sdp_formats_rows.proofs.format.FormatParams.parse_line.Given as goal
 

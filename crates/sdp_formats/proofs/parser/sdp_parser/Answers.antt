@@ -1,0 +1,8 @@
+use Rattle.sdp_formats.proofs.Read.{read, unread}
+use Rattle.sdp_formats.proofs.parser.sdp_parser.Goals as goal
+
+pub returns-in-Ok : goal.returns-in-Ok
+returns-in-Ok c = read c.args.text.now _ c.in-Ok.ensures
+
+pub returns-in_ok-text-in-Err-Unfit : goal.returns-in_ok-text-in-Err-Unfit
+returns-in_ok-text-in-Err-Unfit c = unread c.args.text.now (rw c.in-Err-Unfit.field-0-is at c.in-Err-Unfit.ensures)

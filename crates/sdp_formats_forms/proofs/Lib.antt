@@ -1,0 +1,4 @@
+pub mod Numerals
+pub mod Gives
+pub mod Partings
+pub mod Rounds

@@ -1,0 +1,10 @@
+pub mod Bind
+pub mod Refusals
+pub mod Split
+pub mod Numbers
+pub mod Form
+pub mod Steps
+pub mod Cuts
+pub mod Words
+pub mod Exact
+pub mod Pieces

@@ -1,0 +1,67 @@
+//! Numbers in decimal digits, a plus before them or not.
+
+ghost use Rattle.std.specs.Prelude.{◌≡◌, ◌^◌, Some};
+ghost use Rattle.std.specs.Option.{option_copied};
+ghost use Rattle.sdp_formats_forms.specs.Refusals.{Gives};
+ghost use Rattle.sdp_formats_forms.specs.Numbers.{number_below};
+ghost use Rattle.sdp_formats_forms.specs.Form.{maybe};
+
+use crate::refusal::Refusal;
+
+/// The number of 8 bits that a text writes.
+///
+/// # Errors
+///
+/// `Unfit` where it writes none.
+pub fn number_8(text: &str) -> Result<u8, Refusal>
+    ensures { Gives result (number_below (2 ^ 8) text.now) }
+{
+    text.parse::<u8>().ok().ok_or(Refusal::Unfit)
+}
+
+/// The number of 16 bits that a text writes.
+///
+/// # Errors
+///
+/// `Unfit` where it writes none.
+pub fn number_16(text: &str) -> Result<u16, Refusal>
+    ensures { Gives result (number_below (2 ^ 16) text.now) }
+{
+    text.parse::<u16>().ok().ok_or(Refusal::Unfit)
+}
+
+/// The number of 32 bits that a text writes.
+///
+/// # Errors
+///
+/// `Unfit` where it writes none.
+pub fn number_32(text: &str) -> Result<u32, Refusal>
+    ensures { Gives result (number_below (2 ^ 32) text.now) }
+{
+    text.parse::<u32>().ok().ok_or(Refusal::Unfit)
+}
+
+/// The number of 64 bits that a text writes.
+///
+/// # Errors
+///
+/// `Unfit` where it writes none.
+pub fn number_64(text: &str) -> Result<u64, Refusal>
+    ensures { Gives result (number_below (2 ^ 64) text.now) }
+{
+    text.parse::<u64>().ok().ok_or(Refusal::Unfit)
+}
+
+/// The number of 8 bits of a text that may be there.
+///
+/// # Errors
+///
+/// `Unfit` where it is there and writes none.
+pub fn maybe_number_8(text: Option<&str>) -> Result<Option<u8>, Refusal>
+    ensures { Gives result (maybe (number_below (2 ^ 8)) (option_copied text.entry)) }
+{
+    match text {
+        Some(text) => Ok(Some(number_8(text)?)),
+        None => Ok(None),
+    }
+}

@@ -1,0 +1,180 @@
+//! Which kind of line an attribute is.
+
+ghost use Rattle.std.specs.Prelude.{◌≡◌};
+ghost use Rattle.sdp_formats_forms.specs.Refusals.{Gives, GivesBy};
+ghost use Rattle.sdp_formats_media_lines.specs.Kinds.{direction_word, mux_word, end_word};
+ghost use Rattle.sdp_formats_media_lines.specs.Choice.{media_attribute, second_attribute, third_attribute};
+ghost use Rattle.sdp_formats_media_lines.specs.Choice.{last_attribute};
+
+use crate::attributes::{
+    extmap_line, fmtp_line, msid_line, rid_line, rtcp_fb_line, rtpmap_line, simulcast_line,
+    ssrc_group_line, ssrc_line,
+};
+use crate::transport::{
+    candidate_line, fingerprint_line, ice_options_line, ice_pwd_line, ice_ufrag_line,
+    max_message_size_line, mid_line, rtcp_line, sctp_init_line, sctp_port_line, setup_line,
+};
+use sdp_formats_forms::{Refusal, behind, fitted, text_of};
+use sdp_formats_pairs::pairs_law;
+use sdp_formats_steps::{Lined, Stepped, line_of};
+use sdp_formats_types::MediaAttribute;
+use std::alloc::Global;
+
+fn direction_word(text: &str) -> Option<MediaAttribute>
+    ensures { result ≡ direction_word text.now }
+{
+    match text {
+        "recvonly" => Some(MediaAttribute::RecvOnly),
+        "sendrecv" => Some(MediaAttribute::SendRecv),
+        "sendonly" => Some(MediaAttribute::SendOnly),
+        "inactive" => Some(MediaAttribute::Inactive),
+        _ => None,
+    }
+}
+
+fn mux_word(text: &str) -> Option<MediaAttribute>
+    ensures { result ≡ mux_word text.now }
+{
+    match text {
+        "rtcp-mux" => Some(MediaAttribute::RtcpMux),
+        "rtcp-mux-only" => Some(MediaAttribute::RtcpMuxOnly),
+        "rtcp-rsize" => Some(MediaAttribute::RtcpRsize),
+        _ => None,
+    }
+}
+
+fn end_word(text: &str) -> Option<MediaAttribute>
+    ensures { result ≡ end_word text.now }
+{
+    match text {
+        "end-of-candidates" => Some(MediaAttribute::EndOfCandidates),
+        _ => None,
+    }
+}
+
+#[tactic(auto, unfolding(crate::specs::Choice::last_attribute))]
+fn last_attribute(alloc: Global, text: &str) -> Result<MediaAttribute, Refusal>
+    ensures { Gives result (last_attribute.reads text.now) }
+{
+    if let Some(attribute) = fitted(fmtp_line(alloc, text))? {
+        return Ok(attribute);
+    }
+    if let Some(attribute) = fitted(rid_line(alloc, text))? {
+        return Ok(attribute);
+    }
+    if let Some(attribute) = fitted(simulcast_line(alloc, text))? {
+        return Ok(attribute);
+    }
+    if let Some(attribute) = fitted(ssrc_group_line(alloc, text))? {
+        return Ok(attribute);
+    }
+    if let Some(attribute) = fitted(ssrc_line(alloc, text))? {
+        return Ok(attribute);
+    }
+    Ok(MediaAttribute::Unused(text_of(alloc, text)?))
+}
+
+#[tactic(auto, unfolding(crate::specs::Choice::third_attribute))]
+fn third_attribute(alloc: Global, text: &str) -> Result<MediaAttribute, Refusal>
+    ensures { Gives result (third_attribute.reads text.now) }
+{
+    if let Some(attribute) = mux_word(text) {
+        return Ok(attribute);
+    }
+    if let Some(attribute) = fitted(candidate_line(alloc, text))? {
+        return Ok(attribute);
+    }
+    if let Some(attribute) = end_word(text) {
+        return Ok(attribute);
+    }
+    if let Some(attribute) = fitted(rtpmap_line(text))? {
+        return Ok(attribute);
+    }
+    if let Some(attribute) = fitted(rtcp_fb_line(alloc, text))? {
+        return Ok(attribute);
+    }
+    last_attribute(alloc, text)
+}
+
+#[tactic(auto, unfolding(crate::specs::Choice::second_attribute))]
+fn second_attribute(alloc: Global, text: &str) -> Result<MediaAttribute, Refusal>
+    ensures { Gives result (second_attribute.reads text.now) }
+{
+    if let Some(attribute) = fitted(sctp_port_line(text))? {
+        return Ok(attribute);
+    }
+    if let Some(attribute) = fitted(max_message_size_line(text))? {
+        return Ok(attribute);
+    }
+    if let Some(attribute) = fitted(sctp_init_line(alloc, text))? {
+        return Ok(attribute);
+    }
+    if let Some(attribute) = fitted(extmap_line(alloc, text))? {
+        return Ok(attribute);
+    }
+    if let Some(attribute) = direction_word(text) {
+        return Ok(attribute);
+    }
+    if let Some(attribute) = fitted(msid_line(alloc, text))? {
+        return Ok(attribute);
+    }
+    if let Some(attribute) = fitted(rtcp_line(alloc, text))? {
+        return Ok(attribute);
+    }
+    third_attribute(alloc, text)
+}
+
+// What stands behind `a=`.
+#[tactic(auto, unfolding(crate::specs::Choice::media_attribute))]
+fn media_attribute(alloc: Global, text: &str) -> Result<MediaAttribute, Refusal>
+    ensures { Gives result (media_attribute.reads text.now) }
+{
+    if let Some(attribute) = fitted(ice_ufrag_line(alloc, text))? {
+        return Ok(attribute);
+    }
+    if let Some(attribute) = fitted(ice_pwd_line(alloc, text))? {
+        return Ok(attribute);
+    }
+    if let Some(attribute) = fitted(ice_options_line(alloc, text))? {
+        return Ok(attribute);
+    }
+    if let Some(attribute) = fitted(fingerprint_line(alloc, text))? {
+        return Ok(attribute);
+    }
+    if let Some(attribute) = fitted(setup_line(text))? {
+        return Ok(attribute);
+    }
+    if let Some(attribute) = fitted(mid_line(text))? {
+        return Ok(attribute);
+    }
+    second_attribute(alloc, text)
+}
+
+/// A line `a=` of a section.
+pub struct MediaAttributeLine;
+
+impl Lined<MediaAttribute> for MediaAttributeLine {
+    ghost use Rattle.sdp_formats_media_lines.specs.Choice.{attribute_line};
+
+    ghost form = { attribute_line };
+
+    fn read(alloc: Global, content: &str) -> Result<MediaAttribute, Refusal> {
+        let text = behind(content, "a=")?;
+        media_attribute(alloc, text)
+    }
+
+    fn exact_law() {
+        pairs_law();
+    }
+}
+
+impl Stepped<MediaAttribute> for MediaAttributeLine {
+    ghost use Rattle.sdp_formats_steps.specs.Line.{LineOf};
+    ghost use Rattle.sdp_formats_media_lines.specs.Choice.{attribute_line};
+
+    ghost says = { LineOf attribute_line.Says };
+
+    fn step(alloc: Global, text: &str) -> Result<(MediaAttribute, &str), Refusal> {
+        line_of::<MediaAttribute, MediaAttributeLine>(alloc, text)
+    }
+}

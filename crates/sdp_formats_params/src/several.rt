@@ -1,0 +1,175 @@
+//! The format parameters of several keys.
+
+ghost use Rattle.std.specs.Prelude.{◌≡◌, ◌++◌, [], None, OnOk, IfOk, map, codes};
+ghost use Rattle.std.specs.Prelude.{List};
+ghost use Rattle.std.specs.List.{list_any};
+ghost use Rattle.std.specs.Str.{str_eq_ignore_ascii_case};
+ghost use Rattle.sdp_formats_params.specs.declared.param.FormatParam.{FormatParam};
+ghost use Rattle.std.specs.Option.{option_copied};
+ghost use Rattle.sdp_formats_params.specs.Params.{pair_param, gives_level, is_level, or_before, last_value};
+ghost use Rattle.sdp_formats_params.specs.Params.{with_pairs, with_pair, levels_of, is_level_name, onto_others};
+ghost use Rattle.sdp_formats_params.specs.Params.{others_of, level_params, params_of};
+
+use crate::key::Key;
+use crate::pairs::Pair;
+use crate::param::{FormatParam, has_name};
+use h26x_payload_profiles::{H265ProfileTierLevel, H266ProfileTierLevel};
+use indexmap::IndexMap;
+use sdp_formats_forms::{Listed, Text};
+use std::alloc::{AllocError, Global};
+
+fn is_level(key: Option<Key>) -> bool
+    ensures { result ≡ is_level key }
+{
+    match key {
+        Some(key) => key.is_level(),
+        None => false,
+    }
+}
+
+fn gives_level(pair: &Pair) -> bool
+    ensures { result ≡ gives_level pair.now }
+{
+    is_level(Key::named(pair.key.as_str()))
+}
+
+fn has_level(pairs: &[Pair]) -> bool
+    ensures { result ≡ list_any gives_level pairs.now }
+{
+    pairs.iter().any(|pair| gives_level(pair))
+}
+
+fn pair_param(pair: &Pair) -> FormatParam
+    ensures { result ≡ pair_param pair.now }
+{
+    FormatParam::parse(pair.key.as_str(), pair.value.as_str())
+}
+
+fn pair_params(alloc: Global, pairs: &[Pair]) -> Result<Vec<FormatParam>, AllocError>
+    ensures { IfOk result (λ params. params.items ≡ map pair_param pairs.now) }
+{
+    pairs.iter().map(|pair| pair_param(pair)).collect(alloc)
+}
+
+fn named_value<'a>(pair: &'a Pair, name: &str, before: Option<&'a str>) -> Option<&'a str>
+    ensures { option_copied result ≡ or_before (str_eq_ignore_ascii_case name.now pair.now.key) pair.now.value
+        (option_copied before.entry) }
+{
+    if has_name(pair.key.as_str(), name) {
+        return Some(pair.value.as_str());
+    }
+    before
+}
+
+fn last_value<'a>(pairs: &'a [Pair], name: &str) -> Option<&'a str>
+    ensures { option_copied result ≡ last_value name.now None pairs.now }
+{
+    let mut found = None;
+    for pair in pairs {
+        found = named_value(pair, name, found);
+    }
+    found
+}
+
+fn put_pair(
+    alloc: Global,
+    entries: &mut IndexMap<Text, Text>,
+    pair: &Pair,
+) -> Result<(), AllocError>
+    ensures { OnOk result (entries.new.entries ≡ with_pair entries.old.entries pair.now) }
+{
+    let key = Text::of(pair.key.as_str().to_ascii_lowercase(alloc)?);
+    let value = pair.value.clone(alloc)?;
+    entries.insert(key, value)?;
+    Ok(())
+}
+
+fn settled(alloc: Global, pairs: &[Pair]) -> Result<IndexMap<Text, Text>, AllocError>
+    ensures { IfOk result (λ entries. entries.entries ≡ with_pairs [] pairs.now) }
+{
+    let mut entries = IndexMap::new(alloc);
+    for pair in pairs {
+        put_pair(alloc, &mut entries, pair)?;
+    }
+    Ok(entries)
+}
+
+fn levels(
+    alloc: Global,
+    profile_id: Option<&str>,
+    tier_flag: Option<&str>,
+    level_id: Option<&str>,
+) -> Result<Vec<FormatParam>, AllocError>
+    ensures { IfOk result (λ params. params.items
+        ≡ levels_of (option_copied profile_id.entry) (option_copied tier_flag.entry) (option_copied level_id.entry)) }
+{
+    let mut params = Vec::new(alloc);
+    if let Some(ptl) = H265ProfileTierLevel::from_fmtp(profile_id, tier_flag, level_id) {
+        params.push(FormatParam::H265ProfileTierLevel(ptl))?;
+        return Ok(params);
+    }
+    if let Some(ptl) = H266ProfileTierLevel::from_fmtp(profile_id, tier_flag, level_id) {
+        params.push(FormatParam::H266ProfileTierLevel(ptl))?;
+    }
+    Ok(params)
+}
+
+fn is_level_name(key: &str) -> bool
+    ensures { result ≡ is_level_name key.now }
+{
+    key == "profile-id" || key == "tier-flag" || key == "level-id"
+}
+
+fn push_other(params: &mut Vec<FormatParam>, key: &str, value: &str) -> Result<(), AllocError>
+    ensures { OnOk result ((more : List FormatParam) → params.new.items ++ more ≡ params.old.items
+        ++ onto_others (key.now, value.now) more) }
+{
+    if is_level_name(key) {
+        return Ok(());
+    }
+    params.push(FormatParam::parse(key, value))?;
+    Ok(())
+}
+
+fn push_others(
+    params: &mut Vec<FormatParam>,
+    entries: &IndexMap<Text, Text>,
+) -> Result<(), AllocError>
+    ensures { OnOk result (params.new.items ≡ params.old.items ++ others_of entries.now.entries) }
+{
+    for (key, value) in entries.iter() {
+        push_other(params, key.as_str(), value.as_str())?;
+    }
+    Ok(())
+}
+
+fn level_params(alloc: Global, pairs: &[Pair]) -> Result<Vec<FormatParam>, AllocError>
+    ensures { IfOk result (λ params. params.items ≡ level_params pairs.now) }
+{
+    let mut params = levels(
+        alloc,
+        last_value(pairs, "profile-id"),
+        last_value(pairs, "tier-flag"),
+        last_value(pairs, "level-id"),
+    )?;
+    push_others(&mut params, &settled(alloc, pairs)?)?;
+    Ok(params)
+}
+
+impl FormatParam {
+    /// The parameters of keys and values, in order. Where one gives a tier or level of H.265 or H.266, each key counts
+    /// once, at its first place with its last value, and `profile-id`, `tier-flag` and `level-id` are one parameter in
+    /// front of the others, if they mean one (RFC 7798 7.1, RFC 9328 7.2).
+    ///
+    /// # Errors
+    ///
+    /// `AllocError` where memory is wanting.
+    pub fn parse_pairs(alloc: Global, pairs: &[Pair]) -> Result<Listed<FormatParam>, AllocError>
+        ensures { IfOk result (λ params. params ≡ params_of pairs.now) }
+    {
+        if has_level(pairs) {
+            return Ok(Listed::of(level_params(alloc, pairs)?));
+        }
+        Ok(Listed::of(pair_params(alloc, pairs)?))
+    }
+}

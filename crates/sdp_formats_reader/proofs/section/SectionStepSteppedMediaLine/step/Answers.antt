@@ -1,0 +1,37 @@
+use Rattle.std.proofs.Common.{rules, sym, ap, ◌∙◌, refl}
+use Rattle.std.proofs.lemmas.Result.{err_from_is_err_and}
+use Rattle.std.specs.List.{list_all}
+use Rattle.sdp_formats_steps.specs.Line.{LineOf}
+use Rattle.sdp_formats_steps.specs.Step.{Many, Perhaps}
+use Rattle.sdp_formats_types.specs.Consistency.{is_consistent}
+use Rattle.sdp_formats_heads.specs.Lines.{version_line, origin_line, name_line, other_line, bandwidth_line}
+use Rattle.sdp_formats_heads.specs.Lines.{times_line, repeat_line, connection_line, head_line}
+use Rattle.sdp_formats_reader.specs.Grammar.{OpeningSays, TimesSay, SessionSays, SectionSays, SdpSays, ReadsSdp}
+use Rattle.sdp_formats_reader.proofs.One.{err-as, no-version, no-origin, no-name, no-times, no-opening, no-times-then}
+use Rattle.sdp_formats_reader.proofs.One.{no-head, no-session, no-sections, faulty, reads, section-shorter, whole}
+use Rattle.sdp_formats_reader.proofs.One.{session-reads}
+use Rattle.sdp_formats_reader.proofs.section.SectionStepSteppedMediaLine.step.Goals as goal
+
+pub returns-in_err-head-clause-steps : goal.returns-in_err-head-clause-steps
+returns-in_err-head-clause-steps c =
+    let p = err_from_is_err_and c.from_residual.result c.from_residual.ensures.1 in
+    rw (p.1, p.2) (err-as (LineOf head_line.Says) SectionSays c.args.text.now c.args.text.now _
+    c.in_err-head.ensures.steps (no-head _))
+
+pub returns-clause-steps : goal.returns-clause-steps
+unfolding SectionSays
+returns-clause-steps c = (
+  c.in_ok-head.head,
+  c.in_ok-head.rest.now,
+  c.in_ok-head.ensures.steps,
+  (refl, refl, refl, refl),
+  c.in_ok-rest.field-0-0,
+  c.in_ok-rest.rest.now,
+  c.in_ok-rest.ensures,
+  c.in_ok-bw.rest.now,
+  c.in_ok-bw.ensures,
+  c.in_ok-attrs.ensures,
+)
+
+pub returns-clause-shortens : goal.returns-clause-shortens
+returns-clause-shortens c = section-shorter _ _ _ (returns-clause-steps c)

@@ -1,0 +1,86 @@
+//! Which kind of line an attribute is.
+
+ghost use Rattle.std.specs.Prelude.{◌≡◌};
+ghost use Rattle.sdp_formats_forms.specs.Refusals.{Gives, GivesBy};
+ghost use Rattle.sdp_formats_session_lines.specs.Choice.{session_attribute, later_attribute};
+
+use crate::kinds::{
+    candidate_line, end_word, fingerprint_line, group_line, ice_lite, ice_options_line,
+    ice_pwd_line, ice_ufrag_line, msid_semantic_line, setup_line,
+};
+use sdp_formats_forms::{Refusal, behind, fitted, text_of};
+use sdp_formats_steps::{Lined, Stepped, line_of};
+use sdp_formats_types::SessionAttribute;
+use std::alloc::Global;
+
+#[tactic(auto, unfolding(crate::specs::Choice::later_attribute))]
+fn later_attribute(alloc: Global, text: &str) -> Result<SessionAttribute, Refusal>
+    ensures { Gives result (later_attribute.reads text.now) }
+{
+    if let Some(attribute) = fitted(fingerprint_line(alloc, text))? {
+        return Ok(attribute);
+    }
+    if let Some(attribute) = fitted(setup_line(text))? {
+        return Ok(attribute);
+    }
+    if let Some(attribute) = fitted(candidate_line(alloc, text))? {
+        return Ok(attribute);
+    }
+    if let Some(attribute) = end_word(text) {
+        return Ok(attribute);
+    }
+    Ok(SessionAttribute::Unused(text_of(alloc, text)?))
+}
+
+// What stands behind `a=`.
+#[tactic(auto, unfolding(crate::specs::Choice::session_attribute))]
+fn session_attribute(alloc: Global, text: &str) -> Result<SessionAttribute, Refusal>
+    ensures { Gives result (session_attribute.reads text.now) }
+{
+    if let Some(attribute) = fitted(group_line(alloc, text))? {
+        return Ok(attribute);
+    }
+    if let Some(attribute) = fitted(msid_semantic_line(alloc, text))? {
+        return Ok(attribute);
+    }
+    if let Some(attribute) = ice_lite(text) {
+        return Ok(attribute);
+    }
+    if let Some(attribute) = fitted(ice_ufrag_line(alloc, text))? {
+        return Ok(attribute);
+    }
+    if let Some(attribute) = fitted(ice_pwd_line(alloc, text))? {
+        return Ok(attribute);
+    }
+    if let Some(attribute) = fitted(ice_options_line(alloc, text))? {
+        return Ok(attribute);
+    }
+    later_attribute(alloc, text)
+}
+
+/// A line `a=` before the first section.
+pub struct SessionAttributeLine;
+
+impl Lined<SessionAttribute> for SessionAttributeLine {
+    ghost use Rattle.sdp_formats_session_lines.specs.Choice.{attribute_line};
+
+    ghost form = { attribute_line };
+
+    fn read(alloc: Global, content: &str) -> Result<SessionAttribute, Refusal> {
+        let text = behind(content, "a=")?;
+        session_attribute(alloc, text)
+    }
+
+    fn exact_law() {}
+}
+
+impl Stepped<SessionAttribute> for SessionAttributeLine {
+    ghost use Rattle.sdp_formats_steps.specs.Line.{LineOf};
+    ghost use Rattle.sdp_formats_session_lines.specs.Choice.{attribute_line};
+
+    ghost says = { LineOf attribute_line.Says };
+
+    fn step(alloc: Global, text: &str) -> Result<(SessionAttribute, &str), Refusal> {
+        line_of::<SessionAttribute, SessionAttributeLine>(alloc, text)
+    }
+}

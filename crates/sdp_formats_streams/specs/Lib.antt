@@ -1,0 +1,4 @@
+pub mod Names
+pub mod Sources
+pub mod Rids
+pub mod Simulcasts

@@ -1,0 +1,38 @@
+-- Media sections.
+use Rattle.std.specs.Prelude.{ℕ, Bool, true, false, List, codes}
+use Rattle.rtp_wire.specs.declared.Direction.{Direction}
+use Rattle.rtp_wire.specs.declared.Direction.TheVariants as way
+use Rattle.sdp_formats_types.specs.declared.media.MediaType.{MediaType}
+use Rattle.sdp_formats_types.specs.declared.media.MediaType.TheVariants.{Audio, Video, Application, Unknown}
+use Rattle.sdp_formats_types.specs.declared.media.Proto.{Proto}
+use Rattle.sdp_formats_types.specs.declared.media.Proto.TheVariants.{Srtp, Sctp}
+use Rattle.sdp_formats_types.specs.declared.media.MediaAttribute.{MediaAttribute}
+use Rattle.sdp_formats_types.specs.declared.media.MediaAttribute.TheVariants.{RecvOnly, SendRecv, SendOnly, Inactive}
+
+abbrev pub is_media : MediaType → Bool
+is_media Audio = true
+is_media Video = true
+is_media _ = false
+
+abbrev pub is_channel : MediaType → Bool
+is_channel Application = true
+is_channel _ = false
+
+-- The word of a protocol (RFC 5764 8, RFC 8841 4).
+abbrev pub proto_text : Proto → List ℕ
+proto_text Srtp = codes "UDP/TLS/RTP/SAVPF"
+proto_text Sctp = codes "UDP/DTLS/SCTP"
+
+-- One of the four directions (RFC 8866 6.7).
+abbrev pub is_direction : MediaAttribute → Bool
+is_direction RecvOnly = true
+is_direction SendRecv = true
+is_direction SendOnly = true
+is_direction Inactive = true
+is_direction _ = false
+
+abbrev pub direction_attribute : Direction → MediaAttribute
+direction_attribute way.SendOnly = SendOnly
+direction_attribute way.RecvOnly = RecvOnly
+direction_attribute way.SendRecv = SendRecv
+direction_attribute way.Inactive = Inactive

@@ -1,0 +1,27 @@
+-- Which end opens a connection (RFC 4145 4).
+use Rattle.std.specs.Prelude.{ℕ, List, codes, Option, Some, None}
+use Rattle.sdp_formats_types.specs.declared.setup.Setup.{Setup}
+use Rattle.sdp_formats_types.specs.declared.setup.Setup.TheVariants.{ActPass, Active, Passive}
+
+abbrev pub setup_text : Setup → List ℕ
+setup_text ActPass = codes "actpass"
+setup_text Active = codes "active"
+setup_text Passive = codes "passive"
+
+-- The same as the other end sees it.
+abbrev pub inverted : Setup → Setup
+inverted ActPass = ActPass
+inverted Active = Passive
+inverted Passive = Active
+
+-- What an end is towards the other's choice (RFC 4145 4.1).
+abbrev pub towards : Setup → Setup → Option Setup
+towards ActPass ActPass = None
+towards ActPass Active = Some Passive
+towards ActPass Passive = Some Active
+towards Active ActPass = Some Active
+towards Active Active = None
+towards Active Passive = Some Active
+towards Passive ActPass = Some Passive
+towards Passive Active = Some Passive
+towards Passive Passive = None

@@ -1,0 +1,236 @@
+//! Media sections.
+
+ghost use Rattle.std.specs.Prelude.{◌≡◌};
+ghost use Rattle.sdp_formats_types.specs.Media.{is_media, is_channel, proto_text, is_direction, direction_attribute};
+
+use crate::candidate::Candidate;
+use crate::fingerprint::Fingerprint;
+use crate::session::Bandwidth;
+use crate::setup::Setup;
+use crate::streams::{Msid, RestrictionId, RidDirection, Simulcast};
+use payload_core_base::Codec;
+use rtp_wire::{Direction, Extension, Frequency, Mid, Pt, Ssrc};
+use sdp_formats_forms::{Listed, Text};
+use sdp_formats_params::{FormatParam, Pair};
+use std::fmt;
+
+/// What a section carries (RFC 8866 5.14).
+#[derive(Debug, Drop)]
+pub enum MediaType {
+    /// `audio`
+    Audio,
+    /// `video`
+    Video,
+    /// `application`: a channel of data.
+    Application,
+    /// Anything else.
+    Unknown(Text),
+}
+
+impl MediaType {
+    /// Whether it is audio or video.
+    pub fn is_media(&self) -> bool
+        ensures { result ≡ is_media self.now }
+    {
+        matches!(self, MediaType::Audio | MediaType::Video)
+    }
+
+    /// Whether it is a channel of data.
+    pub fn is_channel(&self) -> bool
+        ensures { result ≡ is_channel self.now }
+    {
+        matches!(self, MediaType::Application)
+    }
+}
+
+/// How a section is carried (RFC 8866 5.14).
+#[derive(Clone, Copy, Debug, PartialEq, Eq, Default, Drop)]
+pub enum Proto {
+    /// `UDP/TLS/RTP/SAVPF`: RTP with feedback, encrypted (RFC 5764 8).
+    #[default]
+    Srtp,
+    /// `UDP/DTLS/SCTP`: data channels (RFC 8841 4).
+    Sctp,
+}
+
+impl Proto {
+    /// The word for it in a session text.
+    pub fn proto_line(&self) -> &'static str
+        ensures { result.now ≡ proto_text self.now }
+    {
+        match self {
+            Proto::Srtp => "UDP/TLS/RTP/SAVPF",
+            Proto::Sctp => "UDP/DTLS/SCTP",
+        }
+    }
+}
+
+impl fmt::Display for Proto {
+    ghost use Rattle.std.specs.Prelude.{Some};
+
+    ghost output = { λ p. Some (proto_text p) };
+
+    fn fmt<W: fmt::Write>(&self, f: &mut fmt::Formatter<W>) -> fmt::Result {
+        f.write_str(self.proto_line())
+    }
+}
+
+/// A section: its line `m=` and what follows up to the next (RFC 8866 5.14).
+#[derive(Debug, Drop)]
+pub struct MediaLine {
+    /// What it carries.
+    pub typ: MediaType,
+    /// Whether its port is 0: the section is refused or not in use.
+    pub disabled: bool,
+    /// How it is carried.
+    pub proto: Proto,
+    /// The payload types of its line `m=`; none where the list there isn't of numbers up to 255.
+    pub pts: Listed<Pt>,
+    /// The bandwidth, if one is given (RFC 8866 5.8).
+    pub bw: Option<Bandwidth>,
+    /// The attributes, in order (RFC 8866 5.13).
+    pub attrs: Listed<MediaAttribute>,
+}
+
+/// What `a=rtpmap` says of a payload type (RFC 8866 6.6).
+#[derive(Clone, Copy, Debug, PartialEq, Eq, Drop)]
+pub struct RtpMap {
+    /// The codec.
+    pub codec: Codec,
+    /// The clock rate in ticks a second.
+    pub clock_rate: Frequency,
+    /// The number of audio channels, where it is given.
+    pub channels: Option<u8>,
+}
+
+/// An attribute of a section (RFC 8866 5.13).
+#[derive(Debug, Drop)]
+pub enum MediaAttribute {
+    /// `a=rtcp` (RFC 3605 2.1).
+    Rtcp(Text),
+    /// `a=ice-ufrag` (RFC 8839 5.4).
+    IceUfrag(Text),
+    /// `a=ice-pwd` (RFC 8839 5.4).
+    IcePwd(Text),
+    /// `a=ice-options` (RFC 8839 5.6).
+    IceOptions(Text),
+    /// `a=fingerprint` (RFC 8122 5).
+    Fingerprint(Fingerprint),
+    /// `a=setup` (RFC 4145 4).
+    Setup(Setup),
+    /// `a=mid` (RFC 5888 4).
+    Mid(Mid),
+    /// `a=sctp-port` (RFC 8841 5).
+    SctpPort(u16),
+    /// `a=max-message-size` in bytes, 0 without a limit (RFC 8841 6).
+    MaxMessageSize(usize),
+    /// `a=sctp-init`: the first chunk of the association in base 64, as it stands there.
+    SctpInit(Text),
+    /// `a=extmap` (RFC 8285 8).
+    ExtMap {
+        /// The number in packets.
+        id: u8,
+        /// The extension.
+        ext: Extension,
+    },
+    /// `a=recvonly` (RFC 8866 6.7).
+    RecvOnly,
+    /// `a=sendrecv` (RFC 8866 6.7).
+    SendRecv,
+    /// `a=sendonly` (RFC 8866 6.7).
+    SendOnly,
+    /// `a=inactive` (RFC 8866 6.7).
+    Inactive,
+    /// `a=msid` (RFC 8830 2).
+    Msid(Msid),
+    /// `a=rtcp-mux` (RFC 5761 5.1.1).
+    RtcpMux,
+    /// `a=rtcp-mux-only` (RFC 8858 3).
+    RtcpMuxOnly,
+    /// `a=rtcp-rsize` (RFC 5506 5).
+    RtcpRsize,
+    /// `a=candidate` (RFC 8839 5.1).
+    Candidate(Candidate),
+    /// `a=end-of-candidates` (RFC 8840 8.2).
+    EndOfCandidates,
+    /// `a=rtpmap` (RFC 8866 6.6).
+    RtpMap {
+        /// The payload type, up to 127 where it was read.
+        pt: Pt,
+        /// What it stands for.
+        value: RtpMap,
+    },
+    /// `a=rtcp-fb` (RFC 4585 4.2).
+    RtcpFb {
+        /// The payload type, up to 127 where it was read.
+        pt: Pt,
+        /// The feedback, as `nack pli`.
+        value: Text,
+    },
+    /// `a=fmtp` (RFC 8866 6.15).
+    Fmtp {
+        /// The payload type, up to 127 where it was read.
+        pt: Pt,
+        /// The parameters.
+        values: Listed<FormatParam>,
+    },
+    /// `a=rid` (RFC 8851 4).
+    Rid {
+        /// The name of the stream.
+        id: RestrictionId,
+        /// Which way it goes.
+        direction: RidDirection,
+        /// The payload types that it may have; none given is any.
+        pt: Listed<Pt>,
+        /// The restrictions, as `max-br=64000`.
+        restriction: Listed<Pair>,
+    },
+    /// `a=simulcast` (RFC 8853 5.1).
+    Simulcast(Simulcast),
+    /// `a=ssrc-group` (RFC 5576 4.2).
+    SsrcGroup {
+        /// What the group means, as `FID`.
+        semantics: Text,
+        /// The sources.
+        ssrcs: Listed<Ssrc>,
+    },
+    /// `a=ssrc` (RFC 5576 4.1).
+    Ssrc {
+        /// The source.
+        ssrc: Ssrc,
+        /// The attribute, as `cname`.
+        attr: Text,
+        /// Its value.
+        value: Text,
+    },
+    /// Any other attribute: what stands behind `a=`.
+    Unused(Text),
+}
+
+impl MediaAttribute {
+    /// Whether it is one of the four directions.
+    pub fn is_direction(&self) -> bool
+        ensures { result ≡ is_direction self.now }
+    {
+        matches!(
+            self,
+            MediaAttribute::RecvOnly
+                | MediaAttribute::SendRecv
+                | MediaAttribute::SendOnly
+                | MediaAttribute::Inactive
+        )
+    }
+}
+
+impl From<Direction> for MediaAttribute {
+    ghost from_gives = { λ d a. a ≡ direction_attribute d };
+
+    fn from(direction: Direction) -> MediaAttribute {
+        match direction {
+            Direction::SendOnly => MediaAttribute::SendOnly,
+            Direction::RecvOnly => MediaAttribute::RecvOnly,
+            Direction::SendRecv => MediaAttribute::SendRecv,
+            Direction::Inactive => MediaAttribute::Inactive,
+        }
+    }
+}

@@ -1,0 +1,76 @@
+//! The session: what stands before the first section.
+
+use crate::candidate::Candidate;
+use crate::fingerprint::Fingerprint;
+use crate::media::MediaLine;
+use crate::setup::Setup;
+use rtp_wire::{Mid, SessionId};
+use sdp_formats_forms::{Listed, Text};
+
+/// A session text (RFC 8866 5).
+#[derive(Debug, Drop)]
+pub struct Sdp {
+    /// What stands before the first section.
+    pub session: Session,
+    /// The sections, in order.
+    pub media_lines: Listed<MediaLine>,
+}
+
+/// What stands before the first section.
+#[derive(Debug, Drop)]
+pub struct Session {
+    /// The number of the session (RFC 8866 5.2).
+    pub id: SessionId,
+    /// The bandwidth, if one is given (RFC 8866 5.8).
+    pub bw: Option<Bandwidth>,
+    /// The attributes, in order (RFC 8866 5.13).
+    pub attrs: Listed<SessionAttribute>,
+}
+
+/// A bandwidth, `b=TYPE:VALUE` (RFC 8866 5.8).
+#[derive(Debug, Drop)]
+pub struct Bandwidth {
+    /// What the value means, as `AS`.
+    pub typ: Text,
+    /// The value.
+    pub val: Text,
+}
+
+/// An attribute of the session (RFC 8866 5.13).
+#[derive(Debug, Drop)]
+pub enum SessionAttribute {
+    /// `a=group` (RFC 5888 5).
+    Group {
+        /// What the group means, as `BUNDLE` (RFC 9143).
+        typ: Text,
+        /// The sections.
+        mids: Listed<Mid>,
+    },
+    /// `a=msid-semantic`
+    MsidSemantic {
+        /// What the streams mean, as `WMS`.
+        semantic: Text,
+        /// The streams.
+        stream_ids: Listed<Text>,
+    },
+    /// `a=extmap-allow-mixed` (RFC 8285 6). It is printed; the reader gives `Unused` for it.
+    AllowMixedExts,
+    /// `a=ice-lite` (RFC 8839 5.3).
+    IceLite,
+    /// `a=ice-ufrag` (RFC 8839 5.4).
+    IceUfrag(Text),
+    /// `a=ice-pwd` (RFC 8839 5.4).
+    IcePwd(Text),
+    /// `a=ice-options` (RFC 8839 5.6).
+    IceOptions(Text),
+    /// `a=fingerprint` (RFC 8122 5).
+    Fingerprint(Fingerprint),
+    /// `a=setup` (RFC 4145 4).
+    Setup(Setup),
+    /// `a=candidate` (RFC 8839 5.1).
+    Candidate(Candidate),
+    /// `a=end-of-candidates` (RFC 8840 8.2).
+    EndOfCandidates,
+    /// Any other attribute: what stands behind `a=`.
+    Unused(Text),
+}
