@@ -15,4 +15,9 @@ abbrev pub EmptyLaw : Type 0
 EmptyLaw = (first b : ℕ) (bs : List ℕ) (fragment : Fragment) (extra : CodecExtra) → has_z first ≡ true
     → elements_of (count_w first) (b ∷ bs) ≡ Some ([] ∷ [])
     → read_av1 fragment extra (first ∷ b ∷ bs)
-    ≡ Ok (record { written = []; extra = Av1 (record { is_keyframe = was_keyframe extra || has_n first }); fragment = fragment })
+    ≡ Ok (record {
+      written = [];
+      extra = Av1 (record { is_keyframe = was_keyframe extra || has_n first });
+      fragment =
+          fragment;
+    })

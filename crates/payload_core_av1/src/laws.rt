@@ -41,7 +41,8 @@ pub fn av1_size_law()
     ensures { SpellingLaw }
 {}
 
-/// A packet without Z is read alike, whatever fragment is open; one with Z whose one element is empty gives nothing, and
+/// A packet without Z is read alike, whatever fragment is open; one with Z whose one element is empty gives nothing,
+/// and
 /// leaves the open fragment as it was.
 pub fn av1_open_law()
     ensures fresh { FreshLaw }

@@ -3,7 +3,8 @@ use Rattle.std.proofs.Common.{◌≡◌, ℕ, ◌/◌, ◌%◌, Bool, true, fals
 use Rattle.std.specs.Prelude.{◌&&◌}
 use mathlib.Core.Bool.{false≢true}
 use Rattle.std.proofs.lemmas.Bool.{eqb-true}
-use Rattle.payload_core_vpx.specs.Vp8Descriptor.{begins_frame, begins_keyframe, described_in, keyframe_in, layout_size, shape_of, with_frame}
+use Rattle.payload_core_vpx.specs.Vp8Descriptor.{begins_frame, begins_keyframe, described_in, keyframe_in}
+use Rattle.payload_core_vpx.specs.Vp8Descriptor.{layout_size, shape_of, with_frame}
 use Rattle.payload_core_vpx.specs.Vp8KeyframeLaw.{KeyframeLaw}
 
 both : (a b : Bool) → (a && b) ≡ true → (a ≡ true) × (b ≡ true)
@@ -17,7 +18,8 @@ module _ (first : ℕ) (rest : List ℕ) where
   by_frame : (frame : List ℕ) → keyframe_in (with_frame (described_in (shape_of payload) payload) frame) payload ≡ true
       → begins_frame first ≡ true
   by_frame [] e = absurd (false≢true e)
-  by_frame (b ∷ bs) e = (both (begins_frame first) (begins_keyframe (drop (layout_size (shape_of payload)) payload)) e).0
+  by_frame (b ∷ bs) e = (both (begins_frame first) (begins_keyframe (drop (layout_size (shape_of payload)) payload))
+      e).0
 
 pub keyframe_law : KeyframeLaw
 keyframe_law first rest e =

@@ -1,5 +1,6 @@
 -- What the program answers to the commands that make ends and exchange texts.
-use Rattle.std.specs.Prelude.{ℕ, ◌≡◌, ◌⊎◌, ◌==◌, ◌-◌, ◌&&◌, Bool, true, false, nat_le, if◌then◌else◌, is_some, List, [], ◌∷◌, ◌++◌, map, slice_set, Option, Some, None}
+use Rattle.std.specs.Prelude.{ℕ, ◌≡◌, ◌⊎◌, ◌==◌, ◌-◌, ◌&&◌, Bool, true, false, nat_le, if◌then◌else◌, is_some, List}
+use Rattle.std.specs.Prelude.{[], ◌∷◌, ◌++◌, map, slice_set, Option, Some, None}
 use Rattle.std.specs.Str.{is_utf8}
 use Rattle.payload_core_base.specs.Codecs.{codec_named}
 use Rattle.rtp_wire.specs.Elements.{Numbering}
@@ -13,7 +14,8 @@ use Rattle.rtp_media_exchange.specs.declared.errors.EndError.{EndError}
 use Rattle.rtp_media_exchange.specs.declared.errors.ExchangeError.{ExchangeError}
 use Rattle.rtp_media_exchange.specs.Exchanges.{with_offer}
 use Rattle.rtp_media_exchange.specs.Offers.{Offers, Answers, Accepts}
-use Rattle.rtp_media_exchange.specs.Refusals.{Names, refusal_of_new, refusal_of_offer, refusal_of_answer, refusal_of_accept}
+use Rattle.rtp_media_exchange.specs.Refusals.{Names, refusal_of_new, refusal_of_offer, refusal_of_answer}
+use Rattle.rtp_media_exchange.specs.Refusals.{refusal_of_accept}
 use Rattle.rtp_media_exchange.specs.Sections.{Wanted, only}
 use Rattle.rtp_media_ends.specs.Connections.{Connects, IsRefused, offering}
 use Rattle.rtp_media_ends.specs.Ends.{EndState, new_end, with_exchange}
@@ -51,7 +53,14 @@ format_for (Some text) = format_of text
 
 -- the row that a command drafts
 abbrev pub drafted_row : RowCommand → Row
-drafted_row c = record (new_row c.pt c.resend (record { codec = codec_named c.codec; clock_rate = c.clock_rate; channels = c.channels; format = format_for c.format })) { red = c.red }
+drafted_row c = record (new_row c.pt c.resend
+    (record {
+      codec = codec_named c.codec;
+      clock_rate = c.clock_rate;
+      channels = c.channels;
+      format =
+          format_for c.format;
+    })) { red = c.red }
 
 -- row E PT RTX RED CODEC CLOCK CHANNELS FMTP: a clock rate is at least 1
 abbrev pub AnswersRow : EndAndDraft → RowCommand → EndAndDraft → List Reply → Type 0
@@ -63,13 +72,16 @@ AnswersRow old c new replies =
 abbrev pub AnswersExt : EndAndDraft → ExtCommand → EndAndDraft → List Reply → Type 0
 AnswersExt old c new replies =
     Where (nat_le 1 c.id && nat_le c.id 16)
-    ((new ≡ record old { exts = slice_set old.exts (c.id - 1) (Some (extension_of c.uri)) }) × Prints replies reply.Done)
+    ((new ≡ record old { exts = slice_set old.exts (c.id - 1) (Some (extension_of c.uri)) })
+    × Prints replies reply.Done)
     ((new ≡ old) × Prints replies reply.ErrorLine)
 
 -- end E ID: the draft is emptied, refused or not
 abbrev pub AnswersEnd : EndAndDraft → EndCommand → Option EndError → EndAndDraft → List Reply → Type 0
-AnswersEnd old c None new replies = (new ≡ empty_draft (Some (new_end c.session old.exts (only old.rows)))) × Prints replies reply.Done
-AnswersEnd old c (Some error) new replies = (new ≡ empty_draft old.end) × Prints replies (reply.Refused (end_error_name error))
+AnswersEnd old c None new replies = (new ≡ empty_draft (Some (new_end c.session old.exts (only old.rows))))
+    × Prints replies reply.Done
+AnswersEnd old c (Some error) new replies =
+    (new ≡ empty_draft old.end) × Prints replies (reply.Refused (end_error_name error))
 
 abbrev pub refusal_of_draft : EndAndDraft → Option EndError
 refusal_of_draft kept = refusal_of_new kept.rows true kept.exts
@@ -99,7 +111,8 @@ pub record PrintsRefusal (e after : EndState) (names : ExchangeError → Type 0)
 -- offer E SECTION..
 abbrev pub AnswersOffer : EndState → List Wanted → EndState → List Reply → Type 0
 AnswersOffer e sections after replies =
-    PrintsOffer e sections after replies ⊎ PrintsRefusal e after (λ error. Names error (refusal_of_offer e.exchange sections)) replies
+    PrintsOffer e sections after replies ⊎ PrintsRefusal e after
+    (λ error. Names error (refusal_of_offer e.exchange sections)) replies
 
 -- an answer's text is printed, where nothing refuses it
 pub record PrintsAnswer (e : EndState) (text : List ℕ) (sections : List Wanted) (after : EndState)
@@ -113,7 +126,8 @@ pub record PrintsAnswer (e : EndState) (text : List ℕ) (sections : List Wanted
 -- answer E HEX SECTION..
 abbrev pub AnswersAnswer : EndState → List ℕ → List Wanted → EndState → List Reply → Type 0
 AnswersAnswer e text sections after replies =
-    PrintsAnswer e text sections after replies ⊎ PrintsRefusal e after (λ error. Names error (refusal_of_answer e.exchange text sections)) replies
+    PrintsAnswer e text sections after replies
+    ⊎ PrintsRefusal e after (λ error. Names error (refusal_of_answer e.exchange text sections)) replies
 
 -- an answer is accepted, where nothing refuses it
 pub record PrintsAccept (e : EndState) (text : List ℕ) (after : EndState) (replies : List Reply) : Type 0 where
@@ -125,7 +139,8 @@ pub record PrintsAccept (e : EndState) (text : List ℕ) (after : EndState) (rep
 -- accept E HEX
 abbrev pub AnswersAccept : EndState → List ℕ → EndState → List Reply → Type 0
 AnswersAccept e text after replies =
-    PrintsAccept e text after replies ⊎ PrintsRefusal e after (λ error. Names error (refusal_of_accept e.exchange text)) replies
+    PrintsAccept e text after replies ⊎ PrintsRefusal e after
+    (λ error. Names error (refusal_of_accept e.exchange text)) replies
 
 -- withdraw E
 abbrev pub AnswersWithdraw : EndState → EndState → List Reply → Type 0
@@ -134,13 +149,15 @@ AnswersWithdraw e after replies =
     × Prints replies (if is_some e.exchange.pending then reply.Done else reply.NoOffer)
 
 -- both texts are printed
-pub record PrintsBoth (a b : EndState) (sections_a sections_b : List Wanted) (after_a after_b : EndState) (replies : List Reply) : Type 0 where
+pub record PrintsBoth (a b : EndState) (sections_a sections_b : List Wanted) (after_a after_b : EndState)
+    (replies : List Reply) : Type 0 where
   pub offer : List ℕ
   pub answer : List ℕ
   pub connects : Connects a b sections_a sections_b offer answer after_a after_b
   pub printed : replies ≡ reply.Text offer ∷ reply.Text answer ∷ []
 
-pub record PrintsNeither (a b : EndState) (sections_a sections_b : List Wanted) (after_a after_b : EndState) (replies : List Reply) : Type 0 where
+pub record PrintsNeither (a b : EndState) (sections_a sections_b : List Wanted) (after_a after_b : EndState)
+    (replies : List Reply) : Type 0 where
   pub error : ExchangeError
   pub refused : IsRefused a b sections_a sections_b error after_a after_b
   pub printed : Prints replies (reply.Refused (exchange_error_name error))
@@ -148,7 +165,8 @@ pub record PrintsNeither (a b : EndState) (sections_a sections_b : List Wanted) 
 -- connect SECTION.. / SECTION..
 abbrev pub AnswersConnect : EndState → EndState → List Wanted → List Wanted → EndState → EndState → List Reply → Type 0
 AnswersConnect a b sections_a sections_b after_a after_b replies =
-    PrintsBoth a b sections_a sections_b after_a after_b replies ⊎ PrintsNeither a b sections_a sections_b after_a after_b replies
+    PrintsBoth a b sections_a sections_b after_a after_b replies
+    ⊎ PrintsNeither a b sections_a sections_b after_a after_b replies
 
 -- A line that needs an end, where there is none, is an error line; else the end's answer counts.
 abbrev pub AtEnd : Option EndState → Option EndState → List Reply → (EndState → EndState → Type 0) → Type 0

@@ -1,5 +1,6 @@
 -- What the program answers to each command, from the definitions of its calls.
-use Rattle.std.specs.Prelude.{ℕ, ◌≡◌, ◌≢◌, ◌⊎◌, Bool, IsTrue, nat_lt, if◌then◌else◌, List, [], ◌∷◌, ◌++◌, length, map, Option, Some, None, Ok, Err}
+use Rattle.std.specs.Prelude.{ℕ, ◌≡◌, ◌≢◌, ◌⊎◌, Bool, IsTrue, nat_lt, if◌then◌else◌, List, [], ◌∷◌, ◌++◌, length, map}
+use Rattle.std.specs.Prelude.{Option, Some, None, Ok, Err}
 use Rattle.std.specs.Option.{option_map}
 use Rattle.rtp_wire.specs.Name.{name_of}
 use Rattle.rtp_wire.specs.Time.{Time}
@@ -15,7 +16,9 @@ use Rattle.rtp_media_ends.specs.declared.errors.OpenError.{OpenError}
 use Rattle.rtp_media_ends.specs.declared.params.StreamParams.{StreamParams}
 use Rattle.rtp_media_ends.specs.declared.received.Received.{Received}
 use Rattle.rtp_media_ends.specs.declared.received.Received.TheVariants as received
-use Rattle.rtp_media_ends.specs.Ends.{EndState, agreed_red, fixed_end, refusal_of_open_sender, refusal_of_open_receiver, after_open_sender, after_open_receiver, with_sender, with_receiver, sender_at, receiver_at}
+use Rattle.rtp_media_ends.specs.Ends.{EndState, agreed_red, fixed_end, refusal_of_open_sender}
+use Rattle.rtp_media_ends.specs.Ends.{refusal_of_open_receiver, after_open_sender, after_open_receiver, with_sender}
+use Rattle.rtp_media_ends.specs.Ends.{with_receiver, sender_at, receiver_at}
 use Rattle.rtp_media_ends.specs.Params.{is_sound_params}
 use Rattle.rtp_media_ends.specs.Arrivals.{verdict_of, after_datagram}
 use Rattle.rtp_media_lines.specs.declared.line.Command.{Command}
@@ -52,7 +55,8 @@ is_sound_send e c = is_sound_params (agreed_red e (name_of 16 c.mid) c.pt) (para
 
 abbrev pub sender_step : EndState → SendCommand → Option OpenError → EndStep
 sender_step e c (Some error) = prints (Some e) (reply.Refused (open_error_name error))
-sender_step e c None = becomes (after_open_sender e (name_of 16 c.mid) c.ssrc c.pt (params_of c)) (reply.Sender (length e.senders))
+sender_step e c None = becomes (after_open_sender e (name_of 16 c.mid) c.ssrc c.pt (params_of c))
+    (reply.Sender (length e.senders))
 
 -- send E MID SSRC PT FIRST MTU LIMIT DISTANCES PICTUREID
 abbrev pub send_step : Option EndState → SendCommand → EndStep
@@ -63,7 +67,8 @@ send_step (Some e) c =
 
 abbrev pub receiver_step : EndState → OpenCommand → Option OpenError → EndStep
 receiver_step e c (Some error) = prints (Some e) (reply.Refused (open_error_name error))
-receiver_step e c None = becomes (after_open_receiver e (name_of 16 c.mid) c.ssrc c.pt c.hold_back) (reply.Receiver (length e.receivers))
+receiver_step e c None = becomes (after_open_receiver e (name_of 16 c.mid) c.ssrc c.pt c.hold_back)
+    (reply.Receiver (length e.receivers))
 
 -- open E MID SSRC PT HOLDBACK
 abbrev pub open_step : Option EndState → OpenCommand → EndStep
@@ -82,14 +87,16 @@ abbrev pub sent_step : EndState → SampleCommand → Option SampleError → End
 sent_step e c (Some error) = prints (Some e) (reply.Refused (sample_error_name error))
 sent_step e c None = record {
   end = Some (with_sender e c.stream (after_sample (sender_at e c.stream) (time_of e c) (values_given c.mid) c.sample));
-  replies = map (λ d. reply.Datagram d) (sent_datagrams (sender_at e c.stream) (time_of e c) (values_given c.mid) c.sample) ++ reply.Done ∷ [];
+  replies = map (λ d. reply.Datagram d) (sent_datagrams (sender_at e c.stream) (time_of e c) (values_given c.mid)
+      c.sample) ++ reply.Done ∷ [];
 }
 
 -- sample E N TIME HEX [mid=TEXT]
 abbrev pub sample_step : Option EndState → SampleCommand → EndStep
 sample_step None c = prints None reply.ErrorLine
 sample_step (Some e) c =
-    if nat_lt c.stream (length e.senders) then sent_step e c (refusal_of_sample (sender_at e c.stream) (time_of e c) (values_given c.mid) c.sample)
+    if nat_lt c.stream (length e.senders) then sent_step e c
+    (refusal_of_sample (sender_at e c.stream) (time_of e c) (values_given c.mid) c.sample)
     else prints (Some e) reply.ErrorLine
 
 abbrev pub verdict_reply : Received → Reply
@@ -121,7 +128,8 @@ abbrev pub poll_step : Option EndState → PollCommand → EndStep
 poll_step None c = prints None reply.ErrorLine
 poll_step (Some e) c =
     if nat_lt c.stream (length e.receivers) then
-      becomes (with_receiver e c.stream (polled_receiver (receiver_at e c.stream))) (poll_reply (poll_result (receiver_at e c.stream)))
+    becomes (with_receiver e c.stream (polled_receiver (receiver_at e c.stream)))
+    (poll_reply (poll_result (receiver_at e c.stream)))
     else prints (Some e) reply.ErrorLine
 
 -- What a command of streams does to the end that it names, and what is printed. The commands that make

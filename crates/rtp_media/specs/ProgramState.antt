@@ -4,12 +4,16 @@ use Rattle.rtp_media_ends.specs.Ends.{EndState}
 use Rattle.rtp_media_lines.specs.declared.words.Letter.{Letter}
 use Rattle.rtp_media_lines.specs.declared.words.Letter.TheVariants.{A, B}
 use Rattle.rtp_media_lines.specs.declared.line.Command.{Command}
-use Rattle.rtp_media_lines.specs.declared.line.Command.TheVariants.{Fixed, Send, Open, Sample, Receive, Poll, Row, Ext, End, Offer, Answer, Accept, Withdraw, Connect}
+use Rattle.rtp_media_lines.specs.declared.line.Command.TheVariants.{Fixed, Send, Open, Sample, Receive, Poll, Row}
+use Rattle.rtp_media_lines.specs.declared.line.Command.TheVariants.{Ext, End, Offer, Answer, Accept, Withdraw}
+use Rattle.rtp_media_lines.specs.declared.line.Command.TheVariants.{Connect}
 use Rattle.rtp_media_lines.specs.declared.exchange.ConnectCommand.{ConnectCommand}
 use Rattle.rtp_media_lines.specs.declared.reply.Reply.{Reply}
 use Rattle.rtp_media_lines.specs.declared.reply.Reply.TheVariants as reply
 use Rattle.rtp_media.specs.Names.{memory}
-use Rattle.rtp_media.specs.Exchanging.{EndAndDraft, empty_draft, Prints, AtEnd, WithText, wanted_in, AnswersRow, AnswersExt, AnswersEnd, AnswersOffer, AnswersAnswer, AnswersAccept, AnswersWithdraw, AnswersConnect, refusal_of_draft}
+use Rattle.rtp_media.specs.Exchanging.{EndAndDraft, empty_draft, Prints, AtEnd, WithText, wanted_in, AnswersRow}
+use Rattle.rtp_media.specs.Exchanging.{AnswersExt, AnswersEnd, AnswersOffer, AnswersAnswer, AnswersAccept}
+use Rattle.rtp_media.specs.Exchanging.{AnswersWithdraw, AnswersConnect, refusal_of_draft}
 use Rattle.rtp_media.specs.Program.{IsAnswered}
 
 -- What the two letters of the program stand for.
@@ -45,11 +49,16 @@ abbrev pub AnswersAt : EndAndDraft → Command → EndAndDraft → List Reply �
 AnswersAt old (Row c) new replies = AnswersRow old c new replies
 AnswersAt old (Ext c) new replies = AnswersExt old c new replies
 AnswersAt old (End c) new replies =
-    AnswersEnd old c (refusal_of_draft old) new replies ⊎ ((new ≡ empty_draft old.end) × Prints replies (reply.Refused memory))
-AnswersAt old (Offer c) new replies = AtEnd old.end new.end replies (λ e after. AnswersOffer e (wanted_in c.sections) after replies) × KeepsDraft old new
-AnswersAt old (Answer c) new replies = WithText c.text old.end new.end replies (λ e after. AnswersAnswer e c.text (wanted_in c.sections) after replies) × KeepsDraft old new
-AnswersAt old (Accept c) new replies = WithText c.text old.end new.end replies (λ e after. AnswersAccept e c.text after replies) × KeepsDraft old new
-AnswersAt old (Withdraw letter) new replies = AtEnd old.end new.end replies (λ e after. AnswersWithdraw e after replies) × KeepsDraft old new
+    AnswersEnd old c (refusal_of_draft old) new replies
+    ⊎ ((new ≡ empty_draft old.end) × Prints replies (reply.Refused memory))
+AnswersAt old (Offer c) new replies = AtEnd old.end new.end replies
+    (λ e after. AnswersOffer e (wanted_in c.sections) after replies) × KeepsDraft old new
+AnswersAt old (Answer c) new replies = WithText c.text old.end new.end replies
+    (λ e after. AnswersAnswer e c.text (wanted_in c.sections) after replies) × KeepsDraft old new
+AnswersAt old (Accept c) new replies = WithText c.text old.end new.end replies
+    (λ e after. AnswersAccept e c.text after replies) × KeepsDraft old new
+AnswersAt old (Withdraw letter) new replies =
+    AtEnd old.end new.end replies (λ e after. AnswersWithdraw e after replies) × KeepsDraft old new
 AnswersAt old command new replies = IsAnswered old.end command new.end replies × KeepsDraft old new
 
 -- what a command's letter stands for is answered for, and the other stays
@@ -58,8 +67,10 @@ IsAnsweredAt A old command new replies = AnswersAt old.a command new.a replies �
 IsAnsweredAt B old command new replies = AnswersAt old.b command new.b replies × (new.a ≡ old.a)
 
 -- both ends are connected, where both are there
-abbrev pub ConnectsEnds : Option EndState → Option EndState → ConnectCommand → Option EndState → Option EndState → List Reply → Type 0
-ConnectsEnds (Some a) (Some b) c (Some after_a) (Some after_b) replies = AnswersConnect a b (wanted_in c.offered) (wanted_in c.answered) after_a after_b replies
+abbrev pub ConnectsEnds : Option EndState → Option EndState → ConnectCommand → Option EndState → Option EndState
+    → List Reply → Type 0
+ConnectsEnds (Some a) (Some b) c (Some after_a) (Some after_b) replies =
+    AnswersConnect a b (wanted_in c.offered) (wanted_in c.answered) after_a after_b replies
 ConnectsEnds a b c after_a after_b replies = (after_a ≡ a) × (after_b ≡ b) × Prints replies reply.ErrorLine
 
 -- What the program does at a command.

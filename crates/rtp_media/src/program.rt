@@ -6,7 +6,8 @@ ghost use Rattle.rtp_media_lines.specs.Runs.{Printed, ReadsAll};
 ghost use Rattle.rtp_media_lines.specs.declared.line.Command.{Command};
 ghost use Rattle.rtp_media.specs.Exchanging.{empty_draft};
 ghost use Rattle.rtp_media.specs.Program.{IsAnswered, verdict_reply, unit_reply, values_given};
-ghost use Rattle.rtp_media.specs.ProgramState.{AnswersCommand, AnswersAt, ConnectsEnds, KeepsDraft, letter_of, initial_state};
+ghost use Rattle.rtp_media.specs.ProgramState.{AnswersCommand, AnswersAt, ConnectsEnds, KeepsDraft, letter_of};
+ghost use Rattle.rtp_media.specs.ProgramState.{initial_state};
 
 mod exchanging;
 mod names;
@@ -17,8 +18,8 @@ use exchanging::{
 use names::{fault_name, memory, open_error_name, sample_error_name};
 use rtp_media_ends::{Datagram, Distances, End, PayloadParams, Received, StreamParams, Unit};
 use rtp_media_lines::{
-    Bytes, Command, ConnectCommand, OpenCommand, PollCommand, ReceiveCommand, Reply,
-    Respond, RunFault, SampleCommand, SendCommand, Letter, Status, Text, run_lines,
+    Bytes, Command, ConnectCommand, Letter, OpenCommand, PollCommand, ReceiveCommand, Reply,
+    Respond, RunFault, SampleCommand, SendCommand, Status, Text, run_lines,
 };
 use rtp_wire::{ExtensionMap, ExtensionValues, MediaTime, Mid, Pt, Ssrc};
 use std::alloc::{AllocError, Global};

@@ -69,6 +69,7 @@ answered_sound exts (e ∷ es) h = keep (is_answered exts e)
       keep false rest = rest
       keep true rest = λ k d within. by_place k d within rest where
         by_place : (k : ℕ) (d : ExtmapLine) → k < suc (length (answered_lines exts es))
-            → All IsSoundExtmap (answered_lines exts es) → IsSoundExtmap (slice_index_or (e ∷ answered_lines exts es) k d)
+            → All IsSoundExtmap (answered_lines exts es)
+            → IsSoundExtmap (slice_index_or (e ∷ answered_lines exts es) k d)
         by_place zero d within rest = h 0 d (omega arith)
         by_place (suc k) d within rest = rest k d (omega (arith, within))

@@ -46,7 +46,7 @@ pub record GivesUnit (m a : ℕ) (g : SentFrame) (metas : List RtpMeta) (run : R
 module _ (format : Format) (sender : Sender) (m : ℕ) (g : SentFrame) (sent : Brings sender m g)
     (is : IsFrameOf format g.packets g.parts)
     (xs : List ℕ) (f : Frame) (frame : IsFrame format (map (packet sender) xs) f) (low : m ≤ get_or xs f.start 0)
-        (high : get_or xs f.start 0 < m + length g.packets) where
+    (high : get_or xs f.start 0 < m + length g.packets) where
   abbrev held : List Packet
   held = map (packet sender) xs
 
@@ -66,14 +66,14 @@ module _ (format : Format) (sender : Sender) (m : ℕ) (g : SentFrame) (sent : B
   at (suc j) h =
       let next : f.start + suc j ≡ f.start + j + 1 = omega arith in
       let here : packet_at held (f.start + j) ≡ packet sender (get_or xs (f.start + j) 0) =
-          packet-at sender xs (f.start + j) (omega (arith, few)) in
+      packet-at sender xs (f.start + j) (omega (arith, few)) in
       let there : packet_at held (f.start + j + 1) ≡ packet sender (get_or xs (f.start + j + 1) 0) =
-          packet-at sender xs (f.start + j + 1) (omega (arith, few)) in
+      packet-at sender xs (f.start + j + 1) (omega (arith, few)) in
       let step : number_at held (f.start + j + 1) ≡ number_at held (f.start + j) + 1 =
-          frame.consecutive (f.start + j) (omega arith) (omega arith) in
+      frame.consecutive (f.start + j) (omega arith) (omega arith) in
       let rest : get_or xs (f.start + j) 0 ≡ a + j = at j (omega arith) in
       let one : get_or xs (f.start + j + 1) 0 ≡ get_or xs (f.start + j) 0 + 1 =
-          sym (ap (λ (p : Packet). p.meta.seq_no) there) ∙ step ∙ ap (λ (p : Packet). p.meta.seq_no + 1) here in
+      sym (ap (λ (p : Packet). p.meta.seq_no) there) ∙ step ∙ ap (λ (p : Packet). p.meta.seq_no + 1) here in
       ap (λ k. get_or xs k 0) next ∙ omega (arith, one, rest)
 
   here-at : (j : ℕ) → f.start + j < f.end → packet_at held (f.start + j) ≡ packet sender (a + j)
@@ -97,22 +97,22 @@ module _ (format : Format) (sender : Sender) (m : ℕ) (g : SentFrame) (sent : B
       let i : ℕ = length g.packets - 1 in
       let j : ℕ = m + i - a in
       let held_false : is_tail_at format held (f.start + j) ≡ false =
-          frame.no_tail_before (f.start + j) (omega arith) (omega arith) in
+      frame.no_tail_before (f.start + j) (omega arith) (omega arith) in
       let sent_true : law.is_tail_at format g.packets i ≡ true =
-          is.last_alone_is_tail.last i (omega (arith, is.not_empty)) in
+      is.last_alone_is_tail.last i (omega (arith, is.not_empty)) in
       true≢false (sym sent_true ∙ sym (both-tails i j (omega arith) (omega (arith, is.not_empty))
-          (omega (arith, is.not_empty))) ∙ held_false)
+      (omega (arith, is.not_empty))) ∙ held_false)
 
   not-before : a + (f.end - f.start) < m + length g.packets → ⊥
   not-before h =
       let j : ℕ = f.end - f.start - 1 in
       let i : ℕ = a + j - m in
       let held_true : is_tail_at format held (f.start + j) ≡ true =
-          frame.tail (f.start + j) (omega (arith, frame.not_empty)) in
+      frame.tail (f.start + j) (omega (arith, frame.not_empty)) in
       let sent_false : law.is_tail_at format g.packets i ≡ false =
-          is.last_alone_is_tail.others i (omega (arith, frame.not_empty)) in
+      is.last_alone_is_tail.others i (omega (arith, frame.not_empty)) in
       true≢false (sym held_true ∙ both-tails i j (omega (arith, frame.not_empty)) (omega (arith, frame.not_empty))
-          (omega arith) ∙ sent_false)
+      (omega arith) ∙ sent_false)
 
   -- the frame ends with the sent one
   pub ends : a + (f.end - f.start) ≡ m + length g.packets
@@ -149,9 +149,14 @@ module _ (format : Format) (sender : Sender) (m : ℕ) (g : SentFrame) (sent : B
 
   payloads : payloads_of between ≡ law.payloads_of (drop missing g.packets)
   payloads = ext_get_or [] (payloads_of between) (law.payloads_of (drop missing g.packets))
-      (omega (arith, length-map between (λ (p : Packet). p.payload),
-          length-map (drop missing g.packets) (λ (p : MarkedPacket). p.payload), length-drop missing g.packets,
-          length-between, ends))
+      (omega (
+        arith,
+        length-map between (λ (p : Packet). p.payload),
+        length-map (drop missing g.packets) (λ (p : MarkedPacket). p.payload),
+        length-drop missing g.packets,
+        length-between,
+        ends,
+      ))
       (λ i h. payload-at i (omega (arith, h, length-map between (λ (p : Packet). p.payload), length-between)))
 
   head : format.head (law.packet_at g.packets missing).payload ≡ true
@@ -160,9 +165,9 @@ module _ (format : Format) (sender : Sender) (m : ℕ) (g : SentFrame) (sent : B
       let same : a + 0 ≡ m + missing = omega arith in
       let inside : missing < length g.packets = omega arith in
       let here : packet_at held f.start ≡ packet sender (a + 0) =
-          ap (packet_at held) (sym e) ∙ here-at 0 (omega (arith, frame.not_empty)) in
+      ap (packet_at held) (sym e) ∙ here-at 0 (omega (arith, frame.not_empty)) in
       sym (ap format.head (ap (λ (p : Packet). p.payload) here
-          ∙ ap (λ (c : Content). c.bytes) (ap sender same ∙ sent missing inside))) ∙ frame.head
+      ∙ ap (λ (c : Content). c.bytes) (ap sender same ∙ sent missing inside))) ∙ frame.head
 
   abbrev run : Run
   run = run_of format None between
@@ -251,7 +256,7 @@ module _ (format : Format) (sender : Sender) (m : ℕ) (g : SentFrame) (sent : B
   cutoff-behind =
       let place : f.end - 1 ≡ f.start + (f.end - 1 - f.start) = omega (arith, frame.not_empty) in
       let here : number_at held (f.start + (f.end - 1 - f.start)) ≡ a + (f.end - 1 - f.start) =
-          ap (λ (p : Packet). p.meta.seq_no) (here-at (f.end - 1 - f.start) (omega (arith, frame.not_empty))) in
+      ap (λ (p : Packet). p.meta.seq_no) (here-at (f.end - 1 - f.start) (omega (arith, frame.not_empty))) in
       let there : number_at held (f.end - 1) ≡ a + (f.end - 1 - f.start) = ap (number_at held) place ∙ here in
       omega (arith, there, ends, frame.not_empty)
 
@@ -260,7 +265,7 @@ module _ (format : Format) (sender : Sender) (m : ℕ) (g : SentFrame) (sent : B
       let next : suc (f.end - 1) ≡ f.end = omega (arith, frame.not_empty) in
       let place : f.end - 1 ≡ f.start + (f.end - 1 - f.start) = omega (arith, frame.not_empty) in
       let there : get_or xs (f.end - 1) 0 ≡ a + (f.end - 1 - f.start) =
-          ap (λ k. get_or xs k 0) place ∙ at (f.end - 1 - f.start) (omega (arith, frame.not_empty)) in
+      ap (λ k. get_or xs k 0) place ∙ at (f.end - 1 - f.start) (omega (arith, frame.not_empty)) in
       let number : get_or xs (f.end - 1) 0 + 1 ≡ m + length g.packets = omega (arith, there, ends, frame.not_empty) in
       subst₂ (λ (n k : ℕ). Rises n hi (drop k xs)) number next
-          (Rises-behind lo hi (f.end - 1) xs (omega (arith, few, frame.not_empty)) r)
+      (Rises-behind lo hi (f.end - 1) xs (omega (arith, few, frame.not_empty)) r)

@@ -30,8 +30,12 @@ module _ (first count hold_back opening : ℕ) (inside : opening ≤ count) wher
   )
 
   few-waiting : (past : List ℕ) → count ≤ 4096 → waiting first count past first ≤ 4096
-  few-waiting past h = omega (arith, count_by-le-length (is_among past)
-      (range_with_len first (first + count - first)), length-range_with_len first (first + count - first))
+  few-waiting past h = omega (
+    arith,
+    count_by-le-length (is_among past)
+        (range_with_len first (first + count - first)),
+    length-range_with_len first (first + count - first),
+  )
 
   arrivals-tame : (k : ℕ) (xs past left : List ℕ) → count ≤ 4096 → AreGoodArrivals first count past xs
       → IsTame first count hold_back opening past first left (map Arrive xs ++ replicate k Ask)
@@ -52,28 +56,28 @@ pub full-exact : (format : Format) (hold_back first polls : ℕ) (ss : List Sent
     → AreSentAs format ss → first + length (packets_of ss) ≤ 2 ^ 62 → length (packets_of ss) ≤ 4096 →
     AreGoodArrivals first (length (packets_of ss)) [] arrivals →
     EndsSilent (heard format (fresh hold_back)
-        (map (event_of (numbered first (datagrams ss))) (map Arrive arrivals ++ replicate (suc polls) Ask))) →
+    (map (event_of (numbered first (datagrams ss))) (map Arrive arrivals ++ replicate (suc polls) Ask))) →
     map timed_unit (handed_out (heard format (fresh hold_back)
-        (map (event_of (numbered first (datagrams ss))) (map Arrive arrivals ++ replicate (suc polls) Ask))))
-        ≡ map (λ c. Ok (whole_unit c)) (canonical_units first ss)
+    (map (event_of (numbered first (datagrams ss))) (map Arrive arrivals ++ replicate (suc polls) Ask))))
+    ≡ map (λ c. Ok (whole_unit c)) (canonical_units first ss)
 full-exact format hold_back first polls ss arrivals sent fits few good silent =
     let of : HaveFrames format ss = frames-of format ss sent in
     let count : total (sizes of.frames) ≡ length (packets_of ss) = count-is format ss sent in
     let same : sizes of.frames ≡ frame_sizes format ss = sizes-are format ss sent in
     let inside : first_size (frame_sizes format ss) ≤ length (packets_of ss) =
-        subst (λ (zs : List ℕ). first_size zs ≤ length (packets_of ss)) same
-        (omega (arith, opening-in (sizes of.frames), count)) in
+    subst (λ (zs : List ℕ). first_size zs ≤ length (packets_of ss)) same
+    (omega (arith, opening-in (sizes of.frames), count)) in
     let e : (map Arrive arrivals ++ replicate polls Ask) ++ Ask ∷ [] ≡ map Arrive arrivals
-        ++ replicate (suc polls) Ask = turns-are arrivals polls in
+    ++ replicate (suc polls) Ask = turns-are arrivals polls in
     let tame : IsTame first (length (packets_of ss)) hold_back (first_size (frame_sizes format ss)) [] first
-        (frame_sizes format ss) (map Arrive arrivals ++ replicate (suc polls) Ask) =
+    (frame_sizes format ss) (map Arrive arrivals ++ replicate (suc polls) Ask) =
     arrivals-tame first (length (packets_of ss)) hold_back (first_size (frame_sizes format ss)) inside (suc polls)
-        arrivals [] (frame_sizes format ss) few good in
+    arrivals [] (frame_sizes format ss) few good in
     subst (λ (ts : List Turn). map timed_unit
-        (handed_out (heard format (fresh hold_back) (map (event_of (numbered first (datagrams ss))) ts)))
-        ≡ map (λ c. Ok (whole_unit c)) (canonical_units first ss)) e
+    (handed_out (heard format (fresh hold_back) (map (event_of (numbered first (datagrams ss))) ts)))
+    ≡ map (λ c. Ok (whole_unit c)) (canonical_units first ss)) e
     (exact-samples format ss sent hold_back first (map Arrive arrivals ++ replicate polls Ask) fits
-        (subst (λ (ts : List Turn). IsTame first (length (packets_of ss)) hold_back
-        (first_size (frame_sizes format ss)) [] first (frame_sizes format ss) ts) (sym e) tame)
+    (subst (λ (ts : List Turn). IsTame first (length (packets_of ss)) hold_back
+    (first_size (frame_sizes format ss)) [] first (frame_sizes format ss) ts) (sym e) tame)
     (subst (λ (ts : List Turn). EndsSilent (heard format (fresh hold_back)
-        (map (event_of (numbered first (datagrams ss))) ts))) (sym e) silent))
+    (map (event_of (numbered first (datagrams ss))) ts))) (sym e) silent))

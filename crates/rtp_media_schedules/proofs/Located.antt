@@ -53,7 +53,7 @@ module _ (format : Format) (sender : Sender) where
     }
     | inr behind ↦
         let there : Located (n + length f.packets) fs a =
-            locate (n + length f.packets) fs a behind (omega arith) sent.1 frames.1 in
+        locate (n + length f.packets) fs a behind (omega arith) sent.1 frames.1 in
         record {
           from = there.from;
           frame = there.frame;

@@ -71,8 +71,8 @@ module _ (sender : Sender) where
   place-by : (o : Ordering) (x y : ℕ) (ys : List ℕ) → held_with (packet sender x) (map (packet sender) ys)
       ≡ map (packet sender) (placed x ys) →
       match_ordering o (packet sender x ∷ packet sender y ∷ map (packet sender) ys)
-          (packet sender y ∷ map (packet sender) ys)
-          (packet sender y ∷ held_with (packet sender x) (map (packet sender) ys))
+      (packet sender y ∷ map (packet sender) ys)
+      (packet sender y ∷ held_with (packet sender x) (map (packet sender) ys))
       ≡ map (packet sender) (match_ordering o (x ∷ y ∷ ys) (y ∷ ys) (y ∷ placed x ys))
   place-by Less x y ys ih = refl
   place-by Equal x y ys ih = refl
@@ -94,7 +94,7 @@ module _ (sender : Sender) where
       → IsHeld lo hi (limited (held_with (packet sender x) held))
   held-limited lo hi x held a b is =
       let e : held_with (packet sender x) held ≡ map (packet sender) (placed x is.numbers) =
-          ap (held_with (packet sender x)) is.are ∙ held-placed x is.numbers in
+      ap (held_with (packet sender x)) is.are ∙ held-placed x is.numbers in
       let n : ℕ = length (held_with (packet sender x) held) - 4096 in
       record {
         numbers = drop n (placed x is.numbers);

@@ -58,28 +58,28 @@ held_with-above p q qs h = ap (λ o. match_ordering o (p ∷ q ∷ qs) (q ∷ qs
 module _ (sender : Sender) where
   held-below : (p : ℕ → Bool) (x lo m : ℕ) → x < lo →
       held_with (packet sender x) (map (packet sender) (filter p (range_with_len lo m))) ≡ packet sender x
-          ∷ map (packet sender) (filter p (range_with_len lo m))
+      ∷ map (packet sender) (filter p (range_with_len lo m))
   held-below p x lo zero h = refl
   held-below p x lo (suc m) h =
       elim (p lo) as (λ b. held_with (packet sender x)
-          (map (packet sender) (cond b (lo ∷ filter p (range_with_len (lo + 1) m))
-          (filter p (range_with_len (lo + 1) m)))) ≡ packet sender x
-          ∷ map (packet sender) (cond b (lo ∷ filter p (range_with_len (lo + 1) m))
-          (filter p (range_with_len (lo + 1) m)))) [
+      (map (packet sender) (cond b (lo ∷ filter p (range_with_len (lo + 1) m))
+      (filter p (range_with_len (lo + 1) m)))) ≡ packet sender x
+      ∷ map (packet sender) (cond b (lo ∷ filter p (range_with_len (lo + 1) m))
+      (filter p (range_with_len (lo + 1) m)))) [
         | true ↦ held_with-below (packet sender x) (packet sender lo) _ h
         | false ↦ held-below p x (lo + 1) m (omega arith)
       ]
 
   place-here : (p : ℕ → Bool) (lo m : ℕ) → p lo ≡ false →
       held_with (packet sender lo) (map (packet sender) (filter p (range_with_len lo (suc m))))
-          ≡ map (packet sender) (filter (or_this p lo) (range_with_len lo (suc m)))
+      ≡ map (packet sender) (filter (or_this p lo) (range_with_len lo (suc m)))
   place-here p lo m n = rw (n, eqb-yes lo lo refl, filter-below p lo (lo + 1) m (omega arith))
       (held-below p lo (lo + 1) m (omega arith))
 
   place-step : (b : Bool) (x lo : ℕ) (xs ys : List ℕ) → lo < x → held_with (packet sender x) (map (packet sender) xs)
       ≡ map (packet sender) ys →
       held_with (packet sender x) (map (packet sender) (cond b (lo ∷ xs) xs))
-          ≡ map (packet sender) (cond b (lo ∷ ys) ys)
+      ≡ map (packet sender) (cond b (lo ∷ ys) ys)
   place-step true x lo xs ys l ih = held_with-above (packet sender x) (packet sender lo) (map (packet sender) xs) l
       ∙ ap (λ (zs : List Packet). packet sender lo ∷ zs) ih
   place-step false x lo xs ys l ih = ih
@@ -87,14 +87,14 @@ module _ (sender : Sender) where
   -- the packet of a number that was not there takes its place
   pub held_with-place : (p : ℕ → Bool) (x lo m : ℕ) → lo ≤ x → x < lo + m → p x ≡ false →
       held_with (packet sender x) (map (packet sender) (filter p (range_with_len lo m)))
-          ≡ map (packet sender) (filter (or_this p x) (range_with_len lo m))
+      ≡ map (packet sender) (filter (or_this p x) (range_with_len lo m))
   held_with-place p x lo zero a b n = absurd (omega arith)
   held_with-place p x lo (suc m) a b n =
       elim (eq-or-lt_of_le a) [
         | inl e ↦ let n' : p lo ≡ false = rw e n in
             subst (λ (z : ℕ). held_with (packet sender z)
-                (map (packet sender) (filter p (range_with_len lo (suc m))))
-                ≡ map (packet sender) (filter (or_this p z) (range_with_len lo (suc m)))) e (place-here p lo m n')
+            (map (packet sender) (filter p (range_with_len lo (suc m))))
+            ≡ map (packet sender) (filter (or_this p z) (range_with_len lo (suc m)))) e (place-here p lo m n')
         | inr l ↦ rw (eqb-no lo x (omega arith))
             (place-step (p lo) x lo _ _ l (held_with-place p x (lo + 1) m (omega arith) (omega arith) n))
       ]
@@ -107,9 +107,9 @@ length-filter-few p lo (suc m) zero none =
     rw (none lo (omega arith)) (length-filter-few p (lo + 1) m zero (λ y h. none y (omega arith)))
 length-filter-few p lo (suc m) (suc k) none =
     let few : length (filter p (range_with_len (lo + 1) m)) ≤ k =
-        length-filter-few p (lo + 1) m k (λ y h. none y (omega arith)) in
+    length-filter-few p (lo + 1) m k (λ y h. none y (omega arith)) in
     elim (p lo) as (λ b. length (cond b (lo ∷ filter p (range_with_len (lo + 1) m))
-        (filter p (range_with_len (lo + 1) m))) ≤ suc k) [ true ↦ omega arith | false ↦ omega arith ]
+    (filter p (range_with_len (lo + 1) m))) ≤ suc k) [ true ↦ omega arith | false ↦ omega arith ]
 
 abbrev pub AllFrom : ℕ → List ℕ → Type 0
 AllFrom lo [] = Unit {0}
@@ -123,6 +123,6 @@ pub AllFrom-filter : (p : ℕ → Bool) (lo m : ℕ) → AllFrom lo (filter p (r
 AllFrom-filter p lo zero = tt
 AllFrom-filter p lo (suc m) =
     let rest : AllFrom lo (filter p (range_with_len (lo + 1) m)) =
-        AllFrom-less lo (lo + 1) (omega arith) _ (AllFrom-filter p (lo + 1) m) in
+    AllFrom-less lo (lo + 1) (omega arith) _ (AllFrom-filter p (lo + 1) m) in
     elim (p lo) as (λ b. AllFrom lo (cond b (lo ∷ filter p (range_with_len (lo + 1) m))
-        (filter p (range_with_len (lo + 1) m)))) [ true ↦ (omega arith, rest) | false ↦ rest ]
+    (filter p (range_with_len (lo + 1) m)))) [ true ↦ (omega arith, rest) | false ↦ rest ]

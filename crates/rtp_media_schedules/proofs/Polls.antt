@@ -16,7 +16,7 @@ pub silent-on : (format : Format) (n : ℕ) (s : Stream) → due format s ≡ No
 silent-on format zero s none = poll_answer-is format s None none
 silent-on format (suc n) s none =
     subst (λ (t : Stream). EndsSilent (poll_answer format s ∷ heard format t (replicate (suc n) Poll)))
-        (sym (polled-is format s None none)) (silent-on format n s none)
+    (sym (polled-is format s None none)) (silent-on format n s none)
 
 -- after at most as many polls as packets are held one answers None
 pub polls-end : (format : Format) (n : ℕ) (s : Stream) → length s.held ≤ n
@@ -33,5 +33,5 @@ polls-end format (suc n) s few = go (λ t. polls-end format n t) (due format s) 
   go ih (Some f) e =
       let is : IsFrame format s.held f = due-is format s f e in
       subst (λ (t : Stream). EndsSilent (poll_answer format s ∷ heard format t (replicate (suc n) Poll)))
-          (sym (polled-is format s (Some f) e))
+      (sym (polled-is format s (Some f) e))
       (ih (stream_behind format s (Some f)) (omega (arith, few, is.not_empty, is.in_range, length-drop f.end s.held)))

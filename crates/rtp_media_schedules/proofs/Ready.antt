@@ -50,8 +50,11 @@ few-given h k lo zero none = omega arith
 few-given h k lo (suc n) none = elim (cases_lt lo k) [
   | inl before ↦ rw (none lo (omega arith) before)
       (omega (arith, few-given h k (lo + 1) n (λ j p q. none j (omega arith) q)))
-  | inr le ↦ omega (arith, at-most-one (h lo) (filter_map h (range_with_len (lo + 1) n)),
-      few-given h k (lo + 1) n (λ j p q. none j (omega arith) q))
+  | inr le ↦ omega (
+    arith,
+    at-most-one (h lo) (filter_map h (range_with_len (lo + 1) n)),
+    few-given h k (lo + 1) n (λ j p q. none j (omega arith) q),
+  )
 ]
 
 -- Numbers that pass a test.
@@ -60,7 +63,7 @@ Rises-filter p lo zero hi h = tt
 Rises-filter p lo (suc n) hi h =
     let rest : Rises (lo + 1) hi (filter p (range_with_len (lo + 1) n)) = Rises-filter p (lo + 1) n hi (omega arith) in
     elim (p lo) as (λ b. Rises lo hi (cond b (lo ∷ filter p (range_with_len (lo + 1) n))
-        (filter p (range_with_len (lo + 1) n)))) [
+    (filter p (range_with_len (lo + 1) n)))) [
       | true ↦ (omega arith, omega arith, rest)
       | false ↦ Rises-less lo (lo + 1) hi (omega arith) _ rest
     ]
@@ -78,9 +81,9 @@ filter-come p lo (suc size) n h =
     let e : lo + 1 + size ≡ lo + suc size = omega arith in
     let k : suc size + n ≡ suc (size + n) = omega arith in
     let rest : filter p (range_with_len (lo + 1) (size + n)) ≡ range_with_len (lo + 1) size
-        ++ filter p (range_with_len (lo + suc size) n) =
+    ++ filter p (range_with_len (lo + suc size) n) =
     filter-come p (lo + 1) size n here.1 ∙ ap
-        (λ (a : ℕ). range_with_len (lo + 1) size ++ filter p (range_with_len a n)) e in
+    (λ (a : ℕ). range_with_len (lo + 1) size ++ filter p (range_with_len a n)) e in
     ap (λ (a : ℕ). filter p (range_with_len lo a)) k ∙ rw here.0 (ap (λ (xs : List ℕ). lo ∷ xs) rest)
 
 pub all-pass : (p : ℕ → Bool) (lo size : ℕ) → list_all p (range_with_len lo size) ≡ true → (y : ℕ) → lo ≤ y
@@ -114,8 +117,13 @@ misses p lo (suc size) h = go (misses p (lo + 1) size) (p lo) refl where
   go ih false e = record { number = lo; low = omega arith; high = omega arith; missing = e }
   go ih true e =
       let rest : Misses p (lo + 1) size = ih (rw e at h) in
-      record { number = rest.number; low = omega (arith, rest.low); high = omega (arith, rest.high); missing =
-          rest.missing }
+      record {
+        number = rest.number;
+        low = omega (arith, rest.low);
+        high = omega (arith, rest.high);
+        missing =
+            rest.missing;
+      }
 
 pub filter-missing : (p : ℕ → Bool) (lo k n : ℕ) → p (lo + k) ≡ false → filter p (range_with_len lo (k + suc n))
     ≡ filter p (range_with_len lo k) ++ filter p (range_with_len (lo + k + 1) n)
@@ -124,19 +132,19 @@ filter-missing p lo zero n h =
     let k : 0 + suc n ≡ suc n = omega arith in
     let here : p lo ≡ false = ap p (sym e) ∙ h in
     ap (λ (b : ℕ). filter p (range_with_len lo b)) k
-        ∙ rw here (ap (λ (a : ℕ). filter p (range_with_len (a + 1) n)) (sym e))
+    ∙ rw here (ap (λ (a : ℕ). filter p (range_with_len (a + 1) n)) (sym e))
 filter-missing p lo (suc k) n h =
     let e : lo + 1 + k ≡ lo + suc k = omega arith in
     let size : suc k + suc n ≡ suc (k + suc n) = omega arith in
     let rest : filter p (range_with_len (lo + 1) (k + suc n)) ≡ filter p (range_with_len (lo + 1) k)
-        ++ filter p (range_with_len (lo + suc k + 1) n) =
+    ++ filter p (range_with_len (lo + suc k + 1) n) =
     filter-missing p (lo + 1) k n (ap p e ∙ h)
-        ∙ ap (λ (a : ℕ). filter p (range_with_len (lo + 1) k) ++ filter p (range_with_len (a + 1) n)) e in
+    ∙ ap (λ (a : ℕ). filter p (range_with_len (lo + 1) k) ++ filter p (range_with_len (a + 1) n)) e in
     ap (λ (b : ℕ). filter p (range_with_len lo b)) size
     ∙ elim (p lo) as (λ b. cond b (lo ∷ filter p (range_with_len (lo + 1) (k + suc n)))
-        (filter p (range_with_len (lo + 1) (k + suc n)))
-        ≡ cond b (lo ∷ filter p (range_with_len (lo + 1) k)) (filter p (range_with_len (lo + 1) k))
-        ++ filter p (range_with_len (lo + suc k + 1) n)) [
+    (filter p (range_with_len (lo + 1) (k + suc n)))
+    ≡ cond b (lo ∷ filter p (range_with_len (lo + 1) k)) (filter p (range_with_len (lo + 1) k))
+    ++ filter p (range_with_len (lo + suc k + 1) n)) [
       | true ↦ ap (λ (xs : List ℕ). lo ∷ xs) rest
       | false ↦ rest
     ]
@@ -169,7 +177,7 @@ module _ (format : Format) (sender : Sender) (m : ℕ) (g : SentFrame) (sent : B
   pub number-in : (k : ℕ) → k < length g.packets → get_or numbers k 0 ≡ m + k
   number-in k h =
       get_or-append (range_with_len m (length g.packets)) ys 0 k
-          (omega (arith, length-range_with_len m (length g.packets)))
+      (omega (arith, length-range_with_len m (length g.packets)))
       ∙ get_or-range_with_len m (length g.packets) k 0 h
 
   packet-in : (k : ℕ) → k < length g.packets → packet_at held k ≡ packet sender (m + k)
@@ -204,7 +212,7 @@ module _ (format : Format) (sender : Sender) (m : ℕ) (g : SentFrame) (sent : B
   run-in zero h = ap (λ b. run_or_head None b 0) head-in
   run-in (suc k) h =
       ap₂ (λ (b : Bool) (run : Option ℕ). run_or_head (kept_run b run) (is_head_at format held (suc k)) (suc k))
-          (joined-in k h) (run-in k (omega arith))
+      (joined-in k h) (run-in k (omega arith))
 
   no-frame : (k : ℕ) → suc k < length g.packets → frame_at format held k ≡ None
   no-frame k h = ap (λ b. frame_of_run b (run_start format held (k + 1)) (k + 1))
@@ -214,15 +222,15 @@ module _ (format : Format) (sender : Sender) (m : ℕ) (g : SentFrame) (sent : B
   frame-there k e =
       let next : k + 1 ≡ suc k = omega arith in
       ap₂ (λ (b : Bool) (run : Option ℕ). frame_of_run b run (k + 1))
-          (tail-in k (omega arith) ∙ is.last_alone_is_tail.last k e)
-          (ap (run_start format held) next ∙ run-in k (omega arith))
+      (tail-in k (omega arith) ∙ is.last_alone_is_tail.last k e)
+      (ap (run_start format held) next ∙ run-in k (omega arith))
       ∙ ap (λ n. Some (front n)) e
 
   lowest-in : lowest_of (complete_frames format held) ≡ Some (front (length g.packets))
   unfolding frames_among
   lowest-in =
       first-given (frame_at format held) (front (length g.packets)) (length g.packets - 1) 0 (length held)
-          (omega arith) (omega (arith, length-held, is.not_empty))
+      (omega arith) (omega (arith, length-held, is.not_empty))
       (λ j a b. no-frame j (omega arith)) (frame-there (length g.packets - 1) (omega (arith, is.not_empty)))
 
   -- and it is due where it is next
@@ -232,16 +240,16 @@ module _ (format : Format) (sender : Sender) (m : ℕ) (g : SentFrame) (sent : B
       let number : number_at held 0 ≡ m = number_at-in 0 is.not_empty ∙ add-zero m in
       ap (λ o. due_of cutoff hold_back held o (length (complete_frames format held))) lowest-in
       ∙ ap (λ n. if is_next cutoff n || nat_lt hold_back (length (complete_frames format held))
-          then Some (front (length g.packets)) else None) number
+      then Some (front (length g.packets)) else None) number
       ∙ ap (λ b. if b || nat_lt hold_back (length (complete_frames format held)) then Some (front (length g.packets))
-          else None) next
+      else None) next
 
 -- A sent frame of which a packet is missing: no complete frame begins with it, and none ends before the
 -- missing packet.
 module _ (format : Format) (sender : Sender) (m : ℕ) (g : SentFrame) (sent : Brings sender m g)
     (is : IsFrameOf format g.packets g.parts) (x : ℕ) (from : m ≤ x) (to : x < m + length g.packets)
     (lower upper : List ℕ) (rises : Rises m x lower)
-        (lacks : (k : ℕ) → k < length (lower ++ upper) → get_or (lower ++ upper) k 0 ≢ x) where
+    (lacks : (k : ℕ) → k < length (lower ++ upper) → get_or (lower ++ upper) k 0 ≢ x) where
   abbrev those : List Packet
   those = map (packet sender) (lower ++ upper)
 
@@ -254,9 +262,9 @@ module _ (format : Format) (sender : Sender) (m : ℕ) (g : SentFrame) (sent : B
       let i : ℕ = get_or lower k 0 - m in
       let place : get_or (lower ++ upper) k 0 ≡ m + i = omega (arith, number, Rises-from m x k lower h rises) in
       let inside : i + 1 < length g.packets = omega
-          (arith, Rises-from m x k lower h rises, Rises-below m x k lower h rises) in
+      (arith, Rises-from m x k lower h rises, Rises-below m x k lower h rises) in
       ap (λ (p : Packet). format.tail p.meta.marker p.payload)
-          (packet-at sender (lower ++ upper) k (omega (arith, length-append lower upper)))
+      (packet-at sender (lower ++ upper) k (omega (arith, length-append lower upper)))
       ∙ ap (λ (c : Content). format.tail c.marker c.bytes) (ap sender place ∙ sent i (omega arith))
       ∙ is.last_alone_is_tail.others i inside
 
@@ -265,19 +273,22 @@ module _ (format : Format) (sender : Sender) (m : ℕ) (g : SentFrame) (sent : B
 
   few-frames : length (complete_frames format those) ≤ length upper
   unfolding frames_among
-  few-frames = omega (arith, length-those,
-      few-given (frame_at format those) (length lower) 0 (length those) (λ j a b. none-below j b))
+  few-frames = omega (
+    arith,
+    length-those,
+    few-given (frame_at format those) (length lower) 0 (length those) (λ j a b. none-below j b),
+  )
 
   not-first : (f : Frame) → IsFrame format those f → get_or (lower ++ upper) f.start 0 ≢ m
   not-first f frame e =
       let low : m ≤ get_or (lower ++ upper) f.start 0 = omega (arith, e) in
       let high : get_or (lower ++ upper) f.start 0 < m + length g.packets = omega (arith, e, is.not_empty) in
       let whole : get_or (lower ++ upper) f.start 0 + (f.end - f.start) ≡ m + length g.packets =
-          ends format sender m g sent is (lower ++ upper) f frame low high in
+      ends format sender m g sent is (lower ++ upper) f frame low high in
       let here : get_or (lower ++ upper) (f.start + (x - m)) 0 ≡ get_or (lower ++ upper) f.start 0 + (x - m) =
-          at format sender m g sent is (lower ++ upper) f frame low high (x - m) (omega arith) in
+      at format sender m g sent is (lower ++ upper) f frame low high (x - m) (omega arith) in
       lacks (f.start + (x - m)) (omega (arith, frame.in_range, length-map (lower ++ upper) (packet sender)))
-          (omega (arith, here, e))
+      (omega (arith, here, e))
 
   not-due : (cutoff hold_back count : ℕ) (o : Option Frame) → ((f : Frame) → o ≡ Some f → IsFrame format those f)
       → cutoff + 1 ≡ m → count ≤ hold_back → due_of (Some cutoff) hold_back those o count ≡ None
@@ -285,10 +296,10 @@ module _ (format : Format) (sender : Sender) (m : ℕ) (g : SentFrame) (sent : B
   not-due cutoff hold_back count (Some f) frames next few =
       let frame : IsFrame format those f = frames f refl in
       let number : number_at those f.start ≡ get_or (lower ++ upper) f.start 0 =
-          ap (λ (p : Packet). p.meta.seq_no) (packet-at sender (lower ++ upper) f.start
-          (omega (arith, frame.not_empty, frame.in_range, length-map (lower ++ upper) (packet sender)))) in
+      ap (λ (p : Packet). p.meta.seq_no) (packet-at sender (lower ++ upper) f.start
+      (omega (arith, frame.not_empty, frame.in_range, length-map (lower ++ upper) (packet sender)))) in
       let other : (number_at those f.start == cutoff + 1) ≡ false =
-          eqb-no (number_at those f.start) (cutoff + 1) (λ e. not-first f frame (omega (arith, number, e))) in
+      eqb-no (number_at those f.start) (cutoff + 1) (λ e. not-first f frame (omega (arith, number, e))) in
       ap₂ (λ (a b : Bool). if a || b then Some f else None) other (nat_lt-no hold_back count few)
 
   -- so none is due while enough are held back
@@ -296,7 +307,7 @@ module _ (format : Format) (sender : Sender) (m : ℕ) (g : SentFrame) (sent : B
       → due_frame format (Some cutoff) hold_back those ≡ None
   none-due cutoff hold_back next few =
       not-due cutoff hold_back (length (complete_frames format those)) (lowest_of (complete_frames format those))
-          (λ f e. lowest_is format those f e) next (omega (arith, few-frames))
+      (λ f e. lowest_is format those f e) next (omega (arith, few-frames))
 
 -- where nothing is held, none is due
 pub none-held : (format : Format) (cutoff : Option ℕ) (hold_back : ℕ) → due_frame format cutoff hold_back [] ≡ None

@@ -87,17 +87,23 @@ whole-timed (Err e ∷ rs) (c ∷ cs) ds are w = absurd are
 whole-timed (Ok u ∷ rs) (c ∷ cs) [] are w = absurd w
 whole-timed (Ok u ∷ rs) (c ∷ cs) (d ∷ ds) are w =
     ap₂ (λ (t : Timed) (ts : List (Result Timed PacketError)). Ok t ∷ ts) (timed-whole c d u w.0 are.0)
-        (whole-timed rs cs ds are.1 w.1)
+    (whole-timed rs cs ds are.1 w.1)
 
 canonical-append : (n : ℕ) (fs gs : List SentFrame) → canonical_from n (fs ++ gs) ≡ canonical_from n fs
     ++ canonical_from (n + total (sizes fs)) gs
 canonical-append n [] gs = let e : n ≡ n + 0 = omega arith in ap (λ k. canonical_from k gs) e
 canonical-append n (f ∷ fs) gs =
     let e : n + length f.packets + total (sizes fs) ≡ n + (length f.packets + total (sizes fs)) = omega arith in
-    ap (λ (cs : List Canonical). record { first = n; end = n + length f.packets; time = f.time; values =
-        f.values; parts = f.parts } ∷ cs)
+    ap (λ (cs : List Canonical). record {
+      first = n;
+      end = n + length f.packets;
+      time = f.time;
+      values =
+          f.values;
+      parts = f.parts;
+    } ∷ cs)
     (canonical-append (n + length f.packets) fs gs
-        ∙ ap (λ k. canonical_from (n + length f.packets) fs ++ canonical_from k gs) e)
+    ∙ ap (λ k. canonical_from (n + length f.packets) fs ++ canonical_from k gs) e)
 
 frames-append : (format : Format) (fs gs : List SentFrame) → AreFrames format fs → AreFrames format gs
     → AreFrames format (fs ++ gs)
@@ -144,7 +150,7 @@ frames-in format time values (parts ∷ units) ps is =
           ∙ ap (contents_by time values) (take-append-drop n ps);
       wider = λ m lo hi a b.
           let sum : length (take n ps) + length (drop n ps) ≡ length ps =
-              sym (length-append (take n ps) (drop n ps)) ∙ ap length (take-append-drop n ps) in (
+          sym (length-append (take n ps) (drop n ps)) ∙ ap length (take-append-drop n ps) in (
             record { first = a; end = omega (arith, sum); time = refl; values = refl; parts = refl },
             rest.wider (m + length (take n ps)) lo hi (omega arith) (omega (arith, sum)),
           );
@@ -162,7 +168,7 @@ pub frames-of : (format : Format) (ss : List SentSample) → AreSentAs format ss
 frames-of format [] is = record { frames = []; are = tt; packets = refl; brought = refl; wider = λ n. tt }
 frames-of format (s ∷ ss) is =
     let here : HasFrames format s.time s.values s.packets s.units =
-        frames-in format s.time s.values s.units s.packets is.0 in
+    frames-in format s.time s.values s.units s.packets is.0 in
     let rest : HaveFrames format ss = frames-of format ss is.1 in
     let count : total (sizes here.frames) ≡ length s.packets = total-packets here.frames ∙ ap length here.packets in
     record {
@@ -175,10 +181,10 @@ frames-of format (s ∷ ss) is =
       wider = λ n. subst (λ (cs : List Canonical). AreWider cs (canonical_units n (s ∷ ss)))
           (sym (canonical-append n here.frames rest.frames))
           (wider-append (canonical_from n here.frames) (units_in n s)
-              (canonical_from (n + total (sizes here.frames)) rest.frames) (canonical_units (n + length s.packets) ss)
+          (canonical_from (n + total (sizes here.frames)) rest.frames) (canonical_units (n + length s.packets) ss)
           (here.wider n n (n + length s.packets) (omega arith) (omega arith))
           (subst (λ (k : ℕ). AreWider (canonical_from (n + k) rest.frames)
-              (canonical_units (n + length s.packets) ss)) (sym count) (rest.wider (n + length s.packets))));
+          (canonical_units (n + length s.packets) ss)) (sym count) (rest.wider (n + length s.packets))));
     }
 
 -- the sizes of frames, by their tails
@@ -189,10 +195,10 @@ cut-frame format open_ (q ∷ []) rest some is = rw (is.last 0 refl) refl
 cut-frame format open_ (q ∷ p ∷ qs) rest some is =
     let e : open_ + 1 + length (p ∷ qs) ≡ open_ + length (q ∷ p ∷ qs) = omega arith in
     let behind : LastAloneIsTail format (p ∷ qs) =
-        record { last = λ k h. is.last (suc k) (omega arith); others = λ k h. is.others (suc k) (omega arith) } in
+    record { last = λ k h. is.last (suc k) (omega arith); others = λ k h. is.others (suc k) (omega arith) } in
     let here : format.tail q.marker q.payload ≡ false = is.others 0 (omega arith) in
     ap (λ b. if b then (open_ + 1) ∷ sizes_from format 0 (p ∷ qs ++ rest)
-        else sizes_from format (open_ + 1) (p ∷ qs ++ rest)) here
+    else sizes_from format (open_ + 1) (p ∷ qs ++ rest)) here
     ∙ cut-frame format (open_ + 1) (p ∷ qs) rest (omega arith) behind
     ∙ ap (λ n. n ∷ sizes_from format 0 rest) e
 
@@ -207,7 +213,7 @@ sizes-of format (f ∷ fs) is =
 -- a poll more is an answer more
 heard-more : (format : Format) (sender : ℕ → Content) (ts : List Turn) (s : Stream) →
     heard format s (map (event_of sender) (ts ++ Ask ∷ [])) ≡ heard format s (map (event_of sender) ts)
-        ++ poll_answer format (after_events format s (map (event_of sender) ts)) ∷ []
+    ++ poll_answer format (after_events format s (map (event_of sender) ts)) ∷ []
 heard-more format sender [] s = refl
 heard-more format sender (Arrive x ∷ ts) s =
     heard-more format sender ts (taken_by s (number_at s (x % 65536)) (sender x))
@@ -238,42 +244,42 @@ module _ (format : Format) (ss : List SentSample) (sent : AreSentAs format ss) w
   pub legal-samples : (hold_back first : ℕ) (turns : List Turn) → first + length (packets_of ss) ≤ 2 ^ 62
       → IsSane first (length (packets_of ss)) [] turns →
       IsLegal (canonical_units first ss) (heard format (fresh hold_back)
-          (map (event_of (numbered first (datagrams ss))) turns))
+      (map (event_of (numbered first (datagrams ss))) turns))
   legal-samples hold_back first turns fits sane =
       let sane' : IsSane first (total (sizes of.frames)) [] turns =
-          subst (λ (n : ℕ). IsSane first n [] turns) (sym count-is) sane in
+      subst (λ (n : ℕ). IsSane first n [] turns) (sym count-is) sane in
       let is : IsLegal (canonical_from first of.frames)
-          (heard format (fresh hold_back) (map (event_of (numbered first (contents of.frames))) turns)) =
+      (heard format (fresh hold_back) (map (event_of (numbered first (contents of.frames))) turns)) =
       legal format hold_back first of.frames turns of.are (omega (arith, count-is)) sane' in
       subst (λ (cs : List Content). IsLegal (canonical_units first ss)
-          (heard format (fresh hold_back) (map (event_of (numbered first cs)) turns))) of.brought
+      (heard format (fresh hold_back) (map (event_of (numbered first cs)) turns))) of.brought
       (legal-wider is (canonical_units first ss) (of.wider first))
 
   pub exact-samples : (hold_back first : ℕ) (turns : List Turn) → first + length (packets_of ss) ≤ 2 ^ 62 →
       IsTame first (length (packets_of ss)) hold_back (first_size (frame_sizes format ss)) [] first
-          (frame_sizes format ss) (turns ++ Ask ∷ []) →
+      (frame_sizes format ss) (turns ++ Ask ∷ []) →
       EndsSilent (heard format (fresh hold_back) (map (event_of (numbered first (datagrams ss))) (turns ++ Ask ∷ []))) →
       map timed_unit (handed_out (heard format (fresh hold_back)
-          (map (event_of (numbered first (datagrams ss))) (turns ++ Ask ∷ []))))
-          ≡ map (λ c. Ok (whole_unit c)) (canonical_units first ss)
+      (map (event_of (numbered first (datagrams ss))) (turns ++ Ask ∷ []))))
+      ≡ map (λ c. Ok (whole_unit c)) (canonical_units first ss)
   exact-samples hold_back first turns fits tame silent =
       let sender : ℕ → Content = numbered first (datagrams ss) in
       let os : List Answer = heard format (fresh hold_back) (map (event_of sender) turns) in
       let o : Answer = poll_answer format (after_events format (fresh hold_back) (map (event_of sender) turns)) in
       let more : heard format (fresh hold_back) (map (event_of sender) (turns ++ Ask ∷ [])) ≡ os ++ o ∷ [] =
-          heard-more format sender turns (fresh hold_back) in
+      heard-more format sender turns (fresh hold_back) in
       let last : o ≡ Ok None = silent-last os o (subst EndsSilent more silent) in
       let brought : numbered first (contents of.frames) ≡ sender = ap (numbered first) of.brought in
       let tame' : IsTame first (total (sizes of.frames)) hold_back (first_size (sizes of.frames)) [] first
-          (sizes of.frames) (turns ++ Ask ∷ []) =
+      (sizes of.frames) (turns ++ Ask ∷ []) =
       subst₂ (λ (n : ℕ) (zs : List ℕ). IsTame first n hold_back (first_size zs) [] first zs (turns ++ Ask ∷ []))
-          (sym count-is) (sym sizes-are) tame in
+      (sym count-is) (sym sizes-are) tame in
       let last' : poll_answer format (after_events format (fresh hold_back)
-          (map (event_of (numbered first (contents of.frames))) turns)) ≡ Ok None =
+      (map (event_of (numbered first (contents of.frames))) turns)) ≡ Ok None =
       ap (λ (f : ℕ → Content). poll_answer format (after_events format (fresh hold_back) (map (event_of f) turns)))
-          brought ∙ last in
+      brought ∙ last in
       let is : AreWhole (handed_out (heard format (fresh hold_back)
-          (map (event_of (numbered first (contents of.frames))) turns))) (canonical_from first of.frames) =
+      (map (event_of (numbered first (contents of.frames))) turns))) (canonical_from first of.frames) =
       exact format hold_back first of.frames turns of.are (omega (arith, count-is)) tame' last' in
       ap (λ (rs : List Answer). map timed_unit (handed_out rs)) (more ∙ ap (λ (a : Answer). os ++ a ∷ []) last)
       ∙ ap (map timed_unit) (handed-more os
@@ -298,11 +304,11 @@ pub sent-as : (coding : Coding) → CodecLaw coding → (limit : ℕ) (xs : List
 sent-as coding obeys limit [] sender reached good = tt
 sent-as coding obeys limit (x ∷ xs) sender reached good =
     let sends : SendsUnits coding limit (coding.packing.pack sender limit x.bytes)
-        (coding.units sender limit x.bytes) (coding.after sender limit x.bytes) =
-        obeys sender limit x.bytes reached good.0 in (
+    (coding.units sender limit x.bytes) (coding.after sender limit x.bytes) =
+    obeys sender limit x.bytes reached good.0 in (
       sent-frames coding limit sender (coding.packing.pack sender limit x.bytes) (coding.units sender limit x.bytes)
           (coding.after sender limit x.bytes) sends,
       sent-as coding obeys limit xs (sent_or sender (coding.packing.pack sender limit x.bytes)).sender
           (sent-reached coding limit sender (coding.packing.pack sender limit x.bytes)
-              (coding.units sender limit x.bytes) (coding.after sender limit x.bytes) sends) good.1,
+          (coding.units sender limit x.bytes) (coding.after sender limit x.bytes) sends) good.1,
     )

@@ -114,9 +114,15 @@ module _ (format : Format) (sender : Sender) (first count : ℕ) (fits : first +
 
   arrives-by : (past : List ℕ) (n : ℕ) (s : Stream) (x : ℕ) → IsSound past n s → IsSaneArrival first count past x
       → (b : Bool) → is_accepted s.window x ≡ b →
-      IsSound (x ∷ past) n (if b then record { hold_back = s.hold_back; window =
-          Some (recorded_in s.window x); held = pushed s.cutoff s.held (packet sender x); cutoff =
-          s.cutoff; fragment = s.fragment } else s)
+      IsSound (x ∷ past) n (if b then record {
+        hold_back = s.hold_back;
+        window =
+            Some (recorded_in s.window x);
+        held = pushed s.cutoff s.held (packet sender x);
+        cutoff =
+            s.cutoff;
+        fragment = s.fragment;
+      } else s)
   arrives-by past n s x is sane true e = record {
     greatest = greatest-more past s.window x is.greatest;
     held = kept n x s is.held is.cutoff sane.from_first sane.before_end (is_done s.cutoff x) refl;
@@ -134,7 +140,7 @@ module _ (format : Format) (sender : Sender) (first count : ℕ) (fits : first +
       → IsSound (x ∷ past) n (taken_by s (hearing.number_at s (x % 65536)) (sender x))
   arrives past n s x is sane =
       rw (widened-sane past s.window x (omega (arith, sane.before_end)) is.greatest sane.near)
-          (arrives-by past n s x is sane (is_accepted s.window x) refl)
+      (arrives-by past n s x is sane (is_accepted s.window x) refl)
 
   -- what a poll does that hands a frame out
   pub record IsHandedOut (past : List ℕ) (n : ℕ) (fs : List SentFrame) (s : Stream) (f : Frame) : Type 0 where
@@ -152,16 +158,16 @@ module _ (format : Format) (sender : Sender) (first count : ℕ) (fits : first +
       let xs : List ℕ = is.held.numbers in
       let are : s.held ≡ map (packet sender) xs = is.held.are in
       let frame : IsFrame format (map (packet sender) xs) f =
-          subst (λ (ps : List Packet). IsFrame format ps f) are (due-is format s f e) in
+      subst (λ (ps : List Packet). IsFrame format ps f) are (due-is format s f e) in
       let inside : f.start < length xs = omega
-          (arith, frame.not_empty, frame.in_range, length-map xs (packet sender)) in
+      (arith, frame.not_empty, frame.in_range, length-map xs (packet sender)) in
       let low : n ≤ get_or xs f.start 0 = Rises-from n (first + count) f.start xs inside is.held.rises in
       let high : get_or xs f.start 0 < n + total (sizes fs) =
-          omega (arith, same_end, Rises-below n (first + count) f.start xs inside is.held.rises) in
+      omega (arith, same_end, Rises-below n (first + count) f.start xs inside is.held.rises) in
       let there : Located format sender n fs (get_or xs f.start 0) =
-          locate format sender n fs (get_or xs f.start 0) low high sent frames in
+      locate format sender n fs (get_or xs f.start 0) low high sent frames in
       let given : GivesUnit there.from (get_or xs f.start 0) there.frame
-          (metas_of (packets_between (map (packet sender) xs) f)) (run_among format None (map (packet sender) xs) f) =
+      (metas_of (packets_between (map (packet sender) xs) f)) (run_among format None (map (packet sender) xs) f) =
       gives-unit format sender there.from there.frame there.sent there.is_frame xs f frame there.low there.high in
       record {
         number = get_or xs f.start 0;
@@ -194,37 +200,42 @@ module _ (format : Format) (sender : Sender) (first count : ℕ) (fits : first +
   sane-legal [] past n fs s is sent frames same_end sane = Ended
   sane-legal (Arrive x ∷ ts) past n fs s is sent frames same_end sane =
       sane-legal ts (x ∷ past) n fs (taken_by s (hearing.number_at s (x % 65536)) (sender x))
-          (arrives past n s x is sane.0) sent frames same_end sane.1
+      (arrives past n s x is sane.0) sent frames same_end sane.1
   sane-legal (Ask ∷ ts) past n fs s is sent frames same_end sane =
       go (λ n fs s is sent frames same_end. sane-legal ts past n fs s is sent frames same_end sane) (due format s)
-          refl where
+      refl where
         go : ((n : ℕ) (fs : List SentFrame) (s : Stream) → IsSound past n s → AreBrought sender n fs
             → AreFrames format fs → n + total (sizes fs) ≡ first + count
             → IsLegal (canonical_from n fs) (heard format s (map (event_of sender) ts))) →
             (d : Option Frame) → due format s ≡ d → IsLegal (canonical_from n fs)
-                (heard format s (map (event_of sender) (Ask ∷ ts)))
+            (heard format s (map (event_of sender) (Ask ∷ ts)))
         go ih None e = rw (poll_answer-is format s None e, polled-is format s None e)
             (Silent (ih n fs s is sent frames same_end))
         go ih (Some f) e =
             let step : IsHandedOut past n fs s f = hands-out past n fs s f is sent frames same_end e in
             rw (poll_answer-is format s (Some f) e, polled-is format s (Some f) e, step.answer)
             (step.there.legal step.unit (heard format (stream_behind format s (Some f)) (map (event_of sender) ts))
-                step.is_final_run
+            step.is_final_run
             (ih (step.there.from + length step.there.frame.packets) step.there.rest (stream_behind format s (Some f))
-                step.sound step.there.sent_rest step.there.frames_rest (step.there.same_end ∙ same_end)))
+            step.sound step.there.sent_rest step.there.frames_rest (step.there.same_end ∙ same_end)))
 
   pub fresh-sound : (hold_back : ℕ) → IsSound [] first (fresh hold_back)
-  fresh-sound hold_back = record { greatest = tt; held = record { numbers = []; rises = tt; are = refl }; cutoff =
-      refl; closed = refl }
+  fresh-sound hold_back = record {
+    greatest = tt;
+    held = record { numbers = []; rises = tt; are = refl };
+    cutoff =
+        refl;
+    closed = refl;
+  }
 
 -- The sender of frames brings them.
 contents-in : (f : SentFrame) (more : List Content) (i : ℕ) → i < length f.packets
     → slice_index_or (contents_in f ++ more) i no_content ≡ content_at f i
 contents-in f more i h =
     get_or-append (contents_in f) more no_content i
-        (omega (arith, h, length-map f.packets (λ (p : MarkedPacket). content_of f.time p.marker f.values p.payload)))
+    (omega (arith, h, length-map f.packets (λ (p : MarkedPacket). content_of f.time p.marker f.values p.payload)))
     ∙ get_or-map (λ (p : MarkedPacket). content_of f.time p.marker f.values p.payload) f.packets i law.no_packet
-        no_content h
+    no_content h
 
 brought-by : (sender : Sender) (n : ℕ) (fs : List SentFrame)
     → ((i : ℕ) → i < total (sizes fs) → sender (n + i) ≡ slice_index_or (contents fs) i no_content)
@@ -234,7 +245,7 @@ brought-by sender n (f ∷ fs) same = (
   λ i h. same i (omega arith) ∙ contents-in f (contents fs) i h,
   brought-by sender (n + length f.packets) fs (λ i h.
       let count : length (contents_in f) ≡ length f.packets =
-          length-map f.packets (λ (p : MarkedPacket). content_of f.time p.marker f.values p.payload) in
+      length-map f.packets (λ (p : MarkedPacket). content_of f.time p.marker f.values p.payload) in
       let place : n + length f.packets + i ≡ n + (length f.packets + i) = omega arith in
       let behind : length f.packets + i ≡ length (contents_in f) + i = omega (arith, count) in
       ap sender place ∙ same (length f.packets + i) (omega arith)
@@ -251,5 +262,5 @@ pub legal : (format : Format) (hold_back first : ℕ) (fs : List SentFrame) (tur
     IsLegal (canonical_from first fs) (heard format (fresh hold_back) (map (event_of (sender_of first fs)) turns))
 legal format hold_back first fs turns frames fits sane =
     sane-legal format (sender_of first fs) first (total (sizes fs)) fits turns [] first fs (fresh hold_back)
-        (fresh-sound format (sender_of first fs) first (total (sizes fs)) fits hold_back) (sender-brings first fs)
-        frames refl sane
+    (fresh-sound format (sender_of first fs) first (total (sizes fs)) fits hold_back) (sender-brings first fs)
+    frames refl sane

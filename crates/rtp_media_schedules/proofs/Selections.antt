@@ -21,11 +21,11 @@ later-each : (cs : List Canonical) (us : List MediaUnit) (ps : List ℕ)
     → ((i : ℕ) (c : Canonical) (u : MediaUnit) → i < length ps
     → IsFinalRunOf (slice_index_or cs (slice_index ps i) c) (slice_index_or us i u)) →
     (d : Canonical) (i : ℕ) (c : Canonical) (u : MediaUnit) → i < length (map suc ps)
-        → IsFinalRunOf (slice_index_or (d ∷ cs) (slice_index (map suc ps) i) c) (slice_index_or us i u)
+    → IsFinalRunOf (slice_index_or (d ∷ cs) (slice_index (map suc ps) i) c) (slice_index_or us i u)
 later-each cs us ps each d i c u h =
     let inside : i < length ps = omega (arith, length-map ps suc) in
     subst (λ (p : ℕ). IsFinalRunOf (slice_index_or (d ∷ cs) p c) (slice_index_or us i u)) (sym (later ps i inside))
-        (each i c u inside)
+    (each i c u inside)
 
 later-inside : (n : ℕ) (ps : List ℕ) → ((i : ℕ) → i < length ps → slice_index ps i < n) → (i : ℕ)
     → i < length (map suc ps) → slice_index (map suc ps) i < suc n
@@ -47,18 +47,34 @@ first-each : (cs : List Canonical) (us : List MediaUnit) (ps : List ℕ)
     → ((i : ℕ) (c : Canonical) (u : MediaUnit) → i < length ps
     → IsFinalRunOf (slice_index_or cs (slice_index ps i) c) (slice_index_or us i u)) →
     (d : Canonical) (v : MediaUnit) → IsFinalRunOf d v → (i : ℕ) (c : Canonical) (u : MediaUnit)
-        → i < length (0 ∷ map suc ps) → IsFinalRunOf (slice_index_or (d ∷ cs) (slice_index (0 ∷ map suc ps) i) c)
-        (slice_index_or (v ∷ us) i u)
+    → i < length (0 ∷ map suc ps) → IsFinalRunOf (slice_index_or (d ∷ cs) (slice_index (0 ∷ map suc ps) i) c)
+    (slice_index_or (v ∷ us) i u)
 first-each cs us ps each d v is zero c u h = is
 first-each cs us ps each d v is (suc i) c u h = later-each cs us ps each d i c u (omega arith)
 
 pub selection : {cs : List Canonical} {os : List Answer} → IsLegal cs os → IsSelection cs os
-selection Ended = record { units = []; no_fault = refl; places = []; as_many = refl; rising =
-    λ i h. absurd (omega arith); inside = λ i h. absurd (omega arith); each = λ i c u h. absurd (omega arith) }
+selection Ended = record {
+  units = [];
+  no_fault = refl;
+  places = [];
+  as_many = refl;
+  rising =
+      λ i h. absurd (omega arith);
+  inside = λ i h. absurd (omega arith);
+  each = λ i c u h. absurd (omega arith);
+}
 selection (Silent rest) =
     let r = selection rest in
-    record { units = r.units; no_fault = r.no_fault; places = r.places; as_many = r.as_many; rising =
-        r.rising; inside = r.inside; each = r.each }
+    record {
+      units = r.units;
+      no_fault = r.no_fault;
+      places = r.places;
+      as_many = r.as_many;
+      rising =
+          r.rising;
+      inside = r.inside;
+      each = r.each;
+    }
 selection (PassedOver {c = d} {cs = cs} {os = os} rest) =
     let r : IsSelection cs os = selection rest in
     record {

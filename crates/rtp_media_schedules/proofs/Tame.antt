@@ -85,8 +85,15 @@ whole-is m a g metas run given e =
     let last : given.unit.last ≡ m + length g.packets - 1 = omega (arith, given.to_end) in
     let is : IsFinalRunOf (canonical m g) given.unit = given.is_final_run in
     let bytes : given.unit.bytes ≡ joined g.parts = is.bytes ∙ ap (λ k. joined (drop k g.parts)) (given.from_first e) in
-    λ i. record { first = first i; last = last i; time = is.time i; values = is.values i; bytes = bytes i; extra =
-        given.unit.extra }
+    λ i. record {
+      first = first i;
+      last = last i;
+      time = is.time i;
+      values = is.values i;
+      bytes = bytes i;
+      extra =
+          given.unit.extra;
+    }
 
 next-begins : (first next : ℕ) (cutoff : Option ℕ) → CutoffIs first next cutoff → is_next cutoff next ≡ true
 next-begins first next None h = refl
@@ -127,15 +134,15 @@ module _ (format : Format) (sender : Sender) (first count opening : ℕ) (fits :
       → IsReached (x ∷ past) next left (taken_by s x (sender x))
   arrives-anew past next left s x is good few new =
       let ahead : next ≤ x = elim (cases_lt x next)
-          [ inl below ↦ absurd (true≢false (sym (is.passed x good.from_first below) ∙ new)) | inr fine ↦ fine ] in
+      [ inl below ↦ absurd (true≢false (sym (is.passed x good.from_first below) ∙ new)) | inr fine ↦ fine ] in
       let e : held_with (packet sender x) s.held ≡ map (packet sender) (numbers_of first count (x ∷ past) next) =
       rw is.held (held_with-place sender (is_among past) x next (first + count - next) ahead
-          (omega (arith, good.before_end)) new) in
+      (omega (arith, good.before_end)) new) in
       let small : length (map (packet sender) (numbers_of first count (x ∷ past) next)) ≤ 4096 =
-          simp (length-map, length-filter) few in
+      simp (length-map, length-filter) few in
       let b : pushed s.cutoff s.held (packet sender x) ≡ map (packet sender) (numbers_of first count (x ∷ past) next) =
       rw (not_passed next x s.cutoff is.cutoff ahead, e)
-          (limited-few (map (packet sender) (numbers_of first count (x ∷ past) next)) small) in
+      (limited-few (map (packet sender) (numbers_of first count (x ∷ past) next)) small) in
       rw (anew first count past s.window x is.window good new, b) (record {
         window = window-more first count past s.window x is.window good;
         held = refl;
@@ -152,9 +159,9 @@ module _ (format : Format) (sender : Sender) (first count opening : ℕ) (fits :
       → IsReached (x ∷ past) next left (taken_by s (hearing.number_at s (x % 65536)) (sender x))
   arrives past next left s x is good few =
       rw (widened-true first count past s.window x fits is.window good) (go (is_among past x) refl) where
-    go : (b : Bool) → is_among past x ≡ b → IsReached (x ∷ past) next left (taken_by s x (sender x))
-    go true e = arrives-again past next left s x is e
-    go false e = arrives-anew past next left s x is good few e
+        go : (b : Bool) → is_among past x ≡ b → IsReached (x ∷ past) next left (taken_by s x (sender x))
+        go true e = arrives-again past next left s x is e
+        go false e = arrives-anew past next left s x is good few e
 
   -- a poll where the next frame came
   module _ (past : List ℕ) (next : ℕ) (f : SentFrame) (fs : List SentFrame) (s : Stream)
@@ -175,7 +182,7 @@ module _ (format : Format) (sender : Sender) (first count opening : ℕ) (fits :
       held-front =
           let n : first + count - next ≡ size + (first + count - (next + size)) = omega (arith, same_end) in
           is.held ∙ ap (map (packet sender)) (ap (λ k. filter (is_among past) (range_with_len next k)) n
-              ∙ filter-come (is_among past) next size (first + count - (next + size)) came)
+          ∙ filter-come (is_among past) next size (first + count - (next + size)) came)
 
       due-next : due format s ≡ Some (front size)
       unfolding due
@@ -211,7 +218,7 @@ module _ (format : Format) (sender : Sender) (first count opening : ℕ) (fits :
       answer-next =
           poll_answer-is format s (Some (front size)) due-next
           ∙ ap₂ (λ (fragment : Fragment) (ps : List Packet). answer_among format fragment ps (Some (front size)))
-              is.closed held-front
+          is.closed held-front
           ∙ given.answer
 
       closed-next : (run_among format s.fragment s.held (front size)).fragment ≡ None
@@ -257,8 +264,8 @@ module _ (format : Format) (sender : Sender) (first count opening : ℕ) (fits :
       (is : IsReached past next (sizes (f ∷ fs)) s) (sent : Brings sender next f)
       (frame : IsFrameOf format f.packets f.parts)
       (same_end : next + total (sizes (f ∷ fs)) ≡ first + count)
-          (good : IsGoodPoll first count s.hold_back past opening)
-          (lacks : has_come past next (length f.packets) ≡ false) where
+      (good : IsGoodPoll first count s.hold_back past opening)
+      (lacks : has_come past next (length f.packets) ≡ false) where
     abbrev miss : Misses (is_among past) next (length f.packets)
     miss = misses (is_among past) next (length f.packets) lacks
 
@@ -290,15 +297,15 @@ module _ (format : Format) (sender : Sender) (first count opening : ℕ) (fits :
     none-is k h e =
         let passes : is_among past (get_or (lower ++ upper) k 0) ≡ true =
         subst (λ (xs : List ℕ). (k : ℕ) → k < length xs → is_among past (get_or xs k 0) ≡ true) parts-of
-            (filter-passes (is_among past) next both_sides) k h in
+        (filter-passes (is_among past) next both_sides) k h in
         true≢false (sym passes ∙ ap (is_among past) e ∙ miss.missing)
 
     few-upper : length upper ≤ 127
     few-upper =
         let e : next + below_it ≡ miss.number = omega (arith, miss.low) in
         subst (λ (n : ℕ). length (filter (is_among past) (range_with_len (n + 1) above_it)) ≤ 127) (sym e)
-            (few-above past miss.number above_it s.window is.window (omega (arith, is.from_first, miss.low))
-            miss.missing)
+        (few-above past miss.number above_it s.window is.window (omega (arith, is.from_first, miss.low))
+        miss.missing)
 
     due-by : (cutoff : Option ℕ) → s.cutoff ≡ cutoff
         → due_frame format cutoff s.hold_back (map (packet sender) (lower ++ upper)) ≡ None
@@ -327,13 +334,19 @@ module _ (format : Format) (sender : Sender) (first count opening : ℕ) (fits :
   due-ended past next s is e =
       let n : first + count - next ≡ 0 = omega arith in
       let none : s.held ≡ [] = is.held ∙ ap (λ k. map (packet sender)
-          (filter (is_among past) (range_with_len next k))) n in
+      (filter (is_among past) (range_with_len next k))) n in
       ap (λ (ps : List Packet). due_frame format s.cutoff s.hold_back ps) none ∙ none-held format s.cutoff s.hold_back
 
   hold_back-taken : (s : Stream) (x : ℕ) (c : Content) → (taken_by s x c).hold_back ≡ s.hold_back
   hold_back-taken s x c = elim (is_accepted s.window x) as
-      (λ b. (if b then record { hold_back = s.hold_back; window = Some (recorded_in s.window x); held =
-      pushed s.cutoff s.held (packet_of x c); cutoff = s.cutoff; fragment = s.fragment } else s).hold_back
+      (λ b. (if b then record {
+        hold_back = s.hold_back;
+        window = Some (recorded_in s.window x);
+        held =
+            pushed s.cutoff s.held (packet_of x c);
+        cutoff = s.cutoff;
+        fragment = s.fragment;
+      } else s).hold_back
       ≡ s.hold_back) [ true ↦ refl | false ↦ refl ]
 
   abbrev pub Exact : ℕ → List SentFrame → List Answer → Type 0
@@ -348,50 +361,50 @@ module _ (format : Format) (sender : Sender) (first count opening : ℕ) (fits :
   poll-by : (past : List ℕ) (next : ℕ) (f : SentFrame) (fs : List SentFrame) (s : Stream) (hold_back : ℕ)
       (ts : List Turn) →
       ((next : ℕ) (fs : List SentFrame) (s : Stream) → IsReached past next (sizes fs) s → AreBrought sender next fs
-          → AreFrames format fs → next + total (sizes fs) ≡ first + count → s.hold_back ≡ hold_back →
+      → AreFrames format fs → next + total (sizes fs) ≡ first + count → s.hold_back ≡ hold_back →
       IsTame first count hold_back opening past next (sizes fs) (ts ++ Ask ∷ [])
-          → poll_answer format (after_events format s (map (event_of sender) ts)) ≡ Ok None
-          → Exact next fs (heard format s (map (event_of sender) ts))) →
+      → poll_answer format (after_events format s (map (event_of sender) ts)) ≡ Ok None
+      → Exact next fs (heard format s (map (event_of sender) ts))) →
       IsReached past next (sizes (f ∷ fs)) s → AreBrought sender next (f ∷ fs) → AreFrames format (f ∷ fs)
-          → next + total (sizes (f ∷ fs)) ≡ first + count → s.hold_back ≡ hold_back →
+      → next + total (sizes (f ∷ fs)) ≡ first + count → s.hold_back ≡ hold_back →
       IsTame first count hold_back opening past next (sizes (f ∷ fs)) (Ask ∷ (ts ++ Ask ∷ []))
-          → poll_answer format (after_events format (polled format s) (map (event_of sender) ts)) ≡ Ok None →
+      → poll_answer format (after_events format (polled format s) (map (event_of sender) ts)) ≡ Ok None →
       (b : Bool) → has_come past next (length f.packets) ≡ b
-          → Exact next (f ∷ fs) (poll_answer format s ∷ heard format (polled format s) (map (event_of sender) ts))
+      → Exact next (f ∷ fs) (poll_answer format s ∷ heard format (polled format s) (map (event_of sender) ts))
   poll-by past next f fs s hold_back ts ih is sent frames same_end keeps tame silent true e =
       let size : ℕ = length f.packets in
       let due-it : due format s ≡ Some (front size) = due-next past next f fs s is sent.0 frames.0 same_end e in
       let after : polled format s ≡ stream_behind format s (Some (front size)) =
-          polled-is format s (Some (front size)) due-it in
+      polled-is format s (Some (front size)) due-it in
       let rest : IsTame first count hold_back opening past (next + size) (sizes fs) (ts ++ Ask ∷ []) = rw e at tame.1 in
       let more : Exact (next + size) fs (heard format (stream_behind format s (Some (front size)))
-          (map (event_of sender) ts)) =
+      (map (event_of sender) ts)) =
       ih (next + size) fs (stream_behind format s (Some (front size)))
-          (after-next past next f fs s is sent.0 frames.0 same_end e) sent.1 frames.1 (omega (arith, same_end)) keeps
-          rest (rw after at silent) in
+      (after-next past next f fs s is sent.0 frames.0 same_end e) sent.1 frames.1 (omega (arith, same_end)) keeps
+      rest (rw after at silent) in
       rw (answer-next past next f fs s is sent.0 frames.0 same_end e, after)
-          (whole-next past next f fs s is sent.0 frames.0 same_end e, more)
+      (whole-next past next f fs s is sent.0 frames.0 same_end e, more)
   poll-by past next f fs s hold_back ts ih is sent frames same_end keeps tame silent false e =
       let good : IsGoodPoll first count s.hold_back past opening = rw keeps tame.0 in
       let none : due format s ≡ None = due-missing past next f fs s is sent.0 frames.0 same_end good e in
       let after : polled format s ≡ s = polled-is format s None none in
       let rest : IsTame first count hold_back opening past next (sizes (f ∷ fs)) (ts ++ Ask ∷ []) = rw e at tame.1 in
       rw (poll_answer-is format s None none, after)
-          (ih next (f ∷ fs) s is sent frames same_end keeps rest (rw after at silent))
+      (ih next (f ∷ fs) s is sent frames same_end keeps rest (rw after at silent))
 
   -- what is handed out is exactly the units that are left
   pub tame-exact : (hold_back : ℕ) (ts : List Turn) (past : List ℕ) (next : ℕ) (fs : List SentFrame) (s : Stream)
       → IsReached past next (sizes fs) s → AreBrought sender next fs → AreFrames format fs → next + total (sizes fs)
       ≡ first + count → s.hold_back ≡ hold_back →
       IsTame first count hold_back opening past next (sizes fs) (ts ++ Ask ∷ [])
-          → poll_answer format (after_events format s (map (event_of sender) ts)) ≡ Ok None
-          → Exact next fs (heard format s (map (event_of sender) ts))
+      → poll_answer format (after_events format s (map (event_of sender) ts)) ≡ Ok None
+      → Exact next fs (heard format s (map (event_of sender) ts))
   tame-exact hold_back [] past next [] s is sent frames same_end keeps tame silent = tt
   tame-exact hold_back [] past next (f ∷ fs) s is sent frames same_end keeps tame silent =
       let came : has_come past next (length f.packets) ≡ true =
-          all-came past next f fs (ended past next (length f.packets) (sizes fs) tame.1) is.from_first same_end in
+      all-came past next f fs (ended past next (length f.packets) (sizes fs) tame.1) is.from_first same_end in
       let never : Ok None ≡ Ok (Some (unit-next past next f fs s is sent.0 frames.0 same_end came)) =
-          sym silent ∙ answer-next past next f fs s is sent.0 frames.0 same_end came in
+      sym silent ∙ answer-next past next f fs s is sent.0 frames.0 same_end came in
       cc
     where
       ended : (past : List ℕ) (next z : ℕ) (zs : List ℕ)
@@ -400,18 +413,18 @@ module _ (format : Format) (sender : Sender) (first count opening : ℕ) (fits :
       ended past next z zs all = all
   tame-exact hold_back (Arrive x ∷ ts) past next fs s is sent frames same_end keeps tame silent =
       tame-exact hold_back ts (x ∷ past) next fs (taken_by s (hearing.number_at s (x % 65536)) (sender x))
-          (arrives past next (sizes fs) s x is tame.0 tame.1) sent frames same_end (hold_back-taken s _ _ ∙ keeps)
-          tame.2 silent
+      (arrives past next (sizes fs) s x is tame.0 tame.1) sent frames same_end (hold_back-taken s _ _ ∙ keeps)
+      tame.2 silent
   tame-exact hold_back (Ask ∷ ts) past next [] s is sent frames same_end keeps tame silent =
       let none : due format s ≡ None = due-ended past next s is (omega (arith, same_end)) in
       let after : polled format s ≡ s = polled-is format s None none in
       let still : poll_answer format (after_events format (polled format s) (map (event_of sender) ts)) ≡ Ok None =
-          silent in
+      silent in
       rw (poll_answer-is format s None none, after)
-          (tame-exact hold_back ts past next [] s is sent frames same_end keeps tame.1 (rw after at still))
+      (tame-exact hold_back ts past next [] s is sent frames same_end keeps tame.1 (rw after at still))
   tame-exact hold_back (Ask ∷ ts) past next (f ∷ fs) s is sent frames same_end keeps tame silent =
       poll-by past next f fs s hold_back ts (λ next fs s. tame-exact hold_back ts past next fs s) is sent frames
-          same_end keeps tame silent (has_come past next (length f.packets)) refl
+      same_end keeps tame silent (has_come past next (length f.packets)) refl
 
   nothing-came : (lo m : ℕ) → filter (is_among []) (range_with_len lo m) ≡ []
   nothing-came lo zero = refl
@@ -435,9 +448,9 @@ pub exact : (format : Format) (hold_back first : ℕ) (fs : List SentFrame) (tur
     IsTame first (total (sizes fs)) hold_back (first_size (sizes fs)) [] first (sizes fs) (turns ++ Ask ∷ []) →
     poll_answer format (after_events format (fresh hold_back) (map (event_of (sender_of first fs)) turns)) ≡ Ok None →
     AreWhole (handed_out (heard format (fresh hold_back) (map (event_of (sender_of first fs)) turns)))
-        (canonical_from first fs)
+    (canonical_from first fs)
 exact format hold_back first fs turns frames fits tame silent =
     tame-exact format (sender_of first fs) first (total (sizes fs)) (first_size (sizes fs)) fits hold_back turns []
-        first fs (fresh hold_back)
+    first fs (fresh hold_back)
     (fresh-reached format (sender_of first fs) first (total (sizes fs)) (first_size (sizes fs)) fits hold_back
-        (sizes fs) refl) (sender-brings first fs) frames refl refl tame silent
+    (sizes fs) refl) (sender-brings first fs) frames refl refl tame silent

@@ -33,8 +33,13 @@ recorded-more past w x is = record {
 recorded-first : (x : ℕ) → IsRecorded (x ∷ []) (window_at x)
 recorded-first x = record {
   greatest = omega arith;
-  recorded = λ y h. grind (arith, nat_tests, set.contains-insert nat_cmp_total (set.empty {R = nat_cmp}) x y,
-      set.contains-empty nat_cmp y, eq_by_cmp-nat y x);
+  recorded = λ y h. grind (
+    arith,
+    nat_tests,
+    set.contains-insert nat_cmp_total (set.empty {R = nat_cmp}) x y,
+    set.contains-empty nat_cmp y,
+    eq_by_cmp-nat y x,
+  );
 }
 
 -- a number that is refused came before, or is out of reach
@@ -77,18 +82,26 @@ module _ (format : Format) (sender : Sender) (first count : ℕ) (fits : first +
   kept : (x : ℕ) (s : Stream) → IsHeld sender (behind first s.cutoff) (first + count) s.held → first ≤ x
       → x < first + count → (b : Bool) → is_done s.cutoff x ≡ b →
       IsHeld sender (behind first s.cutoff) (first + count)
-          (if b then s.held else limited (held_with (packet sender x) s.held))
+      (if b then s.held else limited (held_with (packet sender x) s.held))
   kept x s is low high true e = is
   kept x s is low high false e = held-limited sender (behind first s.cutoff) (first + count) x s.held
       (ahead first x s.cutoff low e) high is
 
   arrives-by : (past : List ℕ) (s : Stream) (x : ℕ) → IsTrue past s → IsSaneArrival first count past x → (b : Bool)
       → is_accepted s.window x ≡ b →
-      IsTrue (x ∷ past) (if b then record { hold_back = s.hold_back; window = Some (recorded_in s.window x); held =
-          pushed s.cutoff s.held (packet sender x); cutoff = s.cutoff; fragment = s.fragment } else s)
-  arrives-by past s x is sane true e = record
-      { window = window-more past s.window x is.window; held =
-      kept x s is.held sane.from_first sane.before_end (is_done s.cutoff x) refl }
+      IsTrue (x ∷ past) (if b then record {
+        hold_back = s.hold_back;
+        window = Some (recorded_in s.window x);
+        held =
+            pushed s.cutoff s.held (packet sender x);
+        cutoff = s.cutoff;
+        fragment = s.fragment;
+      } else s)
+  arrives-by past s x is sane true e = record {
+    window = window-more past s.window x is.window;
+    held =
+        kept x s is.held sane.from_first sane.before_end (is_done s.cutoff x) refl;
+  }
   arrives-by past s x is sane false e = record { window = window-refused past s.window x is.window e; held = is.held }
 
   true-number : (past : List ℕ) (s : Stream) → IsTrue past s → (x : ℕ) → IsSaneArrival first count past x
@@ -108,10 +121,10 @@ module _ (format : Format) (sender : Sender) (first count : ℕ) (fits : first +
       let xs : List ℕ = is.held.numbers in
       let are : s.held ≡ map (packet sender) xs = is.held.are in
       let inside : f.end - 1 < length xs = omega
-          (arith, frame.not_empty, frame.in_range, ap length are, length-map xs (packet sender)) in
+      (arith, frame.not_empty, frame.in_range, ap length are, length-map xs (packet sender)) in
       let number : number_at s.held (f.end - 1) ≡ get_or xs (f.end - 1) 0 =
-          ap (λ (ps : List Packet). number_at ps (f.end - 1)) are
-          ∙ ap (λ (p : Packet). p.meta.seq_no) (packet-at sender xs (f.end - 1) inside) in
+      ap (λ (ps : List Packet). number_at ps (f.end - 1)) are
+      ∙ ap (λ (p : Packet). p.meta.seq_no) (packet-at sender xs (f.end - 1) inside) in
       let next : suc (f.end - 1) ≡ f.end = omega (arith, frame.not_empty) in
       record {
         window = is.window;
@@ -144,6 +157,12 @@ module _ (format : Format) (sender : Sender) (first count : ℕ) (fits : first +
   true-numbers hold_back ts sane =
       let is : IsTrue (arrived [] ts) (after_events format (fresh hold_back) (map (event_of sender) ts)) =
       run-true ts [] (fresh hold_back) (record
-          { window = tt; held = record { numbers = []; rises = tt; are = refl } }) sane in
-      record { window = is.window; numbers = is.held.numbers; rising = is.held.rises; held = is.held.are; widened =
-          true-number (arrived [] ts) _ is }
+      { window = tt; held = record { numbers = []; rises = tt; are = refl } }) sane in
+      record {
+        window = is.window;
+        numbers = is.held.numbers;
+        rising = is.held.rises;
+        held = is.held.are;
+        widened =
+            true-number (arrived [] ts) _ is;
+      }

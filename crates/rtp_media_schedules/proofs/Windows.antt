@@ -37,9 +37,9 @@ pub contains-window_with : (w : Window) (x y : ℕ) → set.contains (window_wit
     ≡ (((y == x) || set.contains w.recorded y) && nat_lt (max w.greatest x) (y + 128))
 contains-window_with w x y =
     set.contains-retain (set.insert w.recorded x) (λ z. nat_lt (max w.greatest x) (z + 128)) y
-        (λ z e. rw (nat_cmp-IsAntisymmetric y z e))
+    (λ z e. rw (nat_cmp-IsAntisymmetric y z e))
     ∙ ap (λ (b : Bool). b && nat_lt (max w.greatest x) (y + 128))
-        (rw (set.contains-insert nat_cmp_total w.recorded x y, eq_by_cmp-nat y x))
+    (rw (set.contains-insert nat_cmp_total w.recorded x y, eq_by_cmp-nat y x))
 
 -- widening gives the true number
 pub widened-true : (first count : ℕ) (past : List ℕ) (w : Option Window) (x : ℕ) → first + count ≤ 2 ^ 62
@@ -82,8 +82,13 @@ IsWindowOf-more first count past w x is good = record {
 pub IsWindowOf-first : (first count x : ℕ) → IsGoodArrival first count [] x → IsWindowOf first (x ∷ []) (window_at x)
 IsWindowOf-first first count x good = record {
   greatest = omega arith;
-  recorded = λ y h. grind (arith, nat_tests, set.contains-insert nat_cmp_total (set.empty {R = nat_cmp}) x y,
-      set.contains-empty nat_cmp y, eq_by_cmp-nat y x);
+  recorded = λ y h. grind (
+    arith,
+    nat_tests,
+    set.contains-insert nat_cmp_total (set.empty {R = nat_cmp}) x y,
+    set.contains-empty nat_cmp y,
+    eq_by_cmp-nat y x,
+  );
   closed = λ y a b. among-more [] x y (good.in_reach y a b);
 }
 

@@ -1,6 +1,6 @@
 -- Which answers are legal for canonical units.
-use Rattle.std.specs.Prelude.{ℕ, suc, ◌≡◌, ◌<◌, ◌≤◌, List, [], ◌∷◌, length, drop, map, slice_index, slice_index_or,
-    None, Some, Ok}
+use Rattle.std.specs.Prelude.{ℕ, suc, ◌≡◌, ◌<◌, ◌≤◌, List, [], ◌∷◌, length, drop, map, slice_index, slice_index_or}
+use Rattle.std.specs.Prelude.{None, Some, Ok}
 use Rattle.payload_core_base.specs.Law.{joined}
 use Rattle.rtp_media_runs.specs.Hearing.{MediaUnit}
 use Rattle.rtp_media_runs.specs.Hearing.{Answer, handed_out}

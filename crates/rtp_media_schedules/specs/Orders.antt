@@ -43,7 +43,7 @@ abbrev pub IsTame : (first count hold_back opening : ℕ) → List ℕ → ℕ �
 IsTame first count hold_back opening past next left [] = AllCame first count past
 IsTame first count hold_back opening past next left (Arrive x ∷ ts) =
     IsGoodArrival first count past x × (waiting first count (x ∷ past) next ≤ 4096)
-        × IsTame first count hold_back opening (x ∷ past) next left ts
+    × IsTame first count hold_back opening (x ∷ past) next left ts
 IsTame first count hold_back opening past next left (Ask ∷ ts) =
     IsGoodPoll first count hold_back past opening
-        × IsTame first count hold_back opening past (next_after past next left) (left_after past next left) ts
+    × IsTame first count hold_back opening past (next_after past next left) (left_after past next left) ts

@@ -36,8 +36,14 @@ datagrams ss = flat_map (λ s. contents_by s.time s.values s.packets) ss
 
 -- the units of a sample with datagrams from n on
 abbrev pub units_in : ℕ → SentSample → List Canonical
-units_in n s = map (λ parts. record { first = n; end = n + length s.packets; time = s.time; values =
-    s.values; parts = parts }) s.units
+units_in n s = map (λ parts. record {
+  first = n;
+  end = n + length s.packets;
+  time = s.time;
+  values =
+      s.values;
+  parts = parts;
+}) s.units
 
 -- The canonical units of samples, each with the numbers of its sample's datagrams, which are numbered from n on.
 abbrev pub canonical_units : ℕ → List SentSample → List Canonical
@@ -62,9 +68,14 @@ whole_unit c = timed c.time c.values (joined c.parts)
 abbrev pub sent_by : Coding → ℕ → packing.Sender → List Timed → List SentSample
 sent_by coding limit sender [] = []
 sent_by coding limit sender (x ∷ xs) =
-    record { time = x.time; values = x.values; packets =
-        marked coding.packing (sent_or sender (coding.packing.pack sender limit x.bytes)).packets; units =
-        coding.units sender limit x.bytes }
+    record {
+      time = x.time;
+      values = x.values;
+      packets =
+          marked coding.packing (sent_or sender (coding.packing.pack sender limit x.bytes)).packets;
+      units =
+          coding.units sender limit x.bytes;
+    }
     ∷ sent_by coding limit (sent_or sender (coding.packing.pack sender limit x.bytes)).sender xs
 
 -- each of them is well-formed at the limit

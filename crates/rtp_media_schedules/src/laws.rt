@@ -1,14 +1,16 @@
 //! What holds of every run.
 
-ghost use Rattle.std.specs.Prelude.{◌≡◌, ℕ, ◌+◌, ◌^◌, ◌≤◌, List, [], ◌∷◌, ◌++◌, length, map, replicate, suc, Ok, None};
+ghost use Rattle.std.specs.Prelude.{◌≡◌, ℕ, ◌+◌, ◌^◌, ◌≤◌, List, [], ◌∷◌, ◌++◌, length, map, replicate, suc, Ok};
+ghost use Rattle.std.specs.Prelude.{None};
 ghost use Rattle.payload_core_base.specs.Format.{Format};
 ghost use Rattle.rtp_media_schedules.specs.Turns.{Sender, Turn, AreGoodArrivals, Arrive, Ask, event_of};
 ghost use Rattle.rtp_media_runs.specs.Samples.{timed_unit};
-ghost use Rattle.rtp_media_runs.specs.Hearing.{Answer, after_events, EndsSilent, fresh, handed_out, heard, Poll, Stream};
+ghost use Rattle.rtp_media_runs.specs.Hearing.{Answer, after_events, EndsSilent, fresh, handed_out, heard, Poll};
+ghost use Rattle.rtp_media_runs.specs.Hearing.{Stream};
 ghost use Rattle.rtp_media_schedules.specs.Legal.{IsLegal, IsSelection};
 ghost use Rattle.rtp_media_schedules.specs.Orders.{IsSane, IsTame, first_size};
-ghost use Rattle.rtp_media_schedules.specs.Samples.{AreSentAs, SentSample, canonical_units, datagrams, frame_sizes,
-    packets_of, whole_unit};
+ghost use Rattle.rtp_media_schedules.specs.Samples.{AreSentAs, SentSample, canonical_units, datagrams, frame_sizes};
+ghost use Rattle.rtp_media_schedules.specs.Samples.{packets_of, whole_unit};
 ghost use Rattle.rtp_media_schedules.specs.TrueNumbers.{AreTrueNumbers, arrived};
 ghost use Rattle.rtp_media_schedules.specs.Sending.{Canonical, numbered};
 
@@ -17,7 +19,7 @@ pub fn legal_under_sane_schedule()
     ensures { (format : Format) (hold_back first : ℕ) (samples : List SentSample) (turns : List Turn) →
         let events = map (event_of (numbered first (datagrams samples))) turns in
         AreSentAs format samples → first + length (packets_of samples) ≤ 2 ^ 62
-            → IsSane first (length (packets_of samples)) [] turns →
+        → IsSane first (length (packets_of samples)) [] turns →
         IsLegal (canonical_units first samples) (heard format (fresh hold_back) events) }
 {}
 
@@ -36,7 +38,7 @@ pub fn exact_under_tame_schedule()
         IsTame first (length (packets_of samples)) hold_back (first_size sizes) [] first sizes (turns ++ Ask ∷ []) →
         EndsSilent (heard format (fresh hold_back) events) →
         map timed_unit (handed_out (heard format (fresh hold_back) events))
-            ≡ map (λ c. Ok (whole_unit c)) (canonical_units first samples) }
+        ≡ map (λ c. Ok (whole_unit c)) (canonical_units first samples) }
 {}
 
 /// All datagrams of at most 4,096 come, once or more, none behind one that is 128 or more above it: then
@@ -48,7 +50,7 @@ pub fn exact_after_full_arrival()
         AreGoodArrivals first (length (packets_of samples)) [] arrivals →
         EndsSilent (heard format (fresh hold_back) events) →
         map timed_unit (handed_out (heard format (fresh hold_back) events))
-            ≡ map (λ c. Ok (whole_unit c)) (canonical_units first samples) }
+        ≡ map (λ c. Ok (whole_unit c)) (canonical_units first samples) }
 {}
 
 /// Under every sane schedule the window says what came, each packet that is held is the sender's of its

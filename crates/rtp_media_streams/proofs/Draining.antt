@@ -94,7 +94,8 @@ module _ (format : Format) where
   answered (Silent {s = s} none) (suc n) ts silent h =
       nothing ts (map timed_unit (handed_out (heard format s (polls (suc n)))))
       (ap (map timed_unit) (silent-on (suc n) s none)) h where
-        nothing : (ts : List Timed) (rs : List (Result Timed PacketError)) → rs ≡ [] → rs ≡ map Ok ts → AreAnswered ts []
+        nothing : (ts : List Timed) (rs : List (Result Timed PacketError)) → rs ≡ [] → rs ≡ map Ok ts
+            → AreAnswered ts []
         nothing [] rs a b = inl refl
         nothing (x ∷ ts) rs a b = cc
   answered (HandsOut {s = s} {t = t} {u = u} {os = os} some rest) (suc n) ts silent h =

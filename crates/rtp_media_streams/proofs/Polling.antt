@@ -67,37 +67,38 @@ module _ (format : Format) (s : Stream) where
 
   -- a frame was handed on
   module _ (after : Fragment) (new : List Packet) (now : Option ℕ) (out : List ℕ) (extra_after : CodecExtra)
-      (known : List RtpMeta) (hands : PopGives format s.fragment after s.held new due_now now out extra_after known) where
-    abbrev run : Run
-    run = run_among format s.fragment s.held hands.frame
+      (known : List RtpMeta) (hands : PopGives format s.fragment after s.held new due_now now out extra_after known)
+    where
+      abbrev run : Run
+      run = run_among format s.fragment s.held hands.frame
 
-    pub handed_answer : poll_answer format s ≡ Ok (Some (unit_from known out extra_after))
-    handed_answer =
-        poll_some hands.frame hands.is_due
-        ∙ ap (λ (o : Option PacketError). answer_by o (metas_of (packets_between s.held hands.frame)) run.written
-        run.extra) hands.read.no_fault
-        ∙ ap₂ (λ (metas : List RtpMeta) (bytes : List ℕ). let a : Answer =
-        Ok (Some (unit_from metas bytes run.extra)) in a) (sym hands.metas) (sym hands.read.bytes)
-        ∙ ap (λ (extra : CodecExtra). let a : Answer = Ok (Some (unit_from known out extra)) in a)
-        (sym hands.read.extra)
+      pub handed_answer : poll_answer format s ≡ Ok (Some (unit_from known out extra_after))
+      handed_answer =
+          poll_some hands.frame hands.is_due
+          ∙ ap (λ (o : Option PacketError). answer_by o (metas_of (packets_between s.held hands.frame)) run.written
+          run.extra) hands.read.no_fault
+          ∙ ap₂ (λ (metas : List RtpMeta) (bytes : List ℕ). let a : Answer =
+          Ok (Some (unit_from metas bytes run.extra)) in a) (sym hands.metas) (sym hands.read.bytes)
+          ∙ ap (λ (extra : CodecExtra). let a : Answer = Ok (Some (unit_from known out extra)) in a)
+          (sym hands.read.extra)
 
-    pub handed_stream : (hold_back : ℕ) → hold_back ≡ s.hold_back → kept hold_back new now after ≡ polled format s
-    handed_stream hold_back same =
-        ap (λ (n : ℕ). kept n new now after) same
-        ∙ ap₂ (λ (held : List Packet) (cutoff : Option ℕ). kept s.hold_back held cutoff after) hands.done.gone
-        hands.done.moved
-        ∙ ap (λ (f : Fragment). kept s.hold_back (drop hands.frame.end s.held)
-        (Some (number_at s.held (hands.frame.end - 1))) f) hands.read.fragment
-        ∙ sym (polled_some hands.frame hands.is_due)
+      pub handed_stream : (hold_back : ℕ) → hold_back ≡ s.hold_back → kept hold_back new now after ≡ polled format s
+      handed_stream hold_back same =
+          ap (λ (n : ℕ). kept n new now after) same
+          ∙ ap₂ (λ (held : List Packet) (cutoff : Option ℕ). kept s.hold_back held cutoff after) hands.done.gone
+          hands.done.moved
+          ∙ ap (λ (f : Fragment). kept s.hold_back (drop hands.frame.end s.held)
+          (Some (number_at s.held (hands.frame.end - 1))) f) hands.read.fragment
+          ∙ sym (polled_some hands.frame hands.is_due)
 
-    pub handed_fewer : length new < length s.held
-    handed_fewer = omega (
-      arith,
-      hands.is_frame.not_empty,
-      hands.is_frame.in_range,
-      ap length hands.done.gone,
-      length-drop hands.frame.end s.held,
-    )
+      pub handed_fewer : length new < length s.held
+      handed_fewer = omega (
+        arith,
+        hands.is_frame.not_empty,
+        hands.is_frame.in_range,
+        ap length hands.done.gone,
+        length-drop hands.frame.end s.held,
+      )
 
   -- a packet of a frame was refused
   module _ (after : Fragment) (new : List Packet) (now : Option ℕ) (e : PacketError)

@@ -118,33 +118,33 @@ fn pop(
         ≡ ⟦<CodecDepacketizer<NotBoxed> as Depacketizer>⟧.format buffer.old.depacketizer }
     ensures answer { (window : Option Window) →
         let old = stream_of window buffer.old
-            (⟦<CodecDepacketizer<NotBoxed> as Depacketizer>⟧.fragment buffer.old.depacketizer) in
+        (⟦<CodecDepacketizer<NotBoxed> as Depacketizer>⟧.fragment buffer.old.depacketizer) in
         let format = ⟦<CodecDepacketizer<NotBoxed> as Depacketizer>⟧.format buffer.old.depacketizer in
         IfOk result (λ unit. given (poll_answer format old) ≡ Ok unit) }
     ensures after { (window : Option Window) →
         let old = stream_of window buffer.old
-            (⟦<CodecDepacketizer<NotBoxed> as Depacketizer>⟧.fragment buffer.old.depacketizer) in
+        (⟦<CodecDepacketizer<NotBoxed> as Depacketizer>⟧.fragment buffer.old.depacketizer) in
         let new = stream_of window buffer.new
-            (⟦<CodecDepacketizer<NotBoxed> as Depacketizer>⟧.fragment buffer.new.depacketizer) in
+        (⟦<CodecDepacketizer<NotBoxed> as Depacketizer>⟧.fragment buffer.new.depacketizer) in
         let format = ⟦<CodecDepacketizer<NotBoxed> as Depacketizer>⟧.format buffer.old.depacketizer in
         OnOk result (new ≡ polled format old) }
     ensures fault { (window : Option Window) →
         let old = stream_of window buffer.old
-            (⟦<CodecDepacketizer<NotBoxed> as Depacketizer>⟧.fragment buffer.old.depacketizer) in
+        (⟦<CodecDepacketizer<NotBoxed> as Depacketizer>⟧.fragment buffer.old.depacketizer) in
         let format = ⟦<CodecDepacketizer<NotBoxed> as Depacketizer>⟧.format buffer.old.depacketizer in
         IfErr result (λ fault. fault ≢ PollFault.Memory → given (poll_answer format old) ≡ Err fault) }
     ensures behind { (window : Option Window) →
         let old = stream_of window buffer.old
-            (⟦<CodecDepacketizer<NotBoxed> as Depacketizer>⟧.fragment buffer.old.depacketizer) in
+        (⟦<CodecDepacketizer<NotBoxed> as Depacketizer>⟧.fragment buffer.old.depacketizer) in
         let new = stream_of window buffer.new
-            (⟦<CodecDepacketizer<NotBoxed> as Depacketizer>⟧.fragment buffer.new.depacketizer) in
+        (⟦<CodecDepacketizer<NotBoxed> as Depacketizer>⟧.fragment buffer.new.depacketizer) in
         let format = ⟦<CodecDepacketizer<NotBoxed> as Depacketizer>⟧.format buffer.old.depacketizer in
         IfErr result (λ fault. fault ≢ PollFault.Memory → new ≡ polled format old) }
     ensures memory { (window : Option Window) →
         let old = stream_of window buffer.old
-            (⟦<CodecDepacketizer<NotBoxed> as Depacketizer>⟧.fragment buffer.old.depacketizer) in
+        (⟦<CodecDepacketizer<NotBoxed> as Depacketizer>⟧.fragment buffer.old.depacketizer) in
         let new = stream_of window buffer.new
-            (⟦<CodecDepacketizer<NotBoxed> as Depacketizer>⟧.fragment buffer.new.depacketizer) in
+        (⟦<CodecDepacketizer<NotBoxed> as Depacketizer>⟧.fragment buffer.new.depacketizer) in
         let format = ⟦<CodecDepacketizer<NotBoxed> as Depacketizer>⟧.format buffer.old.depacketizer in
         IfErr result (λ fault. fault ≡ PollFault.Memory → IsInterrupted format old new) }
     ensures fewer { IfOk result (λ unit. OnSome unit (length buffer.new.held < length buffer.old.held)) }

@@ -1,7 +1,10 @@
 -- Configs: rows in order.
-use Rattle.std.specs.Prelude.{ℕ, Bool, true, false, not, Option, ◌||◌, ◌==◌, Some, None, List, [], ◌∷◌, ◌++◌, filter, if◌then◌else◌}
+use Rattle.std.specs.Prelude.{ℕ, Bool, true, false, not, Option, ◌||◌, ◌==◌, Some, None, List, [], ◌∷◌, ◌++◌, filter}
+use Rattle.std.specs.Prelude.{if◌then◌else◌}
 use Rattle.payload_core_base.specs.declared.codec.Codec.{Codec}
-use Rattle.payload_core_base.specs.declared.codec.Codec.TheVariants.{Opus, PCMU, PCMA, G722, CN, AmrWb, H264, H265, H266, Vp8, Vp9, Av1, Tele, Rtx, Red, Null, Unknown}
+use Rattle.payload_core_base.specs.declared.codec.Codec.TheVariants.{Opus, PCMU, PCMA, G722, CN, AmrWb, H264, H265}
+use Rattle.payload_core_base.specs.declared.codec.Codec.TheVariants.{H266, Vp8, Vp9, Av1, Tele, Rtx, Red, Null}
+use Rattle.payload_core_base.specs.declared.codec.Codec.TheVariants.{Unknown}
 use Rattle.sdp_formats_rows.specs.declared.spec.CodecSpec.{CodecSpec}
 use Rattle.sdp_formats_rows.specs.declared.format.FormatParams.{FormatParams}
 use Rattle.sdp_formats_rows.specs.Formats.{no_format}
@@ -60,7 +63,8 @@ kept_distances given = filter (λ d. d == 1 || list_any (λ e. e == d) given) (1
 
 -- A codec with its settings.
 abbrev pub full_spec : Codec → ℕ → Option ℕ → FormatParams → CodecSpec
-full_spec codec clock_rate channels format = record { codec = codec; clock_rate = clock_rate; channels = channels; format = format }
+full_spec codec clock_rate channels format =
+    record { codec = codec; clock_rate = clock_rate; channels = channels; format = format }
 
 -- A codec without channels.
 abbrev pub spec_of : Codec → ℕ → FormatParams → CodecSpec
@@ -90,7 +94,8 @@ comfort_noise_row = new_row 13 None (spec_of CN 8000 no_format)
 
 -- AMR-WB at 16,000 Hz and one channel, octet-aligned (RFC 4867 8.2).
 abbrev pub amr_wb_row : Row
-amr_wb_row = new_row 122 None (record (spec_of AmrWb 16000 (record no_format { octet_align = Some true })) { channels = Some 1 })
+amr_wb_row = new_row 122 None (record (spec_of AmrWb 16000 (record no_format { octet_align = Some true }))
+    { channels = Some 1 })
 
 -- Video at 90,000 Hz under a type with that of its retransmissions.
 abbrev pub video_row : Codec → ℕ → ℕ → FormatParams → Row

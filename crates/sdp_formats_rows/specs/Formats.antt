@@ -4,7 +4,11 @@ use Rattle.std.specs.List.{list_any}
 use Rattle.std.specs.Str.{bytes_eq, trim}
 use Rattle.sdp_formats_rows.specs.declared.format.FormatParams.{FormatParams}
 use Rattle.sdp_formats_params.specs.declared.key.Key.{Key}
-use Rattle.sdp_formats_params.specs.declared.key.Key.TheVariants.{MinPTime, Stereo, SpropStereo, UseInbandFec, UseDtx, LevelAsymmetryAllowed, PacketizationMode, ProfileLevelId, ProfileId, Profile, LevelIdx, Tier, SpropMaxDonDiff, OctetAlign, ModeSet, TierFlag, LevelId}
+use Rattle.sdp_formats_params.specs.declared.key.Key.TheVariants.{MinPTime, Stereo, SpropStereo, UseInbandFec, UseDtx}
+use Rattle.sdp_formats_params.specs.declared.key.Key.TheVariants.{LevelAsymmetryAllowed, PacketizationMode}
+use Rattle.sdp_formats_params.specs.declared.key.Key.TheVariants.{ProfileLevelId, ProfileId, Profile, LevelIdx, Tier}
+use Rattle.sdp_formats_params.specs.declared.key.Key.TheVariants.{SpropMaxDonDiff, OctetAlign, ModeSet, TierFlag}
+use Rattle.sdp_formats_params.specs.declared.key.Key.TheVariants.{LevelId}
 use Rattle.sdp_formats_params.specs.Keys.{key_named, is_level_key}
 use Rattle.sdp_formats_params.specs.Numbers.{number_below, profile_level, up_to, modes_of, range_of}
 use Rattle.sdp_formats_params.specs.Parts.{parts}
@@ -30,7 +34,8 @@ no_format = record {
   mode_set = None;
 }
 
--- A later value of a parameter: it replaces the earlier one; one that doesn't parse is passed over, but where the last alone counts it leaves none.
+-- A later value of a parameter: it replaces the earlier one; one that doesn't parse is passed over, but where the
+-- last alone counts it leaves none.
 abbrev pub replaced : Bool → Option ℕ → Option ℕ → Option ℕ
 replaced last_alone earlier (Some value) = Some value
 replaced last_alone earlier None = if last_alone then None else earlier
@@ -54,20 +59,24 @@ with_value last SpropStereo value f = record f { sprop_stereo = is_on value }
 with_value last UseInbandFec value f = record f { use_inband_fec = is_on value }
 with_value last UseDtx value f = record f { use_dtx = is_on value }
 with_value last LevelAsymmetryAllowed value f = record f { level_asymmetry_allowed = is_on value }
-with_value last PacketizationMode value f = record f { packetization_mode = replaced last f.packetization_mode (byte_value value) }
-with_value last ProfileLevelId value f = record f { profile_level_id = replaced last f.profile_level_id (profile_level value) }
+with_value last PacketizationMode value f =
+    record f { packetization_mode = replaced last f.packetization_mode (byte_value value) }
+with_value last ProfileLevelId value f =
+    record f { profile_level_id = replaced last f.profile_level_id (profile_level value) }
 with_value true ProfileId value f = f
 with_value false ProfileId value f = record f { profile_id = replaced false f.profile_id (word_value value) }
 with_value last Profile value f = record f { profile = replaced last f.profile (byte_value value) }
 with_value last LevelIdx value f = record f { level_idx = replaced last f.level_idx (byte_value value) }
 with_value last Tier value f = record f { tier = replaced last f.tier (byte_value value) }
-with_value last SpropMaxDonDiff value f = record f { sprop_max_don_diff = replaced last f.sprop_max_don_diff (up_to 32767 (number_below (2 ^ 16) 10 value)) }
+with_value last SpropMaxDonDiff value f =
+    record f { sprop_max_don_diff = replaced last f.sprop_max_don_diff (up_to 32767 (number_below (2 ^ 16) 10 value)) }
 with_value last OctetAlign value f = record f { octet_align = is_on value }
 with_value last ModeSet value f = record f { mode_set = replaced last f.mode_set (modes_of value) }
 with_value last TierFlag value f = f
 with_value last LevelId value f = f
 
--- The parameters with one more part: a key and its value up to a second equals sign, blanks round both, or a bare range of telephone events (RFC 4733 2.4.1). Other parts are passed over.
+-- The parameters with one more part: a key and its value up to a second equals sign, blanks round both, or a bare
+-- range of telephone events (RFC 4733 2.4.1). Other parts are passed over.
 abbrev pub with_key : Bool → Option Key → List ℕ → FormatParams → FormatParams
 with_key last None value f = f
 with_key last (Some key) value f = with_value last key value f
@@ -98,6 +107,7 @@ fields_give_level (key ∷ value ∷ others) = has_level (key_named (trim key))
 abbrev pub gives_level : List ℕ → Bool
 gives_level part = fields_give_level (parts 61 part)
 
--- The parameters of a line (RFC 8866 6.15): its parts between semicolons, in turn. Where one gives a tier or level, each key counts with its last value alone, and `profile-id` is no number of VP9.
+-- The parameters of a line (RFC 8866 6.15): its parts between semicolons, in turn. Where one gives a tier or level,
+-- each key counts with its last value alone, and `profile-id` is no number of VP9.
 unfoldable pub format_of : List ℕ → FormatParams
 format_of line = with_parts (list_any gives_level (parts 59 line)) (parts 59 line) no_format

@@ -3,7 +3,8 @@ use Rattle.std.specs.Prelude.{ℕ, Bool, true, false, Option, None}
 use Rattle.payload_core_base.specs.Codecs.{is_video_codec}
 use Rattle.sdp_formats_rows.specs.declared.spec.CodecSpec.{CodecSpec}
 
--- A row: its type, the type of its retransmissions (RFC 4588), its codec, which feedback it uses, its RED type (RFC 2198), and whether an exchange has settled it.
+-- A row: its type, the type of its retransmissions (RFC 4588), its codec, which feedback it uses, its RED type (RFC
+-- 2198), and whether an exchange has settled it.
 pub record Row : Type 0 where
   pub pt : ℕ
   pub resend : Option ℕ

@@ -1,10 +1,14 @@
 -- The text of format parameters.
-use Rattle.std.specs.Prelude.{ℕ, ◌==◌, ◌&&◌, nat_le, ◌^◌, ◌-◌, ◌/◌, ◌%◌, Bool, true, false, List, [], ◌∷◌, ◌++◌, length, filter, codes, decimal, Option, Some, None, if◌then◌else◌}
+use Rattle.std.specs.Prelude.{ℕ, ◌==◌, ◌&&◌, nat_le, ◌^◌, ◌-◌, ◌/◌, ◌%◌, Bool, true, false, List, [], ◌∷◌, ◌++◌}
+use Rattle.std.specs.Prelude.{length, filter, codes, decimal, Option, Some, None, if◌then◌else◌}
 use Rattle.std.specs.Fmt.{digits, padded_integral, format_spec}
 use Rattle.std.specs.Option.{option_map}
 use Rattle.sdp_formats_rows.specs.declared.format.FormatParams.{FormatParams}
 use Rattle.sdp_formats_params.specs.declared.key.Key.{Key}
-use Rattle.sdp_formats_params.specs.declared.key.Key.TheVariants.{MinPTime, Stereo, SpropStereo, UseInbandFec, UseDtx, LevelAsymmetryAllowed, PacketizationMode, ProfileLevelId, ProfileId, Profile, LevelIdx, Tier, SpropMaxDonDiff, OctetAlign, ModeSet}
+use Rattle.sdp_formats_params.specs.declared.key.Key.TheVariants.{MinPTime, Stereo, SpropStereo, UseInbandFec, UseDtx}
+use Rattle.sdp_formats_params.specs.declared.key.Key.TheVariants.{LevelAsymmetryAllowed, PacketizationMode}
+use Rattle.sdp_formats_params.specs.declared.key.Key.TheVariants.{ProfileLevelId, ProfileId, Profile, LevelIdx, Tier}
+use Rattle.sdp_formats_params.specs.declared.key.Key.TheVariants.{SpropMaxDonDiff, OctetAlign, ModeSet}
 use Rattle.sdp_formats_params.specs.Keys.{key_name}
 
 -- A parameter with its value, `key=value`.
@@ -24,7 +28,8 @@ flag_text key flag = number_text key (flag_number flag)
 
 -- At least six hexadecimal digits.
 abbrev pub profile_level_text : ℕ → List ℕ
-profile_level_text number = pair_text ProfileLevelId (padded_integral (format_spec 32 0 4 6 (2 ^ 64 - 1)) false [] (digits 16 false number))
+profile_level_text number = pair_text ProfileLevelId
+    (padded_integral (format_spec 32 0 4 6 (2 ^ 64 - 1)) false [] (digits 16 false number))
 
 -- The range of telephone events from 0 on.
 abbrev pub range_text : ℕ → List ℕ
@@ -96,4 +101,5 @@ with_pieces text (piece ∷ pieces) = with_pieces (with_piece text piece) pieces
 
 -- The text of the parameters (RFC 8866 6.15).
 abbrev pub format_text : FormatParams → List ℕ
-format_text f = with_pieces (with_pieces (with_pieces (with_pieces [] (opus_pieces f)) (h264_pieces f)) (video_pieces f)) (other_pieces f)
+format_text f = with_pieces (with_pieces (with_pieces (with_pieces [] (opus_pieces f)) (h264_pieces f))
+    (video_pieces f)) (other_pieces f)

@@ -1,10 +1,15 @@
 //! Configs of rows.
 
-ghost use Rattle.std.specs.Prelude.{◌≡◌, ◌≤◌, ◌==◌, IfOk, [], ◌∷◌, ◌++◌, true, false, IsOk, OnOk, OnErr, vec_len, vec_capacity};
-ghost use Rattle.payload_core_base.specs.declared.codec.Codec.TheVariants.{Opus, PCMU, PCMA, G722, CN, AmrWb, Vp8, Vp9, Av1, H264};
+ghost use Rattle.std.specs.Prelude.{◌≡◌, ◌≤◌, ◌==◌, IfOk, [], ◌∷◌, ◌++◌, true, false, IsOk, OnOk, OnErr, vec_len};
+ghost use Rattle.std.specs.Prelude.{vec_capacity};
+ghost use Rattle.payload_core_base.specs.declared.codec.Codec.TheVariants.{Opus, PCMU, PCMA, G722, CN, AmrWb, Vp8};
+ghost use Rattle.payload_core_base.specs.declared.codec.Codec.TheVariants.{Vp9, Av1, H264};
 ghost use Rattle.std.specs.List.{list_any};
 ghost use Rattle.sdp_formats_rows.specs.Rows.{new_row};
-ghost use Rattle.sdp_formats_rows.specs.Configs.{is_codec, rows_without, with_rows, with_row, full_spec, distances_of, kept_distances, rows_if, opus_row, pcmu_row, pcma_row, g722_row, comfort_noise_row, amr_wb_row, vp8_row, vp9_rows, av1_row, h264_rows};
+ghost use Rattle.sdp_formats_rows.specs.Configs.{is_codec, rows_without, with_rows, with_row, full_spec};
+ghost use Rattle.sdp_formats_rows.specs.Configs.{distances_of, kept_distances, rows_if, opus_row, pcmu_row, pcma_row};
+ghost use Rattle.sdp_formats_rows.specs.Configs.{g722_row, comfort_noise_row, amr_wb_row, vp8_row, vp9_rows, av1_row};
+ghost use Rattle.sdp_formats_rows.specs.Configs.{h264_rows};
 
 use crate::format::FormatParams;
 use crate::row::PayloadParams;
@@ -172,7 +177,8 @@ impl CodecConfig {
         channels: Option<u8>,
         format: FormatParams,
     ) -> Result<(), AllocError>
-        ensures ok { OnOk result (self.new ≡ with_row (new_row pt resend (full_spec codec clock_rate channels format)) self.old) }
+        ensures ok { OnOk result (self.new ≡ with_row
+            (new_row pt resend (full_spec codec clock_rate channels format)) self.old) }
         ensures err { OnErr result (self.new ≡ self.old) }
     {
         let spec = CodecSpec {

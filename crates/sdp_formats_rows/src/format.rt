@@ -2,7 +2,8 @@
 
 ghost use Rattle.std.specs.Prelude.{◌≡◌};
 ghost use Rattle.std.specs.List.{list_any};
-ghost use Rattle.sdp_formats_rows.specs.Formats.{no_format, replaced, is_on, with_value, with_key, with_range, with_fields, has_level, gives_level, format_of};
+ghost use Rattle.sdp_formats_rows.specs.Formats.{no_format, replaced, is_on, with_value, with_key, with_range};
+ghost use Rattle.sdp_formats_rows.specs.Formats.{with_fields, has_level, gives_level, format_of};
 ghost use Rattle.sdp_formats_params.specs.Parts.{parts};
 
 use sdp_formats_params::{

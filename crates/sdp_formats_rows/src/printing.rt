@@ -3,7 +3,10 @@
 ghost use Rattle.std.specs.Prelude.{◌≡◌, ◌≤◌, ◌++◌, ◌∷◌, [], IfOk, OnOk};
 ghost use Rattle.std.specs.String.{string_bytes};
 ghost use Rattle.std.specs.Option.{option_map};
-ghost use Rattle.sdp_formats_rows.specs.Texts.{number_text, flag_number, flag_text, profile_level_text, range_text, has_mode, set_modes, behind_commas, listed, modes_text, opus_pieces, h264_pieces, video_pieces, other_pieces, separated, with_piece, with_pieces, format_text};
+ghost use Rattle.sdp_formats_rows.specs.Texts.{number_text, flag_number, flag_text, profile_level_text, range_text};
+ghost use Rattle.sdp_formats_rows.specs.Texts.{has_mode, set_modes, behind_commas, listed, modes_text, opus_pieces};
+ghost use Rattle.sdp_formats_rows.specs.Texts.{h264_pieces, video_pieces, other_pieces, separated, with_piece};
+ghost use Rattle.sdp_formats_rows.specs.Texts.{with_pieces, format_text};
 
 use crate::format::FormatParams;
 use sdp_formats_params::{Key, bit_of};
@@ -20,7 +23,8 @@ fn push_separator(text: &mut String) -> Result<(), AllocError>
 
 #[tactic(auto, unfolding(crate::specs::Texts::with_piece))]
 fn push_number(text: &mut String, key: Key, number: Option<u32>) -> Result<(), AllocError>
-    ensures { OnOk result (string_bytes text.new ≡ with_piece (string_bytes text.old) (option_map (number_text key) number)) }
+    ensures { OnOk result (string_bytes text.new
+        ≡ with_piece (string_bytes text.old) (option_map (number_text key) number)) }
 {
     match number {
         Some(number) => {
@@ -43,13 +47,15 @@ fn flag_number(flag: Option<bool>) -> Option<u32>
 }
 
 fn push_flag(text: &mut String, key: Key, flag: Option<bool>) -> Result<(), AllocError>
-    ensures { OnOk result (string_bytes text.new ≡ with_piece (string_bytes text.old) (option_map (flag_text key) flag)) }
+    ensures { OnOk result (string_bytes text.new
+        ≡ with_piece (string_bytes text.old) (option_map (flag_text key) flag)) }
 {
     push_number(text, key, flag_number(flag))
 }
 
 fn push_byte(text: &mut String, key: Key, number: Option<u8>) -> Result<(), AllocError>
-    ensures { OnOk result (string_bytes text.new ≡ with_piece (string_bytes text.old) (option_map (number_text key) number)) }
+    ensures { OnOk result (string_bytes text.new
+        ≡ with_piece (string_bytes text.old) (option_map (number_text key) number)) }
 {
     match number {
         Some(number) => push_number(text, key, Some(u32::from(number))),
@@ -58,7 +64,8 @@ fn push_byte(text: &mut String, key: Key, number: Option<u8>) -> Result<(), Allo
 }
 
 fn push_half_word(text: &mut String, key: Key, number: Option<u16>) -> Result<(), AllocError>
-    ensures { OnOk result (string_bytes text.new ≡ with_piece (string_bytes text.old) (option_map (number_text key) number)) }
+    ensures { OnOk result (string_bytes text.new
+        ≡ with_piece (string_bytes text.old) (option_map (number_text key) number)) }
 {
     match number {
         Some(number) => push_number(text, key, Some(u32::from(number))),
@@ -68,7 +75,8 @@ fn push_half_word(text: &mut String, key: Key, number: Option<u16>) -> Result<()
 
 #[tactic(auto, unfolding(crate::specs::Texts::with_piece))]
 fn push_profile_level(text: &mut String, number: Option<u32>) -> Result<(), AllocError>
-    ensures { OnOk result (string_bytes text.new ≡ with_piece (string_bytes text.old) (option_map profile_level_text number)) }
+    ensures { OnOk result (string_bytes text.new
+        ≡ with_piece (string_bytes text.old) (option_map profile_level_text number)) }
 {
     match number {
         Some(number) => {

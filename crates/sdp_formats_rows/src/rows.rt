@@ -2,7 +2,9 @@
 
 ghost use Rattle.std.specs.Prelude.{◌≡◌, None};
 ghost use Rattle.payload_core_base.specs.declared.codec.Codec.TheVariants.{H264};
-ghost use Rattle.sdp_formats_rows.specs.Configs.{spec_of, with_red_if, opus_row, pcmu_row, pcma_row, g722_row, comfort_noise_row, amr_wb_row, video_row, vp8_row, vp9_row, vp9_rows, av1_row, h264_format, h264_rows};
+ghost use Rattle.sdp_formats_rows.specs.Configs.{spec_of, with_red_if, opus_row, pcmu_row, pcma_row, g722_row};
+ghost use Rattle.sdp_formats_rows.specs.Configs.{comfort_noise_row, amr_wb_row, video_row, vp8_row, vp9_row};
+ghost use Rattle.sdp_formats_rows.specs.Configs.{vp9_rows, av1_row, h264_format, h264_rows};
 ghost use Rattle.sdp_formats_rows.specs.Rows.{new_row};
 ghost use Rattle.sdp_formats_rows.specs.Formats.{no_format};
 

@@ -3,19 +3,21 @@
 ghost use Rattle.std.specs.Prelude.{◌≡◌, [], ◌∷◌, None, Some, IfOk, IfSome, IfNone, true, false};
 ghost use Rattle.std.specs.Str.{is_utf8};
 ghost use Rattle.sdp_formats_rows.specs.Formats.{no_format};
-ghost use Rattle.rtp_media.specs.Exchanging.{Prints, AtEnd, WithText, wanted_of, wanted_in, drafted_row, format_for, AnswersRow, AnswersExt, AnswersEnd, AnswersOffer, AnswersAnswer, AnswersAccept, AnswersWithdraw, AnswersConnect, refusal_of_draft, empty_draft};
+ghost use Rattle.rtp_media.specs.Exchanging.{Prints, AtEnd, WithText, wanted_of, wanted_in, drafted_row, format_for};
+ghost use Rattle.rtp_media.specs.Exchanging.{AnswersRow, AnswersExt, AnswersEnd, AnswersOffer, AnswersAnswer};
+ghost use Rattle.rtp_media.specs.Exchanging.{AnswersAccept, AnswersWithdraw, AnswersConnect, refusal_of_draft};
+ghost use Rattle.rtp_media.specs.Exchanging.{empty_draft};
 ghost use Rattle.rtp_media.specs.ProgramState.{AnswersAt, ConnectsEnds};
 ghost use Rattle.rtp_media_lines.specs.declared.line.Command.TheVariants as command_is;
 
 use super::names::{end_error_name, exchange_error_name};
 use super::{EndAndDraft, one};
 use rtp_media_ends::{
-    Codec, CodecConfig, CodecSpec, End, FormatParams, PayloadParams,
-    SectionSpec, Session, connect,
+    Codec, CodecConfig, CodecSpec, End, FormatParams, PayloadParams, SectionSpec, Session, connect,
 };
 use rtp_media_lines::{
-    AcceptCommand, AnswerCommand, Bytes, ConnectCommand, EndCommand, ExtCommand,
-    OfferCommand, Reply, RowCommand, SectionWord, Letter, Text,
+    AcceptCommand, AnswerCommand, Bytes, ConnectCommand, EndCommand, ExtCommand, Letter,
+    OfferCommand, Reply, RowCommand, SectionWord, Text,
 };
 use rtp_wire::{Extension, ExtensionMap, Frequency, Mid, Pt, SessionId, Ssrc};
 use std::alloc::{AllocError, Global};
@@ -133,7 +135,8 @@ pub(super) fn offer(
     end: &mut Option<End>,
     command: OfferCommand,
 ) -> Result<Vec<Reply>, AllocError>
-    ensures { IfOk result (λ replies. AtEnd end.old end.new replies.items (λ e after. AnswersOffer e (wanted_in command.sections) after replies.items)) }
+    ensures { IfOk result (λ replies. AtEnd end.old end.new replies.items
+        (λ e after. AnswersOffer e (wanted_in command.sections) after replies.items)) }
 {
     let Some(end) = end else {
         return one(alloc, Reply::ErrorLine);
@@ -162,7 +165,8 @@ pub(super) fn answer_offer(
     end: &mut Option<End>,
     command: AnswerCommand,
 ) -> Result<Vec<Reply>, AllocError>
-    ensures { IfOk result (λ replies. WithText command.text end.old end.new replies.items (λ e after. AnswersAnswer e command.text (wanted_in command.sections) after replies.items)) }
+    ensures { IfOk result (λ replies. WithText command.text end.old end.new replies.items
+        (λ e after. AnswersAnswer e command.text (wanted_in command.sections) after replies.items)) }
 {
     match text_in(command.text.as_slice()) {
         Some(text) => answer_text(alloc, end, text, command.sections.as_slice()),
@@ -176,7 +180,8 @@ fn answer_text(
     text: &str,
     sections: &[SectionWord],
 ) -> Result<Vec<Reply>, AllocError>
-    ensures { IfOk result (λ replies. AtEnd end.old end.new replies.items (λ e after. AnswersAnswer e text.now (wanted_in sections.now) after replies.items)) }
+    ensures { IfOk result (λ replies. AtEnd end.old end.new replies.items
+        (λ e after. AnswersAnswer e text.now (wanted_in sections.now) after replies.items)) }
 {
     let Some(end) = end else {
         return one(alloc, Reply::ErrorLine);
@@ -193,7 +198,8 @@ pub(super) fn accept(
     end: &mut Option<End>,
     command: AcceptCommand,
 ) -> Result<Vec<Reply>, AllocError>
-    ensures { IfOk result (λ replies. WithText command.text end.old end.new replies.items (λ e after. AnswersAccept e command.text after replies.items)) }
+    ensures { IfOk result (λ replies. WithText command.text end.old end.new replies.items
+        (λ e after. AnswersAccept e command.text after replies.items)) }
 {
     match text_in(command.text.as_slice()) {
         Some(text) => accept_text(alloc, end, text),
@@ -202,7 +208,8 @@ pub(super) fn accept(
 }
 
 fn accept_text(alloc: Global, end: &mut Option<End>, text: &str) -> Result<Vec<Reply>, AllocError>
-    ensures { IfOk result (λ replies. AtEnd end.old end.new replies.items (λ e after. AnswersAccept e text.now after replies.items)) }
+    ensures { IfOk result (λ replies. AtEnd end.old end.new replies.items
+        (λ e after. AnswersAccept e text.now after replies.items)) }
 {
     let Some(end) = end else {
         return one(alloc, Reply::ErrorLine);
@@ -218,7 +225,8 @@ pub(super) fn withdraw(
     end: &mut Option<End>,
     _letter: Letter,
 ) -> Result<Vec<Reply>, AllocError>
-    ensures { IfOk result (λ replies. AtEnd end.old end.new replies.items (λ e after. AnswersWithdraw e after replies.items)) }
+    ensures { IfOk result (λ replies. AtEnd end.old end.new replies.items
+        (λ e after. AnswersWithdraw e after replies.items)) }
 {
     let Some(end) = end else {
         return one(alloc, Reply::ErrorLine);

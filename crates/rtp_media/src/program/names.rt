@@ -1,7 +1,8 @@
 //! The names under which errors are printed.
 
 ghost use Rattle.std.specs.Prelude.{◌≡◌};
-ghost use Rattle.rtp_media.specs.Names.{memory, end_error_name, exchange_error_name, open_error_name, sample_error_name, fault_name};
+ghost use Rattle.rtp_media.specs.Names.{memory, end_error_name, exchange_error_name, open_error_name};
+ghost use Rattle.rtp_media.specs.Names.{sample_error_name, fault_name};
 
 use rtp_media_ends::{EndError, ExchangeError, OpenError, PollFault, SampleError};
 use rtp_media_lines::ErrorName;

@@ -24,7 +24,8 @@ returns-in-Ok-None-clause-answer c = λ window. ap given
 pub returns-in-Ok-None-clause-after : goal.returns-in-Ok-None-clause-after
 returns-in-Ok-None-clause-after c = λ window.
     let none = rw c.in-Ok-None.field-0-is at c.in-Ok-None.ensures.popped in
-    rw (rw c.in-Ok-None.field-0-is at c.in-Ok-None.ensures.unchanged) (sym (polled_none _ (stream_of window c.args.buffer.now _) none.0))
+    rw (rw c.in-Ok-None.field-0-is at c.in-Ok-None.ensures.unchanged)
+    (sym (polled_none _ (stream_of window c.args.buffer.now _) none.0))
 
 pub returns-in-Memory-clause-memory : goal.returns-in-Memory-clause-memory
 returns-in-Memory-clause-memory c = λ window is.

@@ -7,4 +7,5 @@ use Rattle.sdp_formats_rows.proofs.config.drop_rows.Goals as goal
 
 pub returns-clause-rows : goal.returns-clause-rows
 returns-clause-rows c =
-    filter_same _ (λ row. not (is_codec row.spec.codec c.args.codec)) _ (λ row b f w. search rules) _ _ c.retain.ensures.filtered
+    filter_same _ (λ row. not (is_codec row.spec.codec c.args.codec)) _ (λ row b f w. search rules) _ _
+    c.retain.ensures.filtered

@@ -7,7 +7,8 @@ use Rattle.sdp_formats_rows.proofs.format.gives_level.Given as goal
 
 -- the parts that are left decide
 abbrev pub invariant-loop-rest : goal.invariant-loop-rest
-invariant-loop-rest l = list_any gives_level (parts_in 59 (option_copied l.rest)) ≡ list_any gives_level (parts 59 l.fn.line)
+invariant-loop-rest l = list_any gives_level (parts_in 59 (option_copied l.rest))
+    ≡ list_any gives_level (parts 59 l.fn.line)
 
 abbrev pub decreases-loop-rest : goal.decreases-loop-rest
 decreases-loop-rest l = length (parts_in 59 (option_copied l.rest))
