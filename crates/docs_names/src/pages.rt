@@ -37,7 +37,7 @@ pub fn definitions<R: Files + AllocGlobal>(
     page: &str,
     missing: &mut Vec<String>,
 ) -> io::Result<()> {
-    let crates = fs::read_to_string(rt, "crates.txt")?;
+    let crates = fs::read_to_string(rt, "crates_list.txt")?;
     for line in page.lines() {
         let mut folder = String::new(rt.alloc());
         let mut file = String::new(rt.alloc());
@@ -70,7 +70,7 @@ pub fn promises<R: Files + AllocGlobal>(
     page: &str,
     missing: &mut Vec<String>,
 ) -> io::Result<()> {
-    let crates = fs::read_to_string(rt, "crates.txt")?;
+    let crates = fs::read_to_string(rt, "crates_list.txt")?;
     let mut sources = String::new(rt.alloc());
     let list = fs::read_to_string(rt, "sources.txt")?;
     for path in list.lines() {
