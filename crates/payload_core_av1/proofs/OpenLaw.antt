@@ -1,8 +1,7 @@
 -- What packets are to the fragment that is open before them.
-use Rattle.std.proofs.Common.{◌≡◌, ℕ, Bool, true, false, List, [], ◌∷◌, Option, Some, None, Result, Ok, refl, sym, ap, ◌∙◌}
+use Rattle.std.proofs.Common.{◌≡◌, ℕ, Bool, true, false, List, [], ◌∷◌, Option, Some, None, Ok, refl, sym, ap, ◌∙◌}
 use Rattle.std.specs.Prelude.{◌||◌}
-use Rattle.payload_core_base.specs.Format.{Fragment, Reading}
-use Rattle.payload_core_base.specs.declared.error.PacketError.{PacketError}
+use Rattle.payload_core_base.specs.Format.{Fragment}
 use Rattle.payload_core_base.specs.declared.extra.CodecExtra.{CodecExtra}
 use Rattle.payload_core_base.specs.declared.extra.CodecExtra.TheVariants.{Av1}
 use Rattle.payload_core_av1.specs.Av1Open.{EmptyLaw, FreshLaw}
