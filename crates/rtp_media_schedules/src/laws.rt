@@ -45,7 +45,8 @@ pub fn exact_under_tame_schedule()
 /// polls until None give exactly the canonical units, whatever is held back.
 pub fn exact_after_full_arrival()
     ensures { (format : Format) (hold_back first polls : ℕ) (samples : List SentSample) (arrivals : List ℕ) →
-        let events = map (event_of (numbered first (datagrams samples))) (map Arrive arrivals ++ replicate (suc polls) Ask) in
+        let events = map (event_of (numbered first (datagrams samples)))
+        (map Arrive arrivals ++ replicate (suc polls) Ask) in
         AreSentAs format samples → first + length (packets_of samples) ≤ 2 ^ 62 → length (packets_of samples) ≤ 4096 →
         AreGoodArrivals first (length (packets_of samples)) [] arrivals →
         EndsSilent (heard format (fresh hold_back) events) →
@@ -58,7 +59,8 @@ pub fn exact_after_full_arrival()
 pub fn true_numbers()
     ensures { (format : Format) (sender : Sender) (hold_back first count : ℕ) (turns : List Turn) →
         first + count ≤ 2 ^ 62 → IsSane first count [] turns →
-        AreTrueNumbers sender first count (arrived [] turns) (after_events format (fresh hold_back) (map (event_of sender) turns)) }
+        AreTrueNumbers sender first count (arrived [] turns)
+        (after_events format (fresh hold_back) (map (event_of sender) turns)) }
 {}
 
 /// Polls come to an end: after at most as many as packets are held, one answers None.

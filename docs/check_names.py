@@ -1,0 +1,82 @@
+#!/usr/bin/env python3
+"""Checks that every name on docs/DEFINITIONS.md and docs/PROMISES.md stands in the tree.
+
+A definition is written `crate` `File.name`, `name`, ..: each name has to be declared in the crate's
+specs/File.antt. On the page of promises each name in the column of calls is a public function, and a
+name in parentheses is a clause of one. Prints what is missing, and ends with status 1 then.
+"""
+import re
+import sys
+from pathlib import Path
+
+ROOT = Path(__file__).resolve().parent.parent
+CRATES = ROOT / "crates"
+
+
+def rows(page):
+    for number, line in enumerate((ROOT / "docs" / page).read_text(encoding="utf-8").split("\n"), 1):
+        if line.startswith("| ") and not line.startswith(("|---", "| In plain words", "| Promise")):
+            yield number, [cell.strip() for cell in line.strip().strip("|").split(" | ")]
+
+
+def declares(text, name):
+    return re.search(r"(?m)^\s*(?:(?:abbrev|unfoldable|pub|record|data) )*" + re.escape(name) + r"(?: |$)", text) or \
+        re.search(r"\b(?:record|data) " + re.escape(name) + r"\b", text)
+
+
+def missing_definitions():
+    for number, cells in rows("DEFINITIONS.md"):
+        crate = module = None
+        for token in re.findall(r"`([^`]+)`", cells[1] if len(cells) > 1 else ""):
+            if (CRATES / token).is_dir():
+                crate, module = token, None
+                continue
+            if crate is None:
+                continue
+            file, dot, name = token.rpartition(".")
+            if dot and (CRATES / crate / "specs" / f"{file}.antt").exists():
+                module = file
+            elif dot:
+                yield f"DEFINITIONS.md:{number}: no file specs/{file}.antt in {crate}"
+                continue
+            if module is None:
+                if not re.search(r"\bfn " + re.escape(token) + r"\b", sources(crate)):
+                    yield f"DEFINITIONS.md:{number}: {token} has no file"
+            elif not declares((CRATES / crate / "specs" / f"{module}.antt").read_text(encoding="utf-8"), name):
+                if not re.search(r"\bfn " + re.escape(name) + r"\b", sources(crate)):
+                    yield f"DEFINITIONS.md:{number}: {crate} {module}.antt has no {name}"
+
+
+def sources(crate="*"):
+    if crate not in sources.kept:
+        sources.kept[crate] = "\n".join(p.read_text(encoding="utf-8") for p in sorted(CRATES.glob(f"{crate}/src/**/*.rt")))
+    return sources.kept[crate]
+
+
+sources.kept = {}
+
+
+def missing_promises():
+    code = sources()
+    for number, cells in rows("PROMISES.md"):
+        calls = cells[1] if len(cells) > 2 else ""
+        inside = "".join(re.findall(r"\([^()]*\)", calls))
+        outside = re.sub(r"\([^()]*\)", "", calls)
+        for token in re.findall(r"`([^`]+)`", outside):
+            name = token.split("::")[-1]
+            if re.fullmatch(r"[a-z_0-9]+", name) and not (CRATES / name).is_dir():
+                if not re.search(r"\bfn " + re.escape(name) + r"\b", code):
+                    yield f"PROMISES.md:{number}: no function {token}"
+            elif re.fullmatch(r"[A-Z]\w*", name):
+                if not re.search(r"\b(?:struct|enum|trait|type) " + re.escape(name) + r"\b", code):
+                    yield f"PROMISES.md:{number}: no type {token}"
+        for token in re.findall(r"`([a-z_0-9]+)`", inside):
+            if not re.search(r"\b(?:ensures|requires) " + re.escape(token) + r"\b", code) and \
+                    not re.search(r"\bfn " + re.escape(token) + r"\b", code):
+                yield f"PROMISES.md:{number}: no clause {token}"
+
+
+found = [*missing_definitions(), *missing_promises()]
+for line in found:
+    print(line)
+sys.exit(1 if found else 0)
