@@ -28,8 +28,13 @@ content_of time marker values bytes = record { time = time; marker = marker; val
 
 -- what is known of it under a number
 abbrev pub meta_of : ℕ → Content → RtpMeta
-meta_of number content = record { seq_no = number; time = content.time; marker = content.marker; ext_vals =
-    content.values }
+meta_of number content = record {
+  seq_no = number;
+  time = content.time;
+  marker = content.marker;
+  ext_vals =
+      content.values;
+}
 
 -- its packet under a number
 abbrev pub packet_of : ℕ → Content → Packet

@@ -1,8 +1,6 @@
 //! Values of header extensions, from a sample to a unit.
 
-use crate::calls::{
-    agreed_ends, has_type_111, next, open, push, receive, sending_stream,
-};
+use crate::calls::{agreed_ends, has_type_111, next, open, push, receive, sending_stream};
 use rtp_wire::{ExtensionValues, Mid};
 use std::test::Fail;
 
