@@ -29,6 +29,7 @@ pub enum Key {
 }
 
 impl Key {
+    /// The name of the parameter, as it is printed.
     pub fn as_str(&self) -> &'static str
         ensures { result.now ≡ key_name self.now }
     {
@@ -84,7 +85,7 @@ impl Key {
         self.as_str().eq_ignore_ascii_case(text)
     }
 
-    // The parameter of a name in any ASCII case (RFC 4855 3).
+    /// The parameter of a name in any ASCII case (RFC 4855 3).
     pub fn named(text: &str) -> Option<Key>
         ensures { result ≡ key_named text.now }
     {
@@ -96,7 +97,7 @@ impl Key {
         None
     }
 
-    // Does it tell of a profile, tier and level (RFC 7798 7.1, RFC 9328 7.2)?
+    /// Does it tell of a profile, tier and level (RFC 7798 7.1, RFC 9328 7.2)?
     pub fn is_level(&self) -> bool
         ensures { result ≡ is_level_key self.now }
     {

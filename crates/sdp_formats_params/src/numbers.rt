@@ -9,7 +9,7 @@ ghost use Rattle.sdp_formats_params.specs.Numbers.{range_end, range_of};
 
 use crate::parts::split_comma;
 
-// The number of eight bits that a text writes.
+/// The number of eight bits that a text writes.
 pub fn byte_of(text: &str) -> Option<u8>
     ensures { result ≡ number_below (2 ^ 8) 10 text.now }
 {
@@ -22,7 +22,7 @@ fn half_word_of(text: &str) -> Option<u16>
     text.parse::<u16>().ok()
 }
 
-// The number of 32 bits that a text writes.
+/// The number of 32 bits that a text writes.
 pub fn word_of(text: &str) -> Option<u32>
     ensures { result ≡ number_below (2 ^ 32) 10 text.now }
 {
@@ -35,7 +35,7 @@ fn hexadecimal_of(text: &str) -> Option<u32>
     u32::from_str_radix(text, 16).ok()
 }
 
-// The profile and level of H.264 that a text writes.
+/// The profile and level of H.264 that a text writes.
 pub fn profile_level_of(text: &str) -> Option<u32>
     ensures { result ≡ profile_level text.now }
 {
@@ -45,7 +45,7 @@ pub fn profile_level_of(text: &str) -> Option<u32>
     }
 }
 
-// The greatest difference of decoding order numbers that a text writes, up to 32,767.
+/// The greatest difference of decoding order numbers that a text writes, up to 32,767.
 pub fn don_diff_of(text: &str) -> Option<u16>
     ensures { result ≡ up_to 32767 (number_below (2 ^ 16) 10 text.now) }
 {
@@ -60,6 +60,7 @@ pub fn don_diff_of(text: &str) -> Option<u16>
     }
 }
 
+/// The bit of a mode of AMR-WB, 0 to 8 (RFC 4867 8.1).
 pub fn bit_of(mode: u8) -> u16
     requires { mode ≤ 8 }
     ensures { result ≡ 2 ^ mode }
@@ -81,7 +82,7 @@ fn with_mode(mode: Option<u8>, modes: u16) -> Option<u16>
     }
 }
 
-// The modes between commas.
+/// The modes between commas.
 pub fn modes_of(text: &str) -> Option<u16>
     ensures { result ≡ modes_of text.now }
 {
@@ -122,7 +123,7 @@ fn plain_byte_of(digits: &str) -> Option<u8>
     None
 }
 
-// The last event of a range.
+/// The last event of a range.
 pub fn range_of(text: &str) -> Option<u8>
     ensures { result ≡ range_of text.now }
 {
