@@ -7,5 +7,3 @@ mod arrivals;
 mod calls;
 #[cfg(test)]
 mod samples;
-#[cfg(test)]
-mod values;
