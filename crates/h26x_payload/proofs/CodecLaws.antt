@@ -1,7 +1,10 @@
 -- The codec law of every codec, from those of the codecs.
-use Rattle.std.proofs.Common.{ℕ, Bool}
+use Rattle.std.proofs.Common.{◌≡◌, ℕ, Bool, refl}
+use Rattle.payload_core_vpx.specs.Vp8Forms as vpx
+use Rattle.payload_core_vp9.specs.Vp9 as vp9
 use mathlib.Core.Bool.{false≢true}
 use Rattle.payload_core_base.specs.Law.{CodecLaw}
+use Rattle.payload_core_base.specs.declared.codec.Codec.{Codec}
 use Rattle.payload_core_base.specs.declared.codec.Codec.TheVariants.{Opus, PCMU, PCMA, G722, CN, AmrWb, H264, H265}
 use Rattle.payload_core_base.specs.declared.codec.Codec.TheVariants.{H266, Vp8, Vp9, Av1, Tele, Rtx, Red, Null}
 use Rattle.payload_core_base.specs.declared.codec.Codec.TheVariants.{Unknown}
@@ -14,7 +17,8 @@ use Rattle.payload_core_av1.specs.Av1Coding.{av1_coding}
 use Rattle.h26x_payload_h264.specs.H264Coding.{h264_coding}
 use Rattle.h26x_payload_h265.specs.H265Coding.{h265_coding}
 use Rattle.h26x_payload_h266.specs.H266Coding.{h266_coding}
-use Rattle.h26x_payload.specs.Dispatch.{FirstIsReached, KeepCodecLaw}
+use Rattle.h26x_payload.specs.Dispatch.{FirstIsReached, FormsKeepUnits, KeepCodecLaw, KeepCodecLawInForms}
+use Rattle.h26x_payload.specs.Codings.{Forms, Settings, coding_in, coding_of, plain_forms}
 
 -- the laws of the codecs
 pub record TheLaws : Type 0 where
@@ -22,31 +26,34 @@ pub record TheLaws : Type 0 where
   pub noise : CodecLaw noise_coding
   pub amr_wb : (octet_align : Bool) → CodecLaw (amr_wb_coding octet_align)
   pub telephone : (rate : ℕ) → CodecLaw (telephone_coding rate)
-  pub vp8 : (has_id : Bool) → CodecLaw (vp8_coding has_id)
-  pub vp9 : CodecLaw vp9_coding
+  pub vp8 : (has_id zero_id : Bool) → CodecLaw (vp8_coding has_id zero_id)
+  pub vp9 : (prediction : Bool) → CodecLaw (vp9_coding prediction)
   pub av1 : CodecLaw av1_coding
   pub h264 : CodecLaw h264_coding
   pub h265 : (donl : Bool) → CodecLaw (h265_coding donl)
   pub h266 : (donl : Bool) → CodecLaw (h266_coding donl)
 
+pub keep_codec_law_in : TheLaws → KeepCodecLawInForms
+keep_codec_law_in l f s has_id Opus = l.pieces
+keep_codec_law_in l f s has_id PCMU = l.pieces
+keep_codec_law_in l f s has_id PCMA = l.pieces
+keep_codec_law_in l f s has_id G722 = l.pieces
+keep_codec_law_in l f s has_id CN = l.noise
+keep_codec_law_in l f s has_id AmrWb = l.amr_wb s.octet_align
+keep_codec_law_in l f s has_id H264 = l.h264
+keep_codec_law_in l f s has_id H265 = l.h265 s.donl
+keep_codec_law_in l f s has_id H266 = l.h266 s.donl
+keep_codec_law_in l f s has_id Vp8 = l.vp8 has_id f.zero_id
+keep_codec_law_in l f s has_id Vp9 = l.vp9 f.prediction
+keep_codec_law_in l f s has_id Av1 = l.av1
+keep_codec_law_in l f s has_id Tele = l.telephone s.clock_rate
+keep_codec_law_in l f s has_id Rtx = λ sender limit sample reached well_formed. absurd well_formed
+keep_codec_law_in l f s has_id Red = λ sender limit sample reached well_formed. absurd well_formed
+keep_codec_law_in l f s has_id Null = λ sender limit sample reached well_formed. absurd well_formed
+keep_codec_law_in l f s has_id Unknown = λ sender limit sample reached well_formed. absurd well_formed
+
 pub keep_codec_law : TheLaws → KeepCodecLaw
-keep_codec_law l s has_id Opus = l.pieces
-keep_codec_law l s has_id PCMU = l.pieces
-keep_codec_law l s has_id PCMA = l.pieces
-keep_codec_law l s has_id G722 = l.pieces
-keep_codec_law l s has_id CN = l.noise
-keep_codec_law l s has_id AmrWb = l.amr_wb s.octet_align
-keep_codec_law l s has_id H264 = l.h264
-keep_codec_law l s has_id H265 = l.h265 s.donl
-keep_codec_law l s has_id H266 = l.h266 s.donl
-keep_codec_law l s has_id Vp8 = l.vp8 has_id
-keep_codec_law l s has_id Vp9 = l.vp9
-keep_codec_law l s has_id Av1 = l.av1
-keep_codec_law l s has_id Tele = l.telephone s.clock_rate
-keep_codec_law l s has_id Rtx = λ sender limit sample reached well_formed. absurd well_formed
-keep_codec_law l s has_id Red = λ sender limit sample reached well_formed. absurd well_formed
-keep_codec_law l s has_id Null = λ sender limit sample reached well_formed. absurd well_formed
-keep_codec_law l s has_id Unknown = λ sender limit sample reached well_formed. absurd well_formed
+keep_codec_law l s has_id codec = keep_codec_law_in l plain_forms s has_id codec
 
 pub first_is_reached : FirstIsReached
 first_is_reached s has_id Opus id is few = tt
@@ -66,3 +73,43 @@ first_is_reached s has_id Rtx id is few = absurd (false≢true is)
 first_is_reached s has_id Red id is few = absurd (false≢true is)
 first_is_reached s has_id Null id is few = absurd (false≢true is)
 first_is_reached s has_id Unknown id is few = absurd (false≢true is)
+
+pub forms_keep_units : vpx.SameUnits → vp9.SameUnits → FormsKeepUnits
+forms_keep_units vp8 vp9 f s has_id Opus sender limit sample room = refl
+forms_keep_units vp8 vp9 f s has_id PCMU sender limit sample room = refl
+forms_keep_units vp8 vp9 f s has_id PCMA sender limit sample room = refl
+forms_keep_units vp8 vp9 f s has_id G722 sender limit sample room = refl
+forms_keep_units vp8 vp9 f s has_id CN sender limit sample room = refl
+forms_keep_units vp8 vp9 f s has_id AmrWb sender limit sample room = refl
+forms_keep_units vp8 vp9 f s has_id H264 sender limit sample room = refl
+forms_keep_units vp8 vp9 f s has_id H265 sender limit sample room = refl
+forms_keep_units vp8 vp9 f s has_id H266 sender limit sample room = refl
+forms_keep_units vp8 vp9 f s has_id Vp8 sender limit sample room = vp8 has_id f.zero_id sender limit sample room
+forms_keep_units vp8 vp9 f s has_id Vp9 sender limit sample room = vp9 f.prediction sender limit sample room
+forms_keep_units vp8 vp9 f s has_id Av1 sender limit sample room = refl
+forms_keep_units vp8 vp9 f s has_id Tele sender limit sample room = refl
+forms_keep_units vp8 vp9 f s has_id Rtx sender limit sample room = refl
+forms_keep_units vp8 vp9 f s has_id Red sender limit sample room = refl
+forms_keep_units vp8 vp9 f s has_id Null sender limit sample room = refl
+forms_keep_units vp8 vp9 f s has_id Unknown sender limit sample room = refl
+
+-- what is read is the same in all forms
+pub same_format : (f : Forms) (s : Settings) (has_id : Bool) (codec : Codec) → (coding_of s has_id codec).format
+    ≡ (coding_in f s has_id codec).format
+same_format f s has_id Opus = refl
+same_format f s has_id PCMU = refl
+same_format f s has_id PCMA = refl
+same_format f s has_id G722 = refl
+same_format f s has_id CN = refl
+same_format f s has_id AmrWb = refl
+same_format f s has_id H264 = refl
+same_format f s has_id H265 = refl
+same_format f s has_id H266 = refl
+same_format f s has_id Vp8 = refl
+same_format f s has_id Vp9 = refl
+same_format f s has_id Av1 = refl
+same_format f s has_id Tele = refl
+same_format f s has_id Rtx = refl
+same_format f s has_id Red = refl
+same_format f s has_id Null = refl
+same_format f s has_id Unknown = refl

@@ -1,2 +1,3 @@
 pub mod CodecLaws
 pub mod Runs
+pub mod Ids

@@ -58,22 +58,40 @@ no_coding = record {
   after = λ sender limit sample. sender;
 }
 
--- The payload format of a codec, with picture ids in VP8 or without.
+-- Forms that are sent where they are asked for: VP8's picture id 0, and which frames of VP9 are predicted.
+pub record Forms : Type 0 where
+  pub zero_id : Bool
+  pub prediction : Bool
+
+abbrev pub plain_forms : Forms
+plain_forms = record { zero_id = false; prediction = false }
+
+abbrev pub with_zero_id : Forms → Forms
+with_zero_id f = record { zero_id = true; prediction = f.prediction }
+
+abbrev pub with_prediction : Forms → Forms
+with_prediction f = record { zero_id = f.zero_id; prediction = true }
+
+-- The payload format of a codec in these forms, with picture ids in VP8 or without.
+abbrev pub coding_in : Forms → Settings → Bool → Codec → Coding
+coding_in f s has_id Opus = pieces_coding
+coding_in f s has_id PCMU = pieces_coding
+coding_in f s has_id PCMA = pieces_coding
+coding_in f s has_id G722 = pieces_coding
+coding_in f s has_id CN = noise_coding
+coding_in f s has_id AmrWb = amr_wb_coding s.octet_align
+coding_in f s has_id H264 = h264_coding
+coding_in f s has_id H265 = h265_coding s.donl
+coding_in f s has_id H266 = h266_coding s.donl
+coding_in f s has_id Vp8 = vp8_coding has_id f.zero_id
+coding_in f s has_id Vp9 = vp9_coding f.prediction
+coding_in f s has_id Av1 = av1_coding
+coding_in f s has_id Tele = telephone_coding s.clock_rate
+coding_in f s has_id _ = no_coding
+
+-- The payload format of a codec where neither form was asked for.
 abbrev pub coding_of : Settings → Bool → Codec → Coding
-coding_of s has_id Opus = pieces_coding
-coding_of s has_id PCMU = pieces_coding
-coding_of s has_id PCMA = pieces_coding
-coding_of s has_id G722 = pieces_coding
-coding_of s has_id CN = noise_coding
-coding_of s has_id AmrWb = amr_wb_coding s.octet_align
-coding_of s has_id H264 = h264_coding
-coding_of s has_id H265 = h265_coding s.donl
-coding_of s has_id H266 = h266_coding s.donl
-coding_of s has_id Vp8 = vp8_coding has_id
-coding_of s has_id Vp9 = vp9_coding
-coding_of s has_id Av1 = av1_coding
-coding_of s has_id Tele = telephone_coding s.clock_rate
-coding_of s has_id _ = no_coding
+coding_of s has_id codec = coding_in plain_forms s has_id codec
 
 -- Where no sample was sent: the places for waiting parameter sets are empty.
 abbrev pub empty_places : Codec → List (Option (List ℕ))

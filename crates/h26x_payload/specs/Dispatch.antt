@@ -7,11 +7,15 @@ use Rattle.payload_core_base.specs.declared.error.PacketError.{PacketError}
 use Rattle.payload_core_base.specs.declared.extra.CodecExtra.{CodecExtra}
 use Rattle.payload_core_base.specs.declared.codec.Codec.{Codec}
 use Rattle.payload_core_base.specs.declared.codec.Codec.TheVariants.{Vp8, Vp9}
-use Rattle.h26x_payload.specs.Codings.{Settings, coding_of, first_sender, has_format}
+use Rattle.h26x_payload.specs.Codings.{Forms, Settings, coding_in, coding_of, first_sender, has_format}
 
 -- Under any settings each codec keeps the codec law.
 abbrev pub KeepCodecLaw : Type 0
 KeepCodecLaw = (s : Settings) (has_id : Bool) (codec : Codec) → CodecLaw (coding_of s has_id codec)
+
+-- And in every form.
+abbrev pub KeepCodecLawInForms : Type 0
+KeepCodecLawInForms = (f : Forms) (s : Settings) (has_id : Bool) (codec : Codec) → CodecLaw (coding_in f s has_id codec)
 
 -- The law speaks of the state before the first sample, whatever the first picture id.
 abbrev pub FirstIsReached : Type 0
@@ -22,6 +26,16 @@ FirstIsReached = (s : Settings) (has_id : Bool) (codec : Codec) (picture_id : �
 abbrev pub FillPackets : Type 0
 FillPackets = (s : Settings) (has_id : Bool) → FillsPackets (coding_of s has_id Vp8).packing
     × FillsPackets (coding_of s has_id Vp9).packing
+
+abbrev pub FillPacketsInForms : Type 0
+FillPacketsInForms = (f : Forms) (s : Settings) (has_id : Bool) → FillsPackets (coding_in f s has_id Vp8).packing
+    × FillsPackets (coding_in f s has_id Vp9).packing
+
+-- At a limit above 4 the forms change no unit.
+abbrev pub FormsKeepUnits : Type 0
+FormsKeepUnits = (f : Forms) (s : Settings) (has_id : Bool) (codec : Codec) (sender : Sender) (limit : ℕ)
+    (sample : List ℕ) → 4 < limit → (coding_in f s has_id codec).units sender limit sample
+    ≡ (coding_of s has_id codec).units sender limit sample
 
 -- A codec whose samples are cut so and whose packets are read so.
 abbrev pub through : Packing → Format → Coding → Coding
@@ -63,3 +77,8 @@ abbrev pub PairKeepsCodecLaw : Packing → Format → Type 0
 PairKeepsCodecLaw packing format = (s : Settings) (has_id : Bool) (codec : Codec) → packing
     ≡ (coding_of s has_id codec).packing → format ≡ (coding_of s has_id codec).format
     → ArePair packing format (coding_of s has_id codec)
+
+abbrev pub PairKeepsCodecLawInForms : Packing → Format → Type 0
+PairKeepsCodecLawInForms packing format = (f : Forms) (s : Settings) (has_id : Bool) (codec : Codec) → packing
+    ≡ (coding_in f s has_id codec).packing → format ≡ (coding_of s has_id codec).format
+    → ArePair packing format (coding_in f s has_id codec)

@@ -4,6 +4,8 @@ use Rattle.payload_core_base.specs.Packing.{Packing, Sender}
 use Rattle.payload_core_base.specs.declared.codec.Codec.{Codec}
 use Rattle.payload_core_base.specs.declared.codec.Codec.TheVariants as codecs
 use Rattle.payload_core_audio.specs.AmrWb.{amr_wb_packing}
+use Rattle.payload_core_vpx.specs.Vp8.{vp8_packing}
+use Rattle.payload_core_vp9.specs.Vp9.{vp9_packing}
 use Rattle.h26x_payload_h265.specs.H265Packing.{h265_packing}
 use Rattle.h26x_payload_h266.specs.H266Packing.{h266_packing}
 use Rattle.h26x_payload.specs.Codings.{Settings}
@@ -47,3 +49,12 @@ is_set (AmrWb p) = true
 is_set (H265 p) = true
 is_set (H266 p) = true
 is_set _ = false
+
+-- VP8 writes the picture id 0, or VP9 tells which frames are predicted; the others stay as they were.
+abbrev pub packing_with_zero_id : {B : Type 0} → Packing → CodecPacketizer B → Packing
+packing_with_zero_id before (Vp8 p) = vp8_packing p.has_id true
+packing_with_zero_id before _ = before
+
+abbrev pub packing_with_prediction : {B : Type 0} → Packing → CodecPacketizer B → Packing
+packing_with_prediction before (Vp9 p) = vp9_packing true
+packing_with_prediction before _ = before

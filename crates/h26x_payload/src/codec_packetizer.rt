@@ -1,7 +1,7 @@
 //! One packetizer over all codecs.
 
 ghost use Rattle.h26x_payload.specs.Codings.{Settings, coding_of, first_sender, first_settings, has_format};
-ghost use Rattle.h26x_payload.specs.Codings.{settings_of};
+ghost use Rattle.h26x_payload.specs.Codings.{Forms, coding_in, settings_of, with_prediction, with_zero_id};
 ghost use Rattle.std.specs.Prelude.{◌≡◌, ◌<◌, Bool, Contains, IfSome, false, is_some, unwrap_or};
 
 use h26x_payload_h264::H264Packetizer;
@@ -50,7 +50,8 @@ pub enum CodecPacketizer<B = Box<dyn Packetizer + Drop>> {
 }
 
 impl<B: Packetizer> CodecPacketizer<B> {
-    ghost use Rattle.h26x_payload.specs.Packetizers.{codecs_of, is_set, packing_under, sender_under};
+    ghost use Rattle.h26x_payload.specs.Packetizers.{codecs_of, is_set, packing_under, packing_with_prediction};
+    ghost use Rattle.h26x_payload.specs.Packetizers.{packing_with_zero_id, sender_under};
 
     /// The packetizer of a codec, without picture ids in VP8 and from picture id 0 on in VP9; None for Rtx, Red, Null
     /// and Unknown.
@@ -128,6 +129,42 @@ impl<B: Packetizer> CodecPacketizer<B> {
             CodecPacketizer::H265(p) => p.with_donl(donl),
             CodecPacketizer::H266(p) => p.with_donl(donl),
             _ => {}
+        }
+    }
+
+    /// The same packetizer, which writes VP8's picture id 0 like any other; one of another codec stays as it was.
+    pub fn with_zero_id(self) -> Self
+        ensures variant { codecs_of result ≡ codecs_of self }
+        ensures packing { let before = ⟦<CodecPacketizer<B> as Packetizer>⟧.packing self in
+            ⟦<CodecPacketizer<B> as Packetizer>⟧.packing result ≡ packing_with_zero_id before self }
+        ensures in_form { (f : Forms) (s : Settings) (has_id : Bool) (codec : Codec) → Contains (codecs_of self) codec →
+            ⟦<CodecPacketizer<B> as Packetizer>⟧.packing self ≡ (coding_in f s has_id codec).packing →
+            ⟦<CodecPacketizer<B> as Packetizer>⟧.packing result ≡ (coding_in (with_zero_id f) s has_id codec).packing }
+        ensures sender { ⟦<CodecPacketizer<B> as Packetizer>⟧.sender result
+            ≡ ⟦<CodecPacketizer<B> as Packetizer>⟧.sender self }
+    {
+        match self {
+            CodecPacketizer::Vp8(p) => CodecPacketizer::Vp8(p.with_zero_id()),
+            other => other,
+        }
+    }
+
+    /// The same packetizer, which tells of VP9's frames whether they are predicted; one of another codec stays as it
+    /// was.
+    pub fn with_prediction(self) -> Self
+        ensures variant { codecs_of result ≡ codecs_of self }
+        ensures packing { let before = ⟦<CodecPacketizer<B> as Packetizer>⟧.packing self in
+            ⟦<CodecPacketizer<B> as Packetizer>⟧.packing result ≡ packing_with_prediction before self }
+        ensures in_form { (f : Forms) (s : Settings) (has_id : Bool) (codec : Codec) → Contains (codecs_of self) codec →
+            ⟦<CodecPacketizer<B> as Packetizer>⟧.packing self ≡ (coding_in f s has_id codec).packing →
+            ⟦<CodecPacketizer<B> as Packetizer>⟧.packing result
+            ≡ (coding_in (with_prediction f) s has_id codec).packing }
+        ensures sender { ⟦<CodecPacketizer<B> as Packetizer>⟧.sender result
+            ≡ ⟦<CodecPacketizer<B> as Packetizer>⟧.sender self }
+    {
+        match self {
+            CodecPacketizer::Vp9(p) => CodecPacketizer::Vp9(p.with_prediction()),
+            other => other,
         }
     }
 }

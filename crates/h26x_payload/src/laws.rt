@@ -1,6 +1,8 @@
 //! The codec law, codec by codec and through one packetizer and one depacketizer over all codecs.
 
-ghost use Rattle.h26x_payload.specs.Dispatch.{FillPackets, FirstIsReached, KeepCodecLaw, PairKeepsCodecLaw};
+ghost use Rattle.h26x_payload.specs.Dispatch.{FillPackets, FillPacketsInForms, FirstIsReached, FormsKeepUnits};
+ghost use Rattle.h26x_payload.specs.Dispatch.{KeepCodecLaw, KeepCodecLawInForms, PairKeepsCodecLaw};
+ghost use Rattle.h26x_payload.specs.Dispatch.{PairKeepsCodecLawInForms};
 
 use crate::codec_depacketizer::CodecDepacketizer;
 use crate::codec_packetizer::CodecPacketizer;
@@ -15,10 +17,15 @@ use payload_core_vpx::vp8_law;
 
 /// Each codec that `CodecPacketizer::new` answers keeps the codec law, whatever was negotiated, and its packetizer
 /// begins in a state of which the law speaks. Each VP8 and VP9 packet but a sample's last has just the limit's bytes.
+/// All of this holds with VP8's picture id 0 and VP9's prediction too, and at every limit above 4 the units are then
+/// the same.
 pub fn codec_law()
     ensures codec { KeepCodecLaw }
     ensures first { FirstIsReached }
     ensures full { FillPackets }
+    ensures codec_in_forms { KeepCodecLawInForms }
+    ensures full_in_forms { FillPacketsInForms }
+    ensures units_in_forms { FormsKeepUnits }
 {
     plain_laws();
     amr_wb_law();
@@ -38,7 +45,9 @@ pub fn pair_law<P: Packetizer, D: Depacketizer>(
     packetizer: &CodecPacketizer<P>,
     depacketizer: &CodecDepacketizer<D>,
 )
-    ensures { PairKeepsCodecLaw (⟦<CodecPacketizer<P> as Packetizer>⟧.packing packetizer.now)
+    ensures plain { PairKeepsCodecLaw (⟦<CodecPacketizer<P> as Packetizer>⟧.packing packetizer.now)
+        (⟦<CodecDepacketizer<D> as Depacketizer>⟧.format depacketizer.now) }
+    ensures in_forms { PairKeepsCodecLawInForms (⟦<CodecPacketizer<P> as Packetizer>⟧.packing packetizer.now)
         (⟦<CodecDepacketizer<D> as Depacketizer>⟧.format depacketizer.now) }
 {
     codec_law();

@@ -1,5 +1,6 @@
 //! Payload formats of H.264, H.265 and H.266, their profiles, and one packetizer and one depacketizer over all
-//! codecs.
+//! codecs. What their calls name of the other codecs and of the wire stands here too, and so do the payloader and the
+//! buffer.
 #![tactic(auto)]
 
 mod codec_depacketizer;
@@ -9,26 +10,109 @@ mod not_boxed;
 
 pub use codec_depacketizer::CodecDepacketizer;
 pub use codec_packetizer::CodecPacketizer;
-pub use h26x_payload_annexb::{NalUnits, cut_law, nal_units, nal_units_law};
-pub use h26x_payload_h264::{
-    ANNEXB_NALUSTART_CODE, AUD_NALU_TYPE, FILLER_NALU_TYPE, FU_END_BITMASK, FU_START_BITMASK,
-    FUA_HEADER_SIZE, FUA_NALU_TYPE, FUB_NALU_TYPE, H264Depacketizer, H264Packetizer, IDR_NALU_TYPE,
-    NALU_REF_IDC_BITMASK, NALU_TYPE_BITMASK, OUTPUT_STAP_AHEADER, PPS_NALU_TYPE, SPS_NALU_TYPE,
-    STAPA_HEADER_SIZE, STAPA_NALU_LENGTH_SIZE, STAPA_NALU_TYPE, detect_h264_keyframe,
-    detect_h264_nalu, h264_law, h264_reading_law,
-};
-pub use h26x_payload_h265::{
-    H265Depacketizer, H265FragmentationUnitHeader, H265NALUHeader, H265Packetizer,
-    detect_h265_keyframe, h265_law, h265_reading_law,
-};
-pub use h26x_payload_h266::{
-    H266Depacketizer, H266FragmentationUnitHeader, H266NALUHeader, H266Packetizer,
-    detect_h266_keyframe, h266_law, h266_reading_law,
-};
-pub use h26x_payload_profiles::{
-    H264LevelIdc, H264Profile, H264ProfileError, H264ProfileIdc, H264ProfileLevel, H265Level,
-    H265Profile, H265ProfileTierLevel, H265Tier, H266Level, H266Profile, H266ProfileTierLevel,
-    H266Tier, h264_tables_law, h265_tables_law, h266_tables_law, levels_apart_law,
-};
-pub use laws::{codec_law, pair_law};
+pub use h26x_payload_annexb::NalUnits;
+pub use h26x_payload_annexb::cut_law;
+pub use h26x_payload_annexb::nal_units;
+pub use h26x_payload_annexb::nal_units_law;
+pub use h26x_payload_h264::ANNEXB_NALUSTART_CODE;
+pub use h26x_payload_h264::AUD_NALU_TYPE;
+pub use h26x_payload_h264::FILLER_NALU_TYPE;
+pub use h26x_payload_h264::FU_END_BITMASK;
+pub use h26x_payload_h264::FU_START_BITMASK;
+pub use h26x_payload_h264::FUA_HEADER_SIZE;
+pub use h26x_payload_h264::FUA_NALU_TYPE;
+pub use h26x_payload_h264::FUB_NALU_TYPE;
+pub use h26x_payload_h264::H264Depacketizer;
+pub use h26x_payload_h264::H264Packetizer;
+pub use h26x_payload_h264::IDR_NALU_TYPE;
+pub use h26x_payload_h264::NALU_REF_IDC_BITMASK;
+pub use h26x_payload_h264::NALU_TYPE_BITMASK;
+pub use h26x_payload_h264::OUTPUT_STAP_AHEADER;
+pub use h26x_payload_h264::PPS_NALU_TYPE;
+pub use h26x_payload_h264::SPS_NALU_TYPE;
+pub use h26x_payload_h264::STAPA_HEADER_SIZE;
+pub use h26x_payload_h264::STAPA_NALU_LENGTH_SIZE;
+pub use h26x_payload_h264::STAPA_NALU_TYPE;
+pub use h26x_payload_h264::detect_h264_keyframe;
+pub use h26x_payload_h264::detect_h264_nalu;
+pub use h26x_payload_h264::h264_law;
+pub use h26x_payload_h264::h264_reading_law;
+pub use h26x_payload_h265::H265Depacketizer;
+pub use h26x_payload_h265::H265FragmentationUnitHeader;
+pub use h26x_payload_h265::H265NALUHeader;
+pub use h26x_payload_h265::H265Packetizer;
+pub use h26x_payload_h265::detect_h265_keyframe;
+pub use h26x_payload_h265::h265_law;
+pub use h26x_payload_h265::h265_reading_law;
+pub use h26x_payload_h266::H266Depacketizer;
+pub use h26x_payload_h266::H266FragmentationUnitHeader;
+pub use h26x_payload_h266::H266NALUHeader;
+pub use h26x_payload_h266::H266Packetizer;
+pub use h26x_payload_h266::detect_h266_keyframe;
+pub use h26x_payload_h266::h266_law;
+pub use h26x_payload_h266::h266_reading_law;
+pub use h26x_payload_profiles::H264LevelIdc;
+pub use h26x_payload_profiles::H264Profile;
+pub use h26x_payload_profiles::H264ProfileError;
+pub use h26x_payload_profiles::H264ProfileIdc;
+pub use h26x_payload_profiles::H264ProfileLevel;
+pub use h26x_payload_profiles::H265Level;
+pub use h26x_payload_profiles::H265Profile;
+pub use h26x_payload_profiles::H265ProfileTierLevel;
+pub use h26x_payload_profiles::H265Tier;
+pub use h26x_payload_profiles::H266Level;
+pub use h26x_payload_profiles::H266Profile;
+pub use h26x_payload_profiles::H266ProfileTierLevel;
+pub use h26x_payload_profiles::H266Tier;
+pub use h26x_payload_profiles::h264_tables_law;
+pub use h26x_payload_profiles::h265_tables_law;
+pub use h26x_payload_profiles::h266_tables_law;
+pub use h26x_payload_profiles::levels_apart_law;
+pub use laws::codec_law;
+pub use laws::pair_law;
 pub use not_boxed::NotBoxed;
+pub use payload_core_audio::AmrWbDepacketizer;
+pub use payload_core_audio::AmrWbPacketizer;
+pub use payload_core_audio::ComfortNoiseDepacketizer;
+pub use payload_core_audio::ComfortNoisePacketizer;
+pub use payload_core_audio::G711Depacketizer;
+pub use payload_core_audio::G711Packetizer;
+pub use payload_core_audio::G722Packetizer;
+pub use payload_core_audio::OpusDepacketizer;
+pub use payload_core_audio::OpusPacketizer;
+pub use payload_core_audio::TelephoneEventDepacketizer;
+pub use payload_core_audio::TelephoneEventPacketizer;
+pub use payload_core_av1::Av1Depacketizer;
+pub use payload_core_av1::Av1Packetizer;
+pub use payload_core_base::Av1CodecExtra;
+pub use payload_core_base::Codec;
+pub use payload_core_base::CodecExtra;
+pub use payload_core_base::Depacketizer;
+pub use payload_core_base::H264CodecExtra;
+pub use payload_core_base::H265CodecExtra;
+pub use payload_core_base::H266CodecExtra;
+pub use payload_core_base::MediaKind;
+pub use payload_core_base::PacketError;
+pub use payload_core_base::PacketSink;
+pub use payload_core_base::Packetizer;
+pub use payload_core_base::TelephoneEvent;
+pub use payload_core_base::Vp8CodecExtra;
+pub use payload_core_base::Vp9CodecExtra;
+pub use payload_core_buffer::Depacketized;
+pub use payload_core_buffer::DepacketizingBuffer;
+pub use payload_core_buffer::MAX_HELD;
+pub use payload_core_buffer::PacketList;
+pub use payload_core_buffer::Payloader;
+pub use payload_core_buffer::RtpMeta;
+pub use payload_core_buffer::SentPacket;
+pub use payload_core_vp9::Vp9Depacketizer;
+pub use payload_core_vp9::Vp9Packetizer;
+pub use payload_core_vpx::Vp8Depacketizer;
+pub use payload_core_vpx::Vp8Packetizer;
+pub use rtp_wire_extensions::AbsCaptureTime;
+pub use rtp_wire_extensions::ExtensionValues;
+pub use rtp_wire_extensions::VideoOrientation;
+pub use rtp_wire_ids::Mid;
+pub use rtp_wire_ids::Rid;
+pub use rtp_wire_ids::SeqNo;
+pub use rtp_wire_time::Frequency;

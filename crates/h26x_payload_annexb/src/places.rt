@@ -10,9 +10,16 @@ pub fn code_place(text: &[u8]) -> Option<usize>
     ensures { MatchOption result (HasNoCodeBefore text.now (length text.now))
         (λ place. HasCodeAt text.now place × HasNoCodeBefore text.now place) }
 {
-    for i in 0..text.len().saturating_sub(2) {
-        if text[i] == 0 && text[i + 1] == 0 && text[i + 2] == 1 {
+    let mut i = 0;
+    while i < text.len().saturating_sub(2) {
+        // A third byte above 0 rules out the next two places too.
+        let third = text[i + 2];
+        if third == 0 {
+            i += 1;
+        } else if third == 1 && text[i + 1] == 0 && text[i] == 0 {
             return Some(i);
+        } else {
+            i += 3;
         }
     }
     None

@@ -34,11 +34,28 @@ impl Tally {
     }
 }
 
-/// A sink that only counts.
+/// A sink that only counts, and refuses what it can't count.
 impl PacketSink for Tally {
-    ghost use Rattle.std.specs.Prelude.{length};
+    ghost use Rattle.std.proofs.Common.{ap, sym, ◌∙◌};
+    ghost use Rattle.std.proofs.lemmas.List.{replicate-append-replicate};
+    ghost use Rattle.std.specs.Prelude.{length, replicate};
 
-    ghost takes = { λ old o new. (new.packets ≡ (old.packets + 1) % 2 ^ 64)
+    ghost Entry = { Unit {0} };
+
+    ghost entries = { λ t. replicate t.packets tt };
+
+    ghost becomes = { λ _ _ _. Unit {0} };
+
+    ghost one_more = { λ old o new taken. (
+      tt,
+      tt,
+      ap (λ n. replicate n tt) taken.0
+          ∙ sym (replicate-append-replicate old.packets 1 tt),
+    ) };
+
+    ghost none_more = { λ old new kept. ap (λ t. replicate t.packets tt) kept };
+
+    ghost takes = { λ old o new. (new.packets ≡ old.packets + 1)
         × (new.bytes ≡ (old.bytes + length o.payload) % 2 ^ 64) };
 
     ghost keeps = { λ old new. new ≡ old };
@@ -50,6 +67,9 @@ impl PacketSink for Tally {
         _time: u32,
         _values: &ExtensionValues,
     ) -> Result<(), PacketError> {
+        if self.packets == u64::MAX {
+            return Err(PacketError::Memory);
+        }
         self.add(1, payload.len());
         Ok(())
     }

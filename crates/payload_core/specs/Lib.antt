@@ -1,11 +1,12 @@
 pub use Rattle.payload_core_audio.specs.AmrWb
+pub use Rattle.payload_core_audio.specs.BitBytes
 pub use Rattle.payload_core_audio.specs.Plain
 pub use Rattle.payload_core_av1.specs.Av1Coding
 pub use Rattle.payload_core_av1.specs.Av1Layout
+pub use Rattle.payload_core_av1.specs.Av1Open
 pub use Rattle.payload_core_av1.specs.Av1Packets
 pub use Rattle.payload_core_av1.specs.Av1Packing
 pub use Rattle.payload_core_av1.specs.Av1Reading
-pub use Rattle.payload_core_av1.specs.Av1ReadingTypes
 pub use Rattle.payload_core_av1.specs.Av1ReadingViews
 pub use Rattle.payload_core_av1.specs.Bounds
 pub use Rattle.payload_core_av1.specs.Leb128
@@ -19,7 +20,10 @@ pub use Rattle.payload_core_base.specs.Packing
 pub use Rattle.payload_core_base.specs.Pieces
 pub use Rattle.payload_core_base.specs.Telephone
 pub use Rattle.payload_core_buffer.specs.Buffered
+pub use Rattle.payload_core_buffer.specs.CompleteFrames
+pub use Rattle.payload_core_buffer.specs.Drains
 pub use Rattle.payload_core_buffer.specs.Frames
+pub use Rattle.payload_core_buffer.specs.Lists
 pub use Rattle.payload_core_buffer.specs.Metas
 pub use Rattle.payload_core_buffer.specs.Packets
 pub use Rattle.payload_core_buffer.specs.Payloaders
@@ -34,8 +38,10 @@ pub use Rattle.payload_core_red.specs.RedSinks
 pub use Rattle.payload_core_red.specs.RedWrapping
 pub use Rattle.payload_core_vp9.specs.Vp9
 pub use Rattle.payload_core_vp9.specs.Vp9Descriptor
+pub use Rattle.payload_core_vp9.specs.Vp9Frame
 pub use Rattle.payload_core_vp9.specs.Vp9Layout
 pub use Rattle.payload_core_vpx.specs.Vp8
 pub use Rattle.payload_core_vpx.specs.Vp8Descriptor
+pub use Rattle.payload_core_vpx.specs.Vp8Forms
 pub use Rattle.payload_core_vpx.specs.Vp8PatchLaw
 pub use Rattle.payload_core_vpx.specs.Vp8Patches

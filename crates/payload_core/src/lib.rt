@@ -1,4 +1,5 @@
-//! Payload formats of RTP: what every codec meets, audio and video payloads, and the buffer over any codec.
+//! Payload formats of RTP: what every codec meets, audio and video payloads, and the buffer over any codec. What
+//! their calls name of the wire stands here too.
 #![tactic(auto)]
 
 pub use payload_core_audio::{
@@ -17,7 +18,8 @@ pub use payload_core_base::{
     Vp9CodecExtra, telephone_event_law,
 };
 pub use payload_core_buffer::{
-    Depacketized, DepacketizingBuffer, MAX_HELD, Payloader, RtpMeta, frames_law,
+    Depacketized, DepacketizingBuffer, MAX_HELD, PacketList, Payloader, RtpMeta, SentPacket,
+    frames_law,
 };
 pub use payload_core_red::{
     RedBlock, RedBlocks, RedDecoder, RedEncoder, RedSender, RedSink, RedundantBlock, red_law,
@@ -28,3 +30,6 @@ pub use payload_core_vpx::{
     VP8_HEADER_SIZE, Vp8Depacketizer, Vp8Descriptor, Vp8DescriptorError, Vp8Packetizer, Vp8Patch,
     Vp8PatchBuilder, Vp8PatchError, detect_vp8_keyframe, vp8_keyframe_law, vp8_law, vp8_patch_law,
 };
+pub use rtp_wire_extensions::{AbsCaptureTime, ExtensionValues, VideoOrientation};
+pub use rtp_wire_ids::{Mid, Pt, Rid, SeqNo};
+pub use rtp_wire_time::{Frequency, ParseFrequencyError};

@@ -2,3 +2,4 @@ pub mod Plain
 pub mod Telephone
 pub mod AmrWb
 pub mod BitPlaces
+pub mod BitBytes

@@ -8,8 +8,8 @@ ghost use Rattle.payload_core_audio.specs.Plain.{idle_sender};
 ghost use Rattle.std.specs.Prelude.{◌≡◌, ◌≢◌, ◌+◌, ◌*◌, ◌/◌, ◌<◌, ◌≤◌, ◌++◌, ◌-◌, IfErr, IfNone, IfOk, IfSome, List};
 ghost use Rattle.std.specs.Prelude.{None, Some, false, length, true, ℕ};
 
-use crate::bits::BitPlace;
-use crate::field::{header_at, push_speech};
+use crate::bits::{BitPlace, octet_at};
+use crate::field::{front_of, header_at, push_speech};
 use payload_core_base::{CodecExtra, Depacketizer, PacketError, Packetizer};
 use std::alloc::Global;
 
@@ -102,7 +102,7 @@ fn frames(
     ensures refused { IfErr result (λ e. e ≢ PacketError.Memory → (e ≡ PacketError.ErrAmrWbCorruptedPacket)
         × (frames_from octet_align packet.now count 0 (place_of speech) ≡ None)) }
 {
-    let mut out = Vec::new(alloc);
+    let mut out = Vec::with_capacity(alloc, packet.len())?;
     let mut entry = BitPlace::at(head_size(octet_align));
     let mut place = speech;
     for _ in 0..count {
@@ -168,44 +168,20 @@ impl Depacketizer for AmrWbDepacketizer {
     }
 }
 
-// Bit `i` of byte `k` of a bandwidth-efficient packet: 1111, F clear, FT, Q, the speech bits, and zeros.
-#[tactic(auto, unfolding(crate::specs::AmrWb::efficient_bit))]
-fn efficient_bit(bytes: &[u8], size: usize, k: usize, i: usize) -> u8
-    requires few { (k ≤ 500) × (i < 8) × (size ≤ 477) }
-    requires room { 8 + size ≤ 8 * length bytes.now }
-    ensures value { result ≡ efficient_bit bytes.now size (8 * k + i) }
-    ensures small { result < 2 }
-{
-    let i = 8 * k + i;
-    if i < 4 {
-        return 1;
-    }
-    if i == 4 {
-        return 0;
-    }
-    if i < 10 {
-        return BitPlace::at(i - 4).bit(bytes);
-    }
-    if i < size + 10 {
-        return BitPlace::at(i - 2).bit(bytes);
-    }
-    0
-}
-
-// Byte `k` of a bandwidth-efficient packet.
+// Byte `k` of a bandwidth-efficient packet: 1111, F clear, FT, Q, the speech bits, and zeros.
 fn efficient_byte(bytes: &[u8], size: usize, k: usize) -> u8
-    requires few { (k ≤ 500) × (size ≤ 477) }
+    requires few { (8 * k < size + 10) × (size ≤ 477) }
     requires room { 8 + size ≤ 8 * length bytes.now }
     ensures { result ≡ byte_from (efficient_bit bytes.now size) k }
 {
-    let high = efficient_bit(bytes, size, k, 0) * 128
-        + efficient_bit(bytes, size, k, 1) * 64
-        + efficient_bit(bytes, size, k, 2) * 32
-        + efficient_bit(bytes, size, k, 3) * 16;
-    high + efficient_bit(bytes, size, k, 4) * 8
-        + efficient_bit(bytes, size, k, 5) * 4
-        + efficient_bit(bytes, size, k, 6) * 2
-        + efficient_bit(bytes, size, k, 7)
+    if k == 0 {
+        return 240 + bytes[0] / 16 % 8;
+    }
+    let left = size + 10 - 8 * k;
+    if k == 1 {
+        return front_of(left, bytes[0] / 4 % 4 * 64 + octet_at(bytes, 1) / 4);
+    }
+    front_of(left, BitPlace::at(8 * k - 2).byte(bytes))
 }
 
 // How many bytes the packet of a sample with so many speech bits has.
@@ -227,7 +203,7 @@ fn aligned_packet(alloc: Global, bytes: &[u8], size: usize) -> Result<Vec<u8>, P
     ensures packet { IfOk result (λ v. v.items ≡ amr_wb_packet true bytes.now size) }
     ensures memory { IfErr result (λ e. e ≡ PacketError.Memory) }
 {
-    let mut packet = Vec::new(alloc);
+    let mut packet = Vec::with_capacity(alloc, packet_len(true, size))?;
     packet.push(0xF0)?;
     packet.push(header_at(bytes, BitPlace::at(0)))?;
     push_speech(bytes, BitPlace::at(8), size, &mut packet)?;
@@ -241,7 +217,7 @@ fn efficient_packet(alloc: Global, bytes: &[u8], size: usize) -> Result<Vec<u8>,
     ensures packet { IfOk result (λ v. v.items ≡ amr_wb_packet false bytes.now size) }
     ensures memory { IfErr result (λ e. e ≡ PacketError.Memory) }
 {
-    let mut packet = Vec::new(alloc);
+    let mut packet = Vec::with_capacity(alloc, packet_len(false, size))?;
     for k in 0..(size + 17) / 8 {
         packet.push(efficient_byte(bytes, size, k))?;
     }

@@ -7,7 +7,8 @@ use crate::cut::cut;
 use payload_core_base::{CodecExtra, Depacketizer, PacketError, Packetizer};
 use std::alloc::Global;
 
-/// Cuts Opus samples into pieces of the limit (RFC 7587 4.2).
+/// Cuts Opus samples into pieces of the limit (RFC 7587 4.2). Browsers drop a sample that leaves in pieces: choose a
+/// limit above the longest sample.
 #[derive(Clone, Copy, Debug, Drop)]
 pub struct OpusPacketizer;
 

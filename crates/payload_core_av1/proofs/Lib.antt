@@ -1,3 +1,4 @@
+pub mod KeepsLemmas
 pub mod Leb128Lemmas
 pub mod ReaderLemmas
 pub mod SizeLaw

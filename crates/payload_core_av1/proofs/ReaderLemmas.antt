@@ -3,13 +3,14 @@ use Rattle.std.proofs.Common.{◌≡◌, ℕ, zero, suc, ◌+◌, ◌-◌, ◌<�
 use Rattle.std.proofs.Common.{Err, List, [], ◌∷◌, ◌++◌, take, drop, length, get_or, None, Some, Option, if◌then◌else◌}
 use Rattle.std.proofs.Common.{refl, sym, ap, subst, ◌∙◌, append_assoc, arith}
 use Rattle.std.proofs.lemmas.List.{append-nil, length-drop, length-take}
+use Rattle.std.specs.Prelude.{is_some}
 use Rattle.std.specs.Result.{IfOk, IfErr}
 use Rattle.std.proofs.lemmas.Bool.Decides.{nat_tests}
 use Rattle.payload_core_base.specs.Format.{Fragment}
 use Rattle.payload_core_av1.specs.Leb128.{Cut, Sized, behind_byte, cut_by, size_in, size_within, sized_part}
-use Rattle.payload_core_av1.specs.Av1Reading.{all_given, and_behind, complete, counted_elements, given, in_front}
+use Rattle.payload_core_av1.specs.Av1Reading.{all_given, and_behind, begun, complete, counted_elements, given, in_front}
 use Rattle.payload_core_av1.specs.Av1Reading.{joined_option, opened, opened_by, sized_elements}
-use Rattle.payload_core_av1.specs.Av1ReadingViews.{Gathers, all_in_front}
+use Rattle.payload_core_av1.specs.Av1ReadingViews.{Gathers, all_in_front, fresh, given_of}
 
 -- the rest behind a part is shorter
 abbrev RestWithin : ℕ → Option Cut → Type 0
@@ -133,6 +134,25 @@ pub some_behind : (before after : List ℕ) (o : Option (List ℕ)) → Some aft
 some_behind before after None is = absurd (cc)
 some_behind before after (Some bytes) is = cc
 
+-- a unit in front decides nothing, and what is none decides
+pub some-go : (e : List ℕ) (es : List (List ℕ)) → is_some (given e) ≡ true → is_some (all_given (e ∷ es))
+    ≡ is_some (all_given es)
+some-go e es is = by_given (given e) is (all_given es)
+  where
+    by_given : (o : Option (List ℕ)) → is_some o ≡ true → (others : Option (List ℕ))
+        → is_some (joined_option o others) ≡ is_some others
+    by_given None some others = absurd (cc)
+    by_given (Some bytes) some None = refl
+    by_given (Some bytes) some (Some more) = refl
+
+pub some-stop : (e : List ℕ) (es : List (List ℕ)) → is_some (given e) ≡ false → is_some (all_given (e ∷ es)) ≡ false
+some-stop e es is = by_given (given e) is (all_given es)
+  where
+    by_given : (o : Option (List ℕ)) → is_some o ≡ false → (others : Option (List ℕ))
+        → is_some (joined_option o others) ≡ false
+    by_given None none others = refl
+    by_given (Some bytes) none others = absurd (cc)
+
 -- with others behind it the first element is complete, and the last is one of the others
 pub complete-more : (y : Bool) (e o : List ℕ) (os : List (List ℕ)) → complete y (e ∷ o ∷ os) ≡ e ∷ complete y (o ∷ os)
 complete-more true e o os =
@@ -180,6 +200,29 @@ none-later before middle e es first is = ap (joined_option (given e)) is ∙ by_
     by_given : (o : Option (List ℕ)) → Gathers before o middle → joined_option o None ≡ None
     by_given None g = refl
     by_given (Some bytes) g = refl
+
+-- the first element goes on with what is open, and others stand behind it
+begun_joined : (f e : List ℕ) (es : List (List ℕ)) → 0 < length e → begun true (Some f) (e ∷ es) ≡ fresh ((f ++ e) ∷ es)
+begun_joined f [] es some = absurd (omega arith)
+begun_joined f (b ∷ bs) es some = refl
+
+given_joined : (y : Bool) (f e : List ℕ) (os : List (List ℕ)) → 0 < length e → 0 < length os
+    → given_of y (begun true (Some f) (e ∷ os)) ≡ all_given ((f ++ e) ∷ complete y os)
+given_joined y f e os some others = ap (given_of y) (begun_joined f e os some)
+    ∙ ap all_given (complete-behind y (f ++ e) os others)
+
+pub joined-none : (y : Bool) (f e : List ℕ) (fragment : Fragment) (os : List (List ℕ)) → fragment ≡ Some f
+    → 0 < length e → 0 < length os → given (f ++ e) ≡ None → given_of y (begun true fragment (e ∷ os)) ≡ None
+joined-none y f e fragment os is_open some others is = ap (λ o. given_of y (begun true o (e ∷ os))) is_open
+    ∙ given_joined y f e os some others ∙ none-first (f ++ e) (complete y os) is
+
+pub joined-both : (y : Bool) (f e : List ℕ) (fragment : Fragment) (os : List (List ℕ)) (before middle after : List ℕ)
+    → fragment ≡ Some f → 0 < length e → 0 < length os → Gathers before (given (f ++ e)) middle
+    → Gathers middle (given_of y (fresh os)) after → Gathers before (given_of y (begun true fragment (e ∷ os))) after
+joined-both y f e fragment os before middle after is_open some others first behind =
+    let G : Option (List ℕ) → Type 0 = λ o. Gathers before o after in
+    subst G (sym (ap (λ o. given_of y (begun true o (e ∷ os))) is_open ∙ given_joined y f e os some others))
+    (gathers-both before middle after (f ++ e) (complete y os) first behind)
 
 pub if_ok : {T E : Type 0} → (r : Result T E) (P Q : T → Type 0) → ((x : T) → P x → Q x) → IfOk r P → IfOk r Q
 if_ok (Ok x) P Q step h = step x h

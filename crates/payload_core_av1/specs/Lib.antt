@@ -3,7 +3,6 @@ pub mod Bounds
 pub mod Obus
 pub mod Av1Reading
 pub mod Av1ReadingViews
-pub mod Av1ReadingTypes
 pub mod Av1Layout
 pub mod Samples
 pub mod Av1Packing

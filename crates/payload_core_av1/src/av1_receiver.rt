@@ -1,16 +1,11 @@
 //! Reading AV1 payloads (RTP payload format for AV1, 4.4 and 4.5).
 
-ghost use Rattle.payload_core_av1.specs.Av1Reading.{all_given, av1_format, begun, complete, counted_elements};
-ghost use Rattle.payload_core_av1.specs.Av1Reading.{elements_of, given, has_y, has_z, is_av1_keyframe, opened};
-ghost use Rattle.payload_core_av1.specs.Av1Reading.{opened_by, sized_elements, was_keyframe};
-ghost use Rattle.payload_core_av1.specs.Av1ReadingViews.{Gathers, or_else};
-ghost use Rattle.payload_core_av1.specs.Av1ReadingTypes.{fragment_after};
-ghost use Rattle.payload_core_base.specs.Format.{Fragment};
-ghost use Rattle.std.specs.Prelude.{[], ◌∷◌, ◌≡◌, ◌≢◌, ◌/◌, ◌%◌, ◌==◌, ◌<◌, ◌++◌, IfErr, IfOk, if◌then◌else◌, List};
-ghost use Rattle.std.specs.Prelude.{None, Some, map, option_map, length, ℕ, Option};
+ghost use Rattle.payload_core_av1.specs.Av1Reading.{av1_format, begun, has_y, has_z, is_av1_keyframe, was_keyframe};
+ghost use Rattle.payload_core_av1.specs.Av1ReadingViews.{beside, fresh, Gathers, given_of, Keeps, opened_of};
+ghost use Rattle.std.specs.Prelude.{[], ◌∷◌, ◌≡◌, ◌≢◌, ◌/◌, ◌%◌, ◌==◌, ◌<◌, IfErr, IfOk, OnErr, OnOk, None, map};
+ghost use Rattle.std.specs.Prelude.{option_map, length, true};
 
-use crate::leb128::sized_part;
-use crate::obu::whole_obu;
+use crate::av1_elements::{are_units, complete, elements_of, give_and_open, give_joined};
 use payload_core_base::{Av1CodecExtra, CodecExtra, Depacketizer, PacketError};
 use std::alloc::Global;
 
@@ -26,14 +21,6 @@ const N: u8 = 0x08;
 pub struct Av1Depacketizer {
     alloc: Global,
     fragment: Option<Vec<u8>>,
-}
-
-// What a packet gives: the bytes of complete units, whether the open fragment stays, and the one that it opens.
-#[derive(Drop)]
-struct Gathered {
-    written: Vec<u8>,
-    stays_open: bool,
-    opened: Option<Vec<u8>>,
 }
 
 /// Whether a packet begins a coded video sequence: whether it has N.
@@ -54,203 +41,6 @@ fn has_bit(byte: u8, weight: u8) -> bool
     byte / weight % 2 == 1
 }
 
-// So many elements behind their sizes, and the rest as the last one.
-fn counted_elements(alloc: Global, count: u8, body: &[u8]) -> Result<Vec<&[u8]>, PacketError>
-    ensures value { IfOk result (λ es. counted_elements count body.now ≡ Some (map (λ e. e.now) es.items)) }
-    ensures refused { IfErr result (λ e. e ≢ PacketError.Memory → (e ≡ PacketError.ErrAv1CorruptedPacket)
-        × (counted_elements count body.now ≡ None)) }
-{
-    let mut elements = Vec::new(alloc);
-    let mut rest = body;
-    for _ in 0..count {
-        let Some((element, behind)) = sized_part(rest) else {
-            return Err(PacketError::ErrAv1CorruptedPacket);
-        };
-        elements.push(element)?;
-        rest = behind;
-    }
-    elements.push(rest)?;
-    Ok(elements)
-}
-
-// Elements behind their sizes up to the end.
-fn sized_elements(alloc: Global, body: &[u8]) -> Result<Vec<&[u8]>, PacketError>
-    ensures value { IfOk result (λ es. sized_elements (length body.now) body.now ≡ Some (map (λ e. e.now) es.items)) }
-    ensures refused { IfErr result (λ e. e ≢ PacketError.Memory → (e ≡ PacketError.ErrAv1CorruptedPacket)
-        × (sized_elements (length body.now) body.now ≡ None)) }
-{
-    let mut elements = Vec::new(alloc);
-    let mut rest = body;
-    while !rest.is_empty() {
-        let Some((element, behind)) = sized_part(rest) else {
-            return Err(PacketError::ErrAv1CorruptedPacket);
-        };
-        elements.push(element)?;
-        rest = behind;
-    }
-    Ok(elements)
-}
-
-// The elements of a packet: W of them, the last without a size; with W = 0 any number.
-fn elements_of(alloc: Global, w: u8, body: &[u8]) -> Result<Vec<&[u8]>, PacketError>
-    ensures value { IfOk result (λ es. elements_of w body.now ≡ Some (map (λ e. e.now) es.items)) }
-    ensures refused { IfErr result (λ e. e ≢ PacketError.Memory → (e ≡ PacketError.ErrAv1CorruptedPacket)
-        × (elements_of w body.now ≡ None)) }
-{
-    if w == 0 {
-        sized_elements(alloc, body)
-    } else {
-        counted_elements(alloc, w - 1, body)
-    }
-}
-
-// Writes the unit that a complete element is, if it is kept.
-fn give(element: &[u8], out: &mut Vec<u8>) -> Result<(), PacketError>
-    ensures given { IfOk result (λ _. Gathers out.old.items (given element.now) out.new.items) }
-    ensures refused { IfErr result (λ e. e ≢ PacketError.Memory → (e ≡ PacketError.ErrAv1CorruptedPacket)
-        × (given element.now ≡ None)) }
-{
-    if element.is_empty() {
-        return Ok(());
-    }
-    let Some(obu) = whole_obu(element) else {
-        return Err(PacketError::ErrAv1CorruptedPacket);
-    };
-    if obu.is_kept() {
-        obu.push_with_size(out)?;
-    }
-    Ok(())
-}
-
-// Writes what complete elements give, one behind the other.
-fn give_all(elements: &[&[u8]], out: &mut Vec<u8>) -> Result<(), PacketError>
-    ensures given { IfOk result (λ _. Gathers out.old.items (all_given (map (λ e. e.now) elements.now)) out.new.items) }
-    ensures refused { IfErr result (λ e. e ≢ PacketError.Memory → (e ≡ PacketError.ErrAv1CorruptedPacket)
-        × (all_given (map (λ e. e.now) elements.now) ≡ None)) }
-{
-    for element in elements {
-        match give(element, out) {
-            Ok(()) => {}
-            Err(e) => return Err(e),
-        }
-    }
-    Ok(())
-}
-
-// The fragment that an element opens: none where it is empty.
-fn opened_by(alloc: Global, element: &[u8]) -> Result<Option<Vec<u8>>, PacketError>
-    ensures opened { IfOk result (λ f. (before : Fragment) → opened_by before element.now
-        ≡ or_else (option_map (λ v. v.items) f) before) }
-    ensures memory { IfErr result (λ e. e ≡ PacketError.Memory) }
-{
-    if element.is_empty() {
-        return Ok(None);
-    }
-    Ok(Some(Vec::from_slice(alloc, element)?))
-}
-
-// What elements give behind what is written: with `opens_last` the last one opens a fragment, the others are
-// complete.
-fn gather(
-    mut written: Vec<u8>,
-    opens_last: bool,
-    stays_open: bool,
-    elements: &[&[u8]],
-) -> Result<Gathered, PacketError>
-    ensures written { IfOk result (λ g. Gathers written.items
-        (all_given (complete opens_last (map (λ e. e.now) elements.now))) g.written.items) }
-    ensures fragment { IfOk result (λ g. (before : Fragment)
-        → opened opens_last (if stays_open then before else None) (map (λ e. e.now) elements.now)
-        ≡ fragment_after before g) }
-    ensures refused { IfErr result (λ e. e ≢ PacketError.Memory → (e ≡ PacketError.ErrAv1CorruptedPacket)
-        × (all_given (complete opens_last (map (λ e. e.now) elements.now)) ≡ None)) }
-{
-    if !opens_last {
-        give_all(elements, &mut written)?;
-        let opened = None;
-        return Ok(Gathered {
-            written,
-            stays_open,
-            opened,
-        });
-    }
-    let Some((last, front)) = elements.split_last() else {
-        let opened = None;
-        return Ok(Gathered {
-            written,
-            stays_open,
-            opened,
-        });
-    };
-    give_all(front, &mut written)?;
-    let opened = opened_by(*written.allocator(), last)?;
-    Ok(Gathered {
-        written,
-        stays_open,
-        opened,
-    })
-}
-
-// What one element gives that goes on with an open fragment.
-fn gather_one(
-    mut written: Vec<u8>,
-    opens_last: bool,
-    joined: Vec<u8>,
-) -> Result<Gathered, PacketError>
-    requires { 0 < length joined.items }
-    ensures written { IfOk result (λ g. Gathers written.items (all_given (complete opens_last (joined.items ∷ [])))
-        g.written.items) }
-    ensures fragment { IfOk result (λ g. (before : Fragment) → opened opens_last None (joined.items ∷ [])
-        ≡ fragment_after before g) }
-    ensures refused { IfErr result (λ e. e ≢ PacketError.Memory → (e ≡ PacketError.ErrAv1CorruptedPacket)
-        × (all_given (complete opens_last (joined.items ∷ [])) ≡ None)) }
-{
-    let stays_open = false;
-    if opens_last {
-        let opened = Some(joined);
-        return Ok(Gathered {
-            written,
-            stays_open,
-            opened,
-        });
-    }
-    match give(&joined, &mut written) {
-        Ok(()) => {}
-        Err(e) => return Err(e),
-    }
-    let opened = None;
-    Ok(Gathered {
-        written,
-        stays_open,
-        opened,
-    })
-}
-
-// What elements give of which the first goes on with an open fragment.
-fn gather_joined(
-    mut written: Vec<u8>,
-    opens_last: bool,
-    joined: Vec<u8>,
-    others: &[&[u8]],
-) -> Result<Gathered, PacketError>
-    requires { 0 < length joined.items }
-    ensures written { IfOk result (λ g. Gathers written.items
-        (all_given (complete opens_last (joined.items ∷ map (λ e. e.now) others.now))) g.written.items) }
-    ensures fragment { IfOk result (λ g. (before : Fragment)
-        → opened opens_last None (joined.items ∷ map (λ e. e.now) others.now) ≡ fragment_after before g) }
-    ensures refused { IfErr result (λ e. e ≢ PacketError.Memory → (e ≡ PacketError.ErrAv1CorruptedPacket)
-        × (all_given (complete opens_last (joined.items ∷ map (λ e. e.now) others.now)) ≡ None)) }
-{
-    if others.is_empty() {
-        return gather_one(written, opens_last, joined);
-    }
-    match give(&joined, &mut written) {
-        Ok(()) => {}
-        Err(e) => return Err(e),
-    }
-    gather(written, opens_last, false, others)
-}
-
 impl Av1Depacketizer {
     /// A depacketizer without an open fragment, which takes memory from `alloc` for the one that it keeps.
     pub fn new(alloc: Global) -> Self
@@ -262,46 +52,174 @@ impl Av1Depacketizer {
         }
     }
 
-    // The open fragment with an element behind it.
-    fn continued(&self, fragment: &[u8], element: &[u8]) -> Result<Vec<u8>, PacketError>
-        ensures joined { IfOk result (λ v. v.items ≡ fragment.now ++ element.now) }
-        ensures memory { IfErr result (λ e. e ≡ PacketError.Memory) }
+    // Takes elements, with which an open fragment is given up.
+    fn take_fresh(
+        &mut self,
+        opens_last: bool,
+        elements: &[&[u8]],
+        out: &mut Vec<u8>,
+    ) -> Result<(), PacketError>
+        ensures given { let all = fresh (map (λ e. e.now) elements.now) in
+            IfOk result (λ _. Gathers out.old.items (given_of opens_last all) out.new.items) }
+        ensures fragment { let all = fresh (map (λ e. e.now) elements.now) in
+            OnOk result (option_map (λ v. v.items) self.new.fragment ≡ opened_of opens_last all) }
+        ensures kept { Keeps out.old.items out.new.items }
+        ensures unchanged { OnErr result (option_map (λ v. v.items) self.new.fragment
+            ≡ option_map (λ v. v.items) self.old.fragment) }
+        ensures refused { let all = fresh (map (λ e. e.now) elements.now) in IfErr result (λ e. e ≢ PacketError.Memory
+            → (e ≡ PacketError.ErrAv1CorruptedPacket) × (given_of opens_last all ≡ None)) }
     {
-        let mut joined = Vec::from_slice(self.alloc, fragment)?;
-        joined.extend_from_slice(element)?;
-        Ok(joined)
+        self.fragment = give_and_open(self.alloc, opens_last, elements, out)?;
+        Ok(())
     }
 
-    // What a packet's elements give behind the open fragment.
-    fn gather_behind(&self, first: u8, elements: &[&[u8]]) -> Result<Gathered, PacketError>
-        ensures written { IfOk result (λ g. let all =
-            begun (has_z first) (option_map (λ v. v.items) self.now.fragment) (map (λ e. e.now) elements.now) in
-            all_given (complete (has_y first) all.elements) ≡ Some g.written.items) }
-        ensures fragment { IfOk result (λ g. let all =
-            begun (has_z first) (option_map (λ v. v.items) self.now.fragment) (map (λ e. e.now) elements.now) in
-            opened (has_y first) all.open_still all.elements
-            ≡ fragment_after (option_map (λ v. v.items) self.now.fragment) g) }
-        ensures refused { let all = begun (has_z first) (option_map (λ v. v.items) self.now.fragment)
+    // Takes elements beside the open fragment, which stays unless the last one opens another.
+    fn take_beside(
+        &mut self,
+        opens_last: bool,
+        elements: &[&[u8]],
+        out: &mut Vec<u8>,
+    ) -> Result<(), PacketError>
+        ensures given { let all = beside (option_map (λ v. v.items) self.old.fragment)
             (map (λ e. e.now) elements.now) in
-            IfErr result (λ e. e ≢ PacketError.Memory → (e ≡ PacketError.ErrAv1CorruptedPacket)
-            × (all_given (complete (has_y first) all.elements) ≡ None)) }
+            IfOk result (λ _. Gathers out.old.items (given_of opens_last all) out.new.items) }
+        ensures fragment { let all = beside (option_map (λ v. v.items) self.old.fragment)
+            (map (λ e. e.now) elements.now) in
+            OnOk result (option_map (λ v. v.items) self.new.fragment ≡ opened_of opens_last all) }
+        ensures kept { Keeps out.old.items out.new.items }
+        ensures unchanged { OnErr result (option_map (λ v. v.items) self.new.fragment
+            ≡ option_map (λ v. v.items) self.old.fragment) }
+        ensures refused { let all = beside (option_map (λ v. v.items) self.old.fragment)
+            (map (λ e. e.now) elements.now) in IfErr result (λ e. e ≢ PacketError.Memory
+            → (e ≡ PacketError.ErrAv1CorruptedPacket) × (given_of opens_last all ≡ None)) }
     {
-        let opens_last = has_bit(first, Y);
-        let written = Vec::new(self.alloc);
-        if !has_bit(first, Z) {
-            return gather(written, opens_last, false, elements);
+        let opened = give_and_open(self.alloc, opens_last, elements, out)?;
+        if opened.is_some() {
+            self.fragment = opened;
         }
-        let Some((element, others)) = elements.split_first() else {
-            return gather(written, opens_last, false, elements);
+        Ok(())
+    }
+
+    // Takes a packet's one element, which goes on with the open fragment.
+    fn take_one_joined(
+        &mut self,
+        opens_last: bool,
+        element: &[u8],
+        out: &mut Vec<u8>,
+    ) -> Result<(), PacketError>
+        requires { 0 < length element.now }
+        ensures given { let all = begun true (option_map (λ v. v.items) self.old.fragment) (element.now ∷ []) in
+            IfOk result (λ _. Gathers out.old.items (given_of opens_last all) out.new.items) }
+        ensures fragment { let all = begun true (option_map (λ v. v.items) self.old.fragment) (element.now ∷ []) in
+            OnOk result (option_map (λ v. v.items) self.new.fragment ≡ opened_of opens_last all) }
+        ensures kept { Keeps out.old.items out.new.items }
+        ensures unchanged { OnErr result (option_map (λ v. v.items) self.new.fragment
+            ≡ option_map (λ v. v.items) self.old.fragment) }
+        ensures refused { let all = begun true (option_map (λ v. v.items) self.old.fragment) (element.now ∷ []) in
+            IfErr result (λ e. e ≢ PacketError.Memory
+            → (e ≡ PacketError.ErrAv1CorruptedPacket) × (given_of opens_last all ≡ None)) }
+    {
+        let Some(fragment) = &mut self.fragment else {
+            return Ok(());
         };
-        let Some(fragment) = &self.fragment else {
-            return gather(written, opens_last, false, others);
+        if opens_last {
+            fragment.extend_from_slice(element)?;
+            return Ok(());
+        }
+        give_joined(fragment, element, out)?;
+        self.fragment = None;
+        Ok(())
+    }
+
+    // Takes a packet's elements, of which the first goes on with the open fragment. The others are looked at before
+    // it is written, so that a packet that is refused costs no copy of what is open.
+    fn take_joined(
+        &mut self,
+        opens_last: bool,
+        element: &[u8],
+        others: &[&[u8]],
+        out: &mut Vec<u8>,
+    ) -> Result<(), PacketError>
+        requires some_byte { 0 < length element.now }
+        requires some_other { 0 < length others.now }
+        ensures given { let all = begun true (option_map (λ v. v.items) self.old.fragment)
+            (element.now ∷ map (λ e. e.now) others.now) in
+            IfOk result (λ _. Gathers out.old.items (given_of opens_last all) out.new.items) }
+        ensures fragment { let all = begun true (option_map (λ v. v.items) self.old.fragment)
+            (element.now ∷ map (λ e. e.now) others.now) in
+            OnOk result (option_map (λ v. v.items) self.new.fragment ≡ opened_of opens_last all) }
+        ensures kept { Keeps out.old.items out.new.items }
+        ensures unchanged { OnErr result (option_map (λ v. v.items) self.new.fragment
+            ≡ option_map (λ v. v.items) self.old.fragment) }
+        ensures refused { let all = begun true (option_map (λ v. v.items) self.old.fragment)
+            (element.now ∷ map (λ e. e.now) others.now) in IfErr result (λ e. e ≢ PacketError.Memory
+            → (e ≡ PacketError.ErrAv1CorruptedPacket) × (given_of opens_last all ≡ None)) }
+    {
+        let Some(fragment) = &mut self.fragment else {
+            return self.take_fresh(opens_last, others, out);
+        };
+        if !are_units(complete(opens_last, others)) {
+            return Err(PacketError::ErrAv1CorruptedPacket);
+        }
+        match give_joined(fragment, element, out) {
+            Ok(()) => {}
+            Err(e) => return Err(e),
+        }
+        self.take_fresh(opens_last, others, out)?;
+        Ok(())
+    }
+
+    // Takes the elements of a packet with Z: the first one goes on with the open fragment.
+    fn take_behind(
+        &mut self,
+        opens_last: bool,
+        elements: &[&[u8]],
+        out: &mut Vec<u8>,
+    ) -> Result<(), PacketError>
+        ensures given { let all = begun true (option_map (λ v. v.items) self.old.fragment)
+            (map (λ e. e.now) elements.now) in
+            IfOk result (λ _. Gathers out.old.items (given_of opens_last all) out.new.items) }
+        ensures fragment { let all = begun true (option_map (λ v. v.items) self.old.fragment)
+            (map (λ e. e.now) elements.now) in
+            OnOk result (option_map (λ v. v.items) self.new.fragment ≡ opened_of opens_last all) }
+        ensures kept { Keeps out.old.items out.new.items }
+        ensures unchanged { OnErr result (option_map (λ v. v.items) self.new.fragment
+            ≡ option_map (λ v. v.items) self.old.fragment) }
+        ensures refused { let all = begun true (option_map (λ v. v.items) self.old.fragment)
+            (map (λ e. e.now) elements.now) in IfErr result (λ e. e ≢ PacketError.Memory
+            → (e ≡ PacketError.ErrAv1CorruptedPacket) × (given_of opens_last all ≡ None)) }
+    {
+        let Some((element, others)) = elements.split_first() else {
+            return self.take_fresh(opens_last, elements, out);
         };
         if element.is_empty() {
-            return gather(written, opens_last, true, others);
+            return self.take_beside(opens_last, others, out);
         }
-        let joined = self.continued(fragment, element)?;
-        gather_joined(written, opens_last, joined, others)
+        if others.is_empty() {
+            return self.take_one_joined(opens_last, element, out);
+        }
+        self.take_joined(opens_last, element, others, out)
+    }
+
+    // Takes the elements of a packet with this first byte.
+    fn take(&mut self, first: u8, elements: &[&[u8]], out: &mut Vec<u8>) -> Result<(), PacketError>
+        ensures given { let all = begun (has_z first) (option_map (λ v. v.items) self.old.fragment)
+            (map (λ e. e.now) elements.now) in
+            IfOk result (λ _. Gathers out.old.items (given_of (has_y first) all) out.new.items) }
+        ensures fragment { let all = begun (has_z first) (option_map (λ v. v.items) self.old.fragment)
+            (map (λ e. e.now) elements.now) in
+            OnOk result (option_map (λ v. v.items) self.new.fragment ≡ opened_of (has_y first) all) }
+        ensures kept { Keeps out.old.items out.new.items }
+        ensures unchanged { OnErr result (option_map (λ v. v.items) self.new.fragment
+            ≡ option_map (λ v. v.items) self.old.fragment) }
+        ensures refused { let all = begun (has_z first) (option_map (λ v. v.items) self.old.fragment)
+            (map (λ e. e.now) elements.now) in IfErr result (λ e. e ≢ PacketError.Memory
+            → (e ≡ PacketError.ErrAv1CorruptedPacket) × (given_of (has_y first) all ≡ None)) }
+    {
+        if has_bit(first, Z) {
+            return self.take_behind(has_bit(first, Y), elements, out);
+        }
+        self.take_fresh(has_bit(first, Y), elements, out)
     }
 }
 
@@ -333,13 +251,13 @@ impl Depacketizer for Av1Depacketizer {
             return Err(PacketError::ErrShortPacket);
         }
         let elements = elements_of(self.alloc, *first / 16 % 4, body)?;
-        let gathered = self.gather_behind(*first, &elements)?;
-        out.extend_from_slice(&gathered.written)?;
+        let len = out.len();
+        if let Err(e) = self.take(*first, &elements, out) {
+            out.truncate(len);
+            return Err(e);
+        }
         let is_keyframe = was_keyframe(extra) || has_bit(*first, N);
         *extra = CodecExtra::Av1(Av1CodecExtra { is_keyframe });
-        if gathered.opened.is_some() || !gathered.stays_open {
-            self.fragment = gathered.opened;
-        }
         Ok(())
     }
 

@@ -20,7 +20,8 @@ const COUNTED: usize = 3;
 
 /// Cuts AV1 temporal units into packets, each as long as the limit allows (RTP payload format for AV1, 5).
 ///
-/// Temporal delimiters, tile lists and padding are not sent, and no unit is sent with its size.
+/// Temporal delimiters, tile lists and padding are not sent, and no unit is sent with its size. Chromium stops at a
+/// frame of several OBUs of which one ends just with a packet: hand frames in with one OBU of tile data.
 #[derive(Clone, Copy, Debug, Drop)]
 pub struct Av1Packetizer;
 

@@ -1,5 +1,6 @@
 //! Sizes in leb128 (AV1 bitstream specification 4.10.5).
 
+ghost use Rattle.payload_core_av1.specs.Av1ReadingViews.{Keeps};
 ghost use Rattle.payload_core_av1.specs.Leb128.{cut_by, size_in, size_limit, size_within, sized_part, spelling};
 ghost use Rattle.std.specs.Prelude.{◌≡◌, ◌+◌, ◌++◌, ◌<◌, ◌≤◌, IfErr, IfOk, IfSome, MatchOption, None, Some, drop};
 ghost use Rattle.std.specs.Prelude.{length, take};
@@ -45,6 +46,7 @@ pub fn sized_part(text: &[u8]) -> Option<(&[u8], &[u8])>
 pub fn push_size(out: &mut Vec<u8>, size: usize) -> Result<(), PacketError>
     requires { size < size_limit }
     ensures written { IfOk result (λ _. out.new.items ≡ out.old.items ++ spelling size) }
+    ensures kept { Keeps out.old.items out.new.items }
     ensures memory { IfErr result (λ e. e ≡ PacketError.Memory) }
 {
     let mut left = size;

@@ -1,6 +1,7 @@
 //! AV1 payloads (RTP payload format for AV1).
 #![tactic(auto)]
 
+mod av1_elements;
 mod av1_receiver;
 mod av1_sender;
 mod laws;

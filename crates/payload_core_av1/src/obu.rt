@@ -3,6 +3,7 @@
 ghost use Rattle.payload_core_av1.specs.Obus.{first_obu, has_extension, has_size, if_small, is_kept, obu, obu_cut};
 ghost use Rattle.payload_core_av1.specs.Obus.{payload_in, payload_limit, whole_obu, with_its_size, with_size};
 ghost use Rattle.payload_core_av1.specs.Obus.{without_its_size, without_size};
+ghost use Rattle.payload_core_av1.specs.Av1ReadingViews.{Keeps};
 ghost use Rattle.payload_core_av1.specs.Samples.{is_sequence_header};
 ghost use Rattle.std.specs.Prelude.{◌≡◌, ◌+◌, ◌++◌, ◌<◌, ◌≤◌, IfErr, IfOk, IfSome, MatchOption, None, Some, length};
 
@@ -130,11 +131,13 @@ impl Obu<'_> {
         !matches!(self.header / 8 % 16, 2 | 8 | 15)
     }
 
-    /// Writes the unit with S and its size in the shortest form.
+    /// Writes the unit with S and its size in the shortest form. Where memory is wanting, a part of it may stand
+    /// behind the old bytes.
     pub fn push_with_size(&self, out: &mut Vec<u8>) -> Result<(), PacketError>
         requires { length self.now.payload.now < payload_limit }
         ensures written { IfOk result (λ _. out.new.items ≡ out.old.items
             ++ with_its_size (obu self.now.header self.now.extension self.now.payload.now)) }
+        ensures kept { Keeps out.old.items out.new.items }
         ensures memory { IfErr result (λ e. e ≡ PacketError.Memory) }
     {
         out.push(with_size(self.header))?;

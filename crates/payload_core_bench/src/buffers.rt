@@ -1,8 +1,39 @@
-//! A buffer that holds a steady number of packets.
+//! Packets through a buffer, and a buffer that holds a steady number of them.
 
-use payload_core::{DepacketizingBuffer, OpusDepacketizer, PacketError, RtpMeta};
+use crate::tally::Tally;
+use payload_core::{Depacketizer, DepacketizingBuffer, OpusDepacketizer, PacketError, RtpMeta};
 use rtp_wire::{ExtensionValues, SeqNo};
 use std::alloc::Global;
+
+/// Pushes the packets of a sample into a buffer so often, the last with the marker, and pops its unit each time;
+/// answers
+/// how many units came, and their bytes.
+pub fn through<D: Depacketizer + Drop>(
+    alloc: Global,
+    depacketizer: D,
+    packets: &[Vec<u8>],
+    rounds: u32,
+) -> Result<Tally, PacketError> {
+    let mut tally = Tally::new();
+    let mut buffer = DepacketizingBuffer::new(alloc, depacketizer, 0);
+    let mut number: u32 = 0;
+    for time in 0..rounds {
+        for (place, packet) in packets.iter().enumerate() {
+            let meta = RtpMeta {
+                seq_no: SeqNo::from(u64::from(number)),
+                time,
+                marker: packets.len() - place == 1,
+                ext_vals: ExtensionValues::absent(),
+            };
+            buffer.push(meta, packet)?;
+            number = number.saturating_add(1);
+        }
+        if let Some(unit) = buffer.pop()? {
+            tally.add(1, unit.bytes.len());
+        }
+    }
+    Ok(tally)
+}
 
 /// Pushes a packet of this number, which is a unit of its own.
 fn push(

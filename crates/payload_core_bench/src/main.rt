@@ -38,16 +38,18 @@ fn report(
     time: Duration,
 ) -> io::Result<()> {
     println!(*rt;
-        "{format} {way}: {} packets, {} bytes",
+        "{format} {way}: {} packets or units, {} bytes",
         count.packets, count.bytes
     )?;
     let micros = time.as_micros().max(1);
     let packets = count.packets as u128 * 1_000_000 / micros;
     let bytes = count.bytes as u128 / micros;
-    eprintln!(*rt; "{format} {way}: {micros} us, {packets} packets and {bytes} MB a second")
+    eprintln!(*rt;
+        "{format} {way}: {micros} us, {packets} packets or units and {bytes} MB a second"
+    )
 }
 
-/// Sends a sample of a format and reads its packets, so often.
+/// Sends a sample of a format, reads its packets, and has them go through a buffer, so often.
 fn both_ways<P: Packetizer + Drop, D: Depacketizer + Drop>(
     rt: &HostRuntime,
     format: &str,
@@ -64,6 +66,15 @@ fn both_ways<P: Packetizer + Drop, D: Depacketizer + Drop>(
     let start = Instant::now(rt)?;
     let read = formats::receive(rt.alloc(), &mut depacketizer, &packets, rounds)?;
     report(rt, format, "read", read, start.elapsed(rt)?)?;
+    let start = Instant::now(rt)?;
+    let through = buffers::through(rt.alloc(), depacketizer, &packets, rounds)?;
+    report(
+        rt,
+        format,
+        "through the buffer",
+        through,
+        start.elapsed(rt)?,
+    )?;
     Ok(())
 }
 
@@ -104,7 +115,7 @@ fn redundant(rt: &HostRuntime) -> anyhow::Result<()> {
     Ok(())
 }
 
-/// VP8, VP9 and AV1: frames of 12,000 bytes, for AV1 behind the header and the size of a unit.
+/// VP8 and VP9: frames of 12,000 bytes.
 fn video(rt: &HostRuntime) -> anyhow::Result<()> {
     let mut frame = Vec::new(rt.alloc());
     for place in 0..12_000u32 {
@@ -114,10 +125,40 @@ fn video(rt: &HostRuntime) -> anyhow::Result<()> {
     both_ways(rt, "VP8", &frame, VIDEO, packetizer, Vp8Depacketizer::new())?;
     let packetizer = Vp9Packetizer::with_picture_id(1);
     both_ways(rt, "VP9", &frame, VIDEO, packetizer, Vp9Depacketizer::new())?;
-    let mut unit = Vec::from_slice(rt.alloc(), &[0x32, 0xE0, 0x5D])?;
-    unit.extend_from_slice(&frame)?;
+    Ok(())
+}
+
+/// AV1: a temporal unit of one frame of so many bytes, behind its header and its size in leb128.
+fn av1(
+    rt: &HostRuntime,
+    format: &str,
+    header: &[u8],
+    size: u32,
+    rounds: u32,
+) -> anyhow::Result<()> {
+    let mut unit = Vec::from_slice(rt.alloc(), header)?;
+    for place in 0..size {
+        unit.push((place % 256) as u8)?;
+    }
     let depacketizer = Av1Depacketizer::new(rt.alloc());
-    both_ways(rt, "AV1", &unit, VIDEO, Av1Packetizer::new(), depacketizer)
+    both_ways(
+        rt,
+        format,
+        &unit,
+        rounds,
+        Av1Packetizer::new(),
+        depacketizer,
+    )
+}
+
+/// AV1 units of growing size.
+fn av1_sizes(rt: &HostRuntime) -> anyhow::Result<()> {
+    let header = [0x32, 0xE0, 0x5D];
+    av1(rt, "AV1 of 12,000 bytes", &header, 12_000, VIDEO)?;
+    let header = [0x32, 0xC0, 0x9A, 0x0C];
+    av1(rt, "AV1 of 200,000 bytes", &header, 200_000, VIDEO / 16)?;
+    let header = [0x32, 0x80, 0x92, 0xF4, 0x01];
+    av1(rt, "AV1 of 4,000,000 bytes", &header, 4_000_000, 4)
 }
 
 /// Pushes packets into a buffer in which so many wait, and pops after each.
@@ -140,6 +181,7 @@ fn main(rt: HostRuntime) -> anyhow::Result<()> {
     speech(&rt, "AMR-WB bandwidth-efficient", false)?;
     redundant(&rt)?;
     video(&rt)?;
+    av1_sizes(&rt)?;
     buffer(&rt, 15)?;
     buffer(&rt, 4_095)
 }

@@ -4,3 +4,4 @@ pub mod CompleteLemmas
 pub mod RunLemmas
 pub mod TakeLemmas
 pub mod SendingLemmas
+pub mod DrainLemmas

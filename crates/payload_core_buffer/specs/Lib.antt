@@ -4,5 +4,7 @@ pub mod Frames
 pub mod CompleteFrames
 pub mod Buffered
 pub mod Pops
+pub mod Drains
 pub mod Sending
 pub mod Payloaders
+pub mod Lists

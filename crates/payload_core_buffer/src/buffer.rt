@@ -47,6 +47,8 @@ impl<D> Model for DepacketizingBuffer<D> {
 
 impl<D: Depacketizer> DepacketizingBuffer<D> {
     ghost use Rattle.payload_core_buffer.specs.Buffered.{Buffered, pushed};
+    ghost use Rattle.payload_core_buffer.specs.Drains.{AppendsPopped, LeavesFewer};
+    ghost use Rattle.payload_core_buffer.specs.Frames.{complete_frames};
     ghost use Rattle.payload_core_buffer.specs.Packets.{packet_from};
     ghost use Rattle.payload_core_buffer.specs.Pops.{Pops, pop_state};
 
@@ -92,6 +94,7 @@ impl<D: Depacketizer> DepacketizingBuffer<D> {
             let new = pop_state self.new.held self.new.cutoff (D.fragment self.new.depacketizer) in
             Pops (D.format self.old.depacketizer) self.old.hold_back old new result }
         ensures unchanged { IfOk result (λ r. IfNone r (self.new ≡ self.old)) }
+        ensures fewer { LeavesFewer self.old.held self.new.held result }
     {
         take_due(
             self.alloc,
@@ -100,5 +103,56 @@ impl<D: Depacketizer> DepacketizingBuffer<D> {
             &mut self.cutoff,
             self.hold_back,
         )
+    }
+    /// The lowest complete frame, whether or not a packet before it is missing; None where no frame is complete. It
+    /// is a `pop` at hold-back 0, for the end of a stream, when nothing more will come.
+    ///
+    /// # Errors
+    ///
+    /// Those of `pop`.
+    pub fn drain(&mut self) -> Result<Option<Depacketized>, PacketError>
+        ensures format { D.format self.new.depacketizer ≡ D.format self.old.depacketizer }
+        ensures hold_back { self.new.hold_back ≡ self.old.hold_back }
+        ensures popped { let old = pop_state self.old.held self.old.cutoff (D.fragment self.old.depacketizer) in
+            let new = pop_state self.new.held self.new.cutoff (D.fragment self.new.depacketizer) in
+            Pops (D.format self.old.depacketizer) 0 old new result }
+        ensures none { IfOk result (λ r. IfNone r
+            (complete_frames (D.format self.old.depacketizer) self.old.held ≡ [])) }
+        ensures unchanged { IfOk result (λ r. IfNone r (self.new ≡ self.old)) }
+        ensures fewer { LeavesFewer self.old.held self.new.held result }
+    {
+        take_due(
+            self.alloc,
+            &mut self.depacketizer,
+            &mut self.held,
+            &mut self.cutoff,
+            0,
+        )
+    }
+
+    /// Pops until no frame is due, and appends the units in their order.
+    ///
+    /// # Errors
+    ///
+    /// The first fault or want of memory ends it, with the units before it appended; the next call goes on behind a
+    /// fault.
+    pub fn pop_all(&mut self, units: &mut Vec<Depacketized>) -> Result<(), PacketError>
+        ensures format { D.format self.new.depacketizer ≡ D.format self.old.depacketizer }
+        ensures hold_back { self.new.hold_back ≡ self.old.hold_back }
+        ensures popped { let old = pop_state self.old.held self.old.cutoff (D.fragment self.old.depacketizer) in
+            let new = pop_state self.new.held self.new.cutoff (D.fragment self.new.depacketizer) in
+            AppendsPopped (D.format self.old.depacketizer) self.old.hold_back old new units.old.items units.new.items
+            result }
+    {
+        loop {
+            if let Err(e) = units.reserve(1) {
+                return Err(PacketError::from(e));
+            }
+            match self.pop() {
+                Ok(Some(unit)) => units.push(unit)?,
+                Ok(None) => return Ok(()),
+                Err(e) => return Err(e),
+            }
+        }
     }
 }

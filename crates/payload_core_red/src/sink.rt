@@ -1,6 +1,7 @@
 //! A packet sink that adds redundancy.
 
-ghost use Rattle.payload_core_red.specs.RedSinks.{KeepsWrapped, TakesWrapped};
+ghost use Rattle.payload_core_red.specs.RedSinks.{BecomesWrapped, KeepsWrapped, TakesWrapped, wrapped_more};
+ghost use Rattle.payload_core_red.specs.RedSinks.{wrapped_none};
 ghost use Rattle.std.specs.Prelude.{◌≡◌};
 
 use crate::sender::RedSender;
@@ -41,6 +42,16 @@ impl<S> RedSink<S> {
 }
 
 impl<S: PacketSink> PacketSink for RedSink<S> {
+    ghost Entry = { S.Entry };
+
+    ghost entries = { λ s. S.entries s.sink };
+
+    ghost becomes = { BecomesWrapped S.becomes };
+
+    ghost one_more = { wrapped_more S.entries S.becomes S.takes S.one_more };
+
+    ghost none_more = { wrapped_none S.entries S.keeps S.none_more };
+
     ghost takes = { TakesWrapped S.takes };
 
     ghost keeps = { KeepsWrapped S.keeps };

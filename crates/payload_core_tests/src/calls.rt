@@ -115,7 +115,18 @@ pub struct PayloadList {
 }
 
 impl PacketSink for PayloadList {
-    ghost use Rattle.std.specs.Prelude.{◌≡◌, ◌++◌, ◌∷◌, [], map};
+    ghost use Rattle.std.proofs.Common.{ap};
+    ghost use Rattle.std.specs.Prelude.{◌≡◌, ℕ, ◌++◌, ◌∷◌, [], List, map, refl};
+
+    ghost Entry = { List ℕ };
+
+    ghost entries = { λ l. map (λ p. p.items) l.payloads.items };
+
+    ghost becomes = { λ _ o e. e ≡ o.payload };
+
+    ghost one_more = { λ old o new taken. (o.payload, refl, taken) };
+
+    ghost none_more = { λ old new kept. ap (map (λ p. p.items)) kept };
 
     ghost takes = { λ old o new. map (λ p. p.items) new.payloads.items ≡ map (λ p. p.items) old.payloads.items
         ++ o.payload ∷ [] };

@@ -18,7 +18,8 @@ use Rattle.payload_core_base.proofs.FrameLemmas.{EachGives, GivesBytes, first-he
 use Rattle.payload_core_base.proofs.FrameLemmas.{read_all-each}
 use Rattle.payload_core_base.proofs.PieceLemmas.{joined-pieces, pieces-full, pieces-step, pieces-within}
 use Rattle.payload_core_vpx.specs.Vp8.{after_frame, described, descriptor, descriptor_size, next_id, reading_of}
-use Rattle.payload_core_vpx.specs.Vp8.{vp8_coding, vp8_format, vp8_packing}
+use Rattle.payload_core_vpx.specs.Vp8.{tells_id, units_of, vp8_coding, vp8_format, vp8_packing}
+use Rattle.payload_core_vpx.specs.Vp8Forms.{SameUnits}
 use Rattle.payload_core_vpx.specs.Vp8Descriptor.{has_bit, parsed_in, shape_with}
 
 -- what is read of a descriptor with an id alone, with the M bit or without
@@ -51,102 +52,95 @@ over : (id : ℕ) → id < 32768 → has_bit 128 (128 + id / 256) ≡ true
 over id small = let e : (128 + id / 256) / 128 % 2 ≡ 1 = omega arith in eq-eqb _ _ e
 
 -- a descriptor that was sent, with a byte behind it, is read, and its payload written
-gives_payload : (has_id : Bool) (id : ℕ) (first : Bool) (b : ℕ) (bs : List ℕ) (extra : CodecExtra) → id < 32768
-    → GivesBytes (vp8_format.read None extra (descriptor has_id id first ++ (b ∷ bs))) (b ∷ bs)
+gives_payload : (tells : Bool) (id : ℕ) (first : Bool) (b : ℕ) (bs : List ℕ) (extra : CodecExtra) → id < 32768
+    → GivesBytes (vp8_format.read None extra (descriptor tells id first ++ (b ∷ bs))) (b ∷ bs)
 gives_payload false id true b bs extra small = (refl, refl)
 gives_payload false id false b bs extra small = (refl, refl)
-gives_payload true id first b bs extra small = by_width (eqb id 0) (ltb id 128) first refl
+gives_payload true id first b bs extra small = by_width (ltb id 128) first refl
   where
-    by_width : (zero_id short : Bool) (first : Bool) → ltb id 128 ≡ short
+    by_width : (short : Bool) (first : Bool) → ltb id 128 ≡ short
         → GivesBytes (vp8_format.read None extra
-        ((if zero_id then (if first then 16 else 0) ∷ []
-        else (if short then (if first then 144 else 128) ∷ 128 ∷ id ∷ [] else (if first then 144 else 128)
-        ∷ 128 ∷ (128 + id / 256) ∷ id % 256 ∷ [])) ++ (b ∷ bs))) (b ∷ bs)
-    by_width true short true e = (refl, refl)
-    by_width true short false e = (refl, refl)
-    by_width false true true e = given_id 144 id b bs extra (under id e)
-    by_width false true false e = given_id 128 id b bs extra (under id e)
-    by_width false false true e = given_long 144 (128 + id / 256) (id % 256) b bs extra (over id small)
-    by_width false false false e = given_long 128 (128 + id / 256) (id % 256) b bs extra (over id small)
+        ((if short then (if first then 144 else 128) ∷ 128 ∷ id ∷ [] else (if first then 144 else 128)
+        ∷ 128 ∷ (128 + id / 256) ∷ id % 256 ∷ []) ++ (b ∷ bs))) (b ∷ bs)
+    by_width true true e = given_id 144 id b bs extra (under id e)
+    by_width true false e = given_id 128 id b bs extra (under id e)
+    by_width false true e = given_long 144 (128 + id / 256) (id % 256) b bs extra (over id small)
+    by_width false false e = given_long 128 (128 + id / 256) (id % 256) b bs extra (over id small)
 
 -- the first packet alone is a head
-head_is : (has_id : Bool) (id : ℕ) (first : Bool) (p : List ℕ) → vp8_format.head (descriptor has_id id first ++ p)
+head_is : (tells : Bool) (id : ℕ) (first : Bool) (p : List ℕ) → vp8_format.head (descriptor tells id first ++ p)
     ≡ first
 head_is false id true p = refl
 head_is false id false p = refl
-head_is true id first p = by_width (eqb id 0) (ltb id 128) first
+head_is true id first p = by_width (ltb id 128) first
   where
-    by_width : (zero_id short first : Bool) → vp8_format.head
-        ((if zero_id then (if first then 16 else 0) ∷ []
-        else (if short then (if first then 144 else 128) ∷ 128 ∷ id ∷ [] else (if first then 144 else 128) ∷ 128
-        ∷ (128 + id / 256) ∷ id % 256 ∷ [])) ++ p) ≡ first
-    by_width true short true = refl
-    by_width true short false = refl
-    by_width false true true = refl
-    by_width false true false = refl
-    by_width false false true = refl
-    by_width false false false = refl
-
-size_is : (has_id : Bool) (id : ℕ) (first : Bool) → length (descriptor has_id id first) ≡ descriptor_size has_id id
-size_is false id first = refl
-size_is true id first = by_width (eqb id 0) (ltb id 128)
-  where
-    by_width : (zero_id short : Bool) → length
-        (if zero_id then (if first then 16 else 0) ∷ []
-        else (if short then (if first then 144 else 128) ∷ 128 ∷ id ∷ [] else (if first then 144 else 128) ∷ 128
-        ∷ (128 + id / 256) ∷ id % 256 ∷ [])) ≡ (if zero_id then 1 else (if short then 3 else 4))
-    by_width true short = refl
+    by_width : (short first : Bool) → vp8_format.head
+        ((if short then (if first then 144 else 128) ∷ 128 ∷ id ∷ [] else (if first then 144 else 128) ∷ 128
+        ∷ (128 + id / 256) ∷ id % 256 ∷ []) ++ p) ≡ first
+    by_width true true = refl
+    by_width true false = refl
     by_width false true = refl
     by_width false false = refl
 
+size_is : (tells : Bool) (id : ℕ) (first : Bool) → length (descriptor tells id first) ≡ descriptor_size tells id
+size_is false id first = refl
+size_is true id first = by_width (ltb id 128)
+  where
+    by_width : (short : Bool) → length
+        (if short then (if first then 144 else 128) ∷ 128 ∷ id ∷ [] else (if first then 144 else 128) ∷ 128
+        ∷ (128 + id / 256) ∷ id % 256 ∷ []) ≡ (if short then 3 else 4)
+    by_width true = refl
+    by_width false = refl
+
 -- each packet gives its piece
-each_gives : (has_id : Bool) (id : ℕ) (first : Bool) (ps : List (List ℕ)) (limit : ℕ) → id < 32768
-    → All (λ p. (0 < length p) × (length p ≤ limit)) ps → EachGives vp8_format (described has_id id first ps) ps
-each_gives has_id id first [] limit small fits = tt
-each_gives has_id id first ([] ∷ ps) limit small fits =
+each_gives : (tells : Bool) (id : ℕ) (first : Bool) (ps : List (List ℕ)) (limit : ℕ) → id < 32768
+    → All (λ p. (0 < length p) × (length p ≤ limit)) ps → EachGives vp8_format (described tells id first ps) ps
+each_gives tells id first [] limit small fits = tt
+each_gives tells id first ([] ∷ ps) limit small fits =
     absurd (omega (arith, (All-head (λ (p : List ℕ). (0 < length p) × (length p ≤ limit)) [] ps fits).0))
-each_gives has_id id first ((b ∷ bs) ∷ ps) limit small fits = (
-  (λ extra. gives_payload has_id id first b bs extra small),
-  each_gives has_id id false ps limit small
+each_gives tells id first ((b ∷ bs) ∷ ps) limit small fits = (
+  (λ extra. gives_payload tells id first b bs extra small),
+  each_gives tells id false ps limit small
       (All-tail (λ (p : List ℕ). (0 < length p) × (length p ≤ limit)) (b ∷ bs) ps fits),
 )
 
 -- no later packet is a head
-no_heads : (has_id : Bool) (id : ℕ) (ps : List (List ℕ)) (k : ℕ)
-    → k < length (marked (vp8_packing has_id) (described has_id id false ps))
-    → vp8_format.head (packet_at (marked (vp8_packing has_id) (described has_id id false ps)) k).payload ≡ false
-no_heads has_id id [] k lt = absurd (omega arith)
-no_heads has_id id (p ∷ ps) zero lt = head_is has_id id false p
-no_heads has_id id (p ∷ ps) (suc k) lt = no_heads has_id id ps k (omega arith)
+no_heads : (has_id zero_id tells : Bool) (id : ℕ) (ps : List (List ℕ)) (k : ℕ)
+    → k < length (marked (vp8_packing has_id zero_id) (described tells id false ps))
+    → vp8_format.head (packet_at (marked (vp8_packing has_id zero_id) (described tells id false ps)) k).payload ≡ false
+no_heads has_id zero_id tells id [] k lt = absurd (omega arith)
+no_heads has_id zero_id tells id (p ∷ ps) zero lt = head_is tells id false p
+no_heads has_id zero_id tells id (p ∷ ps) (suc k) lt = no_heads has_id zero_id tells id ps k (omega arith)
 
-payloads_marked : (has_id : Bool) (ps : List (List ℕ)) → payloads_of (marked (vp8_packing has_id) ps) ≡ ps
-payloads_marked has_id [] = refl
-payloads_marked has_id (p ∷ ps) = ap (λ qs. p ∷ qs) (payloads_marked has_id ps)
+payloads_marked : (has_id zero_id : Bool) (ps : List (List ℕ))
+    → payloads_of (marked (vp8_packing has_id zero_id) ps) ≡ ps
+payloads_marked has_id zero_id [] = refl
+payloads_marked has_id zero_id (p ∷ ps) = ap (λ qs. p ∷ qs) (payloads_marked has_id zero_id ps)
 
 -- behind their descriptors the pieces fit the limit
-described_within : (has_id : Bool) (id : ℕ) (first : Bool) (limit : ℕ) (ps : List (List ℕ))
-    → descriptor_size has_id id < limit → All (λ p. (0 < length p) × (length p ≤ limit - descriptor_size has_id id))
-    ps → AreWithin limit (described has_id id first ps)
-described_within has_id id first limit [] room fits = All-nil _
-described_within has_id id first limit (p ∷ ps) room fits =
-    let P : List ℕ → Type 0 = λ p. (0 < length p) × (length p ≤ limit - descriptor_size has_id id) in
+described_within : (tells : Bool) (id : ℕ) (first : Bool) (limit : ℕ) (ps : List (List ℕ))
+    → descriptor_size tells id < limit → All (λ p. (0 < length p) × (length p ≤ limit - descriptor_size tells id))
+    ps → AreWithin limit (described tells id first ps)
+described_within tells id first limit [] room fits = All-nil _
+described_within tells id first limit (p ∷ ps) room fits =
+    let P : List ℕ → Type 0 = λ p. (0 < length p) × (length p ≤ limit - descriptor_size tells id) in
     let here = All-head P p ps fits in
-    All-cons (λ (p : List ℕ). (0 < length p) × (length p ≤ limit)) (descriptor has_id id first ++ p)
-    (described has_id id false ps) (
-      omega (arith, length-append (descriptor has_id id first) p, here.0),
-      omega (arith, length-append (descriptor has_id id first) p, size_is has_id id first, here.1),
+    All-cons (λ (p : List ℕ). (0 < length p) × (length p ≤ limit)) (descriptor tells id first ++ p)
+    (described tells id false ps) (
+      omega (arith, length-append (descriptor tells id first) p, here.0),
+      omega (arith, length-append (descriptor tells id first) p, size_is tells id first, here.1),
     )
-    (described_within has_id id false limit ps room (All-tail P p ps fits))
+    (described_within tells id false limit ps room (All-tail P p ps fits))
 
-described_full : (has_id : Bool) (id : ℕ) (first : Bool) (limit : ℕ) (ps : List (List ℕ))
-    → descriptor_size has_id id < limit → AreFull (limit - descriptor_size has_id id) ps
-    → AreFull limit (described has_id id first ps)
-described_full has_id id first limit [] room full k lt = absurd (omega arith)
-described_full has_id id first limit (p ∷ []) room full k lt = absurd (omega arith)
-described_full has_id id first limit (p ∷ q ∷ ps) room full zero lt =
-    omega (arith, length-append (descriptor has_id id first) p, size_is has_id id first, full 0 (omega arith))
-described_full has_id id first limit (p ∷ q ∷ ps) room full (suc k) lt =
-    described_full has_id id false limit (q ∷ ps) room (λ j less. full (suc j) (omega arith)) k (omega arith)
+described_full : (tells : Bool) (id : ℕ) (first : Bool) (limit : ℕ) (ps : List (List ℕ))
+    → descriptor_size tells id < limit → AreFull (limit - descriptor_size tells id) ps
+    → AreFull limit (described tells id first ps)
+described_full tells id first limit [] room full k lt = absurd (omega arith)
+described_full tells id first limit (p ∷ []) room full k lt = absurd (omega arith)
+described_full tells id first limit (p ∷ q ∷ ps) room full zero lt =
+    omega (arith, length-append (descriptor tells id first) p, size_is tells id first, full 0 (omega arith))
+described_full tells id first limit (p ∷ q ∷ ps) room full (suc k) lt =
+    described_full tells id false limit (q ∷ ps) room (λ j less. full (suc j) (omega arith)) k (omega arith)
 
 next_small : (id : ℕ) → next_id id < 32768
 next_small id = by_test (ltb id 32767) refl
@@ -161,26 +155,27 @@ one_unit ps parts frame =
     let F : List MarkedPacket → Type 0 = λ qs. IsFrameOf vp8_format qs parts in
     (length ps, subst F (sym (take_all (length ps) ps (omega arith))) frame, drop_all (length ps) ps (omega arith))
 
-module _ (has_id : Bool) (s : Sender) (limit : ℕ) (b : ℕ) (bs : List ℕ) (small : s.number < 32768)
-    (room : descriptor_size has_id s.number < limit) where
+module _ (has_id zero_id tells : Bool) (s : Sender) (limit : ℕ) (b : ℕ) (bs : List ℕ) (small : s.number < 32768)
+    (room : descriptor_size tells s.number < limit) where
   abbrev size : ℕ
-  size = limit - descriptor_size has_id s.number
+  size = limit - descriptor_size tells s.number
 
   abbrev cut : List (List ℕ)
   cut = pieces size (b ∷ bs)
 
   frame_of : (ps : List (List ℕ)) (p : List ℕ) → cut ≡ p ∷ ps
       → All (λ p. (0 < length p) × (length p ≤ size)) (p ∷ ps) → joined (p ∷ ps) ≡ b ∷ bs
-      → IsFrameOf vp8_format (marked (vp8_packing has_id) (described has_id s.number true (p ∷ ps))) ((b ∷ bs) ∷ [])
+      → IsFrameOf vp8_format (marked (vp8_packing has_id zero_id) (described tells s.number true (p
+      ∷ ps))) ((b ∷ bs) ∷ [])
   frame_of ps p is fits whole =
-      let packets : List (List ℕ) = described has_id s.number true (p ∷ ps) in
+      let packets : List (List ℕ) = described tells s.number true (p ∷ ps) in
       let gives : (extra : CodecExtra) → GivesFrom
-      (read_all vp8_format None extra (payloads_of (marked (vp8_packing has_id) packets))) ((b ∷ bs) ∷ []) 0 =
+      (read_all vp8_format None extra (payloads_of (marked (vp8_packing has_id zero_id) packets))) ((b ∷ bs) ∷ []) 0 =
       λ extra.
-      let all = read_all-each vp8_format packets (p ∷ ps) (each_gives has_id s.number true (p ∷ ps) size small fits)
+      let all = read_all-each vp8_format packets (p ∷ ps) (each_gives tells s.number true (p ∷ ps) size small fits)
       extra in
       let P : List (List ℕ) → Type 0 = λ qs. GivesFrom (read_all vp8_format None extra qs) ((b ∷ bs) ∷ []) 0 in
-      subst P (sym (payloads_marked has_id packets))
+      subst P (sym (payloads_marked has_id zero_id packets))
       (record {
         some_part = omega arith;
         no_fault = all.no_fault;
@@ -189,17 +184,17 @@ module _ (has_id : Bool) (s : Sender) (limit : ℕ) (b : ℕ) (bs : List ℕ) (s
         closed = all.closed;
       }) in
       first-headed-frame vp8_format (record {
-        payload = descriptor has_id s.number true ++ p;
+        payload = descriptor tells s.number true ++ p;
         marker =
-            is_none_left (described has_id s.number false ps);
+            is_none_left (described tells s.number false ps);
       })
-      (marked (vp8_packing has_id) (described has_id s.number false ps)) ((b ∷ bs) ∷ [])
-      (head_is has_id s.number true p) (no_heads has_id s.number ps)
-      (marker-tails (vp8_packing has_id) vp8_format (record { marks = λ q last. refl; tail = λ marker q. refl })
+      (marked (vp8_packing has_id zero_id) (described tells s.number false ps)) ((b ∷ bs) ∷ [])
+      (head_is tells s.number true p) (no_heads has_id zero_id tells s.number ps)
+      (marker-tails (vp8_packing has_id zero_id) vp8_format (record { marks = λ q last. refl; tail = λ marker q. refl })
       packets) gives
 
-  sent_frame : IsSentAs (vp8_coding has_id) limit
-      (record { packets = described has_id s.number true cut; sender = after_frame s }) (((b ∷ bs) ∷ []) ∷ [])
+  sent_frame : IsSentAs (vp8_coding has_id zero_id) limit
+      (record { packets = described tells s.number true cut; sender = after_frame s }) (((b ∷ bs) ∷ []) ∷ [])
       (after_frame s)
   sent_frame =
       let some_size : 0 < size = omega arith in
@@ -211,70 +206,97 @@ module _ (has_id : Bool) (s : Sender) (limit : ℕ) (b : ℕ) (bs : List ℕ) (s
       let frame = frame_of ps p step (subst W step within)
       (ap joined (sym step) ∙ joined-pieces size some_size (b ∷ bs)) in
       let F : List (List ℕ) → Type 0 = λ qs. AreFramesOf vp8_format
-      (marked (vp8_packing has_id) (described has_id s.number true qs)) (((b ∷ bs) ∷ []) ∷ []) in
+      (marked (vp8_packing has_id zero_id) (described tells s.number true qs)) (((b ∷ bs) ∷ []) ∷ []) in
       record {
         reached = next_small s.number;
-        within = described_within has_id s.number true limit cut room within;
-        frames = subst F (sym step) (one_unit (marked (vp8_packing has_id) (described has_id s.number true (p ∷ ps)))
+        within = described_within tells s.number true limit cut room within;
+        frames = subst F (sym step) (one_unit (marked (vp8_packing has_id zero_id)
+            (described tells s.number true (p ∷ ps)))
             ((b ∷ bs) ∷ []) frame);
         leaves = refl;
       }
 
-by_room : (has_id : Bool) (s : Sender) (limit b : ℕ) (bs : List ℕ) (full : Bool)
-    → leb limit (descriptor_size has_id s.number) ≡ full → s.number < 32768
-    → SendsUnits (vp8_coding has_id) limit (if full then Ok (record { packets = []; sender = s })
-    else Ok (record {
-      packets = described has_id s.number true
-          (pieces (limit - descriptor_size has_id s.number) (b ∷ bs));
+by_room : (has_id zero_id tells : Bool) (s : Sender) (limit b : ℕ) (bs : List ℕ) (full : Bool)
+    → leb limit (descriptor_size tells s.number) ≡ full → s.number < 32768
+    → SendsUnits (vp8_coding has_id zero_id) limit (Ok (if full then record { packets = []; sender = s }
+    else record {
+      packets = described tells s.number true (pieces (limit - descriptor_size tells s.number) (b ∷ bs));
       sender = after_frame s;
     }))
     (if full then [] else ((b ∷ bs) ∷ []) ∷ [])
     (if full then s else after_frame s)
-by_room has_id s limit b bs true e small = record { reached = small; within = All-nil _; frames = refl; leaves = refl }
-by_room has_id s limit b bs false e small = sent_frame has_id s limit b bs small (grind (arith, nat_tests))
+by_room has_id zero_id tells s limit b bs true e small =
+    record { reached = small; within = All-nil _; frames = refl; leaves = refl }
+by_room has_id zero_id tells s limit b bs false e small =
+    sent_frame has_id zero_id tells s limit b bs small (grind (arith, nat_tests))
 
-pub vp8_codec_law : (has_id : Bool) → CodecLaw (vp8_coding has_id)
-vp8_codec_law has_id s limit [] reached well_formed = absurd (omega arith)
-vp8_codec_law has_id s limit (b ∷ bs) reached well_formed =
-    by_room has_id s limit b bs (leb limit (descriptor_size has_id s.number)) refl reached
+pub vp8_codec_law : (has_id zero_id : Bool) → CodecLaw (vp8_coding has_id zero_id)
+vp8_codec_law has_id zero_id s limit [] reached well_formed = absurd (omega arith)
+vp8_codec_law has_id zero_id s limit (b ∷ bs) reached well_formed =
+    let tells = tells_id has_id zero_id s.number in
+    by_room has_id zero_id tells s limit b bs (leb limit (descriptor_size tells s.number)) refl reached
 
-full_by : (has_id : Bool) (s : Sender) (limit b : ℕ) (bs : List ℕ) (full : Bool)
-    → leb limit (descriptor_size has_id s.number) ≡ full
-    → SendsFull limit (if full then Ok (record { packets = []; sender = s })
-    else Ok (record {
-      packets = described has_id s.number true
-          (pieces (limit - descriptor_size has_id s.number) (b ∷ bs));
+full_by : (tells : Bool) (s : Sender) (limit b : ℕ) (bs : List ℕ) (full : Bool)
+    → leb limit (descriptor_size tells s.number) ≡ full
+    → SendsFull limit (Ok (if full then record { packets = []; sender = s }
+    else record {
+      packets = described tells s.number true (pieces (limit - descriptor_size tells s.number) (b ∷ bs));
       sender = after_frame s;
     }))
-full_by has_id s limit b bs true e = λ k lt. absurd (omega arith)
-full_by has_id s limit b bs false e =
-    let room : descriptor_size has_id s.number < limit = grind (arith, nat_tests) in
-    described_full has_id s.number true limit (pieces (limit - descriptor_size has_id s.number) (b ∷ bs)) room
-    (pieces-full (limit - descriptor_size has_id s.number) (omega arith) (b ∷ bs))
+full_by tells s limit b bs true e = λ k lt. absurd (omega arith)
+full_by tells s limit b bs false e =
+    let room : descriptor_size tells s.number < limit = grind (arith, nat_tests) in
+    described_full tells s.number true limit (pieces (limit - descriptor_size tells s.number) (b ∷ bs)) room
+    (pieces-full (limit - descriptor_size tells s.number) (omega arith) (b ∷ bs))
 
-pub vp8_full : (has_id : Bool) → FillsPackets (vp8_packing has_id)
-vp8_full has_id s limit [] = λ k lt. absurd (omega arith)
-vp8_full has_id s limit (b ∷ bs) = full_by has_id s limit b bs (leb limit (descriptor_size has_id s.number)) refl
+pub vp8_full : (has_id zero_id : Bool) → FillsPackets (vp8_packing has_id zero_id)
+vp8_full has_id zero_id s limit [] = λ k lt. absurd (omega arith)
+vp8_full has_id zero_id s limit (b ∷ bs) =
+    let tells = tells_id has_id zero_id s.number in
+    full_by tells s limit b bs (leb limit (descriptor_size tells s.number)) refl
 
 -- a frame that is sent has a packet
-silent_by : (has_id : Bool) (s : Sender) (limit b : ℕ) (bs : List ℕ) (full : Bool)
-    → leb limit (descriptor_size has_id s.number) ≡ full
-    → ChangesWhereSent s (if full then Ok (record { packets = []; sender = s })
-    else Ok (record {
-      packets = described has_id s.number true (pieces (limit - descriptor_size has_id s.number) (b ∷ bs));
+silent_by : (tells : Bool) (s : Sender) (limit b : ℕ) (bs : List ℕ) (full : Bool)
+    → leb limit (descriptor_size tells s.number) ≡ full
+    → ChangesWhereSent s (Ok (if full then record { packets = []; sender = s }
+    else record {
+      packets = described tells s.number true (pieces (limit - descriptor_size tells s.number) (b ∷ bs));
       sender = after_frame s;
     }))
-silent_by has_id s limit b bs true e = λ none. refl
-silent_by has_id s limit b bs false e = λ none.
-    let room : descriptor_size has_id s.number < limit = grind (arith, nat_tests) in
-    let size : ℕ = limit - descriptor_size has_id s.number in
+silent_by tells s limit b bs true e = λ none. refl
+silent_by tells s limit b bs false e = λ none.
+    let room : descriptor_size tells s.number < limit = grind (arith, nat_tests) in
+    let size : ℕ = limit - descriptor_size tells s.number in
     let step : pieces size (b ∷ bs) ≡ take size (b ∷ bs) ∷ pieces size (drop size (b ∷ bs)) =
     pieces-step size (b ∷ bs) (omega arith) (omega arith) in
-    let some : length (described has_id s.number true (pieces size (b ∷ bs)))
-    ≡ suc (length (described has_id s.number false (pieces size (drop size (b ∷ bs))))) =
-    ap (λ ps. length (described has_id s.number true ps)) step in
+    let some : length (described tells s.number true (pieces size (b ∷ bs)))
+    ≡ suc (length (described tells s.number false (pieces size (drop size (b ∷ bs))))) =
+    ap (λ ps. length (described tells s.number true ps)) step in
     absurd (omega (arith, some, ap length none))
 
-pub vp8_silent : (has_id : Bool) → SilenceKeepsState (vp8_packing has_id)
-vp8_silent has_id s limit [] = λ none. refl
-vp8_silent has_id s limit (b ∷ bs) = silent_by has_id s limit b bs (leb limit (descriptor_size has_id s.number)) refl
+pub vp8_silent : (has_id zero_id : Bool) → SilenceKeepsState (vp8_packing has_id zero_id)
+vp8_silent has_id zero_id s limit [] = λ none. refl
+vp8_silent has_id zero_id s limit (b ∷ bs) =
+    let tells = tells_id has_id zero_id s.number in
+    silent_by tells s limit b bs (leb limit (descriptor_size tells s.number)) refl
+
+-- no descriptor has more than four bytes
+size_few : (tells : Bool) (id : ℕ) → descriptor_size tells id ≤ 4
+size_few false id = omega arith
+size_few true id = by_width (ltb id 128)
+  where
+    by_width : (short : Bool) → (if short then 3 else 4) ≤ 4
+    by_width true = omega arith
+    by_width false = omega arith
+
+one_unit_sent : (tells : Bool) (id limit : ℕ) (sample : List ℕ) → 4 < limit → units_of tells id limit sample
+    ≡ (sample ∷ []) ∷ []
+one_unit_sent tells id limit sample room =
+    let few : descriptor_size tells id ≤ 4 = size_few tells id in
+    let no : leb limit (descriptor_size tells id) ≡ false = grind (arith, nat_tests) in
+    ap (λ (full : Bool). if full then [] else (sample ∷ []) ∷ []) no
+
+pub vp8_same_units : SameUnits
+vp8_same_units has_id zero_id s limit sample room =
+    one_unit_sent (tells_id has_id zero_id s.number) s.number limit sample room
+    ∙ sym (one_unit_sent (tells_id has_id false s.number) s.number limit sample room)

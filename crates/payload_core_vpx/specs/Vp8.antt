@@ -1,5 +1,6 @@
 -- VP8 payloads (RFC 7741 4).
-use Rattle.std.specs.Prelude.{ℕ, ◌+◌, ◌-◌, ◌/◌, ◌%◌, ◌<◌, ◌==◌, ◌||◌, Bool, true, false, List, [], ◌∷◌, ◌++◌, drop}
+use Rattle.std.specs.Prelude.{ℕ, ◌+◌, ◌-◌, ◌/◌, ◌%◌, ◌<◌, ◌==◌, ◌&&◌, ◌||◌, not, Bool, true, false, List, [], ◌∷◌}
+use Rattle.std.specs.Prelude.{◌++◌, drop}
 use Rattle.std.specs.Prelude.{length, nat_lt, nat_le, Result, Ok, Err, if◌then◌else◌}
 use Rattle.payload_core_base.specs.Format.{Format, Fragment, Reading}
 use Rattle.payload_core_base.specs.Law.{Coding}
@@ -15,24 +16,27 @@ use Rattle.payload_core_vpx.specs.declared.vp8_descriptor.Vp8DescriptorError.{Vp
 use Rattle.payload_core_vpx.specs.declared.vp8_descriptor.Vp8DescriptorError.TheVariants.{MalformedDescriptor}
 use Rattle.payload_core_vpx.specs.declared.vp8_descriptor.Vp8DescriptorError.TheVariants.{ShortPayload}
 
+-- Whether a frame's packets tell its id (RFC 7741 4.2): where ids are sent, each but 0, and 0 if that is asked for.
+abbrev pub tells_id : Bool → Bool → ℕ → Bool
+tells_id has_id zero_id id = has_id && (zero_id || not (id == 0))
+
 -- The descriptor of a packet that is sent (RFC 7741 4.2): S on the first, and no id, an id of 7 bits, or one of 15
--- bits. An id of 0 is left out.
+-- bits.
 abbrev pub descriptor : Bool → ℕ → Bool → List ℕ
 descriptor false id first = (if first then 16 else 0) ∷ []
 descriptor true id first =
-    if id == 0 then (if first then 16 else 0) ∷ []
-    else (if nat_lt id 128 then (if first then 144 else 128) ∷ 128 ∷ id ∷ []
-    else (if first then 144 else 128) ∷ 128 ∷ (128 + id / 256) ∷ id % 256 ∷ [])
+    if nat_lt id 128 then (if first then 144 else 128) ∷ 128 ∷ id ∷ []
+    else (if first then 144 else 128) ∷ 128 ∷ (128 + id / 256) ∷ id % 256 ∷ []
 
 -- How many bytes it has.
 abbrev pub descriptor_size : Bool → ℕ → ℕ
 descriptor_size false id = 1
-descriptor_size true id = if id == 0 then 1 else (if nat_lt id 128 then 3 else 4)
+descriptor_size true id = if nat_lt id 128 then 3 else 4
 
 -- The pieces of a frame behind their descriptors: the first packet has S.
 abbrev pub described : Bool → ℕ → Bool → List (List ℕ) → List (List ℕ)
-described has_id id first [] = []
-described has_id id first (p ∷ ps) = (descriptor has_id id first ++ p) ∷ described has_id id false ps
+described tells id first [] = []
+described tells id first (p ∷ ps) = (descriptor tells id first ++ p) ∷ described tells id false ps
 
 -- The next id, modulo 32,768.
 abbrev pub next_id : ℕ → ℕ
@@ -42,25 +46,23 @@ next_id id = if nat_lt id 32767 then id + 1 else 0
 abbrev pub after_frame : Sender → Sender
 after_frame s = record { number = next_id s.number; waiting = s.waiting }
 
--- An empty sample, and one of whose limit the descriptor leaves nothing, send no frame.
-abbrev pub vp8_after : Bool → Sender → ℕ → List ℕ → Sender
-vp8_after has_id s limit [] = s
-vp8_after has_id s limit (b ∷ bs) = if nat_le limit (descriptor_size has_id s.number) then s else after_frame s
-
 -- A frame is cut into pieces of what the descriptor leaves of the limit; where it leaves nothing, nothing is sent.
-abbrev pub pack_vp8 : Bool → Sender → ℕ → List ℕ → Result Sent PacketError
-pack_vp8 has_id s limit [] = Ok (record { packets = []; sender = s })
-pack_vp8 has_id s limit (b ∷ bs) =
-    if nat_le limit (descriptor_size has_id s.number) then Ok (record { packets = []; sender = s })
-    else Ok (record {
-      packets = described has_id s.number true
-          (pieces (limit - descriptor_size has_id s.number) (b ∷ bs));
+abbrev pub frame_sent : Bool → Sender → ℕ → List ℕ → Sent
+frame_sent tells s limit frame =
+    if nat_le limit (descriptor_size tells s.number) then record { packets = []; sender = s }
+    else record {
+      packets = described tells s.number true (pieces (limit - descriptor_size tells s.number) frame);
       sender = after_frame s;
-    })
+    }
+
+-- An empty sample sends none.
+abbrev pub pack_vp8 : Bool → Bool → Sender → ℕ → List ℕ → Result Sent PacketError
+pack_vp8 has_id zero_id s limit [] = Ok (record { packets = []; sender = s })
+pack_vp8 has_id zero_id s limit (b ∷ bs) = Ok (frame_sent (tells_id has_id zero_id s.number) s limit (b ∷ bs))
 
 -- The last packet of a frame has the marker.
-abbrev pub vp8_packing : Bool → Packing
-vp8_packing has_id = record { pack = pack_vp8 has_id; marks = λ packet last. last }
+abbrev pub vp8_packing : Bool → Bool → Packing
+vp8_packing has_id zero_id = record { pack = pack_vp8 has_id zero_id; marks = λ packet last. last }
 
 -- A frame that was a keyframe stays one.
 abbrev pub was_keyframe : CodecExtra → Bool
@@ -96,15 +98,26 @@ vp8_format = record { head = is_vp8_head; tail = λ marker packet. marker; read 
 
 -- A frame with a byte is well-formed. It is one unit of one part, unless the limit leaves nothing behind the
 -- descriptor.
-abbrev pub vp8_units : Bool → Sender → ℕ → List ℕ → List (List (List ℕ))
-vp8_units has_id s limit sample = if nat_le limit (descriptor_size has_id s.number) then [] else (sample ∷ []) ∷ []
+abbrev pub units_of : Bool → ℕ → ℕ → List ℕ → List (List (List ℕ))
+units_of tells id limit sample = if nat_le limit (descriptor_size tells id) then [] else (sample ∷ []) ∷ []
 
-abbrev pub vp8_coding : Bool → Coding
-vp8_coding has_id = record {
-  packing = vp8_packing has_id;
+abbrev pub vp8_units : Bool → Bool → Sender → ℕ → List ℕ → List (List (List ℕ))
+vp8_units has_id zero_id s limit sample = units_of (tells_id has_id zero_id s.number) s.number limit sample
+
+-- An empty sample, and one of whose limit the descriptor leaves nothing, leave the sender as it was.
+abbrev pub after_limit : Bool → Sender → ℕ → Sender
+after_limit tells s limit = if nat_le limit (descriptor_size tells s.number) then s else after_frame s
+
+abbrev pub vp8_after : Bool → Bool → Sender → ℕ → List ℕ → Sender
+vp8_after has_id zero_id s limit [] = s
+vp8_after has_id zero_id s limit (b ∷ bs) = after_limit (tells_id has_id zero_id s.number) s limit
+
+abbrev pub vp8_coding : Bool → Bool → Coding
+vp8_coding has_id zero_id = record {
+  packing = vp8_packing has_id zero_id;
   format = vp8_format;
   IsReached = λ sender. sender.number < 32768;
   IsWellFormed = λ limit sample. 0 < length sample;
-  units = vp8_units has_id;
-  after = vp8_after has_id;
+  units = vp8_units has_id zero_id;
+  after = vp8_after has_id zero_id;
 }

@@ -2,17 +2,20 @@
 
 ghost use Rattle.payload_core_base.specs.Law.{CodecLaw, FillsPackets, SilenceKeepsState};
 ghost use Rattle.payload_core_vpx.specs.Vp8.{vp8_coding, vp8_packing};
+ghost use Rattle.payload_core_vpx.specs.Vp8Forms.{SameUnits};
 ghost use Rattle.payload_core_vpx.specs.Vp8KeyframeLaw.{KeyframeLaw};
 ghost use Rattle.payload_core_vpx.specs.Vp8PatchLaw.{PatchLaw};
 ghost use Rattle.std.specs.Prelude.{Bool};
 
-/// VP8 keeps the codec law, with ids and without: a frame is one unit of one part, unless the limit leaves
-/// nothing behind the descriptor; every packet but a frame's last has just the limit's bytes; and a sample without
-/// packets leaves the picture id as it was.
+/// VP8 keeps the codec law, with ids and without, and with the id 0 and without it: a frame is one unit of one part,
+/// unless the limit leaves nothing behind the descriptor; every packet but a frame's last has just the limit's bytes;
+/// and a sample without packets leaves the picture id as it was. At every limit above 4 the units are the same with
+/// the id 0 and without it.
 pub fn vp8_law()
-    ensures codec { (has_id : Bool) → CodecLaw (vp8_coding has_id) }
-    ensures full { (has_id : Bool) → FillsPackets (vp8_packing has_id) }
-    ensures silent { (has_id : Bool) → SilenceKeepsState (vp8_packing has_id) }
+    ensures codec { (has_id zero_id : Bool) → CodecLaw (vp8_coding has_id zero_id) }
+    ensures full { (has_id zero_id : Bool) → FillsPackets (vp8_packing has_id zero_id) }
+    ensures silent { (has_id zero_id : Bool) → SilenceKeepsState (vp8_packing has_id zero_id) }
+    ensures same_units { SameUnits }
 {}
 
 /// A patch that was built from a payload's descriptor reaches the places that it writes, and changes the ids'

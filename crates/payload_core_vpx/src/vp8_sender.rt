@@ -1,8 +1,10 @@
 //! Sending VP8 payloads (RFC 7741 4).
 
-ghost use Rattle.payload_core_vpx.specs.Vp8.{described, descriptor, descriptor_size, next_id, pack_vp8, vp8_packing};
+ghost use Rattle.payload_core_vpx.specs.Vp8.{described, descriptor, descriptor_size, next_id, pack_vp8, tells_id};
+ghost use Rattle.payload_core_vpx.specs.Vp8.{vp8_packing};
 ghost use Rattle.payload_core_base.specs.Pieces.{pieces};
-ghost use Rattle.std.specs.Prelude.{◌≡◌, ◌-◌, ◌++◌, ◌<◌, ◌≤◌, [], IfErr, IfOk, Some, is_some, map, true, unwrap_or};
+ghost use Rattle.std.specs.Prelude.{◌≡◌, ◌-◌, ◌++◌, ◌<◌, ◌≤◌, [], IfErr, IfOk, Some, false, is_some, map};
+ghost use Rattle.std.specs.Prelude.{true, unwrap_or};
 
 use payload_core_base::{PacketError, Packetizer};
 use std::alloc::Global;
@@ -14,16 +16,17 @@ pub const VP8_HEADER_SIZE: usize = 1;
 #[derive(Clone, Copy, Debug, Drop)]
 pub struct Vp8Packetizer {
     has_id: bool,
+    zero_id: bool,
     id: u16,
     ghost in_range: { id < 32768 },
 }
 
 // How many bytes the descriptor has.
-fn descriptor_size(has_id: bool, id: u16) -> usize
-    ensures value { result ≡ descriptor_size has_id id }
+fn descriptor_size(tells: bool, id: u16) -> usize
+    ensures value { result ≡ descriptor_size tells id }
     ensures few { result ≤ 4 }
 {
-    if !has_id || id == 0 {
+    if !tells {
         VP8_HEADER_SIZE
     } else if id < 128 {
         3
@@ -35,18 +38,18 @@ fn descriptor_size(has_id: bool, id: u16) -> usize
 // The descriptor of a packet, and its piece behind it.
 fn packet(
     alloc: Global,
-    has_id: bool,
+    tells: bool,
     id: u16,
     first: bool,
     piece: &[u8],
 ) -> Result<Vec<u8>, PacketError>
     requires { id < 32768 }
-    ensures packet { IfOk result (λ p. p.items ≡ descriptor has_id id first ++ piece.now) }
+    ensures packet { IfOk result (λ p. p.items ≡ descriptor tells id first ++ piece.now) }
     ensures memory { IfErr result (λ e. e ≡ PacketError.Memory) }
 {
     let start: u8 = if first { 0x10 } else { 0 };
     let mut packet = Vec::new(alloc);
-    if !has_id || id == 0 {
+    if !tells {
         packet.push(start)?;
     } else {
         packet.push(0x80 + start)?;
@@ -65,7 +68,7 @@ fn packet(
 // The packets of a frame, cut into pieces of this size.
 fn packets(
     alloc: Global,
-    has_id: bool,
+    tells: bool,
     id: u16,
     size: usize,
     bytes: &[u8],
@@ -73,34 +76,61 @@ fn packets(
     requires id { id < 32768 }
     requires size { 0 < size }
     ensures packets { IfOk result (λ ps. map (λ p. p.items) ps.items
-        ≡ described has_id id true (pieces size bytes.now)) }
+        ≡ described tells id true (pieces size bytes.now)) }
     ensures memory { IfErr result (λ e. e ≡ PacketError.Memory) }
 {
     let mut packets = Vec::new(alloc);
     let mut first = true;
     for piece in bytes.chunks(size) {
-        packets.push(packet(alloc, has_id, id, first, piece)?)?;
+        packets.push(packet(alloc, tells, id, first, piece)?)?;
         first = false;
     }
     Ok(packets)
 }
 
 impl Vp8Packetizer {
-    /// A packetizer that sends ids from this one on, modulo 32,768, or none.
+    /// A packetizer that sends ids from this one on, modulo 32,768, or none. The id 0 is left out.
+    ///
+    /// # Conditions
+    ///
+    /// The id is below 32,768.
     pub fn with_picture_id(picture_id: Option<u16>) -> Self
         requires { unwrap_or picture_id 0 < 32768 }
         ensures has_id { result.has_id ≡ is_some picture_id }
+        ensures zero_id { result.zero_id ≡ false }
         ensures id { result.id ≡ unwrap_or picture_id 0 }
     {
         Vp8Packetizer {
             has_id: picture_id.is_some(),
+            zero_id: false,
             id: picture_id.unwrap_or(0),
         }
+    }
+
+    /// The same packetizer, which writes the id 0 like any other: browsers take a frame without an id among frames
+    /// with ids for a gap, and freeze up to the next keyframe. Without ids it changes nothing that is sent.
+    pub fn with_zero_id(self) -> Self
+        ensures has_id { result.has_id ≡ self.has_id }
+        ensures zero_id { result.zero_id ≡ true }
+        ensures id { result.id ≡ self.id }
+    {
+        Vp8Packetizer {
+            has_id: self.has_id,
+            zero_id: true,
+            id: self.id,
+        }
+    }
+
+    // Whether the next frame's packets tell its id.
+    fn tells_id(&self) -> bool
+        ensures { result ≡ tells_id self.now.has_id self.now.zero_id self.now.id }
+    {
+        self.has_id && (self.zero_id || self.id != 0)
     }
 }
 
 impl Packetizer for Vp8Packetizer {
-    ghost packing = { λ p. vp8_packing p.has_id };
+    ghost packing = { λ p. vp8_packing p.has_id p.zero_id };
 
     ghost sender = { λ p. record { number = p.id; waiting = [] } };
 
@@ -110,11 +140,12 @@ impl Packetizer for Vp8Packetizer {
         mtu: usize,
         bytes: &[u8],
     ) -> Result<Vec<Vec<u8>>, PacketError> {
-        let size = descriptor_size(self.has_id, self.id);
+        let tells = self.tells_id();
+        let size = descriptor_size(tells, self.id);
         if bytes.is_empty() || mtu <= size {
             return Ok(Vec::new(alloc));
         }
-        let packets = match packets(alloc, self.has_id, self.id, mtu - size, bytes) {
+        let packets = match packets(alloc, tells, self.id, mtu - size, bytes) {
             Ok(packets) => packets,
             Err(e) => return Err(e),
         };

@@ -2,12 +2,11 @@
 
 use crate::formats::{Formats, depacketizer_of};
 use crate::printing::{hex_of, payloads, unit};
-use crate::sink::SentList;
 use crate::words::{bytes_of, next_word};
 use anyhow::anyhow;
 use h26x_payload::{detect_h264_keyframe, detect_h265_keyframe, detect_h266_keyframe};
 use payload_core::{
-    Codec, CodecExtra, Depacketizer, RtpMeta, detect_av1_keyframe, detect_vp8_keyframe,
+    Codec, CodecExtra, Depacketizer, PacketList, RtpMeta, detect_av1_keyframe, detect_vp8_keyframe,
 };
 use rtp_wire::{ExtensionValues, SeqNo};
 use std::alloc::Global;
@@ -52,6 +51,9 @@ fn of_format(
     if command == "pop" {
         return unit(alloc, formats.buffer.pop()?);
     }
+    if command == "drain" {
+        return unit(alloc, formats.buffer.drain()?);
+    }
     if command == "short" {
         return short_packets(alloc, formats);
     }
@@ -74,12 +76,12 @@ fn packed(
 ) -> anyhow::Result<String> {
     let limit = next_word(words)?.parse::<usize>()?;
     let sample = bytes_of(alloc, next_word(words)?)?;
-    let mut sink = SentList::new(alloc);
+    let mut sink = PacketList::new(alloc);
     let values = ExtensionValues::absent();
     formats
         .payloader
         .push_sample(alloc, &mut sink, limit, 6000, &sample, &values)?;
-    payloads(alloc, &sink)
+    payloads(alloc, sink.packets())
 }
 
 // `read PACKET ..`: the bytes that packets give, one after the other from no open fragment on, and what is told then.

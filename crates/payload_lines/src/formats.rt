@@ -7,13 +7,15 @@ use rtp_wire::Frequency;
 use std::alloc::Global;
 use std::str::SplitWhitespace;
 
-/// What is negotiated of a payload format, the first picture id and the hold-back.
+/// What is negotiated of a payload format, the first picture id, whether what browsers need is sent, and the
+/// hold-back.
 #[derive(Clone, Copy, Drop)]
 pub struct Options {
     octet_align: Option<bool>,
     max_don_diff: Option<u16>,
     clock_rate: Frequency,
     picture_id: Option<u16>,
+    for_browsers: bool,
     hold_back: usize,
 }
 
@@ -59,6 +61,9 @@ pub fn packetizer_of(
         options.max_don_diff,
         options.clock_rate,
     );
+    if options.for_browsers {
+        return Ok(packetizer.with_zero_id().with_prediction());
+    }
     Ok(packetizer)
 }
 
@@ -69,11 +74,14 @@ fn options_of(words: &mut SplitWhitespace<'_>) -> anyhow::Result<Options> {
         max_don_diff: None,
         clock_rate: Frequency::EIGHT_KHZ,
         picture_id: None,
+        for_browsers: false,
         hold_back: 127,
     };
     for word in words {
         if word == "aligned" {
             options.octet_align = Some(true);
+        } else if word == "browsers" {
+            options.for_browsers = true;
         } else if word == "16kHz" {
             options.clock_rate = Frequency::SIXTEEN_KHZ;
         } else if let Some(number) = word.strip_prefix("numbers=") {
@@ -90,7 +98,7 @@ fn options_of(words: &mut SplitWhitespace<'_>) -> anyhow::Result<Options> {
 }
 
 impl Formats {
-    /// The payload format that words name: `NAME [aligned] [numbers=N] [id=N] [hold=N] [16kHz]`.
+    /// The payload format that words name: `NAME [aligned] [numbers=N] [id=N] [browsers] [hold=N] [16kHz]`.
     pub fn of(
         alloc: Global,
         name: &str,

@@ -5,7 +5,6 @@
 mod commands;
 mod formats;
 mod printing;
-mod sink;
 mod words;
 
 use commands::answer;

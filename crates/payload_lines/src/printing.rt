@@ -1,7 +1,6 @@
 //! What calls give, as text.
 
-use crate::sink::SentList;
-use payload_core::Depacketized;
+use payload_core::{Depacketized, SentPacket};
 use std::alloc::Global;
 
 /// How many bytes are printed in full.
@@ -20,9 +19,9 @@ pub fn hex_of(alloc: Global, bytes: &[u8]) -> anyhow::Result<String> {
 }
 
 /// Payloads, parted by blanks, and a star behind each that has the marker; a dash stands for none.
-pub fn payloads(alloc: Global, list: &SentList) -> anyhow::Result<String> {
+pub fn payloads(alloc: Global, packets: &[SentPacket]) -> anyhow::Result<String> {
     let mut text = String::new(alloc);
-    for sent in list.sent.iter() {
+    for sent in packets {
         if !text.is_empty() {
             text.push(' ')?;
         }

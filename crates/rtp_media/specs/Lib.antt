@@ -1,4 +1,5 @@
 pub mod Program
 pub mod Names
 pub mod Exchanging
+pub mod Playing
 pub mod ProgramState

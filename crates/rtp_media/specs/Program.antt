@@ -1,5 +1,5 @@
 -- What the program answers to each command, from the definitions of its calls.
-use Rattle.std.specs.Prelude.{ℕ, ◌≡◌, ◌≢◌, ◌⊎◌, Bool, IsTrue, nat_lt, if◌then◌else◌, List, [], ◌∷◌, ◌++◌, length, map}
+use Rattle.std.specs.Prelude.{false, ℕ, ◌≡◌, ◌⊎◌, Bool, IsTrue, nat_lt, if◌then◌else◌, List, [], ◌∷◌, ◌++◌, length, map}
 use Rattle.std.specs.Prelude.{Option, Some, None, Ok, Err}
 use Rattle.std.specs.Option.{option_map}
 use Rattle.rtp_wire.specs.Name.{name_of}
@@ -47,7 +47,14 @@ becomes e reply = record { end = Some e; replies = reply ∷ [] }
 
 -- the stream parameters that a command gives
 abbrev pub params_of : SendCommand → StreamParams
-params_of c = record { first = c.first; mtu = c.mtu; limit = c.limit; red = c.distances; picture_id = c.picture_id }
+params_of c = record {
+  first = c.first;
+  mtu = c.mtu;
+  limit = c.limit;
+  red = c.distances;
+  picture_id = c.picture_id;
+  for_browsers = false;
+}
 
 -- a command's conditions: distances are for a row with a RED type alone
 abbrev pub is_sound_send : EndState → SendCommand → Bool

@@ -1,12 +1,13 @@
 -- What the program does at each command.
-use Rattle.std.specs.Prelude.{◌≡◌, ◌⊎◌, List, Option, Some, None}
+use Rattle.std.specs.Prelude.{◌≡◌, ◌⊎◌, List, [], ◌∷◌, ◌++◌, Option, Some, None}
 use Rattle.rtp_media_ends.specs.Ends.{EndState}
 use Rattle.rtp_media_lines.specs.declared.words.Letter.{Letter}
 use Rattle.rtp_media_lines.specs.declared.words.Letter.TheVariants.{A, B}
 use Rattle.rtp_media_lines.specs.declared.line.Command.{Command}
 use Rattle.rtp_media_lines.specs.declared.line.Command.TheVariants.{Fixed, Send, Open, Sample, Receive, Poll, Row}
 use Rattle.rtp_media_lines.specs.declared.line.Command.TheVariants.{Ext, End, Offer, Answer, Accept, Withdraw}
-use Rattle.rtp_media_lines.specs.declared.line.Command.TheVariants.{Connect}
+use Rattle.rtp_media_lines.specs.declared.line.Command.TheVariants.{Connect, Queue, Play}
+use Rattle.rtp_media_lines.specs.declared.playing.QueueCommand.{QueueCommand}
 use Rattle.rtp_media_lines.specs.declared.exchange.ConnectCommand.{ConnectCommand}
 use Rattle.rtp_media_lines.specs.declared.reply.Reply.{Reply}
 use Rattle.rtp_media_lines.specs.declared.reply.Reply.TheVariants as reply
@@ -14,15 +15,17 @@ use Rattle.rtp_media.specs.Names.{memory}
 use Rattle.rtp_media.specs.Exchanging.{EndAndDraft, empty_draft, Prints, AtEnd, WithText, wanted_in, AnswersRow}
 use Rattle.rtp_media.specs.Exchanging.{AnswersExt, AnswersEnd, AnswersOffer, AnswersAnswer, AnswersAccept}
 use Rattle.rtp_media.specs.Exchanging.{AnswersWithdraw, AnswersConnect, refusal_of_draft}
+use Rattle.rtp_media.specs.Playing.{PlaysEnds}
 use Rattle.rtp_media.specs.Program.{IsAnswered}
 
--- What the two letters of the program stand for.
+-- What the two letters of the program stand for, and the samples that are kept for a run.
 pub record ProgramState : Type 0 where
   pub a : EndAndDraft
   pub b : EndAndDraft
+  pub queue : List QueueCommand
 
 abbrev pub initial_state : ProgramState
-initial_state = record { a = empty_draft None; b = empty_draft None }
+initial_state = record { a = empty_draft None; b = empty_draft None; queue = [] }
 
 abbrev pub letter_of : Command → Letter
 letter_of (Fixed letter) = letter
@@ -39,6 +42,8 @@ letter_of (Answer c) = c.letter
 letter_of (Accept c) = c.letter
 letter_of (Withdraw letter) = letter
 letter_of (Connect c) = A
+letter_of (Queue c) = A
+letter_of (Play c) = A
 
 -- the draft stays, and the end is answered for
 abbrev pub KeepsDraft : EndAndDraft → EndAndDraft → Type 0
@@ -77,4 +82,11 @@ ConnectsEnds a b c after_a after_b replies = (after_a ≡ a) × (after_b ≡ b) 
 unfoldable pub AnswersCommand : ProgramState → Command → ProgramState → List Reply → Type 0
 AnswersCommand old (Connect c) new replies =
     ConnectsEnds old.a.end old.b.end c new.a.end new.b.end replies × KeepsDraft old.a new.a × KeepsDraft old.b new.b
+    × (new.queue ≡ old.queue)
+AnswersCommand old (Queue c) new replies =
+    (new.queue ≡ old.queue ++ c ∷ []) × (new.a ≡ old.a) × (new.b ≡ old.b) × Prints replies reply.Done
+AnswersCommand old (Play c) new replies =
+    PlaysEnds old.a.end old.b.end old.queue c new.a.end new.b.end new.queue replies × KeepsDraft old.a new.a
+    × KeepsDraft old.b new.b
 AnswersCommand old command new replies = IsAnsweredAt (letter_of command) old command new replies
+    × (new.queue ≡ old.queue)

@@ -6,9 +6,10 @@ mod program;
 
 pub use program::run;
 pub use rtp_media_ends::{
-    Bandwidth, Codec, CodecConfig, CodecSpec, Datagram, End, EndError, ExchangeError, FormatParams,
-    MediaKind, OpenError, PacketError, PayloadParams, PollFault, Polls, ReceiveError, Received,
-    ReceivedAll, RoundError, SampleError, SdpError, SectionSpec, Session, SessionAttribute,
-    StreamParams, Unit, connect,
+    Bandwidth, Codec, CodecConfig, CodecSpec, Datagram, Distances, End, EndError, ExchangeError,
+    FormatParams, MediaKind, OpenError, PacketError, PayloadParams, PollFault, Polls, ReceiveError,
+    Received, ReceivedAll, RoundError, SampleError, SdpError, SectionSpec, Session,
+    SessionAttribute, StreamParams, Unit, connect,
 };
 pub use rtp_media_lines::{RunFault, Status};
+pub use rtp_media_play::{Event, Played, Sample, headline, play};

@@ -5,21 +5,24 @@ ghost use Rattle.std.specs.Io.KnownBytes.{Appends, Consumes, IsAtEnd};
 ghost use Rattle.rtp_media_lines.specs.Runs.{Printed, ReadsAll};
 ghost use Rattle.rtp_media_lines.specs.declared.line.Command.{Command};
 ghost use Rattle.rtp_media.specs.Exchanging.{empty_draft};
+ghost use Rattle.rtp_media.specs.Playing.{PlaysEnds};
 ghost use Rattle.rtp_media.specs.Program.{IsAnswered, verdict_reply, unit_reply, values_given};
 ghost use Rattle.rtp_media.specs.ProgramState.{AnswersCommand, AnswersAt, ConnectsEnds, KeepsDraft, letter_of};
 ghost use Rattle.rtp_media.specs.ProgramState.{initial_state};
 
 mod exchanging;
 mod names;
+mod playing;
 
 use exchanging::{
     accept, answer_offer, connect_ends, draft_ext, draft_row, make_end, offer, withdraw,
 };
 use names::{fault_name, memory, open_error_name, sample_error_name};
+use playing::{keep_sample, play_ends};
 use rtp_media_ends::{Datagram, Distances, End, PayloadParams, Received, StreamParams, Unit};
 use rtp_media_lines::{
-    Bytes, Command, ConnectCommand, Letter, OpenCommand, PollCommand, ReceiveCommand, Reply,
-    Respond, RunFault, SampleCommand, SendCommand, Status, Text, run_lines,
+    Bytes, Command, ConnectCommand, Letter, OpenCommand, PlayCommand, PollCommand, QueueCommand,
+    ReceiveCommand, Reply, Respond, RunFault, SampleCommand, SendCommand, Status, Text, run_lines,
 };
 use rtp_wire::{ExtensionMap, ExtensionValues, MediaTime, Mid, Pt, Ssrc};
 use std::alloc::{AllocError, Global};
@@ -58,11 +61,12 @@ impl EndAndDraft {
     }
 }
 
-/// What the two letters stand for.
+/// What the two letters stand for, and the samples that are kept for a run.
 #[derive(Drop)]
 struct Program {
     a: EndAndDraft,
     b: EndAndDraft,
+    queue: Vec<QueueCommand>,
 }
 
 impl Model for Program {
@@ -74,7 +78,7 @@ impl Model for Program {
 
     ghost coded = { Prim.hlevel (codes, window_code) };
 
-    ghost view = { λ p. record { a = p.a; b = p.b } };
+    ghost view = { λ p. record { a = p.a; b = p.b; queue = p.queue.items } };
 }
 
 impl Respond for Program {
@@ -86,6 +90,10 @@ impl Respond for Program {
     fn respond(&mut self, alloc: Global, command: Command) -> Result<Vec<Reply>, AllocError> {
         match command {
             Command::Connect(command) => connect_both(alloc, &mut self.a, &mut self.b, command),
+            Command::Queue(command) => keep_sample(alloc, &mut self.queue, command),
+            Command::Play(command) => {
+                play_both(alloc, &mut self.a, &mut self.b, &mut self.queue, command)
+            }
             command => match command_letter(&command) {
                 Letter::A => answer(alloc, &mut self.a, command),
                 Letter::B => answer(alloc, &mut self.b, command),
@@ -108,6 +116,22 @@ fn connect_both(
     connect_ends(alloc, &mut a.end, &mut b.end, command)
 }
 
+/// Lets a schedule happen between the ends of both letters.
+fn play_both(
+    alloc: Global,
+    a: &mut EndAndDraft,
+    b: &mut EndAndDraft,
+    queue: &mut Vec<QueueCommand>,
+    command: PlayCommand,
+) -> Result<Vec<Reply>, AllocError>
+    ensures ends { IfOk result (λ replies. PlaysEnds a.old.end b.old.end queue.old.items command a.new.end b.new.end
+        queue.new.items replies.items) }
+    ensures a { OnOk result (KeepsDraft a.old a.new) }
+    ensures b { OnOk result (KeepsDraft b.old b.new) }
+{
+    play_ends(alloc, &mut a.end, &mut b.end, queue, command)
+}
+
 /// The letter that a command names.
 fn command_letter(command: &Command) -> Letter
     ensures { result ≡ letter_of command.now }
@@ -127,10 +151,13 @@ fn command_letter(command: &Command) -> Letter
         Command::Accept(command) => command.letter,
         Command::Withdraw(letter) => *letter,
         Command::Connect(_) => Letter::A,
+        Command::Queue(_) => Letter::A,
+        Command::Play(_) => Letter::A,
     }
 }
 
-/// Answers a command at what its letter stands for; `connect` has two letters and isn't for here.
+/// Answers a command at what its letter stands for; `connect`, `queue` and `play` have none or
+/// two, and aren't for here.
 fn answer(alloc: Global, kept: &mut EndAndDraft, command: Command) -> Result<Vec<Reply>, AllocError>
     ensures { IfOk result (λ replies. AnswersAt kept.old command kept.new replies.items) }
 {
@@ -149,6 +176,8 @@ fn answer(alloc: Global, kept: &mut EndAndDraft, command: Command) -> Result<Vec
         Command::Accept(command) => accept(alloc, &mut kept.end, command),
         Command::Withdraw(letter) => withdraw(alloc, &mut kept.end, letter),
         Command::Connect(_) => one(alloc, Reply::ErrorLine),
+        Command::Queue(_) => one(alloc, Reply::ErrorLine),
+        Command::Play(_) => one(alloc, Reply::ErrorLine),
     }
 }
 
@@ -191,6 +220,7 @@ fn send(
         limit: command.limit,
         red: command.distances.map(|d| Distances::from_vec(d.into_vec())),
         picture_id: command.picture_id,
+        for_browsers: false,
     };
     if !params.is_sound(end.agreed_red(mid, pt)) {
         return one(alloc, Reply::ErrorLine);
@@ -349,6 +379,7 @@ pub fn run<R: Read, W: Write>(
     let mut program = Program {
         a: EndAndDraft::clear(alloc),
         b: EndAndDraft::clear(alloc),
+        queue: Vec::new(alloc),
     };
     run_lines(alloc, reader, writer, &mut program)
 }

@@ -227,7 +227,8 @@ theirs (x ∷ xs) s law reached good vs =
     let more : List Outgoing = payloads_of_samples t xs in
     record {
       sendable = sendable-append limit os more
-          (packets-sendable (packing_of s.row s.has_id) limit (timestamp s x.time) x.values (sent s x.bytes).packets
+          (packets-sendable (packing_of s.row s.has_id s.for_browsers) limit (timestamp s x.time) x.values
+          (sent s x.bytes).packets
           (omega arith) (vs zero x (omega arith)) left.within)
           (subst (λ (l : ℕ). AreSendable l more) same_limit rest.sendable);
       contents = map-append (content_in s) os more

@@ -6,7 +6,7 @@ use Rattle.std.specs.List.{filter_map, cons_option}
 use Rattle.rtp_wire.specs.Header.{header_in}
 use Rattle.rtp_wire.specs.Maps.{empty_map}
 use Rattle.rtp_wire.specs.declared.header.RtpHeader.{RtpHeader}
-use Rattle.h26x_payload.specs.Dispatch.{KeepCodecLaw}
+use Rattle.h26x_payload.specs.Dispatch.{KeepCodecLawInForms}
 use Rattle.payload_core_base.specs.Format.{Format}
 use Rattle.payload_core_base.specs.Outgoing.{Outgoing}
 use Rattle.payload_core_base.specs.declared.error.PacketError.{PacketError}
@@ -21,7 +21,7 @@ use Rattle.rtp_media_schedules.proofs.Full.{full-exact}
 use Rattle.rtp_media_schedules.proofs.Polls.{polls-end}
 use Rattle.rtp_media_schedules.proofs.Samples.{sent-as}
 use Rattle.rtp_media_streams.specs.Polls.{Answers, AreAnswered, IsPolled}
-use Rattle.rtp_media_streams.specs.Rows.{format_of, settings_in}
+use Rattle.rtp_media_streams.specs.Rows.{format_of, forms_for, settings_in}
 use Rattle.rtp_media_streams.specs.Sending.{Sample, Sending, packet_limit}
 use Rattle.rtp_media_streams.specs.Sending.{payloads_of_samples, samples_of}
 use Rattle.rtp_media_streams.specs.Receiving.{Receiving, is_own, media_payload, opened_receiver, values_read}
@@ -104,27 +104,30 @@ turns-are : (f : ℕ → Content) (xs : List ℕ) (n : ℕ) → map (event_of f)
 turns-are f [] n = polls-are f n
 turns-are f (x ∷ xs) n = ap (λ (es : List Event). Comes (x % 65536) (f x) ∷ es) (turns-are f xs n)
 
-units-are : (cs : List Canonical) → let us : List (Result Timed PacketError) = map (λ c. Ok (whole_unit c)) cs in
+pub units-are : (cs : List Canonical) → let us : List (Result Timed PacketError) = map (λ c. Ok (whole_unit c)) cs in
     us ≡ map Ok (map whole_unit cs)
 units-are [] = refl
 units-are (c ∷ cs) = ap (λ (ts : List (Result Timed PacketError)). Ok (whole_unit c) ∷ ts) (units-are cs)
 
 -- a sending stream's samples are sent as its receiver's format reads them
-pub sent-as-read : KeepCodecLaw → (s : Sending) (samples : List Sample) → IsSender s → AreSound s samples
+pub sent-as-read : KeepCodecLawInForms → (s : Sending) (samples : List Sample) → IsSender s → AreSound s samples
     → AreSentAs (format_of s.row) (sent_samples s samples)
 unfolding format_of
 sent-as-read law s samples sound good =
-    subst (λ (f : Format). AreSentAs f (sent_samples s samples)) (same-reading (settings_in s.row) s.has_id s.row.codec)
-    (sent-as (coding_of s) (law (settings_in s.row) s.has_id s.row.codec) (packet_limit s) (samples_of s samples)
+    subst (λ (f : Format). AreSentAs f (sent_samples s samples))
+    (same-reading (forms_for s.for_browsers) (settings_in s.row) s.has_id s.row.codec)
+    (sent-as (coding_of s) (law (forms_for s.for_browsers) (settings_in s.row) s.has_id s.row.codec)
+    (packet_limit s) (samples_of s samples)
     s.packetizer sound.reached good.well_formed)
 
-pub all-theirs : KeepCodecLaw → (s : Sending) (samples : List Sample) → IsSender s → AreSound s samples
+pub all-theirs : KeepCodecLawInForms → (s : Sending) (samples : List Sample) → IsSender s → AreSound s samples
     → AreTheirs s samples
-all-theirs law s samples sound good = theirs samples s (law (settings_in s.row) s.has_id s.row.codec) sound.reached
+all-theirs law s samples sound good = theirs samples s
+    (law (forms_for s.for_browsers) (settings_in s.row) s.has_id s.row.codec) sound.reached
     good.well_formed good.values
 
 -- exact after full arrival
-pub exact : KeepCodecLaw → (e : EndState) (stream hold_back : ℕ) (sender : Sending) (samples : List Sample)
+pub exact : KeepCodecLawInForms → (e : EndState) (stream hold_back : ℕ) (sender : Sending) (samples : List Sample)
     (arrivals : List ℕ) (ds : List (List ℕ)) (answers : Answers) (after : Receiving) →
     HasAllOf e stream hold_back sender samples arrivals ds
     → IsPolledOut (receiver_at (after_datagrams e ds) stream) answers after →
@@ -139,13 +142,13 @@ exact law e stream hold_back sender samples arrivals ds answers after all out =
     sym (own-filter r ds) ∙ ap (own_events r) all.own
     ∙ arrivals-events sender r samples [] arrivals (refl, refl, refl) all.sound are all.arrive in
     let same : receiver_at e stream ≡ with_stream r (receiver_at e stream).stream =
-    all.fresh ∙ ap (with_stream r) (sym (ap (λ (x : Receiving). x.stream) all.fresh)) in
+    all.receiver.stream_is ∙ ap (with_stream r) (sym (ap (λ (x : Receiving). x.stream) all.receiver.stream_is)) in
     let reached : Stream = after_events format (fresh hold_back) (map (event_of f) (map Arrive arrivals)) in
     let there : (receiver_at (after_datagrams e ds) stream).stream ≡ reached =
-    isolated ds e stream r same all.opened ∙ ap₂ (λ (s : Stream) (es : List Event). after_events format s es)
-    (ap (λ (x : Receiving). x.stream) all.fresh) events in
+    isolated ds e stream r same all.receiver.found ∙ ap₂ (λ (s : Stream) (es : List Event). after_events format s es)
+    (ap (λ (x : Receiving). x.stream) all.receiver.stream_is) events in
     let row : format_of (receiver_at (after_datagrams e ds) stream).row ≡ format =
-    ap (λ (x : Receiving). format_of x.row) (same-after ds e stream r same all.opened) in
+    ap (λ (x : Receiving). format_of x.row) (same-after ds e stream r same all.receiver.found) in
     let polled : IsPolled format reached answers after.stream =
     subst₂ (λ (g : Format) (s : Stream). IsPolled g s answers after.stream) row there out.polled in
     let n : ℕ = length reached.held in

@@ -26,7 +26,7 @@ abbrev pub after_event : Format → Stream → Option Event → Stream
 after_event format s None = s
 after_event format s (Some e) = heard_step format s e
 
-abbrev nobody : Receiving
+abbrev pub nobody : Receiving
 nobody = opened_receiver 0 no_types empty_map no_row_format 0
 
 abbrev nth : List Receiving → ℕ → Receiving
@@ -111,7 +111,7 @@ step-header e n d (Some h) lt known = step-by e n h d (is_own (receiver_at e n) 
     (stream_for e.receivers h.ssrc h.payload_type) lt known refl refl
 
 -- a stream that is found is there
-is-there : (e : EndState) (n : ℕ) (r : Receiving) → IsFound e n r → n < length e.receivers
+pub is-there : (e : EndState) (n : ℕ) (r : Receiving) → IsFound e n r → n < length e.receivers
 is-there e n r known = (found-own e.receivers r.ssrc r.types.pt n
     (known r.types.pt (first r.types.pt (is_type r.types.red r.types.pt)))).0 where
       first : (a : ℕ) (b : Bool) → ((a == a) || b) ≡ true
@@ -137,20 +137,20 @@ module _ (e : EndState) (n : ℕ) (r : Receiving) (d : List ℕ)
   one : Heard1 e n (event_in (receiver_at e n) d) (after_datagram e d)
   one = step e n d (subst (λ (x : Receiving). IsFound e n x) (sym same) known)
 
-  stream-is : (receiver_at (after_datagram e d) n).stream
+  pub stream-is : (receiver_at (after_datagram e d) n).stream
       ≡ after_event (format_of r.row) (receiver_at e n).stream (event_in r d)
   stream-is =
       ap (λ (x : Receiving). x.stream) one.stream
       ∙ ap₂ (λ (f : Format) (o : Option Event). after_event f (receiver_at e n).stream o)
       (ap (λ (x : Receiving). format_of x.row) same) (ap (λ (x : Receiving). event_in x d) same)
 
-  same-again : receiver_at (after_datagram e d) n ≡ with_stream r (receiver_at (after_datagram e d) n).stream
+  pub same-again : receiver_at (after_datagram e d) n ≡ with_stream r (receiver_at (after_datagram e d) n).stream
   same-again =
       one.stream ∙ ap (λ (x : Receiving). with_stream x
       (after_event (format_of (receiver_at e n).row) (receiver_at e n).stream (event_in (receiver_at e n) d))) same
       ∙ ap (with_stream r) (sym (ap (λ (x : Receiving). x.stream) one.stream))
 
-  known-again : IsFound (after_datagram e d) n r
+  pub known-again : IsFound (after_datagram e d) n r
   known-again = λ pt has. one.found r.ssrc pt ∙ known pt has
 
 -- The stream after a list of datagrams is the stream after its own ones.

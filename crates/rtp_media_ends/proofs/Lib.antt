@@ -6,3 +6,6 @@ pub mod Agreements
 pub mod Rising
 pub mod Transparent
 pub mod Opened
+pub mod MayOpen
+pub mod NewReceiver
+pub mod Stopping

@@ -1,10 +1,10 @@
 -- A datagram with redundancy brings what one without it brings.
-use Rattle.std.proofs.Common.{◌≡◌, ℕ, ◌+◌, ◌%◌, ◌<◌, ◌≤◌, refl, sym, ◌∙◌, ap, ap₂, subst₂, arith, Bool, List, []}
+use Rattle.std.proofs.Common.{◌≡◌, ℕ, ◌+◌, ◌%◌, ◌<◌, ◌≤◌, refl, sym, ◌∙◌, ap, ap₂, subst, subst₂, arith, Bool, List, []}
 use Rattle.std.proofs.Common.{◌∷◌, length, map}
 use Rattle.std.specs.Prelude.{Option, Some}
 use Rattle.std.specs.List.{cons_option}
 use Rattle.std.proofs.lemmas.List.Elements.{All-head, All-tail}
-use Rattle.h26x_payload.specs.Dispatch.{KeepCodecLaw}
+use Rattle.h26x_payload.specs.Dispatch.{KeepCodecLawInForms}
 use Rattle.payload_core_base.specs.Packing.{Sender}
 use Rattle.rtp_wire.specs.Values.{Numbering}
 use Rattle.rtp_media_runs.specs.Hearing.{Event, Comes}
@@ -34,23 +34,29 @@ module _ (s t : Sending) (twins : AreTwins s t) (xs : List Sample) where
 
   same-sent : sent_samples t xs ≡ sent_samples s xs
   same-sent =
-      ap₂ (λ (row : RowFormat) (id : Bool). sent_by (coding_in row id) (packet_limit t) t.packetizer
+      ap₂ (λ (row : RowFormat) (id : Bool). sent_by (coding_in row id t.for_browsers) (packet_limit t) t.packetizer
       (samples_of t xs)) twins.row twins.has_id
-      ∙ ap₂ (λ (limit : ℕ) (p : Sender). sent_by (coding_in s.row s.has_id) limit p (samples_of t xs)) twins.packets
+      ∙ ap (λ (b : Bool). sent_by (coding_in s.row s.has_id b) (packet_limit t) t.packetizer (samples_of t xs))
+      twins.for_browsers
+      ∙ ap₂ (λ (limit : ℕ) (p : Sender). sent_by (coding_in s.row s.has_id s.for_browsers) limit p
+      (samples_of t xs)) twins.packets
       twins.packetizer
-      ∙ ap (λ (ts : List Timed). sent_by (coding_in s.row s.has_id) (packet_limit s) s.packetizer ts) same-samples
+      ∙ ap (λ (ts : List Timed). sent_by (coding_in s.row s.has_id s.for_browsers)
+      (packet_limit s) s.packetizer ts) same-samples
 
   still-sound : AreSound s xs → AreSound t xs
   still-sound sound = record {
     well_formed =
-        subst₂ (λ (row : RowFormat) (id : Bool). AreWellFormed (coding_in row id) (packet_limit t) (samples_of t xs))
-        (sym twins.row) (sym twins.has_id)
-        (subst₂ (λ (limit : ℕ) (ts : List Timed). AreWellFormed (coding_in s.row s.has_id) limit ts)
-        (sym twins.packets) (sym same-samples) sound.well_formed);
+        subst₂ (λ (row : RowFormat) (id : Bool). AreWellFormed (coding_in row id t.for_browsers) (packet_limit t)
+        (samples_of t xs)) (sym twins.row) (sym twins.has_id)
+        (subst (λ (b : Bool). AreWellFormed (coding_in s.row s.has_id b) (packet_limit t) (samples_of t xs))
+        (sym twins.for_browsers)
+        (subst₂ (λ (limit : ℕ) (ts : List Timed). AreWellFormed (coding_in s.row s.has_id s.for_browsers) limit ts)
+        (sym twins.packets) (sym same-samples) sound.well_formed));
     values = sound.values;
   }
 
-  same-event : KeepCodecLaw → (r : Receiving) → Receives r s → AreSound s xs → (x : ℕ) → s.next ≤ x
+  same-event : KeepCodecLawInForms → (r : Receiving) → Receives r s → AreSound s xs → (x : ℕ) → s.next ≤ x
       → x < s.next + count_of s xs → event_in r (sent_datagram t xs x) ≡ event_in r (sent_datagram s xs x)
   same-event law r for sound x low high =
       let more : count_of t xs ≡ count_of s xs = ap (λ (ss : List SentSample). length (packets_of ss)) same-sent in
@@ -62,7 +68,7 @@ module _ (s t : Sending) (twins : AreTwins s t) (xs : List Sample) where
       ∙ sym (brings s r xs x (for.ssrc, for.types, for.map) twins.plain_sound
       (all-theirs law s xs twins.plain_sound sound) low high)
 
-pub transparent : KeepCodecLaw → (plain redundant : Sending) (r : Receiving) (samples : List Sample)
+pub transparent : KeepCodecLawInForms → (plain redundant : Sending) (r : Receiving) (samples : List Sample)
     (numbers : List ℕ) → AreTwins plain redundant → Receives r plain → AreSent plain samples numbers →
     own_events r (map (sent_datagram redundant samples) numbers)
     ≡ own_events r (map (sent_datagram plain samples) numbers)

@@ -3,7 +3,7 @@ use Rattle.std.specs.Prelude.{◌≡◌, ℕ, List, Option, None}
 use Rattle.rtp_media_exchange.specs.Agreement.{Agreed, agreed_row_of, agreed_map_of}
 use Rattle.rtp_media_exchange.specs.declared.errors.ExchangeError.{ExchangeError}
 use Rattle.rtp_media_exchange.specs.Exchanges.{with_offer}
-use Rattle.rtp_media_exchange.specs.Offers.{Offers, Answers, Accepts}
+use Rattle.rtp_media_exchange.specs.Offers.{Offers, Answers, Accepts, AgreesOnText}
 use Rattle.rtp_media_exchange.specs.Refusals.{Names, refusal_of_offer, refusal_of_answer, refusal_of_accept}
 use Rattle.rtp_media_exchange.specs.Sections.{Wanted, only}
 use Rattle.rtp_media_ends.specs.Ends.{EndState, with_exchange}
@@ -24,6 +24,11 @@ pub record Connects (a b : EndState) (sections_a sections_b : List Wanted) (offe
   pub accepts : Accepts (with_offer a.exchange (only sections_a)) answer after_a.exchange
   pub streams_a : after_a ≡ with_exchange a after_a.exchange
   pub streams_b : after_b ≡ with_exchange b after_b.exchange
+
+-- Two ends have exchanged texts: what each agreed on is what the answer's text says.
+pub record HaveExchanged (answer : List ℕ) (a b : EndState) : Type 0 where
+  pub first : AgreesOnText answer a.exchange.agreed
+  pub second : AgreesOnText answer b.exchange.agreed
 
 -- Both have one row of each type, and one map of header extensions, in each section.
 pub record HaveOneAgreement (a b : Option Agreed) : Type 0 where

@@ -1,4 +1,4 @@
-use Rattle.std.specs.Prelude.{ℕ, Bool, not, ◌==◌, ◌&&◌, List, [], ◌∷◌, ◌++◌, Option, Some, None, if◌then◌else◌}
+use Rattle.std.specs.Prelude.{ℕ, Bool, false, not, ◌==◌, ◌&&◌, List, [], ◌∷◌, ◌++◌, Option, Some, None, if◌then◌else◌}
 use Rattle.std.specs.Prelude.{unwrap_or, slice_set, slice_index_or}
 use Rattle.std.specs.List.{list_any}
 use Rattle.rtp_wire.specs.Maps.{empty_map}
@@ -67,7 +67,7 @@ no_row_format = record { codec = Unknown; clock_rate = 1; octet_align = None; sp
 
 -- the n-th stream
 abbrev pub sender_at : EndState → ℕ → Sending
-sender_at e n = slice_index_or e.senders n (opened_sender 0 no_types empty_map no_row_format None 0 1 0)
+sender_at e n = slice_index_or e.senders n (opened_sender 0 no_types empty_map no_row_format None false 0 1 0)
 
 abbrev pub nth_receiver : List Receiving → ℕ → Receiving
 nth_receiver receivers n = slice_index_or receivers n (opened_receiver 0 no_types empty_map no_row_format 0)
@@ -146,20 +146,26 @@ abbrev pub with_distances : Sending → Option ℕ → Option (List ℕ) → Sen
 with_distances s red None = s
 with_distances s red (Some distances) = redundant_sender s (unwrap_or red 0) distances
 
--- the end with a sending stream more, which sends the agreed row under the agreed map
-unfoldable pub after_open_sender : EndState → List ℕ → ℕ → ℕ → StreamParams → EndState
-after_open_sender e mid ssrc pt params =
-    with_new_sender e
-    (with_distances
+-- The stream that an end opens to send: the agreed row under the agreed map.
+abbrev pub new_sender : EndState → List ℕ → ℕ → ℕ → StreamParams → Sending
+new_sender e mid ssrc pt params =
+    with_distances
     (opened_sender ssrc (agreed_types e mid pt) (stream_map e mid) (agreed_format e mid pt) params.picture_id
-    params.first params.mtu params.limit)
-    (agreed_red e mid pt) params.red)
+    params.for_browsers params.first params.mtu params.limit)
+    (agreed_red e mid pt) params.red
 
--- the end with a receiving stream more, which reads under the agreed map
+-- The stream that it opens to receive that row under that map.
+abbrev pub new_receiver : EndState → List ℕ → ℕ → ℕ → ℕ → Receiving
+new_receiver e mid ssrc pt hold_back =
+    opened_receiver ssrc (agreed_types e mid pt) (stream_map e mid) (agreed_format e mid pt) hold_back
+
+-- the end with a sending stream more
+unfoldable pub after_open_sender : EndState → List ℕ → ℕ → ℕ → StreamParams → EndState
+after_open_sender e mid ssrc pt params = with_new_sender e (new_sender e mid ssrc pt params)
+
+-- the end with a receiving stream more
 unfoldable pub after_open_receiver : EndState → List ℕ → ℕ → ℕ → ℕ → EndState
-after_open_receiver e mid ssrc pt hold_back =
-    with_new_receiver e (opened_receiver ssrc (agreed_types e mid pt) (stream_map e mid) (agreed_format e mid pt)
-    hold_back)
+after_open_receiver e mid ssrc pt hold_back = with_new_receiver e (new_receiver e mid ssrc pt hold_back)
 
 -- A fixed end without streams.
 abbrev pub fixed_end : EndState

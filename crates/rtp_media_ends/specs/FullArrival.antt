@@ -1,5 +1,5 @@
 use Rattle.std.specs.Prelude.{ℕ, ◌≡◌, ◌+◌, ◌-◌, ◌^◌, ◌<◌, ◌≤◌, ◌==◌, ◌&&◌, Bool, true, false, List, [], ◌∷◌, length}
-use Rattle.std.specs.Prelude.{map, filter, All, Option, Some, None, slice_index_or}
+use Rattle.std.specs.Prelude.{map, filter, take, ◌⊎◌, All, Option, Some, None, slice_index_or}
 use Rattle.rtp_wire.specs.Carried.{AreValues}
 use Rattle.rtp_wire.specs.Header.{header_in}
 use Rattle.rtp_wire.specs.Maps.{empty_map}
@@ -9,7 +9,7 @@ use Rattle.rtp_media_runs.specs.Samples.{Timed}
 use Rattle.rtp_media_schedules.specs.Samples.{AreWellFormed, SentSample, canonical_units, packets_of, sent_by}
 use Rattle.rtp_media_schedules.specs.Samples.{whole_unit}
 use Rattle.rtp_media_schedules.specs.Turns.{AreGoodArrivals}
-use Rattle.rtp_media_streams.specs.Polls.{Answers, IsPolled}
+use Rattle.rtp_media_streams.specs.Polls.{Answers, IsPolled, IsPolledSome}
 use Rattle.rtp_media_streams.specs.Rows.{coding_in, format_of}
 use Rattle.rtp_media_streams.specs.Sending.{Sample, Sending, IsTyped, datagrams_of, packet_limit, samples_of}
 use Rattle.rtp_media_streams.specs.Receiving.{Receiving, opened_receiver, with_stream}
@@ -38,6 +38,29 @@ pub record IsPolledOut (before : Receiving) (answers : Answers) (after : Receivi
   pub polled : IsPolled (format_of before.row) before.stream answers after.stream
   pub same_stream : after ≡ with_stream before after.stream
 
+-- It was polled some times, or none.
+pub record WasPolledSome (before after : Receiving) : Type 0 where
+  pub some : IsPolledSome (format_of before.row) before.stream after.stream
+  pub same_stream : after ≡ with_stream before after.stream
+
+-- Each receiving stream was polled some times, or none.
+pub record ArePolledSome (before after : List Receiving) : Type 0 where
+  pub as_many : length after ≡ length before
+  pub each : (n : ℕ) → n < length before → WasPolledSome (nth_receiver before n) (nth_receiver after n)
+
+-- Some first datagrams were received.
+pub record ReceivesSome (e : EndState) (datagrams : List (List ℕ)) (after : EndState) : Type 0 where
+  pub count : ℕ
+  pub place : count ≤ length datagrams
+  pub after_is : after ≡ after_datagrams e (take count datagrams)
+
+-- Some first datagrams were received; or all were, and then streams were polled some times.
+abbrev pub ReceivesAndPollsSome : EndState → List (List ℕ) → EndState → Type 0
+ReceivesAndPollsSome e datagrams after =
+    ReceivesSome e datagrams after
+    ⊎ (ArePolledSome (after_datagrams e datagrams).receivers after.receivers
+    × (after ≡ with_receivers (after_datagrams e datagrams) after.receivers))
+
 -- the answers of the n-th stream
 abbrev pub answers_at : List Answers → ℕ → Answers
 answers_at answers n = slice_index_or answers n []
@@ -59,7 +82,7 @@ is_own_datagram ssrc types datagram = is_header_of ssrc types (header_in empty_m
 
 -- the payload format of a sending stream
 abbrev pub coding_of : Sending → Coding
-coding_of s = coding_in s.row s.has_id
+coding_of s = coding_in s.row s.has_id s.for_browsers
 
 -- Samples as a stream sends them and as they arrive: packets, and the units that they make.
 abbrev pub sent_samples : Sending → List Sample → List SentSample
@@ -81,6 +104,11 @@ units_of s samples = map whole_unit (canonical_units s.next (sent_samples s samp
 abbrev pub IsFound : EndState → ℕ → Receiving → Type 0
 IsFound e stream r = (pt : ℕ) → has_type r.types pt ≡ true → stream_for e.receivers r.ssrc pt ≡ Some stream
 
+-- The end's stream of this number is this one, and takes its own datagrams.
+pub record HasReceiver (e : EndState) (stream : ℕ) (r : Receiving) : Type 0 where
+  pub stream_is : receiver_at e stream ≡ r
+  pub found : IsFound e stream r
+
 -- A sending stream as an end opens it and keeps it: its types are of 7 bits, its datagrams are typed so, its
 -- SSRC has 32 bits, and the codec law speaks of what its packetizer keeps.
 pub record IsSender (s : Sending) : Type 0 where
@@ -100,8 +128,7 @@ pub record AreSound (s : Sending) (samples : List Sample) : Type 0 where
 -- stream has the same types, map of header extensions and row, and heard nothing before.
 pub record HasAllOf (e : EndState) (stream hold_back : ℕ) (sender : Sending) (samples : List Sample)
     (arrivals : List ℕ) (datagrams : List (List ℕ)) : Type 0 where
-  pub fresh : receiver_at e stream ≡ opened_receiver sender.ssrc sender.types sender.map sender.row hold_back
-  pub opened : IsFound e stream (opened_receiver sender.ssrc sender.types sender.map sender.row hold_back)
+  pub receiver : HasReceiver e stream (opened_receiver sender.ssrc sender.types sender.map sender.row hold_back)
   pub sound : IsSender sender
   pub samples_sound : AreSound sender samples
   pub numbers : sender.next + count_of sender samples ≤ 2 ^ 62

@@ -1,5 +1,6 @@
 pub mod Params
 pub mod Ends
+pub mod OpensAt
 pub mod Connections
 pub mod Arrivals
 pub mod FullArrival

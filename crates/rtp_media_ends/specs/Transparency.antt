@@ -4,7 +4,7 @@ use Rattle.rtp_media_streams.specs.Sending.{Sample, Sending, packet_limit}
 use Rattle.rtp_media_streams.specs.Receiving.{Receiving}
 use Rattle.rtp_media_ends.specs.FullArrival.{AreSound, IsSender, count_of}
 
--- Two streams of one SSRC, types, map, row, next number, limit of packets and state of the packetizer, of
+-- Two streams of one SSRC, types, map, row, forms, next number, limit of packets and state of the packetizer, of
 -- which the first adds no redundancy.
 pub record AreTwins (plain redundant : Sending) : Type 0 where
   pub ssrc : redundant.ssrc ≡ plain.ssrc
@@ -12,6 +12,7 @@ pub record AreTwins (plain redundant : Sending) : Type 0 where
   pub map : redundant.map ≡ plain.map
   pub row : redundant.row ≡ plain.row
   pub has_id : redundant.has_id ≡ plain.has_id
+  pub for_browsers : redundant.for_browsers ≡ plain.for_browsers
   pub next : redundant.next ≡ plain.next
   pub packets : packet_limit redundant ≡ packet_limit plain
   pub packetizer : redundant.packetizer ≡ plain.packetizer

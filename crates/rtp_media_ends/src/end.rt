@@ -22,7 +22,8 @@ ghost use Rattle.rtp_media_ends.specs.Ends.{agreed_red, fixed_end, refusal_by, r
 ghost use Rattle.rtp_media_ends.specs.Ends.{refusal_of_open_receiver, after_open_sender, after_open_receiver};
 ghost use Rattle.rtp_media_ends.specs.Ends.{row_format_of, stream_map, types_of, with_format, with_distances};
 ghost use Rattle.rtp_media_ends.specs.Ends.{sender_at, receiver_at, with_sender, with_receiver};
-ghost use Rattle.rtp_media_ends.specs.FullArrival.{IsSender};
+ghost use Rattle.rtp_media_ends.specs.Ends.{new_sender, new_receiver};
+ghost use Rattle.rtp_media_ends.specs.FullArrival.{HasReceiver, IsSender};
 ghost use Rattle.rtp_media_ends.specs.Params.{IsSound};
 
 mod exchanges;
@@ -149,6 +150,7 @@ impl End {
         ensures number { IfOk result (λ n. n ≡ length self.old.senders) }
         ensures opens { OnOk result (refusal_of_open_sender self.old mid ssrc pt ≡ None) }
         ensures after { OnOk result (self.new ≡ after_open_sender self.old mid ssrc pt params) }
+        ensures stream { IfOk result (λ n. sender_at self.new n ≡ new_sender self.old mid ssrc pt params) }
         ensures sender { IfOk result (λ n. IsSender (sender_at self.new n)) }
         ensures refused { IfErr result (λ e. e ≢ OpenError.Memory → refusal_of_open_sender self.old mid ssrc pt
             ≡ Some e) }
@@ -165,6 +167,7 @@ impl End {
             exts,
             row_format_of(&row),
             params.picture_id,
+            params.for_browsers,
             params.first,
             params.mtu,
             params.limit,
@@ -192,6 +195,7 @@ impl End {
         ensures number { IfOk result (λ n. n ≡ length self.old.receivers) }
         ensures opens { OnOk result (refusal_of_open_receiver self.old mid ssrc pt ≡ None) }
         ensures after { OnOk result (self.new ≡ after_open_receiver self.old mid ssrc pt hold_back) }
+        ensures receiver { IfOk result (λ n. HasReceiver self.new n (new_receiver self.old mid ssrc pt hold_back)) }
         ensures refused { IfErr result (λ e. e ≢ OpenError.Memory → refusal_of_open_receiver self.old mid ssrc pt
             ≡ Some e) }
         ensures unchanged { OnErr result (self.new ≡ self.old) }

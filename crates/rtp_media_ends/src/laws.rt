@@ -1,8 +1,10 @@
 //! What holds of every end.
 
-ghost use Rattle.std.specs.Prelude.{◌≡◌, ℕ, List, map};
+ghost use Rattle.std.specs.Prelude.{◌≡◌, ◌↔◌, ℕ, List, map, None};
 ghost use Rattle.rtp_media_runs.specs.Hearing.{after_events};
-ghost use Rattle.rtp_media_ends.specs.Ends.{EndState, receiver_at};
+ghost use Rattle.rtp_media_ends.specs.Ends.{EndState, receiver_at, refusal_of_open_receiver};
+ghost use Rattle.rtp_media_ends.specs.Ends.{refusal_of_open_sender};
+ghost use Rattle.rtp_media_ends.specs.OpensAt.{ReceivesAt, SendsAt};
 ghost use Rattle.rtp_media_ends.specs.FullArrival.{IsFound, after_datagrams, sent_datagram};
 ghost use Rattle.rtp_media_ends.specs.Transparency.{AreSent, AreTwins, Receives};
 ghost use Rattle.rtp_media_streams.specs.Receiving.{Receiving};
@@ -31,3 +33,13 @@ pub fn transparency_law()
 {
     codec_law();
 }
+
+/// Nothing refuses an opening exactly where the end may open a stream: the section is agreed, it has a row of the
+/// payload type, which the end's own row agrees with, it flows this way, its sender names the SSRC in it, and no
+/// such stream is open.
+pub fn openings_law()
+    ensures sends { (end : EndState) (mid : List ℕ) (ssrc pt : ℕ) →
+        (refusal_of_open_sender end mid ssrc pt ≡ None) ↔ SendsAt end mid ssrc pt }
+    ensures receives { (end : EndState) (mid : List ℕ) (ssrc pt : ℕ) →
+        (refusal_of_open_receiver end mid ssrc pt ≡ None) ↔ ReceivesAt end mid ssrc pt }
+{}

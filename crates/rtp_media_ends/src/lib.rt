@@ -9,7 +9,7 @@ mod received;
 
 pub use end::{End, Polls, ReceivedAll, connect};
 pub use errors::{OpenError, ReceiveError};
-pub use laws::{isolation_law, transparency_law};
+pub use laws::{isolation_law, openings_law, transparency_law};
 pub use params::{Distances, StreamParams};
 pub use payload_core_base::PacketError;
 pub use received::Received;

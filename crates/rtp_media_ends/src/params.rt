@@ -52,6 +52,10 @@ pub struct StreamParams {
     pub red: Option<Distances>,
     /// The first picture id of a video row, at most 32,767; other rows have none.
     pub picture_id: Option<u16>,
+    /// Whether the payloads have the forms that browsers want: VP8's picture id 0 is written like any other
+    /// (RFC 7741 4.2), and VP9's packets say of each frame whether it is predicted (RFC 9628 4.2). Without it VP8
+    /// frames of id 0 have no id, and all VP9 frames count as key frames; payloads of other codecs are the same.
+    pub for_browsers: bool,
 }
 
 // Whether distances rise strictly, and are 1 to 8.

@@ -8,7 +8,7 @@ use Rattle.rtp_wire.specs.Direction.{sends, receives}
 use Rattle.rtp_wire.specs.Maps.{empty_map}
 use Rattle.rtp_wire.specs.Values.{Numbering}
 use Rattle.rtp_media_texts.specs.Section.{Section}
-use Rattle.sdp_formats_rows.specs.Configs.{is_codec}
+use Rattle.sdp_formats_rows.specs.Codecs.{is_codec}
 use Rattle.sdp_formats_rows.specs.declared.format.FormatParams.{FormatParams}
 use Rattle.sdp_formats_rows.specs.declared.spec.CodecSpec.{CodecSpec}
 use Rattle.sdp_formats_rows.specs.Rows.{Row}

@@ -3,7 +3,7 @@ use Rattle.std.specs.Prelude.{ℕ, Bool, true, false, not, ◌&&◌, ◌==◌, n
 use Rattle.payload_core_base.specs.declared.codec.Codec.TheVariants.{Opus}
 use Rattle.sdp_formats_rows.specs.declared.format.FormatParams.{FormatParams}
 use Rattle.sdp_formats_rows.specs.declared.spec.CodecSpec.{CodecSpec}
-use Rattle.sdp_formats_rows.specs.Configs.{is_codec, opus_spec}
+use Rattle.sdp_formats_rows.specs.Codecs.{is_codec, opus_spec}
 use Rattle.sdp_formats_rows.specs.Rows.{Row, new_row}
 
 abbrev pub is_number : Option ℕ → ℕ → Bool
@@ -19,8 +19,9 @@ abbrev pub has_none_of_others : FormatParams → Bool
 has_none_of_others f =
     is_none f.level_asymmetry_allowed && (is_none f.packetization_mode
     && (is_none f.profile_level_id && (is_none f.profile_id
-    && (is_none f.profile && (is_none f.level_idx && (is_none f.tier && (is_none f.sprop_max_don_diff
-    && (is_none f.telephone_event_max && (is_none f.octet_align && is_none f.mode_set)))))))))
+    && (is_none f.profile && (is_none f.level_idx && (is_none f.tier
+    && (is_none f.h265_profile_tier_level && (is_none f.h266_profile_tier_level && (is_none f.sprop_max_don_diff
+    && (is_none f.telephone_event_max && (is_none f.octet_align && is_none f.mode_set)))))))))))
 
 -- `minptime=10;useinbandfec=1` and nothing else (RFC 7587 6.1)
 abbrev pub is_opus_format : FormatParams → Bool

@@ -22,7 +22,8 @@ use crate::session::Session;
 use payload_core_base::MediaKind;
 use rtp_media_texts::SessionText;
 use rtp_wire::{ExtensionMap, Pt, SessionId};
-use sdp_formats_rows::{CodecConfig, PayloadParams};
+use sdp_formats_config::CodecConfig;
+use sdp_formats_rows::PayloadParams;
 use std::alloc::{AllocError, Global};
 use std::marker::Model;
 

@@ -17,6 +17,7 @@ pub use exchange::Exchange;
 pub use laws::extmap_laws;
 pub use payload_core_base::MediaKind;
 pub use rtp_media_texts::SdpError;
-pub use sdp_formats_rows::{Codec, CodecConfig, CodecSpec, FormatParams, PayloadParams};
+pub use sdp_formats_config::CodecConfig;
+pub use sdp_formats_rows::{Codec, CodecSpec, FormatParams, PayloadParams};
 pub use section::SectionSpec;
 pub use session::{Bandwidth, Session, SessionAttribute};

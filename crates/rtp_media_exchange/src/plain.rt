@@ -20,6 +20,8 @@ fn has_none_of_others(format: &FormatParams) -> bool
         && format.profile.is_none()
         && format.level_idx.is_none()
         && format.tier.is_none()
+        && format.h265_profile_tier_level.is_none()
+        && format.h266_profile_tier_level.is_none()
         && format.sprop_max_don_diff.is_none()
         && format.telephone_event_max.is_none()
         && format.octet_align.is_none()

@@ -5,7 +5,7 @@ use Rattle.std.specs.Str.{bytes_eq}
 use Rattle.rtp_media_lines.specs.declared.line.Command.{Command}
 use Rattle.rtp_media_lines.specs.declared.line.Command.TheVariants.{Fixed, Send, Open, Sample, Receive, Poll, Row}
 use Rattle.rtp_media_lines.specs.declared.line.Command.TheVariants.{Ext, End, Offer, Answer, Accept, Withdraw}
-use Rattle.rtp_media_lines.specs.declared.line.Command.TheVariants.{Connect}
+use Rattle.rtp_media_lines.specs.declared.line.Command.TheVariants.{Connect, Queue, Play}
 use Rattle.rtp_media_lines.specs.Words.{letter_of, text_of, hex_of, dash_or, numbers_of, number_below, behind}
 use Rattle.rtp_media_lines.specs.Words.{mid_value, ◌>>=◌}
 use Rattle.rtp_media_lines.proofs.Behind.{behind-sound, behind-append}
@@ -13,6 +13,7 @@ use Rattle.rtp_media_lines.specs.Lines.{command_of, fixed_of, send_of, open_of, 
 use Rattle.rtp_media_lines.proofs.ReadSteps.{dispatch, same, ended_some, read_on, glue, under}
 use Rattle.rtp_media_lines.proofs.ExchangeWords.{exchange_says, read_row, read_ext, read_end, read_offer, read_answer}
 use Rattle.rtp_media_lines.proofs.ExchangeWords.{read_accept, read_withdraw, read_connect}
+use Rattle.rtp_media_lines.proofs.PlayWords.{read_play, read_queue}
 use Rattle.rtp_media_lines.specs.Says.{Says, AreSendWords, AreOpenWords, AreSampleWords, mid_words, AreReceiveWords}
 use Rattle.rtp_media_lines.specs.Says.{ArePollWords}
 
@@ -241,3 +242,5 @@ read_what_is_said words (Accept accept) a = subst (Reads (Accept accept)) (sym a
 read_what_is_said words (Withdraw letter) a = subst (Reads (Withdraw letter)) (sym a.1) (read_withdraw a.0 letter a.2)
 read_what_is_said words (Connect connect) a =
     subst (Reads (Connect connect)) (sym a.words_are) (read_connect words connect a)
+read_what_is_said words (Queue queue) a = subst (Reads (Queue queue)) (sym a.words_are) (read_queue words queue a)
+read_what_is_said words (Play play) a = subst (Reads (Play play)) (sym a.words_are) (read_play words play a)

@@ -11,6 +11,7 @@ use Rattle.rtp_media_lines.specs.Sections.{section_of, sections_of, sections_the
 use Rattle.rtp_media_lines.specs.ExchangeLines.{row_of, ext_of, end_of, offer_of, answer_of, accept_of, withdraw_of}
 use Rattle.rtp_media_lines.specs.ExchangeLines.{connect_of}
 use Rattle.rtp_media_lines.specs.Lines.{exchange_command_of}
+use Rattle.rtp_media_lines.proofs.PlayWords.{run_says}
 use Rattle.rtp_media_lines.specs.Says.{Says, AreRowWords, AreExtWords, AreEndWords, AreOfferWords, AreAnswerWords}
 use Rattle.rtp_media_lines.specs.Says.{AreAcceptWords, AreConnectWords}
 use Rattle.rtp_media_lines.proofs.ReadSteps.{bind_some, read_on, ended_some, glue, under, dispatch, same}
@@ -195,7 +196,7 @@ exchange_says verb words c h =
     (dispatch (bytes_eq verb (codes "accept")) _ _ _ _ (λ v. accept_says verb words c (same verb _ v))
     (dispatch (bytes_eq verb (codes "withdraw")) _ _ _ _ (λ v. withdraw_says verb words c (same verb _ v))
     (dispatch (bytes_eq verb (codes "connect")) _ _ _ _ (λ v. connect_says verb words c (same verb _ v))
-    (λ none. cc none)))))))) h
+    (run_says verb words c)))))))) h
 
 -- ---- what stands there is read
 

@@ -9,4 +9,5 @@ pub mod Sent
 pub mod Splits
 pub mod Steps
 pub mod ReadSteps
+pub mod PlayWords
 pub mod ExchangeWords

@@ -1,4 +1,5 @@
 pub mod ExchangeLines
+pub mod PlayLines
 pub mod Input
 pub mod Lines
 pub mod Misreads

@@ -8,6 +8,7 @@ use Rattle.rtp_media_lines.specs.declared.line.Command.TheVariants.{Fixed, Send,
 use Rattle.std.specs.Option.{option_map}
 use Rattle.rtp_media_lines.specs.ExchangeLines.{row_of, ext_of, end_of, offer_of, answer_of, accept_of, withdraw_of}
 use Rattle.rtp_media_lines.specs.ExchangeLines.{connect_of}
+use Rattle.rtp_media_lines.specs.PlayLines.{play_of, queue_of}
 use Rattle.rtp_media_lines.specs.Words.{words_of, letter_of, text_of, hex_of, dash_or, numbers_of, number_below}
 use Rattle.rtp_media_lines.specs.Words.{mid_value, first, ended, ◌>>=◌}
 
@@ -82,7 +83,14 @@ poll_of words = do
   stream ← first (number_below (2 ^ 64)) letter.1
   ended stream.1 (Poll (record { letter = letter.0; stream = stream.0 }))
 
--- a command that makes an end or exchanges texts, by its first word
+-- a command of whole runs, by its first word
+abbrev pub run_command_of : List ℕ → List (List ℕ) → Option Command
+run_command_of verb words =
+    if bytes_eq verb (codes "queue") then queue_of words
+    else if bytes_eq verb (codes "play") then play_of words
+    else None
+
+-- a command that makes an end or exchanges texts, or one of whole runs, by its first word
 abbrev pub exchange_command_of : List ℕ → List (List ℕ) → Option Command
 exchange_command_of verb words =
     if bytes_eq verb (codes "row") then row_of words
@@ -93,7 +101,7 @@ exchange_command_of verb words =
     else if bytes_eq verb (codes "accept") then accept_of words
     else if bytes_eq verb (codes "withdraw") then withdraw_of words
     else if bytes_eq verb (codes "connect") then connect_of words
-    else None
+    else run_command_of verb words
 
 -- a command by its first word
 abbrev pub command_of : List (List ℕ) → Option Command

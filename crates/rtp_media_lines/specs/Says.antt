@@ -3,7 +3,7 @@ use Rattle.std.specs.Prelude.{◌≡◌, ℕ, ◌^◌, List, [], ◌∷◌, ◌+
 use Rattle.rtp_media_lines.specs.declared.line.Command.{Command}
 use Rattle.rtp_media_lines.specs.declared.line.Command.TheVariants.{Fixed, Send, Open, Sample, Receive, Poll, Row}
 use Rattle.rtp_media_lines.specs.declared.line.Command.TheVariants.{Ext, End, Offer, Answer, Accept, Withdraw}
-use Rattle.rtp_media_lines.specs.declared.line.Command.TheVariants.{Connect}
+use Rattle.rtp_media_lines.specs.declared.line.Command.TheVariants.{Connect, Queue, Play}
 use Rattle.rtp_media_lines.specs.declared.line.SendCommand.{SendCommand}
 use Rattle.rtp_media_lines.specs.declared.line.OpenCommand.{OpenCommand}
 use Rattle.rtp_media_lines.specs.declared.line.SampleCommand.{SampleCommand}
@@ -16,6 +16,9 @@ use Rattle.rtp_media_lines.specs.declared.exchange.OfferCommand.{OfferCommand}
 use Rattle.rtp_media_lines.specs.declared.exchange.AnswerCommand.{AnswerCommand}
 use Rattle.rtp_media_lines.specs.declared.exchange.AcceptCommand.{AcceptCommand}
 use Rattle.rtp_media_lines.specs.declared.exchange.ConnectCommand.{ConnectCommand}
+use Rattle.rtp_media_lines.specs.declared.playing.PlayCommand.{PlayCommand}
+use Rattle.rtp_media_lines.specs.declared.playing.QueueCommand.{QueueCommand}
+use Rattle.rtp_media_lines.specs.PlayLines.{items_of}
 use Rattle.rtp_media_lines.specs.Sections.{sections_of}
 use Rattle.rtp_media_lines.specs.Words.{letter_of, text_of, hex_of, dash_or, numbers_of, number_below}
 
@@ -160,6 +163,24 @@ pub record AreConnectWords (words : List (List ℕ)) (connect : ConnectCommand) 
   pub offered_say : sections_of offered ≡ Some connect.offered
   pub answered_say : sections_of answered ≡ Some connect.answered
 
+-- queue TIME HEX
+pub record AreQueueWords (words : List (List ℕ)) (queue : QueueCommand) : Type 0 where
+  pub time : List ℕ
+  pub bytes : List ℕ
+  pub words_are : words ≡ codes "queue" ∷ time ∷ bytes ∷ []
+  pub time_says : number_below (2 ^ 64) time ≡ Some queue.time
+  pub bytes_say : hex_of bytes ≡ Some queue.sample
+
+-- play TX RX ITEM..
+pub record ArePlayWords (words : List (List ℕ)) (play : PlayCommand) : Type 0 where
+  pub tx : List ℕ
+  pub rx : List ℕ
+  pub items : List (List ℕ)
+  pub words_are : words ≡ codes "play" ∷ tx ∷ rx ∷ items
+  pub tx_says : number_below (2 ^ 64) tx ≡ Some play.tx
+  pub rx_says : number_below (2 ^ 64) rx ≡ Some play.rx
+  pub items_say : items_of items ≡ Some play.items
+
 -- the words are those of the command's line, in their order and no others
 abbrev pub Says : List (List ℕ) → Command → Type 0
 -- fixed E
@@ -178,3 +199,5 @@ Says words (Accept accept) = AreAcceptWords words accept
 -- withdraw E
 Says words (Withdraw letter) = (e : List ℕ) × (words ≡ codes "withdraw" ∷ e ∷ []) × (letter_of e ≡ Some letter)
 Says words (Connect connect) = AreConnectWords words connect
+Says words (Queue queue) = AreQueueWords words queue
+Says words (Play play) = ArePlayWords words play

@@ -56,7 +56,7 @@ pub(crate) fn number_up_to(word: &str, max: u64) -> Option<u64>
 }
 
 /// The bytes that hexadecimal digits write.
-fn hex_of(alloc: Global, word: &str) -> Result<Bytes, Misread>
+pub(crate) fn hex_of(alloc: Global, word: &str) -> Result<Bytes, Misread>
     ensures { Reads result (hex_of word.now) }
 {
     if word == "-" {
@@ -196,7 +196,7 @@ pub(crate) fn text_or_dash_word(
 }
 
 /// What stands behind the letters that the word begins with.
-fn behind<'a>(word: &'a str, letters: &str) -> Option<&'a str>
+pub(crate) fn behind<'a>(word: &'a str, letters: &str) -> Option<&'a str>
     ensures { option_copied result ≡ behind letters.now word.now }
 {
     word.strip_prefix(letters)

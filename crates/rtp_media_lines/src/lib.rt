@@ -9,6 +9,7 @@ mod line;
 mod line_buffer;
 mod misread;
 mod owned;
+mod playing;
 mod reply;
 mod respond;
 mod round;
@@ -28,6 +29,7 @@ pub use line::{
 };
 pub use line_buffer::MAX_LINE_LENGTH;
 pub use owned::{Bytes, Text};
+pub use playing::{PlayCommand, PlayItem, PlayItems, QueueCommand};
 pub use reply::{ErrorName, Reply, print};
 pub use respond::Respond;
 pub use round::printed_words_read_back;

@@ -3,7 +3,7 @@
 ghost use Rattle.std.specs.Prelude.{◌≡◌, IfOk};
 ghost use Rattle.rtp_media_lines.specs.Misreads.{Reads};
 ghost use Rattle.rtp_media_lines.specs.Lines.{line_of, command_of, exchange_command_of, fixed_of, send_of, open_of};
-ghost use Rattle.rtp_media_lines.specs.Lines.{sample_of, receive_of, poll_of};
+ghost use Rattle.rtp_media_lines.specs.Lines.{sample_of, receive_of, poll_of, run_command_of};
 
 use crate::exchange::{
     AcceptCommand, AnswerCommand, ConnectCommand, EndCommand, ExtCommand, OfferCommand, RowCommand,
@@ -14,6 +14,7 @@ use crate::fields::{
 };
 use crate::misread::Misread;
 use crate::owned::{Bytes, Text};
+use crate::playing::{PlayCommand, QueueCommand, play_of, queue_of};
 use crate::words::{Letter, Words};
 use std::alloc::{AllocError, Global};
 
@@ -119,6 +120,10 @@ pub enum Command {
     Withdraw(Letter),
     /// Let `a` offer and `b` answer.
     Connect(ConnectCommand),
+    /// Keep a sample for a run.
+    Queue(QueueCommand),
+    /// Send what was kept at `a`, and let a schedule happen at `b`.
+    Play(PlayCommand),
 }
 
 /// A line that is understood.
@@ -196,6 +201,18 @@ fn exchange_command_of(alloc: Global, verb: &str, rest: Words<'_>) -> Result<Com
         withdraw_of(rest)
     } else if verb == "connect" {
         connect_of(alloc, rest)
+    } else {
+        run_command_of(alloc, verb, rest)
+    }
+}
+
+fn run_command_of(alloc: Global, verb: &str, rest: Words<'_>) -> Result<Command, Misread>
+    ensures { Reads result (run_command_of verb.now rest.entry) }
+{
+    if verb == "queue" {
+        queue_of(alloc, rest)
+    } else if verb == "play" {
+        play_of(alloc, rest)
     } else {
         Err(Misread::NotUnderstood)
     }

@@ -2,9 +2,10 @@
 use Rattle.std.proofs.Common.{◌≡◌, ℕ, zero, suc, ◌<◌, refl, subst, arith, Bool, false, [], ◌∷◌, length}
 use Rattle.std.specs.List.{Contains}
 use Rattle.std.specs.Prelude.{slice_index_or}
+use Rattle.payload_core_base.specs.Packing.{Sender}
 use Rattle.payload_core_base.specs.declared.codec.Codec.{Codec}
 use Rattle.payload_core_base.specs.declared.codec.Codec.TheVariants as codecs
-use Rattle.h26x_payload.specs.Codings.{Settings, coding_of, first_sender}
+use Rattle.h26x_payload.specs.Codings.{Forms, Settings, coding_in, coding_of, first_sender}
 use Rattle.h26x_payload.specs.Packetizers.{codecs_of, sender_under}
 use Rattle.h26x_payload.specs.declared.codec_packetizer.CodecPacketizer.{CodecPacketizer}
 use Rattle.h26x_payload.specs.declared.codec_packetizer.CodecPacketizer.TheVariants.{G711, G722, Opus, ComfortNoise}
@@ -42,23 +43,44 @@ first-kept (H266 p) codec n has = counts codec (only codecs.H266 codec has) wher
       ≡ first_sender n d) same refl
 first-kept (Boxed b) codec n has = refl
 
--- picture ids do not change how payloads are read
-pub same-reading : (s : Settings) (has_id : Bool) (codec : Codec) → (coding_of s has_id codec).format
+-- neither picture ids nor forms change how payloads are read
+pub same-reading : (f : Forms) (s : Settings) (has_id : Bool) (codec : Codec) → (coding_in f s has_id codec).format
     ≡ (coding_of s false codec).format
-same-reading s has_id codecs.Opus = refl
-same-reading s has_id codecs.PCMU = refl
-same-reading s has_id codecs.PCMA = refl
-same-reading s has_id codecs.G722 = refl
-same-reading s has_id codecs.CN = refl
-same-reading s has_id codecs.AmrWb = refl
-same-reading s has_id codecs.H264 = refl
-same-reading s has_id codecs.H265 = refl
-same-reading s has_id codecs.H266 = refl
-same-reading s has_id codecs.Vp8 = refl
-same-reading s has_id codecs.Vp9 = refl
-same-reading s has_id codecs.Av1 = refl
-same-reading s has_id codecs.Tele = refl
-same-reading s has_id codecs.Rtx = refl
-same-reading s has_id codecs.Red = refl
-same-reading s has_id codecs.Null = refl
-same-reading s has_id codecs.Unknown = refl
+same-reading f s has_id codecs.Opus = refl
+same-reading f s has_id codecs.PCMU = refl
+same-reading f s has_id codecs.PCMA = refl
+same-reading f s has_id codecs.G722 = refl
+same-reading f s has_id codecs.CN = refl
+same-reading f s has_id codecs.AmrWb = refl
+same-reading f s has_id codecs.H264 = refl
+same-reading f s has_id codecs.H265 = refl
+same-reading f s has_id codecs.H266 = refl
+same-reading f s has_id codecs.Vp8 = refl
+same-reading f s has_id codecs.Vp9 = refl
+same-reading f s has_id codecs.Av1 = refl
+same-reading f s has_id codecs.Tele = refl
+same-reading f s has_id codecs.Rtx = refl
+same-reading f s has_id codecs.Red = refl
+same-reading f s has_id codecs.Null = refl
+same-reading f s has_id codecs.Unknown = refl
+
+-- forms do not change what a packetizer may keep between samples
+pub reached-in-forms : (f : Forms) (s : Settings) (has_id : Bool) (codec : Codec) (kept : Sender)
+    → (coding_of s has_id codec).IsReached kept → (coding_in f s has_id codec).IsReached kept
+reached-in-forms f s has_id codecs.Opus kept reached = reached
+reached-in-forms f s has_id codecs.PCMU kept reached = reached
+reached-in-forms f s has_id codecs.PCMA kept reached = reached
+reached-in-forms f s has_id codecs.G722 kept reached = reached
+reached-in-forms f s has_id codecs.CN kept reached = reached
+reached-in-forms f s has_id codecs.AmrWb kept reached = reached
+reached-in-forms f s has_id codecs.H264 kept reached = reached
+reached-in-forms f s has_id codecs.H265 kept reached = reached
+reached-in-forms f s has_id codecs.H266 kept reached = reached
+reached-in-forms f s has_id codecs.Vp8 kept reached = reached
+reached-in-forms f s has_id codecs.Vp9 kept reached = reached
+reached-in-forms f s has_id codecs.Av1 kept reached = reached
+reached-in-forms f s has_id codecs.Tele kept reached = reached
+reached-in-forms f s has_id codecs.Rtx kept reached = reached
+reached-in-forms f s has_id codecs.Red kept reached = reached
+reached-in-forms f s has_id codecs.Null kept reached = reached
+reached-in-forms f s has_id codecs.Unknown kept reached = reached

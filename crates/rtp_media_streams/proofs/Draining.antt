@@ -13,7 +13,7 @@ use Rattle.rtp_media_runs.proofs.Cuts.{silent-stays}
 use Rattle.rtp_media_streams.specs.declared.errors.PollFault.{PollFault}
 use Rattle.rtp_media_streams.specs.declared.errors.PollFault.TheVariants.{Memory, Payload}
 use Rattle.rtp_media_streams.specs.Polls.{Answers, AreAnswered, IsInterrupted, IsPolled, Silent, HandsOut, Faults}
-use Rattle.rtp_media_streams.specs.Polls.{WantsMemory, given, timed_answer}
+use Rattle.rtp_media_streams.specs.Polls.{IsPolledSome, WantsMemory, after_polls, given, timed_answer}
 
 -- what an answer is that a poll gives
 given-unit : (a : Answer) (o : Option MediaUnit) → given a ≡ Ok o → a ≡ Ok o
@@ -23,6 +23,45 @@ given-unit (Err e) o h = cc
 given-fault : (a : Answer) (e : PacketError) → given a ≡ Err (Payload e) → a ≡ Err e
 given-fault (Ok p) e h = cc
 given-fault (Err d) e h = let same : Payload d ≡ Payload e = cc in cc
+
+-- now is what so many polls leave
+pub record ArePolls (format : Format) (start now : Stream) : Type 0 where
+  pub count : ℕ
+  pub reached : now ≡ after_polls format count start
+
+polls-more : (format : Format) (n : ℕ) (s : Stream)
+    → after_polls format (suc n) s ≡ polled format (after_polls format n s)
+polls-more format zero s = refl
+polls-more format (suc n) s = polls-more format n (polled format s)
+
+pub no-polls : (format : Format) (start : Stream) → ArePolls format start start
+no-polls format start = record { count = 0; reached = refl }
+
+pub one-more-poll : (format : Format) (start now next : Stream) → ArePolls format start now → next ≡ polled format now
+    → ArePolls format start next
+one-more-poll format start now next is e = record {
+  count = suc is.count;
+  reached = e ∙ ap (polled format) is.reached ∙ sym (polls-more format is.count start);
+}
+
+pub some-polls : (format : Format) (start now : Stream) → ArePolls format start now → IsPolledSome format start now
+some-polls format start now is = record { count = is.count; stops = inl is.reached }
+
+pub some-polls-short : (format : Format) (start now after : Stream) → ArePolls format start now
+    → IsInterrupted format now after → IsPolledSome format start after
+some-polls-short format start now after is short = record {
+  count = is.count;
+  stops = inr (subst (λ (s : Stream). IsInterrupted format s after) is.reached short);
+}
+
+-- polls until None or want of memory are some polls
+pub polled-some : (format : Format) {s t : Stream} {os : Answers} → IsPolled format s os t → IsPolledSome format s t
+polled-some format (Silent none) = record { count = 0; stops = inl refl }
+polled-some format (HandsOut some rest) =
+    let more = polled-some format rest in record { count = suc more.count; stops = more.stops }
+polled-some format (Faults fault rest) =
+    let more = polled-some format rest in record { count = suc more.count; stops = more.stops }
+polled-some format (WantsMemory wants) = record { count = 0; stops = inr wants }
 
 module _ (format : Format) where
   -- the answers so far, and then whatever the stream as it is now answers, are what it answers from the start

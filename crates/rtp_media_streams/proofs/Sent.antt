@@ -148,7 +148,8 @@ wire-short : (s : Sending) (time : Time) (values : ExtensionValues) (bytes : Lis
     → AreShort s.mtu values (wire_payloads s (sent_payloads s time values bytes))
 wire-short s time values bytes within =
     on_wire-short s.types.pt s.mtu values s.redundancy (sent_payloads s time values bytes)
-    (packets-short (packing_of s.row s.has_id) (packet_limit s) (timestamp s time) values (sent s bytes).packets
+    (packets-short (packing_of s.row s.has_id s.for_browsers) (packet_limit s) (timestamp s time) values
+    (sent s bytes).packets
     within)
 
 pub sent-short : (s : Sending) (time : Time) (values : ExtensionValues) (bytes : List ℕ)

@@ -1,5 +1,6 @@
 -- What polls of a receiving stream answer.
-use Rattle.std.specs.Prelude.{◌≡◌, ◌<◌, ◌⊎◌, ℕ, List, [], ◌∷◌, ◌++◌, Option, length, map, take, Some, None, Result}
+use Rattle.std.specs.Prelude.{◌≡◌, ◌<◌, ◌⊎◌, ℕ, zero, suc, List, [], ◌∷◌, ◌++◌, Option, length, map, take, Some, None}
+use Rattle.std.specs.Prelude.{Result}
 use Rattle.std.specs.Prelude.{Ok, Err}
 use Rattle.payload_core_base.specs.Format.{Format}
 use Rattle.payload_core_base.specs.declared.error.PacketError.{PacketError}
@@ -40,6 +41,16 @@ pub data IsPolled (format : Format) : Stream → Answers → Stream → Type 0 w
   Faults : {s t : Stream} {e : PacketError} {os : Answers} (fault : poll_answer format s ≡ Err e)
       (rest : IsPolled format (polled format s) os t) → IsPolled format s (Err (Payload e) ∷ os) t
   WantsMemory : {s t : Stream} (wants : IsInterrupted format s t) → IsPolled format s (Err Memory ∷ []) t
+
+-- the stream after so many polls
+abbrev pub after_polls : Format → ℕ → Stream → Stream
+after_polls format zero s = s
+after_polls format (suc n) s = after_polls format n (polled format s)
+
+-- A stream was polled some times, or none, and nothing else; at the last poll memory may have been wanting.
+pub record IsPolledSome (format : Format) (before after : Stream) : Type 0 where
+  pub count : ℕ
+  pub stops : (after ≡ after_polls format count before) ⊎ IsInterrupted format (after_polls format count before) after
 
 -- what is handed out, without its numbers and what its format tells beside
 abbrev pub timed_answer : Result MediaUnit PollFault → Result Timed PollFault

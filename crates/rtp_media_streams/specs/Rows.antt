@@ -5,23 +5,29 @@ use Rattle.payload_core_base.specs.Law.{Coding}
 use Rattle.payload_core_base.specs.Packing.{Packing, Sender}
 use Rattle.payload_core_base.specs.declared.codec.Codec.{Codec}
 use Rattle.payload_core_base.specs.declared.codec.Codec.TheVariants.{G722}
-use Rattle.h26x_payload.specs.Codings.{Settings, coding_of, first_sender, settings_of}
+use Rattle.h26x_payload.specs.Codings as codings
+use Rattle.h26x_payload.specs.Codings.{Forms, Settings, first_sender, settings_of}
 use Rattle.rtp_media_streams.specs.declared.row_format.RowFormat.{RowFormat}
 
 abbrev pub settings_in : RowFormat → Settings
 settings_in row = settings_of row.octet_align row.sprop_max_don_diff row.clock_rate
 
--- The payload format of a row's codec, with picture ids in VP8 or without.
-abbrev pub coding_in : RowFormat → Bool → Coding
-coding_in row has_id = coding_of (settings_in row) has_id row.codec
+-- The forms that are sent: for browsers VP8's picture id 0 is written, and VP9 tells which frames are predicted.
+abbrev pub forms_for : Bool → Forms
+forms_for for_browsers = record { zero_id = for_browsers; prediction = for_browsers }
 
--- How the payloads of a row are read; picture ids are not asked for there.
+-- The payload format of a row's codec, with picture ids in VP8 or without, and in the forms for browsers or the plain
+-- ones.
+abbrev pub coding_in : RowFormat → Bool → Bool → Coding
+coding_in row has_id for_browsers = codings.coding_in (forms_for for_browsers) (settings_in row) has_id row.codec
+
+-- How the payloads of a row are read; neither picture ids nor forms are asked for there.
 unfoldable pub format_of : RowFormat → Format
-format_of row = (coding_in row false).format
+format_of row = (coding_in row false false).format
 
 -- How the samples of a row are cut.
-unfoldable pub packing_of : RowFormat → Bool → Packing
-packing_of row has_id = (coding_in row has_id).packing
+unfoldable pub packing_of : RowFormat → Bool → Bool → Packing
+packing_of row has_id for_browsers = (coding_in row has_id for_browsers).packing
 
 -- what a row's packetizer keeps before the first sample, with a first picture id or none
 unfoldable pub first_state : RowFormat → Option ℕ → Sender

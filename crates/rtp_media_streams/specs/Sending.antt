@@ -25,9 +25,9 @@ use Rattle.rtp_media_streams.specs.declared.errors.SampleError.TheVariants.{Payl
 
 -- A sending stream: its SSRC, the payload types of its row and the one of its datagrams (RFC 3550 5.1),
 -- the numbers of its header extensions (RFC 8285 5), what its row says of its payloads and whether they have
--- picture ids, the number of its next datagram, the most bytes of a payload and of a datagram, what its
--- packetizer keeps between samples, what it keeps to send once more, where it adds redundancy (RFC 2198), and
--- whether memory was wanting in it.
+-- picture ids and the forms for browsers, the number of its next datagram, the most bytes of a payload and of a
+-- datagram, what its packetizer keeps between samples, what it keeps to send once more, where it adds redundancy
+-- (RFC 2198), and whether memory was wanting in it.
 pub record Sending : Type 0 where
   pub ssrc : ℕ
   pub types : PayloadTypes
@@ -35,6 +35,7 @@ pub record Sending : Type 0 where
   pub map : Numbering
   pub row : RowFormat
   pub has_id : Bool
+  pub for_browsers : Bool
   pub next : ℕ
   pub mtu : ℕ
   pub limit : ℕ
@@ -43,14 +44,15 @@ pub record Sending : Type 0 where
   pub failed : Bool
 
 -- a stream that sent nothing
-abbrev pub opened_sender : ℕ → PayloadTypes → Numbering → RowFormat → Option ℕ → ℕ → ℕ → ℕ → Sending
-opened_sender ssrc types map row picture_id first mtu limit = record {
+abbrev pub opened_sender : ℕ → PayloadTypes → Numbering → RowFormat → Option ℕ → Bool → ℕ → ℕ → ℕ → Sending
+opened_sender ssrc types map row picture_id for_browsers first mtu limit = record {
   ssrc = ssrc;
   types = types;
   wire_type = types.pt;
   map = map;
   row = row;
   has_id = is_some picture_id;
+  for_browsers = for_browsers;
   next = first;
   mtu = mtu;
   limit = limit;
@@ -126,7 +128,7 @@ packet_limit s = limit_of_packets s.mtu s.redundancy
 
 -- how the codec cuts a sample, or why it refuses it
 abbrev pub packed : Sending → List ℕ → Result Sent PacketError
-packed s bytes = (packing_of s.row s.has_id).pack s.packetizer (packet_limit s) bytes
+packed s bytes = (packing_of s.row s.has_id s.for_browsers).pack s.packetizer (packet_limit s) bytes
 
 -- the packets of a sample, and what the packetizer keeps after it
 abbrev pub sent : Sending → List ℕ → Sent
@@ -134,7 +136,8 @@ sent s bytes = sent_or s.packetizer (packed s bytes)
 
 -- Payloads of packets with their markers (RFC 3550 5.1), all of one timestamp.
 abbrev pub payloads_at : Sending → ℕ → ExtensionValues → List ℕ → List Outgoing
-payloads_at s word values bytes = outgoing_from (packing_of s.row s.has_id) (sent s bytes).packets word values
+payloads_at s word values bytes = outgoing_from (packing_of s.row s.has_id s.for_browsers)
+    (sent s bytes).packets word values
 
 -- The payloads of a sample.
 abbrev pub sent_payloads : Sending → Time → ExtensionValues → List ℕ → List Outgoing

@@ -1,7 +1,9 @@
 //! Packetizers and depacketizers of rows.
 
-ghost use Rattle.std.specs.Prelude.{◌≡◌, ◌<◌, None, is_some, true, unwrap_or};
+ghost use Rattle.std.specs.Prelude.{◌≡◌, ◌<◌, None, false, is_some, true, unwrap_or};
+ghost use Rattle.std.specs.List.{Contains};
 ghost use Rattle.h26x_payload.specs.Codings.{has_format};
+ghost use Rattle.h26x_payload.specs.Packetizers.{codecs_of};
 ghost use Rattle.rtp_media_streams.specs.Rows.{first_state, format_of, packing_of};
 
 use crate::row_format::RowFormat;
@@ -9,12 +11,34 @@ use h26x_payload::{CodecDepacketizer, CodecPacketizer, NotBoxed};
 use payload_core_base::{Depacketizer, Packetizer};
 use std::alloc::Global;
 
-/// The packetizer of a row, with picture ids from this one on or without.
-pub(crate) fn packetizer_for(row: &RowFormat, picture_id: Option<u16>) -> CodecPacketizer<NotBoxed>
+/// The packetizer of a row, with picture ids from this one on or without, and in the forms for browsers or the
+/// plain ones.
+pub(crate) fn packetizer_for(
+    row: &RowFormat,
+    picture_id: Option<u16>,
+    for_browsers: bool,
+) -> CodecPacketizer<NotBoxed>
     requires codec { has_format row.now.codec ≡ true }
     requires picture_id { unwrap_or picture_id 0 < 32768 }
     ensures packing { ⟦<CodecPacketizer<NotBoxed> as Packetizer>⟧.packing result
-        ≡ packing_of row.now (is_some picture_id) }
+        ≡ packing_of row.now (is_some picture_id) for_browsers }
+    ensures sender { ⟦<CodecPacketizer<NotBoxed> as Packetizer>⟧.sender result ≡ first_state row.now picture_id }
+{
+    let packetizer = plain_packetizer_for(row, picture_id);
+    if for_browsers {
+        packetizer.with_zero_id().with_prediction()
+    } else {
+        packetizer
+    }
+}
+
+/// The packetizer of a row in the plain forms.
+fn plain_packetizer_for(row: &RowFormat, picture_id: Option<u16>) -> CodecPacketizer<NotBoxed>
+    requires codec { has_format row.now.codec ≡ true }
+    requires picture_id { unwrap_or picture_id 0 < 32768 }
+    ensures variant { Contains (codecs_of result) row.now.codec }
+    ensures packing { ⟦<CodecPacketizer<NotBoxed> as Packetizer>⟧.packing result
+        ≡ packing_of row.now (is_some picture_id) false }
     ensures sender { ⟦<CodecPacketizer<NotBoxed> as Packetizer>⟧.sender result ≡ first_state row.now picture_id }
 {
     let mut packetizer = CodecPacketizer::with_picture_id(row.codec, picture_id).unwrap();

@@ -10,7 +10,7 @@ ghost use Rattle.payload_core_base.specs.Format.{Format};
 ghost use Rattle.payload_core_buffer.specs.Buffered.{pushed};
 ghost use Rattle.payload_core_buffer.specs.Packets.{packet_from};
 ghost use Rattle.rtp_media_runs.specs.Hearing.{poll_answer, polled};
-ghost use Rattle.rtp_media_streams.specs.Polls.{IsInterrupted, IsPolled, given};
+ghost use Rattle.rtp_media_streams.specs.Polls.{IsInterrupted, IsPolled, IsPolledSome, given};
 ghost use Rattle.rtp_media_streams.specs.Receiving.{opened_receiver, stream_of, with_stream, is_own, conflicts_with};
 ghost use Rattle.rtp_media_streams.specs.Receiving.{media_payload, taken_number, arrived, values_read};
 ghost use Rattle.rtp_media_streams.specs.Receiving.{polled_receiver};
@@ -280,10 +280,11 @@ impl ReceivingStream {
     }
 
     /// Polls until no unit is ready or memory for one is wanting, and answers what the polls answered, in
-    /// order. Where memory for that list is wanting, what was polled is lost.
+    /// order. Where memory for that list is wanting, what was polled is lost, and nothing else changes.
     pub fn poll_all(&mut self) -> Result<Vec<Result<Unit, PollFault>>, AllocError>
         ensures polled { IfOk result (λ answers. IsPolled (format_of self.old.row) self.old.stream answers.items
             self.new.stream) }
+        ensures some { OnErr result (IsPolledSome (format_of self.old.row) self.old.stream self.new.stream) }
         ensures same { self.new ≡ with_stream self.old self.new.stream }
     {
         let mut answers = Vec::new(self.alloc);

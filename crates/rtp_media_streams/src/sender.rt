@@ -37,6 +37,7 @@ pub struct SendingStream {
     stamp: Stamp,
     row: RowFormat,
     has_id: bool,
+    for_browsers: bool,
     payloader: Payloader<CodecPacketizer<NotBoxed>>,
     redundancy: Option<RedSender>,
     next: u64,
@@ -60,6 +61,7 @@ impl Model for SendingStream {
       map = s.stamp.exts;
       row = s.row;
       has_id = s.has_id;
+      for_browsers = s.for_browsers;
       next = s.next;
       mtu = s.mtu;
       limit = s.limit;
@@ -69,14 +71,15 @@ impl Model for SendingStream {
     } };
 
     ghost invariant = { λ s. (0 < s.mtu) × (⟦<CodecPacketizer<NotBoxed> as Packetizer>⟧.packing
-        (packetizer_of s.payloader) ≡ packing_of s.row s.has_id) };
+        (packetizer_of s.payloader) ≡ packing_of s.row s.has_id s.for_browsers) };
 }
 
 impl SendingStream {
     /// A stream of this SSRC, these payload types, this map of header extensions and this row that sent
     /// nothing: its datagrams are numbered from `first`, no payload passes `mtu` bytes and no datagram
-    /// `limit`. VP8 and VP9 frames have picture ids from `picture_id` on, VP8 frames none without it. It
-    /// adds no redundancy.
+    /// `limit`. VP8 and VP9 frames have picture ids from `picture_id` on, VP8 frames none without it;
+    /// for browsers VP8's picture id 0 is written like any other, and VP9's packets tell which frames are
+    /// predicted. It adds no redundancy.
     ///
     /// # Conditions
     /// The row's codec has a payload format: it is none of Rtx, Red, Null and Unknown. The payload type is
@@ -88,6 +91,7 @@ impl SendingStream {
         exts: ExtensionMap,
         row: RowFormat,
         picture_id: Option<u16>,
+        for_browsers: bool,
         first: u64,
         mtu: usize,
         limit: usize,
@@ -96,15 +100,16 @@ impl SendingStream {
         requires payload_type { types.pt < 128 }
         requires mtu { 0 < mtu }
         requires picture_id { unwrap_or picture_id 0 < 32768 }
-        ensures { result ≡ opened_sender ssrc types exts row picture_id first mtu limit }
+        ensures { result ≡ opened_sender ssrc types exts row picture_id for_browsers first mtu limit }
     {
-        let packetizer = packetizer_for(&row, picture_id);
+        let packetizer = packetizer_for(&row, picture_id, for_browsers);
         SendingStream {
             alloc,
             types,
             stamp: Stamp::new(ssrc, types.pt, exts),
             row,
             has_id: picture_id.is_some(),
+            for_browsers,
             payloader: Payloader::new(packetizer),
             redundancy: None,
             next: first,

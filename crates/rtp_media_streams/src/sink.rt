@@ -108,8 +108,22 @@ impl<'a> DatagramSink<'a> {
 }
 
 impl PacketSink for DatagramSink<'_> {
-    ghost use Rattle.std.specs.Prelude.{◌≡◌};
-    ghost use Rattle.rtp_media_streams.specs.Sinks.{TakesOne};
+    ghost use Rattle.std.specs.Prelude.{◌≡◌, ◌+◌, ℕ, List, length, refl};
+    ghost use Rattle.rtp_media_streams.specs.Sinks.{TakesOne, datagram_with};
+
+    ghost Entry = { List ℕ };
+
+    ghost entries = { λ s. s.datagrams.items };
+
+    ghost becomes = { λ s o e. e ≡ datagram_with s.stamp.now (s.first + length s.datagrams.items) o };
+
+    ghost one_more = { λ old o new taken. (
+      datagram_with old.stamp.now (old.first + length old.datagrams.items) o,
+      refl,
+      taken.datagrams,
+    ) };
+
+    ghost none_more = { λ old new kept. kept };
 
     ghost takes = { TakesOne };
 

@@ -19,6 +19,6 @@ pub use rtp_wire_extensions::{
 };
 pub use rtp_wire_ids::{Direction, Mid, Pt, Rid, SeqNo, SessionId, Ssrc, direction_laws};
 pub use rtp_wire_time::{Frequency, MediaTime, ParseFrequencyError};
-pub use run::{Reception, receive_run};
+pub use run::{Reception, receive_one, receive_run};
 pub use widening::{extend_u7, extend_u8, extend_u15, extend_u16, extend_u32};
 pub use window::SeqNoWindow;

@@ -21,8 +21,13 @@ pub enum Reception {
     Taken(SeqNo),
 }
 
-/// Takes one datagram in.
-fn receive_one(window: &mut Option<SeqNoWindow>, datagram: &[u8], exts: &ExtensionMap) -> Reception
+/// Takes one datagram in at a window, which is None before the first: a step of `receive_run`. The payload is not
+/// looked at. A datagram that isn't taken leaves the window as it was.
+pub fn receive_one(
+    window: &mut Option<SeqNoWindow>,
+    datagram: &[u8],
+    exts: &ExtensionMap,
+) -> Reception
     ensures answer { result ≡ reception_of window.old (header_in exts.now datagram.now) }
     ensures after { window.new ≡ window_behind window.old (header_in exts.now datagram.now) }
 {

@@ -1,12 +1,15 @@
 //! Offers and answers.
 
-ghost use Rattle.std.specs.Prelude.{◌≡◌};
+ghost use Rattle.std.specs.Prelude.{◌≡◌, IfOk};
+ghost use Rattle.std.specs.String.{string_bytes};
+ghost use Rattle.sdp_formats_types.specs.PrintedSession.{sdp_text};
 ghost use Rattle.sdp_formats.specs.Texts.{ReadsText};
 
 use crate::error::SdpError;
 use crate::parser::sdp_parser;
 use sdp_formats_types::Sdp;
-use std::alloc::Global;
+use std::alloc::{AllocError, Global};
+use std::fmt;
 use std::marker::Model;
 
 /// An offer (RFC 8829). Contracts see it as its session text.
@@ -41,6 +44,28 @@ impl SdpOffer {
         ensures { result.now ≡ self.now }
     {
         &self.sdp
+    }
+
+    /// Its text.
+    ///
+    /// # Errors
+    ///
+    /// `AllocError` where memory is wanting.
+    pub fn to_sdp_string(&self, alloc: Global) -> Result<String, AllocError>
+        ensures { IfOk result (λ text. string_bytes text ≡ sdp_text self.now) }
+    {
+        self.sdp.to_sdp_string(alloc)
+    }
+}
+
+impl fmt::Display for SdpOffer {
+    ghost use Rattle.std.specs.Prelude.{Some};
+
+    ghost output = { λ o. Some (sdp_text o) };
+
+    fn fmt<W: fmt::Write>(&self, f: &mut fmt::Formatter<W>) -> fmt::Result {
+        let sdp = &self.sdp;
+        write!(f, "{sdp}")
     }
 }
 
@@ -84,6 +109,28 @@ impl SdpAnswer {
         ensures { result.now ≡ self.now }
     {
         &self.sdp
+    }
+
+    /// Its text.
+    ///
+    /// # Errors
+    ///
+    /// `AllocError` where memory is wanting.
+    pub fn to_sdp_string(&self, alloc: Global) -> Result<String, AllocError>
+        ensures { IfOk result (λ text. string_bytes text ≡ sdp_text self.now) }
+    {
+        self.sdp.to_sdp_string(alloc)
+    }
+}
+
+impl fmt::Display for SdpAnswer {
+    ghost use Rattle.std.specs.Prelude.{Some};
+
+    ghost output = { λ a. Some (sdp_text a) };
+
+    fn fmt<W: fmt::Write>(&self, f: &mut fmt::Formatter<W>) -> fmt::Result {
+        let sdp = &self.sdp;
+        write!(f, "{sdp}")
     }
 }
 

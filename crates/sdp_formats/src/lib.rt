@@ -8,6 +8,7 @@ mod parser;
 pub use error::SdpError;
 pub use exchanged::{SdpAnswer, SdpOffer};
 pub use parser::{sdp_parser, session_parser};
+pub use sdp_formats_forms::FingerprintFmt;
 pub use sdp_formats_types::{
     Bandwidth, Candidate, CandidateKind, Fingerprint, FormatParam, H265ProfileTierLevel,
     H266ProfileTierLevel, IceCreds, Inconsistency, Listed, MediaAttribute, MediaLine, MediaType,

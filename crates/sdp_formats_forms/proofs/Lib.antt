@@ -2,3 +2,4 @@ pub mod Numerals
 pub mod Gives
 pub mod Partings
 pub mod Rounds
+pub mod Joining

@@ -1,10 +1,8 @@
 -- Pieces of a text.
-use Rattle.std.proofs.Common.{◌≡◌, ◌≢◌, ℕ, ◌<◌, ◌+◌, ◌++◌, List, [], ◌∷◌, Option, None, Some, Bor, length, refl, sym}
+use Rattle.std.proofs.Common.{◌≡◌, ℕ, ◌<◌, List, [], ◌∷◌, None, Some, Bor}
 use Rattle.std.proofs.Common.{◌∙◌, ap}
 use Rattle.std.proofs.lemmas.Str.Pattern.{IsSplitOnceResult, split_parts}
-use Rattle.std.specs.Option.{option_copied}
-use Rattle.sdp_formats_forms.specs.Split.{Lacks, parts, onto_first}
-use Rattle.sdp_formats_forms.specs.Pieces.{parts_from}
+use Rattle.sdp_formats_forms.specs.Split.{parts}
 use Rattle.sdp_formats_forms.specs.Cuts.{parts-at, parts-whole, Lacks-from_index}
 
 pub parts-split : (c : ℕ) (text : List ℕ) (x : Bor (List ℕ) × Bor (List ℕ)) → c < 128

@@ -1,9 +1,9 @@
 -- Forms whose two meanings are the same.
-use Rattle.std.proofs.Common.{◌≡◌, ◌≢◌, ◌⊎◌, ◌++◌, ℕ, Bool, ◌==◌, List, [], ◌∷◌, Option, Some, None, refl, sym, ◌∙◌}
-use Rattle.std.proofs.Common.{ap, subst, inl, inr, ⊎_elim, cond, true, false}
+use Rattle.std.proofs.Common.{◌≡◌, ◌≢◌, ◌⊎◌, ℕ, Bool, ◌==◌, List, [], ◌∷◌, Option, Some, None, refl, sym, ◌∙◌}
+use Rattle.std.proofs.Common.{ap, inl, inr, ⊎_elim, cond, true, false}
 use Rattle.std.specs.Option.{option_map, option_or}
 use Rattle.sdp_formats_forms.specs.Bind.{◌>>=◌}
-use Rattle.sdp_formats_forms.specs.Split.{Lacks, IsJoined, split_first, halves, halves_of, behind, parts, onto_first}
+use Rattle.sdp_formats_forms.specs.Split.{IsJoined, split_first, halves, halves_of, behind, parts, onto_first}
 use Rattle.sdp_formats_forms.specs.Form.{Form, IsExact, told, made, after, both, cut, maybe, both_maybe, SaysMaybe}
 use Rattle.sdp_formats_forms.specs.Form.{cut_maybe, each, Each, separated, either, passed, only}
 use Rattle.sdp_formats_forms.specs.Steps.{bind_some, map_some, none_if, none_some, some_same, nil_cons, cons_same}

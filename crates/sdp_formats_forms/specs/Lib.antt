@@ -8,3 +8,4 @@ pub mod Cuts
 pub mod Words
 pub mod Exact
 pub mod Pieces
+pub mod Joined

@@ -1,2 +1,3 @@
 pub mod Splits
 pub mod Digits
+pub mod Modes

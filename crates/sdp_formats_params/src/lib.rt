@@ -6,6 +6,7 @@ mod numbers;
 mod pairs;
 mod param;
 mod parts;
+mod printed;
 mod several;
 
 pub use h26x_payload_profiles::{H265ProfileTierLevel, H266ProfileTierLevel};

@@ -3,6 +3,7 @@
 ghost use Rattle.std.specs.Prelude.{◌≡◌};
 
 use sdp_formats_forms::Text;
+use std::fmt;
 
 /// A key and its value, as `minptime=10`.
 #[derive(Debug, PartialEq, Eq, Drop)]
@@ -11,4 +12,16 @@ pub struct Pair {
     pub key: Text,
     /// The value.
     pub value: Text,
+}
+
+impl fmt::Display for Pair {
+    ghost use Rattle.std.specs.Prelude.{Some};
+    ghost use Rattle.sdp_formats_params.specs.Printed.{pair_text};
+
+    ghost output = { λ p. Some (pair_text p) };
+
+    fn fmt<W: fmt::Write>(&self, f: &mut fmt::Formatter<W>) -> fmt::Result {
+        let (key, value) = (&self.key, &self.value);
+        write!(f, "{key}={value}")
+    }
 }

@@ -2,6 +2,10 @@
 use Rattle.std.specs.Prelude.{ℕ, ◌^◌, Bool, true, false, List, [], ◌∷◌, codes, Option, None, Some, if◌then◌else◌}
 use Rattle.std.specs.List.{list_any}
 use Rattle.std.specs.Str.{bytes_eq, trim}
+use Rattle.h26x_payload_profiles.specs.H265ProfileTierLevel.{given as given_265}
+use Rattle.h26x_payload_profiles.specs.H266ProfileTierLevel.{given as given_266}
+use Rattle.h26x_payload_profiles.specs.declared.h265.H265ProfileTierLevel.{H265ProfileTierLevel as Level265}
+use Rattle.h26x_payload_profiles.specs.declared.h266.H266ProfileTierLevel.{H266ProfileTierLevel as Level266}
 use Rattle.sdp_formats_rows.specs.declared.format.FormatParams.{FormatParams}
 use Rattle.sdp_formats_params.specs.declared.key.Key.{Key}
 use Rattle.sdp_formats_params.specs.declared.key.Key.TheVariants.{MinPTime, Stereo, SpropStereo, UseInbandFec, UseDtx}
@@ -9,7 +13,7 @@ use Rattle.sdp_formats_params.specs.declared.key.Key.TheVariants.{LevelAsymmetry
 use Rattle.sdp_formats_params.specs.declared.key.Key.TheVariants.{ProfileLevelId, ProfileId, Profile, LevelIdx, Tier}
 use Rattle.sdp_formats_params.specs.declared.key.Key.TheVariants.{SpropMaxDonDiff, OctetAlign, ModeSet, TierFlag}
 use Rattle.sdp_formats_params.specs.declared.key.Key.TheVariants.{LevelId}
-use Rattle.sdp_formats_params.specs.Keys.{key_named, is_level_key}
+use Rattle.sdp_formats_params.specs.Keys.{key_name, key_named, is_level_key}
 use Rattle.sdp_formats_params.specs.Numbers.{number_below, profile_level, up_to, modes_of, range_of}
 use Rattle.sdp_formats_params.specs.Parts.{parts}
 
@@ -28,6 +32,8 @@ no_format = record {
   profile = None;
   level_idx = None;
   tier = None;
+  h265_profile_tier_level = None;
+  h266_profile_tier_level = None;
   sprop_max_don_diff = None;
   telephone_event_max = None;
   octet_align = None;
@@ -107,7 +113,38 @@ fields_give_level (key ∷ value ∷ others) = has_level (key_named (trim key))
 abbrev pub gives_level : List ℕ → Bool
 gives_level part = fields_give_level (parts 61 part)
 
+-- The last value of a key, blanks round it dropped.
+abbrev pub is_key : Key → Option Key → Bool
+is_key key None = false
+is_key key (Some other) = bytes_eq (key_name other) (key_name key)
+
+abbrev pub field_value : Key → List (List ℕ) → Option (List ℕ) → Option (List ℕ)
+field_value key [] before = before
+field_value key (word ∷ []) before = before
+field_value key (name ∷ value ∷ others) before =
+    if is_key key (key_named (trim name)) then Some (trim value) else before
+
+abbrev pub last_value : Key → List (List ℕ) → Option (List ℕ) → Option (List ℕ)
+last_value key [] before = before
+last_value key (part ∷ rest) before = last_value key rest (field_value key (parts 61 part) before)
+
+-- The profile, tier and level that the last values of three keys mean: of H.265, else of H.266 (RFC 7798 7.1, RFC 9328
+-- 7.2).
+abbrev pub with_level : Option Level265 → Option Level266 → FormatParams
+with_level (Some ptl) other = record no_format { h265_profile_tier_level = Some ptl }
+with_level None other = record no_format { h266_profile_tier_level = other }
+
+abbrev pub with_values : Option (List ℕ) → Option (List ℕ) → Option (List ℕ) → FormatParams
+with_values id tier level = with_level (given_265 id tier level) (given_266 id tier level)
+
+abbrev pub level_format : List (List ℕ) → FormatParams
+level_format ps =
+    if list_any gives_level ps
+    then with_values (last_value ProfileId ps None) (last_value TierFlag ps None) (last_value LevelId ps None)
+    else no_format
+
 -- The parameters of a line (RFC 8866 6.15): its parts between semicolons, in turn. Where one gives a tier or level,
--- each key counts with its last value alone, and `profile-id` is no number of VP9.
+-- each key counts with its last value alone, and `profile-id`, `tier-flag` and `level-id` are one profile, tier and
+-- level.
 unfoldable pub format_of : List ℕ → FormatParams
-format_of line = with_parts (list_any gives_level (parts 59 line)) (parts 59 line) no_format
+format_of line = with_parts (list_any gives_level (parts 59 line)) (parts 59 line) (level_format (parts 59 line))

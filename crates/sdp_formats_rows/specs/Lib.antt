@@ -1,4 +1,8 @@
 pub mod Formats
 pub mod Rows
 pub mod Texts
-pub mod Configs
+pub mod Codecs
+pub mod Same
+pub mod Scores
+pub mod Laws
+pub mod Plain

@@ -3,12 +3,21 @@ use Rattle.std.specs.Prelude.{ℕ, ◌==◌, ◌&&◌, nat_le, ◌^◌, ◌-◌,
 use Rattle.std.specs.Prelude.{length, filter, codes, decimal, Option, Some, None, if◌then◌else◌}
 use Rattle.std.specs.Fmt.{digits, padded_integral, format_spec}
 use Rattle.std.specs.Option.{option_map}
+use Rattle.h26x_payload_profiles.specs.H265Level.{level_id as level_id_265}
+use Rattle.h26x_payload_profiles.specs.H265Profile.{profile_id as profile_id_265}
+use Rattle.h26x_payload_profiles.specs.H265Tier.{tier_flag as tier_flag_265}
+use Rattle.h26x_payload_profiles.specs.H266Level.{level_id as level_id_266}
+use Rattle.h26x_payload_profiles.specs.H266Profile.{profile_id as profile_id_266}
+use Rattle.h26x_payload_profiles.specs.H266Tier.{tier_flag as tier_flag_266}
+use Rattle.h26x_payload_profiles.specs.declared.h265.H265ProfileTierLevel.{H265ProfileTierLevel as Level265}
+use Rattle.h26x_payload_profiles.specs.declared.h266.H266ProfileTierLevel.{H266ProfileTierLevel as Level266}
 use Rattle.sdp_formats_rows.specs.declared.format.FormatParams.{FormatParams}
 use Rattle.sdp_formats_params.specs.declared.key.Key.{Key}
 use Rattle.sdp_formats_params.specs.declared.key.Key.TheVariants.{MinPTime, Stereo, SpropStereo, UseInbandFec, UseDtx}
 use Rattle.sdp_formats_params.specs.declared.key.Key.TheVariants.{LevelAsymmetryAllowed, PacketizationMode}
 use Rattle.sdp_formats_params.specs.declared.key.Key.TheVariants.{ProfileLevelId, ProfileId, Profile, LevelIdx, Tier}
-use Rattle.sdp_formats_params.specs.declared.key.Key.TheVariants.{SpropMaxDonDiff, OctetAlign, ModeSet}
+use Rattle.sdp_formats_params.specs.declared.key.Key.TheVariants.{SpropMaxDonDiff, OctetAlign, ModeSet, TierFlag}
+use Rattle.sdp_formats_params.specs.declared.key.Key.TheVariants.{LevelId}
 use Rattle.sdp_formats_params.specs.Keys.{key_name}
 
 -- A parameter with its value, `key=value`.
@@ -54,6 +63,17 @@ listed (number ∷ numbers) = decimal number ++ behind_commas numbers
 abbrev pub modes_text : ℕ → List ℕ
 modes_text modes = pair_text ModeSet (listed (set_modes modes))
 
+-- The three numbers of a profile, tier and level, and their text (RFC 7798 7.1, RFC 9328 7.2).
+abbrev pub numbers_265 : Level265 → ℕ × ℕ × ℕ
+numbers_265 ptl = (profile_id_265 ptl.profile, tier_flag_265 ptl.tier, level_id_265 ptl.level)
+
+abbrev pub numbers_266 : Level266 → ℕ × ℕ × ℕ
+numbers_266 ptl = (profile_id_266 ptl.profile, tier_flag_266 ptl.tier, level_id_266 ptl.level)
+
+abbrev pub level_text : ℕ × ℕ × ℕ → List ℕ
+level_text numbers =
+    number_text ProfileId numbers.0 ++ (59 ∷ number_text TierFlag numbers.1) ++ (59 ∷ number_text LevelId numbers.2)
+
 -- The parameters that are given, in the order of printing.
 abbrev pub opus_pieces : FormatParams → List (Option (List ℕ))
 opus_pieces f =
@@ -77,6 +97,8 @@ video_pieces f =
     ∷ option_map (number_text Profile) f.profile
     ∷ option_map (number_text LevelIdx) f.level_idx
     ∷ option_map (number_text Tier) f.tier
+    ∷ option_map level_text (option_map numbers_265 f.h265_profile_tier_level)
+    ∷ option_map level_text (option_map numbers_266 f.h266_profile_tier_level)
     ∷ option_map (number_text SpropMaxDonDiff) f.sprop_max_don_diff
     ∷ []
 

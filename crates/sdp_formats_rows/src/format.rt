@@ -4,16 +4,17 @@ ghost use Rattle.std.specs.Prelude.{◌≡◌};
 ghost use Rattle.std.specs.List.{list_any};
 ghost use Rattle.sdp_formats_rows.specs.Formats.{no_format, replaced, is_on, with_value, with_key, with_range};
 ghost use Rattle.sdp_formats_rows.specs.Formats.{with_fields, has_level, gives_level, format_of};
+ghost use Rattle.sdp_formats_rows.specs.Formats.{is_key, field_value, last_value, with_values, level_format};
+ghost use Rattle.std.specs.Prelude.{None};
+ghost use Rattle.std.specs.Option.{option_copied};
 ghost use Rattle.sdp_formats_params.specs.Parts.{parts};
 
 use sdp_formats_params::{
-    Key, byte_of, don_diff_of, modes_of, profile_level_of, range_of, split_equals, split_semicolon,
-    word_of,
+    H265ProfileTierLevel, H266ProfileTierLevel, Key, byte_of, don_diff_of, modes_of,
+    profile_level_of, range_of, split_equals, split_semicolon, word_of,
 };
 
 /// Format parameters of a codec, as `a=fmtp` gives them (RFC 8866 6.15); None is not given.
-///
-/// The profile, tier and level of H.265 and H.266 have no field yet.
 #[derive(Clone, Copy, Debug, PartialEq, Eq, Default, Drop)]
 pub struct FormatParams {
     /// Opus `minptime`: the least duration of a packet in milliseconds (RFC 7587 6.1).
@@ -43,6 +44,10 @@ pub struct FormatParams {
     pub level_idx: Option<u8>,
     /// AV1 `tier`, the highest that is used or received, 0 or 1.
     pub tier: Option<u8>,
+    /// The profile, tier and level of H.265 (RFC 7798 7.1).
+    pub h265_profile_tier_level: Option<H265ProfileTierLevel>,
+    /// The profile, tier and level of H.266 (RFC 9328 7.2).
+    pub h266_profile_tier_level: Option<H266ProfileTierLevel>,
     /// `sprop-max-don-diff`, 0 to 32,767: decoding order numbers are sent where it is above 0
     /// (RFC 7798 7.1, RFC 9328 7.2).
     pub sprop_max_don_diff: Option<u16>,
@@ -71,12 +76,13 @@ impl FormatParams {
     /// sign are read without the blanks round them; what stands behind a second equals sign doesn't
     /// count. A later value replaces an earlier one. Keys that are unknown and values that don't
     /// parse are passed over. Where a key is `tier-flag` or `level-id`, each key counts with its
-    /// last value alone, and `profile-id` doesn't count.
+    /// last value alone, and `profile-id`, `tier-flag` and `level-id` are the profile, tier and level of H.265, else
+    /// of H.266, if they mean one (RFC 7798 7.1, RFC 9328 7.2).
     pub fn parse_line(line: &str) -> FormatParams
         ensures { result ≡ format_of line.now }
     {
         let last_alone = gives_level(line);
-        let mut format = no_format();
+        let mut format = level_format(line);
         let mut rest = Some(line);
         while let Some(text) = rest {
             let (part, after) = split_semicolon(text);
@@ -122,6 +128,80 @@ fn has_level(key: Option<Key>) -> bool
         Some(key) => key.is_level(),
         None => false,
     }
+}
+
+fn is_key(key: Key, other: Option<Key>) -> bool
+    ensures { result ≡ is_key key other }
+{
+    match other {
+        Some(other) => other.as_str() == key.as_str(),
+        None => false,
+    }
+}
+
+fn field_value<'a>(part: &'a str, key: Key, before: Option<&'a str>) -> Option<&'a str>
+    ensures { option_copied result ≡ field_value key (parts 61 part.now) (option_copied before.entry) }
+{
+    let (name, rest) = split_equals(part);
+    match rest {
+        Some(rest) => {
+            let (value, _) = split_equals(rest);
+            if is_key(key, Key::named(name.trim())) {
+                return Some(value.trim());
+            }
+            before
+        }
+        None => before,
+    }
+}
+
+// The last value of a key.
+fn last_value<'a>(line: &'a str, key: Key) -> Option<&'a str>
+    ensures { option_copied result ≡ last_value key (parts 59 line.now) None }
+{
+    let mut found = None;
+    let mut rest = Some(line);
+    while let Some(text) = rest {
+        let (part, after) = split_semicolon(text);
+        found = field_value(part, key, found);
+        rest = after;
+    }
+    found
+}
+
+fn with_values(
+    profile_id: Option<&str>,
+    tier_flag: Option<&str>,
+    level_id: Option<&str>,
+) -> FormatParams
+    ensures { result ≡ with_values (option_copied profile_id.entry) (option_copied tier_flag.entry)
+        (option_copied level_id.entry) }
+{
+    let h265 = H265ProfileTierLevel::from_fmtp(profile_id, tier_flag, level_id);
+    if h265.is_some() {
+        return FormatParams {
+            h265_profile_tier_level: h265,
+            ..no_format()
+        };
+    }
+    FormatParams {
+        h266_profile_tier_level: H266ProfileTierLevel::from_fmtp(profile_id, tier_flag, level_id),
+        ..no_format()
+    }
+}
+
+// The profile, tier and level of a line, and nothing else.
+fn level_format(line: &str) -> FormatParams
+    ensures { result ≡ level_format (parts 59 line.now) }
+{
+    if !gives_level(line) {
+        return no_format();
+    }
+    with_values(
+        last_value(line, Key::ProfileId),
+        last_value(line, Key::TierFlag),
+        last_value(line, Key::LevelId),
+    )
 }
 
 fn with_part(format: FormatParams, part: &str, last_alone: bool) -> FormatParams

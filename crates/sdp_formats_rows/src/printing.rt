@@ -6,10 +6,10 @@ ghost use Rattle.std.specs.Option.{option_map};
 ghost use Rattle.sdp_formats_rows.specs.Texts.{number_text, flag_number, flag_text, profile_level_text, range_text};
 ghost use Rattle.sdp_formats_rows.specs.Texts.{has_mode, set_modes, behind_commas, listed, modes_text, opus_pieces};
 ghost use Rattle.sdp_formats_rows.specs.Texts.{h264_pieces, video_pieces, other_pieces, separated, with_piece};
-ghost use Rattle.sdp_formats_rows.specs.Texts.{with_pieces, format_text};
+ghost use Rattle.sdp_formats_rows.specs.Texts.{with_pieces, format_text, level_text, numbers_265, numbers_266};
 
 use crate::format::FormatParams;
-use sdp_formats_params::{Key, bit_of};
+use sdp_formats_params::{H265ProfileTierLevel, H266ProfileTierLevel, Key, bit_of};
 use std::alloc::{AllocError, Global};
 
 fn push_separator(text: &mut String) -> Result<(), AllocError>
@@ -157,6 +157,45 @@ fn push_modes(alloc: Global, text: &mut String, modes: Option<u16>) -> Result<()
     }
 }
 
+fn push_numbers(text: &mut String, profile: u8, tier: u8, level: u8) -> Result<(), AllocError>
+    ensures { OnOk result (string_bytes text.new
+        ≡ separated (string_bytes text.old) ++ level_text (profile, tier, level)) }
+{
+    push_separator(text)?;
+    write!(
+        text,
+        "profile-id={profile};tier-flag={tier};level-id={level}"
+    )
+}
+
+#[tactic(auto, unfolding(crate::specs::Texts::with_piece))]
+fn push_level(text: &mut String, numbers: Option<(u8, u8, u8)>) -> Result<(), AllocError>
+    ensures { OnOk result (string_bytes text.new ≡ with_piece (string_bytes text.old) (option_map level_text numbers)) }
+{
+    match numbers {
+        Some(numbers) => push_numbers(text, numbers.0, numbers.1, numbers.2),
+        None => Ok(()),
+    }
+}
+
+pub(crate) fn numbers_265(level: Option<H265ProfileTierLevel>) -> Option<(u8, u8, u8)>
+    ensures { result ≡ option_map numbers_265 level }
+{
+    match level {
+        Some(ptl) => Some((ptl.profile_id(), ptl.tier_flag(), ptl.level_id())),
+        None => None,
+    }
+}
+
+pub(crate) fn numbers_266(level: Option<H266ProfileTierLevel>) -> Option<(u8, u8, u8)>
+    ensures { result ≡ option_map numbers_266 level }
+{
+    match level {
+        Some(ptl) => Some((ptl.profile_id(), ptl.tier_flag(), ptl.level_id())),
+        None => None,
+    }
+}
+
 fn push_opus(text: &mut String, f: &FormatParams) -> Result<(), AllocError>
     ensures { OnOk result (string_bytes text.new ≡ with_pieces (string_bytes text.old) (opus_pieces f.now)) }
 {
@@ -182,6 +221,8 @@ fn push_video(text: &mut String, f: &FormatParams) -> Result<(), AllocError>
     push_byte(text, Key::Profile, f.profile)?;
     push_byte(text, Key::LevelIdx, f.level_idx)?;
     push_byte(text, Key::Tier, f.tier)?;
+    push_level(text, numbers_265(f.h265_profile_tier_level))?;
+    push_level(text, numbers_266(f.h266_profile_tier_level))?;
     push_half_word(text, Key::SpropMaxDonDiff, f.sprop_max_don_diff)
 }
 

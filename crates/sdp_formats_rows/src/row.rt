@@ -1,10 +1,15 @@
 //! Rows: a payload type with its codec and feedback.
 
-ghost use Rattle.std.specs.Prelude.{◌≡◌, None, Some, true};
+ghost use Rattle.std.specs.Prelude.{◌≡◌, IfOk, None, Some, true};
+ghost use Rattle.sdp_formats_rows.specs.Plain.{is_plain};
 ghost use Rattle.sdp_formats_rows.specs.Rows.{new_row};
+ghost use Rattle.sdp_formats_rows.specs.Scores.{score};
 
+use crate::plain::is_plain;
+use crate::score::score;
 use crate::spec::CodecSpec;
 use rtp_wire::Pt;
+use std::alloc::{AllocError, Global};
 use std::marker::Model;
 
 // The payload types of a row.
@@ -122,6 +127,53 @@ impl PayloadParams {
             types: Types { pt, ..self.types },
             ..self
         }
+    }
+
+    /// The same row under these types: its payload type, that of its retransmissions and its RED type.
+    pub fn with_types(self, pt: Pt, resend: Option<Pt>, red: Option<Pt>) -> Self
+        ensures { result ≡ record self { pt = pt; resend = resend; red = red } }
+    {
+        PayloadParams {
+            types: Types { pt, resend, red },
+            ..self
+        }
+    }
+
+    /// The same row of a codec with other settings.
+    pub fn with_spec(self, spec: CodecSpec) -> Self
+        ensures { result ≡ record self { spec = spec } }
+    {
+        PayloadParams { spec, ..self }
+    }
+
+    /// How well the row matches another one, by codec, clock rate, channels and format: by 1 to 100 points, or not at
+    /// all. Payload types, feedback and locks don't count, nor does the side.
+    ///
+    /// 100 is an exact match. Formats of one codec that differ match by the table of their codec: Opus loses points
+    /// for each parameter (RFC 7587 6.1); H.264, H.265 and H.266 need one profile and lose the distance of their levels
+    /// (RFC 6184 8.2.2, RFC 7798 7.1, RFC 9328 7.2); VP9 and AV1 need what isn't given at its default; AMR-WB needs
+    /// mono, one layout, and one set of modes or none at a side (RFC 4867 8.3.1). Telephone events match whatever
+    /// their channels and range.
+    pub fn match_score(&self, other: &PayloadParams) -> Option<usize>
+        ensures { result ≡ score self.now.spec other.now.spec }
+    {
+        score(&self.spec, &other.spec)
+    }
+
+    /// Whether a section can list the row so that it comes back as it is: audio, video or telephone events, under types
+    /// of seven bits.
+    ///
+    /// G.722 stands at 16,000 Hz without its one channel; video uses NACK, PLI, FIR and REMB, others none of them; only
+    /// audio has a RED type; telephone events have a maximum and nothing else, others none; a profile, tier and level
+    /// stands under its own codec; and the format's text is read as the format.
+    ///
+    /// # Errors
+    ///
+    /// `AllocError` where memory is wanting.
+    pub fn is_plain(&self, alloc: Global) -> Result<bool, AllocError>
+        ensures { IfOk result (λ b. b ≡ is_plain self.now) }
+    {
+        is_plain(alloc, self)
     }
 
     /// The payload type (RFC 3550 5.1).

@@ -1,5 +1,6 @@
 //! Reads the session texts whose names stand on standard input, and prints for each what it has: session attributes,
-//! attributes of each section, lines of a form that isn't known, and bytes that are left.
+//! attributes of each section, lines of a form that isn't known, bytes that are left, and whether what was read is
+//! printed as a text that is read and printed alike.
 #![tactic(auto)]
 
 use sdp_formats::{MediaAttribute, MediaLine, SdpError, SessionAttribute, sdp_parser};
@@ -24,6 +25,42 @@ fn print_section(rt: &HostRuntime, section: &MediaLine) -> io::Result<()> {
     println!(*rt; "  section: {types} types, {count} attributes, {unused} unused")
 }
 
+// Whether the text is read whole, and printed as it stands.
+fn is_printed_alike(rt: &HostRuntime, printed: &str) -> Result<bool, SdpError> {
+    let (sdp, rest) = sdp_parser(rt.alloc(), printed)?;
+    if !rest.is_empty() {
+        return Ok(false);
+    }
+    let again = sdp.to_sdp_string(rt.alloc())?;
+    Ok(again.as_str() == printed)
+}
+
+// Lines of the printed text that stand in the text that was read.
+fn kept_lines(text: &str, printed: &str) -> usize {
+    let mut kept = 0;
+    for line in printed.lines() {
+        if text.contains(line) && kept < usize::MAX {
+            kept += 1;
+        }
+    }
+    kept
+}
+
+fn print_printed(rt: &HostRuntime, text: &str, printed: &str) -> io::Result<()> {
+    let kept = kept_lines(text, printed);
+    let lines = printed.lines().count();
+    match is_printed_alike(rt, printed) {
+        Ok(true) => println!(*rt;
+            "  printed: {kept} of {lines} lines as they stood; read again alike"
+        ),
+        Ok(false) => println!(*rt;
+            "  printed: {kept} of {lines} lines as they stood; read again otherwise"
+        ),
+        Err(SdpError::Memory) => println!(*rt; "  printed: out of memory"),
+        Err(_) => println!(*rt; "  printed: not read again"),
+    }
+}
+
 fn print_text(rt: &HostRuntime, name: &str, text: &str) -> io::Result<()> {
     match sdp_parser(rt.alloc(), text) {
         Ok((sdp, rest)) => {
@@ -41,7 +78,8 @@ fn print_text(rt: &HostRuntime, name: &str, text: &str) -> io::Result<()> {
             for section in sdp.media_lines.as_slice() {
                 print_section(rt, section)?;
             }
-            Ok(())
+            let printed = sdp.to_sdp_string(rt.alloc())?;
+            print_printed(rt, text, printed.as_str())
         }
         Err(SdpError::Memory) => println!(*rt; "{name}: out of memory"),
         Err(_) => println!(*rt; "{name}: no session text"),

@@ -3,7 +3,7 @@ use Rattle.std.specs.Prelude.{ℕ, Bool, true, false, List, codes}
 use Rattle.rtp_wire.specs.declared.Direction.{Direction}
 use Rattle.rtp_wire.specs.declared.Direction.TheVariants as way
 use Rattle.sdp_formats_types.specs.declared.media.MediaType.{MediaType}
-use Rattle.sdp_formats_types.specs.declared.media.MediaType.TheVariants.{Audio, Video, Application, Unknown}
+use Rattle.sdp_formats_types.specs.declared.media.MediaType.TheVariants.{Audio, Video, Application}
 use Rattle.sdp_formats_types.specs.declared.media.Proto.{Proto}
 use Rattle.sdp_formats_types.specs.declared.media.Proto.TheVariants.{Srtp, Sctp}
 use Rattle.sdp_formats_types.specs.declared.media.MediaAttribute.{MediaAttribute}

@@ -1,8 +1,12 @@
 //! Candidates (RFC 8839 5.1) and credentials (RFC 8839 5.4).
 
-ghost use Rattle.std.specs.Prelude.{◌≡◌};
+ghost use Rattle.std.specs.Prelude.{◌≡◌, IfOk};
+ghost use Rattle.std.specs.String.{string_bytes};
+ghost use Rattle.sdp_formats_types.specs.PrintedCandidates.{protocol_text, kind_text, tcp_type_text, candidate_text};
 
-use sdp_formats_forms::Text;
+use sdp_formats_forms::{Maybe, Text};
+use std::alloc::{AllocError, Global};
+use std::fmt;
 
 /// What transports a candidate's packets.
 #[derive(Clone, Copy, Debug, PartialEq, Eq, Drop)]
@@ -102,6 +106,120 @@ impl Candidate {
         ensures { result ≡ self.now.tcptype }
     {
         self.tcptype
+    }
+}
+
+impl Protocol {
+    /// The word for it in a session text.
+    pub fn as_str(&self) -> &'static str
+        ensures { result.now ≡ protocol_text self.now }
+    {
+        match self {
+            Protocol::Udp => "udp",
+            Protocol::Tcp => "tcp",
+            Protocol::SslTcp => "ssltcp",
+            Protocol::Tls => "tls",
+        }
+    }
+}
+
+impl CandidateKind {
+    /// The word for it in a session text.
+    pub fn as_str(&self) -> &'static str
+        ensures { result.now ≡ kind_text self.now }
+    {
+        match self {
+            CandidateKind::Host => "host",
+            CandidateKind::PeerReflexive => "prflx",
+            CandidateKind::ServerReflexive => "srflx",
+            CandidateKind::Relayed => "relay",
+        }
+    }
+}
+
+impl TcpType {
+    /// The word for it in a session text.
+    pub fn as_str(&self) -> &'static str
+        ensures { result.now ≡ tcp_type_text self.now }
+    {
+        match self {
+            TcpType::Active => "active",
+            TcpType::Passive => "passive",
+            TcpType::So => "so",
+        }
+    }
+}
+
+impl fmt::Display for TcpType {
+    ghost use Rattle.std.specs.Prelude.{Some};
+
+    ghost output = { λ t. Some (tcp_type_text t) };
+
+    fn fmt<W: fmt::Write>(&self, f: &mut fmt::Formatter<W>) -> fmt::Result {
+        f.write_str(self.as_str())
+    }
+}
+
+impl fmt::Display for RelatedAddress {
+    ghost use Rattle.std.specs.Prelude.{Some};
+    ghost use Rattle.sdp_formats_types.specs.PrintedCandidates.{related_text};
+
+    ghost output = { λ r. Some (related_text r) };
+
+    fn fmt<W: fmt::Write>(&self, f: &mut fmt::Formatter<W>) -> fmt::Result {
+        let addr = &self.addr;
+        let port = self.port;
+        write!(f, "{addr} rport {port}")
+    }
+}
+
+// What stands behind a candidate's kind, each part where it is told.
+#[derive(Drop)]
+struct CandidateParts<'a>(&'a Candidate);
+
+impl fmt::Display for CandidateParts<'_> {
+    ghost use Rattle.std.specs.Prelude.{Some};
+    ghost use Rattle.sdp_formats_types.specs.PrintedCandidates.{parts_text};
+
+    ghost output = { λ p. Some (parts_text p.0.now) };
+
+    fn fmt<W: fmt::Write>(&self, f: &mut fmt::Formatter<W>) -> fmt::Result {
+        let related = Maybe(" raddr ", &self.0.related);
+        let tcptype = Maybe(" tcptype ", &self.0.tcptype);
+        let ufrag = Maybe(" ufrag ", &self.0.ufrag);
+        write!(f, "{related}{tcptype}{ufrag}")
+    }
+}
+
+/// `candidate:` and its parts, without generation, network number and cost (RFC 8839 5.1).
+impl fmt::Display for Candidate {
+    ghost use Rattle.std.specs.Prelude.{Some};
+
+    ghost output = { λ c. Some (candidate_text c) };
+
+    #[tactic(auto, unfolding(crate::specs::PrintedCandidates::candidate_text))]
+    fn fmt<W: fmt::Write>(&self, f: &mut fmt::Formatter<W>) -> fmt::Result {
+        let (foundation, component) = (&self.foundation, self.component_id);
+        let (proto, prio) = (self.proto.as_str(), self.prio);
+        let (addr, port, kind) = (&self.addr, self.port, self.kind.as_str());
+        let parts = CandidateParts(self);
+        write!(
+            f,
+            "candidate:{foundation} {component} {proto} {prio} {addr} {port} typ {kind}{parts}"
+        )
+    }
+}
+
+impl Candidate {
+    /// It as it stands behind `a=`.
+    ///
+    /// # Errors
+    ///
+    /// `AllocError` where memory is wanting.
+    pub fn to_sdp_string(&self, alloc: Global) -> Result<String, AllocError>
+        ensures { IfOk result (λ text. string_bytes text ≡ candidate_text self.now) }
+    {
+        self.to_string(alloc)
     }
 }
 

@@ -1,6 +1,7 @@
 //! Fingerprints of certificates (RFC 8122 5).
 
-use sdp_formats_forms::{Listed, Text};
+use sdp_formats_forms::{FingerprintFmt, Listed, Text};
+use std::fmt;
 
 /// The fingerprint of a certificate: a hash function's name and its digest (RFC 8122 5).
 #[derive(Debug, Drop)]
@@ -9,4 +10,17 @@ pub struct Fingerprint {
     pub hash_func: Text,
     /// The digest.
     pub bytes: Listed<u8>,
+}
+
+impl fmt::Display for Fingerprint {
+    ghost use Rattle.std.specs.Prelude.{Some};
+    ghost use Rattle.sdp_formats_types.specs.Printed.{fingerprint_text};
+
+    ghost output = { λ f. Some (fingerprint_text f) };
+
+    fn fmt<W: fmt::Write>(&self, f: &mut fmt::Formatter<W>) -> fmt::Result {
+        let hash_func = &self.hash_func;
+        let bytes = FingerprintFmt(self.bytes.as_slice());
+        write!(f, "{hash_func} {bytes}")
+    }
 }

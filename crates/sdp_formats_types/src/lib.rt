@@ -4,10 +4,14 @@
 mod candidate;
 mod consistency;
 mod fingerprint;
+mod lookups;
 mod media;
+mod printed;
+mod section;
 mod session;
 mod setup;
 mod streams;
+mod whole;
 
 pub use candidate::{Candidate, CandidateKind, IceCreds, Protocol, RelatedAddress, TcpType};
 pub use consistency::Inconsistency;

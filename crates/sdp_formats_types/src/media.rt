@@ -10,7 +10,7 @@ use crate::setup::Setup;
 use crate::streams::{Msid, RestrictionId, RidDirection, Simulcast};
 use payload_core_base::Codec;
 use rtp_wire::{Direction, Extension, Frequency, Mid, Pt, Ssrc};
-use sdp_formats_forms::{Listed, Text};
+use sdp_formats_forms::{Listed, Maybe, Text};
 use sdp_formats_params::{FormatParam, Pair};
 use std::fmt;
 
@@ -75,6 +75,22 @@ impl fmt::Display for Proto {
     }
 }
 
+impl fmt::Display for MediaType {
+    ghost use Rattle.std.specs.Prelude.{Some};
+    ghost use Rattle.sdp_formats_types.specs.PrintedMedia.{media_type_text};
+
+    ghost output = { λ t. Some (media_type_text t) };
+
+    fn fmt<W: fmt::Write>(&self, f: &mut fmt::Formatter<W>) -> fmt::Result {
+        match self {
+            MediaType::Audio => f.write_str("audio"),
+            MediaType::Video => f.write_str("video"),
+            MediaType::Application => f.write_str("application"),
+            MediaType::Unknown(word) => write!(f, "{word}"),
+        }
+    }
+}
+
 /// A section: its line `m=` and what follows up to the next (RFC 8866 5.14).
 #[derive(Debug, Drop)]
 pub struct MediaLine {
@@ -101,6 +117,19 @@ pub struct RtpMap {
     pub clock_rate: Frequency,
     /// The number of audio channels, where it is given.
     pub channels: Option<u8>,
+}
+
+impl fmt::Display for RtpMap {
+    ghost use Rattle.std.specs.Prelude.{Some};
+    ghost use Rattle.sdp_formats_types.specs.PrintedMedia.{rtp_map_text};
+
+    ghost output = { λ m. Some (rtp_map_text m) };
+
+    fn fmt<W: fmt::Write>(&self, f: &mut fmt::Formatter<W>) -> fmt::Result {
+        let (codec, clock_rate) = (self.codec, self.clock_rate);
+        let channels = Maybe("/", &self.channels);
+        write!(f, "{codec}/{clock_rate}{channels}")
+    }
 }
 
 /// An attribute of a section (RFC 8866 5.13).

@@ -6,6 +6,7 @@ use crate::media::MediaLine;
 use crate::setup::Setup;
 use rtp_wire::{Mid, SessionId};
 use sdp_formats_forms::{Listed, Text};
+use std::fmt;
 
 /// A session text (RFC 8866 5).
 #[derive(Debug, Drop)]
@@ -34,6 +35,19 @@ pub struct Bandwidth {
     pub typ: Text,
     /// The value.
     pub val: Text,
+}
+
+/// Its line with its end.
+impl fmt::Display for Bandwidth {
+    ghost use Rattle.std.specs.Prelude.{Some};
+    ghost use Rattle.sdp_formats_types.specs.PrintedMedia.{bandwidth_text};
+
+    ghost output = { λ b. Some (bandwidth_text b) };
+
+    fn fmt<W: fmt::Write>(&self, f: &mut fmt::Formatter<W>) -> fmt::Result {
+        let (typ, val) = (&self.typ, &self.val);
+        write!(f, "b={typ}:{val}\r\n")
+    }
 }
 
 /// An attribute of the session (RFC 8866 5.13).

@@ -1,11 +1,15 @@
 //! Streams of a section: names of restrictions, layers, sources.
 
-ghost use Rattle.std.specs.Prelude.{◌≡◌, true};
+ghost use Rattle.std.specs.Prelude.{◌≡◌, true, IfOk};
+ghost use Rattle.std.specs.String.{string_bytes};
+ghost use Rattle.sdp_formats_types.specs.Printed.{way_text, name_text};
 ghost use Rattle.sdp_formats_types.specs.Streams.{inverted};
 
 use rtp_wire::Ssrc;
-use sdp_formats_forms::{Listed, Text};
+use sdp_formats_forms::{Joined, Listed, Text};
 use sdp_formats_params::Pair;
+use std::alloc::{AllocError, Global};
+use std::fmt;
 
 /// The name of an `a=rid` line (RFC 8851 4), and whether its stream is active at first: the name, and the flag.
 #[derive(Debug, Drop)]
@@ -25,6 +29,31 @@ impl RestrictionId {
     {
         RestrictionId(rid, true)
     }
+
+    /// It as it stands in an `a=simulcast` line: behind a tilde where it isn't active at first (RFC 8853 5.1).
+    ///
+    /// # Errors
+    ///
+    /// `AllocError` where memory is wanting.
+    pub fn to_sdp(&self, alloc: Global) -> Result<String, AllocError>
+        ensures { IfOk result (λ text. string_bytes text ≡ name_text self.now) }
+    {
+        self.to_string(alloc)
+    }
+}
+
+impl fmt::Display for RestrictionId {
+    ghost use Rattle.std.specs.Prelude.{Some};
+
+    ghost output = { λ id. Some (name_text id) };
+
+    fn fmt<W: fmt::Write>(&self, f: &mut fmt::Formatter<W>) -> fmt::Result {
+        let name = &self.0;
+        if self.1 {
+            return write!(f, "{name}");
+        }
+        write!(f, "~{name}")
+    }
 }
 
 /// Which way the stream of an `a=rid` line goes (RFC 8851 4).
@@ -36,6 +65,18 @@ pub enum RidDirection {
     Recv,
 }
 
+impl RidDirection {
+    /// The word for it in a session text.
+    pub fn as_str(&self) -> &'static str
+        ensures { result.now ≡ way_text self.now }
+    {
+        match self {
+            RidDirection::Send => "send",
+            RidDirection::Recv => "recv",
+        }
+    }
+}
+
 /// A layer of a simulcast (RFC 8853 5.1).
 #[derive(Debug, Drop)]
 pub struct SimulcastLayer {
@@ -45,9 +86,35 @@ pub struct SimulcastLayer {
     pub attributes: Option<Listed<Pair>>,
 }
 
+/// The name of its `a=rid` line.
+impl fmt::Display for SimulcastLayer {
+    ghost use Rattle.std.specs.Prelude.{Some};
+    ghost use Rattle.sdp_formats_types.specs.Printed.{layer_text};
+
+    ghost output = { λ l. Some (layer_text l) };
+
+    fn fmt<W: fmt::Write>(&self, f: &mut fmt::Formatter<W>) -> fmt::Result {
+        let name = &self.restriction_id;
+        write!(f, "{name}")
+    }
+}
+
 /// The layers of one way of a simulcast, in the order of preference; of alternatives the first (RFC 8853 5.1).
 #[derive(Debug, Drop)]
 pub struct SimulcastGroups(pub Listed<SimulcastLayer>);
+
+/// The names of the layers with semicolons between.
+impl fmt::Display for SimulcastGroups {
+    ghost use Rattle.std.specs.Prelude.{Some};
+    ghost use Rattle.sdp_formats_types.specs.Printed.{layers_text};
+
+    ghost output = { λ g. Some (layers_text g) };
+
+    fn fmt<W: fmt::Write>(&self, f: &mut fmt::Formatter<W>) -> fmt::Result {
+        let layers = Joined(self.0.as_slice(), ";");
+        write!(f, "{layers}")
+    }
+}
 
 /// An `a=simulcast` line (RFC 8853 5.1).
 #[derive(Debug, Drop)]
@@ -74,6 +141,28 @@ impl Simulcast {
     }
 }
 
+/// The whole line with its end; nothing where it was made up or names no layer.
+impl fmt::Display for Simulcast {
+    ghost use Rattle.std.specs.Prelude.{Some};
+    ghost use Rattle.sdp_formats_types.specs.Printed.{simulcast_text};
+
+    ghost output = { λ s. Some (simulcast_text s) };
+
+    #[tactic(auto, unfolding(crate::specs::Printed::simulcast_text))]
+    fn fmt<W: fmt::Write>(&self, f: &mut fmt::Formatter<W>) -> fmt::Result {
+        if self.is_munged {
+            return Ok(());
+        }
+        let (send, recv) = (&self.send, &self.recv);
+        match (send.0.as_slice().is_empty(), recv.0.as_slice().is_empty()) {
+            (true, true) => Ok(()),
+            (false, true) => write!(f, "a=simulcast:send {send}\r\n"),
+            (true, false) => write!(f, "a=simulcast:recv {recv}\r\n"),
+            (false, false) => write!(f, "a=simulcast:send {send} recv {recv}\r\n"),
+        }
+    }
+}
+
 /// The names of a media stream and its track (RFC 8830 2).
 #[derive(Debug, Drop)]
 pub struct Msid {
@@ -81,6 +170,18 @@ pub struct Msid {
     pub stream_id: Text,
     /// The track.
     pub track_id: Text,
+}
+
+impl fmt::Display for Msid {
+    ghost use Rattle.std.specs.Prelude.{Some};
+    ghost use Rattle.sdp_formats_types.specs.Printed.{msid_text};
+
+    ghost output = { λ m. Some (msid_text m) };
+
+    fn fmt<W: fmt::Write>(&self, f: &mut fmt::Formatter<W>) -> fmt::Result {
+        let (stream, track) = (&self.stream_id, &self.track_id);
+        write!(f, "{stream} {track}")
+    }
 }
 
 /// What a section says of one source (RFC 5576).

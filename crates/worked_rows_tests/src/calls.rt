@@ -30,6 +30,7 @@ pub fn sending_stream(rt: &impl Abort, end: &mut End) -> Result<(), Fail> {
         limit: 1400,
         red: None,
         picture_id: None,
+        for_browsers: false,
     };
     assert!(rt; params.is_sound(end.agreed_red(mid, pt)));
     let _ = end.open_sender(mid, Ssrc::from(44), pt, params)?;

@@ -7,7 +7,7 @@ ghost use Rattle.rtp_media_exchange.specs.Refusals.{Names, refusal_of_new, refus
 ghost use Rattle.rtp_media_exchange.specs.Refusals.{refusal_of_accept};
 ghost use Rattle.rtp_media_exchange.specs.Sections.{only};
 ghost use Rattle.rtp_media_ends.specs.Ends.{new_end, with_exchange};
-ghost use Rattle.rtp_media_ends.specs.Connections.{Connects, HaveOneAgreement, IsRefused};
+ghost use Rattle.rtp_media_ends.specs.Connections.{Connects, HaveExchanged, HaveOneAgreement, IsRefused};
 
 use super::End;
 use rtp_media_exchange::{CodecConfig, EndError, Exchange, ExchangeError, SectionSpec, Session};
@@ -120,6 +120,7 @@ pub fn connect(
 ) -> Result<(String, String), ExchangeError>
     ensures texts { IfOk result (λ texts. Connects a.old b.old sections_a.items sections_b.items
         (string_bytes texts.0) (string_bytes texts.1) a.new b.new) }
+    ensures exchanged { IfOk result (λ texts. HaveExchanged (string_bytes texts.1) a.new b.new) }
     ensures agree { OnOk result (HaveOneAgreement a.new.exchange.agreed b.new.exchange.agreed) }
     ensures refused { IfErr result (λ e. IsRefused a.old b.old sections_a.items sections_b.items e a.new b.new) }
 {

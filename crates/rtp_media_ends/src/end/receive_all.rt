@@ -1,10 +1,11 @@
 //! Datagrams received one after the other, and then all units that are ready.
 
-ghost use Rattle.std.specs.Prelude.{◌≡◌, ℕ, List, OnOk, IfOk};
+ghost use Rattle.std.specs.Prelude.{◌≡◌, ℕ, List, OnOk, OnErr, IfOk};
 ghost use Rattle.rtp_media_streams.specs.Polls.{AreAnswered};
 ghost use Rattle.rtp_media_streams.specs.Sending.{Sample, Sending};
 ghost use Rattle.rtp_media_ends.specs.FullArrival.{verdicts_of, after_datagrams, ArePolledOut, IsPolledOut, HasAllOf};
-ghost use Rattle.rtp_media_ends.specs.FullArrival.{answers_at, units_of, with_receivers};
+ghost use Rattle.rtp_media_ends.specs.FullArrival.{answers_at, units_of, with_receivers, ArePolledSome};
+ghost use Rattle.rtp_media_ends.specs.FullArrival.{ReceivesAndPollsSome, ReceivesSome, WasPolledSome};
 
 use super::End;
 use crate::errors::ReceiveError;
@@ -59,7 +60,8 @@ impl End {
     /// number, until it answers None or memory for a unit is wanting, which is its last answer then.
     ///
     /// # Errors
-    /// `ReceiveError::Memory`, after a part of that was done.
+    /// `ReceiveError::Memory`, after a part of that was done: some first datagrams were received, or all were and
+    /// streams were polled some times.
     pub fn receive_all(&mut self, datagrams: &[Datagram]) -> Result<ReceivedAll, ReceiveError>
         ensures verdicts { IfOk result (λ all. all.verdicts.items ≡ verdicts_of self.old datagrams.now) }
         ensures polls { IfOk result (λ all. ArePolledOut (after_datagrams self.old datagrams.now).receivers
@@ -72,6 +74,7 @@ impl End {
             (arrivals : List ℕ) →
             HasAllOf self.old stream hold_back sender samples arrivals datagrams.now →
             AreAnswered (units_of sender samples) (answers_at all.polls.items stream)) }
+        ensures memory { OnErr result (ReceivesAndPollsSome self.old datagrams.now self.new) }
     {
         codec_law();
         let verdicts = self.receive_each(datagrams)?;
@@ -83,10 +86,12 @@ impl End {
     fn receive_each(&mut self, datagrams: &[Datagram]) -> Result<Vec<Received>, ReceiveError>
         ensures verdicts { IfOk result (λ verdicts. verdicts.items ≡ verdicts_of self.old datagrams.now) }
         ensures after { OnOk result (self.new ≡ after_datagrams self.old datagrams.now) }
+        ensures some { OnErr result (ReceivesSome self.old datagrams.now self.new) }
     {
         let mut verdicts = Vec::new(self.alloc);
         for datagram in datagrams {
-            verdicts.push(self.receive(datagram.as_slice())?)?;
+            let verdict = self.receive(datagram.as_slice())?;
+            verdicts.push(verdict)?;
         }
         Ok(verdicts)
     }
@@ -94,19 +99,22 @@ impl End {
 
 /// Polls each stream until it answers None or memory is wanting.
 fn poll_each(alloc: Global, receivers: &mut Vec<ReceivingStream>) -> Result<Vec<Polls>, AllocError>
-    ensures { IfOk result (λ polls. ArePolledOut receivers.old.items polls.items receivers.new.items) }
+    ensures out { IfOk result (λ polls. ArePolledOut receivers.old.items polls.items receivers.new.items) }
+    ensures some { OnErr result (ArePolledSome receivers.old.items receivers.new.items) }
 {
     let mut polls = Vec::new(alloc);
     for stream in 0..receivers.len() {
         let receiver = &mut receivers[stream];
-        polls.push(poll_out(receiver)?)?;
+        let answers = poll_out(receiver)?;
+        polls.push(answers)?;
     }
     Ok(polls)
 }
 
 /// Polls a stream until it answers None or memory is wanting.
 fn poll_out(receiver: &mut ReceivingStream) -> Result<Polls, AllocError>
-    ensures { IfOk result (λ polls. IsPolledOut receiver.old polls receiver.new) }
+    ensures out { IfOk result (λ polls. IsPolledOut receiver.old polls receiver.new) }
+    ensures some { OnErr result (WasPolledSome receiver.old receiver.new) }
 {
     let answers = receiver.poll_all()?;
     Ok(Polls { answers })

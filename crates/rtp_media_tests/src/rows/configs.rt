@@ -1,6 +1,6 @@
 //! Configs.
 
-use sdp_formats_rows::{Codec, CodecConfig, FormatParams, Frequency, Pt};
+use sdp_formats_config::{Codec, CodecConfig, FormatParams, Frequency, Pt};
 use std::alloc::AllocError;
 use std::test::Fail;
 

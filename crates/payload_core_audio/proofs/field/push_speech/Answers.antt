@@ -1,24 +1,35 @@
-use Rattle.std.proofs.Common.{◌≡◌, ◌+◌, ◌/◌, ◌++◌, ◌∷◌, [], ap, sym, ◌∙◌, append_assoc, arith}
-use Rattle.std.proofs.lemmas.List.FromFn.{map-range_with_len_more}
-use Rattle.payload_core_audio.specs.AmrWb.{byte_from, bytes_from, field_of, speech_of}
+use Rattle.std.proofs.Common.{◌≡◌, ◌+◌, ◌-◌, ◌*◌, ◌/◌, ◌%◌, ◌++◌, ◌∷◌, [], ap, sym, ◌∙◌, append_assoc, arith}
+use Rattle.payload_core_audio.specs.AmrWb.{byte_from, bytes_from, field_of}
+use Rattle.payload_core_audio.specs.BitBytes.{bits_from, front_of}
 use Rattle.payload_core_audio.specs.BitPlaces.{place_of}
+use Rattle.payload_core_audio.proofs.BitLemmas.{field-byte, speech-filled, speech-whole}
 use Rattle.payload_core_audio.proofs.field.push_speech.Goals as goal
 
-pub loop-k-preserved : goal.loop-k-preserved
-loop-k-preserved c =
-    let bit = field_of c.args.bytes.now (place_of c.args.place) c.args.size in
+pub returns-in_ok-push-clause-written : goal.returns-in_ok-push-clause-written
+returns-in_ok-push-clause-written c =
+    let bytes = c.args.bytes.now in
+    let place = place_of c.args.place in
+    let size = c.args.size in
+    let front = bytes_from (bits_from bytes place) (size / 8) in
     let old = c.args.out.now.items in
-    let k = c.loop-k.k in
-    let more = map-range_with_len_more (byte_from bit) 0 k k (omega arith) in
+    let at : place + size / 8 * 8 ≡ place + 8 * (size / 8) = omega arith in
+    let left : size % 8 ≡ size - 8 * (size / 8) = omega arith in
+    let last = c.front_of.ensures
+    ∙ ap (front_of (size % 8)) (c.byte-last.ensures
+    ∙ ap (λ p. byte_from (bits_from bytes p) 0) (c.after.ensures ∙ at))
+    ∙ ap (λ n. front_of n (byte_from (bits_from bytes (place + 8 * (size / 8))) 0)) left
+    ∙ sym (field-byte bytes place size (size / 8) (omega arith)) in
     c.in_ok-push.ensures.items
-    ∙ ap (λ xs. xs ++ c.field_byte.result ∷ []) c.loop-k.invariant
-    ∙ ap (λ b. (old ++ bytes_from bit k) ++ b ∷ []) c.field_byte.ensures
-    ∙ append_assoc old (bytes_from bit k) (byte_from bit k ∷ [])
-    ∙ ap (λ xs. old ++ xs) (sym more)
+    ∙ ap (λ xs. xs ++ c.front_of.result ∷ []) (c.in_ok-push_bytes.ensures.written
+    ∙ ap (λ xs. xs ++ front) c.in_ok-reserve.ensures.items)
+    ∙ append_assoc old front (c.front_of.result ∷ [])
+    ∙ ap (λ xs. old ++ xs) (ap (λ b. front ++ b ∷ []) last ∙ sym (speech-filled bytes place size (omega arith)))
 
-pub returns-clause-written : goal.returns-clause-written
-unfolding speech_of
-returns-clause-written c =
-    let bit = field_of c.args.bytes.now (place_of c.args.place) c.args.size in
-    let end : c.loop-k.k ≡ (c.args.size + 7) / 8 = omega arith in
-    c.loop-k.invariant ∙ ap (λ n. c.args.out.now.items ++ bytes_from bit n) end
+pub returns-else-size-gt0-clause-written : goal.returns-else-size-gt0-clause-written
+returns-else-size-gt0-clause-written c =
+    let bytes = c.args.bytes.now in
+    let place = place_of c.args.place in
+    let size = c.args.size in
+    c.in_ok-push_bytes.ensures.written
+    ∙ ap (λ xs. xs ++ bytes_from (bits_from bytes place) (size / 8)) c.in_ok-reserve.ensures.items
+    ∙ ap (λ xs. c.args.out.now.items ++ xs) (sym (speech-whole bytes place size (omega arith)))

@@ -1,4 +1,5 @@
 use Rattle.std.proofs.Common.{◌≡◌, ◌++◌, ◌<◌}
+use Rattle.payload_core_av1.specs.Av1ReadingViews.{Keeps}
 use Rattle.payload_core_av1.specs.Leb128.{size_limit, spelling}
 use Rattle.payload_core_av1.proofs.leb128.push_size.Given as goal
 
@@ -6,6 +7,7 @@ use Rattle.payload_core_av1.proofs.leb128.push_size.Given as goal
 abbrev pub invariant-loop-left : goal.invariant-loop-left
 invariant-loop-left l = record {
   small : l.left < size_limit;
+  kept : Keeps l.initial.out.items l.out.items;
   whole : l.out.items ++ spelling l.left ≡ l.initial.out.items ++ spelling l.size;
 }
 

@@ -33,14 +33,14 @@ loop-piece-preserved c =
       left = left;
       whole =
           rw (c.in_ok-push.ensures.items, map-append, append_assoc, c.in_ok-packet.ensures.packet)
-          (ap (λ e. before ++ (descriptor c.args.id c.loop-piece.first e ++ c.in-Some.piece.now)
-          ∷ described c.args.id false (pieces c.args.size rest)) (sym last)
-          ∙ ap (λ ps. before ++ described c.args.id c.loop-piece.first ps) (sym next) ∙ whole.whole);
+          (ap (λ e. before ++ (descriptor c.args.told c.args.id c.loop-piece.first e ++ c.in-Some.piece.now)
+          ∷ described c.args.told c.args.id false (pieces c.args.size rest)) (sym last)
+          ∙ ap (λ ps. before ++ described c.args.told c.args.id c.loop-piece.first ps) (sym next) ∙ whole.whole);
     }
 
 pub returns-clause-packets : goal.returns-clause-packets
 returns-clause-packets c =
     let whole = c.loop-piece.invariant.whole in
     let ps : List (List ℕ) = map (λ p. p.items) c.loop-piece.packets.items in
-    sym (append-nil ps) ∙ ap (λ rest. ps ++ described c.args.id c.loop-piece.first rest)
+    sym (append-nil ps) ∙ ap (λ rest. ps ++ described c.args.told c.args.id c.loop-piece.first rest)
     (sym (pieces-end c.args.size (chunks_rest c.loop-piece.piece-iterator) c.in-None.ensures.steps.1.0)) ∙ whole

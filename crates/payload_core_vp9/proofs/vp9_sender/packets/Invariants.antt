@@ -9,6 +9,7 @@ abbrev pub invariant-loop-piece : goal.invariant-loop-piece
 invariant-loop-piece l = record {
   size : chunks_size l.piece-iterator ≡ l.size;
   left : l.left ≡ length (chunks_rest l.piece-iterator);
-  whole : map (λ p. p.items) l.packets.items ++ described l.id l.first (pieces l.size (chunks_rest l.piece-iterator))
-      ≡ described l.id true (pieces l.size l.bytes);
+  whole : map (λ p. p.items) l.packets.items
+      ++ described l.told l.id l.first (pieces l.size (chunks_rest l.piece-iterator))
+      ≡ described l.told l.id true (pieces l.size l.bytes);
 }

@@ -17,13 +17,13 @@ loop-piece-preserved c =
       whole =
           rw (c.in_ok-push.ensures.items, map-append, append_assoc, c.in_ok-packet.ensures.packet)
           (ap (λ ps. map (λ p. p.items) c.loop-piece.packets.items
-          ++ described c.args.has_id c.args.id c.loop-piece.first ps) (sym next) ∙ whole.whole);
+          ++ described c.args.tells c.args.id c.loop-piece.first ps) (sym next) ∙ whole.whole);
     }
 
 pub returns-clause-packets : goal.returns-clause-packets
 returns-clause-packets c =
     let whole = c.loop-piece.invariant in
     let ps : List (List ℕ) = map (λ p. p.items) c.loop-piece.packets.items in
-    sym (append-nil ps) ∙ ap (λ rest. ps ++ described c.args.has_id c.args.id c.loop-piece.first rest)
+    sym (append-nil ps) ∙ ap (λ rest. ps ++ described c.args.tells c.args.id c.loop-piece.first rest)
     (sym (pieces-end c.args.size (chunks_rest c.loop-piece.piece-iterator) c.in-None.ensures.steps.1.0))
     ∙ whole.whole

@@ -9,6 +9,6 @@ abbrev pub invariant-loop-piece : goal.invariant-loop-piece
 invariant-loop-piece l = record {
   size : chunks_size l.piece-iterator ≡ l.size;
   whole : map (λ p. p.items) l.packets.items
-      ++ described l.has_id l.id l.first (pieces l.size (chunks_rest l.piece-iterator))
-      ≡ described l.has_id l.id true (pieces l.size l.bytes);
+      ++ described l.tells l.id l.first (pieces l.size (chunks_rest l.piece-iterator))
+      ≡ described l.tells l.id true (pieces l.size l.bytes);
 }

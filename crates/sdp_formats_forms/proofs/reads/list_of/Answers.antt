@@ -1,4 +1,4 @@
-use Rattle.std.proofs.Common.{sym, ap, ◌∙◌, arith, ◌≡◌, List, ℕ, ◌∷◌, ◌++◌, [], length, Some, append-nil}
+use Rattle.std.proofs.Common.{sym, ap, ◌∙◌, arith, List, ℕ, length, Some, append-nil}
 use Rattle.std.proofs.lemmas.Result.{err_from_is_err_and}
 use Rattle.sdp_formats_forms.specs.Form.{each}
 use Rattle.sdp_formats_forms.specs.Pieces.{with_front}

@@ -21,7 +21,7 @@ returns-clause-sender c =
     ) in
     let stream : c.in_ok-stream.stream ≡ with_distances
     (opened_sender c.args.ssrc (types_of row) c.in_ok-exts.exts (row_format_of row) c.args.params.picture_id
-    c.args.params.first c.args.params.mtu c.args.params.limit) row.red c.args.params.red =
+    c.args.params.for_browsers c.args.params.first c.args.params.mtu c.args.params.limit) row.red c.args.params.red =
     grind (arith, common_steps) in
     let opened = opened-sound c.codec_law.ensures.first c.args.ssrc row c.in_ok-exts.exts c.args.params typed
     c.in_ok-row.ensures.red c.in_ok-row.ensures.format (omega arith) sound in

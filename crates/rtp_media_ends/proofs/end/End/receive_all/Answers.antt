@@ -13,10 +13,10 @@ returns-clause-exact c stream hold_back sender samples arrivals all =
     let polled : ArePolledOut (after_datagrams c.args.self.now c.args.datagrams.now).receivers
     c.in_ok-polls.polls.items c.poll_each.new.receivers.items =
     subst (λ (rs : List Receiving). ArePolledOut rs c.in_ok-polls.polls.items c.poll_each.new.receivers.items)
-    receivers c.in_ok-polls.ensures in
+    receivers c.in_ok-polls.ensures.out in
     let r : Receiving = opened_receiver sender.ssrc sender.types sender.map sender.row hold_back in
     let same : receiver_at c.args.self.now stream ≡ with_stream r (receiver_at c.args.self.now stream).stream =
-    all.fresh ∙ ap (with_stream r) (sym (ap (λ (x : Receiving). x.stream) all.fresh)) in
-    exact c.codec_law.ensures.codec c.args.self.now stream hold_back sender samples arrivals c.args.datagrams.now _ _
+    all.receiver.stream_is ∙ ap (with_stream r) (sym (ap (λ (x : Receiving). x.stream) all.receiver.stream_is)) in
+    exact c.codec_law.ensures.codec_in_forms c.args.self.now stream hold_back sender samples arrivals c.args.datagrams.now _ _
     all
-    (polled.each stream (found-after c.args.datagrams.now c.args.self.now stream r same all.opened))
+    (polled.each stream (found-after c.args.datagrams.now c.args.self.now stream r same all.receiver.found))

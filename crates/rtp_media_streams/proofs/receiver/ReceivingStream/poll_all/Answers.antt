@@ -1,10 +1,11 @@
-use Rattle.std.proofs.Common.{◌≡◌, ◌∙◌, ap, subst, None, Some, Ok, Err}
+use Rattle.std.proofs.Common.{◌≡◌, ◌∙◌, ap, subst, None, Some, Result, Ok, Err, OnErr}
 use Rattle.payload_core_base.specs.Format.{Format}
 use Rattle.rtp_media_runs.specs.Hearing.{Stream, poll_answer, polled}
 use Rattle.rtp_media_streams.specs.Polls.{IsInterrupted, given}
 use Rattle.rtp_media_streams.specs.Receiving.{Receiving, with_stream}
 use Rattle.rtp_media_streams.specs.Rows.{format_of}
-use Rattle.rtp_media_streams.proofs.Draining.{polled_fault, polled_more, polled_out, polled_short}
+use Rattle.rtp_media_streams.proofs.Draining.{one-more-poll, polled_fault, polled_more, polled_out}
+use Rattle.rtp_media_streams.proofs.Draining.{polled_short, some-polls}
 use Rattle.rtp_media_streams.proofs.receiver.ReceivingStream.poll_all.Goals as goal
 
 pub returns-in-Ok-None-clause-polled : goal.returns-in-Ok-None-clause-polled
@@ -32,6 +33,9 @@ loop-answers-preserved-in-Continue-1 c =
           (ap (λ (r : Receiving). r.stream) c.in-Ok-Some.ensures.after ∙ ap (λ (f : Format). polled f s) row)
           c.in_ok-push-in-Ok-Some.ensures.items
           c.loop-answers.invariant.so;
+      times = one-more-poll (format_of c.args.self.now.row) c.args.self.now.stream s c.poll.new.self.stream
+          c.loop-answers.invariant.times
+          (ap (λ (r : Receiving). r.stream) c.in-Ok-Some.ensures.after ∙ ap (λ (f : Format). polled f s) row);
     }
 
 pub returns-in-Memory-clause-polled : goal.returns-in-Memory-clause-polled
@@ -60,4 +64,30 @@ loop-answers-preserved c =
           ∙ ap (λ (f : Format). polled f s) row)
           c.in_ok-push-in_default.ensures.items
           c.loop-answers.invariant.so;
+      times = one-more-poll (format_of c.args.self.now.row) c.args.self.now.stream s c.poll.new.self.stream
+          c.loop-answers.invariant.times
+          (ap (λ (r : Receiving). r.stream) (c.in-Err.ensures.behind c.in_default.not-Memory)
+          ∙ ap (λ (f : Format). polled f s) row);
     }
+
+whatever : {A E : Type 0} {X : Type 0} (r : Result A E) → X → OnErr r X
+whatever (Ok a) x = tt
+whatever (Err e) x = x
+
+pub returns-in_err-push-in-Ok-Some-clause-some : goal.returns-in_err-push-in-Ok-Some-clause-some
+returns-in_err-push-in-Ok-Some-clause-some c =
+    let row = ap (λ (r : Receiving). format_of r.row) c.loop-answers.invariant.same in
+    whatever _ (some-polls (format_of c.args.self.now.row) c.args.self.now.stream c.poll.new.self.stream
+    (one-more-poll (format_of c.args.self.now.row) c.args.self.now.stream c.loop-answers.self.stream
+    c.poll.new.self.stream c.loop-answers.invariant.times
+    (ap (λ (r : Receiving). r.stream) c.in-Ok-Some.ensures.after
+    ∙ ap (λ (f : Format). polled f c.loop-answers.self.stream) row)))
+
+pub returns-in_err-push-in_default-clause-some : goal.returns-in_err-push-in_default-clause-some
+returns-in_err-push-in_default-clause-some c =
+    let row = ap (λ (r : Receiving). format_of r.row) c.loop-answers.invariant.same in
+    whatever _ (some-polls (format_of c.args.self.now.row) c.args.self.now.stream c.poll.new.self.stream
+    (one-more-poll (format_of c.args.self.now.row) c.args.self.now.stream c.loop-answers.self.stream
+    c.poll.new.self.stream c.loop-answers.invariant.times
+    (ap (λ (r : Receiving). r.stream) (c.in-Err.ensures.behind c.in_default.not-Memory)
+    ∙ ap (λ (f : Format). polled f c.loop-answers.self.stream) row)))

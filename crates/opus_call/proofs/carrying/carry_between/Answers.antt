@@ -1,0 +1,58 @@
+use Rattle.std.proofs.Common.{◌≡◌, ℕ, ◌≤◌, ◌∙◌, sym, ap, subst, subst₂, arith, length, Option}
+use Rattle.payload_core_base.specs.declared.codec.Codec.TheVariants.{Opus}
+use Rattle.rtp_media_streams.specs.Sending.{Sending, packet_limit}
+use Rattle.rtp_media_ends.specs.Ends.{EndState, after_open_receiver, agreed_format, agreed_red, agreed_types}
+use Rattle.rtp_media_ends.specs.Ends.{new_sender}
+use Rattle.rtp_media_ends.specs.Ends.{stream_map}
+use Rattle.rtp_media_ends.specs.FullArrival.{count_of}
+use Rattle.rtp_media_ends.specs.OpensAt.{SendsAt}
+use Rattle.rtp_media_ends.specs.Params.{IsSound}
+use Rattle.rtp_media_play.specs.Headline.{SendsTo}
+use Rattle.rtp_media_play.specs.Runs.{Hears}
+use Rattle.opus_call.proofs.OpusStreams.{has-room, sends-opus, sound-opus}
+use Rattle.opus_call.proofs.Three.{count-three}
+use Rattle.opus_call.proofs.carrying.carry_between.Goals as goal
+
+pub carry_over-requires-clause-opus : goal.carry_over-requires-clause-opus
+carry_over-requires-clause-opus c =
+    let sends : SendsAt c.args.a.now c.from-mid.result c.from-ssrc.result c.from-pt.result =
+    (c.headline.ensures.sends c.args.a.now c.from-mid.result c.from-ssrc.result c.from-pt.result).0
+    c.in-Ok.ensures.opens in
+    ap (λ (s : Sending). s.row.codec) c.in-Ok.ensures.stream
+    ∙ sends-opus c.requires.exchanged.0 c.args.a.now c.from-mid.result c.from-ssrc.result c.from-pt.result c.args.params
+    c.requires.exchanged.1.first sends
+
+pub carry_over-requires-clause-hears : goal.carry_over-requires-clause-hears
+carry_over-requires-clause-hears c =
+    let a : EndState = c.args.a.now in
+    let b : EndState = c.args.b.now in
+    let s : Sending = new_sender a c.from-mid.result c.from-ssrc.result c.from-pt.result c.args.params in
+    let sends : SendsAt a c.from-mid.result c.from-ssrc.result c.from-pt.result =
+    (c.headline.ensures.sends a c.from-mid.result c.from-ssrc.result c.from-pt.result).0 c.in-Ok.ensures.opens in
+    let opus : s.row.codec ≡ Opus = sends-opus c.requires.exchanged.0 a c.from-mid.result c.from-ssrc.result
+    c.from-pt.result c.args.params c.requires.exchanged.1.first sends in
+    let room : 1199 ≤ packet_limit s = has-room c.from-ssrc.result (agreed_types a c.from-mid.result c.from-pt.result)
+    (stream_map a c.from-mid.result) (agreed_format a c.from-mid.result c.from-pt.result) c.args.params
+    (agreed_red a c.from-mid.result c.from-pt.result) c.args.params.red c.requires.mtu in
+    let count : count_of s c.args.samples.now ≡ 3 =
+    count-three s c.args.samples.now c.requires.three opus room c.requires.short in
+    let sound : IsSound c.agreed_red.result c.args.params = c.is_sound.ensures.sound.0 c.if-not-is_sound.false in
+    let to : SendsTo c.requires.exchanged.0 a b c.from-mid.result c.from-ssrc.result c.from-pt.result c.args.params
+    c.args.samples.now = record {
+      exchanged = c.requires.exchanged.1;
+      sends = sends;
+      receives = (c.headline.ensures.receives b c.from-mid.result c.from-ssrc.result c.from-pt.result).0
+          c.in-Ok-open_receiver.ensures.opens;
+      ssrc_fits = omega arith;
+      sound_params = subst (λ (red : Option ℕ). IsSound red c.args.params) c.agreed_red.ensures sound;
+      sound_samples = sound-opus s c.args.samples.now opus c.requires.short;
+      numbers = omega (arith, count, c.requires.first);
+    } in
+    let hears : Hears (after_open_receiver b c.from-mid.result c.from-ssrc.result c.from-pt.result 127)
+    (length b.receivers) 127 s c.args.samples.now =
+    c.headline.ensures.hears c.requires.exchanged.0 a b c.from-mid.result c.from-ssrc.result c.from-pt.result
+    c.args.params c.args.samples.now 127 to in
+    subst (λ (t : Sending). Hears c.open_receiver.new.self c.in-Ok-open_receiver.rx 127 t c.args.samples.now)
+    (sym c.in-Ok.ensures.stream)
+    (subst₂ (λ (e : EndState) (n : ℕ). Hears e n 127 s c.args.samples.now)
+    (sym c.in-Ok-open_receiver.ensures.after) (sym c.in-Ok-open_receiver.ensures.number) hears)

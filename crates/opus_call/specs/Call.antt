@@ -1,0 +1,36 @@
+-- Short samples, what comes out of them, and polls that end.
+use Rattle.std.specs.Prelude.{ℕ, ◌≡◌, ◌<◌, ◌≤◌, Bool, true, false, List, [], ◌∷◌, length, Option, Some, None, Result}
+use Rattle.std.specs.Prelude.{Ok, Err}
+use Rattle.payload_core_base.specs.declared.error.PacketError.{PacketError}
+use Rattle.rtp_wire.specs.Values.{absent}
+use Rattle.rtp_media_runs.specs.Hearing.{MediaUnit}
+use Rattle.rtp_media_streams.specs.Sending.{Sample}
+use Rattle.rtp_media_play.specs.declared.schedule.Played.{Played}
+use Rattle.rtp_media_play.specs.declared.schedule.Played.TheVariants.{Received, Polled}
+
+-- A sample that one datagram has room for, without values of header extensions.
+pub record IsShortSample (x : Sample) : Type 0 where
+  pub some : 0 < length x.bytes
+  pub short : length x.bytes ≤ 1199
+  pub values : x.values ≡ absent
+
+-- the bytes of what is handed out
+abbrev pub bytes_out : Result MediaUnit PacketError → Result (List ℕ) PacketError
+bytes_out (Ok u) = Ok u.bytes
+bytes_out (Err e) = Err e
+
+-- whether a poll answered None
+abbrev pub is_silent : Result (Option MediaUnit) PacketError → Bool
+is_silent (Ok None) = true
+is_silent (Ok (Some u)) = false
+is_silent (Err e) = false
+
+-- whether the last poll up to an answer answered None
+abbrev pub silent_at : Bool → Played → Bool
+silent_at before (Received verdict) = before
+silent_at before (Polled answer) = is_silent answer
+
+-- whether the last poll answered None, where this holds of the polls before
+abbrev pub silent_after : Bool → List Played → Bool
+silent_after before [] = before
+silent_after before (p ∷ ps) = silent_after (silent_at before p) ps

@@ -1,0 +1,6 @@
+pub mod Pushes
+pub mod Plays
+pub mod Isolated
+pub mod WholeRuns
+pub mod UnitsAlone
+pub mod Exchanged

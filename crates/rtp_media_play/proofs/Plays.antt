@@ -1,0 +1,103 @@
+-- Events that happen one after the other.
+use Rattle.std.proofs.Common.{◌≡◌, ℕ, zero, suc, ◌+◌, ◌<◌, ◌≤◌, refl, sym, ◌∙◌, ap, ap₂, subst, arith}
+use Rattle.std.proofs.Common.{List, [], ◌∷◌, ◌++◌, length, length-set, take, append_assoc, append-nil, add-one}
+use Rattle.std.proofs.Common.{Option, Some, None}
+use Rattle.std.specs.Prelude.{slice_index_or, slice_get, ◌⊎◌}
+use Rattle.rtp_media_ends.specs.Arrivals.{Arrival, NoHeader, NoStream, NoPayload, Own, after_arrival}
+use Rattle.rtp_media_ends.specs.Arrivals.{arrival_at}
+use Rattle.rtp_media_ends.specs.Ends.{EndState}
+use Rattle.rtp_media_play.specs.Pushing.{PlaysSome, PollStops}
+use Rattle.rtp_media_play.specs.Schedules.{after_bytes, after_event, after_schedule, answers_to, played}
+use Rattle.rtp_media_play.specs.declared.schedule.Event.{Event}
+use Rattle.rtp_media_play.specs.declared.schedule.Event.TheVariants.{Arrive, Foreign, Poll}
+use Rattle.rtp_media_play.specs.declared.schedule.Played.{Played}
+
+-- no event opens or closes a stream
+after-arrival-many : (e : EndState) (a : Arrival) → length (after_arrival e a).receivers ≡ length e.receivers
+after-arrival-many e NoHeader = refl
+after-arrival-many e NoStream = refl
+after-arrival-many e NoPayload = refl
+after-arrival-many e (Own stream low time marker values payload) = length-set e.receivers stream _
+
+after-bytes-many : (e : EndState) (o : Option (List ℕ)) → length (after_bytes e o).receivers ≡ length e.receivers
+after-bytes-many e None = refl
+after-bytes-many e (Some d) = after-arrival-many e (arrival_at e.receivers d)
+
+after-event-many : (sent : List (List ℕ)) (rx : ℕ) (e : EndState) (x : Event)
+    → length (after_event sent rx e x).receivers ≡ length e.receivers
+after-event-many sent rx e (Arrive k) = after-bytes-many e (slice_get sent k)
+after-event-many sent rx e (Foreign d) = after-arrival-many e (arrival_at e.receivers d)
+after-event-many sent rx e Poll = length-set e.receivers rx _
+
+-- one event more
+after-more : (xs : List Event) (sent : List (List ℕ)) (rx : ℕ) (e : EndState) (i : ℕ) (d : Event) → i < length xs
+    → after_schedule sent rx e (take (suc i) xs)
+    ≡ after_event sent rx (after_schedule sent rx e (take i xs)) (slice_index_or xs i d)
+after-more [] sent rx e i d lt = absurd (omega arith)
+after-more (x ∷ xs) sent rx e zero d lt = refl
+after-more (x ∷ xs) sent rx e (suc i) d lt = after-more xs sent rx (after_event sent rx e x) i d (omega arith)
+
+played-more : (xs : List Event) (sent : List (List ℕ)) (rx : ℕ) (e : EndState) (i : ℕ) (d : Event) → i < length xs
+    → played sent rx e (take (suc i) xs)
+    ≡ played sent rx e (take i xs)
+    ++ answers_to sent rx (after_schedule sent rx e (take i xs)) (slice_index_or xs i d)
+played-more [] sent rx e i d lt = absurd (omega arith)
+played-more (x ∷ xs) sent rx e zero d lt = append-nil (answers_to sent rx e x)
+played-more (x ∷ xs) sent rx e (suc i) d lt =
+    ap (λ (ps : List Played). answers_to sent rx e x ++ ps)
+    (played-more xs sent rx (after_event sent rx e x) i d (omega arith))
+    ∙ sym (append_assoc (answers_to sent rx e x) (played sent rx (after_event sent rx e x) (take i xs))
+    (answers_to sent rx (after_schedule sent rx (after_event sent rx e x) (take i xs)) (slice_index_or xs i d)))
+
+-- Some first events of a schedule happened.
+pub record IsPlayed (sent : List (List ℕ)) (rx : ℕ) (before : EndState) (schedule : List Event) (count : ℕ)
+    (now : EndState) (answers : List Played) : Type 0 where
+  pub there_is : rx < length now.receivers
+  pub place : count ≤ length schedule
+  pub after : now ≡ after_schedule sent rx before (take count schedule)
+  pub answered : answers ≡ played sent rx before (take count schedule)
+
+-- one more happens
+pub played-on : (sent : List (List ℕ)) (rx : ℕ) (before now next : EndState) (schedule : List Event) (i : ℕ)
+    (answers more : List Played) (x : Event) → IsPlayed sent rx before schedule i now answers → i < length schedule
+    → x ≡ slice_index_or schedule i x → next ≡ after_event sent rx now x
+    → more ≡ answers ++ answers_to sent rx now x → IsPlayed sent rx before schedule (i + 1) next more
+played-on sent rx before now next schedule i answers more x is lt at after answered =
+    let here : EndState = after_schedule sent rx before (take i schedule) in
+    let many : length next.receivers ≡ length now.receivers =
+    ap (λ (e : EndState). length e.receivers) after ∙ after-event-many sent rx now x in
+    let next-is : i + 1 ≡ suc i = add-one i in
+    record {
+      there_is = omega (arith, many, is.there_is);
+      place = omega (arith, lt);
+      after = after
+          ∙ ap₂ (after_event sent rx) is.after at
+          ∙ sym (after-more schedule sent rx before i x lt)
+          ∙ ap (λ (n : ℕ). after_schedule sent rx before (take n schedule)) (sym next-is);
+      answered = answered
+          ∙ ap₂ (λ (as' bs : List Played). as' ++ bs) is.answered (ap₂ (answers_to sent rx) is.after at)
+          ∙ sym (played-more schedule sent rx before i x lt)
+          ∙ ap (λ (n : ℕ). played sent rx before (take n schedule)) (sym next-is);
+    }
+
+-- it stops at the next one
+pub stops-at : (sent : List (List ℕ)) (rx : ℕ) (before now next : EndState) (schedule : List Event) (i : ℕ)
+    (answers : List Played) → IsPlayed sent rx before schedule i now answers → (next ≡ now) ⊎ PollStops now rx next
+    → PlaysSome sent rx before schedule next
+stops-at sent rx before now next schedule i answers is stops = record {
+  count = i;
+  place = is.place;
+  stops = subst (λ (e : EndState). (next ≡ e) ⊎ PollStops e rx next) is.after stops;
+}
+
+-- the element at a place, and past the end
+pub get-some : {A : Type 0} (xs : List A) (k : ℕ) (x : A) → k < length xs → x ≡ slice_index_or xs k x
+    → slice_get xs k ≡ Some x
+get-some [] k x lt at = absurd (omega arith)
+get-some (y ∷ ys) zero x lt at = ap Some (sym at)
+get-some (y ∷ ys) (suc k) x lt at = get-some ys k x (omega arith) at
+
+pub get-none : {A : Type 0} (xs : List A) (k : ℕ) → length xs ≤ k → slice_get xs k ≡ None
+get-none [] k le = refl
+get-none (y ∷ ys) zero le = absurd (omega arith)
+get-none (y ∷ ys) (suc k) le = get-none ys k (omega arith)

@@ -1,0 +1,49 @@
+use Rattle.std.proofs.Common.{◌≡◌, ℕ, List, map, refl, sym, ◌∙◌, ap, subst}
+use Rattle.rtp_media_runs.specs.Hearing.{Answer, handed_out}
+use Rattle.rtp_media_runs.specs.Samples.{timed_unit}
+use Rattle.rtp_media_schedules.specs.Legal.{IsLegal}
+use Rattle.rtp_media_streams.specs.Sending.{datagrams_of}
+use Rattle.rtp_media_ends.specs.Ends.{receiver_at, sender_at}
+use Rattle.rtp_media_play.specs.Runs.{IsTameSchedule, canonical_of}
+use Rattle.rtp_media_play.specs.Schedules.{played, poll_answers}
+use Rattle.rtp_media_play.proofs.Isolated.{isolated}
+use Rattle.rtp_media_play.proofs.WholeRuns.{exact-run, legal-run}
+use Rattle.rtp_media_play.proofs.runs.play.Goals as goal
+
+pub returns-in-Ok-play_schedule-clause-isolated : goal.returns-in-Ok-play_schedule-clause-isolated
+returns-in-Ok-play_schedule-clause-isolated c = λ found.
+    let sent : c.deref.result.now ≡ datagrams_of (sender_at c.args.a.now c.args.tx) c.args.samples.now =
+    c.deref.ensures.value ∙ c.in-Ok.ensures.sent in
+    ap poll_answers (c.in-Ok-play_schedule.ensures.answers
+    ∙ ap (λ (ds : List (List ℕ)). played ds c.args.rx c.args.b.now c.args.schedule.now) sent)
+    ∙ isolated (datagrams_of (sender_at c.args.a.now c.args.tx) c.args.samples.now) c.args.rx
+    (receiver_at c.args.b.now c.args.rx) c.args.schedule.now c.args.b.now (record { same = refl; known = found })
+
+pub returns-in-Ok-play_schedule-clause-legal : goal.returns-in-Ok-play_schedule-clause-legal
+returns-in-Ok-play_schedule-clause-legal c = λ hold_back hears sane.
+    let sent : c.deref.result.now ≡ datagrams_of (sender_at c.args.a.now c.args.tx) c.args.samples.now =
+    c.deref.ensures.value ∙ c.in-Ok.ensures.sent in
+    let all : poll_answers c.in-Ok-play_schedule.all.items
+    ≡ poll_answers (played (datagrams_of (sender_at c.args.a.now c.args.tx) c.args.samples.now) c.args.rx
+    c.args.b.now c.args.schedule.now) =
+    ap poll_answers (c.in-Ok-play_schedule.ensures.answers
+    ∙ ap (λ (ds : List (List ℕ)). played ds c.args.rx c.args.b.now c.args.schedule.now) sent) in
+    subst (λ (os : List Answer). IsLegal (canonical_of (sender_at c.args.a.now c.args.tx) c.args.samples.now) os)
+    (sym all)
+    (legal-run c.codec_law.ensures.codec_in_forms c.args.b.now c.args.rx hold_back (sender_at c.args.a.now c.args.tx)
+    c.args.samples.now hears c.args.schedule.now sane)
+
+pub returns-in-Ok-play_schedule-clause-exact : goal.returns-in-Ok-play_schedule-clause-exact
+returns-in-Ok-play_schedule-clause-exact c = λ hold_back hears tame.
+    let sent : c.deref.result.now ≡ datagrams_of (sender_at c.args.a.now c.args.tx) c.args.samples.now =
+    c.deref.ensures.value ∙ c.in-Ok.ensures.sent in
+    let all : poll_answers c.in-Ok-play_schedule.all.items
+    ≡ poll_answers (played (datagrams_of (sender_at c.args.a.now c.args.tx) c.args.samples.now) c.args.rx
+    c.args.b.now c.args.schedule.now) =
+    ap poll_answers (c.in-Ok-play_schedule.ensures.answers
+    ∙ ap (λ (ds : List (List ℕ)). played ds c.args.rx c.args.b.now c.args.schedule.now) sent) in
+    ap (λ (os : List Answer). map timed_unit (handed_out os)) all
+    ∙ exact-run c.codec_law.ensures.codec_in_forms c.args.b.now c.args.rx hold_back (sender_at c.args.a.now c.args.tx)
+    c.args.samples.now hears c.args.schedule.now
+    (subst (λ (os : List Answer). IsTameSchedule (sender_at c.args.a.now c.args.tx) c.args.samples.now hold_back
+    c.args.schedule.now os) all tame)

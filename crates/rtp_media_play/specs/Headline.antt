@@ -1,0 +1,39 @@
+-- Two ends that exchanged texts, and each opened a stream.
+use Rattle.std.specs.Prelude.{ℕ, ◌+◌, ◌^◌, ◌<◌, ◌≤◌, List, length}
+use Rattle.rtp_media_runs.specs.Hearing.{Answer}
+use Rattle.rtp_media_runs.specs.Samples.{Timed}
+use Rattle.rtp_media_streams.specs.Sending.{Sample, datagrams_of}
+use Rattle.rtp_media_ends.specs.Connections.{HaveExchanged}
+use Rattle.rtp_media_ends.specs.Ends.{EndState, after_open_receiver, agreed_format, agreed_red, new_sender, stream_map}
+use Rattle.rtp_media_ends.specs.FullArrival.{AreSound, count_of}
+use Rattle.rtp_media_ends.specs.OpensAt.{ReceivesAt, SendsAt}
+use Rattle.rtp_media_ends.specs.Params.{IsSound}
+use Rattle.rtp_media_ends.specs.declared.params.StreamParams.{StreamParams}
+use Rattle.rtp_media_play.specs.Schedules.{played, poll_answers}
+use Rattle.rtp_media_play.specs.Units.{packet_limit_of, units_for}
+use Rattle.rtp_media_play.specs.declared.schedule.Event.{Event}
+
+-- One end sends samples to another: they have exchanged texts, each may open a stream at one section, SSRC and
+-- payload type, the sending one with sound parameters (its first number is below 32,768); the samples are
+-- well-formed, and their numbers stay below 2^62.
+pub record SendsTo (answer : List ℕ) (a b : EndState) (mid : List ℕ) (ssrc pt : ℕ) (params : StreamParams)
+    (samples : List Sample) : Type 0 where
+  pub exchanged : HaveExchanged answer a b
+  pub sends : SendsAt a mid ssrc pt
+  pub receives : ReceivesAt b mid ssrc pt
+  pub ssrc_fits : ssrc < 2 ^ 32
+  pub sound_params : IsSound (agreed_red a mid pt) params
+  pub sound_samples : AreSound (new_sender a mid ssrc pt params) samples
+  pub numbers : params.first + count_of (new_sender a mid ssrc pt params) samples ≤ 2 ^ 62
+
+-- What the polls of a schedule answer at the new receiving stream.
+abbrev pub answers_of : EndState → EndState → List ℕ → ℕ → ℕ → StreamParams → ℕ → List Sample → List Event → List Answer
+answers_of a b mid ssrc pt params hold_back samples schedule =
+    poll_answers (played (datagrams_of (new_sender a mid ssrc pt params) samples) (length b.receivers)
+    (after_open_receiver b mid ssrc pt hold_back) schedule)
+
+-- The canonical units of the samples.
+abbrev pub units : EndState → List ℕ → ℕ → StreamParams → List Sample → List Timed
+units a mid pt params samples =
+    units_for (agreed_format a mid pt) (stream_map a mid) (packet_limit_of params) params.picture_id
+    params.for_browsers samples

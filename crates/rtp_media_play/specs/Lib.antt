@@ -1,0 +1,5 @@
+pub mod Schedules
+pub mod Runs
+pub mod Pushing
+pub mod Units
+pub mod Headline

@@ -1,0 +1,61 @@
+-- Sane and tame schedules of a sending stream's samples, and the stream that hears them.
+use Rattle.std.specs.Prelude.{ℕ, ◌≡◌, ◌+◌, ◌^◌, ◌≤◌, false, List, [], ◌∷◌, ◌++◌}
+use Rattle.rtp_media_runs.specs.Hearing.{Answer, EndsSilent}
+use Rattle.rtp_media_schedules.specs.Orders.{IsSane, IsTame, first_size}
+use Rattle.rtp_media_schedules.specs.Samples.{canonical_units, frame_sizes}
+use Rattle.rtp_media_schedules.specs.Sending.{Canonical}
+use Rattle.rtp_media_schedules.specs.Turns.{Turn}
+use Rattle.rtp_media_streams.specs.Receiving.{opened_receiver}
+use Rattle.rtp_media_streams.specs.Rows.{format_of}
+use Rattle.rtp_media_streams.specs.Sending.{Sample, Sending}
+use Rattle.rtp_media_streams.specs.declared.types.PayloadTypes.{PayloadTypes}
+use Rattle.rtp_media_ends.specs.Ends.{EndState}
+use Rattle.rtp_media_ends.specs.FullArrival.{AreSound, HasReceiver, IsSender, count_of, is_own_datagram, sent_samples}
+use Rattle.rtp_media_play.specs.Schedules.{turns_of}
+use Rattle.rtp_media_play.specs.declared.schedule.Event.{Event}
+use Rattle.rtp_media_play.specs.declared.schedule.Event.TheVariants.{Arrive, Foreign, Poll}
+
+-- No other bytes of a schedule read as a header with this SSRC and one of these payload types (RFC 3550 5.1).
+abbrev pub AreForeign : ℕ → PayloadTypes → List Event → Type 0
+AreForeign ssrc types [] = Unit {0}
+AreForeign ssrc types (Arrive k ∷ xs) = AreForeign ssrc types xs
+AreForeign ssrc types (Foreign bytes ∷ xs) = (is_own_datagram ssrc types bytes ≡ false) × AreForeign ssrc types xs
+AreForeign ssrc types (Poll ∷ xs) = AreForeign ssrc types xs
+
+-- the arrivals of a stream's datagrams by true numbers, and the polls
+abbrev pub turns_at : Sending → List Sample → List Event → List Turn
+turns_at s samples schedule = turns_of s.next (count_of s samples) schedule
+
+-- A sane schedule of samples: nobody else sends under the stream's SSRC and types, the first datagram to arrive is
+-- numbered below 65,536, and each later one less than 32,768 from the greatest that arrived.
+pub record IsSaneSchedule (s : Sending) (samples : List Sample) (schedule : List Event) : Type 0 where
+  pub foreign : AreForeign s.ssrc s.types schedule
+  pub order : IsSane s.next (count_of s samples) [] (turns_at s samples schedule)
+
+-- how many datagrams each unit of samples has
+abbrev pub sizes_at : Sending → List Sample → List ℕ
+sizes_at s samples = frame_sizes (format_of s.row) (sent_samples s samples)
+
+-- A tame schedule: a sane one in which every datagram arrives, first before that of any number that is 128 or more
+-- above it; no poll comes before all of the first unit; at most 4,096 datagrams wait; 127 complete units or more are
+-- held back, or all polls come last; and it ends by polls until one answers None.
+pub record IsTameSchedule (s : Sending) (samples : List Sample) (hold_back : ℕ) (schedule : List Event)
+    (answers : List Answer) : Type 0 where
+  pub foreign : AreForeign s.ssrc s.types schedule
+  pub order : IsTame s.next (count_of s samples) hold_back (first_size (sizes_at s samples)) [] s.next
+      (sizes_at s samples) (turns_at s samples schedule)
+  pub before : List Event
+  pub last : schedule ≡ before ++ Poll ∷ []
+  pub silent : EndsSilent answers
+
+-- The canonical units of a stream's samples, with the numbers of their samples' datagrams.
+abbrev pub canonical_of : Sending → List Sample → List Canonical
+canonical_of s samples = canonical_units s.next (sent_samples s samples)
+
+-- An end's receiving stream of this number hears a sending stream: it has the same SSRC, types, map of header
+-- extensions and row, and heard nothing before. Each sample is well-formed, and the numbers stay below 2^62.
+pub record Hears (e : EndState) (rx hold_back : ℕ) (s : Sending) (samples : List Sample) : Type 0 where
+  pub receiver : HasReceiver e rx (opened_receiver s.ssrc s.types s.map s.row hold_back)
+  pub sender : IsSender s
+  pub sound : AreSound s samples
+  pub numbers : s.next + count_of s samples ≤ 2 ^ 62

@@ -1,0 +1,40 @@
+//! Single events of a schedule.
+
+ghost use Rattle.std.specs.Prelude.{◌≡◌, ◌<◌, ℕ, List, length, IfOk, OnOk, OnErr, Some};
+ghost use Rattle.rtp_media_ends.specs.Arrivals.{after_datagram, verdict_of};
+ghost use Rattle.rtp_media_ends.specs.Ends.{receiver_at, with_receiver};
+ghost use Rattle.rtp_media_streams.specs.Receiving.{polled_receiver};
+ghost use Rattle.rtp_media_play.specs.Pushing.{PollStops};
+ghost use Rattle.rtp_media_play.specs.Schedules.{answer_at};
+
+use crate::schedule::Played;
+use rtp_media_ends::{End, PollFault};
+use std::alloc::AllocError;
+
+/// Hands bytes to an end.
+pub(crate) fn receive(end: &mut End, bytes: &[u8]) -> Result<Option<Played>, AllocError>
+    ensures answer { IfOk result (λ answer. answer ≡ Some (Played.Received (verdict_of end.old bytes.now))) }
+    ensures after { OnOk result (end.new ≡ after_datagram end.old bytes.now) }
+    ensures unchanged { OnErr result (end.new ≡ end.old) }
+{
+    match end.receive(bytes) {
+        Ok(verdict) => Ok(Some(Played::Received(verdict))),
+        Err(_) => Err(AllocError),
+    }
+}
+
+/// Polls a receiving stream of an end; want of memory is no answer.
+pub(crate) fn poll(end: &mut End, rx: usize) -> Result<Option<Played>, AllocError>
+    requires { rx < length end.old.receivers }
+    ensures answer { IfOk result (λ answer. answer ≡ Some (Played.Polled (answer_at end.old rx))) }
+    ensures after { OnOk result (end.new ≡ with_receiver end.old rx (polled_receiver (receiver_at end.old rx))) }
+    ensures stops { OnErr result (PollStops end.old rx end.new) }
+{
+    match end.poll(rx) {
+        Ok(unit) => Ok(Some(Played::Polled(Ok(unit)))),
+        Err(fault) => match fault {
+            PollFault::Payload(refusal) => Ok(Some(Played::Polled(Err(refusal)))),
+            PollFault::Memory => Err(AllocError),
+        },
+    }
+}

@@ -1,0 +1,137 @@
+//! Whole runs.
+
+ghost use Rattle.std.specs.Prelude.{◌≡◌, ◌≢◌, ◌<◌, ◌⊎◌, ◌++◌, ℕ, List, length, map, IfOk, IfErr, OnOk, OnErr, None};
+ghost use Rattle.std.specs.Prelude.{option_to_list};
+ghost use Rattle.std.specs.Prelude.{Ok};
+ghost use Rattle.rtp_media_runs.specs.Hearing.{handed_out, heard};
+ghost use Rattle.rtp_media_runs.specs.Samples.{timed_unit};
+ghost use Rattle.rtp_media_schedules.specs.Legal.{IsLegal};
+ghost use Rattle.rtp_media_streams.specs.Rows.{format_of};
+ghost use Rattle.rtp_media_ends.specs.Ends.{receiver_at};
+ghost use Rattle.rtp_media_ends.specs.FullArrival.{IsFound, units_of};
+ghost use Rattle.rtp_media_play.specs.Runs.{Hears, IsSaneSchedule, IsTameSchedule, canonical_of};
+ghost use Rattle.rtp_media_ends.specs.Ends.{sender_at};
+ghost use Rattle.rtp_media_streams.specs.Sending.{datagrams_of};
+ghost use Rattle.rtp_media_play.specs.Pushing.{IsCutShort, IsRefusedAt, PlaysSome, PollStops, after_pushes};
+ghost use Rattle.rtp_media_play.specs.Pushing.{refusal_of_samples};
+ghost use Rattle.rtp_media_play.specs.Schedules.{after_event, after_schedule, answers_to, own_events, played};
+ghost use Rattle.rtp_media_play.specs.Schedules.{poll_answers};
+
+use crate::events::{poll, receive};
+use crate::pushing::push_samples;
+use crate::sample::Sample;
+use crate::schedule::{Event, Played};
+use h26x_payload::codec_law;
+use rtp_media_ends::{Datagram, End, SampleError};
+use std::alloc::{AllocError, Global};
+
+/// Pushes samples at a sending stream of `a`, one after the other, and then lets a schedule happen at `b`, whose polls
+/// are polls of one of its receiving streams. Answers what `b` says of the bytes that arrive and what the polls
+/// answer, in order.
+///
+/// # Errors
+/// What the first refused sample is refused for: those before it were pushed, and nothing of the schedule happens.
+/// `SampleError::Memory` where memory is wanting, at a sample, a datagram or a poll, after a part was done.
+pub fn play(
+    alloc: Global,
+    a: &mut End,
+    b: &mut End,
+    tx: usize,
+    rx: usize,
+    samples: &[Sample],
+    schedule: &[Event],
+) -> Result<Vec<Played>, SampleError>
+    requires sender { tx < length a.old.senders }
+    requires receiver { rx < length b.old.receivers }
+    ensures accepted { OnOk result (refusal_of_samples (sender_at a.old tx) samples.now ≡ None) }
+    ensures pushed { OnOk result (a.new ≡ after_pushes a.old tx samples.now) }
+    ensures answers { let sent = datagrams_of (sender_at a.old tx) samples.now in
+        IfOk result (λ all. all.items ≡ played sent rx b.old schedule.now) }
+    ensures after { let sent = datagrams_of (sender_at a.old tx) samples.now in
+        OnOk result (b.new ≡ after_schedule sent rx b.old schedule.now) }
+    ensures refused { IfErr result (λ e. e ≢ SampleError.Memory → IsRefusedAt a.old tx samples.now e a.new) }
+    ensures unplayed { IfErr result (λ e. e ≢ SampleError.Memory → b.new ≡ b.old) }
+    ensures memory { IfErr result (λ e. e ≡ SampleError.Memory →
+        IsCutShort a.old b.old tx rx samples.now schedule.now a.new b.new) }
+
+    // Isolation: whatever bytes come, the answers to the polls are what the stream hears of its own datagrams and
+    // polls, in their order.
+    ensures isolated { let receiver = receiver_at b.old rx in
+        let sent = datagrams_of (sender_at a.old tx) samples.now in
+        IfOk result (λ all. IsFound b.old rx receiver → poll_answers all.items
+        ≡ heard (format_of receiver.row) receiver.stream (own_events sent receiver schedule.now)) }
+    // Legal under every sane schedule: what the polls hand out is the canonical units, in order and each at most
+    // once, and no poll answers a fault.
+    ensures legal { let sender = sender_at a.old tx in
+        IfOk result (λ all. (hold_back : ℕ) → Hears b.old rx hold_back sender samples.now →
+        IsSaneSchedule sender samples.now schedule.now →
+        IsLegal (canonical_of sender samples.now) (poll_answers all.items)) }
+    // Exact under every tame schedule: it is just the canonical units.
+    ensures exact { let sender = sender_at a.old tx in
+        IfOk result (λ all. (hold_back : ℕ) → Hears b.old rx hold_back sender samples.now →
+        IsTameSchedule sender samples.now hold_back schedule.now (poll_answers all.items) →
+        map timed_unit (handed_out (poll_answers all.items)) ≡ map Ok (units_of sender samples.now)) }
+{
+    codec_law();
+    let datagrams = match push_samples(alloc, a, tx, samples) {
+        Ok(datagrams) => datagrams,
+        Err(refusal) => return Err(refusal),
+    };
+    match play_schedule(alloc, b, rx, &datagrams, schedule) {
+        Ok(all) => Ok(all),
+        Err(_) => Err(SampleError::Memory),
+    }
+}
+
+/// Lets a schedule happen at an end.
+fn play_schedule(
+    alloc: Global,
+    end: &mut End,
+    rx: usize,
+    datagrams: &[Datagram],
+    schedule: &[Event],
+) -> Result<Vec<Played>, AllocError>
+    requires { rx < length end.old.receivers }
+    ensures answers { IfOk result (λ all. all.items ≡ played datagrams.now rx end.old schedule.now) }
+    ensures after { OnOk result (end.new ≡ after_schedule datagrams.now rx end.old schedule.now) }
+    ensures some { OnErr result (PlaysSome datagrams.now rx end.old schedule.now end.new) }
+{
+    let mut all = Vec::new(alloc);
+    for event in schedule {
+        let answer = play_event(end, rx, datagrams, event)?;
+        keep(&mut all, answer)?;
+    }
+    Ok(all)
+}
+
+/// Lets an event happen.
+fn play_event(
+    end: &mut End,
+    rx: usize,
+    datagrams: &[Datagram],
+    event: &Event,
+) -> Result<Option<Played>, AllocError>
+    requires { rx < length end.old.receivers }
+    ensures answer { IfOk result (λ answer. option_to_list answer ≡ answers_to datagrams.now rx end.old event.now) }
+    ensures after { OnOk result (end.new ≡ after_event datagrams.now rx end.old event.now) }
+    ensures stops { OnErr result ((end.new ≡ end.old) ⊎ PollStops end.old rx end.new) }
+{
+    match event {
+        Event::Arrive(k) => match datagrams.get(*k) {
+            Some(datagram) => receive(end, datagram.as_slice()),
+            None => Ok(None),
+        },
+        Event::Foreign(bytes) => receive(end, bytes.as_slice()),
+        Event::Poll => poll(end, rx),
+    }
+}
+
+/// Puts an answer behind others, if there is one.
+fn keep(all: &mut Vec<Played>, answer: Option<Played>) -> Result<(), AllocError>
+    ensures { OnOk result (all.new.items ≡ all.old.items ++ option_to_list answer) }
+{
+    if let Some(answer) = answer {
+        all.push(answer)?;
+    }
+    Ok(())
+}

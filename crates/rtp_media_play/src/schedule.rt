@@ -1,0 +1,25 @@
+//! Schedules, and what they are answered.
+
+use payload_core_base::PacketError;
+use rtp_media_ends::{Datagram, Received, Unit};
+
+/// What happens at the end that receives.
+#[derive(Drop)]
+pub enum Event {
+    /// The sender's datagram of this place arrives, counted from 0; past the last one nothing does.
+    Arrive(usize),
+    /// Other bytes arrive.
+    Foreign(Datagram),
+    /// The receiving stream is polled.
+    Poll,
+}
+
+/// What an event is answered.
+#[derive(Drop)]
+pub enum Played {
+    /// What is said of bytes that arrived.
+    Received(Received),
+    /// What a poll answered: a unit, that none is ready, or why a packet of the next frame is refused, which is then
+    /// done with.
+    Polled(Result<Option<Unit>, PacketError>),
+}

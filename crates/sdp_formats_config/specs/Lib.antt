@@ -1,0 +1,3 @@
+pub mod Configs
+pub mod Matching
+pub mod Sections

@@ -1,0 +1,13 @@
+pub mod Decimals
+pub mod Printed
+pub mod Readings
+pub mod PlainKinds
+pub mod PartedKinds
+pub mod Whole
+pub mod SessionKinds
+pub mod Stopping
+pub mod Heads
+pub mod Sections
+pub mod WholeSession
+pub mod WholeTexts
+pub mod Fingerprints

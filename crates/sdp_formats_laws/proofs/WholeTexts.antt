@@ -1,0 +1,158 @@
+-- Whole session texts are read as they are printed.
+use Rattle.std.proofs.Common.{◌≡◌, ℕ, List, [], ◌∷◌, ◌++◌, Option, Some, None, codes, decimal, map}
+use Rattle.std.proofs.Common.{refl, sym, ◌∙◌, ap, subst, append_assoc, ⊎_elim, arith}
+use Rattle.std.specs.Option.{option_map}
+use Rattle.sdp_formats_forms.specs.Form.{IsExact}
+use Rattle.sdp_formats_forms.specs.Joined.{each_behind, maybe_text}
+use Rattle.sdp_formats_forms.specs.Split.{Lacks}
+use Rattle.sdp_formats_heads.specs.Lines.{version_line, origin_line, name_line, other_line, times_line}
+use Rattle.sdp_formats_heads.specs.Lines.{something, passed}
+use Rattle.sdp_formats_heads.specs.Heads.{media_line}
+use Rattle.sdp_formats_media_lines.specs.Choice.{attribute_line as media_attribute_line}
+use Rattle.sdp_formats_reader.specs.Grammar.{OpeningSays, TimesSay, SessionSays, SectionSays, SdpSays}
+use Rattle.sdp_formats_session_lines.specs.Choice.{attribute_line, session_attribute}
+use Rattle.sdp_formats_steps.specs.Line.{LineOf}
+use Rattle.sdp_formats_steps.specs.Step.{Stops, Begins}
+use Rattle.sdp_formats_types.specs.Printed.{line_end}
+use Rattle.sdp_formats_types.specs.PrintedMedia.{named, bandwidth_text, section_text}
+use Rattle.sdp_formats_types.specs.PrintedSession.{attribute_text, attributes_text, session_text, sections_text}
+use Rattle.sdp_formats_types.specs.PrintedSession.{sdp_text}
+use Rattle.sdp_formats_types.specs.declared.media.MediaLine.{MediaLine}
+use Rattle.sdp_formats_types.specs.declared.session.Bandwidth.{Bandwidth}
+use Rattle.sdp_formats_types.specs.declared.session.Sdp.{Sdp}
+use Rattle.sdp_formats_types.specs.declared.session.Session.{Session}
+use Rattle.sdp_formats_types.specs.declared.session.SessionAttribute.{SessionAttribute}
+use Rattle.sdp_formats_laws.proofs.Heads.{version, version-exact, originator, origin-exact, name, name-exact, times}
+use Rattle.sdp_formats_laws.proofs.Heads.{times-exact, after_number}
+use Rattle.sdp_formats_laws.proofs.Printed.{printed_line, lacks}
+use Rattle.sdp_formats_laws.proofs.Sections.{IsTail, perhaps_bandwidth, section_says}
+use Rattle.sdp_formats_laws.proofs.Stopping.{first, stops, other_start, first_of, begins_all, joined_behind}
+use Rattle.sdp_formats_laws.proofs.WholeSession.{printed}
+use Rattle.sdp_formats_laws.specs.PrintableSession.{IsPrintable}
+use Rattle.sdp_formats_laws.specs.PrintableTexts.{IsEach, IsPrintableSection, IsPrintableSession}
+use Rattle.sdp_formats_laws.specs.PrintableTexts.{IsPrintableText}
+
+-- none of these letters comes first
+abbrev pub LacksFirst : List ℕ → List ℕ → Type 0
+LacksFirst [] t = Unit {0}
+LacksFirst (c ∷ cs) t = (first t ≡ Some c → ⊥) × LacksFirst cs t
+
+no_other : (t : List ℕ) → LacksFirst (codes "iuepczk") t → Stops (LineOf other_line.Says) t
+no_other t h = stops _ t (λ content a s same. ⊎_elim (λ x. h.0 (sym same ∙ ap first x.1))
+    (λ x. ⊎_elim (λ y. h.1.0 (sym same ∙ ap first y.1))
+    (λ y. ⊎_elim (λ z. h.1.1.0 (sym same ∙ ap first z.1))
+    (λ z. ⊎_elim (λ u. h.1.1.1.0 (sym same ∙ ap first u.1))
+    (λ u. ⊎_elim (λ v. h.1.1.1.1.0 (sym same ∙ ap first v.1))
+    (λ v. ⊎_elim (λ w. h.1.1.1.1.1.0 (sym same ∙ ap first w.1))
+    (λ w. h.1.1.1.1.1.1.0 (sym same ∙ ap first w.1.1)) v.1) u.1) z.1) y.1) x.1) s)
+
+apart : (a b : ℕ) → (a ≡ b → ⊥) → Some a ≡ Some b → ⊥
+apart a b other e = other (cc)
+
+-- another letter comes first
+lacks_by : (t : List ℕ) (a : ℕ) → first t ≡ Some a → (cs : List ℕ) → Lacks a cs → LacksFirst cs t
+lacks_by t a e [] h = tt
+lacks_by t a e (c ∷ cs) h = ((λ f. apart a c (λ n. h.0 (sym n)) (sym e ∙ f)), lacks_by t a e cs h.1)
+
+-- a bandwidth or the time comes
+bandwidth_first : (b : Option Bandwidth) (t : List ℕ)
+    → LacksFirst (codes "iuepczk") (maybe_text [] (option_map bandwidth_text b) ++ (codes "t=0 0\r\n" ++ t))
+bandwidth_first None t = lacks_by (codes "t=0 0\r\n" ++ t) 116 refl (codes "iuepczk") (lacks 116 (codes "iuepczk") refl)
+bandwidth_first (Some b) t = lacks_by (bandwidth_text b ++ (codes "t=0 0\r\n" ++ t)) 98 refl (codes "iuepczk")
+    (lacks 98 (codes "iuepczk") refl)
+
+session_shape : (number bw attrs rest : List ℕ)
+    → (codes "v=0\r\no=str0m-0.25.0 " ++ (number ++ (codes " 2 IN IP4 0.0.0.0\r\ns=-\r\n" ++ (bw
+    ++ (codes "t=0 0\r\n" ++ attrs))))) ++ rest
+    ≡ (codes "v=0" ++ line_end) ++ (named (codes "o=str0m-0.25.0 ") (number ++ 32 ∷ after_number)
+    ++ ((codes "s=-" ++ line_end) ++ (bw ++ ((codes "t=0 0" ++ line_end) ++ (attrs ++ rest)))))
+session_shape number bw attrs rest = simp append_assoc
+
+-- a letter that comes neither first among attributes nor behind them
+not_first : (c : ℕ) (attrs : List SessionAttribute) (t rest : List ℕ) → (97 ≡ c → ⊥) → (109 ≡ c → ⊥)
+    → Begins (LineOf attribute_line.Says) t attrs rest → IsTail rest → first t ≡ Some c → ⊥
+not_first c attrs t rest a m begins tail e = ⊎_elim (λ (x : first t ≡ Some 97). apart 97 c a (sym x ∙ e))
+    (λ (r : rest ≡ t). tail c m (ap first r ∙ e)) (first_of 97 (61 ∷ []) session_attribute t attrs rest begins)
+
+session_says : IsExact attribute_line → (s : Session) (rest : List ℕ) → IsPrintableSession s → IsTail rest
+    → SessionSays (session_text s ++ rest) s rest
+unfolding SessionSays OpeningSays TimesSay session_text
+session_says exact s rest h tail =
+    let five = attributes_text s.attrs ++ rest in
+    let four = (codes "t=0 0" ++ line_end) ++ five in
+    let bw = maybe_text [] (option_map bandwidth_text s.bw) in
+    let three = bw ++ four in
+    let two = (codes "s=-" ++ line_end) ++ three in
+    let one = named (codes "o=str0m-0.25.0 ") (decimal s.id ++ 32 ∷ after_number) ++ two in
+    let begins = begins_all (LineOf attribute_line.Says) attribute_text IsPrintable
+    (λ x r p. printed_line attribute_line exact x (attribute_text x) r (printed x p)) s.attrs rest h.2 in
+    subst (λ t. SessionSays t s rest) (sym (session_shape (decimal s.id) bw (attributes_text s.attrs) rest)) (
+      three,
+      (
+        passed,
+        one,
+        printed_line version_line version-exact passed (codes "v=0" ++ line_end) one version,
+        two,
+        printed_line origin_line origin-exact s.id _ two (originator s.id h.0),
+        passed,
+        printed_line name_line name-exact passed (codes "s=-" ++ line_end) three name,
+      ),
+      [],
+      three,
+      (refl, no_other three (bandwidth_first s.bw five)),
+      four,
+      perhaps_bandwidth s.bw four h.1 (λ e. apart 116 98 (λ n. omega (n, arith)) e),
+      passed,
+      five,
+      (
+        five,
+        printed_line times_line times-exact passed (codes "t=0 0" ++ line_end) five times,
+        [],
+        (
+          refl,
+          other_start 114 (61 ∷ []) something five
+              (not_first 114 s.attrs five rest (λ e. omega (e, arith)) (λ e. omega (e, arith)) begins tail),
+        ),
+      ),
+      (begins, other_start 97 (61 ∷ []) session_attribute rest (tail 97 (λ e. omega (e, arith)))),
+    )
+
+nothing_left : IsTail []
+nothing_left = λ c other e. cc
+
+-- sections, one behind the other
+no_section : Stops SectionSays []
+unfolding SectionSays
+no_section = λ m r s. other_start 109 (61 ∷ []) media_line [] (λ e. cc) s.0 s.1 s.2
+
+-- what begins with a section begins with its letter
+section_tail : (m : MediaLine) (rest : List ℕ) → IsTail (section_text m ++ rest)
+unfolding section_text
+section_tail m rest = λ c other e. other (cc)
+
+-- sections, one behind the other
+sections_begin : IsExact media_attribute_line → (ms : List MediaLine) → IsEach IsPrintableSection ms
+    → Begins SectionSays (each_behind [] (map section_text ms)) ms [] × IsTail (each_behind [] (map section_text ms))
+sections_begin exact [] h = (refl, nothing_left)
+sections_begin exact (m ∷ ms) h =
+    let more = sections_begin exact ms h.1 in (
+      (
+        each_behind [] (map section_text ms),
+        section_says exact m (each_behind [] (map section_text ms)) h.0 more.1,
+        more.0,
+      ),
+      section_tail m (each_behind [] (map section_text ms)),
+    )
+
+pub text_says : IsExact attribute_line → IsExact media_attribute_line → (sdp : Sdp) → IsPrintableText sdp
+    → SdpSays (sdp_text sdp) sdp []
+unfolding SdpSays
+text_says exact media_exact sdp h =
+    let sections = sections_begin media_exact sdp.media_lines h.1 in
+    let same = joined_behind (map section_text sdp.media_lines) in
+    let tail = subst IsTail (sym same) sections.1 in (
+      sections_text sdp.media_lines,
+      session_says exact sdp.session (sections_text sdp.media_lines) h.0 tail,
+      (subst (λ t. Begins SectionSays t sdp.media_lines []) (sym same) sections.0, no_section),
+      h.2,
+    )

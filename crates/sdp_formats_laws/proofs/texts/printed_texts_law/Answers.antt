@@ -1,0 +1,5 @@
+use Rattle.sdp_formats_laws.proofs.WholeTexts.{text_says}
+use Rattle.sdp_formats_laws.proofs.texts.printed_texts_law.Goals as goal
+
+pub returns : goal.returns
+returns c = text_says c.exact_law.ensures c.exact_law-2.ensures

@@ -1,0 +1,3 @@
+pub mod Printable
+pub mod PrintableSession
+pub mod PrintableTexts

@@ -1,0 +1,43 @@
+-- Session texts that are read as they are printed.
+use Rattle.std.specs.Prelude.{◌≡◌, ◌<◌, ◌^◌, ℕ, IsTrue, List, [], ◌∷◌, Option, Some, None}
+use Rattle.std.specs.List.{list_all}
+use Rattle.sdp_formats_forms.specs.Split.{Lacks}
+use Rattle.sdp_formats_heads.specs.Heads.{media_type}
+use Rattle.sdp_formats_types.specs.Consistency.{is_consistent}
+use Rattle.sdp_formats_types.specs.declared.media.MediaLine.{MediaLine}
+use Rattle.sdp_formats_types.specs.declared.media.MediaType.{MediaType}
+use Rattle.sdp_formats_types.specs.declared.media.MediaType.TheVariants.{Audio, Video, Application, Unknown}
+use Rattle.sdp_formats_types.specs.declared.session.Bandwidth.{Bandwidth}
+use Rattle.sdp_formats_types.specs.declared.session.Sdp.{Sdp}
+use Rattle.sdp_formats_types.specs.declared.session.Session.{Session}
+use Rattle.sdp_formats_laws.specs.Printable.{IsText, IsWord, IsPrintable, AreBelow}
+use Rattle.sdp_formats_laws.specs.PrintableSession.{IsPrintable as IsPrintableInSession}
+
+abbrev pub IsEach : {A : Type 0} → (A → Type 0) → List A → Type 0
+IsEach P [] = Unit {0}
+IsEach P (x ∷ xs) = P x × IsEach P xs
+
+-- a bandwidth, if there is one, of texts that can stand where they are printed
+abbrev pub IsPrintableBandwidth : Option Bandwidth → Type 0
+IsPrintableBandwidth None = Unit {0}
+IsPrintableBandwidth (Some b) = IsText b.typ × Lacks 58 b.typ × IsText b.val
+
+-- a kind and its formats: at least one payload type, or none for a channel of data
+abbrev pub AreFormats : MediaType → List ℕ → Type 0
+AreFormats Application pts = pts ≡ []
+AreFormats typ [] = ⊥
+AreFormats Audio (pt ∷ pts) = AreBelow (2 ^ 8) (pt ∷ pts)
+AreFormats Video (pt ∷ pts) = AreBelow (2 ^ 8) (pt ∷ pts)
+AreFormats (Unknown word) (pt ∷ pts) = IsWord word × (media_type word ≡ Some (Unknown word))
+    × AreBelow (2 ^ 8) (pt ∷ pts)
+
+abbrev pub IsPrintableSection : MediaLine → Type 0
+IsPrintableSection m = AreFormats m.typ m.pts × IsPrintableBandwidth m.bw × IsEach IsPrintable m.attrs
+
+abbrev pub IsPrintableSession : Session → Type 0
+IsPrintableSession s = (s.id < 2 ^ 64) × IsPrintableBandwidth s.bw × IsEach IsPrintableInSession s.attrs
+
+-- A session and sections without a fault whose texts can stand where they are printed.
+abbrev pub IsPrintableText : Sdp → Type 0
+IsPrintableText sdp = IsPrintableSession sdp.session × IsEach IsPrintableSection sdp.media_lines
+    × IsTrue (list_all is_consistent sdp.media_lines)

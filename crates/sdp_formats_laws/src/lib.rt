@@ -1,0 +1,8 @@
+//! What holds of session texts above their grammar: what is printed is read as what it was printed of.
+#![tactic(auto)]
+
+mod lines;
+mod texts;
+
+pub use lines::printed_lines_law;
+pub use texts::printed_texts_law;

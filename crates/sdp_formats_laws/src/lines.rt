@@ -1,0 +1,19 @@
+//! Lines of a section that are read as what they were printed of.
+
+ghost use Rattle.std.specs.Prelude.{List, ℕ, ◌++◌};
+ghost use Rattle.sdp_formats_laws.specs.Printable.{IsPrintable};
+ghost use Rattle.sdp_formats_media_lines.specs.Choice.{attribute_line};
+ghost use Rattle.sdp_formats_steps.specs.Line.{LineOf};
+ghost use Rattle.sdp_formats_types.specs.PrintedMedia.{attribute_text};
+ghost use Rattle.sdp_formats_types.specs.declared.media.MediaAttribute.{MediaAttribute};
+
+use sdp_formats_media_lines::MediaAttributeLine;
+use sdp_formats_steps::Lined;
+
+/// The printed line of a printable attribute is read as that attribute, whatever stands behind it.
+pub fn printed_lines_law()
+    ensures { (a : MediaAttribute) (rest : List ℕ) → IsPrintable a
+        → LineOf attribute_line.Says (attribute_text a ++ rest) a rest }
+{
+    MediaAttributeLine::exact_law();
+}

@@ -1,0 +1,20 @@
+//! Session texts that are read as they are printed.
+
+ghost use Rattle.std.specs.Prelude.{[]};
+ghost use Rattle.sdp_formats_laws.specs.PrintableTexts.{IsPrintableText};
+ghost use Rattle.sdp_formats_reader.specs.Grammar.{SdpSays};
+ghost use Rattle.sdp_formats_types.specs.PrintedSession.{sdp_text};
+ghost use Rattle.sdp_formats_types.specs.declared.session.Sdp.{Sdp};
+
+use sdp_formats_media_lines::MediaAttributeLine;
+use sdp_formats_session_lines::SessionAttributeLine;
+use sdp_formats_steps::Lined;
+
+/// The printed text of a session is read whole as that session, where its texts can stand where they are printed and no
+/// section has a fault.
+pub fn printed_texts_law()
+    ensures { (sdp : Sdp) → IsPrintableText sdp → SdpSays (sdp_text sdp) sdp [] }
+{
+    SessionAttributeLine::exact_law();
+    MediaAttributeLine::exact_law();
+}

@@ -1,0 +1,12 @@
+//! How well two profiles and levels of H.264, H.265 and H.266 match, and what a match leaves of a level.
+#![tactic(auto)]
+
+mod h264;
+mod h265;
+mod h266;
+mod points;
+
+pub use h26x_payload_profiles::{H264ProfileLevel, H265ProfileTierLevel, H266ProfileTierLevel};
+pub use h264::{GivenH264, h264_score};
+pub use h265::{GivenH265, h265_agreed, h265_score};
+pub use h266::{GivenH266, h266_agreed, h266_score};

@@ -1,0 +1,13 @@
+pub mod Split
+pub mod Turned
+pub mod Apart
+pub mod Fresh
+pub mod Locked
+pub mod Locks
+pub mod Matches
+pub mod Bests
+pub mod Greatest
+pub mod Settles
+pub mod Left
+pub mod Suggested
+pub mod Holds

@@ -1,0 +1,11 @@
+use Rattle.std.proofs.Common.{sym, ◌∙◌, arith}
+use Rattle.sdp_formats_round.specs.Rounds.{agreed_row}
+use Rattle.sdp_formats_round.proofs.Turned.{turned}
+use Rattle.sdp_formats_round.proofs.agreed.agreed_rows.Goals as goal
+
+pub loop-i-preserved : goal.loop-i-preserved
+loop-i-preserved c =
+    turned (agreed_row c.args.dictated c.args.remote.now c.args.before.now) c.loop-i.rows c.loop-i.i
+    c.index-rows-i.result c.in_ok-rows.field-0 (omega arith) c.index-rows-i.is
+    (sym c.agreed_row.ensures ∙ c.in_ok-rows.was)
+    ∙ c.loop-i.invariant

@@ -1,0 +1,121 @@
+//! Plain rows.
+
+ghost use Rattle.std.specs.Prelude.{◌≡◌, IfOk};
+ghost use Rattle.sdp_formats_rows.specs.Codecs.{is_codec};
+ghost use Rattle.sdp_formats_rows.specs.Plain.{comes_back, events_alone, has_plain_events, has_plain_feedback};
+ghost use Rattle.sdp_formats_rows.specs.Plain.{has_plain_level, has_plain_red, has_plain_types, is_media_codec};
+ghost use Rattle.sdp_formats_rows.specs.Plain.{is_plain};
+ghost use Rattle.sdp_formats_rows.specs.Plain.{is_plain_codec, is_plain_rate, is_type};
+
+use crate::format::{FormatParams, no_format};
+use crate::row::PayloadParams;
+use crate::same::{same_byte, same_format};
+use crate::spec::CodecSpec;
+use payload_core_base::Codec;
+use rtp_wire::Pt;
+use std::alloc::{AllocError, Global};
+
+fn is_type(pt: Option<Pt>) -> bool
+    ensures { result ≡ is_type pt }
+{
+    match pt {
+        Some(pt) => pt.get() < 128,
+        None => true,
+    }
+}
+
+fn has_plain_types(row: &PayloadParams) -> bool
+    ensures { result ≡ has_plain_types row.now }
+{
+    row.pt().get() < 128 && is_type(row.resend()) && is_type(row.red())
+}
+
+fn is_codec(codec: Codec, other: Codec) -> bool
+    ensures { result ≡ is_codec codec other }
+{
+    codec == other
+}
+
+fn is_media_codec(codec: Codec) -> bool
+    ensures { result ≡ is_media_codec codec }
+{
+    codec.is_audio() || codec.is_video() || codec.is_tele()
+}
+
+fn is_plain_rate(spec: &CodecSpec) -> bool
+    ensures { result ≡ is_plain_rate spec.now }
+{
+    !is_codec(spec.codec, Codec::G722)
+        || (spec.clock_rate.get() == 16_000 && !same_byte(spec.channels, Some(1)))
+}
+
+fn is_plain_codec(spec: &CodecSpec) -> bool
+    ensures { result ≡ is_plain_codec spec.now }
+{
+    is_media_codec(spec.codec) && is_plain_rate(spec)
+}
+
+fn has_plain_feedback(row: &PayloadParams) -> bool
+    ensures { result ≡ has_plain_feedback row.now }
+{
+    let is_video = row.spec().codec.is_video();
+    row.fb_nack() == is_video
+        && row.fb_pli() == is_video
+        && row.fb_fir() == is_video
+        && row.fb_remb() == is_video
+}
+
+fn has_plain_red(row: &PayloadParams) -> bool
+    ensures { result ≡ has_plain_red row.now }
+{
+    row.red().is_none() || row.spec().codec.is_audio()
+}
+
+fn events_alone(format: &FormatParams) -> FormatParams
+    ensures { result ≡ events_alone format.now }
+{
+    FormatParams {
+        telephone_event_max: format.telephone_event_max,
+        ..no_format()
+    }
+}
+
+fn has_plain_events(spec: &CodecSpec) -> bool
+    ensures { result ≡ has_plain_events spec.now }
+{
+    if spec.codec.is_tele() {
+        return spec.format.telephone_event_max.is_some()
+            && same_format(&spec.format, &events_alone(&spec.format));
+    }
+    spec.format.telephone_event_max.is_none()
+}
+
+fn has_plain_level(spec: &CodecSpec) -> bool
+    ensures { result ≡ has_plain_level spec.now }
+{
+    (spec.format.h265_profile_tier_level.is_none() || is_codec(spec.codec, Codec::H265))
+        && (spec.format.h266_profile_tier_level.is_none() || is_codec(spec.codec, Codec::H266))
+}
+
+fn comes_back(alloc: Global, format: &FormatParams) -> Result<bool, AllocError>
+    ensures { IfOk result (λ b. b ≡ comes_back format.now) }
+{
+    let text = format.to_string(alloc)?;
+    Ok(same_format(&FormatParams::parse_line(text.as_str()), format))
+}
+
+pub(crate) fn is_plain(alloc: Global, row: &PayloadParams) -> Result<bool, AllocError>
+    ensures { IfOk result (λ b. b ≡ is_plain row.now) }
+{
+    let spec = row.spec();
+    let reads = comes_back(alloc, &spec.format)?;
+    Ok(
+        has_plain_types(row)
+            && is_plain_codec(&spec)
+            && has_plain_feedback(row)
+            && has_plain_red(row)
+            && has_plain_events(&spec)
+            && has_plain_level(&spec)
+            && reads,
+    )
+}

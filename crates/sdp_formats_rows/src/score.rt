@@ -1,0 +1,162 @@
+//! How well two codecs with their settings match.
+
+ghost use Rattle.std.specs.Prelude.{◌≡◌};
+ghost use Rattle.sdp_formats_profiles.specs.Points.{points_if};
+ghost use Rattle.sdp_formats_rows.specs.Codecs.{is_codec};
+ghost use Rattle.sdp_formats_rows.specs.Laws.{ScoreSymmetric};
+ghost use Rattle.sdp_formats_rows.specs.Scores.{amr_wb_score, av1_score, codec_score, format_score, given_264};
+ghost use Rattle.sdp_formats_rows.specs.Scores.{given_265, given_266, is_mono, modes_score, opus_score, penalty};
+ghost use Rattle.sdp_formats_rows.specs.Scores.{score, settings_score, vp9_score};
+
+use crate::format::FormatParams;
+use crate::same::{alike, same_byte, same_flag, same_format};
+use crate::spec::CodecSpec;
+use payload_core_base::Codec;
+use sdp_formats_profiles::{GivenH264, GivenH265, GivenH266, h264_score, h265_score, h266_score};
+
+fn penalty(is_same: bool, points: usize) -> usize
+    ensures { result ≡ penalty is_same points }
+{
+    if is_same { 0 } else { points }
+}
+
+fn points_if(holds: bool, points: usize) -> Option<usize>
+    ensures { result ≡ points_if holds points }
+{
+    if holds { Some(points) } else { None }
+}
+
+fn opus_score(a: &FormatParams, b: &FormatParams) -> usize
+    ensures { result ≡ opus_score a.now b.now }
+{
+    100 - penalty(same_byte(a.min_p_time, b.min_p_time), 1)
+        - penalty(same_flag(a.use_inband_fec, b.use_inband_fec), 2)
+        - penalty(same_flag(a.use_dtx, b.use_dtx), 4)
+        - penalty(alike(a.stereo, b.stereo), 8)
+        - penalty(alike(a.sprop_stereo, b.sprop_stereo), 8)
+}
+
+fn modes_score(a: Option<u16>, b: Option<u16>) -> Option<usize>
+    ensures { result ≡ modes_score a b }
+{
+    match (a, b) {
+        (None, None) => Some(100),
+        (Some(a), Some(b)) => points_if(a == b, 99),
+        _ => Some(99),
+    }
+}
+
+fn is_mono(spec: &CodecSpec) -> bool
+    ensures { result ≡ is_mono spec.now }
+{
+    spec.channels.unwrap_or(1) == 1
+}
+
+fn amr_wb_score(a: &CodecSpec, b: &CodecSpec) -> Option<usize>
+    ensures { result ≡ amr_wb_score a.now b.now }
+{
+    if is_mono(a) && is_mono(b) && alike(a.format.octet_align, b.format.octet_align) {
+        return modes_score(a.format.mode_set, b.format.mode_set);
+    }
+    None
+}
+
+fn vp9_score(a: &FormatParams, b: &FormatParams) -> Option<usize>
+    ensures { result ≡ vp9_score a.now b.now }
+{
+    points_if(a.profile_id.unwrap_or(0) == b.profile_id.unwrap_or(0), 100)
+}
+
+fn av1_score(a: &FormatParams, b: &FormatParams) -> Option<usize>
+    ensures { result ≡ av1_score a.now b.now }
+{
+    let is_same = a.profile.unwrap_or(0) == b.profile.unwrap_or(0)
+        && a.level_idx.unwrap_or(5) == b.level_idx.unwrap_or(5)
+        && a.tier.unwrap_or(0) == b.tier.unwrap_or(0);
+    points_if(is_same, 100)
+}
+
+fn given_264(f: &FormatParams) -> GivenH264
+    ensures { result ≡ given_264 f.now }
+{
+    GivenH264 {
+        packetization_mode: f.packetization_mode,
+        profile_level_id: f.profile_level_id,
+    }
+}
+
+fn given_265(f: &FormatParams) -> GivenH265
+    ensures { result ≡ given_265 f.now }
+{
+    GivenH265 {
+        level: f.h265_profile_tier_level,
+        profile_id: f.profile_id,
+    }
+}
+
+fn given_266(f: &FormatParams) -> GivenH266
+    ensures { result ≡ given_266 f.now }
+{
+    GivenH266 {
+        level: f.h266_profile_tier_level,
+        profile_id: f.profile_id,
+    }
+}
+
+// Formats of one codec that differ.
+fn format_score(codec: Codec, a: &FormatParams, b: &FormatParams) -> Option<usize>
+    ensures { result ≡ format_score codec a.now b.now }
+{
+    match codec {
+        Codec::Opus => Some(opus_score(a, b)),
+        Codec::H264 => h264_score(&given_264(a), &given_264(b)),
+        Codec::H265 => h265_score(&given_265(a), &given_265(b)),
+        Codec::H266 => h266_score(&given_266(a), &given_266(b)),
+        Codec::Vp9 => vp9_score(a, b),
+        Codec::Av1 => av1_score(a, b),
+        _ => None,
+    }
+}
+
+fn settings_score(a: &CodecSpec, b: &CodecSpec) -> Option<usize>
+    ensures { result ≡ settings_score a.now b.now }
+{
+    if !same_byte(a.channels, b.channels) {
+        return None;
+    }
+    if same_format(&a.format, &b.format) {
+        return Some(100);
+    }
+    format_score(a.codec, &a.format, &b.format)
+}
+
+fn codec_score(codec: Codec, a: &CodecSpec, b: &CodecSpec) -> Option<usize>
+    ensures { result ≡ codec_score codec a.now b.now }
+{
+    match codec {
+        Codec::Tele => Some(100),
+        Codec::AmrWb => amr_wb_score(a, b),
+        _ => settings_score(a, b),
+    }
+}
+
+fn is_codec(codec: Codec, other: Codec) -> bool
+    ensures { result ≡ is_codec codec other }
+{
+    codec == other
+}
+
+#[tactic(auto, unfolding(crate::specs::Scores::score))]
+pub(crate) fn score(a: &CodecSpec, b: &CodecSpec) -> Option<usize>
+    ensures { result ≡ score a.now b.now }
+{
+    if is_codec(a.codec, b.codec) && a.clock_rate.get() == b.clock_rate.get() {
+        return codec_score(a.codec, a, b);
+    }
+    None
+}
+
+/// Scores are symmetric: how well a row matches another one is how well that one matches it.
+pub fn scores_symmetric()
+    ensures { ScoreSymmetric }
+{}

@@ -1,0 +1,4 @@
+pub mod Given
+pub mod Mapped
+pub mod SectionRows
+pub mod Attributes

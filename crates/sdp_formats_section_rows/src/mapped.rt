@@ -1,0 +1,149 @@
+//! Which codecs a section maps payload types to.
+
+ghost use Rattle.std.specs.Prelude.{◌≡◌, ◌++◌, ◌==◌, ◌&&◌, IfOk, OnOk, fold};
+ghost use Rattle.std.specs.List.{list_any};
+ghost use Rattle.sdp_formats_rows.specs.Codecs.{is_codec};
+ghost use Rattle.sdp_formats_section_rows.specs.Mapped.{is_mapped, is_mapped_to, map_of, mapping_in, mappings};
+ghost use Rattle.sdp_formats_section_rows.specs.Mapped.{mappings_in, spec_of_map, static_mapping, unless_one};
+ghost use Rattle.sdp_formats_section_rows.specs.Mapped.{with_static};
+
+use rtp_wire::{Frequency, Pt};
+use sdp_formats_rows::{Codec, CodecSpec, FormatParams};
+use sdp_formats_types::{MediaAttribute, RtpMap};
+use std::alloc::{AllocError, Global};
+
+/// A payload type and what it is mapped to.
+#[derive(Clone, Copy, Debug, PartialEq, Eq, Drop)]
+pub(crate) struct Mapping {
+    pub pt: Pt,
+    pub map: RtpMap,
+}
+
+/// What `a=rtpmap` says of a codec: its name, the clock rate of its timestamps, its channels (RFC 8866 6.6).
+pub fn map_of(spec: &CodecSpec) -> RtpMap
+    ensures { result ≡ map_of spec.now }
+{
+    RtpMap {
+        codec: spec.codec,
+        clock_rate: spec.rtp_clock_rate(),
+        channels: spec.channels,
+    }
+}
+
+fn unless_one(channels: Option<u8>) -> Option<u8>
+    ensures { result ≡ unless_one channels }
+{
+    match channels {
+        Some(1) => None,
+        other => other,
+    }
+}
+
+fn is_codec(codec: Codec, other: Codec) -> bool
+    ensures { result ≡ is_codec codec other }
+{
+    codec == other
+}
+
+/// The codec that `a=rtpmap` means, in this format: G.722 at 16,000 Hz, its one channel not given (RFC 3551 4.5.2).
+pub fn spec_of_map(map: &RtpMap, format: FormatParams) -> CodecSpec
+    ensures { result ≡ spec_of_map map.now format }
+{
+    if is_codec(map.codec, Codec::G722) {
+        return CodecSpec {
+            codec: map.codec,
+            clock_rate: Frequency::SIXTEEN_KHZ,
+            channels: unless_one(map.channels),
+            format,
+        };
+    }
+    CodecSpec {
+        codec: map.codec,
+        clock_rate: map.clock_rate,
+        channels: map.channels,
+        format,
+    }
+}
+
+fn push_mapping(mappings: &mut Vec<Mapping>, attribute: &MediaAttribute) -> Result<(), AllocError>
+    ensures { OnOk result (mappings.new.items ≡ mappings.old.items ++ mapping_in attribute.now) }
+{
+    match attribute {
+        MediaAttribute::RtpMap { pt, value } => {
+            mappings.push(Mapping {
+                pt: *pt,
+                map: *value,
+            })?;
+            Ok(())
+        }
+        _ => Ok(()),
+    }
+}
+
+fn mappings_in(alloc: Global, attributes: &[MediaAttribute]) -> Result<Vec<Mapping>, AllocError>
+    ensures { IfOk result (λ maps. maps.items ≡ mappings_in attributes.now) }
+{
+    let mut mappings = Vec::new(alloc);
+    for attribute in attributes {
+        push_mapping(&mut mappings, attribute)?;
+    }
+    Ok(mappings)
+}
+
+fn is_mapped(mappings: &[Mapping], pt: Pt) -> bool
+    ensures { result ≡ is_mapped mappings.now pt }
+{
+    mappings.iter().any(|mapping| mapping.pt.get() == pt.get())
+}
+
+fn push_static_mapping(
+    mappings: &mut Vec<Mapping>,
+    pt: Pt,
+    spec: Option<CodecSpec>,
+) -> Result<(), AllocError>
+    ensures { OnOk result (mappings.new.items ≡ mappings.old.items ++ static_mapping pt spec) }
+{
+    match spec {
+        Some(spec) => {
+            mappings.push(Mapping {
+                pt,
+                map: map_of(&spec),
+            })?;
+            Ok(())
+        }
+        None => Ok(()),
+    }
+}
+
+#[tactic(auto, unfolding(crate::specs::Mapped::with_static))]
+fn push_static(mappings: &mut Vec<Mapping>, pt: Pt) -> Result<(), AllocError>
+    ensures { OnOk result (mappings.new.items ≡ with_static mappings.old.items pt) }
+{
+    if is_mapped(mappings.as_slice(), pt) {
+        return Ok(());
+    }
+    push_static_mapping(mappings, pt, CodecSpec::from_static_pt(pt))
+}
+
+/// The mapped types of a section: those of its lines in order, then each static type of its list that no line maps.
+pub(crate) fn mappings(
+    alloc: Global,
+    pts: &[Pt],
+    attributes: &[MediaAttribute],
+) -> Result<Vec<Mapping>, AllocError>
+    ensures { IfOk result (λ maps. maps.items ≡ mappings pts.now attributes.now) }
+{
+    let mut mappings = mappings_in(alloc, attributes)?;
+    for pt in pts {
+        push_static(&mut mappings, *pt)?;
+    }
+    Ok(mappings)
+}
+
+/// Whether a type is mapped to this codec.
+pub(crate) fn is_mapped_to(codec: Codec, mappings: &[Mapping], pt: Pt) -> bool
+    ensures { result ≡ is_mapped_to codec mappings.now pt }
+{
+    mappings.iter().any(|mapping| mapping.pt.get() == pt.get()
+        && is_codec(mapping.map.codec, codec))
+}

@@ -1,0 +1,104 @@
+-- Sections as they are printed (RFC 8866 5.13, 5.14).
+use Rattle.std.specs.Prelude.{ℕ, not, List, [], ◌∷◌, map, codes, if◌then◌else◌}
+use Rattle.std.specs.Fmt.{decimal}
+use Rattle.std.specs.Option.{option_map}
+use Rattle.sdp_formats_forms.specs.Joined.{spelled, joined, maybe_text}
+use Rattle.payload_core_base.specs.Codecs.{codec_name}
+use Rattle.rtp_wire.specs.Kinds.{uri_of}
+use Rattle.sdp_formats_types.specs.Media.{proto_text, is_channel}
+use Rattle.sdp_formats_types.specs.Setup.{setup_text}
+use Rattle.sdp_formats_types.specs.Printed.{line_end, fingerprint_text, way_text, simulcast_text, params_text}
+use Rattle.sdp_formats_types.specs.Printed.{numbers_text, rid_types_text, rid_restrictions_text, is_empty, msid_text}
+use Rattle.sdp_formats_types.specs.PrintedCandidates.{candidate_text}
+use Rattle.sdp_formats_types.specs.declared.session.Bandwidth.{Bandwidth}
+use Rattle.sdp_formats_types.specs.declared.media.RtpMap as map_of
+use Rattle.sdp_formats_types.specs.declared.media.MediaLine.{MediaLine}
+use Rattle.sdp_formats_types.specs.declared.media.MediaType.{MediaType}
+use Rattle.sdp_formats_types.specs.declared.media.MediaType.TheVariants as media
+use Rattle.sdp_formats_types.specs.declared.media.MediaAttribute.{MediaAttribute}
+use Rattle.sdp_formats_types.specs.declared.media.MediaAttribute.TheVariants.{Rtcp, IceUfrag, IcePwd, IceOptions}
+use Rattle.sdp_formats_types.specs.declared.media.MediaAttribute.TheVariants.{Fingerprint, Setup, Mid, SctpPort}
+use Rattle.sdp_formats_types.specs.declared.media.MediaAttribute.TheVariants.{MaxMessageSize, SctpInit, ExtMap}
+use Rattle.sdp_formats_types.specs.declared.media.MediaAttribute.TheVariants.{RecvOnly, SendRecv, SendOnly, Inactive}
+use Rattle.sdp_formats_types.specs.declared.media.MediaAttribute.TheVariants.{Msid, RtcpMux, RtcpMuxOnly, RtcpRsize}
+use Rattle.sdp_formats_types.specs.declared.media.MediaAttribute.TheVariants.{Candidate, EndOfCandidates, RtpMap}
+use Rattle.sdp_formats_types.specs.declared.media.MediaAttribute.TheVariants.{RtcpFb, Fmtp, Rid, Simulcast, SsrcGroup}
+use Rattle.sdp_formats_types.specs.declared.media.MediaAttribute.TheVariants.{Ssrc, Unused}
+
+abbrev pub media_type_text : MediaType → List ℕ
+media_type_text media.Audio = codes "audio"
+media_type_text media.Video = codes "video"
+media_type_text media.Application = codes "application"
+media_type_text (media.Unknown word) = word
+
+-- `CODEC/RATE[/CHANNELS]` (RFC 8866 6.6)
+abbrev pub rtp_map_text : map_of.RtpMap → List ℕ
+rtp_map_text m = spelled (codec_name m.codec ∷ codes "/" ∷ decimal m.clock_rate
+    ∷ maybe_text (codes "/") (option_map decimal m.channels) ∷ [])
+
+-- an attribute with a list
+unfoldable pub listed_text : MediaAttribute → List ℕ
+listed_text (Fmtp pt values) = if is_empty values then []
+    else spelled (codes "a=fmtp:" ∷ decimal pt ∷ codes " " ∷ params_text values ∷ line_end ∷ [])
+listed_text (Rid id direction pt restriction) = spelled (codes "a=rid:" ∷ id.0 ∷ codes " " ∷ way_text direction
+    ∷ rid_types_text pt ∷ rid_restrictions_text (not (is_empty pt)) restriction ∷ line_end ∷ [])
+listed_text (SsrcGroup semantics ssrcs) = spelled (codes "a=ssrc-group:" ∷ semantics ∷ codes " "
+    ∷ numbers_text (codes " ") ssrcs ∷ line_end ∷ [])
+listed_text _ = []
+
+-- a line with a value behind its name
+abbrev pub named : List ℕ → List ℕ → List ℕ
+named name value = spelled (name ∷ value ∷ line_end ∷ [])
+
+-- the line of an attribute
+unfoldable pub attribute_text : MediaAttribute → List ℕ
+attribute_text (Rtcp value) = named (codes "a=rtcp:") value
+attribute_text (IceUfrag value) = named (codes "a=ice-ufrag:") value
+attribute_text (IcePwd value) = named (codes "a=ice-pwd:") value
+attribute_text (IceOptions value) = named (codes "a=ice-options:") value
+attribute_text (Fingerprint value) = named (codes "a=fingerprint:") (fingerprint_text value)
+attribute_text (Setup value) = named (codes "a=setup:") (setup_text value)
+attribute_text (Mid value) = named (codes "a=mid:") value
+attribute_text (SctpPort port) = named (codes "a=sctp-port:") (decimal port)
+attribute_text (MaxMessageSize size) = named (codes "a=max-message-size:") (decimal size)
+attribute_text (SctpInit value) = named (codes "a=sctp-init:") value
+attribute_text (ExtMap id ext) = spelled (codes "a=extmap:" ∷ decimal id ∷ codes " " ∷ uri_of ext ∷ line_end ∷ [])
+attribute_text RecvOnly = codes "a=recvonly\r\n"
+attribute_text SendRecv = codes "a=sendrecv\r\n"
+attribute_text SendOnly = codes "a=sendonly\r\n"
+attribute_text Inactive = codes "a=inactive\r\n"
+attribute_text (Msid value) = named (codes "a=msid:") (msid_text value)
+attribute_text RtcpMux = codes "a=rtcp-mux\r\n"
+attribute_text RtcpMuxOnly = codes "a=rtcp-mux-only\r\n"
+attribute_text RtcpRsize = codes "a=rtcp-rsize\r\n"
+attribute_text (Candidate value) = named (codes "a=") (candidate_text value)
+attribute_text EndOfCandidates = codes "a=end-of-candidates\r\n"
+attribute_text (RtpMap pt value) = spelled (codes "a=rtpmap:" ∷ decimal pt ∷ codes " " ∷ rtp_map_text value
+    ∷ line_end ∷ [])
+attribute_text (RtcpFb pt value) = spelled (codes "a=rtcp-fb:" ∷ decimal pt ∷ codes " " ∷ value ∷ line_end ∷ [])
+attribute_text (Simulcast value) = simulcast_text value
+attribute_text (Ssrc ssrc attr value) = spelled (codes "a=ssrc:" ∷ decimal ssrc ∷ codes " " ∷ attr ∷ codes ":" ∷ value
+    ∷ line_end ∷ [])
+attribute_text (Unused value) = named (codes "a=") value
+attribute_text a = listed_text a
+
+abbrev pub attributes_text : List MediaAttribute → List ℕ
+attributes_text attributes = joined [] (map attribute_text attributes)
+
+-- `b=TYPE:VALUE` (RFC 8866 5.8)
+abbrev pub bandwidth_text : Bandwidth → List ℕ
+bandwidth_text b = spelled (codes "b=" ∷ b.typ ∷ codes ":" ∷ b.val ∷ line_end ∷ [])
+
+-- the formats of a line `m=`
+unfoldable pub formats_text : MediaLine → List ℕ
+formats_text m = if is_channel m.typ then codes "webrtc-datachannel"
+    else if is_empty m.pts then codes "0" else numbers_text (codes " ") m.pts
+
+abbrev pub port_of : MediaLine → ℕ
+port_of m = if m.disabled then 0 else 9
+
+-- `m=TYPE PORT PROTO FORMATS`, the address, the bandwidth if there is one, and the attributes
+unfoldable pub section_text : MediaLine → List ℕ
+section_text m = spelled (codes "m=" ∷ media_type_text m.typ ∷ codes " " ∷ decimal (port_of m) ∷ codes " "
+    ∷ proto_text m.proto ∷ codes " " ∷ formats_text m ∷ line_end ∷ codes "c=IN IP4 0.0.0.0" ∷ line_end
+    ∷ maybe_text [] (option_map bandwidth_text m.bw) ∷ attributes_text m.attrs ∷ [])

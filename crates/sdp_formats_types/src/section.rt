@@ -1,0 +1,167 @@
+//! Sections and their attributes as they are printed (RFC 8866 5.13, 5.14).
+
+ghost use Rattle.std.specs.Prelude.{◌≡◌};
+ghost use Rattle.sdp_formats_types.specs.PrintedMedia.{port_of};
+
+use crate::media::{MediaAttribute, MediaLine};
+use crate::printed::{Params, RidRestrictions, RidTypes, Sources, Types};
+use sdp_formats_forms::{Joined, Maybe};
+use std::fmt;
+
+/// Its line with its end; nothing for an `a=fmtp` without parameters, and for a simulcast that was made up or names no
+/// layer.
+impl fmt::Display for MediaAttribute {
+    ghost use Rattle.std.specs.Prelude.{Some};
+    ghost use Rattle.sdp_formats_types.specs.PrintedMedia.{attribute_text};
+
+    ghost output = { λ a. Some (attribute_text a) };
+
+    #[tactic(auto, unfolding(crate::specs::PrintedMedia::attribute_text))]
+    fn fmt<W: fmt::Write>(&self, f: &mut fmt::Formatter<W>) -> fmt::Result {
+        match self {
+            MediaAttribute::Rtcp(value) => write!(f, "a=rtcp:{value}\r\n"),
+            MediaAttribute::IceUfrag(value) => write!(f, "a=ice-ufrag:{value}\r\n"),
+            MediaAttribute::IcePwd(value) => write!(f, "a=ice-pwd:{value}\r\n"),
+            MediaAttribute::IceOptions(value) => write!(f, "a=ice-options:{value}\r\n"),
+            MediaAttribute::Fingerprint(value) => write!(f, "a=fingerprint:{value}\r\n"),
+            MediaAttribute::Setup(value) => write!(f, "a=setup:{value}\r\n"),
+            MediaAttribute::Mid(value) => write!(f, "a=mid:{value}\r\n"),
+            MediaAttribute::SctpPort(port) => write!(f, "a=sctp-port:{port}\r\n"),
+            MediaAttribute::MaxMessageSize(size) => write!(f, "a=max-message-size:{size}\r\n"),
+            MediaAttribute::SctpInit(value) => write!(f, "a=sctp-init:{value}\r\n"),
+            MediaAttribute::ExtMap { id, ext } => write!(f, "a=extmap:{id} {ext}\r\n"),
+            MediaAttribute::RecvOnly => f.write_str("a=recvonly\r\n"),
+            MediaAttribute::SendRecv => f.write_str("a=sendrecv\r\n"),
+            MediaAttribute::SendOnly => f.write_str("a=sendonly\r\n"),
+            MediaAttribute::Inactive => f.write_str("a=inactive\r\n"),
+            MediaAttribute::Msid(value) => write!(f, "a=msid:{value}\r\n"),
+            MediaAttribute::RtcpMux => f.write_str("a=rtcp-mux\r\n"),
+            MediaAttribute::RtcpMuxOnly => f.write_str("a=rtcp-mux-only\r\n"),
+            MediaAttribute::RtcpRsize => f.write_str("a=rtcp-rsize\r\n"),
+            MediaAttribute::Candidate(value) => write!(f, "a={value}\r\n"),
+            MediaAttribute::EndOfCandidates => f.write_str("a=end-of-candidates\r\n"),
+            MediaAttribute::RtpMap { pt, value } => write!(f, "a=rtpmap:{pt} {value}\r\n"),
+            MediaAttribute::RtcpFb { pt, value } => write!(f, "a=rtcp-fb:{pt} {value}\r\n"),
+            MediaAttribute::Simulcast(value) => write!(f, "{value}"),
+            MediaAttribute::Ssrc { ssrc, attr, value } => {
+                write!(f, "a=ssrc:{ssrc} {attr}:{value}\r\n")
+            }
+            MediaAttribute::Unused(value) => write!(f, "a={value}\r\n"),
+            listed => {
+                let listed = ListedAttribute(listed);
+                write!(f, "{listed}")
+            }
+        }
+    }
+}
+
+// An attribute with a list; nothing for another.
+#[derive(Drop)]
+struct ListedAttribute<'a>(&'a MediaAttribute);
+
+impl fmt::Display for ListedAttribute<'_> {
+    ghost use Rattle.std.specs.Prelude.{Some};
+    ghost use Rattle.sdp_formats_types.specs.PrintedMedia.{listed_text};
+
+    ghost output = { λ a. Some (listed_text a.0.now) };
+
+    #[tactic(auto, unfolding(crate::specs::PrintedMedia::listed_text))]
+    fn fmt<W: fmt::Write>(&self, f: &mut fmt::Formatter<W>) -> fmt::Result {
+        match self.0 {
+            MediaAttribute::Fmtp { pt, values } => {
+                if values.as_slice().is_empty() {
+                    return Ok(());
+                }
+                let params = Params(values.as_slice());
+                write!(f, "a=fmtp:{pt} {params}\r\n")
+            }
+            MediaAttribute::Rid {
+                id,
+                direction,
+                pt,
+                restriction,
+            } => {
+                let (name, direction) = (&id.0, direction.as_str());
+                let types = RidTypes(pt.as_slice());
+                let restrictions = RidRestrictions(
+                    !pt.as_slice().is_empty(),
+                    restriction.as_slice(),
+                );
+                write!(f, "a=rid:{name} {direction}{types}{restrictions}\r\n")
+            }
+            MediaAttribute::SsrcGroup { semantics, ssrcs } => {
+                let sources = Sources(ssrcs.as_slice());
+                write!(f, "a=ssrc-group:{semantics} {sources}\r\n")
+            }
+            _ => Ok(()),
+        }
+    }
+}
+
+// The formats of a section's line `m=`.
+#[derive(Drop)]
+struct Formats<'a>(&'a MediaLine);
+
+impl fmt::Display for Formats<'_> {
+    ghost use Rattle.std.specs.Prelude.{Some};
+    ghost use Rattle.sdp_formats_types.specs.PrintedMedia.{formats_text};
+
+    ghost output = { λ m. Some (formats_text m.0.now) };
+
+    #[tactic(auto, unfolding(crate::specs::PrintedMedia::formats_text))]
+    fn fmt<W: fmt::Write>(&self, f: &mut fmt::Formatter<W>) -> fmt::Result {
+        if self.0.typ.is_channel() {
+            return f.write_str("webrtc-datachannel");
+        }
+        if self.0.pts.as_slice().is_empty() {
+            return f.write_str("0");
+        }
+        let types = Types(self.0.pts.as_slice(), " ");
+        write!(f, "{types}")
+    }
+}
+
+// Attributes one behind the other.
+#[derive(Drop)]
+struct Attributes<'a>(&'a [MediaAttribute]);
+
+impl fmt::Display for Attributes<'_> {
+    ghost use Rattle.std.specs.Prelude.{Some};
+    ghost use Rattle.sdp_formats_types.specs.PrintedMedia.{attributes_text};
+
+    ghost output = { λ a. Some (attributes_text a.0.now) };
+
+    fn fmt<W: fmt::Write>(&self, f: &mut fmt::Formatter<W>) -> fmt::Result {
+        let attributes = Joined(self.0, "");
+        write!(f, "{attributes}")
+    }
+}
+
+/// Its lines with their ends: port 9, or 0 where it is disabled, and the address 0.0.0.0 (RFC 8829 5.2.1).
+impl fmt::Display for MediaLine {
+    ghost use Rattle.std.specs.Prelude.{Some};
+    ghost use Rattle.sdp_formats_types.specs.PrintedMedia.{section_text};
+
+    ghost output = { λ m. Some (section_text m) };
+
+    #[tactic(auto, unfolding(crate::specs::PrintedMedia::section_text))]
+    fn fmt<W: fmt::Write>(&self, f: &mut fmt::Formatter<W>) -> fmt::Result {
+        let (typ, port, proto) = (&self.typ, self.port(), self.proto);
+        let formats = Formats(self);
+        let bandwidth = Maybe("", &self.bw);
+        let attributes = Attributes(self.attrs.as_slice());
+        write!(
+            f,
+            "m={typ} {port} {proto} {formats}\r\nc=IN IP4 0.0.0.0\r\n{bandwidth}{attributes}"
+        )
+    }
+}
+
+impl MediaLine {
+    /// The port of its line `m=`: 0 where it is disabled, else 9, the port of a section without candidates.
+    pub fn port(&self) -> u16
+        ensures { result ≡ port_of self.now }
+    {
+        if self.disabled { 0 } else { 9 }
+    }
+}

@@ -1,0 +1,128 @@
+//! Session texts as they are printed (RFC 8866 5).
+
+ghost use Rattle.std.specs.Prelude.{◌≡◌, IfOk};
+ghost use Rattle.std.specs.String.{string_bytes};
+ghost use Rattle.sdp_formats_types.specs.PrintedSession.{sdp_text};
+
+use crate::media::MediaLine;
+use crate::printed::{Mids, Words};
+use crate::session::{Sdp, Session, SessionAttribute};
+use sdp_formats_forms::{Joined, Maybe};
+use std::alloc::{AllocError, Global};
+use std::fmt;
+
+/// Its line with its end.
+impl fmt::Display for SessionAttribute {
+    ghost use Rattle.std.specs.Prelude.{Some};
+    ghost use Rattle.sdp_formats_types.specs.PrintedSession.{attribute_text};
+
+    ghost output = { λ a. Some (attribute_text a) };
+
+    #[tactic(auto, unfolding(crate::specs::PrintedSession::attribute_text))]
+    fn fmt<W: fmt::Write>(&self, f: &mut fmt::Formatter<W>) -> fmt::Result {
+        match self {
+            SessionAttribute::Group { typ, mids } => {
+                if mids.as_slice().is_empty() {
+                    return write!(f, "a=group:{typ}\r\n");
+                }
+                let mids = Mids(mids.as_slice());
+                write!(f, "a=group:{typ} {mids}\r\n")
+            }
+            SessionAttribute::MsidSemantic {
+                semantic,
+                stream_ids,
+            } => {
+                let streams = Words(stream_ids.as_slice());
+                write!(f, "a=msid-semantic: {semantic} {streams}\r\n")
+            }
+            SessionAttribute::AllowMixedExts => f.write_str("a=extmap-allow-mixed\r\n"),
+            SessionAttribute::IceLite => f.write_str("a=ice-lite\r\n"),
+            SessionAttribute::IceUfrag(value) => write!(f, "a=ice-ufrag:{value}\r\n"),
+            SessionAttribute::IcePwd(value) => write!(f, "a=ice-pwd:{value}\r\n"),
+            SessionAttribute::IceOptions(value) => write!(f, "a=ice-options:{value}\r\n"),
+            SessionAttribute::Fingerprint(value) => write!(f, "a=fingerprint:{value}\r\n"),
+            SessionAttribute::Setup(value) => write!(f, "a=setup:{value}\r\n"),
+            SessionAttribute::Candidate(value) => write!(f, "a={value}\r\n"),
+            SessionAttribute::EndOfCandidates => f.write_str("a=end-of-candidates\r\n"),
+            SessionAttribute::Unused(value) => write!(f, "a={value}\r\n"),
+        }
+    }
+}
+
+// Attributes one behind the other.
+#[derive(Drop)]
+struct SessionAttributes<'a>(&'a [SessionAttribute]);
+
+impl fmt::Display for SessionAttributes<'_> {
+    ghost use Rattle.std.specs.Prelude.{Some};
+    ghost use Rattle.sdp_formats_types.specs.PrintedSession.{attributes_text};
+
+    ghost output = { λ a. Some (attributes_text a.0.now) };
+
+    fn fmt<W: fmt::Write>(&self, f: &mut fmt::Formatter<W>) -> fmt::Result {
+        let attributes = Joined(self.0, "");
+        write!(f, "{attributes}")
+    }
+}
+
+// Sections one behind the other.
+#[derive(Drop)]
+struct Sections<'a>(&'a [MediaLine]);
+
+impl fmt::Display for Sections<'_> {
+    ghost use Rattle.std.specs.Prelude.{Some};
+    ghost use Rattle.sdp_formats_types.specs.PrintedSession.{sections_text};
+
+    ghost output = { λ s. Some (sections_text s.0.now) };
+
+    fn fmt<W: fmt::Write>(&self, f: &mut fmt::Formatter<W>) -> fmt::Result {
+        let sections = Joined(self.0, "");
+        write!(f, "{sections}")
+    }
+}
+
+/// Its lines with their ends: the version, the originator `str0m-0.25.0` with the session's number, the name `-`, the
+/// bandwidth if there is one, the time `0 0`, and the attributes.
+impl fmt::Display for Session {
+    ghost use Rattle.std.specs.Prelude.{Some};
+    ghost use Rattle.sdp_formats_types.specs.PrintedSession.{session_text};
+
+    ghost output = { λ s. Some (session_text s) };
+
+    #[tactic(auto, unfolding(crate::specs::PrintedSession::session_text))]
+    fn fmt<W: fmt::Write>(&self, f: &mut fmt::Formatter<W>) -> fmt::Result {
+        let id = self.id;
+        let bandwidth = Maybe("", &self.bw);
+        let attributes = SessionAttributes(self.attrs.as_slice());
+        write!(
+            f,
+            "v=0\r\no=str0m-0.25.0 {id} 2 IN IP4 0.0.0.0\r\ns=-\r\n{bandwidth}t=0 0\r\n{attributes}"
+        )
+    }
+}
+
+/// The session, and its sections.
+impl fmt::Display for Sdp {
+    ghost use Rattle.std.specs.Prelude.{Some};
+
+    ghost output = { λ s. Some (sdp_text s) };
+
+    fn fmt<W: fmt::Write>(&self, f: &mut fmt::Formatter<W>) -> fmt::Result {
+        let session = &self.session;
+        let sections = Sections(self.media_lines.as_slice());
+        write!(f, "{session}{sections}")
+    }
+}
+
+impl Sdp {
+    /// The text.
+    ///
+    /// # Errors
+    ///
+    /// `AllocError` where memory is wanting.
+    pub fn to_sdp_string(&self, alloc: Global) -> Result<String, AllocError>
+        ensures { IfOk result (λ text. string_bytes text ≡ sdp_text self.now) }
+    {
+        self.to_string(alloc)
+    }
+}
