@@ -89,10 +89,7 @@ impl RtpHeader {
         ensures written { (text before : List ℕ) → IsWritten text before buf.old → at ≡ length text →
             IsWritten (text ++ block_bytes (Some (block_of exts.now self.now.ext_vals))) before buf.new }
     {
-        let words = exts.block_len(&self.ext_vals) / 4;
-        let at = put(buf, at, &exts.block_profile(&self.ext_vals).to_be_bytes());
-        let at = put(buf, at, &(words as u16).to_be_bytes());
-        exts.write_block(&self.ext_vals, buf, at)
+        exts.write_headed_block(&self.ext_vals, buf, at)
     }
 }
 

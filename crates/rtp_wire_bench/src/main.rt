@@ -1,6 +1,8 @@
-//! How many headers are written and parsed in a second, and how many numbers a replay window takes.
+//! How long headers take to be written and read, beside plain copies, and how many numbers a replay window takes.
 //! Counts are printed on standard output, times on standard error.
 #![tactic(auto)]
+
+ghost use Rattle.std.specs.Prelude.{◌≤◌, ◌<◌};
 
 use rtp_wire::{
     Extension, ExtensionMap, ExtensionValues, Mid, RtpHeader, SeqNo, SeqNoWindow, VideoOrientation,
@@ -9,36 +11,66 @@ use std::io;
 use std::time::{Duration, Instant};
 
 /// How often each thing is done.
-const ROUNDS: u32 = 20_000;
+const ROUNDS: u32 = 200_000;
 
-/// Writes a header of this number with these values, parses it, and tells whether its number came back.
-fn comes_back(exts: &ExtensionMap, values: &ExtensionValues, number: u16) -> bool {
-    let header = RtpHeader {
+/// A header of this number with these values.
+fn header(exts: &ExtensionMap, values: &ExtensionValues, number: u16) -> RtpHeader
+    ensures payload_type { result.payload_type < 128 }
+    ensures csrc_count { result.csrc_count ≤ 15 }
+{
+    RtpHeader {
         sequence_number: number,
         has_extension: !exts.is_empty(),
         ext_vals: *values,
         ..RtpHeader::default()
-    };
-    let mut buf = [0; 64];
-    if header.wire_len(exts) > buf.len() {
-        return false;
-    }
-    let _len = header.write_to(&mut buf, exts);
-    match RtpHeader::parse(&buf, exts) {
-        Some(back) => back.sequence_number == number,
-        None => false,
     }
 }
 
-/// How many headers with these values come back.
-fn headers(exts: &ExtensionMap, values: &ExtensionValues) -> u32 {
-    let mut read = 0u32;
+/// How many headers with these values are written, and in how many bytes.
+fn written(exts: &ExtensionMap, values: &ExtensionValues) -> (u32, usize) {
+    let mut count = 0u32;
+    let mut bytes = 0usize;
+    let mut buf = [0; 64];
     for number in 0..ROUNDS {
-        if comes_back(exts, values, (number % 65536) as u16) {
-            read = read.saturating_add(1);
+        let header = header(exts, values, (number % 65536) as u16);
+        if header.wire_len(exts) <= buf.len() {
+            bytes = bytes.saturating_add(header.write_to(&mut buf, exts));
+            count = count.saturating_add(1);
         }
     }
-    read
+    (count, bytes)
+}
+
+/// How many headers are read of one with these values.
+fn read(exts: &ExtensionMap, values: &ExtensionValues) -> u32 {
+    let mut buf = [0; 64];
+    let header = header(exts, values, 7);
+    if header.wire_len(exts) <= buf.len() {
+        let _len = header.write_to(&mut buf, exts);
+    }
+    let mut count = 0u32;
+    for _ in 0..ROUNDS {
+        if let Some(back) = RtpHeader::parse(&buf, exts) {
+            count = count.saturating_add((back.sequence_number / 7) as u32);
+        }
+    }
+    count
+}
+
+/// The baseline: how often so many bytes are copied, and how many those are together.
+fn copied(from: &[u8; 64], len: usize) -> (u32, usize)
+    requires { len ≤ 64 }
+{
+    let mut count = 0u32;
+    let mut bytes = 0usize;
+    let mut buf = [0; 64];
+    for number in 0..ROUNDS {
+        buf[..len].copy_from_slice(&from[..len]);
+        buf[2] = (number % 256) as u8;
+        bytes = bytes.saturating_add((buf[2] / 255) as usize);
+        count = count.saturating_add(1);
+    }
+    (count, bytes)
 }
 
 /// Hands a window rising numbers, every third one twice; answers how many it took.
@@ -74,22 +106,37 @@ fn four() -> (ExtensionMap, ExtensionValues) {
 /// Prints a count, and the time that it took.
 fn report(rt: &HostRuntime, what: &str, count: u32, time: Duration) -> io::Result<()> {
     println!(*rt; "{what}: {count}")?;
-    eprintln!(*rt; "{what}: {} us", time.as_micros())
+    let nanos = time.as_nanos() / (count as u128).max(1);
+    eprintln!(*rt; "{what}: {nanos} ns each")
+}
+
+/// Headers of a map and these values, written and read.
+fn both_ways(
+    rt: &HostRuntime,
+    what: &str,
+    exts: &ExtensionMap,
+    values: &ExtensionValues,
+) -> io::Result<()> {
+    let start = Instant::now(rt)?;
+    let (count, bytes) = written(exts, values);
+    let time = start.elapsed(rt)?;
+    println!(*rt; "headers {what}: {bytes} bytes")?;
+    report(rt, "written", count, time)?;
+    let start = Instant::now(rt)?;
+    let count = read(exts, values);
+    report(rt, "read", count, start.elapsed(rt)?)
 }
 
 fn main(rt: HostRuntime) -> io::Result<()> {
+    let start = Instant::now(&rt)?;
+    let (count, bytes) = copied(&[255; 64], 32);
+    let time = start.elapsed(&rt)?;
+    println!(rt; "copies of 32 bytes: {bytes}")?;
+    report(&rt, "copied", count, time)?;
+    let absent = ExtensionValues::absent();
+    both_ways(&rt, "without extensions", &ExtensionMap::empty(), &absent)?;
     let (exts, values) = four();
-    let start = Instant::now(&rt)?;
-    let bare = headers(&ExtensionMap::empty(), &ExtensionValues::absent());
-    report(&rt, "headers without extensions", bare, start.elapsed(&rt)?)?;
-    let start = Instant::now(&rt)?;
-    let full = headers(&exts, &values);
-    report(
-        &rt,
-        "headers with four extensions",
-        full,
-        start.elapsed(&rt)?,
-    )?;
+    both_ways(&rt, "with four extensions", &exts, &values)?;
     let start = Instant::now(&rt)?;
     let taken = updates();
     report(&rt, "window updates", taken, start.elapsed(&rt)?)

@@ -46,7 +46,7 @@ impl ElementBytes {
 }
 
 /// The audio level as a positive number, if it is in its range.
-fn level_number(level: i8) -> Option<u8>
+pub(crate) fn level_number(level: i8) -> Option<u8>
     ensures { result ≡ level_number level }
 {
     if level > 0 || level < -127 {

@@ -1,10 +1,12 @@
 //! Header extensions of RTP: which there are, their numbers and their values (RFC 8285).
 #![tactic(auto)]
 
+mod block_writing;
 mod blocks;
 mod element;
 mod extension;
 mod iteration;
+mod lengths;
 mod map;
 mod reading;
 mod values;

@@ -1,14 +1,18 @@
 //! Which extension has which number.
 
 ghost use Rattle.std.specs.Prelude.{◌≡◌, ◌+◌, ◌-◌, ◌≤◌, ◌<◌, List, ℕ, suc, length, slice_set, Some, IfSome, IfOk};
+ghost use Rattle.std.specs.Prelude.{MatchOption, None};
 ghost use Rattle.std.specs.Prelude.{IsPermutation};
-ghost use Rattle.std.specs.Option.{option_copied};
+ghost use Rattle.std.specs.Option.{option_copied, option_map};
+ghost use Rattle.rtp_wire_extensions.specs.Carried.{value_bytes};
+ghost use Rattle.rtp_wire_extensions.specs.declared.values.ExtensionValues.{ExtensionValues};
 ghost use Rattle.rtp_wire_extensions.specs.Elements.{slot_is, holds, carried_at, lookup};
 ghost use Rattle.rtp_wire_extensions.specs.Maps.{empty_map, is_empty_map, standard_map, place_of, id_of, moved};
 ghost use Rattle.rtp_wire_extensions.specs.Maps.{remapped};
 
 use crate::element::{ElementBytes, value_bytes};
 use crate::extension::Extension;
+use crate::lengths::value_len;
 use crate::values::ExtensionValues;
 use std::alloc::{AllocError, Global};
 use std::marker::Model;
@@ -178,10 +182,11 @@ impl ExtensionMap {
         found
     }
 
-    /// The bytes that a place carries of the values: an extension under its least number alone.
-    pub(crate) fn carried(&self, place: usize, values: &ExtensionValues) -> Option<ElementBytes>
+    /// What a place carries a value of: an extension under its least number alone.
+    fn carrier(&self, place: usize) -> Option<&Extension>
         requires { place < 16 }
-        ensures { result ≡ carried_at self.now place values.now }
+        ensures { (values : ExtensionValues) → MatchOption result (carried_at self.now place values ≡ None)
+            (λ ext. carried_at self.now place values ≡ value_bytes ext.now values) }
     {
         let Some(ext) = &self.entries[place] else {
             return None;
@@ -189,7 +194,30 @@ impl ExtensionMap {
         if self.holds(place, ext) {
             return None;
         }
-        value_bytes(ext, values)
+        Some(ext)
+    }
+
+    /// The bytes that a place carries of the values.
+    pub(crate) fn carried(&self, place: usize, values: &ExtensionValues) -> Option<ElementBytes>
+        requires { place < 16 }
+        ensures { result ≡ carried_at self.now place values.now }
+    {
+        match self.carrier(place) {
+            Some(ext) => value_bytes(ext, values),
+            None => None,
+        }
+    }
+
+    /// How many bytes a place carries of the values, at most 16.
+    pub(crate) fn carried_len(&self, place: usize, values: &ExtensionValues) -> Option<usize>
+        requires { place < 16 }
+        ensures value { result ≡ option_map length (carried_at self.now place values.now) }
+        ensures short { IfSome result (λ len. len ≤ 16) }
+    {
+        match self.carrier(place) {
+            Some(ext) => value_len(ext, values),
+            None => None,
+        }
     }
 
     /// Gives each extension of the pairs its number there, if the map has the extension and the

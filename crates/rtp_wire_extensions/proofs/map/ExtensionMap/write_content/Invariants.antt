@@ -1,7 +1,7 @@
 use Rattle.std.proofs.Common.{◌≡◌, ℕ, ◌+◌, ◌++◌, List, length}
 use Rattle.rtp_wire_extensions.specs.Elements.{elements_to, elements_text}
 use Rattle.rtp_wire_extensions.specs.Written.{IsWritten}
-use Rattle.rtp_wire_extensions.proofs.map.ExtensionMap.write_block.Given as goal
+use Rattle.rtp_wire_extensions.proofs.map.ExtensionMap.write_content.Given as goal
 
 -- the first places are written
 abbrev pub invariant-loop-place : goal.invariant-loop-place

@@ -5,27 +5,27 @@ use Rattle.rtp_wire_extensions.specs.Values.{block_of}
 use Rattle.rtp_wire_extensions.specs.Written.{IsWritten}
 use Rattle.rtp_wire_extensions.proofs.BlockLaws.{place-fits, room-more, content-length, content-is, written-is}
 use Rattle.rtp_wire_extensions.proofs.BlockLaws.{text-more, length-text-more}
-use Rattle.rtp_wire_extensions.proofs.map.ExtensionMap.write_block.Goals as goal
+use Rattle.rtp_wire_extensions.proofs.map.ExtensionMap.write_content.Goals as goal
 
 pub write_place-end-requires-clause-fits : goal.write_place-end-requires-clause-fits
 write_place-end-requires-clause-fits c =
-    λ e. place-fits c.args.self.now c.args.values.now c.loop-place.place (sym c.fits_one_byte-one_byte.ensures ∙ e)
+    λ e. place-fits c.args.self.now c.args.values.now c.loop-place.place (sym c.requires.form ∙ e)
     c.loop-place-test.true
 
 pub write_place-end-requires-clause-room : goal.write_place-end-requires-clause-room
 write_place-end-requires-clause-room c =
-    let one = c.fits_one_byte-one_byte.result in
+    let one = c.args.one_byte in
     omega (
       arith,
       c.loop-place.invariant.end,
       room-more one c.args.self.now c.args.values.now c.loop-place.place c.loop-place-test.true,
-      content-length c.args.self.now c.args.values.now one c.fits_one_byte-one_byte.ensures,
-      c.requires,
+      content-length c.args.self.now c.args.values.now one c.requires.form,
+      c.requires.room,
     )
 
 pub loop-place-preserved : goal.loop-place-preserved
 loop-place-preserved c =
-    let one = c.fits_one_byte-one_byte.result in
+    let one = c.args.one_byte in
     let map = c.args.self.now in
     let v = c.args.values.now in
     let n = c.loop-place.place in
@@ -46,33 +46,33 @@ loop-place-preserved c =
 
 pub put-requires : goal.put-requires
 put-requires c =
-    let one = c.fits_one_byte-one_byte.result in
+    let one = c.args.one_byte in
     let whole = written-is c.args.self.now c.args.values.now c.loop-place.place (omega arith) in
     omega (
       arith,
       c.loop-place.invariant.end,
       ap (λ (es : List Element). length (elements_text one es)) whole,
-      content-length c.args.self.now c.args.values.now one c.fits_one_byte-one_byte.ensures,
-      c.requires,
+      content-length c.args.self.now c.args.values.now one c.requires.form,
+      c.requires.room,
       length-take {A = ℕ} ((4 - (c.loop-place.end - c.args.at) % 4) % 4) (0 ∷ 0 ∷ 0 ∷ []),
     )
 
 pub returns-clause-end : goal.returns-clause-end
 returns-clause-end c =
-    let one = c.fits_one_byte-one_byte.result in
+    let one = c.args.one_byte in
     let whole = written-is c.args.self.now c.args.values.now c.loop-place.place (omega arith) in
     omega (
       arith,
       c.loop-place.invariant.end,
       ap (λ (es : List Element). length (elements_text one es)) whole,
-      content-length c.args.self.now c.args.values.now one c.fits_one_byte-one_byte.ensures,
+      content-length c.args.self.now c.args.values.now one c.requires.form,
       c.put.ensures.end,
       length-take {A = ℕ} ((4 - (c.loop-place.end - c.args.at) % 4) % 4) (0 ∷ 0 ∷ 0 ∷ []),
     )
 
 pub returns-clause-written : goal.returns-clause-written
 returns-clause-written c = λ text before was at.
-    let one = c.fits_one_byte-one_byte.result in
+    let one = c.args.one_byte in
     let map = c.args.self.now in
     let v = c.args.values.now in
     let n = c.loop-place.place in
@@ -85,6 +85,6 @@ returns-clause-written c = λ text before was at.
     place in
     let joined : (text ++ so_far) ++ take (fill d) (0 ∷ 0 ∷ 0 ∷ []) ≡ text ++ (block_of map v).content =
     append_assoc text so_far (take (fill d) (0 ∷ 0 ∷ 0 ∷ []))
-    ∙ ap (λ (ys : List ℕ). text ++ ys) (content-is map v one n d c.fits_one_byte-one_byte.ensures (omega arith)
+    ∙ ap (λ (ys : List ℕ). text ++ ys) (content-is map v one n d c.requires.form (omega arith)
     count) in
     subst (λ (ys : List ℕ). IsWritten ys before c.put.new.buf) joined more

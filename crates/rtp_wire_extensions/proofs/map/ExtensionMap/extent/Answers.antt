@@ -1,0 +1,41 @@
+use Rattle.std.proofs.Common.{ap, ◌∙◌, List, true, false, length, arith}
+use Rattle.rtp_wire_extensions.specs.Elements.{Element, are_one_byte, elements_text}
+use Rattle.rtp_wire_extensions.proofs.BlockLaws.{fits-more, length-text-more, written-is}
+use Rattle.rtp_wire_extensions.proofs.map.ExtensionMap.extent.Goals as goal
+
+pub loop-place-preserved : goal.loop-place-preserved
+loop-place-preserved c =
+    let map = c.args.self.now in
+    let v = c.args.values.now in
+    let n = c.loop-place.place in
+    record {
+      fits = grind (arith, fits-more map v n _ _ c.loop-place.invariant.fits c.place_extent-here.ensures.fits);
+      one_byte = omega (
+        arith,
+        c.loop-place.invariant.one_byte,
+        c.place_extent-here.ensures.one_byte,
+        length-text-more true map v n,
+      );
+      two_byte = omega (
+        arith,
+        c.loop-place.invariant.two_byte,
+        c.place_extent-here.ensures.two_byte,
+        length-text-more false map v n,
+      );
+      few = omega (arith, c.loop-place.invariant.few, c.place_extent-here.ensures.few);
+      short = omega (arith, c.loop-place.invariant.short, c.place_extent-here.ensures.short);
+    }
+
+pub returns-clause-fits : goal.returns-clause-fits
+returns-clause-fits c = c.loop-place.invariant.fits ∙ ap are_one_byte
+    (written-is c.args.self.now c.args.values.now c.loop-place.place (omega arith))
+
+pub returns-clause-one_byte : goal.returns-clause-one_byte
+returns-clause-one_byte c = c.loop-place.invariant.one_byte
+    ∙ ap (λ (es : List Element). length (elements_text true es))
+    (written-is c.args.self.now c.args.values.now c.loop-place.place (omega arith))
+
+pub returns-clause-two_byte : goal.returns-clause-two_byte
+returns-clause-two_byte c = c.loop-place.invariant.two_byte
+    ∙ ap (λ (es : List Element). length (elements_text false es))
+    (written-is c.args.self.now c.args.values.now c.loop-place.place (omega arith))

@@ -1,0 +1,242 @@
+//! Extension blocks written.
+
+ghost use Rattle.std.specs.Prelude.{◌≡◌, ◌≢◌, ◌⊎◌, ◌+◌, ◌*◌, ◌%◌, ◌≤◌, ◌<◌, ◌++◌, List, [], ◌∷◌, ℕ, Bool, true};
+ghost use Rattle.std.specs.Prelude.{false, Some, None, MatchOption, length, ◌/◌, if◌then◌else◌};
+ghost use Rattle.rtp_wire_extensions.specs.BlockLayout.{AreBytes, IsLaidOut, Piece, may_have_length, said_by_pieces};
+ghost use Rattle.rtp_wire_extensions.specs.Carried.{AreValues, with_value};
+ghost use Rattle.rtp_wire_extensions.specs.Elements.{Numbering, step, taken, lookup, with_element, values_from};
+ghost use Rattle.rtp_wire_extensions.specs.Elements.{place_elements, are_one_byte, elements_text, fill};
+ghost use Rattle.rtp_wire_extensions.specs.Maps.{form_for, form_if};
+ghost use Rattle.rtp_wire_extensions.specs.Values.{absent, form_of_profile, values_of, block_of, two_byte_block};
+ghost use Rattle.rtp_wire_extensions.specs.Values.{profile_of, written_elements};
+ghost use Rattle.std.specs.Int.{to_be_bytes, w16};
+ghost use Rattle.rtp_wire_extensions.specs.declared.extension.Extension.{Extension};
+ghost use Rattle.rtp_wire_extensions.specs.declared.extension.Extension.TheVariants as extension_is;
+ghost use Rattle.rtp_wire_extensions.specs.declared.values.ExtensionValues.{ExtensionValues};
+ghost use Rattle.rtp_wire_extensions.specs.Written.{IsWritten};
+
+use crate::map::{ExtensionMap, ExtensionsForm};
+use crate::values::ExtensionValues;
+use crate::writing::put;
+
+/// How many elements are written, how many bytes their values have together, and whether each fits the one-byte
+/// form.
+#[derive(Clone, Copy, Drop)]
+struct Extent {
+    fits: bool,
+    count: usize,
+    bytes: usize,
+}
+
+impl Extent {
+    /// The length of the elements in one form, filled up to whole words.
+    fn filled_len(self, one_byte: bool) -> usize
+        requires few { self.count ≤ 16 }
+        requires short { self.bytes ≤ 256 }
+        ensures { let len = (if one_byte then self.count else 2 * self.count) + self.bytes in result ≡ len + fill len }
+    {
+        let front = if one_byte { self.count } else { 2 * self.count };
+        let len = front + self.bytes;
+        len + (4 - len % 4) % 4
+    }
+
+    /// The length of the block's bytes, behind profile and count of words.
+    fn block_len(self) -> usize
+        requires few { self.count ≤ 16 }
+        requires short { self.bytes ≤ 256 }
+        ensures { let len = (if self.fits then self.count else 2 * self.count) + self.bytes in
+            result ≡ len + fill len }
+    {
+        self.filled_len(self.fits)
+    }
+
+    /// The profile of the block (RFC 8285 4.2 and 4.3).
+    fn profile(self) -> u16
+        ensures { result ≡ profile_of self.fits }
+    {
+        if self.fits { 0xBEDE } else { 0x1000 }
+    }
+}
+
+impl ExtensionMap {
+    /// The extent of what a place carries.
+    fn place_extent(&self, place: usize, values: &ExtensionValues) -> Extent
+        requires { place < 16 }
+        ensures fits { result.fits ≡ are_one_byte (place_elements self.now values.now place) }
+        ensures one_byte { result.count + result.bytes
+            ≡ length (elements_text true (place_elements self.now values.now place)) }
+        ensures two_byte { 2 * result.count + result.bytes
+            ≡ length (elements_text false (place_elements self.now values.now place)) }
+        ensures few { result.count ≤ 1 }
+        ensures short { result.bytes ≤ 16 }
+    {
+        let Some(len) = self.carried_len(place, values) else {
+            return Extent {
+                fits: true,
+                count: 0,
+                bytes: 0,
+            };
+        };
+        Extent {
+            fits: place < 14 && len >= 1 && len <= 16,
+            count: 1,
+            bytes: len,
+        }
+    }
+
+    /// The extent of the elements that are written for these values.
+    fn extent(&self, values: &ExtensionValues) -> Extent
+        ensures fits { result.fits ≡ are_one_byte (written_elements self.now values.now) }
+        ensures one_byte { result.count + result.bytes
+            ≡ length (elements_text true (written_elements self.now values.now)) }
+        ensures two_byte { 2 * result.count + result.bytes
+            ≡ length (elements_text false (written_elements self.now values.now)) }
+        ensures few { result.count ≤ 16 }
+        ensures short { result.bytes ≤ 256 }
+    {
+        let mut fits = true;
+        let mut count = 0;
+        let mut bytes = 0;
+        for place in 0..16 {
+            let here = self.place_extent(place, values);
+            let fits_here = here.fits;
+            fits = fits && fits_here;
+            count += here.count;
+            bytes += here.bytes;
+        }
+        Extent { fits, count, bytes }
+    }
+
+    /// The form of the block for these values: one-byte where each element fits it.
+    pub fn form(&self, values: &ExtensionValues) -> ExtensionsForm
+        ensures { result ≡ form_for self.now values.now }
+    {
+        if self.extent(values).fits {
+            ExtensionsForm::OneByte
+        } else {
+            ExtensionsForm::TwoByte
+        }
+    }
+
+    #[tactic(auto, unfolding(crate::specs::Values::block_of))]
+    /// The profile of the block for these values (RFC 8285 4.2 and 4.3).
+    pub fn block_profile(&self, values: &ExtensionValues) -> u16
+        ensures { result ≡ (block_of self.now values.now).profile }
+    {
+        if self.extent(values).fits {
+            0xBEDE
+        } else {
+            0x1000
+        }
+    }
+
+    #[tactic(auto, unfolding(crate::specs::Values::block_of))]
+    /// The length of the block's bytes for these values, behind profile and length.
+    pub fn block_len(&self, values: &ExtensionValues) -> usize
+        ensures value { result ≡ length (block_of self.now values.now).content }
+        ensures whole_words { result % 4 ≡ 0 }
+        ensures bound { result ≤ 292 }
+        ensures in_range { AreValues values.now }
+    {
+        values.in_range();
+        self.extent(values).block_len()
+    }
+
+    #[tactic(auto, unfolding(crate::specs::Values::two_byte_block))]
+    /// The length of the block's bytes for these values, behind profile and length, with each element
+    /// in the two-byte form (RFC 8285 4.3); `block_len` never passes it.
+    pub fn two_byte_len(&self, values: &ExtensionValues) -> usize
+        ensures value { result ≡ length (two_byte_block self.now values.now).content }
+        ensures bound { result ≤ 292 }
+    {
+        self.extent(values).filled_len(false)
+    }
+
+    /// Writes what a place carries, and answers the place behind it.
+    fn write_place(
+        &self,
+        buf: &mut [u8],
+        at: usize,
+        one_byte: bool,
+        place: usize,
+        values: &ExtensionValues,
+    ) -> usize
+        requires place { place < 16 }
+        requires fits { one_byte ≡ true → are_one_byte (place_elements self.now values.now place) ≡ true }
+        requires room { at + length (elements_text one_byte (place_elements self.now values.now place)) ≤ length
+            buf.old }
+        ensures end { result ≡ at + length (elements_text one_byte (place_elements self.now values.now place)) }
+        ensures written { (text before : List ℕ) → IsWritten text before buf.old → at ≡ length text →
+            IsWritten (text ++ elements_text one_byte (place_elements self.now values.now place)) before buf.new }
+    {
+        let Some(bytes) = self.carried(place, values) else {
+            return at;
+        };
+        let bytes = bytes.as_slice();
+        let id = place as u8 + 1;
+        if one_byte {
+            let at = put(buf, at, &[16 * id + (bytes.len() as u8 - 1)]);
+            put(buf, at, bytes)
+        } else {
+            let at = put(buf, at, &[id, bytes.len() as u8]);
+            put(buf, at, bytes)
+        }
+    }
+
+    /// Writes the block's bytes for these values in their form at this place, and answers the place behind them.
+    fn write_content(
+        &self,
+        values: &ExtensionValues,
+        one_byte: bool,
+        buf: &mut [u8],
+        at: usize,
+    ) -> usize
+        requires form { one_byte ≡ are_one_byte (written_elements self.now values.now) }
+        requires room { at + length (block_of self.now values.now).content ≤ length buf.old }
+        ensures end { result ≡ at + length (block_of self.now values.now).content }
+        ensures written { (text before : List ℕ) → IsWritten text before buf.old → at ≡ length text →
+            IsWritten (text ++ (block_of self.now values.now).content) before buf.new }
+    {
+        let mut end = at;
+        for place in 0..16 {
+            end = self.write_place(buf, end, one_byte, place, values);
+        }
+        let fill = (4 - (end - at) % 4) % 4;
+        put(buf, end, &[0; 3][..fill])
+    }
+
+    /// Writes the block's bytes for these values at this place, and answers the place behind them.
+    pub fn write_block(&self, values: &ExtensionValues, buf: &mut [u8], at: usize) -> usize
+        requires { at + length (block_of self.now values.now).content ≤ length buf.old }
+        ensures end { result ≡ at + length (block_of self.now values.now).content }
+        ensures written { (text before : List ℕ) → IsWritten text before buf.old → at ≡ length text →
+            IsWritten (text ++ (block_of self.now values.now).content) before buf.new }
+    {
+        let extent = self.extent(values);
+        self.write_content(values, extent.fits, buf, at)
+    }
+
+    /// Writes the block for these values at this place, profile and count of words first (RFC 3550 5.3.1), and
+    /// answers the place behind it.
+    pub fn write_headed_block(
+        &self,
+        values: &ExtensionValues,
+        buf: &mut [u8],
+        at: usize,
+    ) -> usize
+        requires { at + (4 + length (block_of self.now values.now).content) ≤ length buf.old }
+        ensures end { result ≡ at + (4 + length (block_of self.now values.now).content) }
+        ensures in_range { AreValues values.now }
+        ensures written { let block = block_of self.now values.now in
+            let front = to_be_bytes w16 block.profile ++ to_be_bytes w16 (length block.content / 4) in
+            (text before : List ℕ) → IsWritten text before buf.old → at ≡ length text →
+            IsWritten (text ++ (front ++ block.content)) before buf.new }
+    {
+        values.in_range();
+        let extent = self.extent(values);
+        let words = extent.block_len() / 4;
+        let at = put(buf, at, &extent.profile().to_be_bytes());
+        let at = put(buf, at, &(words as u16).to_be_bytes());
+        self.write_content(values, extent.fits, buf, at)
+    }
+}
