@@ -116,7 +116,7 @@ fn fu_a(
 {
     let start: u8 = if first { 128 } else { 0 };
     let end: u8 = if last { 64 } else { 0 };
-    let mut packet = Vec::new(alloc);
+    let mut packet = Vec::with_capacity(alloc, part.len().saturating_add(FUA_HEADER_SIZE))?;
     packet.push(header / 32 % 4 * 32 + FUA_NALU_TYPE)?;
     packet.push(start + end + type_of(header))?;
     packet.extend_from_slice(part)?;

@@ -12,10 +12,10 @@ pub fn cut(alloc: Global, limit: usize, bytes: &[u8]) -> Result<Vec<Vec<u8>>, Pa
     ensures pieces { IfOk result (λ ps. map (λ p. p.items) ps.items ≡ pieces limit bytes.now) }
     ensures memory { IfErr result (λ e. e ≡ PacketError.Memory) }
 {
-    let mut packets = Vec::new(alloc);
     if limit == 0 {
-        return Ok(packets);
+        return Ok(Vec::new(alloc));
     }
+    let mut packets = Vec::with_capacity(alloc, bytes.len().div_ceil(limit))?;
     for piece in bytes.chunks(limit) {
         packets.push(Vec::from_slice(alloc, piece)?)?;
     }
@@ -28,13 +28,13 @@ pub fn whole(alloc: Global, limit: usize, bytes: &[u8]) -> Result<Vec<Vec<u8>>, 
         ≡ sent_as idle_sender (map (λ p. p.items) ps.items)) }
     ensures refused { IfErr result (λ e. e ≢ PacketError.Memory → pack_whole idle_sender limit bytes.now ≡ Err e) }
 {
-    let mut packets = Vec::new(alloc);
     if bytes.is_empty() {
-        return Ok(packets);
+        return Ok(Vec::new(alloc));
     }
     if bytes.len() > limit {
         return Err(PacketError::ErrPayloadTooLarge);
     }
+    let mut packets = Vec::with_capacity(alloc, 1)?;
     packets.push(Vec::from_slice(alloc, bytes)?)?;
     Ok(packets)
 }

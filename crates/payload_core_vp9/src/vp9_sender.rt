@@ -63,7 +63,7 @@ fn packet(
     let predicted: u8 = if told { 0x40 } else { 0 };
     let begins: u8 = if first { 0x08 } else { 0 };
     let ends: u8 = if last { 0x04 } else { 0 };
-    let mut packet = Vec::new(alloc);
+    let mut packet = Vec::with_capacity(alloc, piece.len().saturating_add(4))?;
     packet.push(0x90 + predicted + begins + ends)?;
     packet.push(0x80 + (id / 256) as u8)?;
     packet.push((id % 256) as u8)?;
@@ -87,7 +87,7 @@ fn packets(
     ensures packets { IfOk result (λ ps. map (λ p. p.items) ps.items ≡ described told id true (pieces size bytes.now)) }
     ensures memory { IfErr result (λ e. e ≡ PacketError.Memory) }
 {
-    let mut packets = Vec::new(alloc);
+    let mut packets = Vec::with_capacity(alloc, bytes.len().div_ceil(size))?;
     let mut first = true;
     let mut left = bytes.len();
     for piece in bytes.chunks(size) {

@@ -2,3 +2,4 @@ pub mod PatchLaw
 pub mod PatchWrites
 pub mod Vp8Law
 pub mod KeyframeLaw
+pub mod LayoutLaw

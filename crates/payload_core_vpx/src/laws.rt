@@ -4,6 +4,7 @@ ghost use Rattle.payload_core_base.specs.Law.{CodecLaw, FillsPackets, SilenceKee
 ghost use Rattle.payload_core_vpx.specs.Vp8.{vp8_coding, vp8_packing};
 ghost use Rattle.payload_core_vpx.specs.Vp8Forms.{SameUnits};
 ghost use Rattle.payload_core_vpx.specs.Vp8KeyframeLaw.{KeyframeLaw};
+ghost use Rattle.payload_core_vpx.specs.Vp8Layout.{LayoutLaw, OnlyLaw, ParsedLaw, ReadLaw};
 ghost use Rattle.payload_core_vpx.specs.Vp8PatchLaw.{PatchLaw};
 ghost use Rattle.std.specs.Prelude.{Bool};
 
@@ -28,4 +29,14 @@ pub fn vp8_patch_law()
 /// Only a payload with S and of partition 0 begins a keyframe (RFC 7741 4.2).
 pub fn vp8_keyframe_law()
     ensures { KeyframeLaw }
+{}
+
+/// Just those payloads have a descriptor whose bytes are its fields, one behind the other, and at least one byte of
+/// a frame: X and its flags, I and a picture id of 7 or of 15 bits, L and TL0PICIDX, T or K and the byte of KEYIDX
+/// (RFC 7741 4.2). It tells these fields, and the payload is read as that part of the frame.
+pub fn vp8_layout_law()
+    ensures laid_out { LayoutLaw }
+    ensures parsed { ParsedLaw }
+    ensures read { ReadLaw }
+    ensures only { OnlyLaw }
 {}

@@ -48,7 +48,7 @@ fn packet(
     ensures memory { IfErr result (λ e. e ≡ PacketError.Memory) }
 {
     let start: u8 = if first { 0x10 } else { 0 };
-    let mut packet = Vec::new(alloc);
+    let mut packet = Vec::with_capacity(alloc, piece.len().saturating_add(4))?;
     if !tells {
         packet.push(start)?;
     } else {
@@ -79,7 +79,7 @@ fn packets(
         ≡ described tells id true (pieces size bytes.now)) }
     ensures memory { IfErr result (λ e. e ≡ PacketError.Memory) }
 {
-    let mut packets = Vec::new(alloc);
+    let mut packets = Vec::with_capacity(alloc, bytes.len().div_ceil(size))?;
     let mut first = true;
     for piece in bytes.chunks(size) {
         packets.push(packet(alloc, tells, id, first, piece)?)?;

@@ -56,7 +56,8 @@ impl Datagram {
         ensures { IfOk result (λ d. d ≡ spelled exts.now header.now ++ payload.now) }
     {
         let len = header.wire_len(exts);
-        let mut bytes = vec![in alloc; 0; len]?;
+        let mut bytes = Vec::with_capacity(alloc, len.saturating_add(payload.len()))?;
+        bytes.resize(len, 0)?;
         header.write_to(&mut bytes, exts);
         bytes.extend_from_slice(payload)?;
         Ok(Datagram { bytes })

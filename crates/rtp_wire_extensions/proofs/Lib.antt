@@ -3,3 +3,4 @@ pub mod CarriedLaws
 pub mod MapLaws
 pub mod EntryLaws
 pub mod LayoutLaws
+pub mod SeenLaws

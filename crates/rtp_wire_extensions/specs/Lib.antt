@@ -6,3 +6,4 @@ pub mod Kinds
 pub mod Maps
 pub mod Values
 pub mod BlockLayout
+pub mod Seen

@@ -13,9 +13,10 @@ ghost use Rattle.std.specs.Int.{to_be_bytes, w16};
 ghost use Rattle.rtp_wire_extensions.specs.declared.extension.Extension.{Extension};
 ghost use Rattle.rtp_wire_extensions.specs.declared.extension.Extension.TheVariants as extension_is;
 ghost use Rattle.rtp_wire_extensions.specs.declared.values.ExtensionValues.{ExtensionValues};
+ghost use Rattle.rtp_wire_extensions.specs.Seen.{HasSeen};
 ghost use Rattle.rtp_wire_extensions.specs.Written.{IsWritten};
 
-use crate::map::{ExtensionMap, ExtensionsForm};
+use crate::map::{ExtensionMap, ExtensionsForm, KINDS};
 use crate::values::ExtensionValues;
 use crate::writing::put;
 
@@ -60,8 +61,14 @@ impl Extent {
 
 impl ExtensionMap {
     /// The extent of what a place carries.
-    fn place_extent(&self, place: usize, values: &ExtensionValues) -> Extent
-        requires { place < 16 }
+    fn place_extent(
+        &self,
+        place: usize,
+        values: &ExtensionValues,
+        seen: &mut [bool; KINDS],
+    ) -> Extent
+        requires place { place < 16 }
+        requires seen { HasSeen seen.old self.now place }
         ensures fits { result.fits ≡ are_one_byte (place_elements self.now values.now place) }
         ensures one_byte { result.count + result.bytes
             ≡ length (elements_text true (place_elements self.now values.now place)) }
@@ -69,8 +76,9 @@ impl ExtensionMap {
             ≡ length (elements_text false (place_elements self.now values.now place)) }
         ensures few { result.count ≤ 1 }
         ensures short { result.bytes ≤ 16 }
+        ensures seen { HasSeen seen.new self.now (place + 1) }
     {
-        let Some(len) = self.carried_len(place, values) else {
+        let Some(len) = self.carried_len(place, values, seen) else {
             return Extent {
                 fits: true,
                 count: 0,
@@ -94,11 +102,12 @@ impl ExtensionMap {
         ensures few { result.count ≤ 16 }
         ensures short { result.bytes ≤ 256 }
     {
+        let mut seen = [false; KINDS];
         let mut fits = true;
         let mut count = 0;
         let mut bytes = 0;
         for place in 0..16 {
-            let here = self.place_extent(place, values);
+            let here = self.place_extent(place, values, &mut seen);
             let fits_here = here.fits;
             fits = fits && fits_here;
             count += here.count;
@@ -160,16 +169,19 @@ impl ExtensionMap {
         one_byte: bool,
         place: usize,
         values: &ExtensionValues,
+        seen: &mut [bool; KINDS],
     ) -> usize
         requires place { place < 16 }
+        requires seen { HasSeen seen.old self.now place }
         requires fits { one_byte ≡ true → are_one_byte (place_elements self.now values.now place) ≡ true }
         requires room { at + length (elements_text one_byte (place_elements self.now values.now place)) ≤ length
             buf.old }
         ensures end { result ≡ at + length (elements_text one_byte (place_elements self.now values.now place)) }
         ensures written { (text before : List ℕ) → IsWritten text before buf.old → at ≡ length text →
             IsWritten (text ++ elements_text one_byte (place_elements self.now values.now place)) before buf.new }
+        ensures seen { HasSeen seen.new self.now (place + 1) }
     {
-        let Some(bytes) = self.carried(place, values) else {
+        let Some(bytes) = self.carried(place, values, seen) else {
             return at;
         };
         let bytes = bytes.as_slice();
@@ -197,9 +209,10 @@ impl ExtensionMap {
         ensures written { (text before : List ℕ) → IsWritten text before buf.old → at ≡ length text →
             IsWritten (text ++ (block_of self.now values.now).content) before buf.new }
     {
+        let mut seen = [false; KINDS];
         let mut end = at;
         for place in 0..16 {
-            end = self.write_place(buf, end, one_byte, place, values);
+            end = self.write_place(buf, end, one_byte, place, values, &mut seen);
         }
         let fill = (4 - (end - at) % 4) % 4;
         put(buf, end, &[0; 3][..fill])

@@ -1,5 +1,6 @@
 //! The header extensions that there are.
 
+ghost use Rattle.std.specs.Prelude.{◌<◌};
 ghost use Rattle.std.specs.Prelude.{◌≡◌, ℕ, List, IfOk, MatchOption, string_bytes, nat_eq};
 ghost use Rattle.std.specs.Cmp.{partial_equiv_from_equiv};
 ghost use Rattle.std.specs.Cmp.Lexicographic.{pointwise, nat_list_eq_equiv};
@@ -180,8 +181,9 @@ impl Extension {
     }
 
     /// The number of a known kind; 0 for an unknown one.
-    fn kind(&self) -> u8
-        ensures { result ≡ kind_of self.now }
+    pub(crate) fn kind(&self) -> u8
+        ensures value { result ≡ kind_of self.now }
+        ensures few { result < 11 }
     {
         match self {
             Extension::AbsoluteSendTime => 1,

@@ -6,7 +6,8 @@ ghost use Rattle.std.specs.Prelude.{IsPermutation};
 ghost use Rattle.std.specs.Option.{option_copied, option_map};
 ghost use Rattle.rtp_wire_extensions.specs.Carried.{value_bytes};
 ghost use Rattle.rtp_wire_extensions.specs.declared.values.ExtensionValues.{ExtensionValues};
-ghost use Rattle.rtp_wire_extensions.specs.Elements.{slot_is, holds, carried_at, lookup};
+ghost use Rattle.rtp_wire_extensions.specs.Elements.{slot_is, carried_at, lookup};
+ghost use Rattle.rtp_wire_extensions.specs.Seen.{HasSeen};
 ghost use Rattle.rtp_wire_extensions.specs.Maps.{empty_map, is_empty_map, standard_map, place_of, id_of, moved};
 ghost use Rattle.rtp_wire_extensions.specs.Maps.{remapped};
 
@@ -19,6 +20,9 @@ use std::marker::Model;
 
 /// The greatest number of the one-byte form (RFC 8285 4.2).
 pub const MAX_ID_ONE_BYTE_FORM: u8 = 14;
+
+/// How many kinds of extensions there are, the unknown ones as one.
+pub(crate) const KINDS: usize = 11;
 
 /// The greatest number of a map.
 pub const MAX_ID: u8 = 16;
@@ -170,51 +174,58 @@ impl ExtensionMap {
         self.entries.iter().position(|slot| slot_is(slot, ext))
     }
 
-    /// Whether one of the first numbers has the extension.
-    fn holds(&self, count: usize, ext: &Extension) -> bool
-        requires { count ≤ 16 }
-        ensures { result ≡ holds self.now count ext.now }
-    {
-        let mut found = false;
-        for place in 0..count {
-            found = slot_is(&self.entries[place], ext) || found;
-        }
-        found
-    }
-
-    /// What a place carries a value of: an extension under its least number alone.
-    fn carrier(&self, place: usize) -> Option<&Extension>
-        requires { place < 16 }
-        ensures { (values : ExtensionValues) → MatchOption result (carried_at self.now place values ≡ None)
+    /// What a place carries a value of, which is then seen: an extension under its least number alone. Another one
+    /// of a kind that was seen carries nothing, nor does an unknown one.
+    fn carrier(&self, place: usize, seen: &mut [bool; KINDS]) -> Option<&Extension>
+        requires place { place < 16 }
+        requires seen { HasSeen seen.old self.now place }
+        ensures carried { (values : ExtensionValues) → MatchOption result (carried_at self.now place values ≡ None)
             (λ ext. carried_at self.now place values ≡ value_bytes ext.now values) }
+        ensures seen { HasSeen seen.new self.now (place + 1) }
     {
         let Some(ext) = &self.entries[place] else {
             return None;
         };
-        if self.holds(place, ext) {
+        let kind = ext.kind() as usize;
+        if seen[kind] {
             return None;
         }
+        seen[kind] = true;
         Some(ext)
     }
 
     /// The bytes that a place carries of the values.
-    pub(crate) fn carried(&self, place: usize, values: &ExtensionValues) -> Option<ElementBytes>
-        requires { place < 16 }
-        ensures { result ≡ carried_at self.now place values.now }
+    pub(crate) fn carried(
+        &self,
+        place: usize,
+        values: &ExtensionValues,
+        seen: &mut [bool; KINDS],
+    ) -> Option<ElementBytes>
+        requires place { place < 16 }
+        requires seen { HasSeen seen.old self.now place }
+        ensures value { result ≡ carried_at self.now place values.now }
+        ensures seen { HasSeen seen.new self.now (place + 1) }
     {
-        match self.carrier(place) {
+        match self.carrier(place, seen) {
             Some(ext) => value_bytes(ext, values),
             None => None,
         }
     }
 
     /// How many bytes a place carries of the values, at most 16.
-    pub(crate) fn carried_len(&self, place: usize, values: &ExtensionValues) -> Option<usize>
-        requires { place < 16 }
+    pub(crate) fn carried_len(
+        &self,
+        place: usize,
+        values: &ExtensionValues,
+        seen: &mut [bool; KINDS],
+    ) -> Option<usize>
+        requires place { place < 16 }
+        requires seen { HasSeen seen.old self.now place }
         ensures value { result ≡ option_map length (carried_at self.now place values.now) }
         ensures short { IfSome result (λ len. len ≤ 16) }
+        ensures seen { HasSeen seen.new self.now (place + 1) }
     {
-        match self.carrier(place) {
+        match self.carrier(place, seen) {
             Some(ext) => value_len(ext, values),
             None => None,
         }

@@ -1,7 +1,18 @@
-use Rattle.std.proofs.Common.{ap, ◌∙◌, List, true, false, length, arith}
+use Rattle.std.proofs.Common.{refl, ap, ◌∙◌, List, true, false, length, arith}
 use Rattle.rtp_wire_extensions.specs.Elements.{Element, are_one_byte, elements_text}
 use Rattle.rtp_wire_extensions.proofs.BlockLaws.{fits-more, length-text-more, written-is}
+use Rattle.rtp_wire_extensions.proofs.SeenLaws.{seen_start}
 use Rattle.rtp_wire_extensions.proofs.map.ExtensionMap.extent.Goals as goal
+
+pub loop-place-init : goal.loop-place-init
+loop-place-init c = record {
+  seen = seen_start c.args.self.now;
+  fits = refl;
+  one_byte = refl;
+  two_byte = refl;
+  few = omega arith;
+  short = omega arith;
+}
 
 pub loop-place-preserved : goal.loop-place-preserved
 loop-place-preserved c =
@@ -9,6 +20,7 @@ loop-place-preserved c =
     let v = c.args.values.now in
     let n = c.loop-place.place in
     record {
+      seen = c.place_extent-here.ensures.seen;
       fits = grind (arith, fits-more map v n _ _ c.loop-place.invariant.fits c.place_extent-here.ensures.fits);
       one_byte = omega (
         arith,

@@ -32,6 +32,7 @@ loop-place-preserved c =
     let so_far = elements_text one (elements_to map v n) in
     let here = elements_text one (place_elements map v n) in
     record {
+      seen = c.write_place-end.ensures.seen;
       end = omega (arith, c.loop-place.invariant.end, c.write_place-end.ensures.end, length-text-more one map v n);
       room = omega arith;
       written = λ text before was at.
