@@ -97,7 +97,7 @@ record IsToldAt (s : Shape) (p : List ℕ) (told : Told) (frame : List ℕ) : Ty
   pub picture_id : picture_id_in s p ≡ told.picture_id
   pub tl0_pic_idx : tl0_pic_idx_in s p ≡ told.tl0_pic_idx
   pub key_idx : key_idx_in s p ≡ told.key_idx
-  pub frame : drop (layout_size s) p ≡ frame
+  pub behind : drop (layout_size s) p ≡ frame
 
 abbrev extended : Bool → Bool → Bool → Bool → Bool → Shape
 extended i m l y k = record {
@@ -133,7 +133,7 @@ told_extended i m l y k f first flags ids tl0 key frame told q is_id is_tl0 is_k
       key_idx = ap (λ (b : ℕ). if k then Some (b % 32) else None)
           (index_at ((2 + id_size i m) + one_if l) p ∙ ap (λ (t : List ℕ). slice_index t 0) at_key)
           ∙ key_valued y k f key frame _ is_key;
-      frame = at_frame;
+      behind = at_frame;
     }
 
 told_bare : (first flags : ℕ) (m : Bool) (ids tl0 key frame : List ℕ) (told : Told)
@@ -141,7 +141,7 @@ told_bare : (first flags : ℕ) (m : Bool) (ids tl0 key frame : List ℕ) (told 
     → IsKeyByte false false key told.key_idx
     → IsToldAt (shape_with false flags m) (first ∷ (ids ++ (tl0 ++ (key ++ frame)))) told frame
 told_bare first flags m [] [] [] frame told is_id is_tl0 is_key =
-    record { picture_id = sym is_id; tl0_pic_idx = sym is_tl0; key_idx = sym is_key; frame = refl }
+    record { picture_id = sym is_id; tl0_pic_idx = sym is_tl0; key_idx = sym is_key; behind = refl }
 told_bare first flags m [] [] (b ∷ bs) frame told is_id is_tl0 is_key = absurd is_key
 told_bare first flags m [] (b ∷ bs) key frame told is_id is_tl0 is_key = absurd is_tl0
 told_bare first flags m (b ∷ bs) tl0 key frame told is_id is_tl0 is_key = absurd is_id
@@ -157,7 +157,7 @@ told_at : (first flags : ℕ) (x : Bool) (extension ids tl0 key frame : List ℕ
     → let p : List ℕ = first ∷ (extension ++ (ids ++ (tl0 ++ (key ++ frame)))) in
     IsToldAt (shape_with x (slice_index p 1) (has_bit 128 (slice_index p 2))) p told frame
 told_at first flags false [] ids tl0 key frame told is_x is_id is_tl0 is_key =
-    told_bare first _ _ ids tl0 key frame told
+    told_bare first 0 false ids tl0 key frame told
     (subst (λ (f : ℕ). IsPictureId (has_bit 128 f) ids told.picture_id) is_x is_id)
     (subst (λ (f : ℕ). IsTl0PicIdx (has_bit 64 f) tl0 told.tl0_pic_idx) is_x is_tl0)
     (subst (λ (f : ℕ). IsKeyByte (has_bit 32 f || has_bit 16 f) (has_bit 16 f) key told.key_idx) is_x is_key)
@@ -184,14 +184,14 @@ parsed_told first rest told frame at begins some =
     let d : Vp8Descriptor = described_in (shape_of p) p in
     record {
       descriptor = d;
-      is_parsed = ap (with_frame d) at.frame ∙ with_some d frame some;
+      is_parsed = ap (with_frame d) at.behind ∙ with_some d frame some;
       tells = λ i. record {
         begins_frame = sym begins i;
         picture_id = at.picture_id i;
         tl0_pic_idx = at.tl0_pic_idx i;
         key_idx = at.key_idx i;
       };
-      behind = at.frame;
+      behind = at.behind;
     }
 
 pub layout_law : LayoutLaw
@@ -204,13 +204,13 @@ layout_law packet told frame is =
 
 pub read_law : ReadLaw
 read_law fragment extra packet told frame is =
-    let as = layout_law packet told frame is in
-    let tells = as.tells in
-    ap (reading_of fragment extra packet) as.is_parsed
+    let done = layout_law packet told frame is in
+    let tells = done.tells in
+    ap (reading_of fragment extra packet) done.is_parsed
     ∙ (λ i. Ok (record {
-      written = as.behind i;
+      written = done.behind i;
       extra = Vp8 (record {
-        is_keyframe = was_keyframe extra || ((tells i).begins_frame && begins_keyframe (as.behind i));
+        is_keyframe = was_keyframe extra || ((tells i).begins_frame && begins_keyframe (done.behind i));
         picture_id = (tells i).picture_id;
         tl0_pic_idx = (tells i).tl0_pic_idx;
       });
@@ -312,7 +312,7 @@ split_at first rest false q some = record {
   is_key_byte = refl;
   some_frame = some;
 }
-split_at first [] true q some = absurd (omega (arith, some, length-drop _ (first ∷ [])))
+split_at first [] true q some = absurd (omega (arith, some))
 split_at first (flags ∷ body) true q some =
     split_extended (has_bit 128 flags) (has_bit 128 (slice_index body 0)) (has_bit 64 flags)
     (has_bit 32 flags || has_bit 16 flags) (has_bit 16 flags) (neither (has_bit 32 flags) (has_bit 16 flags)) first
