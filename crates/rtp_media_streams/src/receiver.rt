@@ -221,8 +221,8 @@ impl ReceivingStream {
     pub fn values_read(&self, datagram: &[u8]) -> ExtensionValues
         ensures { result ≡ values_read self.now.map datagram.now }
     {
-        match RtpHeader::parse(datagram, &self.exts) {
-            Some(header) => header.ext_vals,
+        match RtpHeader::parse_values(datagram, &self.exts) {
+            Some(values) => values,
             None => ExtensionValues::absent(),
         }
     }

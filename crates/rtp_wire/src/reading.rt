@@ -5,6 +5,8 @@ ghost use Rattle.rtp_wire.specs.Header.{u16_at, u32_at, words_in, slots, is_head
 ghost use Rattle.rtp_wire.specs.Header.{header_length_in, has_bit, csrc_count_in, has_extension_in, block_at};
 ghost use Rattle.rtp_wire.specs.Header.{block_in, values_in};
 ghost use Rattle.rtp_wire.specs.Widening.{widened};
+ghost use Rattle.rtp_wire_extensions.specs.Maps.{empty_map};
+ghost use Rattle.std.specs.Option.{option_map};
 
 use crate::header::RtpHeader;
 use crate::widening::extend_u16;
@@ -83,11 +85,11 @@ fn values_of(bytes: &[u8], exts: &ExtensionMap) -> ExtensionValues
     exts.read_block(u16_at(bytes, at), &bytes[at + 4..at + 4 + len])
 }
 
-/// The header in front of the bytes, of this length.
-fn fields_of(bytes: &[u8], exts: &ExtensionMap, header_len: usize) -> RtpHeader
+/// The header in front of the bytes, of this length and with these values.
+fn fields_of(bytes: &[u8], ext_vals: ExtensionValues, header_len: usize) -> RtpHeader
     requires header { IsTrue (is_header bytes.now) }
     requires len { header_len ≡ header_length_in bytes.now }
-    ensures { result ≡ fields_in exts.now bytes.now }
+    ensures { result ≡ record (fields_in empty_map bytes.now) { ext_vals = ext_vals } }
 {
     RtpHeader {
         version: 2,
@@ -100,7 +102,7 @@ fn fields_of(bytes: &[u8], exts: &ExtensionMap, header_len: usize) -> RtpHeader
         timestamp: u32_at(bytes, 4),
         ssrc: Ssrc::from(u32_at(bytes, 8)),
         csrc: csrc_of(bytes),
-        ext_vals: values_of(bytes, exts),
+        ext_vals,
         header_len,
     }
 }
@@ -112,7 +114,26 @@ impl RtpHeader {
         ensures { result ≡ header_in exts.now buf.now }
     {
         let header_len = header_length(buf)?;
-        Some(fields_of(buf, exts, header_len))
+        Some(fields_of(buf, values_of(buf, exts), header_len))
+    }
+
+    /// The header in front of a datagram as a map without header extensions reads it: no value is there, and the
+    /// extension block isn't looked into.
+    #[tactic(auto, using(crate::proofs::Empty::no_values))]
+    pub fn parse_without_values(buf: &[u8]) -> Option<RtpHeader>
+        ensures { result ≡ header_in empty_map buf.now }
+    {
+        let header_len = header_length(buf)?;
+        Some(fields_of(buf, ExtensionValues::absent(), header_len))
+    }
+
+    /// The values of the header extensions of the header in front of a datagram, and nothing else of it. None where
+    /// `parse` reads no header.
+    pub fn parse_values(buf: &[u8], exts: &ExtensionMap) -> Option<ExtensionValues>
+        ensures { result ≡ option_map (λ h. h.ext_vals) (header_in exts.now buf.now) }
+    {
+        let _len = header_length(buf)?;
+        Some(values_of(buf, exts))
     }
 
     /// The sequence number, widened by the one before it: the nearest with these 16 bits (RFC 3550 A.1).
