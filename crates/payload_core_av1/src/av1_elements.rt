@@ -10,6 +10,7 @@ use crate::leb128::sized_part;
 use crate::obu::whole_obu;
 use payload_core_base::PacketError;
 use std::alloc::Global;
+use std::mem;
 
 // So many elements behind their sizes, and the rest as the last one.
 fn counted_elements(alloc: Global, count: u8, body: &[u8]) -> Result<Vec<&[u8]>, PacketError>
@@ -115,8 +116,12 @@ fn give_all(elements: &[&[u8]], out: &mut Vec<u8>) -> Result<(), PacketError>
     Ok(())
 }
 
-// The fragment that an element opens: none where it is empty.
-fn opened_by(alloc: Global, element: &[u8]) -> Result<Option<Vec<u8>>, PacketError>
+// The fragment that an element opens, in the memory of an earlier one: none where it is empty.
+fn opened_by(
+    alloc: Global,
+    spare: &mut Vec<u8>,
+    element: &[u8],
+) -> Result<Option<Vec<u8>>, PacketError>
     ensures opened { IfOk result (λ f. (before : Fragment) → opened_by before element.now
         ≡ or_else (option_map (λ v. v.items) f) before) }
     ensures memory { IfErr result (λ e. e ≡ PacketError.Memory) }
@@ -124,7 +129,10 @@ fn opened_by(alloc: Global, element: &[u8]) -> Result<Option<Vec<u8>>, PacketErr
     if element.is_empty() {
         return Ok(None);
     }
-    Ok(Some(Vec::from_slice(alloc, element)?))
+    let mut opened = mem::replace(spare, Vec::new(alloc));
+    opened.clear();
+    opened.extend_from_slice(element)?;
+    Ok(Some(opened))
 }
 
 /// The elements that are complete: with `opens_last` all but the last.
@@ -141,9 +149,10 @@ pub fn complete<'a>(opens_last: bool, elements: &'a [&'a [u8]]) -> &'a [&'a [u8]
 }
 
 /// Writes what elements give, and answers the fragment that the last one opens: with `opens_last` it does, and the
-/// others are complete.
+/// others are complete. It takes the memory of an earlier one.
 pub fn give_and_open(
     alloc: Global,
+    spare: &mut Vec<u8>,
     opens_last: bool,
     elements: &[&[u8]],
     out: &mut Vec<u8>,
@@ -163,7 +172,7 @@ pub fn give_and_open(
     let Some((last, front)) = elements.split_last() else {
         return Ok(None);
     };
-    let opened = opened_by(alloc, last)?;
+    let opened = opened_by(alloc, spare, last)?;
     give_all(front, out)?;
     Ok(opened)
 }

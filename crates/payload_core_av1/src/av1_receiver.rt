@@ -8,6 +8,7 @@ ghost use Rattle.std.specs.Prelude.{option_map, length, true};
 use crate::av1_elements::{are_units, complete, elements_of, give_and_open, give_joined};
 use payload_core_base::{Av1CodecExtra, CodecExtra, Depacketizer, PacketError};
 use std::alloc::Global;
+use std::mem;
 
 // The bits of the aggregation header.
 const Z: u8 = 0x80;
@@ -21,6 +22,8 @@ const N: u8 = 0x08;
 pub struct Av1Depacketizer {
     alloc: Global,
     fragment: Option<Vec<u8>>,
+    // The memory of a fragment that was closed, for the next one.
+    spare: Vec<u8>,
 }
 
 /// Whether a packet begins a coded video sequence: whether it has N.
@@ -49,6 +52,17 @@ impl Av1Depacketizer {
         Av1Depacketizer {
             alloc,
             fragment: None,
+            spare: Vec::new(alloc),
+        }
+    }
+
+    // Another fragment is open, or none; the memory of the one before stays for a later one.
+    fn reopen(&mut self, opened: Option<Vec<u8>>)
+        ensures { option_map (λ v. v.items) self.new.fragment ≡ option_map (λ v. v.items) opened }
+    {
+        let before = mem::replace(&mut self.fragment, opened);
+        if let Some(closed) = before {
+            self.spare = closed;
         }
     }
 
@@ -69,7 +83,8 @@ impl Av1Depacketizer {
         ensures refused { let all = fresh (map (λ e. e.now) elements.now) in IfErr result (λ e. e ≢ PacketError.Memory
             → (e ≡ PacketError.ErrAv1CorruptedPacket) × (given_of opens_last all ≡ None)) }
     {
-        self.fragment = give_and_open(self.alloc, opens_last, elements, out)?;
+        let next = give_and_open(self.alloc, &mut self.spare, opens_last, elements, out)?;
+        self.reopen(next);
         Ok(())
     }
 
@@ -93,9 +108,9 @@ impl Av1Depacketizer {
             (map (λ e. e.now) elements.now) in IfErr result (λ e. e ≢ PacketError.Memory
             → (e ≡ PacketError.ErrAv1CorruptedPacket) × (given_of opens_last all ≡ None)) }
     {
-        let opened = give_and_open(self.alloc, opens_last, elements, out)?;
+        let opened = give_and_open(self.alloc, &mut self.spare, opens_last, elements, out)?;
         if opened.is_some() {
-            self.fragment = opened;
+            self.reopen(opened);
         }
         Ok(())
     }
@@ -127,7 +142,7 @@ impl Av1Depacketizer {
             return Ok(());
         }
         give_joined(fragment, element, out)?;
-        self.fragment = None;
+        self.reopen(None);
         Ok(())
     }
 

@@ -99,7 +99,9 @@ pub fn datagrams(
         }
         let time = MediaTime::new(u64::from(round) * 960, rate);
         for datagram in stream.push_sample(time, &sample.bytes, values)? {
-            all.push(datagram)?;
+            if all.push(datagram).is_err() {
+                return Err(SampleError::Memory);
+            }
         }
     }
     Ok(all)

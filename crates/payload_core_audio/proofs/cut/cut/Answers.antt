@@ -6,7 +6,7 @@ use Rattle.payload_core_audio.proofs.cut.cut.Goals as goal
 
 pub returns-then-limit-eq0-clause-pieces : goal.returns-then-limit-eq0-clause-pieces
 returns-then-limit-eq0-clause-pieces c =
-    rw (c.new-packets.ensures.items, c.if-limit-eq0.true) (sym (pieces-none c.args.bytes.now))
+    rw (c.new.ensures.items, c.if-limit-eq0.true) (sym (pieces-none c.args.bytes.now))
 
 pub loop-piece-preserved : goal.loop-piece-preserved
 loop-piece-preserved c =
