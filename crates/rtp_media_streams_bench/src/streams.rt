@@ -1,11 +1,11 @@
 //! Samples to datagrams, and datagrams to units.
 
-ghost use Rattle.std.specs.Prelude.{◌≡◌, true};
+ghost use Rattle.std.specs.Prelude.{◌≡◌, ◌≤◌, length, true};
 ghost use Rattle.h26x_payload.specs.Codings.{has_format};
 
 use crate::samples::Sample;
 use rtp_media_streams::{
-    Datagram, PayloadTypes, ReceivingStream, RowFormat, SampleError, SendingStream, Unit,
+    Datagram, PayloadTypes, PollFault, ReceivingStream, RowFormat, SampleError, SendingStream,
 };
 use rtp_wire::{ExtensionMap, ExtensionValues, Frequency, MediaTime, Pt, RtpHeader, Ssrc};
 use std::alloc::{AllocError, Global};
@@ -107,15 +107,18 @@ pub fn datagrams(
     Ok(all)
 }
 
-/// Takes a datagram in; whether it was read.
-fn take(stream: &mut ReceivingStream, datagram: &[u8]) -> Result<bool, AllocError> {
-    let Some(header) = RtpHeader::parse(datagram, &ExtensionMap::empty()) else {
-        return Ok(false);
-    };
+/// Takes a datagram of this header in; whether it was new.
+fn take_under(
+    stream: &mut ReceivingStream,
+    header: &RtpHeader,
+    datagram: &[u8],
+) -> Result<bool, AllocError>
+    requires { header.now.header_len ≤ length datagram.now }
+{
     if !stream.is_own(header.ssrc, header.payload_type) {
         return Ok(false);
     }
-    let Some(payload) = stream.media_payload(&header, datagram) else {
+    let Some(payload) = stream.media_payload(header, datagram) else {
         return Ok(false);
     };
     let values = stream.values_read(datagram);
@@ -129,17 +132,39 @@ fn take(stream: &mut ReceivingStream, datagram: &[u8]) -> Result<bool, AllocErro
     Ok(taken.is_some())
 }
 
-/// Takes datagrams in, and polls after each that ends a frame or is a unit of its own.
-pub fn receive(stream: &mut ReceivingStream, datagrams: &[Datagram]) -> anyhow::Result<Tally> {
+/// Takes a datagram in; whether it was new.
+fn take(stream: &mut ReceivingStream, datagram: &[u8]) -> Result<bool, AllocError> {
+    match RtpHeader::parse_without_values(datagram) {
+        Some(header) => take_under(stream, &header, datagram),
+        None => Ok(false),
+    }
+}
+
+/// Polls, and counts the unit that comes.
+fn poll(stream: &mut ReceivingStream, tally: &mut Tally) -> Result<(), PollFault> {
+    if let Some(unit) = stream.poll()? {
+        tally.add(unit.bytes().len());
+    }
+    Ok(())
+}
+
+/// Takes a datagram in and polls.
+fn turn(
+    stream: &mut ReceivingStream,
+    datagram: &[u8],
+    tally: &mut Tally,
+) -> Result<(), PollFault> {
+    match take(stream, datagram) {
+        Ok(_) => poll(stream, tally),
+        Err(_) => Err(PollFault::Memory),
+    }
+}
+
+/// Takes datagrams in, and polls after each.
+pub fn receive(stream: &mut ReceivingStream, datagrams: &[Datagram]) -> Result<Tally, PollFault> {
     let mut tally = Tally::new();
     for datagram in datagrams {
-        if !take(stream, datagram.as_slice())? {
-            continue;
-        }
-        let unit: Option<Unit> = stream.poll()?;
-        if let Some(unit) = unit {
-            tally.add(unit.bytes().len());
-        }
+        turn(stream, datagram.as_slice(), &mut tally)?;
     }
     Ok(tally)
 }
