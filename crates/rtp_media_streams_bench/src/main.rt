@@ -11,8 +11,8 @@ mod samples;
 mod streams;
 
 use payload_core_base::Codec;
-use rtp_media_streams::RowFormat;
-use rtp_wire::{ExtensionMap, ExtensionValues, Frequency};
+use rtp_media_streams::{Datagram, ReceivingStream, RowFormat, SendingStream};
+use rtp_wire::{ExtensionValues, Frequency};
 use samples::Sample;
 use std::io;
 use std::time::{Duration, Instant};
@@ -33,31 +33,69 @@ fn report(
     eprintln!(*rt; "{name} {way}: {nanos} ns a piece, {rate} MB a second")
 }
 
-/// Samples of a row, copied, sent as datagrams, and received.
+/// Samples copied, piece by piece.
+fn copy(rt: &HostRuntime, name: &str, sample: &Sample) -> anyhow::Result<()> {
+    let start = Instant::now(rt)?;
+    let copied = copies::copy(rt.alloc(), &sample.bytes, sample.rounds)?;
+    report(rt, name, "copied", copied, start.elapsed(rt)?)?;
+    Ok(())
+}
+
+/// Samples sent as datagrams.
+fn send(
+    rt: &HostRuntime,
+    name: &str,
+    stream: &mut SendingStream,
+    sample: &Sample,
+    values: &ExtensionValues,
+) -> anyhow::Result<()> {
+    let start = Instant::now(rt)?;
+    let sent = streams::send(stream, sample, values)?;
+    report(rt, name, "sent", sent, start.elapsed(rt)?)?;
+    Ok(())
+}
+
+/// Datagrams received.
+fn receive(
+    rt: &HostRuntime,
+    name: &str,
+    stream: &mut ReceivingStream,
+    datagrams: &[Datagram],
+) -> anyhow::Result<()> {
+    let start = Instant::now(rt)?;
+    let read = streams::receive(stream, datagrams)?;
+    report(rt, name, "received", read, start.elapsed(rt)?)?;
+    Ok(())
+}
+
+/// Samples of a row, sent and received.
+fn both_ways(
+    rt: &HostRuntime,
+    name: &str,
+    mut sender: SendingStream,
+    mut receiver: ReceivingStream,
+    sample: &Sample,
+    values: &ExtensionValues,
+) -> anyhow::Result<()> {
+    send(rt, name, &mut sender, sample, values)?;
+    let datagrams = streams::datagrams(rt.alloc(), &mut sender, sample, values)?;
+    receive(rt, name, &mut receiver, &datagrams)
+}
+
+/// Samples of a row, copied, sent and received, under four header extensions or none.
 fn run(
     rt: &HostRuntime,
     name: &str,
     row: RowFormat,
     sample: &Sample,
-    exts: ExtensionMap,
-    values: ExtensionValues,
+    four: bool,
 ) -> anyhow::Result<()>
     requires { has_format row.codec ≡ true }
 {
-    let alloc = rt.alloc();
-    let start = Instant::now(rt)?;
-    let copied = copies::copy(alloc, &sample.bytes, sample.rounds)?;
-    report(rt, name, "copied", copied, start.elapsed(rt)?)?;
-    let mut sender = streams::sender(alloc, exts.clone(alloc)?, row);
-    let start = Instant::now(rt)?;
-    let sent = streams::send(&mut sender, sample, row.clock_rate, &values)?;
-    report(rt, name, "sent", sent, start.elapsed(rt)?)?;
-    let datagrams = streams::datagrams(alloc, &mut sender, sample, row.clock_rate, &values)?;
-    let mut receiver = streams::receiver(alloc, exts.clone(alloc)?, row);
-    let start = Instant::now(rt)?;
-    let read = streams::receive(&mut receiver, &datagrams)?;
-    report(rt, name, "received", read, start.elapsed(rt)?)?;
-    Ok(())
+    copy(rt, name, sample)?;
+    let sender = streams::sender(rt.alloc(), extensions::map(four), row);
+    let receiver = streams::receiver(rt.alloc(), extensions::map(four), row);
+    both_ways(rt, name, sender, receiver, sample, &extensions::values(four))
 }
 
 /// A row without parameters.
@@ -82,17 +120,15 @@ fn plain(
 ) -> anyhow::Result<()>
     requires { has_format codec ≡ true }
 {
-    let values = ExtensionValues::absent();
-    run(rt, name, row(codec, clock_rate), sample, ExtensionMap::empty(), values)
+    run(rt, name, row(codec, clock_rate), sample, false)
 }
 
 /// Samples of audio, 20 ms each.
 fn audio(rt: &HostRuntime) -> anyhow::Result<()> {
     let opus = samples::audio(rt.alloc(), 120)?;
     plain(rt, "Opus", Codec::Opus, Frequency::FORTY_EIGHT_KHZ, &opus)?;
-    let (exts, values) = extensions::four();
     let format = row(Codec::Opus, Frequency::FORTY_EIGHT_KHZ);
-    run(rt, "Opus with four extensions", format, &opus, exts, values)?;
+    run(rt, "Opus with four extensions", format, &opus, true)?;
     let mu_law = samples::audio(rt.alloc(), 160)?;
     plain(rt, "PCMU", Codec::PCMU, Frequency::EIGHT_KHZ, &mu_law)?;
     let speech = samples::speech(rt.alloc())?;

@@ -7,7 +7,7 @@ use crate::samples::Sample;
 use rtp_media_streams::{
     Datagram, PayloadTypes, PollFault, ReceivingStream, RowFormat, SampleError, SendingStream,
 };
-use rtp_wire::{ExtensionMap, ExtensionValues, Frequency, MediaTime, Pt, RtpHeader, Ssrc};
+use rtp_wire::{ExtensionMap, ExtensionValues, MediaTime, Pt, RtpHeader, Ssrc};
 use std::alloc::{AllocError, Global};
 
 /// The limit of a payload in bytes.
@@ -71,12 +71,11 @@ pub fn receiver(alloc: Global, exts: ExtensionMap, row: RowFormat) -> ReceivingS
 pub fn send(
     stream: &mut SendingStream,
     sample: &Sample,
-    rate: Frequency,
     values: &ExtensionValues,
 ) -> Result<Tally, SampleError> {
     let mut tally = Tally::new();
     for round in 0..sample.rounds {
-        let time = MediaTime::new(u64::from(round) * 960, rate);
+        let time = MediaTime::new(u64::from(round) * 960, stream.clock_rate());
         for datagram in &stream.push_sample(time, &sample.bytes, values)? {
             tally.add(datagram.as_slice().len());
         }
@@ -89,7 +88,6 @@ pub fn datagrams(
     alloc: Global,
     stream: &mut SendingStream,
     sample: &Sample,
-    rate: Frequency,
     values: &ExtensionValues,
 ) -> Result<Vec<Datagram>, SampleError> {
     let mut all = Vec::new(alloc);
@@ -97,7 +95,7 @@ pub fn datagrams(
         if all.len() >= KEPT {
             return Ok(all);
         }
-        let time = MediaTime::new(u64::from(round) * 960, rate);
+        let time = MediaTime::new(u64::from(round) * 960, stream.clock_rate());
         for datagram in stream.push_sample(time, &sample.bytes, values)? {
             if all.push(datagram).is_err() {
                 return Err(SampleError::Memory);
