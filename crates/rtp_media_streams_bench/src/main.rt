@@ -95,7 +95,8 @@ fn run(
     copy(rt, name, sample)?;
     let sender = streams::sender(rt.alloc(), extensions::map(four), row);
     let receiver = streams::receiver(rt.alloc(), extensions::map(four), row);
-    both_ways(rt, name, sender, receiver, sample, &extensions::values(four))
+    let values = extensions::values(four);
+    both_ways(rt, name, sender, receiver, sample, &values)
 }
 
 /// A row without parameters.
