@@ -231,12 +231,7 @@ impl ExtensionMap {
 
     /// Writes the block for these values at this place, profile and count of words first (RFC 3550 5.3.1), and
     /// answers the place behind it.
-    pub fn write_headed_block(
-        &self,
-        values: &ExtensionValues,
-        buf: &mut [u8],
-        at: usize,
-    ) -> usize
+    pub fn write_headed_block(&self, values: &ExtensionValues, buf: &mut [u8], at: usize) -> usize
         requires { at + (4 + length (block_of self.now values.now).content) ≤ length buf.old }
         ensures end { result ≡ at + (4 + length (block_of self.now values.now).content) }
         ensures in_range { AreValues values.now }

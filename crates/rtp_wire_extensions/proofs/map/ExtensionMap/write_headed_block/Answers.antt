@@ -22,8 +22,13 @@ returns-clause-written c = λ text before was at.
     let two = c.put-at-2.ensures.written (text ++ number) before one
     (omega (arith, c.put-at.ensures.end, length-append text number)) in
     let three = c.write_content.ensures.written ((text ++ number) ++ words) before two
-    (omega (arith, c.put-at.ensures.end, c.put-at-2.ensures.end, length-append text number,
-    length-append (text ++ number) words)) in
+    (omega (
+      arith,
+      c.put-at.ensures.end,
+      c.put-at-2.ensures.end,
+      length-append text number,
+      length-append (text ++ number) words,
+    )) in
     let joined : ((text ++ number) ++ words) ++ content ≡ text ++ (number ++ (words ++ content)) =
     append_assoc (text ++ number) words content ∙ append_assoc text number (words ++ content) in
     let numbers : number ≡ to_be_bytes w16 (block_of map v).profile =
