@@ -1,17 +1,14 @@
 //! Extension blocks written.
 
-ghost use Rattle.std.specs.Prelude.{◌≡◌, ◌≢◌, ◌⊎◌, ◌+◌, ◌*◌, ◌%◌, ◌≤◌, ◌<◌, ◌++◌, List, [], ◌∷◌, ℕ, Bool, true};
-ghost use Rattle.std.specs.Prelude.{false, Some, None, MatchOption, length, ◌/◌, if◌then◌else◌};
-ghost use Rattle.rtp_wire_extensions.specs.BlockLayout.{AreBytes, IsLaidOut, Piece, may_have_length, said_by_pieces};
-ghost use Rattle.rtp_wire_extensions.specs.Carried.{AreValues, with_value};
-ghost use Rattle.rtp_wire_extensions.specs.Elements.{Numbering, step, taken, lookup, with_element, values_from};
+ghost use Rattle.std.specs.Prelude.{◌≡◌, ◌+◌, ◌*◌, ◌%◌, ◌≤◌, ◌<◌, ◌++◌, List, ℕ, true};
+ghost use Rattle.std.specs.Prelude.{false, Some, length, ◌/◌, if◌then◌else◌};
+ghost use Rattle.rtp_wire_extensions.specs.Carried.{AreValues};
 ghost use Rattle.rtp_wire_extensions.specs.Elements.{place_elements, are_one_byte, elements_text, fill};
-ghost use Rattle.rtp_wire_extensions.specs.Maps.{form_for, form_if};
-ghost use Rattle.rtp_wire_extensions.specs.Values.{absent, form_of_profile, values_of, block_of, two_byte_block};
+ghost use Rattle.rtp_wire_extensions.specs.Maps.{form_for};
+ghost use Rattle.rtp_wire_extensions.specs.Values.{block_of, two_byte_block};
 ghost use Rattle.rtp_wire_extensions.specs.Values.{profile_of, written_elements};
 ghost use Rattle.std.specs.Int.{to_be_bytes, w16};
 ghost use Rattle.rtp_wire_extensions.specs.declared.extension.Extension.{Extension};
-ghost use Rattle.rtp_wire_extensions.specs.declared.extension.Extension.TheVariants as extension_is;
 ghost use Rattle.rtp_wire_extensions.specs.declared.values.ExtensionValues.{ExtensionValues};
 ghost use Rattle.rtp_wire_extensions.specs.Seen.{HasSeen};
 ghost use Rattle.rtp_wire_extensions.specs.Written.{IsWritten};

@@ -1,6 +1,6 @@
 //! Which extension has which number.
 
-ghost use Rattle.std.specs.Prelude.{◌≡◌, ◌+◌, ◌-◌, ◌≤◌, ◌<◌, List, ℕ, suc, length, slice_set, Some, IfSome, IfOk};
+ghost use Rattle.std.specs.Prelude.{◌≡◌, ◌+◌, ◌-◌, ◌≤◌, ◌<◌, length, slice_set, Some, IfSome, IfOk};
 ghost use Rattle.std.specs.Prelude.{MatchOption, None};
 ghost use Rattle.std.specs.Prelude.{IsPermutation};
 ghost use Rattle.std.specs.Option.{option_copied, option_map};
