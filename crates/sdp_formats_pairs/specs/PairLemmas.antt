@@ -49,7 +49,7 @@ word_blank b h = by_bits (b == 32) (b == 9) h
     by_bits false true h = absurd (cc)
     by_bits false false h = refl
 
-unblanked-word : (w t : List ℕ) → w ≢ [] → list_all is_word_byte w ≡ true → unblanked (w ++ t) ≡ w ++ t
+pub unblanked-word : (w t : List ℕ) → w ≢ [] → list_all is_word_byte w ≡ true → unblanked (w ++ t) ≡ w ++ t
 unblanked-word [] t n h = absurd (n refl)
 unblanked-word (b ∷ w) t n h = ap (λ x. cond x (unblanked (w ++ t)) (b ∷ (w ++ t)))
     (word_blank b (and_true (is_word_byte b) (list_all is_word_byte w) h).0)
@@ -77,7 +77,7 @@ word-sound t w h =
     let two = passed_if (list_all is_word_byte s.0) s.0 w s.2 in
     (one.0 ∙ two.1, subst (λ x. x ≢ []) two.1 one.1, subst (λ x. list_all is_word_byte x ≡ true) two.1 two.0)
 
-word-complete : (w : List ℕ) → w ≢ [] → list_all is_word_byte w ≡ true → word.reads w ≡ Some w
+pub word-complete : (w : List ℕ) → w ≢ [] → list_all is_word_byte w ≡ true → word.reads w ≡ Some w
 word-complete w n h = ap (λ o. o >>= λ a. cond (list_all is_word_byte a) (Some a) None) (some_is w n)
     ∙ ap (λ x. cond x (Some w) None) h
 
@@ -90,10 +90,10 @@ lacks-both : (k : ℕ) (a b : List ℕ) → Lacks k a → Lacks k b → Lacks k 
 lacks-both k [] b h i = i
 lacks-both k (x ∷ a) b h i = (h.0, lacks-both k a b h.1 i)
 
-at-cut : (c : ℕ) (t front back : List ℕ) → t ≡ front ++ c ∷ back → Lacks c front → halves c t ≡ (front, Some back)
+pub at-cut : (c : ℕ) (t front back : List ℕ) → t ≡ front ++ c ∷ back → Lacks c front → halves c t ≡ (front, Some back)
 at-cut c t front back whole lacks = ap (halves_of t) (ap (split_first c) whole ∙ split_first-at c front back lacks)
 
-at-none : (c : ℕ) (t : List ℕ) → Lacks c t → halves c t ≡ (t, None)
+pub at-none : (c : ℕ) (t : List ℕ) → Lacks c t → halves c t ≡ (t, None)
 at-none c t lacks = ap (halves_of t) (split_first-nowhere c t lacks)
 
 -- the first half lacks the byte and is the front of the text
