@@ -11,3 +11,7 @@ pub mod Sections
 pub mod WholeSession
 pub mod WholeTexts
 pub mod Fingerprints
+pub mod Candidates
+pub mod CandidateLines
+pub mod Restrictions
+pub mod Simulcasts

@@ -13,6 +13,7 @@ use Rattle.sdp_formats_heads.specs.Heads.{media_type, proto, formats, make_head}
 use Rattle.sdp_formats_heads.specs.Lines.{connection_line, bandwidth_line, head_line, passed}
 use Rattle.sdp_formats_heads.specs.declared.media.MediaHead.{MediaHead}
 use Rattle.sdp_formats_media_lines.specs.Choice.{attribute_line, media_attribute}
+use Rattle.sdp_formats_pairs.specs.PrintedPairs.{RestrictionsComeBack}
 use Rattle.sdp_formats_reader.specs.Grammar.{SectionSays}
 use Rattle.sdp_formats_steps.specs.Line.{LineOf}
 use Rattle.sdp_formats_steps.specs.Step.{Stops, Begins, Many, Perhaps}
@@ -162,11 +163,11 @@ section_spelled m rest = ap (λ t. codes "m=" ++ t)
     (codes "c=IN IP4 0.0.0.0") (maybe_text [] (option_map bandwidth_text m.bw)) (attributes_text m.attrs) rest line_end)
 
 -- attributes, up to another section or the end
-pub attributes_many : IsExact attribute_line → (attrs : List MediaAttribute) (rest : List ℕ) → IsEach IsPrintable attrs
+pub attributes_many : RestrictionsComeBack → IsExact attribute_line → (attrs : List MediaAttribute) (rest : List ℕ) → IsEach IsPrintable attrs
     → IsTail rest → Many (LineOf attribute_line.Says) (attributes_text attrs ++ rest) attrs rest
-attributes_many exact attrs rest h tail = (
+attributes_many back exact attrs rest h tail = (
   begins_all (LineOf attribute_line.Says) attribute_text IsPrintable
-      (λ x r p. printed_line attribute_line exact x (attribute_text x) r (printed x p)) attrs rest h,
+      (λ x r p. printed_line attribute_line exact x (attribute_text x) r (printed back x p)) attrs rest h,
   other_start 97 (61 ∷ []) media_attribute rest (tail 97 (λ e. omega (e, arith))),
 )
 
@@ -182,14 +183,14 @@ not_98 attrs t rest begins tail e = ⊎_elim
     letters : (a b : ℕ) → (a ≡ b → ⊥) → Some a ≡ Some b → ⊥
     letters a b other e = other (cc)
 
-pub section_says : IsExact attribute_line → (m : MediaLine) (rest : List ℕ) → IsPrintableSection m → IsTail rest
+pub section_says : RestrictionsComeBack → IsExact attribute_line → (m : MediaLine) (rest : List ℕ) → IsPrintableSection m → IsTail rest
     → SectionSays (section_text m ++ rest) m rest
 unfolding SectionSays
-section_says exact m rest h tail =
+section_says back exact m rest h tail =
     let four = attributes_text m.attrs ++ rest in
     let three = maybe_text [] (option_map bandwidth_text m.bw) ++ four in
     let two = (codes "c=IN IP4 0.0.0.0" ++ line_end) ++ three in
-    let many = attributes_many exact m.attrs rest h.2 tail in
+    let many = attributes_many back exact m.attrs rest h.2 tail in
     subst (λ t. SectionSays t m rest) (sym (section_spelled m rest)) (
       head_of m,
       two,

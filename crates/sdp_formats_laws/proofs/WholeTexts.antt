@@ -9,6 +9,7 @@ use Rattle.sdp_formats_heads.specs.Lines.{version_line, origin_line, name_line, 
 use Rattle.sdp_formats_heads.specs.Lines.{something, passed}
 use Rattle.sdp_formats_heads.specs.Heads.{media_line}
 use Rattle.sdp_formats_media_lines.specs.Choice.{attribute_line as media_attribute_line}
+use Rattle.sdp_formats_pairs.specs.PrintedPairs.{RestrictionsComeBack}
 use Rattle.sdp_formats_reader.specs.Grammar.{OpeningSays, TimesSay, SessionSays, SectionSays, SdpSays}
 use Rattle.sdp_formats_session_lines.specs.Choice.{attribute_line, session_attribute}
 use Rattle.sdp_formats_steps.specs.Line.{LineOf}
@@ -131,24 +132,24 @@ unfolding section_text
 section_tail m rest = λ c other e. other (cc)
 
 -- sections, one behind the other
-sections_begin : IsExact media_attribute_line → (ms : List MediaLine) → IsEach IsPrintableSection ms
+sections_begin : RestrictionsComeBack → IsExact media_attribute_line → (ms : List MediaLine) → IsEach IsPrintableSection ms
     → Begins SectionSays (each_behind [] (map section_text ms)) ms [] × IsTail (each_behind [] (map section_text ms))
-sections_begin exact [] h = (refl, nothing_left)
-sections_begin exact (m ∷ ms) h =
-    let more = sections_begin exact ms h.1 in (
+sections_begin back exact [] h = (refl, nothing_left)
+sections_begin back exact (m ∷ ms) h =
+    let more = sections_begin back exact ms h.1 in (
       (
         each_behind [] (map section_text ms),
-        section_says exact m (each_behind [] (map section_text ms)) h.0 more.1,
+        section_says back exact m (each_behind [] (map section_text ms)) h.0 more.1,
         more.0,
       ),
       section_tail m (each_behind [] (map section_text ms)),
     )
 
-pub text_says : IsExact attribute_line → IsExact media_attribute_line → (sdp : Sdp) → IsPrintableText sdp
+pub text_says : RestrictionsComeBack → IsExact attribute_line → IsExact media_attribute_line → (sdp : Sdp) → IsPrintableText sdp
     → SdpSays (sdp_text sdp) sdp []
 unfolding SdpSays
-text_says exact media_exact sdp h =
-    let sections = sections_begin media_exact sdp.media_lines h.1 in
+text_says back exact media_exact sdp h =
+    let sections = sections_begin back media_exact sdp.media_lines h.1 in
     let same = joined_behind (map section_text sdp.media_lines) in
     let tail = subst IsTail (sym same) sections.1 in (
       sections_text sdp.media_lines,

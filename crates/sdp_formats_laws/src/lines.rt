@@ -8,6 +8,7 @@ ghost use Rattle.sdp_formats_types.specs.PrintedMedia.{attribute_text};
 ghost use Rattle.sdp_formats_types.specs.declared.media.MediaAttribute.{MediaAttribute};
 
 use sdp_formats_media_lines::MediaAttributeLine;
+use sdp_formats_pairs::printed_pairs_law;
 use sdp_formats_steps::Lined;
 
 /// The printed line of a printable attribute is read as that attribute, whatever stands behind it.
@@ -16,4 +17,5 @@ pub fn printed_lines_law()
         → LineOf attribute_line.Says (attribute_text a ++ rest) a rest }
 {
     MediaAttributeLine::exact_law();
+    printed_pairs_law();
 }

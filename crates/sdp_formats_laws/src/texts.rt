@@ -7,6 +7,7 @@ ghost use Rattle.sdp_formats_types.specs.PrintedSession.{sdp_text};
 ghost use Rattle.sdp_formats_types.specs.declared.session.Sdp.{Sdp};
 
 use sdp_formats_media_lines::MediaAttributeLine;
+use sdp_formats_pairs::printed_pairs_law;
 use sdp_formats_session_lines::SessionAttributeLine;
 use sdp_formats_steps::Lined;
 
@@ -17,4 +18,5 @@ pub fn printed_texts_law()
 {
     SessionAttributeLine::exact_law();
     MediaAttributeLine::exact_law();
+    printed_pairs_law();
 }

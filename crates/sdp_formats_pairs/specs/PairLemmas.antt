@@ -108,7 +108,7 @@ front_by c t (nowhere lacks) =
 word_bits : (b : ℕ) → b ≢ 32 → b ≢ 9 → is_word_byte b ≡ true
 word_bits b h k = grind (arith, nat_tests)
 
-lacks-word : (t : List ℕ) → Lacks 32 t → Lacks 9 t → list_all is_word_byte t ≡ true
+pub lacks-word : (t : List ℕ) → Lacks 32 t → Lacks 9 t → list_all is_word_byte t ≡ true
 lacks-word [] h k = refl
 lacks-word (b ∷ t) h k = both_true (is_word_byte b) (list_all is_word_byte t) (word_bits b h.0 k.0)
     (lacks-word t h.1 k.1)
