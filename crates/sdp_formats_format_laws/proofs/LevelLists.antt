@@ -1,0 +1,422 @@
+-- A profile, tier and level among parameters comes first when they are read.
+use Rattle.std.proofs.Common.{◌≡◌, ◌≢◌, ◌<◌, ◌≤◌, ◌+◌, ℕ, Bool, true, false, ◌||◌, not, cond, List, [], ◌∷◌, ◌++◌, map}
+use Rattle.std.proofs.Common.{filter, codes, decimal, nat_eq, Option, Some, None, refl, sym, ◌∙◌, ap, subst, append_assoc}
+use Rattle.std.proofs.Common.{append-nil, arith, lit<, lit≤}
+use Rattle.std.specs.Char.{to_ascii_lowercase}
+use Rattle.std.specs.Cmp.Lexicographic.{pointwise, bytes_decides}
+use Rattle.std.specs.List.{list_any}
+use Rattle.std.specs.Str.{str_eq_ignore_ascii_case}
+use Rattle.indexmap.specs.IndexMap.{insert_entry}
+use Rattle.sdp_formats_forms.specs.Joined.{each_behind, joined}
+use Rattle.sdp_formats_pairs.specs.PrintedPairs.{ArePairs, PairsComeBack, pairs_text}
+use Rattle.sdp_formats_params.specs.Keys.{key_named, is_name_of}
+use Rattle.sdp_formats_params.specs.Params.{Entries, gives_level, is_level_name, last_value, level_params, levels_of}
+use Rattle.sdp_formats_params.specs.Params.{onto_others, or_before, others_of, pair_param, param_of, params_of, with_pair}
+use Rattle.sdp_formats_params.specs.Params.{with_pairs}
+use Rattle.sdp_formats_params.specs.Printed.{levels_text, pair_text, param_text}
+use Rattle.sdp_formats_params.specs.declared.key.Key.{Key}
+use Rattle.sdp_formats_params.specs.declared.key.Key.TheVariants as key
+use Rattle.sdp_formats_params.specs.declared.pairs.Pair.{Pair}
+use Rattle.sdp_formats_params.specs.declared.param.FormatParam.{FormatParam}
+use Rattle.sdp_formats_params.specs.declared.param.FormatParam.TheVariants as param
+use Rattle.sdp_formats_row_lines.specs.AsRead.{is_level, is_other, params_as_read, spelled_as}
+use Rattle.sdp_formats_row_lines.specs.Parameters.{parameters}
+use Rattle.sdp_formats_types.specs.Printed.{params_text}
+use Rattle.sdp_formats_format_laws.proofs.KeyedLists.{AllLack, OnLine, all_spelled, are_pairs, lack_feed, lack_return}
+use Rattle.sdp_formats_format_laws.proofs.KeyedLists.{levels_none, none_level, others_all, pairs_on_line, pairs_read}
+use Rattle.sdp_formats_format_laws.proofs.KeyedLists.{texts_are}
+use Rattle.sdp_formats_format_laws.proofs.KeyedParams.{no_level, param_back}
+use Rattle.sdp_formats_format_laws.proofs.Numerals.{decimal_value}
+use Rattle.sdp_formats_format_laws.specs.Keyed.{AreKeyed, IsKeyed, IsOrdinary, pair, pair_of}
+
+-- keys in the order in which a format's parameters are printed
+abbrev pub key_rank : Option Key → ℕ
+key_rank None = 0
+key_rank (Some key.MinPTime) = 1
+key_rank (Some key.Stereo) = 2
+key_rank (Some key.SpropStereo) = 3
+key_rank (Some key.UseInbandFec) = 4
+key_rank (Some key.UseDtx) = 5
+key_rank (Some key.LevelAsymmetryAllowed) = 6
+key_rank (Some key.PacketizationMode) = 7
+key_rank (Some key.ProfileLevelId) = 8
+key_rank (Some key.Profile) = 10
+key_rank (Some key.LevelIdx) = 11
+key_rank (Some key.Tier) = 12
+key_rank (Some key.SpropMaxDonDiff) = 16
+key_rank (Some key.OctetAlign) = 17
+key_rank (Some key.ModeSet) = 18
+key_rank (Some key.ProfileId) = 13
+key_rank (Some key.TierFlag) = 14
+key_rank (Some key.LevelId) = 15
+
+abbrev pub rank_of : FormatParam → ℕ
+rank_of (param.MinPTime v) = 1
+rank_of (param.Stereo v) = 2
+rank_of (param.SpropStereo v) = 3
+rank_of (param.UseInbandFec v) = 4
+rank_of (param.UseDtx v) = 5
+rank_of (param.LevelAsymmetryAllowed v) = 6
+rank_of (param.PacketizationMode v) = 7
+rank_of (param.ProfileLevelId v) = 8
+rank_of (param.Profile v) = 10
+rank_of (param.LevelIdx v) = 11
+rank_of (param.Tier v) = 12
+rank_of (param.SpropMaxDonDiff v) = 16
+rank_of (param.OctetAlign v) = 17
+rank_of (param.ModeSet v) = 18
+rank_of _ = 0
+
+abbrev pub lower : Pair → List ℕ
+lower q = map to_ascii_lowercase q.key
+
+pub rank : List ℕ → ℕ
+rank t = key_rank (key_named t)
+
+ordinary : (p : FormatParam) → IsOrdinary p → IsKeyed p
+ordinary (param.MinPTime v) h = h
+ordinary (param.Stereo v) h = h
+ordinary (param.SpropStereo v) h = h
+ordinary (param.UseInbandFec v) h = h
+ordinary (param.UseDtx v) h = h
+ordinary (param.LevelAsymmetryAllowed v) h = h
+ordinary (param.PacketizationMode v) h = h
+ordinary (param.ProfileLevelId v) h = h
+ordinary (param.Profile v) h = h
+ordinary (param.LevelIdx v) h = h
+ordinary (param.Tier v) h = h
+ordinary (param.SpropMaxDonDiff v) h = h
+ordinary (param.OctetAlign v) h = h
+ordinary (param.ModeSet v) h = h
+ordinary (param.H265ProfileTierLevel v) h = absurd h
+ordinary (param.H266ProfileTierLevel v) h = absurd h
+ordinary (param.TelephoneEvents v) h = absurd h
+ordinary (param.BareRange v) h = absurd h
+ordinary (param.BarePtList v) h = absurd h
+ordinary param.AmrWbUnsupported h = absurd h
+ordinary (param.Apt v) h = absurd h
+ordinary (param.Red v) h = absurd h
+ordinary param.Unknown h = absurd h
+ordinary (param.ProfileId v) h = absurd h
+
+same_lower : (p : FormatParam) → IsOrdinary p → lower (pair_of p) ≡ (pair_of p).key
+same_lower (param.MinPTime v) h = refl
+same_lower (param.Stereo v) h = refl
+same_lower (param.SpropStereo v) h = refl
+same_lower (param.UseInbandFec v) h = refl
+same_lower (param.UseDtx v) h = refl
+same_lower (param.LevelAsymmetryAllowed v) h = refl
+same_lower (param.PacketizationMode v) h = refl
+same_lower (param.ProfileLevelId v) h = refl
+same_lower (param.Profile v) h = refl
+same_lower (param.LevelIdx v) h = refl
+same_lower (param.Tier v) h = refl
+same_lower (param.SpropMaxDonDiff v) h = refl
+same_lower (param.OctetAlign v) h = refl
+same_lower (param.ModeSet v) h = refl
+same_lower (param.H265ProfileTierLevel v) h = absurd h
+same_lower (param.H266ProfileTierLevel v) h = absurd h
+same_lower (param.TelephoneEvents v) h = absurd h
+same_lower (param.BareRange v) h = absurd h
+same_lower (param.BarePtList v) h = absurd h
+same_lower param.AmrWbUnsupported h = absurd h
+same_lower (param.Apt v) h = absurd h
+same_lower (param.Red v) h = absurd h
+same_lower param.Unknown h = absurd h
+same_lower (param.ProfileId v) h = absurd h
+
+ranked : (p : FormatParam) → IsOrdinary p → rank (lower (pair_of p)) ≡ rank_of p
+unfolding rank key_named is_name_of
+ranked (param.MinPTime v) h = refl
+ranked (param.Stereo v) h = refl
+ranked (param.SpropStereo v) h = refl
+ranked (param.UseInbandFec v) h = refl
+ranked (param.UseDtx v) h = refl
+ranked (param.LevelAsymmetryAllowed v) h = refl
+ranked (param.PacketizationMode v) h = refl
+ranked (param.ProfileLevelId v) h = refl
+ranked (param.Profile v) h = refl
+ranked (param.LevelIdx v) h = refl
+ranked (param.Tier v) h = refl
+ranked (param.SpropMaxDonDiff v) h = refl
+ranked (param.OctetAlign v) h = refl
+ranked (param.ModeSet v) h = refl
+ranked (param.H265ProfileTierLevel v) h = absurd h
+ranked (param.H266ProfileTierLevel v) h = absurd h
+ranked (param.TelephoneEvents v) h = absurd h
+ranked (param.BareRange v) h = absurd h
+ranked (param.BarePtList v) h = absurd h
+ranked param.AmrWbUnsupported h = absurd h
+ranked (param.Apt v) h = absurd h
+ranked (param.Red v) h = absurd h
+ranked param.Unknown h = absurd h
+ranked (param.ProfileId v) h = absurd h
+
+no_name : (p : FormatParam) → IsOrdinary p → is_level_name (lower (pair_of p)) ≡ false
+no_name (param.MinPTime v) h = refl
+no_name (param.Stereo v) h = refl
+no_name (param.SpropStereo v) h = refl
+no_name (param.UseInbandFec v) h = refl
+no_name (param.UseDtx v) h = refl
+no_name (param.LevelAsymmetryAllowed v) h = refl
+no_name (param.PacketizationMode v) h = refl
+no_name (param.ProfileLevelId v) h = refl
+no_name (param.Profile v) h = refl
+no_name (param.LevelIdx v) h = refl
+no_name (param.Tier v) h = refl
+no_name (param.SpropMaxDonDiff v) h = refl
+no_name (param.OctetAlign v) h = refl
+no_name (param.ModeSet v) h = refl
+no_name (param.H265ProfileTierLevel v) h = absurd h
+no_name (param.H266ProfileTierLevel v) h = absurd h
+no_name (param.TelephoneEvents v) h = absurd h
+no_name (param.BareRange v) h = absurd h
+no_name (param.BarePtList v) h = absurd h
+no_name param.AmrWbUnsupported h = absurd h
+no_name (param.Apt v) h = absurd h
+no_name (param.Red v) h = absurd h
+no_name param.Unknown h = absurd h
+no_name (param.ProfileId v) h = absurd h
+
+no_profile : (p : FormatParam) → IsOrdinary p → str_eq_ignore_ascii_case (codes "profile-id") (pair_of p).key ≡ false
+no_profile (param.MinPTime v) h = refl
+no_profile (param.Stereo v) h = refl
+no_profile (param.SpropStereo v) h = refl
+no_profile (param.UseInbandFec v) h = refl
+no_profile (param.UseDtx v) h = refl
+no_profile (param.LevelAsymmetryAllowed v) h = refl
+no_profile (param.PacketizationMode v) h = refl
+no_profile (param.ProfileLevelId v) h = refl
+no_profile (param.Profile v) h = refl
+no_profile (param.LevelIdx v) h = refl
+no_profile (param.Tier v) h = refl
+no_profile (param.SpropMaxDonDiff v) h = refl
+no_profile (param.OctetAlign v) h = refl
+no_profile (param.ModeSet v) h = refl
+no_profile (param.H265ProfileTierLevel v) h = absurd h
+no_profile (param.H266ProfileTierLevel v) h = absurd h
+no_profile (param.TelephoneEvents v) h = absurd h
+no_profile (param.BareRange v) h = absurd h
+no_profile (param.BarePtList v) h = absurd h
+no_profile param.AmrWbUnsupported h = absurd h
+no_profile (param.Apt v) h = absurd h
+no_profile (param.Red v) h = absurd h
+no_profile param.Unknown h = absurd h
+no_profile (param.ProfileId v) h = absurd h
+
+no_tier : (p : FormatParam) → IsOrdinary p → str_eq_ignore_ascii_case (codes "tier-flag") (pair_of p).key ≡ false
+no_tier (param.MinPTime v) h = refl
+no_tier (param.Stereo v) h = refl
+no_tier (param.SpropStereo v) h = refl
+no_tier (param.UseInbandFec v) h = refl
+no_tier (param.UseDtx v) h = refl
+no_tier (param.LevelAsymmetryAllowed v) h = refl
+no_tier (param.PacketizationMode v) h = refl
+no_tier (param.ProfileLevelId v) h = refl
+no_tier (param.Profile v) h = refl
+no_tier (param.LevelIdx v) h = refl
+no_tier (param.Tier v) h = refl
+no_tier (param.SpropMaxDonDiff v) h = refl
+no_tier (param.OctetAlign v) h = refl
+no_tier (param.ModeSet v) h = refl
+no_tier (param.H265ProfileTierLevel v) h = absurd h
+no_tier (param.H266ProfileTierLevel v) h = absurd h
+no_tier (param.TelephoneEvents v) h = absurd h
+no_tier (param.BareRange v) h = absurd h
+no_tier (param.BarePtList v) h = absurd h
+no_tier param.AmrWbUnsupported h = absurd h
+no_tier (param.Apt v) h = absurd h
+no_tier (param.Red v) h = absurd h
+no_tier param.Unknown h = absurd h
+no_tier (param.ProfileId v) h = absurd h
+
+no_level_id : (p : FormatParam) → IsOrdinary p → str_eq_ignore_ascii_case (codes "level-id") (pair_of p).key ≡ false
+no_level_id (param.MinPTime v) h = refl
+no_level_id (param.Stereo v) h = refl
+no_level_id (param.SpropStereo v) h = refl
+no_level_id (param.UseInbandFec v) h = refl
+no_level_id (param.UseDtx v) h = refl
+no_level_id (param.LevelAsymmetryAllowed v) h = refl
+no_level_id (param.PacketizationMode v) h = refl
+no_level_id (param.ProfileLevelId v) h = refl
+no_level_id (param.Profile v) h = refl
+no_level_id (param.LevelIdx v) h = refl
+no_level_id (param.Tier v) h = refl
+no_level_id (param.SpropMaxDonDiff v) h = refl
+no_level_id (param.OctetAlign v) h = refl
+no_level_id (param.ModeSet v) h = refl
+no_level_id (param.H265ProfileTierLevel v) h = absurd h
+no_level_id (param.H266ProfileTierLevel v) h = absurd h
+no_level_id (param.TelephoneEvents v) h = absurd h
+no_level_id (param.BareRange v) h = absurd h
+no_level_id (param.BarePtList v) h = absurd h
+no_level_id param.AmrWbUnsupported h = absurd h
+no_level_id (param.Apt v) h = absurd h
+no_level_id (param.Red v) h = absurd h
+no_level_id param.Unknown h = absurd h
+no_level_id (param.ProfileId v) h = absurd h
+
+-- parameters in this order, from one rank up to another
+abbrev pub IsRising : ℕ → ℕ → List FormatParam → Type 0
+IsRising low high [] = low ≤ high
+IsRising low high (p ∷ ps) = IsOrdinary p × (low ≤ rank_of p) × IsRising (rank_of p + 1) high ps
+
+pub weaker : (low more high : ℕ) (ps : List FormatParam) → low ≤ more → IsRising more high ps → IsRising low high ps
+weaker low more high [] h k = omega (h, k, arith)
+weaker low more high (p ∷ ps) h k = (k.0, omega (h, k.1, arith), k.2)
+
+pub rising_keyed : (low high : ℕ) (ps : List FormatParam) → IsRising low high ps → AreKeyed ps
+rising_keyed low high [] h = tt
+rising_keyed low high (p ∷ ps) h = (ordinary p h.0, rising_keyed (rank_of p + 1) high ps h.2)
+
+-- pairs whose keys rise
+abbrev pub IsRanked : ℕ → List Pair → Type 0
+IsRanked low [] = Unit {0}
+IsRanked low (q ∷ qs) = (low ≤ rank (lower q)) × IsRanked (rank (lower q) + 1) qs
+
+from : (low more : ℕ) (qs : List Pair) → low ≤ more → IsRanked more qs → IsRanked low qs
+from low more [] h k = tt
+from low more (q ∷ qs) h k = (omega (h, k.0, arith), k.1)
+
+ranked_front : (low high : ℕ) (ps : List FormatParam) (qs : List Pair) → IsRising low high ps → IsRanked high qs
+    → IsRanked low (map pair_of ps ++ qs)
+ranked_front low high [] qs h k = from low high qs h k
+ranked_front low high (p ∷ ps) qs h k = (
+  omega (h.1, ranked p h.0, arith),
+  subst (λ n. IsRanked (n + 1) (map pair_of ps ++ qs)) (sym (ranked p h.0))
+      (ranked_front (rank_of p + 1) high ps qs h.2 k),
+)
+
+-- the entries of such pairs are those pairs
+abbrev pub entry : Pair → List ℕ × List ℕ
+entry q = (lower q, q.value)
+
+abbrev pub AllBelow : ℕ → Entries → Type 0
+AllBelow high [] = Unit {0}
+AllBelow high (e ∷ es) = (rank e.0 < high) × AllBelow high es
+
+other_key : (a b : List ℕ) → rank b < rank a → (s : Bool) → pointwise nat_eq a b ≡ s → s ≡ false
+other_key a b h true e = absurd (omega (h, ap rank ((bytes_decides a b).0 e), arith))
+other_key a b h false e = refl
+
+inserted : (es : Entries) (k v : List ℕ) → AllBelow (rank k) es
+    → insert_entry (pointwise nat_eq) es k v ≡ es ++ (k, v) ∷ []
+inserted [] k v h = refl
+inserted (e ∷ es) k v h =
+    ap (λ b. cond b ((e.0, v) ∷ es) (e ∷ insert_entry (pointwise nat_eq) es k v))
+    (other_key k e.0 h.0 (pointwise nat_eq k e.0) refl)
+    ∙ ap (λ l. e ∷ l) (inserted es k v h.1)
+
+all_below : (es : Entries) (low high : ℕ) → low ≤ high → AllBelow low es → AllBelow high es
+all_below [] low high h k = tt
+all_below (e ∷ es) low high h k = (omega (h, k.0, arith), all_below es low high h k.1)
+
+one_behind : (es : Entries) (e : List ℕ × List ℕ) (high : ℕ) → AllBelow high es → rank e.0 < high
+    → AllBelow high (es ++ e ∷ [])
+one_behind [] e high h k = (k, tt)
+one_behind (x ∷ es) e high h k = (h.0, one_behind es e high h.1 k)
+
+all_entries : (low : ℕ) (es : Entries) (qs : List Pair) → AllBelow low es → IsRanked low qs
+    → with_pairs es qs ≡ es ++ map entry qs
+all_entries low es [] h k = sym (append-nil es)
+all_entries low es (q ∷ qs) h k =
+    ap (λ l. with_pairs l qs) (inserted es (lower q) q.value (all_below es low (rank (lower q)) k.0 h))
+    ∙ all_entries (rank (lower q) + 1) (es ++ entry q ∷ []) qs
+    (one_behind es (entry q) (rank (lower q) + 1) (all_below es low (rank (lower q) + 1) (omega (k.0, arith)) h)
+    (omega arith)) k.1
+    ∙ append_assoc es (entry q ∷ []) (map entry qs)
+
+-- the others of them
+own_param : (p : FormatParam) → IsOrdinary p → param_of (lower (pair_of p)) (pair_of p).value ≡ p
+own_param p h = ap (λ k. param_of k (pair_of p).value) (same_lower p h) ∙ param_back p (ordinary p h)
+
+others_front : (low high : ℕ) (ps : List FormatParam) (es : Entries) → IsRising low high ps
+    → others_of (map entry (map pair_of ps) ++ es) ≡ ps ++ others_of es
+others_front low high [] es h = refl
+others_front low high (p ∷ ps) es h =
+    ap (λ b. cond b (others_of (map entry (map pair_of ps) ++ es))
+    (param_of (lower (pair_of p)) (pair_of p).value ∷ others_of (map entry (map pair_of ps) ++ es))) (no_name p h.0)
+    ∙ (λ i. own_param p h.0 i ∷ others_front (rank_of p + 1) high ps es h.2 i)
+
+-- the value of a name that they lack
+abbrev pub LacksName : List ℕ → List Pair → Type 0
+LacksName name [] = Unit {0}
+LacksName name (q ∷ qs) = (str_eq_ignore_ascii_case name q.key ≡ false) × LacksName name qs
+
+no_value : (name : List ℕ) (before : Option (List ℕ)) (qs rest : List Pair) → LacksName name qs
+    → last_value name before (qs ++ rest) ≡ last_value name before rest
+no_value name before [] rest h = refl
+no_value name before (q ∷ qs) rest h =
+    ap (λ b. last_value name (or_before b q.value before) (qs ++ rest)) h.0 ∙ no_value name before qs rest h.1
+
+no_value_last : (name : List ℕ) (before : Option (List ℕ)) (qs : List Pair) → LacksName name qs
+    → last_value name before qs ≡ before
+no_value_last name before qs h =
+    ap (last_value name before) (sym (append-nil qs)) ∙ no_value name before qs [] h
+
+profile_lacking : (low high : ℕ) (ps : List FormatParam) → IsRising low high ps → LacksName (codes "profile-id") (map pair_of ps)
+profile_lacking low high [] h = tt
+profile_lacking low high (p ∷ ps) h = (no_profile p h.0, profile_lacking (rank_of p + 1) high ps h.2)
+
+tier_lacking : (low high : ℕ) (ps : List FormatParam) → IsRising low high ps → LacksName (codes "tier-flag") (map pair_of ps)
+tier_lacking low high [] h = tt
+tier_lacking low high (p ∷ ps) h = (no_tier p h.0, tier_lacking (rank_of p + 1) high ps h.2)
+
+level_lacking : (low high : ℕ) (ps : List FormatParam) → IsRising low high ps → LacksName (codes "level-id") (map pair_of ps)
+level_lacking low high [] h = tt
+level_lacking low high (p ∷ ps) h = (no_level_id p h.0, level_lacking (rank_of p + 1) high ps h.2)
+
+spread_map : {A B : Type 0} (f : A → B) (xs ys : List A) → map f (xs ++ ys) ≡ map f xs ++ map f ys
+spread_map f [] ys = refl
+spread_map f (x ∷ xs) ys = ap (λ l. f x ∷ l) (spread_map f xs ys)
+
+-- a profile, tier and level as three pairs
+abbrev pub level_pairs : ℕ → ℕ → ℕ → List Pair
+level_pairs id tier level = pair (codes "profile-id") (decimal id) ∷ pair (codes "tier-flag") (decimal tier)
+    ∷ pair (codes "level-id") (decimal level) ∷ []
+
+level_shape : (id tier level : ℕ) → levels_text id tier level ≡ pairs_text (level_pairs id tier level)
+level_shape id tier level =
+    ap (λ t. codes "profile-id=" ++ (decimal id ++ (codes ";tier-flag=" ++ (decimal tier ++ (codes ";level-id=" ++ t)))))
+    (sym (append-nil (decimal level)))
+
+level_ranked : (id tier level : ℕ) (qs : List Pair) → IsRanked 16 qs → IsRanked 13 (level_pairs id tier level ++ qs)
+unfolding rank key_named is_name_of
+level_ranked id tier level qs h = (lit≤ tt, (lit≤ tt, (lit≤ tt, h)))
+
+any_front : (ps : List FormatParam) (qs : List Pair) → AreKeyed ps
+    → list_any gives_level (map pair_of ps ++ qs) ≡ list_any gives_level qs
+any_front [] qs h = refl
+any_front (p ∷ ps) qs h = (λ i. no_level p h.0 i || any_front ps qs h.1 i)
+
+level_there : (id tier level : ℕ) (qs : List Pair) → list_any gives_level (level_pairs id tier level ++ qs) ≡ true
+unfolding key_named is_name_of
+level_there id tier level qs = refl
+
+-- the pairs of parameters with a profile, tier and level among them
+abbrev pub all_pairs : List FormatParam → ℕ → ℕ → ℕ → List FormatParam → List Pair
+all_pairs front id tier level back = map pair_of front ++ (level_pairs id tier level ++ map pair_of back)
+
+pub level_read : (front back : List FormatParam) (id tier level : ℕ) → IsRising 1 13 front → IsRising 16 19 back
+    → params_of (all_pairs front id tier level back)
+    ≡ levels_of (Some (decimal id)) (Some (decimal tier)) (Some (decimal level)) ++ (front ++ back)
+level_read front back id tier level f b =
+    let qs = all_pairs front id tier level back in
+    let rest = level_pairs id tier level ++ map pair_of back in
+    let one = any_front front rest (rising_keyed 1 13 front f) ∙ level_there id tier level (map pair_of back) in
+    let profile = no_value (codes "profile-id") None (map pair_of front) rest (profile_lacking 1 13 front f)
+    ∙ no_value_last (codes "profile-id") (Some (decimal id)) (map pair_of back) (profile_lacking 16 19 back b) in
+    let flag = no_value (codes "tier-flag") None (map pair_of front) rest (tier_lacking 1 13 front f)
+    ∙ no_value_last (codes "tier-flag") (Some (decimal tier)) (map pair_of back) (tier_lacking 16 19 back b) in
+    let number = no_value (codes "level-id") None (map pair_of front) rest (level_lacking 1 13 front f)
+    ∙ no_value_last (codes "level-id") (Some (decimal level)) (map pair_of back) (level_lacking 16 19 back b) in
+    let entries = all_entries 1 [] qs tt (ranked_front 1 13 front rest f (level_ranked id tier level (map pair_of back)
+    (subst (IsRanked 16) (append-nil (map pair_of back)) (ranked_front 16 19 back [] b tt)))) in
+    let spread : map entry qs ≡ map entry (map pair_of front) ++ (map entry (level_pairs id tier level)
+    ++ map entry (map pair_of back)) = spread_map entry (map pair_of front) rest in
+    let others = ap others_of (entries ∙ spread)
+    ∙ others_front 1 13 front (map entry (level_pairs id tier level) ++ map entry (map pair_of back)) f
+    ∙ ap (λ l. front ++ l) (ap others_of (sym (append-nil (map entry (map pair_of back))))
+    ∙ others_front 16 19 back [] b ∙ append-nil back) in
+    ap (λ x. cond x (level_params qs) (map pair_param qs)) one
+    ∙ (λ i. levels_of (profile i) (flag i) (number i) ++ others i)

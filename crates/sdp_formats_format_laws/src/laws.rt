@@ -1,0 +1,4 @@
+//! Formats that a line gives.
+
+/// x
+pub fn ranges_law() {}
