@@ -15,6 +15,7 @@ use Rattle.sdp_formats_row_lines.specs.AsRead.{is_level, is_other, params_as_rea
 use Rattle.sdp_formats_row_lines.specs.Parameters.{parameters}
 use Rattle.sdp_formats_types.specs.Printed.{params_text}
 use Rattle.sdp_formats_format_laws.proofs.KeyedParams.{key_is, no_level, param_back, text_is, value_is}
+use Rattle.sdp_formats_format_laws.specs.Laws.{OnLine}
 use Rattle.sdp_formats_format_laws.specs.Keyed.{AreKeyed, IsKeyed, pair_of}
 
 pub texts_are : (ps : List FormatParam) → AreKeyed ps → map param_text ps ≡ map pair_text (map pair_of ps)
@@ -57,10 +58,6 @@ lack_feed (p ∷ ps) h = ((key_is p h.0).1, (value_is p h.0).1, lack_feed ps h.1
 pub lack_return : (ps : List FormatParam) → AreKeyed ps → AllLack 13 (map pair_of ps)
 lack_return [] h = tt
 lack_return (p ∷ ps) h = ((key_is p h.0).2, (value_is p h.0).2, lack_return ps h.1)
-
--- a text of pairs can stand on a line
-abbrev pub OnLine : List ℕ → Type 0
-OnLine t = (t ≢ []) × Lacks 10 t × Lacks 13 t
 
 key_there : (key value more : List ℕ) → (key ++ 61 ∷ value) ++ more ≢ []
 key_there [] value more = λ e. cc

@@ -168,7 +168,7 @@ key_equals : (t : List ℕ) → is_plain_key t ≡ true → Lacks 61 t
 key_equals [] h = tt
 key_equals (b ∷ t) h = let two = plain_two b (is_plain_key t) h in (two.1, key_equals t two.2)
 
-key_of : (t : List ℕ) → t ≢ [] → is_plain_key t ≡ true → IsWord 61 t × Lacks 10 t × Lacks 13 t
+pub key_of : (t : List ℕ) → t ≢ [] → is_plain_key t ≡ true → IsWord 61 t × Lacks 10 t × Lacks 13 t
 key_of t some h = (
   (some, lacks-word t (key_lacks 32 t (lit< tt) h) (key_lacks 9 t (lit< tt) h), key_equals t h),
   key_lacks 10 t (lit< tt) h,
