@@ -47,8 +47,8 @@ key_rank (Some key.Profile) = 10
 key_rank (Some key.LevelIdx) = 11
 key_rank (Some key.Tier) = 12
 key_rank (Some key.SpropMaxDonDiff) = 16
-key_rank (Some key.OctetAlign) = 17
-key_rank (Some key.ModeSet) = 18
+key_rank (Some key.OctetAlign) = 18
+key_rank (Some key.ModeSet) = 19
 key_rank (Some key.ProfileId) = 13
 key_rank (Some key.TierFlag) = 14
 key_rank (Some key.LevelId) = 15
@@ -66,8 +66,8 @@ rank_of (param.Profile v) = 10
 rank_of (param.LevelIdx v) = 11
 rank_of (param.Tier v) = 12
 rank_of (param.SpropMaxDonDiff v) = 16
-rank_of (param.OctetAlign v) = 17
-rank_of (param.ModeSet v) = 18
+rank_of (param.OctetAlign v) = 18
+rank_of (param.ModeSet v) = 19
 rank_of _ = 0
 
 abbrev pub lower : Pair → List ℕ
@@ -396,7 +396,7 @@ level_there id tier level qs = refl
 abbrev pub all_pairs : List FormatParam → ℕ → ℕ → ℕ → List FormatParam → List Pair
 all_pairs front id tier level back = map pair_of front ++ (level_pairs id tier level ++ map pair_of back)
 
-pub level_read : (front back : List FormatParam) (id tier level : ℕ) → IsRising 1 13 front → IsRising 16 19 back
+pub level_read : (front back : List FormatParam) (id tier level : ℕ) → IsRising 1 13 front → IsRising 16 20 back
     → params_of (all_pairs front id tier level back)
     ≡ levels_of (Some (decimal id)) (Some (decimal tier)) (Some (decimal level)) ++ (front ++ back)
 level_read front back id tier level f b =
@@ -404,19 +404,19 @@ level_read front back id tier level f b =
     let rest = level_pairs id tier level ++ map pair_of back in
     let one = any_front front rest (rising_keyed 1 13 front f) ∙ level_there id tier level (map pair_of back) in
     let profile = no_value (codes "profile-id") None (map pair_of front) rest (profile_lacking 1 13 front f)
-    ∙ no_value_last (codes "profile-id") (Some (decimal id)) (map pair_of back) (profile_lacking 16 19 back b) in
+    ∙ no_value_last (codes "profile-id") (Some (decimal id)) (map pair_of back) (profile_lacking 16 20 back b) in
     let flag = no_value (codes "tier-flag") None (map pair_of front) rest (tier_lacking 1 13 front f)
-    ∙ no_value_last (codes "tier-flag") (Some (decimal tier)) (map pair_of back) (tier_lacking 16 19 back b) in
+    ∙ no_value_last (codes "tier-flag") (Some (decimal tier)) (map pair_of back) (tier_lacking 16 20 back b) in
     let number = no_value (codes "level-id") None (map pair_of front) rest (level_lacking 1 13 front f)
-    ∙ no_value_last (codes "level-id") (Some (decimal level)) (map pair_of back) (level_lacking 16 19 back b) in
+    ∙ no_value_last (codes "level-id") (Some (decimal level)) (map pair_of back) (level_lacking 16 20 back b) in
     let entries = all_entries 1 [] qs tt (ranked_front 1 13 front rest f (level_ranked id tier level (map pair_of back)
-    (subst (IsRanked 16) (append-nil (map pair_of back)) (ranked_front 16 19 back [] b tt)))) in
+    (subst (IsRanked 16) (append-nil (map pair_of back)) (ranked_front 16 20 back [] b tt)))) in
     let spread : map entry qs ≡ map entry (map pair_of front) ++ (map entry (level_pairs id tier level)
     ++ map entry (map pair_of back)) = map-append entry (map pair_of front) rest in
     let others = ap others_of (entries ∙ spread)
     ∙ others_front 1 13 front (map entry (level_pairs id tier level) ++ map entry (map pair_of back)) f
     ∙ ap (λ l. front ++ l) (ap others_of (sym (append-nil (map entry (map pair_of back))))
-    ∙ others_front 16 19 back [] b ∙ append-nil back) in
+    ∙ others_front 16 20 back [] b ∙ append-nil back) in
     ap (λ x. cond x (level_params qs) (map pair_param qs)) one
     ∙ (λ i. levels_of (profile i) (flag i) (number i) ++ others i)
 
@@ -540,10 +540,10 @@ as_cons [] back l h k = (h, k)
 as_cons (p ∷ front) back l h k = (h, k)
 
 pub level_back : PairsComeBack → (front back : List FormatParam) (l : FormatParam) (id tier level : ℕ)
-    → IsLevelOf l id tier level → IsRising 1 13 front → IsRising 16 19 back → IsReadBack (front ++ l ∷ back)
+    → IsLevelOf l id tier level → IsRising 1 13 front → IsRising 16 20 back → IsReadBack (front ++ l ∷ back)
 level_back come front back l id tier level is f b =
     let fk = rising_keyed 1 13 front f in
-    let bk = rising_keyed 16 19 back b in
+    let bk = rising_keyed 16 20 back b in
     let qs = all_pairs front id tier level back in
     let text = list_text front back l id tier level is fk bk in
     let some = there_are front id tier level back in

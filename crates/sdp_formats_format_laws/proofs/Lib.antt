@@ -4,3 +4,6 @@ pub mod ModeSets
 pub mod KeyedParams
 pub mod KeyedLists
 pub mod LevelLists
+pub mod LevelNumbers
+pub mod OtherParams
+pub mod FormatsBack

@@ -17,18 +17,18 @@ use Rattle.sdp_formats_pairs.specs.PairsSay.{IsWord}
 use Rattle.sdp_formats_params.specs.Numbers.{all_digits, number_below}
 use Rattle.sdp_formats_params.specs.Printed.{six_digits}
 
-tested : (digit radix : ℕ) (others : Bool) → digit < radix → others ≡ true → (nat_lt digit radix && others) ≡ true
+pub tested : (digit radix : ℕ) (others : Bool) → digit < radix → others ≡ true → (nat_lt digit radix && others) ≡ true
 tested digit radix others d o = grind (arith, nat_tests)
 
 all_true : (radix : ℕ) (ds : List ℕ) → AllDigits radix ds → all_digits radix ds ≡ true
 all_true radix [] h = refl
 all_true radix (c ∷ cs) h = tested (digit_value c) radix (all_digits radix cs) h.0 (all_true radix cs h.1)
 
-accepted : (all : Bool) (len value limit : ℕ) → all ≡ true → 0 < len → value < limit
+pub accepted : (all : Bool) (len value limit : ℕ) → all ≡ true → 0 < len → value < limit
     → cond (nat_lt 0 len && all && nat_lt value limit) (Some value) None ≡ Some value
 accepted all len value limit d l v = grind (arith, nat_tests)
 
-no_plus : (radix : ℕ) (ds : List ℕ) → radix ≤ 16 → AllDigits radix ds → without_leading_plus ds ≡ ds
+pub no_plus : (radix : ℕ) (ds : List ℕ) → radix ≤ 16 → AllDigits radix ds → without_leading_plus ds ≡ ds
 no_plus radix [] low h = refl
 no_plus radix (c ∷ cs) low h = ap (λ n. drop n (c ∷ cs))
     (other_byte c 43 1 0 (λ e. let k : digit_value c ≡ 36 = ap digit_value e in omega (k, h.0, low, arith)))
