@@ -36,12 +36,12 @@ abbrev pub behind_blank : Option (List ℕ) → List ℕ
 behind_blank None = []
 behind_blank (Some t) = 32 ∷ t
 
-halves-blank : (w : List ℕ) (more : Option (List ℕ)) → Lacks 32 w → halves 32 (w ++ behind_blank more) ≡ (w, more)
+pub halves-blank : (w : List ℕ) (more : Option (List ℕ)) → Lacks 32 w → halves 32 (w ++ behind_blank more) ≡ (w, more)
 halves-blank w None h = ap (halves 32) (append-nil w) ∙ ap (halves_of w) (split_first-nowhere 32 w h)
 halves-blank w (Some t) h = ap (halves_of (w ++ 32 ∷ t)) (split_first-at 32 w t h)
 
 -- one step after the other
-then : {A B : Type 0} (o : Option A) (f : A → Option B) (a : A) (b : Option B) → o ≡ Some a → f a ≡ b → (o >>= f) ≡ b
+pub then : {A B : Type 0} (o : Option A) (f : A → Option B) (a : A) (b : Option B) → o ≡ Some a → f a ≡ b → (o >>= f) ≡ b
 then o f a b e h = ap (λ x. x >>= f) e ∙ h
 
 -- a field that is there
@@ -234,7 +234,7 @@ all_above (x ∷ xs) = nat_lt 31 x && all_above xs
 above_two : (x b : ℕ) (more : Bool) → b < 32 → (nat_lt 31 x && more) ≡ true → (x ≢ b) × (more ≡ true)
 above_two x b more low h = (λ e. grind (arith, nat_tests), grind (arith, nat_tests))
 
-lacks_above : (b : ℕ) (t : List ℕ) → b < 32 → all_above t ≡ true → Lacks b t
+pub lacks_above : (b : ℕ) (t : List ℕ) → b < 32 → all_above t ≡ true → Lacks b t
 lacks_above b [] low h = tt
 lacks_above b (x ∷ t) low h = let two = above_two x b (all_above t) low h in (two.0, lacks_above b t low two.1)
 
@@ -265,7 +265,7 @@ lacks_related : (b : ℕ) (r : Option RelatedAddress) (more : Option (List ℕ))
     → IfSome r IsPrintableRelated → Lacks b (behind_blank more) → Lacks b (behind_blank (related_tail r more))
 lacks_related b None more low each h k = k
 lacks_related b (Some r) more low each h k =
-    lacks_both b (codes " raddr ") (r.addr ++ codes " rport " ++ (decimal r.port ++ behind_blank more))
+    lacks_both b (codes " raddr ") (r.addr ++ 32 ∷ (codes "rport " ++ (decimal r.port ++ behind_blank more)))
     (lacks_above b (codes " raddr ") low refl)
     (lacks_two b 32 r.addr (codes "rport " ++ (decimal r.port ++ behind_blank more)) (each r.addr h.0) (omega (low, arith))
     (lacks_both b (codes "rport ") (decimal r.port ++ behind_blank more) (lacks_above b (codes "rport ") low refl)

@@ -1,5 +1,5 @@
 -- Lines `a=rid` are read as they are printed (RFC 8851 4).
-use Rattle.std.proofs.Common.{◌≡◌, ◌≢◌, ◌≤◌, ℕ, Bool, true, false, not, cond, List, [], ◌∷◌, ◌++◌, Option, Some, None}
+use Rattle.std.proofs.Common.{◌≡◌, ◌≢◌, ◌≤◌, ◌<◌, ℕ, Bool, true, false, not, cond, List, [], ◌∷◌, ◌++◌, Option, Some, None}
 use Rattle.std.proofs.Common.{codes, decimal, map, refl, sym, ◌∙◌, ap, append_assoc, arith, lit<}
 use Rattle.std.specs.Option.{option_map, is_some}
 use Rattle.std.proofs.lemmas.Bool.Decides.{nat_tests}
@@ -19,7 +19,6 @@ use Rattle.sdp_formats_row_lines.specs.Maps.{payload_type}
 use Rattle.sdp_formats_streams.specs.Names.{has_name_chars, name}
 use Rattle.sdp_formats_streams.specs.Rids.{limits_of, later_limits, make_id, make_limits, make_rid, maybe_limits, of_type}
 use Rattle.sdp_formats_streams.specs.Rids.{typed_limits, untyped_limits, limits_behind, way}
-use Rattle.sdp_formats_streams.specs.declared.rids.Limits.{Limits}
 use Rattle.sdp_formats_types.specs.Printed.{is_empty, line_end, numbers_text, rid_types_text, rid_restrictions_text}
 use Rattle.sdp_formats_types.specs.Printed.{way_text}
 use Rattle.sdp_formats_types.specs.PrintedMedia.{attribute_text, listed_text}
@@ -35,7 +34,8 @@ use Rattle.sdp_formats_laws.proofs.Readings.{cut_reads, cut_nowhere, cut_somewhe
 use Rattle.sdp_formats_laws.specs.Printable.{AreLimits, AreOnLine, HasOtherKey, IsName, IsText}
 
 pub name_reads : (t : List ℕ) → IsName t → name.reads t ≡ Some t
-name_reads t h = ap (λ o. o >>= passed has_name_chars) (text_some t h.0.0.0) ∙ ap (λ b. cond b (Some t) None) h.1
+name_reads t h =
+    ap (λ o. o >>= passed has_name_chars) (text_some t h.word.0.0) ∙ ap (λ b. cond b (Some t) None) h.name
 
 pub way_back : (d : RidDirection) → (way (way_text d) ≡ Some d) × Lacks 32 (way_text d)
 way_back Send = (refl, lacks 32 (codes "send") refl)
@@ -51,10 +51,10 @@ limits_tail [] [] = None
 limits_tail [] (p ∷ ps) = Some (pairs_text (p ∷ ps))
 limits_tail (pt ∷ pts) ps = Some (codes "pt=" ++ (decimal pt ++ behind_blank None))
 
-abbrev pub limits_in : List ℕ → List Pair → Option Limits
+abbrev pub limits_in : List ℕ → List Pair → Option (List ℕ × List Pair)
 limits_in [] [] = None
-limits_in [] (p ∷ ps) = Some (make_limits [] (p ∷ ps))
-limits_in (pt ∷ pts) ps = Some (make_limits (pt ∷ pts) ps)
+limits_in [] (p ∷ ps) = Some ([], p ∷ ps)
+limits_in (pt ∷ pts) ps = Some (pt ∷ pts, ps)
 
 some_there : {A : Type 0} (x : A) (xs : List A) → is_empty (x ∷ xs) ≡ false
 some_there x xs = grind (arith, nat_tests)
@@ -107,7 +107,7 @@ typed pt low =
 
 limits_read : RestrictionsComeBack → (d : RidDirection) (pts : List ℕ) (ps : List Pair) → AreLimits pts ps
     → (cut_maybe 32 (told way) (told limits_of)).reads (way_text d ++ behind_blank (limits_tail pts ps))
-    ≡ Some (d, limits_in pts ps)
+    ≡ Some (d, option_map (λ (x : List ℕ × List Pair). make_limits x.0 x.1) (limits_in pts ps))
 limits_read back d [] [] h =
     ap (cut_maybe 32 (told way) (told limits_of)).reads (append-nil (way_text d))
     ∙ cut_nowhere 32 (told way) (told limits_of) (way_text d) d (way_back d).1 (way_back d).0
@@ -151,7 +151,7 @@ rid_shape : (id way types restrictions : List ℕ)
 rid_shape id way types restrictions = simp append_assoc
 
 made_back : (id : RestrictionId) (d : RidDirection) (pts : List ℕ) (ps : List Pair) → id.1 ≡ true
-    → make_rid (make_id id.0) d (maybe_limits (limits_in pts ps)) ≡ Rid id d pts ps
+    → make_rid (make_id id.0) d (maybe_limits (option_map (λ (x : List ℕ × List Pair). make_limits x.0 x.1) (limits_in pts ps))) ≡ Rid id d pts ps
 made_back id d [] [] h = (λ i. Rid (record { 0 = id.0; 1 = sym h i }) d [] [])
 made_back id d [] (p ∷ ps) h = (λ i. Rid (record { 0 = id.0; 1 = sym h i }) d [] (p ∷ ps))
 made_back id d (pt ∷ pts) ps h = (λ i. Rid (record { 0 = id.0; 1 = sym h i }) d (pt ∷ pts) ps)
@@ -168,14 +168,14 @@ rid_line back id d pts ps active h limits =
     ∙ ap (λ t. (id.0 ++ 32 ∷ (way_text d ++ t)) ++ line_end) (limits_shape pts ps limits)))
     (named_line attribute_line (codes "a=rid:") (id.0 ++ 32 ∷ (way_text d ++ tail)) (Rid id d pts ps)
     (named_by (codes "a=rid:") refl)
-    (lacks_two 10 32 id.0 (way_text d ++ tail) h.0.0.1 (λ e. cc)
+    (lacks_two 10 32 id.0 (way_text d ++ tail) h.word.0.1 (λ e. cc)
     (lacks_both 10 (way_text d) tail (lacks_above 10 (way_text d) (lit< tt) (way_above d))
     (lacks_limits 10 pts ps (lit< tt) (λ t k. k.1) limits)))
-    (lacks_two 13 32 id.0 (way_text d ++ tail) h.0.0.2 (λ e. cc)
+    (lacks_two 13 32 id.0 (way_text d ++ tail) h.word.0.2 (λ e. cc)
     (lacks_both 13 (way_text d) tail (lacks_above 13 (way_text d) (lit< tt) (way_above d))
     (lacks_limits 13 pts ps (lit< tt) (λ t k. k.2) limits)))
     (first_fits _ _ _
     (ap (option_map (λ x. make_rid (make_id x.0) x.1.0 (maybe_limits x.1.1)))
     (cut_reads 32 name (cut_maybe 32 (told way) (told limits_of)) id.0 (way_text d ++ tail) id.0
-    (d, limits_in pts ps) h.0.1 (name_reads id.0 h) (limits_read back d pts ps limits))
+    (d, option_map (λ (x : List ℕ × List Pair). make_limits x.0 x.1) (limits_in pts ps)) h.word.1 (name_reads id.0 h) (limits_read back d pts ps limits))
     ∙ ap Some (made_back id d pts ps active))))

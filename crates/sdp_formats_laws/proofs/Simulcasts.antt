@@ -35,7 +35,7 @@ no_tilde (b ∷ t) h = other_byte b 126 _ _ h.0
 named_layer : (t : List ℕ) (active : Bool) → IsName t
     → layer (name_of active t) ≡ Some (make_layer (make_id active t))
 named_layer t true h =
-    ap (λ o. option_map make_layer (untilded t o)) (no_tilde t h.4)
+    ap (λ o. option_map make_layer (untilded t o)) (no_tilde t h.tilde)
     ∙ ap (λ o. option_map make_layer (option_map (make_id true) o)) (name_reads t h)
 named_layer t false h = ap (λ o. option_map make_layer (option_map (make_id false) o)) (name_reads t h)
 
@@ -47,17 +47,17 @@ layer_read : (l : SimulcastLayer) → IsName l.restriction_id.0 → l.attributes
     → first_layer (layer_text l) ≡ Some l
 layer_read l h none =
     ap (λ ts. each layer ts >>= head)
-    (parts-whole 44 (layer_text l) (lacks_name 44 l.restriction_id.0 l.restriction_id.1 (λ e. cc) h.2))
+    (parts-whole 44 (layer_text l) (lacks_name 44 l.restriction_id.0 l.restriction_id.1 (λ e. cc) h.comma))
     ∙ ap (λ o. (o >>= λ a. Some (a ∷ [])) >>= head) (named_layer l.restriction_id.0 l.restriction_id.1 h)
     ∙ (λ i. Some (record { restriction_id = l.restriction_id; attributes = sym none i }))
 
+-- its name lacks the sign between layers
+layer_lacks : (l : SimulcastLayer) → IsName l.restriction_id.0 → Lacks 59 (layer_text l)
+layer_lacks l h = lacks_name 59 l.restriction_id.0 l.restriction_id.1 (λ e. cc) h.semicolon
+
 layers_read : (ls : List SimulcastLayer) → AreLayers ls → AreRead 59 first_layer layer_text ls
 layers_read [] h = tt
-layers_read (l ∷ ls) h = (
-  lacks_name 59 l.restriction_id.0 l.restriction_id.1 (λ e. cc) h.0.0.3,
-  layer_read l h.0.0 h.0.1,
-  layers_read ls h.1,
-)
+layers_read (l ∷ ls) h = (layer_lacks l h.0.0, layer_read l h.0.0 h.0.1, layers_read ls h.1)
 
 abbrev pub names_text : List SimulcastLayer → List ℕ
 names_text ls = joined (codes ";") (map layer_text ls)
@@ -91,6 +91,9 @@ body_text (s ∷ ss) (r ∷ rs) = codes "send" ++ 32 ∷ (names_text (s ∷ ss) 
 abbrev pub both_ways : List SimulcastLayer → List SimulcastLayer → ways.Simulcast
 both_ways send recv = record { send = grouped send; recv = grouped recv; is_munged = false }
 
+lacks_blank : (l : SimulcastLayer) (ls : List SimulcastLayer) → AreLayers (l ∷ ls) → Lacks 32 (names_text (l ∷ ls))
+lacks_blank l ls h = lacks_layers 32 l ls (λ e. cc) (λ e. cc) (λ t n. n.word.1) h
+
 body_read : (send recv : List SimulcastLayer) → AreWays send recv
     → simulcast.reads (body_text send recv) ≡ Some (both_ways send recv)
 body_read [] [] h = absurd h
@@ -99,20 +102,20 @@ body_read [] (r ∷ rs) h =
     (cut_reads 32 (told way) (cut_maybe 32 groups direction_layers) (codes "recv") (names_text (r ∷ rs)) Recv
     (r ∷ rs, None) (lacks 32 (codes "recv") refl) refl
     (cut_nowhere 32 groups direction_layers (names_text (r ∷ rs)) (r ∷ rs)
-    (lacks_layers 32 r rs (λ e. cc) (λ e. cc) (λ t n. n.0.1) h) (groups_read r rs h)))
+    (lacks_blank r rs h) (groups_read r rs h)))
 body_read (s ∷ ss) [] h =
     ap (λ o. option_map (λ x. sent x.0 x.1.0 (other_layers x.1.1)) (o >>= passed (λ x. is_other x.0 x.1.1)))
     (cut_reads 32 (told way) (cut_maybe 32 groups direction_layers) (codes "send") (names_text (s ∷ ss)) Send
     (s ∷ ss, None) (lacks 32 (codes "send") refl) refl
     (cut_nowhere 32 groups direction_layers (names_text (s ∷ ss)) (s ∷ ss)
-    (lacks_layers 32 s ss (λ e. cc) (λ e. cc) (λ t n. n.0.1) h.0) (groups_read s ss h.0)))
+    (lacks_blank s ss h.0) (groups_read s ss h.0)))
 body_read (s ∷ ss) (r ∷ rs) h =
     ap (λ o. option_map (λ x. sent x.0 x.1.0 (other_layers x.1.1)) (o >>= passed (λ x. is_other x.0 x.1.1)))
     (cut_reads 32 (told way) (cut_maybe 32 groups direction_layers) (codes "send")
     (names_text (s ∷ ss) ++ 32 ∷ (codes "recv" ++ 32 ∷ names_text (r ∷ rs))) Send
     (s ∷ ss, Some (make_way (Recv, r ∷ rs))) (lacks 32 (codes "send") refl) refl
     (cut_somewhere 32 groups direction_layers (names_text (s ∷ ss)) (codes "recv" ++ 32 ∷ names_text (r ∷ rs)) (s ∷ ss)
-    (make_way (Recv, r ∷ rs)) (lacks_layers 32 s ss (λ e. cc) (λ e. cc) (λ t n. n.0.1) h.0) (groups_read s ss h.0)
+    (make_way (Recv, r ∷ rs)) (lacks_blank s ss h.0) (groups_read s ss h.0)
     (ap (option_map make_way)
     (cut_reads 32 (told way) groups (codes "recv") (names_text (r ∷ rs)) Recv (r ∷ rs) (lacks 32 (codes "recv") refl) refl
     (groups_read r rs h.1)))))
@@ -157,7 +160,7 @@ simulcast_line s munged h = at_text attribute_line _ _ _
     munged ∙ ways_shape s.send.0 s.recv.0 h)
     (named_line attribute_line (codes "a=simulcast:") (body_text s.send.0 s.recv.0) (Simulcast s)
     (named_by (codes "a=simulcast:") refl)
-    (lacks_body 10 s.send.0 s.recv.0 (lit< tt) (λ t n. n.0.0.1) h)
-    (lacks_body 13 s.send.0 s.recv.0 (lit< tt) (λ t n. n.0.0.2) h)
+    (lacks_body 10 s.send.0 s.recv.0 (lit< tt) (λ t n. n.word.0.1) h)
+    (lacks_body 13 s.send.0 s.recv.0 (lit< tt) (λ t n. n.word.0.2) h)
     (first_fits _ _ _ (ap (option_map Simulcast) (body_read s.send.0 s.recv.0 h)
     ∙ (λ i. Some (Simulcast (record { send = s.send; recv = s.recv; is_munged = sym munged i }))))))

@@ -55,8 +55,12 @@ IsPrintableCandidate c = IsWord c.foundation × (c.component_id < 2 ^ 16) × (c.
     × (c.port < 2 ^ 16) × IfSome c.related IsPrintableRelated × IfSome c.ufrag IsWord
 
 -- a name of letters and numbers (RFC 8851 4), and none of the signs that part names
-abbrev pub IsName : List ℕ → Type 0
-IsName t = IsWord t × (has_name_chars t ≡ true) × Lacks 44 t × Lacks 59 t × Lacks 126 t
+pub record IsName (t : List ℕ) : Type 0 where
+  pub word : IsWord t
+  pub name : has_name_chars t ≡ true
+  pub comma : Lacks 44 t
+  pub semicolon : Lacks 59 t
+  pub tilde : Lacks 126 t
 
 -- restrictions that can stand on a line, the first of which doesn't begin with the letter p
 abbrev pub AreOnLine : List Pair → Type 0
