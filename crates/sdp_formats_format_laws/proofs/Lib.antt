@@ -7,3 +7,4 @@ pub mod LevelLists
 pub mod LevelNumbers
 pub mod OtherParams
 pub mod FormatsBack
+pub mod PlainRows

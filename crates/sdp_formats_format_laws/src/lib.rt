@@ -3,4 +3,4 @@
 
 mod laws;
 
-pub use laws::ranges_law;
+pub use laws::{links_law, plain_parameters_law};
