@@ -15,3 +15,4 @@ pub mod Candidates
 pub mod CandidateLines
 pub mod Restrictions
 pub mod Simulcasts
+pub mod Consistent

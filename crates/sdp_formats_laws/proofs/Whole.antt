@@ -1,6 +1,7 @@
 -- Every printable attribute is read as it is printed.
 use Rattle.std.proofs.Common.{[], ◌∷◌}
 use Rattle.sdp_formats_media_lines.specs.Choice.{attribute_line}
+use Rattle.sdp_formats_row_lines.specs.AsRead.{as_read}
 use Rattle.sdp_formats_types.specs.PrintedMedia.{attribute_text}
 use Rattle.sdp_formats_types.specs.declared.media.MediaAttribute.{MediaAttribute}
 use Rattle.sdp_formats_types.specs.declared.media.MediaAttribute.TheVariants as a
@@ -17,7 +18,7 @@ use Rattle.sdp_formats_laws.proofs.PartedKinds.{fingerprint_line, unused}
 use Rattle.sdp_formats_laws.specs.Printable.{IsPrintable}
 
 pub printed : RestrictionsComeBack → (x : MediaAttribute) → IsPrintable x
-    → IsPrintedAs attribute_line (attribute_text x) x
+    → IsPrintedAs attribute_line (attribute_text x) (as_read x)
 unfolding attribute_text
 printed back (a.Rtcp v) h = rtcp v h
 printed back (a.IceUfrag v) h = ice_ufrag v h

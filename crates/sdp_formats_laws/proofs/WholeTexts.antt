@@ -29,7 +29,9 @@ use Rattle.sdp_formats_laws.proofs.Printed.{printed_line, lacks}
 use Rattle.sdp_formats_laws.proofs.Sections.{IsTail, perhaps_bandwidth, section_says}
 use Rattle.sdp_formats_laws.proofs.Stopping.{first, stops, other_start, first_of, begins_all, joined_behind}
 use Rattle.sdp_formats_laws.proofs.WholeSession.{printed}
+use Rattle.sdp_formats_laws.proofs.Consistent.{all_consistent}
 use Rattle.sdp_formats_laws.specs.PrintableSession.{IsPrintable}
+use Rattle.sdp_formats_laws.specs.ReadTexts.{section_as_read, text_as_read}
 use Rattle.sdp_formats_laws.specs.PrintableTexts.{IsEach, IsPrintableSection, IsPrintableSession}
 use Rattle.sdp_formats_laws.specs.PrintableTexts.{IsPrintableText}
 
@@ -133,7 +135,7 @@ section_tail m rest = λ c other e. other (cc)
 
 -- sections, one behind the other
 sections_begin : RestrictionsComeBack → IsExact media_attribute_line → (ms : List MediaLine) → IsEach IsPrintableSection ms
-    → Begins SectionSays (each_behind [] (map section_text ms)) ms [] × IsTail (each_behind [] (map section_text ms))
+    → Begins SectionSays (each_behind [] (map section_text ms)) (map section_as_read ms) [] × IsTail (each_behind [] (map section_text ms))
 sections_begin back exact [] h = (refl, nothing_left)
 sections_begin back exact (m ∷ ms) h =
     let more = sections_begin back exact ms h.1 in (
@@ -146,7 +148,7 @@ sections_begin back exact (m ∷ ms) h =
     )
 
 pub text_says : RestrictionsComeBack → IsExact attribute_line → IsExact media_attribute_line → (sdp : Sdp) → IsPrintableText sdp
-    → SdpSays (sdp_text sdp) sdp []
+    → SdpSays (sdp_text sdp) (text_as_read sdp) []
 unfolding SdpSays
 text_says back exact media_exact sdp h =
     let sections = sections_begin back media_exact sdp.media_lines h.1 in
@@ -154,6 +156,6 @@ text_says back exact media_exact sdp h =
     let tail = subst IsTail (sym same) sections.1 in (
       sections_text sdp.media_lines,
       session_says exact sdp.session (sections_text sdp.media_lines) h.0 tail,
-      (subst (λ t. Begins SectionSays t sdp.media_lines []) (sym same) sections.0, no_section),
-      h.2,
+      (subst (λ t. Begins SectionSays t (map section_as_read sdp.media_lines) []) (sym same) sections.0, no_section),
+      all_consistent sdp.media_lines h.2,
     )

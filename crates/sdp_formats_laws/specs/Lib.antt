@@ -1,3 +1,5 @@
 pub mod Printable
 pub mod PrintableSession
 pub mod PrintableTexts
+pub mod AsReadLemmas
+pub mod ReadTexts

@@ -7,6 +7,7 @@ use Rattle.sdp_formats_forms.specs.Split.{Lacks}
 use Rattle.sdp_formats_media_lines.specs.Choice.{media_attribute}
 use Rattle.sdp_formats_pairs.specs.PrintedPairs.{ArePairs}
 use Rattle.sdp_formats_params.specs.declared.Pair.{Pair}
+use Rattle.sdp_formats_row_lines.specs.AsRead.{params_as_read}
 use Rattle.sdp_formats_row_lines.specs.Parameters.{parameters}
 use Rattle.sdp_formats_streams.specs.Names.{has_name_chars}
 use Rattle.sdp_formats_types.specs.Printed.{params_text}
@@ -91,7 +92,7 @@ AreWays [] (r ∷ rs) = AreLayers (r ∷ rs)
 AreWays (s ∷ ss) rs = AreLayers (s ∷ ss) × AreLayers rs
 
 -- An attribute whose texts can stand where they are printed. Of `a=fmtp` the parameters are such that their text is
--- read as themselves; of a line of another kind the text is of no known kind. A simulcast is one that is printed.
+-- read as themselves, a profile, tier and level in front; of a line of another kind the text is of no known kind. A simulcast is one that is printed.
 abbrev pub IsPrintable : MediaAttribute → Type 0
 IsPrintable (Rtcp v) = IsText v
 IsPrintable (IceUfrag v) = IsText v
@@ -117,7 +118,7 @@ IsPrintable EndOfCandidates = Unit {0}
 IsPrintable (RtpMap pt m) = (pt ≤ 127) × IsPrintableMap m
 IsPrintable (RtcpFb pt v) = (pt ≤ 127) × IsText v
 IsPrintable (Fmtp pt (p ∷ ps)) = (pt ≤ 127) × IsText (params_text (p ∷ ps))
-    × (parameters.reads (params_text (p ∷ ps)) ≡ Some (p ∷ ps))
+    × (parameters.reads (params_text (p ∷ ps)) ≡ Some (params_as_read (p ∷ ps)))
 IsPrintable (Rid id direction pts restrictions) = (id.1 ≡ true) × IsName id.0 × AreLimits pts restrictions
 IsPrintable (Simulcast s) = (s.is_munged ≡ false) × AreWays s.send.0 s.recv.0
 IsPrintable (SsrcGroup semantics (s ∷ ss)) = IsWord semantics × AreBelow (2 ^ 32) (s ∷ ss)

@@ -2,6 +2,7 @@
 
 ghost use Rattle.std.specs.Prelude.{[]};
 ghost use Rattle.sdp_formats_laws.specs.PrintableTexts.{IsPrintableText};
+ghost use Rattle.sdp_formats_laws.specs.ReadTexts.{text_as_read};
 ghost use Rattle.sdp_formats_reader.specs.Grammar.{SdpSays};
 ghost use Rattle.sdp_formats_types.specs.PrintedSession.{sdp_text};
 ghost use Rattle.sdp_formats_types.specs.declared.session.Sdp.{Sdp};
@@ -12,9 +13,9 @@ use sdp_formats_session_lines::SessionAttributeLine;
 use sdp_formats_steps::Lined;
 
 /// The printed text of a session is read whole as that session, where its texts can stand where they are printed and no
-/// section has a fault.
+/// section has a fault; of lines `a=fmtp` as `printed_lines_law` says.
 pub fn printed_texts_law()
-    ensures { (sdp : Sdp) → IsPrintableText sdp → SdpSays (sdp_text sdp) sdp [] }
+    ensures { (sdp : Sdp) → IsPrintableText sdp → SdpSays (sdp_text sdp) (text_as_read sdp) [] }
 {
     SessionAttributeLine::exact_law();
     MediaAttributeLine::exact_law();
