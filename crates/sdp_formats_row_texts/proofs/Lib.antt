@@ -1,0 +1,3 @@
+pub mod RowsSame
+pub mod RowLines
+pub mod RowTexts
