@@ -1,6 +1,6 @@
 -- The numbers of a format that a line gives are of their widths, and it gives one profile, tier and level at most.
 use Rattle.std.proofs.Common.{◌≡◌, ◌<◌, ◌≤◌, ◌^◌, ℕ, Bool, true, false, ◌&&◌, ◌==◌, cond, nat_lt, nat_le, List, [], ◌∷◌}
-use Rattle.std.proofs.Common.{Option, Some, None, IfSome, refl, sym, ◌∙◌, ap, subst, arith, lit<, lit≤, option_and_then}
+use Rattle.std.proofs.Common.{Option, Some, None, IfSome, refl, arith, lit<, option_and_then}
 use Rattle.std.specs.Char.{is_ascii_digit}
 use Rattle.std.specs.List.{list_all, list_any, onto_first}
 use Rattle.std.specs.Prelude.{bit_or, length}
@@ -13,7 +13,7 @@ use Rattle.h26x_payload_profiles.specs.declared.h266.H266ProfileTierLevel.{H266P
 use Rattle.h26x_payload_profiles.specs.H265ProfileTierLevel.{given as given_265}
 use Rattle.h26x_payload_profiles.specs.H266ProfileTierLevel.{given as given_266}
 use Rattle.sdp_formats_params.specs.Keys.{key_named}
-use Rattle.sdp_formats_params.specs.Numbers.{all_digits, number_below, or_else, up_to, profile_level, with_mode, with_modes}
+use Rattle.sdp_formats_params.specs.Numbers.{all_digits, number_below, or_else, up_to, with_mode, with_modes}
 use Rattle.sdp_formats_params.specs.Numbers.{modes_of, behind, range_end, range_of}
 use Rattle.sdp_formats_params.specs.Parts.{parts}
 use Rattle.sdp_formats_params.specs.declared.key.Key.{Key}

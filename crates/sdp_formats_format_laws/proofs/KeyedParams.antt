@@ -1,24 +1,21 @@
 -- A parameter is read of its pair.
-use Rattle.std.proofs.Common.{◌≡◌, ◌<◌, ◌≤◌, ◌^◌, ℕ, Bool, true, false, cond, nat_le, nat_lt, not, ◌&&◌, ◌==◌, ◌≢◌, List, [], ◌∷◌, ◌++◌, codes, decimal}
-use Rattle.std.proofs.Common.{Option, None, Some, refl, ◌∙◌, ap, arith, lit<, lit≤, map}
+use Rattle.std.proofs.Common.{◌≡◌, ◌<◌, ◌≤◌, ◌^◌, ℕ, Bool, true, false, cond, nat_le, nat_lt, not, ◌&&◌, ◌==◌, ◌≢◌, List, [], ◌∷◌, codes, decimal}
+use Rattle.std.proofs.Common.{None, Some, refl, ◌∙◌, ap, arith, lit<, lit≤}
 use Rattle.std.specs.Fmt.{digits}
-use Rattle.std.specs.Char.{to_ascii_lowercase}
 use Rattle.std.proofs.lemmas.Bool.Decides.{nat_tests}
 use Rattle.sdp_formats_forms.specs.Split.{Lacks}
 use Rattle.sdp_formats_pairs.specs.PairLemmas.{lacks-word}
 use Rattle.sdp_formats_pairs.specs.PairsSay.{IsWord}
-use Rattle.sdp_formats_pairs.specs.PrintedPairs.{IsPair}
 use Rattle.sdp_formats_params.specs.Keys.{key_named, is_name_of}
 use Rattle.sdp_formats_params.specs.Numbers.{number_below, or_else, profile_level, up_to}
 use Rattle.sdp_formats_params.specs.Params.{byte_param, flag, gives_level, pair_param, word_param}
-use Rattle.sdp_formats_params.specs.Printed.{flag_digit, pair_text, param_text, six_digits, modes_text}
+use Rattle.sdp_formats_params.specs.Printed.{flag_digit, pair_text, param_text, six_digits}
 use Rattle.sdp_formats_params.specs.declared.key.Key.TheVariants as key
 use Rattle.sdp_formats_params.specs.declared.param.FormatParam.{FormatParam}
 use Rattle.sdp_formats_params.specs.declared.param.FormatParam.TheVariants as param
 use Rattle.sdp_formats_format_laws.proofs.ModeSets.{modes_back}
 use Rattle.sdp_formats_format_laws.proofs.Numerals.{IsValue, decimal_read, decimal_value, six_read, six_value}
 use Rattle.sdp_formats_format_laws.specs.Keyed.{IsKeyed, pair_of}
-use Rattle.sdp_formats_format_laws.specs.Ranges.{IsModes}
 
 pub text_is : (p : FormatParam) → IsKeyed p → param_text p ≡ pair_text (pair_of p)
 unfolding param_text

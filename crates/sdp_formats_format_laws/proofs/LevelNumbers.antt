@@ -1,14 +1,13 @@
 -- A profile, tier and level is read of its three numbers (RFC 7798 7.1, RFC 9328 7.2).
-use Rattle.std.proofs.Common.{◌≡◌, ◌≢◌, ◌<◌, ◌≤◌, ◌^◌, ℕ, Bool, true, ◌&&◌, cond, nat_lt, List, [], ◌∷◌, ◌++◌, length, drop}
-use Rattle.std.proofs.Common.{decimal, Option, Some, None, refl, sym, ◌∙◌, ap, arith, lit<, lit≤}
+use Rattle.std.proofs.Common.{◌≡◌, ◌<◌, ℕ, true, ◌&&◌, cond, nat_lt, List, [], ◌∷◌, length}
+use Rattle.std.proofs.Common.{decimal, Option, Some, None, refl, ◌∙◌, ap, arith, lit<, lit≤}
 use Rattle.std.specs.Char.{digit_value}
-use Rattle.std.specs.Str.Parse.{AllDigits, digits_value, without_leading_plus}
-use Rattle.std.proofs.lemmas.Bool.Decides.{nat_tests}
+use Rattle.std.specs.Str.Parse.{AllDigits, digits_value}
 use Rattle.std.proofs.lemmas.Fmt.{decimal_is_IsNumeral}
 use Rattle.h26x_payload_profiles.specs.Values.{all_digits, byte_written}
-use Rattle.h26x_payload_profiles.specs.H265ProfileTierLevel.{ComesBack as ComesBack265, given as given_265, known as known_265}
+use Rattle.h26x_payload_profiles.specs.H265ProfileTierLevel.{ComesBack as ComesBack265}
 use Rattle.h26x_payload_profiles.specs.H265ProfileTierLevel.{known_values as values_265, together as together_265}
-use Rattle.h26x_payload_profiles.specs.H266ProfileTierLevel.{ComesBack as ComesBack266, given as given_266, known as known_266}
+use Rattle.h26x_payload_profiles.specs.H266ProfileTierLevel.{ComesBack as ComesBack266, given as given_266}
 use Rattle.h26x_payload_profiles.specs.H266ProfileTierLevel.{known_values as values_266}
 use Rattle.h26x_payload_profiles.specs.Tables.{with_number}
 use Rattle.h26x_payload_profiles.specs.H265Level.{level_id as level_265, levels as levels_265}

@@ -1,6 +1,6 @@
 -- Sets of modes are read as they are printed (RFC 4867 8.2).
 use Rattle.std.proofs.Common.{◌≡◌, ◌≢◌, ◌<◌, ◌≤◌, ◌^◌, ◌/◌, ◌%◌, ◌+◌, ◌*◌, ◌==◌, ℕ, Bool, true, false, ◌&&◌, cond}
-use Rattle.std.proofs.Common.{List, [], ◌∷◌, ◌++◌, map, filter, nat_le, decimal, Option, None, Some, refl, sym, ◌∙◌, ap}
+use Rattle.std.proofs.Common.{List, [], ◌∷◌, ◌++◌, map, filter, nat_le, decimal, None, Some, refl, sym, ◌∙◌, ap}
 use Rattle.std.proofs.Common.{arith, lit<, lit≤, append-nil, codes, subst, zero, suc, zero-add}
 use Rattle.std.specs.Char.{digit_value}
 use Rattle.std.specs.Prelude.{bit_or}

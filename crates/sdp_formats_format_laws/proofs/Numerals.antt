@@ -1,18 +1,15 @@
 -- Numbers as parameters write them, and what is read of them.
-use Rattle.std.proofs.Common.{◌≡◌, ◌≢◌, ◌<◌, ◌≤◌, ◌^◌, ◌-◌, ◌+◌, ℕ, zero, suc, Bool, true, false, ◌&&◌, cond, List, [], ◌∷◌}
-use Rattle.std.proofs.Common.{◌++◌, length, drop, nat_lt, decimal, replicate, Option, None, Some, refl, sym, ◌∙◌, ap, subst}
+use Rattle.std.proofs.Common.{◌≡◌, ◌≢◌, ◌<◌, ◌≤◌, ◌^◌, ◌-◌, ℕ, zero, suc, Bool, true, false, ◌&&◌, cond, List, [], ◌∷◌}
+use Rattle.std.proofs.Common.{◌++◌, length, drop, nat_lt, decimal, replicate, Option, None, Some, refl, ◌∙◌, ap}
 use Rattle.std.proofs.Common.{arith, lit<, lit≤, append-nil}
 use Rattle.std.specs.Char.{digit_value}
 use Rattle.std.specs.Fmt.{digits, padded_integral, format_spec, char_count}
-use Rattle.std.specs.List.{list_all}
 use Rattle.std.specs.Str.Parse.{AllDigits, IsNumeral, digits_value, digits_value_after, without_leading_plus}
 use Rattle.std.proofs.lemmas.Bool.Decides.{nat_tests}
 use Rattle.std.proofs.lemmas.Fmt.{decimal_is_IsNumeral, digits_is_IsNumeral}
-use Rattle.std.proofs.lemmas.Nat.{pow_below}
 use Rattle.sdp_formats_forms.specs.Cuts.{other_byte}
 use Rattle.sdp_formats_forms.specs.Split.{Lacks}
 use Rattle.sdp_formats_pairs.specs.PairLemmas.{lacks-word}
-use Rattle.sdp_formats_pairs.specs.Pairs.{is_word_byte}
 use Rattle.sdp_formats_pairs.specs.PairsSay.{IsWord}
 use Rattle.sdp_formats_params.specs.Numbers.{all_digits, number_below}
 use Rattle.sdp_formats_params.specs.Printed.{six_digits}

@@ -1,11 +1,11 @@
 -- Ranges of telephone events, and types of retransmissions and of redundant audio, are read as they are printed.
-use Rattle.std.proofs.Common.{◌≡◌, ◌≢◌, ◌<◌, ◌≤◌, ◌^◌, ℕ, Bool, true, false, ◌&&◌, ◌==◌, cond, nat_le, nat_lt, List, [], ◌∷◌}
-use Rattle.std.proofs.Common.{◌++◌, length, codes, decimal, Option, Some, None, refl, sym, ◌∙◌, ap, subst, arith, lit<, lit≤}
+use Rattle.std.proofs.Common.{◌≡◌, ◌≢◌, ◌<◌, ◌≤◌, ◌^◌, ℕ, Bool, true, ◌&&◌, cond, nat_lt, List, [], ◌∷◌}
+use Rattle.std.proofs.Common.{◌++◌, length, codes, decimal, Option, Some, None, refl, sym, ◌∙◌, ap, subst, arith, lit≤}
 use Rattle.std.proofs.Common.{append-nil}
 use Rattle.std.specs.Char.{digit_value, is_ascii_digit}
 use Rattle.std.specs.List.{list_all}
 use Rattle.std.specs.Option.{option_map, option_or}
-use Rattle.std.specs.Str.Parse.{AllDigits, digits_value, without_leading_plus}
+use Rattle.std.specs.Str.Parse.{AllDigits, digits_value}
 use Rattle.std.proofs.lemmas.Bool.Decides.{nat_tests}
 use Rattle.std.proofs.lemmas.Fmt.{decimal_is_IsNumeral}
 use Rattle.std.proofs.lemmas.Str.Parse.{digit_from_value}
@@ -13,10 +13,10 @@ use Rattle.sdp_formats_forms.specs.Bind.{◌>>=◌}
 use Rattle.sdp_formats_forms.specs.Cuts.{parts-whole, split_first-at, split_first-nowhere}
 use Rattle.sdp_formats_forms.specs.Form.{Form, IsExact, both, cut, each, either, number, separated, told}
 use Rattle.sdp_formats_forms.specs.Numbers.{all_digits, number_below}
-use Rattle.sdp_formats_forms.specs.Split.{Lacks, parts}
+use Rattle.sdp_formats_forms.specs.Split.{Lacks}
 use Rattle.sdp_formats_forms.specs.Steps.{none_if}
 use Rattle.sdp_formats_pairs.specs.PairsSay.{PairSays, PairsSay, pair_list}
-use Rattle.sdp_formats_pairs.specs.PrintedPairs.{PairsComeBack, pairs_text}
+use Rattle.sdp_formats_pairs.specs.PrintedPairs.{PairsComeBack}
 use Rattle.sdp_formats_params.specs.Keys.{key_named, is_name_of}
 use Rattle.sdp_formats_params.specs.Params.{params_of, word_param}
 use Rattle.sdp_formats_params.specs.Printed.{param_text}
@@ -171,5 +171,5 @@ apt_back back n small =
     let q = pair (codes "apt") (decimal n) in (
       pairs_on_line q [] (key.1, value.1, tt) (key.2, value.2, tt),
       pairs_read back q [] ((key.0, value.0), tt)
-      ∙ ap (λ o. Some (word_param param.Apt o ∷ [])) (decimal_read (2 ^ 8) n small (lit≤ tt)),
+          ∙ ap (λ o. Some (word_param param.Apt o ∷ [])) (decimal_read (2 ^ 8) n small (lit≤ tt)),
     )

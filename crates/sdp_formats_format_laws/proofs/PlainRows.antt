@@ -1,6 +1,6 @@
 -- The parameters of a plain row are read as they are printed.
-use Rattle.std.proofs.Common.{◌≡◌, ◌<◌, ◌≤◌, ◌^◌, ◌==◌, ℕ, Bool, true, false, ◌&&◌, cond, List, [], ◌∷◌, Option, Some, None}
-use Rattle.std.proofs.Common.{IfSome, refl, sym, ◌∙◌, ap, subst, arith, inl, inr, lit<, unwrap_or, is_none, is_some}
+use Rattle.std.proofs.Common.{◌≡◌, ◌<◌, ◌^◌, ℕ, Bool, true, false, ◌&&◌, cond, [], ◌∷◌, Option, Some, None}
+use Rattle.std.proofs.Common.{IfSome, refl, subst, inl, inr, lit<, unwrap_or, is_none, is_some}
 use Rattle.std.specs.Option.{option_map}
 use Rattle.std.proofs.lemmas.Bool.Decides.{Decides-eqb}
 use Rattle.h26x_payload_profiles.specs.H265ProfileTierLevel.{ComesBack as ComesBack265}

@@ -16,3 +16,4 @@ pub mod CandidateLines
 pub mod Restrictions
 pub mod Simulcasts
 pub mod Consistent
+pub mod Carried

@@ -3,3 +3,4 @@ pub mod PrintableSession
 pub mod PrintableTexts
 pub mod AsReadLemmas
 pub mod ReadTexts
+pub mod LineEnds

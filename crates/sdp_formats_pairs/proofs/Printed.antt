@@ -1,17 +1,15 @@
 -- Printed pairs are read as those pairs.
-use Rattle.std.proofs.Common.{◌≡◌, ◌≢◌, ◌++◌, ◌==◌, ℕ, true, false, List, [], ◌∷◌, Some, None, codes, map}
-use Rattle.std.proofs.Common.{refl, sym, ◌∙◌, ap, subst, inl, inr, append_assoc, append-nil}
-use Rattle.std.specs.List.{list_all}
+use Rattle.std.proofs.Common.{◌≡◌, ◌≢◌, ◌++◌, ℕ, false, List, [], ◌∷◌, Some, codes, map}
+use Rattle.std.proofs.Common.{refl, sym, ◌∙◌, ap, inl, inr, append_assoc, append-nil}
 use Rattle.sdp_formats_forms.specs.Bind.{◌>>=◌}
 use Rattle.sdp_formats_forms.specs.Cuts.{split_first-at}
-use Rattle.sdp_formats_forms.specs.Form.{IsExact}
 use Rattle.sdp_formats_forms.specs.Joined.{each_behind}
 use Rattle.sdp_formats_forms.specs.Split.{Lacks, split_first, halves}
 use Rattle.sdp_formats_steps.specs.Step.{Begins, Stops}
 use Rattle.sdp_formats_pairs.specs.PairLemmas.{unblanked-word, word-complete, at-cut, at-none}
 use Rattle.sdp_formats_pairs.specs.Pairs.{word, unblanked, make_pair, or_empty, restriction_at, ends_open}
 use Rattle.sdp_formats_pairs.specs.Pairs.{restrictions_of}
-use Rattle.sdp_formats_pairs.specs.PairsSay.{PairSays, IsWord, pair_list}
+use Rattle.sdp_formats_pairs.specs.PairsSay.{PairSays, pair_list}
 use Rattle.sdp_formats_pairs.specs.PrintedPairs.{IsPair, ArePairs, pairs_text}
 use Rattle.sdp_formats_pairs.specs.Runs.{At}
 use Rattle.sdp_formats_params.specs.Printed.{pair_text}

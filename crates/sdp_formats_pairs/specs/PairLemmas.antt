@@ -1,21 +1,19 @@
 -- A pair is read exactly where it says one.
-use Rattle.std.proofs.Common.{◌≡◌, ◌≢◌, ◌⊎◌, ◌++◌, ◌==◌, ◌||◌, ◌&&◌, not, ℕ, Bool, true, false, cond, List, [], ◌∷◌}
-use Rattle.std.proofs.Common.{length, Option, Some, None, refl, sym, ◌∙◌, ap, subst, inl, inr, ⊎_elim, append_assoc}
+use Rattle.std.proofs.Common.{◌≡◌, ◌≢◌, ◌++◌, ◌==◌, ◌||◌, ◌&&◌, not, ℕ, Bool, true, false, cond, List, [], ◌∷◌}
+use Rattle.std.proofs.Common.{Option, Some, None, refl, sym, ◌∙◌, ap, subst, inl, inr, append_assoc}
 use Rattle.std.proofs.Common.{append-nil, arith}
 use Rattle.std.specs.List.{list_all}
-use Rattle.std.proofs.lemmas.Bool.{cases_Bool}
-use Rattle.std.proofs.lemmas.Bool.Decides.{Decides-eqb, nat_tests}
+use Rattle.std.proofs.lemmas.Bool.Decides.{nat_tests}
 use Rattle.sdp_formats_forms.specs.Bind.{◌>>=◌}
 use Rattle.sdp_formats_forms.specs.Form.{some_text}
 use Rattle.sdp_formats_forms.specs.Split.{Lacks, split_first, halves, halves_of, behind}
 use Rattle.sdp_formats_forms.specs.Cuts.{split_first-cuts, IsCut, somewhere, nowhere, cut_of, split_first-at}
-use Rattle.sdp_formats_forms.specs.Cuts.{split_first-nowhere, same_or_not}
+use Rattle.sdp_formats_forms.specs.Cuts.{split_first-nowhere}
 use Rattle.sdp_formats_forms.specs.Words.{behind-append, behind-sound}
 use Rattle.sdp_formats_forms.specs.Steps.{bind_some, some_same, none_some}
-use Rattle.sdp_formats_pairs.specs.Runs.{At}
 use Rattle.sdp_formats_pairs.specs.Pairs.{word, is_word_byte, is_blank, unblanked, word_before, passed_tail, padded}
 use Rattle.sdp_formats_pairs.specs.Pairs.{make_pair, or_empty, pair_at}
-use Rattle.sdp_formats_pairs.specs.PairsSay.{Blanks, IsWord, IsParted, PairSays}
+use Rattle.sdp_formats_pairs.specs.PairsSay.{Blanks, IsParted, PairSays}
 use Rattle.sdp_formats_params.specs.declared.Pair.{Pair}
 
 and_true : (a b : Bool) → (a && b) ≡ true → (a ≡ true) × (b ≡ true)
