@@ -17,3 +17,4 @@ pub mod Restrictions
 pub mod Simulcasts
 pub mod Consistent
 pub mod Carried
+pub mod LineEnds

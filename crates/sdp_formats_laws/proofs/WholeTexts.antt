@@ -40,7 +40,7 @@ abbrev pub LacksFirst : List ℕ → List ℕ → Type 0
 LacksFirst [] t = Unit {0}
 LacksFirst (c ∷ cs) t = (first t ≡ Some c → ⊥) × LacksFirst cs t
 
-no_other : (t : List ℕ) → LacksFirst (codes "iuepczk") t → Stops (LineOf other_line.Says) t
+pub no_other : (t : List ℕ) → LacksFirst (codes "iuepczk") t → Stops (LineOf other_line.Says) t
 no_other t h = stops _ t (λ content a s same. ⊎_elim (λ x. h.0 (sym same ∙ ap first x.1))
     (λ x. ⊎_elim (λ y. h.1.0 (sym same ∙ ap first y.1))
     (λ y. ⊎_elim (λ z. h.1.1.0 (sym same ∙ ap first z.1))
