@@ -18,3 +18,4 @@ pub mod Simulcasts
 pub mod Consistent
 pub mod Carried
 pub mod LineEnds
+pub mod MoreBehind

@@ -29,7 +29,7 @@ lacks_back c [] ys h = h
 lacks_back c (x ∷ xs) ys h = lacks_back c xs ys h.1
 
 -- two cuts at one byte are one
-one_cut : (c : ℕ) (a b s r : List ℕ) → Lacks c a → Lacks c b → a ++ c ∷ s ≡ b ++ c ∷ r → (a ≡ b) × (s ≡ r)
+pub one_cut : (c : ℕ) (a b s r : List ℕ) → Lacks c a → Lacks c b → a ++ c ∷ s ≡ b ++ c ∷ r → (a ≡ b) × (s ≡ r)
 one_cut c a b s r h k e =
     let same : Some (a, s) ≡ Some (b, r) =
     sym (split_first-at c a s h) ∙ ap (split_first c) e ∙ split_first-at c b r k in (
@@ -37,7 +37,7 @@ one_cut c a b s r h k e =
       ap (λ (o : Option (List ℕ × List ℕ)). elim o [ Some p ↦ p.1 | None ↦ s ]) same,
     )
 
-lacking : (c : ℕ) (a s t : List ℕ) → Lacks c t → a ++ c ∷ s ≡ t → ⊥
+pub lacking : (c : ℕ) (a s t : List ℕ) → Lacks c t → a ++ c ∷ s ≡ t → ⊥
 lacking c a s t h e = (lacks_back c a (c ∷ s) (subst (Lacks c) (sym e) h)).0 refl
 
 -- a text with CR LF in the place of each LF

@@ -1,6 +1,7 @@
 //! Session texts that are read as they are printed.
 
 ghost use Rattle.std.specs.Prelude.{[]};
+ghost use Rattle.sdp_formats_laws.specs.LineEnds.{ReadsByAnyEnd, ReadsWithMoreBehind};
 ghost use Rattle.sdp_formats_laws.specs.PrintableTexts.{IsPrintableText};
 ghost use Rattle.sdp_formats_laws.specs.ReadTexts.{text_as_read};
 ghost use Rattle.sdp_formats_reader.specs.Grammar.{SdpSays};
@@ -21,3 +22,14 @@ pub fn printed_texts_law()
     MediaAttributeLine::exact_law();
     printed_pairs_law();
 }
+
+/// A text of lines that LF ends is read as the same text of lines that CR LF ends, and the other way round (RFC 8866 5).
+pub fn line_ends_law()
+    ensures { ReadsByAnyEnd }
+{}
+
+/// What is read of a text, the last line of which is ended, doesn't change when lines that fit nowhere are put behind
+/// it, but for the rest.
+pub fn more_behind_law()
+    ensures { ReadsWithMoreBehind }
+{}
