@@ -1,11 +1,11 @@
 -- A section as it is read has the faults of the section.
-use Rattle.std.proofs.Common.{◌≡◌, ◌==◌, ℕ, Bool, true, false, not, ◌&&◌, ◌||◌, cond, List, [], ◌∷◌, map, nat_lt, length}
-use Rattle.std.proofs.Common.{if◌then◌else◌, Option, Some, None, IsTrue, refl, sym, ◌∙◌, ap, subst}
-use Rattle.std.specs.List.{count_by, list_all, list_any}
+use Rattle.std.proofs.Common.{◌≡◌, ◌==◌, ℕ, Bool, not, ◌&&◌, ◌||◌, List, [], ◌∷◌, map, nat_lt, length}
+use Rattle.std.proofs.Common.{if◌then◌else◌, Option, Some, None, IsTrue, refl, sym, ap, subst}
+use Rattle.std.specs.List.{count_by, list_all}
 use Rattle.std.specs.Prelude.{is_none}
 use Rattle.sdp_formats_params.specs.declared.param.FormatParam.{FormatParam}
 use Rattle.sdp_formats_params.specs.declared.param.FormatParam.TheVariants as param
-use Rattle.sdp_formats_row_lines.specs.AsRead.{as_read, params_as_read, spelled_as}
+use Rattle.sdp_formats_row_lines.specs.AsRead.{as_read, spelled_as}
 use Rattle.sdp_formats_types.specs.Consistency.{apt_differs, apts_agree, apts_agree_with, are_mapped, attribute_agrees}
 use Rattle.sdp_formats_types.specs.Consistency.{fault_of, gives_apt, is_consistent, is_direction_of, is_mapped, is_mid}
 use Rattle.sdp_formats_types.specs.Consistency.{is_rtp, is_setup, is_static, maps_type, values_agree}
@@ -14,7 +14,6 @@ use Rattle.sdp_formats_types.specs.declared.Inconsistency.TheVariants as fault
 use Rattle.sdp_formats_types.specs.declared.media.MediaAttribute.{MediaAttribute}
 use Rattle.sdp_formats_types.specs.declared.media.MediaAttribute.TheVariants.{Fmtp}
 use Rattle.sdp_formats_types.specs.declared.media.MediaLine.{MediaLine}
-use Rattle.sdp_formats_types.specs.declared.media.Proto.{Proto}
 use Rattle.sdp_formats_laws.specs.AsReadLemmas.{all_as_read, all_map, any_as_read, count_map}
 use Rattle.sdp_formats_laws.specs.ReadTexts.{section_as_read}
 

@@ -1,23 +1,15 @@
 -- Texts with other ends of lines, and with more behind them, are read the same.
-use Rattle.std.proofs.Common.{◌≡◌, ◌≢◌, ◌⊎◌, ◌==◌, ℕ, Bool, true, false, cond, List, [], ◌∷◌, ◌++◌, Option, Some, None}
-use Rattle.std.proofs.Common.{codes, refl, sym, ◌∙◌, ap, subst, inl, inr, ⊎_elim, append_assoc, arith}
-use Rattle.std.proofs.lemmas.Bool.Decides.{nat_tests}
-use Rattle.sdp_formats_forms.specs.Cuts.{IsCut, somewhere, nowhere, cut_of, other_byte, same_byte, same_or_not, split_first-at}
+use Rattle.std.proofs.Common.{◌≡◌, ℕ, List, [], ◌∷◌, ◌++◌, Option, Some, None}
+use Rattle.std.proofs.Common.{refl, sym, ◌∙◌, ap, subst, inl, inr, ⊎_elim, append_assoc}
+use Rattle.sdp_formats_forms.specs.Cuts.{IsCut, somewhere, nowhere, cut_of, other_byte, split_first-at}
 use Rattle.sdp_formats_forms.specs.Split.{Lacks, split_first}
-use Rattle.sdp_formats_heads.specs.Lines.{version_line, origin_line, name_line, other_line, bandwidth_line, exactly}
-use Rattle.sdp_formats_heads.specs.Lines.{times_line, repeat_line, connection_line, head_line, something}
-use Rattle.sdp_formats_heads.specs.Heads.{media_line, origin}
-use Rattle.sdp_formats_media_lines.specs.Choice.{attribute_line, media_attribute}
-use Rattle.sdp_formats_reader.specs.Grammar.{SdpSays}
-use Rattle.sdp_formats_session_lines.specs.Choice.{attribute_line as session_line, session_attribute}
+use Rattle.sdp_formats_heads.specs.Lines.{version_line, origin_line, name_line, other_line, bandwidth_line}
+use Rattle.sdp_formats_heads.specs.Lines.{times_line, repeat_line, connection_line, head_line}
+use Rattle.sdp_formats_media_lines.specs.Choice.{attribute_line}
+use Rattle.sdp_formats_session_lines.specs.Choice.{attribute_line as session_line}
 use Rattle.sdp_formats_steps.specs.Line.{IsLine, LineOf}
-use Rattle.sdp_formats_steps.specs.Step.{Stops}
-use Rattle.sdp_formats_types.specs.declared.session.Sdp.{Sdp}
 use Rattle.sdp_formats_laws.proofs.Carried.{Carries, CarriesLines, texts}
-use Rattle.sdp_formats_laws.proofs.Sections.{no_bandwidth}
-use Rattle.sdp_formats_laws.proofs.Stopping.{first, other_start}
-use Rattle.sdp_formats_laws.proofs.WholeTexts.{no_other}
-use Rattle.sdp_formats_laws.specs.LineEnds.{FitsNowhere, ReadsByAnyEnd, ReadsWithMoreBehind, is_ended, with_returns}
+use Rattle.sdp_formats_laws.specs.LineEnds.{ReadsByAnyEnd, with_returns}
 
 -- parts of a text that lacks a byte
 lacks_front : (c : ℕ) (xs ys : List ℕ) → Lacks c (xs ++ ys) → Lacks c xs
@@ -87,6 +79,7 @@ line_back t c r (somewhere front back whole lacks) ok h =
   where
     tail_same : (x y : List ℕ) → 10 ∷ x ≡ 10 ∷ y → x ≡ y
     tail_same x y e = cc
+
     feeds : (front back : List ℕ) → with_returns t ≡ front ++ 13 ∷ 10 ∷ with_returns back → Lacks 13 front
         → Lacks 10 front → with_returns t ≡ c ++ 10 ∷ r → ⊥
     feeds front back shape clear lacks e =

@@ -1,6 +1,6 @@
 -- A text with lines behind it that fit nowhere is read as the text.
-use Rattle.std.proofs.Common.{◌≡◌, ◌≢◌, ◌==◌, ℕ, Bool, true, false, List, [], ◌∷◌, ◌++◌, Some, None, codes, refl, sym}
-use Rattle.std.proofs.Common.{◌∙◌, ap, subst, inl, inr, ⊎_elim, append_assoc, arith}
+use Rattle.std.proofs.Common.{◌≡◌, ◌≢◌, ℕ, true, List, [], ◌∷◌, ◌++◌, Some, None, codes, refl, sym}
+use Rattle.std.proofs.Common.{◌∙◌, ap, subst, inl, inr, ⊎_elim, append_assoc}
 use Rattle.std.proofs.lemmas.Bool.Decides.{Decides-eqb}
 use Rattle.sdp_formats_forms.specs.Cuts.{IsCut, somewhere, nowhere, cut_of}
 use Rattle.sdp_formats_forms.specs.Split.{Lacks}
@@ -14,7 +14,7 @@ use Rattle.sdp_formats_steps.specs.Step.{Stops}
 use Rattle.sdp_formats_laws.proofs.Carried.{Carries, CarriesLines, texts}
 use Rattle.sdp_formats_laws.proofs.LineEnds.{lacking, one_cut}
 use Rattle.sdp_formats_laws.proofs.Sections.{no_bandwidth}
-use Rattle.sdp_formats_laws.proofs.Stopping.{first, other_start}
+use Rattle.sdp_formats_laws.proofs.Stopping.{other_start}
 use Rattle.sdp_formats_laws.proofs.WholeTexts.{LacksFirst, no_other}
 use Rattle.sdp_formats_laws.specs.LineEnds.{FitsNowhere, ReadsWithMoreBehind, is_ended}
 

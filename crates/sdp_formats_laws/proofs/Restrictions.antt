@@ -1,5 +1,5 @@
 -- Lines `a=rid` are read as they are printed (RFC 8851 4).
-use Rattle.std.proofs.Common.{◌≡◌, ◌≢◌, ◌≤◌, ◌<◌, ℕ, Bool, true, false, not, cond, List, [], ◌∷◌, ◌++◌, Option, Some, None}
+use Rattle.std.proofs.Common.{◌≡◌, ◌≤◌, ◌<◌, ℕ, Bool, true, false, not, cond, List, [], ◌∷◌, ◌++◌, Option, Some, None}
 use Rattle.std.proofs.Common.{codes, decimal, map, refl, sym, ◌∙◌, ap, append_assoc, arith, lit<}
 use Rattle.std.specs.Option.{option_map, is_some}
 use Rattle.std.proofs.lemmas.Bool.Decides.{nat_tests}
@@ -8,18 +8,18 @@ use Rattle.sdp_formats_forms.specs.Bind.{◌>>=◌}
 use Rattle.sdp_formats_forms.specs.Cuts.{other_byte}
 use Rattle.sdp_formats_forms.specs.Form.{cut_maybe, passed, told}
 use Rattle.sdp_formats_forms.specs.Joined.{each_behind}
-use Rattle.sdp_formats_forms.specs.Split.{Lacks, behind, halves}
+use Rattle.sdp_formats_forms.specs.Split.{Lacks, behind}
 use Rattle.sdp_formats_media_lines.specs.Choice.{attribute_line}
 use Rattle.sdp_formats_media_lines.specs.Choice.{media_attribute, second_attribute, third_attribute, last_attribute}
 use Rattle.sdp_formats_pairs.specs.Pairs.{restrictions_of}
-use Rattle.sdp_formats_pairs.specs.PrintedPairs.{ArePairs, RestrictionsComeBack, pairs_text}
+use Rattle.sdp_formats_pairs.specs.PrintedPairs.{RestrictionsComeBack, pairs_text}
 use Rattle.sdp_formats_params.specs.Printed.{pair_text}
 use Rattle.sdp_formats_params.specs.declared.Pair.{Pair}
 use Rattle.sdp_formats_row_lines.specs.Maps.{payload_type}
 use Rattle.sdp_formats_streams.specs.Names.{has_name_chars, name}
-use Rattle.sdp_formats_streams.specs.Rids.{limits_of, later_limits, make_id, make_limits, make_rid, maybe_limits, of_type}
-use Rattle.sdp_formats_streams.specs.Rids.{typed_limits, untyped_limits, limits_behind, way}
-use Rattle.sdp_formats_types.specs.Printed.{is_empty, line_end, numbers_text, rid_types_text, rid_restrictions_text}
+use Rattle.sdp_formats_streams.specs.Rids.{limits_of, later_limits, make_id, make_limits, make_rid, maybe_limits}
+use Rattle.sdp_formats_streams.specs.Rids.{typed_limits, limits_behind, way}
+use Rattle.sdp_formats_types.specs.Printed.{is_empty, line_end, rid_types_text, rid_restrictions_text}
 use Rattle.sdp_formats_types.specs.Printed.{way_text}
 use Rattle.sdp_formats_types.specs.PrintedMedia.{attribute_text, listed_text}
 use Rattle.sdp_formats_types.specs.declared.media.MediaAttribute.TheVariants.{Rid}

@@ -1,11 +1,11 @@
 -- Lines `a=simulcast` are read as they are printed (RFC 8853 5.1).
-use Rattle.std.proofs.Common.{◌≡◌, ◌<◌, ℕ, Bool, true, false, cond, List, [], ◌∷◌, ◌++◌, Option, Some, None}
+use Rattle.std.proofs.Common.{◌≡◌, ◌<◌, ℕ, Bool, true, false, cond, List, [], ◌∷◌, ◌++◌, Some, None}
 use Rattle.std.proofs.Common.{codes, map, refl, sym, ◌∙◌, ap, append_assoc, arith, lit<}
 use Rattle.std.specs.Option.{option_map}
 use Rattle.std.proofs.lemmas.Bool.Decides.{nat_tests}
 use Rattle.sdp_formats_forms.specs.Bind.{◌>>=◌}
 use Rattle.sdp_formats_forms.specs.Cuts.{other_byte, parts-whole}
-use Rattle.sdp_formats_forms.specs.Form.{cut, cut_maybe, each, only, passed, told}
+use Rattle.sdp_formats_forms.specs.Form.{cut_maybe, each, passed, told}
 use Rattle.sdp_formats_forms.specs.Joined.{joined}
 use Rattle.sdp_formats_forms.specs.Pieces.{head}
 use Rattle.sdp_formats_forms.specs.Split.{Lacks, behind}
@@ -77,8 +77,6 @@ lacks_layers b l (k ∷ ks) tilde semi name h =
     (lacks_layers b k ks tilde semi name h.1)
 
 -- the line, one way and both
-
-
 
 some_there : {A : Type 0} (x : A) (xs : List A) → is_empty (x ∷ xs) ≡ false
 some_there x xs = grind (arith, nat_tests)

@@ -1,9 +1,9 @@
 -- The attributes that list plain rows can be printed.
-use Rattle.std.proofs.Common.{◌≡◌, ◌≢◌, ◌<◌, ◌≤◌, ◌^◌, ◌==◌, ℕ, Bool, true, false, not, ◌&&◌, ◌||◌, cond, if◌then◌else◌, nat_lt, List}
-use Rattle.std.proofs.Common.{[], ◌∷◌, ◌++◌, Option, Some, None, IfSome, codes, refl, sym, ◌∙◌, ap, subst, arith, lit<}
-use Rattle.std.specs.List.{flat_map, list_all}
+use Rattle.std.proofs.Common.{◌≡◌, ◌≢◌, ◌<◌, ◌≤◌, ◌^◌, ◌==◌, ℕ, Bool, true, false, not, ◌&&◌, cond, if◌then◌else◌, nat_lt, List}
+use Rattle.std.proofs.Common.{[], ◌∷◌, ◌++◌, Option, Some, None, IfSome, codes, refl, sym, subst, arith, lit<}
+use Rattle.std.specs.List.{list_all}
 use Rattle.std.proofs.lemmas.Bool.Decides.{nat_tests}
-use Rattle.payload_core_base.specs.Codecs.{codec_name, codec_named, is_audio_codec, is_tele_codec, is_video_codec}
+use Rattle.payload_core_base.specs.Codecs.{codec_name, codec_named}
 use Rattle.payload_core_base.specs.declared.codec.Codec.{Codec}
 use Rattle.payload_core_base.specs.declared.codec.Codec.TheVariants as codec
 use Rattle.sdp_formats_forms.specs.Split.{Lacks}
@@ -11,7 +11,6 @@ use Rattle.sdp_formats_format_laws.specs.Laws.{IsReadBack, LinksComeBack, PlainP
 use Rattle.sdp_formats_laws.specs.Printable.{AreBelow, IsPrintable, IsPrintableMap, IsText, IsWord}
 use Rattle.sdp_formats_laws.specs.PrintableTexts.{AreFormats, IsEach, IsPrintableSection}
 use Rattle.sdp_formats_params.specs.declared.FormatParam.{FormatParam}
-use Rattle.sdp_formats_params.specs.declared.FormatParam.TheVariants as param
 use Rattle.sdp_formats_round.specs.Types.{listed, types_of}
 use Rattle.sdp_formats_row_laws.specs.Laws.{attributes_in, types_in}
 use Rattle.sdp_formats_row_texts.specs.Laws.{IsMedia, IsSized, ListsRows}
@@ -19,15 +18,13 @@ use Rattle.sdp_formats_rows.specs.Codecs.{is_codec, rtp_clock_rate}
 use Rattle.sdp_formats_rows.specs.Plain.{comes_back, has_plain_events, has_plain_feedback, has_plain_level, has_plain_red}
 use Rattle.sdp_formats_rows.specs.Plain.{has_plain_types, is_media_codec, is_plain, is_plain_codec, is_plain_rate, is_type}
 use Rattle.sdp_formats_rows.specs.Rows.{Row}
-use Rattle.sdp_formats_section_rows.specs.Attributes.{all_feedback, attributes_of, feedback_line, feedback_lines, fmtp_of}
-use Rattle.sdp_formats_section_rows.specs.Attributes.{is_used, link_lines, params_in, red_lines, resend_lines, words_of}
+use Rattle.sdp_formats_section_rows.specs.Attributes.{attributes_of, feedback_line, feedback_lines, fmtp_of}
+use Rattle.sdp_formats_section_rows.specs.Attributes.{params_in, red_lines, resend_lines}
 use Rattle.sdp_formats_section_rows.specs.Mapped.{map_of}
-use Rattle.sdp_formats_types.specs.declared.MediaAttribute.{MediaAttribute}
 use Rattle.sdp_formats_types.specs.declared.MediaAttribute.TheVariants as attribute
 use Rattle.sdp_formats_types.specs.declared.MediaLine.{MediaLine}
 use Rattle.sdp_formats_types.specs.declared.MediaType.{MediaType}
 use Rattle.sdp_formats_types.specs.declared.MediaType.TheVariants.{Audio, Video, Application, Unknown}
-use Rattle.sdp_formats_types.specs.declared.RtpMap.{RtpMap}
 
 two_true : (a b : Bool) → (a && b) ≡ true → (a ≡ true) × (b ≡ true)
 two_true true b h = (refl, h)

@@ -1,10 +1,9 @@
 -- Whole texts of rows.
-use Rattle.std.proofs.Common.{◌≡◌, IsTrue, List, [], ◌∷◌, ◌++◌, map, refl, sym, ◌∙◌, ap}
-use Rattle.std.specs.List.{list_all}
-use Rattle.sdp_formats_laws.specs.PrintableTexts.{IsEach, IsPrintableSection, IsPrintableSession, IsPrintableText}
+use Rattle.std.proofs.Common.{◌≡◌, List, [], ◌∷◌, map, refl, ◌∙◌}
+use Rattle.sdp_formats_laws.specs.PrintableTexts.{IsEach, IsPrintableSection, IsPrintableText}
 use Rattle.sdp_formats_laws.specs.ReadTexts.{section_as_read, text_as_read}
 use Rattle.sdp_formats_reader.specs.Grammar.{SdpSays}
-use Rattle.sdp_formats_row_laws.specs.Laws.{PlainRowsComeBack, attributes_in, types_in, unlocked}
+use Rattle.sdp_formats_row_laws.specs.Laws.{PlainRowsComeBack, unlocked}
 use Rattle.sdp_formats_row_texts.specs.Laws.{EachListsRows, ListsRows, ReadRowsAreRows, RowTextsComeBack}
 use Rattle.sdp_formats_row_texts.specs.Laws.{RowsArePrintable, section_rows}
 use Rattle.sdp_formats_rows.specs.Rows.{Row}

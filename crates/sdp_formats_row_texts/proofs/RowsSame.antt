@@ -1,5 +1,5 @@
 -- What a section's lines are read as names the rows that they name.
-use Rattle.std.proofs.Common.{◌≡◌, ◌≤◌, ◌+◌, ◌==◌, ℕ, suc, Bool, true, false, not, ◌&&◌, ◌||◌, cond, List, [], ◌∷◌, ◌++◌}
+use Rattle.std.proofs.Common.{◌≡◌, ◌≤◌, ◌+◌, ◌==◌, ℕ, Bool, true, false, not, ◌&&◌, ◌||◌, cond, List, [], ◌∷◌, ◌++◌}
 use Rattle.std.proofs.Common.{length, map, filter, Option, Some, None, codes, refl, sym, ◌∙◌, ap, arith, if◌then◌else◌}
 use Rattle.std.specs.List.{flat_map, fold, list_any}
 use Rattle.std.specs.Option.{option_map}
@@ -14,13 +14,12 @@ use Rattle.sdp_formats_row_lines.specs.AsRead.{as_read, is_level, is_other, para
 use Rattle.sdp_formats_row_texts.specs.Laws.{section_rows}
 use Rattle.sdp_formats_rows.specs.Codecs.{is_codec}
 use Rattle.sdp_formats_rows.specs.Formats.{no_format}
-use Rattle.sdp_formats_rows.specs.Rows.{Row}
 use Rattle.sdp_formats_rows.specs.declared.FormatParams.{FormatParams}
 use Rattle.sdp_formats_section_rows.specs.Given.{events_after, events_in, format_given, is_declined, is_unsupported}
-use Rattle.sdp_formats_section_rows.specs.Given.{most_of, values_for, with_attribute, with_events, with_line, with_param}
-use Rattle.sdp_formats_section_rows.specs.Mapped.{is_mapped_to, mapping_in, mappings, mappings_in, spec_of_map, with_static}
+use Rattle.sdp_formats_section_rows.specs.Given.{most_of, with_attribute, with_events, with_line, with_param}
+use Rattle.sdp_formats_section_rows.specs.Mapped.{is_mapped_to, mapping_in, mappings, spec_of_map, with_static}
 use Rattle.sdp_formats_section_rows.specs.SectionRows.{has_feedback, has_row, is_feedback, linked, linked_after, listed}
-use Rattle.sdp_formats_section_rows.specs.SectionRows.{names, row_given, row_of, rows_given, rows_of}
+use Rattle.sdp_formats_section_rows.specs.SectionRows.{names, row_of, rows_given}
 use Rattle.sdp_formats_types.specs.declared.MediaAttribute.{MediaAttribute}
 use Rattle.sdp_formats_types.specs.declared.MediaAttribute.TheVariants.{Fmtp}
 use Rattle.sdp_formats_types.specs.declared.MediaLine.{MediaLine}

@@ -1,5 +1,5 @@
 -- What holds of whole texts whose sections list plain rows.
-use Rattle.std.specs.Prelude.{◌≡◌, ◌≢◌, ◌<◌, ◌^◌, ℕ, true, false, IsTrue, List, [], ◌∷◌, ◌++◌, map, IfSome}
+use Rattle.std.specs.Prelude.{◌≡◌, ◌≢◌, ◌<◌, ◌^◌, true, false, IsTrue, List, [], ◌∷◌, ◌++◌, map, IfSome}
 use Rattle.std.specs.List.{list_all, list_any}
 use Rattle.sdp_formats_laws.specs.Printable.{IsPrintable}
 use Rattle.sdp_formats_laws.specs.PrintableTexts.{IsEach, IsPrintableBandwidth, IsPrintableSection, IsPrintableSession}
