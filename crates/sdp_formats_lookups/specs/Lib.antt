@@ -1,0 +1,3 @@
+pub mod Creds
+pub mod Sections
+pub mod Sessions

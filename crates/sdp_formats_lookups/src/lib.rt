@@ -1,0 +1,5 @@
+//! What sections and sessions say, by their attributes, beside the accessors of `MediaLine`.
+#![tactic(auto)]
+
+pub mod section;
+pub mod session;
