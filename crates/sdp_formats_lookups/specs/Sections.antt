@@ -1,5 +1,8 @@
 -- What the attributes of a section say.
-use Rattle.std.specs.Prelude.{ℕ, Bool, true, false, List, Option, Some, None}
+use Rattle.std.specs.Prelude.{ℕ, Bool, true, false, List, [], ◌∷◌, map, Option, Some, None}
+use Rattle.std.specs.Borrow.{Bor}
+use Rattle.rtp_wire.specs.Name.{name_of}
+use Rattle.rtp_wire.specs.declared.Extension.{Extension}
 use Rattle.sdp_formats_types.specs.Lookups.{first_of}
 use Rattle.sdp_formats_types.specs.declared.MediaAttribute.{MediaAttribute}
 use Rattle.sdp_formats_types.specs.declared.MediaAttribute.TheVariants as a
@@ -45,3 +48,19 @@ with_name (Some name) pass = with_pass name pass
 
 abbrev pub creds_of : List MediaAttribute → Option (List ℕ × List ℕ)
 creds_of attrs = with_name (first_of ice_ufrag_in attrs) (first_of ice_pwd_in attrs)
+
+-- the numbers of header extensions, and the extensions (RFC 8285 8)
+unfoldable pub extmap_in : MediaAttribute → List (ℕ × Extension)
+extmap_in (a.ExtMap id ext) = (id, ext) ∷ []
+extmap_in _ = []
+
+abbrev pub extmap_view : ℕ × Bor Extension → ℕ × Extension
+extmap_view x = (x.0, x.1.now)
+
+abbrev pub extmaps_view : List (ℕ × Bor Extension) → List (ℕ × Extension)
+extmaps_view xs = map extmap_view xs
+
+-- the names of streams (RFC 8851 4), eight bytes of each
+unfoldable pub rid_in : MediaAttribute → List (List ℕ)
+rid_in (a.Rid id direction pts restrictions) = name_of 8 id.0 ∷ []
+rid_in _ = []

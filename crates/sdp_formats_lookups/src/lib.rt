@@ -1,5 +1,6 @@
 //! What sections and sessions say, by their attributes, beside the accessors of `MediaLine`.
 #![tactic(auto)]
 
+pub mod lists;
 pub mod section;
 pub mod session;
