@@ -2,9 +2,9 @@
 
 ghost use Rattle.std.specs.Prelude.{◌≡◌, ◌++◌, IfOk, OnOk};
 ghost use Rattle.std.specs.List.{flat_map};
-ghost use Rattle.sdp_formats_lookups.specs.Sections.{rid_in};
+ghost use Rattle.sdp_formats_lookups.specs.Sections.{extmap_in, extmaps_view, rid_in};
 
-use rtp_wire::Rid;
+use rtp_wire::{Extension, Rid};
 use sdp_formats_types::{MediaAttribute, MediaLine};
 use std::alloc::{AllocError, Global};
 
@@ -35,4 +35,36 @@ pub fn rids(alloc: Global, section: &MediaLine) -> Result<Vec<Rid>, AllocError>
         push_rid(&mut rids, attribute)?;
     }
     Ok(rids)
+}
+
+#[tactic(auto, unfolding(crate::specs::Sections::extmap_in))]
+fn push_extmap<'a>(
+    extmaps: &mut Vec<(u8, &'a Extension)>,
+    attribute: &'a MediaAttribute,
+) -> Result<(), AllocError>
+    ensures { OnOk result (extmaps_view extmaps.new.items ≡ extmaps_view extmaps.old.items ++ extmap_in attribute.now) }
+{
+    match attribute {
+        MediaAttribute::ExtMap { id, ext } => {
+            extmaps.push((*id, ext))?;
+            Ok(())
+        }
+        _ => Ok(()),
+    }
+}
+
+/// The header extensions of a section and their numbers, in order (RFC 8285 8).
+///
+/// # Errors
+///
+/// `AllocError` where memory is wanting.
+pub fn extmaps(alloc: Global, section: &MediaLine) -> Result<Vec<(u8, &Extension)>, AllocError>
+    ensures { IfOk result (λ extmaps. extmaps_view extmaps.items ≡ flat_map extmap_in section.now.attrs) }
+{
+    let mut extmaps = Vec::new(alloc);
+    let attributes = section.attrs.as_slice();
+    for attribute in attributes {
+        push_extmap(&mut extmaps, attribute)?;
+    }
+    Ok(extmaps)
 }
