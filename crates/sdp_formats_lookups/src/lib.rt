@@ -4,3 +4,4 @@
 pub mod lists;
 pub mod section;
 pub mod session;
+pub mod whole;
