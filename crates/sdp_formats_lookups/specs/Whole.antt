@@ -1,5 +1,5 @@
 -- What a whole session text says: the session's own word, or else that of its first section that has one.
-use Rattle.std.specs.Prelude.{ℕ, List, [], ◌∷◌, Option, Some, None}
+use Rattle.std.specs.Prelude.{ℕ, List, Option}
 use Rattle.std.specs.Option.{option_or}
 use Rattle.sdp_formats_lookups.specs.Sections as sections
 use Rattle.sdp_formats_lookups.specs.Sessions as session

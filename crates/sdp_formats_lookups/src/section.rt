@@ -168,5 +168,9 @@ fn ends_candidates(attribute: &MediaAttribute) -> bool
 pub fn end_of_candidates(section: &MediaLine) -> bool
     ensures { result ≡ list_any ends_candidates section.now.attrs }
 {
-    section.attrs.as_slice().iter().any(|attribute| ends_candidates(attribute))
+    section
+        .attrs
+        .as_slice()
+        .iter()
+        .any(|attribute| ends_candidates(attribute))
 }

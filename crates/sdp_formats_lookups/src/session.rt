@@ -122,7 +122,11 @@ fn ends_candidates(attribute: &SessionAttribute) -> bool
 pub fn end_of_candidates(session: &Session) -> bool
     ensures { result ≡ list_any ends_candidates session.now.attrs }
 {
-    session.attrs.as_slice().iter().any(|attribute| ends_candidates(attribute))
+    session
+        .attrs
+        .as_slice()
+        .iter()
+        .any(|attribute| ends_candidates(attribute))
 }
 
 #[tactic(auto, unfolding(crate::specs::Sessions::is_lite))]
@@ -136,5 +140,9 @@ fn is_lite(attribute: &SessionAttribute) -> bool
 pub fn ice_lite(session: &Session) -> bool
     ensures { result ≡ list_any is_lite session.now.attrs }
 {
-    session.attrs.as_slice().iter().any(|attribute| is_lite(attribute))
+    session
+        .attrs
+        .as_slice()
+        .iter()
+        .any(|attribute| is_lite(attribute))
 }
