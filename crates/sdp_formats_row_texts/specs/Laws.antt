@@ -1,9 +1,10 @@
 -- What holds of whole texts whose sections list plain rows.
-use Rattle.std.specs.Prelude.{◌≡◌, ◌≢◌, ◌<◌, ◌^◌, true, false, IsTrue, List, [], ◌∷◌, ◌++◌, map, IfSome}
-use Rattle.std.specs.List.{list_all, list_any}
+use Rattle.std.specs.Prelude.{◌≡◌, ◌≢◌, ◌<◌, ◌^◌, Bool, true, false, IsTrue, List, [], ◌∷◌, ◌++◌, map, filter, IfSome}
+use Rattle.std.specs.List.{flat_map, list_all, list_any}
 use Rattle.sdp_formats_laws.specs.Printable.{IsPrintable}
 use Rattle.sdp_formats_laws.specs.PrintableTexts.{IsEach, IsPrintableBandwidth, IsPrintableSection, IsPrintableSession}
 use Rattle.sdp_formats_laws.specs.ReadTexts.{section_as_read, text_as_read}
+use Rattle.sdp_formats_lookups.specs.Sections.{extmap_in}
 use Rattle.sdp_formats_reader.specs.Grammar.{SdpSays}
 use Rattle.sdp_formats_round.specs.Laws.{is_distinct}
 use Rattle.sdp_formats_row_laws.specs.Laws.{attributes_in, names_type, types_in, unlocked}
@@ -11,8 +12,10 @@ use Rattle.sdp_formats_rows.specs.Plain.{is_plain}
 use Rattle.sdp_formats_rows.specs.Rows.{Row}
 use Rattle.sdp_formats_section_rows.specs.SectionRows.{rows_of}
 use Rattle.sdp_formats_types.specs.Consistency.{is_consistent}
+use Rattle.sdp_formats_types.specs.Lookups.{direction_of, first_of, mid_in, msid_in, setup_in}
 use Rattle.sdp_formats_types.specs.PrintedSession.{sdp_text}
 use Rattle.sdp_formats_types.specs.declared.media.MediaAttribute.{MediaAttribute}
+use Rattle.sdp_formats_types.specs.declared.media.MediaAttribute.TheVariants.{Fmtp}
 use Rattle.sdp_formats_types.specs.declared.media.MediaLine.{MediaLine}
 use Rattle.sdp_formats_types.specs.declared.media.MediaType.{MediaType}
 use Rattle.sdp_formats_types.specs.declared.media.MediaType.TheVariants.{Audio, Video}
@@ -70,3 +73,19 @@ RowTextsComeBack = (sdp : Sdp) (rows : List (List Row)) → IsPrintableSession s
     → EachListsRows sdp.media_lines rows → IsTrue (list_all is_consistent sdp.media_lines)
     → SdpSays (sdp_text sdp) (text_as_read sdp) []
     × (map section_rows (text_as_read sdp).media_lines ≡ map (map unlocked) rows)
+
+-- a line of another kind than `a=fmtp`
+abbrev pub is_other_line : MediaAttribute → Bool
+is_other_line (Fmtp pt values) = false
+is_other_line _ = true
+
+-- What a printed section is read as says the same by each of its other lines, in their order: the name, the direction,
+-- the names of streams, the setup and the header extensions among them.
+abbrev pub ReadSectionsSayTheSame : Type 0
+ReadSectionsSayTheSame = (m : MediaLine)
+    → (filter is_other_line (section_as_read m).attrs ≡ filter is_other_line m.attrs)
+    × (first_of mid_in (section_as_read m).attrs ≡ first_of mid_in m.attrs)
+    × (direction_of (section_as_read m).attrs ≡ direction_of m.attrs)
+    × (first_of msid_in (section_as_read m).attrs ≡ first_of msid_in m.attrs)
+    × (first_of setup_in (section_as_read m).attrs ≡ first_of setup_in m.attrs)
+    × (flat_map extmap_in (section_as_read m).attrs ≡ flat_map extmap_in m.attrs)

@@ -1,6 +1,7 @@
 //! Rows that are printed in a text and read of it.
 
-ghost use Rattle.sdp_formats_row_texts.specs.Laws.{ReadRowsAreRows, RowTextsComeBack, RowsArePrintable};
+ghost use Rattle.sdp_formats_row_texts.specs.Laws.{ReadRowsAreRows, ReadSectionsSayTheSame, RowTextsComeBack};
+ghost use Rattle.sdp_formats_row_texts.specs.Laws.{RowsArePrintable};
 
 use sdp_formats_format_laws::{links_law, plain_parameters_law};
 use sdp_formats_laws::printed_texts_law;
@@ -18,6 +19,11 @@ pub fn row_lines_law()
 /// The rows that a printed section is read to name are those that the section names, by any parameters.
 pub fn read_rows_law()
     ensures { ReadRowsAreRows }
+{}
+
+/// What a printed section is read to say by lines other than `a=fmtp` is what the section says by them.
+pub fn read_sections_law()
+    ensures { ReadSectionsSayTheSame }
 {}
 
 /// Plain rows of distinct types, printed in sections of a printable session, are read whole, and `rtp_params` answers

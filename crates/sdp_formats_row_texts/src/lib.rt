@@ -3,4 +3,4 @@
 
 mod laws;
 
-pub use laws::{read_rows_law, row_lines_law, row_texts_law};
+pub use laws::{read_rows_law, read_sections_law, row_lines_law, row_texts_law};
