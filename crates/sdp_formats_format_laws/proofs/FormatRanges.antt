@@ -18,7 +18,8 @@ use Rattle.sdp_formats_params.specs.Numbers.{modes_of, behind, range_end, range_
 use Rattle.sdp_formats_params.specs.Parts.{parts}
 use Rattle.sdp_formats_params.specs.declared.key.Key.{Key}
 use Rattle.sdp_formats_params.specs.declared.key.Key.TheVariants as key
-use Rattle.sdp_formats_rows.specs.Formats.{no_format, replaced, with_value, with_key, with_range, with_fields, with_parts}
+use Rattle.sdp_formats_rows.specs.Formats.{no_format, replaced, with_value, with_key, with_range, with_fields}
+use Rattle.sdp_formats_rows.specs.Formats.{with_parts}
 use Rattle.sdp_formats_rows.specs.Formats.{gives_level, last_value, with_level, with_values, level_format, format_of}
 use Rattle.sdp_formats_rows.specs.declared.format.FormatParams.{FormatParams}
 use Rattle.sdp_formats_format_laws.specs.Ranges.{IsModes, IsInRange, AtMostOne}
@@ -76,12 +77,14 @@ more_in [] None h = tt
 more_in [] (Some m) h = h
 more_in (text ∷ texts) None h = tt
 more_in (text ∷ texts) (Some m) h =
-    more_in texts (with_mode (number_below (2 ^ 8) 10 (trim text)) m) (mode_in (number_below (2 ^ 8) 10 (trim text)) m h.1)
+    more_in texts (with_mode (number_below (2 ^ 8) 10 (trim text)) m) (mode_in (number_below (2 ^ 8) 10
+    (trim text)) m h.1)
 
 first_in : (texts : List (List ℕ)) → (texts ≡ [] → ⊥) → IfSome (with_modes texts (Some 0)) IsModes
 first_in [] h = absurd (h refl)
 first_in (text ∷ texts) h =
-    more_in texts (with_mode (number_below (2 ^ 8) 10 (trim text)) 0) (mode_in (number_below (2 ^ 8) 10 (trim text)) 0 (lit< tt))
+    more_in texts (with_mode (number_below (2 ^ 8) 10 (trim text)) 0) (mode_in (number_below (2 ^ 8) 10
+    (trim text)) 0 (lit< tt))
 
 split_some : (c : ℕ) (text : List ℕ) → parts c text ≡ [] → ⊥
 split_some c [] e = cc
@@ -118,7 +121,8 @@ Apart false f = (f.h265_profile_tier_level ≡ None) × (f.h266_profile_tier_lev
 abbrev pub Held : Bool → FormatParams → Type 0
 Held last f = IsInRange f × Apart last f
 
-value_held : (last : Bool) (k : Key) (value : List ℕ) (f : FormatParams) → Held last f → Held last (with_value last k value f)
+value_held : (last : Bool) (k : Key) (value : List ℕ) (f : FormatParams) → Held last f
+    → Held last (with_value last k value f)
 value_held true key.MinPTime value f h = (
   (
     replaced_in (λ m. m < 2 ^ 8) true f.min_p_time _ h.0.0 (number_in (2 ^ 8) 10 value),
@@ -158,7 +162,8 @@ value_held true key.ProfileLevelId value f h = (
   (
     h.0.0,
     h.0.1,
-    replaced_in (λ m. m < 2 ^ 32) true f.profile_level_id _ h.0.2 (level_in _ _ (number_in (2 ^ 32) 16 value) (number_in (2 ^ 32) 10 value)),
+    replaced_in (λ m. m < 2 ^ 32) true f.profile_level_id _ h.0.2 (level_in _ _ (number_in (2 ^ 32) 16 value)
+    (number_in (2 ^ 32) 10 value)),
     h.0.3,
     h.0.4,
     h.0.5,
@@ -287,7 +292,8 @@ value_held false key.ProfileLevelId value f h = (
   (
     h.0.0,
     h.0.1,
-    replaced_in (λ m. m < 2 ^ 32) false f.profile_level_id _ h.0.2 (level_in _ _ (number_in (2 ^ 32) 16 value) (number_in (2 ^ 32) 10 value)),
+    replaced_in (λ m. m < 2 ^ 32) false f.profile_level_id _ h.0.2 (level_in _ _ (number_in (2 ^ 32) 16 value)
+    (number_in (2 ^ 32) 10 value)),
     h.0.3,
     h.0.4,
     h.0.5,
@@ -392,7 +398,8 @@ value_held false key.ModeSet value f h = (
 value_held false key.TierFlag value f h = h
 value_held false key.LevelId value f h = h
 
-key_held : (last : Bool) (k : Option Key) (value : List ℕ) (f : FormatParams) → Held last f → Held last (with_key last k value f)
+key_held : (last : Bool) (k : Option Key) (value : List ℕ) (f : FormatParams) → Held last f
+    → Held last (with_key last k value f)
 key_held last None value f h = h
 key_held last (Some k) value f h = value_held last k value f h
 
@@ -402,7 +409,8 @@ events_held last None f k h = h
 events_held true (Some n) f k h = ((h.0.0, h.0.1, h.0.2, h.0.3, h.0.4, h.0.5, h.0.6, h.0.7, k, h.0.9), h.1)
 events_held false (Some n) f k h = ((h.0.0, h.0.1, h.0.2, h.0.3, h.0.4, h.0.5, h.0.6, h.0.7, k, h.0.9), h.1)
 
-fields_held : (last : Bool) (fields : List (List ℕ)) (f : FormatParams) → Held last f → Held last (with_fields last fields f)
+fields_held : (last : Bool) (fields : List (List ℕ)) (f : FormatParams) → Held last f
+    → Held last (with_fields last fields f)
 fields_held last [] f h = h
 fields_held last (word ∷ []) f h =
     events_held last (range_of (trim word)) f (range_in (option_and_then (behind 45) (behind 48 (trim word)))) h

@@ -1,5 +1,6 @@
 -- A parameter is read of its pair.
-use Rattle.std.proofs.Common.{◌≡◌, ◌<◌, ◌≤◌, ◌^◌, ℕ, Bool, true, false, cond, nat_le, nat_lt, not, ◌&&◌, ◌==◌, ◌≢◌, List, [], ◌∷◌, codes, decimal}
+use Rattle.std.proofs.Common.{◌≡◌, ◌<◌, ◌≤◌, ◌^◌, ℕ, Bool, true, false, cond, nat_le, nat_lt, not, ◌&&◌, ◌==◌, ◌≢◌}
+use Rattle.std.proofs.Common.{List, [], ◌∷◌, codes, decimal}
 use Rattle.std.proofs.Common.{None, Some, refl, ◌∙◌, ap, arith, lit<, lit≤}
 use Rattle.std.specs.Fmt.{digits}
 use Rattle.std.proofs.lemmas.Bool.Decides.{nat_tests}

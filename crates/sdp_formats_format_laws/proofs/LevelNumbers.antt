@@ -41,7 +41,8 @@ all_true [] h = refl
 all_true (c ∷ cs) h = tested (digit_value c) 10 (all_digits cs) h.0 (all_true cs h.1)
 
 abbrev pub byte_of : List ℕ → Option ℕ
-byte_of ds = cond (nat_lt 0 (length ds) && all_digits ds && nat_lt (digits_value 10 ds) 256) (Some (digits_value 10 ds)) None
+byte_of ds = cond (nat_lt 0 (length ds) && all_digits ds && nat_lt (digits_value 10 ds) 256) (Some
+    (digits_value 10 ds)) None
 
 byte_back : (n : ℕ) → n < 256 → byte_written (decimal n) ≡ Some n
 byte_back n small =

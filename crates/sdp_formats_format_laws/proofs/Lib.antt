@@ -3,6 +3,7 @@ pub mod Numerals
 pub mod ModeSets
 pub mod KeyedParams
 pub mod KeyedLists
+pub mod KeyRanks
 pub mod LevelLists
 pub mod LevelNumbers
 pub mod OtherParams

@@ -94,7 +94,8 @@ below_nine : (i : ℕ) → i ≤ 8 → nat_le i 8 ≡ true
 below_nine i h = grind (arith, nat_tests)
 
 zero_bit : (n : ℕ) → (n % 2 == 1) ≡ false → n % 2 ≡ 0
-zero_bit n e = let other : n % 2 ≢ 1 = (λ (h : n % 2 ≡ 1). grind (arith, nat_tests)) in zero_or (n % 2) (mod_below n 2 (lit< tt)) other
+zero_bit n e = let other : n % 2 ≢ 1 = (λ (h : n % 2 ≡ 1). grind (arith, nat_tests)) in zero_or (n % 2)
+    (mod_below n 2 (lit< tt)) other
   where
     zero_or : (k : ℕ) → k < 2 → k ≢ 1 → k ≡ 0
     zero_or k small other = omega arith
@@ -172,7 +173,8 @@ lacks_list c x (y ∷ ys) other far h =
     (other, lacks_list c y ys other far h.1)
 
 list_some : (x : ℕ) (xs : List ℕ) → x ≤ 8 → list_text (x ∷ xs) ≢ []
-list_some x xs h e = nothing (subst (λ t. t ++ each_behind (codes ",") (map decimal xs) ≡ []) (decimal_digit x (omega (h, arith))) e)
+list_some x xs h e = nothing (subst (λ t. t ++ each_behind (codes ",") (map decimal xs)
+    ≡ []) (decimal_digit x (omega (h, arith))) e)
   where
     nothing : (48 + x) ∷ each_behind (codes ",") (map decimal xs) ≡ [] → ⊥
     nothing e = cc
@@ -181,7 +183,8 @@ list_value : (x : ℕ) (xs : List ℕ) → AreLow (x ∷ xs) → IsValue (list_t
 list_value x xs h = (
   (
     list_some x xs h.0,
-    lacks-word (list_text (x ∷ xs)) (lacks_list 32 x xs (λ e. cc) (lit≤ tt) h) (lacks_list 9 x xs (λ e. cc) (lit≤ tt) h),
+    lacks-word (list_text (x ∷ xs)) (lacks_list 32 x xs (λ e. cc) (lit≤ tt) h) (lacks_list 9 x xs (λ e. cc)
+    (lit≤ tt) h),
     lacks_list 59 x xs (λ e. cc) (lit≤ tt) h,
   ),
   lacks_list 10 x xs (λ e. cc) (lit≤ tt) h,
@@ -196,4 +199,5 @@ by_set m [] some h same = absurd (omega (some, same, arith))
 by_set m (x ∷ xs) some h same = (list_read x xs 0 h ∙ ap Some same, list_value x xs h)
 
 pub modes_back : (m : ℕ) → IsModes m → (modes_of (modes_text m) ≡ Some m) × IsValue (modes_text m)
-modes_back m h = by_set m (set_of m) h.0 (low_left m (0 ∷ 1 ∷ 2 ∷ 3 ∷ 4 ∷ 5 ∷ 6 ∷ 7 ∷ 8 ∷ []) all_low) (all_gathered m h.1)
+modes_back m h = by_set m (set_of m) h.0 (low_left m (0 ∷ 1 ∷ 2 ∷ 3 ∷ 4 ∷ 5 ∷ 6 ∷ 7 ∷ 8 ∷ []) all_low)
+    (all_gathered m h.1)

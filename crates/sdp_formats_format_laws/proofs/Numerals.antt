@@ -66,7 +66,8 @@ pub value_digits : (radix : ℕ) (ds : List ℕ) → radix ≤ 16 → IsNumeral 
 value_digits radix ds low h = (
   (
     there ds h.0,
-    lacks-word ds (lacks_digits radix 32 ds (omega (low, arith)) h.1) (lacks_digits radix 9 ds (omega (low, arith)) h.1),
+    lacks-word ds (lacks_digits radix 32 ds (omega (low, arith)) h.1) (lacks_digits radix 9 ds (omega
+    (low, arith)) h.1),
     lacks_digits radix 59 ds (omega (low, arith)) h.1,
   ),
   lacks_digits radix 10 ds (omega (low, arith)) h.1,

@@ -26,7 +26,8 @@ use Rattle.sdp_formats_params.specs.declared.param.FormatParam.TheVariants as pa
 use Rattle.sdp_formats_row_lines.specs.Parameters.{anything, key_values, parameters, plain_byte, range, slash_list}
 use Rattle.sdp_formats_format_laws.proofs.KeyedLists.{pairs_on_line, pairs_read}
 use Rattle.sdp_formats_format_laws.proofs.KeyedParams.{key_of}
-use Rattle.sdp_formats_format_laws.proofs.Numerals.{accepted, decimal_read, decimal_value, lacks_digits, no_plus, tested}
+use Rattle.sdp_formats_format_laws.proofs.Numerals.{accepted, decimal_read, decimal_value, lacks_digits, no_plus}
+use Rattle.sdp_formats_format_laws.proofs.Numerals.{tested}
 use Rattle.sdp_formats_format_laws.specs.Keyed.{pair}
 use Rattle.sdp_formats_format_laws.specs.Laws.{IsReadBack, OnLine}
 
@@ -84,7 +85,8 @@ ascii_digits (c ∷ cs) h = let r = digit_from_value c h.0 in
 plain_back : (n : ℕ) → n < 2 ^ 8 → plain_byte (decimal n) ≡ Some n
 plain_back n small =
     let numeral = decimal_is_IsNumeral n (omega (small, arith)) in
-    ap (λ b. cond b (number_below (2 ^ 8) (decimal n)) None) (ascii_digits (decimal n) numeral.0.1) ∙ number_back n small
+    ap (λ b. cond b (number_below (2 ^ 8) (decimal n)) None) (ascii_digits (decimal n) numeral.0.1)
+    ∙ number_back n small
 
 range_read : IsExact pair_list → (n : ℕ) → n < 2 ^ 8
     → parameters.reads (codes "0-" ++ decimal n) ≡ Some (param.BareRange n ∷ [])
@@ -94,7 +96,8 @@ range_read exact n small =
     let slash : Lacks 47 t = ((λ e. cc), ((λ e. cc), lacks_of 47 n (lit≤ tt) small)) in
     or_other _ _ (ap (option_map params_of) (no_pairs exact t equals))
     ∙ or_other _ _ (ap (λ o. option_map (λ (x : ℕ × List ℕ). param.BarePtList x.0 ∷ [])
-    (o >>= both (number (2 ^ 8)).reads (separated 47 (told (number_below (2 ^ 8)))).reads)) (split_first-nowhere 47 t slash))
+    (o >>= both (number (2 ^ 8)).reads (separated 47 (told (number_below (2 ^ 8)))).reads))
+    (split_first-nowhere 47 t slash))
     ∙ or_first _ _ _ (ap (option_map (λ x. param.BareRange x ∷ [])) (plain_back n small))
 
 pub events_back : IsExact pair_list → (n : ℕ) → n < 2 ^ 8 → IsReadBack (param.TelephoneEvents n ∷ [])
@@ -156,8 +159,10 @@ unfolding param_text
 red_back exact n small = (
   subst OnLine (sym (append-nil (decimal n ++ 47 ∷ decimal n))) (
     number_there n (47 ∷ decimal n) small,
-    lacks_both 10 (decimal n) (47 ∷ decimal n) (lacks_of 10 n (lit≤ tt) small) ((λ e. cc), lacks_of 10 n (lit≤ tt) small),
-    lacks_both 13 (decimal n) (47 ∷ decimal n) (lacks_of 13 n (lit≤ tt) small) ((λ e. cc), lacks_of 13 n (lit≤ tt) small),
+    lacks_both 10 (decimal n) (47 ∷ decimal n) (lacks_of 10 n (lit≤ tt) small) ((λ e. cc), lacks_of 10 n
+    (lit≤ tt) small),
+    lacks_both 13 (decimal n) (47 ∷ decimal n) (lacks_of 13 n (lit≤ tt) small) ((λ e. cc), lacks_of 13 n
+    (lit≤ tt) small),
   ),
   ap parameters.reads (append-nil (decimal n ++ 47 ∷ decimal n)) ∙ list_read exact n small,
 )

@@ -11,7 +11,8 @@ use Rattle.sdp_formats_pairs.specs.PairsSay.{pair_list}
 use Rattle.sdp_formats_pairs.specs.PrintedPairs.{PairsComeBack}
 use Rattle.sdp_formats_params.specs.declared.param.FormatParam.TheVariants as param
 use Rattle.sdp_formats_rows.specs.Formats.{format_of}
-use Rattle.sdp_formats_rows.specs.Plain.{comes_back, events_alone, has_plain_events, has_plain_feedback, has_plain_level}
+use Rattle.sdp_formats_rows.specs.Plain.{comes_back, events_alone, has_plain_events, has_plain_feedback}
+use Rattle.sdp_formats_rows.specs.Plain.{has_plain_level}
 use Rattle.sdp_formats_rows.specs.Plain.{has_plain_red, has_plain_types, is_plain, is_plain_codec}
 use Rattle.sdp_formats_rows.specs.Rows.{Row}
 use Rattle.sdp_formats_rows.specs.Same.{same, same_flag, same_format, same_h264, same_levels, same_numbers, same_opus}
@@ -178,7 +179,8 @@ pub row_back : IsExact pair_list → PairsComeBack → ComesBack265 → ComesBac
     → IsReadBack (params_in row.spec)
 row_back exact pairs one other row h =
     let four = has_plain_types row && is_plain_codec row.spec && has_plain_feedback row && has_plain_red row in
-    let back = two_true (four && has_plain_events row.spec && has_plain_level row.spec) (comes_back row.spec.format) h in
+    let back = two_true (four && has_plain_events row.spec && has_plain_level row.spec)
+    (comes_back row.spec.format) h in
     let level = two_true (four && has_plain_events row.spec) (has_plain_level row.spec) back.0 in
     let events = two_true four (has_plain_events row.spec) level.0 in
     let plain = plain_format row.spec.format back.1 in

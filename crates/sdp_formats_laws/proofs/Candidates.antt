@@ -14,7 +14,8 @@ use Rattle.sdp_formats_forms.specs.Words.{behind-append}
 use Rattle.sdp_formats_ice.specs.Candidates.{candidate, candidate_fields, candidate_place, related_field}
 use Rattle.sdp_formats_ice.specs.Candidates.{related_in}
 use Rattle.sdp_formats_ice.specs.Words.{kind_word, protocol_word, tcptype_word}
-use Rattle.sdp_formats_types.specs.PrintedCandidates.{candidate_text, kind_text, parts_text, protocol_text, related_text}
+use Rattle.sdp_formats_types.specs.PrintedCandidates.{candidate_text, kind_text, parts_text, protocol_text}
+use Rattle.sdp_formats_types.specs.PrintedCandidates.{related_text}
 use Rattle.sdp_formats_types.specs.PrintedCandidates.{tcp_type_text}
 use Rattle.sdp_formats_types.specs.PrintedMedia.{named}
 use Rattle.sdp_formats_types.specs.declared.candidate.Candidate.{Candidate}
@@ -41,7 +42,8 @@ halves-blank w None h = ap (halves 32) (append-nil w) ∙ ap (halves_of w) (spli
 halves-blank w (Some t) h = ap (halves_of (w ++ 32 ∷ t)) (split_first-at 32 w t h)
 
 -- one step after the other
-pub then : {A B : Type 0} (o : Option A) (f : A → Option B) (a : A) (b : Option B) → o ≡ Some a → f a ≡ b → (o >>= f) ≡ b
+pub then : {A B : Type 0} (o : Option A) (f : A → Option B) (a : A) (b : Option B) → o ≡ Some a → f a ≡ b → (o >>= f)
+    ≡ b
 then o f a b e h = ap (λ x. x >>= f) e ∙ h
 
 -- a field that is there
@@ -200,7 +202,8 @@ body_read c h =
     ++ 32 ∷ (decimal c.prio ++ 32 ∷ place_text c tail))) h.0.1)
     (then _ _ _ _ (text_some c.foundation h.0.0.0)
     (then _ _ _ _ (split_first-at 32 (decimal c.component_id) (protocol_text c.proto
-    ++ 32 ∷ (decimal c.prio ++ 32 ∷ place_text c tail)) (Lacks-decimal 32 c.component_id (lit< tt) (omega (h.1, arith))))
+    ++ 32 ∷ (decimal c.prio ++ 32 ∷ place_text c tail)) (Lacks-decimal 32 c.component_id (lit< tt) (omega
+    (h.1, arith))))
     (then _ _ _ _ (number_below-decimal (2 ^ 16) c.component_id h.1 (lit≤ tt))
     (then _ _ _ _ (split_first-at 32 (protocol_text c.proto) (decimal c.prio ++ 32 ∷ place_text c tail)
     (protocol_back c.proto).1)
@@ -267,7 +270,8 @@ lacks_related b None more low each h k = k
 lacks_related b (Some r) more low each h k =
     lacks_both b (codes " raddr ") (r.addr ++ 32 ∷ (codes "rport " ++ (decimal r.port ++ behind_blank more)))
     (lacks_above b (codes " raddr ") low refl)
-    (lacks_two b 32 r.addr (codes "rport " ++ (decimal r.port ++ behind_blank more)) (each r.addr h.0) (omega (low, arith))
+    (lacks_two b 32 r.addr (codes "rport " ++ (decimal r.port ++ behind_blank more)) (each r.addr h.0) (omega
+    (low, arith))
     (lacks_both b (codes "rport ") (decimal r.port ++ behind_blank more) (lacks_above b (codes "rport ") low refl)
     (lacks_both b (decimal r.port) (behind_blank more)
     (Lacks-decimal b r.port (omega (low, arith)) (omega (h.1, arith))) k)))

@@ -9,7 +9,8 @@ use Rattle.sdp_formats_steps.specs.Line.{LineOf}
 use Rattle.sdp_formats_steps.specs.Step.{Stops, Begins, Many, Perhaps}
 
 -- A step from a text is one from what stands for it, and the other way round, and the rests stand for each other.
-pub record Carries {A : Type 0} (f : List ℕ → List ℕ) (OK : List ℕ → Type 0) (S : List ℕ → A → List ℕ → Type 0) : Type 0 where
+pub record Carries {A : Type 0} (f : List ℕ → List ℕ) (OK : List ℕ → Type 0) (S : List ℕ → A → List ℕ
+    → Type 0) : Type 0 where
   pub forth : (t : List ℕ) (a : A) (r : List ℕ) → OK t → S t a r → S (f t) a (f r) × OK r
   pub back : (t : List ℕ) (a : A) (r : List ℕ) → OK t → S (f t) a r → (s : List ℕ) × (r ≡ f s) × S t a s × OK s
 

@@ -138,7 +138,8 @@ lacks_limits : (b : ℕ) (pts : List ℕ) (ps : List Pair) → b < 32 → ((t : 
     → AreLimits pts ps → Lacks b (behind_blank (limits_tail pts ps))
 lacks_limits b [] [] low each h = tt
 lacks_limits b [] (p ∷ ps) low each h =
-    ((λ e. omega (e, low, arith)), lacks_pairs b p ps (λ e. omega (e, low, arith)) (λ e. omega (e, low, arith)) each h.1)
+    ((λ e. omega (e, low, arith)), lacks_pairs b p ps (λ e. omega (e, low, arith)) (λ e. omega
+    (e, low, arith)) each h.1)
 lacks_limits b (pt ∷ []) [] low each h =
     lacks_both b (codes " pt=") (decimal pt ++ []) (lacks_above b (codes " pt=") low refl)
     (lacks_both b (decimal pt) [] (Lacks-decimal b pt (omega (low, arith)) (omega (h, arith))) tt)
@@ -151,7 +152,8 @@ rid_shape : (id way types restrictions : List ℕ)
 rid_shape id way types restrictions = simp append_assoc
 
 made_back : (id : RestrictionId) (d : RidDirection) (pts : List ℕ) (ps : List Pair) → id.1 ≡ true
-    → make_rid (make_id id.0) d (maybe_limits (option_map (λ (x : List ℕ × List Pair). make_limits x.0 x.1) (limits_in pts ps))) ≡ Rid id d pts ps
+    → make_rid (make_id id.0) d (maybe_limits (option_map (λ (x : List ℕ
+    × List Pair). make_limits x.0 x.1) (limits_in pts ps))) ≡ Rid id d pts ps
 made_back id d [] [] h = (λ i. Rid (record { 0 = id.0; 1 = sym h i }) d [] [])
 made_back id d [] (p ∷ ps) h = (λ i. Rid (record { 0 = id.0; 1 = sym h i }) d [] (p ∷ ps))
 made_back id d (pt ∷ pts) ps h = (λ i. Rid (record { 0 = id.0; 1 = sym h i }) d (pt ∷ pts) ps)
@@ -177,5 +179,6 @@ rid_line back id d pts ps active h limits =
     (first_fits _ _ _
     (ap (option_map (λ x. make_rid (make_id x.0) x.1.0 (maybe_limits x.1.1)))
     (cut_reads 32 name (cut_maybe 32 (told way) (told limits_of)) id.0 (way_text d ++ tail) id.0
-    (d, option_map (λ (x : List ℕ × List Pair). make_limits x.0 x.1) (limits_in pts ps)) h.word.1 (name_reads id.0 h) (limits_read back d pts ps limits))
+    (d, option_map (λ (x : List ℕ × List Pair). make_limits x.0 x.1) (limits_in pts ps)) h.word.1 (name_reads id.0 h)
+    (limits_read back d pts ps limits))
     ∙ ap Some (made_back id d pts ps active))))

@@ -165,7 +165,8 @@ section_spelled m rest = ap (λ t. codes "m=" ++ t)
     (codes "c=IN IP4 0.0.0.0") (maybe_text [] (option_map bandwidth_text m.bw)) (attributes_text m.attrs) rest line_end)
 
 -- attributes, up to another section or the end
-pub attributes_many : RestrictionsComeBack → IsExact attribute_line → (attrs : List MediaAttribute) (rest : List ℕ) → IsEach IsPrintable attrs
+pub attributes_many : RestrictionsComeBack → IsExact attribute_line → (attrs : List MediaAttribute) (rest : List ℕ)
+    → IsEach IsPrintable attrs
     → IsTail rest → Many (LineOf attribute_line.Says) (attributes_text attrs ++ rest) (map as_read attrs)
     rest
 attributes_many back exact attrs rest h tail = (
@@ -186,7 +187,8 @@ not_98 attrs t rest begins tail e = ⊎_elim
     letters : (a b : ℕ) → (a ≡ b → ⊥) → Some a ≡ Some b → ⊥
     letters a b other e = other (cc)
 
-pub section_says : RestrictionsComeBack → IsExact attribute_line → (m : MediaLine) (rest : List ℕ) → IsPrintableSection m → IsTail rest
+pub section_says : RestrictionsComeBack → IsExact attribute_line → (m : MediaLine) (rest : List ℕ)
+    → IsPrintableSection m → IsTail rest
     → SectionSays (section_text m ++ rest) (section_as_read m) rest
 unfolding SectionSays
 section_says back exact m rest h tail =

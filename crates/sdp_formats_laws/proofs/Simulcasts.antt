@@ -84,7 +84,8 @@ some_there x xs = grind (arith, nat_tests)
 abbrev pub body_text : List SimulcastLayer → List SimulcastLayer → List ℕ
 body_text [] rs = codes "recv" ++ 32 ∷ names_text rs
 body_text (s ∷ ss) [] = codes "send" ++ 32 ∷ names_text (s ∷ ss)
-body_text (s ∷ ss) (r ∷ rs) = codes "send" ++ 32 ∷ (names_text (s ∷ ss) ++ 32 ∷ (codes "recv" ++ 32 ∷ names_text (r ∷ rs)))
+body_text (s ∷ ss) (r ∷ rs) = codes "send" ++ 32 ∷ (names_text (s ∷ ss) ++ 32 ∷ (codes "recv" ++ 32 ∷ names_text
+    (r ∷ rs)))
 
 abbrev pub both_ways : List SimulcastLayer → List SimulcastLayer → ways.Simulcast
 both_ways send recv = record { send = grouped send; recv = grouped recv; is_munged = false }
@@ -115,7 +116,8 @@ body_read (s ∷ ss) (r ∷ rs) h =
     (cut_somewhere 32 groups direction_layers (names_text (s ∷ ss)) (codes "recv" ++ 32 ∷ names_text (r ∷ rs)) (s ∷ ss)
     (make_way (Recv, r ∷ rs)) (lacks_blank s ss h.0) (groups_read s ss h.0)
     (ap (option_map make_way)
-    (cut_reads 32 (told way) groups (codes "recv") (names_text (r ∷ rs)) Recv (r ∷ rs) (lacks 32 (codes "recv") refl) refl
+    (cut_reads 32 (told way) groups (codes "recv") (names_text (r ∷ rs)) Recv (r ∷ rs) (lacks 32
+    (codes "recv") refl) refl
     (groups_read r rs h.1)))))
 
 lacks_body : (b : ℕ) (send recv : List SimulcastLayer) → b < 32 → ((t : List ℕ) → IsName t → Lacks b t)

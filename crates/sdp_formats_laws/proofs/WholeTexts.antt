@@ -134,8 +134,10 @@ unfolding section_text
 section_tail m rest = λ c other e. other (cc)
 
 -- sections, one behind the other
-sections_begin : RestrictionsComeBack → IsExact media_attribute_line → (ms : List MediaLine) → IsEach IsPrintableSection ms
-    → Begins SectionSays (each_behind [] (map section_text ms)) (map section_as_read ms) [] × IsTail (each_behind [] (map section_text ms))
+sections_begin : RestrictionsComeBack → IsExact media_attribute_line → (ms : List MediaLine)
+    → IsEach IsPrintableSection ms
+    → Begins SectionSays (each_behind [] (map section_text ms)) (map section_as_read ms) []
+    × IsTail (each_behind [] (map section_text ms))
 sections_begin back exact [] h = (refl, nothing_left)
 sections_begin back exact (m ∷ ms) h =
     let more = sections_begin back exact ms h.1 in (
@@ -147,7 +149,8 @@ sections_begin back exact (m ∷ ms) h =
       section_tail m (each_behind [] (map section_text ms)),
     )
 
-pub text_says : RestrictionsComeBack → IsExact attribute_line → IsExact media_attribute_line → (sdp : Sdp) → IsPrintableText sdp
+pub text_says : RestrictionsComeBack → IsExact attribute_line → IsExact media_attribute_line → (sdp : Sdp)
+    → IsPrintableText sdp
     → SdpSays (sdp_text sdp) (text_as_read sdp) []
 unfolding SdpSays
 text_says back exact media_exact sdp h =

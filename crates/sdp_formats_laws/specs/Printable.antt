@@ -92,7 +92,8 @@ AreWays [] (r ∷ rs) = AreLayers (r ∷ rs)
 AreWays (s ∷ ss) rs = AreLayers (s ∷ ss) × AreLayers rs
 
 -- An attribute whose texts can stand where they are printed. Of `a=fmtp` the parameters are such that their text is
--- read as themselves, a profile, tier and level in front; of a line of another kind the text is of no known kind. A simulcast is one that is printed.
+-- read as themselves, a profile, tier and level in front; of a line of another kind the text is of no known kind. A
+-- simulcast is one that is printed.
 abbrev pub IsPrintable : MediaAttribute → Type 0
 IsPrintable (Rtcp v) = IsText v
 IsPrintable (IceUfrag v) = IsText v

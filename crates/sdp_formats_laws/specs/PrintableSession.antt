@@ -6,7 +6,8 @@ use Rattle.sdp_formats_types.specs.declared.session.SessionAttribute.{SessionAtt
 use Rattle.sdp_formats_types.specs.declared.session.SessionAttribute.TheVariants.{Group, MsidSemantic, IceLite}
 use Rattle.sdp_formats_types.specs.declared.session.SessionAttribute.TheVariants.{IceUfrag}
 use Rattle.sdp_formats_types.specs.declared.session.SessionAttribute.TheVariants.{IcePwd, IceOptions, Setup}
-use Rattle.sdp_formats_types.specs.declared.session.SessionAttribute.TheVariants.{Candidate, EndOfCandidates, Fingerprint, Unused}
+use Rattle.sdp_formats_types.specs.declared.session.SessionAttribute.TheVariants.{Candidate, EndOfCandidates}
+use Rattle.sdp_formats_types.specs.declared.session.SessionAttribute.TheVariants.{Fingerprint, Unused}
 use Rattle.sdp_formats_laws.specs.Printable.{IsText, IsWord, IsPrintableDigest, IsPrintableCandidate}
 
 abbrev pub AreWords : List (List ℕ) → Type 0

@@ -23,7 +23,8 @@ pub fn printed_texts_law()
     printed_pairs_law();
 }
 
-/// A text of lines that LF ends is read as the same text of lines that CR LF ends, and the other way round (RFC 8866 5).
+/// A text of lines that LF ends is read as the same text of lines that CR LF ends, and the other way round (RFC 8866
+/// 5).
 pub fn line_ends_law()
     ensures { ReadsByAnyEnd }
 {}

@@ -4,7 +4,8 @@ ghost use Rattle.std.specs.Prelude.{◌≡◌};
 ghost use Rattle.std.specs.List.{list_any};
 ghost use Rattle.std.specs.Option.{option_copied};
 ghost use Rattle.sdp_formats_lookups.specs.Creds.{creds_view};
-ghost use Rattle.sdp_formats_lookups.specs.Sections.{creds_of, ends_candidates, fingerprint_in, ice_pwd_in, ice_ufrag_in, max_message_size_in, sctp_init_in, simulcast_in};
+ghost use Rattle.sdp_formats_lookups.specs.Sections.{creds_of, ends_candidates, fingerprint_in, ice_pwd_in};
+ghost use Rattle.sdp_formats_lookups.specs.Sections.{ice_ufrag_in, max_message_size_in, sctp_init_in, simulcast_in};
 ghost use Rattle.sdp_formats_types.specs.Lookups.{first_of};
 
 use sdp_formats_forms::Text;

@@ -84,7 +84,8 @@ restricted_last p h =
     ap restriction_at (append-nil (pair_text p))
     ∙ by_value p p.value [] h (ap (λ (x : List ℕ × _). x.0) at) (ap (λ (x : List ℕ × _). or_empty x.1) at)
 
-begin_at : (p : Pair) (ps : List Pair) → ArePairs (p ∷ ps) → Begins (At restriction_at) (pairs_text (p ∷ ps)) (p ∷ ps) []
+begin_at : (p : Pair) (ps : List Pair) → ArePairs (p ∷ ps) → Begins (At restriction_at) (pairs_text (p ∷ ps))
+    (p ∷ ps) []
 begin_at p [] h = ([], restricted_last p h.0, refl)
 begin_at p (q ∷ qs) h = (pairs_text (q ∷ qs), restricted p (pairs_text (q ∷ qs)) h.0, begin_at q qs h.1)
 

@@ -1,5 +1,6 @@
 -- The attributes that list plain rows can be printed.
-use Rattle.std.proofs.Common.{◌≡◌, ◌≢◌, ◌<◌, ◌≤◌, ◌^◌, ◌==◌, ℕ, Bool, true, false, not, ◌&&◌, cond, if◌then◌else◌, nat_lt, List}
+use Rattle.std.proofs.Common.{◌≡◌, ◌≢◌, ◌<◌, ◌≤◌, ◌^◌, ◌==◌, ℕ, Bool, true, false, not, ◌&&◌, cond, if◌then◌else◌}
+use Rattle.std.proofs.Common.{nat_lt, List}
 use Rattle.std.proofs.Common.{[], ◌∷◌, ◌++◌, Option, Some, None, IfSome, codes, refl, sym, subst, arith, lit<}
 use Rattle.std.specs.List.{list_all}
 use Rattle.std.proofs.lemmas.Bool.Decides.{nat_tests}
@@ -15,8 +16,10 @@ use Rattle.sdp_formats_round.specs.Types.{listed, types_of}
 use Rattle.sdp_formats_row_laws.specs.Laws.{attributes_in, types_in}
 use Rattle.sdp_formats_row_texts.specs.Laws.{IsMedia, IsSized, ListsRows}
 use Rattle.sdp_formats_rows.specs.Codecs.{is_codec, rtp_clock_rate}
-use Rattle.sdp_formats_rows.specs.Plain.{comes_back, has_plain_events, has_plain_feedback, has_plain_level, has_plain_red}
-use Rattle.sdp_formats_rows.specs.Plain.{has_plain_types, is_media_codec, is_plain, is_plain_codec, is_plain_rate, is_type}
+use Rattle.sdp_formats_rows.specs.Plain.{comes_back, has_plain_events, has_plain_feedback, has_plain_level}
+use Rattle.sdp_formats_rows.specs.Plain.{has_plain_red}
+use Rattle.sdp_formats_rows.specs.Plain.{has_plain_types, is_media_codec, is_plain, is_plain_codec, is_plain_rate}
+use Rattle.sdp_formats_rows.specs.Plain.{is_type}
 use Rattle.sdp_formats_rows.specs.Rows.{Row}
 use Rattle.sdp_formats_section_rows.specs.Attributes.{attributes_of, feedback_line, feedback_lines, fmtp_of}
 use Rattle.sdp_formats_section_rows.specs.Attributes.{params_in, red_lines, resend_lines}
@@ -203,7 +206,8 @@ row_printable : PlainParametersComeBack → LinksComeBack → (row : Row) → is
 row_printable params links row h sized =
     let p = plain_types row h in
     let map : IsEach IsPrintable (attribute.RtpMap row.pt (map_of row.spec) ∷ []) =
-    ((p.own, map_printable row row.spec.codec row.spec.channels (media_named row.spec.codec p.media) sized sized.2), tt) in
+    ((p.own, map_printable row row.spec.codec row.spec.channels
+    (media_named row.spec.codec p.media) sized sized.2), tt) in
     let own = (attribute.RtpMap row.pt (map_of row.spec) ∷ []) ++ feedback_lines row in
     let lines = own ++ fmtp_of row.pt (params_in row.spec) in
     both_each IsPrintable (lines ++ resend_lines row row.resend) (red_lines row row.red)

@@ -162,13 +162,15 @@ spelled_given f (param.Red pt) = refl
 spelled_given f _ = refl
 
 turned_265 : (f : FormatParams) (v : _) (x : FormatParam) → is_level x ≡ false
-    → with_param (with_param f (param.H265ProfileTierLevel v)) x ≡ with_param (with_param f x) (param.H265ProfileTierLevel v)
+    → with_param (with_param f (param.H265ProfileTierLevel v)) x
+    ≡ with_param (with_param f x) (param.H265ProfileTierLevel v)
 turned_265 f v (param.H265ProfileTierLevel w) e = cc
 turned_265 f v (param.H266ProfileTierLevel w) e = cc
 turned_265 f v _ e = refl
 
 turned_266 : (f : FormatParams) (v : _) (x : FormatParam) → is_level x ≡ false
-    → with_param (with_param f (param.H266ProfileTierLevel v)) x ≡ with_param (with_param f x) (param.H266ProfileTierLevel v)
+    → with_param (with_param f (param.H266ProfileTierLevel v)) x
+    ≡ with_param (with_param f x) (param.H266ProfileTierLevel v)
 turned_266 f v (param.H265ProfileTierLevel w) e = cc
 turned_266 f v (param.H266ProfileTierLevel w) e = cc
 turned_266 f v _ e = refl

@@ -1,9 +1,8 @@
 -- What a section is read as says the same by its other lines.
-use Rattle.std.proofs.Common.{◌≡◌, Bool, true, false, cond, List, [], ◌∷◌, ◌++◌, map, filter, Option, None, refl, ◌∙◌, ap}
+use Rattle.std.proofs.Common.{◌≡◌, cond, List, [], ◌∷◌, ◌++◌, map, filter, Option, refl, ap}
 use Rattle.std.specs.List.{flat_map}
 use Rattle.std.specs.Option.{option_or, unwrap_or}
 use Rattle.rtp_wire.specs.declared.Direction.TheVariants as way
-use Rattle.sdp_formats_laws.specs.ReadTexts.{section_as_read}
 use Rattle.sdp_formats_lookups.specs.Sections.{extmap_in}
 use Rattle.sdp_formats_row_lines.specs.AsRead.{as_read}
 use Rattle.sdp_formats_row_texts.specs.Laws.{ReadSectionsSayTheSame, is_other_line}

@@ -5,4 +5,5 @@ use Rattle.sdp_formats_lookups.proofs.whole.first_creds.Given as goal
 
 -- the sections so far say nothing
 abbrev pub invariant-loop-section : goal.invariant-loop-section
-invariant-loop-section l = first_of section_creds (drop l.section-index l.sections) ≡ first_of section_creds l.fn.sections
+invariant-loop-section l = first_of section_creds (drop l.section-index l.sections)
+    ≡ first_of section_creds l.fn.sections
