@@ -163,7 +163,7 @@ value_held true key.ProfileLevelId value f h = (
     h.0.0,
     h.0.1,
     replaced_in (λ m. m < 2 ^ 32) true f.profile_level_id _ h.0.2 (level_in _ _ (number_in (2 ^ 32) 16 value)
-    (number_in (2 ^ 32) 10 value)),
+        (number_in (2 ^ 32) 10 value)),
     h.0.3,
     h.0.4,
     h.0.5,
@@ -293,7 +293,7 @@ value_held false key.ProfileLevelId value f h = (
     h.0.0,
     h.0.1,
     replaced_in (λ m. m < 2 ^ 32) false f.profile_level_id _ h.0.2 (level_in _ _ (number_in (2 ^ 32) 16 value)
-    (number_in (2 ^ 32) 10 value)),
+        (number_in (2 ^ 32) 10 value)),
     h.0.3,
     h.0.4,
     h.0.5,

@@ -3,7 +3,6 @@ use Rattle.std.proofs.Common.{◌≡◌, ◌<◌, ◌≤◌, ◌+◌, ℕ, Bool,
 use Rattle.std.proofs.Common.{filter, codes, decimal, nat_eq, Option, Some, None, refl, sym, ◌∙◌, ap, subst}
 use Rattle.std.proofs.Common.{append_assoc}
 use Rattle.std.proofs.Common.{append-nil, arith, lit≤}
-use Rattle.std.specs.Char.{to_ascii_lowercase}
 use Rattle.std.specs.Cmp.Lexicographic.{pointwise, bytes_decides}
 use Rattle.std.specs.List.{list_any}
 use Rattle.std.specs.Str.{str_eq_ignore_ascii_case}
@@ -12,15 +11,12 @@ use Rattle.indexmap.specs.IndexMap.{insert_entry}
 use Rattle.sdp_formats_forms.specs.Joined.{each_behind, joined}
 use Rattle.sdp_formats_pairs.specs.PrintedPairs.{ArePairs, PairsComeBack, pairs_text}
 use Rattle.sdp_formats_params.specs.Keys.{key_named, is_name_of}
-use Rattle.sdp_formats_params.specs.Params.{Entries, gives_level, is_level_name, last_value, level_params, levels_of}
+use Rattle.sdp_formats_params.specs.Params.{Entries, gives_level, last_value, level_params, levels_of}
 use Rattle.sdp_formats_params.specs.Params.{or_before, others_of, pair_param, param_of, params_of}
 use Rattle.sdp_formats_params.specs.Params.{with_pairs}
 use Rattle.sdp_formats_params.specs.Printed.{levels_text, pair_text, param_text}
-use Rattle.sdp_formats_params.specs.declared.key.Key.{Key}
-use Rattle.sdp_formats_params.specs.declared.key.Key.TheVariants as key
 use Rattle.sdp_formats_params.specs.declared.pairs.Pair.{Pair}
 use Rattle.sdp_formats_params.specs.declared.param.FormatParam.{FormatParam}
-use Rattle.sdp_formats_params.specs.declared.param.FormatParam.TheVariants as param
 use Rattle.sdp_formats_row_lines.specs.AsRead.{is_level, is_other, params_as_read, spelled_as}
 use Rattle.sdp_formats_row_lines.specs.Parameters.{parameters}
 use Rattle.sdp_formats_types.specs.Printed.{params_text}
@@ -31,7 +27,7 @@ use Rattle.sdp_formats_format_laws.proofs.KeyedLists.{texts_are}
 use Rattle.sdp_formats_format_laws.proofs.KeyedParams.{key_of, no_level, param_back}
 use Rattle.sdp_formats_format_laws.proofs.Numerals.{decimal_value}
 use Rattle.sdp_formats_format_laws.specs.Laws.{OnLine, IsReadBack}
-use Rattle.sdp_formats_format_laws.specs.Keyed.{AreKeyed, IsKeyed, IsOrdinary, pair, pair_of}
+use Rattle.sdp_formats_format_laws.specs.Keyed.{AreKeyed, IsOrdinary, pair, pair_of}
 use Rattle.sdp_formats_format_laws.proofs.KeyRanks.{lower, no_level_id, no_name, no_profile, no_tier, ordinary, rank}
 use Rattle.sdp_formats_format_laws.proofs.KeyRanks.{rank_of, ranked, same_lower}
 

@@ -184,7 +184,7 @@ list_value x xs h = (
   (
     list_some x xs h.0,
     lacks-word (list_text (x ∷ xs)) (lacks_list 32 x xs (λ e. cc) (lit≤ tt) h) (lacks_list 9 x xs (λ e. cc)
-    (lit≤ tt) h),
+        (lit≤ tt) h),
     lacks_list 59 x xs (λ e. cc) (lit≤ tt) h,
   ),
   lacks_list 10 x xs (λ e. cc) (lit≤ tt) h,

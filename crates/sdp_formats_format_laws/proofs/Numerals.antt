@@ -67,7 +67,7 @@ value_digits radix ds low h = (
   (
     there ds h.0,
     lacks-word ds (lacks_digits radix 32 ds (omega (low, arith)) h.1) (lacks_digits radix 9 ds (omega
-    (low, arith)) h.1),
+        (low, arith)) h.1),
     lacks_digits radix 59 ds (omega (low, arith)) h.1,
   ),
   lacks_digits radix 10 ds (omega (low, arith)) h.1,

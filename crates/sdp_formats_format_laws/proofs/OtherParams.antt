@@ -159,10 +159,16 @@ unfolding param_text
 red_back exact n small = (
   subst OnLine (sym (append-nil (decimal n ++ 47 ∷ decimal n))) (
     number_there n (47 ∷ decimal n) small,
-    lacks_both 10 (decimal n) (47 ∷ decimal n) (lacks_of 10 n (lit≤ tt) small) ((λ e. cc), lacks_of 10 n
-    (lit≤ tt) small),
-    lacks_both 13 (decimal n) (47 ∷ decimal n) (lacks_of 13 n (lit≤ tt) small) ((λ e. cc), lacks_of 13 n
-    (lit≤ tt) small),
+    lacks_both 10 (decimal n) (47 ∷ decimal n) (lacks_of 10 n (lit≤ tt) small) (
+      (λ e. cc),
+      lacks_of 10 n
+          (lit≤ tt) small,
+    ),
+    lacks_both 13 (decimal n) (47 ∷ decimal n) (lacks_of 13 n (lit≤ tt) small) (
+      (λ e. cc),
+      lacks_of 13 n
+          (lit≤ tt) small,
+    ),
   ),
   ap parameters.reads (append-nil (decimal n ++ 47 ∷ decimal n)) ∙ list_read exact n small,
 )

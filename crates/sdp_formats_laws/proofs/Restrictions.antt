@@ -137,9 +137,11 @@ lacks_pairs b p (q ∷ qs) equals semi each h =
 lacks_limits : (b : ℕ) (pts : List ℕ) (ps : List Pair) → b < 32 → ((t : List ℕ) → IsText t → Lacks b t)
     → AreLimits pts ps → Lacks b (behind_blank (limits_tail pts ps))
 lacks_limits b [] [] low each h = tt
-lacks_limits b [] (p ∷ ps) low each h =
-    ((λ e. omega (e, low, arith)), lacks_pairs b p ps (λ e. omega (e, low, arith)) (λ e. omega
-    (e, low, arith)) each h.1)
+lacks_limits b [] (p ∷ ps) low each h = (
+  (λ e. omega (e, low, arith)),
+  lacks_pairs b p ps (λ e. omega (e, low, arith)) (λ e. omega
+      (e, low, arith)) each h.1,
+)
 lacks_limits b (pt ∷ []) [] low each h =
     lacks_both b (codes " pt=") (decimal pt ++ []) (lacks_above b (codes " pt=") low refl)
     (lacks_both b (decimal pt) [] (Lacks-decimal b pt (omega (low, arith)) (omega (h, arith))) tt)

@@ -15,8 +15,7 @@ use sdp_formats_steps::Lined;
 /// The printed line of a printable attribute is read as that attribute, whatever stands behind it.
 ///
 /// Of a line `a=fmtp` a profile, tier and level is read in front of the other parameters, a range of telephone
-/// events as
-/// a range, and a type of redundant audio as a list of types: `as_read`.
+/// events as a range, and a type of redundant audio as a list of types: `as_read`.
 pub fn printed_lines_law()
     ensures { (a : MediaAttribute) (rest : List ℕ) → IsPrintable a
         → LineOf attribute_line.Says (attribute_text a ++ rest) (as_read a) rest }

@@ -205,9 +205,14 @@ row_printable : PlainParametersComeBack → LinksComeBack → (row : Row) → is
     → IsEach IsPrintable (attributes_of row)
 row_printable params links row h sized =
     let p = plain_types row h in
-    let map : IsEach IsPrintable (attribute.RtpMap row.pt (map_of row.spec) ∷ []) =
-    ((p.own, map_printable row row.spec.codec row.spec.channels
-    (media_named row.spec.codec p.media) sized sized.2), tt) in
+    let map : IsEach IsPrintable (attribute.RtpMap row.pt (map_of row.spec) ∷ []) = (
+      (
+        p.own,
+        map_printable row row.spec.codec row.spec.channels
+            (media_named row.spec.codec p.media) sized sized.2,
+      ),
+      tt,
+    ) in
     let own = (attribute.RtpMap row.pt (map_of row.spec) ∷ []) ++ feedback_lines row in
     let lines = own ++ fmtp_of row.pt (params_in row.spec) in
     both_each IsPrintable (lines ++ resend_lines row row.resend) (red_lines row row.red)
