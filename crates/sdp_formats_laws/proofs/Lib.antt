@@ -11,3 +11,11 @@ pub mod Sections
 pub mod WholeSession
 pub mod WholeTexts
 pub mod Fingerprints
+pub mod Candidates
+pub mod CandidateLines
+pub mod Restrictions
+pub mod Simulcasts
+pub mod Consistent
+pub mod Carried
+pub mod LineEnds
+pub mod MoreBehind

@@ -14,6 +14,7 @@ use Rattle.sdp_formats_media_lines.specs.Choice.{attribute_line}
 use Rattle.sdp_formats_media_lines.specs.Choice.{media_attribute, second_attribute, third_attribute, last_attribute}
 use Rattle.sdp_formats_params.specs.declared.FormatParam.{FormatParam}
 use Rattle.sdp_formats_row_lines.specs.Maps.{payload_type, clock_rate, make_map}
+use Rattle.sdp_formats_row_lines.specs.AsRead.{params_as_read}
 use Rattle.sdp_formats_row_lines.specs.Parameters.{parameters}
 use Rattle.sdp_formats_streams.specs.Sources.{make_names, ssrc_number}
 use Rattle.sdp_formats_types.specs.Printed.{is_empty, line_end, params_text, numbers_text}
@@ -100,18 +101,20 @@ abbrev pub named_params : ℕ → List ℕ → List ℕ
 named_params pt params = spelled (codes "a=fmtp:" ∷ decimal pt ∷ codes " " ∷ params ∷ line_end ∷ [])
 
 pub fmtp_line : (pt : ℕ) (p : FormatParam) (ps : List FormatParam) → pt ≤ 127 → IsText (params_text (p ∷ ps))
-    → parameters.reads (params_text (p ∷ ps)) ≡ Some (p ∷ ps)
-    → IsPrintedAs attribute_line (attribute_text (Fmtp pt (p ∷ ps))) (Fmtp pt (p ∷ ps))
+    → parameters.reads (params_text (p ∷ ps)) ≡ Some (params_as_read (p ∷ ps))
+    → IsPrintedAs attribute_line (attribute_text (Fmtp pt (p ∷ ps))) (Fmtp pt (params_as_read (p ∷ ps)))
 unfolding media_attribute second_attribute third_attribute last_attribute attribute_text listed_text
 fmtp_line pt p ps low h reads = at_text attribute_line _ _ _
     (ap (λ b. cond b [] (named_params pt (params_text (p ∷ ps)))) (some_there p ps)
     ∙ two_parts (codes "a=fmtp:") (decimal pt) (params_text (p ∷ ps)) 32)
-    (named_line attribute_line (codes "a=fmtp:") (decimal pt ++ 32 ∷ params_text (p ∷ ps)) (Fmtp pt (p ∷ ps))
+    (named_line attribute_line (codes "a=fmtp:") (decimal pt ++ 32 ∷ params_text (p ∷ ps))
+    (Fmtp pt (params_as_read (p ∷ ps)))
     (named_by (codes "a=fmtp:") refl)
     (lacks_two 10 32 (decimal pt) (params_text (p ∷ ps)) (no_feed pt (omega arith)) (λ e. cc) h.1)
     (lacks_two 13 32 (decimal pt) (params_text (p ∷ ps)) (no_return pt (omega arith)) (λ e. cc) h.2)
     (first_fits _ _ _ (first_fits _ _ _ (ap (option_map (λ x. Fmtp x.0 x.1))
-    (cut_reads 32 payload_type parameters (decimal pt) (params_text (p ∷ ps)) pt (p ∷ ps)
+    (cut_reads 32 payload_type parameters (decimal pt) (params_text (p ∷ ps)) pt
+    (params_as_read (p ∷ ps))
     (Lacks-decimal 32 pt (lit< tt) (omega arith)) (type_reads pt low) reads)))))
 
 pub lacks_numbers : (c limit s : ℕ) (ss : List ℕ) → c < 48 → (32 ≡ c → ⊥) → limit ≤ 2 ^ 64 → AreBelow limit (s ∷ ss)

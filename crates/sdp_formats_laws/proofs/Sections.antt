@@ -1,6 +1,6 @@
 -- Sections are read as they are printed.
 use Rattle.std.proofs.Common.{◌≡◌, ◌^◌, ℕ, Bool, true, false, cond, List, [], ◌∷◌, ◌++◌, Option, Some, None}
-use Rattle.std.proofs.Common.{codes, decimal, refl, sym, ◌∙◌, ap, subst, append_assoc, ⊎_elim, lit<, lit≤, arith}
+use Rattle.std.proofs.Common.{codes, decimal, map, refl, sym, ◌∙◌, ap, subst, append_assoc, ⊎_elim, lit<, lit≤, arith}
 use Rattle.std.specs.Option.{option_map}
 use Rattle.std.specs.Fmt.{digits}
 use Rattle.std.specs.Str.{bytes_eq}
@@ -13,7 +13,9 @@ use Rattle.sdp_formats_heads.specs.Heads.{media_type, proto, formats, make_head}
 use Rattle.sdp_formats_heads.specs.Lines.{connection_line, bandwidth_line, head_line, passed}
 use Rattle.sdp_formats_heads.specs.declared.media.MediaHead.{MediaHead}
 use Rattle.sdp_formats_media_lines.specs.Choice.{attribute_line, media_attribute}
+use Rattle.sdp_formats_pairs.specs.PrintedPairs.{RestrictionsComeBack}
 use Rattle.sdp_formats_reader.specs.Grammar.{SectionSays}
+use Rattle.sdp_formats_row_lines.specs.AsRead.{as_read}
 use Rattle.sdp_formats_steps.specs.Line.{LineOf}
 use Rattle.sdp_formats_steps.specs.Step.{Stops, Begins, Many, Perhaps}
 use Rattle.sdp_formats_types.specs.Media.{proto_text, is_channel}
@@ -32,9 +34,10 @@ use Rattle.sdp_formats_laws.proofs.Printed.{IsPrintedAs, named_line, named_by, p
 use Rattle.sdp_formats_laws.proofs.PlainKinds.{lacks_two}
 use Rattle.sdp_formats_laws.proofs.PartedKinds.{lacks_numbers}
 use Rattle.sdp_formats_laws.proofs.Readings.{cut_reads}
-use Rattle.sdp_formats_laws.proofs.Stopping.{first, stops, other_start, first_of, begins_all}
+use Rattle.sdp_formats_laws.proofs.Stopping.{first, stops, other_start, first_of, begins_as}
 use Rattle.sdp_formats_laws.proofs.Whole.{printed}
 use Rattle.sdp_formats_laws.specs.Printable.{IsPrintable, AreBelow}
+use Rattle.sdp_formats_laws.specs.ReadTexts.{section_as_read}
 use Rattle.sdp_formats_laws.specs.PrintableTexts.{IsEach, IsPrintableBandwidth, IsPrintableSection, AreFormats}
 
 -- what may stand behind a section: another, or nothing
@@ -162,11 +165,13 @@ section_spelled m rest = ap (λ t. codes "m=" ++ t)
     (codes "c=IN IP4 0.0.0.0") (maybe_text [] (option_map bandwidth_text m.bw)) (attributes_text m.attrs) rest line_end)
 
 -- attributes, up to another section or the end
-pub attributes_many : IsExact attribute_line → (attrs : List MediaAttribute) (rest : List ℕ) → IsEach IsPrintable attrs
-    → IsTail rest → Many (LineOf attribute_line.Says) (attributes_text attrs ++ rest) attrs rest
-attributes_many exact attrs rest h tail = (
-  begins_all (LineOf attribute_line.Says) attribute_text IsPrintable
-      (λ x r p. printed_line attribute_line exact x (attribute_text x) r (printed x p)) attrs rest h,
+pub attributes_many : RestrictionsComeBack → IsExact attribute_line → (attrs : List MediaAttribute) (rest : List ℕ)
+    → IsEach IsPrintable attrs
+    → IsTail rest → Many (LineOf attribute_line.Says) (attributes_text attrs ++ rest) (map as_read attrs)
+    rest
+attributes_many back exact attrs rest h tail = (
+  begins_as (LineOf attribute_line.Says) attribute_text as_read IsPrintable
+      (λ x r p. printed_line attribute_line exact (as_read x) (attribute_text x) r (printed back x p)) attrs rest h,
   other_start 97 (61 ∷ []) media_attribute rest (tail 97 (λ e. omega (e, arith))),
 )
 
@@ -182,15 +187,16 @@ not_98 attrs t rest begins tail e = ⊎_elim
     letters : (a b : ℕ) → (a ≡ b → ⊥) → Some a ≡ Some b → ⊥
     letters a b other e = other (cc)
 
-pub section_says : IsExact attribute_line → (m : MediaLine) (rest : List ℕ) → IsPrintableSection m → IsTail rest
-    → SectionSays (section_text m ++ rest) m rest
+pub section_says : RestrictionsComeBack → IsExact attribute_line → (m : MediaLine) (rest : List ℕ)
+    → IsPrintableSection m → IsTail rest
+    → SectionSays (section_text m ++ rest) (section_as_read m) rest
 unfolding SectionSays
-section_says exact m rest h tail =
+section_says back exact m rest h tail =
     let four = attributes_text m.attrs ++ rest in
     let three = maybe_text [] (option_map bandwidth_text m.bw) ++ four in
     let two = (codes "c=IN IP4 0.0.0.0" ++ line_end) ++ three in
-    let many = attributes_many exact m.attrs rest h.2 tail in
-    subst (λ t. SectionSays t m rest) (sym (section_spelled m rest)) (
+    let many = attributes_many back exact m.attrs rest h.2 tail in
+    subst (λ t. SectionSays t (section_as_read m) rest) (sym (section_spelled m rest)) (
       head_of m,
       two,
       printed_line head_line head-exact (head_of m) (named (codes "m=") (head_body m)) two
@@ -200,6 +206,6 @@ section_says exact m rest h tail =
       three,
       printed_line connection_line connection-exact passed (codes "c=IN IP4 0.0.0.0" ++ line_end) three connection,
       four,
-      perhaps_bandwidth m.bw four h.1 (not_98 m.attrs four rest many.0 tail),
+      perhaps_bandwidth m.bw four h.1 (not_98 (map as_read m.attrs) four rest many.0 tail),
       many,
     )

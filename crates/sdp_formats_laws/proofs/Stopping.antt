@@ -39,24 +39,34 @@ first_of c name f t [] r h = inr h
 first_of c name f t (a ∷ as') r h = inl (sym (line_first t h.1.0 h.0 h.1.1) ∙ ap first h.1.2.1)
 
 -- printed values, one behind the other
-begins_behind : {A : Type 0} (S : List ℕ → A → List ℕ → Type 0) (text : A → List ℕ) (P : A → Type 0)
-    → ((x : A) (rest : List ℕ) → P x → S (text x ++ rest) x rest) → (xs : List A) (rest : List ℕ) → IsEach P xs
-    → Begins S (each_behind [] (map text xs) ++ rest) xs rest
-begins_behind S text P line [] rest h = refl
-begins_behind S text P line (x ∷ xs) rest h = (
+begins_behind : {A B : Type 0} (S : List ℕ → B → List ℕ → Type 0) (text : A → List ℕ) (value : A → B)
+    (P : A → Type 0) → ((x : A) (rest : List ℕ) → P x → S (text x ++ rest) (value x) rest) → (xs : List A)
+    (rest : List ℕ) → IsEach P xs → Begins S (each_behind [] (map text xs) ++ rest) (map value xs) rest
+begins_behind S text value P line [] rest h = refl
+begins_behind S text value P line (x ∷ xs) rest h = (
   each_behind [] (map text xs) ++ rest,
-  subst (λ t. S t x (each_behind [] (map text xs) ++ rest))
+  subst (λ t. S t (value x) (each_behind [] (map text xs) ++ rest))
       (sym (append_assoc (text x) (each_behind [] (map text xs)) rest))
       (line x (each_behind [] (map text xs) ++ rest) h.0),
-  begins_behind S text P line xs rest h.1,
+  begins_behind S text value P line xs rest h.1,
 )
 
 pub joined_behind : (ts : List (List ℕ)) → joined [] ts ≡ each_behind [] ts
 joined_behind [] = refl
 joined_behind (t ∷ ts) = refl
 
+pub begins_as : {A B : Type 0} (S : List ℕ → B → List ℕ → Type 0) (text : A → List ℕ) (value : A → B)
+    (P : A → Type 0) → ((x : A) (rest : List ℕ) → P x → S (text x ++ rest) (value x) rest) → (xs : List A)
+    (rest : List ℕ) → IsEach P xs → Begins S (joined [] (map text xs) ++ rest) (map value xs) rest
+begins_as S text value P line xs rest h = subst (λ t. Begins S (t ++ rest) (map value xs) rest)
+    (sym (joined_behind (map text xs))) (begins_behind S text value P line xs rest h)
+
+map_same : {A : Type 0} (xs : List A) → map (λ x. x) xs ≡ xs
+map_same [] = refl
+map_same (x ∷ xs) = ap (λ t. x ∷ t) (map_same xs)
+
 pub begins_all : {A : Type 0} (S : List ℕ → A → List ℕ → Type 0) (text : A → List ℕ) (P : A → Type 0)
     → ((x : A) (rest : List ℕ) → P x → S (text x ++ rest) x rest) → (xs : List A) (rest : List ℕ) → IsEach P xs
     → Begins S (joined [] (map text xs) ++ rest) xs rest
-begins_all S text P line xs rest h = subst (λ t. Begins S (t ++ rest) xs rest) (sym (joined_behind (map text xs)))
-    (begins_behind S text P line xs rest h)
+begins_all S text P line xs rest h = subst (λ ys. Begins S (joined [] (map text xs) ++ rest) ys rest) (map_same xs)
+    (begins_as S text (λ x. x) P line xs rest h)

@@ -4,6 +4,7 @@ use Rattle.sdp_formats_session_lines.specs.Choice.{attribute_line}
 use Rattle.sdp_formats_types.specs.PrintedSession.{attribute_text}
 use Rattle.sdp_formats_types.specs.declared.session.SessionAttribute.{SessionAttribute}
 use Rattle.sdp_formats_types.specs.declared.session.SessionAttribute.TheVariants as a
+use Rattle.sdp_formats_laws.proofs.CandidateLines.{session_candidate_line}
 use Rattle.sdp_formats_laws.proofs.Printed.{IsPrintedAs}
 use Rattle.sdp_formats_laws.proofs.SessionKinds.{ice_lite, end_of_candidates, ice_ufrag, ice_pwd, ice_options}
 use Rattle.sdp_formats_laws.proofs.SessionKinds.{setup_line}
@@ -21,7 +22,7 @@ printed (a.IceOptions v) h = ice_options v h
 printed (a.Setup v) h = setup_line v
 printed (a.Fingerprint f) h = fingerprint_line f h
 printed a.EndOfCandidates h = end_of_candidates
+printed (a.Candidate c) h = session_candidate_line c h
 printed (a.Unused v) h = unused v h.0 h.1
 printed (a.MsidSemantic semantic []) h = absurd h
 printed a.AllowMixedExts h = absurd h
-printed (a.Candidate v) h = absurd h

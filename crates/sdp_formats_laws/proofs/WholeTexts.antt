@@ -9,6 +9,7 @@ use Rattle.sdp_formats_heads.specs.Lines.{version_line, origin_line, name_line, 
 use Rattle.sdp_formats_heads.specs.Lines.{something, passed}
 use Rattle.sdp_formats_heads.specs.Heads.{media_line}
 use Rattle.sdp_formats_media_lines.specs.Choice.{attribute_line as media_attribute_line}
+use Rattle.sdp_formats_pairs.specs.PrintedPairs.{RestrictionsComeBack}
 use Rattle.sdp_formats_reader.specs.Grammar.{OpeningSays, TimesSay, SessionSays, SectionSays, SdpSays}
 use Rattle.sdp_formats_session_lines.specs.Choice.{attribute_line, session_attribute}
 use Rattle.sdp_formats_steps.specs.Line.{LineOf}
@@ -28,7 +29,9 @@ use Rattle.sdp_formats_laws.proofs.Printed.{printed_line, lacks}
 use Rattle.sdp_formats_laws.proofs.Sections.{IsTail, perhaps_bandwidth, section_says}
 use Rattle.sdp_formats_laws.proofs.Stopping.{first, stops, other_start, first_of, begins_all, joined_behind}
 use Rattle.sdp_formats_laws.proofs.WholeSession.{printed}
+use Rattle.sdp_formats_laws.proofs.Consistent.{all_consistent}
 use Rattle.sdp_formats_laws.specs.PrintableSession.{IsPrintable}
+use Rattle.sdp_formats_laws.specs.ReadTexts.{section_as_read, text_as_read}
 use Rattle.sdp_formats_laws.specs.PrintableTexts.{IsEach, IsPrintableSection, IsPrintableSession}
 use Rattle.sdp_formats_laws.specs.PrintableTexts.{IsPrintableText}
 
@@ -37,7 +40,7 @@ abbrev pub LacksFirst : List ℕ → List ℕ → Type 0
 LacksFirst [] t = Unit {0}
 LacksFirst (c ∷ cs) t = (first t ≡ Some c → ⊥) × LacksFirst cs t
 
-no_other : (t : List ℕ) → LacksFirst (codes "iuepczk") t → Stops (LineOf other_line.Says) t
+pub no_other : (t : List ℕ) → LacksFirst (codes "iuepczk") t → Stops (LineOf other_line.Says) t
 no_other t h = stops _ t (λ content a s same. ⊎_elim (λ x. h.0 (sym same ∙ ap first x.1))
     (λ x. ⊎_elim (λ y. h.1.0 (sym same ∙ ap first y.1))
     (λ y. ⊎_elim (λ z. h.1.1.0 (sym same ∙ ap first z.1))
@@ -131,28 +134,31 @@ unfolding section_text
 section_tail m rest = λ c other e. other (cc)
 
 -- sections, one behind the other
-sections_begin : IsExact media_attribute_line → (ms : List MediaLine) → IsEach IsPrintableSection ms
-    → Begins SectionSays (each_behind [] (map section_text ms)) ms [] × IsTail (each_behind [] (map section_text ms))
-sections_begin exact [] h = (refl, nothing_left)
-sections_begin exact (m ∷ ms) h =
-    let more = sections_begin exact ms h.1 in (
+sections_begin : RestrictionsComeBack → IsExact media_attribute_line → (ms : List MediaLine)
+    → IsEach IsPrintableSection ms
+    → Begins SectionSays (each_behind [] (map section_text ms)) (map section_as_read ms) []
+    × IsTail (each_behind [] (map section_text ms))
+sections_begin back exact [] h = (refl, nothing_left)
+sections_begin back exact (m ∷ ms) h =
+    let more = sections_begin back exact ms h.1 in (
       (
         each_behind [] (map section_text ms),
-        section_says exact m (each_behind [] (map section_text ms)) h.0 more.1,
+        section_says back exact m (each_behind [] (map section_text ms)) h.0 more.1,
         more.0,
       ),
       section_tail m (each_behind [] (map section_text ms)),
     )
 
-pub text_says : IsExact attribute_line → IsExact media_attribute_line → (sdp : Sdp) → IsPrintableText sdp
-    → SdpSays (sdp_text sdp) sdp []
+pub text_says : RestrictionsComeBack → IsExact attribute_line → IsExact media_attribute_line → (sdp : Sdp)
+    → IsPrintableText sdp
+    → SdpSays (sdp_text sdp) (text_as_read sdp) []
 unfolding SdpSays
-text_says exact media_exact sdp h =
-    let sections = sections_begin media_exact sdp.media_lines h.1 in
+text_says back exact media_exact sdp h =
+    let sections = sections_begin back media_exact sdp.media_lines h.1 in
     let same = joined_behind (map section_text sdp.media_lines) in
     let tail = subst IsTail (sym same) sections.1 in (
       sections_text sdp.media_lines,
       session_says exact sdp.session (sections_text sdp.media_lines) h.0 tail,
-      (subst (λ t. Begins SectionSays t sdp.media_lines []) (sym same) sections.0, no_section),
-      h.2,
+      (subst (λ t. Begins SectionSays t (map section_as_read sdp.media_lines) []) (sym same) sections.0, no_section),
+      all_consistent sdp.media_lines h.2,
     )

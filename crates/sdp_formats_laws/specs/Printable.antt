@@ -1,12 +1,19 @@
 -- Attributes of a section that are read as they are printed.
-use Rattle.std.specs.Prelude.{◌≡◌, ◌≢◌, ◌<◌, ◌≤◌, ◌^◌, ℕ, List, [], ◌∷◌, Some, IfSome}
+use Rattle.std.specs.Prelude.{◌≡◌, ◌≢◌, ◌<◌, ◌≤◌, ◌^◌, ℕ, true, false, List, [], ◌∷◌, Some, None, IfSome}
 use Rattle.payload_core_base.specs.Codecs.{codec_name, codec_named}
 use Rattle.rtp_wire.specs.Kinds.{uri_of, extension_of}
 use Rattle.rtp_wire.specs.Name.{name_of}
 use Rattle.sdp_formats_forms.specs.Split.{Lacks}
 use Rattle.sdp_formats_media_lines.specs.Choice.{media_attribute}
+use Rattle.sdp_formats_pairs.specs.PrintedPairs.{ArePairs}
+use Rattle.sdp_formats_params.specs.declared.Pair.{Pair}
+use Rattle.sdp_formats_row_lines.specs.AsRead.{params_as_read}
 use Rattle.sdp_formats_row_lines.specs.Parameters.{parameters}
+use Rattle.sdp_formats_streams.specs.Names.{has_name_chars}
 use Rattle.sdp_formats_types.specs.Printed.{params_text}
+use Rattle.sdp_formats_types.specs.declared.candidate.Candidate as candidate
+use Rattle.sdp_formats_types.specs.declared.candidate.RelatedAddress.{RelatedAddress}
+use Rattle.sdp_formats_types.specs.declared.streams.SimulcastLayer.{SimulcastLayer}
 use Rattle.sdp_formats_types.specs.declared.media.RtpMap as map_of
 use Rattle.sdp_formats_types.specs.declared.media.MediaAttribute.{MediaAttribute}
 use Rattle.sdp_formats_types.specs.declared.media.MediaAttribute.TheVariants.{Rtcp, IceUfrag, IcePwd, IceOptions}
@@ -14,9 +21,9 @@ use Rattle.sdp_formats_types.specs.declared.media.MediaAttribute.TheVariants.{Se
 use Rattle.sdp_formats_types.specs.declared.media.MediaAttribute.TheVariants.{MaxMessageSize, SctpInit, ExtMap}
 use Rattle.sdp_formats_types.specs.declared.media.MediaAttribute.TheVariants.{RecvOnly, SendRecv, SendOnly, Inactive}
 use Rattle.sdp_formats_types.specs.declared.media.MediaAttribute.TheVariants.{Msid, RtcpMux, RtcpMuxOnly, RtcpRsize}
-use Rattle.sdp_formats_types.specs.declared.media.MediaAttribute.TheVariants.{EndOfCandidates, RtpMap}
-use Rattle.sdp_formats_types.specs.declared.media.MediaAttribute.TheVariants.{RtcpFb, Fmtp, SsrcGroup, Fingerprint}
-use Rattle.sdp_formats_types.specs.declared.media.MediaAttribute.TheVariants.{Ssrc, Unused}
+use Rattle.sdp_formats_types.specs.declared.media.MediaAttribute.TheVariants.{Candidate, EndOfCandidates, RtpMap}
+use Rattle.sdp_formats_types.specs.declared.media.MediaAttribute.TheVariants.{RtcpFb, Fmtp, Rid, Simulcast, SsrcGroup}
+use Rattle.sdp_formats_types.specs.declared.media.MediaAttribute.TheVariants.{Fingerprint, Ssrc, Unused}
 
 -- a text of a line: some bytes, and no end of a line among them
 abbrev pub IsText : List ℕ → Type 0
@@ -40,9 +47,53 @@ abbrev pub IsPrintableDigest : List ℕ → List ℕ → Type 0
 IsPrintableDigest name [] = ⊥
 IsPrintableDigest name (b ∷ bs) = IsWord name × AreBelow 256 (b ∷ bs)
 
+-- a candidate whose texts are words, with numbers of their width
+abbrev pub IsPrintableRelated : RelatedAddress → Type 0
+IsPrintableRelated r = IsWord r.addr × (r.port < 2 ^ 16)
+
+abbrev pub IsPrintableCandidate : candidate.Candidate → Type 0
+IsPrintableCandidate c = IsWord c.foundation × (c.component_id < 2 ^ 16) × (c.prio < 2 ^ 32) × IsWord c.addr
+    × (c.port < 2 ^ 16) × IfSome c.related IsPrintableRelated × IfSome c.ufrag IsWord
+
+-- a name of letters and numbers (RFC 8851 4), and none of the signs that part names
+pub record IsName (t : List ℕ) : Type 0 where
+  pub word : IsWord t
+  pub name : has_name_chars t ≡ true
+  pub comma : Lacks 44 t
+  pub semicolon : Lacks 59 t
+  pub tilde : Lacks 126 t
+
+-- restrictions that can stand on a line, the first of which doesn't begin with the letter p
+abbrev pub AreOnLine : List Pair → Type 0
+AreOnLine [] = Unit {0}
+AreOnLine (p ∷ ps) = (IsText p.key × IsText p.value) × AreOnLine ps
+
+abbrev pub HasOtherKey : List ℕ → Type 0
+HasOtherKey [] = ⊥
+HasOtherKey (b ∷ bs) = b ≢ 112
+
+-- A payload type, or restrictions, or nothing: a type with restrictions is printed `pt=99;max-br=1`, which is no type.
+abbrev pub AreLimits : List ℕ → List Pair → Type 0
+AreLimits [] [] = Unit {0}
+AreLimits [] (p ∷ ps) = ArePairs (p ∷ ps) × AreOnLine (p ∷ ps) × HasOtherKey p.key
+AreLimits (pt ∷ []) [] = pt ≤ 127
+AreLimits (pt ∷ []) (p ∷ ps) = ⊥
+AreLimits (pt ∷ other ∷ pts) ps = ⊥
+
+-- layers by their names alone
+abbrev pub AreLayers : List SimulcastLayer → Type 0
+AreLayers [] = Unit {0}
+AreLayers (l ∷ ls) = (IsName l.restriction_id.0 × (l.attributes ≡ None)) × AreLayers ls
+
+-- a layer at least, one way or the other
+abbrev pub AreWays : List SimulcastLayer → List SimulcastLayer → Type 0
+AreWays [] [] = ⊥
+AreWays [] (r ∷ rs) = AreLayers (r ∷ rs)
+AreWays (s ∷ ss) rs = AreLayers (s ∷ ss) × AreLayers rs
+
 -- An attribute whose texts can stand where they are printed. Of `a=fmtp` the parameters are such that their text is
--- read as themselves; of a line of another kind the text is of no known kind. Candidates, `a=rid` and `a=simulcast`
--- aren't among them.
+-- read as themselves, a profile, tier and level in front; of a line of another kind the text is of no known kind. A
+-- simulcast is one that is printed.
 abbrev pub IsPrintable : MediaAttribute → Type 0
 IsPrintable (Rtcp v) = IsText v
 IsPrintable (IceUfrag v) = IsText v
@@ -63,11 +114,14 @@ IsPrintable (Msid m) = IsWord m.stream_id × IsText m.track_id
 IsPrintable RtcpMux = Unit {0}
 IsPrintable RtcpMuxOnly = Unit {0}
 IsPrintable RtcpRsize = Unit {0}
+IsPrintable (Candidate c) = IsPrintableCandidate c
 IsPrintable EndOfCandidates = Unit {0}
 IsPrintable (RtpMap pt m) = (pt ≤ 127) × IsPrintableMap m
 IsPrintable (RtcpFb pt v) = (pt ≤ 127) × IsText v
 IsPrintable (Fmtp pt (p ∷ ps)) = (pt ≤ 127) × IsText (params_text (p ∷ ps))
-    × (parameters.reads (params_text (p ∷ ps)) ≡ Some (p ∷ ps))
+    × (parameters.reads (params_text (p ∷ ps)) ≡ Some (params_as_read (p ∷ ps)))
+IsPrintable (Rid id direction pts restrictions) = (id.1 ≡ true) × IsName id.0 × AreLimits pts restrictions
+IsPrintable (Simulcast s) = (s.is_munged ≡ false) × AreWays s.send.0 s.recv.0
 IsPrintable (SsrcGroup semantics (s ∷ ss)) = IsWord semantics × AreBelow (2 ^ 32) (s ∷ ss)
 IsPrintable (Ssrc ssrc attr v) = (ssrc < 2 ^ 32) × IsText attr × Lacks 58 attr × IsText v
 IsPrintable (Unused v) = IsText v × (media_attribute.reads v ≡ Some (Unused v))

@@ -6,8 +6,9 @@ use Rattle.sdp_formats_types.specs.declared.session.SessionAttribute.{SessionAtt
 use Rattle.sdp_formats_types.specs.declared.session.SessionAttribute.TheVariants.{Group, MsidSemantic, IceLite}
 use Rattle.sdp_formats_types.specs.declared.session.SessionAttribute.TheVariants.{IceUfrag}
 use Rattle.sdp_formats_types.specs.declared.session.SessionAttribute.TheVariants.{IcePwd, IceOptions, Setup}
-use Rattle.sdp_formats_types.specs.declared.session.SessionAttribute.TheVariants.{EndOfCandidates, Fingerprint, Unused}
-use Rattle.sdp_formats_laws.specs.Printable.{IsText, IsWord, IsPrintableDigest}
+use Rattle.sdp_formats_types.specs.declared.session.SessionAttribute.TheVariants.{Candidate, EndOfCandidates}
+use Rattle.sdp_formats_types.specs.declared.session.SessionAttribute.TheVariants.{Fingerprint, Unused}
+use Rattle.sdp_formats_laws.specs.Printable.{IsText, IsWord, IsPrintableDigest, IsPrintableCandidate}
 
 abbrev pub AreWords : List (List ℕ) → Type 0
 AreWords [] = Unit {0}
@@ -19,7 +20,7 @@ AreMids [] = Unit {0}
 AreMids (m ∷ ms) = IsWord m × (name_of 16 m ≡ m) × AreMids ms
 
 -- An attribute whose texts can stand where they are printed; the text of another kind of line is of no known kind.
--- Candidates and `a=extmap-allow-mixed` aren't among them.
+-- `a=extmap-allow-mixed` isn't among them: it is read as a line of no known kind.
 abbrev pub IsPrintable : SessionAttribute → Type 0
 IsPrintable (Group typ mids) = IsWord typ × AreMids mids
 IsPrintable (MsidSemantic semantic (s ∷ ss)) = IsWord semantic × AreWords (s ∷ ss)
@@ -28,6 +29,7 @@ IsPrintable (IceUfrag v) = IsText v
 IsPrintable (IcePwd v) = IsText v
 IsPrintable (IceOptions v) = IsText v
 IsPrintable (Setup v) = Unit {0}
+IsPrintable (Candidate c) = IsPrintableCandidate c
 IsPrintable EndOfCandidates = Unit {0}
 IsPrintable (Fingerprint f) = IsPrintableDigest f.hash_func f.bytes
 IsPrintable (Unused v) = IsText v × (session_attribute.reads v ≡ Some (Unused v))

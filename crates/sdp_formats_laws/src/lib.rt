@@ -5,4 +5,4 @@ mod lines;
 mod texts;
 
 pub use lines::printed_lines_law;
-pub use texts::printed_texts_law;
+pub use texts::{line_ends_law, more_behind_law, printed_texts_law};

@@ -3,17 +3,23 @@
 ghost use Rattle.std.specs.Prelude.{List, ℕ, ◌++◌};
 ghost use Rattle.sdp_formats_laws.specs.Printable.{IsPrintable};
 ghost use Rattle.sdp_formats_media_lines.specs.Choice.{attribute_line};
+ghost use Rattle.sdp_formats_row_lines.specs.AsRead.{as_read};
 ghost use Rattle.sdp_formats_steps.specs.Line.{LineOf};
 ghost use Rattle.sdp_formats_types.specs.PrintedMedia.{attribute_text};
 ghost use Rattle.sdp_formats_types.specs.declared.media.MediaAttribute.{MediaAttribute};
 
 use sdp_formats_media_lines::MediaAttributeLine;
+use sdp_formats_pairs::printed_pairs_law;
 use sdp_formats_steps::Lined;
 
 /// The printed line of a printable attribute is read as that attribute, whatever stands behind it.
+///
+/// Of a line `a=fmtp` a profile, tier and level is read in front of the other parameters, a range of telephone
+/// events as a range, and a type of redundant audio as a list of types: `as_read`.
 pub fn printed_lines_law()
     ensures { (a : MediaAttribute) (rest : List ℕ) → IsPrintable a
-        → LineOf attribute_line.Says (attribute_text a ++ rest) a rest }
+        → LineOf attribute_line.Says (attribute_text a ++ rest) (as_read a) rest }
 {
     MediaAttributeLine::exact_law();
+    printed_pairs_law();
 }

@@ -1,20 +1,36 @@
 //! Session texts that are read as they are printed.
 
 ghost use Rattle.std.specs.Prelude.{[]};
+ghost use Rattle.sdp_formats_laws.specs.LineEnds.{ReadsByAnyEnd, ReadsWithMoreBehind};
 ghost use Rattle.sdp_formats_laws.specs.PrintableTexts.{IsPrintableText};
+ghost use Rattle.sdp_formats_laws.specs.ReadTexts.{text_as_read};
 ghost use Rattle.sdp_formats_reader.specs.Grammar.{SdpSays};
 ghost use Rattle.sdp_formats_types.specs.PrintedSession.{sdp_text};
 ghost use Rattle.sdp_formats_types.specs.declared.session.Sdp.{Sdp};
 
 use sdp_formats_media_lines::MediaAttributeLine;
+use sdp_formats_pairs::printed_pairs_law;
 use sdp_formats_session_lines::SessionAttributeLine;
 use sdp_formats_steps::Lined;
 
 /// The printed text of a session is read whole as that session, where its texts can stand where they are printed and no
-/// section has a fault.
+/// section has a fault; of lines `a=fmtp` as `printed_lines_law` says.
 pub fn printed_texts_law()
-    ensures { (sdp : Sdp) → IsPrintableText sdp → SdpSays (sdp_text sdp) sdp [] }
+    ensures { (sdp : Sdp) → IsPrintableText sdp → SdpSays (sdp_text sdp) (text_as_read sdp) [] }
 {
     SessionAttributeLine::exact_law();
     MediaAttributeLine::exact_law();
+    printed_pairs_law();
 }
+
+/// A text of lines that LF ends is read as the same text of lines that CR LF ends, and the other way round (RFC 8866
+/// 5).
+pub fn line_ends_law()
+    ensures { ReadsByAnyEnd }
+{}
+
+/// What is read of a text, the last line of which is ended, doesn't change when lines that fit nowhere are put behind
+/// it, but for the rest.
+pub fn more_behind_law()
+    ensures { ReadsWithMoreBehind }
+{}

@@ -3,7 +3,7 @@ use Rattle.std.proofs.Common.{◌≡◌, ◌≢◌, ◌++◌, ◌==◌, ℕ, tru
 use Rattle.std.proofs.lemmas.Bool.Decides.{nat_tests}
 use Rattle.sdp_formats_pairs.specs.Pairs.{ends_open}
 
-not_equal : (b c : ℕ) → b ≢ c → (b == c) ≡ false
+pub not_equal : (b c : ℕ) → b ≢ c → (b == c) ≡ false
 not_equal b c h = grind (arith, nat_tests)
 
 pub ends-at : (front : List ℕ) → ends_open (front ++ 59 ∷ []) ≡ true

@@ -1,2 +1,3 @@
 pub mod PairRounds
 pub mod Ends
+pub mod Printed

@@ -1,23 +1,22 @@
 -- One pair after the other.
-use Rattle.std.proofs.Common.{◌≡◌, ◌≤◌, ◌<◌, ◌+◌, ◌==◌, ◌++◌, ℕ, suc, Bool, true, false, cond, List, [], ◌∷◌, length}
+use Rattle.std.proofs.Common.{◌≡◌, ◌≤◌, ◌+◌, ◌==◌, ◌++◌, ℕ, Bool, true, false, cond, List, [], ◌∷◌, length}
 use Rattle.std.proofs.Common.{Option, Some, None, Result, Ok, Err, Bor, refl, sym, ◌∙◌, ap, subst, arith}
 use Rattle.std.specs.List.{list_all}
-use Rattle.sdp_formats_forms.specs.Bind.{◌>>=◌}
 use Rattle.sdp_formats_forms.specs.Cuts.{split_first-cuts, IsCut, somewhere, nowhere, cut_of, split_first-at}
 use Rattle.sdp_formats_forms.specs.Cuts.{split_first-nowhere}
 use Rattle.sdp_formats_forms.specs.Split.{split_first, halves, halves_of}
-use Rattle.sdp_formats_forms.specs.Refusals.{GivesBy, Gives}
+use Rattle.sdp_formats_forms.specs.Refusals.{GivesBy}
 use Rattle.sdp_formats_forms.specs.Steps.{bind_some, some_same, none_some}
 use Rattle.sdp_formats_forms.specs.declared.refusal.Refusal.{Refusal}
 use Rattle.sdp_formats_forms.specs.declared.refusal.Refusal.TheVariants.{Unfit, Memory}
-use Rattle.sdp_formats_steps.specs.Step.{Step, Steps, Shortens, Many, Stops, IsShortening}
+use Rattle.sdp_formats_steps.specs.Step.{Steps, Shortens, Many, Stops, IsShortening}
 use Rattle.std.proofs.lemmas.Bool.Decides.{nat_tests}
 use Rattle.sdp_formats_forms.specs.Form.{IsExact}
 use Rattle.sdp_formats_steps.specs.Step.{Begins}
-use Rattle.sdp_formats_pairs.specs.PairsSay.{PairSays, PairsSay, pair_list}
+use Rattle.sdp_formats_pairs.specs.PairsSay.{PairSays, pair_list}
 use Rattle.sdp_formats_pairs.specs.PairLemmas.{pair-sound, pair-complete, blank_word}
 use Rattle.sdp_formats_pairs.specs.Runs.{At, run, run-complete, run-sound}
-use Rattle.sdp_formats_pairs.specs.Pairs.{word, is_word_byte, is_blank, unblanked, padded, make_pair, or_empty}
+use Rattle.sdp_formats_pairs.specs.Pairs.{word, is_blank, unblanked, padded, or_empty}
 use Rattle.sdp_formats_pairs.specs.Pairs.{pair_at, pairs_of, whole, with_rest, restriction_at, ends_open, all_read}
 use Rattle.sdp_formats_pairs.specs.Pairs.{restrictions_of}
 use Rattle.sdp_formats_params.specs.declared.Pair.{Pair}

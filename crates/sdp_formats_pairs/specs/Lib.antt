@@ -2,3 +2,4 @@ pub mod Runs
 pub mod Pairs
 pub mod PairsSay
 pub mod PairLemmas
+pub mod PrintedPairs

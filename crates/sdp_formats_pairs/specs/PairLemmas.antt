@@ -1,21 +1,19 @@
 -- A pair is read exactly where it says one.
-use Rattle.std.proofs.Common.{◌≡◌, ◌≢◌, ◌⊎◌, ◌++◌, ◌==◌, ◌||◌, ◌&&◌, not, ℕ, Bool, true, false, cond, List, [], ◌∷◌}
-use Rattle.std.proofs.Common.{length, Option, Some, None, refl, sym, ◌∙◌, ap, subst, inl, inr, ⊎_elim, append_assoc}
+use Rattle.std.proofs.Common.{◌≡◌, ◌≢◌, ◌++◌, ◌==◌, ◌||◌, ◌&&◌, not, ℕ, Bool, true, false, cond, List, [], ◌∷◌}
+use Rattle.std.proofs.Common.{Option, Some, None, refl, sym, ◌∙◌, ap, subst, inl, inr, append_assoc}
 use Rattle.std.proofs.Common.{append-nil, arith}
 use Rattle.std.specs.List.{list_all}
-use Rattle.std.proofs.lemmas.Bool.{cases_Bool}
-use Rattle.std.proofs.lemmas.Bool.Decides.{Decides-eqb, nat_tests}
+use Rattle.std.proofs.lemmas.Bool.Decides.{nat_tests}
 use Rattle.sdp_formats_forms.specs.Bind.{◌>>=◌}
 use Rattle.sdp_formats_forms.specs.Form.{some_text}
 use Rattle.sdp_formats_forms.specs.Split.{Lacks, split_first, halves, halves_of, behind}
 use Rattle.sdp_formats_forms.specs.Cuts.{split_first-cuts, IsCut, somewhere, nowhere, cut_of, split_first-at}
-use Rattle.sdp_formats_forms.specs.Cuts.{split_first-nowhere, same_or_not}
+use Rattle.sdp_formats_forms.specs.Cuts.{split_first-nowhere}
 use Rattle.sdp_formats_forms.specs.Words.{behind-append, behind-sound}
 use Rattle.sdp_formats_forms.specs.Steps.{bind_some, some_same, none_some}
-use Rattle.sdp_formats_pairs.specs.Runs.{At}
 use Rattle.sdp_formats_pairs.specs.Pairs.{word, is_word_byte, is_blank, unblanked, word_before, passed_tail, padded}
 use Rattle.sdp_formats_pairs.specs.Pairs.{make_pair, or_empty, pair_at}
-use Rattle.sdp_formats_pairs.specs.PairsSay.{Blanks, IsWord, IsParted, PairSays}
+use Rattle.sdp_formats_pairs.specs.PairsSay.{Blanks, IsParted, PairSays}
 use Rattle.sdp_formats_params.specs.declared.Pair.{Pair}
 
 and_true : (a b : Bool) → (a && b) ≡ true → (a ≡ true) × (b ≡ true)
@@ -49,7 +47,7 @@ word_blank b h = by_bits (b == 32) (b == 9) h
     by_bits false true h = absurd (cc)
     by_bits false false h = refl
 
-unblanked-word : (w t : List ℕ) → w ≢ [] → list_all is_word_byte w ≡ true → unblanked (w ++ t) ≡ w ++ t
+pub unblanked-word : (w t : List ℕ) → w ≢ [] → list_all is_word_byte w ≡ true → unblanked (w ++ t) ≡ w ++ t
 unblanked-word [] t n h = absurd (n refl)
 unblanked-word (b ∷ w) t n h = ap (λ x. cond x (unblanked (w ++ t)) (b ∷ (w ++ t)))
     (word_blank b (and_true (is_word_byte b) (list_all is_word_byte w) h).0)
@@ -77,7 +75,7 @@ word-sound t w h =
     let two = passed_if (list_all is_word_byte s.0) s.0 w s.2 in
     (one.0 ∙ two.1, subst (λ x. x ≢ []) two.1 one.1, subst (λ x. list_all is_word_byte x ≡ true) two.1 two.0)
 
-word-complete : (w : List ℕ) → w ≢ [] → list_all is_word_byte w ≡ true → word.reads w ≡ Some w
+pub word-complete : (w : List ℕ) → w ≢ [] → list_all is_word_byte w ≡ true → word.reads w ≡ Some w
 word-complete w n h = ap (λ o. o >>= λ a. cond (list_all is_word_byte a) (Some a) None) (some_is w n)
     ∙ ap (λ x. cond x (Some w) None) h
 
@@ -90,10 +88,10 @@ lacks-both : (k : ℕ) (a b : List ℕ) → Lacks k a → Lacks k b → Lacks k 
 lacks-both k [] b h i = i
 lacks-both k (x ∷ a) b h i = (h.0, lacks-both k a b h.1 i)
 
-at-cut : (c : ℕ) (t front back : List ℕ) → t ≡ front ++ c ∷ back → Lacks c front → halves c t ≡ (front, Some back)
+pub at-cut : (c : ℕ) (t front back : List ℕ) → t ≡ front ++ c ∷ back → Lacks c front → halves c t ≡ (front, Some back)
 at-cut c t front back whole lacks = ap (halves_of t) (ap (split_first c) whole ∙ split_first-at c front back lacks)
 
-at-none : (c : ℕ) (t : List ℕ) → Lacks c t → halves c t ≡ (t, None)
+pub at-none : (c : ℕ) (t : List ℕ) → Lacks c t → halves c t ≡ (t, None)
 at-none c t lacks = ap (halves_of t) (split_first-nowhere c t lacks)
 
 -- the first half lacks the byte and is the front of the text
@@ -108,7 +106,7 @@ front_by c t (nowhere lacks) =
 word_bits : (b : ℕ) → b ≢ 32 → b ≢ 9 → is_word_byte b ≡ true
 word_bits b h k = grind (arith, nat_tests)
 
-lacks-word : (t : List ℕ) → Lacks 32 t → Lacks 9 t → list_all is_word_byte t ≡ true
+pub lacks-word : (t : List ℕ) → Lacks 32 t → Lacks 9 t → list_all is_word_byte t ≡ true
 lacks-word [] h k = refl
 lacks-word (b ∷ t) h k = both_true (is_word_byte b) (list_all is_word_byte t) (word_bits b h.0 k.0)
     (lacks-word t h.1 k.1)

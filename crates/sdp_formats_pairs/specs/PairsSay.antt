@@ -1,5 +1,5 @@
 -- What a list of keys and values says, as a relation.
-use Rattle.std.specs.Prelude.{◌≡◌, ◌≢◌, ◌⊎◌, ◌++◌, ℕ, true, List, [], ◌∷◌, Option}
+use Rattle.std.specs.Prelude.{◌≡◌, ◌≢◌, ◌⊎◌, ◌++◌, ℕ, true, List, [], ◌∷◌}
 use Rattle.std.specs.List.{list_all}
 use Rattle.sdp_formats_forms.specs.Form.{Form, IsExact}
 use Rattle.sdp_formats_forms.specs.Split.{Lacks}

@@ -1,6 +1,6 @@
 -- As many values as a reader finds, by the length of the text.
-use Rattle.std.proofs.Common.{◌≡◌, ◌≤◌, ◌<◌, ◌+◌, ℕ, zero, suc, List, [], ◌∷◌, length, Option, Some, None, refl, sym}
-use Rattle.std.proofs.Common.{◌∙◌, ap, subst, arith}
+use Rattle.std.proofs.Common.{◌≡◌, ◌≤◌, ℕ, zero, suc, List, [], ◌∷◌, length, Option, Some, None, refl, sym}
+use Rattle.std.proofs.Common.{◌∙◌, ap, arith}
 use Rattle.sdp_formats_forms.specs.Steps.{none_some, some_same, none_if}
 use Rattle.sdp_formats_steps.specs.Step.{Step, Stops, Begins, Many, IsFunctional, IsShortening}
 

@@ -6,5 +6,5 @@ mod laws;
 mod restricted;
 
 pub use keyed::pairs;
-pub use laws::pairs_law;
+pub use laws::{pairs_law, printed_pairs_law};
 pub use restricted::restrictions;

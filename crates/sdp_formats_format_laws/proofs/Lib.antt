@@ -1,0 +1,11 @@
+pub mod FormatRanges
+pub mod Numerals
+pub mod ModeSets
+pub mod KeyedParams
+pub mod KeyedLists
+pub mod KeyRanks
+pub mod LevelLists
+pub mod LevelNumbers
+pub mod OtherParams
+pub mod FormatsBack
+pub mod PlainRows

@@ -1,0 +1,3 @@
+pub mod Ranges
+pub mod Keyed
+pub mod Laws

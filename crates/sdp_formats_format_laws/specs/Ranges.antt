@@ -1,0 +1,20 @@
+-- Formats whose numbers are of their widths.
+use Rattle.std.specs.Prelude.{◌<◌, ◌≤◌, ◌^◌, ℕ, Option, Some, None, IfSome}
+use Rattle.sdp_formats_rows.specs.declared.format.FormatParams.{FormatParams}
+
+-- one of nine modes at least (RFC 4867 8.2)
+abbrev pub IsModes : ℕ → Type 0
+IsModes modes = (0 < modes) × (modes < 2 ^ 9)
+
+-- not both
+abbrev pub AtMostOne : {A B : Type 0} → Option A → Option B → Type 0
+AtMostOne (Some a) (Some b) = ⊥
+AtMostOne (Some a) None = Unit {0}
+AtMostOne None b = Unit {0}
+
+abbrev pub IsInRange : FormatParams → Type 0
+IsInRange f = IfSome f.min_p_time (λ n. n < 2 ^ 8) × IfSome f.packetization_mode (λ n. n < 2 ^ 8)
+    × IfSome f.profile_level_id (λ n. n < 2 ^ 32) × IfSome f.profile_id (λ n. n < 2 ^ 32)
+    × IfSome f.profile (λ n. n < 2 ^ 8) × IfSome f.level_idx (λ n. n < 2 ^ 8) × IfSome f.tier (λ n. n < 2 ^ 8)
+    × IfSome f.sprop_max_don_diff (λ n. n ≤ 32767) × IfSome f.telephone_event_max (λ n. n < 2 ^ 8)
+    × IfSome f.mode_set IsModes

@@ -1,0 +1,6 @@
+//! What the parameters of a plain row are read as once they are printed.
+#![tactic(auto)]
+
+mod laws;
+
+pub use laws::{links_law, plain_parameters_law};

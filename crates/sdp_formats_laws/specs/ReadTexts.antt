@@ -1,0 +1,13 @@
+-- What a printed text is read as.
+use Rattle.std.specs.Prelude.{map}
+use Rattle.sdp_formats_row_lines.specs.AsRead.{as_read}
+use Rattle.sdp_formats_types.specs.declared.media.MediaLine.{MediaLine}
+use Rattle.sdp_formats_types.specs.declared.session.Sdp.{Sdp}
+
+-- the section itself, but for parameters of `a=fmtp`: a profile, tier and level comes in front of the others, a range
+-- of telephone events is a range and a type of redundant audio a list of types
+abbrev pub section_as_read : MediaLine → MediaLine
+section_as_read m = record m { attrs = map as_read m.attrs }
+
+abbrev pub text_as_read : Sdp → Sdp
+text_as_read sdp = record { session = sdp.session; media_lines = map section_as_read sdp.media_lines }

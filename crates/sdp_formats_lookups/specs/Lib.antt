@@ -1,0 +1,4 @@
+pub mod Creds
+pub mod Sections
+pub mod Sessions
+pub mod Whole

@@ -1,0 +1,7 @@
+//! What sections and sessions say, by their attributes, beside the accessors of `MediaLine`.
+#![tactic(auto)]
+
+pub mod lists;
+pub mod section;
+pub mod session;
+pub mod whole;

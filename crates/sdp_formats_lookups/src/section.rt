@@ -1,0 +1,177 @@
+//! What a section says, by its attributes.
+
+ghost use Rattle.std.specs.Prelude.{◌≡◌};
+ghost use Rattle.std.specs.List.{list_any};
+ghost use Rattle.std.specs.Option.{option_copied};
+ghost use Rattle.sdp_formats_lookups.specs.Creds.{creds_view};
+ghost use Rattle.sdp_formats_lookups.specs.Sections.{creds_of, ends_candidates, fingerprint_in, ice_pwd_in};
+ghost use Rattle.sdp_formats_lookups.specs.Sections.{ice_ufrag_in, max_message_size_in, sctp_init_in, simulcast_in};
+ghost use Rattle.sdp_formats_types.specs.Lookups.{first_of};
+
+use sdp_formats_forms::Text;
+use sdp_formats_types::{Fingerprint, MediaAttribute, MediaLine, Simulcast};
+
+#[tactic(auto, unfolding(crate::specs::Sections::sctp_init_in))]
+fn sctp_init_in(attribute: &MediaAttribute) -> Option<&Text>
+    ensures { option_copied result ≡ sctp_init_in attribute.now }
+{
+    match attribute {
+        MediaAttribute::SctpInit(value) => Some(value),
+        _ => None,
+    }
+}
+
+/// The parameters of the first `a=sctp-init`.
+pub fn sctp_init(section: &MediaLine) -> Option<&Text>
+    ensures { option_copied result ≡ first_of sctp_init_in section.now.attrs }
+{
+    let attributes = section.attrs.as_slice();
+    for attribute in attributes {
+        if let Some(value) = sctp_init_in(attribute) {
+            return Some(value);
+        }
+    }
+    None
+}
+
+#[tactic(auto, unfolding(crate::specs::Sections::ice_ufrag_in))]
+fn ice_ufrag_in(attribute: &MediaAttribute) -> Option<&Text>
+    ensures { option_copied result ≡ ice_ufrag_in attribute.now }
+{
+    match attribute {
+        MediaAttribute::IceUfrag(value) => Some(value),
+        _ => None,
+    }
+}
+
+/// The name of the first `a=ice-ufrag` (RFC 8839 5.4).
+pub fn ice_ufrag(section: &MediaLine) -> Option<&Text>
+    ensures { option_copied result ≡ first_of ice_ufrag_in section.now.attrs }
+{
+    let attributes = section.attrs.as_slice();
+    for attribute in attributes {
+        if let Some(value) = ice_ufrag_in(attribute) {
+            return Some(value);
+        }
+    }
+    None
+}
+
+#[tactic(auto, unfolding(crate::specs::Sections::ice_pwd_in))]
+fn ice_pwd_in(attribute: &MediaAttribute) -> Option<&Text>
+    ensures { option_copied result ≡ ice_pwd_in attribute.now }
+{
+    match attribute {
+        MediaAttribute::IcePwd(value) => Some(value),
+        _ => None,
+    }
+}
+
+/// The password of the first `a=ice-pwd` (RFC 8839 5.4).
+pub fn ice_pwd(section: &MediaLine) -> Option<&Text>
+    ensures { option_copied result ≡ first_of ice_pwd_in section.now.attrs }
+{
+    let attributes = section.attrs.as_slice();
+    for attribute in attributes {
+        if let Some(value) = ice_pwd_in(attribute) {
+            return Some(value);
+        }
+    }
+    None
+}
+
+#[tactic(auto, unfolding(crate::specs::Sections::fingerprint_in))]
+fn fingerprint_in(attribute: &MediaAttribute) -> Option<&Fingerprint>
+    ensures { option_copied result ≡ fingerprint_in attribute.now }
+{
+    match attribute {
+        MediaAttribute::Fingerprint(value) => Some(value),
+        _ => None,
+    }
+}
+
+/// The fingerprint of the first `a=fingerprint` (RFC 8122 5).
+pub fn fingerprint(section: &MediaLine) -> Option<&Fingerprint>
+    ensures { option_copied result ≡ first_of fingerprint_in section.now.attrs }
+{
+    let attributes = section.attrs.as_slice();
+    for attribute in attributes {
+        if let Some(value) = fingerprint_in(attribute) {
+            return Some(value);
+        }
+    }
+    None
+}
+
+#[tactic(auto, unfolding(crate::specs::Sections::simulcast_in))]
+fn simulcast_in(attribute: &MediaAttribute) -> Option<&Simulcast>
+    ensures { option_copied result ≡ simulcast_in attribute.now }
+{
+    match attribute {
+        MediaAttribute::Simulcast(value) => Some(value),
+        _ => None,
+    }
+}
+
+/// The layers of the first `a=simulcast` (RFC 8853 5.1).
+pub fn simulcast(section: &MediaLine) -> Option<&Simulcast>
+    ensures { option_copied result ≡ first_of simulcast_in section.now.attrs }
+{
+    let attributes = section.attrs.as_slice();
+    for attribute in attributes {
+        if let Some(value) = simulcast_in(attribute) {
+            return Some(value);
+        }
+    }
+    None
+}
+
+#[tactic(auto, unfolding(crate::specs::Sections::max_message_size_in))]
+fn max_message_size_in(attribute: &MediaAttribute) -> Option<usize>
+    ensures { result ≡ max_message_size_in attribute.now }
+{
+    match attribute {
+        MediaAttribute::MaxMessageSize(value) => Some(*value),
+        _ => None,
+    }
+}
+
+/// The number of bytes of the first `a=max-message-size` (RFC 8841 6).
+pub fn max_message_size(section: &MediaLine) -> Option<usize>
+    ensures { result ≡ first_of max_message_size_in section.now.attrs }
+{
+    let attributes = section.attrs.as_slice();
+    for attribute in attributes {
+        if let Some(value) = max_message_size_in(attribute) {
+            return Some(value);
+        }
+    }
+    None
+}
+
+/// The credentials of connectivity checks: the first name and the first password, where both are given (RFC 8839 5.4).
+pub fn ice_creds(section: &MediaLine) -> Option<(&Text, &Text)>
+    ensures { creds_view result ≡ creds_of section.now.attrs }
+{
+    let ufrag = ice_ufrag(section)?;
+    let pass = ice_pwd(section)?;
+    Some((ufrag, pass))
+}
+
+#[tactic(auto, unfolding(crate::specs::Sections::ends_candidates))]
+fn ends_candidates(attribute: &MediaAttribute) -> bool
+    ensures { result ≡ ends_candidates attribute.now }
+{
+    matches!(attribute, MediaAttribute::EndOfCandidates)
+}
+
+/// Whether no more candidates come (RFC 8840 8.2).
+pub fn end_of_candidates(section: &MediaLine) -> bool
+    ensures { result ≡ list_any ends_candidates section.now.attrs }
+{
+    section
+        .attrs
+        .as_slice()
+        .iter()
+        .any(|attribute| ends_candidates(attribute))
+}

@@ -1,0 +1,149 @@
+//! What a session says, by its attributes.
+
+ghost use Rattle.std.specs.Prelude.{◌≡◌};
+ghost use Rattle.std.specs.List.{list_any};
+ghost use Rattle.std.specs.Option.{option_copied};
+ghost use Rattle.sdp_formats_lookups.specs.Creds.{creds_view};
+ghost use Rattle.sdp_formats_lookups.specs.Sessions.{creds_of, ends_candidates, fingerprint_in, ice_pwd_in};
+ghost use Rattle.sdp_formats_lookups.specs.Sessions.{ice_ufrag_in, is_lite, setup_in};
+ghost use Rattle.sdp_formats_types.specs.Lookups.{first_of};
+
+use sdp_formats_forms::Text;
+use sdp_formats_types::{Fingerprint, Session, SessionAttribute, Setup};
+
+#[tactic(auto, unfolding(crate::specs::Sessions::setup_in))]
+fn setup_in(attribute: &SessionAttribute) -> Option<Setup>
+    ensures { result ≡ setup_in attribute.now }
+{
+    match attribute {
+        SessionAttribute::Setup(value) => Some(*value),
+        _ => None,
+    }
+}
+
+/// Which end opens the connection, of the first `a=setup` (RFC 4145 4).
+pub fn setup(session: &Session) -> Option<Setup>
+    ensures { result ≡ first_of setup_in session.now.attrs }
+{
+    let attributes = session.attrs.as_slice();
+    for attribute in attributes {
+        if let Some(value) = setup_in(attribute) {
+            return Some(value);
+        }
+    }
+    None
+}
+
+#[tactic(auto, unfolding(crate::specs::Sessions::ice_ufrag_in))]
+fn ice_ufrag_in(attribute: &SessionAttribute) -> Option<&Text>
+    ensures { option_copied result ≡ ice_ufrag_in attribute.now }
+{
+    match attribute {
+        SessionAttribute::IceUfrag(value) => Some(value),
+        _ => None,
+    }
+}
+
+/// The name of the first `a=ice-ufrag` (RFC 8839 5.4).
+pub fn ice_ufrag(session: &Session) -> Option<&Text>
+    ensures { option_copied result ≡ first_of ice_ufrag_in session.now.attrs }
+{
+    let attributes = session.attrs.as_slice();
+    for attribute in attributes {
+        if let Some(value) = ice_ufrag_in(attribute) {
+            return Some(value);
+        }
+    }
+    None
+}
+
+#[tactic(auto, unfolding(crate::specs::Sessions::ice_pwd_in))]
+fn ice_pwd_in(attribute: &SessionAttribute) -> Option<&Text>
+    ensures { option_copied result ≡ ice_pwd_in attribute.now }
+{
+    match attribute {
+        SessionAttribute::IcePwd(value) => Some(value),
+        _ => None,
+    }
+}
+
+/// The password of the first `a=ice-pwd` (RFC 8839 5.4).
+pub fn ice_pwd(session: &Session) -> Option<&Text>
+    ensures { option_copied result ≡ first_of ice_pwd_in session.now.attrs }
+{
+    let attributes = session.attrs.as_slice();
+    for attribute in attributes {
+        if let Some(value) = ice_pwd_in(attribute) {
+            return Some(value);
+        }
+    }
+    None
+}
+
+#[tactic(auto, unfolding(crate::specs::Sessions::fingerprint_in))]
+fn fingerprint_in(attribute: &SessionAttribute) -> Option<&Fingerprint>
+    ensures { option_copied result ≡ fingerprint_in attribute.now }
+{
+    match attribute {
+        SessionAttribute::Fingerprint(value) => Some(value),
+        _ => None,
+    }
+}
+
+/// The fingerprint of the first `a=fingerprint` (RFC 8122 5).
+pub fn fingerprint(session: &Session) -> Option<&Fingerprint>
+    ensures { option_copied result ≡ first_of fingerprint_in session.now.attrs }
+{
+    let attributes = session.attrs.as_slice();
+    for attribute in attributes {
+        if let Some(value) = fingerprint_in(attribute) {
+            return Some(value);
+        }
+    }
+    None
+}
+
+/// The credentials of connectivity checks: the first name and the first password, where both are given (RFC 8839 5.4).
+pub fn ice_creds(session: &Session) -> Option<(&Text, &Text)>
+    ensures { creds_view result ≡ creds_of session.now.attrs }
+{
+    let ufrag = ice_ufrag(session)?;
+    let pass = ice_pwd(session)?;
+    Some((ufrag, pass))
+}
+
+#[tactic(auto, unfolding(crate::specs::Sessions::ends_candidates))]
+fn ends_candidates(attribute: &SessionAttribute) -> bool
+    ensures { result ≡ ends_candidates attribute.now }
+{
+    matches!(attribute, SessionAttribute::EndOfCandidates)
+}
+
+/// Whether no more candidates come (RFC 8840 8.2).
+pub fn end_of_candidates(session: &Session) -> bool
+    ensures { result ≡ list_any ends_candidates session.now.attrs }
+{
+    session
+        .attrs
+        .as_slice()
+        .iter()
+        .any(|attribute| ends_candidates(attribute))
+}
+
+#[tactic(auto, unfolding(crate::specs::Sessions::is_lite))]
+fn is_lite(attribute: &SessionAttribute) -> bool
+    ensures { result ≡ is_lite attribute.now }
+{
+    matches!(attribute, SessionAttribute::IceLite)
+}
+
+/// Whether its end answers connectivity checks alone (RFC 8839 5.3).
+pub fn ice_lite(session: &Session) -> bool
+    ensures { result ≡ list_any is_lite session.now.attrs }
+{
+    session
+        .attrs
+        .as_slice()
+        .iter()
+        .any(|attribute| is_lite(attribute))
+}

@@ -1,0 +1,75 @@
+//! What a whole session text says: the session's own word, or else that of its first section that has one.
+
+ghost use Rattle.std.specs.Prelude.{◌≡◌};
+ghost use Rattle.std.specs.Option.{option_copied};
+ghost use Rattle.sdp_formats_lookups.specs.Creds.{creds_view};
+ghost use Rattle.sdp_formats_lookups.specs.Whole.{creds_of, fingerprint_of, section_creds};
+ghost use Rattle.sdp_formats_lookups.specs.Whole.{section_fingerprint, section_setup, setup_of};
+ghost use Rattle.sdp_formats_types.specs.Lookups.{first_of};
+
+use crate::{section, session};
+use sdp_formats_forms::Text;
+use sdp_formats_types::{Fingerprint, MediaLine, Sdp, Setup};
+
+fn first_fingerprint(sections: &[MediaLine]) -> Option<&Fingerprint>
+    ensures { option_copied result ≡ first_of section_fingerprint sections.now }
+{
+    for section in sections {
+        if let Some(value) = section::fingerprint(section) {
+            return Some(value);
+        }
+    }
+    None
+}
+
+/// The fingerprint of the certificate (RFC 8122 5).
+pub fn fingerprint(sdp: &Sdp) -> Option<&Fingerprint>
+    ensures { option_copied result ≡ fingerprint_of sdp.now }
+{
+    if let Some(value) = session::fingerprint(&sdp.session) {
+        return Some(value);
+    }
+    first_fingerprint(sdp.media_lines.as_slice())
+}
+
+fn first_creds(sections: &[MediaLine]) -> Option<(&Text, &Text)>
+    ensures { creds_view result ≡ first_of section_creds sections.now }
+{
+    for section in sections {
+        if let Some(value) = section::ice_creds(section) {
+            return Some(value);
+        }
+    }
+    None
+}
+
+/// The credentials of connectivity checks (RFC 8839 5.4).
+pub fn ice_creds(sdp: &Sdp) -> Option<(&Text, &Text)>
+    ensures { creds_view result ≡ creds_of sdp.now }
+{
+    if let Some(value) = session::ice_creds(&sdp.session) {
+        return Some(value);
+    }
+    first_creds(sdp.media_lines.as_slice())
+}
+
+fn first_setup(sections: &[MediaLine]) -> Option<Setup>
+    ensures { result ≡ first_of section_setup sections.now }
+{
+    for section in sections {
+        if let Some(value) = section.setup() {
+            return Some(value);
+        }
+    }
+    None
+}
+
+/// Which end opens the connection (RFC 4145 4).
+pub fn setup(sdp: &Sdp) -> Option<Setup>
+    ensures { result ≡ setup_of sdp.now }
+{
+    if let Some(value) = session::setup(&sdp.session) {
+        return Some(value);
+    }
+    first_setup(sdp.media_lines.as_slice())
+}

@@ -1,0 +1,4 @@
+pub mod RowsSame
+pub mod RowLines
+pub mod RowTexts
+pub mod SaysSame
