@@ -116,7 +116,17 @@ def differing_blocks():
                 yield f"{where}: {file} has no such lines"
 
 
-found = [*missing_definitions(), *missing_promises(), *differing_blocks()]
+def differing_files():
+    """What one program printed and another one reads, or a page shows, is the same."""
+    printed = without_indent((CRATES / "rtpexplain/stdout").read_text(encoding="utf-8").split("\n"))
+    read = without_indent((CRATES / "rtpgraph/stdin").read_text(encoding="utf-8").split("\n"))
+    if "\n".join(line.lstrip() for line in read if line) not in "\n".join(line.lstrip() for line in printed):
+        yield "crates/rtpgraph/stdin isn't what crates/rtpexplain/stdout has"
+    if (ROOT / "docs/run.svg").read_bytes() != (CRATES / "rtpgraph/stdout").read_bytes():
+        yield "docs/run.svg isn't crates/rtpgraph/stdout"
+
+
+found = [*missing_definitions(), *missing_promises(), *differing_blocks(), *differing_files()]
 for line in found:
     print(line)
 sys.exit(1 if found else 0)
