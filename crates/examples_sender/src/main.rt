@@ -4,8 +4,8 @@
 mod agreeing;
 
 use agreeing::{agree, opus_end};
-use anyhow::{anyhow, ensure};
-use rtp_media::{End, StreamParams};
+use anyhow::ensure;
+use rtp_media::{Datagram, End, StreamParams};
 use rtp_wire::{ExtensionValues, Frequency, MediaTime, Mid, Pt, Ssrc};
 
 fn main(rt: HostRuntime) -> anyhow::Result<()> {
@@ -16,7 +16,9 @@ fn main(rt: HostRuntime) -> anyhow::Result<()> {
     let tx = open_sender(&mut a)?;
     let rx = b.open_receiver(Mid::from("0"), Ssrc::from(44), Pt::from(111), 127)?;
     for k in 0..3u8 {
-        send(&rt, &mut a, tx, &mut b, rx, k)?;
+        for datagram in &send(&mut a, tx, k)? {
+            hear(&rt, &mut b, rx, datagram)?;
+        }
     }
     Ok(())
 }
@@ -39,30 +41,21 @@ fn open_sender(end: &mut End) -> anyhow::Result<usize> {
     Ok(end.open_sender(mid, ssrc, pt, params)?)
 }
 
-/// Sends the next 20 milliseconds of sound, and hands out what is due at the other end.
-fn send(
-    rt: &HostRuntime,
-    a: &mut End,
-    tx: usize,
-    b: &mut End,
-    rx: usize,
-    k: u8,
-) -> anyhow::Result<()> {
-    ensure!(a.is_sender(tx) && b.is_receiver(rx), "no such stream");
+/// The datagrams of the next 20 milliseconds of sound.
+fn send(end: &mut End, tx: usize, k: u8) -> anyhow::Result<Vec<Datagram>> {
+    ensure!(end.is_sender(tx), "no such stream");
     let time = MediaTime::new(960 * u64::from(k), Frequency::FORTY_EIGHT_KHZ);
-    let datagrams = a.push_sample(tx, time, &[k, 2, 3], &ExtensionValues::absent())?;
-    for datagram in &datagrams {
-        let received = b.receive(datagram.as_slice())?;
-        println!(*rt; "{received:?}")?;
+    Ok(end.push_sample(tx, time, &[k, 2, 3], &ExtensionValues::absent())?)
+}
+
+/// Takes a datagram in, and prints the unit that is due then.
+fn hear(rt: &HostRuntime, end: &mut End, rx: usize, datagram: &Datagram) -> anyhow::Result<()> {
+    let received = end.receive(datagram.as_slice())?;
+    println!(*rt; "{received:?}")?;
+    ensure!(end.is_receiver(rx), "no such stream");
+    if let Some(unit) = end.poll(rx)? {
+        let (time, bytes) = (unit.time(), unit.bytes());
+        println!(*rt; "unit at {time}: {bytes:?}")?;
     }
-    let Some(unit) = b.poll(rx)? else {
-        return Err(anyhow!("nothing is due"));
-    };
-    println!(*rt;
-        "unit {} at {}: {:?}",
-        unit.first(),
-        unit.time(),
-        unit.bytes()
-    )?;
     Ok(())
 }

@@ -35,17 +35,14 @@ impl KnownEnd {
 
     /// The receiving stream of a datagram, by its SSRC and type, or else by its SSRC.
     fn receiver_of(&self, datagram: &[u8]) -> Option<usize> {
-        let header = RtpHeader::parse(datagram, &ExtensionMap::empty())?;
-        let ssrc = u64::from(header.ssrc.get());
-        let pt = u64::from(header.payload_type.get());
-        let of_type = self
-            .receivers
-            .iter()
-            .position(|r| r.ssrc == ssrc && r.pt == pt);
-        if of_type.is_some() {
-            return of_type;
+        let (ssrc, pt) = source_in(datagram)?;
+        let mut found = None;
+        for (number, receiver) in self.receivers.iter().enumerate() {
+            if receiver.ssrc == ssrc && (found.is_none() || receiver.pt == pt) {
+                found = Some(number);
+            }
         }
-        self.receivers.iter().position(|r| r.ssrc == ssrc)
+        found
     }
 
     /// Notes what was said of a datagram, of this stream where the reply names none.
@@ -160,6 +157,17 @@ impl KnownEnd {
         }
         Ok(())
     }
+}
+
+/// The SSRC and the type of a datagram.
+fn source_in(datagram: &[u8]) -> Option<(u64, u64)> {
+    let Some(header) = RtpHeader::parse(datagram, &ExtensionMap::empty()) else {
+        return None;
+    };
+    Some((
+        u64::from(header.ssrc.get()),
+        u64::from(header.payload_type.get()),
+    ))
 }
 
 /// The SSRC and the type of a line that opens a stream.

@@ -60,23 +60,28 @@ fn error_of(alloc: Global, known: &Known, line: &[u8]) -> Result<String, AllocEr
 
 /// The first word that doesn't fit the form.
 fn unfit_word(alloc: Global, form: &str, line: &str) -> Result<Option<String>, AllocError> {
-    let mut words = line.split(' ').skip(1);
-    let mut word = words.next();
-    for name in form.split(' ').skip(1) {
-        while let Some(text) = word {
-            if name == "SECTION.." && text == "/" {
-                break;
-            }
-            if let Some(reason) = misfit(alloc, name, text)? {
-                return Ok(Some(reason));
-            }
-            word = words.next();
-            if !name.ends_with("..") {
-                break;
-            }
+    for (place, word) in line.split(' ').enumerate() {
+        if place == 0 {
+            continue;
+        }
+        if let Some(reason) = misfit(alloc, name_at(form, place, word), word)? {
+            return Ok(Some(reason));
         }
     }
     missing_or_left(alloc, form, line)
+}
+
+/// The name that a word of this place stands for; an empty one where it is one too many.
+fn name_at<'a>(form: &'a str, place: usize, word: &str) -> &'a str {
+    if verb_of(form) == Some("connect") {
+        return if word == "/" { "/" } else { "SECTION.." };
+    }
+    let name = word_at(form, place);
+    if name.is_empty() && form.ends_with("..") {
+        word_at(form, form.split(' ').count().saturating_sub(1))
+    } else {
+        name
+    }
 }
 
 /// A word that is missing, or is left over.
