@@ -165,9 +165,8 @@ impl Picture {
     fn sum_up(&self, rt: &HostRuntime, y: u64) -> anyhow::Result<()> {
         let (taken, refused, lost) = (self.taken, self.refused, self.lost);
         let (held, units) = (self.held.len(), self.units);
-        println!(*rt;
-            "<text x=\"{CELL}\" y=\"{y}\">{taken} taken, {refused} refused, {lost} lost, {units} units, {held} held</text>"
-        )?;
+        print!(*rt; "<text x=\"{CELL}\" y=\"{y}\">{taken} taken, {refused} refused, ")?;
+        println!(*rt; "{lost} lost, {units} units, {held} held</text>")?;
         Ok(())
     }
 }
