@@ -1,9 +1,11 @@
 #!/usr/bin/env python3
-"""Checks that every name on docs/DEFINITIONS.md and docs/PROMISES.md stands in the tree.
+"""Checks that every name on docs/DEFINITIONS.md and docs/PROMISES.md stands in the tree, and that the pages show
+what the crates have.
 
 A definition is written `crate` `File.name`, `name`, ..: each name has to be declared in the crate's
 specs/File.antt. On the page of promises each name in the column of calls is a public function, and a
-name in parentheses is a clause of one. Prints what is missing, and ends with status 1 then.
+name in parentheses is a clause of one. On any page a block of text behind a line `<!-- FILE -->` stands word for
+word in that file, at one depth of indentation. Prints what is missing, and ends with status 1 then.
 """
 import re
 import sys
@@ -76,7 +78,55 @@ def missing_promises():
                 yield f"PROMISES.md:{number}: no clause {token}"
 
 
-found = [*missing_definitions(), *missing_promises()]
+def shown_blocks(page):
+    """The blocks of a page that stand behind a line `<!-- FILE -->`: line number, file, lines."""
+    lines = page.read_text(encoding="utf-8").split("\n")
+    for number, line in enumerate(lines, 1):
+        named = re.fullmatch(r"<!-- (\S+) -->", line)
+        if not named:
+            continue
+        behind = lines[number:]
+        while behind and not behind[0].strip():
+            behind = behind[1:]
+        if behind and behind[0].startswith("```"):
+            block = behind[1:behind.index("```")]
+        else:
+            block = []
+            while behind[len(block):] and behind[len(block)].startswith("    "):
+                block.append(behind[len(block)])
+        yield number, named[1], block
+
+
+def without_indent(lines):
+    depth = min((len(line) - len(line.lstrip()) for line in lines if line.strip()), default=0)
+    return [line[depth:].rstrip() for line in lines]
+
+
+def differing_blocks():
+    for page in [ROOT / "README.md", *sorted((ROOT / "docs").glob("*.md"))]:
+        for number, file, block in shown_blocks(page):
+            where = f"{page.relative_to(ROOT)}:{number}"
+            if not block or not (ROOT / file).is_file():
+                yield f"{where}: no block, or no file {file}"
+                continue
+            text = (ROOT / file).read_text(encoding="utf-8").split("\n")
+            wanted = without_indent(block)
+            places = range(len(text) - len(block) + 1)
+            if not any(without_indent(text[k:k + len(block)]) == wanted for k in places):
+                yield f"{where}: {file} has no such lines"
+
+
+def differing_files():
+    """What one program printed and another one reads, or a page shows, is the same."""
+    printed = without_indent((CRATES / "rtpexplain/stdout").read_text(encoding="utf-8").split("\n"))
+    read = without_indent((CRATES / "rtpgraph/stdin").read_text(encoding="utf-8").split("\n"))
+    if "\n".join(line.lstrip() for line in read if line) not in "\n".join(line.lstrip() for line in printed):
+        yield "crates/rtpgraph/stdin isn't what crates/rtpexplain/stdout has"
+    if (ROOT / "docs/run.svg").read_bytes() != (CRATES / "rtpgraph/stdout").read_bytes():
+        yield "docs/run.svg isn't crates/rtpgraph/stdout"
+
+
+found = [*missing_definitions(), *missing_promises(), *differing_blocks(), *differing_files()]
 for line in found:
     print(line)
 sys.exit(1 if found else 0)

@@ -1,0 +1,75 @@
+-- Refusals of what a text says.
+use Rattle.std.proofs.Common.{◌≡◌, ◌≢◌, ◌⊎◌, ℕ, List, map, Some, None, Option, false, inl, inr, ◌∙◌, ap}
+use Rattle.sdp_formats_types.specs.declared.media.MediaLine.{MediaLine}
+use Rattle.rtp_media_negotiation.specs.Exchanges.{Exchanged}
+use Rattle.rtp_media_negotiation.specs.Reading.{IsUnread}
+use Rattle.rtp_media_negotiation.specs.Refusals.{CannotSay, IsReason, IsUnwritable, MayAccept, MayAnswer}
+use Rattle.rtp_media_negotiation.specs.Refusals.{RefusesAccept, RefusesAnswer}
+use Rattle.rtp_media_negotiation.specs.Refusals.{refusal_of_accept, refusal_of_answer}
+use Rattle.rtp_media_negotiation.specs.Says.{Says, SaysOnly}
+use Rattle.rtp_media_negotiation.specs.declared.errors.ExchangeError.{ExchangeError}
+use Rattle.rtp_media_negotiation.specs.declared.errors.ExchangeError.TheVariants.{Unreadable, OutOfTurn, NotMedia}
+use Rattle.rtp_media_negotiation.specs.declared.errors.ExchangeError.TheVariants.{NotCorresponding, Round, NoCommonRow}
+use Rattle.rtp_media_negotiation.specs.declared.errors.ExchangeError.TheVariants.{NotWritable, Memory}
+use Rattle.rtp_media_sections.specs.Lines.{shape_of_line}
+use Rattle.rtp_media_sections.specs.Sections.{Wanted, correspond, shape_of}
+
+-- an error that isn't want of memory has its reason
+by-reason : (text : List ℕ) (f : List MediaLine → Option ExchangeError) (lines : List MediaLine) → Says text lines
+    → (e : ExchangeError) → (e ≢ Memory → f lines ≡ Some e)
+    → IsUnread text e ⊎ ((ls : List MediaLine) × Says text ls × (f ls ≡ Some e))
+by-reason text f lines says (Unreadable t) h = inr (lines, says, h (λ eq. cc eq))
+by-reason text f lines says OutOfTurn h = inr (lines, says, h (λ eq. cc eq))
+by-reason text f lines says (NotMedia mid) h = inr (lines, says, h (λ eq. cc eq))
+by-reason text f lines says NotCorresponding h = inr (lines, says, h (λ eq. cc eq))
+by-reason text f lines says (Round r) h = inr (lines, says, h (λ eq. cc eq))
+by-reason text f lines says (NoCommonRow mid) h = inr (lines, says, h (λ eq. cc eq))
+by-reason text f lines says NotWritable h = inr (lines, says, h (λ eq. cc eq))
+by-reason text f lines says Memory h = inl tt
+
+pub refuses_answer : (x : Exchanged) (text : List ℕ) (wanted : List Wanted) (lines : List MediaLine) (e : ExchangeError)
+    → SaysOnly text lines → (e ≢ Memory → refusal_of_answer x lines wanted ≡ Some e) → RefusesAnswer x text wanted e
+refuses_answer x text wanted lines e says h =
+    go (by-reason text (λ ls. refusal_of_answer x ls wanted) lines says.says e h) where
+  go : IsUnread text e ⊎ ((ls : List MediaLine) × Says text ls × (refusal_of_answer x ls wanted ≡ Some e))
+      → RefusesAnswer x text wanted e
+  go (inl u) = inl u
+  go (inr r) = inr (record { lines = r.0; says = r.1; why = inl r.2 })
+
+pub refuses_accept : (x : Exchanged) (text : List ℕ) (lines : List MediaLine) (e : ExchangeError)
+    → SaysOnly text lines → (e ≢ Memory → refusal_of_accept x lines ≡ Some e) → RefusesAccept x text e
+refuses_accept x text lines e says h = by-reason text (refusal_of_accept x) lines says.says e h
+
+-- an answer that can't be written
+pub cannot_answer : (x : Exchanged) (text : List ℕ) (wanted : List Wanted) (lines : List MediaLine) (e : ExchangeError)
+    → SaysOnly text lines → refusal_of_answer x lines wanted ≡ None
+    → (e ≢ Memory → (e ≡ NotWritable) × CannotSay x lines wanted) → RefusesAnswer x text wanted e
+cannot_answer x text wanted lines e says none h = go e h where
+  why : {e : ExchangeError} → e ≡ NotWritable → CannotSay x lines wanted → IsReason x text wanted e
+  why is cannot = record { lines = lines; says = says.says; why = inr (is, (none, cannot)) }
+
+  go : (e : ExchangeError) → (e ≢ Memory → (e ≡ NotWritable) × CannotSay x lines wanted)
+      → RefusesAnswer x text wanted e
+  go (Unreadable t) h = inr (why ((h (λ eq. cc eq)).0) ((h (λ eq. cc eq)).1))
+  go OutOfTurn h = inr (why ((h (λ eq. cc eq)).0) ((h (λ eq. cc eq)).1))
+  go (NotMedia mid) h = inr (why ((h (λ eq. cc eq)).0) ((h (λ eq. cc eq)).1))
+  go NotCorresponding h = inr (why ((h (λ eq. cc eq)).0) ((h (λ eq. cc eq)).1))
+  go (Round r) h = inr (why ((h (λ eq. cc eq)).0) ((h (λ eq. cc eq)).1))
+  go (NoCommonRow mid) h = inr (why ((h (λ eq. cc eq)).0) ((h (λ eq. cc eq)).1))
+  go NotWritable h = inr (why ((h (λ eq. cc eq)).0) ((h (λ eq. cc eq)).1))
+  go Memory h = inl tt
+
+pub may_answer : (x : Exchanged) (text : List ℕ) (wanted : List Wanted) (lines : List MediaLine)
+    → SaysOnly text lines → refusal_of_answer x lines wanted ≡ None → MayAnswer x text wanted
+may_answer x text wanted lines says none others s =
+    ap (λ (ls : List MediaLine). refusal_of_answer x ls wanted) (says.only others s) ∙ none
+
+pub may_accept : (x : Exchanged) (text : List ℕ) (lines : List MediaLine)
+    → SaysOnly text lines → refusal_of_accept x lines ≡ None → MayAccept x text
+may_accept x text lines says none others s = ap (refusal_of_accept x) (says.only others s) ∙ none
+
+-- a text that says other sections, or none, is not that of wanted ones
+pub other_said : (text : List ℕ) (wanted : List Wanted) (lines : List MediaLine) → SaysOnly text lines
+    → correspond (map shape_of_line lines) (map shape_of wanted) ≡ false → IsUnwritable text wanted
+other_said text wanted lines says other others s =
+    ap (λ (ls : List MediaLine). correspond (map shape_of_line ls) (map shape_of wanted)) (says.only others s) ∙ other

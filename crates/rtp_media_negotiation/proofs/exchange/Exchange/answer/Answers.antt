@@ -1,0 +1,58 @@
+use Rattle.std.proofs.Common.{◌≡◌, None, Ok, map, ◌∙◌, sym, subst, arith}
+use Rattle.std.proofs.lemmas.Grind.{common_steps}
+use Rattle.std.specs.Prelude.{string_bytes}
+use Rattle.sdp_formats_round.specs.Laws.{rounds}
+use Rattle.sdp_formats_types.specs.PrintedSession.{sdp_text}
+use Rattle.rtp_media_sections.specs.Lines.{remote_of}
+use Rattle.rtp_media_negotiation.specs.Offers.{answer_of}
+use Rattle.rtp_media_negotiation.specs.Refusals.{IsUnwritable, refusal_of_answer}
+use Rattle.rtp_media_negotiation.specs.Says.{SaysOnly}
+use Rattle.rtp_media_negotiation.proofs.Refusing.{cannot_answer, may_answer}
+use Rattle.rtp_media_negotiation.proofs.exchange.Exchange.answer.Goals as goal
+
+pub returns-clause-accepted : goal.returns-clause-accepted
+returns-clause-accepted c =
+    let none : refusal_of_answer c.args.self.now c.in_ok-offer.offer.items c.args.sections.items ≡ None =
+    grind (arith, common_steps) in
+    may_answer c.args.self.now c.args.text.now c.args.sections.items c.in_ok-offer.offer.items
+    c.in_ok-offer.ensures.says none
+
+pub returns-in-Err-clause-refused : goal.returns-in-Err-clause-refused
+unfolding answer_of
+returns-in-Err-clause-refused c =
+    let none : refusal_of_answer c.args.self.now c.in_ok-offer.offer.items c.args.sections.items ≡ None =
+    grind (arith, common_steps) in
+    let rounds_are : rounds (map remote_of c.in_ok-offer.offer.items) c.args.self.now.config.rows
+    ≡ Ok c.in_ok-config.config.rows = grind (arith, common_steps) in
+    let text_is : c.as_str.result.now ≡ sdp_text (answer_of c.args.self.now c.in_ok-config.config.rows
+    c.args.sections.items c.in_ok-offer.offer.items) = grind (arith, common_steps) in
+    let sections : c.as_slice-5.result.now ≡ c.args.sections.items = grind (arith, common_steps) in
+    cannot_answer c.args.self.now c.args.text.now c.args.sections.items c.in_ok-offer.offer.items c.in-Err.fault
+    c.in_ok-offer.ensures.says none
+    (λ other. (
+      (c.in-Err.ensures.refused other).0,
+      record {
+        rows = c.in_ok-config.config.rows;
+        rounds_are = rounds_are;
+        unwritable = subst (λ text. IsUnwritable text c.args.sections.items) text_is
+            (subst (λ wanted. IsUnwritable c.as_str.result.now wanted) sections (c.in-Err.ensures.refused other).1);
+      },
+    ))
+
+pub returns-clause-text : goal.returns-clause-text
+unfolding answer_of
+returns-clause-text c =
+    let rounds_are : rounds (map remote_of c.in_ok-offer.offer.items) c.args.self.now.config.rows
+    ≡ Ok c.in_ok-config.config.rows = grind (arith, common_steps) in
+    let text_is : string_bytes c.in_ok-answer.answer ≡ sdp_text (answer_of c.args.self.now c.in_ok-config.config.rows
+    c.args.sections.items c.in_ok-offer.offer.items) = grind (arith, common_steps) in
+    record {
+      offer = c.in_ok-offer.offer.items;
+      offer_is = c.in_ok-offer.ensures.says;
+      rows = c.in_ok-config.config.rows;
+      rounds_are = rounds_are;
+      text_is = text_is;
+      said = c.in-Ok.said.items;
+      said_is = subst (λ text. SaysOnly text c.in-Ok.said.items) c.as_str.ensures.value c.in-Ok.ensures.says;
+      after_is = grind (arith, common_steps);
+    }

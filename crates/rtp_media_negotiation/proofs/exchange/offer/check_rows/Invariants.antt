@@ -1,0 +1,9 @@
+use Rattle.std.proofs.Common.{◌≡◌, drop}
+use Rattle.std.specs.Prelude.{find}
+use Rattle.rtp_media_negotiation.specs.Refusals.{lists_none}
+use Rattle.rtp_media_negotiation.proofs.exchange.offer.check_rows.Given as goal
+
+-- the sections so far list a row: the rest decides
+abbrev pub invariant-loop-section : goal.invariant-loop-section
+invariant-loop-section l =
+    find (lists_none l.config.rows) (drop l.section-index l.sections) ≡ find (lists_none l.config.rows) l.sections

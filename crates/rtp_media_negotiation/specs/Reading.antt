@@ -1,0 +1,12 @@
+-- Why a text isn't read.
+use Rattle.std.specs.Prelude.{ℕ, List}
+use Rattle.sdp_formats.specs.Texts.{SaysNothing}
+use Rattle.sdp_formats.specs.declared.error.SdpError.TheVariants as sdp
+use Rattle.rtp_media_negotiation.specs.declared.errors.ExchangeError.{ExchangeError}
+use Rattle.rtp_media_negotiation.specs.declared.errors.ExchangeError.TheVariants as error
+
+-- The text says nothing and is unreadable, or memory is wanting.
+abbrev pub IsUnread : List ℕ → ExchangeError → Type 0
+IsUnread text (error.Unreadable (sdp.ParseError t)) = SaysNothing text
+IsUnread text error.Memory = Unit {0}
+IsUnread text _ = ⊥

@@ -1,0 +1,165 @@
+//! Offers, answers and what they agree on.
+
+ghost use Rattle.std.specs.Prelude.{◌≡◌, ◌≢◌, None, Some, is_some, string_bytes, IfOk, IfErr, OnOk, OnErr};
+ghost use Rattle.std.specs.Option.{option_copied};
+ghost use Rattle.rtp_media_negotiation.specs.Exchanges.{fixed, fresh, is_bare, with_offer};
+ghost use Rattle.rtp_media_negotiation.specs.Offers.{offer_of};
+ghost use Rattle.rtp_media_negotiation.specs.Refusals.{refusal_of_new, refusal_of_offer};
+ghost use Rattle.rtp_media_sections.specs.Agreement.{own_row_agrees, section_of};
+ghost use Rattle.sdp_formats_types.specs.PrintedSession.{sdp_text};
+
+mod answer;
+mod offer;
+
+use crate::errors::{EndError, ExchangeError};
+use crate::plain::{check_rows, check_types};
+use rtp_media_sections::{AgreedSection, SectionSpec, is_writable, own_row_agrees};
+use rtp_wire::{ExtensionMap, Mid, SessionId};
+use sdp_formats::Session;
+use sdp_formats_config::CodecConfig;
+use sdp_formats_rows::PayloadParams;
+use std::alloc::{AllocError, Global};
+use std::marker::Model;
+
+/// What an end keeps of its exchanges: its session, the header extensions that it wants, its rows, an offer that waits
+/// for its answer, and what was agreed last.
+#[derive(Debug, Drop)]
+pub struct Exchange {
+    alloc: Global,
+    session: SessionId,
+    exts: ExtensionMap,
+    config: CodecConfig,
+    pending: Option<Pending>,
+    agreed: Vec<AgreedSection>,
+}
+
+/// The sections of an offer that waits for its answer.
+#[derive(Debug, Drop)]
+pub(crate) struct Pending {
+    sections: Vec<SectionSpec>,
+}
+
+impl Model for Pending {
+    ghost use Rattle.std.specs.Prelude.{List};
+    ghost use Rattle.rtp_media_sections.specs.Sections.{Wanted};
+
+    ghost Value = { List Wanted };
+
+    ghost view = { λ p. p.sections.items };
+}
+
+impl Model for Exchange {
+    ghost use Rattle.rtp_media_negotiation.specs.Exchanges.{Exchanged};
+
+    ghost Value = { Exchanged };
+
+    ghost view = { λ x. record {
+      session = x.session;
+      wanted = x.exts;
+      config = x.config;
+      pending = x.pending;
+      agreed = x.agreed.items;
+    } };
+}
+
+fn section_named(sections: &[AgreedSection], mid: Mid) -> Option<&AgreedSection>
+    ensures { option_copied result ≡ section_of sections.now mid }
+{
+    for section in sections {
+        if section.is_named(mid) {
+            return Some(section);
+        }
+    }
+    None
+}
+
+fn is_bare(session: &Session) -> bool
+    ensures { result ≡ is_bare session.now }
+{
+    session.bw.is_none() && session.attrs.as_slice().is_empty()
+}
+
+impl Exchange {
+    /// An end's exchanges before the first one: its rows, its session and its map of extensions.
+    ///
+    /// # Errors
+    ///
+    /// The first that holds of `RowNotPlain`, `TypesNotDistinct` and `NotWritable`; or `Memory`.
+    pub fn new(
+        alloc: Global,
+        config: CodecConfig,
+        session: &Session,
+        exts: ExtensionMap,
+    ) -> Result<Self, EndError>
+        ensures new { IfOk result (λ x. x ≡ fresh session.now.id exts config) }
+        ensures accepted { OnOk result (refusal_of_new config.rows (is_bare session.now) exts ≡ None) }
+        ensures refused { IfErr result (λ e. e ≢ EndError.Memory
+            → refusal_of_new config.rows (is_bare session.now) exts ≡ Some e) }
+    {
+        check_rows(alloc, config.params())?;
+        check_types(alloc, config.params())?;
+        if !is_bare(session) || !is_writable(&exts) {
+            return Err(EndError::NotWritable);
+        }
+        Ok(Exchange {
+            alloc,
+            session: session.id,
+            exts,
+            config,
+            pending: None,
+            agreed: Vec::new(alloc),
+        })
+    }
+
+    /// Exchanges of session 0 that have agreed on one section with another such end, without an exchange: `0`, audio
+    /// both ways, Opus at payload type 111, SSRC 44 at either side.
+    ///
+    /// # Errors
+    ///
+    /// `AllocError` where memory is wanting.
+    #[tactic(auto, unfolding(crate::specs::Exchanges::fixed))]
+    pub fn fixed(alloc: Global) -> Result<Self, AllocError>
+        ensures { IfOk result (λ x. x ≡ fixed) }
+    {
+        let mut config = CodecConfig::empty(alloc);
+        config.enable_opus(true, false)?;
+        let mut row = config.params()[0];
+        row.lock();
+        let mut rows = Vec::new(alloc);
+        rows.push(row)?;
+        let mut agreed = Vec::new(alloc);
+        agreed.push(AgreedSection::fixed(alloc)?)?;
+        Ok(Exchange {
+            alloc,
+            session: SessionId::from(0),
+            exts: ExtensionMap::empty(),
+            config: CodecConfig::new_from_payload_params(rows),
+            pending: None,
+            agreed,
+        })
+    }
+
+    /// Whether an offer was pending, which is now given up; all else stays.
+    pub fn withdraw(&mut self) -> bool
+        ensures was { result ≡ is_some self.old.pending }
+        ensures after { self.new ≡ with_offer self.old None }
+    {
+        let was = self.pending.is_some();
+        self.pending = None;
+        was
+    }
+
+    /// The section of this name as it was agreed on last.
+    pub fn agreed(&self, mid: Mid) -> Option<&AgreedSection>
+        ensures { option_copied result ≡ section_of self.now.agreed mid }
+    {
+        section_named(self.agreed.as_slice(), mid)
+    }
+
+    /// Whether one of the end's own rows is locked at the type of an agreed row and means the same.
+    pub fn agrees_with(&self, row: &PayloadParams) -> bool
+        ensures { result ≡ own_row_agrees self.now.config.rows row.now }
+    {
+        own_row_agrees(self.config.params(), row)
+    }
+}

@@ -1,0 +1,198 @@
+//! Answers to offers, and their acceptance.
+
+ghost use Rattle.std.specs.Prelude.{◌≡◌, ◌≢◌, None, Some, Ok, length, map, string_bytes, IfOk, IfErr, OnOk, OnErr, IsTrue};
+ghost use Rattle.sdp_formats_round.specs.Laws.{rounds};
+ghost use Rattle.rtp_media_negotiation.specs.Offers.{Accepts, Answers};
+ghost use Rattle.rtp_media_negotiation.specs.Refusals.{IsUnwritable, MayAccept, MayAnswer, RefusesAccept, RefusesAnswer};
+ghost use Rattle.rtp_media_negotiation.specs.Refusals.{refusal_of_accept, refusal_of_answer, refusal_of_sections};
+ghost use Rattle.rtp_media_negotiation.specs.Says.{AgreesOnText, SaysOnly};
+ghost use Rattle.rtp_media_sections.specs.Lines.{remote_of, shape_of_line};
+ghost use Rattle.rtp_media_sections.specs.Sections.{correspond, shape_of};
+
+use super::Exchange;
+use crate::agree::{accepted_agreement, answered_agreement};
+use crate::errors::ExchangeError;
+use crate::print::answer_text;
+use crate::read::read;
+use crate::settle::{
+    check_accepted, check_answered, check_media, line_shapes, settled, wanted_shapes,
+};
+use rtp_media_sections::{SectionSpec, correspond};
+use sdp_formats_config::CodecConfig;
+use sdp_formats_types::MediaLine;
+use std::alloc::{AllocError, Global};
+
+// Whether the sections of a text have the names and kinds of wanted ones.
+fn corresponds(
+    alloc: Global,
+    lines: &[MediaLine],
+    sections: &[SectionSpec],
+) -> Result<bool, AllocError>
+    ensures same { IfOk result (λ same. same ≡ correspond (map shape_of_line lines.now) (map shape_of sections.now)) }
+    ensures length { IfOk result (λ same. IsTrue same → length sections.now ≡ length lines.now) }
+{
+    let said = line_shapes(alloc, lines)?;
+    let wanted = wanted_shapes(alloc, sections)?;
+    Ok(correspond(said.as_slice(), wanted.as_slice()))
+}
+
+// The sections that the text of an answer says again.
+#[tactic(auto, using(crate::proofs::Refusing::other_said))]
+fn said_again(
+    alloc: Global,
+    text: &str,
+    sections: &[SectionSpec],
+) -> Result<Vec<MediaLine>, ExchangeError>
+    ensures says { IfOk result (λ lines. SaysOnly text.now lines.items) }
+    ensures length { IfOk result (λ lines. length sections.now ≡ length lines.items) }
+    ensures refused { IfErr result (λ e. e ≢ ExchangeError.Memory → (e ≡ ExchangeError.NotWritable)
+        × IsUnwritable text.now sections.now) }
+{
+    let lines = match read(alloc, text) {
+        Ok(lines) => lines,
+        Err(ExchangeError::Memory) => return Err(ExchangeError::Memory),
+        Err(_) => return Err(ExchangeError::NotWritable),
+    };
+    if !corresponds(alloc, lines.as_slice(), sections)? {
+        return Err(ExchangeError::NotWritable);
+    }
+    Ok(lines)
+}
+
+impl Exchange {
+    // The config after the rounds with the sections of a text, where these are exchanged for wanted ones.
+    #[tactic(auto, unfolding(crate::specs::Refusals::refusal_of_sections))]
+    fn settle(
+        &self,
+        lines: &[MediaLine],
+        sections: &[SectionSpec],
+    ) -> Result<CodecConfig, ExchangeError>
+        ensures rows { IfOk result (λ c. rounds (map remote_of lines.now) self.now.config.rows ≡ Ok c.rows) }
+        ensures distances { IfOk result (λ c. c.distances ≡ self.now.config.distances) }
+        ensures length { OnOk result (length sections.now ≡ length lines.now) }
+        ensures accepted { OnOk result (refusal_of_sections self.now lines.now sections.now ≡ None) }
+        ensures refused { IfErr result (λ e. e ≢ ExchangeError.Memory
+            → refusal_of_sections self.now lines.now sections.now ≡ Some e) }
+    {
+        check_media(lines)?;
+        if !corresponds(self.alloc, lines, sections)? || !self.follows_agreed(sections)? {
+            return Err(ExchangeError::NotCorresponding);
+        }
+        settled(self.alloc, &self.config, lines)
+    }
+
+    // The config with which an offer is answered.
+    #[tactic(auto, unfolding(crate::specs::Refusals::refusal_of_answer))]
+    fn settle_answer(
+        &self,
+        offer: &[MediaLine],
+        sections: &[SectionSpec],
+    ) -> Result<CodecConfig, ExchangeError>
+        ensures rows { IfOk result (λ c. rounds (map remote_of offer.now) self.now.config.rows ≡ Ok c.rows) }
+        ensures distances { IfOk result (λ c. c.distances ≡ self.now.config.distances) }
+        ensures length { OnOk result (length sections.now ≡ length offer.now) }
+        ensures free { OnOk result (self.now.pending ≡ None) }
+        ensures accepted { OnOk result (refusal_of_answer self.now offer.now sections.now ≡ None) }
+        ensures refused { IfErr result (λ e. e ≢ ExchangeError.Memory
+            → refusal_of_answer self.now offer.now sections.now ≡ Some e) }
+    {
+        if self.pending.is_some() {
+            return Err(ExchangeError::OutOfTurn);
+        }
+        let config = self.settle(offer, sections)?;
+        check_answered(self.alloc, &config, offer)?;
+        Ok(config)
+    }
+
+    /// The text of the answer to an offer, of these sections; it is then agreed. A round runs with each offered section:
+    /// rows that match are locked under the types that were offered, and the answer lists those of them.
+    ///
+    /// # Errors
+    ///
+    /// The first that holds of `Unreadable`, `OutOfTurn`, `NotMedia`, `NotCorresponding`, `Round`, `NoCommonRow` and
+    /// `NotWritable`; or `Memory`. Nothing has then changed.
+    #[tactic(auto, unfolding(crate::specs::Offers::answer_of), using(crate::proofs::Refusing::refuses_answer, crate::proofs::Refusing::cannot_answer, crate::proofs::Refusing::may_answer))]
+    pub fn answer(
+        &mut self,
+        text: &str,
+        sections: Vec<SectionSpec>,
+    ) -> Result<String, ExchangeError>
+        ensures text { IfOk result (λ answer. Answers self.old text.now sections.items (string_bytes answer) self.new) }
+        ensures agreed { IfOk result (λ answer. AgreesOnText (string_bytes answer) self.new.agreed) }
+        ensures accepted { OnOk result (MayAnswer self.old text.now sections.items) }
+        ensures refused { IfErr result (λ e. RefusesAnswer self.old text.now sections.items e) }
+        ensures unchanged { OnErr result (self.new ≡ self.old) }
+    {
+        let offer = read(self.alloc, text)?;
+        let config = self.settle_answer(offer.as_slice(), sections.as_slice())?;
+        let answer = answer_text(
+            self.alloc,
+            self.session,
+            &self.exts,
+            &config,
+            sections.as_slice(),
+            offer.as_slice(),
+        )?;
+        let said = match said_again(self.alloc, answer.as_str(), sections.as_slice()) {
+            Ok(said) => said,
+            Err(fault) => return Err(fault),
+        };
+        let agreed = answered_agreement(
+            self.alloc,
+            sections.as_slice(),
+            offer.as_slice(),
+            said.as_slice(),
+        )?;
+        self.config = config;
+        self.agreed = agreed;
+        Ok(answer)
+    }
+
+    // The config with which an answer is accepted.
+    #[tactic(auto, unfolding(crate::specs::Refusals::refusal_of_accept))]
+    fn settle_accept(
+        &self,
+        answer: &[MediaLine],
+        sections: &[SectionSpec],
+    ) -> Result<CodecConfig, ExchangeError>
+        requires { self.now.pending ≡ Some sections.now }
+        ensures rows { IfOk result (λ c. rounds (map remote_of answer.now) self.now.config.rows ≡ Ok c.rows) }
+        ensures distances { IfOk result (λ c. c.distances ≡ self.now.config.distances) }
+        ensures length { OnOk result (length sections.now ≡ length answer.now) }
+        ensures accepted { OnOk result (refusal_of_accept self.now answer.now ≡ None) }
+        ensures refused { IfErr result (λ e. e ≢ ExchangeError.Memory → refusal_of_accept self.now answer.now ≡ Some e) }
+    {
+        let config = self.settle(answer, sections)?;
+        check_accepted(self.alloc, &config, answer)?;
+        Ok(config)
+    }
+
+    /// Takes the text of the answer to the pending offer; it is then agreed. A round runs with each section of the
+    /// answer.
+    ///
+    /// # Errors
+    ///
+    /// The first that holds of `Unreadable`, `OutOfTurn`, `NotMedia`, `NotCorresponding`, `Round` and `NoCommonRow` (no
+    /// locked row has the type of a row of this section); or `Memory`. Nothing has then changed, and the offer is still
+    /// pending.
+    #[tactic(auto, unfolding(crate::specs::Refusals::refusal_of_accept), using(crate::proofs::Refusing::refuses_accept, crate::proofs::Refusing::may_accept))]
+    pub fn accept(&mut self, text: &str) -> Result<(), ExchangeError>
+        ensures after { OnOk result (Accepts self.old text.now self.new) }
+        ensures agreed { OnOk result (AgreesOnText text.now self.new.agreed) }
+        ensures accepted { OnOk result (MayAccept self.old text.now) }
+        ensures refused { IfErr result (λ e. RefusesAccept self.old text.now e) }
+        ensures unchanged { OnErr result (self.new ≡ self.old) }
+    {
+        let answer = read(self.alloc, text)?;
+        let Some(pending) = &self.pending else {
+            return Err(ExchangeError::OutOfTurn);
+        };
+        let sections = pending.sections.as_slice();
+        let config = self.settle_accept(answer.as_slice(), sections)?;
+        let agreed = accepted_agreement(self.alloc, sections, answer.as_slice())?;
+        self.config = config;
+        self.agreed = agreed;
+        self.pending = None;
+        Ok(())
+    }
+}

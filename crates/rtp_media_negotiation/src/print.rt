@@ -1,0 +1,120 @@
+//! The texts of offers and answers.
+
+ghost use Rattle.std.specs.Prelude.{◌≡◌, length, map, zip, string_bytes, IfOk, IfErr};
+ghost use Rattle.sdp_formats_types.specs.PrintedSession.{sdp_text};
+ghost use Rattle.rtp_media_negotiation.specs.Offers.{bundled};
+ghost use Rattle.rtp_media_sections.specs.Answered.{answered_section};
+ghost use Rattle.rtp_media_sections.specs.Lines.{offered_section};
+
+use rtp_media_sections::{SectionSpec, answered_section, offered_section};
+use rtp_wire::{ExtensionMap, Mid, SessionId};
+use sdp_formats_config::CodecConfig;
+use sdp_formats_types::{Listed, MediaLine, Sdp, Session, SessionAttribute, Text};
+use std::alloc::{AllocError, Global};
+
+fn mids_of(alloc: Global, sections: &[SectionSpec]) -> Result<Vec<Mid>, AllocError>
+    ensures { IfOk result (λ mids. mids.items ≡ map (λ w. w.mid) sections.now) }
+{
+    let mut mids = Vec::new(alloc);
+    for section in sections {
+        mids.push(section.mid)?;
+    }
+    Ok(mids)
+}
+
+// A session of these sections in one bundle.
+fn bundled(
+    alloc: Global,
+    id: SessionId,
+    sections: &[SectionSpec],
+) -> Result<Session, AllocError>
+    ensures { IfOk result (λ s. s ≡ bundled id sections.now) }
+{
+    let group = SessionAttribute::Group {
+        typ: Text::of(String::from_str(alloc, "BUNDLE")?),
+        mids: Listed::of(mids_of(alloc, sections)?),
+    };
+    let mut attrs = Vec::new(alloc);
+    attrs.push(group)?;
+    Ok(Session {
+        id,
+        bw: None,
+        attrs: Listed::of(attrs),
+    })
+}
+
+fn offered_lines(
+    alloc: Global,
+    exts: &ExtensionMap,
+    config: &CodecConfig,
+    sections: &[SectionSpec],
+) -> Result<Vec<MediaLine>, AllocError>
+    ensures { IfOk result (λ lines. lines.items ≡ map (offered_section exts.now config.now.rows) sections.now) }
+{
+    let mut lines = Vec::new(alloc);
+    for section in sections {
+        lines.push(offered_section(alloc, exts, config, section)?)?;
+    }
+    Ok(lines)
+}
+
+/// The text of an offer of these sections.
+pub(crate) fn offer_text(
+    alloc: Global,
+    session: SessionId,
+    exts: &ExtensionMap,
+    config: &CodecConfig,
+    sections: &[SectionSpec],
+) -> Result<String, AllocError>
+    ensures { IfOk result (λ text. string_bytes text ≡ sdp_text (record {
+      session = bundled session sections.now;
+      media_lines = map (offered_section exts.now config.now.rows) sections.now;
+    })) }
+{
+    let sdp = Sdp {
+        session: bundled(alloc, session, sections)?,
+        media_lines: Listed::of(offered_lines(alloc, exts, config, sections)?),
+    };
+    sdp.to_sdp_string(alloc)
+}
+
+fn answered_lines(
+    alloc: Global,
+    exts: &ExtensionMap,
+    config: &CodecConfig,
+    sections: &[SectionSpec],
+    offer: &[MediaLine],
+) -> Result<Vec<MediaLine>, AllocError>
+    requires { length sections.now ≡ length offer.now }
+    ensures { IfOk result (λ lines. lines.items
+        ≡ map (λ s. answered_section exts.now config.now.rows s.0 s.1) (zip sections.now offer.now)) }
+{
+    let mut lines = Vec::new(alloc);
+    for (place, section) in sections.iter().enumerate() {
+        let line = &offer[place];
+        lines.push(answered_section(alloc, exts, config, section, line)?)?;
+    }
+    Ok(lines)
+}
+
+/// The text of the answer to sections.
+pub(crate) fn answer_text(
+    alloc: Global,
+    session: SessionId,
+    exts: &ExtensionMap,
+    config: &CodecConfig,
+    sections: &[SectionSpec],
+    offer: &[MediaLine],
+) -> Result<String, AllocError>
+    requires { length sections.now ≡ length offer.now }
+    ensures { IfOk result (λ text. string_bytes text ≡ sdp_text (record {
+      session = bundled session sections.now;
+      media_lines = map (λ s. answered_section exts.now config.now.rows s.0 s.1) (zip sections.now offer.now);
+    })) }
+{
+    let sdp = Sdp {
+        session: bundled(alloc, session, sections)?,
+        media_lines: Listed::of(answered_lines(alloc, exts, config, sections, offer)?),
+    };
+    sdp.to_sdp_string(alloc)
+}

@@ -1,0 +1,140 @@
+-- What an exchange agreed on, and which streams it allows.
+use Rattle.std.specs.Prelude.{◌≡◌, ℕ, Bool, true, false, not, ◌&&◌, ◌==◌, List, [], ◌∷◌, Option, Some, None, find, map}
+use Rattle.std.specs.Str.{bytes_eq}
+use Rattle.std.specs.List.{list_any}
+use Rattle.std.specs.Option.{option_map}
+use Rattle.payload_core_base.specs.declared.codec.MediaKind.{MediaKind}
+use Rattle.rtp_wire.specs.Direction.{sends, receives}
+use Rattle.rtp_wire.specs.Maps.{empty_map}
+use Rattle.rtp_wire.specs.Values.{Numbering}
+use Rattle.payload_core_base.specs.declared.codec.MediaKind.TheVariants.{Audio}
+use Rattle.sdp_formats_rows.specs.Codecs.{is_codec}
+use Rattle.sdp_formats_config.specs.Configs.{opus_row}
+use Rattle.sdp_formats_rows.specs.declared.format.FormatParams.{FormatParams}
+use Rattle.sdp_formats_rows.specs.declared.spec.CodecSpec.{CodecSpec}
+use Rattle.sdp_formats_rows.specs.Rows.{Row}
+use Rattle.sdp_formats_rows.specs.Same.{same, same_flag}
+use Rattle.sdp_formats_section_rows.specs.SectionRows.{rows_of}
+use Rattle.sdp_formats_types.specs.Lookups.{direction_of}
+use Rattle.sdp_formats_types.specs.declared.media.MediaLine.{MediaLine}
+use Rattle.rtp_media_sections.specs.Extensions.{map_of_lines}
+use Rattle.rtp_media_sections.specs.Lines.{kind_of, mid_of, ssrcs_of}
+use Rattle.rtp_media_sections.specs.Sections.{Wanted}
+use Rattle.rtp_media_sections.specs.declared.section.Shape.{Shape}
+
+-- A section as an exchange left it: its name and kind, the answer's rows and its map of header extensions, the SSRCs
+-- that this end and the other one name in it, and whether it flows from this end and to it.
+pub record Agreed : Type 0 where
+  pub mid : List ℕ
+  pub kind : MediaKind
+  pub rows : List Row
+  pub map : Numbering
+  pub own_ssrcs : List ℕ
+  pub remote_ssrcs : List ℕ
+  pub sends : Bool
+  pub receives : Bool
+
+-- The name and kind of an agreed section.
+unfoldable pub shape_of_agreed : Agreed → Shape
+shape_of_agreed a = record { mid = a.mid; kind = a.kind }
+
+-- What both fixed ends agree on: section `0`, Opus at type 111, no header extension, SSRC 44 at either side.
+abbrev pub fixed_section : Agreed
+fixed_section = record {
+  mid = 48 ∷ [];
+  kind = Audio;
+  rows = opus_row false ∷ [];
+  map = empty_map;
+  own_ssrcs = 44 ∷ [];
+  remote_ssrcs = 44 ∷ [];
+  sends = true;
+  receives = true;
+}
+
+-- What the end agrees on that answers a section: it flows as the answer says.
+unfoldable pub agreed_by_answer : Wanted → MediaLine → MediaLine → Agreed
+agreed_by_answer w offer answer = record {
+  mid = mid_of answer;
+  kind = kind_of answer.typ;
+  rows = rows_of answer.pts answer.attrs;
+  map = map_of_lines answer.attrs;
+  own_ssrcs = w.ssrcs;
+  remote_ssrcs = ssrcs_of offer;
+  sends = sends (direction_of answer.attrs);
+  receives = receives (direction_of answer.attrs);
+}
+
+-- What the end agrees on that offered it: it flows where the answer lets it and the offer asked for it.
+unfoldable pub agreed_by_accept : Wanted → MediaLine → Agreed
+agreed_by_accept w answer = record {
+  mid = mid_of answer;
+  kind = kind_of answer.typ;
+  rows = rows_of answer.pts answer.attrs;
+  map = map_of_lines answer.attrs;
+  own_ssrcs = w.ssrcs;
+  remote_ssrcs = ssrcs_of answer;
+  sends = receives (direction_of answer.attrs) && sends w.dir;
+  receives = sends (direction_of answer.attrs) && receives w.dir;
+}
+
+-- The agreed section of a name.
+abbrev pub section_of : List Agreed → List ℕ → Option Agreed
+section_of agreed mid = find (λ a. bytes_eq a.mid mid) agreed
+
+-- The first row of a payload type.
+abbrev pub row_in : List Row → ℕ → Option Row
+row_in rows pt = find (λ row. row.pt == pt) rows
+
+abbrev pub row_of_section : Option Agreed → ℕ → Option Row
+row_of_section None pt = None
+row_of_section (Some a) pt = row_in a.rows pt
+
+-- The row of a payload type in the answer's section of a name.
+abbrev pub agreed_row_of : List Agreed → List ℕ → ℕ → Option Row
+agreed_row_of agreed mid pt = row_of_section (section_of agreed mid) pt
+
+-- The map of header extensions of the answer's section of a name.
+abbrev pub agreed_map_of : List Agreed → List ℕ → Option Numbering
+agreed_map_of agreed mid = option_map (λ a. a.map) (section_of agreed mid)
+
+-- The section of a name among those of a text.
+abbrev pub line_of : List MediaLine → List ℕ → Option MediaLine
+line_of lines mid = find (λ m. bytes_eq (mid_of m) mid) lines
+
+abbrev pub row_of_line : Option MediaLine → ℕ → Option Row
+row_of_line None pt = None
+row_of_line (Some m) pt = row_in (rows_of m.pts m.attrs) pt
+
+-- The row of a payload type in a text's section of a name.
+abbrev pub row_of_text : List MediaLine → List ℕ → ℕ → Option Row
+row_of_text lines mid pt = row_of_line (line_of lines mid) pt
+
+-- The map of header extensions of a text's section of a name.
+abbrev pub map_of_text : List MediaLine → List ℕ → Option Numbering
+map_of_text lines mid = option_map (λ m. map_of_lines m.attrs) (line_of lines mid)
+
+-- Whether an SSRC is among these.
+abbrev pub is_named : List ℕ → ℕ → Bool
+is_named ssrcs ssrc = list_any (λ s. s == ssrc) ssrcs
+
+-- one codec at one clock rate with one number of channels
+abbrev pub same_codec : CodecSpec → CodecSpec → Bool
+same_codec a b = is_codec a.codec b.codec && ((a.clock_rate == b.clock_rate) && same a.channels b.channels)
+
+-- one layout of payloads
+abbrev pub same_layout : FormatParams → FormatParams → Bool
+same_layout a b = same_flag a.octet_align b.octet_align && same a.sprop_max_don_diff b.sprop_max_don_diff
+
+-- Whether two rows mean the same to a stream: codec, clock rate, channels, layout, decoding order numbers and RED type.
+abbrev pub means_same : Row → Row → Bool
+means_same a b = same_codec a.spec b.spec && (same_layout a.spec.format b.spec.format && same a.red b.red)
+
+-- Whether one of an end's own rows is locked at the type of an agreed one and means the same.
+unfoldable pub own_row_agrees : List Row → Row → Bool
+own_row_agrees own row = list_any (λ r. r.locked && ((r.pt == row.pt) && means_same r row)) own
+
+-- Each row that was agreed on is the one that the text's sections list, and no other is; and so is the map of header
+-- extensions.
+pub record AgreesOn (lines : List MediaLine) (agreed : List Agreed) : Type 0 where
+  pub rows : (mid : List ℕ) (pt : ℕ) → agreed_row_of agreed mid pt ≡ row_of_text lines mid pt
+  pub maps : (mid : List ℕ) → agreed_map_of agreed mid ≡ map_of_text lines mid

@@ -1,0 +1,5 @@
+pub mod Agreement
+pub mod Answered
+pub mod Extensions
+pub mod Lines
+pub mod Sections

@@ -1,0 +1,197 @@
+//! What an exchange agreed on.
+
+ghost use Rattle.std.specs.Prelude.{◌≡◌, ◌==◌, IfOk, find};
+ghost use Rattle.std.specs.Str.{bytes_eq};
+ghost use Rattle.rtp_media_sections.specs.Agreement.{agreed_by_accept, agreed_by_answer, fixed_section, is_named};
+ghost use Rattle.rtp_media_sections.specs.Agreement.{row_in, shape_of_agreed};
+
+use crate::extmaps::map_of_lines;
+use crate::read::{kind_of, mid_of, ssrcs_of};
+use crate::section::{SectionSpec, Shape};
+use payload_core_base::MediaKind;
+use rtp_wire::{ExtensionMap, Mid, Pt, Ssrc};
+use sdp_formats_config::CodecConfig;
+use sdp_formats_rows::PayloadParams;
+use sdp_formats_section_rows::rtp_params;
+use sdp_formats_types::MediaLine;
+use std::alloc::{AllocError, Global};
+use std::marker::Model;
+
+/// A section as an exchange left it.
+#[derive(Debug, Drop)]
+pub struct AgreedSection {
+    mid: Mid,
+    kind: MediaKind,
+    rows: Vec<PayloadParams>,
+    exts: ExtensionMap,
+    own_ssrcs: Vec<Ssrc>,
+    remote_ssrcs: Vec<Ssrc>,
+    sends: bool,
+    receives: bool,
+}
+
+impl Model for AgreedSection {
+    ghost use Rattle.rtp_media_sections.specs.Agreement.{Agreed};
+
+    ghost Value = { Agreed };
+
+    ghost view = { λ a. record {
+      mid = a.mid;
+      kind = a.kind;
+      rows = a.rows.items;
+      map = a.exts;
+      own_ssrcs = a.own_ssrcs.items;
+      remote_ssrcs = a.remote_ssrcs.items;
+      sends = a.sends;
+      receives = a.receives;
+    } };
+}
+
+impl AgreedSection {
+    /// What both fixed ends agree on: section `0`, Opus at type 111, no header extension, SSRC 44 at either side.
+    ///
+    /// # Errors
+    ///
+    /// `AllocError` where memory is wanting.
+    pub fn fixed(alloc: Global) -> Result<Self, AllocError>
+        ensures { IfOk result (λ a. a ≡ fixed_section) }
+    {
+        let mut config = CodecConfig::empty(alloc);
+        config.enable_opus(true, false)?;
+        let mut rows = Vec::new(alloc);
+        rows.extend_from_slice(config.params())?;
+        Ok(AgreedSection {
+            mid: Mid::from("0"),
+            kind: MediaKind::Audio,
+            rows,
+            exts: ExtensionMap::empty(),
+            own_ssrcs: vec![in alloc; Ssrc::from(44)]?,
+            remote_ssrcs: vec![in alloc; Ssrc::from(44)]?,
+            sends: true,
+            receives: true,
+        })
+    }
+
+    /// Its name and kind.
+    #[tactic(auto, unfolding(crate::specs::Agreement::shape_of_agreed))]
+    pub fn shape(&self) -> Shape
+        ensures { result ≡ shape_of_agreed self.now }
+    {
+        Shape {
+            mid: self.mid,
+            kind: self.kind,
+        }
+    }
+
+    /// Whether the section has this name.
+    pub fn is_named(&self, mid: Mid) -> bool
+        ensures { result ≡ bytes_eq self.now.mid mid }
+    {
+        self.mid.as_str() == mid.as_str()
+    }
+
+    /// The first row of this type.
+    pub fn row_of(&self, pt: Pt) -> Option<PayloadParams>
+        ensures { result ≡ row_in self.now.rows pt }
+    {
+        self.rows
+            .iter()
+            .copied()
+            .find(|row| row.pt().get() == pt.get())
+    }
+
+    /// The header extensions that both ends have a number for, and their numbers.
+    pub fn exts(&self) -> &ExtensionMap
+        ensures { result.now ≡ self.now.map }
+    {
+        &self.exts
+    }
+
+    /// Whether media flows from this end.
+    pub fn is_sending(&self) -> bool
+        ensures { result ≡ self.now.sends }
+    {
+        self.sends
+    }
+
+    /// Whether media flows to this end.
+    pub fn is_receiving(&self) -> bool
+        ensures { result ≡ self.now.receives }
+    {
+        self.receives
+    }
+
+    /// Whether this end names the SSRC.
+    pub fn names_own(&self, ssrc: Ssrc) -> bool
+        ensures { result ≡ is_named self.now.own_ssrcs ssrc }
+    {
+        names(&self.own_ssrcs, ssrc)
+    }
+
+    /// Whether the other end names the SSRC.
+    pub fn names_remote(&self, ssrc: Ssrc) -> bool
+        ensures { result ≡ is_named self.now.remote_ssrcs ssrc }
+    {
+        names(&self.remote_ssrcs, ssrc)
+    }
+}
+
+/// Whether the SSRC is among these.
+fn names(ssrcs: &[Ssrc], ssrc: Ssrc) -> bool
+    ensures { result ≡ is_named ssrcs.now ssrc }
+{
+    ssrcs.iter().any(|s| s.get() == ssrc.get())
+}
+
+/// What the end agrees on that answers an offered section, by its own text of the answer.
+///
+/// # Errors
+///
+/// `AllocError` where memory is wanting.
+#[tactic(auto, unfolding(crate::specs::Agreement::agreed_by_answer))]
+pub fn agreed_by_answer(
+    alloc: Global,
+    wanted: &SectionSpec,
+    offer: &MediaLine,
+    answer: &MediaLine,
+) -> Result<AgreedSection, AllocError>
+    ensures { IfOk result (λ a. a ≡ agreed_by_answer wanted.now offer.now answer.now) }
+{
+    let dir = answer.direction();
+    Ok(AgreedSection {
+        mid: mid_of(answer),
+        kind: kind_of(&answer.typ),
+        rows: rtp_params(alloc, answer)?,
+        exts: map_of_lines(alloc, answer.attrs.as_slice())?,
+        own_ssrcs: wanted.ssrcs.clone()?,
+        remote_ssrcs: ssrcs_of(alloc, offer)?,
+        sends: dir.is_sending(),
+        receives: dir.is_receiving(),
+    })
+}
+
+/// What the end agrees on that offered a section, by the text of the answer.
+///
+/// # Errors
+///
+/// `AllocError` where memory is wanting.
+#[tactic(auto, unfolding(crate::specs::Agreement::agreed_by_accept))]
+pub fn agreed_by_accept(
+    alloc: Global,
+    wanted: &SectionSpec,
+    answer: &MediaLine,
+) -> Result<AgreedSection, AllocError>
+    ensures { IfOk result (λ a. a ≡ agreed_by_accept wanted.now answer.now) }
+{
+    let dir = answer.direction();
+    Ok(AgreedSection {
+        mid: mid_of(answer),
+        kind: kind_of(&answer.typ),
+        rows: rtp_params(alloc, answer)?,
+        exts: map_of_lines(alloc, answer.attrs.as_slice())?,
+        own_ssrcs: wanted.ssrcs.clone()?,
+        remote_ssrcs: ssrcs_of(alloc, answer)?,
+        sends: dir.is_receiving() && wanted.dir.is_sending(),
+        receives: dir.is_sending() && wanted.dir.is_receiving(),
+    })
+}

@@ -1,0 +1,91 @@
+//! What the sections of a text say to an exchange.
+
+ghost use Rattle.std.specs.Prelude.{◌≡◌, ◌++◌, IfOk, OnOk};
+ghost use Rattle.std.specs.List.{flat_map};
+ghost use Rattle.sdp_formats_config.specs.Sections.{section_of};
+ghost use Rattle.rtp_media_sections.specs.Lines.{is_media_line, kind_of, mid_of, remote_of, shape_of_line, ssrc_in};
+ghost use Rattle.rtp_media_sections.specs.Lines.{ssrcs_of};
+
+use crate::section::Shape;
+use payload_core_base::MediaKind;
+use rtp_wire::{Mid, Ssrc};
+use sdp_formats_config::RemoteSection;
+use sdp_formats_section_rows::rtp_params;
+use sdp_formats_types::{MediaAttribute, MediaLine, MediaType, Proto};
+use std::alloc::{AllocError, Global};
+
+/// The name of a section that was read; each has one.
+pub fn mid_of(line: &MediaLine) -> Mid
+    ensures { result ≡ mid_of line.now }
+{
+    match line.mid() {
+        Some(mid) => mid,
+        None => Mid::from(""),
+    }
+}
+
+/// The kind of a section of media.
+pub(crate) fn kind_of(typ: &MediaType) -> MediaKind
+    ensures { result ≡ kind_of typ.now }
+{
+    match typ {
+        MediaType::Video => MediaKind::Video,
+        _ => MediaKind::Audio,
+    }
+}
+
+/// The name and kind of a section that was read.
+#[tactic(auto, unfolding(crate::specs::Lines::shape_of_line))]
+pub fn shape_of_line(line: &MediaLine) -> Shape
+    ensures { result ≡ shape_of_line line.now }
+{
+    Shape {
+        mid: mid_of(line),
+        kind: kind_of(&line.typ),
+    }
+}
+
+/// Whether a section is audio or video over RTP, and not of port 0 (RFC 3264 6).
+pub fn is_media_line(line: &MediaLine) -> bool
+    ensures { result ≡ is_media_line line.now }
+{
+    line.typ.is_media() && matches!(line.proto, Proto::Srtp) && !line.disabled
+}
+
+/// What a round takes of a section: its rows and its direction.
+#[tactic(auto, unfolding(crate::specs::Lines::remote_of))]
+pub fn remote_of(alloc: Global, line: &MediaLine) -> Result<RemoteSection, AllocError>
+    ensures { IfOk result (λ section. section_of section ≡ remote_of line.now) }
+{
+    Ok(RemoteSection {
+        rows: rtp_params(alloc, line)?,
+        dir: line.direction(),
+    })
+}
+
+#[tactic(auto, unfolding(crate::specs::Lines::ssrc_in))]
+fn push_ssrc(ssrcs: &mut Vec<Ssrc>, line: &MediaAttribute) -> Result<(), AllocError>
+    ensures { OnOk result (ssrcs.new.items ≡ ssrcs.old.items ++ ssrc_in line.now) }
+{
+    if let MediaAttribute::Ssrc { ssrc, .. } = line {
+        ssrcs.push(*ssrc)?;
+    }
+    Ok(())
+}
+
+fn ssrcs_in(alloc: Global, attributes: &[MediaAttribute]) -> Result<Vec<Ssrc>, AllocError>
+    ensures { IfOk result (λ ssrcs. ssrcs.items ≡ flat_map ssrc_in attributes.now) }
+{
+    let mut ssrcs = Vec::new(alloc);
+    for attribute in attributes {
+        push_ssrc(&mut ssrcs, attribute)?;
+    }
+    Ok(ssrcs)
+}
+
+/// The SSRCs that a section names (RFC 5576 4.1).
+pub(crate) fn ssrcs_of(alloc: Global, line: &MediaLine) -> Result<Vec<Ssrc>, AllocError>
+    ensures { IfOk result (λ ssrcs. ssrcs.items ≡ ssrcs_of line.now) }
+{
+    ssrcs_in(alloc, line.attrs.as_slice())
+}
