@@ -1,9 +1,9 @@
 -- What is agreed on is what the text of the answer says, section by section.
-use Rattle.std.proofs.Common.{◌≡◌, ℕ, Bool, true, false, List, [], ◌∷◌, length, map, Option, Some, None, refl, sym, arith}
-use Rattle.std.specs.Prelude.{if◌then◌else◌, zip}
+use Rattle.std.proofs.Common.{◌≡◌, ℕ, Bool, true, false, List, [], ◌∷◌, length, Some, refl, sym}
+use Rattle.std.proofs.Common.{arith}
+use Rattle.std.specs.Prelude.{if◌then◌else◌}
 use Rattle.std.specs.Option.{option_map}
 use Rattle.std.specs.Str.{bytes_eq}
-use Rattle.rtp_wire.specs.Values.{Numbering}
 use Rattle.sdp_formats_types.specs.declared.media.MediaLine.{MediaLine}
 use Rattle.rtp_media_negotiation.specs.Exchanges.{accepted_agreement, answered_agreement}
 use Rattle.rtp_media_sections.specs.Agreement.{Agreed, AgreesOn, agreed_by_accept, agreed_by_answer, line_of}
@@ -27,13 +27,13 @@ answered-rows (w ∷ ws) [] ans mid pt e f = absurd (omega (arith, e))
 answered-rows (w ∷ ws) (o ∷ os) [] mid pt e f = absurd (omega (arith, f))
 answered-rows (w ∷ ws) (o ∷ os) (a ∷ ans) mid pt e f = go (bytes_eq (mid_of a) mid)
     (answered-rows ws os ans mid pt (less o os w ws e) (less a ans w ws f)) where
-  go : (b : Bool)
-      → row_of_section (section_of (answered_agreement ws os ans) mid) pt ≡ row_of_line (line_of ans mid) pt
-      → row_of_section (if b then Some (agreed_by_answer w o a)
-      else section_of (answered_agreement ws os ans) mid) pt
-      ≡ row_of_line (if b then Some a else line_of ans mid) pt
-  go true h = refl
-  go false h = h
+      go : (b : Bool)
+          → row_of_section (section_of (answered_agreement ws os ans) mid) pt ≡ row_of_line (line_of ans mid) pt
+          → row_of_section (if b then Some (agreed_by_answer w o a)
+          else section_of (answered_agreement ws os ans) mid) pt
+          ≡ row_of_line (if b then Some a else line_of ans mid) pt
+      go true h = refl
+      go false h = h
 
 answered-maps : (ws : List Wanted) (os ans : List MediaLine) (mid : List ℕ) → length os ≡ length ws
     → length ans ≡ length ws
@@ -47,13 +47,13 @@ answered-maps (w ∷ ws) [] ans mid e f = absurd (omega (arith, e))
 answered-maps (w ∷ ws) (o ∷ os) [] mid e f = absurd (omega (arith, f))
 answered-maps (w ∷ ws) (o ∷ os) (a ∷ ans) mid e f = go (bytes_eq (mid_of a) mid)
     (answered-maps ws os ans mid (less o os w ws e) (less a ans w ws f)) where
-  go : (b : Bool) → option_map (λ (x : Agreed). x.map) (section_of (answered_agreement ws os ans) mid)
-      ≡ option_map (λ (m : MediaLine). map_of_lines m.attrs) (line_of ans mid)
-      → option_map (λ (x : Agreed). x.map) (if b then Some (agreed_by_answer w o a)
-      else section_of (answered_agreement ws os ans) mid)
-      ≡ option_map (λ (m : MediaLine). map_of_lines m.attrs) (if b then Some a else line_of ans mid)
-  go true h = refl
-  go false h = h
+      go : (b : Bool) → option_map (λ (x : Agreed). x.map) (section_of (answered_agreement ws os ans) mid)
+          ≡ option_map (λ (m : MediaLine). map_of_lines m.attrs) (line_of ans mid)
+          → option_map (λ (x : Agreed). x.map) (if b then Some (agreed_by_answer w o a)
+          else section_of (answered_agreement ws os ans) mid)
+          ≡ option_map (λ (m : MediaLine). map_of_lines m.attrs) (if b then Some a else line_of ans mid)
+      go true h = refl
+      go false h = h
 
 pub answered_agrees : (ws : List Wanted) (os ans : List MediaLine) → length ws ≡ length os → length ws ≡ length ans
     → AgreesOn ans (answered_agreement ws os ans)
@@ -70,12 +70,13 @@ accepted-rows [] (a ∷ ans) mid pt f = absurd (omega (arith, f))
 accepted-rows (w ∷ ws) [] mid pt f = absurd (omega (arith, f))
 accepted-rows (w ∷ ws) (a ∷ ans) mid pt f = go (bytes_eq (mid_of a) mid)
     (accepted-rows ws ans mid pt (less a ans w ws f)) where
-  go : (b : Bool) → row_of_section (section_of (accepted_agreement ws ans) mid) pt ≡ row_of_line (line_of ans mid) pt
-      → row_of_section (if b then Some (agreed_by_accept w a)
-      else section_of (accepted_agreement ws ans) mid) pt
-      ≡ row_of_line (if b then Some a else line_of ans mid) pt
-  go true h = refl
-  go false h = h
+      go : (b : Bool)
+          → row_of_section (section_of (accepted_agreement ws ans) mid) pt ≡ row_of_line (line_of ans mid) pt
+          → row_of_section (if b then Some (agreed_by_accept w a)
+          else section_of (accepted_agreement ws ans) mid) pt
+          ≡ row_of_line (if b then Some a else line_of ans mid) pt
+      go true h = refl
+      go false h = h
 
 accepted-maps : (ws : List Wanted) (ans : List MediaLine) (mid : List ℕ) → length ans ≡ length ws
     → option_map (λ (x : Agreed). x.map) (section_of (accepted_agreement ws ans) mid)
@@ -86,13 +87,13 @@ accepted-maps [] (a ∷ ans) mid f = absurd (omega (arith, f))
 accepted-maps (w ∷ ws) [] mid f = absurd (omega (arith, f))
 accepted-maps (w ∷ ws) (a ∷ ans) mid f = go (bytes_eq (mid_of a) mid)
     (accepted-maps ws ans mid (less a ans w ws f)) where
-  go : (b : Bool) → option_map (λ (x : Agreed). x.map) (section_of (accepted_agreement ws ans) mid)
-      ≡ option_map (λ (m : MediaLine). map_of_lines m.attrs) (line_of ans mid)
-      → option_map (λ (x : Agreed). x.map) (if b then Some (agreed_by_accept w a)
-      else section_of (accepted_agreement ws ans) mid)
-      ≡ option_map (λ (m : MediaLine). map_of_lines m.attrs) (if b then Some a else line_of ans mid)
-  go true h = refl
-  go false h = h
+      go : (b : Bool) → option_map (λ (x : Agreed). x.map) (section_of (accepted_agreement ws ans) mid)
+          ≡ option_map (λ (m : MediaLine). map_of_lines m.attrs) (line_of ans mid)
+          → option_map (λ (x : Agreed). x.map) (if b then Some (agreed_by_accept w a)
+          else section_of (accepted_agreement ws ans) mid)
+          ≡ option_map (λ (m : MediaLine). map_of_lines m.attrs) (if b then Some a else line_of ans mid)
+      go true h = refl
+      go false h = h
 
 pub accepted_agrees : (ws : List Wanted) (ans : List MediaLine) → length ws ≡ length ans
     → AgreesOn ans (accepted_agreement ws ans)

@@ -31,14 +31,14 @@ pub refuses_answer : (x : Exchanged) (text : List ℕ) (wanted : List Wanted) (l
     → SaysOnly text lines → (e ≢ Memory → refusal_of_answer x lines wanted ≡ Some e) → RefusesAnswer x text wanted e
 refuses_answer x text wanted lines e says h =
     go (by-reason text (λ ls. refusal_of_answer x ls wanted) lines says.says e h) where
-  go : IsUnread text e ⊎ ((ls : List MediaLine) × Says text ls × (refusal_of_answer x ls wanted ≡ Some e))
-      → RefusesAnswer x text wanted e
-  go (inl u) = inl u
-  go (inr r) = inr (record { lines = r.0; says = r.1; why = inl r.2 })
+      go : IsUnread text e ⊎ ((ls : List MediaLine) × Says text ls × (refusal_of_answer x ls wanted ≡ Some e))
+          → RefusesAnswer x text wanted e
+      go (inl u) = inl u
+      go (inr r) = inr (record { lines = r.0; says = r.1; why = inl r.2 })
 
-pub refuses_accept : (x : Exchanged) (text : List ℕ) (lines : List MediaLine) (e : ExchangeError)
+pub not_accepted : (x : Exchanged) (text : List ℕ) (lines : List MediaLine) (e : ExchangeError)
     → SaysOnly text lines → (e ≢ Memory → refusal_of_accept x lines ≡ Some e) → RefusesAccept x text e
-refuses_accept x text lines e says h = by-reason text (refusal_of_accept x) lines says.says e h
+not_accepted x text lines e says h = by-reason text (refusal_of_accept x) lines says.says e h
 
 -- an answer that can't be written
 pub cannot_answer : (x : Exchanged) (text : List ℕ) (wanted : List Wanted) (lines : List MediaLine) (e : ExchangeError)

@@ -1,5 +1,6 @@
 -- What an end keeps of its exchanges, and how each call changes it.
-use Rattle.std.specs.Prelude.{ℕ, true, false, Bool, ◌&&◌, ◌==◌, is_none, length, List, [], ◌∷◌, map, zip, Option, Some, None}
+use Rattle.std.specs.Prelude.{ℕ, true, false, Bool, ◌&&◌, ◌==◌, is_none, length, List, [], ◌∷◌, map, zip, Option}
+use Rattle.std.specs.Prelude.{None}
 use Rattle.rtp_wire.specs.Maps.{empty_map}
 use Rattle.rtp_wire.specs.Values.{Numbering}
 use Rattle.sdp_formats_config.specs.Configs.{Config, opus_row}

@@ -1,5 +1,5 @@
 -- What offers and answers say.
-use Rattle.std.specs.Prelude.{◌≡◌, ℕ, List, [], ◌∷◌, map, zip, codes, Option, Some, None, Result, Ok}
+use Rattle.std.specs.Prelude.{◌≡◌, ℕ, List, [], ◌∷◌, map, zip, codes, Some, None, Ok}
 use Rattle.sdp_formats_round.specs.Laws.{rounds}
 use Rattle.sdp_formats_rows.specs.Rows.{Row}
 use Rattle.sdp_formats_types.specs.PrintedSession.{sdp_text}

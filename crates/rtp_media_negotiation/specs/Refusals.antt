@@ -1,5 +1,6 @@
 -- Why calls are refused, want of memory aside: the first reason that holds.
-use Rattle.std.specs.Prelude.{◌≡◌, ◌≢◌, ◌⊎◌, IsFalse, ℕ, Bool, true, not, ◌&&◌, ◌||◌, ◌==◌, length, Result, Ok, Err, if◌then◌else◌, List, []}
+use Rattle.std.specs.Prelude.{◌≡◌, ◌≢◌, ◌⊎◌, IsFalse, ℕ, Bool, true, not, ◌&&◌, ◌==◌, length, Result, Ok, Err}
+use Rattle.std.specs.Prelude.{if◌then◌else◌, List, []}
 use Rattle.std.specs.Prelude.{◌∷◌, ◌++◌, Option, Some, None, is_some, map, find, suc}
 use Rattle.std.specs.List.{list_any}
 use Rattle.std.specs.Option.{option_map}
@@ -21,7 +22,7 @@ use Rattle.rtp_media_negotiation.specs.declared.errors.EndError.TheVariants as f
 use Rattle.rtp_media_negotiation.specs.declared.errors.ExchangeError.{ExchangeError}
 use Rattle.rtp_media_negotiation.specs.declared.errors.ExchangeError.TheVariants as error
 use Rattle.rtp_media_sections.specs.Agreement.{shape_of_agreed}
-use Rattle.rtp_media_sections.specs.Answered.{answered_rows, has_pt}
+use Rattle.rtp_media_sections.specs.Answered.{answered_rows}
 use Rattle.rtp_media_sections.specs.Extensions.{is_writable_map}
 use Rattle.rtp_media_sections.specs.Lines.{is_media_line, mid_of, remote_of, shape_of_line, types_listed}
 use Rattle.rtp_media_sections.specs.Sections.{Wanted, correspond, may_follow, shape_of}

@@ -23,11 +23,7 @@ fn mids_of(alloc: Global, sections: &[SectionSpec]) -> Result<Vec<Mid>, AllocErr
 }
 
 // A session of these sections in one bundle.
-fn bundled(
-    alloc: Global,
-    id: SessionId,
-    sections: &[SectionSpec],
-) -> Result<Session, AllocError>
+fn bundled(alloc: Global, id: SessionId, sections: &[SectionSpec]) -> Result<Session, AllocError>
     ensures { IfOk result (λ s. s ≡ bundled id sections.now) }
 {
     let group = SessionAttribute::Group {

@@ -13,7 +13,8 @@ ghost use Rattle.rtp_media_sections.specs.Sections.{shape_of};
 
 use crate::errors::ExchangeError;
 use rtp_media_sections::{
-    AgreedSection, SectionSpec, Shape, answered_rows, is_media_line, mid_of, remote_of, shape_of_line,
+    AgreedSection, SectionSpec, Shape, answered_rows, is_media_line, mid_of, remote_of,
+    shape_of_line,
 };
 use sdp_formats_config::{CodecConfig, RemoteSection, RoundError};
 use sdp_formats_rows::PayloadParams;

@@ -1,6 +1,6 @@
 -- The sections of offers and answers, as values and as they are read (RFC 8829 5.2.1 and 5.3.1).
-use Rattle.std.specs.Prelude.{ℕ, Bool, true, false, not, ◌&&◌, ◌==◌, List, [], ◌∷◌, ◌++◌, map, codes, None, length}
-use Rattle.std.specs.List.{list_any, flat_map}
+use Rattle.std.specs.Prelude.{ℕ, Bool, true, false, not, ◌&&◌, List, [], ◌∷◌, ◌++◌, map, codes, None}
+use Rattle.std.specs.List.{flat_map}
 use Rattle.std.specs.Option.{unwrap_or}
 use Rattle.payload_core_base.specs.declared.codec.MediaKind as kind
 use Rattle.payload_core_base.specs.declared.codec.MediaKind.TheVariants as kinds

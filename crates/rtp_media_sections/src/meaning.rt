@@ -61,6 +61,5 @@ fn means_same(own: &PayloadParams, row: &PayloadParams) -> bool
 pub fn own_row_agrees(own: &[PayloadParams], row: &PayloadParams) -> bool
     ensures { result ≡ own_row_agrees own.now row.now }
 {
-    own.iter()
-        .any(|r| r.is_locked() && r.pt().get() == row.pt().get() && means_same(r, row))
+    own.iter().any(|r| r.is_locked() && r.pt().get() == row.pt().get() && means_same(r, row))
 }

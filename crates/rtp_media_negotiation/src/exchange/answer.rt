@@ -1,9 +1,11 @@
 //! Answers to offers, and their acceptance.
 
-ghost use Rattle.std.specs.Prelude.{◌≡◌, ◌≢◌, None, Some, Ok, length, map, string_bytes, IfOk, IfErr, OnOk, OnErr, IsTrue};
+ghost use Rattle.std.specs.Prelude.{◌≡◌, ◌≢◌, None, Some, Ok, length, map, string_bytes, IfOk, IfErr, OnOk, OnErr};
+ghost use Rattle.std.specs.Prelude.{IsTrue};
 ghost use Rattle.sdp_formats_round.specs.Laws.{rounds};
 ghost use Rattle.rtp_media_negotiation.specs.Offers.{Accepts, Answers};
-ghost use Rattle.rtp_media_negotiation.specs.Refusals.{IsUnwritable, MayAccept, MayAnswer, RefusesAccept, RefusesAnswer};
+ghost use Rattle.rtp_media_negotiation.specs.Refusals.{IsUnwritable, MayAccept, MayAnswer, RefusesAccept};
+ghost use Rattle.rtp_media_negotiation.specs.Refusals.{RefusesAnswer};
 ghost use Rattle.rtp_media_negotiation.specs.Refusals.{refusal_of_accept, refusal_of_answer, refusal_of_sections};
 ghost use Rattle.rtp_media_negotiation.specs.Says.{AgreesOnText, SaysOnly};
 ghost use Rattle.rtp_media_sections.specs.Lines.{remote_of, shape_of_line};
@@ -104,14 +106,14 @@ impl Exchange {
         Ok(config)
     }
 
-    /// The text of the answer to an offer, of these sections; it is then agreed. A round runs with each offered section:
-    /// rows that match are locked under the types that were offered, and the answer lists those of them.
+    /// The text of the answer to an offer, of these sections; it is then agreed. A round runs with each offered
+    /// section: rows that match are locked under the types that were offered, and the answer lists those of them.
     ///
     /// # Errors
     ///
     /// The first that holds of `Unreadable`, `OutOfTurn`, `NotMedia`, `NotCorresponding`, `Round`, `NoCommonRow` and
     /// `NotWritable`; or `Memory`. Nothing has then changed.
-    #[tactic(auto, unfolding(crate::specs::Offers::answer_of), using(crate::proofs::Refusing::refuses_answer, crate::proofs::Refusing::cannot_answer, crate::proofs::Refusing::may_answer))]
+    #[tactic(auto, unfolding(crate::specs::Offers::answer_of), using(crate::proofs::Refusing::refuses_answer))]
     pub fn answer(
         &mut self,
         text: &str,
@@ -160,7 +162,8 @@ impl Exchange {
         ensures distances { IfOk result (λ c. c.distances ≡ self.now.config.distances) }
         ensures length { OnOk result (length sections.now ≡ length answer.now) }
         ensures accepted { OnOk result (refusal_of_accept self.now answer.now ≡ None) }
-        ensures refused { IfErr result (λ e. e ≢ ExchangeError.Memory → refusal_of_accept self.now answer.now ≡ Some e) }
+        ensures refused { IfErr result (λ e. e ≢ ExchangeError.Memory
+            → refusal_of_accept self.now answer.now ≡ Some e) }
     {
         let config = self.settle(answer, sections)?;
         check_accepted(self.alloc, &config, answer)?;
@@ -175,7 +178,7 @@ impl Exchange {
     /// The first that holds of `Unreadable`, `OutOfTurn`, `NotMedia`, `NotCorresponding`, `Round` and `NoCommonRow` (no
     /// locked row has the type of a row of this section); or `Memory`. Nothing has then changed, and the offer is still
     /// pending.
-    #[tactic(auto, unfolding(crate::specs::Refusals::refusal_of_accept), using(crate::proofs::Refusing::refuses_accept, crate::proofs::Refusing::may_accept))]
+    #[tactic(auto, unfolding(crate::specs::Refusals::refusal_of_accept), using(crate::proofs::Refusing::not_accepted))]
     pub fn accept(&mut self, text: &str) -> Result<(), ExchangeError>
         ensures after { OnOk result (Accepts self.old text.now self.new) }
         ensures agreed { OnOk result (AgreesOnText text.now self.new.agreed) }

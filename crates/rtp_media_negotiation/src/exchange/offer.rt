@@ -40,7 +40,9 @@ fn check_rows(config: &CodecConfig, sections: &[SectionSpec]) -> Result<(), Exch
 fn is_any_nameless(sections: &[SectionSpec]) -> bool
     ensures { result ≡ list_any is_nameless sections.now }
 {
-    sections.iter().any(|section| section.mid.as_str().is_empty())
+    sections
+        .iter()
+        .any(|section| section.mid.as_str().is_empty())
 }
 
 impl Exchange {

@@ -4,4 +4,5 @@ use Rattle.rtp_media_negotiation.proofs.settle.agreed_shapes.Given as goal
 
 -- the names and kinds so far, and those of the rest
 abbrev pub invariant-loop-section : goal.invariant-loop-section
-invariant-loop-section l = l.shapes.items ++ map shape_of_agreed (drop l.section-index l.sections) ≡ map shape_of_agreed l.sections
+invariant-loop-section l =
+    l.shapes.items ++ map shape_of_agreed (drop l.section-index l.sections) ≡ map shape_of_agreed l.sections

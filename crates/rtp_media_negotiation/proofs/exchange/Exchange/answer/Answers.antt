@@ -1,4 +1,4 @@
-use Rattle.std.proofs.Common.{◌≡◌, None, Ok, map, ◌∙◌, sym, subst, arith}
+use Rattle.std.proofs.Common.{◌≡◌, None, Ok, map, subst, arith}
 use Rattle.std.proofs.lemmas.Grind.{common_steps}
 use Rattle.std.specs.Prelude.{string_bytes}
 use Rattle.sdp_formats_round.specs.Laws.{rounds}
