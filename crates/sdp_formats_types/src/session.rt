@@ -1,11 +1,14 @@
 //! The session: what stands before the first section.
 
+ghost use Rattle.std.specs.Prelude.{◌≡◌, [], None};
+
 use crate::candidate::Candidate;
 use crate::fingerprint::Fingerprint;
 use crate::media::MediaLine;
 use crate::setup::Setup;
 use rtp_wire::{Mid, SessionId};
 use sdp_formats_forms::{Listed, Text};
+use std::alloc::Global;
 use std::fmt;
 
 /// A session text (RFC 8866 5).
@@ -26,6 +29,19 @@ pub struct Session {
     pub bw: Option<Bandwidth>,
     /// The attributes, in order (RFC 8866 5.13).
     pub attrs: Listed<SessionAttribute>,
+}
+
+impl Session {
+    /// A session of this number without bandwidth and attributes.
+    pub fn new(alloc: Global, id: SessionId) -> Self
+        ensures { result ≡ record { id = id; bw = None; attrs = [] } }
+    {
+        Session {
+            id,
+            bw: None,
+            attrs: Listed::new(alloc),
+        }
+    }
 }
 
 /// A bandwidth, `b=TYPE:VALUE` (RFC 8866 5.8).
