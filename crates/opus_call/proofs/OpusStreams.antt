@@ -1,8 +1,7 @@
 -- The streams of an exchange of Opus, and samples that they take.
 use Rattle.std.proofs.Common.{◌≡◌, ℕ, ◌<◌, ◌≤◌, zero, suc, refl, sym, ◌∙◌, ap, subst, arith, Bool, true, false}
 use Rattle.std.proofs.Common.{List, [], ◌∷◌, length, Option, Some, None}
-use Rattle.std.specs.Prelude.{◌==◌, All, if◌then◌else◌}
-use Rattle.std.specs.Str.{bytes_eq}
+use Rattle.std.specs.Prelude.{All, IfSome}
 use Rattle.payload_core_base.specs.declared.codec.Codec.{Codec}
 use Rattle.payload_core_base.specs.declared.codec.Codec.TheVariants.{Opus}
 use Rattle.h26x_payload.specs.Codings as codings
@@ -10,7 +9,6 @@ use Rattle.h26x_payload.specs.Codings.{Forms, Settings}
 use Rattle.rtp_wire.specs.Carried.{AreValues}
 use Rattle.rtp_wire.specs.Values.{absent}
 use Rattle.sdp_formats_rows.specs.Rows.{Row}
-use Rattle.rtp_media_texts.specs.Section.{Section}
 use Rattle.rtp_media_runs.specs.Samples.{Timed}
 use Rattle.rtp_media_schedules.specs.Samples.{AreWellFormed}
 use Rattle.rtp_media_streams.specs.Rows.{forms_for, settings_in}
@@ -18,41 +16,29 @@ use Rattle.rtp_media_streams.specs.Sending.{Sample, Sending, opened_sender, pack
 use Rattle.rtp_media_streams.specs.declared.row_format.RowFormat.{RowFormat}
 use Rattle.rtp_media_streams.specs.declared.types.PayloadTypes.{PayloadTypes}
 use Rattle.rtp_wire.specs.Values.{Numbering}
-use Rattle.rtp_media_exchange.specs.Agreement.{row_listed, row_of_text}
-use Rattle.rtp_media_exchange.specs.Offers.{AgreesOnText}
+use Rattle.rtp_media_sections.specs.Agreement.{agreed_row_of}
 use Rattle.rtp_media_ends.specs.Ends.{EndState, agreed_format, agreed_red, agreed_types, new_sender, row_format_in}
 use Rattle.rtp_media_ends.specs.Ends.{stream_map, with_distances}
 use Rattle.rtp_media_ends.specs.FullArrival.{AreSound}
 use Rattle.rtp_media_ends.specs.OpensAt.{SendsAt}
 use Rattle.rtp_media_ends.specs.declared.params.StreamParams.{StreamParams}
 use Rattle.rtp_media_play.proofs.Exchanged.{agreed-is}
-use Rattle.opus_call.specs.Call.{IsShortSample}
-
-no-some : {A : Type 0} (x : A) → Some x ≡ None → ⊥
-no-some x h = cc h
-
-text-opus : (s : Section) (mid : List ℕ) (pt : ℕ) (row : Row) → row_of_text s mid pt ≡ Some row
-    → row.spec.codec ≡ Opus
-text-opus s mid pt row h = go (bytes_eq s.mid mid) (s.pt == pt) h where
-  go : (named same : Bool) → (if named then (if same then Some (row_listed s) else None) else None) ≡ Some row
-      → row.spec.codec ≡ Opus
-  go true true h = (let is : row_listed s ≡ row = cc h in ap (λ (r : Row). r.spec.codec) (sym is))
-  go true false h = absurd (no-some row (sym h))
-  go false same h = absurd (no-some row (sym h))
+use Rattle.opus_call.specs.Call.{IsOpus, IsShortSample}
 
 row-kept : (s : Sending) (red : Option ℕ) (d : Option (List ℕ)) → (with_distances s red d).row ≡ s.row
 row-kept s red None = refl
 row-kept s red (Some ds) = refl
 
--- what an exchange agrees on today is Opus
-pub sends-opus : (answer : List ℕ) (e : EndState) (mid : List ℕ) (ssrc pt : ℕ) (p : StreamParams)
-    → AgreesOnText answer e.exchange.agreed → SendsAt e mid ssrc pt → (new_sender e mid ssrc pt p).row.codec ≡ Opus
-sends-opus answer e mid ssrc pt p on at =
+-- a stream of an agreed row of Opus
+pub sends-opus : (e : EndState) (mid : List ℕ) (ssrc pt : ℕ) (p : StreamParams)
+    → IfSome (agreed_row_of e.exchange.agreed mid pt) IsOpus → SendsAt e mid ssrc pt
+    → (new_sender e mid ssrc pt p).row.codec ≡ Opus
+sends-opus e mid ssrc pt p opus at =
     ap (λ (row : RowFormat). row.codec)
     (row-kept (opened_sender ssrc (agreed_types e mid pt) (stream_map e mid) (agreed_format e mid pt) p.picture_id
     p.for_browsers p.first p.mtu p.limit) (agreed_red e mid pt) p.red)
     ∙ ap (λ (o : Option Row). (row_format_in o).codec) (agreed-is e mid ssrc pt at)
-    ∙ text-opus on.0 mid pt at.section.row (sym (on.2.rows mid pt) ∙ agreed-is e mid ssrc pt at)
+    ∙ subst (λ (o : Option Row). IfSome o IsOpus) (agreed-is e mid ssrc pt at) opus
 
 good-opus : (f : Forms) (settings : Settings) (id : Bool) (codec : Codec) (limit : ℕ) (xs : List Timed) → codec ≡ Opus
     → All (λ x. 0 < length x.bytes) xs → AreWellFormed (codings.coding_in f settings id codec) limit xs

@@ -1,10 +1,12 @@
 -- Short samples, what comes out of them, and polls that end.
 use Rattle.std.specs.Prelude.{ℕ, ◌≡◌, ◌<◌, ◌≤◌, Bool, true, false, List, [], ◌∷◌, length, Option, Some, None, Result}
 use Rattle.std.specs.Prelude.{Ok, Err}
+use Rattle.payload_core_base.specs.declared.codec.Codec.TheVariants.{Opus}
 use Rattle.payload_core_base.specs.declared.error.PacketError.{PacketError}
 use Rattle.rtp_wire.specs.Values.{absent}
 use Rattle.rtp_media_runs.specs.Hearing.{MediaUnit}
 use Rattle.rtp_media_streams.specs.Sending.{Sample}
+use Rattle.sdp_formats_rows.specs.Rows.{Row}
 use Rattle.rtp_media_play.specs.declared.schedule.Played.{Played}
 use Rattle.rtp_media_play.specs.declared.schedule.Played.TheVariants.{Received, Polled}
 
@@ -13,6 +15,10 @@ pub record IsShortSample (x : Sample) : Type 0 where
   pub some : 0 < length x.bytes
   pub short : length x.bytes ≤ 1199
   pub values : x.values ≡ absent
+
+-- a row of Opus
+abbrev pub IsOpus : Row → Type 0
+IsOpus row = row.spec.codec ≡ Opus
 
 -- the bytes of what is handed out
 abbrev pub bytes_out : Result MediaUnit PacketError → Result (List ℕ) PacketError

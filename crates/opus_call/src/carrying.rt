@@ -1,6 +1,6 @@
 //! A call of three samples.
 
-ghost use Rattle.std.specs.Prelude.{◌≡◌, ◌<◌, ◌≤◌, ℕ, List, length, map, All, IfOk, Ok, None};
+ghost use Rattle.std.specs.Prelude.{◌≡◌, ◌<◌, ◌≤◌, ℕ, List, length, map, All, IfOk, IfSome, IsTrue, Ok, None};
 ghost use Rattle.payload_core_base.specs.declared.codec.Codec.TheVariants.{Opus};
 ghost use Rattle.rtp_media_runs.specs.Hearing.{handed_out};
 ghost use Rattle.rtp_media_streams.specs.Sending.{packet_limit};
@@ -8,12 +8,13 @@ ghost use Rattle.rtp_media_ends.specs.Connections.{HaveExchanged};
 ghost use Rattle.rtp_media_ends.specs.Ends.{sender_at};
 ghost use Rattle.rtp_media_play.specs.Runs.{Hears};
 ghost use Rattle.rtp_media_play.specs.Schedules.{poll_answers};
-ghost use Rattle.opus_call.specs.Call.{IsShortSample, bytes_out};
+ghost use Rattle.opus_call.specs.Call.{IsOpus, IsShortSample, bytes_out};
 
 use crate::silence::ends_silent;
 use crate::stopped::Stopped;
 use rtp_media::{
-    Distances, End, Event, Played, Sample, SectionSpec, StreamParams, connect, headline, play,
+    Codec, Distances, End, Event, PayloadParams, Played, Sample, SectionSpec, StreamParams,
+    connect, headline, play,
 };
 use rtp_wire::{Mid, Pt, Ssrc};
 use std::alloc::Global;
@@ -54,6 +55,16 @@ pub(crate) fn carry(
     carry_between(alloc, a, b, params, samples)
 }
 
+/// Whether a row, where there is one, is Opus's.
+fn is_opus(row: Option<PayloadParams>) -> bool
+    ensures { IsTrue result → IfSome row IsOpus }
+{
+    match row {
+        Some(row) => matches!(row.spec().codec, Codec::Opus),
+        None => false,
+    }
+}
+
 /// The same between ends that have exchanged texts.
 fn carry_between(
     alloc: Global,
@@ -72,6 +83,9 @@ fn carry_between(
 {
     headline();
     let (mid, ssrc, pt) = (Mid::from("0"), Ssrc::from(44), Pt::from(111));
+    if !is_opus(a.agreed_row(mid, pt)) {
+        return Err(Stopped::NotOpus);
+    }
     if !params.is_sound(a.agreed_red(mid, pt)) {
         return Err(Stopped::Params);
     }

@@ -13,6 +13,9 @@ pub enum Stopped {
     /// The exchange was refused.
     #[error("the exchange was refused")]
     Exchange(ExchangeError),
+    /// What was agreed on isn't Opus.
+    #[error("what was agreed on isn't Opus")]
+    NotOpus,
     /// A stream can't be opened with these parameters.
     #[error("no stream can be opened so")]
     Params,

@@ -10,13 +10,14 @@ use Rattle.rtp_wire.specs.Name.{name_of}
 use Rattle.sdp_formats_rows.specs.declared.format.FormatParams.{FormatParams}
 use Rattle.sdp_formats_rows.specs.Formats.{format_of, no_format}
 use Rattle.sdp_formats_rows.specs.Rows.{Row, new_row}
-use Rattle.rtp_media_exchange.specs.declared.errors.EndError.{EndError}
-use Rattle.rtp_media_exchange.specs.declared.errors.ExchangeError.{ExchangeError}
-use Rattle.rtp_media_exchange.specs.Exchanges.{with_offer}
-use Rattle.rtp_media_exchange.specs.Offers.{Offers, Answers, Accepts}
-use Rattle.rtp_media_exchange.specs.Refusals.{Names, refusal_of_new, refusal_of_offer, refusal_of_answer}
-use Rattle.rtp_media_exchange.specs.Refusals.{refusal_of_accept}
-use Rattle.rtp_media_exchange.specs.Sections.{Wanted, only}
+use Rattle.sdp_formats_types.specs.PrintedSession.{sdp_text}
+use Rattle.rtp_media_negotiation.specs.declared.errors.EndError.{EndError}
+use Rattle.rtp_media_negotiation.specs.declared.errors.ExchangeError.{ExchangeError}
+use Rattle.rtp_media_negotiation.specs.Exchanges.{with_offer}
+use Rattle.rtp_media_negotiation.specs.Offers.{Accepts, Answers, offer_of}
+use Rattle.rtp_media_negotiation.specs.Refusals.{MayAccept, MayAnswer, Refuses, RefusesAccept, RefusesAnswer}
+use Rattle.rtp_media_negotiation.specs.Refusals.{refusal_of_new, refusal_of_offer}
+use Rattle.rtp_media_sections.specs.Sections.{Wanted}
 use Rattle.rtp_media_ends.specs.Connections.{Connects, IsRefused, offering}
 use Rattle.rtp_media_ends.specs.Ends.{EndState, new_end, with_exchange}
 use Rattle.rtp_media_lines.specs.declared.exchange.RowCommand.{RowCommand}
@@ -78,7 +79,7 @@ AnswersExt old c new replies =
 
 -- end E ID: the draft is emptied, refused or not
 abbrev pub AnswersEnd : EndAndDraft → EndCommand → Option EndError → EndAndDraft → List Reply → Type 0
-AnswersEnd old c None new replies = (new ≡ empty_draft (Some (new_end c.session old.exts (only old.rows))))
+AnswersEnd old c None new replies = (new ≡ empty_draft (Some (new_end c.session old.exts (record { rows = old.rows; distances = [] }))))
     × Prints replies reply.Done
 AnswersEnd old c (Some error) new replies =
     (new ≡ empty_draft old.end) × Prints replies (reply.Refused (end_error_name error))
@@ -97,7 +98,7 @@ wanted_in sections = map wanted_of sections
 pub record PrintsOffer (e : EndState) (sections : List Wanted) (after : EndState) (replies : List Reply) : Type 0 where
   pub text : List ℕ
   pub may_offer : refusal_of_offer e.exchange sections ≡ None
-  pub offers : Offers e.exchange sections text
+  pub text_is : text ≡ sdp_text (offer_of e.exchange sections)
   pub is_pending : after ≡ offering e sections
   pub printed : Prints replies (reply.Text text)
 
@@ -112,13 +113,13 @@ pub record PrintsRefusal (e after : EndState) (names : ExchangeError → Type 0)
 abbrev pub AnswersOffer : EndState → List Wanted → EndState → List Reply → Type 0
 AnswersOffer e sections after replies =
     PrintsOffer e sections after replies ⊎ PrintsRefusal e after
-    (λ error. Names error (refusal_of_offer e.exchange sections)) replies
+    (λ error. Refuses error (refusal_of_offer e.exchange sections)) replies
 
 -- an answer's text is printed, where nothing refuses it
 pub record PrintsAnswer (e : EndState) (text : List ℕ) (sections : List Wanted) (after : EndState)
     (replies : List Reply) : Type 0 where
   pub answer : List ℕ
-  pub may_answer : refusal_of_answer e.exchange text sections ≡ None
+  pub may_answer : MayAnswer e.exchange text sections
   pub answers : Answers e.exchange text sections answer after.exchange
   pub streams : after ≡ with_exchange e after.exchange
   pub printed : Prints replies (reply.Text answer)
@@ -127,11 +128,11 @@ pub record PrintsAnswer (e : EndState) (text : List ℕ) (sections : List Wanted
 abbrev pub AnswersAnswer : EndState → List ℕ → List Wanted → EndState → List Reply → Type 0
 AnswersAnswer e text sections after replies =
     PrintsAnswer e text sections after replies
-    ⊎ PrintsRefusal e after (λ error. Names error (refusal_of_answer e.exchange text sections)) replies
+    ⊎ PrintsRefusal e after (RefusesAnswer e.exchange text sections) replies
 
 -- an answer is accepted, where nothing refuses it
 pub record PrintsAccept (e : EndState) (text : List ℕ) (after : EndState) (replies : List Reply) : Type 0 where
-  pub may_accept : refusal_of_accept e.exchange text ≡ None
+  pub may_accept : MayAccept e.exchange text
   pub accepts : Accepts e.exchange text after.exchange
   pub streams : after ≡ with_exchange e after.exchange
   pub printed : Prints replies reply.Done
@@ -140,7 +141,7 @@ pub record PrintsAccept (e : EndState) (text : List ℕ) (after : EndState) (rep
 abbrev pub AnswersAccept : EndState → List ℕ → EndState → List Reply → Type 0
 AnswersAccept e text after replies =
     PrintsAccept e text after replies ⊎ PrintsRefusal e after
-    (λ error. Names error (refusal_of_accept e.exchange text)) replies
+    (RefusesAccept e.exchange text) replies
 
 -- withdraw E
 abbrev pub AnswersWithdraw : EndState → EndState → List Reply → Type 0

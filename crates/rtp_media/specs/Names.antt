@@ -1,9 +1,9 @@
 -- The names under which the program prints errors: that of the variant, without what it holds.
 use Rattle.std.specs.Prelude.{ℕ, List, codes}
-use Rattle.rtp_media_exchange.specs.declared.errors.EndError.{EndError}
-use Rattle.rtp_media_exchange.specs.declared.errors.EndError.TheVariants as end_error
-use Rattle.rtp_media_exchange.specs.declared.errors.ExchangeError.{ExchangeError}
-use Rattle.rtp_media_exchange.specs.declared.errors.ExchangeError.TheVariants as exchange_error
+use Rattle.rtp_media_negotiation.specs.declared.errors.EndError.{EndError}
+use Rattle.rtp_media_negotiation.specs.declared.errors.EndError.TheVariants as end_error
+use Rattle.rtp_media_negotiation.specs.declared.errors.ExchangeError.{ExchangeError}
+use Rattle.rtp_media_negotiation.specs.declared.errors.ExchangeError.TheVariants as exchange_error
 use Rattle.rtp_media_ends.specs.declared.errors.OpenError.{OpenError}
 use Rattle.rtp_media_ends.specs.declared.errors.OpenError.TheVariants as open_error
 use Rattle.rtp_media_streams.specs.declared.errors.SampleError.{SampleError}

@@ -13,3 +13,7 @@ pub use rtp_media_ends::{
 };
 pub use rtp_media_lines::{RunFault, Status};
 pub use rtp_media_play::{Event, Played, Sample, headline, play};
+pub use rtp_wire::{
+    Direction, Extension, ExtensionMap, ExtensionValues, Frequency, MediaTime, Mid, Pt, SessionId,
+    Ssrc,
+};

@@ -6,7 +6,7 @@ ghost use Rattle.rtp_media_lines.specs.Runs.{Printed, ReadsAll};
 ghost use Rattle.rtp_media_lines.specs.declared.line.Command.{Command};
 ghost use Rattle.rtp_media.specs.Exchanging.{empty_draft};
 ghost use Rattle.rtp_media.specs.Playing.{PlaysEnds};
-ghost use Rattle.rtp_media.specs.Program.{IsAnswered, verdict_reply, unit_reply, values_given};
+ghost use Rattle.rtp_media.specs.Program.{IsAnswered, params_of, verdict_reply, unit_reply, values_given};
 ghost use Rattle.rtp_media.specs.ProgramState.{AnswersCommand, AnswersAt, ConnectsEnds, KeepsDraft, letter_of};
 ghost use Rattle.rtp_media.specs.ProgramState.{initial_state};
 
@@ -202,6 +202,38 @@ fn fix(alloc: Global, end: &mut Option<End>, _letter: Letter) -> Result<Vec<Repl
     }
 }
 
+/// The distances that a command gives.
+fn distances_in(distances: Option<Bytes>) -> Option<Distances>
+    ensures { result ≡ distances }
+{
+    match distances {
+        Some(distances) => Some(Distances::from_vec(distances.into_vec())),
+        None => None,
+    }
+}
+
+/// The stream parameters that a command gives.
+fn params_of(command: SendCommand) -> StreamParams
+    ensures { result ≡ params_of command }
+{
+    let SendCommand {
+        first,
+        mtu,
+        limit,
+        distances,
+        picture_id,
+        ..
+    } = command;
+    StreamParams {
+        first,
+        mtu,
+        limit,
+        red: distances_in(distances),
+        picture_id,
+        for_browsers: false,
+    }
+}
+
 fn send(
     alloc: Global,
     end: &mut Option<End>,
@@ -214,18 +246,12 @@ fn send(
     };
     let mid = Mid::from(command.mid.as_str());
     let pt = Pt::from(command.pt);
-    let params = StreamParams {
-        first: command.first,
-        mtu: command.mtu,
-        limit: command.limit,
-        red: command.distances.map(|d| Distances::from_vec(d.into_vec())),
-        picture_id: command.picture_id,
-        for_browsers: false,
-    };
+    let ssrc = Ssrc::from(command.ssrc);
+    let params = params_of(command);
     if !params.is_sound(end.agreed_red(mid, pt)) {
         return one(alloc, Reply::ErrorLine);
     }
-    match end.open_sender(mid, Ssrc::from(command.ssrc), pt, params) {
+    match end.open_sender(mid, ssrc, pt, params) {
         Ok(stream) => one(alloc, Reply::Sender(stream)),
         Err(error) => one(alloc, Reply::Refused(open_error_name(error))),
     }

@@ -1,128 +1,129 @@
 -- An opening is refused nothing exactly where an end may open a stream.
-use Rattle.std.proofs.Common.{◌≡◌, ℕ, refl, sym, ◌∙◌, ap, arith, Bool, true, false, ◌&&◌, List, true≢false}
-use Rattle.std.proofs.lemmas.Bool.Decides.{nat_tests}
-use Rattle.std.specs.Prelude.{◌==◌, Option, Some, None}
+use Rattle.std.proofs.Common.{◌≡◌, ℕ, refl, sym, ◌∙◌, ap, Bool, true, false, List, true≢false}
+use Rattle.std.specs.Prelude.{Option, Some, None, if◌then◌else◌}
 use Rattle.std.specs.List.{list_any}
-use Rattle.h26x_payload.specs.Codings.{has_format}
-use Rattle.rtp_media_exchange.specs.Agreement.{Agreed, is_named, own_row_agrees, section_of}
+use Rattle.rtp_media_sections.specs.Agreement.{Agreed, is_named, own_row_agrees, row_in, section_of}
+use Rattle.sdp_formats_rows.specs.Rows.{Row}
 use Rattle.rtp_media_streams.specs.Receiving as receiving
 use Rattle.rtp_media_streams.specs.Sending as sending
-use Rattle.rtp_media_ends.specs.Ends.{EndState, receiver_refusal_in, refusal_by, refusal_of_open_receiver}
-use Rattle.rtp_media_ends.specs.Ends.{refusal_of_open_sender, sender_refusal_in, types_of}
+use Rattle.rtp_media_ends.specs.Ends.{EndState, carried, carried_row, is_carried, receiver_refusal_in}
+use Rattle.rtp_media_ends.specs.Ends.{receiver_refusal_of, refusal_by, refusal_of_open_receiver}
+use Rattle.rtp_media_ends.specs.Ends.{refusal_of_open_sender, sender_refusal_in, sender_refusal_of, types_of}
 use Rattle.rtp_media_ends.specs.OpensAt.{ReceivesAt, SendsAt}
-
-eqb-is : (a b : ℕ) → (a == b) ≡ true → a ≡ b
-eqb-is a b h = grind (arith, nat_tests)
-
-is-eqb : (a b : ℕ) → a ≡ b → (a == b) ≡ true
-is-eqb a b h = grind (arith, nat_tests)
-
-left : (a b : Bool) → (a && b) ≡ true → a ≡ true
-left true b h = refl
-left false b h = h
-
-right : (a b : Bool) → (a && b) ≡ true → b ≡ true
-right true b h = h
-right false b h = absurd (true≢false (sym h))
-
-both : (a b : Bool) → a ≡ true → b ≡ true → (a && b) ≡ true
-both true b x y = y
-both false b x y = absurd (true≢false (sym x))
 
 no-some : {A : Type 0} (x : A) → Some x ≡ None → ⊥
 no-some x h = cc h
 
-record AllHold (has_row agrees flows names is_open : Bool) : Type 0 where
-  row : has_row ≡ true
+record AllHold (agrees flows names is_open : Bool) : Type 0 where
   agree : agrees ≡ true
   flow : flows ≡ true
   name : names ≡ true
   first : is_open ≡ false
 
-all-hold : (a b c d e : Bool) → refusal_by a b c d e ≡ None → AllHold a b c d e
-all-hold false b c d e h = absurd (no-some _ h)
-all-hold true false c d e h = absurd (no-some _ h)
-all-hold true true false d e h = absurd (no-some _ h)
-all-hold true true true false e h = absurd (no-some _ h)
-all-hold true true true true true h = absurd (no-some _ h)
-all-hold true true true true false h = record { row = refl; agree = refl; flow = refl; name = refl; first = refl }
+all-hold : (b c d e : Bool) → refusal_by b c d e ≡ None → AllHold b c d e
+all-hold false c d e h = absurd (no-some _ h)
+all-hold true false d e h = absurd (no-some _ h)
+all-hold true true false e h = absurd (no-some _ h)
+all-hold true true true true h = absurd (no-some _ h)
+all-hold true true true false h = record { agree = refl; flow = refl; name = refl; first = refl }
 
-none-refuses : (a b c d e : Bool) → AllHold a b c d e → refusal_by a b c d e ≡ None
-none-refuses a b c d e h = rw (h.row, h.agree, h.flow, h.name, h.first) refl
+none-refuses : (b c d e : Bool) → AllHold b c d e → refusal_by b c d e ≡ None
+none-refuses b c d e h = rw (h.agree, h.flow, h.name, h.first) refl
+
+-- a carried row is the row, and one that a stream can carry
+pub record IsCarried (o : Option Row) (row : Row) : Type 0 where
+  pub is : o ≡ Some row
+  pub can : is_carried row ≡ true
+
+pub carried-is : (o : Option Row) (row : Row) → carried o ≡ Some row → IsCarried o row
+carried-is None row h = absurd (no-some row (sym h))
+carried-is (Some x) row h = go (is_carried x) refl h where
+  same : Some x ≡ Some row → x ≡ row
+  same h = cc h
+
+  go : (b : Bool) → is_carried x ≡ b → (if b then Some x else None) ≡ Some row → IsCarried (Some x) row
+  go true e h = record { is = h; can = ap is_carried (sym (same h)) ∙ e }
+  go false e h = absurd (no-some row (sym h))
+
+pub is-carried : (o : Option Row) (row : Row) → o ≡ Some row → is_carried row ≡ true → carried o ≡ Some row
+is-carried o row e can = rw (e, can) refl
 
 pub sends-at : (e : EndState) (mid : List ℕ) (ssrc pt : ℕ) → refusal_of_open_sender e mid ssrc pt ≡ None
     → SendsAt e mid ssrc pt
 unfolding refusal_of_open_sender
 sends-at e mid ssrc pt h = go (section_of e.exchange.agreed mid) refl h where
-  go : (o : Option Agreed) → section_of e.exchange.agreed mid ≡ o
-      → sender_refusal_in e.exchange.row o e.senders ssrc pt ≡ None → SendsAt e mid ssrc pt
-  go None is h = absurd (no-some _ h)
-  go (Some a) is h =
-      let all : AllHold ((a.row.pt == pt) && has_format a.row.spec.codec) (own_row_agrees e.exchange.row a.row) a.sends
-      (is_named a.own_ssrcs ssrc) (list_any (λ s. sending.conflicts_with s ssrc (types_of a.row)) e.senders) =
-      all-hold _ _ _ _ _ h in
+  with-row : (a : Agreed) → section_of e.exchange.agreed mid ≡ Some a → (o : Option Row) → carried_row a pt ≡ o
+      → sender_refusal_of e.exchange.config.rows a e.senders ssrc o ≡ None → SendsAt e mid ssrc pt
+  with-row a is None row h = absurd (no-some _ h)
+  with-row a is (Some row) found h =
+      let all : AllHold (own_row_agrees e.exchange.config.rows row) a.sends (is_named a.own_ssrcs ssrc)
+      (list_any (λ s. sending.conflicts_with s ssrc (types_of row)) e.senders) = all-hold _ _ _ _ h in
+      let there : IsCarried (row_in a.rows pt) row = carried-is (row_in a.rows pt) row found in
       record {
         section = a;
         agreed = is;
-        row = eqb-is a.row.pt pt (left (a.row.pt == pt) (has_format a.row.spec.codec) all.row);
-        format = right (a.row.pt == pt) (has_format a.row.spec.codec) all.row;
+        row = row;
+        row_is = there.is;
+        carried = there.can;
         own_row = all.agree;
         flows = all.flow;
         named = all.name;
         not_open = all.first;
       }
+
+  go : (o : Option Agreed) → section_of e.exchange.agreed mid ≡ o
+      → sender_refusal_in e.exchange.config.rows o e.senders ssrc pt ≡ None → SendsAt e mid ssrc pt
+  go None is h = absurd (no-some _ h)
+  go (Some a) is h = with-row a is (carried_row a pt) refl h
 
 pub may-send : (e : EndState) (mid : List ℕ) (ssrc pt : ℕ) → SendsAt e mid ssrc pt
     → refusal_of_open_sender e mid ssrc pt ≡ None
 unfolding refusal_of_open_sender
 may-send e mid ssrc pt at =
     let a : Agreed = at.section in
-    ap (λ (o : Option Agreed). sender_refusal_in e.exchange.row o e.senders ssrc pt) at.agreed
-    ∙ none-refuses ((a.row.pt == pt) && has_format a.row.spec.codec) (own_row_agrees e.exchange.row a.row) a.sends
-    (is_named a.own_ssrcs ssrc) (list_any (λ s. sending.conflicts_with s ssrc (types_of a.row)) e.senders)
-    (record {
-      row = both (a.row.pt == pt) (has_format a.row.spec.codec) (is-eqb a.row.pt pt at.row) at.format;
-      agree = at.own_row;
-      flow = at.flows;
-      name = at.named;
-      first = at.not_open;
-    })
+    ap (λ (o : Option Agreed). sender_refusal_in e.exchange.config.rows o e.senders ssrc pt) at.agreed
+    ∙ ap (λ (o : Option Row). sender_refusal_of e.exchange.config.rows a e.senders ssrc o)
+    (is-carried (row_in a.rows pt) at.row at.row_is at.carried)
+    ∙ none-refuses (own_row_agrees e.exchange.config.rows at.row) a.sends (is_named a.own_ssrcs ssrc)
+    (list_any (λ s. sending.conflicts_with s ssrc (types_of at.row)) e.senders)
+    (record { agree = at.own_row; flow = at.flows; name = at.named; first = at.not_open })
 
 pub receives-at : (e : EndState) (mid : List ℕ) (ssrc pt : ℕ) → refusal_of_open_receiver e mid ssrc pt ≡ None
     → ReceivesAt e mid ssrc pt
 unfolding refusal_of_open_receiver
 receives-at e mid ssrc pt h = go (section_of e.exchange.agreed mid) refl h where
-  go : (o : Option Agreed) → section_of e.exchange.agreed mid ≡ o
-      → receiver_refusal_in e.exchange.row o e.receivers ssrc pt ≡ None → ReceivesAt e mid ssrc pt
-  go None is h = absurd (no-some _ h)
-  go (Some a) is h =
-      let all : AllHold ((a.row.pt == pt) && has_format a.row.spec.codec) (own_row_agrees e.exchange.row a.row)
-      a.receives (is_named a.remote_ssrcs ssrc)
-      (list_any (λ r. receiving.conflicts_with r ssrc (types_of a.row)) e.receivers) =
-      all-hold _ _ _ _ _ h in
+  with-row : (a : Agreed) → section_of e.exchange.agreed mid ≡ Some a → (o : Option Row) → carried_row a pt ≡ o
+      → receiver_refusal_of e.exchange.config.rows a e.receivers ssrc o ≡ None → ReceivesAt e mid ssrc pt
+  with-row a is None row h = absurd (no-some _ h)
+  with-row a is (Some row) found h =
+      let all : AllHold (own_row_agrees e.exchange.config.rows row) a.receives (is_named a.remote_ssrcs ssrc)
+      (list_any (λ r. receiving.conflicts_with r ssrc (types_of row)) e.receivers) = all-hold _ _ _ _ h in
+      let there : IsCarried (row_in a.rows pt) row = carried-is (row_in a.rows pt) row found in
       record {
         section = a;
         agreed = is;
-        row = eqb-is a.row.pt pt (left (a.row.pt == pt) (has_format a.row.spec.codec) all.row);
-        format = right (a.row.pt == pt) (has_format a.row.spec.codec) all.row;
+        row = row;
+        row_is = there.is;
+        carried = there.can;
         own_row = all.agree;
         flows = all.flow;
         named = all.name;
         not_open = all.first;
       }
 
+  go : (o : Option Agreed) → section_of e.exchange.agreed mid ≡ o
+      → receiver_refusal_in e.exchange.config.rows o e.receivers ssrc pt ≡ None → ReceivesAt e mid ssrc pt
+  go None is h = absurd (no-some _ h)
+  go (Some a) is h = with-row a is (carried_row a pt) refl h
+
 pub may-receive : (e : EndState) (mid : List ℕ) (ssrc pt : ℕ) → ReceivesAt e mid ssrc pt
     → refusal_of_open_receiver e mid ssrc pt ≡ None
 unfolding refusal_of_open_receiver
 may-receive e mid ssrc pt at =
     let a : Agreed = at.section in
-    ap (λ (o : Option Agreed). receiver_refusal_in e.exchange.row o e.receivers ssrc pt) at.agreed
-    ∙ none-refuses ((a.row.pt == pt) && has_format a.row.spec.codec) (own_row_agrees e.exchange.row a.row) a.receives
-    (is_named a.remote_ssrcs ssrc) (list_any (λ r. receiving.conflicts_with r ssrc (types_of a.row)) e.receivers)
-    (record {
-      row = both (a.row.pt == pt) (has_format a.row.spec.codec) (is-eqb a.row.pt pt at.row) at.format;
-      agree = at.own_row;
-      flow = at.flows;
-      name = at.named;
-      first = at.not_open;
-    })
+    ap (λ (o : Option Agreed). receiver_refusal_in e.exchange.config.rows o e.receivers ssrc pt) at.agreed
+    ∙ ap (λ (o : Option Row). receiver_refusal_of e.exchange.config.rows a e.receivers ssrc o)
+    (is-carried (row_in a.rows pt) at.row at.row_is at.carried)
+    ∙ none-refuses (own_row_agrees e.exchange.config.rows at.row) a.receives (is_named a.remote_ssrcs ssrc)
+    (list_any (λ r. receiving.conflicts_with r ssrc (types_of at.row)) e.receivers)
+    (record { agree = at.own_row; flow = at.flows; name = at.named; first = at.not_open })

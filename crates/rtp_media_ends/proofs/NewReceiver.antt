@@ -6,7 +6,8 @@ use Rattle.std.proofs.lemmas.List.{get_or_push}
 use Rattle.std.specs.Prelude.{◌==◌, not, nat_lt, Option, Some, None, if◌then◌else◌}
 use Rattle.std.specs.List.{list_any, position_or_len}
 use Rattle.rtp_wire.specs.Maps.{empty_map}
-use Rattle.rtp_media_exchange.specs.Agreement.{Agreed, row_in, section_of}
+use Rattle.rtp_media_sections.specs.Agreement.{Agreed, row_in, row_of_section, section_of}
+use Rattle.sdp_formats_rows.specs.Rows.{Row}
 use Rattle.rtp_media_streams.specs.Receiving.{Receiving, conflicts_with, is_own, opened_receiver}
 use Rattle.rtp_media_streams.specs.Types.{has_red_type, has_type, is_type, share_type}
 use Rattle.rtp_media_streams.specs.declared.types.PayloadTypes.{PayloadTypes}
@@ -93,14 +94,11 @@ found-new rs x none pt has =
     ∙ ap (λ (b : Bool). if b then Some (length rs) else None) (lt-push rs x)
 
 -- the types of the agreed row
-types-agreed : (e : EndState) (mid : List ℕ) (pt : ℕ) (a : Agreed) → section_of e.exchange.agreed mid ≡ Some a
-    → a.row.pt ≡ pt → agreed_types e mid pt ≡ types_of a.row
-types-agreed e mid pt a is row =
-    ap (λ (o : Option Agreed). types_in (row_in o pt)) is
-    ∙ ap (λ (b : Bool). types_in (if b then Some a.row else None)) (is-eqb a.row.pt pt row)
-  where
-    is-eqb : (x y : ℕ) → x ≡ y → (x == y) ≡ true
-    is-eqb x y h = grind (arith, nat_tests)
+types-agreed : (e : EndState) (mid : List ℕ) (pt : ℕ) (a : Agreed) (row : Row)
+    → section_of e.exchange.agreed mid ≡ Some a → row_in a.rows pt ≡ Some row → agreed_types e mid pt ≡ types_of row
+types-agreed e mid pt a row is found =
+    ap (λ (o : Option Agreed). types_in (row_of_section o pt)) is
+    ∙ ap types_in found
 
 -- An opened receiving stream has its number, and takes its own datagrams.
 pub opened-receiver : (e : EndState) (mid : List ℕ) (ssrc pt hold_back : ℕ)
@@ -111,7 +109,8 @@ unfolding after_open_receiver
 opened-receiver e mid ssrc pt hold_back none =
     let at : ReceivesAt e mid ssrc pt = receives-at e mid ssrc pt none in
     let x : Receiving = new_receiver e mid ssrc pt hold_back in
-    let types : agreed_types e mid pt ≡ types_of at.section.row = types-agreed e mid pt at.section at.agreed at.row in
+    let types : agreed_types e mid pt ≡ types_of at.row =
+    types-agreed e mid pt at.section at.row at.agreed at.row_is in
     let apart : list_any (λ r. conflicts_with r ssrc (agreed_types e mid pt)) e.receivers ≡ false =
     ap (λ (t : PayloadTypes). list_any (λ r. conflicts_with r ssrc t) e.receivers) types ∙ at.not_open in
     record {

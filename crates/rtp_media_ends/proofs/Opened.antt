@@ -1,62 +1,88 @@
 -- Streams as an end opens them.
-use Rattle.std.proofs.Common.{◌≡◌, ℕ, ◌<◌, ◌≤◌, ◌^◌, Bool, true, false, List, refl, sym, ◌∙◌, ap, arith}
+use Rattle.std.proofs.Common.{◌≡◌, ◌≢◌, ℕ, ◌<◌, ◌≤◌, ◌^◌, Bool, true, false, List, refl, sym, ◌∙◌, ap, arith, ◌&&◌}
+use Rattle.std.proofs.Common.{[], ◌∷◌, true≢false}
 use Rattle.std.proofs.lemmas.Bool.Decides.{nat_tests}
 use Rattle.std.specs.Option.{ForSome}
-use Rattle.std.specs.Prelude.{Option, Some, None, is_some, unwrap_or, if◌then◌else◌, ◌==◌}
+use Rattle.std.specs.Prelude.{Option, Some, None, is_some, unwrap_or, if◌then◌else◌, ◌==◌, nat_le, not, IfSome}
 use Rattle.h26x_payload.specs.Codings.{first_sender, has_format}
 use Rattle.h26x_payload.specs.Dispatch.{FirstIsReached}
-use Rattle.rtp_media_texts.specs.Section.{IsRedOf}
-use Rattle.rtp_media_exchange.specs.Agreement.{Agreed, row_in}
+use Rattle.rtp_media_sections.specs.Agreement.{Agreed, row_in, row_of_section}
 use Rattle.rtp_wire.specs.Values.{Numbering}
 use Rattle.sdp_formats_rows.specs.Rows.{Row}
 use Rattle.rtp_media_streams.specs.Rows.{coding_in, first_state, forms_for, settings_in}
 use Rattle.rtp_media_streams.specs.Sending.{opened_sender}
 use Rattle.rtp_media_streams.proofs.Configured.{reached-in-forms}
-use Rattle.rtp_media_ends.specs.Ends.{row_format_of, types_of, with_distances}
+use Rattle.rtp_media_ends.specs.Ends.{is_carried, is_red_of, row_format_of, types_of, with_distances}
 use Rattle.rtp_media_ends.specs.FullArrival.{IsSender}
 use Rattle.rtp_media_ends.specs.Params.{IsRedundancy, IsSound}
 use Rattle.rtp_media_ends.specs.declared.params.StreamParams.{StreamParams}
+
+-- a RED type has 7 bits and is another than the row's
+IsRedOf : ℕ → Option ℕ → Type 0
+IsRedOf pt red = IfSome red (λ r. (r ≤ 127) × (r ≢ pt))
+
+-- what a row has that a stream can carry
+pub record Fits (row : Row) : Type 0 where
+  pub format : has_format row.spec.codec ≡ true
+  pub typed : row.pt < 128
+  pub red : IsRedOf row.pt row.red
+
+left : (a b : Bool) → (a && b) ≡ true → a ≡ true
+left true b h = refl
+left false b h = h
+
+right : (a b : Bool) → (a && b) ≡ true → b ≡ true
+right true b h = h
+right false b h = absurd (true≢false (sym h))
+
+le-of : (a b : ℕ) → nat_le a b ≡ true → a ≤ b
+le-of a b h = grind (arith, nat_tests)
+
+ne-of : (a b : ℕ) → not (a == b) ≡ true → a ≢ b
+ne-of a b h = grind (arith, nat_tests)
+
+red-fits : (pt : ℕ) (red : Option ℕ) → is_red_of pt red ≡ true → IsRedOf pt red
+red-fits pt None h = tt
+red-fits pt (Some r) h = (le-of r 127 (left _ _ h), ne-of r pt (right (nat_le r 127) _ h))
+
+pub carried-fits : (row : Row) → is_carried row ≡ true → Fits row
+carried-fits row h =
+    let typed : (nat_le row.pt 127 && is_red_of row.pt row.red) ≡ true = right (has_format row.spec.codec) _ h in
+    let small : row.pt ≤ 127 = le-of row.pt 127 (left (nat_le row.pt 127) (is_red_of row.pt row.red) typed) in
+    record {
+      format = left (has_format row.spec.codec) (nat_le row.pt 127 && is_red_of row.pt row.red) h;
+      typed = omega (arith, small);
+      red = red-fits row.pt row.red (right (nat_le row.pt 127) (is_red_of row.pt row.red) typed);
+    }
 
 small-id : (o : Option ℕ) → ForSome o (λ id. id ≤ 32767) → unwrap_or o 0 < 32768
 small-id None h = omega arith
 small-id (Some n) h = omega (arith, h n refl)
 
-pub opened-sound : FirstIsReached → (ssrc : ℕ) (row : Row) (map : Numbering) (params : StreamParams) → row.pt < 128
-    → IsRedOf row.pt row.red → has_format row.spec.codec ≡ true → ssrc < 2 ^ 32 → IsSound row.red params →
+pub opened-sound : FirstIsReached → (ssrc : ℕ) (row : Row) (map : Numbering) (params : StreamParams) → Fits row
+    → ssrc < 2 ^ 32 → IsSound row.red params →
     IsSender (with_distances (opened_sender ssrc (types_of row) map (row_format_of row) params.picture_id
     params.for_browsers params.first params.mtu params.limit) row.red params.red)
 unfolding first_state
-opened-sound law ssrc row map params pt of has fits sound = go row.red params.red refl of sound.redundancy where
+opened-sound law ssrc row map params fit fits sound = go row.red params.red refl fit.red sound.redundancy where
   reached : (coding_in (row_format_of row) (is_some params.picture_id)
       params.for_browsers).IsReached
       (first_state (row_format_of row) params.picture_id)
   reached = reached-in-forms (forms_for params.for_browsers) (settings_in (row_format_of row))
       (is_some params.picture_id) row.spec.codec (first_sender (unwrap_or params.picture_id 0) row.spec.codec)
       (law (settings_in (row_format_of row)) (is_some params.picture_id) row.spec.codec
-      (unwrap_or params.picture_id 0) has (small-id params.picture_id sound.picture_id))
+      (unwrap_or params.picture_id 0) fit.format (small-id params.picture_id sound.picture_id))
 
   go : (red : Option ℕ) (distances : Option (List ℕ)) → row.red ≡ red → IsRedOf row.pt red
       → IsRedundancy red params.mtu distances →
       IsSender (with_distances (opened_sender ssrc (types_of row) map (row_format_of row) params.picture_id
       params.for_browsers params.first params.mtu params.limit) red distances)
-  go red None e of r = record { typed = refl; payload_type = pt; wire_type = pt; ssrc = fits; reached = reached }
+  go red None e of r = record { typed = refl; payload_type = fit.typed; wire_type = fit.typed; ssrc = fits; reached = reached }
   go None (Some ds) e of r = absurd r
   go (Some w) (Some ds) e of r = record {
     typed = (e, of.1, r.1);
-    payload_type = pt;
-    wire_type =
-        omega (arith, of.0);
+    payload_type = fit.typed;
+    wire_type = omega (arith, of.0);
     ssrc = fits;
     reached = reached;
   }
-
--- a row of a type has it
-pub row-typed : (a : Option Agreed) (pt : ℕ) (row : Row) → row_in a pt ≡ Some row → row.pt ≡ pt
-row-typed None pt row h = cc
-row-typed (Some a) pt row h = go (a.row.pt == pt) refl h where
-  eqb-is : (x y : ℕ) → (x == y) ≡ true → x ≡ y
-  eqb-is x y h = grind (arith, nat_tests)
-
-  go : (b : Bool) → (a.row.pt == pt) ≡ b → (if b then Some a.row else None) ≡ Some row → row.pt ≡ pt
-  go true e h = (let same : a.row ≡ row = cc in ap (λ (r : Row). r.pt) (sym same) ∙ eqb-is a.row.pt pt e)
-  go false e h = cc

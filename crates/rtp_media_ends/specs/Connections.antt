@@ -1,27 +1,34 @@
 -- Two ends that exchange an offer and an answer.
-use Rattle.std.specs.Prelude.{◌≡◌, ℕ, List, Option, None}
-use Rattle.rtp_media_exchange.specs.Agreement.{Agreed, agreed_row_of, agreed_map_of}
-use Rattle.rtp_media_exchange.specs.declared.errors.ExchangeError.{ExchangeError}
-use Rattle.rtp_media_exchange.specs.Exchanges.{with_offer}
-use Rattle.rtp_media_exchange.specs.Offers.{Offers, Answers, Accepts, AgreesOnText}
-use Rattle.rtp_media_exchange.specs.Refusals.{Names, refusal_of_offer, refusal_of_answer, refusal_of_accept}
-use Rattle.rtp_media_exchange.specs.Sections.{Wanted, only}
+use Rattle.std.specs.Prelude.{◌≡◌, ℕ, List, Some, None}
+use Rattle.sdp_formats_types.specs.PrintedSession.{sdp_text}
+use Rattle.rtp_media_negotiation.specs.Exchanges.{with_offer}
+use Rattle.rtp_media_negotiation.specs.Offers.{Accepts, Answers, offer_of}
+use Rattle.rtp_media_negotiation.specs.Refusals.{MayAccept, MayAnswer, Refuses, RefusesAccept, RefusesAnswer}
+use Rattle.rtp_media_negotiation.specs.Refusals.{refusal_of_offer}
+use Rattle.rtp_media_negotiation.specs.Says.{AgreesOnText}
+use Rattle.rtp_media_negotiation.specs.declared.errors.ExchangeError.{ExchangeError}
+use Rattle.rtp_media_sections.specs.Agreement.{Agreed, agreed_map_of, agreed_row_of}
+use Rattle.rtp_media_sections.specs.Sections.{Wanted}
 use Rattle.rtp_media_ends.specs.Ends.{EndState, with_exchange}
 
 -- the end that offers, its offer pending
 abbrev pub offering : EndState → List Wanted → EndState
-offering a sections = with_exchange a (with_offer a.exchange (only sections))
+offering a sections = with_exchange a (with_offer a.exchange (Some sections))
+
+-- the text of its offer
+abbrev pub offer_text : EndState → List Wanted → List ℕ
+offer_text a sections = sdp_text (offer_of a.exchange sections)
 
 -- One end offered, the other one answered that text, and the first accepted the answer's, each where
 -- nothing refuses it; their streams stay.
 pub record Connects (a b : EndState) (sections_a sections_b : List Wanted) (offer answer : List ℕ)
     (after_a after_b : EndState) : Type 0 where
   pub may_offer : refusal_of_offer a.exchange sections_a ≡ None
-  pub offers : Offers a.exchange sections_a offer
-  pub may_answer : refusal_of_answer b.exchange offer sections_b ≡ None
+  pub offers : offer ≡ offer_text a sections_a
+  pub may_answer : MayAnswer b.exchange offer sections_b
   pub answers : Answers b.exchange offer sections_b answer after_b.exchange
-  pub may_accept : refusal_of_accept (with_offer a.exchange (only sections_a)) answer ≡ None
-  pub accepts : Accepts (with_offer a.exchange (only sections_a)) answer after_a.exchange
+  pub may_accept : MayAccept (with_offer a.exchange (Some sections_a)) answer
+  pub accepts : Accepts (with_offer a.exchange (Some sections_a)) answer after_a.exchange
   pub streams_a : after_a ≡ with_exchange a after_a.exchange
   pub streams_b : after_b ≡ with_exchange b after_b.exchange
 
@@ -31,7 +38,7 @@ pub record HaveExchanged (answer : List ℕ) (a b : EndState) : Type 0 where
   pub second : AgreesOnText answer b.exchange.agreed
 
 -- Both have one row of each type, and one map of header extensions, in each section.
-pub record HaveOneAgreement (a b : Option Agreed) : Type 0 where
+pub record HaveOneAgreement (a b : List Agreed) : Type 0 where
   pub rows : (mid : List ℕ) (pt : ℕ) → agreed_row_of a mid pt ≡ agreed_row_of b mid pt
   pub maps : (mid : List ℕ) → agreed_map_of a mid ≡ agreed_map_of b mid
 
@@ -46,16 +53,16 @@ pub data Stage : Type 0 where
 abbrev pub RefusedAt : Stage → EndState → EndState → List Wanted → List Wanted → ExchangeError
     → EndState → EndState → Type 0
 RefusedAt AtOffer a b sections_a sections_b e after_a after_b =
-    Names e (refusal_of_offer a.exchange sections_a) × (after_a ≡ a) × (after_b ≡ b)
+    Refuses e (refusal_of_offer a.exchange sections_a) × (after_a ≡ a) × (after_b ≡ b)
 RefusedAt (AtAnswer offer) a b sections_a sections_b e after_a after_b =
-    (refusal_of_offer a.exchange sections_a ≡ None) × Offers a.exchange sections_a offer
-    × Names e (refusal_of_answer b.exchange offer sections_b)
+    (refusal_of_offer a.exchange sections_a ≡ None) × (offer ≡ offer_text a sections_a)
+    × RefusesAnswer b.exchange offer sections_b e
     × (after_a ≡ offering a sections_a) × (after_b ≡ b)
 RefusedAt (AtAccept offer answer) a b sections_a sections_b e after_a after_b =
-    (refusal_of_offer a.exchange sections_a ≡ None) × Offers a.exchange sections_a offer
-    × (refusal_of_answer b.exchange offer sections_b ≡ None)
+    (refusal_of_offer a.exchange sections_a ≡ None) × (offer ≡ offer_text a sections_a)
+    × MayAnswer b.exchange offer sections_b
     × Answers b.exchange offer sections_b answer after_b.exchange
-    × Names e (refusal_of_accept (with_offer a.exchange (only sections_a)) answer)
+    × RefusesAccept (with_offer a.exchange (Some sections_a)) answer e
     × (after_a ≡ offering a sections_a) × (after_b ≡ with_exchange b after_b.exchange)
 
 abbrev pub IsRefused : EndState → EndState → List Wanted → List Wanted → ExchangeError → EndState → EndState → Type 0

@@ -1,5 +1,5 @@
-use Rattle.std.specs.Prelude.{ℕ, Bool, false, not, ◌==◌, ◌&&◌, List, [], ◌∷◌, ◌++◌, Option, Some, None, if◌then◌else◌}
-use Rattle.std.specs.Prelude.{unwrap_or, slice_set, slice_index_or}
+use Rattle.std.specs.Prelude.{ℕ, Bool, true, false, not, nat_le, ◌==◌, ◌&&◌, List, [], ◌∷◌, ◌++◌, Option, Some, None}
+use Rattle.std.specs.Prelude.{if◌then◌else◌, unwrap_or, slice_set, slice_index_or}
 use Rattle.std.specs.List.{list_any}
 use Rattle.rtp_wire.specs.Maps.{empty_map}
 use Rattle.rtp_wire.specs.Values.{Numbering}
@@ -12,9 +12,10 @@ use Rattle.rtp_media_streams.specs.Receiving.{Receiving, opened_receiver}
 use Rattle.rtp_media_streams.specs.declared.row_format.RowFormat.{RowFormat}
 use Rattle.rtp_media_streams.specs.declared.types.PayloadTypes.{PayloadTypes}
 use Rattle.sdp_formats_rows.specs.Rows.{Row}
-use Rattle.rtp_media_exchange.specs.Agreement.{Agreed, section_of, agreed_row_of, agreed_map_of, is_named}
-use Rattle.rtp_media_exchange.specs.Agreement.{own_row_agrees}
-use Rattle.rtp_media_exchange.specs.Exchanges.{Exchanged, fresh, fixed}
+use Rattle.sdp_formats_config.specs.Configs.{Config}
+use Rattle.rtp_media_negotiation.specs.Exchanges.{Exchanged, fresh, fixed}
+use Rattle.rtp_media_sections.specs.Agreement.{Agreed, agreed_map_of, agreed_row_of, is_named, own_row_agrees, row_in}
+use Rattle.rtp_media_sections.specs.Agreement.{section_of}
 use Rattle.rtp_media_ends.specs.declared.params.StreamParams.{StreamParams}
 use Rattle.rtp_media_ends.specs.declared.errors.OpenError.{OpenError}
 use Rattle.rtp_media_ends.specs.declared.errors.OpenError.TheVariants.{NoSection, RowNotAgreed, RowDiffers}
@@ -75,44 +76,62 @@ nth_receiver receivers n = slice_index_or receivers n (opened_receiver 0 no_type
 abbrev pub receiver_at : EndState → ℕ → Receiving
 receiver_at e n = nth_receiver e.receivers n
 
--- a row, where its codec has a payload format
-abbrev pub with_format : Option Row → Option Row
-with_format None = None
-with_format (Some row) = if has_format row.spec.codec then Some row else None
+-- a RED type has 7 bits and is another than the row's
+abbrev pub is_red_of : ℕ → Option ℕ → Bool
+is_red_of pt None = true
+is_red_of pt (Some red) = nat_le red 127 && not (red == pt)
 
--- Why no stream can be opened in a section, by whether it has the row, of a codec with a payload format, the end's
--- own row agrees with it,
--- it flows this way, is named an SSRC by its sender, and has such a stream: the first that holds.
-abbrev pub refusal_by : Bool → Bool → Bool → Bool → Bool → Option OpenError
-refusal_by has_row agrees flows names is_open =
-    if not has_row then Some RowNotAgreed
-    else if not agrees then Some RowDiffers
+-- Whether a stream can carry a row: its codec has a payload format, and its types have 7 bits and are distinct.
+abbrev pub is_carried : Row → Bool
+is_carried row = has_format row.spec.codec && (nat_le row.pt 127 && is_red_of row.pt row.red)
+
+abbrev pub carried : Option Row → Option Row
+carried None = None
+carried (Some row) = if is_carried row then Some row else None
+
+-- the section's row of a type, where a stream can carry it
+abbrev pub carried_row : Agreed → ℕ → Option Row
+carried_row a pt = carried (row_in a.rows pt)
+
+-- Why no stream of a section's row can be opened, by whether the end's own row agrees with it, the section flows this
+-- way, its sender names the SSRC in it, and such a stream is open: the first that holds.
+abbrev pub refusal_by : Bool → Bool → Bool → Bool → Option OpenError
+refusal_by agrees flows names is_open =
+    if not agrees then Some RowDiffers
     else if not flows then Some WrongDirection
     else if not names then Some SsrcNotNamed
     else if is_open then Some AlreadyOpen
     else None
 
-abbrev pub sender_refusal_in : Option Row → Option Agreed → List Sending → ℕ → ℕ → Option OpenError
-sender_refusal_in own None senders ssrc pt = Some NoSection
-sender_refusal_in own (Some a) senders ssrc pt =
-    refusal_by ((a.row.pt == pt) && has_format a.row.spec.codec) (own_row_agrees own a.row) a.sends
-    (is_named a.own_ssrcs ssrc) (list_any (λ s. sending.conflicts_with s ssrc (types_of a.row)) senders)
+abbrev pub sender_refusal_of : List Row → Agreed → List Sending → ℕ → Option Row → Option OpenError
+sender_refusal_of own a senders ssrc None = Some RowNotAgreed
+sender_refusal_of own a senders ssrc (Some row) =
+    refusal_by (own_row_agrees own row) a.sends (is_named a.own_ssrcs ssrc)
+    (list_any (λ s. sending.conflicts_with s ssrc (types_of row)) senders)
 
-abbrev pub receiver_refusal_in : Option Row → Option Agreed → List Receiving → ℕ → ℕ → Option OpenError
+abbrev pub sender_refusal_in : List Row → Option Agreed → List Sending → ℕ → ℕ → Option OpenError
+sender_refusal_in own None senders ssrc pt = Some NoSection
+sender_refusal_in own (Some a) senders ssrc pt = sender_refusal_of own a senders ssrc (carried_row a pt)
+
+abbrev pub receiver_refusal_of : List Row → Agreed → List Receiving → ℕ → Option Row → Option OpenError
+receiver_refusal_of own a receivers ssrc None = Some RowNotAgreed
+receiver_refusal_of own a receivers ssrc (Some row) =
+    refusal_by (own_row_agrees own row) a.receives (is_named a.remote_ssrcs ssrc)
+    (list_any (λ r. receiving.conflicts_with r ssrc (types_of row)) receivers)
+
+abbrev pub receiver_refusal_in : List Row → Option Agreed → List Receiving → ℕ → ℕ → Option OpenError
 receiver_refusal_in own None receivers ssrc pt = Some NoSection
-receiver_refusal_in own (Some a) receivers ssrc pt =
-    refusal_by ((a.row.pt == pt) && has_format a.row.spec.codec) (own_row_agrees own a.row) a.receives
-    (is_named a.remote_ssrcs ssrc) (list_any (λ r. receiving.conflicts_with r ssrc (types_of a.row)) receivers)
+receiver_refusal_in own (Some a) receivers ssrc pt = receiver_refusal_of own a receivers ssrc (carried_row a pt)
 
 -- Why `open_sender` is refused, want of memory aside.
 unfoldable pub refusal_of_open_sender : EndState → List ℕ → ℕ → ℕ → Option OpenError
-refusal_of_open_sender e mid ssrc pt = sender_refusal_in e.exchange.row (section_of e.exchange.agreed mid) e.senders
-    ssrc pt
+refusal_of_open_sender e mid ssrc pt =
+    sender_refusal_in e.exchange.config.rows (section_of e.exchange.agreed mid) e.senders ssrc pt
 
 -- Why `open_receiver` is refused, want of memory aside.
 unfoldable pub refusal_of_open_receiver : EndState → List ℕ → ℕ → ℕ → Option OpenError
 refusal_of_open_receiver e mid ssrc pt =
-    receiver_refusal_in e.exchange.row (section_of e.exchange.agreed mid) e.receivers ssrc pt
+    receiver_refusal_in e.exchange.config.rows (section_of e.exchange.agreed mid) e.receivers ssrc pt
 
 -- the map of header extensions of a new stream: the agreed one
 abbrev pub stream_map : EndState → List ℕ → Numbering
@@ -172,5 +191,5 @@ abbrev pub fixed_end : EndState
 fixed_end = record { exchange = fixed; senders = []; receivers = [] }
 
 -- An end that has agreed on nothing.
-abbrev pub new_end : ℕ → Numbering → Option Row → EndState
-new_end session wanted row = record { exchange = fresh session wanted row; senders = []; receivers = [] }
+abbrev pub new_end : ℕ → Numbering → Config → EndState
+new_end session wanted config = record { exchange = fresh session wanted config; senders = []; receivers = [] }

@@ -5,7 +5,6 @@ ghost use Rattle.std.specs.Prelude.{IfErr, IfSome, IfNone, IsOk, IsSome, IsSomeA
 ghost use Rattle.std.specs.List.{list_any};
 ghost use Rattle.std.specs.Option.{ForSome, option_map};
 ghost use Rattle.payload_core_red.specs.RedHistory.{AreDistances};
-ghost use Rattle.rtp_media_texts.specs.Section.{IsRedOf};
 ghost use Rattle.h26x_payload.specs.Codings.{has_format};
 ghost use Rattle.rtp_media_streams.specs.Polls.{IsInterrupted, given};
 ghost use Rattle.rtp_media_streams.specs.Receiving as receiving;
@@ -17,10 +16,11 @@ ghost use Rattle.rtp_media_runs.specs.Hearing.{poll_answer};
 ghost use Rattle.rtp_wire.specs.declared.ExtensionValues.{ExtensionValues};
 ghost use Rattle.rtp_media_ends.specs.Arrivals.{Own, NoPayload, own_of, stream_for, verdict_for, after_arrival};
 ghost use Rattle.rtp_media_ends.specs.Arrivals.{arrival_by, verdict_of, after_datagram};
-ghost use Rattle.rtp_media_exchange.specs.Agreement.{agreed_row_of, section_of};
-ghost use Rattle.rtp_media_ends.specs.Ends.{agreed_red, fixed_end, refusal_by, refusal_of_open_sender};
-ghost use Rattle.rtp_media_ends.specs.Ends.{refusal_of_open_receiver, after_open_sender, after_open_receiver};
-ghost use Rattle.rtp_media_ends.specs.Ends.{row_format_of, stream_map, types_of, with_format, with_distances};
+ghost use Rattle.rtp_media_sections.specs.Agreement.{agreed_row_of, row_in, section_of};
+ghost use Rattle.rtp_media_ends.specs.Ends.{agreed_red, carried_row, fixed_end, is_carried, is_red_of, refusal_by};
+ghost use Rattle.rtp_media_ends.specs.Ends.{refusal_of_open_receiver, refusal_of_open_sender};
+ghost use Rattle.rtp_media_ends.specs.Ends.{after_open_sender, after_open_receiver};
+ghost use Rattle.rtp_media_ends.specs.Ends.{row_format_of, stream_map, types_of, with_distances};
 ghost use Rattle.rtp_media_ends.specs.Ends.{sender_at, receiver_at, with_sender, with_receiver};
 ghost use Rattle.rtp_media_ends.specs.Ends.{new_sender, new_receiver};
 ghost use Rattle.rtp_media_ends.specs.FullArrival.{HasReceiver, IsSender};
@@ -36,7 +36,7 @@ pub use exchanges::connect;
 use h26x_payload::codec_law;
 use payload_core_base::Codec;
 pub use receive_all::{Polls, ReceivedAll};
-use rtp_media_exchange::{AgreedSection, EndError, Exchange, PayloadParams};
+use rtp_media_negotiation::{AgreedSection, EndError, Exchange, PayloadParams};
 use rtp_media_streams::{
     Datagram, PayloadTypes, PollFault, ReceivingStream, RowFormat, SampleError, SendingStream, Unit,
 };
@@ -91,12 +91,7 @@ impl End {
     pub fn agreed_row(&self, mid: Mid, pt: Pt) -> Option<PayloadParams>
         ensures { result ≡ agreed_row_of self.now.exchange.agreed mid pt }
     {
-        let section = self.exchange.agreed()?;
-        if section.is_named(mid) {
-            section.row_of(pt)
-        } else {
-            None
-        }
+        self.exchange.agreed(mid)?.row_of(pt)
     }
 
     /// The RED type of that row (RFC 2198): a sending stream of it may add redundancy exactly where there
@@ -328,72 +323,56 @@ impl End {
     #[tactic(auto, unfolding(crate::specs::Ends::refusal_of_open_sender))]
     fn sender_row(&self, mid: Mid, ssrc: Ssrc, pt: Pt) -> Result<PayloadParams, OpenError>
         ensures row { IfOk result (λ r. agreed_row_of self.now.exchange.agreed mid pt ≡ Some r) }
-        ensures typed { OnOk result (pt < 128) }
-        ensures red { IfOk result (λ r. IsRedOf r.pt r.red) }
-        ensures format { IfOk result (λ r. has_format r.spec.codec ≡ true) }
+        ensures carried { IfOk result (λ r. is_carried r ≡ true) }
         ensures opens { OnOk result (refusal_of_open_sender self.now mid ssrc pt ≡ None) }
         ensures refused { IfErr result (λ e. refusal_of_open_sender self.now mid ssrc pt ≡ Some e) }
     {
         let section = section_named(&self.exchange, mid)?;
-        let row = with_format(section.row_of(pt));
-        let agreed = section.row();
-        let agrees = self.exchange.agrees_with(&agreed);
-        let is_open = conflicts_with_sender(&self.senders, ssrc, &types_of(&agreed));
-        opened_row(
-            row,
-            agrees,
+        let row = carried_row(section, pt)?;
+        check_opening(
+            self.exchange.agrees_with(&row),
             section.is_sending(),
             section.names_own(ssrc),
-            is_open,
-        )
+            conflicts_with_sender(&self.senders, ssrc, &types_of(&row)),
+        )?;
+        Ok(row)
     }
 
     /// The row that a new receiving stream takes, or why there is none.
     #[tactic(auto, unfolding(crate::specs::Ends::refusal_of_open_receiver))]
     fn receiver_row(&self, mid: Mid, ssrc: Ssrc, pt: Pt) -> Result<PayloadParams, OpenError>
         ensures row { IfOk result (λ r. agreed_row_of self.now.exchange.agreed mid pt ≡ Some r) }
-        ensures format { IfOk result (λ r. has_format r.spec.codec ≡ true) }
+        ensures carried { IfOk result (λ r. is_carried r ≡ true) }
         ensures opens { OnOk result (refusal_of_open_receiver self.now mid ssrc pt ≡ None) }
         ensures refused { IfErr result (λ e. refusal_of_open_receiver self.now mid ssrc pt ≡ Some e) }
     {
         let section = section_named(&self.exchange, mid)?;
-        let row = with_format(section.row_of(pt));
-        let agreed = section.row();
-        let agrees = self.exchange.agrees_with(&agreed);
-        let is_open = conflicts_with_receiver(&self.receivers, ssrc, &types_of(&agreed));
-        opened_row(
-            row,
-            agrees,
+        let row = carried_row(section, pt)?;
+        check_opening(
+            self.exchange.agrees_with(&row),
             section.is_receiving(),
             section.names_remote(ssrc),
-            is_open,
-        )
+            conflicts_with_receiver(&self.receivers, ssrc, &types_of(&row)),
+        )?;
+        Ok(row)
     }
 
     /// The map of header extensions of a new stream in a section of this name.
     fn stream_exts(&self, mid: Mid) -> Result<ExtensionMap, AllocError>
         ensures { IfOk result (λ map. map ≡ stream_map self.now mid) }
     {
-        match self.exchange.agreed() {
-            Some(section) if section.is_named(mid) => section.exts().clone(self.alloc),
-            _ => Ok(ExtensionMap::empty()),
+        match self.exchange.agreed(mid) {
+            Some(section) => section.exts().clone(self.alloc),
+            None => Ok(ExtensionMap::empty()),
         }
     }
 }
 
-/// The row of a new stream, by what holds of its section, or why there is none.
-fn opened_row(
-    row: Option<PayloadParams>,
-    agrees: bool,
-    flows: bool,
-    names: bool,
-    is_open: bool,
-) -> Result<PayloadParams, OpenError>
-    ensures row { IfOk result (λ r. row ≡ Some r) }
-    ensures opens { OnOk result (refusal_by (is_some row) agrees flows names is_open ≡ None) }
-    ensures refused { IfErr result (λ e. refusal_by (is_some row) agrees flows names is_open ≡ Some e) }
+/// Why no stream of a section's row can be opened, by what holds of both.
+fn check_opening(agrees: bool, flows: bool, names: bool, is_open: bool) -> Result<(), OpenError>
+    ensures opens { OnOk result (refusal_by agrees flows names is_open ≡ None) }
+    ensures refused { IfErr result (λ e. refusal_by agrees flows names is_open ≡ Some e) }
 {
-    let row = row.ok_or(OpenError::RowNotAgreed)?;
     if !agrees {
         return Err(OpenError::RowDiffers);
     }
@@ -406,7 +385,7 @@ fn opened_row(
     if is_open {
         return Err(OpenError::AlreadyOpen);
     }
-    Ok(row)
+    Ok(())
 }
 
 /// The agreed section of this name.
@@ -414,9 +393,22 @@ fn section_named(exchange: &Exchange, mid: Mid) -> Result<&AgreedSection, OpenEr
     ensures found { IfOk result (λ a. section_of exchange.now.agreed mid ≡ Some a.now) }
     ensures refused { IfErr result (λ e. (e ≡ OpenError.NoSection) × (section_of exchange.now.agreed mid ≡ None)) }
 {
-    match exchange.agreed() {
-        Some(section) if section.is_named(mid) => Ok(section),
-        _ => Err(OpenError::NoSection),
+    match exchange.agreed(mid) {
+        Some(section) => Ok(section),
+        None => Err(OpenError::NoSection),
+    }
+}
+
+/// The section's row of this type, where a stream can carry it.
+fn carried_row(section: &AgreedSection, pt: Pt) -> Result<PayloadParams, OpenError>
+    ensures row { IfOk result (λ r. row_in section.now.rows pt ≡ Some r) }
+    ensures carried { IfOk result (λ r. is_carried r ≡ true) }
+    ensures found { IfOk result (λ r. carried_row section.now pt ≡ Some r) }
+    ensures refused { IfErr result (λ e. (e ≡ OpenError.RowNotAgreed) × (carried_row section.now pt ≡ None)) }
+{
+    match section.row_of(pt) {
+        Some(row) if is_carried(&row) => Ok(row),
+        _ => Err(OpenError::RowNotAgreed),
     }
 }
 
@@ -453,16 +445,21 @@ fn has_format(codec: Codec) -> bool
     }
 }
 
-/// The row, where its codec has a payload format.
-fn with_format(row: Option<PayloadParams>) -> Option<PayloadParams>
-    ensures { result ≡ with_format row }
+// A RED type has 7 bits and is another than the row's.
+fn is_red_of(pt: Pt, red: Option<Pt>) -> bool
+    ensures { result ≡ is_red_of pt red }
 {
-    let row = row?;
-    if has_format(row.spec().codec) {
-        Some(row)
-    } else {
-        None
+    match red {
+        None => true,
+        Some(red) => red.get() <= 127 && red.get() != pt.get(),
     }
+}
+
+/// Whether a stream can carry a row: its codec has a payload format, and its types have 7 bits and are distinct.
+fn is_carried(row: &PayloadParams) -> bool
+    ensures { result ≡ is_carried row.now }
+{
+    has_format(row.spec().codec) && row.pt().get() <= 127 && is_red_of(row.pt(), row.red())
 }
 
 /// The stream with redundancy under this RED type, where there are distances.

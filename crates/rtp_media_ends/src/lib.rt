@@ -13,7 +13,7 @@ pub use laws::{isolation_law, openings_law, transparency_law};
 pub use params::{Distances, StreamParams};
 pub use payload_core_base::PacketError;
 pub use received::Received;
-pub use rtp_media_exchange::{
+pub use rtp_media_negotiation::{
     Bandwidth, Codec, CodecConfig, CodecSpec, EndError, ExchangeError, FormatParams, MediaKind,
     PayloadParams, RoundError, SdpError, SectionSpec, Session, SessionAttribute,
 };

@@ -1,15 +1,11 @@
 -- After an exchange and two openings, the new receiving stream hears the new sending one.
 use Rattle.std.proofs.Common.{◌≡◌, ℕ, ◌+◌, ◌<◌, ◌≤◌, ◌^◌, refl, sym, ◌∙◌, ap, ap₂, subst, arith, Bool, true, false}
 use Rattle.std.proofs.Common.{List, [], ◌∷◌, length, map, Option, Some, None}
-use Rattle.std.proofs.lemmas.Bool.Decides.{nat_tests}
-use Rattle.std.specs.Prelude.{if◌then◌else◌, ◌==◌, unwrap_or, is_some}
-use Rattle.std.specs.Str.{bytes_eq}
+use Rattle.std.specs.Prelude.{unwrap_or, is_some}
 use Rattle.h26x_payload.specs.Dispatch.{FirstIsReached, KeepCodecLawInForms}
 use Rattle.rtp_wire.specs.Maps.{empty_map}
 use Rattle.rtp_wire.specs.Values.{Numbering}
 use Rattle.sdp_formats_rows.specs.Rows.{Row}
-use Rattle.rtp_media_texts.specs.Laws.{ReadsExactly}
-use Rattle.rtp_media_texts.specs.Section.{IsRedOf, IsSound, Section}
 use Rattle.payload_core_base.specs.Packing.{Sender}
 use Rattle.rtp_media_runs.specs.Hearing.{Stream, fresh, heard}
 use Rattle.rtp_media_runs.specs.Samples.{Timed, timed}
@@ -21,9 +17,8 @@ use Rattle.rtp_media_streams.specs.Sending.{samples_of}
 use Rattle.rtp_media_streams.specs.Sending.{timestamp}
 use Rattle.rtp_media_streams.specs.declared.row_format.RowFormat.{RowFormat}
 use Rattle.rtp_media_streams.specs.declared.types.PayloadTypes.{PayloadTypes}
-use Rattle.rtp_media_exchange.specs.Agreement.{Agreed, agreed_row_of, row_in, row_listed, row_of_text}
-use Rattle.rtp_media_exchange.specs.Offers.{AgreesOnText}
-use Rattle.rtp_media_ends.specs.Connections.{HaveOneAgreement}
+use Rattle.rtp_media_negotiation.proofs.OneAgreement.{same_maps, same_rows}
+use Rattle.rtp_media_sections.specs.Agreement.{agreed_map_of, agreed_row_of}
 use Rattle.rtp_media_ends.specs.Ends.{EndState, after_open_receiver, agreed_format, agreed_red, agreed_types}
 use Rattle.rtp_media_ends.specs.Ends.{new_receiver, new_sender, red_in, row_format_in, stream_map}
 use Rattle.rtp_media_ends.specs.Ends.{receiver_at, types_in, with_distances}
@@ -31,10 +26,10 @@ use Rattle.rtp_media_ends.specs.FullArrival.{HasReceiver, IsSender, coding_of, c
 use Rattle.rtp_media_ends.specs.OpensAt.{SendsAt}
 use Rattle.rtp_media_ends.specs.Params as params
 use Rattle.rtp_media_ends.specs.declared.params.StreamParams.{StreamParams}
-use Rattle.rtp_media_ends.proofs.Agreements.{one_agreement}
 use Rattle.rtp_media_ends.proofs.MayOpen.{may-receive}
 use Rattle.rtp_media_ends.proofs.NewReceiver.{opened-receiver}
-use Rattle.rtp_media_ends.proofs.Opened.{opened-sound}
+use Rattle.rtp_media_ends.proofs.Opened.{carried-fits, opened-sound}
+use Rattle.rtp_media_ends.proofs.Refusals.{row-agreed}
 use Rattle.rtp_media_play.specs.Headline.{SendsTo, answers_of, units}
 use Rattle.rtp_media_play.specs.Runs.{Hears, canonical_of}
 use Rattle.rtp_media_play.specs.Units.{arriving, limit_by, packet_limit_of, units_by}
@@ -43,55 +38,23 @@ use Rattle.rtp_media_play.specs.declared.schedule.Event.{Event}
 use Rattle.rtp_media_play.proofs.Isolated.{isolated}
 use Rattle.rtp_media_play.proofs.UnitsAlone.{units-alone}
 
--- the row that a text lists under a type has it, of 7 bits, and another RED type of 7 bits, or none
-record IsTypedRow (row : Row) : Type 0 where
-  typed : row.pt < 128
-  red : IsRedOf row.pt row.red
-
-listed-typed : (s : Section) → IsSound s → IsTypedRow (row_listed s)
-listed-typed s sound = record { typed = omega (arith, sound.pt); red = sound.red }
-
-text-typed : (s : Section) (mid : List ℕ) (pt : ℕ) (row : Row) → IsSound s → row_of_text s mid pt ≡ Some row
-    → IsTypedRow row
-text-typed s mid pt row sound h = go (bytes_eq s.mid mid) (s.pt == pt) h where
-  go : (named same : Bool) → (if named then (if same then Some (row_listed s) else None) else None) ≡ Some row
-      → IsTypedRow row
-  go true true h = (let is : row_listed s ≡ row = cc h in subst IsTypedRow is (listed-typed s sound))
-  go true false h = absurd (no-some row (sym h)) where
-    no-some : (r : Row) → Some r ≡ None → ⊥
-    no-some r h = cc h
-  go false same h = absurd (no-some row (sym h)) where
-    no-some : (r : Row) → Some r ≡ None → ⊥
-    no-some r h = cc h
-
 -- the row of an end that may send
 pub agreed-is : (e : EndState) (mid : List ℕ) (ssrc pt : ℕ) (at : SendsAt e mid ssrc pt)
-    → agreed_row_of e.exchange.agreed mid pt ≡ Some at.section.row
+    → agreed_row_of e.exchange.agreed mid pt ≡ Some at.row
 agreed-is e mid ssrc pt at =
-    ap (λ (o : Option Agreed). row_in o pt) at.agreed
-    ∙ ap (λ (b : Bool). if b then Some at.section.row else None) (is-eqb at.section.row.pt pt at.row)
-  where
-    is-eqb : (x y : ℕ) → x ≡ y → (x == y) ≡ true
-    is-eqb x y h = grind (arith, nat_tests)
+    row-agreed e.exchange.agreed mid pt at.section at.row at.agreed at.row_is
 
-agreed-typed : ReadsExactly → (answer : List ℕ) (e : EndState) (mid : List ℕ) (ssrc pt : ℕ)
-    → AgreesOnText answer e.exchange.agreed → (at : SendsAt e mid ssrc pt) → IsTypedRow at.section.row
-agreed-typed reads answer e mid ssrc pt on at =
-    let sound : IsSound on.0 = ((reads answer on.0).0 on.1).0 in
-    text-typed on.0 mid pt at.section.row sound (sym (on.2.rows mid pt) ∙ agreed-is e mid ssrc pt at)
-
-pub new-is-sender : ReadsExactly → FirstIsReached → (answer : List ℕ) (e : EndState) (mid : List ℕ) (ssrc pt : ℕ)
-    (p : StreamParams) → AgreesOnText answer e.exchange.agreed → SendsAt e mid ssrc pt → ssrc < 2 ^ 32
+pub new-is-sender : FirstIsReached → (e : EndState) (mid : List ℕ) (ssrc pt : ℕ)
+    (p : StreamParams) → SendsAt e mid ssrc pt → ssrc < 2 ^ 32
     → params.IsSound (agreed_red e mid pt) p → IsSender (new_sender e mid ssrc pt p)
-new-is-sender reads law answer e mid ssrc pt p on at fits sound =
-    let row : Row = at.section.row in
+new-is-sender law e mid ssrc pt p at fits sound =
+    let row : Row = at.row in
     let is : agreed_row_of e.exchange.agreed mid pt ≡ Some row = agreed-is e mid ssrc pt at in
-    let typed : IsTypedRow row = agreed-typed reads answer e mid ssrc pt on at in
     subst (λ (o : Option Row). IsSender (with_distances
     (opened_sender ssrc (types_in o) (stream_map e mid)
     (row_format_in o) p.picture_id p.for_browsers p.first p.mtu p.limit)
     (red_in o) p.red)) (sym is)
-    (opened-sound law ssrc row (stream_map e mid) p typed.typed typed.red at.format fits
+    (opened-sound law ssrc row (stream_map e mid) p (carried-fits row at.carried) fits
     (subst (λ (o : Option Row). params.IsSound (red_in o) p) is sound))
 
 -- redundancy leaves the rest of a stream as it was
@@ -139,12 +102,15 @@ samples-arrive s [] = refl
 samples-arrive s (x ∷ xs) = ap (λ (ts : List Timed). timed (timestamp s x.time) (carried s x.values) x.bytes ∷ ts)
     (samples-arrive s xs)
 
-module _ (reads : ReadsExactly) (law : KeepCodecLawInForms) (first_law : FirstIsReached) (answer : List ℕ)
+module _ (law : KeepCodecLawInForms) (first_law : FirstIsReached) (answer : List ℕ)
     (a b : EndState)
     (mid : List ℕ) (ssrc pt : ℕ) (p : StreamParams) (samples : List Sample)
     (to : SendsTo answer a b mid ssrc pt p samples) where
-  one : HaveOneAgreement a.exchange.agreed b.exchange.agreed
-  one = one_agreement answer a.exchange.agreed b.exchange.agreed to.exchanged.first to.exchanged.second
+  one_row : agreed_row_of a.exchange.agreed mid pt ≡ agreed_row_of b.exchange.agreed mid pt
+  one_row = same_rows answer a.exchange.agreed b.exchange.agreed to.exchanged.first to.exchanged.second mid pt
+
+  one_map : agreed_map_of a.exchange.agreed mid ≡ agreed_map_of b.exchange.agreed mid
+  one_map = same_maps answer a.exchange.agreed b.exchange.agreed to.exchanged.first to.exchanged.second mid
 
   abbrev s : Sending
   s = new_sender a mid ssrc pt p
@@ -158,14 +124,14 @@ module _ (reads : ReadsExactly) (law : KeepCodecLawInForms) (first_law : FirstIs
       (agreed_red a mid pt) p.red
 
   pub sender : IsSender s
-  sender = new-is-sender reads first_law answer a mid ssrc pt p to.exchanged.first to.sends to.ssrc_fits to.sound_params
+  sender = new-is-sender first_law a mid ssrc pt p to.sends to.ssrc_fits to.sound_params
 
   -- both streams have one SSRC, types, map and row
   alike : (hold_back : ℕ) → new_receiver b mid ssrc pt hold_back
       ≡ opened_receiver s.ssrc s.types s.map s.row hold_back
   alike hold_back =
       ap₂ (λ (o : Option Row) (m : Option Numbering). opened_receiver ssrc (types_in o) (unwrap_or m empty_map)
-      (row_format_in o) hold_back) (sym (one.rows mid pt)) (sym (one.maps mid))
+      (row_format_in o) hold_back) (sym one_row) (sym one_map)
       ∙ ap₂ (λ (n : ℕ) (types : PayloadTypes). opened_receiver n types (stream_map a mid) (agreed_format a mid pt)
       hold_back) (sym plain.ssrc) (sym plain.types)
       ∙ ap₂ (λ (m : Numbering) (row : RowFormat). opened_receiver s.ssrc s.types m row hold_back) (sym plain.map)

@@ -1,16 +1,19 @@
 //! Exchanges of texts between two ends.
 
 ghost use Rattle.std.specs.Prelude.{◌≡◌, ◌≢◌, None, Some, is_some, string_bytes, IfOk, IfErr, OnOk, OnErr};
-ghost use Rattle.rtp_media_exchange.specs.Exchanges.{with_offer};
-ghost use Rattle.rtp_media_exchange.specs.Offers.{Offers, Answers, Accepts, AgreesOnText};
-ghost use Rattle.rtp_media_exchange.specs.Refusals.{Names, refusal_of_new, refusal_of_offer, refusal_of_answer};
-ghost use Rattle.rtp_media_exchange.specs.Refusals.{refusal_of_accept};
-ghost use Rattle.rtp_media_exchange.specs.Sections.{only};
+ghost use Rattle.sdp_formats_types.specs.PrintedSession.{sdp_text};
+ghost use Rattle.rtp_media_negotiation.specs.Exchanges.{is_bare, with_offer};
+ghost use Rattle.rtp_media_negotiation.specs.Offers.{Accepts, Answers, offer_of};
+ghost use Rattle.rtp_media_negotiation.specs.Refusals.{MayAccept, MayAnswer, Refuses, RefusesAccept, RefusesAnswer};
+ghost use Rattle.rtp_media_negotiation.specs.Refusals.{refusal_of_new, refusal_of_offer};
+ghost use Rattle.rtp_media_negotiation.specs.Says.{AgreesOnText};
 ghost use Rattle.rtp_media_ends.specs.Ends.{new_end, with_exchange};
 ghost use Rattle.rtp_media_ends.specs.Connections.{Connects, HaveExchanged, HaveOneAgreement, IsRefused};
 
 use super::End;
-use rtp_media_exchange::{CodecConfig, EndError, Exchange, ExchangeError, SectionSpec, Session};
+use rtp_media_negotiation::{
+    CodecConfig, EndError, Exchange, ExchangeError, SectionSpec, Session, one_agreement_law,
+};
 use rtp_wire::ExtensionMap;
 use std::alloc::Global;
 
@@ -26,41 +29,43 @@ impl End {
         session: Session,
         exts: ExtensionMap,
     ) -> Result<Self, EndError>
-        ensures new { IfOk result (λ e. e ≡ new_end session.id exts (only config.rows)) }
-        ensures accepted { OnOk result (refusal_of_new config.rows session.is_bare exts ≡ None) }
-        ensures refused { IfErr result (λ e. e ≢ EndError.Memory → refusal_of_new config.rows session.is_bare exts
-            ≡ Some e) }
+        ensures new { IfOk result (λ e. e ≡ new_end session.id exts config) }
+        ensures accepted { OnOk result (refusal_of_new config.rows (is_bare session) exts ≡ None) }
+        ensures refused { IfErr result (λ e. e ≢ EndError.Memory
+            → refusal_of_new config.rows (is_bare session) exts ≡ Some e) }
     {
         Ok(End {
             alloc,
-            exchange: Exchange::new(alloc, &config, &session, exts)?,
+            exchange: Exchange::new(alloc, config, &session, exts)?,
             senders: Vec::new(alloc),
             receivers: Vec::new(alloc),
         })
     }
 
-    /// The text of an offer of these sections (RFC 3264 5); it is then pending.
+    /// The text of an offer of these sections (RFC 3264 5); it is then pending. A later offer begins with the sections
+    /// that were agreed last.
     ///
     /// # Errors
     /// The first that holds of `OutOfTurn`, `NotCorresponding`, `NoCommonRow` and `NotWritable`; or
     /// `Memory`. The end is then unchanged.
     pub fn offer(&mut self, sections: Vec<SectionSpec>) -> Result<String, ExchangeError>
-        ensures text { IfOk result (λ text. Offers self.old.exchange sections.items (string_bytes text)) }
+        ensures text { IfOk result (λ text. string_bytes text ≡ sdp_text (offer_of self.old.exchange sections.items)) }
         ensures accepted { OnOk result (refusal_of_offer self.old.exchange sections.items ≡ None) }
         ensures after { OnOk result (self.new ≡ with_exchange self.old
-            (with_offer self.old.exchange (only sections.items))) }
-        ensures refused { IfErr result (λ e. Names e (refusal_of_offer self.old.exchange sections.items)) }
+            (with_offer self.old.exchange (Some sections.items))) }
+        ensures refused { IfErr result (λ e. Refuses e (refusal_of_offer self.old.exchange sections.items)) }
         ensures unchanged { OnErr result (self.new ≡ self.old) }
     {
         let exchange = &mut self.exchange;
         exchange.offer(sections)
     }
 
-    /// The text of the answer to an offer, of these sections (RFC 3264 6); it is then agreed.
+    /// The text of the answer to an offer, of these sections (RFC 3264 6); it is then agreed. Streams that are open
+    /// stay as they are.
     ///
     /// # Errors
-    /// The first that holds of `Unreadable`, `OutOfTurn`, `NotCorresponding` and `NoCommonRow`; or
-    /// `Memory`. The end is then unchanged.
+    /// The first that holds of `Unreadable`, `OutOfTurn`, `NotMedia`, `NotCorresponding`, `Round`, `NoCommonRow` and
+    /// `NotWritable`; or `Memory`. The end is then unchanged.
     pub fn answer(
         &mut self,
         text: &str,
@@ -69,9 +74,9 @@ impl End {
         ensures text { IfOk result (λ answer. Answers self.old.exchange text.now sections.items (string_bytes answer)
             self.new.exchange) }
         ensures agreed { IfOk result (λ answer. AgreesOnText (string_bytes answer) self.new.exchange.agreed) }
-        ensures accepted { OnOk result (refusal_of_answer self.old.exchange text.now sections.items ≡ None) }
+        ensures accepted { OnOk result (MayAnswer self.old.exchange text.now sections.items) }
         ensures streams { self.new ≡ with_exchange self.old self.new.exchange }
-        ensures refused { IfErr result (λ e. Names e (refusal_of_answer self.old.exchange text.now sections.items)) }
+        ensures refused { IfErr result (λ e. RefusesAnswer self.old.exchange text.now sections.items e) }
         ensures unchanged { OnErr result (self.new ≡ self.old) }
     {
         let exchange = &mut self.exchange;
@@ -81,14 +86,14 @@ impl End {
     /// Takes the text of the answer to the pending offer (RFC 3264 7); it is then agreed.
     ///
     /// # Errors
-    /// The first that holds of `Unreadable`, `OutOfTurn`, `NotCorresponding` and `NoCommonRow`; or
+    /// The first that holds of `Unreadable`, `OutOfTurn`, `NotMedia`, `NotCorresponding`, `Round` and `NoCommonRow`; or
     /// `Memory`. The end is then unchanged, and the offer still pending.
     pub fn accept(&mut self, text: &str) -> Result<(), ExchangeError>
         ensures after { OnOk result (Accepts self.old.exchange text.now self.new.exchange) }
         ensures agreed { OnOk result (AgreesOnText text.now self.new.exchange.agreed) }
-        ensures accepted { OnOk result (refusal_of_accept self.old.exchange text.now ≡ None) }
+        ensures accepted { OnOk result (MayAccept self.old.exchange text.now) }
         ensures streams { self.new ≡ with_exchange self.old self.new.exchange }
-        ensures refused { IfErr result (λ e. Names e (refusal_of_accept self.old.exchange text.now)) }
+        ensures refused { IfErr result (λ e. RefusesAccept self.old.exchange text.now e) }
         ensures unchanged { OnErr result (self.new ≡ self.old) }
     {
         let exchange = &mut self.exchange;
@@ -106,12 +111,11 @@ impl End {
 }
 
 /// Has `a` offer, `b` answer and `a` accept, and answers both texts. Both ends have then agreed on the
-/// rows and the map of header extensions of the answer's section.
+/// rows and the map of header extensions of each section of the answer.
 ///
 /// # Errors
 /// What the first refused call answers. Where `b`'s answer is refused, `a`'s offer stays pending;
 /// where `a` refuses the answer, its offer stays pending too, and `b` has agreed.
-#[tactic(auto, using(crate::proofs::Agreements::one_agreement))]
 pub fn connect(
     a: &mut End,
     b: &mut End,
@@ -124,6 +128,7 @@ pub fn connect(
     ensures agree { OnOk result (HaveOneAgreement a.new.exchange.agreed b.new.exchange.agreed) }
     ensures refused { IfErr result (λ e. IsRefused a.old b.old sections_a.items sections_b.items e a.new b.new) }
 {
+    one_agreement_law();
     let offer = a.offer(sections_a)?;
     let answer = match b.answer(offer.as_str(), sections_b) {
         Ok(answer) => answer,

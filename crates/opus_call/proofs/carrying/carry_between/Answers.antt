@@ -1,5 +1,8 @@
 use Rattle.std.proofs.Common.{◌≡◌, ℕ, ◌≤◌, ◌∙◌, sym, ap, subst, subst₂, arith, length, Option}
 use Rattle.payload_core_base.specs.declared.codec.Codec.TheVariants.{Opus}
+use Rattle.std.specs.Prelude.{IfSome}
+use Rattle.sdp_formats_rows.specs.Rows.{Row}
+use Rattle.rtp_media_sections.specs.Agreement.{agreed_row_of}
 use Rattle.rtp_media_streams.specs.Sending.{Sending, packet_limit}
 use Rattle.rtp_media_ends.specs.Ends.{EndState, after_open_receiver, agreed_format, agreed_red, agreed_types}
 use Rattle.rtp_media_ends.specs.Ends.{new_sender}
@@ -9,6 +12,7 @@ use Rattle.rtp_media_ends.specs.OpensAt.{SendsAt}
 use Rattle.rtp_media_ends.specs.Params.{IsSound}
 use Rattle.rtp_media_play.specs.Headline.{SendsTo}
 use Rattle.rtp_media_play.specs.Runs.{Hears}
+use Rattle.opus_call.specs.Call.{IsOpus}
 use Rattle.opus_call.proofs.OpusStreams.{has-room, sends-opus, sound-opus}
 use Rattle.opus_call.proofs.Three.{count-three}
 use Rattle.opus_call.proofs.carrying.carry_between.Goals as goal
@@ -18,19 +22,23 @@ carry_over-requires-clause-opus c =
     let sends : SendsAt c.args.a.now c.from-mid.result c.from-ssrc.result c.from-pt.result =
     (c.headline.ensures.sends c.args.a.now c.from-mid.result c.from-ssrc.result c.from-pt.result).0
     c.in-Ok.ensures.opens in
+    let agreed : IfSome (agreed_row_of c.args.a.now.exchange.agreed c.from-mid.result c.from-pt.result) IsOpus =
+    subst (λ (o : Option Row). IfSome o IsOpus) c.agreed_row.ensures (c.is_opus.ensures c.if-not-is_opus.false) in
     ap (λ (s : Sending). s.row.codec) c.in-Ok.ensures.stream
-    ∙ sends-opus c.requires.exchanged.0 c.args.a.now c.from-mid.result c.from-ssrc.result c.from-pt.result c.args.params
-    c.requires.exchanged.1.first sends
+    ∙ sends-opus c.args.a.now c.from-mid.result c.from-ssrc.result c.from-pt.result c.args.params agreed
+    sends
 
 pub carry_over-requires-clause-hears : goal.carry_over-requires-clause-hears
 carry_over-requires-clause-hears c =
     let a : EndState = c.args.a.now in
+    let agreed : IfSome (agreed_row_of a.exchange.agreed c.from-mid.result c.from-pt.result) IsOpus =
+    subst (λ (o : Option Row). IfSome o IsOpus) c.agreed_row.ensures (c.is_opus.ensures c.if-not-is_opus.false) in
     let b : EndState = c.args.b.now in
     let s : Sending = new_sender a c.from-mid.result c.from-ssrc.result c.from-pt.result c.args.params in
     let sends : SendsAt a c.from-mid.result c.from-ssrc.result c.from-pt.result =
     (c.headline.ensures.sends a c.from-mid.result c.from-ssrc.result c.from-pt.result).0 c.in-Ok.ensures.opens in
-    let opus : s.row.codec ≡ Opus = sends-opus c.requires.exchanged.0 a c.from-mid.result c.from-ssrc.result
-    c.from-pt.result c.args.params c.requires.exchanged.1.first sends in
+    let opus : s.row.codec ≡ Opus = sends-opus a c.from-mid.result c.from-ssrc.result c.from-pt.result
+    c.args.params agreed sends in
     let room : 1199 ≤ packet_limit s = has-room c.from-ssrc.result (agreed_types a c.from-mid.result c.from-pt.result)
     (stream_map a c.from-mid.result) (agreed_format a c.from-mid.result c.from-pt.result) c.args.params
     (agreed_red a c.from-mid.result c.from-pt.result) c.args.params.red c.requires.mtu in

@@ -6,16 +6,16 @@ use Rattle.rtp_media_play.proofs.WholeRuns.{exact-run, legal-run}
 use Rattle.rtp_media_play.proofs.laws.headline.Goals as goal
 
 pub returns-clause-units : goal.returns-clause-units
-returns-clause-units c = units-are-alone c.reading_law.ensures c.codec_law.ensures.codec_in_forms c.codec_law.ensures.first
+returns-clause-units c = units-are-alone c.codec_law.ensures.codec_in_forms c.codec_law.ensures.first
 
 pub returns-clause-alone : goal.returns-clause-alone
 returns-clause-alone c = λ answer a b mid ssrc pt params samples hold_back schedule to.
-    alone c.reading_law.ensures c.codec_law.ensures.codec_in_forms c.codec_law.ensures.first answer a b mid ssrc pt params samples
+    alone c.codec_law.ensures.codec_in_forms c.codec_law.ensures.first answer a b mid ssrc pt params samples
     to hold_back schedule
 
 pub returns-clause-hears : goal.returns-clause-hears
 returns-clause-hears c = λ answer a b mid ssrc pt params samples hold_back to.
-    hears c.reading_law.ensures c.codec_law.ensures.codec_in_forms c.codec_law.ensures.first answer a b mid ssrc pt params samples
+    hears c.codec_law.ensures.codec_in_forms c.codec_law.ensures.first answer a b mid ssrc pt params samples
     to hold_back
 
 pub returns-clause-legal : goal.returns-clause-legal
@@ -23,7 +23,7 @@ returns-clause-legal c = λ answer a b mid ssrc pt params samples hold_back sche
     legal-run c.codec_law.ensures.codec_in_forms (after_open_receiver b mid ssrc pt hold_back)
     (length b.receivers) hold_back
     (new_sender a mid ssrc pt params) samples
-    (hears c.reading_law.ensures c.codec_law.ensures.codec_in_forms c.codec_law.ensures.first answer a b mid ssrc pt params samples
+    (hears c.codec_law.ensures.codec_in_forms c.codec_law.ensures.first answer a b mid ssrc pt params samples
     to hold_back) schedule sane
 
 pub returns-clause-exact : goal.returns-clause-exact
@@ -31,7 +31,7 @@ returns-clause-exact c = λ answer a b mid ssrc pt params samples hold_back sche
     exact-run c.codec_law.ensures.codec_in_forms (after_open_receiver b mid ssrc pt hold_back)
     (length b.receivers) hold_back
     (new_sender a mid ssrc pt params) samples
-    (hears c.reading_law.ensures c.codec_law.ensures.codec_in_forms c.codec_law.ensures.first answer a b mid ssrc pt params samples
+    (hears c.codec_law.ensures.codec_in_forms c.codec_law.ensures.first answer a b mid ssrc pt params samples
     to hold_back) schedule tame
-    ∙ ap (λ (ts : List Timed). map Ok ts) (units-are-alone c.reading_law.ensures c.codec_law.ensures.codec_in_forms
+    ∙ ap (λ (ts : List Timed). map Ok ts) (units-are-alone c.codec_law.ensures.codec_in_forms
     c.codec_law.ensures.first answer a b mid ssrc pt params samples to)

@@ -1,12 +1,13 @@
-use Rattle.std.proofs.Common.{◌∙◌, sym, subst}
-use Rattle.rtp_media_exchange.specs.Offers.{Offers, Answers}
-use Rattle.rtp_media_ends.specs.Connections.{AtAnswer, AtAccept}
+use Rattle.std.proofs.Common.{◌≡◌, ◌∙◌, sym, subst}
+use Rattle.rtp_media_negotiation.specs.Offers.{Answers}
+use Rattle.rtp_media_negotiation.specs.Refusals.{MayAnswer}
+use Rattle.rtp_media_ends.specs.Connections.{AtAnswer, AtAccept, offer_text}
 use Rattle.rtp_media_ends.proofs.end.exchanges.connect.Goals as goal
 
 pub returns-in-Err-clause-refused : goal.returns-in-Err-clause-refused
 returns-in-Err-clause-refused c =
-    let offers = subst (λ text. Offers c.args.a.now.exchange c.args.sections_a.items text)
-    (sym c.as_str.ensures.value) c.in_ok-offer.ensures.text in (
+    let offers : c.as_str.result.now ≡ offer_text c.args.a.now c.args.sections_a.items =
+    c.as_str.ensures.value ∙ c.in_ok-offer.ensures.text in (
       AtAnswer c.as_str.result.now,
       (
         c.in_ok-offer.ensures.accepted,
@@ -19,8 +20,8 @@ returns-in-Err-clause-refused c =
 
 pub returns-in-Err-accept-clause-refused : goal.returns-in-Err-accept-clause-refused
 returns-in-Err-accept-clause-refused c =
-    let offers = subst (λ text. Offers c.args.a.now.exchange c.args.sections_a.items text)
-    (sym c.as_str.ensures.value) c.in_ok-offer.ensures.text in
+    let offers : c.as_str.result.now ≡ offer_text c.args.a.now c.args.sections_a.items =
+    c.as_str.ensures.value ∙ c.in_ok-offer.ensures.text in
     let answers = subst
     (λ text. Answers c.args.b.now.exchange c.as_str.result.now c.args.sections_b.items text
     c.answer.new.self.exchange)

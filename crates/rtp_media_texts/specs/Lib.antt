@@ -1,4 +1,0 @@
-pub mod Laws
-pub mod Reading
-pub mod Section
-pub mod Text
