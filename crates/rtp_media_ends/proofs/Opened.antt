@@ -18,7 +18,7 @@ use Rattle.rtp_media_ends.specs.Params.{IsRedundancy, IsSound}
 use Rattle.rtp_media_ends.specs.declared.params.StreamParams.{StreamParams}
 
 -- a RED type has 7 bits and is another than the row's
-IsRedOf : ℕ → Option ℕ → Type 0
+abbrev pub IsRedOf : ℕ → Option ℕ → Type 0
 IsRedOf pt red = IfSome red (λ r. (r ≤ 127) × (r ≢ pt))
 
 -- what a row has that a stream can carry

@@ -329,13 +329,16 @@ impl End {
     {
         let section = section_named(&self.exchange, mid)?;
         let row = carried_row(section, pt)?;
-        check_opening(
+        let refusal = opening_refusal(
             self.exchange.agrees_with(&row),
             section.is_sending(),
             section.names_own(ssrc),
             conflicts_with_sender(&self.senders, ssrc, &types_of(&row)),
-        )?;
-        Ok(row)
+        );
+        match refusal {
+            None => Ok(row),
+            Some(refusal) => Err(refusal),
+        }
     }
 
     /// The row that a new receiving stream takes, or why there is none.
@@ -348,13 +351,16 @@ impl End {
     {
         let section = section_named(&self.exchange, mid)?;
         let row = carried_row(section, pt)?;
-        check_opening(
+        let refusal = opening_refusal(
             self.exchange.agrees_with(&row),
             section.is_receiving(),
             section.names_remote(ssrc),
             conflicts_with_receiver(&self.receivers, ssrc, &types_of(&row)),
-        )?;
-        Ok(row)
+        );
+        match refusal {
+            None => Ok(row),
+            Some(refusal) => Err(refusal),
+        }
     }
 
     /// The map of header extensions of a new stream in a section of this name.
@@ -368,24 +374,23 @@ impl End {
     }
 }
 
-/// Why no stream of a section's row can be opened, by what holds of both.
-fn check_opening(agrees: bool, flows: bool, names: bool, is_open: bool) -> Result<(), OpenError>
-    ensures opens { OnOk result (refusal_by agrees flows names is_open ≡ None) }
-    ensures refused { IfErr result (λ e. refusal_by agrees flows names is_open ≡ Some e) }
+/// Why no stream of a section's row can be opened, by what holds of both: the first reason.
+fn opening_refusal(agrees: bool, flows: bool, names: bool, is_open: bool) -> Option<OpenError>
+    ensures { result ≡ refusal_by agrees flows names is_open }
 {
     if !agrees {
-        return Err(OpenError::RowDiffers);
+        return Some(OpenError::RowDiffers);
     }
     if !flows {
-        return Err(OpenError::WrongDirection);
+        return Some(OpenError::WrongDirection);
     }
     if !names {
-        return Err(OpenError::SsrcNotNamed);
+        return Some(OpenError::SsrcNotNamed);
     }
     if is_open {
-        return Err(OpenError::AlreadyOpen);
+        return Some(OpenError::AlreadyOpen);
     }
-    Ok(())
+    None
 }
 
 /// The agreed section of this name.

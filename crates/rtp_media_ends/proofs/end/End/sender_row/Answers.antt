@@ -1,0 +1,31 @@
+use Rattle.std.proofs.Common.{◌≡◌, ◌∙◌, ap, sym, arith}
+use Rattle.std.proofs.lemmas.Grind.{common_steps}
+use Rattle.std.specs.List.{list_any}
+use Rattle.rtp_media_streams.specs.Sending as sending
+use Rattle.rtp_media_ends.specs.Ends.{refusal_of_open_sender, types_of}
+use Rattle.rtp_media_ends.proofs.Refusals.{sender-refusal}
+use Rattle.rtp_media_ends.proofs.end.End.sender_row.Goals as goal
+
+pub returns-in-None-clause-opens : goal.returns-in-None-clause-opens
+unfolding refusal_of_open_sender
+returns-in-None-clause-opens c =
+    let e : refusal_of_open_sender c.args.self.now c.args.mid c.args.ssrc c.args.pt ≡ c.opening_refusal-refusal.result =
+    (rw (← c.self.view_is) (sender-refusal c.self.inside.exchange.config.rows c.self.inside.exchange.agreed _ c.args.mid
+    c.args.ssrc c.args.pt _ c.in_ok-row.row _ _ _ _ c.in_ok-section.ensures.found c.in_ok-row.ensures.found
+    c.agrees_with.ensures c.is_sending.ensures c.names_own.ensures
+    ((rw c.deref.ensures.value at c.conflicts_with_sender.ensures)
+    ∙ ap (λ types. list_any (λ s. sending.conflicts_with s c.args.ssrc types) c.self.inside.senders.items) c.types_of.ensures)))
+    ∙ sym c.opening_refusal-refusal.ensures in
+    grind (arith, common_steps, e)
+
+pub returns-in-Some-clause-refused : goal.returns-in-Some-clause-refused
+unfolding refusal_of_open_sender
+returns-in-Some-clause-refused c =
+    let e : refusal_of_open_sender c.args.self.now c.args.mid c.args.ssrc c.args.pt ≡ c.opening_refusal-refusal.result =
+    (rw (← c.self.view_is) (sender-refusal c.self.inside.exchange.config.rows c.self.inside.exchange.agreed _ c.args.mid
+    c.args.ssrc c.args.pt _ c.in_ok-row.row _ _ _ _ c.in_ok-section.ensures.found c.in_ok-row.ensures.found
+    c.agrees_with.ensures c.is_sending.ensures c.names_own.ensures
+    ((rw c.deref.ensures.value at c.conflicts_with_sender.ensures)
+    ∙ ap (λ types. list_any (λ s. sending.conflicts_with s c.args.ssrc types) c.self.inside.senders.items) c.types_of.ensures)))
+    ∙ sym c.opening_refusal-refusal.ensures in
+    grind (arith, common_steps, e)
