@@ -79,7 +79,8 @@ AnswersExt old c new replies =
 
 -- end E ID: the draft is emptied, refused or not
 abbrev pub AnswersEnd : EndAndDraft → EndCommand → Option EndError → EndAndDraft → List Reply → Type 0
-AnswersEnd old c None new replies = (new ≡ empty_draft (Some (new_end c.session old.exts (record { rows = old.rows; distances = [] }))))
+AnswersEnd old c None new replies =
+    (new ≡ empty_draft (Some (new_end c.session old.exts (record { rows = old.rows; distances = [] }))))
     × Prints replies reply.Done
 AnswersEnd old c (Some error) new replies =
     (new ≡ empty_draft old.end) × Prints replies (reply.Refused (end_error_name error))
