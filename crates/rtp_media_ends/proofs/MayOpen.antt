@@ -4,11 +4,10 @@ use Rattle.std.specs.Prelude.{Option, Some, None, if◌then◌else◌}
 use Rattle.std.specs.List.{list_any}
 use Rattle.rtp_media_sections.specs.Agreement.{Agreed, is_named, own_row_agrees, row_in, section_of}
 use Rattle.sdp_formats_rows.specs.Rows.{Row}
-use Rattle.rtp_media_streams.specs.Receiving as receiving
-use Rattle.rtp_media_streams.specs.Sending as sending
 use Rattle.rtp_media_ends.specs.Ends.{EndState, carried, carried_row, is_carried, receiver_refusal_in}
 use Rattle.rtp_media_ends.specs.Ends.{receiver_refusal_of, refusal_by, refusal_of_open_receiver}
-use Rattle.rtp_media_ends.specs.Ends.{refusal_of_open_sender, sender_refusal_in, sender_refusal_of, types_of}
+use Rattle.rtp_media_ends.specs.Ends.{receives_as, refusal_of_open_sender, sender_refusal_in, sender_refusal_of, sends_as}
+use Rattle.rtp_media_ends.specs.Ends.{types_of}
 use Rattle.rtp_media_ends.specs.OpensAt.{ReceivesAt, SendsAt}
 
 no-some : {A : Type 0} (x : A) → Some x ≡ None → ⊥
@@ -53,11 +52,11 @@ pub sends-at : (e : EndState) (mid : List ℕ) (ssrc pt : ℕ) → refusal_of_op
 unfolding refusal_of_open_sender
 sends-at e mid ssrc pt h = go (section_of e.exchange.agreed mid) refl h where
   with-row : (a : Agreed) → section_of e.exchange.agreed mid ≡ Some a → (o : Option Row) → carried_row a pt ≡ o
-      → sender_refusal_of e.exchange.config.rows a e.senders ssrc o ≡ None → SendsAt e mid ssrc pt
+      → sender_refusal_of e.exchange.config.rows a e.streams ssrc o ≡ None → SendsAt e mid ssrc pt
   with-row a is None row h = absurd (no-some _ h)
   with-row a is (Some row) found h =
       let all : AllHold (own_row_agrees e.exchange.config.rows row) a.sends (is_named a.own_ssrcs ssrc)
-      (list_any (λ s. sending.conflicts_with s ssrc (types_of row)) e.senders) = all-hold _ _ _ _ h in
+      (list_any (sends_as ssrc (types_of row)) e.streams) = all-hold _ _ _ _ h in
       let there : IsCarried (row_in a.rows pt) row = carried-is (row_in a.rows pt) row found in
       record {
         section = a;
@@ -72,7 +71,7 @@ sends-at e mid ssrc pt h = go (section_of e.exchange.agreed mid) refl h where
       }
 
   go : (o : Option Agreed) → section_of e.exchange.agreed mid ≡ o
-      → sender_refusal_in e.exchange.config.rows o e.senders ssrc pt ≡ None → SendsAt e mid ssrc pt
+      → sender_refusal_in e.exchange.config.rows o e.streams ssrc pt ≡ None → SendsAt e mid ssrc pt
   go None is h = absurd (no-some _ h)
   go (Some a) is h = with-row a is (carried_row a pt) refl h
 
@@ -81,11 +80,11 @@ pub may-send : (e : EndState) (mid : List ℕ) (ssrc pt : ℕ) → SendsAt e mid
 unfolding refusal_of_open_sender
 may-send e mid ssrc pt at =
     let a : Agreed = at.section in
-    ap (λ (o : Option Agreed). sender_refusal_in e.exchange.config.rows o e.senders ssrc pt) at.agreed
-    ∙ ap (λ (o : Option Row). sender_refusal_of e.exchange.config.rows a e.senders ssrc o)
+    ap (λ (o : Option Agreed). sender_refusal_in e.exchange.config.rows o e.streams ssrc pt) at.agreed
+    ∙ ap (λ (o : Option Row). sender_refusal_of e.exchange.config.rows a e.streams ssrc o)
     (is-carried (row_in a.rows pt) at.row at.row_is at.carried)
     ∙ none-refuses (own_row_agrees e.exchange.config.rows at.row) a.sends (is_named a.own_ssrcs ssrc)
-    (list_any (λ s. sending.conflicts_with s ssrc (types_of at.row)) e.senders)
+    (list_any (sends_as ssrc (types_of at.row)) e.streams)
     (record { agree = at.own_row; flow = at.flows; name = at.named; first = at.not_open })
 
 pub receives-at : (e : EndState) (mid : List ℕ) (ssrc pt : ℕ) → refusal_of_open_receiver e mid ssrc pt ≡ None
@@ -93,11 +92,11 @@ pub receives-at : (e : EndState) (mid : List ℕ) (ssrc pt : ℕ) → refusal_of
 unfolding refusal_of_open_receiver
 receives-at e mid ssrc pt h = go (section_of e.exchange.agreed mid) refl h where
   with-row : (a : Agreed) → section_of e.exchange.agreed mid ≡ Some a → (o : Option Row) → carried_row a pt ≡ o
-      → receiver_refusal_of e.exchange.config.rows a e.receivers ssrc o ≡ None → ReceivesAt e mid ssrc pt
+      → receiver_refusal_of e.exchange.config.rows a e.streams ssrc o ≡ None → ReceivesAt e mid ssrc pt
   with-row a is None row h = absurd (no-some _ h)
   with-row a is (Some row) found h =
       let all : AllHold (own_row_agrees e.exchange.config.rows row) a.receives (is_named a.remote_ssrcs ssrc)
-      (list_any (λ r. receiving.conflicts_with r ssrc (types_of row)) e.receivers) = all-hold _ _ _ _ h in
+      (list_any (receives_as ssrc (types_of row)) e.streams) = all-hold _ _ _ _ h in
       let there : IsCarried (row_in a.rows pt) row = carried-is (row_in a.rows pt) row found in
       record {
         section = a;
@@ -112,7 +111,7 @@ receives-at e mid ssrc pt h = go (section_of e.exchange.agreed mid) refl h where
       }
 
   go : (o : Option Agreed) → section_of e.exchange.agreed mid ≡ o
-      → receiver_refusal_in e.exchange.config.rows o e.receivers ssrc pt ≡ None → ReceivesAt e mid ssrc pt
+      → receiver_refusal_in e.exchange.config.rows o e.streams ssrc pt ≡ None → ReceivesAt e mid ssrc pt
   go None is h = absurd (no-some _ h)
   go (Some a) is h = with-row a is (carried_row a pt) refl h
 
@@ -121,9 +120,9 @@ pub may-receive : (e : EndState) (mid : List ℕ) (ssrc pt : ℕ) → ReceivesAt
 unfolding refusal_of_open_receiver
 may-receive e mid ssrc pt at =
     let a : Agreed = at.section in
-    ap (λ (o : Option Agreed). receiver_refusal_in e.exchange.config.rows o e.receivers ssrc pt) at.agreed
-    ∙ ap (λ (o : Option Row). receiver_refusal_of e.exchange.config.rows a e.receivers ssrc o)
+    ap (λ (o : Option Agreed). receiver_refusal_in e.exchange.config.rows o e.streams ssrc pt) at.agreed
+    ∙ ap (λ (o : Option Row). receiver_refusal_of e.exchange.config.rows a e.streams ssrc o)
     (is-carried (row_in a.rows pt) at.row at.row_is at.carried)
     ∙ none-refuses (own_row_agrees e.exchange.config.rows at.row) a.receives (is_named a.remote_ssrcs ssrc)
-    (list_any (λ r. receiving.conflicts_with r ssrc (types_of at.row)) e.receivers)
+    (list_any (receives_as ssrc (types_of at.row)) e.streams)
     (record { agree = at.own_row; flow = at.flows; name = at.named; first = at.not_open })

@@ -5,15 +5,16 @@ use Rattle.std.proofs.lemmas.Bool.Decides.{nat_tests}
 use Rattle.std.proofs.lemmas.List.{get_or_push}
 use Rattle.std.specs.Prelude.{◌==◌, not, nat_lt, Option, Some, None, if◌then◌else◌}
 use Rattle.std.specs.List.{list_any, position_or_len}
-use Rattle.rtp_wire.specs.Maps.{empty_map}
 use Rattle.rtp_media_sections.specs.Agreement.{Agreed, row_in, row_of_section, section_of}
 use Rattle.sdp_formats_rows.specs.Rows.{Row}
-use Rattle.rtp_media_streams.specs.Receiving.{Receiving, conflicts_with, is_own, opened_receiver}
+use Rattle.rtp_media_streams.specs.Receiving.{Receiving, conflicts_with, is_own}
 use Rattle.rtp_media_streams.specs.Types.{has_red_type, has_type, is_type, share_type}
 use Rattle.rtp_media_streams.specs.declared.types.PayloadTypes.{PayloadTypes}
-use Rattle.rtp_media_ends.specs.Arrivals.{stream_for}
-use Rattle.rtp_media_ends.specs.Ends.{EndState, after_open_receiver, agreed_types, new_receiver, no_row_format}
-use Rattle.rtp_media_ends.specs.Ends.{no_types, refusal_of_open_receiver, types_in, types_of}
+use Rattle.rtp_media_ends.specs.Arrivals.{stream_for, takes}
+use Rattle.rtp_media_ends.specs.declared.open_stream.OpenStream.{OpenStream}
+use Rattle.rtp_media_ends.specs.declared.open_stream.OpenStream.TheVariants.{Sender, Receiver}
+use Rattle.rtp_media_ends.specs.Ends.{EndState, after_open_receiver, agreed_types, new_receiver, no_receiver}
+use Rattle.rtp_media_ends.specs.Ends.{receives_as, receiving_of, refusal_of_open_receiver, types_in, types_of}
 use Rattle.rtp_media_ends.specs.FullArrival.{HasReceiver}
 use Rattle.rtp_media_ends.specs.OpensAt.{ReceivesAt}
 use Rattle.rtp_media_ends.proofs.MayOpen.{receives-at}
@@ -52,17 +53,22 @@ not-own r ssrc pt types among none = by (r.ssrc == ssrc) (has_type r.types pt)
       by true false share h = refl
       by true true share h = absurd (true≢false (sym (share refl) ∙ h))
 
+not-taken : (x : OpenStream) (ssrc pt : ℕ) (types : PayloadTypes) → has_type types pt ≡ true
+    → receives_as ssrc types x ≡ false → takes ssrc pt x ≡ false
+not-taken (Sender s) ssrc pt types among none = refl
+not-taken (Receiver r) ssrc pt types among none = not-own r ssrc pt types among none
+
 -- behind streams that don't, it is the first that does
-first-own : (rs : List Receiving) (x : Receiving) (ssrc pt : ℕ) (types : PayloadTypes) → has_type types pt ≡ true
-    → list_any (λ r. conflicts_with r ssrc types) rs ≡ false → is_own x ssrc pt ≡ true
-    → position_or_len (λ r. is_own r ssrc pt) (rs ++ x ∷ []) ≡ length rs
+first-own : (ss : List OpenStream) (x : OpenStream) (ssrc pt : ℕ) (types : PayloadTypes) → has_type types pt ≡ true
+    → list_any (receives_as ssrc types) ss ≡ false → takes ssrc pt x ≡ true
+    → position_or_len (takes ssrc pt) (ss ++ x ∷ []) ≡ length ss
 first-own [] x ssrc pt types among none own = ap (λ (b : Bool). if not b then 1 + 0 else 0) own
 first-own (r ∷ rs) x ssrc pt types among none own =
-    ap (λ (b : Bool). if not b then 1 + position_or_len (λ s. is_own s ssrc pt) (rs ++ x ∷ []) else 0)
-    (not-own r ssrc pt types among
-    (left (conflicts_with r ssrc types) (list_any (λ s. conflicts_with s ssrc types) rs) none))
+    ap (λ (b : Bool). if not b then 1 + position_or_len (takes ssrc pt) (rs ++ x ∷ []) else 0)
+    (not-taken r ssrc pt types among
+    (left (receives_as ssrc types r) (list_any (receives_as ssrc types) rs) none))
     ∙ step (first-own rs x ssrc pt types among
-    (right (conflicts_with r ssrc types) (list_any (λ s. conflicts_with s ssrc types) rs) none) own)
+    (right (receives_as ssrc types r) (list_any (receives_as ssrc types) rs) none) own)
   where
     left : (a b : Bool) → (a || b) ≡ false → a ≡ false
     left true b h = absurd (true≢false h)
@@ -79,19 +85,20 @@ both : (a b : Bool) → a ≡ true → b ≡ true → (a && b) ≡ true
 both true b x y = y
 both false b x y = absurd (true≢false (sym x))
 
-lt-push : (rs : List Receiving) (x : Receiving) → nat_lt (length rs) (length (rs ++ x ∷ [])) ≡ true
+lt-push : (rs : List OpenStream) (x : OpenStream) → nat_lt (length rs) (length (rs ++ x ∷ [])) ≡ true
 lt-push rs x = let more : length (rs ++ x ∷ []) ≡ length rs + 1 = length-append rs (x ∷ []) in grind
     (arith, nat_tests, more)
 
 -- it is found where none of the others could take its datagrams
-pub found-new : (rs : List Receiving) (x : Receiving)
-    → list_any (λ r. conflicts_with r x.ssrc x.types) rs ≡ false → (pt : ℕ) → has_type x.types pt ≡ true
-    → stream_for (rs ++ x ∷ []) x.ssrc pt ≡ Some (length rs)
-found-new rs x none pt has =
-    let place : position_or_len (λ r. is_own r x.ssrc pt) (rs ++ x ∷ []) ≡ length rs =
-    first-own rs x x.ssrc pt x.types has none (both (x.ssrc == x.ssrc) (has_type x.types pt) (eqb-same x.ssrc) has) in
-    ap (λ (n : ℕ). if nat_lt n (length (rs ++ x ∷ [])) then Some n else None) place
-    ∙ ap (λ (b : Bool). if b then Some (length rs) else None) (lt-push rs x)
+pub found-new : (ss : List OpenStream) (x : Receiving)
+    → list_any (receives_as x.ssrc x.types) ss ≡ false → (pt : ℕ) → has_type x.types pt ≡ true
+    → stream_for (ss ++ Receiver x ∷ []) x.ssrc pt ≡ Some (length ss)
+found-new ss x none pt has =
+    let place : position_or_len (takes x.ssrc pt) (ss ++ Receiver x ∷ []) ≡ length ss =
+    first-own ss (Receiver x) x.ssrc pt x.types has none
+    (both (x.ssrc == x.ssrc) (has_type x.types pt) (eqb-same x.ssrc) has) in
+    ap (λ (n : ℕ). if nat_lt n (length (ss ++ Receiver x ∷ [])) then Some n else None) place
+    ∙ ap (λ (b : Bool). if b then Some (length ss) else None) (lt-push ss (Receiver x))
 
 -- the types of the agreed row
 types-agreed : (e : EndState) (mid : List ℕ) (pt : ℕ) (a : Agreed) (row : Row)
@@ -103,7 +110,7 @@ types-agreed e mid pt a row is found =
 -- An opened receiving stream has its number, and takes its own datagrams.
 pub opened-receiver : (e : EndState) (mid : List ℕ) (ssrc pt hold_back : ℕ)
     → refusal_of_open_receiver e mid ssrc pt ≡ None →
-    HasReceiver (after_open_receiver e mid ssrc pt hold_back) (length e.receivers)
+    HasReceiver (after_open_receiver e mid ssrc pt hold_back) (length e.streams)
     (new_receiver e mid ssrc pt hold_back)
 unfolding after_open_receiver
 opened-receiver e mid ssrc pt hold_back none =
@@ -111,10 +118,9 @@ opened-receiver e mid ssrc pt hold_back none =
     let x : Receiving = new_receiver e mid ssrc pt hold_back in
     let types : agreed_types e mid pt ≡ types_of at.row =
     types-agreed e mid pt at.section at.row at.agreed at.row_is in
-    let apart : list_any (λ r. conflicts_with r ssrc (agreed_types e mid pt)) e.receivers ≡ false =
-    ap (λ (t : PayloadTypes). list_any (λ r. conflicts_with r ssrc t) e.receivers) types ∙ at.not_open in
+    let apart : list_any (receives_as ssrc (agreed_types e mid pt)) e.streams ≡ false =
+    ap (λ (t : PayloadTypes). list_any (receives_as ssrc t) e.streams) types ∙ at.not_open in
     record {
-      stream_is = get_or_push e.receivers x (opened_receiver 0 no_types empty_map no_row_format 0)
-          (length e.receivers) refl;
-      found = found-new e.receivers x apart;
+      stream_is = ap receiving_of (get_or_push e.streams (Receiver x) (Receiver no_receiver) (length e.streams) refl);
+      found = found-new e.streams x apart;
     }

@@ -2,33 +2,31 @@
 use Rattle.std.proofs.Common.{◌≡◌, ℕ, Bool, List, refl, ◌∙◌, ap}
 use Rattle.std.specs.Prelude.{Option, Some, None}
 use Rattle.std.specs.List.{list_any}
-use Rattle.rtp_media_streams.specs.Sending as sending
-use Rattle.rtp_media_streams.specs.Sending.{Sending}
-use Rattle.rtp_media_streams.specs.Receiving as receiving
-use Rattle.rtp_media_streams.specs.Receiving.{Receiving}
 use Rattle.sdp_formats_rows.specs.Rows.{Row}
 use Rattle.rtp_media_sections.specs.Agreement.{Agreed, agreed_row_of, is_named, own_row_agrees, row_in, row_of_section}
 use Rattle.rtp_media_sections.specs.Agreement.{section_of}
-use Rattle.rtp_media_ends.specs.Ends.{carried_row, receiver_refusal_in, refusal_by, sender_refusal_in, types_of}
+use Rattle.rtp_media_ends.specs.declared.open_stream.OpenStream.{OpenStream}
+use Rattle.rtp_media_ends.specs.Ends.{carried_row, receiver_refusal_in, receives_as, refusal_by, sender_refusal_in}
+use Rattle.rtp_media_ends.specs.Ends.{sends_as, types_of}
 
 pub row-agreed : (agreed : List Agreed) (mid : List ℕ) (pt : ℕ) (a : Agreed) (row : Row)
     → section_of agreed mid ≡ Some a → row_in a.rows pt ≡ Some row → agreed_row_of agreed mid pt ≡ Some row
 row-agreed agreed mid pt a row s r = ap (λ (o : Option Agreed). row_of_section o pt) s ∙ r
 
-pub sender-refusal : (own : List Row) (agreed : List Agreed) (senders : List Sending) (mid : List ℕ)
+pub sender-refusal : (own : List Row) (agreed : List Agreed) (streams : List OpenStream) (mid : List ℕ)
     (ssrc pt : ℕ) (a : Agreed) (row : Row) (agrees flows names is_open : Bool) →
     section_of agreed mid ≡ Some a → carried_row a pt ≡ Some row → agrees ≡ own_row_agrees own row
     → flows ≡ a.sends → names ≡ is_named a.own_ssrcs ssrc → is_open
-    ≡ list_any (λ s. sending.conflicts_with s ssrc (types_of row)) senders →
-    sender_refusal_in own (section_of agreed mid) senders ssrc pt ≡ refusal_by agrees flows names is_open
-sender-refusal own agreed senders mid ssrc pt a row agrees flows names is_open s r g f n o =
+    ≡ list_any (sends_as ssrc (types_of row)) streams →
+    sender_refusal_in own (section_of agreed mid) streams ssrc pt ≡ refusal_by agrees flows names is_open
+sender-refusal own agreed streams mid ssrc pt a row agrees flows names is_open s r g f n o =
     rw (s, r, g, f, n, o) refl
 
-pub receiver-refusal : (own : List Row) (agreed : List Agreed) (receivers : List Receiving) (mid : List ℕ)
+pub receiver-refusal : (own : List Row) (agreed : List Agreed) (streams : List OpenStream) (mid : List ℕ)
     (ssrc pt : ℕ) (a : Agreed) (row : Row) (agrees flows names is_open : Bool) →
     section_of agreed mid ≡ Some a → carried_row a pt ≡ Some row → agrees ≡ own_row_agrees own row
     → flows ≡ a.receives → names ≡ is_named a.remote_ssrcs ssrc → is_open
-    ≡ list_any (λ r. receiving.conflicts_with r ssrc (types_of row)) receivers →
-    receiver_refusal_in own (section_of agreed mid) receivers ssrc pt ≡ refusal_by agrees flows names is_open
-receiver-refusal own agreed receivers mid ssrc pt a row agrees flows names is_open s r g f n o =
+    ≡ list_any (receives_as ssrc (types_of row)) streams →
+    receiver_refusal_in own (section_of agreed mid) streams ssrc pt ≡ refusal_by agrees flows names is_open
+receiver-refusal own agreed streams mid ssrc pt a row agrees flows names is_open s r g f n o =
     rw (s, r, g, f, n, o) refl

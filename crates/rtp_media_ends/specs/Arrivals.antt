@@ -1,11 +1,13 @@
-use Rattle.std.specs.Prelude.{ℕ, Bool, List, [], ◌∷◌, Option, Some, None, position}
+use Rattle.std.specs.Prelude.{ℕ, Bool, false, List, [], ◌∷◌, Option, Some, None, position}
 use Rattle.rtp_wire.specs.Header.{header_in}
 use Rattle.rtp_wire.specs.Maps.{empty_map}
 use Rattle.rtp_wire.specs.declared.ExtensionValues.{ExtensionValues}
 use Rattle.rtp_wire.specs.declared.header.RtpHeader.{RtpHeader}
-use Rattle.rtp_media_streams.specs.Receiving.{Receiving, is_own, media_payload, taken_number, arrived, values_read}
+use Rattle.rtp_media_streams.specs.Receiving.{is_own, media_payload, taken_number, arrived, values_read}
 use Rattle.rtp_media_streams.specs.Receiving.{with_stream}
 use Rattle.rtp_media_ends.specs.Ends.{EndState, nth_receiver, receiver_at, with_receiver}
+use Rattle.rtp_media_ends.specs.declared.open_stream.OpenStream.{OpenStream}
+use Rattle.rtp_media_ends.specs.declared.open_stream.OpenStream.TheVariants.{Sender, Receiver}
 use Rattle.rtp_media_ends.specs.declared.received.Received.{Received}
 use Rattle.rtp_media_ends.specs.declared.received.Received.TheVariants.{Unreadable, Foreign, Damaged, Refused, Taken}
 
@@ -25,24 +27,29 @@ own_of stream header values (Some []) = NoPayload
 own_of stream header values (Some (byte ∷ bytes)) =
     Own stream header.sequence_number header.timestamp header.marker values (byte ∷ bytes)
 
-abbrev pub arrival_for : List Receiving → Option ℕ → RtpHeader → List ℕ → Arrival
-arrival_for receivers None header datagram = NoStream
-arrival_for receivers (Some stream) header datagram =
-    own_of stream header (values_read (nth_receiver receivers stream).map datagram)
-    (media_payload (nth_receiver receivers stream).types header datagram)
+abbrev pub arrival_for : List OpenStream → Option ℕ → RtpHeader → List ℕ → Arrival
+arrival_for streams None header datagram = NoStream
+arrival_for streams (Some stream) header datagram =
+    own_of stream header (values_read (nth_receiver streams stream).map datagram)
+    (media_payload (nth_receiver streams stream).types header datagram)
+
+-- whether datagrams of this SSRC and type are a receiving stream's own
+abbrev pub takes : ℕ → ℕ → OpenStream → Bool
+takes ssrc pt (Sender s) = false
+takes ssrc pt (Receiver r) = is_own r ssrc pt
 
 -- the number of the receiving stream of an SSRC and a payload type
-abbrev pub stream_for : List Receiving → ℕ → ℕ → Option ℕ
-stream_for receivers ssrc pt = position (λ r. is_own r ssrc pt) receivers
+abbrev pub stream_for : List OpenStream → ℕ → ℕ → Option ℕ
+stream_for streams ssrc pt = position (takes ssrc pt) streams
 
-abbrev pub arrival_by : List Receiving → Option RtpHeader → List ℕ → Arrival
-arrival_by receivers None datagram = NoHeader
-arrival_by receivers (Some header) datagram =
-    arrival_for receivers (stream_for receivers header.ssrc header.payload_type) header datagram
+abbrev pub arrival_by : List OpenStream → Option RtpHeader → List ℕ → Arrival
+arrival_by streams None datagram = NoHeader
+arrival_by streams (Some header) datagram =
+    arrival_for streams (stream_for streams header.ssrc header.payload_type) header datagram
 
--- What a datagram is to an end with these receiving streams (RFC 3550 5.1).
-abbrev pub arrival_at : List Receiving → List ℕ → Arrival
-arrival_at receivers datagram = arrival_by receivers (header_in empty_map datagram) datagram
+-- What a datagram is to an end with these streams (RFC 3550 5.1).
+abbrev pub arrival_at : List OpenStream → List ℕ → Arrival
+arrival_at streams datagram = arrival_by streams (header_in empty_map datagram) datagram
 
 abbrev pub verdict_on : ℕ → Option ℕ → Received
 verdict_on stream None = Refused
@@ -66,7 +73,7 @@ after_arrival e (Own stream low time marker values payload) =
     (arrived (receiver_at e stream).stream low time marker values payload))
 
 abbrev pub verdict_of : EndState → List ℕ → Received
-verdict_of e datagram = verdict_for e (arrival_at e.receivers datagram)
+verdict_of e datagram = verdict_for e (arrival_at e.streams datagram)
 
 abbrev pub after_datagram : EndState → List ℕ → EndState
-after_datagram e datagram = after_arrival e (arrival_at e.receivers datagram)
+after_datagram e datagram = after_arrival e (arrival_at e.streams datagram)

@@ -1,5 +1,5 @@
-use Rattle.std.specs.Prelude.{ℕ, Bool, true, false, not, nat_le, ◌==◌, ◌&&◌, List, [], ◌∷◌, ◌++◌, Option, Some, None}
-use Rattle.std.specs.Prelude.{if◌then◌else◌, unwrap_or, slice_set, slice_index_or}
+use Rattle.std.specs.Prelude.{ℕ, Bool, true, false, not, nat_le, nat_lt, ◌==◌, ◌&&◌, List, [], ◌∷◌, ◌++◌, length}
+use Rattle.std.specs.Prelude.{Option, Some, None, if◌then◌else◌, unwrap_or, slice_set, slice_index_or}
 use Rattle.std.specs.List.{list_any}
 use Rattle.rtp_wire.specs.Maps.{empty_map}
 use Rattle.rtp_wire.specs.Values.{Numbering}
@@ -16,34 +16,35 @@ use Rattle.sdp_formats_config.specs.Configs.{Config}
 use Rattle.rtp_media_negotiation.specs.Exchanges.{Exchanged, fresh, fixed}
 use Rattle.rtp_media_sections.specs.Agreement.{Agreed, agreed_map_of, agreed_row_of, is_named, own_row_agrees, row_in}
 use Rattle.rtp_media_sections.specs.Agreement.{section_of}
+use Rattle.rtp_media_ends.specs.declared.open_stream.OpenStream.{OpenStream}
+use Rattle.rtp_media_ends.specs.declared.open_stream.OpenStream.TheVariants.{Sender, Receiver}
 use Rattle.rtp_media_ends.specs.declared.params.StreamParams.{StreamParams}
 use Rattle.rtp_media_ends.specs.declared.errors.OpenError.{OpenError}
 use Rattle.rtp_media_ends.specs.declared.errors.OpenError.TheVariants.{NoSection, RowNotAgreed, RowDiffers}
 use Rattle.rtp_media_ends.specs.declared.errors.OpenError.TheVariants.{WrongDirection, SsrcNotNamed, AlreadyOpen}
 
--- What an end keeps: its exchanges, and its streams by number.
+-- What an end keeps: its exchanges, and its streams of both directions by number.
 pub record EndState : Type 0 where
   pub exchange : Exchanged
-  pub senders : List Sending
-  pub receivers : List Receiving
+  pub streams : List OpenStream
 
 -- the end with this stream in place of its n-th
 abbrev pub with_sender : EndState → ℕ → Sending → EndState
-with_sender e n s = record { exchange = e.exchange; senders = slice_set e.senders n s; receivers = e.receivers }
+with_sender e n s = record { exchange = e.exchange; streams = slice_set e.streams n (Sender s) }
 
 abbrev pub with_receiver : EndState → ℕ → Receiving → EndState
-with_receiver e n r = record { exchange = e.exchange; senders = e.senders; receivers = slice_set e.receivers n r }
+with_receiver e n r = record { exchange = e.exchange; streams = slice_set e.streams n (Receiver r) }
 
 -- the end after an exchange: its streams stay
 abbrev pub with_exchange : EndState → Exchanged → EndState
-with_exchange e x = record { exchange = x; senders = e.senders; receivers = e.receivers }
+with_exchange e x = record { exchange = x; streams = e.streams }
 
 -- the end with one stream more
 abbrev pub with_new_sender : EndState → Sending → EndState
-with_new_sender e s = record { exchange = e.exchange; senders = e.senders ++ s ∷ []; receivers = e.receivers }
+with_new_sender e s = record { exchange = e.exchange; streams = e.streams ++ Sender s ∷ [] }
 
 abbrev pub with_new_receiver : EndState → Receiving → EndState
-with_new_receiver e r = record { exchange = e.exchange; senders = e.senders; receivers = e.receivers ++ r ∷ [] }
+with_new_receiver e r = record { exchange = e.exchange; streams = e.streams ++ Receiver r ∷ [] }
 
 -- the payload types of a row
 abbrev pub types_of : Row → PayloadTypes
@@ -66,15 +67,54 @@ row_format_of row = record {
 abbrev pub no_row_format : RowFormat
 no_row_format = record { codec = Unknown; clock_rate = 1; octet_align = None; sprop_max_don_diff = None }
 
--- the n-th stream
-abbrev pub sender_at : EndState → ℕ → Sending
-sender_at e n = slice_index_or e.senders n (opened_sender 0 no_types empty_map no_row_format None false 0 1 0)
+-- streams of no row
+abbrev pub no_sender : Sending
+no_sender = opened_sender 0 no_types empty_map no_row_format None false 0 1 0
 
-abbrev pub nth_receiver : List Receiving → ℕ → Receiving
-nth_receiver receivers n = slice_index_or receivers n (opened_receiver 0 no_types empty_map no_row_format 0)
+abbrev pub no_receiver : Receiving
+no_receiver = opened_receiver 0 no_types empty_map no_row_format 0
+
+-- a stream as one that sends, and as one that receives
+abbrev pub sending_of : OpenStream → Sending
+sending_of (Sender s) = s
+sending_of (Receiver r) = no_sender
+
+abbrev pub receiving_of : OpenStream → Receiving
+receiving_of (Sender s) = no_receiver
+receiving_of (Receiver r) = r
+
+abbrev pub is_sending : OpenStream → Bool
+is_sending (Sender s) = true
+is_sending (Receiver r) = false
+
+-- the n-th stream
+abbrev pub nth_stream : List OpenStream → ℕ → OpenStream
+nth_stream streams n = slice_index_or streams n (Receiver no_receiver)
+
+abbrev pub sender_at : EndState → ℕ → Sending
+sender_at e n = sending_of (nth_stream e.streams n)
+
+abbrev pub nth_receiver : List OpenStream → ℕ → Receiving
+nth_receiver streams n = receiving_of (nth_stream streams n)
 
 abbrev pub receiver_at : EndState → ℕ → Receiving
-receiver_at e n = nth_receiver e.receivers n
+receiver_at e n = nth_receiver e.streams n
+
+-- whether a number is that of a stream that sends, and of one that receives
+abbrev pub is_sender_at : EndState → ℕ → Bool
+is_sender_at e n = nat_lt n (length e.streams) && is_sending (nth_stream e.streams n)
+
+abbrev pub is_receiver_at : EndState → ℕ → Bool
+is_receiver_at e n = nat_lt n (length e.streams) && not (is_sending (nth_stream e.streams n))
+
+-- whether a stream could send, or take, the datagrams of one of this SSRC and these payload types
+abbrev pub sends_as : ℕ → PayloadTypes → OpenStream → Bool
+sends_as ssrc types (Sender s) = sending.conflicts_with s ssrc types
+sends_as ssrc types (Receiver r) = false
+
+abbrev pub receives_as : ℕ → PayloadTypes → OpenStream → Bool
+receives_as ssrc types (Sender s) = false
+receives_as ssrc types (Receiver r) = receiving.conflicts_with r ssrc types
 
 -- a RED type has 7 bits and is another than the row's
 abbrev pub is_red_of : ℕ → Option ℕ → Bool
@@ -103,35 +143,35 @@ refusal_by agrees flows names is_open =
     else if is_open then Some AlreadyOpen
     else None
 
-abbrev pub sender_refusal_of : List Row → Agreed → List Sending → ℕ → Option Row → Option OpenError
-sender_refusal_of own a senders ssrc None = Some RowNotAgreed
-sender_refusal_of own a senders ssrc (Some row) =
+abbrev pub sender_refusal_of : List Row → Agreed → List OpenStream → ℕ → Option Row → Option OpenError
+sender_refusal_of own a streams ssrc None = Some RowNotAgreed
+sender_refusal_of own a streams ssrc (Some row) =
     refusal_by (own_row_agrees own row) a.sends (is_named a.own_ssrcs ssrc)
-    (list_any (λ s. sending.conflicts_with s ssrc (types_of row)) senders)
+    (list_any (sends_as ssrc (types_of row)) streams)
 
-abbrev pub sender_refusal_in : List Row → Option Agreed → List Sending → ℕ → ℕ → Option OpenError
-sender_refusal_in own None senders ssrc pt = Some NoSection
-sender_refusal_in own (Some a) senders ssrc pt = sender_refusal_of own a senders ssrc (carried_row a pt)
+abbrev pub sender_refusal_in : List Row → Option Agreed → List OpenStream → ℕ → ℕ → Option OpenError
+sender_refusal_in own None streams ssrc pt = Some NoSection
+sender_refusal_in own (Some a) streams ssrc pt = sender_refusal_of own a streams ssrc (carried_row a pt)
 
-abbrev pub receiver_refusal_of : List Row → Agreed → List Receiving → ℕ → Option Row → Option OpenError
-receiver_refusal_of own a receivers ssrc None = Some RowNotAgreed
-receiver_refusal_of own a receivers ssrc (Some row) =
+abbrev pub receiver_refusal_of : List Row → Agreed → List OpenStream → ℕ → Option Row → Option OpenError
+receiver_refusal_of own a streams ssrc None = Some RowNotAgreed
+receiver_refusal_of own a streams ssrc (Some row) =
     refusal_by (own_row_agrees own row) a.receives (is_named a.remote_ssrcs ssrc)
-    (list_any (λ r. receiving.conflicts_with r ssrc (types_of row)) receivers)
+    (list_any (receives_as ssrc (types_of row)) streams)
 
-abbrev pub receiver_refusal_in : List Row → Option Agreed → List Receiving → ℕ → ℕ → Option OpenError
-receiver_refusal_in own None receivers ssrc pt = Some NoSection
-receiver_refusal_in own (Some a) receivers ssrc pt = receiver_refusal_of own a receivers ssrc (carried_row a pt)
+abbrev pub receiver_refusal_in : List Row → Option Agreed → List OpenStream → ℕ → ℕ → Option OpenError
+receiver_refusal_in own None streams ssrc pt = Some NoSection
+receiver_refusal_in own (Some a) streams ssrc pt = receiver_refusal_of own a streams ssrc (carried_row a pt)
 
 -- Why `open_sender` is refused, want of memory aside.
 unfoldable pub refusal_of_open_sender : EndState → List ℕ → ℕ → ℕ → Option OpenError
 refusal_of_open_sender e mid ssrc pt =
-    sender_refusal_in e.exchange.config.rows (section_of e.exchange.agreed mid) e.senders ssrc pt
+    sender_refusal_in e.exchange.config.rows (section_of e.exchange.agreed mid) e.streams ssrc pt
 
 -- Why `open_receiver` is refused, want of memory aside.
 unfoldable pub refusal_of_open_receiver : EndState → List ℕ → ℕ → ℕ → Option OpenError
 refusal_of_open_receiver e mid ssrc pt =
-    receiver_refusal_in e.exchange.config.rows (section_of e.exchange.agreed mid) e.receivers ssrc pt
+    receiver_refusal_in e.exchange.config.rows (section_of e.exchange.agreed mid) e.streams ssrc pt
 
 -- the map of header extensions of a new stream: the agreed one
 abbrev pub stream_map : EndState → List ℕ → Numbering
@@ -188,8 +228,8 @@ after_open_receiver e mid ssrc pt hold_back = with_new_receiver e (new_receiver 
 
 -- A fixed end without streams.
 abbrev pub fixed_end : EndState
-fixed_end = record { exchange = fixed; senders = []; receivers = [] }
+fixed_end = record { exchange = fixed; streams = [] }
 
 -- An end that has agreed on nothing.
 abbrev pub new_end : ℕ → Numbering → Config → EndState
-new_end session wanted config = record { exchange = fresh session wanted config; senders = []; receivers = [] }
+new_end session wanted config = record { exchange = fresh session wanted config; streams = [] }

@@ -15,8 +15,10 @@ use Rattle.rtp_media_streams.specs.Sending.{Sample, Sending, IsTyped, datagrams_
 use Rattle.rtp_media_streams.specs.Receiving.{Receiving, opened_receiver, with_stream}
 use Rattle.rtp_media_streams.specs.Types.{has_type}
 use Rattle.rtp_media_streams.specs.declared.types.PayloadTypes.{PayloadTypes}
-use Rattle.rtp_media_ends.specs.Ends.{EndState, nth_receiver, receiver_at}
+use Rattle.rtp_media_ends.specs.Ends.{EndState, nth_stream, receiver_at, receiving_of}
 use Rattle.rtp_media_ends.specs.Arrivals.{verdict_of, after_datagram, stream_for}
+use Rattle.rtp_media_ends.specs.declared.open_stream.OpenStream.{OpenStream}
+use Rattle.rtp_media_ends.specs.declared.open_stream.OpenStream.TheVariants.{Sender, Receiver}
 use Rattle.rtp_media_ends.specs.declared.received.Received.{Received}
 
 -- The verdicts on datagrams that are received one after the other.
@@ -29,9 +31,9 @@ abbrev pub after_datagrams : EndState → List (List ℕ) → EndState
 after_datagrams e [] = e
 after_datagrams e (d ∷ ds) = after_datagrams (after_datagram e d) ds
 
--- the end with these receiving streams
-abbrev pub with_receivers : EndState → List Receiving → EndState
-with_receivers e rs = record { exchange = e.exchange; senders = e.senders; receivers = rs }
+-- the end with these streams
+abbrev pub with_streams : EndState → List OpenStream → EndState
+with_streams e streams = record { exchange = e.exchange; streams = streams }
 
 -- A receiving stream was polled until None or want of memory: its answers, and the stream after them.
 pub record IsPolledOut (before : Receiving) (answers : Answers) (after : Receiving) : Type 0 where
@@ -43,10 +45,21 @@ pub record WasPolledSome (before after : Receiving) : Type 0 where
   pub some : IsPolledSome (format_of before.row) before.stream after.stream
   pub same_stream : after ≡ with_stream before after.stream
 
+-- A stream that sends answers nothing and stays; one that receives was polled until None or want of memory.
+abbrev pub AnswersAll : OpenStream → Answers → OpenStream → Type 0
+AnswersAll (Sender s) answers after = (answers ≡ []) × (after ≡ Sender s)
+AnswersAll (Receiver r) answers after =
+    IsPolledOut r answers (receiving_of after) × (after ≡ Receiver (receiving_of after))
+
+-- A stream that sends stays; one that receives was polled some times, or none.
+abbrev pub AnswersSome : OpenStream → OpenStream → Type 0
+AnswersSome (Sender s) after = after ≡ Sender s
+AnswersSome (Receiver r) after = WasPolledSome r (receiving_of after) × (after ≡ Receiver (receiving_of after))
+
 -- Each receiving stream was polled some times, or none.
-pub record ArePolledSome (before after : List Receiving) : Type 0 where
+pub record ArePolledSome (before after : List OpenStream) : Type 0 where
   pub as_many : length after ≡ length before
-  pub each : (n : ℕ) → n < length before → WasPolledSome (nth_receiver before n) (nth_receiver after n)
+  pub each : (n : ℕ) → n < length before → AnswersSome (nth_stream before n) (nth_stream after n)
 
 -- Some first datagrams were received.
 pub record ReceivesSome (e : EndState) (datagrams : List (List ℕ)) (after : EndState) : Type 0 where
@@ -58,19 +71,18 @@ pub record ReceivesSome (e : EndState) (datagrams : List (List ℕ)) (after : En
 abbrev pub ReceivesAndPollsSome : EndState → List (List ℕ) → EndState → Type 0
 ReceivesAndPollsSome e datagrams after =
     ReceivesSome e datagrams after
-    ⊎ (ArePolledSome (after_datagrams e datagrams).receivers after.receivers
-    × (after ≡ with_receivers (after_datagrams e datagrams) after.receivers))
+    ⊎ (ArePolledSome (after_datagrams e datagrams).streams after.streams
+    × (after ≡ with_streams (after_datagrams e datagrams) after.streams))
 
 -- the answers of the n-th stream
 abbrev pub answers_at : List Answers → ℕ → Answers
 answers_at answers n = slice_index_or answers n []
 
 -- Each receiving stream was polled until None or want of memory.
-pub record ArePolledOut (before : List Receiving) (answers : List Answers) (after : List Receiving) : Type 0 where
+pub record ArePolledOut (before : List OpenStream) (answers : List Answers) (after : List OpenStream) : Type 0 where
   pub as_many : length after ≡ length before
   pub as_many_answers : length answers ≡ length before
-  pub each : (n : ℕ) → n < length before → IsPolledOut (nth_receiver before n) (answers_at answers n)
-      (nth_receiver after n)
+  pub each : (n : ℕ) → n < length before → AnswersAll (nth_stream before n) (answers_at answers n) (nth_stream after n)
 
 abbrev pub is_header_of : ℕ → PayloadTypes → Option RtpHeader → Bool
 is_header_of ssrc types None = false
@@ -102,7 +114,7 @@ units_of s samples = map whole_unit (canonical_units s.next (sent_samples s samp
 
 -- the end takes what has the SSRC of this stream and one of its types as this stream's own
 abbrev pub IsFound : EndState → ℕ → Receiving → Type 0
-IsFound e stream r = (pt : ℕ) → has_type r.types pt ≡ true → stream_for e.receivers r.ssrc pt ≡ Some stream
+IsFound e stream r = (pt : ℕ) → has_type r.types pt ≡ true → stream_for e.streams r.ssrc pt ≡ Some stream
 
 -- The end's stream of this number is this one, and takes its own datagrams.
 pub record HasReceiver (e : EndState) (stream : ℕ) (r : Receiving) : Type 0 where

@@ -2,10 +2,8 @@
 use Rattle.std.specs.Prelude.{◌≡◌, ℕ, true, false, List, Some}
 use Rattle.std.specs.List.{list_any}
 use Rattle.rtp_media_sections.specs.Agreement.{Agreed, is_named, own_row_agrees, row_in, section_of}
-use Rattle.rtp_media_streams.specs.Receiving as receiving
-use Rattle.rtp_media_streams.specs.Sending as sending
 use Rattle.sdp_formats_rows.specs.Rows.{Row}
-use Rattle.rtp_media_ends.specs.Ends.{EndState, is_carried, types_of}
+use Rattle.rtp_media_ends.specs.Ends.{EndState, is_carried, receives_as, sends_as, types_of}
 
 -- An end may send at a section's name, SSRC and payload type: the section is agreed, its first row of the type is one
 -- that a stream can carry; one of the end's own rows agrees with it; it flows from the end, which names the SSRC in it;
@@ -19,7 +17,7 @@ pub record SendsAt (e : EndState) (mid : List ℕ) (ssrc pt : ℕ) : Type 0 wher
   pub own_row : own_row_agrees e.exchange.config.rows row ≡ true
   pub flows : section.sends ≡ true
   pub named : is_named section.own_ssrcs ssrc ≡ true
-  pub not_open : list_any (λ s. sending.conflicts_with s ssrc (types_of row)) e.senders ≡ false
+  pub not_open : list_any (sends_as ssrc (types_of row)) e.streams ≡ false
 
 -- It may receive there: the same, but that the section flows to the end, the other end names the SSRC in it, and no
 -- receiving stream has the SSRC and one of the row's types.
@@ -32,4 +30,4 @@ pub record ReceivesAt (e : EndState) (mid : List ℕ) (ssrc pt : ℕ) : Type 0 w
   pub own_row : own_row_agrees e.exchange.config.rows row ≡ true
   pub flows : section.receives ≡ true
   pub named : is_named section.remote_ssrcs ssrc ≡ true
-  pub not_open : list_any (λ r. receiving.conflicts_with r ssrc (types_of row)) e.receivers ≡ false
+  pub not_open : list_any (receives_as ssrc (types_of row)) e.streams ≡ false

@@ -1,16 +1,14 @@
 //! An end of a session.
 
 ghost use Rattle.std.specs.Prelude.{◌≡◌, ◌≢◌, ◌<◌, ◌==◌, ℕ, Some, None, length, true, Ok, Err, OnOk, OnErr, IfOk};
-ghost use Rattle.std.specs.Prelude.{IfErr, IfSome, IfNone, IsOk, IsSome, IsSomeAnd, IsTrue, is_some, ◌≤◌, ◌↔◌};
+ghost use Rattle.std.specs.Prelude.{IfErr, IfSome, IfNone, IsOk, IsSome, IsSomeAnd, is_some, false, ◌≤◌};
 ghost use Rattle.std.specs.List.{list_any};
 ghost use Rattle.std.specs.Option.{ForSome, option_map};
 ghost use Rattle.payload_core_red.specs.RedHistory.{AreDistances};
 ghost use Rattle.h26x_payload.specs.Codings.{has_format};
 ghost use Rattle.rtp_media_streams.specs.Polls.{IsInterrupted, given};
-ghost use Rattle.rtp_media_streams.specs.Receiving as receiving;
 ghost use Rattle.rtp_media_streams.specs.Receiving.{media_payload, polled_receiver, with_stream};
 ghost use Rattle.rtp_media_streams.specs.Rows.{format_of};
-ghost use Rattle.rtp_media_streams.specs.Sending as sending;
 ghost use Rattle.rtp_media_streams.specs.Sending.{HasFailed, sent_datagrams, after_sample, refusal_of_sample};
 ghost use Rattle.rtp_media_runs.specs.Hearing.{poll_answer};
 ghost use Rattle.rtp_wire.specs.declared.ExtensionValues.{ExtensionValues};
@@ -22,7 +20,8 @@ ghost use Rattle.rtp_media_ends.specs.Ends.{refusal_of_open_receiver, refusal_of
 ghost use Rattle.rtp_media_ends.specs.Ends.{after_open_sender, after_open_receiver};
 ghost use Rattle.rtp_media_ends.specs.Ends.{row_format_of, stream_map, types_of, with_distances};
 ghost use Rattle.rtp_media_ends.specs.Ends.{sender_at, receiver_at, with_sender, with_receiver};
-ghost use Rattle.rtp_media_ends.specs.Ends.{new_sender, new_receiver};
+ghost use Rattle.rtp_media_ends.specs.Ends.{is_receiver_at, is_sender_at, is_sending, new_sender, new_receiver};
+ghost use Rattle.rtp_media_ends.specs.Ends.{nth_stream, receives_as, sends_as};
 ghost use Rattle.rtp_media_ends.specs.FullArrival.{HasReceiver, IsSender};
 ghost use Rattle.rtp_media_ends.specs.Params.{IsSound};
 
@@ -30,6 +29,7 @@ mod exchanges;
 mod receive_all;
 
 use crate::errors::{OpenError, ReceiveError};
+use crate::open_stream::OpenStream;
 use crate::params::{Distances, StreamParams};
 use crate::received::Received;
 pub use exchanges::connect;
@@ -49,8 +49,7 @@ use std::marker::Model;
 pub struct End {
     alloc: Global,
     exchange: Exchange,
-    senders: Vec<SendingStream>,
-    receivers: Vec<ReceivingStream>,
+    streams: Vec<OpenStream>,
 }
 
 impl Model for End {
@@ -64,8 +63,7 @@ impl Model for End {
 
     ghost view = { λ e. record {
       exchange = e.exchange;
-      senders = e.senders.items;
-      receivers = e.receivers.items;
+      streams = e.streams.items;
     } };
 }
 
@@ -82,8 +80,7 @@ impl End {
         Ok(End {
             alloc,
             exchange: Exchange::fixed(alloc)?,
-            senders: Vec::new(alloc),
-            receivers: Vec::new(alloc),
+            streams: Vec::new(alloc),
         })
     }
 
@@ -104,28 +101,34 @@ impl End {
 
     /// Whether this is the number of a sending stream.
     pub fn is_sender(&self, stream: usize) -> bool
-        ensures { IsTrue result ↔ (stream < length self.now.senders) }
+        ensures { result ≡ is_sender_at self.now stream }
     {
-        stream < self.senders.len()
+        stream < self.streams.len() && self.streams[stream].is_sender()
     }
 
     /// Whether this is the number of a receiving stream.
     pub fn is_receiver(&self, stream: usize) -> bool
-        ensures { IsTrue result ↔ (stream < length self.now.receivers) }
+        ensures { result ≡ is_receiver_at self.now stream }
     {
-        stream < self.receivers.len()
+        stream < self.streams.len() && self.streams[stream].is_receiver()
     }
 
     /// The clock rate of a sending stream's samples, in ticks a second.
+    ///
+    /// # Conditions
+    /// The number is that of a sending stream: [`End::is_sender`].
     pub fn clock_rate(&self, stream: usize) -> Frequency
-        requires { stream < length self.now.senders }
+        requires { is_sender_at self.now stream ≡ true }
         ensures { result ≡ (sender_at self.now stream).row.clock_rate }
     {
-        self.senders[stream].clock_rate()
+        match &self.streams[stream] {
+            OpenStream::Sender(sender) => sender.clock_rate(),
+            OpenStream::Receiver(_) => unreachable!(),
+        }
     }
 
     /// Opens a sending stream of this SSRC for the agreed row of a payload type, and answers its
-    /// number, counted from 0. Where `params` has distances, it sends under the row's RED type, each
+    /// number, counted from 0 over the streams of both directions. Where `params` has distances, it sends under the row's RED type, each
     /// payload behind older ones (RFC 2198).
     ///
     /// # Errors
@@ -142,7 +145,7 @@ impl End {
         params: StreamParams,
     ) -> Result<usize, OpenError>
         requires { IsSound (agreed_red self.old mid pt) params }
-        ensures number { IfOk result (λ n. n ≡ length self.old.senders) }
+        ensures number { IfOk result (λ n. n ≡ length self.old.streams) }
         ensures opens { OnOk result (refusal_of_open_sender self.old mid ssrc pt ≡ None) }
         ensures after { OnOk result (self.new ≡ after_open_sender self.old mid ssrc pt params) }
         ensures stream { IfOk result (λ n. sender_at self.new n ≡ new_sender self.old mid ssrc pt params) }
@@ -154,7 +157,7 @@ impl End {
         codec_law();
         let row = self.sender_row(mid, ssrc, pt)?;
         let exts = self.stream_exts(mid)?;
-        let number = self.senders.len();
+        let number = self.streams.len();
         let stream = SendingStream::new(
             self.alloc,
             ssrc,
@@ -168,12 +171,12 @@ impl End {
             params.limit,
         );
         let stream = with_distances(self.alloc, stream, row.red(), params.red.as_ref())?;
-        self.senders.push(stream)?;
+        self.streams.push(OpenStream::Sender(stream))?;
         Ok(number)
     }
 
     /// Opens a receiving stream of this SSRC for the agreed row of a payload type, and answers its
-    /// number, counted from 0. Past a missing datagram a unit is handed out only once more than
+    /// number, counted from 0 over the streams of both directions. Past a missing datagram a unit is handed out only once more than
     /// `hold_back` frames are complete.
     ///
     /// # Errors
@@ -187,7 +190,7 @@ impl End {
         pt: Pt,
         hold_back: usize,
     ) -> Result<usize, OpenError>
-        ensures number { IfOk result (λ n. n ≡ length self.old.receivers) }
+        ensures number { IfOk result (λ n. n ≡ length self.old.streams) }
         ensures opens { OnOk result (refusal_of_open_receiver self.old mid ssrc pt ≡ None) }
         ensures after { OnOk result (self.new ≡ after_open_receiver self.old mid ssrc pt hold_back) }
         ensures receiver { IfOk result (λ n. HasReceiver self.new n (new_receiver self.old mid ssrc pt hold_back)) }
@@ -198,10 +201,10 @@ impl End {
         let row = self.receiver_row(mid, ssrc, pt)?;
         let types = types_of(&row);
         let exts = self.stream_exts(mid)?;
-        let number = self.receivers.len();
+        let number = self.streams.len();
         let format = row_format_of(&row);
         let stream = ReceivingStream::new(self.alloc, ssrc, types, exts, format, hold_back);
-        self.receivers.push(stream)?;
+        self.streams.push(OpenStream::Receiver(stream))?;
         Ok(number)
     }
 
@@ -219,7 +222,7 @@ impl End {
         bytes: &[u8],
         values: &ExtensionValues,
     ) -> Result<Vec<Datagram>, SampleError>
-        requires { stream < length self.old.senders }
+        requires { is_sender_at self.old stream ≡ true }
         ensures sent { IfOk result (λ ds. ds.items
             ≡ sent_datagrams (sender_at self.old stream) time values.now bytes.now) }
         ensures accepted { OnOk result (refusal_of_sample (sender_at self.old stream) time values.now bytes.now
@@ -233,8 +236,10 @@ impl End {
             → HasFailed (sender_at self.old stream) (sender_at self.new stream)) }
         ensures others { self.new ≡ with_sender self.old stream (sender_at self.new stream) }
     {
-        let sender = &mut self.senders[stream];
-        sender.push_sample(time, bytes, values)
+        match &mut self.streams[stream] {
+            OpenStream::Sender(sender) => sender.push_sample(time, bytes, values),
+            OpenStream::Receiver(_) => unreachable!(),
+        }
     }
 
     /// Takes a datagram in, and says what it is: of the stream whose SSRC and one of whose payload types
@@ -261,18 +266,20 @@ impl End {
     ) -> Result<Received, ReceiveError>
         requires { ForSome header (λ h. h.header_len ≤ length datagram.now) }
         ensures verdict { IfOk result (λ v. v ≡ verdict_for self.old
-            (arrival_by self.old.receivers header datagram.now)) }
+            (arrival_by self.old.streams header datagram.now)) }
         ensures after { OnOk result (self.new ≡ after_arrival self.old
-            (arrival_by self.old.receivers header datagram.now)) }
+            (arrival_by self.old.streams header datagram.now)) }
         ensures unchanged { OnErr result (self.new ≡ self.old) }
     {
         let Some(header) = header else {
             return Ok(Received::Unreadable);
         };
-        let Some(stream) = stream_for(&self.receivers, header.ssrc, header.payload_type) else {
+        let Some(stream) = stream_for(&self.streams, header.ssrc, header.payload_type) else {
             return Ok(Received::Foreign);
         };
-        let receiver = &mut self.receivers[stream];
+        let OpenStream::Receiver(receiver) = &mut self.streams[stream] else {
+            unreachable!()
+        };
         let Some(payload) = payload_of(receiver, &header, datagram) else {
             return Ok(Received::Damaged);
         };
@@ -299,7 +306,7 @@ impl End {
     /// `PollFault::Memory`, only where a frame is ready, and it stays, while some of its packets may have
     /// been read. All else is unchanged.
     pub fn poll(&mut self, stream: usize) -> Result<Option<Unit>, PollFault>
-        requires { stream < length self.old.receivers }
+        requires { is_receiver_at self.old stream ≡ true }
         ensures answer { let receiver = receiver_at self.old stream in
             IfOk result (λ unit. given (poll_answer (format_of receiver.row) receiver.stream) ≡ Ok unit) }
         ensures after { OnOk result (self.new ≡ with_receiver self.old stream
@@ -315,8 +322,10 @@ impl End {
         ensures others { self.new ≡ with_receiver self.old stream
             (with_stream (receiver_at self.old stream) (receiver_at self.new stream).stream) }
     {
-        let receiver = &mut self.receivers[stream];
-        receiver.poll()
+        match &mut self.streams[stream] {
+            OpenStream::Receiver(receiver) => receiver.poll(),
+            OpenStream::Sender(_) => unreachable!(),
+        }
     }
 
     /// The row that a new sending stream sends, or why there is none.
@@ -333,7 +342,7 @@ impl End {
             self.exchange.agrees_with(&row),
             section.is_sending(),
             section.names_own(ssrc),
-            conflicts_with_sender(&self.senders, ssrc, &types_of(&row)),
+            could_send(&self.streams, ssrc, &types_of(&row)),
         );
         match refusal {
             None => Ok(row),
@@ -355,7 +364,7 @@ impl End {
             self.exchange.agrees_with(&row),
             section.is_receiving(),
             section.names_remote(ssrc),
-            conflicts_with_receiver(&self.receivers, ssrc, &types_of(&row)),
+            could_receive(&self.streams, ssrc, &types_of(&row)),
         );
         match refusal {
             None => Ok(row),
@@ -493,25 +502,26 @@ fn with_distances(
 }
 
 /// Whether one of the streams could send the datagrams of one of this SSRC and these payload types.
-fn conflicts_with_sender(senders: &[SendingStream], ssrc: Ssrc, types: &PayloadTypes) -> bool
-    ensures { result ≡ list_any (λ s. sending.conflicts_with s ssrc types.now) senders.now }
+fn could_send(streams: &[OpenStream], ssrc: Ssrc, types: &PayloadTypes) -> bool
+    ensures { result ≡ list_any (sends_as ssrc types.now) streams.now }
 {
-    senders.iter().any(|s| s.conflicts_with(ssrc, types))
+    streams.iter().any(|s| s.sends_as(ssrc, types))
 }
 
 /// Whether one of the streams could take the datagrams of one of this SSRC and these payload types.
-fn conflicts_with_receiver(receivers: &[ReceivingStream], ssrc: Ssrc, types: &PayloadTypes) -> bool
-    ensures { result ≡ list_any (λ r. receiving.conflicts_with r ssrc types.now) receivers.now }
+fn could_receive(streams: &[OpenStream], ssrc: Ssrc, types: &PayloadTypes) -> bool
+    ensures { result ≡ list_any (receives_as ssrc types.now) streams.now }
 {
-    receivers.iter().any(|r| r.conflicts_with(ssrc, types))
+    streams.iter().any(|s| s.receives_as(ssrc, types))
 }
 
 /// The number of the stream that takes this SSRC and payload type.
-fn stream_for(receivers: &[ReceivingStream], ssrc: Ssrc, pt: Pt) -> Option<usize>
-    ensures stream { result ≡ stream_for receivers.now ssrc pt }
-    ensures within { IfSome result (λ n. n < length receivers.now) }
+fn stream_for(streams: &[OpenStream], ssrc: Ssrc, pt: Pt) -> Option<usize>
+    ensures stream { result ≡ stream_for streams.now ssrc pt }
+    ensures within { IfSome result (λ n. n < length streams.now) }
+    ensures receives { IfSome result (λ n. is_sending (nth_stream streams.now n) ≡ false) }
 {
-    receivers.iter().position(|r| r.is_own(ssrc, pt))
+    streams.iter().position(|s| s.takes(ssrc, pt))
 }
 
 /// The payload that a datagram brings a stream, if there is one and it has a byte.

@@ -4,6 +4,7 @@
 mod end;
 mod errors;
 mod laws;
+mod open_stream;
 mod params;
 mod received;
 

@@ -37,8 +37,7 @@ impl End {
         Ok(End {
             alloc,
             exchange: Exchange::new(alloc, config, &session, exts)?,
-            senders: Vec::new(alloc),
-            receivers: Vec::new(alloc),
+            streams: Vec::new(alloc),
         })
     }
 

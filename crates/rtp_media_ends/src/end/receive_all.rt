@@ -3,15 +3,16 @@
 ghost use Rattle.std.specs.Prelude.{◌≡◌, ℕ, List, OnOk, OnErr, IfOk};
 ghost use Rattle.rtp_media_streams.specs.Polls.{AreAnswered};
 ghost use Rattle.rtp_media_streams.specs.Sending.{Sample, Sending};
-ghost use Rattle.rtp_media_ends.specs.FullArrival.{verdicts_of, after_datagrams, ArePolledOut, IsPolledOut, HasAllOf};
-ghost use Rattle.rtp_media_ends.specs.FullArrival.{answers_at, units_of, with_receivers, ArePolledSome};
-ghost use Rattle.rtp_media_ends.specs.FullArrival.{ReceivesAndPollsSome, ReceivesSome, WasPolledSome};
+ghost use Rattle.rtp_media_ends.specs.FullArrival.{verdicts_of, after_datagrams, AnswersAll, AnswersSome, ArePolledOut};
+ghost use Rattle.rtp_media_ends.specs.FullArrival.{answers_at, units_of, with_streams, ArePolledSome, HasAllOf};
+ghost use Rattle.rtp_media_ends.specs.FullArrival.{ReceivesAndPollsSome, ReceivesSome};
 
 use super::End;
 use crate::errors::ReceiveError;
+use crate::open_stream::OpenStream;
 use crate::received::Received;
 use h26x_payload::codec_law;
-use rtp_media_streams::{Datagram, PollFault, ReceivingStream, Unit};
+use rtp_media_streams::{Datagram, PollFault, Unit};
 use std::alloc::{AllocError, Global};
 use std::marker::Model;
 
@@ -51,7 +52,7 @@ impl Polls {
 pub struct ReceivedAll {
     /// What was said of each datagram, in order.
     pub verdicts: Vec<Received>,
-    /// What each receiving stream answered to its polls, by its number.
+    /// What each stream answered to its polls, by its number; one that sends is not polled.
     pub polls: Vec<Polls>,
 }
 
@@ -64,10 +65,10 @@ impl End {
     /// streams were polled some times.
     pub fn receive_all(&mut self, datagrams: &[Datagram]) -> Result<ReceivedAll, ReceiveError>
         ensures verdicts { IfOk result (λ all. all.verdicts.items ≡ verdicts_of self.old datagrams.now) }
-        ensures polls { IfOk result (λ all. ArePolledOut (after_datagrams self.old datagrams.now).receivers
-            all.polls.items self.new.receivers) }
-        ensures others { OnOk result (self.new ≡ with_receivers (after_datagrams self.old datagrams.now)
-            self.new.receivers) }
+        ensures polls { IfOk result (λ all. ArePolledOut (after_datagrams self.old datagrams.now).streams
+            all.polls.items self.new.streams) }
+        ensures others { OnOk result (self.new ≡ with_streams (after_datagrams self.old datagrams.now)
+            self.new.streams) }
         // All datagrams of a stream's samples came: its polls answer exactly the canonical units, unless
         // memory for one was wanting.
         ensures exact { IfOk result (λ all. (stream hold_back : ℕ) (sender : Sending) (samples : List Sample)
@@ -78,7 +79,7 @@ impl End {
     {
         codec_law();
         let verdicts = self.receive_each(datagrams)?;
-        let polls = poll_each(self.alloc, &mut self.receivers)?;
+        let polls = poll_each(self.alloc, &mut self.streams)?;
         Ok(ReceivedAll { verdicts, polls })
     }
 
@@ -97,25 +98,28 @@ impl End {
     }
 }
 
-/// Polls each stream until it answers None or memory is wanting.
-fn poll_each(alloc: Global, receivers: &mut Vec<ReceivingStream>) -> Result<Vec<Polls>, AllocError>
-    ensures out { IfOk result (λ polls. ArePolledOut receivers.old.items polls.items receivers.new.items) }
-    ensures some { OnErr result (ArePolledSome receivers.old.items receivers.new.items) }
+/// Polls each receiving stream until it answers None or memory is wanting.
+fn poll_each(alloc: Global, streams: &mut Vec<OpenStream>) -> Result<Vec<Polls>, AllocError>
+    ensures out { IfOk result (λ polls. ArePolledOut streams.old.items polls.items streams.new.items) }
+    ensures some { OnErr result (ArePolledSome streams.old.items streams.new.items) }
 {
     let mut polls = Vec::new(alloc);
-    for stream in 0..receivers.len() {
-        let receiver = &mut receivers[stream];
-        let answers = poll_out(receiver)?;
+    for number in 0..streams.len() {
+        let stream = &mut streams[number];
+        let answers = poll_out(alloc, stream)?;
         polls.push(answers)?;
     }
     Ok(polls)
 }
 
-/// Polls a stream until it answers None or memory is wanting.
-fn poll_out(receiver: &mut ReceivingStream) -> Result<Polls, AllocError>
-    ensures out { IfOk result (λ polls. IsPolledOut receiver.old polls receiver.new) }
-    ensures some { OnErr result (WasPolledSome receiver.old receiver.new) }
+/// Polls a stream, where it receives, until it answers None or memory is wanting.
+fn poll_out(alloc: Global, stream: &mut OpenStream) -> Result<Polls, AllocError>
+    ensures out { IfOk result (λ polls. AnswersAll stream.old polls stream.new) }
+    ensures some { OnErr result (AnswersSome stream.old stream.new) }
 {
-    let answers = receiver.poll_all()?;
+    let answers = match stream {
+        OpenStream::Sender(_) => Vec::new(alloc),
+        OpenStream::Receiver(receiver) => receiver.poll_all()?,
+    };
     Ok(Polls { answers })
 }

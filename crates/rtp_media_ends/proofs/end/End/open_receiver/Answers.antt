@@ -12,12 +12,11 @@ returns-clause-receiver c =
     let after : the_view (record {
       alloc = c.self.inside.alloc;
       exchange = c.self.inside.exchange;
-      senders = c.self.inside.senders;
-      receivers = c.push.new.self;
+      streams = c.push.new.self;
     })
     ≡ after_open_receiver c.args.self.now c.args.mid c.args.ssrc c.args.pt c.args.hold_back =
     grind (arith, common_steps) in
-    let number : length c.args.self.now.receivers ≡ c.len-number.result = grind (arith, common_steps) in
+    let number : length c.args.self.now.streams ≡ c.len-number.result = grind (arith, common_steps) in
     subst₂ (λ (e : EndState) (n : ℕ). HasReceiver e n
     (new_receiver c.args.self.now c.args.mid c.args.ssrc c.args.pt c.args.hold_back)) (sym after) number
     (opened-receiver c.args.self.now c.args.mid c.args.ssrc c.args.pt c.args.hold_back c.in_ok-row.ensures.opens)

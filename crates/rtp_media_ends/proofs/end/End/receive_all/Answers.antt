@@ -1,22 +1,25 @@
 use Rattle.std.proofs.Common.{◌≡◌, ◌∙◌, ap, sym, subst, List}
 use Rattle.rtp_media_streams.specs.Receiving.{Receiving, opened_receiver, with_stream}
+use Rattle.rtp_media_ends.specs.declared.open_stream.OpenStream.{OpenStream}
 use Rattle.rtp_media_ends.specs.Ends.{EndState, receiver_at}
 use Rattle.rtp_media_ends.specs.FullArrival.{after_datagrams, ArePolledOut}
 use Rattle.rtp_media_ends.proofs.Exact.{exact}
 use Rattle.rtp_media_ends.proofs.Isolation.{found-after}
+use Rattle.rtp_media_ends.proofs.Stopping.{out-of}
 use Rattle.rtp_media_ends.proofs.end.End.receive_all.Goals as goal
 
 pub returns-clause-exact : goal.returns-clause-exact
 returns-clause-exact c stream hold_back sender samples arrivals all =
-    let receivers : c.self.inside.receivers.items ≡ (after_datagrams c.args.self.now c.args.datagrams.now).receivers =
-    ap (λ (e : EndState). e.receivers) (c.self.view_is ∙ c.in_ok-verdicts.ensures.after) in
-    let polled : ArePolledOut (after_datagrams c.args.self.now c.args.datagrams.now).receivers
-    c.in_ok-polls.polls.items c.poll_each.new.receivers.items =
-    subst (λ (rs : List Receiving). ArePolledOut rs c.in_ok-polls.polls.items c.poll_each.new.receivers.items)
-    receivers c.in_ok-polls.ensures.out in
+    let streams : c.self.inside.streams.items ≡ (after_datagrams c.args.self.now c.args.datagrams.now).streams =
+    ap (λ (e : EndState). e.streams) (c.self.view_is ∙ c.in_ok-verdicts.ensures.after) in
+    let polled : ArePolledOut (after_datagrams c.args.self.now c.args.datagrams.now).streams
+    c.in_ok-polls.polls.items c.poll_each.new.streams.items =
+    subst (λ (ss : List OpenStream). ArePolledOut ss c.in_ok-polls.polls.items c.poll_each.new.streams.items)
+    streams c.in_ok-polls.ensures.out in
     let r : Receiving = opened_receiver sender.ssrc sender.types sender.map sender.row hold_back in
     let same : receiver_at c.args.self.now stream ≡ with_stream r (receiver_at c.args.self.now stream).stream =
     all.receiver.stream_is ∙ ap (with_stream r) (sym (ap (λ (x : Receiving). x.stream) all.receiver.stream_is)) in
-    exact c.codec_law.ensures.codec_in_forms c.args.self.now stream hold_back sender samples arrivals c.args.datagrams.now _ _
-    all
-    (polled.each stream (found-after c.args.datagrams.now c.args.self.now stream r same all.receiver.found))
+    let there = found-after c.args.datagrams.now c.args.self.now stream r same all.receiver.found in
+    exact c.codec_law.ensures.codec_in_forms c.args.self.now stream hold_back sender samples arrivals
+    c.args.datagrams.now _ _ all
+    (out-of _ _ _ there.1 (polled.each stream there.0))

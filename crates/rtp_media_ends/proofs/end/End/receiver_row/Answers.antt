@@ -1,8 +1,7 @@
 use Rattle.std.proofs.Common.{◌≡◌, ◌∙◌, ap, sym, arith}
 use Rattle.std.proofs.lemmas.Grind.{common_steps}
 use Rattle.std.specs.List.{list_any}
-use Rattle.rtp_media_streams.specs.Receiving as receiving
-use Rattle.rtp_media_ends.specs.Ends.{refusal_of_open_receiver, types_of}
+use Rattle.rtp_media_ends.specs.Ends.{receives_as, refusal_of_open_receiver, types_of}
 use Rattle.rtp_media_ends.proofs.Refusals.{receiver-refusal}
 use Rattle.rtp_media_ends.proofs.end.End.receiver_row.Goals as goal
 
@@ -13,8 +12,8 @@ returns-in-None-clause-opens c =
     (rw (← c.self.view_is) (receiver-refusal c.self.inside.exchange.config.rows c.self.inside.exchange.agreed _ c.args.mid
     c.args.ssrc c.args.pt _ c.in_ok-row.row _ _ _ _ c.in_ok-section.ensures.found c.in_ok-row.ensures.found
     c.agrees_with.ensures c.is_receiving.ensures c.names_remote.ensures
-    ((rw c.deref.ensures.value at c.conflicts_with_receiver.ensures)
-    ∙ ap (λ types. list_any (λ s. receiving.conflicts_with s c.args.ssrc types) c.self.inside.receivers.items) c.types_of.ensures)))
+    ((rw c.deref.ensures.value at c.could_receive.ensures)
+    ∙ ap (λ types. list_any (receives_as c.args.ssrc types) c.self.inside.streams.items) c.types_of.ensures)))
     ∙ sym c.opening_refusal-refusal.ensures in
     grind (arith, common_steps, e)
 
@@ -25,7 +24,7 @@ returns-in-Some-clause-refused c =
     (rw (← c.self.view_is) (receiver-refusal c.self.inside.exchange.config.rows c.self.inside.exchange.agreed _ c.args.mid
     c.args.ssrc c.args.pt _ c.in_ok-row.row _ _ _ _ c.in_ok-section.ensures.found c.in_ok-row.ensures.found
     c.agrees_with.ensures c.is_receiving.ensures c.names_remote.ensures
-    ((rw c.deref.ensures.value at c.conflicts_with_receiver.ensures)
-    ∙ ap (λ types. list_any (λ s. receiving.conflicts_with s c.args.ssrc types) c.self.inside.receivers.items) c.types_of.ensures)))
+    ((rw c.deref.ensures.value at c.could_receive.ensures)
+    ∙ ap (λ types. list_any (receives_as c.args.ssrc types) c.self.inside.streams.items) c.types_of.ensures)))
     ∙ sym c.opening_refusal-refusal.ensures in
     grind (arith, common_steps, e)

@@ -1,8 +1,7 @@
 use Rattle.std.proofs.Common.{◌≡◌, ◌∙◌, ap, sym, arith}
 use Rattle.std.proofs.lemmas.Grind.{common_steps}
 use Rattle.std.specs.List.{list_any}
-use Rattle.rtp_media_streams.specs.Sending as sending
-use Rattle.rtp_media_ends.specs.Ends.{refusal_of_open_sender, types_of}
+use Rattle.rtp_media_ends.specs.Ends.{refusal_of_open_sender, sends_as, types_of}
 use Rattle.rtp_media_ends.proofs.Refusals.{sender-refusal}
 use Rattle.rtp_media_ends.proofs.end.End.sender_row.Goals as goal
 
@@ -13,8 +12,8 @@ returns-in-None-clause-opens c =
     (rw (← c.self.view_is) (sender-refusal c.self.inside.exchange.config.rows c.self.inside.exchange.agreed _ c.args.mid
     c.args.ssrc c.args.pt _ c.in_ok-row.row _ _ _ _ c.in_ok-section.ensures.found c.in_ok-row.ensures.found
     c.agrees_with.ensures c.is_sending.ensures c.names_own.ensures
-    ((rw c.deref.ensures.value at c.conflicts_with_sender.ensures)
-    ∙ ap (λ types. list_any (λ s. sending.conflicts_with s c.args.ssrc types) c.self.inside.senders.items) c.types_of.ensures)))
+    ((rw c.deref.ensures.value at c.could_send.ensures)
+    ∙ ap (λ types. list_any (sends_as c.args.ssrc types) c.self.inside.streams.items) c.types_of.ensures)))
     ∙ sym c.opening_refusal-refusal.ensures in
     grind (arith, common_steps, e)
 
@@ -25,7 +24,7 @@ returns-in-Some-clause-refused c =
     (rw (← c.self.view_is) (sender-refusal c.self.inside.exchange.config.rows c.self.inside.exchange.agreed _ c.args.mid
     c.args.ssrc c.args.pt _ c.in_ok-row.row _ _ _ _ c.in_ok-section.ensures.found c.in_ok-row.ensures.found
     c.agrees_with.ensures c.is_sending.ensures c.names_own.ensures
-    ((rw c.deref.ensures.value at c.conflicts_with_sender.ensures)
-    ∙ ap (λ types. list_any (λ s. sending.conflicts_with s c.args.ssrc types) c.self.inside.senders.items) c.types_of.ensures)))
+    ((rw c.deref.ensures.value at c.could_send.ensures)
+    ∙ ap (λ types. list_any (sends_as c.args.ssrc types) c.self.inside.streams.items) c.types_of.ensures)))
     ∙ sym c.opening_refusal-refusal.ensures in
     grind (arith, common_steps, e)
