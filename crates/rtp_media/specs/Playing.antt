@@ -1,11 +1,11 @@
 -- What the program answers to the commands of whole runs.
-use Rattle.std.specs.Prelude.{ℕ, ◌≡◌, ◌≢◌, ◌⊎◌, ◌&&◌, nat_lt, List, [], length, map, Option, Some, None, Ok, Err}
+use Rattle.std.specs.Prelude.{ℕ, ◌≡◌, ◌≢◌, ◌⊎◌, ◌&&◌, List, [], map, Option, Some, None, Ok, Err}
 use Rattle.rtp_wire.specs.Values.{absent}
 use Rattle.rtp_media_streams.specs.Sending.{Sample, datagrams_of}
 use Rattle.rtp_media_streams.specs.declared.errors.PollFault.TheVariants as poll_fault
 use Rattle.rtp_media_streams.specs.declared.errors.SampleError.{SampleError}
 use Rattle.rtp_media_streams.specs.declared.errors.SampleError.TheVariants as sample_error
-use Rattle.rtp_media_ends.specs.Ends.{EndState, sender_at}
+use Rattle.rtp_media_ends.specs.Ends.{EndState, is_receiver_at, is_sender_at, sender_at}
 use Rattle.rtp_media_play.specs.Pushing.{IsCutShort, IsRefusedAt, after_pushes, refusal_of_samples}
 use Rattle.rtp_media_play.specs.Schedules.{after_schedule, played}
 use Rattle.rtp_media_play.specs.declared.schedule.Event.{Event}
@@ -69,7 +69,7 @@ AnswersPlay a b samples c after_a after_b replies =
 abbrev pub PlaysEnds : Option EndState → Option EndState → List QueueCommand → PlayCommand → Option EndState
     → Option EndState → List QueueCommand → List Reply → Type 0
 PlaysEnds (Some a) (Some b) queue c (Some after_a) (Some after_b) left replies =
-    Where (nat_lt c.tx (length a.senders) && nat_lt c.rx (length b.receivers))
+    Where (is_sender_at a c.tx && is_receiver_at b c.rx)
     ((left ≡ []) × AnswersPlay a b (samples_for a c.tx queue) c after_a after_b replies)
     ((after_a ≡ a) × (after_b ≡ b) × (left ≡ queue) × Prints replies reply.ErrorLine)
 PlaysEnds a b queue c after_a after_b left replies =

@@ -1,5 +1,5 @@
 -- What the program answers to each command, from the definitions of its calls.
-use Rattle.std.specs.Prelude.{false, ℕ, ◌≡◌, ◌⊎◌, Bool, IsTrue, nat_lt, if◌then◌else◌, List, [], ◌∷◌, ◌++◌, length, map}
+use Rattle.std.specs.Prelude.{false, ℕ, ◌≡◌, ◌⊎◌, Bool, IsTrue, if◌then◌else◌, List, [], ◌∷◌, ◌++◌, length, map}
 use Rattle.std.specs.Prelude.{Option, Some, None, Ok, Err}
 use Rattle.std.specs.Option.{option_map}
 use Rattle.rtp_wire.specs.Name.{name_of}
@@ -18,7 +18,7 @@ use Rattle.rtp_media_ends.specs.declared.received.Received.{Received}
 use Rattle.rtp_media_ends.specs.declared.received.Received.TheVariants as received
 use Rattle.rtp_media_ends.specs.Ends.{EndState, agreed_red, fixed_end, refusal_of_open_sender}
 use Rattle.rtp_media_ends.specs.Ends.{refusal_of_open_receiver, after_open_sender, after_open_receiver, with_sender}
-use Rattle.rtp_media_ends.specs.Ends.{with_receiver, sender_at, receiver_at}
+use Rattle.rtp_media_ends.specs.Ends.{is_receiver_at, is_sender_at, with_receiver, sender_at, receiver_at}
 use Rattle.rtp_media_ends.specs.Params.{is_sound_params}
 use Rattle.rtp_media_ends.specs.Arrivals.{verdict_of, after_datagram}
 use Rattle.rtp_media_lines.specs.declared.line.Command.{Command}
@@ -63,7 +63,7 @@ is_sound_send e c = is_sound_params (agreed_red e (name_of 16 c.mid) c.pt) (para
 abbrev pub sender_step : EndState → SendCommand → Option OpenError → EndStep
 sender_step e c (Some error) = prints (Some e) (reply.Refused (open_error_name error))
 sender_step e c None = becomes (after_open_sender e (name_of 16 c.mid) c.ssrc c.pt (params_of c))
-    (reply.Sender (length e.senders))
+    (reply.Sender (length e.streams))
 
 -- send E MID SSRC PT FIRST MTU LIMIT DISTANCES PICTUREID
 abbrev pub send_step : Option EndState → SendCommand → EndStep
@@ -75,7 +75,7 @@ send_step (Some e) c =
 abbrev pub receiver_step : EndState → OpenCommand → Option OpenError → EndStep
 receiver_step e c (Some error) = prints (Some e) (reply.Refused (open_error_name error))
 receiver_step e c None = becomes (after_open_receiver e (name_of 16 c.mid) c.ssrc c.pt c.hold_back)
-    (reply.Receiver (length e.receivers))
+    (reply.Receiver (length e.streams))
 
 -- open E MID SSRC PT HOLDBACK
 abbrev pub open_step : Option EndState → OpenCommand → EndStep
@@ -102,7 +102,7 @@ sent_step e c None = record {
 abbrev pub sample_step : Option EndState → SampleCommand → EndStep
 sample_step None c = prints None reply.ErrorLine
 sample_step (Some e) c =
-    if nat_lt c.stream (length e.senders) then sent_step e c
+    if is_sender_at e c.stream then sent_step e c
     (refusal_of_sample (sender_at e c.stream) (time_of e c) (values_given c.mid) c.sample)
     else prints (Some e) reply.ErrorLine
 
@@ -134,7 +134,7 @@ poll_result r = given (poll_answer (format_of r.row) r.stream)
 abbrev pub poll_step : Option EndState → PollCommand → EndStep
 poll_step None c = prints None reply.ErrorLine
 poll_step (Some e) c =
-    if nat_lt c.stream (length e.receivers) then
+    if is_receiver_at e c.stream then
     becomes (with_receiver e c.stream (polled_receiver (receiver_at e c.stream)))
     (poll_reply (poll_result (receiver_at e c.stream)))
     else prints (Some e) reply.ErrorLine
@@ -170,10 +170,10 @@ RunsOutAt e (Send c) after replies =
     IsTrue (is_sound_send e c) × (after ≡ e) × (replies ≡ reply.Refused memory ∷ [])
 RunsOutAt e (Open c) after replies = (after ≡ e) × (replies ≡ reply.Refused memory ∷ [])
 RunsOutAt e (Sample c) after replies =
-    IsTrue (nat_lt c.stream (length e.senders)) × SenderFails e c.stream after × (replies ≡ reply.Refused memory ∷ [])
+    IsTrue (is_sender_at e c.stream) × SenderFails e c.stream after × (replies ≡ reply.Refused memory ∷ [])
 RunsOutAt e (Receive c) after replies = (after ≡ e) × (replies ≡ reply.Refused memory ∷ [])
 RunsOutAt e (Poll c) after replies =
-    IsTrue (nat_lt c.stream (length e.receivers)) × PollStops e c.stream after × (replies ≡ reply.Fault memory ∷ [])
+    IsTrue (is_receiver_at e c.stream) × PollStops e c.stream after × (replies ≡ reply.Fault memory ∷ [])
 RunsOutAt e command after replies = ⊥
 
 abbrev pub RunsOut : Option EndState → Command → Option EndState → List Reply → Type 0

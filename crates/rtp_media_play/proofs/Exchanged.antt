@@ -137,16 +137,16 @@ module _ (law : KeepCodecLawInForms) (first_law : FirstIsReached) (answer : List
       ∙ ap₂ (λ (m : Numbering) (row : RowFormat). opened_receiver s.ssrc s.types m row hold_back) (sym plain.map)
       (sym plain.row)
 
-  pub has-receiver : (hold_back : ℕ) → HasReceiver (after_open_receiver b mid ssrc pt hold_back) (length b.receivers)
+  pub has-receiver : (hold_back : ℕ) → HasReceiver (after_open_receiver b mid ssrc pt hold_back) (length b.streams)
       (new_receiver b mid ssrc pt hold_back)
   has-receiver hold_back =
       opened-receiver b mid ssrc pt hold_back (may-receive b mid ssrc pt to.receives)
 
-  pub hears : (hold_back : ℕ) → Hears (after_open_receiver b mid ssrc pt hold_back) (length b.receivers) hold_back s
+  pub hears : (hold_back : ℕ) → Hears (after_open_receiver b mid ssrc pt hold_back) (length b.streams) hold_back s
       samples
   hears hold_back = record {
     receiver = subst (λ (r : Receiving). HasReceiver (after_open_receiver b mid ssrc pt hold_back)
-        (length b.receivers) r) (alike hold_back) (has-receiver hold_back);
+        (length b.streams) r) (alike hold_back) (has-receiver hold_back);
     sender = sender;
     sound = to.sound_samples;
     numbers = subst (λ (n : ℕ). n + count_of s samples ≤ 2 ^ 62) (sym plain.next) to.numbers;
@@ -172,7 +172,7 @@ module _ (law : KeepCodecLawInForms) (first_law : FirstIsReached) (answer : List
       (own_events (datagrams_of s samples) (new_receiver b mid ssrc pt hold_back) schedule)
   alone hold_back schedule =
       let e : EndState = after_open_receiver b mid ssrc pt hold_back in
-      let n : ℕ = length b.receivers in
+      let n : ℕ = length b.streams in
       let r : Receiving = new_receiver b mid ssrc pt hold_back in
       let has : HasReceiver e n r = has-receiver hold_back in
       let same : receiver_at e n ≡ with_stream r (receiver_at e n).stream =

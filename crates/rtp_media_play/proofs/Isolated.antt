@@ -16,11 +16,13 @@ use Rattle.rtp_media_streams.specs.Receiving.{with_stream}
 use Rattle.rtp_media_streams.specs.Rows.{format_of}
 use Rattle.rtp_media_streams.specs.declared.row_format.RowFormat.{RowFormat}
 use Rattle.rtp_media_ends.specs.Arrivals.{after_datagram}
-use Rattle.rtp_media_ends.specs.Ends.{EndState, receiver_at, with_receiver}
+use Rattle.rtp_media_ends.specs.Ends.{EndState, receiver_at, receiving_of, with_receiver}
+use Rattle.rtp_media_ends.specs.declared.open_stream.OpenStream.TheVariants.{Receiver}
 use Rattle.rtp_media_ends.specs.FullArrival.{IsFound}
 use Rattle.rtp_media_ends.specs.OwnEvents.{content_event, event_by, event_in}
 use Rattle.rtp_media_ends.proofs.Isolation as isolation
-use Rattle.rtp_media_ends.proofs.Isolation.{is-there, known-again, nobody, same-again, stream-is, stream_for-set}
+use Rattle.rtp_media_ends.proofs.Isolation.{is-receiving, is-there, known-again, nobody, same-again, stream-is}
+use Rattle.rtp_media_ends.proofs.Isolation.{stream_for-set}
 use Rattle.rtp_media_play.specs.Schedules.{after_bytes, own_events}
 use Rattle.rtp_media_play.specs.Schedules.{played, poll_answers, verdicts_on}
 use Rattle.rtp_media_play.specs.declared.schedule.Event.{Event}
@@ -70,7 +72,8 @@ datagram-at e n r d is = record {
 -- after a poll
 poll-is : (e : EndState) (n : ℕ) (r : Receiving) → IsAt e n r
     → receiver_at (with_receiver e n (polled_receiver (receiver_at e n))) n ≡ polled_receiver (receiver_at e n)
-poll-is e n r is = get_or-set_same e.receivers n (polled_receiver (receiver_at e n)) nobody (is-there e n r is.known)
+poll-is e n r is = ap receiving_of
+    (get_or-set_same e.streams n (Receiver (polled_receiver (receiver_at e n))) nobody (is-there e n r is.known))
 
 row-is : (e : EndState) (n : ℕ) (r : Receiving) → IsAt e n r → (receiver_at e n).row ≡ r.row
 row-is e n r is = ap (λ (x : Receiving). x.row) is.same
@@ -89,8 +92,8 @@ poll-at e n r is = record {
       ∙ ap (λ (x : Receiving). with_stream x
       (polled (format_of (receiver_at e n).row) (receiver_at e n).stream)) is.same
       ∙ ap (with_stream r) (sym (ap (λ (x : Receiving). x.stream) (poll-is e n r is)));
-  known = λ pt has. stream_for-set e.receivers n (polled (format_of (receiver_at e n).row) (receiver_at e n).stream)
-      r.ssrc pt ∙ is.known pt has;
+  known = λ pt has. stream_for-set e.streams n (polled (format_of (receiver_at e n).row) (receiver_at e n).stream)
+      r.ssrc pt (is-receiving e n r is.known) ∙ is.known pt has;
 }
 
 -- the answers of the rest are what is heard of it

@@ -1,3 +1,4 @@
+pub mod Both
 pub mod Pushes
 pub mod Plays
 pub mod Isolated

@@ -2,32 +2,53 @@
 use Rattle.std.proofs.Common.{◌≡◌, ℕ, zero, suc, ◌+◌, ◌<◌, ◌≤◌, refl, sym, ◌∙◌, ap, ap₂, subst, arith}
 use Rattle.std.proofs.Common.{List, [], ◌∷◌, ◌++◌, length, length-set, take, append_assoc, append-nil, add-one}
 use Rattle.std.proofs.Common.{Option, Some, None}
-use Rattle.std.specs.Prelude.{slice_index_or, slice_get, ◌⊎◌}
+use Rattle.std.specs.Prelude.{slice_index_or, slice_get, slice_set, ◌⊎◌, nat_lt, not, true}
 use Rattle.rtp_media_ends.specs.Arrivals.{Arrival, NoHeader, NoStream, NoPayload, Own, after_arrival}
 use Rattle.rtp_media_ends.specs.Arrivals.{arrival_at}
-use Rattle.rtp_media_ends.specs.Ends.{EndState}
+use Rattle.rtp_media_ends.specs.Ends.{EndState, is_receiver_at, is_sending, nth_stream, with_receiver}
+use Rattle.rtp_media_ends.specs.declared.open_stream.OpenStream.{OpenStream}
+use Rattle.rtp_media_ends.specs.declared.open_stream.OpenStream.TheVariants.{Receiver}
+use Rattle.rtp_media_streams.specs.Receiving.{Receiving}
+use Rattle.rtp_media_play.proofs.Both.{both, left, right}
 use Rattle.rtp_media_play.specs.Pushing.{PlaysSome, PollStops}
 use Rattle.rtp_media_play.specs.Schedules.{after_bytes, after_event, after_schedule, answers_to, played}
 use Rattle.rtp_media_play.specs.declared.schedule.Event.{Event}
 use Rattle.rtp_media_play.specs.declared.schedule.Event.TheVariants.{Arrive, Foreign, Poll}
 use Rattle.rtp_media_play.specs.declared.schedule.Played.{Played}
 
--- no event opens or closes a stream
-after-arrival-many : (e : EndState) (a : Arrival) → length (after_arrival e a).receivers ≡ length e.receivers
-after-arrival-many e NoHeader = refl
-after-arrival-many e NoStream = refl
-after-arrival-many e NoPayload = refl
-after-arrival-many e (Own stream low time marker values payload) = length-set e.receivers stream _
+-- no event closes a receiving stream
+receives-set : (ss : List OpenStream) (m : ℕ) (r : Receiving) (rx : ℕ) → not (is_sending (nth_stream ss rx)) ≡ true
+    → not (is_sending (nth_stream (slice_set ss m (Receiver r)) rx)) ≡ true
+receives-set [] m r rx h = h
+receives-set (x ∷ xs) zero r zero h = refl
+receives-set (x ∷ xs) zero r (suc rx) h = h
+receives-set (x ∷ xs) (suc m) r zero h = h
+receives-set (x ∷ xs) (suc m) r (suc rx) h = receives-set xs m r rx h
 
-after-bytes-many : (e : EndState) (o : Option (List ℕ)) → length (after_bytes e o).receivers ≡ length e.receivers
-after-bytes-many e None = refl
-after-bytes-many e (Some d) = after-arrival-many e (arrival_at e.receivers d)
+receiver-kept : (e : EndState) (m : ℕ) (r : Receiving) (rx : ℕ) → is_receiver_at e rx ≡ true
+    → is_receiver_at (with_receiver e m r) rx ≡ true
+receiver-kept e m r rx h =
+    both (nat_lt rx (length (slice_set e.streams m (Receiver r)))) _
+    (ap (nat_lt rx) (length-set e.streams m (Receiver r)) ∙ left (nat_lt rx (length e.streams)) _ h)
+    (receives-set e.streams m r rx (right (nat_lt rx (length e.streams)) _ h))
 
-after-event-many : (sent : List (List ℕ)) (rx : ℕ) (e : EndState) (x : Event)
-    → length (after_event sent rx e x).receivers ≡ length e.receivers
-after-event-many sent rx e (Arrive k) = after-bytes-many e (slice_get sent k)
-after-event-many sent rx e (Foreign d) = after-arrival-many e (arrival_at e.receivers d)
-after-event-many sent rx e Poll = length-set e.receivers rx _
+after-arrival-kept : (e : EndState) (a : Arrival) (rx : ℕ) → is_receiver_at e rx ≡ true
+    → is_receiver_at (after_arrival e a) rx ≡ true
+after-arrival-kept e NoHeader rx h = h
+after-arrival-kept e NoStream rx h = h
+after-arrival-kept e NoPayload rx h = h
+after-arrival-kept e (Own stream low time marker values payload) rx h = receiver-kept e stream _ rx h
+
+after-bytes-kept : (e : EndState) (o : Option (List ℕ)) (rx : ℕ) → is_receiver_at e rx ≡ true
+    → is_receiver_at (after_bytes e o) rx ≡ true
+after-bytes-kept e None rx h = h
+after-bytes-kept e (Some d) rx h = after-arrival-kept e (arrival_at e.streams d) rx h
+
+after-event-kept : (sent : List (List ℕ)) (rx : ℕ) (e : EndState) (x : Event) → is_receiver_at e rx ≡ true
+    → is_receiver_at (after_event sent rx e x) rx ≡ true
+after-event-kept sent rx e (Arrive k) h = after-bytes-kept e (slice_get sent k) rx h
+after-event-kept sent rx e (Foreign d) h = after-arrival-kept e (arrival_at e.streams d) rx h
+after-event-kept sent rx e Poll h = receiver-kept e rx _ rx h
 
 -- one event more
 after-more : (xs : List Event) (sent : List (List ℕ)) (rx : ℕ) (e : EndState) (i : ℕ) (d : Event) → i < length xs
@@ -52,7 +73,7 @@ played-more (x ∷ xs) sent rx e (suc i) d lt =
 -- Some first events of a schedule happened.
 pub record IsPlayed (sent : List (List ℕ)) (rx : ℕ) (before : EndState) (schedule : List Event) (count : ℕ)
     (now : EndState) (answers : List Played) : Type 0 where
-  pub there_is : rx < length now.receivers
+  pub there_is : is_receiver_at now rx ≡ true
   pub place : count ≤ length schedule
   pub after : now ≡ after_schedule sent rx before (take count schedule)
   pub answered : answers ≡ played sent rx before (take count schedule)
@@ -64,11 +85,9 @@ pub played-on : (sent : List (List ℕ)) (rx : ℕ) (before now next : EndState)
     → more ≡ answers ++ answers_to sent rx now x → IsPlayed sent rx before schedule (i + 1) next more
 played-on sent rx before now next schedule i answers more x is lt at after answered =
     let here : EndState = after_schedule sent rx before (take i schedule) in
-    let many : length next.receivers ≡ length now.receivers =
-    ap (λ (e : EndState). length e.receivers) after ∙ after-event-many sent rx now x in
     let next-is : i + 1 ≡ suc i = add-one i in
     record {
-      there_is = omega (arith, many, is.there_is);
+      there_is = ap (λ (e : EndState). is_receiver_at e rx) after ∙ after-event-kept sent rx now x is.there_is;
       place = omega (arith, lt);
       after = after
           ∙ ap₂ (after_event sent rx) is.after at

@@ -1,19 +1,42 @@
 -- Samples that are pushed one after the other.
-use Rattle.std.proofs.Common.{false, ◌≡◌, ℕ, zero, suc, ◌+◌, ◌<◌, ◌≤◌, refl, sym, ◌∙◌, ap, ap₂, subst, subst₂, arith}
-use Rattle.std.proofs.Common.{inl, inr}
+use Rattle.std.proofs.Common.{Bool, true, false, true≢false, ◌&&◌, ◌≡◌, ℕ, zero, suc, ◌+◌, ◌<◌, ◌≤◌, refl, sym, ◌∙◌}
+use Rattle.std.proofs.Common.{ap, ap₂, subst, subst₂, arith, inl, inr}
 use Rattle.std.proofs.Common.{List, [], ◌∷◌, ◌++◌, length, length-set, take, append_assoc, append-nil, add-one}
 use Rattle.std.proofs.lemmas.List.{get_or-set_same, set-get_or, set-set}
-use Rattle.std.specs.Prelude.{Option, Some, None, slice_index_or}
-use Rattle.rtp_wire.specs.Maps.{empty_map}
+use Rattle.std.proofs.lemmas.Bool.Decides.{nat_tests}
+use Rattle.std.specs.Prelude.{Option, Some, None, nat_lt, slice_index_or, slice_set}
 use Rattle.rtp_media_streams.specs.Sending.{HasFailed, Sample, Sending, after_sample, after_samples, datagrams_of}
-use Rattle.rtp_media_streams.specs.Sending.{first_refusal, opened_sender, refusal_of_sample, sent_datagrams}
+use Rattle.rtp_media_streams.specs.Sending.{first_refusal, refusal_of_sample, sent_datagrams}
 use Rattle.rtp_media_streams.specs.declared.errors.SampleError.{SampleError}
-use Rattle.rtp_media_ends.specs.Ends.{EndState, no_row_format, no_types, sender_at, with_sender}
+use Rattle.rtp_media_ends.specs.declared.open_stream.OpenStream.{OpenStream}
+use Rattle.rtp_media_ends.specs.declared.open_stream.OpenStream.TheVariants.{Receiver, Sender}
+use Rattle.rtp_media_ends.specs.Ends.{EndState, is_sender_at, is_sending, no_receiver, nth_stream, sender_at}
+use Rattle.rtp_media_ends.specs.Ends.{sending_of, with_sender}
+use Rattle.rtp_media_play.proofs.Both.{both, left, right}
 use Rattle.rtp_media_play.specs.Pushing.{IsRefusedAt, PushesSome, after_pushes, refusal_of_samples}
 
 -- the stream of no number
-abbrev pub nobody : Sending
-nobody = opened_sender 0 no_types empty_map no_row_format None false 0 1 0
+abbrev nobody : OpenStream
+nobody = Receiver no_receiver
+
+-- what is known of the number of a sending stream
+sender-within : (e : EndState) (tx : ℕ) → is_sender_at e tx ≡ true → tx < length e.streams
+sender-within e tx h = lt-of tx (length e.streams) (left (nat_lt tx (length e.streams)) _ h) where
+  lt-of : (a b : ℕ) → nat_lt a b ≡ true → a < b
+  lt-of a b h = grind (arith, nat_tests)
+
+sender-is : (e : EndState) (tx : ℕ) → is_sender_at e tx ≡ true → Sender (sender_at e tx) ≡ nth_stream e.streams tx
+sender-is e tx h = by (nth_stream e.streams tx) (right (nat_lt tx (length e.streams)) _ h) where
+  by : (x : OpenStream) → is_sending x ≡ true → Sender (sending_of x) ≡ x
+  by (Sender s) is = refl
+  by (Receiver r) is = absurd (true≢false (sym is))
+
+sender-kept : (e : EndState) (tx : ℕ) (s : Sending) → is_sender_at e tx ≡ true
+    → is_sender_at (with_sender e tx s) tx ≡ true
+sender-kept e tx s h =
+    both (nat_lt tx (length (slice_set e.streams tx (Sender s)))) _
+    (ap (nat_lt tx) (length-set e.streams tx (Sender s)) ∙ left (nat_lt tx (length e.streams)) _ h)
+    (ap is_sending (get_or-set_same e.streams tx (Sender s) nobody (sender-within e tx h)))
 
 -- the stream after one sample, its datagrams, and why it is refused
 abbrev pub stepped : Sending → Sample → Sending
@@ -71,20 +94,22 @@ refusal-at (x ∷ xs) s (suc i) d e lt before here =
 -- Some first samples were accepted and pushed.
 pub record IsPushed (before : EndState) (tx : ℕ) (samples : List Sample) (count : ℕ) (now : EndState)
     (datagrams : List (List ℕ)) : Type 0 where
-  pub there_is : tx < length before.senders
+  pub there_is : is_sender_at before tx ≡ true
   pub place : count ≤ length samples
   pub accepted : refusal_of_samples (sender_at before tx) (take count samples) ≡ None
   pub after : now ≡ after_pushes before tx (take count samples)
   pub sent : datagrams ≡ datagrams_of (sender_at before tx) (take count samples)
 
 -- nothing was pushed
-pub none-pushed : (before : EndState) (tx : ℕ) (samples : List Sample) → tx < length before.senders
+pub none-pushed : (before : EndState) (tx : ℕ) (samples : List Sample) → is_sender_at before tx ≡ true
     → IsPushed before tx samples 0 before []
 none-pushed before tx samples there = record {
   there_is = there;
   place = omega arith;
   accepted = refl;
-  after = ap (λ (ss : List Sending). record before { senders = ss }) (sym (set-get_or before.senders tx nobody));
+  after = ap (λ (ss : List OpenStream). record before { streams = ss })
+      (sym (set-get_or before.streams tx nobody)
+      ∙ ap (slice_set before.streams tx) (sym (sender-is before tx there)));
   sent = refl;
 }
 
@@ -94,23 +119,23 @@ pub stream-pushed : (before now : EndState) (tx count : ℕ) (samples : List Sam
     sender_at now tx ≡ after_samples (sender_at before tx) (take count samples)
 stream-pushed before now tx count samples datagrams is =
     ap (λ (e : EndState). sender_at e tx) is.after
-    ∙ get_or-set_same before.senders tx (after_samples (sender_at before tx) (take count samples)) nobody is.there_is
+    ∙ ap sending_of (get_or-set_same before.streams tx
+    (Sender (after_samples (sender_at before tx) (take count samples))) nobody
+    (sender-within before tx is.there_is))
 
 pub still-there : (before now : EndState) (tx count : ℕ) (samples : List Sample) (datagrams : List (List ℕ))
-    → IsPushed before tx samples count now datagrams → tx < length now.senders
+    → IsPushed before tx samples count now datagrams → is_sender_at now tx ≡ true
 still-there before now tx count samples datagrams is =
-    let same : length now.senders ≡ length before.senders =
-    ap (λ (e : EndState). length e.senders) is.after
-    ∙ length-set before.senders tx (after_samples (sender_at before tx) (take count samples)) in
-    omega (arith, same, is.there_is)
+    ap (λ (e : EndState). is_sender_at e tx) is.after
+    ∙ sender-kept before tx (after_samples (sender_at before tx) (take count samples)) is.there_is
 
 -- another stream in its place
 replaced : (before now : EndState) (tx count : ℕ) (samples : List Sample) (datagrams : List (List ℕ)) (s : Sending)
     → IsPushed before tx samples count now datagrams → with_sender now tx s ≡ with_sender before tx s
 replaced before now tx count samples datagrams s is =
     ap (λ (e : EndState). with_sender e tx s) is.after
-    ∙ ap (λ (ss : List Sending). record before { senders = ss })
-    (set-set before.senders tx (after_samples (sender_at before tx) (take count samples)) s)
+    ∙ ap (λ (ss : List OpenStream). record before { streams = ss })
+    (set-set before.streams tx (Sender (after_samples (sender_at before tx) (take count samples))) (Sender s))
 
 -- one more is pushed
 pub pushed-more : (before now next : EndState) (tx i : ℕ) (samples : List Sample) (datagrams more : List (List ℕ))

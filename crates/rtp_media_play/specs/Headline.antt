@@ -29,7 +29,7 @@ pub record SendsTo (answer : List ℕ) (a b : EndState) (mid : List ℕ) (ssrc p
 -- What the polls of a schedule answer at the new receiving stream.
 abbrev pub answers_of : EndState → EndState → List ℕ → ℕ → ℕ → StreamParams → ℕ → List Sample → List Event → List Answer
 answers_of a b mid ssrc pt params hold_back samples schedule =
-    poll_answers (played (datagrams_of (new_sender a mid ssrc pt params) samples) (length b.receivers)
+    poll_answers (played (datagrams_of (new_sender a mid ssrc pt params) samples) (length b.streams)
     (after_open_receiver b mid ssrc pt hold_back) schedule)
 
 -- The canonical units of the samples.

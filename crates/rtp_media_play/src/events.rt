@@ -1,8 +1,8 @@
 //! Single events of a schedule.
 
-ghost use Rattle.std.specs.Prelude.{◌≡◌, ◌<◌, ℕ, List, length, IfOk, OnOk, OnErr, Some};
+ghost use Rattle.std.specs.Prelude.{◌≡◌, ℕ, List, true, IfOk, OnOk, OnErr, Some};
 ghost use Rattle.rtp_media_ends.specs.Arrivals.{after_datagram, verdict_of};
-ghost use Rattle.rtp_media_ends.specs.Ends.{receiver_at, with_receiver};
+ghost use Rattle.rtp_media_ends.specs.Ends.{is_receiver_at, receiver_at, with_receiver};
 ghost use Rattle.rtp_media_streams.specs.Receiving.{polled_receiver};
 ghost use Rattle.rtp_media_play.specs.Pushing.{PollStops};
 ghost use Rattle.rtp_media_play.specs.Schedules.{answer_at};
@@ -25,7 +25,7 @@ pub(crate) fn receive(end: &mut End, bytes: &[u8]) -> Result<Option<Played>, All
 
 /// Polls a receiving stream of an end; want of memory is no answer.
 pub(crate) fn poll(end: &mut End, rx: usize) -> Result<Option<Played>, AllocError>
-    requires { rx < length end.old.receivers }
+    requires { is_receiver_at end.old rx ≡ true }
     ensures answer { IfOk result (λ answer. answer ≡ Some (Played.Polled (answer_at end.old rx))) }
     ensures after { OnOk result (end.new ≡ with_receiver end.old rx (polled_receiver (receiver_at end.old rx))) }
     ensures stops { OnErr result (PollStops end.old rx end.new) }

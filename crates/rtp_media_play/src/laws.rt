@@ -53,7 +53,7 @@ pub fn headline()
     // What `play` asks of its streams is met after both openings.
     ensures hears { (answer : List ℕ) (a b : EndState) (mid : List ℕ) (ssrc pt : ℕ) (params : StreamParams)
         (samples : List Sample) (hold_back : ℕ) → SendsTo answer a b mid ssrc pt params samples →
-        Hears (after_open_receiver b mid ssrc pt hold_back) (length b.receivers) hold_back
+        Hears (after_open_receiver b mid ssrc pt hold_back) (length b.streams) hold_back
         (new_sender a mid ssrc pt params) samples }
 {
     codec_law();

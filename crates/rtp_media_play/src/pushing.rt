@@ -1,7 +1,7 @@
 //! Samples pushed one after the other.
 
-ghost use Rattle.std.specs.Prelude.{◌≡◌, ◌≢◌, ◌<◌, ◌++◌, length, None, IfOk, IfErr, OnOk};
-ghost use Rattle.rtp_media_ends.specs.Ends.{sender_at};
+ghost use Rattle.std.specs.Prelude.{◌≡◌, ◌≢◌, ◌++◌, true, None, IfOk, IfErr, OnOk};
+ghost use Rattle.rtp_media_ends.specs.Ends.{is_sender_at, sender_at};
 ghost use Rattle.rtp_media_streams.specs.Sending.{datagrams_of};
 ghost use Rattle.rtp_media_play.specs.Pushing.{IsRefusedAt, PushesSome, after_pushes, refusal_of_samples};
 
@@ -20,7 +20,7 @@ pub(crate) fn push_samples(
     tx: usize,
     samples: &[Sample],
 ) -> Result<Vec<Datagram>, SampleError>
-    requires { tx < length end.old.senders }
+    requires { is_sender_at end.old tx ≡ true }
     ensures sent { IfOk result (λ ds. ds.items ≡ datagrams_of (sender_at end.old tx) samples.now) }
     ensures accepted { OnOk result (refusal_of_samples (sender_at end.old tx) samples.now ≡ None) }
     ensures after { OnOk result (end.new ≡ after_pushes end.old tx samples.now) }

@@ -1,13 +1,13 @@
 //! Whole runs.
 
-ghost use Rattle.std.specs.Prelude.{◌≡◌, ◌≢◌, ◌<◌, ◌⊎◌, ◌++◌, ℕ, List, length, map, IfOk, IfErr, OnOk, OnErr, None};
+ghost use Rattle.std.specs.Prelude.{◌≡◌, ◌≢◌, ◌⊎◌, ◌++◌, ℕ, List, true, map, IfOk, IfErr, OnOk, OnErr, None};
 ghost use Rattle.std.specs.Prelude.{option_to_list};
 ghost use Rattle.std.specs.Prelude.{Ok};
 ghost use Rattle.rtp_media_runs.specs.Hearing.{handed_out, heard};
 ghost use Rattle.rtp_media_runs.specs.Samples.{timed_unit};
 ghost use Rattle.rtp_media_schedules.specs.Legal.{IsLegal};
 ghost use Rattle.rtp_media_streams.specs.Rows.{format_of};
-ghost use Rattle.rtp_media_ends.specs.Ends.{receiver_at};
+ghost use Rattle.rtp_media_ends.specs.Ends.{is_receiver_at, is_sender_at, receiver_at};
 ghost use Rattle.rtp_media_ends.specs.FullArrival.{IsFound, units_of};
 ghost use Rattle.rtp_media_play.specs.Runs.{Hears, IsSaneSchedule, IsTameSchedule, canonical_of};
 ghost use Rattle.rtp_media_ends.specs.Ends.{sender_at};
@@ -29,6 +29,10 @@ use std::alloc::{AllocError, Global};
 /// are polls of one of its receiving streams. Answers what `b` says of the bytes that arrive and what the polls
 /// answer, in order.
 ///
+/// # Conditions
+/// `tx` is the number of a sending stream of `a`, and `rx` that of a receiving stream of `b`: `End::is_sender`,
+/// `End::is_receiver`.
+///
 /// # Errors
 /// What the first refused sample is refused for: those before it were pushed, and nothing of the schedule happens.
 /// `SampleError::Memory` where memory is wanting, at a sample, a datagram or a poll, after a part was done.
@@ -41,8 +45,8 @@ pub fn play(
     samples: &[Sample],
     schedule: &[Event],
 ) -> Result<Vec<Played>, SampleError>
-    requires sender { tx < length a.old.senders }
-    requires receiver { rx < length b.old.receivers }
+    requires sender { is_sender_at a.old tx ≡ true }
+    requires receiver { is_receiver_at b.old rx ≡ true }
     ensures accepted { OnOk result (refusal_of_samples (sender_at a.old tx) samples.now ≡ None) }
     ensures pushed { OnOk result (a.new ≡ after_pushes a.old tx samples.now) }
     ensures answers { let sent = datagrams_of (sender_at a.old tx) samples.now in
@@ -91,7 +95,7 @@ fn play_schedule(
     datagrams: &[Datagram],
     schedule: &[Event],
 ) -> Result<Vec<Played>, AllocError>
-    requires { rx < length end.old.receivers }
+    requires { is_receiver_at end.old rx ≡ true }
     ensures answers { IfOk result (λ all. all.items ≡ played datagrams.now rx end.old schedule.now) }
     ensures after { OnOk result (end.new ≡ after_schedule datagrams.now rx end.old schedule.now) }
     ensures some { OnErr result (PlaysSome datagrams.now rx end.old schedule.now end.new) }
@@ -111,7 +115,7 @@ fn play_event(
     datagrams: &[Datagram],
     event: &Event,
 ) -> Result<Option<Played>, AllocError>
-    requires { rx < length end.old.receivers }
+    requires { is_receiver_at end.old rx ≡ true }
     ensures answer { IfOk result (λ answer. option_to_list answer ≡ answers_to datagrams.now rx end.old event.now) }
     ensures after { OnOk result (end.new ≡ after_event datagrams.now rx end.old event.now) }
     ensures stops { OnErr result ((end.new ≡ end.old) ⊎ PollStops end.old rx end.new) }

@@ -4,13 +4,14 @@ use crate::lines::{number_at, verb_of, word_at};
 use crate::streams::{Receiver, Sender};
 use rtp_wire::{ExtensionMap, RtpHeader};
 use std::alloc::Global;
+use std::collections::BTreeMap;
 
-/// What is known of an end.
+/// What is known of an end, and of its streams by their numbers.
 #[derive(Drop)]
 pub struct KnownEnd {
     pub is_made: bool,
-    pub senders: Vec<Sender>,
-    pub receivers: Vec<Receiver>,
+    pub senders: BTreeMap<u64, Sender>,
+    pub receivers: BTreeMap<u64, Receiver>,
     pub foreign: u64,
     pub unreadable: u64,
 }
@@ -26,29 +27,29 @@ impl KnownEnd {
     fn new(alloc: Global, is_made: bool) -> KnownEnd {
         KnownEnd {
             is_made,
-            senders: Vec::new(alloc),
-            receivers: Vec::new(alloc),
+            senders: BTreeMap::new(alloc),
+            receivers: BTreeMap::new(alloc),
             foreign: 0,
             unreadable: 0,
         }
     }
 
     /// The receiving stream of a datagram, by its SSRC and type, or else by its SSRC.
-    fn receiver_of(&self, datagram: &[u8]) -> Option<usize> {
+    fn receiver_of(&self, datagram: &[u8]) -> Option<u64> {
         let (ssrc, pt) = source_in(datagram)?;
         let mut found = None;
-        for (number, receiver) in self.receivers.iter().enumerate() {
+        for (number, receiver) in &self.receivers {
             if receiver.ssrc == ssrc && (found.is_none() || receiver.pt == pt) {
-                found = Some(number);
+                found = Some(*number);
             }
         }
         found
     }
 
     /// Notes what was said of a datagram, of this stream where the reply names none.
-    fn verdict(&mut self, reply: &str, stream: Option<usize>) -> anyhow::Result<()> {
+    fn verdict(&mut self, reply: &str, stream: Option<u64>) -> anyhow::Result<()> {
         let stream = match word_at(reply, 0) {
-            "taken" => number_at(reply, 1).map(|n| n as usize),
+            "taken" => number_at(reply, 1),
             "foreign" => {
                 self.foreign = self.foreign.saturating_add(1);
                 None
@@ -62,7 +63,7 @@ impl KnownEnd {
         let Some(stream) = stream else {
             return Ok(());
         };
-        let Some(receiver) = self.receivers.get_mut(stream) else {
+        let Some(receiver) = self.receivers.get_mut(&stream) else {
             return Ok(());
         };
         match reply {
@@ -82,7 +83,7 @@ impl KnownEnd {
         let Some(stream) = stream else {
             return;
         };
-        let Some(receiver) = self.receivers.get_mut(stream as usize) else {
+        let Some(receiver) = self.receivers.get_mut(&stream) else {
             return;
         };
         match word_at(reply, 0) {
@@ -105,15 +106,19 @@ impl KnownEnd {
             "fixed" | "end" if *reply == "ok" => *self = KnownEnd::new(alloc, true),
             "send" if reply.starts_with("sender ") => {
                 let (ssrc, pt) = source_of(line);
-                self.senders.push(Sender {
+                let sender = Sender {
                     ssrc,
                     pt,
                     datagrams: 0,
-                })?;
+                };
+                self.senders
+                    .insert(number_at(reply, 1).unwrap_or(0), sender)?;
             }
             "open" if reply.starts_with("receiver ") => {
                 let (ssrc, pt) = source_of(line);
-                self.receivers.push(Receiver::new(alloc, ssrc, pt))?;
+                let receiver = Receiver::new(alloc, ssrc, pt);
+                self.receivers
+                    .insert(number_at(reply, 1).unwrap_or(0), receiver)?;
             }
             "sample" => self.sent(number_at(line, 2), replies),
             "receive" => {
@@ -135,7 +140,7 @@ impl KnownEnd {
         let Some(stream) = stream else {
             return;
         };
-        let Some(sender) = self.senders.get_mut(stream as usize) else {
+        let Some(sender) = self.senders.get_mut(&stream) else {
             return;
         };
         let count = replies
@@ -152,7 +157,7 @@ impl KnownEnd {
             if item == "p" {
                 self.polled(reply, stream);
             } else {
-                self.verdict(reply, stream.map(|n| n as usize))?;
+                self.verdict(reply, stream)?;
             }
         }
         Ok(())

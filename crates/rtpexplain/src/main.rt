@@ -106,10 +106,10 @@ fn report_end(rt: &HostRuntime, letter: &str, end: &KnownEnd) -> anyhow::Result<
     if letter.is_empty() || !end.is_made {
         return Ok(());
     }
-    for (number, sender) in end.senders.iter().enumerate() {
+    for (number, sender) in &end.senders {
         println!(*rt; "  sender {number} of {letter}: {sender}")?;
     }
-    for (number, receiver) in end.receivers.iter().enumerate() {
+    for (number, receiver) in &end.receivers {
         println!(*rt; "  receiver {number} of {letter}: {receiver}")?;
     }
     let (foreign, unreadable) = (end.foreign, end.unreadable);

@@ -1,7 +1,7 @@
 //! Why a line is an `error line`, or was refused.
 
 use crate::forms::{form_of, misfit};
-use crate::known::Known;
+use crate::known::{Known, KnownEnd};
 use crate::lines::{number_at, number_of, verb_of, word_at};
 use crate::refusals::{fault_of, refusal_of, verdict_of};
 use rtp_media_lines::MAX_LINE_LENGTH;
@@ -127,7 +127,7 @@ fn unmet(alloc: Global, known: &Known, line: &str) -> Result<Option<String>, All
                 "sending",
                 word_at(line, 1),
                 "a",
-                known.a.senders.len(),
+                is_sender(&known.a, word_at(line, 1)),
             )? {
                 Some(reason) => Ok(Some(reason)),
                 None => unopened(
@@ -135,7 +135,7 @@ fn unmet(alloc: Global, known: &Known, line: &str) -> Result<Option<String>, All
                     "receiving",
                     word_at(line, 2),
                     "b",
-                    known.b.receivers.len(),
+                    is_receiver(&known.b, word_at(line, 2)),
                 ),
             },
         },
@@ -159,8 +159,8 @@ fn unmet_at(
     let end = known.end(letter);
     let stream = word_at(line, 2);
     match word_at(line, 0) {
-        "sample" => unopened(alloc, "sending", stream, letter, end.senders.len()),
-        "poll" => unopened(alloc, "receiving", stream, letter, end.receivers.len()),
+        "sample" => unopened(alloc, "sending", stream, letter, is_sender(end, stream)),
+        "poll" => unopened(alloc, "receiving", stream, letter, is_receiver(end, stream)),
         "answer" | "accept" => Ok(Some(String::from_str(alloc, "HEX isn't a text of UTF-8")?)),
         "send" => Ok(Some(unsound(alloc, line)?)),
         _ => Ok(None),
@@ -184,18 +184,26 @@ fn unmade(
     Ok(None)
 }
 
+fn is_sender(end: &KnownEnd, stream: &str) -> bool {
+    number_of(stream).is_some_and(|n| end.senders.contains_key(&n))
+}
+
+fn is_receiver(end: &KnownEnd, stream: &str) -> bool {
+    number_of(stream).is_some_and(|n| end.receivers.contains_key(&n))
+}
+
 /// A stream that isn't there.
 fn unopened(
     alloc: Global,
     way: &str,
     stream: &str,
     letter: &str,
-    count: usize,
+    is_there: bool,
 ) -> Result<Option<String>, AllocError> {
-    if number_of(stream).is_some_and(|n| n < count as u64) {
+    if is_there {
         return Ok(None);
     }
-    Ok(Some(format!(in alloc; "no {way} stream {stream} of {letter}, which has {count}")?))
+    Ok(Some(format!(in alloc; "no {way} stream {stream} of {letter}")?))
 }
 
 /// What is wrong with the parameters of a sending stream.

@@ -1,7 +1,7 @@
 //! The commands of whole runs.
 
-ghost use Rattle.std.specs.Prelude.{◌≡◌, ◌≢◌, ◌<◌, [], ◌∷◌, ◌++◌, length, map, IfOk, OnOk, IfErr};
-ghost use Rattle.rtp_media_ends.specs.Ends.{sender_at};
+ghost use Rattle.std.specs.Prelude.{◌≡◌, ◌≢◌, [], ◌∷◌, ◌++◌, true, map, IfOk, OnOk, IfErr};
+ghost use Rattle.rtp_media_ends.specs.Ends.{is_receiver_at, is_sender_at, sender_at};
 ghost use Rattle.rtp_media.specs.Exchanging.{Prints};
 ghost use Rattle.rtp_media.specs.Playing.{AnswersPlay, PlaysEnds, event_of, played_reply, sample_at, samples_for};
 
@@ -62,8 +62,8 @@ fn play_kept(
     kept: Vec<QueueCommand>,
     command: PlayCommand,
 ) -> Result<Vec<Reply>, AllocError>
-    requires sender { command.tx < length a.old.senders }
-    requires receiver { command.rx < length b.old.receivers }
+    requires sender { is_sender_at a.old command.tx ≡ true }
+    requires receiver { is_receiver_at b.old command.rx ≡ true }
     ensures { IfOk result (λ replies. AnswersPlay a.old b.old (samples_for a.old command.tx kept.items) command a.new
         b.new replies.items) }
 {

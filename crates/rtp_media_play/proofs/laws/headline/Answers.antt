@@ -21,7 +21,7 @@ returns-clause-hears c = λ answer a b mid ssrc pt params samples hold_back to.
 pub returns-clause-legal : goal.returns-clause-legal
 returns-clause-legal c = λ answer a b mid ssrc pt params samples hold_back schedule to sane.
     legal-run c.codec_law.ensures.codec_in_forms (after_open_receiver b mid ssrc pt hold_back)
-    (length b.receivers) hold_back
+    (length b.streams) hold_back
     (new_sender a mid ssrc pt params) samples
     (hears c.codec_law.ensures.codec_in_forms c.codec_law.ensures.first answer a b mid ssrc pt params samples
     to hold_back) schedule sane
@@ -29,7 +29,7 @@ returns-clause-legal c = λ answer a b mid ssrc pt params samples hold_back sche
 pub returns-clause-exact : goal.returns-clause-exact
 returns-clause-exact c = λ answer a b mid ssrc pt params samples hold_back schedule to tame.
     exact-run c.codec_law.ensures.codec_in_forms (after_open_receiver b mid ssrc pt hold_back)
-    (length b.receivers) hold_back
+    (length b.streams) hold_back
     (new_sender a mid ssrc pt params) samples
     (hears c.codec_law.ensures.codec_in_forms c.codec_law.ensures.first answer a b mid ssrc pt params samples
     to hold_back) schedule tame
