@@ -1,12 +1,14 @@
 //! An end of a session.
 
 ghost use Rattle.std.specs.Prelude.{◌≡◌, ◌≢◌, ◌<◌, ◌==◌, ℕ, Some, None, length, true, Ok, Err, OnOk, OnErr, IfOk};
-ghost use Rattle.std.specs.Prelude.{IfErr, IfSome, IfNone, IsOk, IsSome, IsSomeAnd, is_some, false, ◌≤◌};
+ghost use Rattle.std.specs.Prelude.{IfErr, IfSome, IfNone, IsOk, IsSome, IsSomeAnd, OnSome, is_some, false, [], ◌≤◌};
 ghost use Rattle.std.specs.List.{list_any};
 ghost use Rattle.std.specs.Option.{ForSome, option_map};
 ghost use Rattle.payload_core_red.specs.RedHistory.{AreDistances};
 ghost use Rattle.h26x_payload.specs.Codings.{has_format};
-ghost use Rattle.rtp_media_streams.specs.Polls.{IsInterrupted, given};
+ghost use Rattle.payload_core_buffer.specs.Frames.{complete_frames};
+ghost use Rattle.rtp_media_streams.specs.Drains.{drain_answer, drained_receiver, holding};
+ghost use Rattle.rtp_media_streams.specs.Polls.{IsInterrupted, IsPolled, IsPolledSome, given};
 ghost use Rattle.rtp_media_streams.specs.Receiving.{media_payload, polled_receiver, with_stream};
 ghost use Rattle.rtp_media_streams.specs.Rows.{format_of};
 ghost use Rattle.rtp_media_streams.specs.Sending.{HasFailed, sent_datagrams, after_sample, refusal_of_sample};
@@ -131,6 +133,9 @@ impl End {
     /// number, counted from 0 over the streams of both directions. Where `params` has distances, it sends under the row's RED type, each
     /// payload behind older ones (RFC 2198).
     ///
+    /// # Conditions
+    /// The parameters are sound for the agreed row's RED type: `StreamParams::is_sound` of [`End::agreed_red`].
+    ///
     /// # Errors
     /// The first that holds of `NoSection`, `RowNotAgreed`, `RowDiffers` (the end's own row of the type
     /// is missing, not locked, or means something else), `WrongDirection`, `SsrcNotNamed` (the
@@ -211,6 +216,9 @@ impl End {
     /// The datagrams of a sample, which a sending stream sends: its packets of at most `mtu` bytes,
     /// under consecutive numbers, each with all values that the stream's map has a number for. A
     /// sample without packets has none and uses no number.
+    ///
+    /// # Conditions
+    /// The number is that of a sending stream: [`End::is_sender`].
     ///
     /// # Errors
     /// The first that holds of `StreamFailed`, `TimeTooLarge`, `LimitTooSmall` and `Payload`, and the end is
@@ -299,7 +307,10 @@ impl End {
 
     /// The next unit of a receiving stream, where one is ready: the lowest one, if it begins right
     /// behind the last one that was handed out, or nothing was, or more frames are complete than are
-    /// held back.
+    /// held back. Fewer packets are then held.
+    ///
+    /// # Conditions
+    /// The number is that of a receiving stream: [`End::is_receiver`].
     ///
     /// # Errors
     /// `PollFault::Payload` where a packet of the next frame is refused, which is then done with; or
@@ -321,9 +332,77 @@ impl End {
             → IsInterrupted (format_of receiver.row) receiver.stream (receiver_at self.new stream).stream) }
         ensures others { self.new ≡ with_receiver self.old stream
             (with_stream (receiver_at self.old stream) (receiver_at self.new stream).stream) }
+        ensures fewer { IfOk result (λ unit. OnSome unit
+            (length (receiver_at self.new stream).stream.held < length (receiver_at self.old stream).stream.held)) }
     {
         match &mut self.streams[stream] {
             OpenStream::Receiver(receiver) => receiver.poll(),
+            OpenStream::Sender(_) => unreachable!(),
+        }
+    }
+
+    /// The lowest complete unit of a receiving stream, whether or not a datagram before it is missing: a poll that
+    /// holds no complete frame back. For the end of a stream, when nothing more will come; None where no frame is
+    /// complete.
+    ///
+    /// # Conditions
+    /// The number is that of a receiving stream: [`End::is_receiver`].
+    ///
+    /// # Errors
+    /// Those of [`End::poll`].
+    pub fn drain(&mut self, stream: usize) -> Result<Option<Unit>, PollFault>
+        requires { is_receiver_at self.old stream ≡ true }
+        ensures answer { let receiver = receiver_at self.old stream in
+            IfOk result (λ unit. given (drain_answer (format_of receiver.row) receiver.stream) ≡ Ok unit) }
+        ensures after { OnOk result (self.new ≡ with_receiver self.old stream
+            (drained_receiver (receiver_at self.old stream))) }
+        ensures none { let receiver = receiver_at self.old stream in
+            IfOk result (λ unit. IfNone unit (complete_frames (format_of receiver.row) receiver.stream.held ≡ [])) }
+        ensures fault { let receiver = receiver_at self.old stream in
+            IfErr result (λ fault. fault ≢ PollFault.Memory
+            → given (drain_answer (format_of receiver.row) receiver.stream) ≡ Err fault) }
+        ensures behind { IfErr result (λ fault. fault ≢ PollFault.Memory → self.new
+            ≡ with_receiver self.old stream (drained_receiver (receiver_at self.old stream))) }
+        ensures memory { let receiver = receiver_at self.old stream in
+            IfErr result (λ fault. fault ≡ PollFault.Memory → IsInterrupted (format_of receiver.row)
+            (holding 0 receiver.stream) (holding 0 (receiver_at self.new stream).stream)) }
+        ensures hold_back { (receiver_at self.new stream).stream.hold_back
+            ≡ (receiver_at self.old stream).stream.hold_back }
+        ensures others { self.new ≡ with_receiver self.old stream
+            (with_stream (receiver_at self.old stream) (receiver_at self.new stream).stream) }
+        ensures fewer { IfOk result (λ unit. OnSome unit
+            (length (receiver_at self.new stream).stream.held < length (receiver_at self.old stream).stream.held)) }
+    {
+        match &mut self.streams[stream] {
+            OpenStream::Receiver(receiver) => receiver.drain(),
+            OpenStream::Sender(_) => unreachable!(),
+        }
+    }
+
+    /// Polls a receiving stream until no unit is ready or memory for one is wanting, and answers what the polls
+    /// answered, in order.
+    ///
+    /// # Conditions
+    /// The number is that of a receiving stream: [`End::is_receiver`].
+    ///
+    /// # Errors
+    /// `AllocError` where memory for that list is wanting: what was polled is lost, and nothing else changes.
+    pub fn poll_all(
+        &mut self,
+        stream: usize,
+    ) -> Result<Vec<Result<Unit, PollFault>>, AllocError>
+        requires { is_receiver_at self.old stream ≡ true }
+        ensures polled { let receiver = receiver_at self.old stream in
+            IfOk result (λ answers. IsPolled (format_of receiver.row) receiver.stream answers.items
+            (receiver_at self.new stream).stream) }
+        ensures some { let receiver = receiver_at self.old stream in
+            OnErr result (IsPolledSome (format_of receiver.row) receiver.stream
+            (receiver_at self.new stream).stream) }
+        ensures others { self.new ≡ with_receiver self.old stream
+            (with_stream (receiver_at self.old stream) (receiver_at self.new stream).stream) }
+    {
+        match &mut self.streams[stream] {
+            OpenStream::Receiver(receiver) => receiver.poll_all(),
             OpenStream::Sender(_) => unreachable!(),
         }
     }

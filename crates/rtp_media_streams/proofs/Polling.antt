@@ -10,10 +10,12 @@ use Rattle.payload_core_buffer.specs.Packets.{Packet, metas_of}
 use Rattle.payload_core_buffer.specs.Pops.{Faults, PopGives, PopKeeps}
 use Rattle.payload_core_buffer.specs.declared.frame.Frame.{Frame}
 use Rattle.payload_core_buffer.specs.declared.held.RtpMeta.{RtpMeta}
+use Rattle.rtp_wire.specs.Replay.{Window}
 use Rattle.rtp_media_runs.specs.Hearing.{Answer, Stream, answer_among, answer_by, due, poll_answer, polled, run_among}
 use Rattle.rtp_media_runs.specs.Hearing.{stream_behind, unit_from}
+use Rattle.rtp_media_streams.specs.Drains.{holding}
 use Rattle.rtp_media_streams.specs.Polls.{IsInterrupted}
-use Rattle.rtp_media_streams.specs.Receiving.{Receiving, polled_receiver, with_stream}
+use Rattle.rtp_media_streams.specs.Receiving.{Receiving, with_stream}
 use Rattle.rtp_media_streams.specs.Rows.{format_of}
 
 pub on_ok : {A E P Q : Type 0} (r : Result A E) → (P → Q) → OnOk r P → OnOk r Q
@@ -24,19 +26,32 @@ pub if_err : {A E : Type 0} {P Q : E → Type 0} (r : Result A E) → ((e : E) �
 if_err (Ok a) f h = tt
 if_err (Err e) f h = f e h
 
--- a stream of which this is the rest, after a poll
-pub after_poll : {A E : Type 0} (res : Result A E) (f : Format) (x r : Receiving) (old new : Stream) → x ≡ r → f
-    ≡ format_of r.row → old ≡ r.stream → OnOk res (new ≡ polled f old)
-    → OnOk res (with_stream x new ≡ polled_receiver r)
-after_poll res f x r old new same format is =
-    on_ok res (λ h. ap (λ (y : Receiving). with_stream y new) same ∙ ap (with_stream r) (h ∙ ap₂ polled format is))
+-- a stream of which this is the rest, after a step
+pub after_step : {A E : Type 0} (step : Format → Stream → Stream) (res : Result A E) (f : Format) (x r : Receiving)
+    (old new : Stream) → x ≡ r → f ≡ format_of r.row → old ≡ r.stream → OnOk res (new ≡ step f old)
+    → OnOk res (with_stream x new ≡ with_stream r (step (format_of r.row) r.stream))
+after_step step res f x r old new same format is =
+    on_ok res (λ h. ap (λ (y : Receiving). with_stream y new) same ∙ ap (with_stream r) (h ∙ ap₂ step format is))
 
-pub behind_fault : {A E : Type 0} (P : E → Type 0) (res : Result A E) (f : Format) (x r : Receiving)
-    (old new : Stream) → x ≡ r → f ≡ format_of r.row → old ≡ r.stream →
-    IfErr res (λ e. P e → new ≡ polled f old) → IfErr res (λ e. P e → with_stream x new ≡ polled_receiver r)
-behind_fault P res f x r old new same format is =
-    if_err {P = λ e. P e → new ≡ polled f old} {Q = λ e. P e → with_stream x new ≡ polled_receiver r} res
-    (λ e h p. ap (λ (y : Receiving). with_stream y new) same ∙ ap (with_stream r) (h p ∙ ap₂ polled format is))
+pub behind_fault : {A E : Type 0} (step : Format → Stream → Stream) (P : E → Type 0) (res : Result A E) (f : Format)
+    (x r : Receiving) (old new : Stream) → x ≡ r → f ≡ format_of r.row → old ≡ r.stream →
+    IfErr res (λ e. P e → new ≡ step f old)
+    → IfErr res (λ e. P e → with_stream x new ≡ with_stream r (step (format_of r.row) r.stream))
+behind_fault step P res f x r old new same format is =
+    if_err {P = λ e. P e → new ≡ step f old}
+    {Q = λ e. P e → with_stream x new ≡ with_stream r (step (format_of r.row) r.stream)} res
+    (λ e h p. ap (λ (y : Receiving). with_stream y new) same ∙ ap (with_stream r) (h p ∙ ap₂ step format is))
+
+-- a stream that holds as many frames back as before, and else keeps what it does without hold-back
+pub kept_so : (window : Option Window) (before hold_back : ℕ) (held : List Packet) (cutoff : Option ℕ)
+    (fragment : Fragment) (after : Stream) → hold_back ≡ before
+    → record { hold_back = 0; window = window; held = held; cutoff = cutoff; fragment = fragment } ≡ after
+    → record { hold_back = hold_back; window = window; held = held; cutoff = cutoff; fragment = fragment }
+    ≡ holding before after
+kept_so window before hold_back held cutoff fragment after same is =
+    let bare : Stream = record
+    { hold_back = 0; window = window; held = held; cutoff = cutoff; fragment = fragment } in
+    ap (λ (n : ℕ). holding n bare) same ∙ ap (holding before) is
 
 module _ (format : Format) (s : Stream) where
   abbrev due_now : Option Frame

@@ -5,3 +5,4 @@ pub mod Sending
 pub mod Sinks
 pub mod Receiving
 pub mod Polls
+pub mod Drains

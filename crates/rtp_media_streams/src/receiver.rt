@@ -2,7 +2,7 @@
 
 ghost use Rattle.std.specs.Prelude.{◌≡◌, ◌≢◌, ◌<◌, ◌≤◌, IfErr, IfOk, IsOk, MatchOption, None, OnErr, OnOk, OnSome};
 ghost use Rattle.std.specs.Prelude.{Option, Some, true, length};
-ghost use Rattle.std.specs.Prelude.{Ok, Err};
+ghost use Rattle.std.specs.Prelude.{Ok, Err, [], IfNone};
 ghost use Rattle.h26x_payload.specs.Codings.{has_format};
 ghost use Rattle.rtp_wire.specs.Replay.{Window, greatest_in, is_accepted, recorded_in};
 ghost use Rattle.rtp_wire.specs.Widening.{widened};
@@ -10,6 +10,8 @@ ghost use Rattle.payload_core_base.specs.Format.{Format};
 ghost use Rattle.payload_core_buffer.specs.Buffered.{pushed};
 ghost use Rattle.payload_core_buffer.specs.Packets.{packet_from};
 ghost use Rattle.rtp_media_runs.specs.Hearing.{poll_answer, polled};
+ghost use Rattle.payload_core_buffer.specs.Frames.{complete_frames};
+ghost use Rattle.rtp_media_streams.specs.Drains.{drain_answer, drained, drained_receiver, holding};
 ghost use Rattle.rtp_media_streams.specs.Polls.{IsInterrupted, IsPolled, IsPolledSome, given};
 ghost use Rattle.rtp_media_streams.specs.Receiving.{opened_receiver, stream_of, with_stream, is_own, conflicts_with};
 ghost use Rattle.rtp_media_streams.specs.Receiving.{media_payload, taken_number, arrived, values_read};
@@ -161,6 +163,60 @@ fn pop(
     }
 }
 
+/// Hands out the lowest complete frame as a unit, whatever is missing before it.
+fn drain(
+    buffer: &mut DepacketizingBuffer<CodecDepacketizer<NotBoxed>>,
+) -> Result<Option<Unit>, PollFault>
+    ensures format { ⟦<CodecDepacketizer<NotBoxed> as Depacketizer>⟧.format buffer.new.depacketizer
+        ≡ ⟦<CodecDepacketizer<NotBoxed> as Depacketizer>⟧.format buffer.old.depacketizer }
+    ensures hold_back { buffer.new.hold_back ≡ buffer.old.hold_back }
+    ensures answer { (window : Option Window) →
+        let old = stream_of window buffer.old
+        (⟦<CodecDepacketizer<NotBoxed> as Depacketizer>⟧.fragment buffer.old.depacketizer) in
+        let format = ⟦<CodecDepacketizer<NotBoxed> as Depacketizer>⟧.format buffer.old.depacketizer in
+        IfOk result (λ unit. given (drain_answer format old) ≡ Ok unit) }
+    ensures after { (window : Option Window) →
+        let old = stream_of window buffer.old
+        (⟦<CodecDepacketizer<NotBoxed> as Depacketizer>⟧.fragment buffer.old.depacketizer) in
+        let new = stream_of window buffer.new
+        (⟦<CodecDepacketizer<NotBoxed> as Depacketizer>⟧.fragment buffer.new.depacketizer) in
+        let format = ⟦<CodecDepacketizer<NotBoxed> as Depacketizer>⟧.format buffer.old.depacketizer in
+        OnOk result (new ≡ drained format old) }
+    ensures none { let format = ⟦<CodecDepacketizer<NotBoxed> as Depacketizer>⟧.format buffer.old.depacketizer in
+        IfOk result (λ unit. IfNone unit (complete_frames format buffer.old.held ≡ [])) }
+    ensures fault { (window : Option Window) →
+        let old = stream_of window buffer.old
+        (⟦<CodecDepacketizer<NotBoxed> as Depacketizer>⟧.fragment buffer.old.depacketizer) in
+        let format = ⟦<CodecDepacketizer<NotBoxed> as Depacketizer>⟧.format buffer.old.depacketizer in
+        IfErr result (λ fault. fault ≢ PollFault.Memory → given (drain_answer format old) ≡ Err fault) }
+    ensures behind { (window : Option Window) →
+        let old = stream_of window buffer.old
+        (⟦<CodecDepacketizer<NotBoxed> as Depacketizer>⟧.fragment buffer.old.depacketizer) in
+        let new = stream_of window buffer.new
+        (⟦<CodecDepacketizer<NotBoxed> as Depacketizer>⟧.fragment buffer.new.depacketizer) in
+        let format = ⟦<CodecDepacketizer<NotBoxed> as Depacketizer>⟧.format buffer.old.depacketizer in
+        IfErr result (λ fault. fault ≢ PollFault.Memory → new ≡ drained format old) }
+    ensures memory { (window : Option Window) →
+        let old = stream_of window buffer.old
+        (⟦<CodecDepacketizer<NotBoxed> as Depacketizer>⟧.fragment buffer.old.depacketizer) in
+        let new = stream_of window buffer.new
+        (⟦<CodecDepacketizer<NotBoxed> as Depacketizer>⟧.fragment buffer.new.depacketizer) in
+        let format = ⟦<CodecDepacketizer<NotBoxed> as Depacketizer>⟧.format buffer.old.depacketizer in
+        IfErr result (λ fault. fault ≡ PollFault.Memory → IsInterrupted format (holding 0 old) (holding 0 new)) }
+    ensures fewer { IfOk result (λ unit. OnSome unit (length buffer.new.held < length buffer.old.held)) }
+    ensures fewer_at_faults { IfErr result (λ fault. fault ≢ PollFault.Memory
+        → length buffer.new.held < length buffer.old.held) }
+{
+    match buffer.drain() {
+        Ok(Some(lowest)) => Ok(Some(Unit::from_frame(lowest))),
+        Ok(None) => Ok(None),
+        Err(e) => match e {
+            PacketError::Memory => Err(PollFault::Memory),
+            fault => Err(PollFault::Payload(fault)),
+        },
+    }
+}
+
 impl ReceivingStream {
     /// A stream of this SSRC, these payload types, this map of header extensions and this row that heard
     /// nothing. Past a missing packet a frame is handed out only once more than `hold_back` frames are
@@ -277,6 +333,30 @@ impl ReceivingStream {
             → length self.new.stream.held < length self.old.stream.held) }
     {
         pop(&mut self.buffer)
+    }
+
+    /// Hands out the lowest complete unit, whether or not a datagram before it is missing: a poll that holds no
+    /// complete frame back. For the end of a stream, when nothing more will come; None where no frame is complete.
+    ///
+    /// # Errors
+    /// Those of [`ReceivingStream::poll`].
+    pub fn drain(&mut self) -> Result<Option<Unit>, PollFault>
+        ensures answer { IfOk result (λ unit. given (drain_answer (format_of self.old.row) self.old.stream) ≡ Ok unit) }
+        ensures after { OnOk result (self.new ≡ drained_receiver self.old) }
+        ensures none { IfOk result (λ unit. IfNone unit
+            (complete_frames (format_of self.old.row) self.old.stream.held ≡ [])) }
+        ensures fault { IfErr result (λ fault. fault ≢ PollFault.Memory
+            → given (drain_answer (format_of self.old.row) self.old.stream) ≡ Err fault) }
+        ensures behind { IfErr result (λ fault. fault ≢ PollFault.Memory → self.new ≡ drained_receiver self.old) }
+        ensures memory { IfErr result (λ fault. fault ≡ PollFault.Memory
+            → IsInterrupted (format_of self.old.row) (holding 0 self.old.stream) (holding 0 self.new.stream)) }
+        ensures hold_back { self.new.stream.hold_back ≡ self.old.stream.hold_back }
+        ensures same { self.new ≡ with_stream self.old self.new.stream }
+        ensures fewer { IfOk result (λ unit. OnSome unit (length self.new.stream.held < length self.old.stream.held)) }
+        ensures fewer_at_faults { IfErr result (λ fault. fault ≢ PollFault.Memory
+            → length self.new.stream.held < length self.old.stream.held) }
+    {
+        drain(&mut self.buffer)
     }
 
     /// Polls until no unit is ready or memory for one is wanting, and answers what the polls answered, in

@@ -1,11 +1,11 @@
 use Rattle.std.proofs.Common.{◌≡◌, ◌≢◌, ◌∙◌, ap, subst₂, IfErr, IfOk, Ok, Err}
 use Rattle.payload_core_base.specs.Format.{Format}
-use Rattle.rtp_media_runs.specs.Hearing.{Stream, poll_answer}
+use Rattle.rtp_media_runs.specs.Hearing.{Stream, poll_answer, polled}
 use Rattle.rtp_media_streams.specs.Polls.{given}
 use Rattle.rtp_media_streams.specs.Receiving.{Receiving}
 use Rattle.rtp_media_streams.specs.Rows.{format_of}
 use Rattle.rtp_media_streams.specs.declared.errors.PollFault.TheVariants.{Memory}
-use Rattle.rtp_media_streams.proofs.Polling.{after_poll, behind_fault}
+use Rattle.rtp_media_streams.proofs.Polling.{after_step, behind_fault}
 use Rattle.rtp_media_streams.proofs.receiver.ReceivingStream.poll.Goals as goal
 
 pub returns-clause-answer : goal.returns-clause-answer
@@ -17,7 +17,7 @@ returns-clause-answer c =
 
 pub returns-clause-after : goal.returns-clause-after
 returns-clause-after c =
-    after_poll c.pop.result _ _ c.args.self.now _ _ c.self.view_is
+    after_step polled c.pop.result _ _ c.args.self.now _ _ c.self.view_is
     (c.self.invariant ∙ ap (λ (r : Receiving). format_of r.row) c.self.view_is)
     (ap (λ (r : Receiving). r.stream) c.self.view_is)
     (c.pop.ensures.after c.self.inside.window)
@@ -32,7 +32,7 @@ returns-clause-fault c =
 
 pub returns-clause-behind : goal.returns-clause-behind
 returns-clause-behind c =
-    behind_fault (λ fault. fault ≢ Memory) c.pop.result _ _ c.args.self.now _ _ c.self.view_is
+    behind_fault polled (λ fault. fault ≢ Memory) c.pop.result _ _ c.args.self.now _ _ c.self.view_is
     (c.self.invariant ∙ ap (λ (r : Receiving). format_of r.row) c.self.view_is)
     (ap (λ (r : Receiving). r.stream) c.self.view_is)
     (c.pop.ensures.behind c.self.inside.window)
