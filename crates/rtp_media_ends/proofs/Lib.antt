@@ -8,3 +8,4 @@ pub mod Opened
 pub mod MayOpen
 pub mod NewReceiver
 pub mod Stopping
+pub mod Numbers

@@ -155,6 +155,7 @@ impl End {
         ensures after { OnOk result (self.new ≡ after_open_sender self.old mid ssrc pt params) }
         ensures stream { IfOk result (λ n. sender_at self.new n ≡ new_sender self.old mid ssrc pt params) }
         ensures sender { IfOk result (λ n. IsSender (sender_at self.new n)) }
+        ensures sends { IfOk result (λ n. is_sender_at self.new n ≡ true) }
         ensures refused { IfErr result (λ e. e ≢ OpenError.Memory → refusal_of_open_sender self.old mid ssrc pt
             ≡ Some e) }
         ensures unchanged { OnErr result (self.new ≡ self.old) }
@@ -199,6 +200,7 @@ impl End {
         ensures opens { OnOk result (refusal_of_open_receiver self.old mid ssrc pt ≡ None) }
         ensures after { OnOk result (self.new ≡ after_open_receiver self.old mid ssrc pt hold_back) }
         ensures receiver { IfOk result (λ n. HasReceiver self.new n (new_receiver self.old mid ssrc pt hold_back)) }
+        ensures receives { IfOk result (λ n. is_receiver_at self.new n ≡ true) }
         ensures refused { IfErr result (λ e. e ≢ OpenError.Memory → refusal_of_open_receiver self.old mid ssrc pt
             ≡ Some e) }
         ensures unchanged { OnErr result (self.new ≡ self.old) }
