@@ -23,5 +23,5 @@ answered e c end replies n sound none after number printed =
     inl (
       after ∙ sym (ap (λ (s : EndStep). s.end) step),
       printed ∙ ap (λ (m : ℕ). let rs : List Reply = reply.Sender m ∷ [] in rs) number
-      ∙ sym (ap (λ (s : EndStep). s.replies) step),
+          ∙ sym (ap (λ (s : EndStep). s.replies) step),
     )

@@ -1,0 +1,211 @@
+//! Datagrams that come, and the units that are ready.
+
+ghost use Rattle.std.specs.Prelude.{◌≡◌, ◌≢◌, ◌<◌, ℕ, length, true, Ok, Err, OnOk, OnErr, IfOk, IfErr, IfSome};
+ghost use Rattle.std.specs.Prelude.{IfNone, OnSome, false, [], ◌≤◌};
+ghost use Rattle.std.specs.Option.{ForSome};
+ghost use Rattle.payload_core_buffer.specs.Frames.{complete_frames};
+ghost use Rattle.rtp_media_streams.specs.Drains.{drain_answer, drained_receiver, holding};
+ghost use Rattle.rtp_media_streams.specs.Polls.{IsInterrupted, IsPolled, IsPolledSome, given};
+ghost use Rattle.rtp_media_streams.specs.Receiving.{media_payload, polled_receiver, with_stream};
+ghost use Rattle.rtp_media_streams.specs.Rows.{format_of};
+ghost use Rattle.rtp_media_runs.specs.Hearing.{poll_answer};
+ghost use Rattle.rtp_wire.specs.declared.ExtensionValues.{ExtensionValues};
+ghost use Rattle.rtp_media_ends.specs.Arrivals.{Own, NoPayload, own_of, stream_for, verdict_for, after_arrival};
+ghost use Rattle.rtp_media_ends.specs.Arrivals.{arrival_by, verdict_of, after_datagram};
+ghost use Rattle.rtp_media_ends.specs.Ends.{receiver_at, with_receiver, is_receiver_at, is_sending, nth_stream};
+
+use super::End;
+use crate::errors::ReceiveError;
+use crate::open_stream::OpenStream;
+use crate::received::Received;
+use rtp_media_streams::{PollFault, ReceivingStream, Unit};
+use rtp_wire::{ExtensionMap, Pt, RtpHeader, Ssrc};
+use std::alloc::AllocError;
+
+impl End {
+    /// Takes a datagram in, and says what it is: of the stream whose SSRC and one of whose payload types
+    /// it has, a number that is new is recorded and its payload waits to be polled. Under the RED type
+    /// the payload is the primary one.
+    ///
+    /// # Errors
+    /// `ReceiveError::Memory`; the end is unchanged.
+    pub fn receive(&mut self, datagram: &[u8]) -> Result<Received, ReceiveError>
+        ensures verdict { IfOk result (λ v. v ≡ verdict_of self.old datagram.now) }
+        ensures after { OnOk result (self.new ≡ after_datagram self.old datagram.now) }
+        ensures unchanged { OnErr result (self.new ≡ self.old) }
+    {
+        let exts = ExtensionMap::empty();
+        let header = RtpHeader::parse(datagram, &exts);
+        self.receive_under(header, datagram)
+    }
+
+    /// Takes a datagram in that reads as this header.
+    fn receive_under(
+        &mut self,
+        header: Option<RtpHeader>,
+        datagram: &[u8],
+    ) -> Result<Received, ReceiveError>
+        requires { ForSome header (λ h. h.header_len ≤ length datagram.now) }
+        ensures verdict { IfOk result (λ v. v ≡ verdict_for self.old
+            (arrival_by self.old.streams header datagram.now)) }
+        ensures after { OnOk result (self.new ≡ after_arrival self.old
+            (arrival_by self.old.streams header datagram.now)) }
+        ensures unchanged { OnErr result (self.new ≡ self.old) }
+    {
+        let Some(header) = header else {
+            return Ok(Received::Unreadable);
+        };
+        let Some(stream) = stream_for(&self.streams, header.ssrc, header.payload_type) else {
+            return Ok(Received::Foreign);
+        };
+        let OpenStream::Receiver(receiver) = &mut self.streams[stream] else {
+            unreachable!()
+        };
+        let Some(payload) = payload_of(receiver, &header, datagram) else {
+            return Ok(Received::Damaged);
+        };
+        let values = receiver.values_read(datagram);
+        let taken = receiver.receive(
+            header.sequence_number,
+            header.timestamp,
+            header.marker,
+            values,
+            payload,
+        )?;
+        match taken {
+            None => Ok(Received::Refused),
+            Some(number) => Ok(Received::Taken(stream, number)),
+        }
+    }
+
+    /// The next unit of a receiving stream, where one is ready: the lowest one, if it begins right
+    /// behind the last one that was handed out, or nothing was, or more frames are complete than are
+    /// held back. Fewer packets are then held.
+    ///
+    /// # Conditions
+    /// The number is that of a receiving stream: [`End::is_receiver`].
+    ///
+    /// # Errors
+    /// `PollFault::Payload` where a packet of the next frame is refused, which is then done with; or
+    /// `PollFault::Memory`, only where a frame is ready, and it stays, while some of its packets may have
+    /// been read. All else is unchanged.
+    pub fn poll(&mut self, stream: usize) -> Result<Option<Unit>, PollFault>
+        requires { is_receiver_at self.old stream ≡ true }
+        ensures answer { let receiver = receiver_at self.old stream in
+            IfOk result (λ unit. given (poll_answer (format_of receiver.row) receiver.stream) ≡ Ok unit) }
+        ensures after { OnOk result (self.new ≡ with_receiver self.old stream
+            (polled_receiver (receiver_at self.old stream))) }
+        ensures fault { let receiver = receiver_at self.old stream in
+            IfErr result (λ fault. fault ≢ PollFault.Memory
+            → given (poll_answer (format_of receiver.row) receiver.stream) ≡ Err fault) }
+        ensures behind { IfErr result (λ fault. fault ≢ PollFault.Memory → self.new
+            ≡ with_receiver self.old stream (polled_receiver (receiver_at self.old stream))) }
+        ensures memory { let receiver = receiver_at self.old stream in
+            IfErr result (λ fault. fault ≡ PollFault.Memory
+            → IsInterrupted (format_of receiver.row) receiver.stream (receiver_at self.new stream).stream) }
+        ensures others { self.new ≡ with_receiver self.old stream
+            (with_stream (receiver_at self.old stream) (receiver_at self.new stream).stream) }
+        ensures fewer { IfOk result (λ unit. OnSome unit
+            (length (receiver_at self.new stream).stream.held < length (receiver_at self.old stream).stream.held)) }
+    {
+        match &mut self.streams[stream] {
+            OpenStream::Receiver(receiver) => receiver.poll(),
+            OpenStream::Sender(_) => unreachable!(),
+        }
+    }
+
+    /// The lowest complete unit of a receiving stream, whether or not a datagram before it is missing: a poll that
+    /// holds no complete frame back. For the end of a stream, when nothing more will come; None where no frame is
+    /// complete.
+    ///
+    /// # Conditions
+    /// The number is that of a receiving stream: [`End::is_receiver`].
+    ///
+    /// # Errors
+    /// Those of [`End::poll`].
+    pub fn drain(&mut self, stream: usize) -> Result<Option<Unit>, PollFault>
+        requires { is_receiver_at self.old stream ≡ true }
+        ensures answer { let receiver = receiver_at self.old stream in
+            IfOk result (λ unit. given (drain_answer (format_of receiver.row) receiver.stream) ≡ Ok unit) }
+        ensures after { OnOk result (self.new ≡ with_receiver self.old stream
+            (drained_receiver (receiver_at self.old stream))) }
+        ensures none { let receiver = receiver_at self.old stream in
+            IfOk result (λ unit. IfNone unit (complete_frames (format_of receiver.row) receiver.stream.held ≡ [])) }
+        ensures fault { let receiver = receiver_at self.old stream in
+            IfErr result (λ fault. fault ≢ PollFault.Memory
+            → given (drain_answer (format_of receiver.row) receiver.stream) ≡ Err fault) }
+        ensures behind { IfErr result (λ fault. fault ≢ PollFault.Memory → self.new
+            ≡ with_receiver self.old stream (drained_receiver (receiver_at self.old stream))) }
+        ensures memory { let receiver = receiver_at self.old stream in
+            IfErr result (λ fault. fault ≡ PollFault.Memory → IsInterrupted (format_of receiver.row)
+            (holding 0 receiver.stream) (holding 0 (receiver_at self.new stream).stream)) }
+        ensures hold_back { (receiver_at self.new stream).stream.hold_back
+            ≡ (receiver_at self.old stream).stream.hold_back }
+        ensures others { self.new ≡ with_receiver self.old stream
+            (with_stream (receiver_at self.old stream) (receiver_at self.new stream).stream) }
+        ensures fewer { IfOk result (λ unit. OnSome unit
+            (length (receiver_at self.new stream).stream.held < length (receiver_at self.old stream).stream.held)) }
+    {
+        match &mut self.streams[stream] {
+            OpenStream::Receiver(receiver) => receiver.drain(),
+            OpenStream::Sender(_) => unreachable!(),
+        }
+    }
+
+    /// Polls a receiving stream until no unit is ready or memory for one is wanting, and answers what the polls
+    /// answered, in order.
+    ///
+    /// # Conditions
+    /// The number is that of a receiving stream: [`End::is_receiver`].
+    ///
+    /// # Errors
+    /// `AllocError` where memory for that list is wanting: what was polled is lost, and nothing else changes.
+    pub fn poll_all(&mut self, stream: usize) -> Result<Vec<Result<Unit, PollFault>>, AllocError>
+        requires { is_receiver_at self.old stream ≡ true }
+        ensures polled { let receiver = receiver_at self.old stream in
+            IfOk result (λ answers. IsPolled (format_of receiver.row) receiver.stream answers.items
+            (receiver_at self.new stream).stream) }
+        ensures some { let receiver = receiver_at self.old stream in
+            OnErr result (IsPolledSome (format_of receiver.row) receiver.stream
+            (receiver_at self.new stream).stream) }
+        ensures others { self.new ≡ with_receiver self.old stream
+            (with_stream (receiver_at self.old stream) (receiver_at self.new stream).stream) }
+    {
+        match &mut self.streams[stream] {
+            OpenStream::Receiver(receiver) => receiver.poll_all(),
+            OpenStream::Sender(_) => unreachable!(),
+        }
+    }
+}
+
+/// The number of the stream that takes this SSRC and payload type.
+fn stream_for(streams: &[OpenStream], ssrc: Ssrc, pt: Pt) -> Option<usize>
+    ensures stream { result ≡ stream_for streams.now ssrc pt }
+    ensures within { IfSome result (λ n. n < length streams.now) }
+    ensures receives { IfSome result (λ n. is_sending (nth_stream streams.now n) ≡ false) }
+{
+    streams.iter().position(|s| s.takes(ssrc, pt))
+}
+
+/// The payload that a datagram brings a stream, if there is one and it has a byte.
+fn payload_of<'a>(
+    receiver: &ReceivingStream,
+    header: &RtpHeader,
+    datagram: &'a [u8],
+) -> Option<&'a [u8]>
+    requires { header.now.header_len ≤ length datagram.now }
+    ensures some { (stream : ℕ) (values : ExtensionValues)
+        → IfSome result (λ payload. own_of stream header.now values
+        (media_payload receiver.now.types header.now datagram.now)
+        ≡ Own stream header.now.sequence_number header.now.timestamp header.now.marker values payload.now) }
+    ensures byte { IfSome result (λ payload. 0 < length payload.now) }
+    ensures none { (stream : ℕ) (values : ExtensionValues)
+        → IfNone result (own_of stream header.now values (media_payload receiver.now.types header.now datagram.now)
+        ≡ NoPayload) }
+{
+    let payload = receiver.media_payload(header, datagram)?;
+    if payload.is_empty() {
+        return None;
+    }
+    Some(payload)
+}
