@@ -1,11 +1,11 @@
 //! A call of three samples.
 
-ghost use Rattle.std.specs.Prelude.{◌≡◌, ◌<◌, ◌≤◌, ℕ, List, length, map, All, IfOk, IfSome, IsTrue, Ok, None};
+ghost use Rattle.std.specs.Prelude.{◌≡◌, ◌≤◌, ℕ, List, length, map, true, All, IfOk, IfSome, IsTrue, Ok, None};
 ghost use Rattle.payload_core_base.specs.declared.codec.Codec.TheVariants.{Opus};
 ghost use Rattle.rtp_media_runs.specs.Hearing.{handed_out};
 ghost use Rattle.rtp_media_streams.specs.Sending.{packet_limit};
 ghost use Rattle.rtp_media_ends.specs.Connections.{HaveExchanged};
-ghost use Rattle.rtp_media_ends.specs.Ends.{sender_at};
+ghost use Rattle.rtp_media_ends.specs.Ends.{is_receiver_at, is_sender_at, sender_at};
 ghost use Rattle.rtp_media_play.specs.Runs.{Hears};
 ghost use Rattle.rtp_media_play.specs.Schedules.{poll_answers};
 ghost use Rattle.opus_call.specs.Call.{IsOpus, IsShortSample, bytes_out};
@@ -109,8 +109,8 @@ fn carry_over(
     rx: usize,
     samples: &[Sample],
 ) -> Result<Vec<Played>, Stopped>
-    requires sender { tx < length a.old.senders }
-    requires receiver { rx < length b.old.receivers }
+    requires sender { is_sender_at a.old tx ≡ true }
+    requires receiver { is_receiver_at b.old rx ≡ true }
     requires hears { Hears b.old rx 127 (sender_at a.old tx) samples.now }
     requires opus { (sender_at a.old tx).row.codec ≡ Opus }
     requires first { (sender_at a.old tx).next ≡ 0 }

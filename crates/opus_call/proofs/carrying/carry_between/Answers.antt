@@ -57,7 +57,7 @@ carry_over-requires-clause-hears c =
       numbers = omega (arith, count, c.requires.first);
     } in
     let hears : Hears (after_open_receiver b c.from-mid.result c.from-ssrc.result c.from-pt.result 127)
-    (length b.receivers) 127 s c.args.samples.now =
+    (length b.streams) 127 s c.args.samples.now =
     c.headline.ensures.hears c.requires.exchanged.0 a b c.from-mid.result c.from-ssrc.result c.from-pt.result
     c.args.params c.args.samples.now 127 to in
     subst (λ (t : Sending). Hears c.open_receiver.new.self c.in-Ok-open_receiver.rx 127 t c.args.samples.now)
