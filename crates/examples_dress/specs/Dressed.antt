@@ -10,7 +10,7 @@ use Rattle.examples_dress.specs.declared.dress.Transport.{Transport}
 
 abbrev pub transport_lines : Transport → List MediaAttribute
 transport_lines t = a.IceUfrag t.creds.ufrag ∷ a.IcePwd t.creds.pass ∷ a.Fingerprint t.fingerprint ∷ a.Setup t.setup
-  ∷ a.RtcpMux ∷ []
+    ∷ a.RtcpMux ∷ []
 
 -- an attribute, with the transport's lines behind the section's name
 abbrev pub dressed_attribute : Transport → MediaAttribute → List MediaAttribute

@@ -1,6 +1,6 @@
 //! Session texts with the transport's lines.
 
-ghost use Rattle.std.specs.Prelude.{◌≡◌, IfOk, OnOk, OnErr, ◌++◌};
+ghost use Rattle.std.specs.Prelude.{◌≡◌, IfOk, OnOk, ◌++◌};
 ghost use Rattle.examples_dress.specs.Dressed.{transport_lines, dressed_attribute, dressed_attributes};
 ghost use Rattle.examples_dress.specs.Dressed.{dressed_section, dressed};
 ghost use Rattle.sdp_formats_types.specs.Consistency.{is_mid};

@@ -6,4 +6,4 @@ use Rattle.examples_dress.proofs.dress.dress.Given as goal
 -- what is dressed, and what is left to dress, are together the dressed sections
 abbrev pub invariant-loop-section : goal.invariant-loop-section
 invariant-loop-section l = l.sections ++ map (dressed_section l.transport) l.section-iterator.rest.items
-  ≡ map (dressed_section l.fn.transport) l.fn.sdp.media_lines
+    ≡ map (dressed_section l.fn.transport) l.fn.sdp.media_lines
