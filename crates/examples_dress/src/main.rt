@@ -7,20 +7,34 @@ mod dress;
 use dress::{Transport, dress};
 use sdp_formats::{Fingerprint, IceCreds, Listed, Setup, Text, sdp_parser};
 
+// A text of the program's own.
+fn text(rt: &HostRuntime, text: &str) -> anyhow::Result<Text> {
+    Ok(Text::of(String::from_str(rt.alloc(), text)?))
+}
+
+fn creds(rt: &HostRuntime) -> anyhow::Result<IceCreds> {
+    let ufrag = text(rt, "F7gI")?;
+    let pass = text(rt, "x9cml/YzichV2+XlhiMu8g")?;
+    Ok(IceCreds { ufrag, pass })
+}
+
+fn fingerprint(rt: &HostRuntime) -> anyhow::Result<Fingerprint> {
+    let digest = "1c9b0d4f6a2e8873c5d0114e9f3aa6b7d8290c5e4b6f7081a2b3c4d5e6f70819";
+    let bytes = hex::decode(rt.alloc(), digest)?;
+    let hash_func = text(rt, "sha-256")?;
+    let bytes = Listed::of(bytes);
+    Ok(Fingerprint { hash_func, bytes })
+}
+
 /// What the transport tells of itself: here one whose certificate and credentials are known beforehand.
 fn transport(rt: &HostRuntime) -> anyhow::Result<Transport> {
-    let alloc = rt.alloc();
-    let digest = "1c9b0d4f6a2e8873c5d0114e9f3aa6b7d8290c5e4b6f7081a2b3c4d5e6f70819";
+    let creds = creds(rt)?;
+    let fingerprint = fingerprint(rt)?;
+    let setup = Setup::ActPass;
     Ok(Transport {
-        creds: IceCreds {
-            ufrag: Text::of(String::from_str(alloc, "F7gI")?),
-            pass: Text::of(String::from_str(alloc, "x9cml/YzichV2+XlhiMu8g")?),
-        },
-        fingerprint: Fingerprint {
-            hash_func: Text::of(String::from_str(alloc, "sha-256")?),
-            bytes: Listed::of(hex::decode(alloc, digest)?),
-        },
-        setup: Setup::ActPass,
+        creds,
+        fingerprint,
+        setup,
     })
 }
 
