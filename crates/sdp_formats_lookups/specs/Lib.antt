@@ -1,4 +1,5 @@
 pub mod Creds
+pub mod Preference
 pub mod Sections
 pub mod Sessions
 pub mod Whole

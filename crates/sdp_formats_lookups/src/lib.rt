@@ -2,6 +2,7 @@
 #![tactic(auto)]
 
 pub mod lists;
+pub mod preference;
 pub mod section;
 pub mod session;
 pub mod whole;
