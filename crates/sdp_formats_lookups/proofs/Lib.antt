@@ -1,1 +1,2 @@
 pub mod Preferred
+pub mod Turned

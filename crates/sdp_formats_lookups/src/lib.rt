@@ -1,6 +1,7 @@
 //! What sections and sessions say, by their attributes, beside the accessors of `MediaLine`.
 #![tactic(auto)]
 
+pub mod directions;
 pub mod lists;
 pub mod preference;
 pub mod section;
