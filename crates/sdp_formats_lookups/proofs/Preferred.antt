@@ -47,9 +47,9 @@ taken : (done : List Fingerprint) (b p : Fingerprint) → is_below p b ≡ true 
     → IsFirstOfLowest (done ++ p ∷ []) p
 taken done b p e h =
     let early = list_mono (is_below b) (is_below p) (λ q. below_below (hash_preference p) (hash_preference b)
-        (hash_preference q) e) h.before h.first in
+    (hash_preference q) e) h.before h.first in
     let late = list_mono (is_at_most b) (is_below p) (λ q. below_at_most (hash_preference p) (hash_preference b)
-        (hash_preference q) e) h.behind h.lowest in
+    (hash_preference q) e) h.behind h.lowest in
     let all = two (is_below p) h.before (b ∷ h.behind) early (with_head (is_below p) b h.behind e late) in
     record {
       before = done;

@@ -1,10 +1,9 @@
 -- The direction of a section and its change (RFC 8866 6.7).
-use Rattle.std.specs.Prelude.{ℕ, Bool, List, is_some}
+use Rattle.std.specs.Prelude.{Bool, List, is_some}
 use Rattle.std.specs.List.{position_or_len, slice_set}
 use Rattle.rtp_wire.specs.declared.Direction.{Direction}
 use Rattle.sdp_formats_types.specs.Lookups.{direction_in}
 use Rattle.sdp_formats_types.specs.Media.{direction_attribute}
-use Rattle.sdp_formats_types.specs.declared.Listed.{Listed}
 use Rattle.sdp_formats_types.specs.declared.MediaAttribute.{MediaAttribute}
 use Rattle.sdp_formats_types.specs.declared.MediaLine.{MediaLine}
 

@@ -1,7 +1,7 @@
 -- Which of several fingerprints is taken (RFC 8122 5).
 use Rattle.std.specs.Prelude.{◌≡◌, ℕ, IsTrue, nat_lt, nat_le, List, [], ◌∷◌, ◌++◌, Option, Some, None, fold, codes}
 use Rattle.std.specs.Prelude.{if◌then◌else◌}
-use Rattle.std.specs.List.{filter_map, list_all}
+use Rattle.std.specs.List.{list_all}
 use Rattle.std.specs.Str.{str_eq_ignore_ascii_case}
 use Rattle.sdp_formats_types.specs.declared.Fingerprint.{Fingerprint}
 

@@ -2,6 +2,7 @@
 #![tactic(auto)]
 
 pub mod directions;
+pub mod keys;
 pub mod lists;
 pub mod preference;
 pub mod section;

@@ -10,6 +10,6 @@ returns-in-Some c =
     let here = c.section-item.result in
     let rest : List MediaLine = drop (suc i) sections in
     let cut = drop-cons sections i here c.loop-section-test.true
-        ∙ ap (λ (m : MediaLine). m ∷ rest) (sym c.section-item.is) in
+    ∙ ap (λ (m : MediaLine). m ∷ rest) (sym c.section-item.is) in
     first_listed-at here rest (drop i sections) sections c.in-Some.value.now cut c.loop-section.invariant
-        c.in-Some.ensures
+    c.in-Some.ensures
