@@ -1,0 +1,2 @@
+pub mod Preferred
+pub mod Turned

@@ -1,4 +1,6 @@
 pub mod Creds
+pub mod Directions
+pub mod Preference
 pub mod Sections
 pub mod Sessions
 pub mod Whole

@@ -1,7 +1,10 @@
 //! What sections and sessions say, by their attributes, beside the accessors of `MediaLine`.
 #![tactic(auto)]
 
+pub mod directions;
+pub mod keys;
 pub mod lists;
+pub mod preference;
 pub mod section;
 pub mod session;
 pub mod whole;

@@ -1,13 +1,15 @@
 //! What a session says, by its attributes.
 
 ghost use Rattle.std.specs.Prelude.{◌≡◌};
-ghost use Rattle.std.specs.List.{list_any};
+ghost use Rattle.std.specs.List.{filter_map, list_any};
 ghost use Rattle.std.specs.Option.{option_copied};
 ghost use Rattle.sdp_formats_lookups.specs.Creds.{creds_view};
+ghost use Rattle.sdp_formats_lookups.specs.Preference.{IsPreferred, best_of};
 ghost use Rattle.sdp_formats_lookups.specs.Sessions.{creds_of, ends_candidates, fingerprint_in, ice_pwd_in};
 ghost use Rattle.sdp_formats_lookups.specs.Sessions.{ice_ufrag_in, is_lite, setup_in};
 ghost use Rattle.sdp_formats_types.specs.Lookups.{first_of};
 
+use crate::preference::chosen;
 use sdp_formats_forms::Text;
 use sdp_formats_types::{Fingerprint, Session, SessionAttribute, Setup};
 
@@ -90,17 +92,22 @@ fn fingerprint_in(attribute: &SessionAttribute) -> Option<&Fingerprint>
     }
 }
 
-/// The fingerprint of the first `a=fingerprint` (RFC 8122 5).
-pub fn fingerprint(session: &Session) -> Option<&Fingerprint>
-    ensures { option_copied result ≡ first_of fingerprint_in session.now.attrs }
+fn best_fingerprint(attributes: &[SessionAttribute]) -> Option<&Fingerprint>
+    ensures { option_copied result ≡ best_of fingerprint_in attributes.now }
 {
-    let attributes = session.attrs.as_slice();
+    let mut best = None;
     for attribute in attributes {
-        if let Some(value) = fingerprint_in(attribute) {
-            return Some(value);
-        }
+        best = chosen(best, fingerprint_in(attribute));
     }
-    None
+    best
+}
+
+/// The preferred one of the fingerprints that `a=fingerprint` gives: the first of those with the lowest
+/// `hash_preference` (RFC 8122 5).
+pub fn fingerprint(session: &Session) -> Option<&Fingerprint>
+    ensures { IsPreferred (filter_map fingerprint_in session.now.attrs) (option_copied result) }
+{
+    best_fingerprint(session.attrs.as_slice())
 }
 
 /// The credentials of connectivity checks: the first name and the first password, where both are given (RFC 8839 5.4).

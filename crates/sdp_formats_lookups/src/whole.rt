@@ -1,10 +1,11 @@
 //! What a whole session text says: the session's own word, or else that of its first section that has one.
 
-ghost use Rattle.std.specs.Prelude.{◌≡◌};
+ghost use Rattle.std.specs.Prelude.{◌≡◌, map};
 ghost use Rattle.std.specs.Option.{option_copied};
 ghost use Rattle.sdp_formats_lookups.specs.Creds.{creds_view};
-ghost use Rattle.sdp_formats_lookups.specs.Whole.{creds_of, fingerprint_of, section_creds};
-ghost use Rattle.sdp_formats_lookups.specs.Whole.{section_fingerprint, section_setup, setup_of};
+ghost use Rattle.sdp_formats_lookups.specs.Whole.{creds_of, first_listed, prints_of, section_creds};
+ghost use Rattle.sdp_formats_lookups.specs.Whole.{section_prints, section_setup, setup_of};
+ghost use Rattle.sdp_formats_lookups.specs.Preference.{IsPreferred};
 ghost use Rattle.sdp_formats_types.specs.Lookups.{first_of};
 
 use crate::{section, session};
@@ -12,7 +13,7 @@ use sdp_formats_forms::Text;
 use sdp_formats_types::{Fingerprint, MediaLine, Sdp, Setup};
 
 fn first_fingerprint(sections: &[MediaLine]) -> Option<&Fingerprint>
-    ensures { option_copied result ≡ first_of section_fingerprint sections.now }
+    ensures { IsPreferred (first_listed (map section_prints sections.now)) (option_copied result) }
 {
     for section in sections {
         if let Some(value) = section::fingerprint(section) {
@@ -22,9 +23,10 @@ fn first_fingerprint(sections: &[MediaLine]) -> Option<&Fingerprint>
     None
 }
 
-/// The fingerprint of the certificate (RFC 8122 5).
+/// The fingerprint of the certificate: the preferred one of the session's, or else of its first section that has any
+/// (RFC 8122 5).
 pub fn fingerprint(sdp: &Sdp) -> Option<&Fingerprint>
-    ensures { option_copied result ≡ fingerprint_of sdp.now }
+    ensures { IsPreferred (prints_of sdp.now) (option_copied result) }
 {
     if let Some(value) = session::fingerprint(&sdp.session) {
         return Some(value);

@@ -1,9 +1,0 @@
-use Rattle.std.proofs.Common.{◌≡◌, drop}
-use Rattle.sdp_formats_lookups.specs.Sessions.{fingerprint_in}
-use Rattle.sdp_formats_types.specs.Lookups.{first_of}
-use Rattle.sdp_formats_lookups.proofs.session.fingerprint.Given as goal
-
--- the attributes so far say nothing
-abbrev pub invariant-loop-attribute : goal.invariant-loop-attribute
-invariant-loop-attribute l =
-    first_of fingerprint_in (drop l.attribute-index l.attributes) ≡ first_of fingerprint_in l.fn.session.attrs
