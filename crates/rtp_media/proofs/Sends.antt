@@ -8,7 +8,8 @@ use Rattle.rtp_media_lines.specs.declared.line.Command.TheVariants.{Send}
 use Rattle.rtp_media_lines.specs.declared.line.SendCommand.{SendCommand}
 use Rattle.rtp_media_lines.specs.declared.reply.Reply.{Reply}
 use Rattle.rtp_media_lines.specs.declared.reply.Reply.TheVariants as reply
-use Rattle.rtp_media.specs.Program.{EndStep, IsAnswered, becomes, is_sound_send, params_of, prints, send_step, sender_step}
+use Rattle.rtp_media.specs.Program.{EndStep, IsAnswered, becomes, is_sound_send, params_of, prints, send_step}
+use Rattle.rtp_media.specs.Program.{sender_step}
 
 pub answered : (e : EndState) (c : SendCommand) (end : Option EndState) (replies : List Reply) (n : ℕ)
     → is_sound_send e c ≡ true → refusal_of_open_sender e (name_of 16 c.mid) c.ssrc c.pt ≡ None

@@ -6,7 +6,8 @@ use Rattle.rtp_media_sections.specs.Agreement.{Agreed, is_named, own_row_agrees,
 use Rattle.sdp_formats_rows.specs.Rows.{Row}
 use Rattle.rtp_media_ends.specs.Ends.{EndState, carried, carried_row, is_carried, receiver_refusal_in}
 use Rattle.rtp_media_ends.specs.Ends.{receiver_refusal_of, refusal_by, refusal_of_open_receiver}
-use Rattle.rtp_media_ends.specs.Ends.{receives_as, refusal_of_open_sender, sender_refusal_in, sender_refusal_of, sends_as}
+use Rattle.rtp_media_ends.specs.Ends.{receives_as, refusal_of_open_sender, sender_refusal_in, sender_refusal_of}
+use Rattle.rtp_media_ends.specs.Ends.{sends_as}
 use Rattle.rtp_media_ends.specs.Ends.{types_of}
 use Rattle.rtp_media_ends.specs.OpensAt.{ReceivesAt, SendsAt}
 

@@ -8,9 +8,10 @@ use Rattle.rtp_media_ends.proofs.end.End.receiver_row.Goals as goal
 pub returns-in-None-clause-opens : goal.returns-in-None-clause-opens
 unfolding refusal_of_open_receiver
 returns-in-None-clause-opens c =
-    let e : refusal_of_open_receiver c.args.self.now c.args.mid c.args.ssrc c.args.pt ≡ c.opening_refusal-refusal.result =
-    (rw (← c.self.view_is) (receiver-refusal c.self.inside.exchange.config.rows c.self.inside.exchange.agreed _ c.args.mid
-    c.args.ssrc c.args.pt _ c.in_ok-row.row _ _ _ _ c.in_ok-section.ensures.found c.in_ok-row.ensures.found
+    let e : refusal_of_open_receiver c.args.self.now c.args.mid c.args.ssrc c.args.pt
+      ≡ c.opening_refusal-refusal.result =
+    (rw (← c.self.view_is) (receiver-refusal c.self.inside.exchange.config.rows c.self.inside.exchange.agreed _
+    c.args.mid c.args.ssrc c.args.pt _ c.in_ok-row.row _ _ _ _ c.in_ok-section.ensures.found c.in_ok-row.ensures.found
     c.agrees_with.ensures c.is_receiving.ensures c.names_remote.ensures
     ((rw c.deref.ensures.value at c.could_receive.ensures)
     ∙ ap (λ types. list_any (receives_as c.args.ssrc types) c.self.inside.streams.items) c.types_of.ensures)))
@@ -20,9 +21,10 @@ returns-in-None-clause-opens c =
 pub returns-in-Some-clause-refused : goal.returns-in-Some-clause-refused
 unfolding refusal_of_open_receiver
 returns-in-Some-clause-refused c =
-    let e : refusal_of_open_receiver c.args.self.now c.args.mid c.args.ssrc c.args.pt ≡ c.opening_refusal-refusal.result =
-    (rw (← c.self.view_is) (receiver-refusal c.self.inside.exchange.config.rows c.self.inside.exchange.agreed _ c.args.mid
-    c.args.ssrc c.args.pt _ c.in_ok-row.row _ _ _ _ c.in_ok-section.ensures.found c.in_ok-row.ensures.found
+    let e : refusal_of_open_receiver c.args.self.now c.args.mid c.args.ssrc c.args.pt
+      ≡ c.opening_refusal-refusal.result =
+    (rw (← c.self.view_is) (receiver-refusal c.self.inside.exchange.config.rows c.self.inside.exchange.agreed _
+    c.args.mid c.args.ssrc c.args.pt _ c.in_ok-row.row _ _ _ _ c.in_ok-section.ensures.found c.in_ok-row.ensures.found
     c.agrees_with.ensures c.is_receiving.ensures c.names_remote.ensures
     ((rw c.deref.ensures.value at c.could_receive.ensures)
     ∙ ap (λ types. list_any (receives_as c.args.ssrc types) c.self.inside.streams.items) c.types_of.ensures)))
