@@ -78,7 +78,12 @@ opened-sound law ssrc row map params fit fits sound = go row.red params.red refl
       IsSender (with_distances (opened_sender ssrc (types_of row) map (row_format_of row) params.picture_id
       params.for_browsers params.first params.mtu params.limit) red distances)
   go red None e of r = record {
-    typed = refl; payload_type = fit.typed; wire_type = fit.typed; ssrc = fits; reached = reached }
+    typed = refl;
+    payload_type = fit.typed;
+    wire_type = fit.typed;
+    ssrc = fits;
+    reached = reached;
+  }
   go None (Some ds) e of r = absurd r
   go (Some w) (Some ds) e of r = record {
     typed = (e, of.1, r.1);

@@ -9,7 +9,7 @@ pub returns-in-None-clause-opens : goal.returns-in-None-clause-opens
 unfolding refusal_of_open_receiver
 returns-in-None-clause-opens c =
     let e : refusal_of_open_receiver c.args.self.now c.args.mid c.args.ssrc c.args.pt
-      ≡ c.opening_refusal-refusal.result =
+    ≡ c.opening_refusal-refusal.result =
     (rw (← c.self.view_is) (receiver-refusal c.self.inside.exchange.config.rows c.self.inside.exchange.agreed _
     c.args.mid c.args.ssrc c.args.pt _ c.in_ok-row.row _ _ _ _ c.in_ok-section.ensures.found c.in_ok-row.ensures.found
     c.agrees_with.ensures c.is_receiving.ensures c.names_remote.ensures
@@ -22,7 +22,7 @@ pub returns-in-Some-clause-refused : goal.returns-in-Some-clause-refused
 unfolding refusal_of_open_receiver
 returns-in-Some-clause-refused c =
     let e : refusal_of_open_receiver c.args.self.now c.args.mid c.args.ssrc c.args.pt
-      ≡ c.opening_refusal-refusal.result =
+    ≡ c.opening_refusal-refusal.result =
     (rw (← c.self.view_is) (receiver-refusal c.self.inside.exchange.config.rows c.self.inside.exchange.agreed _
     c.args.mid c.args.ssrc c.args.pt _ c.in_ok-row.row _ _ _ _ c.in_ok-section.ensures.found c.in_ok-row.ensures.found
     c.agrees_with.ensures c.is_receiving.ensures c.names_remote.ensures
