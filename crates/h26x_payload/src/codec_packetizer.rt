@@ -69,6 +69,9 @@ impl<B: Packetizer> CodecPacketizer<B> {
     }
 
     /// The same, with picture ids from this one on in VP8 and VP9.
+    ///
+    /// # Conditions
+    /// The picture id, if there is one, has 15 bits: it is below 32,768.
     pub fn with_picture_id(codec: Codec, picture_id: Option<u16>) -> Option<Self>
         requires { unwrap_or picture_id 0 < 32768 }
         ensures some { is_some result ≡ has_format codec }

@@ -12,6 +12,9 @@ pub struct H265NALUHeader(pub u16);
 
 impl H265NALUHeader {
     /// A header with F clear.
+    ///
+    /// # Conditions
+    /// The unit's type is below 64, the layer below 64, and the temporal id below 8.
     pub fn new_with_type(nalu_type: u8, layer_id: u8, tid: u8) -> Self
         requires nalu_type { nalu_type < 64 }
         requires layer_id { layer_id < 64 }

@@ -56,6 +56,9 @@ impl RedSender {
 
     /// A sender that has wrapped nothing. Distances rise strictly, and are 1 to 8; there may be none. The only
     /// refusal is `Memory`.
+    ///
+    /// # Conditions
+    /// The distances rise strictly, each from 1 to 8: `are_distances` tests it.
     pub fn new(alloc: Global, distances: &[u32]) -> Result<Self, PacketError>
         requires { AreDistances distances.now }
         ensures made { IfOk result (λ s. s ≡ record { distances = distances.now; history = [] }) }
@@ -69,6 +72,9 @@ impl RedSender {
 
     /// Takes other distances, under the condition of `new`, and keeps the payloads that were wrapped. The only
     /// refusal is `Memory`, which changes nothing.
+    ///
+    /// # Conditions
+    /// The distances rise strictly, each from 1 to 8: `are_distances` tests it.
     pub fn sync(&mut self, distances: &[u32]) -> Result<(), PacketError>
         requires { AreDistances distances.now }
         ensures synced { OnOk result (self.new ≡ record { distances = distances.now; history = self.old.history }) }

@@ -193,6 +193,9 @@ fn put_key_idx(out: &mut [u8], place: usize, index: Option<u8>)
 impl Vp8Patch {
     /// Copies a payload to `out`, which is as long, with the patch's ids in place of its own. All other bits
     /// stay. The payload reaches each byte that the patch writes, as the descriptor's own does.
+    ///
+    /// # Conditions
+    /// `out` is as long as the payload, and the payload reaches each byte that the patch writes.
     pub fn copy_to(&self, payload: &[u8], out: &mut [u8])
         requires equal_lengths { length payload.now ≡ length out.old }
         requires reaches { Reaches self.now (length payload.now) }

@@ -45,6 +45,9 @@ impl Datagram {
     }
 
     /// A header and a payload behind it.
+    ///
+    /// # Conditions
+    /// The header's payload type is below 128, and it has at most 15 contributing sources.
     pub fn new(
         alloc: Global,
         header: &RtpHeader,

@@ -122,6 +122,9 @@ impl SendingStream {
     /// The stream with redundancy (RFC 2198): it sends each payload under this RED type, behind those
     /// that were sent so many payloads before it as the distances say, as far as `mtu` has room for them.
     ///
+    /// # Conditions
+    /// The payload type is below 128, and the distances rise strictly, each from 1 to 8: `are_distances` tests it.
+    ///
     /// # Errors
     /// `AllocError`.
     pub fn with_red(self, red: Pt, distances: &[u32]) -> Result<Self, AllocError>

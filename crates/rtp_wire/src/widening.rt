@@ -5,6 +5,9 @@ ghost use Rattle.rtp_wire.specs.Widening.{widened, widened_of};
 
 /// The number nearest to the previous one with these low 7 bits, modulo 2^64. Of two as near it is
 /// the one with the previous number's upper bits; with no previous number it is the bits themselves.
+///
+/// # Conditions
+/// `low` has 7 bits: it is below 128.
 pub fn extend_u7(previous: Option<u64>, low: u8) -> u64
     requires { low < 128 }
     ensures { result ≡ widened_of 64 previous low }
@@ -20,6 +23,9 @@ pub fn extend_u8(previous: Option<u64>, low: u8) -> u64
 }
 
 /// The number nearest to the previous one with these low 15 bits, as [`extend_u7`].
+///
+/// # Conditions
+/// `low` has 15 bits: it is below 32,768.
 pub fn extend_u15(previous: Option<u64>, low: u16) -> u64
     requires { low < 32768 }
     ensures { result ≡ widened_of 16384 previous low }

@@ -25,6 +25,9 @@ impl RtpHeader {
 
     /// The length of the header, in bytes, with each element of its block in the two-byte form (RFC
     /// 8285 4.3), whichever form is written; `wire_len` never passes it.
+    ///
+    /// # Conditions
+    /// The header has at most 15 contributing sources.
     pub fn two_byte_len(&self, exts: &ExtensionMap) -> usize
         requires csrc_count { self.now.csrc_count ≤ 15 }
         ensures { result ≡ two_byte_length exts.now self.now }
@@ -39,6 +42,10 @@ impl RtpHeader {
 
     /// Writes the header in front of the buffer, and answers its length (RFC 3550 5.1 and 5.3.1).
     /// The bytes behind it stay.
+    ///
+    /// # Conditions
+    /// The buffer has room for `wire_len` bytes; the payload type is below 128, and there are at most 15 contributing
+    /// sources.
     pub fn write_to(&self, buf: &mut [u8], exts: &ExtensionMap) -> usize
         requires room { length (spelled exts.now self.now) ≤ length buf.old }
         requires payload_type { self.now.payload_type < 128 }

@@ -216,6 +216,9 @@ impl ExtensionMap {
     }
 
     /// Writes the block's bytes for these values at this place, and answers the place behind them.
+    ///
+    /// # Conditions
+    /// The buffer has room for the block's bytes from `at` on.
     pub fn write_block(&self, values: &ExtensionValues, buf: &mut [u8], at: usize) -> usize
         requires { at + length (block_of self.now values.now).content ≤ length buf.old }
         ensures end { result ≡ at + length (block_of self.now values.now).content }
@@ -228,6 +231,9 @@ impl ExtensionMap {
 
     /// Writes the block for these values at this place, profile and count of words first (RFC 3550 5.3.1), and
     /// answers the place behind it.
+    ///
+    /// # Conditions
+    /// The buffer has room for four bytes and the block's from `at` on.
     pub fn write_headed_block(&self, values: &ExtensionValues, buf: &mut [u8], at: usize) -> usize
         requires { at + (4 + length (block_of self.now values.now).content) ≤ length buf.old }
         ensures end { result ≡ at + (4 + length (block_of self.now values.now).content) }

@@ -135,6 +135,9 @@ impl ExtensionMap {
     }
 
     /// Gives a number, 1 to 16, to an extension; what had it goes.
+    ///
+    /// # Conditions
+    /// The number is from 1 to 16.
     pub fn set(&mut self, id: u8, ext: Extension)
         requires least { 1 ≤ id }
         requires most { id ≤ 16 }

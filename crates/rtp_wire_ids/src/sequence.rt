@@ -43,6 +43,9 @@ impl SeqNo {
     }
 
     /// Counts one up, and answers the number that it was.
+    ///
+    /// # Conditions
+    /// The number is below 2^64 - 1.
     pub fn inc(&mut self) -> SeqNo
         requires { self.old < 2 ^ 64 - 1 }
         ensures answer { result ≡ self.old }

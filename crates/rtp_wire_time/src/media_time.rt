@@ -114,6 +114,9 @@ impl MediaTime {
     }
 
     /// The whole microseconds of the time.
+    ///
+    /// # Conditions
+    /// The time in whole microseconds is below 2^64; `checked_rebase` tests it.
     pub fn as_micros(&self) -> u64
         requires { rebased_ticks self.now 1000000 < 2 ^ 64 }
         ensures { result ≡ rebased_ticks self.now 1000000 }
@@ -129,6 +132,9 @@ impl MediaTime {
     }
 
     /// The whole ticks of another clock that go into this time: its floor.
+    ///
+    /// # Conditions
+    /// The time in whole ticks of that clock is below 2^64; `checked_rebase` tests it.
     pub fn rebase(self, denom: Frequency) -> MediaTime
         requires { rebased_ticks self denom < 2 ^ 64 }
         ensures value { result ≡ rebased self denom }
@@ -165,6 +171,9 @@ impl MediaTime {
     }
 
     /// The difference at the greater clock rate, 0 where it is below zero.
+    ///
+    /// # Conditions
+    /// Both times fit 64 bits at the greater clock rate; `checked_sub` needs no condition.
     pub fn saturating_sub(self, rhs: MediaTime) -> MediaTime
         requires { BothFit self rhs }
         ensures { result ≡ difference_of self rhs }
