@@ -6,6 +6,7 @@ mod dress;
 
 use dress::{Transport, dress};
 use sdp_formats::{Fingerprint, IceCreds, Listed, Setup, Text, sdp_parser};
+use std::io;
 
 // A text of the program's own.
 fn text(rt: &HostRuntime, text: &str) -> anyhow::Result<Text> {
@@ -40,11 +41,7 @@ fn transport(rt: &HostRuntime) -> anyhow::Result<Transport> {
 
 fn main(rt: HostRuntime) -> anyhow::Result<()> {
     let alloc = rt.alloc();
-    let mut text = String::new(alloc);
-    for line in rt.lines(alloc) {
-        text.push_str(line?.as_str())?;
-        text.push_str("\r\n")?;
-    }
+    let text = io::read_to_string(alloc, rt.reader())?;
     let Ok((sdp, _)) = sdp_parser(alloc, text.as_str()) else {
         println!(rt; "no session text")?;
         return Ok(());
