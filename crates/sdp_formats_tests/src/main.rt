@@ -1,6 +1,7 @@
 //! Reads the session texts whose names stand on standard input, and prints for each what it has: session attributes,
 //! attributes of each section, lines of a form that isn't known, bytes that are left, and whether what was read is
-//! printed as a text that is read and printed alike.
+//! printed as a text that is read and printed alike. Of a text behind `prefixes` it reads each prefix, and prints how
+//! many are session texts.
 #![tactic(auto)]
 
 use sdp_formats::{MediaAttribute, MediaLine, SdpError, SessionAttribute, sdp_parser};
@@ -86,11 +87,42 @@ fn print_text(rt: &HostRuntime, name: &str, text: &str) -> io::Result<()> {
     }
 }
 
+// How many of the first so many prefixes of a text, by bytes, are read, and how many not.
+fn count_prefixes(rt: &HostRuntime, text: &str, count: usize) -> Result<(usize, usize), SdpError> {
+    let (mut read, mut unread) = (0usize, 0usize);
+    for end in 0..count {
+        let Some(prefix) = text.get(..end) else {
+            continue;
+        };
+        match sdp_parser(rt.alloc(), prefix) {
+            Ok(_) => read = read.saturating_add(1),
+            Err(SdpError::Memory) => return Err(SdpError::Memory),
+            Err(_) => unread = unread.saturating_add(1),
+        }
+    }
+    Ok((read, unread))
+}
+
+fn print_prefixes(rt: &HostRuntime, name: &str, text: &str) -> io::Result<()> {
+    let count = text.len().saturating_add(1);
+    match count_prefixes(rt, text, count) {
+        Ok((read, unread)) => println!(*rt;
+            "{name}: {read} prefixes are session texts, {unread} are none"
+        ),
+        Err(_) => println!(*rt; "{name}: out of memory"),
+    }
+}
+
 fn main(rt: HostRuntime) -> io::Result<()> {
     for line in rt.lines(rt.alloc()) {
-        let name = line?;
-        let text = fs::read_to_string(&rt, name.as_str())?;
-        print_text(&rt, name.as_str(), text.as_str())?;
+        let line = line?;
+        if let Some(name) = line.as_str().strip_prefix("prefixes ") {
+            let text = fs::read_to_string(&rt, name)?;
+            print_prefixes(&rt, name, text.as_str())?;
+            continue;
+        }
+        let text = fs::read_to_string(&rt, line.as_str())?;
+        print_text(&rt, line.as_str(), text.as_str())?;
     }
     Ok(())
 }
