@@ -1,90 +1,106 @@
-//! Long runs between two ends under schedules that are drawn from a seed: what is handed out is compared with what
-//! was sent, and counted.
+//! Long runs of every codec between two ends under schedules that are drawn from a seed: what is handed out is compared
+//! with what was sent, and counted.
 #![tactic(auto)]
 
+mod calls;
+mod cases;
 mod counts;
 mod random;
+mod samples;
 mod schedules;
 mod stopped;
 
-use counts::{Counts, count_units};
+use calls::{Call, FIRST};
+use cases::{Case, cases};
+use counts::{Canonical, Counts, count_units};
 use random::Random;
-use rtp_media::{End, Event, Played, Sample, StreamParams, play};
-use rtp_wire::{ExtensionValues, Frequency, MediaTime, Mid, Pt, Ssrc};
-use schedules::{BLOCK, sane_schedule, tame_schedule};
+use rtp_media_play::Sample;
+use rtp_wire::{ExtensionValues, MediaTime};
+use samples::{Drawn, draw_sample};
+use schedules::{sane_schedule, tame_schedule};
 use std::alloc::Global;
 use std::process::ExitCode;
 use stopped::Stopped;
 
-/// How many blocks of datagrams a run has.
-const BLOCKS: usize = 30;
+/// How many samples a run has.
+const SAMPLES: usize = 400;
 
-/// The seeds of the runs: each has one under a tame schedule, in which every datagram comes, and one under a sane
-/// one, in which datagrams are lost, come twice and come late.
+/// The seeds of the runs of each codec.
 const SEEDS: [u64; 3] = [1, 2, 3];
 
-/// A line for each run; status 1 where a unit isn't what was sent, or a run stopped.
+/// Two lines for each codec: one of tame schedules, under which every unit is to come out, and one of sane ones, in
+/// which datagrams are lost and come late. Status 1 where something is wrong.
 fn main(rt: HostRuntime) -> ExitCode {
-    for seed in SEEDS {
-        for tame in [true, false] {
-            let counts = match run(rt.alloc(), seed, tame) {
-                Ok(counts) => counts,
-                Err(stopped) => {
-                    let _ = eprintln!(rt; "{stopped}");
-                    return ExitCode::from(1);
+    let mut status = 0;
+    for case in cases() {
+        let (name, manner) = (case.codec.as_str(), case.manner());
+        for is_tame in [true, false] {
+            let kind = if is_tame { "tame" } else { "sane" };
+            match soak(rt.alloc(), &case, is_tame) {
+                Ok(counts) => {
+                    let _ = println!(rt;
+                        "{name}{manner}, {kind}: {} sent, {} whole, {} partial, {} lost: ok",
+                        counts.sent, counts.whole, counts.partial, counts.lost
+                    );
                 }
-            };
-            let kind = if tame { "tame" } else { "sane" };
-            let _ = println!(rt;
-                "seed {seed} {kind}: {} sent, {} whole, {} partial, {} lost",
-                counts.sent, counts.whole, counts.partial, counts.lost
-            );
+                Err(stopped) => {
+                    status = 1;
+                    let _ = println!(rt; "{name}{manner}, {kind}: {stopped}");
+                }
+            }
         }
     }
-    ExitCode::from(0)
+    ExitCode::from(status)
+}
+
+/// The runs of all seeds.
+fn soak(alloc: Global, case: &Case, is_tame: bool) -> Result<Counts, Stopped> {
+    let mut counts = Counts::none();
+    for seed in SEEDS {
+        let more = run(alloc, case, seed, is_tame)?;
+        if is_tame && !more.is_all() {
+            return Err(Stopped::Missing);
+        }
+        counts = counts.plus(&more);
+    }
+    Ok(counts)
 }
 
 /// Sends samples from one end to another under a schedule of a seed.
-fn run(alloc: Global, seed: u64, tame: bool) -> Result<Counts, Stopped> {
+fn run(alloc: Global, case: &Case, seed: u64, is_tame: bool) -> Result<Counts, Stopped> {
     let mut random = Random::new(seed);
-    let schedule = if tame {
-        tame_schedule(alloc, &mut random, BLOCKS)?
-    } else {
-        sane_schedule(alloc, &mut random, BLOCKS)?
-    };
-    let samples = samples(alloc, BLOCKS * BLOCK)?;
-    let all = between(alloc, &samples, &schedule)?;
-    count_units(&samples, &all).ok_or(Stopped::WrongUnit)
-}
-
-/// So many samples of two bytes.
-fn samples(alloc: Global, count: usize) -> Result<Vec<Sample>, Stopped> {
+    let mut twin = Call::new(alloc, case, 127)?;
     let mut samples = Vec::new(alloc);
-    for k in 0..count {
-        let time = MediaTime::new(k as u64, Frequency::FORTY_EIGHT_KHZ);
-        let bytes = vec![in alloc; (k % 256) as u8, (k / 256 % 256) as u8]?;
-        samples.push(Sample::new(time, ExtensionValues::absent(), bytes))?;
+    let mut sent = Vec::new(alloc);
+    let mut end = FIRST;
+    for place in 0..SAMPLES {
+        let drawn = draw_sample(alloc, &mut random, case.codec, place)?;
+        let first = end;
+        let time = 960 * place as u64;
+        let Drawn { bytes, unit, parts } = drawn;
+        let time_of_case = MediaTime::new(time, case.rtp_clock());
+        let sample = Sample::new(time_of_case, ExtensionValues::absent(), bytes);
+        end = end.saturating_add(twin.datagrams_of(&sample)?);
+        samples.push(sample)?;
+        sent.push(Canonical {
+            unit,
+            parts,
+            time: time as u32,
+            first,
+            end,
+        })?;
     }
-    Ok(samples)
-}
-
-/// What a schedule answers between two fixed ends.
-fn between(alloc: Global, samples: &[Sample], schedule: &[Event]) -> Result<Vec<Played>, Stopped> {
-    let mut a = End::fixed(alloc)?;
-    let mut b = End::fixed(alloc)?;
-    let (mid, ssrc, pt) = (Mid::from("0"), Ssrc::from(44), Pt::from(111));
-    let params = StreamParams {
-        first: 0,
-        mtu: 1200,
-        limit: 1400,
-        red: None,
-        picture_id: None,
-        for_browsers: false,
+    let count = end.saturating_sub(FIRST) as usize;
+    let schedule = if is_tame {
+        tame_schedule(alloc, &mut random, count, SAMPLES)?
+    } else {
+        sane_schedule(alloc, &mut random, count, SAMPLES)?
     };
-    if !params.is_sound(a.agreed_red(mid, pt)) {
-        return Err(Stopped::Refused);
-    }
-    let tx = a.open_sender(mid, ssrc, pt, params)?;
-    let rx = b.open_receiver(mid, ssrc, pt, 127)?;
-    Ok(play(alloc, &mut a, &mut b, tx, rx, samples, schedule)?)
+    let hold_back = if is_tame {
+        127
+    } else {
+        random.below(12) as usize
+    };
+    let all = Call::new(alloc, case, hold_back)?.play(alloc, &samples, &schedule)?;
+    count_units(&sent, &all)
 }

@@ -2,6 +2,8 @@
 
 ghost use Rattle.std.specs.Prelude.{◌<◌};
 
+use std::alloc::{AllocError, Global};
+
 /// A linear congruential generator.
 #[derive(Drop)]
 pub struct Random {
@@ -24,5 +26,26 @@ impl Random {
             .wrapping_mul(6_364_136_223_846_793_005)
             .wrapping_add(1_442_695_040_888_963_407);
         (self.state >> 33) % n
+    }
+
+    /// Whether the next number below `n` is 0.
+    pub fn one_in(&mut self, n: u64) -> bool
+        requires { 0 < n }
+    {
+        self.below(n) == 0
+    }
+
+    /// The next byte.
+    pub fn byte(&mut self) -> u8 {
+        self.below(256) as u8
+    }
+
+    /// So many bytes other than 0.
+    pub fn bytes(&mut self, alloc: Global, count: u64) -> Result<Vec<u8>, AllocError> {
+        let mut bytes = Vec::new(alloc);
+        for _ in 0..count {
+            bytes.push(self.below(255) as u8 + 1)?;
+        }
+        Ok(bytes)
     }
 }

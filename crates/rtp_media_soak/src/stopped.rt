@@ -1,16 +1,22 @@
-//! Why a run stopped.
+//! What was wrong of a run.
 
-use rtp_media::{EndError, OpenError, SampleError};
+use rtp_media_ends::{EndError, ExchangeError, OpenError, SampleError};
 use std::alloc::{AllocError, AllocFailed};
 use thiserror::Error;
 
-/// Why a run stopped.
+/// What was wrong of a run.
 #[derive(Debug, Drop, Error)]
 pub enum Stopped {
-    /// What was handed out isn't what was sent.
+    /// What was handed out isn't a unit that was sent, or not in order.
     #[error("a unit is wrong")]
     WrongUnit,
-    /// An end, an opening or a sample was refused.
+    /// A poll answered a fault.
+    #[error("a poll answered a fault")]
+    Fault,
+    /// A unit is missing though every datagram came in time.
+    #[error("a unit is missing")]
+    Missing,
+    /// An end, an exchange, an opening or a sample was refused.
     #[error("refused")]
     Refused,
     /// Memory was wanting.
@@ -20,6 +26,12 @@ pub enum Stopped {
 
 impl From<EndError> for Stopped {
     fn from(_error: EndError) -> Stopped {
+        Stopped::Refused
+    }
+}
+
+impl From<ExchangeError> for Stopped {
+    fn from(_error: ExchangeError) -> Stopped {
         Stopped::Refused
     }
 }

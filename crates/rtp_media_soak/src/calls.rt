@@ -1,0 +1,111 @@
+//! Calls between two ends that exchanged texts.
+
+use crate::cases::{Case, TYPE};
+use crate::stopped::Stopped;
+use rtp_media_ends::{
+    CodecConfig, Distances, End, MediaKind, SectionSpec, Session, StreamParams, connect,
+};
+use rtp_media_play::{Event, Played, Sample, play};
+use rtp_wire::{Direction, ExtensionMap, Mid, Pt, SessionId, Ssrc};
+use std::alloc::{AllocError, Global};
+
+/// The first number of each stream.
+pub const FIRST: u64 = 32_767;
+
+/// Two ends of a codec, and the numbers of a stream that one sends and the other receives.
+#[derive(Drop)]
+pub struct Call {
+    a: End,
+    b: End,
+    tx: usize,
+    rx: usize,
+}
+
+impl Call {
+    /// Two ends that exchanged texts, and a stream from the first to the second.
+    pub fn new(alloc: Global, case: &Case, hold_back: usize) -> Result<Self, Stopped> {
+        let mut a = end(alloc, case, 1)?;
+        let mut b = end(alloc, case, 2)?;
+        connect(
+            &mut a,
+            &mut b,
+            sections(alloc, case, 44)?,
+            sections(alloc, case, 45)?,
+        )?;
+        let (mid, ssrc, pt) = (Mid::from("0"), Ssrc::from(44), Pt::from(TYPE));
+        let params = params(alloc, case)?;
+        if !params.is_sound(a.agreed_red(mid, pt)) {
+            return Err(Stopped::Refused);
+        }
+        let tx = a.open_sender(mid, ssrc, pt, params)?;
+        let rx = b.open_receiver(mid, ssrc, pt, hold_back)?;
+        Ok(Call { a, b, tx, rx })
+    }
+
+    /// How many datagrams a sample is sent in.
+    pub fn datagrams_of(&mut self, sample: &Sample) -> Result<u64, Stopped> {
+        if !self.a.is_sender(self.tx) {
+            return Err(Stopped::Refused);
+        }
+        let datagrams = self
+            .a
+            .push_sample(self.tx, sample.time(), sample.bytes(), sample.values())?;
+        Ok(datagrams.len() as u64)
+    }
+
+    /// What a schedule of samples answers.
+    pub fn play(
+        &mut self,
+        alloc: Global,
+        samples: &[Sample],
+        schedule: &[Event],
+    ) -> Result<Vec<Played>, Stopped> {
+        if !self.a.is_sender(self.tx) || !self.b.is_receiver(self.rx) {
+            return Err(Stopped::Refused);
+        }
+        let Call { a, b, tx, rx } = self;
+        Ok(play(alloc, a, b, *tx, *rx, samples, schedule)?)
+    }
+}
+
+/// An end of one row.
+fn end(alloc: Global, case: &Case, session: u64) -> Result<End, Stopped> {
+    let config = CodecConfig::new_from_payload_params(vec![in alloc; case.row()]?);
+    let session = Session::new(alloc, SessionId::from(session));
+    Ok(End::new(alloc, config, session, ExtensionMap::empty())?)
+}
+
+/// One section that flows both ways, of this SSRC.
+fn sections(alloc: Global, case: &Case, ssrc: u32) -> Result<Vec<SectionSpec>, AllocError> {
+    let kind = if case.codec.is_video() {
+        MediaKind::Video
+    } else {
+        MediaKind::Audio
+    };
+    let section = SectionSpec {
+        mid: Mid::from("0"),
+        kind,
+        dir: Direction::SendRecv,
+        ssrcs: vec![in alloc; Ssrc::from(ssrc)]?,
+    };
+    let mut sections = Vec::new(alloc);
+    sections.push(section)?;
+    Ok(sections)
+}
+
+/// Packets of 200 bytes, so that pictures have several, and with redundancy one and three packets back.
+fn params(alloc: Global, case: &Case) -> Result<StreamParams, AllocError> {
+    let red = if case.has_red() {
+        Some(Distances::from_vec(vec![in alloc; 1, 3]?))
+    } else {
+        None
+    };
+    Ok(StreamParams {
+        first: FIRST,
+        mtu: 200,
+        limit: 300,
+        red,
+        picture_id: Some(32_000),
+        for_browsers: false,
+    })
+}
