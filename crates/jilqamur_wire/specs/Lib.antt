@@ -1,0 +1,4 @@
+pub mod Codes
+pub mod Headers
+pub mod Owned
+pub mod Windows

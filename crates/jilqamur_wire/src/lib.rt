@@ -1,0 +1,12 @@
+//! Headers and replay windows in the shapes that cross to C.
+#![tactic(auto)]
+
+pub mod codes;
+mod header;
+mod parts;
+mod place;
+mod replay;
+
+pub use header::{WireHeader, read_header, write_header};
+pub use place::{WindowHandle, WindowPlace};
+pub use replay::Replay;
