@@ -1,5 +1,6 @@
 pub mod Creds
 pub mod Directions
+pub mod FromText
 pub mod Preference
 pub mod Sections
 pub mod Sessions

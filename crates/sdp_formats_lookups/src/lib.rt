@@ -2,6 +2,7 @@
 #![tactic(auto)]
 
 pub mod directions;
+pub mod from_text;
 pub mod keys;
 pub mod lists;
 pub mod preference;
