@@ -1,0 +1,166 @@
+//! RTP headers, padding, sequence numbers and replay windows (RFC 3550), from a proved library.
+
+use std::{fmt, ptr};
+
+mod sys;
+
+/// Why a call is refused.
+#[derive(Clone, Copy, Debug, PartialEq, Eq)]
+#[non_exhaustive]
+pub enum Error {
+    /// Memory was wanting.
+    Memory,
+    /// No RTP header stands in front of the bytes.
+    Unreadable,
+    /// The padding does not fit.
+    Damaged,
+    /// The number came before, or is 128 or more below the greatest.
+    Refused,
+    /// A payload type above 127, or more than 15 contributing sources.
+    Unwritable,
+    /// The buffer is shorter than the header, whose length in bytes this is.
+    TooSmall(usize),
+}
+
+impl fmt::Display for Error {
+    fn fmt(&self, f: &mut fmt::Formatter<'_>) -> fmt::Result {
+        match self {
+            Error::Memory => f.write_str("out of memory"),
+            Error::Unreadable => f.write_str("no RTP header stands in front of the bytes"),
+            Error::Damaged => f.write_str("the padding does not fit"),
+            Error::Refused => f.write_str("the number came before or too late"),
+            Error::Unwritable => f.write_str("the payload type or the count of sources is too large"),
+            Error::TooSmall(needed) => write!(f, "the buffer is too small: {needed} bytes are needed"),
+        }
+    }
+}
+
+impl std::error::Error for Error {}
+
+/// The header of an RTP packet, without the values of its extensions.
+#[repr(C)]
+#[derive(Clone, Copy, Debug, Default, PartialEq, Eq)]
+pub struct Header {
+    /// Whether padding stands behind the payload.
+    pub has_padding: bool,
+    /// Whether there is an extension block; one that is written is empty.
+    pub has_extension: bool,
+    /// The marker bit.
+    pub marker: bool,
+    /// The payload type, 0 to 127.
+    pub payload_type: u8,
+    /// The low 16 bits of the sequence number.
+    pub sequence_number: u16,
+    /// The low 32 bits of the media time, in ticks of the payload type's clock.
+    pub timestamp: u32,
+    /// The stream's source.
+    pub ssrc: u32,
+    /// How many contributing sources there are, 0 to 15.
+    pub csrc_count: u32,
+    /// The contributing sources; the places past `csrc_count` are 0 in a header that was read.
+    pub csrc: [u32; 15],
+    /// The length of a header that was read, in bytes; not looked at in one that is written.
+    pub header_len: usize,
+}
+
+impl Header {
+    /// The header in front of a datagram, and what stands behind it.
+    ///
+    /// # Errors
+    /// `Unreadable`.
+    pub fn read(datagram: &[u8]) -> Result<(Header, &[u8]), Error> {
+        let mut header = Header::default();
+        // SAFETY: pointer and length are those of one slice, and the header is a place of its own.
+        let answer = unsafe { sys::jilqamur_header_read(datagram.as_ptr(), datagram.len(), &mut header) };
+        if answer != 0 {
+            return Err(Error::Unreadable);
+        }
+        Ok((header, &datagram[header.header_len..]))
+    }
+
+    /// Writes the header in front of a buffer, and answers its length in bytes.
+    ///
+    /// # Errors
+    /// `Unwritable` or `TooSmall`; the buffer is unchanged.
+    pub fn write(&self, buffer: &mut [u8]) -> Result<usize, Error> {
+        let mut needed = 0;
+        // SAFETY: pointer and length are those of one slice, and nothing that is written overlaps.
+        let answer =
+            unsafe { sys::jilqamur_header_write(self, buffer.as_mut_ptr(), buffer.len(), &mut needed) };
+        match answer {
+            0 => Ok(needed),
+            8 => Err(Error::TooSmall(needed)),
+            _ => Err(Error::Unwritable),
+        }
+    }
+
+    /// The payload in what stands behind this header.
+    ///
+    /// # Errors
+    /// `Damaged`.
+    pub fn payload<'a>(&self, behind: &'a [u8]) -> Result<&'a [u8], Error> {
+        let mut len = 0;
+        // SAFETY: pointer and length are those of one slice, and the length is a place of its own.
+        let answer = unsafe {
+            sys::jilqamur_payload_unpad(self.has_padding, behind.as_ptr(), behind.len(), &mut len)
+        };
+        if answer == 0 { Ok(&behind[..len]) } else { Err(Error::Damaged) }
+    }
+}
+
+/// The number nearest to the previous one with these low 16 bits, modulo 2^64.
+#[must_use]
+pub fn widen(previous: u64, low: u16) -> u64 {
+    // SAFETY: the function takes every pair of numbers.
+    unsafe { sys::jilqamur_number_widen(previous, low) }
+}
+
+/// The replay window of a stream. It stays on its thread.
+pub struct Window(sys::Window);
+
+impl Window {
+    /// A window that no number came to.
+    ///
+    /// # Errors
+    /// `Memory`.
+    pub fn new() -> Result<Window, Error> {
+        let mut window = sys::Window { full: false, place: ptr::null_mut() };
+        // SAFETY: the handle is closed.
+        let answer = unsafe { sys::jilqamur_window_open(&mut window) };
+        if answer == 0 { Ok(Window(window)) } else { Err(Error::Memory) }
+    }
+
+    /// Takes a datagram in, and answers its widened number, which is recorded. The payload and the SSRC are not
+    /// looked at.
+    ///
+    /// # Errors
+    /// `Unreadable` or `Refused`; the window is unchanged.
+    pub fn receive(&mut self, datagram: &[u8]) -> Result<u64, Error> {
+        let mut number = 0;
+        // SAFETY: the handle is open, and pointer and length are those of one slice.
+        let answer = unsafe {
+            sys::jilqamur_window_receive(&mut self.0, datagram.as_ptr(), datagram.len(), &mut number)
+        };
+        match answer {
+            0 => Ok(number),
+            4 => Err(Error::Unreadable),
+            _ => Err(Error::Refused),
+        }
+    }
+
+    /// The numbers of datagrams that are taken in one after the other, or why one isn't.
+    pub fn numbers<'a, I, D>(&'a mut self, datagrams: I) -> impl Iterator<Item = Result<u64, Error>> + 'a
+    where
+        I: IntoIterator<Item = D> + 'a,
+        D: AsRef<[u8]>,
+    {
+        datagrams.into_iter().map(move |datagram| self.receive(datagram.as_ref()))
+    }
+}
+
+impl Drop for Window {
+    fn drop(&mut self) {
+        // SAFETY: the handle is open, and is not used again.
+        unsafe { sys::jilqamur_window_close(&mut self.0) };
+    }
+}
