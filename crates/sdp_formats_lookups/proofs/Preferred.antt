@@ -8,7 +8,8 @@ use Rattle.std.proofs.lemmas.Grind.{common_steps}
 use Rattle.std.proofs.lemmas.List.Folds.{list_all-append}
 use Rattle.sdp_formats_types.specs.declared.Fingerprint.{Fingerprint}
 use Rattle.sdp_formats_types.specs.declared.MediaLine.{MediaLine}
-use Rattle.sdp_formats_lookups.specs.Preference.{hash_preference, IsFirstOfLowest, IsPreferred, chosen, better, best_of}
+use Rattle.sdp_formats_lookups.specs.Preference.{hash_preference, IsFirstOfLowest, IsPreferred}
+use Rattle.sdp_formats_lookups.specs.Preference.{chosen, better, best_of}
 use Rattle.sdp_formats_lookups.specs.Whole.{first_listed, section_prints}
 
 abbrev is_below : Fingerprint → Fingerprint → Bool

@@ -32,7 +32,8 @@ IsPreferred prints (Some print) = IsFirstOfLowest prints print
 abbrev pub chosen : Option Fingerprint → Option Fingerprint → Option Fingerprint
 chosen best None = best
 chosen None (Some print) = Some print
-chosen (Some best) (Some print) = if nat_lt (hash_preference print) (hash_preference best) then Some print else Some best
+chosen (Some best) (Some print) =
+    if nat_lt (hash_preference print) (hash_preference best) then Some print else Some best
 
 abbrev pub better : {A : Type 0} → (A → Option Fingerprint) → Option Fingerprint → A → Option Fingerprint
 better f best a = chosen best (f a)

@@ -4,8 +4,8 @@ ghost use Rattle.std.specs.Prelude.{◌≡◌, ◌↔◌, IsTrue};
 
 use sdp_formats_types::Fingerprint;
 
-/// A fingerprint as a key of a map: the name of its hash function and its digest. Two are equal where both are, byte by
-/// byte, so that equal ones have equal hashes.
+/// A fingerprint as a key of a map: the name of its hash function and its digest. Two are equal where both are, byte
+/// by byte, so that equal ones have equal hashes.
 #[derive(Clone, Copy, Debug, PartialEq, Eq, Hash, Drop)]
 pub struct FingerprintKey<'a> {
     /// The name of the hash function.

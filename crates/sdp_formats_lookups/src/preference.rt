@@ -6,8 +6,8 @@ ghost use Rattle.sdp_formats_lookups.specs.Preference.{chosen, hash_preference};
 
 use sdp_formats_types::Fingerprint;
 
-/// The place of its hash function among those that are preferred, 0 first: SHA-256, SHA-1, any other. Names are compared
-/// without regard to case (RFC 8122 5).
+/// The place of its hash function among those that are preferred, 0 first: SHA-256, SHA-1, any other. Names are
+/// compared without regard to case (RFC 8122 5).
 #[tactic(auto, unfolding(crate::specs::Preference::hash_preference))]
 pub fn hash_preference(print: &Fingerprint) -> u8
     ensures { result ≡ hash_preference print.now }
