@@ -1,3 +1,3 @@
 pub mod Whole
 pub mod Three
-pub mod OpusStreams
+pub mod Streams

@@ -3,7 +3,6 @@ use Rattle.std.proofs.Common.{◌≡◌, ℕ, zero, suc, ◌+◌, ◌<◌, ◌�
 use Rattle.std.proofs.Common.{Bool, true, false, ◌&&◌, List, [], ◌∷◌, length, map, append-nil, Some, None, Ok, Err}
 use Rattle.std.proofs.Common.{Result, ◌⊎◌, true≢false}
 use Rattle.std.specs.Prelude.{All}
-use Rattle.payload_core_base.specs.declared.codec.Codec.TheVariants.{Opus}
 use Rattle.payload_core_base.specs.declared.error.PacketError.{PacketError}
 use Rattle.rtp_media_runs.specs.Hearing.{Answer, EndsSilent, MediaUnit}
 use Rattle.rtp_media_runs.specs.Samples.{Timed, timed_unit}
@@ -20,8 +19,8 @@ use Rattle.rtp_media_play.specs.declared.schedule.Event.{Event}
 use Rattle.rtp_media_play.specs.declared.schedule.Event.TheVariants.{Arrive, Poll}
 use Rattle.rtp_media_play.specs.declared.schedule.Played.{Played}
 use Rattle.rtp_media_play.specs.declared.schedule.Played.TheVariants.{Received, Polled}
-use Rattle.opus_call.specs.Call.{bytes_out, is_silent, silent_after, IsShortSample}
-use Rattle.opus_call.proofs.Whole.{AreShort, opus-format, sent-whole, sent_whole}
+use Rattle.opus_call.specs.Call.{bytes_out, is_silent, sends_pieces, silent_after, IsShortSample}
+use Rattle.opus_call.proofs.Whole.{AreShort, plain-format, sent-whole, sent_whole}
 
 -- the first arrives and is polled, the third, and then the second
 abbrev pub schedule : List Event
@@ -83,18 +82,18 @@ still-short s (x ∷ xs) room short =
     (here.some, omega (arith, here.short), still-short s xs room (λ k d lt. short (suc k) d (omega arith)))
 
 -- three datagrams, each a unit
-sizes-are : (s : Sending) (x y z : Sample) → s.row.codec ≡ Opus
+sizes-are : (s : Sending) (x y z : Sample) → sends_pieces s.row.codec ≡ true
     → AreShort (packet_limit s) (samples_of s (x ∷ y ∷ z ∷ [])) → sizes_at s (x ∷ y ∷ z ∷ []) ≡ 1 ∷ 1 ∷ 1 ∷ []
 sizes-are s x y z is short =
-    ap₂ (λ (f : Format) (ss : List SentSample). frame_sizes f ss) (opus-format s.row is)
+    ap₂ (λ (f : Format) (ss : List SentSample). frame_sizes f ss) (plain-format s.row is)
     (sent-whole s (x ∷ y ∷ z ∷ []) is short)
 
-count-is : (s : Sending) (x y z : Sample) → s.row.codec ≡ Opus
+count-is : (s : Sending) (x y z : Sample) → sends_pieces s.row.codec ≡ true
     → AreShort (packet_limit s) (samples_of s (x ∷ y ∷ z ∷ [])) → count_of s (x ∷ y ∷ z ∷ []) ≡ 3
 count-is s x y z is short =
     ap (λ (ss : List SentSample). length (packets_of ss)) (sent-whole s (x ∷ y ∷ z ∷ []) is short)
 
-pub tame-three : (s : Sending) (samples : List Sample) → length samples ≡ 3 → s.row.codec ≡ Opus → s.next ≡ 0
+pub tame-three : (s : Sending) (samples : List Sample) → length samples ≡ 3 → sends_pieces s.row.codec ≡ true → s.next ≡ 0
     → 1199 ≤ packet_limit s → All IsShortSample samples → (answers : List Answer) → EndsSilent answers
     → IsTameSchedule s samples 127 schedule answers
 tame-three s [] three is next room short answers silent = absurd (omega arith)
@@ -142,7 +141,7 @@ arriving-bytes s (x ∷ xs) =
     ap (λ (bs : List (Result (List ℕ) PacketError)). Ok x.bytes ∷ bs) (arriving-bytes s xs)
 
 -- what is handed out is the samples
-pub bytes-out : (s : Sending) (samples : List Sample) (rs : List (Result MediaUnit PacketError)) → s.row.codec ≡ Opus
+pub bytes-out : (s : Sending) (samples : List Sample) (rs : List (Result MediaUnit PacketError)) → sends_pieces s.row.codec ≡ true
     → 1199 ≤ packet_limit s → All IsShortSample samples → map timed_unit rs ≡ map Ok (units_of s samples)
     → map bytes_out rs ≡ map (λ x. Ok x.bytes) samples
 bytes-out s samples rs is room short exact =
@@ -173,7 +172,7 @@ ends-silent ps h = go (silent-or false ps h) where
   go (inr silent) = silent
 
 -- three samples have three datagrams
-pub count-three : (s : Sending) (samples : List Sample) → length samples ≡ 3 → s.row.codec ≡ Opus
+pub count-three : (s : Sending) (samples : List Sample) → length samples ≡ 3 → sends_pieces s.row.codec ≡ true
     → 1199 ≤ packet_limit s → All IsShortSample samples → count_of s samples ≡ 3
 count-three s [] three is room short = absurd (omega arith)
 count-three s (x ∷ []) three is room short = absurd (omega arith)

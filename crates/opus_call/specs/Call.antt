@@ -1,7 +1,8 @@
--- Short samples, what comes out of them, and polls that end.
+-- Codecs that cut samples in pieces, short samples, what comes out of them, and polls that end.
 use Rattle.std.specs.Prelude.{ℕ, ◌≡◌, ◌<◌, ◌≤◌, Bool, true, false, List, [], ◌∷◌, length, Option, Some, None, Result}
 use Rattle.std.specs.Prelude.{Ok, Err}
-use Rattle.payload_core_base.specs.declared.codec.Codec.TheVariants.{Opus}
+use Rattle.payload_core_base.specs.declared.codec.Codec.{Codec}
+use Rattle.payload_core_base.specs.declared.codec.Codec.TheVariants.{Opus, PCMU, PCMA, G722}
 use Rattle.payload_core_base.specs.declared.error.PacketError.{PacketError}
 use Rattle.rtp_wire.specs.Values.{absent}
 use Rattle.rtp_media_runs.specs.Hearing.{MediaUnit}
@@ -16,9 +17,17 @@ pub record IsShortSample (x : Sample) : Type 0 where
   pub short : length x.bytes ≤ 1199
   pub values : x.values ≡ absent
 
--- a row of Opus
-abbrev pub IsOpus : Row → Type 0
-IsOpus row = row.spec.codec ≡ Opus
+-- Opus, G.711 and G.722: the packets of a sample are pieces of it, as they are (RFC 7587 4.2, RFC 3551 4.5).
+abbrev pub sends_pieces : Codec → Bool
+sends_pieces Opus = true
+sends_pieces PCMU = true
+sends_pieces PCMA = true
+sends_pieces G722 = true
+sends_pieces _ = false
+
+-- a row of one of them
+abbrev pub SendsPieces : Row → Type 0
+SendsPieces row = sends_pieces row.spec.codec ≡ true
 
 -- the bytes of what is handed out
 abbrev pub bytes_out : Result MediaUnit PacketError → Result (List ℕ) PacketError

@@ -1,14 +1,13 @@
-//! A call of three samples.
+//! A call of three samples, of any codec whose packets are pieces of its samples.
 
 ghost use Rattle.std.specs.Prelude.{◌≡◌, ◌≤◌, ℕ, List, length, map, true, All, IfOk, IfSome, IsTrue, Ok, None};
-ghost use Rattle.payload_core_base.specs.declared.codec.Codec.TheVariants.{Opus};
 ghost use Rattle.rtp_media_runs.specs.Hearing.{handed_out};
 ghost use Rattle.rtp_media_streams.specs.Sending.{packet_limit};
 ghost use Rattle.rtp_media_ends.specs.Connections.{HaveExchanged};
 ghost use Rattle.rtp_media_ends.specs.Ends.{is_receiver_at, is_sender_at, sender_at};
 ghost use Rattle.rtp_media_play.specs.Runs.{Hears};
 ghost use Rattle.rtp_media_play.specs.Schedules.{poll_answers};
-ghost use Rattle.opus_call.specs.Call.{IsOpus, IsShortSample, bytes_out};
+ghost use Rattle.opus_call.specs.Call.{IsShortSample, SendsPieces, bytes_out, sends_pieces};
 
 use crate::silence::ends_silent;
 use crate::stopped::Stopped;
@@ -55,14 +54,20 @@ pub(crate) fn carry(
     carry_between(alloc, a, b, params, samples)
 }
 
-/// Whether a row, where there is one, is Opus's.
-fn is_opus(row: Option<PayloadParams>) -> bool
-    ensures { IsTrue result → IfSome row IsOpus }
+/// Whether there is a row, of Opus, G.711 or G.722.
+fn has_pieces(row: Option<PayloadParams>) -> bool
+    ensures { IsTrue result → IfSome row SendsPieces }
 {
     match row {
-        Some(row) => matches!(row.spec().codec, Codec::Opus),
+        Some(row) => is_cut(row.spec().codec),
         None => false,
     }
+}
+
+fn is_cut(codec: Codec) -> bool
+    ensures { result ≡ sends_pieces codec }
+{
+    matches!(codec, Codec::Opus | Codec::PCMU | Codec::PCMA | Codec::G722)
 }
 
 /// The same between ends that have exchanged texts.
@@ -83,8 +88,8 @@ fn carry_between(
 {
     headline();
     let (mid, ssrc, pt) = (Mid::from("0"), Ssrc::from(44), Pt::from(111));
-    if !is_opus(a.agreed_row(mid, pt)) {
-        return Err(Stopped::NotOpus);
+    if !has_pieces(a.agreed_row(mid, pt)) {
+        return Err(Stopped::OtherCodec);
     }
     if !params.is_sound(a.agreed_red(mid, pt)) {
         return Err(Stopped::Params);
@@ -112,7 +117,7 @@ fn carry_over(
     requires sender { is_sender_at a.old tx ≡ true }
     requires receiver { is_receiver_at b.old rx ≡ true }
     requires hears { Hears b.old rx 127 (sender_at a.old tx) samples.now }
-    requires opus { (sender_at a.old tx).row.codec ≡ Opus }
+    requires pieces { sends_pieces (sender_at a.old tx).row.codec ≡ true }
     requires first { (sender_at a.old tx).next ≡ 0 }
     requires limit { 1199 ≤ packet_limit (sender_at a.old tx) }
     requires three { length samples.now ≡ 3 }

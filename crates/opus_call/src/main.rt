@@ -1,5 +1,5 @@
-//! A call between two ends, proved: they agree on Opus, one sends three samples, and the other hands out just these,
-//! in order, though the second arrives last.
+//! Calls between two ends, proved: they agree on a codec, one sends three samples, and the other hands out just these,
+//! in order, though the second arrives last. The codecs are Opus, G.711 and G.722, with redundancy and without.
 #![tactic(auto)]
 
 mod carrying;
@@ -8,35 +8,38 @@ mod silence;
 mod stopped;
 
 use carrying::carry;
-use rtp_media::{Distances, Played};
-use setting::{opus_end, opus_samples, section};
+use rtp_media::{Codec, Distances, Played};
+use setting::{end_of, section, short_samples};
 use std::alloc::Global;
 use std::io;
 use std::process::ExitCode;
 use stopped::Stopped;
 
-/// Prints what comes out at the end that receives: without redundancy, and with each payload behind the one before.
+/// Prints for each codec what comes out at the end that receives: without redundancy, and with each payload behind the
+/// one before.
 fn main(rt: HostRuntime) -> ExitCode {
-    for has_red in [false, true] {
-        let all = match call(rt.alloc(), has_red) {
-            Ok(all) => all,
-            Err(stopped) => {
-                let _ = eprintln!(rt; "{stopped}");
+    for codec in [Codec::Opus, Codec::PCMU, Codec::PCMA, Codec::G722] {
+        for has_red in [false, true] {
+            let all = match call(rt.alloc(), codec, has_red) {
+                Ok(all) => all,
+                Err(stopped) => {
+                    let _ = eprintln!(rt; "{stopped}");
+                    return ExitCode::from(1);
+                }
+            };
+            if print(&rt, codec, &all).is_err() {
                 return ExitCode::from(1);
             }
-        };
-        if print(&rt, &all).is_err() {
-            return ExitCode::from(1);
         }
     }
     ExitCode::from(0)
 }
 
 /// A call of ends whose rows have a RED type, or none.
-fn call(alloc: Global, has_red: bool) -> Result<Vec<Played>, Stopped> {
+fn call(alloc: Global, codec: Codec, has_red: bool) -> Result<Vec<Played>, Stopped> {
     let red_type = if has_red { Some(63) } else { None };
-    let mut a = opus_end(alloc, 1, red_type)?;
-    let mut b = opus_end(alloc, 2, red_type)?;
+    let mut a = end_of(alloc, 1, codec, red_type)?;
+    let mut b = end_of(alloc, 2, codec, red_type)?;
     let sections_a = section(alloc, 44)?;
     let sections_b = section(alloc, 45)?;
     let red = if has_red {
@@ -44,12 +47,13 @@ fn call(alloc: Global, has_red: bool) -> Result<Vec<Played>, Stopped> {
     } else {
         None
     };
-    let samples = opus_samples(alloc)?;
+    let samples = short_samples(alloc)?;
     carry(alloc, &mut a, &mut b, sections_a, sections_b, red, &samples)
 }
 
-/// A line for each answer of a poll.
-fn print(rt: &impl Print, all: &[Played]) -> io::Result<()> {
+/// The codec, and a line for each answer of a poll.
+fn print(rt: &impl Print, codec: Codec, all: &[Played]) -> io::Result<()> {
+    println!(rt; "{}", codec.as_str())?;
     for played in all {
         if let Played::Polled(answer) = played {
             match answer {

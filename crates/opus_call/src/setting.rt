@@ -13,15 +13,36 @@ use rtp_wire::{
 };
 use std::alloc::{AllocError, Global};
 
-/// An end of one Opus row at payload type 111, with a RED type or without.
-pub(crate) fn opus_end(alloc: Global, session: u64, red: Option<u8>) -> Result<End, Stopped> {
-    let spec = CodecSpec {
-        codec: Codec::Opus,
-        clock_rate: Frequency::FORTY_EIGHT_KHZ,
-        channels: Some(2),
-        format: FormatParams::parse_line("minptime=10;useinbandfec=1"),
+/// How a codec is named by rows of this program; those without parameters are G.711 and G.722.
+fn spec_of(codec: Codec) -> CodecSpec {
+    if matches!(codec, Codec::Opus) {
+        return CodecSpec {
+            codec,
+            clock_rate: Frequency::FORTY_EIGHT_KHZ,
+            channels: Some(2),
+            format: FormatParams::parse_line("minptime=10;useinbandfec=1"),
+        };
+    }
+    let clock_rate = match codec {
+        Codec::G722 => Frequency::SIXTEEN_KHZ,
+        _ => Frequency::EIGHT_KHZ,
     };
-    let row = PayloadParams::new(Pt::from(111), None, spec);
+    CodecSpec {
+        codec,
+        clock_rate,
+        channels: None,
+        format: FormatParams::default(),
+    }
+}
+
+/// An end of one row of this codec at payload type 111, with a RED type or without.
+pub(crate) fn end_of(
+    alloc: Global,
+    session: u64,
+    codec: Codec,
+    red: Option<u8>,
+) -> Result<End, Stopped> {
+    let row = PayloadParams::new(Pt::from(111), None, spec_of(codec));
     let row = match red {
         Some(red) => row.with_red(Pt::from(red)),
         None => row,
@@ -48,19 +69,19 @@ pub(crate) fn section(alloc: Global, ssrc: u32) -> Result<Vec<SectionSpec>, Allo
 }
 
 /// Three samples of 20 milliseconds.
-pub(crate) fn opus_samples(alloc: Global) -> Result<Vec<Sample>, AllocError>
+pub(crate) fn short_samples(alloc: Global) -> Result<Vec<Sample>, AllocError>
     ensures three { IfOk result (λ samples. length samples.items ≡ 3) }
     ensures short { IfOk result (λ samples. All IsShortSample samples.items) }
 {
     let mut samples = Vec::new(alloc);
-    samples.push(opus_sample(alloc, 960, 10)?)?;
-    samples.push(opus_sample(alloc, 1920, 11)?)?;
-    samples.push(opus_sample(alloc, 2880, 12)?)?;
+    samples.push(short_sample(alloc, 960, 10)?)?;
+    samples.push(short_sample(alloc, 1920, 11)?)?;
+    samples.push(short_sample(alloc, 2880, 12)?)?;
     Ok(samples)
 }
 
 /// A sample of one byte.
-fn opus_sample(alloc: Global, time: u64, byte: u8) -> Result<Sample, AllocError>
+fn short_sample(alloc: Global, time: u64, byte: u8) -> Result<Sample, AllocError>
     ensures { IfOk result IsShortSample }
 {
     let time = MediaTime::new(time, Frequency::FORTY_EIGHT_KHZ);

@@ -13,9 +13,9 @@ pub enum Stopped {
     /// The exchange was refused.
     #[error("the exchange was refused")]
     Exchange(ExchangeError),
-    /// What was agreed on isn't Opus.
-    #[error("what was agreed on isn't Opus")]
-    NotOpus,
+    /// What was agreed on is none of Opus, G.711 and G.722.
+    #[error("another codec was agreed on")]
+    OtherCodec,
     /// A stream can't be opened with these parameters.
     #[error("no stream can be opened so")]
     Params,

@@ -1,5 +1,4 @@
-use Rattle.std.proofs.Common.{◌≡◌, ℕ, ◌≤◌, ◌∙◌, sym, ap, subst, subst₂, arith, length, Option}
-use Rattle.payload_core_base.specs.declared.codec.Codec.TheVariants.{Opus}
+use Rattle.std.proofs.Common.{◌≡◌, ℕ, ◌≤◌, ◌∙◌, sym, ap, subst, subst₂, arith, length, true, Option}
 use Rattle.std.specs.Prelude.{IfSome}
 use Rattle.sdp_formats_rows.specs.Rows.{Row}
 use Rattle.rtp_media_sections.specs.Agreement.{agreed_row_of}
@@ -12,38 +11,38 @@ use Rattle.rtp_media_ends.specs.OpensAt.{SendsAt}
 use Rattle.rtp_media_ends.specs.Params.{IsSound}
 use Rattle.rtp_media_play.specs.Headline.{SendsTo}
 use Rattle.rtp_media_play.specs.Runs.{Hears}
-use Rattle.opus_call.specs.Call.{IsOpus}
-use Rattle.opus_call.proofs.OpusStreams.{has-room, sends-opus, sound-opus}
+use Rattle.opus_call.specs.Call.{SendsPieces, sends_pieces}
+use Rattle.opus_call.proofs.Streams.{has-room, sends-pieces, sound-short}
 use Rattle.opus_call.proofs.Three.{count-three}
 use Rattle.opus_call.proofs.carrying.carry_between.Goals as goal
 
-pub carry_over-requires-clause-opus : goal.carry_over-requires-clause-opus
-carry_over-requires-clause-opus c =
+pub carry_over-requires-clause-pieces : goal.carry_over-requires-clause-pieces
+carry_over-requires-clause-pieces c =
     let sends : SendsAt c.args.a.now c.from-mid.result c.from-ssrc.result c.from-pt.result =
     (c.headline.ensures.sends c.args.a.now c.from-mid.result c.from-ssrc.result c.from-pt.result).0
     c.in-Ok.ensures.opens in
-    let agreed : IfSome (agreed_row_of c.args.a.now.exchange.agreed c.from-mid.result c.from-pt.result) IsOpus =
-    subst (λ (o : Option Row). IfSome o IsOpus) c.agreed_row.ensures (c.is_opus.ensures c.if-not-is_opus.false) in
-    ap (λ (s : Sending). s.row.codec) c.in-Ok.ensures.stream
-    ∙ sends-opus c.args.a.now c.from-mid.result c.from-ssrc.result c.from-pt.result c.args.params agreed
+    let agreed : IfSome (agreed_row_of c.args.a.now.exchange.agreed c.from-mid.result c.from-pt.result) SendsPieces =
+    subst (λ (o : Option Row). IfSome o SendsPieces) c.agreed_row.ensures (c.has_pieces.ensures c.if-not-has_pieces.false) in
+    ap (λ (s : Sending). sends_pieces s.row.codec) c.in-Ok.ensures.stream
+    ∙ sends-pieces c.args.a.now c.from-mid.result c.from-ssrc.result c.from-pt.result c.args.params agreed
     sends
 
 pub carry_over-requires-clause-hears : goal.carry_over-requires-clause-hears
 carry_over-requires-clause-hears c =
     let a : EndState = c.args.a.now in
-    let agreed : IfSome (agreed_row_of a.exchange.agreed c.from-mid.result c.from-pt.result) IsOpus =
-    subst (λ (o : Option Row). IfSome o IsOpus) c.agreed_row.ensures (c.is_opus.ensures c.if-not-is_opus.false) in
+    let agreed : IfSome (agreed_row_of a.exchange.agreed c.from-mid.result c.from-pt.result) SendsPieces =
+    subst (λ (o : Option Row). IfSome o SendsPieces) c.agreed_row.ensures (c.has_pieces.ensures c.if-not-has_pieces.false) in
     let b : EndState = c.args.b.now in
     let s : Sending = new_sender a c.from-mid.result c.from-ssrc.result c.from-pt.result c.args.params in
     let sends : SendsAt a c.from-mid.result c.from-ssrc.result c.from-pt.result =
     (c.headline.ensures.sends a c.from-mid.result c.from-ssrc.result c.from-pt.result).0 c.in-Ok.ensures.opens in
-    let opus : s.row.codec ≡ Opus = sends-opus a c.from-mid.result c.from-ssrc.result c.from-pt.result
+    let pieces : sends_pieces s.row.codec ≡ true = sends-pieces a c.from-mid.result c.from-ssrc.result c.from-pt.result
     c.args.params agreed sends in
     let room : 1199 ≤ packet_limit s = has-room c.from-ssrc.result (agreed_types a c.from-mid.result c.from-pt.result)
     (stream_map a c.from-mid.result) (agreed_format a c.from-mid.result c.from-pt.result) c.args.params
     (agreed_red a c.from-mid.result c.from-pt.result) c.args.params.red c.requires.mtu in
     let count : count_of s c.args.samples.now ≡ 3 =
-    count-three s c.args.samples.now c.requires.three opus room c.requires.short in
+    count-three s c.args.samples.now c.requires.three pieces room c.requires.short in
     let sound : IsSound c.agreed_red.result c.args.params = c.is_sound.ensures.sound.0 c.if-not-is_sound.false in
     let to : SendsTo c.requires.exchanged.0 a b c.from-mid.result c.from-ssrc.result c.from-pt.result c.args.params
     c.args.samples.now = record {
@@ -53,7 +52,7 @@ carry_over-requires-clause-hears c =
           c.in-Ok-open_receiver.ensures.opens;
       ssrc_fits = omega arith;
       sound_params = subst (λ (red : Option ℕ). IsSound red c.args.params) c.agreed_red.ensures sound;
-      sound_samples = sound-opus s c.args.samples.now opus c.requires.short;
+      sound_samples = sound-short s c.args.samples.now pieces c.requires.short;
       numbers = omega (arith, count, c.requires.first);
     } in
     let hears : Hears (after_open_receiver b c.from-mid.result c.from-ssrc.result c.from-pt.result 127)

@@ -11,7 +11,7 @@ returns c =
     let silent : EndsSilent (poll_answers c.in-Ok.all.items) = ends-silent c.in-Ok.all.items
     (ap (silent_after false) (sym c.deref.ensures.value) ∙ sym c.if-not-ends_silent.ensures) in
     bytes-out (sender_at c.args.a.now c.args.tx) c.args.samples.now (handed_out (poll_answers c.in-Ok.all.items))
-    c.requires.opus c.requires.limit c.requires.short
+    c.requires.pieces c.requires.limit c.requires.short
     (c.in-Ok.ensures.exact 127 c.requires.hears
-    (tame-three (sender_at c.args.a.now c.args.tx) c.args.samples.now c.requires.three c.requires.opus c.requires.first
+    (tame-three (sender_at c.args.a.now c.args.tx) c.args.samples.now c.requires.three c.requires.pieces c.requires.first
     c.requires.limit c.requires.short (poll_answers c.in-Ok.all.items) silent))

@@ -1,9 +1,8 @@
--- The streams of an exchange of Opus, and samples that they take.
+-- The streams of an exchange of a codec whose packets are pieces of samples, and samples that they take.
 use Rattle.std.proofs.Common.{◌≡◌, ℕ, ◌<◌, ◌≤◌, zero, suc, refl, sym, ◌∙◌, ap, subst, arith, Bool, true, false}
 use Rattle.std.proofs.Common.{List, [], ◌∷◌, length, Option, Some, None}
 use Rattle.std.specs.Prelude.{All, IfSome}
 use Rattle.payload_core_base.specs.declared.codec.Codec.{Codec}
-use Rattle.payload_core_base.specs.declared.codec.Codec.TheVariants.{Opus}
 use Rattle.h26x_payload.specs.Codings as codings
 use Rattle.h26x_payload.specs.Codings.{Forms, Settings}
 use Rattle.rtp_wire.specs.Carried.{AreValues}
@@ -23,30 +22,31 @@ use Rattle.rtp_media_ends.specs.FullArrival.{AreSound}
 use Rattle.rtp_media_ends.specs.OpensAt.{SendsAt}
 use Rattle.rtp_media_ends.specs.declared.params.StreamParams.{StreamParams}
 use Rattle.rtp_media_play.proofs.Exchanged.{agreed-is}
-use Rattle.opus_call.specs.Call.{IsOpus, IsShortSample}
+use Rattle.opus_call.specs.Call.{IsShortSample, SendsPieces, sends_pieces}
+use Rattle.opus_call.proofs.Whole.{of-pieces}
 
 row-kept : (s : Sending) (red : Option ℕ) (d : Option (List ℕ)) → (with_distances s red d).row ≡ s.row
 row-kept s red None = refl
 row-kept s red (Some ds) = refl
 
--- a stream of an agreed row of Opus
-pub sends-opus : (e : EndState) (mid : List ℕ) (ssrc pt : ℕ) (p : StreamParams)
-    → IfSome (agreed_row_of e.exchange.agreed mid pt) IsOpus → SendsAt e mid ssrc pt
-    → (new_sender e mid ssrc pt p).row.codec ≡ Opus
-sends-opus e mid ssrc pt p opus at =
-    ap (λ (row : RowFormat). row.codec)
+-- a stream of an agreed row of such a codec
+pub sends-pieces : (e : EndState) (mid : List ℕ) (ssrc pt : ℕ) (p : StreamParams)
+    → IfSome (agreed_row_of e.exchange.agreed mid pt) SendsPieces → SendsAt e mid ssrc pt
+    → sends_pieces (new_sender e mid ssrc pt p).row.codec ≡ true
+sends-pieces e mid ssrc pt p pieces at =
+    ap (λ (row : RowFormat). sends_pieces row.codec)
     (row-kept (opened_sender ssrc (agreed_types e mid pt) (stream_map e mid) (agreed_format e mid pt) p.picture_id
     p.for_browsers p.first p.mtu p.limit) (agreed_red e mid pt) p.red)
-    ∙ ap (λ (o : Option Row). (row_format_in o).codec) (agreed-is e mid ssrc pt at)
-    ∙ subst (λ (o : Option Row). IfSome o IsOpus) (agreed-is e mid ssrc pt at) opus
+    ∙ ap (λ (o : Option Row). sends_pieces (row_format_in o).codec) (agreed-is e mid ssrc pt at)
+    ∙ subst (λ (o : Option Row). IfSome o SendsPieces) (agreed-is e mid ssrc pt at) pieces
 
-good-opus : (f : Forms) (settings : Settings) (id : Bool) (codec : Codec) (limit : ℕ) (xs : List Timed) → codec ≡ Opus
-    → All (λ x. 0 < length x.bytes) xs → AreWellFormed (codings.coding_in f settings id codec) limit xs
-good-opus f settings id codec limit [] is some = tt
-good-opus f settings id codec limit (x ∷ xs) is some = (
-  subst (λ (c : Codec). (codings.coding_in f settings id c).IsWellFormed limit x.bytes) (sym is)
-      (some 0 x (omega arith)),
-  good-opus f settings id codec limit xs is (λ k d lt. some (suc k) d (omega arith)),
+good-pieces : (f : Forms) (settings : Settings) (id : Bool) (codec : Codec) (limit : ℕ) (xs : List Timed)
+    → sends_pieces codec ≡ true → All (λ x. 0 < length x.bytes) xs → AreWellFormed (codings.coding_in f settings id codec) limit xs
+good-pieces f settings id codec limit [] is some = tt
+good-pieces f settings id codec limit (x ∷ xs) is some = (
+  of-pieces (λ (c : Codec). (codings.coding_in f settings id c).IsWellFormed limit x.bytes)
+      (some 0 x (omega arith)) (some 0 x (omega arith)) (some 0 x (omega arith)) (some 0 x (omega arith)) codec is,
+  good-pieces f settings id codec limit xs is (λ k d lt. some (suc k) d (omega arith)),
 )
 
 some-arrive : (s : Sending) (xs : List Sample) → All IsShortSample xs → All (λ x. 0 < length x.bytes) (samples_of s xs)
@@ -67,10 +67,10 @@ no-values = record {
 }
 
 -- short samples are well-formed
-pub sound-opus : (s : Sending) (samples : List Sample) → s.row.codec ≡ Opus → All IsShortSample samples
+pub sound-short : (s : Sending) (samples : List Sample) → sends_pieces s.row.codec ≡ true → All IsShortSample samples
     → AreSound s samples
-sound-opus s samples is short = record {
-  well_formed = good-opus (forms_for s.for_browsers) (settings_in s.row) s.has_id s.row.codec (packet_limit s)
+sound-short s samples is short = record {
+  well_formed = good-pieces (forms_for s.for_browsers) (settings_in s.row) s.has_id s.row.codec (packet_limit s)
       (samples_of s samples) is
       (some-arrive s samples short);
   values = λ k d lt. subst AreValues (sym (short k d lt).values) no-values;
