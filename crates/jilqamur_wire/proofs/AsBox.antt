@@ -12,7 +12,18 @@ use Rattle.jilqamur_wire.specs.contracts.parts.Parts as Parts
 use Rattle.jilqamur_wire.specs.contracts.place.WindowPlace as Place
 
 abbrev pub E : Bx
-E = record { row = Object.the_row; laws = object.the_row_laws; al = record { row = Heap.the_row; laws = heap.the_row_laws; g = ghosts; d = dict; drops = impl [] tnil dnil } }
+E = record {
+  row = Object.the_row;
+  laws = object.the_row_laws;
+  al = record {
+    row = Heap.the_row;
+    laws =
+        heap.the_row_laws;
+    g = ghosts;
+    d = dict;
+    drops = impl [] tnil dnil;
+  };
+}
 
 abbrev pub FromParts : Slot 0
 FromParts = plain (λ _. Parts.the_row Object.the_row Heap.the_row ghosts)
