@@ -41,7 +41,8 @@ sends-pieces e mid ssrc pt p pieces at =
     ∙ subst (λ (o : Option Row). IfSome o SendsPieces) (agreed-is e mid ssrc pt at) pieces
 
 good-pieces : (f : Forms) (settings : Settings) (id : Bool) (codec : Codec) (limit : ℕ) (xs : List Timed)
-    → sends_pieces codec ≡ true → All (λ x. 0 < length x.bytes) xs → AreWellFormed (codings.coding_in f settings id codec) limit xs
+    → sends_pieces codec ≡ true → All (λ x. 0 < length x.bytes) xs
+    → AreWellFormed (codings.coding_in f settings id codec) limit xs
 good-pieces f settings id codec limit [] is some = tt
 good-pieces f settings id codec limit (x ∷ xs) is some = (
   of-pieces (λ (c : Codec). (codings.coding_in f settings id c).IsWellFormed limit x.bytes)

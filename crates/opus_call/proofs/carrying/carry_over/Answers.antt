@@ -13,5 +13,6 @@ returns c =
     bytes-out (sender_at c.args.a.now c.args.tx) c.args.samples.now (handed_out (poll_answers c.in-Ok.all.items))
     c.requires.pieces c.requires.limit c.requires.short
     (c.in-Ok.ensures.exact 127 c.requires.hears
-    (tame-three (sender_at c.args.a.now c.args.tx) c.args.samples.now c.requires.three c.requires.pieces c.requires.first
+    (tame-three (sender_at c.args.a.now c.args.tx) c.args.samples.now c.requires.three c.requires.pieces
+    c.requires.first
     c.requires.limit c.requires.short (poll_answers c.in-Ok.all.items) silent))
