@@ -80,7 +80,8 @@ pub extern "C" fn jilqamur_number_widen(previous: u64, low: u16) -> u64
 pub extern "C" fn jilqamur_window_open(alloc: Global, window: &mut WindowHandle) -> u32
     ensures opened { result ≡ ok → window.new.place.object ≡ Some fresh }
     ensures held_none { result ≡ ok → window.old.place.object ≡ None }
-    ensures in_use { result ≢ ok → result ≢ memory → (result ≡ in_use) × IsSome window.old.place.object }
+    ensures in_use { IsSome window.old.place.object → result ≡ in_use }
+    ensures refusal { result ≢ ok → result ≢ memory → result ≡ in_use }
     ensures unchanged { result ≢ ok → window.new.place.object ≡ window.old.place.object }
 {
     window.open(alloc)

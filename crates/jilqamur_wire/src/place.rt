@@ -98,7 +98,8 @@ impl WindowHandle {
     pub fn open(&mut self, alloc: Global) -> u32
         ensures opened { result ≡ ok → self.new.place.object ≡ Some fresh }
         ensures held_none { result ≡ ok → self.old.place.object ≡ None }
-        ensures in_use { result ≢ ok → result ≢ memory → (result ≡ in_use) × IsSome self.old.place.object }
+        ensures in_use { IsSome self.old.place.object → result ≡ in_use }
+        ensures refusal { result ≢ ok → result ≢ memory → result ≡ in_use }
         ensures unchanged { result ≢ ok → self.new.place.object ≡ self.old.place.object }
     {
         if let Some(held) = self.take(alloc) {
