@@ -93,8 +93,8 @@ count-is : (s : Sending) (x y z : Sample) → sends_pieces s.row.codec ≡ true
 count-is s x y z is short =
     ap (λ (ss : List SentSample). length (packets_of ss)) (sent-whole s (x ∷ y ∷ z ∷ []) is short)
 
-pub tame-three : (s : Sending) (samples : List Sample) → length samples ≡ 3 → sends_pieces s.row.codec ≡ true → s.next ≡ 0
-    → 1199 ≤ packet_limit s → All IsShortSample samples → (answers : List Answer) → EndsSilent answers
+pub tame-three : (s : Sending) (samples : List Sample) → length samples ≡ 3 → sends_pieces s.row.codec ≡ true
+    → s.next ≡ 0 → 1199 ≤ packet_limit s → All IsShortSample samples → (answers : List Answer) → EndsSilent answers
     → IsTameSchedule s samples 127 schedule answers
 tame-three s [] three is next room short answers silent = absurd (omega arith)
 tame-three s (x ∷ []) three is next room short answers silent = absurd (omega arith)
@@ -141,8 +141,8 @@ arriving-bytes s (x ∷ xs) =
     ap (λ (bs : List (Result (List ℕ) PacketError)). Ok x.bytes ∷ bs) (arriving-bytes s xs)
 
 -- what is handed out is the samples
-pub bytes-out : (s : Sending) (samples : List Sample) (rs : List (Result MediaUnit PacketError)) → sends_pieces s.row.codec ≡ true
-    → 1199 ≤ packet_limit s → All IsShortSample samples → map timed_unit rs ≡ map Ok (units_of s samples)
+pub bytes-out : (s : Sending) (samples : List Sample) (rs : List (Result MediaUnit PacketError))
+    → sends_pieces s.row.codec ≡ true → 1199 ≤ packet_limit s → All IsShortSample samples → map timed_unit rs ≡ map Ok (units_of s samples)
     → map bytes_out rs ≡ map (λ x. Ok x.bytes) samples
 bytes-out s samples rs is room short exact =
     bytes-are rs ∙ ap (map timed_bytes) exact
