@@ -2,7 +2,8 @@
  *
  * Link with libjilqamur.a. The contract of each function is at its export in crates/jilqamur/src/lib.rt; nothing checks
  * a C caller, which keeps to this:
- *   - every pointer is valid and aligned, and not null, but that of bytes whose length is 0 may be any non-null address;
+ *   - every pointer is valid and aligned, and not null, but that of bytes whose length is 0 may be any non-null
+ *     address;
  *   - what a call writes overlaps nothing else that it is given;
  *   - a bool is 0 or 1;
  *   - malloc, realloc and free come from one allocator;

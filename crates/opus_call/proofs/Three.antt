@@ -142,7 +142,8 @@ arriving-bytes s (x ∷ xs) =
 
 -- what is handed out is the samples
 pub bytes-out : (s : Sending) (samples : List Sample) (rs : List (Result MediaUnit PacketError))
-    → sends_pieces s.row.codec ≡ true → 1199 ≤ packet_limit s → All IsShortSample samples → map timed_unit rs ≡ map Ok (units_of s samples)
+    → sends_pieces s.row.codec ≡ true → 1199 ≤ packet_limit s → All IsShortSample samples
+    → map timed_unit rs ≡ map Ok (units_of s samples)
     → map bytes_out rs ≡ map (λ x. Ok x.bytes) samples
 bytes-out s samples rs is room short exact =
     bytes-are rs ∙ ap (map timed_bytes) exact
