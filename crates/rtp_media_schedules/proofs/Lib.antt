@@ -11,3 +11,4 @@ pub mod Full
 pub mod TrueNumbers
 pub mod Selections
 pub mod Polls
+pub mod Drains

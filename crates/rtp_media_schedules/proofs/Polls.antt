@@ -1,12 +1,12 @@
 -- Polls that come to an end.
-use Rattle.std.proofs.Common.{◌≡◌, ℕ, zero, suc, ◌<◌, ◌≤◌, refl, sym, ◌∙◌, ap, subst, arith, List, [], ◌∷◌, length}
-use Rattle.std.proofs.Common.{drop, replicate}
-use Rattle.std.specs.Prelude.{Option, None, Some, Ok}
+use Rattle.std.proofs.Common.{◌≡◌, ℕ, zero, suc, ◌≤◌, refl, sym, subst, arith, ◌∷◌, length}
+use Rattle.std.proofs.Common.{replicate}
+use Rattle.std.specs.Prelude.{Option, None, Some}
 use Rattle.std.proofs.lemmas.List.{length-drop}
 use Rattle.payload_core_base.specs.Format.{Format}
 use Rattle.payload_core_buffer.specs.Frames.{IsFrame}
 use Rattle.payload_core_buffer.specs.declared.frame.Frame.{Frame}
-use Rattle.rtp_media_runs.specs.Hearing.{Answer, EndsSilent, Event, Poll, Stream, due, heard, poll_answer, polled}
+use Rattle.rtp_media_runs.specs.Hearing.{EndsSilent, Poll, Stream, due, heard, poll_answer}
 use Rattle.rtp_media_runs.specs.Hearing.{stream_behind}
 use Rattle.rtp_media_schedules.proofs.Sane.{due-is, poll_answer-is, polled-is}
 

@@ -23,6 +23,8 @@ use Rattle.rtp_media_schedules.specs.Samples.{datagrams, frame_sizes, packets_of
 use Rattle.rtp_media_schedules.specs.Samples.{whole_unit}
 use Rattle.rtp_media_schedules.specs.Sending.{AreFrames, AreWhole, Canonical, SentFrame, canonical_from, contents}
 use Rattle.rtp_media_schedules.specs.Sending.{contents_in, numbered, sizes, total, whole}
+use Rattle.rtp_media_schedules.specs.Drains.{HeldTurn, heard_at, turn_of}
+use Rattle.rtp_media_schedules.proofs.Drains.{legal-with-drains}
 use Rattle.rtp_media_schedules.proofs.Sane.{legal}
 use Rattle.rtp_media_schedules.proofs.Tame.{exact}
 
@@ -253,6 +255,19 @@ module _ (format : Format) (ss : List SentSample) (sent : AreSentAs format ss) w
       legal format hold_back first of.frames turns of.are (omega (arith, count-is)) sane' in
       subst (λ (cs : List Content). IsLegal (canonical_units first ss)
       (heard format (fresh hold_back) (map (event_of (numbered first cs)) turns))) of.brought
+      (legal-wider is (canonical_units first ss) (of.wider first))
+
+  pub drained-samples : (hold_back first : ℕ) (turns : List HeldTurn) → first + length (packets_of ss) ≤ 2 ^ 62
+      → IsSane first (length (packets_of ss)) [] (map turn_of turns) →
+      IsLegal (canonical_units first ss) (heard_at format (numbered first (datagrams ss)) (fresh hold_back) turns)
+  drained-samples hold_back first turns fits sane =
+      let sane' : IsSane first (total (sizes of.frames)) [] (map turn_of turns) =
+      subst (λ (n : ℕ). IsSane first n [] (map turn_of turns)) (sym count-is) sane in
+      let is : IsLegal (canonical_from first of.frames)
+      (heard_at format (numbered first (contents of.frames)) (fresh hold_back) turns) =
+      legal-with-drains format hold_back first of.frames turns of.are (omega (arith, count-is)) sane' in
+      subst (λ (cs : List Content). IsLegal (canonical_units first ss)
+      (heard_at format (numbered first cs) (fresh hold_back) turns)) of.brought
       (legal-wider is (canonical_units first ss) (of.wider first))
 
   pub exact-samples : (hold_back first : ℕ) (turns : List Turn) → first + length (packets_of ss) ≤ 2 ^ 62 →

@@ -136,7 +136,7 @@ module _ (format : Format) (sender : Sender) (first count : ℕ) (fits : first +
     closed = is.closed;
   }
 
-  arrives : (past : List ℕ) (n : ℕ) (s : Stream) (x : ℕ) → IsSound past n s → IsSaneArrival first count past x
+  pub arrives : (past : List ℕ) (n : ℕ) (s : Stream) (x : ℕ) → IsSound past n s → IsSaneArrival first count past x
       → IsSound (x ∷ past) n (taken_by s (hearing.number_at s (x % 65536)) (sender x))
   arrives past n s x is sane =
       rw (widened-sane past s.window x (omega (arith, sane.before_end)) is.greatest sane.near)

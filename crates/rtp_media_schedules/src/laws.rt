@@ -7,6 +7,7 @@ ghost use Rattle.rtp_media_schedules.specs.Turns.{Sender, Turn, AreGoodArrivals,
 ghost use Rattle.rtp_media_runs.specs.Samples.{timed_unit};
 ghost use Rattle.rtp_media_runs.specs.Hearing.{Answer, after_events, EndsSilent, fresh, handed_out, heard, Poll};
 ghost use Rattle.rtp_media_runs.specs.Hearing.{Stream};
+ghost use Rattle.rtp_media_schedules.specs.Drains.{HeldTurn, heard_at, turn_at, turn_of};
 ghost use Rattle.rtp_media_schedules.specs.Legal.{IsLegal, IsSelection};
 ghost use Rattle.rtp_media_schedules.specs.Orders.{IsSane, IsTame, first_size};
 ghost use Rattle.rtp_media_schedules.specs.Samples.{AreSentAs, SentSample, canonical_units, datagrams, frame_sizes};
@@ -21,6 +22,18 @@ pub fn legal_under_sane_schedule()
         AreSentAs format samples → first + length (packets_of samples) ≤ 2 ^ 62
         → IsSane first (length (packets_of samples)) [] turns →
         IsLegal (canonical_units first samples) (heard format (fresh hold_back) events) }
+{}
+
+/// The same where each poll holds back as many complete frames as it says, a drain none, which then is as before: polls
+/// and drains in any order answer a legal selection. Where all hold back what the stream does, they are its polls.
+pub fn legal_with_drains()
+    ensures legal { (format : Format) (hold_back first : ℕ) (samples : List SentSample) (turns : List HeldTurn) →
+        AreSentAs format samples → first + length (packets_of samples) ≤ 2 ^ 62
+        → IsSane first (length (packets_of samples)) [] (map turn_of turns) →
+        IsLegal (canonical_units first samples)
+        (heard_at format (numbered first (datagrams samples)) (fresh hold_back) turns) }
+    ensures polls { (format : Format) (sender : Sender) (s : Stream) (turns : List Turn) →
+        heard_at format sender s (map (turn_at s.hold_back) turns) ≡ heard format s (map (event_of sender) turns) }
 {}
 
 /// A legal selection has strictly rising places, one for each unit that is handed out, at which the unit

@@ -6,5 +6,5 @@ mod laws;
 
 pub use laws::{
     exact_after_full_arrival, exact_under_tame_schedule, legal_under_sane_schedule,
-    polls_come_to_an_end, selections_have_places, true_numbers,
+    legal_with_drains, polls_come_to_an_end, selections_have_places, true_numbers,
 };

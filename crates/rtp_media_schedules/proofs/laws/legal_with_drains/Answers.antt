@@ -1,0 +1,11 @@
+use Rattle.std.proofs.Common.{refl}
+use Rattle.rtp_media_schedules.proofs.Drains.{same-polls}
+use Rattle.rtp_media_schedules.proofs.Samples.{drained-samples}
+use Rattle.rtp_media_schedules.proofs.laws.legal_with_drains.Goals as goal
+
+pub returns-clause-legal : goal.returns-clause-legal
+returns-clause-legal c format hold_back first samples turns sent fits sane =
+    drained-samples format samples sent hold_back first turns fits sane
+
+pub returns-clause-polls : goal.returns-clause-polls
+returns-clause-polls c format sender s turns = same-polls format sender s.hold_back turns s refl

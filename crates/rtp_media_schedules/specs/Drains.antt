@@ -1,0 +1,33 @@
+-- Runs whose polls hold back as many complete frames as each of them says: a poll holds back what its stream does, a
+-- drain none.
+use Rattle.std.specs.Prelude.{ℕ, ◌%◌, List, [], ◌∷◌}
+use Rattle.payload_core_base.specs.Format.{Format}
+use Rattle.rtp_media_runs.specs.Hearing.{Answer, Stream, number_at, poll_answer, polled, taken_by}
+use Rattle.rtp_media_schedules.specs.Turns as turns
+use Rattle.rtp_media_schedules.specs.Turns.{Sender, Turn}
+
+-- An arrival of the datagram of this true number, or a poll that holds so many complete frames back.
+pub data HeldTurn : Type 0 where
+  Arrive : (number : ℕ) → HeldTurn
+  AskAt : (hold_back : ℕ) → HeldTurn
+
+-- the turn, whatever is held back
+abbrev pub turn_of : HeldTurn → Turn
+turn_of (Arrive x) = turns.Arrive x
+turn_of (AskAt k) = turns.Ask
+
+-- the turn at a stream that holds so many back
+abbrev pub turn_at : ℕ → Turn → HeldTurn
+turn_at k (turns.Arrive x) = Arrive x
+turn_at k turns.Ask = AskAt k
+
+-- the stream, holding so many back
+abbrev pub holding : ℕ → Stream → Stream
+holding k s = record s { hold_back = k }
+
+-- the answers to the polls
+abbrev pub heard_at : Format → Sender → Stream → List HeldTurn → List Answer
+heard_at format sender s [] = []
+heard_at format sender s (Arrive x ∷ ts) = heard_at format sender (taken_by s (number_at s (x % 65536)) (sender x)) ts
+heard_at format sender s (AskAt k ∷ ts) =
+    poll_answer format (holding k s) ∷ heard_at format sender (holding s.hold_back (polled format (holding k s))) ts
