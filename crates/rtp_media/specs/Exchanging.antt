@@ -13,7 +13,7 @@ use Rattle.sdp_formats_rows.specs.Rows.{Row, new_row}
 use Rattle.sdp_formats_types.specs.PrintedSession.{sdp_text}
 use Rattle.rtp_media_negotiation.specs.declared.errors.EndError.{EndError}
 use Rattle.rtp_media_negotiation.specs.declared.errors.ExchangeError.{ExchangeError}
-use Rattle.rtp_media_negotiation.specs.Exchanges.{with_offer}
+use Rattle.rtp_media_negotiation.specs.Exchanges.{bare_session, with_offer}
 use Rattle.rtp_media_negotiation.specs.Offers.{Accepts, Answers, offer_of}
 use Rattle.rtp_media_negotiation.specs.Refusals.{MayAccept, MayAnswer, Refuses, RefusesAccept, RefusesAnswer}
 use Rattle.rtp_media_negotiation.specs.Refusals.{refusal_of_new, refusal_of_offer}
@@ -80,13 +80,13 @@ AnswersExt old c new replies =
 -- end E ID: the draft is emptied, refused or not
 abbrev pub AnswersEnd : EndAndDraft → EndCommand → Option EndError → EndAndDraft → List Reply → Type 0
 AnswersEnd old c None new replies =
-    (new ≡ empty_draft (Some (new_end c.session old.exts (record { rows = old.rows; distances = [] }))))
+    (new ≡ empty_draft (Some (new_end (bare_session c.session) old.exts (record { rows = old.rows; distances = [] }))))
     × Prints replies reply.Done
 AnswersEnd old c (Some error) new replies =
     (new ≡ empty_draft old.end) × Prints replies (reply.Refused (end_error_name error))
 
 abbrev pub refusal_of_draft : EndAndDraft → Option EndError
-refusal_of_draft kept = refusal_of_new kept.rows true kept.exts
+refusal_of_draft kept = refusal_of_new kept.rows kept.exts
 
 -- the section that a word names
 abbrev pub wanted_of : SectionWord → Wanted

@@ -14,6 +14,7 @@ use Rattle.rtp_media_streams.specs.declared.types.PayloadTypes.{PayloadTypes}
 use Rattle.sdp_formats_rows.specs.Rows.{Row}
 use Rattle.sdp_formats_config.specs.Configs.{Config}
 use Rattle.rtp_media_negotiation.specs.Exchanges.{Exchanged, fresh, fixed}
+use Rattle.sdp_formats_types.specs.declared.session.Session.{Session}
 use Rattle.rtp_media_sections.specs.Agreement.{Agreed, agreed_map_of, agreed_row_of, is_named, own_row_agrees, row_in}
 use Rattle.rtp_media_sections.specs.Agreement.{section_of}
 use Rattle.rtp_media_ends.specs.declared.open_stream.OpenStream.{OpenStream}
@@ -231,5 +232,5 @@ abbrev pub fixed_end : EndState
 fixed_end = record { exchange = fixed; streams = [] }
 
 -- An end that has agreed on nothing.
-abbrev pub new_end : ℕ → Numbering → Config → EndState
+abbrev pub new_end : Session → Numbering → Config → EndState
 new_end session wanted config = record { exchange = fresh session wanted config; streams = [] }

@@ -1,6 +1,5 @@
 -- What an end keeps of its exchanges, and how each call changes it.
-use Rattle.std.specs.Prelude.{ℕ, true, false, Bool, ◌&&◌, ◌==◌, is_none, length, List, [], ◌∷◌, map, zip, Option}
-use Rattle.std.specs.Prelude.{None}
+use Rattle.std.specs.Prelude.{ℕ, true, false, List, [], ◌∷◌, map, zip, Option, None}
 use Rattle.rtp_wire.specs.Maps.{empty_map}
 use Rattle.rtp_wire.specs.Values.{Numbering}
 use Rattle.sdp_formats_config.specs.Configs.{Config, opus_row}
@@ -10,28 +9,28 @@ use Rattle.sdp_formats_types.specs.declared.session.Session.{Session}
 use Rattle.rtp_media_sections.specs.Agreement.{Agreed, agreed_by_accept, agreed_by_answer, fixed_section}
 use Rattle.rtp_media_sections.specs.Sections.{Wanted}
 
--- What an end keeps of its exchanges: the number of its session, the header extensions that it wants, its rows with
--- their locks, the sections of an offer that waits for its answer, and the sections that were agreed last.
+-- What an end keeps of its exchanges: its session, the header extensions that it wants, its rows with their locks, the
+-- sections of an offer that waits for its answer, and the sections that were agreed last.
 pub record Exchanged : Type 0 where
-  pub session : ℕ
+  pub session : Session
   pub wanted : Numbering
   pub config : Config
   pub pending : Option (List Wanted)
   pub agreed : List Agreed
 
--- Whether a session has neither attributes nor bandwidth.
-abbrev pub is_bare : Session → Bool
-is_bare s = is_none s.bw && (length s.attrs == 0)
+-- a session with neither attributes nor bandwidth
+abbrev pub bare_session : ℕ → Session
+bare_session id = record { id = id; bw = None; attrs = [] }
 
 -- an end that has agreed on nothing
-abbrev pub fresh : ℕ → Numbering → Config → Exchanged
+abbrev pub fresh : Session → Numbering → Config → Exchanged
 fresh session wanted config =
     record { session = session; wanted = wanted; config = config; pending = None; agreed = [] }
 
 -- an end that has agreed as if by an exchange
 unfoldable pub fixed : Exchanged
 fixed = record {
-  session = 0;
+  session = bare_session 0;
   wanted = empty_map;
   config = record { rows = record (opus_row false) { locked = true } ∷ []; distances = [] };
   pending = None;

@@ -1,11 +1,12 @@
 -- What offers and answers say.
-use Rattle.std.specs.Prelude.{◌≡◌, ℕ, List, [], ◌∷◌, map, zip, codes, Some, None, Ok}
+use Rattle.std.specs.Prelude.{◌≡◌, ℕ, List, ◌∷◌, map, zip, codes, Some, Ok}
 use Rattle.sdp_formats_round.specs.Laws.{rounds}
 use Rattle.sdp_formats_rows.specs.Rows.{Row}
 use Rattle.sdp_formats_types.specs.PrintedSession.{sdp_text}
 use Rattle.sdp_formats_types.specs.declared.media.MediaLine.{MediaLine}
 use Rattle.sdp_formats_types.specs.declared.session.Sdp.{Sdp}
 use Rattle.sdp_formats_types.specs.declared.session.Session.{Session}
+use Rattle.sdp_formats_types.specs.declared.session.SessionAttribute.{SessionAttribute}
 use Rattle.sdp_formats_types.specs.declared.session.SessionAttribute.TheVariants.{Group}
 use Rattle.rtp_media_negotiation.specs.Exchanges.{Exchanged, accepted_agreement, answered_agreement, with_agreement}
 use Rattle.rtp_media_negotiation.specs.Says.{SaysOnly}
@@ -13,13 +14,13 @@ use Rattle.rtp_media_sections.specs.Answered.{answered_section}
 use Rattle.rtp_media_sections.specs.Lines.{offered_section, remote_of}
 use Rattle.rtp_media_sections.specs.Sections.{Wanted}
 
--- A session of these sections in one bundle (RFC 9143 7.2).
-abbrev pub bundled : ℕ → List Wanted → Session
-bundled id wanted = record {
-  id = id;
-  bw = None;
-  attrs = Group (codes "BUNDLE") (map (λ w. w.mid) wanted) ∷ [];
-}
+-- These sections are one bundle (RFC 9143 7.2).
+abbrev pub bundle_of : List Wanted → SessionAttribute
+bundle_of wanted = Group (codes "BUNDLE") (map (λ w. w.mid) wanted)
+
+-- An end's session with a bundle of these sections before its own attributes.
+abbrev pub bundled : Session → List Wanted → Session
+bundled s wanted = record s { attrs = bundle_of wanted ∷ s.attrs }
 
 -- What an offer of sections says.
 unfoldable pub offer_of : Exchanged → List Wanted → Sdp

@@ -13,6 +13,8 @@ use Rattle.sdp_formats_rows.specs.Rows.{Row}
 use Rattle.sdp_formats_section_rows.specs.SectionRows.{rows_of}
 use Rattle.sdp_formats_types.specs.PrintedSession.{sdp_text}
 use Rattle.sdp_formats_types.specs.declared.media.MediaLine.{MediaLine}
+use Rattle.sdp_formats_types.specs.declared.session.Session.{Session}
+use Rattle.sdp_formats_writable.specs.Writable.{IsWritableSession}
 use Rattle.rtp_media_negotiation.specs.Exchanges.{Exchanged}
 use Rattle.rtp_media_negotiation.specs.Offers.{answer_of}
 use Rattle.rtp_media_negotiation.specs.Reading.{IsUnread}
@@ -48,13 +50,18 @@ first_repeated before (t ∷ rest) = if is_among before t then Some t else first
 abbrev pub types_refusal : List Row → Option EndError
 types_refusal rows = option_map fault.TypesNotDistinct (first_repeated [] (types_listed rows))
 
--- Why an end can't be made: of its rows, of their types, and of a session with attributes or bandwidth, or a header
--- extension whose text can't stand in a line.
-abbrev pub refusal_of_new : List Row → Bool → Numbering → Option EndError
-refusal_of_new rows is_bare exts =
+-- Why an end can't be made, its session aside: of its rows, of their types, and of a header extension whose text can't
+-- stand in a line.
+abbrev pub refusal_of_new : List Row → Numbering → Option EndError
+refusal_of_new rows exts =
     else_refused (row_refusal 0 rows)
     (else_refused (types_refusal rows)
-    (if is_bare && is_writable_map exts then None else Some fault.NotWritable))
+    (if is_writable_map exts then None else Some fault.NotWritable))
+
+-- An end isn't made for this reason: the first that holds, or its session can't be written.
+abbrev pub RefusesNew : List Row → Session → Numbering → EndError → Type 0
+RefusesNew rows session exts e = (refusal_of_new rows exts ≡ Some e)
+    ⊎ ((refusal_of_new rows exts ≡ None) × (e ≡ fault.NotWritable) × (IsWritableSession session → ⊥))
 
 -- The first wanted section that would list no row, and the first without a name.
 abbrev pub lists_none : List Row → Wanted → Bool

@@ -1,12 +1,11 @@
 //! Offers, answers and what they agree on.
 
-ghost use Rattle.std.specs.Prelude.{◌≡◌, ◌≢◌, None, Some, is_some, string_bytes, IfOk, IfErr, OnOk, OnErr};
+ghost use Rattle.std.specs.Prelude.{◌≡◌, ◌≢◌, None, is_some, IfOk, IfErr, OnOk};
 ghost use Rattle.std.specs.Option.{option_copied};
-ghost use Rattle.rtp_media_negotiation.specs.Exchanges.{fixed, fresh, is_bare, with_offer};
-ghost use Rattle.rtp_media_negotiation.specs.Offers.{offer_of};
-ghost use Rattle.rtp_media_negotiation.specs.Refusals.{refusal_of_new, refusal_of_offer};
+ghost use Rattle.rtp_media_negotiation.specs.Exchanges.{fixed, fresh, with_offer};
+ghost use Rattle.rtp_media_negotiation.specs.Refusals.{RefusesNew, refusal_of_new};
 ghost use Rattle.rtp_media_sections.specs.Agreement.{own_row_agrees, section_of};
-ghost use Rattle.sdp_formats_types.specs.PrintedSession.{sdp_text};
+ghost use Rattle.sdp_formats_writable.specs.Writable.{IsWritableSession};
 
 mod answer;
 mod offer;
@@ -18,6 +17,7 @@ use rtp_wire::{ExtensionMap, Mid, SessionId};
 use sdp_formats::Session;
 use sdp_formats_config::CodecConfig;
 use sdp_formats_rows::PayloadParams;
+use sdp_formats_writable::is_writable_session;
 use std::alloc::{AllocError, Global};
 use std::marker::Model;
 
@@ -26,7 +26,7 @@ use std::marker::Model;
 #[derive(Debug, Drop)]
 pub struct Exchange {
     alloc: Global,
-    session: SessionId,
+    session: Session,
     exts: ExtensionMap,
     config: CodecConfig,
     pending: Option<Pending>,
@@ -73,14 +73,9 @@ fn section_named(sections: &[AgreedSection], mid: Mid) -> Option<&AgreedSection>
     None
 }
 
-fn is_bare(session: &Session) -> bool
-    ensures { result ≡ is_bare session.now }
-{
-    session.bw.is_none() && session.attrs.as_slice().is_empty()
-}
-
 impl Exchange {
-    /// An end's exchanges before the first one: its rows, its session and its map of extensions.
+    /// An end's exchanges before the first one: its rows, its session and its map of extensions. The session's
+    /// bandwidth and attributes stand in each text that the end writes, the attributes behind the bundle.
     ///
     /// # Errors
     ///
@@ -88,22 +83,22 @@ impl Exchange {
     pub fn new(
         alloc: Global,
         config: CodecConfig,
-        session: &Session,
+        session: Session,
         exts: ExtensionMap,
     ) -> Result<Self, EndError>
-        ensures new { IfOk result (λ x. x ≡ fresh session.now.id exts config) }
-        ensures accepted { OnOk result (refusal_of_new config.rows (is_bare session.now) exts ≡ None) }
-        ensures refused { IfErr result (λ e. e ≢ EndError.Memory
-            → refusal_of_new config.rows (is_bare session.now) exts ≡ Some e) }
+        ensures new { IfOk result (λ x. x ≡ fresh session exts config) }
+        ensures accepted { OnOk result (refusal_of_new config.rows exts ≡ None) }
+        ensures writable { OnOk result (IsWritableSession session) }
+        ensures refused { IfErr result (λ e. e ≢ EndError.Memory → RefusesNew config.rows session exts e) }
     {
         check_rows(alloc, config.params())?;
         check_types(alloc, config.params())?;
-        if !is_bare(session) || !is_writable(&exts) {
+        if !is_writable(&exts) || !is_writable_session(alloc, &session)? {
             return Err(EndError::NotWritable);
         }
         Ok(Exchange {
             alloc,
-            session: session.id,
+            session,
             exts,
             config,
             pending: None,
@@ -131,7 +126,7 @@ impl Exchange {
         agreed.push(AgreedSection::fixed(alloc)?)?;
         Ok(Exchange {
             alloc,
-            session: SessionId::from(0),
+            session: Session::new(alloc, SessionId::from(0)),
             exts: ExtensionMap::empty(),
             config: CodecConfig::new_from_payload_params(rows),
             pending: None,

@@ -1,15 +1,16 @@
 //! The texts of offers and answers.
 
-ghost use Rattle.std.specs.Prelude.{◌≡◌, length, map, zip, string_bytes, IfOk, IfErr};
+ghost use Rattle.std.specs.Prelude.{◌≡◌, length, map, zip, string_bytes, IfOk};
 ghost use Rattle.sdp_formats_types.specs.PrintedSession.{sdp_text};
-ghost use Rattle.rtp_media_negotiation.specs.Offers.{bundled};
+ghost use Rattle.rtp_media_negotiation.specs.Offers.{bundle_of, bundled};
 ghost use Rattle.rtp_media_sections.specs.Answered.{answered_section};
 ghost use Rattle.rtp_media_sections.specs.Lines.{offered_section};
 
 use rtp_media_sections::{SectionSpec, answered_section, offered_section};
-use rtp_wire::{ExtensionMap, Mid, SessionId};
+use rtp_wire::{ExtensionMap, Mid};
 use sdp_formats_config::CodecConfig;
-use sdp_formats_types::{Listed, MediaLine, Sdp, Session, SessionAttribute, Text};
+use sdp_formats_types::{Listed, MediaLine, Session, SessionAttribute, Text};
+use sdp_formats_writable::WholeText;
 use std::alloc::{AllocError, Global};
 
 fn mids_of(alloc: Global, sections: &[SectionSpec]) -> Result<Vec<Mid>, AllocError>
@@ -22,21 +23,35 @@ fn mids_of(alloc: Global, sections: &[SectionSpec]) -> Result<Vec<Mid>, AllocErr
     Ok(mids)
 }
 
-// A session of these sections in one bundle.
-fn bundled(alloc: Global, id: SessionId, sections: &[SectionSpec]) -> Result<Session, AllocError>
-    ensures { IfOk result (λ s. s ≡ bundled id sections.now) }
+// One bundle of these sections.
+fn bundle_of(alloc: Global, sections: &[SectionSpec]) -> Result<SessionAttribute, AllocError>
+    ensures { IfOk result (λ group. group ≡ bundle_of sections.now) }
 {
-    let group = SessionAttribute::Group {
+    Ok(SessionAttribute::Group {
         typ: Text::of(String::from_str(alloc, "BUNDLE")?),
         mids: Listed::of(mids_of(alloc, sections)?),
-    };
-    let mut attrs = Vec::new(alloc);
-    attrs.push(group)?;
-    Ok(Session {
-        id,
-        bw: None,
-        attrs: Listed::of(attrs),
     })
+}
+
+// The text of a session with a bundle of its sections, and of their lines.
+fn bundled_text(
+    alloc: Global,
+    session: &Session,
+    sections: &[SectionSpec],
+    lines: &[MediaLine],
+) -> Result<String, AllocError>
+    ensures { IfOk result (λ text. string_bytes text ≡ sdp_text (record {
+      session = bundled session.now sections.now;
+      media_lines = lines.now;
+    })) }
+{
+    let bundle = bundle_of(alloc, sections)?;
+    let text = WholeText {
+        session,
+        first: &bundle,
+        sections: lines,
+    };
+    text.to_string(alloc)
 }
 
 fn offered_lines(
@@ -57,21 +72,18 @@ fn offered_lines(
 /// The text of an offer of these sections.
 pub(crate) fn offer_text(
     alloc: Global,
-    session: SessionId,
+    session: &Session,
     exts: &ExtensionMap,
     config: &CodecConfig,
     sections: &[SectionSpec],
 ) -> Result<String, AllocError>
     ensures { IfOk result (λ text. string_bytes text ≡ sdp_text (record {
-      session = bundled session sections.now;
+      session = bundled session.now sections.now;
       media_lines = map (offered_section exts.now config.now.rows) sections.now;
     })) }
 {
-    let sdp = Sdp {
-        session: bundled(alloc, session, sections)?,
-        media_lines: Listed::of(offered_lines(alloc, exts, config, sections)?),
-    };
-    sdp.to_sdp_string(alloc)
+    let lines = offered_lines(alloc, exts, config, sections)?;
+    bundled_text(alloc, session, sections, lines.as_slice())
 }
 
 fn answered_lines(
@@ -96,7 +108,7 @@ fn answered_lines(
 /// The text of the answer to sections.
 pub(crate) fn answer_text(
     alloc: Global,
-    session: SessionId,
+    session: &Session,
     exts: &ExtensionMap,
     config: &CodecConfig,
     sections: &[SectionSpec],
@@ -104,13 +116,10 @@ pub(crate) fn answer_text(
 ) -> Result<String, AllocError>
     requires { length sections.now ≡ length offer.now }
     ensures { IfOk result (λ text. string_bytes text ≡ sdp_text (record {
-      session = bundled session sections.now;
+      session = bundled session.now sections.now;
       media_lines = map (λ s. answered_section exts.now config.now.rows s.0 s.1) (zip sections.now offer.now);
     })) }
 {
-    let sdp = Sdp {
-        session: bundled(alloc, session, sections)?,
-        media_lines: Listed::of(answered_lines(alloc, exts, config, sections, offer)?),
-    };
-    sdp.to_sdp_string(alloc)
+    let lines = answered_lines(alloc, exts, config, sections, offer)?;
+    bundled_text(alloc, session, sections, lines.as_slice())
 }

@@ -2,10 +2,11 @@
 
 ghost use Rattle.std.specs.Prelude.{◌≡◌, ◌≢◌, None, Some, is_some, string_bytes, IfOk, IfErr, OnOk, OnErr};
 ghost use Rattle.sdp_formats_types.specs.PrintedSession.{sdp_text};
-ghost use Rattle.rtp_media_negotiation.specs.Exchanges.{is_bare, with_offer};
+ghost use Rattle.rtp_media_negotiation.specs.Exchanges.{with_offer};
 ghost use Rattle.rtp_media_negotiation.specs.Offers.{Accepts, Answers, offer_of};
 ghost use Rattle.rtp_media_negotiation.specs.Refusals.{MayAccept, MayAnswer, Refuses, RefusesAccept, RefusesAnswer};
-ghost use Rattle.rtp_media_negotiation.specs.Refusals.{refusal_of_new, refusal_of_offer};
+ghost use Rattle.rtp_media_negotiation.specs.Refusals.{RefusesNew, refusal_of_new, refusal_of_offer};
+ghost use Rattle.sdp_formats_writable.specs.Writable.{IsWritableSession};
 ghost use Rattle.rtp_media_negotiation.specs.Says.{AgreesOnText};
 ghost use Rattle.rtp_media_ends.specs.Ends.{new_end, with_exchange};
 ghost use Rattle.rtp_media_ends.specs.Connections.{Connects, HaveExchanged, HaveOneAgreement, IsRefused};
@@ -18,8 +19,8 @@ use rtp_wire::ExtensionMap;
 use std::alloc::Global;
 
 impl End {
-    /// An end of these rows, session and wanted header extensions (RFC 8285), which has agreed on
-    /// nothing.
+    /// An end of these rows, session and wanted header extensions (RFC 8285), which has agreed on nothing. The session's
+    /// bandwidth and attributes stand in each text that the end writes, the attributes behind the bundle.
     ///
     /// # Errors
     /// The first that holds of `RowNotPlain`, `TypesNotDistinct` and `NotWritable`; or `Memory`.
@@ -29,14 +30,14 @@ impl End {
         session: Session,
         exts: ExtensionMap,
     ) -> Result<Self, EndError>
-        ensures new { IfOk result (λ e. e ≡ new_end session.id exts config) }
-        ensures accepted { OnOk result (refusal_of_new config.rows (is_bare session) exts ≡ None) }
-        ensures refused { IfErr result (λ e. e ≢ EndError.Memory
-            → refusal_of_new config.rows (is_bare session) exts ≡ Some e) }
+        ensures new { IfOk result (λ e. e ≡ new_end session exts config) }
+        ensures accepted { OnOk result (refusal_of_new config.rows exts ≡ None) }
+        ensures writable { OnOk result (IsWritableSession session) }
+        ensures refused { IfErr result (λ e. e ≢ EndError.Memory → RefusesNew config.rows session exts e) }
     {
         Ok(End {
             alloc,
-            exchange: Exchange::new(alloc, config, &session, exts)?,
+            exchange: Exchange::new(alloc, config, session, exts)?,
             streams: Vec::new(alloc),
         })
     }

@@ -129,7 +129,7 @@ impl Exchange {
         let config = self.settle_answer(offer.as_slice(), sections.as_slice())?;
         let answer = answer_text(
             self.alloc,
-            self.session,
+            &self.session,
             &self.exts,
             &config,
             sections.as_slice(),

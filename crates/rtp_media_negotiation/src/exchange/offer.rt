@@ -93,7 +93,7 @@ impl Exchange {
         self.check_offer(sections.as_slice())?;
         let text = offer_text(
             self.alloc,
-            self.session,
+            &self.session,
             &self.exts,
             &self.config,
             sections.as_slice(),
