@@ -15,6 +15,7 @@ pub enum Beside {
     Redundancy,
     OctetAlign,
     DecodingOrder,
+    Length,
 }
 
 /// A codec as a row of both ends.
@@ -32,6 +33,15 @@ impl Case {
             Beside::Redundancy => " with redundancy",
             Beside::OctetAlign => " octet-aligned",
             Beside::DecodingOrder => " with decoding order numbers",
+            Beside::Length => " past number 65,536",
+        }
+    }
+
+    /// How many samples a run of it has.
+    pub fn samples(&self) -> usize {
+        match self.beside {
+            Beside::Length => 33_000,
+            _ => 400,
         }
     }
 
@@ -106,8 +116,8 @@ fn with(codec: Codec, beside: Beside) -> Case {
     Case { codec, beside }
 }
 
-/// Each codec that has a payload format, in each of its layouts.
-pub fn cases() -> [Case; 18] {
+/// Each codec that has a payload format, in each of its layouts, and two of them in long runs.
+pub fn cases() -> [Case; 20] {
     [
         plain(Codec::Opus),
         with(Codec::Opus, Beside::Redundancy),
@@ -127,5 +137,7 @@ pub fn cases() -> [Case; 18] {
         with(Codec::H265, Beside::DecodingOrder),
         plain(Codec::H266),
         with(Codec::H266, Beside::DecodingOrder),
+        with(Codec::Opus, Beside::Length),
+        with(Codec::Vp8, Beside::Length),
     ]
 }
