@@ -1,0 +1,5 @@
+pub mod Peers
+pub mod Answers
+pub mod Drafts
+pub mod Exchanges
+pub mod Receiving

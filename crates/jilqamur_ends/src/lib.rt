@@ -1,0 +1,11 @@
+//! Ends in the shapes that cross to C.
+#![tactic(auto)]
+
+mod draft;
+mod exchanges;
+mod fetch;
+mod peer;
+mod receiving;
+
+pub use draft::WireRow;
+pub use peer::Peer;
