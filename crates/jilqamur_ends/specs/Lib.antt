@@ -2,4 +2,3 @@ pub mod Peers
 pub mod Answers
 pub mod Drafts
 pub mod Exchanges
-pub mod Receiving

@@ -1,6 +1,6 @@
 //! What an end is made of, gathered call by call.
 
-ghost use Rattle.std.specs.Prelude.{◌≡◌, ◌≢◌, ◌-◌, [], ◌∷◌, ◌++◌, Some, None, true, false, slice_set, IfSome, IfNone};
+ghost use Rattle.std.specs.Prelude.{◌≡◌, ◌≢◌, ◌-◌, [], ◌∷◌, ◌++◌, Some, None, true, false, slice_set, IfOk, IfSome, IfNone};
 ghost use Rattle.std.specs.Str.{is_utf8};
 ghost use Rattle.rtp_wire.specs.Kinds.{extension_of};
 ghost use Rattle.jilqamur_wire.specs.Codes.{ok, memory, not_text};

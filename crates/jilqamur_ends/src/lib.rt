@@ -5,7 +5,6 @@ mod draft;
 mod exchanges;
 mod fetch;
 mod peer;
-mod receiving;
 
 pub use draft::WireRow;
 pub use peer::Peer;
