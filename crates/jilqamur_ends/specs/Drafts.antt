@@ -58,6 +58,9 @@ abbrev pub section_of : List ℕ → Bool → Bool → Bool → List ℕ → Wan
 section_of mid is_video sends receives ssrcs =
     record { mid = name_of 16 mid; kind = kind_of is_video; dir = direction_of sends receives; ssrcs = ssrcs }
 
+abbrev pub section_outcome : List ℕ → ℕ
+section_outcome mid = if is_utf8 mid then ok else not_text
+
 -- A header extension's number is 1 to 16.
 abbrev pub extension_outcome : ℕ → List ℕ → ℕ
 extension_outcome id uri =

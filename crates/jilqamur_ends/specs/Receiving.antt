@@ -1,5 +1,5 @@
 -- What calls of receiving streams answer.
-use Rattle.std.specs.Prelude.{ℕ, ◌≡◌, ◌≢◌, ◌×◌, List, length, Option, Some, None, Ok, Err}
+use Rattle.std.specs.Prelude.{ℕ, ◌≡◌, ◌≢◌, List, length, Option, Some, None, Ok, Err}
 use Rattle.rtp_wire.specs.Name.{name_of}
 use Rattle.rtp_media_runs.specs.Hearing.{MediaUnit, poll_answer}
 use Rattle.rtp_media_streams.specs.Drains.{drain_answer, drained_receiver, holding}

@@ -1,11 +1,12 @@
 //! What an end is made of, gathered call by call.
 
-ghost use Rattle.std.specs.Prelude.{◌≡◌, ◌≢◌, ◌-◌, [], ◌∷◌, ◌++◌, Some, None, true, false, slice_set, IfOk, IfSome, IfNone};
+ghost use Rattle.std.specs.Prelude.{◌≡◌, ◌≢◌, true, false, IfOk, IfSome, IfNone};
 ghost use Rattle.std.specs.Str.{is_utf8};
-ghost use Rattle.rtp_wire.specs.Kinds.{extension_of};
-ghost use Rattle.jilqamur_wire.specs.Codes.{ok, memory, not_text};
+ghost use Rattle.sdp_formats_config.specs.Configs.{default_rows};
+ghost use Rattle.jilqamur_wire.specs.Codes.{ok, memory};
+ghost use Rattle.jilqamur_ends.specs.Peers.{with_row, with_rows, with_section, with_extension};
 ghost use Rattle.jilqamur_ends.specs.Drafts.{given, row_of, row_outcome, kind_of, direction_of, section_of};
-ghost use Rattle.jilqamur_ends.specs.Drafts.{extension_outcome, end_code, make_outcome, made, without_draft};
+ghost use Rattle.jilqamur_ends.specs.Drafts.{section_outcome, extension_outcome, end_code, make_outcome, made, without_draft};
 
 use crate::peer::Peer;
 use jilqamur_wire::codes;
@@ -119,8 +120,7 @@ impl Peer {
     /// answers `OK`; or `OUT_OF_RANGE` for a clock rate of 0, else `NOT_TEXT`, or `MEMORY`, and nothing has changed.
     pub fn add_row(&mut self, row: &WireRow, codec: &[u8], format: &[u8]) -> u32
         ensures outcome { result ≢ memory → result ≡ row_outcome row.now codec.now format.now }
-        ensures added { result ≡ ok → self.new ≡ record self.old
-            { rows = self.old.rows ++ row_of row.now codec.now format.now ∷ [] } }
+        ensures added { result ≡ ok → self.new ≡ with_row self.old (row_of row.now codec.now format.now) }
         ensures unchanged { result ≢ ok → self.new ≡ self.old }
     {
         let Some(clock_rate) = Frequency::new(row.clock_rate) else {
@@ -138,12 +138,27 @@ impl Peer {
         }
     }
 
+    /// Puts the default rows of Opus, VP8, H.264, H.265, VP9 and AV1 behind those of the draft, in this order, and
+    /// answers `OK`; or `MEMORY`, and nothing has changed.
+    pub fn add_default_rows(&mut self, alloc: Global) -> u32
+        ensures outcome { result ≢ memory → result ≡ ok }
+        ensures added { result ≡ ok → self.new ≡ with_rows self.old default_rows }
+        ensures unchanged { result ≢ ok → self.new ≡ self.old }
+    {
+        let Ok(config) = CodecConfig::new_with_defaults(alloc) else {
+            return codes::MEMORY;
+        };
+        match self.rows.extend_from_slice(config.params()) {
+            Ok(()) => codes::OK,
+            Err(_) => codes::MEMORY,
+        }
+    }
+
     /// Gives a header extension a number in the draft's map, in place of one that has it, and answers `OK`; or
     /// `OUT_OF_RANGE` for a number off 1 to 16, else `NOT_TEXT`, or `MEMORY`, and nothing has changed.
     pub fn set_extension(&mut self, alloc: Global, id: u8, uri: &[u8]) -> u32
         ensures outcome { result ≢ memory → result ≡ extension_outcome id uri.now }
-        ensures put { result ≡ ok → self.new ≡ record self.old
-            { exts = slice_set self.old.exts (id - 1) (Some (extension_of uri.now)) } }
+        ensures put { result ≡ ok → self.new ≡ with_extension self.old id uri.now }
         ensures unchanged { result ≢ ok → self.new ≡ self.old }
     {
         if id < 1 || id > 16 {
@@ -193,10 +208,9 @@ impl Peer {
         receives: bool,
         ssrcs: &[u32],
     ) -> u32
-        ensures added { result ≡ ok → self.new ≡ record self.old
-            { sections = self.old.sections ++ section_of mid.now is_video sends receives ssrcs.now ∷ [] } }
-        ensures text { result ≡ ok → is_utf8 mid.now ≡ true }
-        ensures refused { result ≢ ok → result ≢ memory → (result ≡ not_text) × (is_utf8 mid.now ≡ false) }
+        ensures outcome { result ≢ memory → result ≡ section_outcome mid.now }
+        ensures added { result ≡ ok → self.new ≡ with_section self.old
+            (section_of mid.now is_video sends receives ssrcs.now) }
         ensures unchanged { result ≢ ok → self.new ≡ self.old }
     {
         let Some(mid) = text_in(mid) else {

@@ -5,6 +5,12 @@ mod draft;
 mod exchanges;
 mod fetch;
 mod peer;
+mod place;
+mod receiving;
+mod sending;
 
 pub use draft::WireRow;
+pub use fetch::WireUnit;
 pub use peer::Peer;
+pub use place::{EndHandle, EndPlace};
+pub use sending::WireStream;
