@@ -1,8 +1,14 @@
-//! RTP headers, padding, sequence numbers and replay windows (RFC 3550), from a proved library.
+//! RTP headers, padding, sequence numbers and replay windows (RFC 3550), and ends that exchange offers and answers,
+//! send samples and receive units, from a proved library.
 
 use std::{fmt, ptr};
 
+mod ends;
 mod sys;
+
+pub use ends::{
+    Datagrams, Direction, End, EndError, Kind, Received, Row, Section, StreamParams, Unit,
+};
 
 /// Why a call is refused.
 #[derive(Clone, Copy, Debug, PartialEq, Eq)]

@@ -15,12 +15,12 @@ use std::alloc::Global;
 #[unsafe(no_mangle)]
 pub extern "C" fn jilqamur_end_offer(alloc: Global, end: &mut EndHandle) -> u32
     ensures answer { At end.old.place.object end.new.place.object result
-            (λ p after. AtEnd p.end after.end result
-            (λ e now. AnswersOffer e p.sections result after.text now)) }
+        (λ p after. AtEnd p.end after.end result
+        (λ e now. AnswersOffer e p.sections result after.text now)) }
     ensures kept { At end.old.place.object end.new.place.object result
-            (λ p after. result ≢ ok → after.text ≡ p.text) }
+        (λ p after. result ≢ ok → after.text ≡ p.text) }
     ensures rest { At end.old.place.object end.new.place.object result
-            (λ p after. after ≡ behind_text p after.end after.text) }
+        (λ p after. after ≡ behind_text p after.end after.text) }
 {
     let Some(mut peer) = end.take(alloc) else {
         return codes::CLOSED;
@@ -34,12 +34,12 @@ pub extern "C" fn jilqamur_end_offer(alloc: Global, end: &mut EndHandle) -> u32
 #[unsafe(no_mangle)]
 pub extern "C" fn jilqamur_end_answer(alloc: Global, end: &mut EndHandle, offer: &[u8]) -> u32
     ensures answer { At end.old.place.object end.new.place.object result
-            (λ p after. WithText offer.now p.end after.end result
-            (λ e now. AnswersAnswer e offer.now p.sections result after.text now)) }
+        (λ p after. WithText offer.now p.end after.end result
+        (λ e now. AnswersAnswer e offer.now p.sections result after.text now)) }
     ensures kept { At end.old.place.object end.new.place.object result
-            (λ p after. result ≢ ok → after.text ≡ p.text) }
+        (λ p after. result ≢ ok → after.text ≡ p.text) }
     ensures rest { At end.old.place.object end.new.place.object result
-            (λ p after. after ≡ behind_text p after.end after.text) }
+        (λ p after. after ≡ behind_text p after.end after.text) }
 {
     let Some(mut peer) = end.take(alloc) else {
         return codes::CLOSED;
@@ -53,10 +53,10 @@ pub extern "C" fn jilqamur_end_answer(alloc: Global, end: &mut EndHandle, offer:
 #[unsafe(no_mangle)]
 pub extern "C" fn jilqamur_end_accept(alloc: Global, end: &mut EndHandle, answer: &[u8]) -> u32
     ensures answer { At end.old.place.object end.new.place.object result
-            (λ p after. WithText answer.now p.end after.end result
-            (λ e now. AnswersAccept e answer.now result now)) }
+        (λ p after. WithText answer.now p.end after.end result
+        (λ e now. AnswersAccept e answer.now result now)) }
     ensures rest { At end.old.place.object end.new.place.object result
-            (λ p after. after ≡ behind_end p after.end) }
+        (λ p after. after ≡ behind_end p after.end) }
 {
     let Some(mut peer) = end.take(alloc) else {
         return codes::CLOSED;
@@ -70,9 +70,9 @@ pub extern "C" fn jilqamur_end_accept(alloc: Global, end: &mut EndHandle, answer
 #[unsafe(no_mangle)]
 pub extern "C" fn jilqamur_end_withdraw(alloc: Global, end: &mut EndHandle) -> u32
     ensures answer { At end.old.place.object end.new.place.object result
-            (λ p after. AtEnd p.end after.end result (λ e now. AnswersWithdraw e result now)) }
+        (λ p after. AtEnd p.end after.end result (λ e now. AnswersWithdraw e result now)) }
     ensures rest { At end.old.place.object end.new.place.object result
-            (λ p after. after ≡ behind_end p after.end) }
+        (λ p after. after ≡ behind_end p after.end) }
 {
     let Some(mut peer) = end.take(alloc) else {
         return codes::CLOSED;
@@ -84,9 +84,14 @@ pub extern "C" fn jilqamur_end_withdraw(alloc: Global, end: &mut EndHandle) -> u
 
 /// Copies the text that is left.
 #[unsafe(no_mangle)]
-pub extern "C" fn jilqamur_end_text(alloc: Global, end: &mut EndHandle, buffer: &mut [u8], needed: &mut usize) -> u32
+pub extern "C" fn jilqamur_end_text(
+    alloc: Global,
+    end: &mut EndHandle,
+    buffer: &mut [u8],
+    needed: &mut usize,
+) -> u32
     ensures text { At end.old.place.object end.new.place.object result
-            (λ p after. IsCopied p.text buffer.old result needed.new buffer.new) }
+        (λ p after. IsCopied p.text buffer.old result needed.new buffer.new) }
     ensures closed { result ≡ closed → (buffer.new ≡ buffer.old) × (needed.new ≡ needed.old) }
     ensures unchanged { end.new.place.object ≡ end.old.place.object }
 {

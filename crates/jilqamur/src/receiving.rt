@@ -13,14 +13,20 @@ use std::alloc::Global;
 
 /// Takes a datagram in.
 #[unsafe(no_mangle)]
-pub extern "C" fn jilqamur_end_receive(alloc: Global, end: &mut EndHandle, datagram: &[u8], stream: &mut usize, number: &mut u64) -> u32
+pub extern "C" fn jilqamur_end_receive(
+    alloc: Global,
+    end: &mut EndHandle,
+    datagram: &[u8],
+    stream: &mut usize,
+    number: &mut u64,
+) -> u32
     ensures answer { At end.old.place.object end.new.place.object result
-            (λ p after. AtEnd p.end after.end result
-            (λ e now. Receives e datagram.now result stream.new number.new now)) }
+        (λ p after. AtEnd p.end after.end result
+        (λ e now. Receives e datagram.now result stream.new number.new now)) }
     ensures stream { result ≢ ok → stream.new ≡ stream.old }
     ensures number { result ≢ ok → number.new ≡ number.old }
     ensures rest { At end.old.place.object end.new.place.object result
-            (λ p after. after ≡ behind_end p after.end) }
+        (λ p after. after ≡ behind_end p after.end) }
 {
     let Some(mut peer) = end.take(alloc) else {
         return codes::CLOSED;
@@ -34,12 +40,12 @@ pub extern "C" fn jilqamur_end_receive(alloc: Global, end: &mut EndHandle, datag
 #[unsafe(no_mangle)]
 pub extern "C" fn jilqamur_end_poll(alloc: Global, end: &mut EndHandle, stream: usize) -> u32
     ensures answer { At end.old.place.object end.new.place.object result
-            (λ p after. AtEnd p.end after.end result
-            (λ e now. Polls e stream p.unit result after.unit now)) }
+        (λ p after. AtEnd p.end after.end result
+        (λ e now. Polls e stream p.unit result after.unit now)) }
     ensures kept { At end.old.place.object end.new.place.object result
-            (λ p after. result ≢ ok → after.unit ≡ p.unit) }
+        (λ p after. result ≢ ok → after.unit ≡ p.unit) }
     ensures rest { At end.old.place.object end.new.place.object result
-            (λ p after. after ≡ behind_poll p after.end after.unit) }
+        (λ p after. after ≡ behind_poll p after.end after.unit) }
 {
     let Some(mut peer) = end.take(alloc) else {
         return codes::CLOSED;
@@ -53,12 +59,12 @@ pub extern "C" fn jilqamur_end_poll(alloc: Global, end: &mut EndHandle, stream: 
 #[unsafe(no_mangle)]
 pub extern "C" fn jilqamur_end_drain(alloc: Global, end: &mut EndHandle, stream: usize) -> u32
     ensures answer { At end.old.place.object end.new.place.object result
-            (λ p after. AtEnd p.end after.end result
-            (λ e now. Drains e stream p.unit result after.unit now)) }
+        (λ p after. AtEnd p.end after.end result
+        (λ e now. Drains e stream p.unit result after.unit now)) }
     ensures kept { At end.old.place.object end.new.place.object result
-            (λ p after. result ≢ ok → after.unit ≡ p.unit) }
+        (λ p after. result ≢ ok → after.unit ≡ p.unit) }
     ensures rest { At end.old.place.object end.new.place.object result
-            (λ p after. after ≡ behind_poll p after.end after.unit) }
+        (λ p after. after ≡ behind_poll p after.end after.unit) }
 {
     let Some(mut peer) = end.take(alloc) else {
         return codes::CLOSED;
@@ -70,11 +76,17 @@ pub extern "C" fn jilqamur_end_drain(alloc: Global, end: &mut EndHandle, stream:
 
 /// Copies the unit that is left.
 #[unsafe(no_mangle)]
-pub extern "C" fn jilqamur_end_unit(alloc: Global, end: &mut EndHandle, buffer: &mut [u8], needed: &mut usize, told: &mut WireUnit) -> u32
+pub extern "C" fn jilqamur_end_unit(
+    alloc: Global,
+    end: &mut EndHandle,
+    buffer: &mut [u8],
+    needed: &mut usize,
+    told: &mut WireUnit,
+) -> u32
     ensures bytes { At end.old.place.object end.new.place.object result
-            (λ p after. IsFetched (bytes_of p.unit) buffer.old result needed.new buffer.new) }
+        (λ p after. IsFetched (bytes_of p.unit) buffer.old result needed.new buffer.new) }
     ensures told { At end.old.place.object end.new.place.object result
-            (λ p after. IsToldOf p.unit told.new) }
+        (λ p after. IsToldOf p.unit told.new) }
     ensures closed { result ≡ closed → (buffer.new ≡ buffer.old) × (needed.new ≡ needed.old) }
     ensures nothing { result ≡ nothing → (needed.new ≡ needed.old) × (told.new ≡ told.old) }
     ensures unchanged { end.new.place.object ≡ end.old.place.object }

@@ -48,11 +48,17 @@ pub extern "C" fn jilqamur_end_close(alloc: Global, end: &mut EndHandle) -> u32
 
 /// A row more in the draft of the next end.
 #[unsafe(no_mangle)]
-pub extern "C" fn jilqamur_end_row(alloc: Global, end: &mut EndHandle, row: &WireRow, codec: &[u8], format: &[u8]) -> u32
+pub extern "C" fn jilqamur_end_row(
+    alloc: Global,
+    end: &mut EndHandle,
+    row: &WireRow,
+    codec: &[u8],
+    format: &[u8],
+) -> u32
     ensures outcome { At end.old.place.object end.new.place.object result
-            (λ p after. result ≢ memory → result ≡ row_outcome row.now codec.now format.now) }
+        (λ p after. result ≢ memory → result ≡ row_outcome row.now codec.now format.now) }
     ensures added { At end.old.place.object end.new.place.object result
-            (λ p after. result ≡ ok → after ≡ with_row p (row_of row.now codec.now format.now)) }
+        (λ p after. result ≡ ok → after ≡ with_row p (row_of row.now codec.now format.now)) }
     ensures unchanged { result ≢ ok → end.new.place.object ≡ end.old.place.object }
 {
     let Some(mut peer) = end.take(alloc) else {
@@ -67,9 +73,9 @@ pub extern "C" fn jilqamur_end_row(alloc: Global, end: &mut EndHandle, row: &Wir
 #[unsafe(no_mangle)]
 pub extern "C" fn jilqamur_end_default_rows(alloc: Global, end: &mut EndHandle) -> u32
     ensures outcome { At end.old.place.object end.new.place.object result
-            (λ p after. result ≢ memory → result ≡ ok) }
+        (λ p after. result ≢ memory → result ≡ ok) }
     ensures added { At end.old.place.object end.new.place.object result
-            (λ p after. result ≡ ok → after ≡ with_rows p default_rows) }
+        (λ p after. result ≡ ok → after ≡ with_rows p default_rows) }
     ensures unchanged { result ≢ ok → end.new.place.object ≡ end.old.place.object }
 {
     let Some(mut peer) = end.take(alloc) else {
@@ -82,11 +88,16 @@ pub extern "C" fn jilqamur_end_default_rows(alloc: Global, end: &mut EndHandle) 
 
 /// A header extension's number in the draft of the next end.
 #[unsafe(no_mangle)]
-pub extern "C" fn jilqamur_end_extension(alloc: Global, end: &mut EndHandle, id: u8, uri: &[u8]) -> u32
+pub extern "C" fn jilqamur_end_extension(
+    alloc: Global,
+    end: &mut EndHandle,
+    id: u8,
+    uri: &[u8],
+) -> u32
     ensures outcome { At end.old.place.object end.new.place.object result
-            (λ p after. result ≢ memory → result ≡ extension_outcome id uri.now) }
+        (λ p after. result ≢ memory → result ≡ extension_outcome id uri.now) }
     ensures put { At end.old.place.object end.new.place.object result
-            (λ p after. result ≡ ok → after ≡ with_extension p id uri.now) }
+        (λ p after. result ≡ ok → after ≡ with_extension p id uri.now) }
     ensures unchanged { result ≢ ok → end.new.place.object ≡ end.old.place.object }
 {
     let Some(mut peer) = end.take(alloc) else {
@@ -101,11 +112,11 @@ pub extern "C" fn jilqamur_end_extension(alloc: Global, end: &mut EndHandle, id:
 #[unsafe(no_mangle)]
 pub extern "C" fn jilqamur_end_make(alloc: Global, end: &mut EndHandle, session: u64) -> u32
     ensures outcome { At end.old.place.object end.new.place.object result
-            (λ p after. result ≢ memory → result ≡ make_outcome p) }
+        (λ p after. result ≢ memory → result ≡ make_outcome p) }
     ensures made { At end.old.place.object end.new.place.object result
-            (λ p after. result ≡ ok → after ≡ made p session) }
+        (λ p after. result ≡ ok → after ≡ made p session) }
     ensures refused { At end.old.place.object end.new.place.object result
-            (λ p after. result ≢ ok → after ≡ without_draft p) }
+        (λ p after. result ≢ ok → after ≡ without_draft p) }
 {
     let Some(mut peer) = end.take(alloc) else {
         return codes::CLOSED;
@@ -117,11 +128,19 @@ pub extern "C" fn jilqamur_end_make(alloc: Global, end: &mut EndHandle, session:
 
 /// A section more in the next offer or answer.
 #[unsafe(no_mangle)]
-pub extern "C" fn jilqamur_end_section(alloc: Global, end: &mut EndHandle, mid: &[u8], is_video: bool, sends: bool, receives: bool, ssrcs: &[u32]) -> u32
+pub extern "C" fn jilqamur_end_section(
+    alloc: Global,
+    end: &mut EndHandle,
+    mid: &[u8],
+    is_video: bool,
+    sends: bool,
+    receives: bool,
+    ssrcs: &[u32],
+) -> u32
     ensures outcome { At end.old.place.object end.new.place.object result
-            (λ p after. result ≢ memory → result ≡ section_outcome mid.now) }
+        (λ p after. result ≢ memory → result ≡ section_outcome mid.now) }
     ensures added { At end.old.place.object end.new.place.object result
-            (λ p after. result ≡ ok → after ≡ with_section p (section_of mid.now is_video sends receives ssrcs.now)) }
+        (λ p after. result ≡ ok → after ≡ with_section p (section_of mid.now is_video sends receives ssrcs.now)) }
     ensures unchanged { result ≢ ok → end.new.place.object ≡ end.old.place.object }
 {
     let Some(mut peer) = end.take(alloc) else {

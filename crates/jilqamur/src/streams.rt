@@ -16,15 +16,24 @@ use std::alloc::Global;
 
 /// Opens a sending stream.
 #[unsafe(no_mangle)]
-pub extern "C" fn jilqamur_end_open_sender(alloc: Global, end: &mut EndHandle, mid: &[u8], ssrc: u32, pt: u8, params: &WireStream, distances: &[u8], stream: &mut usize) -> u32
+pub extern "C" fn jilqamur_end_open_sender(
+    alloc: Global,
+    end: &mut EndHandle,
+    mid: &[u8],
+    ssrc: u32,
+    pt: u8,
+    params: &WireStream,
+    distances: &[u8],
+    stream: &mut usize,
+) -> u32
     ensures answer { At end.old.place.object end.new.place.object result
-            (λ p after. result ≢ memory → WithText mid.now p.end after.end result
-            (λ e now. AnswersSender e mid.now ssrc pt (params_of params.now distances.now) result stream.new now)) }
+        (λ p after. result ≢ memory → WithText mid.now p.end after.end result
+        (λ e now. AnswersSender e mid.now ssrc pt (params_of params.now distances.now) result stream.new now)) }
     ensures memory { At end.old.place.object end.new.place.object result
-            (λ p after. result ≡ memory → after ≡ p) }
+        (λ p after. result ≡ memory → after ≡ p) }
     ensures stream { result ≢ ok → stream.new ≡ stream.old }
     ensures rest { At end.old.place.object end.new.place.object result
-            (λ p after. after ≡ behind_end p after.end) }
+        (λ p after. after ≡ behind_end p after.end) }
 {
     let Some(mut peer) = end.take(alloc) else {
         return codes::CLOSED;
@@ -36,13 +45,21 @@ pub extern "C" fn jilqamur_end_open_sender(alloc: Global, end: &mut EndHandle, m
 
 /// Opens a receiving stream.
 #[unsafe(no_mangle)]
-pub extern "C" fn jilqamur_end_open_receiver(alloc: Global, end: &mut EndHandle, mid: &[u8], ssrc: u32, pt: u8, hold_back: usize, stream: &mut usize) -> u32
+pub extern "C" fn jilqamur_end_open_receiver(
+    alloc: Global,
+    end: &mut EndHandle,
+    mid: &[u8],
+    ssrc: u32,
+    pt: u8,
+    hold_back: usize,
+    stream: &mut usize,
+) -> u32
     ensures answer { At end.old.place.object end.new.place.object result
-            (λ p after. WithText mid.now p.end after.end result
-            (λ e now. OpensReceiver e mid.now ssrc pt hold_back result stream.new now)) }
+        (λ p after. WithText mid.now p.end after.end result
+        (λ e now. OpensReceiver e mid.now ssrc pt hold_back result stream.new now)) }
     ensures stream { result ≢ ok → stream.new ≡ stream.old }
     ensures rest { At end.old.place.object end.new.place.object result
-            (λ p after. after ≡ behind_end p after.end) }
+        (λ p after. after ≡ behind_end p after.end) }
 {
     let Some(mut peer) = end.take(alloc) else {
         return codes::CLOSED;
@@ -54,17 +71,25 @@ pub extern "C" fn jilqamur_end_open_receiver(alloc: Global, end: &mut EndHandle,
 
 /// Sends a sample.
 #[unsafe(no_mangle)]
-pub extern "C" fn jilqamur_end_push_sample(alloc: Global, end: &mut EndHandle, stream: usize, ticks: u64, mid: &[u8], sample: &[u8], count: &mut usize) -> u32
+pub extern "C" fn jilqamur_end_push_sample(
+    alloc: Global,
+    end: &mut EndHandle,
+    stream: usize,
+    ticks: u64,
+    mid: &[u8],
+    sample: &[u8],
+    count: &mut usize,
+) -> u32
     ensures answer { At end.old.place.object end.new.place.object result
-            (λ p after. WithText mid.now p.end after.end result
-            (λ e now. AnswersSample e stream ticks mid.now sample.now result after.datagrams now)) }
+        (λ p after. WithText mid.now p.end after.end result
+        (λ e now. AnswersSample e stream ticks mid.now sample.now result after.datagrams now)) }
     ensures count { At end.old.place.object end.new.place.object result
-            (λ p after. count.new ≡ length after.datagrams) }
+        (λ p after. count.new ≡ length after.datagrams) }
     ensures closed { result ≡ closed → count.new ≡ count.old }
     ensures kept { At end.old.place.object end.new.place.object result
-            (λ p after. result ≢ ok → after.datagrams ≡ p.datagrams) }
+        (λ p after. result ≢ ok → after.datagrams ≡ p.datagrams) }
     ensures rest { At end.old.place.object end.new.place.object result
-            (λ p after. after ≡ behind_sample p after.end after.datagrams) }
+        (λ p after. after ≡ behind_sample p after.end after.datagrams) }
 {
     let Some(mut peer) = end.take(alloc) else {
         return codes::CLOSED;
@@ -76,9 +101,15 @@ pub extern "C" fn jilqamur_end_push_sample(alloc: Global, end: &mut EndHandle, s
 
 /// Copies a datagram that is left.
 #[unsafe(no_mangle)]
-pub extern "C" fn jilqamur_end_datagram(alloc: Global, end: &mut EndHandle, index: usize, buffer: &mut [u8], needed: &mut usize) -> u32
+pub extern "C" fn jilqamur_end_datagram(
+    alloc: Global,
+    end: &mut EndHandle,
+    index: usize,
+    buffer: &mut [u8],
+    needed: &mut usize,
+) -> u32
     ensures datagram { At end.old.place.object end.new.place.object result
-            (λ p after. IsFetched (slice_get p.datagrams index) buffer.old result needed.new buffer.new) }
+        (λ p after. IsFetched (slice_get p.datagrams index) buffer.old result needed.new buffer.new) }
     ensures closed { result ≡ closed → (buffer.new ≡ buffer.old) × (needed.new ≡ needed.old) }
     ensures nothing { result ≡ nothing → needed.new ≡ needed.old }
     ensures unchanged { end.new.place.object ≡ end.old.place.object }
