@@ -1,5 +1,5 @@
-//! Headers, replay windows and ends for C programs: exports over `jilqamur_wire` and `jilqamur_ends`, as
-//! `include/jilqamur.h` declares them.
+//! Headers, replay windows, streams and ends for C programs: exports over `jilqamur_wire`, `jilqamur_streams` and
+//! `jilqamur_ends`, as `include/jilqamur.h` declares them.
 #![tactic(auto)]
 
 ghost use Rattle.std.specs.Prelude.{◌≡◌, ◌≢◌, ◌++◌, length, drop, Some, None, IsSome, MatchOption};
@@ -15,7 +15,9 @@ ghost use Rattle.jilqamur_wire.specs.Windows.{ReceivedAs, behind, fresh};
 ghost use Rattle.jilqamur.specs.Answers.{answer_of};
 
 mod exchanging;
+mod receivers;
 mod receiving;
+mod senders;
 mod setup;
 mod streams;
 

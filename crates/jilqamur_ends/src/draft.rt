@@ -48,7 +48,7 @@ fn given(has: bool, number: u8) -> Option<u8>
 
 /// The text that bytes are, where they are UTF-8.
 #[tactic(auto, using(crate::proofs::Texts::text, crate::proofs::Texts::no_text))]
-pub(crate) fn text_in(bytes: &[u8]) -> Option<&str>
+pub fn text_in(bytes: &[u8]) -> Option<&str>
     ensures some { IfSome result (λ text. (text.now ≡ bytes.now) × (is_utf8 bytes.now ≡ true)) }
     ensures none { IfNone result (is_utf8 bytes.now ≡ false) }
 {

@@ -64,7 +64,8 @@ fn wire_unit(unit: &Unit) -> WireUnit
     }
 }
 
-fn unit_at(
+/// Copies the bytes of a unit to the front of a buffer, and tells what is told beside; `NOTHING` where there is none.
+pub fn unit_at(
     unit: &Option<Unit>,
     buffer: &mut [u8],
     needed: &mut usize,
@@ -83,7 +84,8 @@ fn unit_at(
     }
 }
 
-fn datagram_at(
+/// Copies the datagram of this place to the front of a buffer; `NOTHING` where there is none of that place.
+pub fn datagram_at(
     datagrams: &[Datagram],
     index: usize,
     buffer: &mut [u8],

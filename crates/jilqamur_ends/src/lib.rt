@@ -9,8 +9,9 @@ mod place;
 mod receiving;
 mod sending;
 
-pub use draft::WireRow;
-pub use fetch::WireUnit;
+pub use draft::{WireRow, text_in};
+pub use fetch::{WireUnit, datagram_at, unit_at};
 pub use peer::Peer;
 pub use place::{EndHandle, EndPlace};
-pub use sending::WireStream;
+pub use receiving::poll_code;
+pub use sending::{WireStream, sample_code};

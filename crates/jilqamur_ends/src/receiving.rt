@@ -56,7 +56,7 @@ fn verdict_code(verdict: Received, stream: &mut usize, number: &mut u64) -> u32
 }
 
 /// Keeps the unit of a poll, where there is one, and answers the poll's number.
-fn poll_code(answer: Result<Option<Unit>, PollFault>, unit: &mut Option<Unit>) -> u32
+pub fn poll_code(answer: Result<Option<Unit>, PollFault>, unit: &mut Option<Unit>) -> u32
     ensures code { result ≡ poll_code answer }
     ensures unit { unit.new ≡ unit_behind answer unit.old }
 {

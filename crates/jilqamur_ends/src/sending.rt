@@ -71,7 +71,7 @@ fn params_of(
 }
 
 /// The number of a refused sample.
-fn sample_code(error: SampleError) -> u32
+pub fn sample_code(error: SampleError) -> u32
     ensures { result ≡ sample_code error }
 {
     match error {
