@@ -1,5 +1,5 @@
-/* RTP headers, padding, sequence numbers and replay windows (RFC 3550), and ends that exchange offers and answers, send
- * samples and receive units, from a proved library.
+/* RTP headers, padding, sequence numbers and replay windows (RFC 3550), ends that exchange offers and answers, send
+ * samples and receive units, and streams by codec, from a proved library.
  *
  * Link with libjilqamur.a. The contract of each function is at its export in crates/jilqamur/src; nothing checks a C
  * caller, which keeps to this:
@@ -300,6 +300,93 @@ typedef struct jilqamur_unit {
  * count into needed, and what is told beside into unit. JILQAMUR_TOO_SMALL, and the buffer is unchanged, while needed
  * and unit are written; JILQAMUR_NOTHING before the first unit. The unit stays until the next one. */
 uint32_t jilqamur_end_unit(jilqamur_end *end, uint8_t *buffer, size_t len, size_t *needed, jilqamur_unit *unit);
+
+/* How payloads are read and written, beside their codec. */
+typedef struct jilqamur_format {
+    uint32_t clock_rate;   /* ticks a second, at least 1 */
+    bool has_octet_align;  /* whether octet_align is given */
+    bool octet_align;      /* whether AMR-WB is octet-aligned (RFC 4867 8.1); not looked at where it isn't given */
+    bool has_max_don_diff; /* whether max_don_diff is given */
+    uint16_t max_don_diff; /* sprop-max-don-diff of H.265 and H.266; not looked at where it isn't given */
+} jilqamur_format;
+
+/* How a sending stream without an end numbers and cuts its samples. */
+typedef struct jilqamur_sender_params {
+    uint32_t ssrc;        /* the stream's source */
+    uint8_t payload_type; /* 0 to 127 */
+    uint64_t first;       /* the first sequence number */
+    size_t mtu;           /* the most bytes of a payload, at least 1 */
+    size_t limit;         /* the most bytes of a datagram */
+    bool has_picture_id;  /* whether the stream of a video codec counts pictures */
+    uint16_t picture_id;  /* the first picture id, at most 32,767 */
+    bool for_browsers;    /* whether the payloads have the forms that browsers want */
+} jilqamur_sender_params;
+
+/* A handle of a sending stream that goes by a codec's name, without an end; kept like that of an end. At a closed
+ * handle each call but jilqamur_sender_open answers JILQAMUR_CLOSED, and changes nothing. */
+typedef struct jilqamur_sender {
+    bool full;
+    void *place;
+} jilqamur_sender;
+
+#define JILQAMUR_SENDER_CLOSED {false, 0}
+
+/* Opens a stream that sent nothing, of the codec of this name, without header extensions. JILQAMUR_IN_USE where the
+ * handle is open; JILQAMUR_OUT_OF_RANGE for numbers off their ranges, a clock rate of 0 or a codec that has no payload
+ * format, JILQAMUR_NOT_TEXT for a name that is no text, or JILQAMUR_MEMORY; and it is unchanged. */
+uint32_t jilqamur_sender_open(jilqamur_sender *sender, const jilqamur_sender_params *params,
+                              const jilqamur_format *format, const uint8_t *codec, size_t codec_len);
+
+/* Frees the stream: JILQAMUR_OK, or JILQAMUR_CLOSED where the handle is closed. It is closed afterwards. */
+uint32_t jilqamur_sender_close(jilqamur_sender *sender);
+
+/* Sends a sample of len bytes under a time in ticks of the stream's clock: its datagrams, of a header of 12 bytes and
+ * a payload of at most mtu bytes, are left to be fetched in place of those before, and count is how many there are. The
+ * first that holds of JILQAMUR_STREAM_FAILED, JILQAMUR_TIME_TOO_LARGE, JILQAMUR_LIMIT_TOO_SMALL and JILQAMUR_PAYLOAD,
+ * and the stream is unchanged; or JILQAMUR_MEMORY, and it sends no more. The datagrams that were left before stay then,
+ * and count is how many those are. */
+uint32_t jilqamur_sender_push_sample(jilqamur_sender *sender, uint64_t ticks, const uint8_t *sample, size_t len,
+                                     size_t *count);
+
+/* Copies the datagram of this place, counted from 0, to the front of a buffer of len bytes, and writes its length in
+ * bytes into needed. JILQAMUR_TOO_SMALL, and the buffer is unchanged; JILQAMUR_NOTHING where there is none of that
+ * place. */
+uint32_t jilqamur_sender_datagram(jilqamur_sender *sender, size_t index, uint8_t *buffer, size_t len, size_t *needed);
+
+/* A handle of a receiving stream that goes by a codec's name, without an end; kept like that of an end. At a closed
+ * handle each call but jilqamur_receiver_open answers JILQAMUR_CLOSED, and changes nothing. */
+typedef struct jilqamur_receiver {
+    bool full;
+    void *place;
+} jilqamur_receiver;
+
+#define JILQAMUR_RECEIVER_CLOSED {false, 0}
+
+/* Opens a stream that took nothing, of the codec of this name. Past a missing packet a unit is handed out only once
+ * more than hold_back frames are complete. Refused as jilqamur_sender_open. */
+uint32_t jilqamur_receiver_open(jilqamur_receiver *receiver, const jilqamur_format *format, const uint8_t *codec,
+                                size_t codec_len, size_t hold_back);
+
+/* Frees the stream: JILQAMUR_OK, or JILQAMUR_CLOSED where the handle is closed. It is closed afterwards. */
+uint32_t jilqamur_receiver_close(jilqamur_receiver *receiver);
+
+/* Takes a packet in, by what jilqamur_header_read says of its datagram, and its payload of len bytes without padding,
+ * which is not to be empty: JILQAMUR_OK, and number is its widened sequence number. JILQAMUR_REFUSED where that came
+ * before, or is 128 or more below the greatest, or JILQAMUR_MEMORY, and the stream is unchanged. */
+uint32_t jilqamur_receiver_push(jilqamur_receiver *receiver, uint16_t sequence_number, uint32_t timestamp, bool marker,
+                                const uint8_t *payload, size_t len, uint64_t *number);
+
+/* JILQAMUR_OK where a unit is ready, which jilqamur_receiver_unit fetches. JILQAMUR_NOTHING where none is,
+ * JILQAMUR_PAYLOAD where a packet of the next frame is refused, which is then done with, or JILQAMUR_MEMORY, and the
+ * frame stays. */
+uint32_t jilqamur_receiver_poll(jilqamur_receiver *receiver);
+
+/* The same, whether or not a packet before the lowest complete unit is missing: for the end of a stream. */
+uint32_t jilqamur_receiver_drain(jilqamur_receiver *receiver);
+
+/* Copies the bytes of the unit that a poll or a drain left last, and tells of it, as jilqamur_end_unit. */
+uint32_t jilqamur_receiver_unit(jilqamur_receiver *receiver, uint8_t *buffer, size_t len, size_t *needed,
+                                jilqamur_unit *unit);
 
 #ifdef __cplusplus
 }

@@ -1,6 +1,7 @@
 //! The exports, as `include/jilqamur.h` declares them.
 
-use crate::ends::{Row, StreamParams};
+use crate::params::{Row, StreamParams};
+use crate::streams::{Format, SenderParams};
 use crate::Header;
 
 #[repr(C)]
@@ -10,7 +11,7 @@ pub(crate) struct Window {
 }
 
 #[repr(C)]
-pub(crate) struct End {
+pub(crate) struct Handle {
     pub(crate) full: bool,
     pub(crate) place: *mut u8,
 }
@@ -47,21 +48,21 @@ extern "C" {
         number: *mut u64,
     ) -> u32;
     pub(crate) fn jilqamur_window_close(window: *mut Window) -> u32;
-    pub(crate) fn jilqamur_end_open(end: *mut End) -> u32;
-    pub(crate) fn jilqamur_end_close(end: *mut End) -> u32;
+    pub(crate) fn jilqamur_end_open(end: *mut Handle) -> u32;
+    pub(crate) fn jilqamur_end_close(end: *mut Handle) -> u32;
     pub(crate) fn jilqamur_end_row(
-        end: *mut End,
+        end: *mut Handle,
         row: *const Row,
         codec: *const u8,
         codec_len: usize,
         format: *const u8,
         format_len: usize,
     ) -> u32;
-    pub(crate) fn jilqamur_end_default_rows(end: *mut End) -> u32;
-    pub(crate) fn jilqamur_end_extension(end: *mut End, id: u8, uri: *const u8, len: usize) -> u32;
-    pub(crate) fn jilqamur_end_make(end: *mut End, session: u64) -> u32;
+    pub(crate) fn jilqamur_end_default_rows(end: *mut Handle) -> u32;
+    pub(crate) fn jilqamur_end_extension(end: *mut Handle, id: u8, uri: *const u8, len: usize) -> u32;
+    pub(crate) fn jilqamur_end_make(end: *mut Handle, session: u64) -> u32;
     pub(crate) fn jilqamur_end_section(
-        end: *mut End,
+        end: *mut Handle,
         mid: *const u8,
         mid_len: usize,
         is_video: bool,
@@ -70,13 +71,13 @@ extern "C" {
         ssrcs: *const u32,
         count: usize,
     ) -> u32;
-    pub(crate) fn jilqamur_end_offer(end: *mut End) -> u32;
-    pub(crate) fn jilqamur_end_answer(end: *mut End, offer: *const u8, len: usize) -> u32;
-    pub(crate) fn jilqamur_end_accept(end: *mut End, answer: *const u8, len: usize) -> u32;
-    pub(crate) fn jilqamur_end_withdraw(end: *mut End) -> u32;
-    pub(crate) fn jilqamur_end_text(end: *mut End, buffer: *mut u8, len: usize, needed: *mut usize) -> u32;
+    pub(crate) fn jilqamur_end_offer(end: *mut Handle) -> u32;
+    pub(crate) fn jilqamur_end_answer(end: *mut Handle, offer: *const u8, len: usize) -> u32;
+    pub(crate) fn jilqamur_end_accept(end: *mut Handle, answer: *const u8, len: usize) -> u32;
+    pub(crate) fn jilqamur_end_withdraw(end: *mut Handle) -> u32;
+    pub(crate) fn jilqamur_end_text(end: *mut Handle, buffer: *mut u8, len: usize, needed: *mut usize) -> u32;
     pub(crate) fn jilqamur_end_open_sender(
-        end: *mut End,
+        end: *mut Handle,
         mid: *const u8,
         mid_len: usize,
         ssrc: u32,
@@ -87,7 +88,7 @@ extern "C" {
         stream: *mut usize,
     ) -> u32;
     pub(crate) fn jilqamur_end_open_receiver(
-        end: *mut End,
+        end: *mut Handle,
         mid: *const u8,
         mid_len: usize,
         ssrc: u32,
@@ -96,7 +97,7 @@ extern "C" {
         stream: *mut usize,
     ) -> u32;
     pub(crate) fn jilqamur_end_push_sample(
-        end: *mut End,
+        end: *mut Handle,
         stream: usize,
         ticks: u64,
         mid: *const u8,
@@ -106,23 +107,71 @@ extern "C" {
         count: *mut usize,
     ) -> u32;
     pub(crate) fn jilqamur_end_datagram(
-        end: *mut End,
+        end: *mut Handle,
         index: usize,
         buffer: *mut u8,
         len: usize,
         needed: *mut usize,
     ) -> u32;
     pub(crate) fn jilqamur_end_receive(
-        end: *mut End,
+        end: *mut Handle,
         datagram: *const u8,
         len: usize,
         stream: *mut usize,
         number: *mut u64,
     ) -> u32;
-    pub(crate) fn jilqamur_end_poll(end: *mut End, stream: usize) -> u32;
-    pub(crate) fn jilqamur_end_drain(end: *mut End, stream: usize) -> u32;
+    pub(crate) fn jilqamur_end_poll(end: *mut Handle, stream: usize) -> u32;
+    pub(crate) fn jilqamur_end_drain(end: *mut Handle, stream: usize) -> u32;
     pub(crate) fn jilqamur_end_unit(
-        end: *mut End,
+        end: *mut Handle,
+        buffer: *mut u8,
+        len: usize,
+        needed: *mut usize,
+        unit: *mut Unit,
+    ) -> u32;
+    pub(crate) fn jilqamur_sender_open(
+        sender: *mut Handle,
+        params: *const SenderParams,
+        format: *const Format,
+        codec: *const u8,
+        codec_len: usize,
+    ) -> u32;
+    pub(crate) fn jilqamur_sender_close(sender: *mut Handle) -> u32;
+    pub(crate) fn jilqamur_sender_push_sample(
+        sender: *mut Handle,
+        ticks: u64,
+        sample: *const u8,
+        len: usize,
+        count: *mut usize,
+    ) -> u32;
+    pub(crate) fn jilqamur_sender_datagram(
+        sender: *mut Handle,
+        index: usize,
+        buffer: *mut u8,
+        len: usize,
+        needed: *mut usize,
+    ) -> u32;
+    pub(crate) fn jilqamur_receiver_open(
+        receiver: *mut Handle,
+        format: *const Format,
+        codec: *const u8,
+        codec_len: usize,
+        hold_back: usize,
+    ) -> u32;
+    pub(crate) fn jilqamur_receiver_close(receiver: *mut Handle) -> u32;
+    pub(crate) fn jilqamur_receiver_push(
+        receiver: *mut Handle,
+        sequence_number: u16,
+        timestamp: u32,
+        marker: bool,
+        payload: *const u8,
+        len: usize,
+        number: *mut u64,
+    ) -> u32;
+    pub(crate) fn jilqamur_receiver_poll(receiver: *mut Handle) -> u32;
+    pub(crate) fn jilqamur_receiver_drain(receiver: *mut Handle) -> u32;
+    pub(crate) fn jilqamur_receiver_unit(
+        receiver: *mut Handle,
         buffer: *mut u8,
         len: usize,
         needed: *mut usize,
