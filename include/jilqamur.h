@@ -1,7 +1,8 @@
-/* RTP headers, padding, sequence numbers and replay windows (RFC 3550), from a proved library.
+/* RTP headers, padding, sequence numbers and replay windows (RFC 3550), ends that exchange offers and answers, send
+ * samples and receive units, and streams by codec, from a proved library.
  *
- * Link with libjilqamur.a. The contract of each function is at its export in crates/jilqamur/src/lib.rt; nothing checks
- * a C caller, which keeps to this:
+ * Link with libjilqamur.a. The contract of each function is at its export in crates/jilqamur/src; nothing checks a C
+ * caller, which keeps to this:
  *   - every pointer is valid and aligned, and not null, but that of bytes whose length is 0 may be any non-null
  *     address;
  *   - what a call writes overlaps nothing else that it is given;
@@ -32,7 +33,32 @@ enum {
     JILQAMUR_DAMAGED = 5,    /* the padding does not fit */
     JILQAMUR_REFUSED = 6,    /* the number came before, or is 128 or more below the greatest */
     JILQAMUR_UNWRITABLE = 7, /* a payload type above 127, or more than 15 contributing sources */
-    JILQAMUR_TOO_SMALL = 8   /* the buffer is too small */
+    JILQAMUR_TOO_SMALL = 8,  /* the buffer is too small */
+    JILQAMUR_NOT_TEXT = 9,            /* the bytes are no UTF-8 */
+    JILQAMUR_OUT_OF_RANGE = 10,       /* a number is off the range that is written at it */
+    JILQAMUR_NOT_MADE = 11,           /* the end was not made yet */
+    JILQAMUR_NOTHING = 12,            /* there is nothing of that kind */
+    JILQAMUR_FOREIGN = 13,            /* no receiving stream has the SSRC and payload type */
+    JILQAMUR_NO_STREAM = 14,          /* no stream of that direction has this number */
+    JILQAMUR_ROW_NOT_PLAIN = 15,      /* a row is of a kind that an end can't agree on */
+    JILQAMUR_TYPES_NOT_DISTINCT = 16, /* a payload type stands for two things */
+    JILQAMUR_NOT_WRITABLE = 17,       /* the session or the text can't be written */
+    JILQAMUR_TEXT_UNREADABLE = 18,    /* the text isn't that of an offer or an answer */
+    JILQAMUR_OUT_OF_TURN = 19,        /* an offer is pending, or none is */
+    JILQAMUR_NOT_MEDIA = 20,          /* a section of the text is no media */
+    JILQAMUR_NOT_CORRESPONDING = 21,  /* the sections don't correspond */
+    JILQAMUR_ROUND = 22,              /* the rows can't be settled against the other end's */
+    JILQAMUR_NO_COMMON_ROW = 23,      /* a section would list no row */
+    JILQAMUR_NO_SECTION = 24,         /* no section of this name is agreed */
+    JILQAMUR_ROW_NOT_AGREED = 25,     /* no row of this type is agreed */
+    JILQAMUR_ROW_DIFFERS = 26,        /* the end's own row differs from the agreed one */
+    JILQAMUR_WRONG_DIRECTION = 27,    /* the section does not flow this way */
+    JILQAMUR_SSRC_NOT_NAMED = 28,     /* the sender's section does not name this SSRC */
+    JILQAMUR_ALREADY_OPEN = 29,       /* such a stream is open already */
+    JILQAMUR_STREAM_FAILED = 30,      /* the stream sends no more */
+    JILQAMUR_TIME_TOO_LARGE = 31,     /* the time does not fit 64 bits at the stream's clock */
+    JILQAMUR_LIMIT_TOO_SMALL = 32,    /* a datagram would pass the limit */
+    JILQAMUR_PAYLOAD = 33             /* the codec refuses the sample or the payload */
 };
 
 /* What an answer means, in words; never null. */
@@ -48,6 +74,31 @@ static inline const char *jilqamur_error_text(uint32_t answer)
         "the number came before or too late",
         "the payload type or the count of sources is too large",
         "the buffer is too small",
+        "the bytes are no text",
+        "a number is out of range",
+        "the end was not made yet",
+        "there is nothing of that kind",
+        "no stream has this SSRC and payload type",
+        "no such stream is open",
+        "a row is not plain",
+        "a payload type stands for two things",
+        "the text can't be written",
+        "the text can't be read",
+        "this call is out of turn",
+        "a section is no media",
+        "the sections do not correspond",
+        "the rows can't be settled",
+        "a section would list no row",
+        "no such section is agreed",
+        "no row of this type is agreed",
+        "the end's own row differs from the agreed one",
+        "the section does not flow this way",
+        "the sender's section does not name this SSRC",
+        "such a stream is open already",
+        "the stream sends no more",
+        "the time is too large",
+        "a datagram would pass the limit",
+        "the payload is refused",
     };
     return answer < sizeof texts / sizeof texts[0] ? texts[answer] : "no such answer";
 }
@@ -102,6 +153,240 @@ uint32_t jilqamur_window_receive(jilqamur_window *window, const uint8_t *datagra
 
 /* Frees the window: JILQAMUR_OK, or JILQAMUR_CLOSED where the handle is closed. It is closed afterwards. */
 uint32_t jilqamur_window_close(jilqamur_window *window);
+
+/* A handle of an end: what it offers, what it agreed on with the other end, its streams, and what calls left to be
+ * fetched. One whose bytes are all 0 is closed; write no field of it after that. A copy of an open handle must not be
+ * used. What is opened must be closed, or its memory is never freed. At a closed handle each call below answers
+ * JILQAMUR_CLOSED, and changes nothing. */
+typedef struct jilqamur_end {
+    bool full;
+    void *place;
+} jilqamur_end;
+
+#define JILQAMUR_END_CLOSED {false, 0}
+
+/* Opens a handle without an end, of an empty draft: JILQAMUR_OK; or JILQAMUR_IN_USE where it is open, or
+ * JILQAMUR_MEMORY, and it is unchanged. */
+uint32_t jilqamur_end_open(jilqamur_end *end);
+
+/* Frees all that the handle holds: JILQAMUR_OK, or JILQAMUR_CLOSED where it is closed. It is closed afterwards. */
+uint32_t jilqamur_end_close(jilqamur_end *end);
+
+/* The numbers of a row: a payload type, and what it stands for. */
+typedef struct jilqamur_row {
+    uint8_t payload_type; /* the payload type, 0 to 127 */
+    bool has_resend;      /* whether it is retransmitted (RFC 4588) */
+    uint8_t resend;       /* the type of its retransmissions; not looked at without them */
+    bool has_red;         /* whether it has redundancy (RFC 2198) */
+    uint8_t red;          /* the RED type; not looked at without it */
+    uint32_t clock_rate;  /* ticks a second, at least 1 */
+    bool has_channels;    /* whether the row names its channels */
+    uint8_t channels;     /* how many; not looked at where they aren't named */
+} jilqamur_row;
+
+/* Puts a row behind those of the draft: the codec's name, in any case, and what stands behind the type in its a=fmtp
+ * line, or 0 bytes. JILQAMUR_OUT_OF_RANGE for a clock rate of 0, else JILQAMUR_NOT_TEXT, or JILQAMUR_MEMORY, and
+ * nothing has changed. */
+uint32_t jilqamur_end_row(jilqamur_end *end, const jilqamur_row *row, const uint8_t *codec, size_t codec_len,
+                          const uint8_t *format, size_t format_len);
+
+/* Puts the default rows of Opus, VP8, H.264, H.265, VP9 and AV1 behind those of the draft. JILQAMUR_MEMORY, and nothing
+ * has changed. */
+uint32_t jilqamur_end_default_rows(jilqamur_end *end);
+
+/* Gives the header extension of a URI a number, 1 to 16, in the draft's map (RFC 8285), in place of one that has it.
+ * JILQAMUR_OUT_OF_RANGE, else JILQAMUR_NOT_TEXT, or JILQAMUR_MEMORY, and nothing has changed. */
+uint32_t jilqamur_end_extension(jilqamur_end *end, uint8_t id, const uint8_t *uri, size_t len);
+
+/* Makes a new end of the draft under this session number, in place of one that was made; it has agreed on nothing. The
+ * first that holds of JILQAMUR_ROW_NOT_PLAIN, JILQAMUR_TYPES_NOT_DISTINCT and JILQAMUR_NOT_WRITABLE, or
+ * JILQAMUR_MEMORY, and the end stays. The draft is empty afterwards, refused or not. */
+uint32_t jilqamur_end_make(jilqamur_end *end, uint64_t session);
+
+/* Puts a section behind those of the next offer or answer: its name (RFC 5888; at most 16 bytes, each a letter, a digit
+ * or _), audio or video, which way media shall flow as this end sees it, and the SSRCs that this end sends under. Each
+ * offer and each answer uses the gathered sections up. JILQAMUR_NOT_TEXT, or JILQAMUR_MEMORY, and nothing has
+ * changed. */
+uint32_t jilqamur_end_section(jilqamur_end *end, const uint8_t *mid, size_t mid_len, bool is_video, bool sends,
+                              bool receives, const uint32_t *ssrcs, size_t count);
+
+/* Offers the gathered sections (RFC 3264 5): jilqamur_end_text fetches the text. JILQAMUR_NOT_MADE without an end; else
+ * the first that holds of JILQAMUR_OUT_OF_TURN, JILQAMUR_NOT_CORRESPONDING, JILQAMUR_NO_COMMON_ROW and
+ * JILQAMUR_NOT_WRITABLE, or JILQAMUR_MEMORY, and end and text stay. */
+uint32_t jilqamur_end_offer(jilqamur_end *end);
+
+/* Answers an offer of len bytes by the gathered sections (RFC 3264 6): jilqamur_end_text fetches the text.
+ * JILQAMUR_NOT_TEXT, JILQAMUR_NOT_MADE without an end; else the first that holds of JILQAMUR_TEXT_UNREADABLE,
+ * JILQAMUR_OUT_OF_TURN, JILQAMUR_NOT_MEDIA, JILQAMUR_NOT_CORRESPONDING, JILQAMUR_ROUND, JILQAMUR_NO_COMMON_ROW and
+ * JILQAMUR_NOT_WRITABLE, or JILQAMUR_MEMORY, and end and text stay. */
+uint32_t jilqamur_end_answer(jilqamur_end *end, const uint8_t *offer, size_t len);
+
+/* Takes the answer of len bytes to the pending offer (RFC 3264 7). JILQAMUR_NOT_TEXT, JILQAMUR_NOT_MADE without an end;
+ * else the first that holds of JILQAMUR_TEXT_UNREADABLE, JILQAMUR_OUT_OF_TURN, JILQAMUR_NOT_MEDIA,
+ * JILQAMUR_NOT_CORRESPONDING, JILQAMUR_ROUND and JILQAMUR_NO_COMMON_ROW, or JILQAMUR_MEMORY, and the end stays. */
+uint32_t jilqamur_end_accept(jilqamur_end *end, const uint8_t *answer, size_t len);
+
+/* Gives a pending offer up. JILQAMUR_NOTHING where none is pending, JILQAMUR_NOT_MADE without an end. */
+uint32_t jilqamur_end_withdraw(jilqamur_end *end);
+
+/* Copies the text that the last offer or answer left to the front of a buffer of len bytes, and writes its length in
+ * bytes into needed, 0 before the first. JILQAMUR_TOO_SMALL, and the buffer is unchanged. The text stays until the next
+ * offer or answer that is not refused, and has no 0 at its end. */
+uint32_t jilqamur_end_text(jilqamur_end *end, uint8_t *buffer, size_t len, size_t *needed);
+
+/* How a sending stream numbers and cuts its samples. */
+typedef struct jilqamur_stream {
+    uint64_t first;      /* the first sequence number, below 32,768 */
+    size_t mtu;          /* the most bytes of a payload, at least 1, and at least 2 with redundancy */
+    size_t limit;        /* the most bytes of a datagram */
+    bool has_red;        /* whether it sends redundancy (RFC 2198), for a row with a RED type alone */
+    bool has_picture_id; /* whether the stream of a video row counts pictures */
+    uint16_t picture_id; /* the first picture id, at most 32,767; not looked at without it */
+    bool for_browsers;   /* whether the payloads have the forms that browsers want */
+} jilqamur_stream;
+
+/* Opens a sending stream of this SSRC for the agreed row of a payload type, and writes its number, counted from 0 over
+ * the streams of both directions, into stream. With redundancy, distances are how many payloads back the older ones
+ * stand: rising, 1 to 8. JILQAMUR_NOT_TEXT, JILQAMUR_NOT_MADE without an end, JILQAMUR_OUT_OF_RANGE for parameters off
+ * the ranges above; else the first that holds of JILQAMUR_NO_SECTION, JILQAMUR_ROW_NOT_AGREED, JILQAMUR_ROW_DIFFERS,
+ * JILQAMUR_WRONG_DIRECTION, JILQAMUR_SSRC_NOT_NAMED and JILQAMUR_ALREADY_OPEN, or JILQAMUR_MEMORY, and nothing has
+ * changed. */
+uint32_t jilqamur_end_open_sender(jilqamur_end *end, const uint8_t *mid, size_t mid_len, uint32_t ssrc,
+                                  uint8_t payload_type, const jilqamur_stream *params, const uint8_t *distances,
+                                  size_t count, size_t *stream);
+
+/* Opens a receiving stream in the same way. Past a missing datagram a unit is handed out only once more than hold_back
+ * frames are complete. Refused as above, but never JILQAMUR_OUT_OF_RANGE. */
+uint32_t jilqamur_end_open_receiver(jilqamur_end *end, const uint8_t *mid, size_t mid_len, uint32_t ssrc,
+                                    uint8_t payload_type, size_t hold_back, size_t *stream);
+
+/* Sends a sample of sample_len bytes under a time in ticks of the row's clock: its datagrams are left to be fetched in
+ * place of those before, and count is how many there are. Where mid_len is not 0 they carry the section's name, if the
+ * agreed map has a number for it (RFC 9143 15). JILQAMUR_NOT_TEXT, JILQAMUR_NOT_MADE without an end,
+ * JILQAMUR_NO_STREAM; else the first that holds of JILQAMUR_STREAM_FAILED, JILQAMUR_TIME_TOO_LARGE,
+ * JILQAMUR_LIMIT_TOO_SMALL and JILQAMUR_PAYLOAD, and the end is unchanged; or JILQAMUR_MEMORY, and the stream sends no
+ * more. The datagrams that were left before stay then, and count is how many those are. */
+uint32_t jilqamur_end_push_sample(jilqamur_end *end, size_t stream, uint64_t ticks, const uint8_t *mid, size_t mid_len,
+                                  const uint8_t *sample, size_t sample_len, size_t *count);
+
+/* Copies the datagram of this place, counted from 0, to the front of a buffer of len bytes, and writes its length in
+ * bytes into needed. JILQAMUR_TOO_SMALL, and the buffer is unchanged; JILQAMUR_NOTHING where there is none of that
+ * place. The datagrams stay until the next sample that is not refused. */
+uint32_t jilqamur_end_datagram(jilqamur_end *end, size_t index, uint8_t *buffer, size_t len, size_t *needed);
+
+/* Takes a datagram of len bytes in: JILQAMUR_OK where a receiving stream took it, whose number is written into stream,
+ * and its widened sequence number into number. JILQAMUR_NOT_MADE without an end; else the first that holds of
+ * JILQAMUR_UNREADABLE, JILQAMUR_FOREIGN, JILQAMUR_DAMAGED and JILQAMUR_REFUSED, or JILQAMUR_MEMORY, and the end is
+ * unchanged. */
+uint32_t jilqamur_end_receive(jilqamur_end *end, const uint8_t *datagram, size_t len, size_t *stream, uint64_t *number);
+
+/* Polls a receiving stream: JILQAMUR_OK where a unit is ready, which jilqamur_end_unit fetches. JILQAMUR_NOT_MADE
+ * without an end, JILQAMUR_NO_STREAM; JILQAMUR_NOTHING where no unit is ready, JILQAMUR_PAYLOAD where a packet of the
+ * next frame is refused, which is then done with, or JILQAMUR_MEMORY, and the frame stays. */
+uint32_t jilqamur_end_poll(jilqamur_end *end, size_t stream);
+
+/* The same, whether or not a datagram before the lowest complete unit is missing: for the end of a stream. */
+uint32_t jilqamur_end_drain(jilqamur_end *end, size_t stream);
+
+/* What is told of a unit beside its bytes. */
+typedef struct jilqamur_unit {
+    uint64_t first;   /* the widened sequence number of its first datagram */
+    uint64_t last;    /* that of its last datagram */
+    uint32_t time;    /* the RTP timestamp, in ticks of the row's clock */
+    bool is_keyframe; /* whether the codec says that it is a keyframe; VP9 and audio never do */
+} jilqamur_unit;
+
+/* Copies the bytes of the unit that a poll or a drain left last to the front of a buffer of len bytes, writes their
+ * count into needed, and what is told beside into unit. JILQAMUR_TOO_SMALL, and the buffer is unchanged, while needed
+ * and unit are written; JILQAMUR_NOTHING before the first unit. The unit stays until the next one. */
+uint32_t jilqamur_end_unit(jilqamur_end *end, uint8_t *buffer, size_t len, size_t *needed, jilqamur_unit *unit);
+
+/* How payloads are read and written, beside their codec. */
+typedef struct jilqamur_format {
+    uint32_t clock_rate;   /* ticks a second, at least 1 */
+    bool has_octet_align;  /* whether octet_align is given */
+    bool octet_align;      /* whether AMR-WB is octet-aligned (RFC 4867 8.1); not looked at where it isn't given */
+    bool has_max_don_diff; /* whether max_don_diff is given */
+    uint16_t max_don_diff; /* sprop-max-don-diff of H.265 and H.266; not looked at where it isn't given */
+} jilqamur_format;
+
+/* How a sending stream without an end numbers and cuts its samples. */
+typedef struct jilqamur_sender_params {
+    uint32_t ssrc;        /* the stream's source */
+    uint8_t payload_type; /* 0 to 127 */
+    uint64_t first;       /* the first sequence number */
+    size_t mtu;           /* the most bytes of a payload, at least 1 */
+    size_t limit;         /* the most bytes of a datagram */
+    bool has_picture_id;  /* whether the stream of a video codec counts pictures */
+    uint16_t picture_id;  /* the first picture id, at most 32,767 */
+    bool for_browsers;    /* whether the payloads have the forms that browsers want */
+} jilqamur_sender_params;
+
+/* A handle of a sending stream that goes by a codec's name, without an end; kept like that of an end. At a closed
+ * handle each call but jilqamur_sender_open answers JILQAMUR_CLOSED, and changes nothing. */
+typedef struct jilqamur_sender {
+    bool full;
+    void *place;
+} jilqamur_sender;
+
+#define JILQAMUR_SENDER_CLOSED {false, 0}
+
+/* Opens a stream that sent nothing, of the codec of this name, without header extensions. JILQAMUR_IN_USE where the
+ * handle is open; JILQAMUR_OUT_OF_RANGE for numbers off their ranges, a clock rate of 0 or a codec that has no payload
+ * format, JILQAMUR_NOT_TEXT for a name that is no text, or JILQAMUR_MEMORY; and it is unchanged. */
+uint32_t jilqamur_sender_open(jilqamur_sender *sender, const jilqamur_sender_params *params,
+                              const jilqamur_format *format, const uint8_t *codec, size_t codec_len);
+
+/* Frees the stream: JILQAMUR_OK, or JILQAMUR_CLOSED where the handle is closed. It is closed afterwards. */
+uint32_t jilqamur_sender_close(jilqamur_sender *sender);
+
+/* Sends a sample of len bytes under a time in ticks of the stream's clock: its datagrams, of a header of 12 bytes and
+ * a payload of at most mtu bytes, are left to be fetched in place of those before, and count is how many there are. The
+ * first that holds of JILQAMUR_STREAM_FAILED, JILQAMUR_TIME_TOO_LARGE, JILQAMUR_LIMIT_TOO_SMALL and JILQAMUR_PAYLOAD,
+ * and the stream is unchanged; or JILQAMUR_MEMORY, and it sends no more. The datagrams that were left before stay then,
+ * and count is how many those are. */
+uint32_t jilqamur_sender_push_sample(jilqamur_sender *sender, uint64_t ticks, const uint8_t *sample, size_t len,
+                                     size_t *count);
+
+/* Copies the datagram of this place, counted from 0, to the front of a buffer of len bytes, and writes its length in
+ * bytes into needed. JILQAMUR_TOO_SMALL, and the buffer is unchanged; JILQAMUR_NOTHING where there is none of that
+ * place. */
+uint32_t jilqamur_sender_datagram(jilqamur_sender *sender, size_t index, uint8_t *buffer, size_t len, size_t *needed);
+
+/* A handle of a receiving stream that goes by a codec's name, without an end; kept like that of an end. At a closed
+ * handle each call but jilqamur_receiver_open answers JILQAMUR_CLOSED, and changes nothing. */
+typedef struct jilqamur_receiver {
+    bool full;
+    void *place;
+} jilqamur_receiver;
+
+#define JILQAMUR_RECEIVER_CLOSED {false, 0}
+
+/* Opens a stream that took nothing, of the codec of this name. Past a missing packet a unit is handed out only once
+ * more than hold_back frames are complete. Refused as jilqamur_sender_open. */
+uint32_t jilqamur_receiver_open(jilqamur_receiver *receiver, const jilqamur_format *format, const uint8_t *codec,
+                                size_t codec_len, size_t hold_back);
+
+/* Frees the stream: JILQAMUR_OK, or JILQAMUR_CLOSED where the handle is closed. It is closed afterwards. */
+uint32_t jilqamur_receiver_close(jilqamur_receiver *receiver);
+
+/* Takes a packet in, by what jilqamur_header_read says of its datagram, and its payload of len bytes without padding,
+ * which is not to be empty: JILQAMUR_OK, and number is its widened sequence number. JILQAMUR_REFUSED where that came
+ * before, or is 128 or more below the greatest, or JILQAMUR_MEMORY, and the stream is unchanged. */
+uint32_t jilqamur_receiver_push(jilqamur_receiver *receiver, uint16_t sequence_number, uint32_t timestamp, bool marker,
+                                const uint8_t *payload, size_t len, uint64_t *number);
+
+/* JILQAMUR_OK where a unit is ready, which jilqamur_receiver_unit fetches. JILQAMUR_NOTHING where none is,
+ * JILQAMUR_PAYLOAD where a packet of the next frame is refused, which is then done with, or JILQAMUR_MEMORY, and the
+ * frame stays. */
+uint32_t jilqamur_receiver_poll(jilqamur_receiver *receiver);
+
+/* The same, whether or not a packet before the lowest complete unit is missing: for the end of a stream. */
+uint32_t jilqamur_receiver_drain(jilqamur_receiver *receiver);
+
+/* Copies the bytes of the unit that a poll or a drain left last, and tells of it, as jilqamur_end_unit. */
+uint32_t jilqamur_receiver_unit(jilqamur_receiver *receiver, uint8_t *buffer, size_t len, size_t *needed,
+                                jilqamur_unit *unit);
 
 #ifdef __cplusplus
 }

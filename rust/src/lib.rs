@@ -1,8 +1,19 @@
-//! RTP headers, padding, sequence numbers and replay windows (RFC 3550), from a proved library.
+//! RTP headers, padding, sequence numbers and replay windows (RFC 3550), ends that exchange offers and answers, send
+//! samples and receive units, and streams by codec, from a proved library.
 
 use std::{fmt, ptr};
 
+mod ends;
+mod error;
+mod exchanges;
+mod params;
+mod streams;
 mod sys;
+
+pub use ends::{Datagrams, End};
+pub use error::EndError;
+pub use params::{Direction, Kind, Received, Row, Section, StreamParams, Unit};
+pub use streams::{Format, Receiver, Sender, SenderParams};
 
 /// Why a call is refused.
 #[derive(Clone, Copy, Debug, PartialEq, Eq)]

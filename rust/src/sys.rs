@@ -1,11 +1,28 @@
 //! The exports, as `include/jilqamur.h` declares them.
 
+use crate::params::{Row, StreamParams};
+use crate::streams::{Format, SenderParams};
 use crate::Header;
 
 #[repr(C)]
 pub(crate) struct Window {
     pub(crate) full: bool,
     pub(crate) place: *mut u8,
+}
+
+#[repr(C)]
+pub(crate) struct Handle {
+    pub(crate) full: bool,
+    pub(crate) place: *mut u8,
+}
+
+#[repr(C)]
+#[derive(Default)]
+pub(crate) struct Unit {
+    pub(crate) first: u64,
+    pub(crate) last: u64,
+    pub(crate) time: u32,
+    pub(crate) is_keyframe: bool,
 }
 
 extern "C" {
@@ -31,4 +48,133 @@ extern "C" {
         number: *mut u64,
     ) -> u32;
     pub(crate) fn jilqamur_window_close(window: *mut Window) -> u32;
+    pub(crate) fn jilqamur_end_open(end: *mut Handle) -> u32;
+    pub(crate) fn jilqamur_end_close(end: *mut Handle) -> u32;
+    pub(crate) fn jilqamur_end_row(
+        end: *mut Handle,
+        row: *const Row,
+        codec: *const u8,
+        codec_len: usize,
+        format: *const u8,
+        format_len: usize,
+    ) -> u32;
+    pub(crate) fn jilqamur_end_default_rows(end: *mut Handle) -> u32;
+    pub(crate) fn jilqamur_end_extension(end: *mut Handle, id: u8, uri: *const u8, len: usize) -> u32;
+    pub(crate) fn jilqamur_end_make(end: *mut Handle, session: u64) -> u32;
+    pub(crate) fn jilqamur_end_section(
+        end: *mut Handle,
+        mid: *const u8,
+        mid_len: usize,
+        is_video: bool,
+        sends: bool,
+        receives: bool,
+        ssrcs: *const u32,
+        count: usize,
+    ) -> u32;
+    pub(crate) fn jilqamur_end_offer(end: *mut Handle) -> u32;
+    pub(crate) fn jilqamur_end_answer(end: *mut Handle, offer: *const u8, len: usize) -> u32;
+    pub(crate) fn jilqamur_end_accept(end: *mut Handle, answer: *const u8, len: usize) -> u32;
+    pub(crate) fn jilqamur_end_withdraw(end: *mut Handle) -> u32;
+    pub(crate) fn jilqamur_end_text(end: *mut Handle, buffer: *mut u8, len: usize, needed: *mut usize) -> u32;
+    pub(crate) fn jilqamur_end_open_sender(
+        end: *mut Handle,
+        mid: *const u8,
+        mid_len: usize,
+        ssrc: u32,
+        payload_type: u8,
+        params: *const StreamParams,
+        distances: *const u8,
+        count: usize,
+        stream: *mut usize,
+    ) -> u32;
+    pub(crate) fn jilqamur_end_open_receiver(
+        end: *mut Handle,
+        mid: *const u8,
+        mid_len: usize,
+        ssrc: u32,
+        payload_type: u8,
+        hold_back: usize,
+        stream: *mut usize,
+    ) -> u32;
+    pub(crate) fn jilqamur_end_push_sample(
+        end: *mut Handle,
+        stream: usize,
+        ticks: u64,
+        mid: *const u8,
+        mid_len: usize,
+        sample: *const u8,
+        sample_len: usize,
+        count: *mut usize,
+    ) -> u32;
+    pub(crate) fn jilqamur_end_datagram(
+        end: *mut Handle,
+        index: usize,
+        buffer: *mut u8,
+        len: usize,
+        needed: *mut usize,
+    ) -> u32;
+    pub(crate) fn jilqamur_end_receive(
+        end: *mut Handle,
+        datagram: *const u8,
+        len: usize,
+        stream: *mut usize,
+        number: *mut u64,
+    ) -> u32;
+    pub(crate) fn jilqamur_end_poll(end: *mut Handle, stream: usize) -> u32;
+    pub(crate) fn jilqamur_end_drain(end: *mut Handle, stream: usize) -> u32;
+    pub(crate) fn jilqamur_end_unit(
+        end: *mut Handle,
+        buffer: *mut u8,
+        len: usize,
+        needed: *mut usize,
+        unit: *mut Unit,
+    ) -> u32;
+    pub(crate) fn jilqamur_sender_open(
+        sender: *mut Handle,
+        params: *const SenderParams,
+        format: *const Format,
+        codec: *const u8,
+        codec_len: usize,
+    ) -> u32;
+    pub(crate) fn jilqamur_sender_close(sender: *mut Handle) -> u32;
+    pub(crate) fn jilqamur_sender_push_sample(
+        sender: *mut Handle,
+        ticks: u64,
+        sample: *const u8,
+        len: usize,
+        count: *mut usize,
+    ) -> u32;
+    pub(crate) fn jilqamur_sender_datagram(
+        sender: *mut Handle,
+        index: usize,
+        buffer: *mut u8,
+        len: usize,
+        needed: *mut usize,
+    ) -> u32;
+    pub(crate) fn jilqamur_receiver_open(
+        receiver: *mut Handle,
+        format: *const Format,
+        codec: *const u8,
+        codec_len: usize,
+        hold_back: usize,
+    ) -> u32;
+    pub(crate) fn jilqamur_receiver_close(receiver: *mut Handle) -> u32;
+    pub(crate) fn jilqamur_receiver_push(
+        receiver: *mut Handle,
+        sequence_number: u16,
+        timestamp: u32,
+        marker: bool,
+        payload: *const u8,
+        len: usize,
+        number: *mut u64,
+    ) -> u32;
+    pub(crate) fn jilqamur_receiver_poll(receiver: *mut Handle) -> u32;
+    pub(crate) fn jilqamur_receiver_drain(receiver: *mut Handle) -> u32;
+    pub(crate) fn jilqamur_receiver_unit(
+        receiver: *mut Handle,
+        buffer: *mut u8,
+        len: usize,
+        needed: *mut usize,
+        unit: *mut Unit,
+    ) -> u32;
 }

@@ -1,4 +1,5 @@
-//! Headers and replay windows for C programs: exports over `jilqamur_wire`, as `include/jilqamur.h` declares them.
+//! Headers, replay windows, streams and ends for C programs: exports over `jilqamur_wire`, `jilqamur_streams` and
+//! `jilqamur_ends`, as `include/jilqamur.h` declares them.
 #![tactic(auto)]
 
 ghost use Rattle.std.specs.Prelude.{◌≡◌, ◌≢◌, ◌++◌, length, drop, Some, None, IsSome, MatchOption};
@@ -12,6 +13,13 @@ ghost use Rattle.jilqamur_wire.specs.Codes.{ok, memory, in_use, closed, unreadab
 ghost use Rattle.jilqamur_wire.specs.Headers.{as_wire, as_header, write_outcome};
 ghost use Rattle.jilqamur_wire.specs.Windows.{ReceivedAs, behind, fresh};
 ghost use Rattle.jilqamur.specs.Answers.{answer_of};
+
+mod exchanging;
+mod receivers;
+mod receiving;
+mod senders;
+mod setup;
+mod streams;
 
 use jilqamur_wire::{WindowHandle, WireHeader, codes, read_header, write_header};
 use rtp_wire::{extend_u16, unpad_payload};

@@ -27,3 +27,78 @@ unwritable = 7
 
 abbrev pub too_small : ℕ
 too_small = 8
+
+abbrev pub not_text : ℕ
+not_text = 9
+
+abbrev pub out_of_range : ℕ
+out_of_range = 10
+
+abbrev pub not_made : ℕ
+not_made = 11
+
+abbrev pub nothing : ℕ
+nothing = 12
+
+abbrev pub foreign : ℕ
+foreign = 13
+
+abbrev pub no_stream : ℕ
+no_stream = 14
+
+abbrev pub row_not_plain : ℕ
+row_not_plain = 15
+
+abbrev pub types_not_distinct : ℕ
+types_not_distinct = 16
+
+abbrev pub not_writable : ℕ
+not_writable = 17
+
+abbrev pub text_unreadable : ℕ
+text_unreadable = 18
+
+abbrev pub out_of_turn : ℕ
+out_of_turn = 19
+
+abbrev pub not_media : ℕ
+not_media = 20
+
+abbrev pub not_corresponding : ℕ
+not_corresponding = 21
+
+abbrev pub round : ℕ
+round = 22
+
+abbrev pub no_common_row : ℕ
+no_common_row = 23
+
+abbrev pub no_section : ℕ
+no_section = 24
+
+abbrev pub row_not_agreed : ℕ
+row_not_agreed = 25
+
+abbrev pub row_differs : ℕ
+row_differs = 26
+
+abbrev pub wrong_direction : ℕ
+wrong_direction = 27
+
+abbrev pub ssrc_not_named : ℕ
+ssrc_not_named = 28
+
+abbrev pub already_open : ℕ
+already_open = 29
+
+abbrev pub stream_failed : ℕ
+stream_failed = 30
+
+abbrev pub time_too_large : ℕ
+time_too_large = 31
+
+abbrev pub limit_too_small : ℕ
+limit_too_small = 32
+
+abbrev pub payload : ℕ
+payload = 33

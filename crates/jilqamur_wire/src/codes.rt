@@ -18,3 +18,53 @@ pub const REFUSED: u32 = 6;
 pub const UNWRITABLE: u32 = 7;
 /// The buffer is too small.
 pub const TOO_SMALL: u32 = 8;
+/// The bytes are no UTF-8.
+pub const NOT_TEXT: u32 = 9;
+/// A number is off the range that is written at it.
+pub const OUT_OF_RANGE: u32 = 10;
+/// The end was not made yet.
+pub const NOT_MADE: u32 = 11;
+/// There is nothing of that kind.
+pub const NOTHING: u32 = 12;
+/// No receiving stream has the SSRC and payload type of the datagram.
+pub const FOREIGN: u32 = 13;
+/// No stream of that direction has this number.
+pub const NO_STREAM: u32 = 14;
+/// A row is of a kind that an end can't agree on.
+pub const ROW_NOT_PLAIN: u32 = 15;
+/// A payload type stands for two things.
+pub const TYPES_NOT_DISTINCT: u32 = 16;
+/// The session or the text can't be written.
+pub const NOT_WRITABLE: u32 = 17;
+/// The text isn't that of an offer or an answer.
+pub const TEXT_UNREADABLE: u32 = 18;
+/// An offer is pending, or none is.
+pub const OUT_OF_TURN: u32 = 19;
+/// A section of the text is no media.
+pub const NOT_MEDIA: u32 = 20;
+/// The sections don't correspond.
+pub const NOT_CORRESPONDING: u32 = 21;
+/// The rows can't be settled against the other end's.
+pub const ROUND: u32 = 22;
+/// A section would list no row.
+pub const NO_COMMON_ROW: u32 = 23;
+/// No section of this name is agreed.
+pub const NO_SECTION: u32 = 24;
+/// No row of this type is agreed.
+pub const ROW_NOT_AGREED: u32 = 25;
+/// The end's own row differs from the agreed one.
+pub const ROW_DIFFERS: u32 = 26;
+/// The section does not flow this way.
+pub const WRONG_DIRECTION: u32 = 27;
+/// The sender's section does not name this SSRC.
+pub const SSRC_NOT_NAMED: u32 = 28;
+/// Such a stream is open already.
+pub const ALREADY_OPEN: u32 = 29;
+/// The stream sends no more.
+pub const STREAM_FAILED: u32 = 30;
+/// The time does not fit 64 bits at the stream's clock.
+pub const TIME_TOO_LARGE: u32 = 31;
+/// A datagram would pass the limit.
+pub const LIMIT_TOO_SMALL: u32 = 32;
+/// The codec refuses the sample or the payload.
+pub const PAYLOAD: u32 = 33;

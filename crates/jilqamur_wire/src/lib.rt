@@ -8,5 +8,6 @@ mod place;
 mod replay;
 
 pub use header::{WireHeader, read_header, write_header};
+pub use parts::Parts;
 pub use place::{WindowHandle, WindowPlace};
 pub use replay::Replay;

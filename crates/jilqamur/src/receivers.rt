@@ -1,0 +1,138 @@
+//! Receiving streams by codec, without an end.
+
+ghost use Rattle.std.specs.Prelude.{◌≡◌, ◌≢◌, None, Some, IsSome};
+ghost use Rattle.jilqamur_wire.specs.Codes.{ok, memory, nothing, closed, in_use};
+ghost use Rattle.jilqamur_ends.specs.Fetched.{IsFetched, IsToldOf, bytes_of};
+ghost use Rattle.jilqamur_streams.specs.Formats.{format_outcome};
+ghost use Rattle.jilqamur_streams.specs.Inboxes.{Polls, Drains, AtReceiver, new_inbox, Takes};
+ghost use Rattle.jilqamur.specs.Answers.{answer_of};
+
+use jilqamur_ends::WireUnit;
+use jilqamur_streams::{Inbox, ReceiverHandle, WireFormat};
+use jilqamur_wire::codes;
+use std::alloc::Global;
+
+/// Opens a receiving stream by codec.
+#[unsafe(no_mangle)]
+pub extern "C" fn jilqamur_receiver_open(
+    alloc: Global,
+    receiver: &mut ReceiverHandle,
+    format: &WireFormat,
+    codec: &[u8],
+    hold_back: usize,
+) -> u32
+    ensures opened { result ≡ ok → receiver.new.place.object ≡ Some (new_inbox format.now codec.now hold_back) }
+    ensures held_none { result ≡ ok → receiver.old.place.object ≡ None }
+    ensures accepted { result ≡ ok → format_outcome format.now codec.now ≡ ok }
+    ensures in_use { IsSome receiver.old.place.object → result ≡ in_use }
+    ensures refusal { result ≢ ok → result ≢ memory → result ≢ in_use → result ≡ format_outcome format.now codec.now }
+    ensures unchanged { result ≢ ok → receiver.new.place.object ≡ receiver.old.place.object }
+{
+    if let Some(held) = receiver.take(alloc) {
+        receiver.put(held);
+        return codes::IN_USE;
+    }
+    let opened = match Inbox::new(alloc, format, codec, hold_back) {
+        Ok(opened) => opened,
+        Err(code) => return code,
+    };
+    match Box::new(alloc, opened) {
+        Ok(opened) => {
+            receiver.put(opened);
+            codes::OK
+        }
+        Err(_) => codes::MEMORY,
+    }
+}
+
+/// Frees the stream of a handle.
+#[unsafe(no_mangle)]
+pub extern "C" fn jilqamur_receiver_close(alloc: Global, receiver: &mut ReceiverHandle) -> u32
+    ensures held { result ≡ answer_of receiver.old.place.object }
+    ensures empty { receiver.new.place.object ≡ None }
+{
+    match receiver.take(alloc) {
+        Some(_) => codes::OK,
+        None => codes::CLOSED,
+    }
+}
+
+/// Takes a packet in.
+#[unsafe(no_mangle)]
+pub extern "C" fn jilqamur_receiver_push(
+    alloc: Global,
+    receiver: &mut ReceiverHandle,
+    low: u16,
+    time: u32,
+    marker: bool,
+    payload: &[u8],
+    number: &mut u64,
+) -> u32
+    ensures answer { AtReceiver receiver.old.place.object receiver.new.place.object result
+        (λ p after. Takes p low time marker payload.now result number.new after) }
+    ensures number { result ≢ ok → number.new ≡ number.old }
+{
+    let Some(mut inbox) = receiver.take(alloc) else {
+        return codes::CLOSED;
+    };
+    let code = inbox.push(low, time, marker, payload, number);
+    receiver.put(inbox);
+    code
+}
+
+/// Polls for a unit.
+#[unsafe(no_mangle)]
+pub extern "C" fn jilqamur_receiver_poll(alloc: Global, receiver: &mut ReceiverHandle) -> u32
+    ensures answer { AtReceiver receiver.old.place.object receiver.new.place.object result
+        (λ p after. Polls p result after) }
+    ensures kept { AtReceiver receiver.old.place.object receiver.new.place.object result
+        (λ p after. result ≢ ok → after.unit ≡ p.unit) }
+{
+    let Some(mut inbox) = receiver.take(alloc) else {
+        return codes::CLOSED;
+    };
+    let code = inbox.poll();
+    receiver.put(inbox);
+    code
+}
+
+/// Drains a unit.
+#[unsafe(no_mangle)]
+pub extern "C" fn jilqamur_receiver_drain(alloc: Global, receiver: &mut ReceiverHandle) -> u32
+    ensures answer { AtReceiver receiver.old.place.object receiver.new.place.object result
+        (λ p after. Drains p result after) }
+    ensures kept { AtReceiver receiver.old.place.object receiver.new.place.object result
+        (λ p after. result ≢ ok → after.unit ≡ p.unit) }
+{
+    let Some(mut inbox) = receiver.take(alloc) else {
+        return codes::CLOSED;
+    };
+    let code = inbox.drain();
+    receiver.put(inbox);
+    code
+}
+
+/// Copies the unit that is left.
+#[unsafe(no_mangle)]
+pub extern "C" fn jilqamur_receiver_unit(
+    alloc: Global,
+    receiver: &mut ReceiverHandle,
+    buffer: &mut [u8],
+    needed: &mut usize,
+    told: &mut WireUnit,
+) -> u32
+    ensures bytes { AtReceiver receiver.old.place.object receiver.new.place.object result
+        (λ p after. IsFetched (bytes_of p.unit) buffer.old result needed.new buffer.new) }
+    ensures told { AtReceiver receiver.old.place.object receiver.new.place.object result
+        (λ p after. IsToldOf p.unit told.new) }
+    ensures closed { result ≡ closed → (buffer.new ≡ buffer.old) × (needed.new ≡ needed.old) }
+    ensures nothing { result ≡ nothing → (needed.new ≡ needed.old) × (told.new ≡ told.old) }
+    ensures unchanged { receiver.new.place.object ≡ receiver.old.place.object }
+{
+    let Some(mut inbox) = receiver.take(alloc) else {
+        return codes::CLOSED;
+    };
+    let code = inbox.unit(buffer, needed, told);
+    receiver.put(inbox);
+    code
+}

@@ -1,0 +1,103 @@
+//! Sending streams by codec, without an end.
+
+ghost use Rattle.std.specs.Prelude.{◌≡◌, ◌≢◌, length, None, Some, IsSome};
+ghost use Rattle.std.specs.List.{slice_get};
+ghost use Rattle.jilqamur_wire.specs.Codes.{ok, memory, nothing, closed, in_use};
+ghost use Rattle.jilqamur_ends.specs.Fetched.{IsFetched};
+ghost use Rattle.jilqamur_streams.specs.Outboxes.{AtSender, new_outbox, sender_outcome, Pushes};
+ghost use Rattle.jilqamur.specs.Answers.{answer_of};
+
+use jilqamur_streams::{Outbox, SenderHandle, WireFormat, WireSender};
+use jilqamur_wire::codes;
+use std::alloc::Global;
+
+/// Opens a sending stream by codec.
+#[unsafe(no_mangle)]
+pub extern "C" fn jilqamur_sender_open(
+    alloc: Global,
+    sender: &mut SenderHandle,
+    params: &WireSender,
+    format: &WireFormat,
+    codec: &[u8],
+) -> u32
+    ensures opened { result ≡ ok → sender.new.place.object ≡ Some (new_outbox params.now format.now codec.now) }
+    ensures held_none { result ≡ ok → sender.old.place.object ≡ None }
+    ensures accepted { result ≡ ok → sender_outcome params.now format.now codec.now ≡ ok }
+    ensures in_use { IsSome sender.old.place.object → result ≡ in_use }
+    ensures refusal { result ≢ ok → result ≢ memory → result ≢ in_use → result ≡ sender_outcome params.now format.now codec.now }
+    ensures unchanged { result ≢ ok → sender.new.place.object ≡ sender.old.place.object }
+{
+    if let Some(held) = sender.take(alloc) {
+        sender.put(held);
+        return codes::IN_USE;
+    }
+    let opened = match Outbox::new(alloc, params, format, codec) {
+        Ok(opened) => opened,
+        Err(code) => return code,
+    };
+    match Box::new(alloc, opened) {
+        Ok(opened) => {
+            sender.put(opened);
+            codes::OK
+        }
+        Err(_) => codes::MEMORY,
+    }
+}
+
+/// Frees the stream of a handle.
+#[unsafe(no_mangle)]
+pub extern "C" fn jilqamur_sender_close(alloc: Global, sender: &mut SenderHandle) -> u32
+    ensures held { result ≡ answer_of sender.old.place.object }
+    ensures empty { sender.new.place.object ≡ None }
+{
+    match sender.take(alloc) {
+        Some(_) => codes::OK,
+        None => codes::CLOSED,
+    }
+}
+
+/// Sends a sample.
+#[unsafe(no_mangle)]
+pub extern "C" fn jilqamur_sender_push_sample(
+    alloc: Global,
+    sender: &mut SenderHandle,
+    ticks: u64,
+    sample: &[u8],
+    count: &mut usize,
+) -> u32
+    ensures answer { AtSender sender.old.place.object sender.new.place.object result
+        (λ p after. Pushes p ticks sample.now result after) }
+    ensures count { AtSender sender.old.place.object sender.new.place.object result
+        (λ p after. count.new ≡ length after.datagrams) }
+    ensures closed { result ≡ closed → count.new ≡ count.old }
+{
+    let Some(mut outbox) = sender.take(alloc) else {
+        return codes::CLOSED;
+    };
+    let code = outbox.push_sample(ticks, sample, count);
+    sender.put(outbox);
+    code
+}
+
+/// Copies a datagram that is left.
+#[unsafe(no_mangle)]
+pub extern "C" fn jilqamur_sender_datagram(
+    alloc: Global,
+    sender: &mut SenderHandle,
+    index: usize,
+    buffer: &mut [u8],
+    needed: &mut usize,
+) -> u32
+    ensures datagram { AtSender sender.old.place.object sender.new.place.object result
+        (λ p after. IsFetched (slice_get p.datagrams index) buffer.old result needed.new buffer.new) }
+    ensures closed { result ≡ closed → (buffer.new ≡ buffer.old) × (needed.new ≡ needed.old) }
+    ensures nothing { result ≡ nothing → needed.new ≡ needed.old }
+    ensures unchanged { sender.new.place.object ≡ sender.old.place.object }
+{
+    let Some(mut outbox) = sender.take(alloc) else {
+        return codes::CLOSED;
+    };
+    let code = outbox.datagram(index, buffer, needed);
+    sender.put(outbox);
+    code
+}

@@ -1,0 +1,152 @@
+//! Handles of ends: opened, given a draft, made and closed.
+
+ghost use Rattle.std.specs.Prelude.{◌≡◌, ◌≢◌, None, Some, IsSome};
+ghost use Rattle.sdp_formats_config.specs.Configs.{default_rows};
+ghost use Rattle.jilqamur_wire.specs.Codes.{ok, memory, nothing, in_use};
+ghost use Rattle.jilqamur_ends.specs.Answers.{At};
+ghost use Rattle.jilqamur_ends.specs.Peers.{with_row, with_rows, with_section, with_extension, empty_peer};
+ghost use Rattle.jilqamur_ends.specs.Drafts.{row_of, row_outcome, section_of, section_outcome, extension_outcome, make_outcome, made, without_draft};
+ghost use Rattle.jilqamur.specs.Answers.{answer_of};
+
+use jilqamur_ends::{EndHandle, Peer, WireRow};
+use jilqamur_wire::codes;
+use std::alloc::Global;
+
+/// Opens a handle: it holds no end, an empty draft, and nothing that is left.
+#[unsafe(no_mangle)]
+pub extern "C" fn jilqamur_end_open(alloc: Global, end: &mut EndHandle) -> u32
+    ensures opened { result ≡ ok → end.new.place.object ≡ Some empty_peer }
+    ensures held_none { result ≡ ok → end.old.place.object ≡ None }
+    ensures in_use { IsSome end.old.place.object → result ≡ in_use }
+    ensures refusal { result ≢ ok → result ≢ memory → result ≡ in_use }
+    ensures unchanged { result ≢ ok → end.new.place.object ≡ end.old.place.object }
+{
+    if let Some(held) = end.take(alloc) {
+        end.put(held);
+        return codes::IN_USE;
+    }
+    match Box::new(alloc, Peer::empty(alloc)) {
+        Ok(peer) => {
+            end.put(peer);
+            codes::OK
+        }
+        Err(_) => codes::MEMORY,
+    }
+}
+
+/// Frees what a handle holds.
+#[unsafe(no_mangle)]
+pub extern "C" fn jilqamur_end_close(alloc: Global, end: &mut EndHandle) -> u32
+    ensures held { result ≡ answer_of end.old.place.object }
+    ensures empty { end.new.place.object ≡ None }
+{
+    match end.take(alloc) {
+        Some(_) => codes::OK,
+        None => codes::CLOSED,
+    }
+}
+
+/// A row more in the draft of the next end.
+#[unsafe(no_mangle)]
+pub extern "C" fn jilqamur_end_row(
+    alloc: Global,
+    end: &mut EndHandle,
+    row: &WireRow,
+    codec: &[u8],
+    format: &[u8],
+) -> u32
+    ensures outcome { At end.old.place.object end.new.place.object result
+        (λ p after. result ≢ memory → result ≡ row_outcome row.now codec.now format.now) }
+    ensures added { At end.old.place.object end.new.place.object result
+        (λ p after. result ≡ ok → after ≡ with_row p (row_of row.now codec.now format.now)) }
+    ensures unchanged { result ≢ ok → end.new.place.object ≡ end.old.place.object }
+{
+    let Some(mut peer) = end.take(alloc) else {
+        return codes::CLOSED;
+    };
+    let code = peer.add_row(row, codec, format);
+    end.put(peer);
+    code
+}
+
+/// The default rows more in the draft of the next end.
+#[unsafe(no_mangle)]
+pub extern "C" fn jilqamur_end_default_rows(alloc: Global, end: &mut EndHandle) -> u32
+    ensures outcome { At end.old.place.object end.new.place.object result
+        (λ p after. result ≢ memory → result ≡ ok) }
+    ensures added { At end.old.place.object end.new.place.object result
+        (λ p after. result ≡ ok → after ≡ with_rows p default_rows) }
+    ensures unchanged { result ≢ ok → end.new.place.object ≡ end.old.place.object }
+{
+    let Some(mut peer) = end.take(alloc) else {
+        return codes::CLOSED;
+    };
+    let code = peer.add_default_rows(alloc);
+    end.put(peer);
+    code
+}
+
+/// A header extension's number in the draft of the next end.
+#[unsafe(no_mangle)]
+pub extern "C" fn jilqamur_end_extension(
+    alloc: Global,
+    end: &mut EndHandle,
+    id: u8,
+    uri: &[u8],
+) -> u32
+    ensures outcome { At end.old.place.object end.new.place.object result
+        (λ p after. result ≢ memory → result ≡ extension_outcome id uri.now) }
+    ensures put { At end.old.place.object end.new.place.object result
+        (λ p after. result ≡ ok → after ≡ with_extension p id uri.now) }
+    ensures unchanged { result ≢ ok → end.new.place.object ≡ end.old.place.object }
+{
+    let Some(mut peer) = end.take(alloc) else {
+        return codes::CLOSED;
+    };
+    let code = peer.set_extension(alloc, id, uri);
+    end.put(peer);
+    code
+}
+
+/// The end of the draft.
+#[unsafe(no_mangle)]
+pub extern "C" fn jilqamur_end_make(alloc: Global, end: &mut EndHandle, session: u64) -> u32
+    ensures outcome { At end.old.place.object end.new.place.object result
+        (λ p after. result ≢ memory → result ≡ make_outcome p) }
+    ensures made { At end.old.place.object end.new.place.object result
+        (λ p after. result ≡ ok → after ≡ made p session) }
+    ensures refused { At end.old.place.object end.new.place.object result
+        (λ p after. result ≢ ok → after ≡ without_draft p) }
+{
+    let Some(mut peer) = end.take(alloc) else {
+        return codes::CLOSED;
+    };
+    let code = peer.make(alloc, session);
+    end.put(peer);
+    code
+}
+
+/// A section more in the next offer or answer.
+#[unsafe(no_mangle)]
+pub extern "C" fn jilqamur_end_section(
+    alloc: Global,
+    end: &mut EndHandle,
+    mid: &[u8],
+    is_video: bool,
+    sends: bool,
+    receives: bool,
+    ssrcs: &[u32],
+) -> u32
+    ensures outcome { At end.old.place.object end.new.place.object result
+        (λ p after. result ≢ memory → result ≡ section_outcome mid.now) }
+    ensures added { At end.old.place.object end.new.place.object result
+        (λ p after. result ≡ ok → after ≡ with_section p (section_of mid.now is_video sends receives ssrcs.now)) }
+    ensures unchanged { result ≢ ok → end.new.place.object ≡ end.old.place.object }
+{
+    let Some(mut peer) = end.take(alloc) else {
+        return codes::CLOSED;
+    };
+    let code = peer.add_section(alloc, mid, is_video, sends, receives, ssrcs);
+    end.put(peer);
+    code
+}

@@ -1,0 +1,123 @@
+//! Sending streams, and streams opened.
+
+ghost use Rattle.std.specs.Prelude.{◌≡◌, ◌≢◌, length, Some};
+ghost use Rattle.std.specs.List.{slice_get};
+ghost use Rattle.jilqamur_wire.specs.Codes.{ok, memory, nothing, closed};
+ghost use Rattle.jilqamur_ends.specs.Answers.{At};
+ghost use Rattle.jilqamur_ends.specs.Peers.{behind_end, behind_sample};
+ghost use Rattle.jilqamur_ends.specs.Exchanges.{WithText};
+ghost use Rattle.jilqamur_ends.specs.Fetched.{IsFetched};
+ghost use Rattle.jilqamur_ends.specs.Sending.{AnswersSender, AnswersSample, params_of};
+ghost use Rattle.jilqamur_ends.specs.Receiving.{OpensReceiver};
+
+use jilqamur_ends::{EndHandle, WireStream};
+use jilqamur_wire::codes;
+use std::alloc::Global;
+
+/// Opens a sending stream.
+#[unsafe(no_mangle)]
+pub extern "C" fn jilqamur_end_open_sender(
+    alloc: Global,
+    end: &mut EndHandle,
+    mid: &[u8],
+    ssrc: u32,
+    pt: u8,
+    params: &WireStream,
+    distances: &[u8],
+    stream: &mut usize,
+) -> u32
+    ensures answer { At end.old.place.object end.new.place.object result
+        (λ p after. result ≢ memory → WithText mid.now p.end after.end result
+        (λ e now. AnswersSender e mid.now ssrc pt (params_of params.now distances.now) result stream.new now)) }
+    ensures memory { At end.old.place.object end.new.place.object result
+        (λ p after. result ≡ memory → after ≡ p) }
+    ensures stream { result ≢ ok → stream.new ≡ stream.old }
+    ensures rest { At end.old.place.object end.new.place.object result
+        (λ p after. after ≡ behind_end p after.end) }
+{
+    let Some(mut peer) = end.take(alloc) else {
+        return codes::CLOSED;
+    };
+    let code = peer.open_sender(alloc, mid, ssrc, pt, params, distances, stream);
+    end.put(peer);
+    code
+}
+
+/// Opens a receiving stream.
+#[unsafe(no_mangle)]
+pub extern "C" fn jilqamur_end_open_receiver(
+    alloc: Global,
+    end: &mut EndHandle,
+    mid: &[u8],
+    ssrc: u32,
+    pt: u8,
+    hold_back: usize,
+    stream: &mut usize,
+) -> u32
+    ensures answer { At end.old.place.object end.new.place.object result
+        (λ p after. WithText mid.now p.end after.end result
+        (λ e now. OpensReceiver e mid.now ssrc pt hold_back result stream.new now)) }
+    ensures stream { result ≢ ok → stream.new ≡ stream.old }
+    ensures rest { At end.old.place.object end.new.place.object result
+        (λ p after. after ≡ behind_end p after.end) }
+{
+    let Some(mut peer) = end.take(alloc) else {
+        return codes::CLOSED;
+    };
+    let code = peer.open_receiver(mid, ssrc, pt, hold_back, stream);
+    end.put(peer);
+    code
+}
+
+/// Sends a sample.
+#[unsafe(no_mangle)]
+pub extern "C" fn jilqamur_end_push_sample(
+    alloc: Global,
+    end: &mut EndHandle,
+    stream: usize,
+    ticks: u64,
+    mid: &[u8],
+    sample: &[u8],
+    count: &mut usize,
+) -> u32
+    ensures answer { At end.old.place.object end.new.place.object result
+        (λ p after. WithText mid.now p.end after.end result
+        (λ e now. AnswersSample e stream ticks mid.now sample.now result after.datagrams now)) }
+    ensures count { At end.old.place.object end.new.place.object result
+        (λ p after. count.new ≡ length after.datagrams) }
+    ensures closed { result ≡ closed → count.new ≡ count.old }
+    ensures kept { At end.old.place.object end.new.place.object result
+        (λ p after. result ≢ ok → after.datagrams ≡ p.datagrams) }
+    ensures rest { At end.old.place.object end.new.place.object result
+        (λ p after. after ≡ behind_sample p after.end after.datagrams) }
+{
+    let Some(mut peer) = end.take(alloc) else {
+        return codes::CLOSED;
+    };
+    let code = peer.push_sample(stream, ticks, mid, sample, count);
+    end.put(peer);
+    code
+}
+
+/// Copies a datagram that is left.
+#[unsafe(no_mangle)]
+pub extern "C" fn jilqamur_end_datagram(
+    alloc: Global,
+    end: &mut EndHandle,
+    index: usize,
+    buffer: &mut [u8],
+    needed: &mut usize,
+) -> u32
+    ensures datagram { At end.old.place.object end.new.place.object result
+        (λ p after. IsFetched (slice_get p.datagrams index) buffer.old result needed.new buffer.new) }
+    ensures closed { result ≡ closed → (buffer.new ≡ buffer.old) × (needed.new ≡ needed.old) }
+    ensures nothing { result ≡ nothing → needed.new ≡ needed.old }
+    ensures unchanged { end.new.place.object ≡ end.old.place.object }
+{
+    let Some(mut peer) = end.take(alloc) else {
+        return codes::CLOSED;
+    };
+    let code = peer.datagram(index, buffer, needed);
+    end.put(peer);
+    code
+}

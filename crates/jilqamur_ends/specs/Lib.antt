@@ -1,0 +1,8 @@
+pub mod Answers
+pub mod Drafts
+pub mod Exchanges
+pub mod Fetched
+pub mod Owned
+pub mod Peers
+pub mod Receiving
+pub mod Sending

@@ -1,0 +1,118 @@
+-- What calls of receiving streams answer.
+use Rattle.std.specs.Prelude.{ℕ, ◌≡◌, ◌≢◌, List, length, Option, Some, None, Ok, Err}
+use Rattle.rtp_wire.specs.Name.{name_of}
+use Rattle.rtp_media_runs.specs.Hearing.{MediaUnit, poll_answer}
+use Rattle.rtp_media_streams.specs.Drains.{drain_answer, drained_receiver, holding}
+use Rattle.rtp_media_streams.specs.Polls.{IsInterrupted, PollResult, given}
+use Rattle.rtp_media_streams.specs.Receiving.{Receiving, polled_receiver, with_stream}
+use Rattle.rtp_media_streams.specs.Rows.{format_of}
+use Rattle.rtp_media_streams.specs.declared.errors.PollFault.{PollFault}
+use Rattle.rtp_media_streams.specs.declared.errors.PollFault.TheVariants as fault
+use Rattle.rtp_media_ends.specs.Arrivals.{verdict_of, after_datagram}
+use Rattle.rtp_media_ends.specs.Ends.{EndState, is_receiver_at, receiver_at, with_receiver, after_open_receiver}
+use Rattle.rtp_media_ends.specs.Ends.{refusal_of_open_receiver}
+use Rattle.rtp_media_ends.specs.declared.errors.OpenError.{OpenError}
+use Rattle.rtp_media_ends.specs.declared.errors.OpenError.TheVariants as open_error
+use Rattle.rtp_media_ends.specs.declared.received.Received.{Received}
+use Rattle.rtp_media_ends.specs.declared.received.Received.TheVariants as received
+use Rattle.jilqamur_wire.specs.Codes.{ok, memory, not_text, unreadable, foreign, damaged, refused, nothing, payload}
+use Rattle.jilqamur_wire.specs.Codes.{no_stream, no_section, row_not_agreed, row_differs, wrong_direction}
+use Rattle.jilqamur_wire.specs.Codes.{ssrc_not_named, already_open}
+use Rattle.jilqamur_ends.specs.Exchanges.{Where}
+
+-- The number of a refusal to open a stream.
+abbrev pub open_code : OpenError → ℕ
+open_code open_error.NoSection = no_section
+open_code open_error.RowNotAgreed = row_not_agreed
+open_code open_error.RowDiffers = row_differs
+open_code open_error.WrongDirection = wrong_direction
+open_code open_error.SsrcNotNamed = ssrc_not_named
+open_code open_error.AlreadyOpen = already_open
+open_code open_error.Memory = memory
+
+abbrev pub open_outcome : Option OpenError → ℕ
+open_outcome None = ok
+open_outcome (Some e) = open_code e
+
+-- What opening a receiving stream answers.
+pub record OpensReceiver (e : EndState) (mid : List ℕ) (ssrc pt hold_back : ℕ) (result stream : ℕ) (after : EndState)
+    : Type 0 where
+  pub outcome : result ≢ memory → result ≡ open_outcome (refusal_of_open_receiver e (name_of 16 mid) ssrc pt)
+  pub number : result ≡ ok → stream ≡ length e.streams
+  pub opened : result ≡ ok → after ≡ after_open_receiver e (name_of 16 mid) ssrc pt hold_back
+  pub stays : result ≢ ok → after ≡ e
+
+-- The number of a verdict on a datagram.
+abbrev pub verdict_code : Received → ℕ
+verdict_code received.Unreadable = unreadable
+verdict_code received.Foreign = foreign
+verdict_code received.Damaged = damaged
+verdict_code received.Refused = refused
+verdict_code (received.Taken stream number) = ok
+
+-- the stream that took it, and its widened number
+abbrev pub IsTakenAs : Received → ℕ → ℕ → Type 0
+IsTakenAs (received.Taken s n) stream number = (stream ≡ s) × (number ≡ n)
+IsTakenAs verdict stream number = Unit {0}
+
+-- What receiving a datagram answers.
+pub record Receives (e : EndState) (datagram : List ℕ) (result stream number : ℕ) (after : EndState) : Type 0 where
+  pub verdict : result ≢ memory → result ≡ verdict_code (verdict_of e datagram)
+  pub taken : result ≢ memory → IsTakenAs (verdict_of e datagram) stream number
+  pub is_behind : result ≢ memory → after ≡ after_datagram e datagram
+  pub stays : result ≡ memory → after ≡ e
+
+-- The number of a poll's answer.
+abbrev pub poll_code : PollResult → ℕ
+poll_code (Ok None) = nothing
+poll_code (Ok (Some unit)) = ok
+poll_code (Err (fault.Payload e)) = payload
+poll_code (Err fault.Memory) = memory
+
+-- the unit that a poll leaves, or the one that was left before
+abbrev pub unit_behind : PollResult → Option MediaUnit → Option MediaUnit
+unit_behind (Ok (Some unit)) before = Some unit
+unit_behind answer before = before
+
+-- What a poll answers whose stream answers and becomes this, or stays like that where memory is wanting.
+pub record AnswersPoll (e : EndState) (n : ℕ) (answer : PollResult) (behind : Receiving)
+    (Stops : EndState → Type 0) (before : Option MediaUnit) (result : ℕ) (unit : Option MediaUnit)
+    (after : EndState) : Type 0 where
+  pub number : result ≢ memory → result ≡ poll_code answer
+  pub unit_is : result ≢ memory → unit ≡ unit_behind answer before
+  pub is_behind : result ≢ memory → after ≡ with_receiver e n behind
+  pub keeps : result ≡ memory → unit ≡ before
+  pub stops : result ≡ memory → Stops after
+
+-- memory is wanting for a unit that is ready: its frame stays
+abbrev pub PollStops : EndState → ℕ → EndState → Type 0
+PollStops e n after =
+    IsInterrupted (format_of (receiver_at e n).row) (receiver_at e n).stream (receiver_at after n).stream
+    × (after ≡ with_receiver e n (with_stream (receiver_at e n) (receiver_at after n).stream))
+
+abbrev pub DrainStops : EndState → ℕ → EndState → Type 0
+DrainStops e n after =
+    IsInterrupted (format_of (receiver_at e n).row) (holding 0 (receiver_at e n).stream)
+    (holding 0 (receiver_at after n).stream)
+    × (after ≡ with_receiver e n (with_stream (receiver_at e n) (receiver_at after n).stream))
+
+abbrev pub poll_result : Receiving → PollResult
+poll_result r = given (poll_answer (format_of r.row) r.stream)
+
+abbrev pub drain_result : Receiving → PollResult
+drain_result r = given (drain_answer (format_of r.row) r.stream)
+
+-- no stream that receives has this number
+abbrev pub HasNoStream : EndState → Option MediaUnit → ℕ → Option MediaUnit → EndState → Type 0
+HasNoStream e before result unit after = (result ≡ no_stream) × (unit ≡ before) × (after ≡ e)
+
+-- What a poll, and a drain, of a stream answer.
+abbrev pub Polls : EndState → ℕ → Option MediaUnit → ℕ → Option MediaUnit → EndState → Type 0
+Polls e n before result unit after = Where (is_receiver_at e n)
+    (AnswersPoll e n (poll_result (receiver_at e n)) (polled_receiver (receiver_at e n)) (PollStops e n) before
+    result unit after) (HasNoStream e before result unit after)
+
+abbrev pub Drains : EndState → ℕ → Option MediaUnit → ℕ → Option MediaUnit → EndState → Type 0
+Drains e n before result unit after = Where (is_receiver_at e n)
+    (AnswersPoll e n (drain_result (receiver_at e n)) (drained_receiver (receiver_at e n)) (DrainStops e n) before
+    result unit after) (HasNoStream e before result unit after)

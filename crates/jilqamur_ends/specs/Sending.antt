@@ -1,0 +1,102 @@
+-- What calls of sending streams answer.
+use Rattle.std.specs.Prelude.{ℕ, ◌≡◌, ◌≢◌, ◌==◌, Bool, true, false, List, length, Option, Some, None, if◌then◌else◌}
+use Rattle.rtp_wire.specs.Name.{name_of}
+use Rattle.rtp_wire.specs.Time.{Time}
+use Rattle.rtp_wire.specs.Values.{absent}
+use Rattle.rtp_wire.specs.declared.ExtensionValues.{ExtensionValues}
+use Rattle.rtp_media_streams.specs.Sending.{HasFailed, sent_datagrams, after_sample, refusal_of_sample}
+use Rattle.rtp_media_streams.specs.declared.errors.SampleError.{SampleError}
+use Rattle.rtp_media_streams.specs.declared.errors.SampleError.TheVariants as sample_error
+use Rattle.rtp_media_ends.specs.Ends.{EndState, agreed_red, after_open_sender, refusal_of_open_sender}
+use Rattle.rtp_media_ends.specs.Ends.{is_sender_at, sender_at, with_sender}
+use Rattle.rtp_media_ends.specs.Params.{is_sound_params}
+use Rattle.rtp_media_ends.specs.declared.params.StreamParams.{StreamParams}
+use Rattle.jilqamur_wire.specs.Codes.{ok, memory, out_of_range, no_stream, stream_failed, time_too_large}
+use Rattle.jilqamur_wire.specs.Codes.{limit_too_small, payload}
+use Rattle.jilqamur_ends.specs.declared.sending.WireStream.{WireStream}
+use Rattle.jilqamur_ends.specs.Exchanges.{Where}
+use Rattle.jilqamur_ends.specs.Receiving.{open_outcome}
+
+-- distances that are given, or no redundancy
+abbrev pub distances_of : Bool → List ℕ → Option (List ℕ)
+distances_of false distances = None
+distances_of true distances = Some distances
+
+abbrev pub id_of : Bool → ℕ → Option ℕ
+id_of false id = None
+id_of true id = Some id
+
+-- The parameters of a sending stream.
+abbrev pub params_of : WireStream → List ℕ → StreamParams
+params_of w distances = record {
+  first = w.first;
+  mtu = w.mtu;
+  limit = w.limit;
+  red = distances_of w.has_red distances;
+  picture_id = id_of w.has_picture_id w.picture_id;
+  for_browsers = w.for_browsers;
+}
+
+-- whether they are sound for the row that is agreed
+abbrev pub is_sound_for : EndState → List ℕ → ℕ → StreamParams → Bool
+is_sound_for e mid pt params = is_sound_params (agreed_red e (name_of 16 mid) pt) params
+
+pub record OpensSender (e : EndState) (mid : List ℕ) (ssrc pt : ℕ) (params : StreamParams) (result stream : ℕ)
+    (after : EndState) : Type 0 where
+  pub outcome : result ≢ memory → result ≡ open_outcome (refusal_of_open_sender e (name_of 16 mid) ssrc pt)
+  pub number : result ≡ ok → stream ≡ length e.streams
+  pub opened : result ≡ ok → after ≡ after_open_sender e (name_of 16 mid) ssrc pt params
+  pub stays : result ≢ ok → after ≡ e
+
+-- parameters that aren't sound are refused first
+abbrev pub IsUnsound : EndState → ℕ → EndState → Type 0
+IsUnsound e result after = (result ≡ out_of_range) × (after ≡ e)
+
+-- What opening a sending stream answers.
+abbrev pub AnswersSender : EndState → List ℕ → ℕ → ℕ → StreamParams → ℕ → ℕ → EndState → Type 0
+AnswersSender e mid ssrc pt params result stream after = Where (is_sound_for e mid pt params)
+    (OpensSender e mid ssrc pt params result stream after) (IsUnsound e result after)
+
+-- The number of a refused sample.
+abbrev pub sample_code : SampleError → ℕ
+sample_code sample_error.StreamFailed = stream_failed
+sample_code sample_error.TimeTooLarge = time_too_large
+sample_code sample_error.LimitTooSmall = limit_too_small
+sample_code (sample_error.Payload e) = payload
+sample_code sample_error.Memory = memory
+
+abbrev pub sample_outcome : Option SampleError → ℕ
+sample_outcome None = ok
+sample_outcome (Some e) = sample_code e
+
+-- a time in ticks of the clock of the stream's row
+abbrev pub time_at : EndState → ℕ → ℕ → Time
+time_at e n ticks = record { ticks = ticks; rate = (sender_at e n).row.clock_rate }
+
+-- the values of a sample's header extensions: the name of its section, where one is given (RFC 9143 15)
+abbrev pub mid_of : List ℕ → Option (List ℕ)
+mid_of text = if length text == 0 then None else Some (name_of 16 text)
+
+abbrev pub values_of : List ℕ → ExtensionValues
+values_of mid = record absent { mid = mid_of mid }
+
+-- a sending stream ran out of memory: it is marked as failed, and the others stay
+abbrev pub SenderFails : EndState → ℕ → EndState → Type 0
+SenderFails e n after = HasFailed (sender_at e n) (sender_at after n) × (after ≡ with_sender e n (sender_at after n))
+
+pub record Sends (e : EndState) (n : ℕ) (time : Time) (values : ExtensionValues) (sample : List ℕ) (result : ℕ)
+    (datagrams : List (List ℕ)) (after : EndState) : Type 0 where
+  pub outcome : result ≢ memory → result ≡ sample_outcome (refusal_of_sample (sender_at e n) time values sample)
+  pub sent : result ≡ ok → datagrams ≡ sent_datagrams (sender_at e n) time values sample
+  pub is_behind : result ≡ ok → after ≡ with_sender e n (after_sample (sender_at e n) time values sample)
+  pub stays : result ≢ ok → result ≢ memory → after ≡ e
+  pub fails : result ≡ memory → SenderFails e n after
+
+-- no stream that sends has this number
+abbrev pub HasNoSender : EndState → ℕ → EndState → Type 0
+HasNoSender e result after = (result ≡ no_stream) × (after ≡ e)
+
+-- What a sample at a stream answers.
+abbrev pub AnswersSample : EndState → ℕ → ℕ → List ℕ → List ℕ → ℕ → List (List ℕ) → EndState → Type 0
+AnswersSample e n ticks mid sample result datagrams after = Where (is_sender_at e n)
+    (Sends e n (time_at e n ticks) (values_of mid) sample result datagrams after) (HasNoSender e result after)

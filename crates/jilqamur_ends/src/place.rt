@@ -1,0 +1,92 @@
+//! A place for an end that a C program holds.
+
+ghost use Rattle.std.specs.Prelude.{◌≡◌, Option, Some, None, IsSome, is_some};
+ghost use Rattle.std.specs.Option.{option_map};
+ghost use Rattle.jilqamur_ends.specs.Owned.{owned, object_coded};
+ghost use Rattle.jilqamur_ends.specs.Peers.{PeerState};
+
+use crate::peer::Peer;
+use jilqamur_wire::Parts;
+use std::alloc::Global;
+use std::marker::Model;
+use std::{mem, ptr};
+
+/// A place that owns what a handle of an end holds, or nothing. One that is let go while it owns some never frees it.
+#[repr(C)]
+#[derive(Drop)]
+pub struct EndPlace {
+    at: *mut u8,
+    alloc: Global,
+    pub ghost object: { Option PeerState } by { object_coded },
+}
+
+impl Model for EndPlace {
+    ghost also_owns = { λ p. owned p.alloc p.at p.object };
+}
+
+impl EndPlace {
+    fn of_parts(parts: Parts<Peer, Global>) -> EndPlace
+        ensures { result.object ≡ Some parts.value }
+    {
+        let Parts { ptr, alloc } = parts;
+        EndPlace {
+            at: ptr as *mut u8,
+            alloc,
+        }
+    }
+
+    fn into_parts(self) -> Parts<Peer, Global>
+        requires { IsSome self.object }
+        ensures { self.object ≡ Some result.value }
+    {
+        let EndPlace { at, alloc } = self;
+        Parts {
+            ptr: at as *mut Peer,
+            alloc,
+        }
+    }
+
+    fn empty(at: *mut u8, alloc: Global) -> EndPlace
+        ensures { result.object ≡ None }
+    {
+        EndPlace { at, alloc }
+    }
+}
+
+/// A handle of an end, which is open or closed; all bytes of one that is closed may be 0.
+#[repr(C)]
+#[derive(Drop)]
+pub struct EndHandle {
+    full: bool,
+    pub place: EndPlace,
+    ghost sound: { full ≡ is_some place.object },
+}
+
+impl EndHandle {
+    /// What it holds, which is taken out.
+    pub fn take(&mut self, alloc: Global) -> Option<Box<Peer>>
+        ensures taken { option_map (λ b. b.value) result ≡ self.old.place.object }
+        ensures empty { self.new.place.object ≡ None }
+    {
+        let at = ptr::null_mut::<u8>();
+        let place = EndPlace::empty(at, alloc);
+        let EndHandle { full, place } = mem::replace(self, EndHandle { full: false, place });
+        if full {
+            Some(place.into_parts().into_box())
+        } else {
+            None
+        }
+    }
+
+    /// Holds this from now on.
+    ///
+    /// # Conditions
+    /// It holds nothing.
+    pub fn put(&mut self, value: Box<Peer>)
+        requires { self.old.place.object ≡ None }
+        ensures { self.new.place.object ≡ Some value.value }
+    {
+        let place = EndPlace::of_parts(Parts::of(value));
+        let _empty = mem::replace(self, EndHandle { full: true, place });
+    }
+}

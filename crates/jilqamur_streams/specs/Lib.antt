@@ -1,0 +1,5 @@
+pub mod Formats
+pub mod Inboxes
+pub mod OwnedReceiver
+pub mod OwnedSender
+pub mod Outboxes

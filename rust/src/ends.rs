@@ -1,0 +1,278 @@
+//! Ends that send samples and receive units.
+
+use crate::error::{done, EndError};
+use crate::params::{Received, Row, StreamParams, Unit};
+use crate::sys;
+use std::ptr;
+
+/// What a call copies: it is called once for the size that is needed, and once for the bytes.
+pub(crate) fn fetched(mut call: impl FnMut(*mut u8, usize, &mut usize) -> u32) -> Vec<u8> {
+    let mut needed = 0;
+    call(ptr::NonNull::dangling().as_ptr(), 0, &mut needed);
+    let mut bytes = vec![0; needed];
+    call(bytes.as_mut_ptr(), bytes.len(), &mut needed);
+    bytes
+}
+
+/// An end of a session. It stays on its thread.
+pub struct End(pub(crate) sys::Handle);
+
+impl End {
+    /// One whose draft is empty; [`End::make`] makes the end once rows are in the draft.
+    ///
+    /// # Errors
+    /// `Memory`.
+    pub fn new() -> Result<End, EndError> {
+        let mut end = sys::Handle { full: false, place: ptr::null_mut() };
+        // SAFETY: the handle is closed.
+        done(unsafe { sys::jilqamur_end_open(&mut end) })?;
+        Ok(End(end))
+    }
+
+    /// Puts a row into the draft: a codec's name, and what stands behind the type in its `a=fmtp` line.
+    ///
+    /// # Errors
+    /// `OutOfRange` or `Memory`; nothing has changed.
+    pub fn row(&mut self, row: &Row, codec: &str, format: &str) -> Result<(), EndError> {
+        // SAFETY: the handle is open, and pointers and lengths are those of one slice each.
+        done(unsafe {
+            sys::jilqamur_end_row(
+                &mut self.0,
+                row,
+                codec.as_ptr(),
+                codec.len(),
+                format.as_ptr(),
+                format.len(),
+            )
+        })
+    }
+
+    /// Puts the default rows of Opus, VP8, H.264, H.265, VP9 and AV1 into the draft.
+    ///
+    /// # Errors
+    /// `Memory`; nothing has changed.
+    pub fn default_rows(&mut self) -> Result<(), EndError> {
+        // SAFETY: the handle is open.
+        done(unsafe { sys::jilqamur_end_default_rows(&mut self.0) })
+    }
+
+    /// Gives a header extension a number, 1 to 16, in the draft.
+    ///
+    /// # Errors
+    /// `OutOfRange` or `Memory`; nothing has changed.
+    pub fn extension(&mut self, id: u8, uri: &str) -> Result<(), EndError> {
+        // SAFETY: the handle is open, and pointer and length are those of one slice.
+        done(unsafe { sys::jilqamur_end_extension(&mut self.0, id, uri.as_ptr(), uri.len()) })
+    }
+
+    /// Makes a new end of the draft, which is empty afterwards, under this session number.
+    ///
+    /// # Errors
+    /// The first that holds of `RowNotPlain`, `TypesNotDistinct` and `NotWritable`; or `Memory`. The end stays.
+    pub fn make(&mut self, session: u64) -> Result<(), EndError> {
+        // SAFETY: the handle is open.
+        done(unsafe { sys::jilqamur_end_make(&mut self.0, session) })
+    }
+
+    /// Opens a sending stream of this SSRC for the agreed row of a payload type, and answers its number. `distances`
+    /// are how many payloads back redundancy reaches: rising, 1 to 8, for a row with a RED type.
+    ///
+    /// # Errors
+    /// `NotMade`, `OutOfRange`, `NoSection`, `RowNotAgreed`, `RowDiffers`, `WrongDirection`, `SsrcNotNamed`,
+    /// `AlreadyOpen` or `Memory`; nothing has changed.
+    pub fn open_sender(
+        &mut self,
+        mid: &str,
+        ssrc: u32,
+        payload_type: u8,
+        params: StreamParams,
+        distances: Option<&[u8]>,
+    ) -> Result<usize, EndError> {
+        let params = params.with_redundancy(distances.is_some());
+        let distances = distances.unwrap_or(&[]);
+        let mut stream = 0;
+        // SAFETY: the handle is open, and pointers and lengths are those of one slice each.
+        done(unsafe {
+            sys::jilqamur_end_open_sender(
+                &mut self.0,
+                mid.as_ptr(),
+                mid.len(),
+                ssrc,
+                payload_type,
+                &params,
+                distances.as_ptr(),
+                distances.len(),
+                &mut stream,
+            )
+        })?;
+        Ok(stream)
+    }
+
+    /// Opens a receiving stream in the same way. Past a missing datagram a unit is handed out only once more than
+    /// `hold_back` frames are complete.
+    ///
+    /// # Errors
+    /// As [`End::open_sender`], but never `OutOfRange`.
+    pub fn open_receiver(
+        &mut self,
+        mid: &str,
+        ssrc: u32,
+        payload_type: u8,
+        hold_back: usize,
+    ) -> Result<usize, EndError> {
+        let mut stream = 0;
+        // SAFETY: the handle is open, and pointer and length are those of one slice.
+        done(unsafe {
+            sys::jilqamur_end_open_receiver(
+                &mut self.0,
+                mid.as_ptr(),
+                mid.len(),
+                ssrc,
+                payload_type,
+                hold_back,
+                &mut stream,
+            )
+        })?;
+        Ok(stream)
+    }
+
+    /// The datagrams of a sample at a time in ticks of the row's clock; they carry the section's name where it is given
+    /// and the agreed map has a number for it.
+    ///
+    /// # Errors
+    /// `NotMade`, `NoStream`, `StreamFailed`, `TimeTooLarge`, `LimitTooSmall` or `Payload`, and nothing has changed; or
+    /// `Memory`, and the stream sends no more.
+    pub fn push_sample(
+        &mut self,
+        stream: usize,
+        ticks: u64,
+        sample: &[u8],
+        mid: Option<&str>,
+    ) -> Result<Datagrams<'_>, EndError> {
+        let mid = mid.unwrap_or("");
+        let mut count = 0;
+        // SAFETY: the handle is open, and pointers and lengths are those of one slice each.
+        done(unsafe {
+            sys::jilqamur_end_push_sample(
+                &mut self.0,
+                stream,
+                ticks,
+                mid.as_ptr(),
+                mid.len(),
+                sample.as_ptr(),
+                sample.len(),
+                &mut count,
+            )
+        })?;
+        Ok(Datagrams { end: self, next: 0, count })
+    }
+
+    /// Takes a datagram in, and says what it is.
+    ///
+    /// # Errors
+    /// `NotMade` or `Memory`; the end is unchanged.
+    pub fn receive(&mut self, datagram: &[u8]) -> Result<Received, EndError> {
+        let (mut stream, mut number) = (0, 0);
+        // SAFETY: the handle is open, and pointer and length are those of one slice.
+        let answer = unsafe {
+            sys::jilqamur_end_receive(
+                &mut self.0,
+                datagram.as_ptr(),
+                datagram.len(),
+                &mut stream,
+                &mut number,
+            )
+        };
+        match answer {
+            0 => Ok(Received::Taken(stream, number)),
+            4 => Ok(Received::Unreadable),
+            5 => Ok(Received::Damaged),
+            6 => Ok(Received::Refused),
+            13 => Ok(Received::Foreign),
+            _ => Err(EndError::of(answer).unwrap_or(EndError::NotMade)),
+        }
+    }
+
+    /// The next unit of a receiving stream, where one is ready.
+    ///
+    /// # Errors
+    /// `NotMade` or `NoStream`; `Payload`, and the frame is done with; or `Memory`, and it stays.
+    pub fn poll(&mut self, stream: usize) -> Result<Option<Unit>, EndError> {
+        // SAFETY: the handle is open.
+        let answer = unsafe { sys::jilqamur_end_poll(&mut self.0, stream) };
+        self.unit_of(answer)
+    }
+
+    /// The same, whether or not a datagram before the lowest complete unit is missing: for the end of a stream.
+    ///
+    /// # Errors
+    /// As [`End::poll`].
+    pub fn drain(&mut self, stream: usize) -> Result<Option<Unit>, EndError> {
+        // SAFETY: the handle is open.
+        let answer = unsafe { sys::jilqamur_end_drain(&mut self.0, stream) };
+        self.unit_of(answer)
+    }
+
+    /// All units of a receiving stream that are ready, and faults between them.
+    pub fn units(&mut self, stream: usize) -> impl Iterator<Item = Result<Unit, EndError>> + '_ {
+        let mut is_over = false;
+        std::iter::from_fn(move || {
+            if is_over {
+                return None;
+            }
+            let unit = self.poll(stream).transpose();
+            is_over = !matches!(unit, Some(Ok(_) | Err(EndError::Payload)));
+            unit
+        })
+    }
+
+    fn unit_of(&mut self, answer: u32) -> Result<Option<Unit>, EndError> {
+        if answer == 12 {
+            return Ok(None);
+        }
+        done(answer)?;
+        let mut told = sys::Unit::default();
+        let bytes = fetched(|buffer, len, needed| {
+            // SAFETY: the handle is open, and what is written are places of their own.
+            unsafe { sys::jilqamur_end_unit(&mut self.0, buffer, len, needed, &mut told) }
+        });
+        Ok(Some(Unit::of(told, bytes)))
+    }
+}
+
+impl Drop for End {
+    fn drop(&mut self) {
+        // SAFETY: the handle is open, and is not used again.
+        unsafe { sys::jilqamur_end_close(&mut self.0) };
+    }
+}
+
+/// The datagrams of a sample, in order.
+pub struct Datagrams<'a> {
+    end: &'a mut End,
+    next: usize,
+    count: usize,
+}
+
+impl Iterator for Datagrams<'_> {
+    type Item = Vec<u8>;
+
+    fn next(&mut self) -> Option<Vec<u8>> {
+        if self.next == self.count {
+            return None;
+        }
+        let (end, index) = (&mut self.end.0, self.next);
+        self.next += 1;
+        Some(fetched(|buffer, len, needed| {
+            // SAFETY: the handle is open, and pointer and length are those of one slice.
+            unsafe { sys::jilqamur_end_datagram(end, index, buffer, len, needed) }
+        }))
+    }
+
+    fn size_hint(&self) -> (usize, Option<usize>) {
+        let left = self.count - self.next;
+        (left, Some(left))
+    }
+}
+
+impl ExactSizeIterator for Datagrams<'_> {}

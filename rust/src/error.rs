@@ -1,0 +1,113 @@
+//! Why calls of ends and streams are refused.
+
+use std::fmt;
+
+/// Why a call of an end or a stream is refused, by the number that `include/jilqamur.h` gives it.
+#[derive(Clone, Copy, Debug, PartialEq, Eq)]
+#[non_exhaustive]
+pub enum EndError {
+    /// Memory was wanting.
+    Memory,
+    /// A number is off the range that is written at it.
+    OutOfRange,
+    /// The end was not made yet.
+    NotMade,
+    /// No stream of that direction has this number.
+    NoStream,
+    /// A row is of a kind that an end can't agree on.
+    RowNotPlain,
+    /// A payload type stands for two things.
+    TypesNotDistinct,
+    /// The session or the text can't be written.
+    NotWritable,
+    /// The text isn't that of an offer or an answer.
+    TextUnreadable,
+    /// An offer is pending, or none is.
+    OutOfTurn,
+    /// A section of the text is no media.
+    NotMedia,
+    /// The sections don't correspond.
+    NotCorresponding,
+    /// The rows can't be settled against the other end's.
+    Round,
+    /// A section would list no row.
+    NoCommonRow,
+    /// No section of this name is agreed.
+    NoSection,
+    /// No row of this type is agreed.
+    RowNotAgreed,
+    /// The end's own row differs from the agreed one.
+    RowDiffers,
+    /// The section does not flow this way.
+    WrongDirection,
+    /// The sender's section does not name this SSRC.
+    SsrcNotNamed,
+    /// Such a stream is open already.
+    AlreadyOpen,
+    /// The stream sends no more.
+    StreamFailed,
+    /// The time does not fit 64 bits at the stream's clock.
+    TimeTooLarge,
+    /// A datagram would pass the limit.
+    LimitTooSmall,
+    /// The codec refuses the sample or the payload.
+    Payload,
+}
+
+impl EndError {
+    pub(crate) fn of(answer: u32) -> Option<EndError> {
+        use EndError::*;
+        const FROM_ROWS: [EndError; 19] = [
+            RowNotPlain, TypesNotDistinct, NotWritable, TextUnreadable, OutOfTurn, NotMedia, NotCorresponding, Round,
+            NoCommonRow, NoSection, RowNotAgreed, RowDiffers, WrongDirection, SsrcNotNamed, AlreadyOpen, StreamFailed,
+            TimeTooLarge, LimitTooSmall, Payload,
+        ];
+        match answer {
+            1 => Some(Memory),
+            10 => Some(OutOfRange),
+            11 => Some(NotMade),
+            14 => Some(NoStream),
+            _ => FROM_ROWS.get((answer as usize).checked_sub(15)?).copied(),
+        }
+    }
+}
+
+impl fmt::Display for EndError {
+    fn fmt(&self, f: &mut fmt::Formatter<'_>) -> fmt::Result {
+        use EndError::*;
+        f.write_str(match self {
+            Memory => "out of memory",
+            OutOfRange => "a number is out of range",
+            NotMade => "the end was not made yet",
+            NoStream => "no such stream is open",
+            RowNotPlain => "a row is not plain",
+            TypesNotDistinct => "a payload type stands for two things",
+            NotWritable => "the text can't be written",
+            TextUnreadable => "the text can't be read",
+            OutOfTurn => "this call is out of turn",
+            NotMedia => "a section is no media",
+            NotCorresponding => "the sections do not correspond",
+            Round => "the rows can't be settled",
+            NoCommonRow => "a section would list no row",
+            NoSection => "no such section is agreed",
+            RowNotAgreed => "no row of this type is agreed",
+            RowDiffers => "the end's own row differs from the agreed one",
+            WrongDirection => "the section does not flow this way",
+            SsrcNotNamed => "the sender's section does not name this SSRC",
+            AlreadyOpen => "such a stream is open already",
+            StreamFailed => "the stream sends no more",
+            TimeTooLarge => "the time is too large",
+            LimitTooSmall => "a datagram would pass the limit",
+            Payload => "the payload is refused",
+        })
+    }
+}
+
+impl std::error::Error for EndError {}
+
+pub(crate) fn done(answer: u32) -> Result<(), EndError> {
+    match EndError::of(answer) {
+        None => Ok(()),
+        Some(error) => Err(error),
+    }
+}

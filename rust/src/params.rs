@@ -1,0 +1,166 @@
+//! What ends and streams are made of, and what they tell.
+
+use crate::sys;
+
+/// The numbers of a row: a payload type, and what it stands for.
+#[repr(C)]
+#[derive(Clone, Copy, Debug, Default, PartialEq, Eq)]
+pub struct Row {
+    payload_type: u8,
+    has_resend: bool,
+    resend: u8,
+    has_red: bool,
+    red: u8,
+    clock_rate: u32,
+    has_channels: bool,
+    channels: u8,
+}
+
+impl Row {
+    /// A row of this type (0 to 127) and clock rate (at least 1), without channels, retransmissions and redundancy.
+    #[must_use]
+    pub fn new(payload_type: u8, clock_rate: u32) -> Row {
+        Row { payload_type, clock_rate, ..Row::default() }
+    }
+
+    /// The same row with this many channels.
+    #[must_use]
+    pub fn with_channels(self, channels: u8) -> Row {
+        Row { has_channels: true, channels, ..self }
+    }
+
+    /// The same row, retransmitted under this type (RFC 4588).
+    #[must_use]
+    pub fn with_resend(self, resend: u8) -> Row {
+        Row { has_resend: true, resend, ..self }
+    }
+
+    /// The same row with this RED type (RFC 2198).
+    #[must_use]
+    pub fn with_red(self, red: u8) -> Row {
+        Row { has_red: true, red, ..self }
+    }
+}
+
+/// Audio or video.
+#[derive(Clone, Copy, Debug, PartialEq, Eq)]
+pub enum Kind {
+    /// Audio.
+    Audio,
+    /// Video.
+    Video,
+}
+
+/// Which way media flows, as an end sees it.
+#[derive(Clone, Copy, Debug, PartialEq, Eq)]
+pub enum Direction {
+    /// Sends and does not receive.
+    SendOnly,
+    /// Receives and does not send.
+    RecvOnly,
+    /// Sends and receives.
+    SendRecv,
+    /// Neither sends nor receives.
+    Inactive,
+}
+
+/// A section as an end wants it.
+#[derive(Clone, Copy, Debug)]
+pub struct Section<'a> {
+    /// The name (RFC 5888), of at most 16 bytes, each a letter, a digit or `_`.
+    pub mid: &'a str,
+    /// Audio or video.
+    pub kind: Kind,
+    /// Which way media shall flow.
+    pub direction: Direction,
+    /// The SSRCs that the end sends under.
+    pub ssrcs: &'a [u32],
+}
+
+/// How a sending stream numbers and cuts its samples.
+#[repr(C)]
+#[derive(Clone, Copy, Debug, PartialEq, Eq)]
+pub struct StreamParams {
+    first: u64,
+    mtu: usize,
+    limit: usize,
+    has_red: bool,
+    has_picture_id: bool,
+    picture_id: u16,
+    for_browsers: bool,
+}
+
+impl StreamParams {
+    /// From this sequence number on (below 32,768), with at most `mtu` bytes of payload in a datagram (at least 1) and
+    /// at most `limit` bytes in all.
+    #[must_use]
+    pub fn new(first: u64, mtu: usize, limit: usize) -> StreamParams {
+        StreamParams {
+            first,
+            mtu,
+            limit,
+            has_red: false,
+            has_picture_id: false,
+            picture_id: 0,
+            for_browsers: false,
+        }
+    }
+
+    /// With pictures counted from this id, at most 32,767, in a video row.
+    #[must_use]
+    pub fn with_picture_id(self, picture_id: u16) -> StreamParams {
+        StreamParams { has_picture_id: true, picture_id, ..self }
+    }
+
+    pub(crate) fn with_redundancy(self, has_red: bool) -> StreamParams {
+        StreamParams { has_red, ..self }
+    }
+
+    /// With payloads of the forms that browsers want.
+    #[must_use]
+    pub fn for_browsers(self) -> StreamParams {
+        StreamParams { for_browsers: true, ..self }
+    }
+}
+
+/// What an end says of a datagram.
+#[derive(Clone, Copy, Debug, PartialEq, Eq)]
+pub enum Received {
+    /// No RTP header stands in front of it.
+    Unreadable,
+    /// No receiving stream has its SSRC and payload type.
+    Foreign,
+    /// Its padding does not fit, or it has no payload.
+    Damaged,
+    /// Its number was taken before, or is 128 or more below the greatest one taken.
+    Refused,
+    /// The receiving stream of this number took it under this widened sequence number.
+    Taken(usize, u64),
+}
+
+/// A video frame or an audio packet.
+#[derive(Clone, Debug, PartialEq, Eq)]
+pub struct Unit {
+    /// The widened sequence number of its first datagram.
+    pub first: u64,
+    /// That of its last datagram.
+    pub last: u64,
+    /// The RTP timestamp, in ticks of the row's clock.
+    pub time: u32,
+    /// Whether the codec says that it is a keyframe; VP9 and audio never do.
+    pub is_keyframe: bool,
+    /// The bytes.
+    pub bytes: Vec<u8>,
+}
+
+impl Unit {
+    pub(crate) fn of(told: sys::Unit, bytes: Vec<u8>) -> Unit {
+        Unit {
+            first: told.first,
+            last: told.last,
+            time: told.time,
+            is_keyframe: told.is_keyframe,
+            bytes,
+        }
+    }
+}

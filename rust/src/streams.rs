@@ -1,0 +1,236 @@
+//! Streams that go by a codec's name, without an end.
+
+use crate::ends::fetched;
+use crate::error::{done, EndError};
+use crate::params::Unit;
+use crate::sys;
+use std::ptr;
+
+/// How payloads are read and written, beside their codec.
+#[repr(C)]
+#[derive(Clone, Copy, Debug, PartialEq, Eq)]
+pub struct Format {
+    clock_rate: u32,
+    has_octet_align: bool,
+    octet_align: bool,
+    has_max_don_diff: bool,
+    max_don_diff: u16,
+}
+
+impl Format {
+    /// Of this clock rate, in ticks a second, at least 1.
+    #[must_use]
+    pub fn new(clock_rate: u32) -> Format {
+        Format {
+            clock_rate,
+            has_octet_align: false,
+            octet_align: false,
+            has_max_don_diff: false,
+            max_don_diff: 0,
+        }
+    }
+
+    /// With AMR-WB octet-aligned or not (RFC 4867 8.1).
+    #[must_use]
+    pub fn with_octet_align(self, octet_align: bool) -> Format {
+        Format { has_octet_align: true, octet_align, ..self }
+    }
+
+    /// With this `sprop-max-don-diff` of H.265 and H.266.
+    #[must_use]
+    pub fn with_max_don_diff(self, max_don_diff: u16) -> Format {
+        Format { has_max_don_diff: true, max_don_diff, ..self }
+    }
+}
+
+/// How a sending stream numbers and cuts its samples.
+#[repr(C)]
+#[derive(Clone, Copy, Debug, PartialEq, Eq)]
+pub struct SenderParams {
+    ssrc: u32,
+    payload_type: u8,
+    first: u64,
+    mtu: usize,
+    limit: usize,
+    has_picture_id: bool,
+    picture_id: u16,
+    for_browsers: bool,
+}
+
+impl SenderParams {
+    /// Of this SSRC and payload type (0 to 127), from the sequence number 0 on, with at most `mtu` bytes of payload in
+    /// a datagram (at least 1), and 12 of header.
+    #[must_use]
+    pub fn new(ssrc: u32, payload_type: u8, mtu: usize) -> SenderParams {
+        SenderParams {
+            ssrc,
+            payload_type,
+            first: 0,
+            mtu,
+            limit: mtu.saturating_add(12),
+            has_picture_id: false,
+            picture_id: 0,
+            for_browsers: false,
+        }
+    }
+
+    /// From this sequence number on.
+    #[must_use]
+    pub fn with_first(self, first: u64) -> SenderParams {
+        SenderParams { first, ..self }
+    }
+
+    /// With pictures counted from this id, at most 32,767, in a video codec.
+    #[must_use]
+    pub fn with_picture_id(self, picture_id: u16) -> SenderParams {
+        SenderParams { has_picture_id: true, picture_id, ..self }
+    }
+
+    /// With payloads of the forms that browsers want.
+    #[must_use]
+    pub fn for_browsers(self) -> SenderParams {
+        SenderParams { for_browsers: true, ..self }
+    }
+}
+
+/// A sending stream. It stays on its thread.
+pub struct Sender(sys::Handle);
+
+impl Sender {
+    /// A stream of the codec of this name that sent nothing, without header extensions.
+    ///
+    /// # Errors
+    /// `OutOfRange` or `Memory`.
+    pub fn new(codec: &str, format: Format, params: SenderParams) -> Result<Sender, EndError> {
+        let mut sender = sys::Handle { full: false, place: ptr::null_mut() };
+        // SAFETY: the handle is closed, and pointer and length are those of one slice.
+        done(unsafe {
+            sys::jilqamur_sender_open(&mut sender, &params, &format, codec.as_ptr(), codec.len())
+        })?;
+        Ok(Sender(sender))
+    }
+
+    /// The datagrams of a sample at a time in ticks of the stream's clock.
+    ///
+    /// # Errors
+    /// The first that holds of `StreamFailed`, `TimeTooLarge`, `LimitTooSmall` and `Payload`, and nothing has changed;
+    /// or `Memory`, and the stream sends no more.
+    pub fn push_sample(&mut self, ticks: u64, sample: &[u8]) -> Result<Vec<Vec<u8>>, EndError> {
+        let mut count = 0;
+        // SAFETY: the handle is open, and pointer and length are those of one slice.
+        done(unsafe {
+            sys::jilqamur_sender_push_sample(
+                &mut self.0,
+                ticks,
+                sample.as_ptr(),
+                sample.len(),
+                &mut count,
+            )
+        })?;
+        let datagram = |index| {
+            fetched(|buffer, len, needed| {
+                // SAFETY: the handle is open, and pointer and length are those of one slice.
+                unsafe { sys::jilqamur_sender_datagram(&mut self.0, index, buffer, len, needed) }
+            })
+        };
+        Ok((0..count).map(datagram).collect())
+    }
+}
+
+impl Drop for Sender {
+    fn drop(&mut self) {
+        // SAFETY: the handle is open, and is not used again.
+        unsafe { sys::jilqamur_sender_close(&mut self.0) };
+    }
+}
+
+/// A receiving stream. It stays on its thread.
+pub struct Receiver(sys::Handle);
+
+impl Receiver {
+    /// A stream of the codec of this name that took nothing. Past a missing packet a unit is handed out only once more
+    /// than `hold_back` frames are complete.
+    ///
+    /// # Errors
+    /// `OutOfRange` or `Memory`.
+    pub fn new(codec: &str, format: Format, hold_back: usize) -> Result<Receiver, EndError> {
+        let mut receiver = sys::Handle { full: false, place: ptr::null_mut() };
+        // SAFETY: the handle is closed, and pointer and length are those of one slice.
+        done(unsafe {
+            sys::jilqamur_receiver_open(&mut receiver, &format, codec.as_ptr(), codec.len(), hold_back)
+        })?;
+        Ok(Receiver(receiver))
+    }
+
+    /// Takes a packet in, by the low bits of its number, its timestamp, its marker and its payload without padding, and
+    /// answers its widened number; None where that came before, or is 128 or more below the greatest.
+    ///
+    /// # Errors
+    /// `Memory`; nothing has changed.
+    pub fn push(
+        &mut self,
+        sequence_number: u16,
+        timestamp: u32,
+        marker: bool,
+        payload: &[u8],
+    ) -> Result<Option<u64>, EndError> {
+        let mut number = 0;
+        // SAFETY: the handle is open, and pointer and length are those of one slice.
+        let answer = unsafe {
+            sys::jilqamur_receiver_push(
+                &mut self.0,
+                sequence_number,
+                timestamp,
+                marker,
+                payload.as_ptr(),
+                payload.len(),
+                &mut number,
+            )
+        };
+        if answer == 6 {
+            return Ok(None);
+        }
+        done(answer)?;
+        Ok(Some(number))
+    }
+
+    /// The next unit, where one is ready.
+    ///
+    /// # Errors
+    /// `Payload`, and the frame is done with; or `Memory`, and it stays.
+    pub fn poll(&mut self) -> Result<Option<Unit>, EndError> {
+        // SAFETY: the handle is open.
+        let answer = unsafe { sys::jilqamur_receiver_poll(&mut self.0) };
+        self.unit_of(answer)
+    }
+
+    /// The same, whether or not a packet before the lowest complete unit is missing: for the end of a stream.
+    ///
+    /// # Errors
+    /// As [`Receiver::poll`].
+    pub fn drain(&mut self) -> Result<Option<Unit>, EndError> {
+        // SAFETY: the handle is open.
+        let answer = unsafe { sys::jilqamur_receiver_drain(&mut self.0) };
+        self.unit_of(answer)
+    }
+
+    fn unit_of(&mut self, answer: u32) -> Result<Option<Unit>, EndError> {
+        if answer == 12 {
+            return Ok(None);
+        }
+        done(answer)?;
+        let mut told = sys::Unit::default();
+        let bytes = fetched(|buffer, len, needed| {
+            // SAFETY: the handle is open, and what is written are places of their own.
+            unsafe { sys::jilqamur_receiver_unit(&mut self.0, buffer, len, needed, &mut told) }
+        });
+        Ok(Some(Unit::of(told, bytes)))
+    }
+}
+
+impl Drop for Receiver {
+    fn drop(&mut self) {
+        // SAFETY: the handle is open, and is not used again.
+        unsafe { sys::jilqamur_receiver_close(&mut self.0) };
+    }
+}
