@@ -1,0 +1,5 @@
+pub mod Whole
+pub mod Audio
+pub mod Speech
+pub mod Frames
+pub mod Obus
