@@ -3,3 +3,4 @@ pub mod Audio
 pub mod Speech
 pub mod Frames
 pub mod Obus
+pub mod Sets
