@@ -1,10 +1,10 @@
 -- Units of audio that are sent again.
-use Rattle.std.proofs.Common.{◌≡◌, ℕ, zero, suc, ◌<◌, ◌≤◌, List, [], ◌∷◌, length, map, take, drop, refl, sym, ap, subst}
+use Rattle.std.proofs.Common.{◌≡◌, ℕ, zero, suc, ◌<◌, ◌≤◌, List, [], ◌∷◌, length, map, drop, refl, sym, ap, subst}
 use Rattle.std.proofs.Common.{◌∙◌, arith}
 use Rattle.std.specs.List.{All}
 use Rattle.std.proofs.lemmas.List.{append-nil, take_all, drop_all}
 use Rattle.std.proofs.lemmas.List.Elements.{All-head, All-nil, All-tail}
-use Rattle.payload_core_base.specs.Law.{Coding, joined}
+use Rattle.payload_core_base.specs.Law.{joined}
 use Rattle.payload_core_base.specs.Packing.{Sender}
 use Rattle.payload_core_base.specs.Pieces.{pieces}
 use Rattle.payload_core_base.proofs.PieceLemmas.{pieces-empty, pieces-none, pieces-step, pieces-within}

@@ -4,3 +4,6 @@ pub mod Speech
 pub mod Frames
 pub mod Obus
 pub mod Sets
+pub mod AnnexB
+pub mod H26x
+pub mod Codecs

@@ -1,5 +1,5 @@
 -- Kept units of AV1 that are sent again.
-use Rattle.std.proofs.Common.{◌≡◌, ℕ, ◌<◌, Bool, true, false, List, [], ◌∷◌, ◌++◌, length, map, refl, sym, ap, subst}
+use Rattle.std.proofs.Common.{◌≡◌, ℕ, ◌<◌, Bool, true, false, List, [], ◌∷◌, ◌++◌, length, map, refl, ap}
 use Rattle.std.proofs.Common.{◌∙◌, arith, Option, Some, None}
 use Rattle.std.specs.Prelude.{filter, nat_lt, option_map, if◌then◌else◌}
 use Rattle.std.specs.List.{flat_map}
@@ -7,8 +7,8 @@ use Rattle.payload_core_base.specs.Law.{joined}
 use Rattle.payload_core_base.specs.Packing.{Sender}
 use Rattle.payload_core_av1.specs.Av1Coding.{IsSample, av1_coding, av1_units, unit_of}
 use Rattle.payload_core_av1.specs.Obus.{Obu, is_kept, with_its_size}
-use Rattle.payload_core_av1.specs.Samples.{AreObus, KeptOnce, SampleLaw, kept_of, kept_text, obus_of}
-use Rattle.h26x_payload_hops.specs.Again.{AnySample, ComesAgain, GivesAgain, IsSame, unit_bytes}
+use Rattle.payload_core_av1.specs.Samples.{KeptOnce, SampleLaw, kept_of, kept_text, obus_of}
+use Rattle.h26x_payload_hops.specs.Again.{AnySample, ComesAgain, GivesAgain, IsSame}
 use Rattle.h26x_payload_hops.proofs.Whole.{from-one, none-sent, one-sent}
 
 joined-map : (os : List Obu) → joined (map with_its_size os) ≡ flat_map with_its_size os

@@ -1,15 +1,15 @@
 -- Parameter sets that wait, leave with a unit, and wait again at a second sender.
-use Rattle.std.proofs.Common.{◌≡◌, ℕ, zero, suc, ◌+◌, ◌<◌, Bool, true, false, List, [], ◌∷◌, ◌++◌, length, refl, sym}
+use Rattle.std.proofs.Common.{◌≡◌, ℕ, zero, suc, ◌+◌, Bool, true, false, List, [], ◌∷◌, ◌++◌, length, refl, sym}
 use Rattle.std.proofs.Common.{ap, ap₂, subst, subst₂, ◌∙◌, arith, append_assoc, Some, None}
-use Rattle.std.specs.Prelude.{◌&&◌, ◌||◌, not, is_some, if◌then◌else◌}
+use Rattle.std.specs.Prelude.{if◌then◌else◌}
 use Rattle.std.specs.List.{flat_map}
 use Rattle.std.proofs.lemmas.List.{length-append}
-use Rattle.h26x_payload_units.specs.Departures.{Departure, EachUnit, Role, Rules, Waiting, alone, are_ready, departing}
-use Rattle.h26x_payload_units.specs.Departures.{departures, emptied, put_at, sets_in, together, units_in, units_sent}
+use Rattle.h26x_payload_units.specs.Departures.{Departure, EachUnit, Role, Rules, Waiting, are_ready, departing}
+use Rattle.h26x_payload_units.specs.Departures.{departures, emptied, put_at, sets_in, units_in, units_sent}
 use Rattle.h26x_payload_units.specs.Departures.{waiting_after, waiting_behind}
 use Rattle.h26x_payload_units.specs.Departures.Departure.{Alone, Together}
 use Rattle.h26x_payload_units.specs.Departures.Role.{Leaves, Unsent, Waits}
-use Rattle.h26x_payload_hops.specs.Kept.{AreInPlace, AreKept, IsKept}
+use Rattle.h26x_payload_hops.specs.Kept.{AreInPlace, AreKept}
 
 pub emptied-twice : (ws : Waiting) → emptied (emptied ws) ≡ emptied ws
 emptied-twice [] = refl
@@ -69,9 +69,9 @@ module _ (rules : Rules) (limit : ℕ) where
       let a : front ++ None ∷ emptied ws ≡ one ++ emptied ws = sym (append_assoc front (None ∷ []) (emptied ws)) in
       let b : one ++ ws ≡ front ++ None ∷ ws = append_assoc front (None ∷ []) ws in (
         ap (λ (v : Waiting). departures rules limit v (sets_in ws ++ rest)) a ∙ there.0
-        ∙ ap (λ (v : Waiting). departures rules limit v rest) b,
+            ∙ ap (λ (v : Waiting). departures rules limit v rest) b,
         ap (λ (v : Waiting). waiting_after rules v (sets_in ws ++ rest)) a ∙ there.1
-        ∙ ap (λ (v : Waiting). waiting_after rules v rest) b,
+            ∙ ap (λ (v : Waiting). waiting_after rules v rest) b,
       )
   refilled front (Some set ∷ ws) are rest =
       let one : Waiting = front ++ Some set ∷ [] in
@@ -85,9 +85,9 @@ module _ (rules : Rules) (limit : ℕ) where
       ∙ sym (append_assoc front (Some set ∷ []) (emptied ws)) in
       let b : one ++ ws ≡ front ++ Some set ∷ ws = append_assoc front (Some set ∷ []) ws in (
         ap₂ (λ (ds : List Departure) (v : Waiting). ds ++ departures rules limit v (sets_in ws ++ rest)) gone a
-        ∙ there.0 ∙ ap (λ (v : Waiting). departures rules limit v rest) b,
+            ∙ there.0 ∙ ap (λ (v : Waiting). departures rules limit v rest) b,
         ap (λ (v : Waiting). waiting_after rules v (sets_in ws ++ rest)) a ∙ there.1
-        ∙ ap (λ (v : Waiting). waiting_after rules v rest) b,
+            ∙ ap (λ (v : Waiting). waiting_after rules v rest) b,
       )
 
   -- one unit more
@@ -124,17 +124,17 @@ module _ (rules : Rules) (limit : ℕ) where
       × (waiting_after rules ws (u ∷ us) ≡ waiting_after rules (left ready ws) us)
   leaving ready joins ws u us is can r j = (
     ap (λ (ds : List Departure). flat_map units_in ds) (step Leaves ws u us is).0
-    ∙ ap (λ (b : Bool). with-tests b (rules.can_join limit (sets_in ws)) (rules.can_leave limit u) ws u us) r
-    ∙ ap (λ (b : Bool). with-tests ready b (rules.can_leave limit u) ws u us) j
-    ∙ ap (λ (b : Bool). with-tests ready joins b ws u us) can
-    ∙ computed ready joins ws u us,
+        ∙ ap (λ (b : Bool). with-tests b (rules.can_join limit (sets_in ws)) (rules.can_leave limit u) ws u us) r
+        ∙ ap (λ (b : Bool). with-tests ready b (rules.can_leave limit u) ws u us) j
+        ∙ ap (λ (b : Bool). with-tests ready joins b ws u us) can
+        ∙ computed ready joins ws u us,
     (step Leaves ws u us is).1 ∙ ap (λ (b : Bool). waiting_after rules (left b ws) us) r,
   )
 
   -- from these waiting sets the units are sent as they are, and leave those
-  record AreSame (before : Waiting) (sent : List (List ℕ)) (after : Waiting) : Type 0 where
-    units : units_sent rules limit before sent ≡ sent
-    waiting : waiting_after rules before sent ≡ after
+  pub record AreSame (before : Waiting) (sent : List (List ℕ)) (after : Waiting) : Type 0 where
+    pub units : units_sent rules limit before sent ≡ sent
+    pub waiting : waiting_after rules before sent ≡ after
 
   -- a unit in front that finds no sets
   alone-again : (ws after : Waiting) (u : List ℕ) (us : List (List ℕ)) → rules.role u ≡ Leaves
@@ -161,6 +161,71 @@ module _ (rules : Rules) (limit : ℕ) where
         waiting = full.1 ∙ there.1 ∙ same.waiting;
       }
 
+  -- what is so of all units and of the sets that wait is so of the units that are sent
+  module _ (P : List ℕ → Type 0) where
+    each-tests : (ready joins leaves : Bool) (ws : Waiting) (u : List ℕ) (us : List (List ℕ)) → EachUnit P (sets_in ws)
+        → P u → EachUnit P (units_sent rules limit (left ready ws) us)
+        → EachUnit P (with-tests ready joins leaves ws u us)
+    each-tests true true true ws u us sets is others =
+        each-behind P (sets_in ws) (u ∷ units_sent rules limit (emptied ws) us) sets (is, others)
+    each-tests true true false ws u us sets is others =
+        each-behind P (sets_in ws) (units_sent rules limit (emptied ws) us) sets others
+    each-tests true false true ws u us sets is others = (is, others)
+    each-tests true false false ws u us sets is others = others
+    each-tests false joins true ws u us sets is others = (is, others)
+    each-tests false joins false ws u us sets is others = others
+
+    each-left : (ready : Bool) (ws : Waiting) → EachUnit P (sets_in ws) → EachUnit P (sets_in (left ready ws))
+    each-left true ws sets = subst (EachUnit P) (sym (no-sets ws)) tt
+    each-left false ws sets = sets
+
+    each-behind-role : (r : Role) (ws : Waiting) (u : List ℕ) → EachUnit P (sets_in ws) → P u
+        → EachUnit P (sets_in (waiting_behind rules r ws u))
+    each-behind-role Unsent ws u sets is = sets
+    each-behind-role (Waits k) ws u sets is = each-put P k u ws is sets
+    each-behind-role Leaves ws u sets is = each-left (are_ready rules.needed ws) ws sets
+
+    each-departing : (r : Role) (ws : Waiting) (u : List ℕ) (us : List (List ℕ)) → EachUnit P (sets_in ws) → P u
+        → EachUnit P (units_sent rules limit (waiting_behind rules r ws u) us)
+        → EachUnit P (flat_map units_in
+        (departing rules limit r ws u ++ departures rules limit (waiting_behind rules r ws u) us))
+    each-departing Unsent ws u us sets is others = others
+    each-departing (Waits k) ws u us sets is others = others
+    each-departing Leaves ws u us sets is others =
+        each-tests (are_ready rules.needed ws) (rules.can_join limit (sets_in ws)) (rules.can_leave limit u) ws u us
+        sets is others
+
+    pub each-sent : (ws : Waiting) (us : List (List ℕ)) → EachUnit P (sets_in ws) → EachUnit P us
+        → EachUnit P (units_sent rules limit ws us)
+    each-sent ws [] sets all = tt
+    each-sent ws (u ∷ us) sets all =
+        each-departing (rules.role u) ws u us sets all.0
+        (each-sent (waiting_behind rules (rules.role u) ws u) us
+        (each-behind-role (rules.role u) ws u sets all.0) all.1)
+
+    pub each-waiting : (ws : Waiting) (us : List (List ℕ)) → EachUnit P (sets_in ws) → EachUnit P us
+        → EachUnit P (sets_in (waiting_after rules ws us))
+    each-waiting ws [] sets all = sets
+    each-waiting ws (u ∷ us) sets all =
+        each-waiting (waiting_behind rules (rules.role u) ws u) us
+        (each-behind-role (rules.role u) ws u sets all.0) all.1
+
+  left-in-place : (ready : Bool) (ws : Waiting) → AreInPlace rules zero ws → AreInPlace rules zero (left ready ws)
+  left-in-place true ws are = none-in-place rules zero ws
+  left-in-place false ws are = are
+
+  in-place-behind : (r : Role) (ws : Waiting) (u : List ℕ) → rules.role u ≡ r → AreInPlace rules zero ws
+      → AreInPlace rules zero (waiting_behind rules r ws u)
+  in-place-behind Unsent ws u e are = are
+  in-place-behind (Waits k) ws u e are = put-in-place rules zero k k u ws e (omega arith) are
+  in-place-behind Leaves ws u e are = left-in-place (are_ready rules.needed ws) ws are
+
+  pub in-place-after : (ws : Waiting) (us : List (List ℕ)) → AreInPlace rules zero ws
+      → AreInPlace rules zero (waiting_after rules ws us)
+  in-place-after ws [] are = are
+  in-place-after ws (u ∷ us) are = in-place-after (waiting_behind rules (rules.role u) ws u) us
+      (in-place-behind (rules.role u) ws u refl are)
+
   module _ (none-ready : (ws : Waiting) → are_ready rules.needed (emptied ws) ≡ false) where
     by-tests : (ready joins : Bool) (ws : Waiting) (u : List ℕ) (us : List (List ℕ)) → AreInPlace rules zero ws
         → rules.role u ≡ Leaves → rules.can_leave limit u ≡ true → are_ready rules.needed ws ≡ ready
@@ -180,37 +245,33 @@ module _ (rules : Rules) (limit : ℕ) where
     left-empty true ws = emptied-twice ws
     left-empty false ws = refl
 
-    left-in-place : (ready : Bool) (ws : Waiting) → AreInPlace rules zero ws → AreInPlace rules zero (left ready ws)
-    left-in-place true ws are = none-in-place rules zero ws
-    left-in-place false ws are = are
-
-    same-again : (ws : Waiting) (us : List (List ℕ)) → AreInPlace rules zero ws → AreKept rules limit us
+    pub same-again : (ws : Waiting) (us : List (List ℕ)) → AreInPlace rules zero ws → AreKept rules limit us
         → AreSame (emptied ws) (units_sent rules limit ws us) (emptied (waiting_after rules ws us))
     same-again ws [] are kept = record { units = refl; waiting = refl }
     same-again ws (u ∷ us) are kept =
         by-role (λ vs placed. same-again vs us placed kept.1) (rules.role u) refl where
-        by-role : ((vs : Waiting) → AreInPlace rules zero vs
-            → AreSame (emptied vs) (units_sent rules limit vs us) (emptied (waiting_after rules vs us)))
-            → (r : Role) → rules.role u ≡ r
-            → AreSame (emptied ws) (units_sent rules limit ws (u ∷ us)) (emptied (waiting_after rules ws (u ∷ us)))
-        by-role others Unsent e =
-            let at = step Unsent ws u us e in
-            subst₂ (λ (s : List (List ℕ)) (a : Waiting). AreSame (emptied ws) s (emptied a))
-            (sym (ap (λ (ds : List Departure). flat_map units_in ds) at.0)) (sym at.1) (others ws are)
-        by-role others (Waits k) e =
-            let at = step (Waits k) ws u us e in
-            let put : Waiting = put_at k u ws in
-            subst₂ (λ (s : List (List ℕ)) (a : Waiting). AreSame (emptied ws) s (emptied a))
-            (sym (ap (λ (ds : List Departure). flat_map units_in ds) at.0)) (sym at.1)
-            (subst (λ (v : Waiting). AreSame v (units_sent rules limit put us) (emptied (waiting_after rules put us)))
-            (emptied-put k u ws) (others put (put-in-place rules zero k k u ws e (omega arith) are)))
-        by-role others Leaves e =
-            let ready : Bool = are_ready rules.needed ws in
-            let joins : Bool = rules.can_join limit (sets_in ws) in
-            let can : rules.can_leave limit u ≡ true = kept.0.leaves e in
-            let at = leaving ready joins ws u us e can refl refl in
-            let rest : Waiting = left ready ws in
-            subst₂ (λ (s : List (List ℕ)) (a : Waiting). AreSame (emptied ws) s (emptied a)) (sym at.0) (sym at.1)
-            (by-tests ready joins ws u us are e can refl refl
-            (subst (λ (v : Waiting). AreSame v (units_sent rules limit rest us) (emptied (waiting_after rules rest us)))
-            (left-empty ready ws) (others rest (left-in-place ready ws are))))
+          by-role : ((vs : Waiting) → AreInPlace rules zero vs
+              → AreSame (emptied vs) (units_sent rules limit vs us) (emptied (waiting_after rules vs us)))
+              → (r : Role) → rules.role u ≡ r
+              → AreSame (emptied ws) (units_sent rules limit ws (u ∷ us)) (emptied (waiting_after rules ws (u ∷ us)))
+          by-role others Unsent e =
+              let at = step Unsent ws u us e in
+              subst₂ (λ (s : List (List ℕ)) (a : Waiting). AreSame (emptied ws) s (emptied a))
+              (sym (ap (λ (ds : List Departure). flat_map units_in ds) at.0)) (sym at.1) (others ws are)
+          by-role others (Waits k) e =
+              let at = step (Waits k) ws u us e in
+              let put : Waiting = put_at k u ws in
+              subst₂ (λ (s : List (List ℕ)) (a : Waiting). AreSame (emptied ws) s (emptied a))
+              (sym (ap (λ (ds : List Departure). flat_map units_in ds) at.0)) (sym at.1)
+              (subst (λ (v : Waiting). AreSame v (units_sent rules limit put us) (emptied (waiting_after rules put us)))
+              (emptied-put k u ws) (others put (put-in-place rules zero k k u ws e (omega arith) are)))
+          by-role others Leaves e =
+              let ready : Bool = are_ready rules.needed ws in
+              let joins : Bool = rules.can_join limit (sets_in ws) in
+              let can : rules.can_leave limit u ≡ true = kept.0.leaves e in
+              let at = leaving ready joins ws u us e can refl refl in
+              let rest : Waiting = left ready ws in
+              subst₂ (λ (s : List (List ℕ)) (a : Waiting). AreSame (emptied ws) s (emptied a)) (sym at.0) (sym at.1)
+              (by-tests ready joins ws u us are e can refl refl
+              (subst (λ (v : Waiting). AreSame v (units_sent rules limit rest us) (emptied (waiting_after rules rest us)))
+              (left-empty ready ws) (others rest (left-in-place ready ws are))))

@@ -1,2 +1,3 @@
 pub mod Again
 pub mod Kept
+pub mod Codecs

@@ -1,26 +1,20 @@
 //! What holds of units that are sent again.
 
-ghost use Rattle.h26x_payload_hops.specs.Again.{AnySample, GivesAgain, IsSame};
-ghost use Rattle.payload_core_audio.specs.AmrWb.{amr_wb_coding};
-ghost use Rattle.payload_core_audio.specs.Plain.{noise_coding, pieces_coding};
-ghost use Rattle.payload_core_audio.specs.Telephone.{telephone_coding};
-ghost use Rattle.payload_core_vpx.specs.Vp8.{vp8_coding};
-ghost use Rattle.payload_core_vp9.specs.Vp9.{vp9_coding};
-ghost use Rattle.payload_core_av1.specs.Av1Coding.{av1_coding};
-ghost use Rattle.std.specs.Prelude.{ℕ, Bool};
+ghost use Rattle.h26x_payload_hops.specs.Codecs.{AllGiveAgain, FirstFollow};
 
+use h26x_payload_annexb::cut_law;
 use payload_core_av1::{av1_law, av1_packets_law};
 
-/// Codecs.
+/// Each unit that a codec sends of a well-formed sample is a well-formed sample itself, and sent again at the same limit
+/// it is the one unit of it, byte by byte: of every codec, in every form, under any settings, and from packetizers that
+/// began alike. The state of the second packetizer moves alike, picture ids too; of H.264, H.265 and H.266 it has no
+/// waiting parameter set between samples, and the law is of samples of which no unit is dropped for its size or ends in
+/// a zero.
 pub fn again_law()
-    ensures pieces { GivesAgain pieces_coding IsSame AnySample }
-    ensures noise { GivesAgain noise_coding IsSame AnySample }
-    ensures telephone { (rate : ℕ) → GivesAgain (telephone_coding rate) IsSame AnySample }
-    ensures amr_wb { (octet_align : Bool) → GivesAgain (amr_wb_coding octet_align) IsSame AnySample }
-    ensures vp8 { (has_id zero_id : Bool) → GivesAgain (vp8_coding has_id zero_id) IsSame AnySample }
-    ensures vp9 { (prediction : Bool) → GivesAgain (vp9_coding prediction) IsSame AnySample }
-    ensures av1 { GivesAgain av1_coding IsSame AnySample }
+    ensures again { AllGiveAgain }
+    ensures first { FirstFollow }
 {
     av1_law();
     av1_packets_law();
+    cut_law();
 }
