@@ -1,0 +1,4 @@
+pub mod Values
+pub mod Units
+pub mod Passed
+pub mod SecondHop
