@@ -2,3 +2,4 @@ pub mod Values
 pub mod Units
 pub mod Passed
 pub mod SecondHop
+pub mod Twins

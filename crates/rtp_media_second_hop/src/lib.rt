@@ -1,6 +1,9 @@
-//! Units that come out of one stream, sent on over a second one that is opened alike, come out unchanged.
+//! Whole runs side by side: units that come out of one stream and are sent on over a second one that is opened alike
+//! come out unchanged, and redundancy isn't seen in any run.
 #![tactic(auto)]
 
 mod laws;
+mod redundancy;
 
 pub use laws::second_hop_law;
+pub use redundancy::redundancy_law;
