@@ -1,11 +1,9 @@
 -- Units of a tame run that are sent on over a second stream.
-use Rattle.std.proofs.Common.{◌≡◌, ℕ, List, [], ◌∷◌, map, refl, sym, ap, ap₂, subst, ◌∙◌, Bool, Option}
+use Rattle.std.proofs.Common.{◌≡◌, ℕ, List, [], map, sym, ap, ap₂, subst, ◌∙◌, Bool, Option}
 use Rattle.std.specs.Prelude.{All, Ok, is_some, unwrap_or}
 use Rattle.payload_core_base.specs.Law.{Coding}
 use Rattle.payload_core_base.specs.Packing.{Sender}
-use Rattle.h26x_payload.specs.Codings.{first_sender}
 use Rattle.h26x_payload.specs.Dispatch.{FirstIsReached, KeepCodecLawInForms}
-use Rattle.h26x_payload_hops.specs.Again.{IsKeptBy, Relation}
 use Rattle.h26x_payload_hops.specs.Codecs.{AllGiveAgain, FirstFollow, follows_in, is_kept_in}
 use Rattle.rtp_wire.specs.Carried.{AreValues}
 use Rattle.rtp_wire.specs.Values.{Numbering}
@@ -16,12 +14,11 @@ use Rattle.rtp_media_streams.specs.Rows.{coding_in, first_state, forms_for, rtp_
 use Rattle.rtp_media_streams.specs.Sending.{Sample, Sending, opened_sender, packet_limit, samples_of}
 use Rattle.rtp_media_streams.specs.declared.row_format.RowFormat.{RowFormat}
 use Rattle.rtp_media_ends.specs.Ends.{agreed_types}
-use Rattle.rtp_media_ends.specs.FullArrival.{AreSound, coding_of}
-use Rattle.rtp_media_play.specs.Headline.{SendsTo}
+use Rattle.rtp_media_ends.specs.FullArrival.{coding_of}
 use Rattle.rtp_media_play.specs.Units.{arriving, units_by, units_for}
 use Rattle.rtp_media_play.specs.declared.schedule.Event.{Event}
 use Rattle.rtp_media_play.proofs.Exchanged.{IsPlain, plain}
-use Rattle.rtp_media_second_hop.specs.Hops.{Carries, Hop, IsAlike, IsTame, SendsOn, answers_over, carried_again}
+use Rattle.rtp_media_second_hop.specs.Hops.{Carries, Hop, IsTame, SendsOn, answers_over, carried_again}
 use Rattle.rtp_media_second_hop.specs.Hops.{limit_over, map_over, passed_on, row_over, sender_over, units_over, unstamped}
 use Rattle.rtp_media_second_hop.proofs.Passed.{HasArrived, arriving-again, each-kept, have-arrived, same-unstamped}
 use Rattle.rtp_media_second_hop.proofs.Passed.{samples-are, samples-arrive, samples-in-range, timed_sample, unstamp}

@@ -1,6 +1,6 @@
 -- What a stream hears of a schedule of datagrams with redundancy.
 use Rattle.std.proofs.Common.{◌≡◌, ℕ, zero, suc, ◌+◌, ◌-◌, ◌<◌, ◌≤◌, ◌^◌, refl, sym, ◌∙◌, ap, ap₂, subst, arith, Bool}
-use Rattle.std.proofs.Common.{List, [], ◌∷◌, length, map, Option, Some, None, inl, inr}
+use Rattle.std.proofs.Common.{List, [], ◌∷◌, length, Option, Some, None, inl, inr}
 use Rattle.std.specs.List.{cons_option}
 use Rattle.std.specs.Prelude.{is_some, option_and_then, slice_get, slice_index_or}
 use Rattle.std.proofs.lemmas.Bool.{cases_lt}
@@ -15,7 +15,7 @@ use Rattle.rtp_media_schedules.specs.Samples.{AreWellFormed, SentSample, packets
 use Rattle.rtp_media_streams.specs.Receiving.{Receiving, opened_receiver, with_stream}
 use Rattle.rtp_media_streams.specs.Rows.{coding_in, first_state, format_of}
 use Rattle.rtp_media_streams.specs.Sending.{Sample, Sending, datagrams_of, opened_sender, packet_limit}
-use Rattle.rtp_media_streams.specs.Sending.{payloads_of_samples, samples_of, wire_payloads}
+use Rattle.rtp_media_streams.specs.Sending.{payloads_of_samples, wire_payloads}
 use Rattle.rtp_media_streams.specs.declared.row_format.RowFormat.{RowFormat}
 use Rattle.rtp_media_streams.proofs.Cutting.{length-datagrams_from, length-on_wire}
 use Rattle.rtp_media_streams.proofs.Sent.{datagrams_of-consecutive}
@@ -30,10 +30,10 @@ use Rattle.rtp_media_ends.proofs.Exact.{all-theirs}
 use Rattle.rtp_media_ends.proofs.Transparent.{transparent}
 use Rattle.rtp_media_play.specs.Runs.{Hears}
 use Rattle.rtp_media_play.specs.Schedules.{own_events, played, poll_answers}
-use Rattle.rtp_media_play.specs.Units.{arriving, packet_limit_of}
+use Rattle.rtp_media_play.specs.Units.{arriving}
 use Rattle.rtp_media_play.specs.declared.schedule.Event.{Event}
 use Rattle.rtp_media_play.specs.declared.schedule.Event.TheVariants.{Arrive, Foreign, Poll}
-use Rattle.rtp_media_play.proofs.Exchanged.{IsPlain, hears, new-is-sender, plain}
+use Rattle.rtp_media_play.proofs.Exchanged.{hears, new-is-sender, plain}
 use Rattle.rtp_media_play.proofs.Isolated.{isolated}
 use Rattle.rtp_media_second_hop.specs.Hops.{Carries, Hop, answers_over, map_over, row_over, sender_over}
 use Rattle.rtp_media_second_hop.specs.Redundancy.{AddsRedundancy, opened_with}

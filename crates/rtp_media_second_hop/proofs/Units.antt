@@ -1,5 +1,5 @@
 -- Units that are sent again as samples.
-use Rattle.std.proofs.Common.{◌≡◌, ℕ, List, [], ◌∷◌, ◌++◌, map, refl, sym, ap, ap₂, subst, ◌∙◌, append_assoc}
+use Rattle.std.proofs.Common.{◌≡◌, ℕ, List, [], ◌∷◌, ◌++◌, map, refl, sym, ap, ap₂, subst, ◌∙◌}
 use Rattle.payload_core_base.specs.Law.{Coding, joined}
 use Rattle.payload_core_base.specs.Packing.{Sender}
 use Rattle.rtp_wire.specs.Values.{Numbering}

@@ -1,7 +1,7 @@
 -- Values of header extensions that are carried twice.
-use Rattle.std.proofs.Common.{◌≡◌, ℕ, Bool, true, false, refl, sym, ap, ◌∙◌}
-use Rattle.std.specs.Prelude.{ℤ, if◌then◌else◌, IfSome, Option, Some, None, not}
-use Rattle.rtp_wire.specs.Carried.{AreValues, has_delay, has_level, least_image, level_image, most_image, send_image}
+use Rattle.std.proofs.Common.{◌≡◌, ℕ, Bool, true, false, refl, ap}
+use Rattle.std.specs.Prelude.{ℤ, if◌then◌else◌, IfSome, Option, None, not}
+use Rattle.rtp_wire.specs.Carried.{AreValues, has_delay, has_level, least_image, level_image, most_image}
 use Rattle.rtp_wire.specs.Carried.{values_for, voice_image}
 use Rattle.rtp_wire.specs.Maps.{is_empty_map}
 use Rattle.rtp_wire.specs.Values.{Numbering, absent, image_values, is_mapped}

@@ -1,5 +1,5 @@
 -- Streams between two ends, and units that come out of one and are sent on over another.
-use Rattle.std.specs.Prelude.{ℕ, ◌≡◌, ◌+◌, ◌^◌, ◌≤◌, List, [], ◌∷◌, All, Option, Some, None, Result, Ok, Err}
+use Rattle.std.specs.Prelude.{ℕ, ◌≡◌, ◌+◌, ◌^◌, ◌≤◌, List, [], ◌∷◌, All, Some, None, Result, Ok, Err}
 use Rattle.payload_core_base.specs.declared.error.PacketError.{PacketError}
 use Rattle.h26x_payload_hops.specs.Codecs.{is_kept_in}
 use Rattle.rtp_wire.specs.Values.{Numbering}
