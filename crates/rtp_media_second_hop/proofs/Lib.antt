@@ -3,3 +3,5 @@ pub mod Units
 pub mod Passed
 pub mod SecondHop
 pub mod Twins
+pub mod OneSample
+pub mod SentOn

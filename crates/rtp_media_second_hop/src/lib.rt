@@ -3,7 +3,9 @@
 #![tactic(auto)]
 
 mod laws;
+mod opus;
 mod redundancy;
 
 pub use laws::second_hop_law;
+pub use opus::opus_over_two_hops;
 pub use redundancy::redundancy_law;
