@@ -1,0 +1,7 @@
+pub mod Values
+pub mod Units
+pub mod Passed
+pub mod SecondHop
+pub mod Twins
+pub mod OneSample
+pub mod SentOn

@@ -1,0 +1,30 @@
+//! The second hop with Opus.
+
+ghost use Rattle.std.specs.Prelude.{◌≡◌, [], ◌∷◌, map, Ok};
+ghost use Rattle.rtp_media_runs.specs.Hearing.{handed_out};
+ghost use Rattle.rtp_media_streams.specs.Sending.{Sample};
+ghost use Rattle.rtp_media_second_hop.specs.Hops.{Hop, IsAlike, IsTame, SendsOn, answers_over, passed_on};
+ghost use Rattle.rtp_media_second_hop.specs.OpusHops.{CarriesOpus, FitsPacket, bytes_out, one_arrival};
+
+use crate::laws::second_hop_law;
+use h26x_payload::codec_law;
+use rtp_media_play::headline;
+
+/// A sample of Opus that a packet has room for goes over two streams that are opened alike, and its bytes come out of the
+/// second one (`bytes`): at each its datagram arrives and the stream is polled twice. The premises of the second hop are
+/// met (`sent_on`), and both schedules are tame (`tame`).
+pub fn opus_over_two_hops()
+    ensures sent_on { (first second : Hop) (sample : Sample) → CarriesOpus first → CarriesOpus second →
+        IsAlike first second → FitsPacket first sample → SendsOn first second (sample ∷ []) one_arrival }
+    ensures tame { (first second : Hop) (sample : Sample) → CarriesOpus first → CarriesOpus second →
+        IsAlike first second → FitsPacket first sample →
+        IsTame second (passed_on first (sample ∷ []) one_arrival) one_arrival }
+    ensures bytes { (first second : Hop) (sample : Sample) → CarriesOpus first → CarriesOpus second →
+        IsAlike first second → FitsPacket first sample →
+        map bytes_out (handed_out (answers_over second (passed_on first (sample ∷ []) one_arrival) one_arrival))
+        ≡ Ok sample.bytes ∷ [] }
+{
+    codec_law();
+    headline();
+    second_hop_law();
+}
