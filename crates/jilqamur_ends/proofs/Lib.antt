@@ -1,2 +1,3 @@
 pub mod AsBox
 pub mod Texts
+pub mod BareSession

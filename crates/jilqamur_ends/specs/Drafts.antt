@@ -15,6 +15,7 @@ use Rattle.sdp_formats_rows.specs.Rows.{Row, new_row}
 use Rattle.rtp_media_sections.specs.Sections.{Wanted}
 use Rattle.rtp_media_negotiation.specs.declared.errors.EndError.{EndError}
 use Rattle.rtp_media_negotiation.specs.declared.errors.EndError.TheVariants as end_error
+use Rattle.rtp_media_negotiation.specs.Exchanges.{bare_session}
 use Rattle.rtp_media_negotiation.specs.Refusals.{refusal_of_new}
 use Rattle.rtp_media_ends.specs.Ends.{new_end}
 use Rattle.jilqamur_wire.specs.Codes.{ok, memory, not_text, out_of_range, row_not_plain, types_not_distinct, not_writable}
@@ -79,7 +80,7 @@ end_outcome (Some error) = end_code error
 
 -- What making an end of a draft answers, want of memory aside.
 abbrev pub make_outcome : PeerState → ℕ
-make_outcome p = end_outcome (refusal_of_new p.rows true p.exts)
+make_outcome p = end_outcome (refusal_of_new p.rows p.exts)
 
 -- An empty draft.
 abbrev pub without_draft : PeerState → PeerState
@@ -88,4 +89,4 @@ without_draft p = record p { rows = []; exts = empty_map }
 -- The end of a draft, which is emptied.
 abbrev pub made : PeerState → ℕ → PeerState
 made p session = record (without_draft p)
-    { end = Some (new_end session p.exts (record { rows = p.rows; distances = [] })) }
+    { end = Some (new_end (bare_session session) p.exts (record { rows = p.rows; distances = [] })) }

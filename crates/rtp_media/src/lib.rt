@@ -17,3 +17,4 @@ pub use rtp_wire::{
     Direction, Extension, ExtensionMap, ExtensionValues, Frequency, MediaTime, Mid, Pt, SessionId,
     Ssrc,
 };
+pub use sdp_formats_types::{Listed, Text};

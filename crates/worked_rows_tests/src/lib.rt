@@ -1,4 +1,4 @@
-//! Worked rows that the program's lines can't say, each a test named by its number.
+//! Worked rows that the program's lines can't say, each a test named by its number, and sessions with lines of their own.
 #![tactic(auto)]
 
 #[cfg(test)]
@@ -7,3 +7,5 @@ mod arrivals;
 mod calls;
 #[cfg(test)]
 mod samples;
+#[cfg(test)]
+mod sessions;

@@ -81,6 +81,7 @@ pub(super) fn draft_ext(
 }
 
 /// Makes an end of a draft, which is emptied.
+#[tactic(auto, using(crate::proofs::BareSession::refused_bare))]
 pub(super) fn make_end(
     alloc: Global,
     kept: &mut EndAndDraft,
