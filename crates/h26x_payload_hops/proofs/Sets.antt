@@ -275,4 +275,4 @@ module _ (rules : Rules) (limit : ℕ) where
               (by-tests ready joins ws u us are e can refl refl
               (subst (λ (v : Waiting). AreSame v (units_sent rules limit rest us)
               (emptied (waiting_after rules rest us))) (left-empty ready ws)
-            (others rest (left-in-place ready ws are))))
+              (others rest (left-in-place ready ws are))))
