@@ -70,7 +70,8 @@ module _ (units_law : UnitsLaw) (back : ComesBack) (coding : Coding) (rules : Ru
             follows.in_place);
         sound =
             subst (λ (ws : Waiting). EachUnit (IsSoundSet IsSendable) (sets_in ws)) waits
-            (each-waiting rules (limit_of limit) (IsSoundSet IsSendable) s.waiting (units_of x) follows.sound all-sound);
+            (each-waiting rules (limit_of limit) (IsSoundSet IsSendable) s.waiting (units_of x) follows.sound
+            all-sound);
         none = none ∙ ap emptied waits;
       }
 

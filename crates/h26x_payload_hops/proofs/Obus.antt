@@ -34,7 +34,8 @@ own-unit y (Some (o ∷ os)) some is =
     let same : flat_map with_its_size (o ∷ os) ≡ y = cc in ap (λ t. t ∷ []) (joined-map (o ∷ os) ∙ same)
 
 module _ (law : SampleLaw) (once : KeptOnce) (s : Sender) (limit : ℕ) (x : List ℕ) where
-  kept-again : (q : Option (List Obu)) → kept_of x ≡ q → nat_lt limit 2 ≡ false → ComesAgain av1_coding IsSame limit s s x
+  kept-again : (q : Option (List Obu)) → kept_of x ≡ q → nat_lt limit 2 ≡ false
+      → ComesAgain av1_coding IsSame limit s s x
   kept-again None e room =
       none-sent av1_coding s limit x
       (ap (λ (b : Bool). if b then [] else unit_of (kept_of x)) room ∙ ap unit_of e) refl

@@ -273,5 +273,6 @@ module _ (rules : Rules) (limit : ℕ) where
               let rest : Waiting = left ready ws in
               subst₂ (λ (s : List (List ℕ)) (a : Waiting). AreSame (emptied ws) s (emptied a)) (sym at.0) (sym at.1)
               (by-tests ready joins ws u us are e can refl refl
-              (subst (λ (v : Waiting). AreSame v (units_sent rules limit rest us) (emptied (waiting_after rules rest us)))
-              (left-empty ready ws) (others rest (left-in-place ready ws are))))
+              (subst (λ (v : Waiting). AreSame v (units_sent rules limit rest us)
+              (emptied (waiting_after rules rest us))) (left-empty ready ws)
+              (others rest (left-in-place ready ws are))))

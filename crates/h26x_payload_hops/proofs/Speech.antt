@@ -6,7 +6,8 @@ use Rattle.std.proofs.lemmas.Bool.Decides.{nat_tests}
 use Rattle.std.proofs.lemmas.List.FromFn.{get_or-map-range_with_len, length-map-range_with_len}
 use Rattle.payload_core_base.specs.Packing.{Sender}
 use Rattle.payload_core_audio.specs.AmrWb.{IsSized, amr_wb_coding, amr_wb_packet, bit_of, byte_from, bytes_from}
-use Rattle.payload_core_audio.specs.AmrWb.{field_of, header_at, sample_size, size_if, speech_bits, speech_of, speech_unit}
+use Rattle.payload_core_audio.specs.AmrWb.{field_of, header_at, sample_size, size_if, speech_bits, speech_of}
+use Rattle.payload_core_audio.specs.AmrWb.{speech_unit}
 use Rattle.payload_core_audio.specs.Plain.{unit_of_piece}
 use Rattle.payload_core_audio.proofs.AmrWbLemmas.{aligned_len, efficient_len}
 use Rattle.h26x_payload_hops.specs.Again.{AnySample, ComesAgain, GivesAgain, IsSame}
@@ -138,7 +139,8 @@ module _ (o : Bool) (s : Sender) (limit : ℕ) (x : List ℕ) where
       ∙ ap (λ q. size_if q (length y)) bits ∙ sized (length y) size (omega (arith, speech-len x size)) in
       let same : speech_unit y (sample_size y) ≡ y =
       ap (speech_unit y) own
-      ∙ ap (λ n. n ∷ speech_of y 8 size) (header-again x (speech_of x 8 size)) ∙ ap (λ t. h ∷ t) (speech-again h x size) in
+      ∙ ap (λ n. n ∷ speech_of y 8 size) (header-again x (speech_of x 8 size))
+      ∙ ap (λ t. h ∷ t) (speech-again h x size) in
       let fits : IsSized o limit y (Some size) = omega (arith, good, packet-size o y x size) in
       one-sent (amr_wb_coding o) s limit x y
       (part-bytes (unit_of_piece (speech_unit x (sample_size x)) ∷ []) y

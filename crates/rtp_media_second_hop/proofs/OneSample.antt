@@ -1,8 +1,8 @@
 -- One sample of Opus over a stream: one datagram, a tame schedule, and one unit.
-use Rattle.std.proofs.Common.{◌≡◌, ℕ, zero, suc, ◌+◌, ◌<◌, ◌≤◌, ◌^◌, refl, sym, ◌∙◌, ap, ap₂, subst, subst₂, arith, Bool}
-use Rattle.std.proofs.Common.{true, false, List, [], ◌∷◌, length, map, append-nil, Option, Some, None, Ok, Err, Result, inr}
+use Rattle.std.proofs.Common.{◌≡◌, ℕ, zero, suc, ◌<◌, ◌≤◌, refl, sym, ◌∙◌, ap, ap₂, subst, subst₂, arith}
+use Rattle.std.proofs.Common.{false, List, [], ◌∷◌, length, map, Option, Some, None, inr}
 use Rattle.std.specs.List.{cons_option}
-use Rattle.std.specs.Prelude.{All, is_some, option_and_then, slice_get}
+use Rattle.std.specs.Prelude.{option_and_then, slice_get}
 use Rattle.std.proofs.lemmas.List.{drop_all, take_all}
 use Rattle.std.proofs.lemmas.List.Elements.{All-cons, All-nil}
 use Rattle.payload_core_base.specs.Format.{Format}
@@ -10,7 +10,6 @@ use Rattle.payload_core_base.specs.Packing.{marked}
 use Rattle.payload_core_base.specs.Pieces.{pieces}
 use Rattle.payload_core_base.specs.declared.codec.Codec.{Codec}
 use Rattle.payload_core_base.specs.declared.codec.Codec.TheVariants.{Opus}
-use Rattle.payload_core_base.specs.declared.error.PacketError.{PacketError}
 use Rattle.payload_core_base.proofs.PieceLemmas.{pieces-empty, pieces-step}
 use Rattle.payload_core_audio.specs.Plain.{pieces_packing, plain_format, unit_of_piece}
 use Rattle.h26x_payload.specs.Codings as codings
@@ -18,21 +17,20 @@ use Rattle.h26x_payload.specs.Dispatch.{FirstIsReached, KeepCodecLawInForms}
 use Rattle.rtp_wire.specs.Carried.{AreValues}
 use Rattle.rtp_media_runs.specs.Hearing as hearing
 use Rattle.rtp_media_runs.specs.Hearing.{EndsSilent, Stream, fresh, heard, number_at, taken_by}
-use Rattle.rtp_media_runs.specs.Samples.{Timed, timed}
 use Rattle.rtp_media_schedules.specs.Orders.{IsGoodPoll, IsTame, first_size}
-use Rattle.rtp_media_schedules.specs.Samples.{AreWellFormed, SentSample, frame_sizes, packets_of, sent_by}
+use Rattle.rtp_media_schedules.specs.Samples.{SentSample, frame_sizes, packets_of, sent_by}
 use Rattle.rtp_media_schedules.specs.Turns as turns
 use Rattle.rtp_media_schedules.specs.Turns.{AllCame, Ask, IsGoodArrival}
 use Rattle.rtp_media_schedules.proofs.Polls.{polls-end}
-use Rattle.rtp_media_streams.specs.Rows.{coding_in, format_of, forms_for, settings_in}
+use Rattle.rtp_media_streams.specs.Rows.{format_of, forms_for, settings_in}
 use Rattle.rtp_media_streams.specs.Sending.{Sample, Sending, carried, datagrams_of, opened_sender, packet_limit}
 use Rattle.rtp_media_streams.specs.Sending.{samples_of, timestamp}
 use Rattle.rtp_media_streams.specs.declared.row_format.RowFormat.{RowFormat}
 use Rattle.rtp_media_ends.specs.Ends.{agreed_types, new_receiver}
-use Rattle.rtp_media_ends.specs.FullArrival.{AreSound, coding_of, count_of, sent_samples}
+use Rattle.rtp_media_ends.specs.FullArrival.{AreSound, count_of, sent_samples}
 use Rattle.rtp_media_ends.specs.OwnEvents.{event_in}
-use Rattle.rtp_media_play.specs.Runs.{IsTameSchedule, sizes_at}
-use Rattle.rtp_media_play.specs.Schedules.{own_events, turns_of}
+use Rattle.rtp_media_play.specs.Runs.{sizes_at}
+use Rattle.rtp_media_play.specs.Schedules.{turns_of}
 use Rattle.rtp_media_play.specs.declared.schedule.Event.TheVariants.{Arrive, Poll}
 use Rattle.rtp_media_play.proofs.Exchanged.{IsPlain, alone, plain}
 use Rattle.rtp_media_second_hop.specs.Hops as hops
@@ -103,7 +101,12 @@ good-poll hold_back = record { begun = refl; held_back = inr all-came }
 
 tame-one : (hold_back : ℕ) → IsTame 0 1 hold_back 1 [] 0 (1 ∷ []) (turns.Arrive 0 ∷ Ask ∷ Ask ∷ [])
 tame-one hold_back = (
-  record { from_first = omega arith; before_end = omega arith; near = omega arith; in_reach = λ y low far. absurd (omega arith) },
+  record {
+    from_first = omega arith;
+    before_end = omega arith;
+    near = omega arith;
+    in_reach = λ y low far. absurd (omega arith);
+  },
   omega arith,
   (good-poll hold_back, (good-poll hold_back, all-came)),
 )

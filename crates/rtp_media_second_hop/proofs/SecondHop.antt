@@ -19,7 +19,8 @@ use Rattle.rtp_media_play.specs.Units.{arriving, units_by, units_for}
 use Rattle.rtp_media_play.specs.declared.schedule.Event.{Event}
 use Rattle.rtp_media_play.proofs.Exchanged.{IsPlain, plain}
 use Rattle.rtp_media_second_hop.specs.Hops.{Carries, Hop, IsTame, SendsOn, answers_over, carried_again}
-use Rattle.rtp_media_second_hop.specs.Hops.{limit_over, map_over, passed_on, row_over, sender_over, units_over, unstamped}
+use Rattle.rtp_media_second_hop.specs.Hops.{limit_over, map_over, passed_on, row_over, sender_over, units_over}
+use Rattle.rtp_media_second_hop.specs.Hops.{unstamped}
 use Rattle.rtp_media_second_hop.proofs.Passed.{HasArrived, arriving-again, each-kept, have-arrived, same-unstamped}
 use Rattle.rtp_media_second_hop.proofs.Passed.{samples-are, samples-arrive, samples-in-range, timed_sample, unstamp}
 use Rattle.rtp_media_second_hop.proofs.Passed.{unstamped-are}

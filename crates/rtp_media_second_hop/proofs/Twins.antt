@@ -149,7 +149,8 @@ module _ (law : KeepCodecLawInForms) (s t : Sending) (r : Receiving) (xs : List 
 
   -- the answers to the polls are the same
   pub same-answers : (e : EndState) (rx : ℕ) (schedule : List Event) → receiver_at e rx ≡ r → IsFound e rx r
-      → poll_answers (played (datagrams_of t xs) rx e schedule) ≡ poll_answers (played (datagrams_of s xs) rx e schedule)
+      → poll_answers (played (datagrams_of t xs) rx e schedule)
+      ≡ poll_answers (played (datagrams_of s xs) rx e schedule)
   same-answers e rx schedule is found =
       let same : receiver_at e rx ≡ with_stream r (receiver_at e rx).stream =
       is ∙ ap (with_stream r) (sym (ap (λ (x : Receiving). x.stream) is)) in

@@ -7,7 +7,7 @@ use Rattle.rtp_media_runs.specs.Hearing.{MediaUnit}
 use Rattle.rtp_media_streams.specs.Sending.{Sample}
 use Rattle.rtp_media_play.specs.declared.schedule.Event.{Event}
 use Rattle.rtp_media_play.specs.declared.schedule.Event.TheVariants.{Arrive, Poll}
-use Rattle.rtp_media_second_hop.specs.Hops.{Carries, Hop, IsAlike, limit_over, row_over}
+use Rattle.rtp_media_second_hop.specs.Hops.{Carries, Hop, limit_over, row_over}
 
 -- The first datagram arrives, and the stream is polled twice.
 abbrev pub one_arrival : List Event

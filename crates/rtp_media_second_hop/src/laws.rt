@@ -11,11 +11,11 @@ use h26x_payload::codec_law;
 use h26x_payload_hops::again_law;
 use rtp_media_play::headline;
 
-/// The second hop: the units of a tame run, sent on as samples with their times and values over a second stream that is
-/// opened alike, are what the headline asks of samples (`carries`); its canonical units are these units, with the values
-/// that are carried of theirs (`units`); and under a tame schedule they come out unchanged, the time at which they left
-/// aside, which each hop rounds down again (`unchanged`). Of H.264, H.265 and H.266 no unit of the first samples may be
-/// dropped for its size or end in a zero.
+/// The second hop: the units of a tame run, sent on as samples with their times and values over a second stream that
+/// is opened alike, are what the headline asks of samples (`carries`). Its canonical units are these units, with the
+/// values that are carried of theirs (`units`), and under a tame schedule they come out unchanged, the time at which
+/// they left aside, which each hop rounds down again (`unchanged`). Of H.264, H.265 and H.266 no unit of the first
+/// samples may be dropped for its size or end in a zero.
 pub fn second_hop_law()
     ensures carries { (first second : Hop) (samples : List Sample) (schedule : List Event) →
         SendsOn first second samples schedule → Carries second (passed_on first samples schedule) }

@@ -10,9 +10,9 @@ use crate::laws::second_hop_law;
 use h26x_payload::codec_law;
 use rtp_media_play::headline;
 
-/// A sample of Opus that a packet has room for goes over two streams that are opened alike, and its bytes come out of the
-/// second one (`bytes`): at each its datagram arrives and the stream is polled twice. The premises of the second hop are
-/// met (`sent_on`), and both schedules are tame (`tame`).
+/// A sample of Opus that a packet has room for goes over two streams that are opened alike, and its bytes come out
+/// of the second one (`bytes`): at each its datagram arrives, and the stream is polled twice. The premises of the
+/// second hop are met (`sent_on`), and the second schedule is tame (`tame`).
 pub fn opus_over_two_hops()
     ensures sent_on { (first second : Hop) (sample : Sample) → CarriesOpus first → CarriesOpus second →
         IsAlike first second → FitsPacket first sample → SendsOn first second (sample ∷ []) one_arrival }

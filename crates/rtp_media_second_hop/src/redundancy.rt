@@ -13,9 +13,9 @@ ghost use Rattle.rtp_media_second_hop.specs.Redundancy.{AddsRedundancy, opened_w
 
 use h26x_payload::codec_law;
 
-/// Redundancy is transparent over whole runs: one list of samples, one limit of packets and one schedule, sane or not,
-/// give the same answers to all polls, None too, whether the samples are sent without redundancy or with it. So of any
-/// two such streams (`streams`), and so between two ends that have exchanged texts (`ends`).
+/// Redundancy is transparent over whole runs: one list of samples, one limit of packets and one schedule, sane or
+/// not, give the same answers to all polls, None too, whether the samples are sent without redundancy or with it. So
+/// of any two such streams (`streams`), and so between two ends that have exchanged texts (`ends`).
 pub fn redundancy_law()
     ensures streams { (end : EndState) (rx : ℕ) (plain redundant : Sending) (samples : List Sample)
         (schedule : List Event) → let receiver = receiver_at end rx in

@@ -1,4 +1,3 @@
-use Rattle.rtp_media_second_hop.specs.Hops.{Hop}
 use Rattle.rtp_media_second_hop.specs.OpusHops.{one_arrival}
 use Rattle.rtp_media_second_hop.proofs.SentOn.{bytes-again, sent-on, tame-again}
 use Rattle.rtp_media_second_hop.proofs.opus.opus_over_two_hops.Goals as goal
