@@ -95,12 +95,7 @@ fn open_at(
     }
 }
 
-fn receive_at(
-    end: &mut Option<End>,
-    datagram: &[u8],
-    stream: &mut usize,
-    number: &mut u64,
-) -> u32
+fn receive_at(end: &mut Option<End>, datagram: &[u8], stream: &mut usize, number: &mut u64) -> u32
     ensures answer { AtEnd end.old end.new result
         (λ e after. Receives e datagram.now result stream.new number.new after) }
     ensures stream { result ≢ ok → stream.new ≡ stream.old }

@@ -209,7 +209,14 @@ impl Peer {
     {
         let answer = match text_in(mid) {
             Some(mid) => {
-                push_at(&mut self.end, stream, ticks, mid, sample, &mut self.datagrams)
+                push_at(
+                    &mut self.end,
+                    stream,
+                    ticks,
+                    mid,
+                    sample,
+                    &mut self.datagrams,
+                )
             }
             None => codes::NOT_TEXT,
         };
