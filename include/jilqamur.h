@@ -23,6 +23,9 @@
 extern "C" {
 #endif
 
+/* The bytes of a literal text and their count, for a parameter of bytes and the one of their length. */
+#define JILQAMUR_TEXT(literal) (const uint8_t *)("" literal), sizeof(literal) - 1
+
 /* What calls answer. */
 enum {
     JILQAMUR_OK = 0,         /* the call did what it says */

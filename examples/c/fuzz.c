@@ -5,8 +5,6 @@
 
 #include "jilqamur.h"
 
-static const uint8_t *bytes_of(const char *word) { return (const uint8_t *)word; }
-
 /* An end that answered an offer and receives Opus of SSRC 44 at type 111. */
 static int receiving_end(jilqamur_end *a, jilqamur_end *b)
 {
@@ -16,14 +14,14 @@ static int receiving_end(jilqamur_end *a, jilqamur_end *b)
     static uint8_t text[4096];
     size_t len = 0, stream = 0;
     for (uint32_t i = 0; i < 2; i++) {
-        if (jilqamur_end_row(ends[i], &opus, bytes_of("opus"), 4, bytes_of(""), 0) != JILQAMUR_OK
+        if (jilqamur_end_row(ends[i], &opus, JILQAMUR_TEXT("opus"), JILQAMUR_TEXT("")) != JILQAMUR_OK
             || jilqamur_end_make(ends[i], i) != JILQAMUR_OK
-            || jilqamur_end_section(ends[i], bytes_of("0"), 1, false, true, true, &ssrcs[i], 1) != JILQAMUR_OK)
+            || jilqamur_end_section(ends[i], JILQAMUR_TEXT("0"), false, true, true, &ssrcs[i], 1) != JILQAMUR_OK)
             return 1;
     }
     return jilqamur_end_offer(a) != JILQAMUR_OK || jilqamur_end_text(a, text, sizeof text, &len) != JILQAMUR_OK
         || jilqamur_end_answer(b, text, len) != JILQAMUR_OK
-        || jilqamur_end_open_receiver(b, bytes_of("0"), 1, 44, 111, 2, &stream) != JILQAMUR_OK;
+        || jilqamur_end_open_receiver(b, JILQAMUR_TEXT("0"), 44, 111, 2, &stream) != JILQAMUR_OK;
 }
 
 static int fuzz(jilqamur_end *a, jilqamur_end *b, long count)

@@ -189,7 +189,7 @@ impl End {
             5 => Ok(Received::Damaged),
             6 => Ok(Received::Refused),
             13 => Ok(Received::Foreign),
-            _ => Err(EndError::of(answer).unwrap_or(EndError::NotMade)),
+            _ => Err(EndError::of(answer)),
         }
     }
 

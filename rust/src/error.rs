@@ -55,7 +55,8 @@ pub enum EndError {
 }
 
 impl EndError {
-    pub(crate) fn of(answer: u32) -> Option<EndError> {
+    /// The refusal of this number, which is none of those that the types here rule out.
+    pub(crate) fn of(answer: u32) -> EndError {
         use EndError::*;
         const FROM_ROWS: [EndError; 19] = [
             RowNotPlain, TypesNotDistinct, NotWritable, TextUnreadable, OutOfTurn, NotMedia, NotCorresponding, Round,
@@ -63,11 +64,12 @@ impl EndError {
             TimeTooLarge, LimitTooSmall, Payload,
         ];
         match answer {
-            1 => Some(Memory),
-            10 => Some(OutOfRange),
-            11 => Some(NotMade),
-            14 => Some(NoStream),
-            _ => FROM_ROWS.get((answer as usize).checked_sub(15)?).copied(),
+            1 => Memory,
+            10 => OutOfRange,
+            11 => NotMade,
+            14 => NoStream,
+            15..=33 => FROM_ROWS[answer as usize - 15],
+            other => unreachable!("the library answers {other}"),
         }
     }
 }
@@ -106,8 +108,5 @@ impl fmt::Display for EndError {
 impl std::error::Error for EndError {}
 
 pub(crate) fn done(answer: u32) -> Result<(), EndError> {
-    match EndError::of(answer) {
-        None => Ok(()),
-        Some(error) => Err(error),
-    }
+    if answer == 0 { Ok(()) } else { Err(EndError::of(answer)) }
 }

@@ -125,7 +125,8 @@ pub extern "C" fn jilqamur_receiver_unit(
         (λ p after. IsFetched (bytes_of p.unit) buffer.old result needed.new buffer.new) }
     ensures told { AtReceiver receiver.old.place.object receiver.new.place.object result
         (λ p after. IsToldOf p.unit told.new) }
-    ensures closed { result ≡ closed → (buffer.new ≡ buffer.old) × (needed.new ≡ needed.old) }
+    ensures closed { result ≡ closed
+        → (buffer.new ≡ buffer.old) × (needed.new ≡ needed.old) × (told.new ≡ told.old) }
     ensures nothing { result ≡ nothing → (needed.new ≡ needed.old) × (told.new ≡ told.old) }
     ensures unchanged { receiver.new.place.object ≡ receiver.old.place.object }
 {

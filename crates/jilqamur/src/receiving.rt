@@ -87,7 +87,8 @@ pub extern "C" fn jilqamur_end_unit(
         (λ p after. IsFetched (bytes_of p.unit) buffer.old result needed.new buffer.new) }
     ensures told { At end.old.place.object end.new.place.object result
         (λ p after. IsToldOf p.unit told.new) }
-    ensures closed { result ≡ closed → (buffer.new ≡ buffer.old) × (needed.new ≡ needed.old) }
+    ensures closed { result ≡ closed
+        → (buffer.new ≡ buffer.old) × (needed.new ≡ needed.old) × (told.new ≡ told.old) }
     ensures nothing { result ≡ nothing → (needed.new ≡ needed.old) × (told.new ≡ told.old) }
     ensures unchanged { end.new.place.object ≡ end.old.place.object }
 {

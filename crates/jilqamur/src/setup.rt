@@ -2,10 +2,11 @@
 
 ghost use Rattle.std.specs.Prelude.{◌≡◌, ◌≢◌, None, Some, IsSome};
 ghost use Rattle.sdp_formats_config.specs.Configs.{default_rows};
-ghost use Rattle.jilqamur_wire.specs.Codes.{ok, memory, nothing, in_use};
+ghost use Rattle.jilqamur_wire.specs.Codes.{ok, memory, in_use};
 ghost use Rattle.jilqamur_ends.specs.Answers.{At};
 ghost use Rattle.jilqamur_ends.specs.Peers.{with_row, with_rows, with_section, with_extension, empty_peer};
-ghost use Rattle.jilqamur_ends.specs.Drafts.{row_of, row_outcome, section_of, section_outcome, extension_outcome, make_outcome, made, without_draft};
+ghost use Rattle.jilqamur_ends.specs.Drafts.{row_of, row_outcome, section_of, section_outcome, extension_outcome};
+ghost use Rattle.jilqamur_ends.specs.Drafts.{make_outcome, made, without_draft};
 ghost use Rattle.jilqamur.specs.Answers.{answer_of};
 
 use jilqamur_ends::{EndHandle, Peer, WireRow};

@@ -1,5 +1,5 @@
 -- What a call puts into the draft of an end.
-use Rattle.std.specs.Prelude.{ℕ, ◌==◌, ◌&&◌, ◌-◌, Bool, true, false, nat_le, if◌then◌else◌, List, [], ◌∷◌, ◌++◌, slice_set}
+use Rattle.std.specs.Prelude.{ℕ, ◌==◌, ◌&&◌, Bool, true, false, nat_le, if◌then◌else◌, List, []}
 use Rattle.std.specs.Prelude.{Option, Some, None}
 use Rattle.std.specs.Str.{is_utf8}
 use Rattle.payload_core_base.specs.Codecs.{codec_named}
@@ -7,7 +7,6 @@ use Rattle.payload_core_base.specs.declared.codec.MediaKind.{MediaKind}
 use Rattle.payload_core_base.specs.declared.codec.MediaKind.TheVariants.{Audio, Video}
 use Rattle.rtp_wire_ids.specs.declared.direction.Direction.{Direction}
 use Rattle.rtp_wire_ids.specs.declared.direction.Direction.TheVariants.{SendOnly, RecvOnly, SendRecv, Inactive}
-use Rattle.rtp_wire.specs.Kinds.{extension_of}
 use Rattle.rtp_wire.specs.Maps.{empty_map}
 use Rattle.rtp_wire.specs.Name.{name_of}
 use Rattle.sdp_formats_rows.specs.Formats.{format_of}
@@ -18,7 +17,8 @@ use Rattle.rtp_media_negotiation.specs.declared.errors.EndError.TheVariants as e
 use Rattle.rtp_media_negotiation.specs.Exchanges.{bare_session}
 use Rattle.rtp_media_negotiation.specs.Refusals.{refusal_of_new}
 use Rattle.rtp_media_ends.specs.Ends.{new_end}
-use Rattle.jilqamur_wire.specs.Codes.{ok, memory, not_text, out_of_range, row_not_plain, types_not_distinct, not_writable}
+use Rattle.jilqamur_wire.specs.Codes.{ok, memory, not_text, out_of_range}
+use Rattle.jilqamur_wire.specs.Codes.{row_not_plain, types_not_distinct, not_writable}
 use Rattle.jilqamur_ends.specs.declared.draft.WireRow.{WireRow}
 use Rattle.jilqamur_ends.specs.Peers.{PeerState}
 

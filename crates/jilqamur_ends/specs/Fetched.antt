@@ -1,5 +1,6 @@
 -- What is fetched.
-use Rattle.std.specs.Prelude.{ℕ, ◌≡◌, ◌≢◌, ◌++◌, Bool, false, List, length, drop, nat_lt, if◌then◌else◌, Option, Some, None}
+use Rattle.std.specs.Prelude.{ℕ, ◌≡◌, ◌≢◌, ◌++◌, Bool, false, List, length}
+use Rattle.std.specs.Prelude.{drop, nat_lt, if◌then◌else◌, Option, Some, None}
 use Rattle.payload_core_base.specs.declared.extra.CodecExtra.{CodecExtra}
 use Rattle.payload_core_base.specs.declared.extra.CodecExtra.TheVariants as extra
 use Rattle.rtp_media_runs.specs.Hearing.{MediaUnit}

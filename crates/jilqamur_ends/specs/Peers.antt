@@ -44,7 +44,8 @@ with_section p section = record p { sections = p.sections ++ section ∷ [] }
 abbrev pub with_extension : PeerState → ℕ → List ℕ → PeerState
 with_extension p id uri = record p { exts = slice_set p.exts (id - 1) (Some (extension_of uri)) }
 
--- What calls leave: the end alone changes; or the sections are used up, and a text is left; or datagrams are, or a unit.
+-- What calls leave: the end alone changes; or the sections are used up, and a text is left; or datagrams are left, or
+-- a unit.
 abbrev pub behind_end : PeerState → Option EndState → PeerState
 behind_end p end = record p { end = end }
 

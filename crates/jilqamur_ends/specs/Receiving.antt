@@ -6,7 +6,6 @@ use Rattle.rtp_media_streams.specs.Drains.{drain_answer, drained_receiver, holdi
 use Rattle.rtp_media_streams.specs.Polls.{IsInterrupted, PollResult, given}
 use Rattle.rtp_media_streams.specs.Receiving.{Receiving, polled_receiver, with_stream}
 use Rattle.rtp_media_streams.specs.Rows.{format_of}
-use Rattle.rtp_media_streams.specs.declared.errors.PollFault.{PollFault}
 use Rattle.rtp_media_streams.specs.declared.errors.PollFault.TheVariants as fault
 use Rattle.rtp_media_ends.specs.Arrivals.{verdict_of, after_datagram}
 use Rattle.rtp_media_ends.specs.Ends.{EndState, is_receiver_at, receiver_at, with_receiver, after_open_receiver}
@@ -15,7 +14,7 @@ use Rattle.rtp_media_ends.specs.declared.errors.OpenError.{OpenError}
 use Rattle.rtp_media_ends.specs.declared.errors.OpenError.TheVariants as open_error
 use Rattle.rtp_media_ends.specs.declared.received.Received.{Received}
 use Rattle.rtp_media_ends.specs.declared.received.Received.TheVariants as received
-use Rattle.jilqamur_wire.specs.Codes.{ok, memory, not_text, unreadable, foreign, damaged, refused, nothing, payload}
+use Rattle.jilqamur_wire.specs.Codes.{ok, memory, unreadable, foreign, damaged, refused, nothing, payload}
 use Rattle.jilqamur_wire.specs.Codes.{no_stream, no_section, row_not_agreed, row_differs, wrong_direction}
 use Rattle.jilqamur_wire.specs.Codes.{ssrc_not_named, already_open}
 use Rattle.jilqamur_ends.specs.Exchanges.{Where}

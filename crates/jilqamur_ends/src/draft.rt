@@ -6,7 +6,8 @@ ghost use Rattle.sdp_formats_config.specs.Configs.{default_rows};
 ghost use Rattle.jilqamur_wire.specs.Codes.{ok, memory};
 ghost use Rattle.jilqamur_ends.specs.Peers.{with_row, with_rows, with_section, with_extension};
 ghost use Rattle.jilqamur_ends.specs.Drafts.{given, row_of, row_outcome, kind_of, direction_of, section_of};
-ghost use Rattle.jilqamur_ends.specs.Drafts.{section_outcome, extension_outcome, end_code, make_outcome, made, without_draft};
+ghost use Rattle.jilqamur_ends.specs.Drafts.{section_outcome, extension_outcome, end_code, make_outcome};
+ghost use Rattle.jilqamur_ends.specs.Drafts.{made, without_draft};
 
 use crate::peer::Peer;
 use jilqamur_wire::codes;

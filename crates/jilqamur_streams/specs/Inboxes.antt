@@ -2,9 +2,9 @@
 use Rattle.std.specs.Prelude.{ℕ, ◌≡◌, ◌≢◌, Bool, List, Option, Some, None}
 use Rattle.rtp_wire.specs.Maps.{empty_map}
 use Rattle.rtp_wire.specs.Values.{absent}
-use Rattle.rtp_media_runs.specs.Hearing.{MediaUnit, poll_answer}
-use Rattle.rtp_media_streams.specs.Drains.{drain_answer, drained_receiver, holding}
-use Rattle.rtp_media_streams.specs.Polls.{IsInterrupted, PollResult, given}
+use Rattle.rtp_media_runs.specs.Hearing.{MediaUnit}
+use Rattle.rtp_media_streams.specs.Drains.{drained_receiver, holding}
+use Rattle.rtp_media_streams.specs.Polls.{IsInterrupted, PollResult}
 use Rattle.rtp_media_streams.specs.Receiving.{Receiving, arrived, opened_receiver, polled_receiver, taken_number}
 use Rattle.rtp_media_streams.specs.Receiving.{with_stream}
 use Rattle.rtp_media_streams.specs.Rows.{format_of}

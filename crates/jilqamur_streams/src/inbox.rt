@@ -74,7 +74,10 @@ impl Inbox {
         ensures answer { Takes self.old low time marker payload.now result number.new self.new }
         ensures number { result ≢ ok → number.new ≡ number.old }
     {
-        match self.stream.receive(low, time, marker, ExtensionValues::absent(), payload) {
+        match self
+            .stream
+            .receive(low, time, marker, ExtensionValues::absent(), payload)
+        {
             Ok(Some(taken)) => {
                 *number = taken.get();
                 codes::OK

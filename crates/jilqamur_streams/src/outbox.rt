@@ -116,7 +116,9 @@ impl Outbox {
         ensures count { count.new ≡ length self.new.datagrams }
     {
         let time = MediaTime::new(ticks, self.stream.clock_rate());
-        let answer = self.stream.push_sample(time, sample, &ExtensionValues::absent());
+        let answer = self
+            .stream
+            .push_sample(time, sample, &ExtensionValues::absent());
         let code = match answer {
             Ok(sent) => {
                 self.datagrams = sent;

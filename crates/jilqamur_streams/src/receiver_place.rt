@@ -70,7 +70,10 @@ impl ReceiverHandle {
     {
         let at = ptr::null_mut::<u8>();
         let place = ReceiverPlace::empty(at, alloc);
-        let ReceiverHandle { full, place } = mem::replace(self, ReceiverHandle { full: false, place });
+        let ReceiverHandle { full, place } = mem::replace(
+            self,
+            ReceiverHandle { full: false, place },
+        );
         if full {
             Some(place.into_parts().into_box())
         } else {
