@@ -58,7 +58,8 @@ pair_of _ = None
 
 -- the pair of a group of retransmission, named in either case (RFC 4588 8.3)
 unfoldable pub repair_in : MediaAttribute → Option (ℕ × ℕ)
-repair_in (a.SsrcGroup semantics ssrcs) = if str_eq_ignore_ascii_case semantics (codes "fid") then pair_of ssrcs else None
+repair_in (a.SsrcGroup semantics ssrcs) =
+    if str_eq_ignore_ascii_case semantics (codes "fid") then pair_of ssrcs else None
 repair_in _ = None
 
 abbrev pub repairing_in : MediaAttribute → Option ℕ

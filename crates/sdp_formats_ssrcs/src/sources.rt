@@ -57,7 +57,8 @@ fn push_sources(sources: &mut Vec<Ssrc>, attributes: &[MediaAttribute]) -> Resul
 }
 
 fn push_repairing(sources: &mut Vec<Ssrc>, attributes: &[MediaAttribute]) -> Result<(), AllocError>
-    ensures { OnOk result (sources.new.items ≡ fold with_new sources.old.items (filter_map repairing_in attributes.now)) }
+    ensures { OnOk result (sources.new.items
+        ≡ fold with_new sources.old.items (filter_map repairing_in attributes.now)) }
 {
     for attribute in attributes {
         push_new(sources, repairing_in(attribute))?;

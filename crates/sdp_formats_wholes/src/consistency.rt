@@ -5,8 +5,8 @@ ghost use Rattle.std.specs.List.{filter_map, list_all, list_any};
 ghost use Rattle.std.specs.Option.{option_copied};
 ghost use Rattle.sdp_formats_types.specs.Consistency.{is_consistent};
 ghost use Rattle.sdp_formats_types.specs.Lookups.{first_of};
-ghost use Rattle.sdp_formats_wholes.specs.Consistency.{AssertsWhole, IsWhole, are_apart, belongs, group_in, grouped_mid};
-ghost use Rattle.sdp_formats_wholes.specs.Consistency.{is_name, lists, mid_of};
+ghost use Rattle.sdp_formats_wholes.specs.Consistency.{AssertsWhole, IsWhole, are_apart, belongs, group_in};
+ghost use Rattle.sdp_formats_wholes.specs.Consistency.{grouped_mid, is_name, lists, mid_of};
 
 use rtp_wire::Mid;
 use sdp_formats::SdpError;

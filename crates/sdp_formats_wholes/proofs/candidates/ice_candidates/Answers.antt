@@ -16,5 +16,6 @@ loop-candidate-preserved c = λ last h.
     let one : i + 1 ≡ suc i = omega arith in
     let now = borrowed c.push_new.new.seen.items in
     let later = subst (λ (k : ℕ). FoldsTo Adds now (borrowed (drop k items)) last) one h in
+    let seen = borrowed c.loop-candidate.once.items in
     c.loop-candidate.invariant last
-    (one_more (borrowed c.loop-candidate.once.items) now last (drop i items) rest here cut c.in_ok-push_new.ensures later)
+    (one_more seen now last (drop i items) rest here cut c.in_ok-push_new.ensures later)
