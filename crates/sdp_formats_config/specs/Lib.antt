@@ -1,3 +1,4 @@
 pub mod Configs
+pub mod Finding
 pub mod Matching
 pub mod Sections

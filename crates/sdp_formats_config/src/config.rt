@@ -5,6 +5,7 @@ ghost use Rattle.sdp_formats_config.specs.Configs.{default_rows};
 
 mod adding;
 mod enabling;
+mod finding;
 mod matching;
 mod redundancy;
 mod rounds;

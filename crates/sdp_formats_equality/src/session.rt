@@ -4,8 +4,8 @@ ghost use Rattle.std.specs.Prelude.{◌≡◌, ◌↔◌, IsTrue};
 
 use crate::same::Same;
 use sdp_formats_types::{
-    Bandwidth, Candidate, CandidateKind, Fingerprint, Protocol, RelatedAddress, SessionAttribute,
-    TcpType,
+    Bandwidth, Candidate, CandidateKind, Fingerprint, Protocol, RelatedAddress,
+    SessionAttribute as Attribute, TcpType,
 };
 
 impl Same for Bandwidth {
@@ -59,47 +59,32 @@ impl Same for Candidate {
     }
 }
 
-impl Same for SessionAttribute {
-    fn is_same(&self, other: &SessionAttribute) -> bool {
+impl Same for Attribute {
+    fn is_same(&self, other: &Attribute) -> bool {
         match (self, other) {
+            (Attribute::Group { typ, mids }, Attribute::Group { typ: a, mids: b }) => {
+                typ.is_same(a) && mids.is_same(b)
+            }
             (
-                SessionAttribute::Group { typ, mids },
-                SessionAttribute::Group {
-                    typ: other_typ,
-                    mids: other_mids,
-                },
-            ) => typ.is_same(other_typ) && mids.is_same(other_mids),
-            (
-                SessionAttribute::MsidSemantic {
+                Attribute::MsidSemantic {
                     semantic,
                     stream_ids,
                 },
-                SessionAttribute::MsidSemantic {
-                    semantic: other_semantic,
-                    stream_ids: other_ids,
+                Attribute::MsidSemantic {
+                    semantic: a,
+                    stream_ids: b,
                 },
-            ) => semantic.is_same(other_semantic) && stream_ids.is_same(other_ids),
-            (SessionAttribute::AllowMixedExts, SessionAttribute::AllowMixedExts) => true,
-            (SessionAttribute::IceLite, SessionAttribute::IceLite) => true,
-            (SessionAttribute::IceUfrag(value), SessionAttribute::IceUfrag(other)) => value.is_same(
-                other,
-            ),
-            (SessionAttribute::IcePwd(value), SessionAttribute::IcePwd(other)) => value.is_same(
-                other,
-            ),
-            (SessionAttribute::IceOptions(value), SessionAttribute::IceOptions(other)) =>
-                value.is_same(other),
-            (SessionAttribute::Fingerprint(value), SessionAttribute::Fingerprint(other)) =>
-                value.is_same(other),
-            (SessionAttribute::Setup(value), SessionAttribute::Setup(other)) => value.is_same(
-                other,
-            ),
-            (SessionAttribute::Candidate(value), SessionAttribute::Candidate(other)) =>
-                value.is_same(other),
-            (SessionAttribute::EndOfCandidates, SessionAttribute::EndOfCandidates) => true,
-            (SessionAttribute::Unused(value), SessionAttribute::Unused(other)) => value.is_same(
-                other,
-            ),
+            ) => semantic.is_same(a) && stream_ids.is_same(b),
+            (Attribute::AllowMixedExts, Attribute::AllowMixedExts) => true,
+            (Attribute::IceLite, Attribute::IceLite) => true,
+            (Attribute::IceUfrag(a), Attribute::IceUfrag(b)) => a.is_same(b),
+            (Attribute::IcePwd(a), Attribute::IcePwd(b)) => a.is_same(b),
+            (Attribute::IceOptions(a), Attribute::IceOptions(b)) => a.is_same(b),
+            (Attribute::Fingerprint(a), Attribute::Fingerprint(b)) => a.is_same(b),
+            (Attribute::Setup(a), Attribute::Setup(b)) => a.is_same(b),
+            (Attribute::Candidate(a), Attribute::Candidate(b)) => a.is_same(b),
+            (Attribute::EndOfCandidates, Attribute::EndOfCandidates) => true,
+            (Attribute::Unused(a), Attribute::Unused(b)) => a.is_same(b),
             _ => false,
         }
     }
@@ -113,7 +98,7 @@ pub fn is_same_bandwidth(a: &Bandwidth, b: &Bandwidth) -> bool
 }
 
 /// Whether two attributes of the session are the same: of one kind, and with the same values.
-pub fn is_same_session_attribute(a: &SessionAttribute, b: &SessionAttribute) -> bool
+pub fn is_same_session_attribute(a: &Attribute, b: &Attribute) -> bool
     ensures { IsTrue result ↔ (a.now ≡ b.now) }
 {
     a.is_same(b)

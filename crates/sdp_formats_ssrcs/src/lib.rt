@@ -1,0 +1,9 @@
+//! What a section says of its sources (RFC 5576).
+#![tactic(auto)]
+
+pub mod infos;
+mod said;
+mod sources;
+
+pub use infos::{no_info, ssrc_info};
+pub use said::is_no_stream;

@@ -1,0 +1,80 @@
+//! Which sources a section names.
+
+ghost use Rattle.std.specs.Prelude.{◌≡◌, ◌++◌, IfOk, OnOk, fold};
+ghost use Rattle.std.specs.List.{filter_map};
+ghost use Rattle.sdp_formats_ssrcs.specs.Distinct.{is_among, with_new, with_one};
+ghost use Rattle.sdp_formats_ssrcs.specs.Sources.{repairing_in, source_in, sources_of};
+
+use crate::said::repair_in;
+use rtp_wire::Ssrc;
+use sdp_formats_types::MediaAttribute;
+use std::alloc::{AllocError, Global};
+
+#[tactic(auto, unfolding(crate::specs::Sources::source_in))]
+fn source_in(attribute: &MediaAttribute) -> Option<Ssrc>
+    ensures { result ≡ source_in attribute.now }
+{
+    match attribute {
+        MediaAttribute::Ssrc { ssrc, .. } => Some(*ssrc),
+        _ => None,
+    }
+}
+
+fn repairing_in(attribute: &MediaAttribute) -> Option<Ssrc>
+    ensures { result ≡ repairing_in attribute.now }
+{
+    let (_, repairing) = repair_in(attribute)?;
+    Some(repairing)
+}
+
+fn is_among(source: Ssrc, sources: &[Ssrc]) -> bool
+    ensures { result ≡ is_among source sources.now }
+{
+    sources.iter().any(|other| *other == source)
+}
+
+// Adds a source, if there is one that isn't there yet.
+fn push_new(sources: &mut Vec<Ssrc>, source: Option<Ssrc>) -> Result<(), AllocError>
+    ensures { OnOk result (sources.new.items ≡ with_one sources.old.items source) }
+{
+    let Some(source) = source else {
+        return Ok(());
+    };
+    if is_among(source, sources.as_slice()) {
+        return Ok(());
+    }
+    sources.push(source)?;
+    Ok(())
+}
+
+fn push_sources(sources: &mut Vec<Ssrc>, attributes: &[MediaAttribute]) -> Result<(), AllocError>
+    ensures { OnOk result (sources.new.items ≡ fold with_new sources.old.items (filter_map source_in attributes.now)) }
+{
+    for attribute in attributes {
+        push_new(sources, source_in(attribute))?;
+    }
+    Ok(())
+}
+
+fn push_repairing(sources: &mut Vec<Ssrc>, attributes: &[MediaAttribute]) -> Result<(), AllocError>
+    ensures { OnOk result (sources.new.items
+        ≡ fold with_new sources.old.items (filter_map repairing_in attributes.now)) }
+{
+    for attribute in attributes {
+        push_new(sources, repairing_in(attribute))?;
+    }
+    Ok(())
+}
+
+// The sources that attributes name.
+pub(crate) fn sources_of(
+    alloc: Global,
+    attributes: &[MediaAttribute],
+) -> Result<Vec<Ssrc>, AllocError>
+    ensures { IfOk result (λ sources. sources.items ≡ sources_of attributes.now) }
+{
+    let mut sources = Vec::new(alloc);
+    push_sources(&mut sources, attributes)?;
+    push_repairing(&mut sources, attributes)?;
+    Ok(sources)
+}

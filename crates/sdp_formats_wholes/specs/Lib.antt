@@ -1,0 +1,3 @@
+pub mod Candidates
+pub mod Consistency
+pub mod Wholes
