@@ -1,7 +1,7 @@
 //! Reads the session texts whose names stand on standard input, and prints for each what it has: session attributes,
 //! attributes and sources of each section, lines of a form that isn't known, candidates, bytes that are left, and
-//! whether what was read is printed as a text that is read and printed alike. Of a text behind `prefixes` it reads each prefix, and prints how
-//! many are session texts.
+//! whether what was read is printed as a text that is read and printed alike. Of a text behind `prefixes` it reads each
+//! prefix, and prints how many are session texts.
 #![tactic(auto)]
 
 use sdp_formats::{MediaAttribute, MediaLine, Sdp, SdpError, SessionAttribute, sdp_parser};
