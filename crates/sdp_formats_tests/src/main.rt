@@ -1,10 +1,13 @@
 //! Reads the session texts whose names stand on standard input, and prints for each what it has: session attributes,
-//! attributes of each section, lines of a form that isn't known, bytes that are left, and whether what was read is
-//! printed as a text that is read and printed alike. Of a text behind `prefixes` it reads each prefix, and prints how
-//! many are session texts.
+//! attributes and sources of each section, lines of a form that isn't known, candidates, bytes that are left, and
+//! whether what was read is printed as a text that is read and printed alike. Of a text behind `prefixes` it reads each
+//! prefix, and prints how many are session texts.
 #![tactic(auto)]
 
-use sdp_formats::{MediaAttribute, MediaLine, SdpError, SessionAttribute, sdp_parser};
+use sdp_formats::{MediaAttribute, MediaLine, Sdp, SdpError, SessionAttribute, sdp_parser};
+use sdp_formats_forms::Maybe;
+use sdp_formats_ssrcs::ssrc_info;
+use sdp_formats_wholes::{assert_consistency, bundle_mids, ice_candidates};
 use std::{fs, io};
 
 fn is_unused(attribute: &MediaAttribute) -> bool {
@@ -23,7 +26,35 @@ fn print_section(rt: &HostRuntime, section: &MediaLine) -> io::Result<()> {
         .count();
     let count = attributes.len();
     let types = section.pts.as_slice().len();
-    println!(*rt; "  section: {types} types, {count} attributes, {unused} unused")
+    println!(*rt; "  section: {types} types, {count} attributes, {unused} unused")?;
+    print_sources(rt, section)
+}
+
+fn print_sources(rt: &HostRuntime, section: &MediaLine) -> io::Result<()> {
+    for source in ssrc_info(rt.alloc(), section)?.as_slice() {
+        let (repairs, cname) = (
+            Maybe(" repairs ", &source.repairs),
+            Maybe(" of ", &source.cname),
+        );
+        let stream = Maybe(" in ", &source.stream_id);
+        let track = Maybe(" track ", &source.track_id);
+        println!(*rt; "    source {}{repairs}{cname}{stream}{track}", source.ssrc)?;
+    }
+    Ok(())
+}
+
+// What the text says as a whole.
+fn print_whole(rt: &HostRuntime, sdp: &Sdp) -> io::Result<()> {
+    let candidates = ice_candidates(rt.alloc(), sdp)?.len();
+    let bundled = match bundle_mids(sdp) {
+        Some(mids) => mids.len(),
+        None => 0,
+    };
+    match assert_consistency(rt.alloc(), sdp) {
+        Ok(()) => println!(*rt; "  whole: {candidates} candidates, {bundled} bundled"),
+        Err(SdpError::Memory) => println!(*rt; "  whole: out of memory"),
+        Err(_) => println!(*rt; "  whole: {candidates} candidates, {bundled} bundled, parts apart"),
+    }
 }
 
 // Whether the text is read whole, and printed as it stands.
@@ -79,6 +110,7 @@ fn print_text(rt: &HostRuntime, name: &str, text: &str) -> io::Result<()> {
             for section in sdp.media_lines.as_slice() {
                 print_section(rt, section)?;
             }
+            print_whole(rt, &sdp)?;
             let printed = sdp.to_sdp_string(rt.alloc())?;
             print_printed(rt, text, printed.as_str())
         }
