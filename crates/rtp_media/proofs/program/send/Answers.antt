@@ -1,7 +1,10 @@
-use Rattle.std.proofs.Common.{◌≡◌, arith, refl, true, None, Some, Result, Ok, Err, IfOk}
+use Rattle.std.proofs.Common.{◌≡◌, ℕ, List, arith, refl, sym, ◌∙◌, ap, ap₂, true, None, Some, Result, Ok, Err, IfOk}
+use Rattle.std.specs.Prelude.{Option}
 use Rattle.std.proofs.lemmas.Grind.{common_steps}
 use Rattle.rtp_wire.specs.Name.{name_of}
-use Rattle.rtp_media_ends.specs.Ends.{after_open_sender, refusal_of_open_sender}
+use Rattle.rtp_media_ends.specs.Ends.{after_open_sender, agreed_red, refusal_of_open_sender}
+use Rattle.rtp_media_ends.specs.Params.{is_sound_params}
+use Rattle.rtp_media_ends.specs.declared.params.StreamParams.{StreamParams}
 use Rattle.rtp_media.specs.Program.{is_sound_send, params_of}
 use Rattle.rtp_media.proofs.Sends.{answered}
 use Rattle.rtp_media.proofs.program.send.Goals as goal
@@ -12,7 +15,12 @@ if_ok (Err e) f h = tt
 
 pub returns-in-Ok : goal.returns-in-Ok
 returns-in-Ok c =
-    let sound : is_sound_send c.in-Some.end c.args.command ≡ true = grind (arith, common_steps) in
+    let red : agreed_red c.in-Some.end (name_of 16 c.args.command.mid) c.args.command.pt ≡ c.agreed_red.result =
+    ap₂ (λ (m : List ℕ) (pt : ℕ). agreed_red c.in-Some.end m pt)
+    (sym (c.from-mid.ensures ∙ ap (name_of 16) c.as_str.ensures)) (sym c.from-pt.ensures) ∙ sym c.agreed_red.ensures in
+    let params : params_of c.args.command ≡ c.params_of-params.result = sym c.params_of-params.ensures in
+    let sound : is_sound_send c.in-Some.end c.args.command ≡ true =
+    ap₂ (λ (r : Option ℕ) (p : StreamParams). is_sound_params r p) red params ∙ sym c.if-not-is_sound.ensures.test in
     let none : refusal_of_open_sender c.in-Some.end (name_of 16 c.args.command.mid) c.args.command.ssrc
     c.args.command.pt ≡ None = grind (arith, common_steps) in
     let after : c.open_sender.new.self ≡ after_open_sender c.in-Some.end (name_of 16 c.args.command.mid)
