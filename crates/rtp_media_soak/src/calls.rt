@@ -72,7 +72,7 @@ impl Call {
 fn end(alloc: Global, case: &Case, session: u64) -> Result<End, Stopped> {
     let config = CodecConfig::new_from_payload_params(vec![in alloc; case.row()]?);
     let session = Session::new(alloc, SessionId::from(session));
-    Ok(End::new(alloc, config, session, ExtensionMap::standard())?)
+    Ok(End::new(alloc, config, session, ExtensionMap::empty())?)
 }
 
 /// One section that flows both ways, of this SSRC.

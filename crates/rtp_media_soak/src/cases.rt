@@ -15,7 +15,6 @@ pub enum Beside {
     Redundancy,
     OctetAlign,
     DecodingOrder,
-    Length,
 }
 
 /// A codec as a row of both ends.
@@ -33,15 +32,6 @@ impl Case {
             Beside::Redundancy => " with redundancy",
             Beside::OctetAlign => " octet-aligned",
             Beside::DecodingOrder => " with decoding order numbers",
-            Beside::Length => " past number 65,536",
-        }
-    }
-
-    /// How many samples a run of it has.
-    pub fn samples(&self) -> usize {
-        match self.beside {
-            Beside::Length => 33_000,
-            _ => 400,
         }
     }
 
@@ -116,8 +106,8 @@ fn with(codec: Codec, beside: Beside) -> Case {
     Case { codec, beside }
 }
 
-/// Each codec that has a payload format, in each of its layouts, and two of them in long runs.
-pub fn cases() -> [Case; 20] {
+/// Each codec that has a payload format, in each of its layouts.
+pub fn cases() -> [Case; 18] {
     [
         plain(Codec::Opus),
         with(Codec::Opus, Beside::Redundancy),
@@ -137,7 +127,5 @@ pub fn cases() -> [Case; 20] {
         with(Codec::H265, Beside::DecodingOrder),
         plain(Codec::H266),
         with(Codec::H266, Beside::DecodingOrder),
-        with(Codec::Opus, Beside::Length),
-        with(Codec::Vp8, Beside::Length),
     ]
 }

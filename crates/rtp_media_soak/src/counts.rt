@@ -3,40 +3,28 @@
 use crate::stopped::Stopped;
 use rtp_media_ends::Unit;
 use rtp_media_play::Played;
-use rtp_wire::ExtensionValues;
 
-/// What a receiver is to get of a sample: its unit with the sample's timestamp and values of header extensions, the
-/// places in it at which its parts begin, and the numbers of the sample's datagrams, from the first one to the one
-/// behind the last.
+/// What a receiver is to get of a sample: its unit with the sample's timestamp, the places in it at which its parts
+/// begin, and the numbers of the sample's datagrams, from the first one to the one behind the last.
 #[derive(Drop)]
 pub struct Canonical {
     pub unit: Vec<u8>,
     pub parts: Vec<usize>,
     pub time: u32,
-    pub values: ExtensionValues,
     pub first: u64,
     pub end: u64,
 }
 
 impl Canonical {
-    /// Whether this is the unit or, where it has several parts, a nonempty final run of them, with the timestamp,
-    /// values and numbers of its sample.
+    /// Whether this is the unit or, where it has several parts, a nonempty final run of them, with the timestamp and
+    /// numbers of its sample.
     fn has(&self, unit: &Unit) -> bool {
         let (first, last) = (unit.first().get(), unit.last().get());
         self.first <= first
             && first <= last
             && last < self.end
             && unit.time() == self.time
-            && self.has_values(&unit.ext_vals())
             && self.ends_with(unit.bytes())
-    }
-
-    /// Whether the values are those that were drawn; others are absent.
-    fn has_values(&self, values: &ExtensionValues) -> bool {
-        self.values.audio_level == values.audio_level
-            && self.values.voice_activity == values.voice_activity
-            && self.values.transport_cc == values.transport_cc
-            && self.values.video_orientation == values.video_orientation
     }
 
     fn ends_with(&self, bytes: &[u8]) -> bool {

@@ -15,12 +15,15 @@ use cases::{Case, cases};
 use counts::{Canonical, Counts, count_units};
 use random::Random;
 use rtp_media_play::Sample;
-use rtp_wire::MediaTime;
-use samples::{Drawn, draw_sample, draw_values};
+use rtp_wire::{ExtensionValues, MediaTime};
+use samples::{Drawn, draw_sample};
 use schedules::{sane_schedule, tame_schedule};
 use std::alloc::Global;
 use std::process::ExitCode;
 use stopped::Stopped;
+
+/// How many samples a run has.
+const SAMPLES: usize = 400;
 
 /// The seeds of the runs of each codec.
 const SEEDS: [u64; 3] = [1, 2, 3];
@@ -70,30 +73,28 @@ fn run(alloc: Global, case: &Case, seed: u64, is_tame: bool) -> Result<Counts, S
     let mut samples = Vec::new(alloc);
     let mut sent = Vec::new(alloc);
     let mut end = FIRST;
-    for place in 0..case.samples() {
+    for place in 0..SAMPLES {
         let drawn = draw_sample(alloc, &mut random, case.codec, place)?;
-        let values = draw_values(&mut random);
         let first = end;
         let time = 960 * place as u64;
         let Drawn { bytes, unit, parts } = drawn;
         let time_of_case = MediaTime::new(time, case.rtp_clock());
-        let sample = Sample::new(time_of_case, values, bytes);
+        let sample = Sample::new(time_of_case, ExtensionValues::absent(), bytes);
         end = end.saturating_add(twin.datagrams_of(&sample)?);
         samples.push(sample)?;
         sent.push(Canonical {
             unit,
             parts,
             time: time as u32,
-            values,
             first,
             end,
         })?;
     }
     let count = end.saturating_sub(FIRST) as usize;
     let schedule = if is_tame {
-        tame_schedule(alloc, &mut random, count, case.samples())?
+        tame_schedule(alloc, &mut random, count, SAMPLES)?
     } else {
-        sane_schedule(alloc, &mut random, count, case.samples())?
+        sane_schedule(alloc, &mut random, count, SAMPLES)?
     };
     let hold_back = if is_tame {
         127

@@ -8,7 +8,6 @@ use crate::random::Random;
 use audio::{amr_wb_sample, audio_sample, event_sample, vp8_sample, vp9_sample};
 use obus::temporal_unit;
 use rtp_media_ends::Codec;
-use rtp_wire::{ExtensionValues, VideoOrientation};
 use std::alloc::{AllocError, Global};
 use units::access_unit;
 
@@ -58,20 +57,4 @@ pub fn draw_sample(
         _ => audio_sample(alloc, random)?,
     };
     Drawn::whole(alloc, bytes)
-}
-
-/// Values of header extensions that come back as they are sent, some of them absent.
-pub fn draw_values(random: &mut Random) -> ExtensionValues {
-    let mut values = ExtensionValues::absent();
-    if random.one_in(2) {
-        values.audio_level = Some(-(random.below(128) as i8));
-        values.voice_activity = Some(random.one_in(2));
-    }
-    if random.one_in(2) {
-        values.transport_cc = Some(random.below(65_536) as u16);
-    }
-    if random.one_in(2) {
-        values.video_orientation = Some(VideoOrientation::from(random.byte()));
-    }
-    values
 }
