@@ -1,4 +1,5 @@
-//! Worked rows that the program's lines can't say, each a test named by its number, and sessions with lines of their own.
+//! Worked rows that the program's lines can't say, each a test named by its number, and sessions with lines of their
+//! own.
 #![tactic(auto)]
 
 #[cfg(test)]

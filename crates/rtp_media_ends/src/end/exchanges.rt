@@ -19,8 +19,8 @@ use rtp_wire::ExtensionMap;
 use std::alloc::Global;
 
 impl End {
-    /// An end of these rows, session and wanted header extensions (RFC 8285), which has agreed on nothing. The session's
-    /// bandwidth and attributes stand in each text that the end writes, the attributes behind the bundle.
+    /// An end of these rows, session and wanted header extensions (RFC 8285), which has agreed on nothing. The
+    /// session's bandwidth and attributes stand in each text that the end writes, the attributes behind the bundle.
     ///
     /// # Errors
     /// The first that holds of `RowNotPlain`, `TypesNotDistinct` and `NotWritable`; or `Memory`.
