@@ -30,7 +30,6 @@ use std::marker::Model;
 const END_OF_NUMBERS: u64 = 0x4000_0000_0000_0000;
 
 /// A sending stream: how its samples are numbered and cut.
-#[derive(Drop)]
 pub struct SendingStream {
     alloc: Global,
     types: PayloadTypes,
@@ -44,6 +43,26 @@ pub struct SendingStream {
     mtu: usize,
     limit: usize,
     failed: bool,
+}
+
+/// Written out, so that who lets one go needs nothing of what is inside.
+impl Drop for SendingStream {
+    fn drop(self) {
+        let SendingStream {
+            alloc: _alloc,
+            types: _types,
+            stamp: _stamp,
+            row: _row,
+            has_id: _has_id,
+            for_browsers: _for_browsers,
+            payloader: _payloader,
+            redundancy: _redundancy,
+            next: _next,
+            mtu: _mtu,
+            limit: _limit,
+            failed: _failed,
+        } = self;
+    }
 }
 
 impl Model for SendingStream {
@@ -136,7 +155,7 @@ impl SendingStream {
         let Ok(sender) = RedSender::new(stream.alloc, distances) else {
             return Err(AllocError);
         };
-        stream.stamp = stream.stamp.with_type(red);
+        stream.stamp.set_type(red);
         stream.redundancy = Some(sender);
         Ok(stream)
     }

@@ -31,18 +31,14 @@ impl Stamp {
         Stamp { ssrc, pt, exts }
     }
 
-    /// The stamp with another payload type.
-    pub fn with_type(self, pt: Pt) -> Self
+    /// Has it carry another payload type.
+    pub fn set_type(&mut self, pt: Pt)
         requires { pt < 128 }
-        ensures ssrc { result.ssrc ≡ self.ssrc }
-        ensures pt { result.pt ≡ pt }
-        ensures exts { result.exts ≡ self.exts }
+        ensures ssrc { self.new.ssrc ≡ self.old.ssrc }
+        ensures pt { self.new.pt ≡ pt }
+        ensures exts { self.new.exts ≡ self.old.exts }
     {
-        Stamp {
-            ssrc: self.ssrc,
-            pt,
-            exts: self.exts,
-        }
+        self.pt = pt;
     }
 
     /// The header of the datagram of this number.

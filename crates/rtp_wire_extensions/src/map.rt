@@ -37,9 +37,16 @@ pub enum ExtensionsForm {
 }
 
 /// Which extension has which number, 1 to 16 (RFC 8285 5).
-#[derive(Debug, Drop)]
+#[derive(Debug)]
 pub struct ExtensionMap {
     entries: [Option<Extension>; 16],
+}
+
+/// Written out, so that who lets one go needs nothing of what is inside.
+impl Drop for ExtensionMap {
+    fn drop(self) {
+        let ExtensionMap { entries: _entries } = self;
+    }
 }
 
 impl Model for ExtensionMap {
