@@ -138,15 +138,15 @@ pub fn value_bytes(ext: &Extension, values: &ExtensionValues) -> Option<ElementB
         Extension::VideoContentType => byte_bytes(values.video_content_type),
         Extension::RtpStreamId => values
             .rid
-            .map(|name| ElementBytes::new(name.as_str().as_bytes())),
+            .map(|name| ElementBytes::new(name.as_bytes())),
         Extension::RepairedRtpStreamId => {
             values
                 .rid_repair
-                .map(|name| ElementBytes::new(name.as_str().as_bytes()))
+                .map(|name| ElementBytes::new(name.as_bytes()))
         }
         Extension::RtpMid => values
             .mid
-            .map(|name| ElementBytes::new(name.as_str().as_bytes())),
+            .map(|name| ElementBytes::new(name.as_bytes())),
         Extension::UnknownUri(_) => None,
     }
 }
