@@ -225,8 +225,7 @@ impl SendingStream {
         }
         let rate = rtp_rate_of(self.row.codec, self.row.clock_rate);
         let time = time.checked_rebase(rate).ok_or(SampleError::TimeTooLarge)?;
-        let header = self.stamp.header(0, false, 0, values);
-        let header_len = header.two_byte_len(&self.stamp.exts);
+        let header_len = self.stamp.two_byte_len(values);
         if self.limit < header_len || self.limit - header_len < self.mtu {
             return Err(SampleError::LimitTooSmall);
         }
