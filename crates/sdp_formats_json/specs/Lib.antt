@@ -1,0 +1,5 @@
+pub mod Names
+pub mod Named
+pub mod NamedLaws
+pub mod Shapes
+pub mod Entries
