@@ -11,9 +11,10 @@ use Rattle.serde_json.specs.Data.{put, depth, members_depth}
 use Rattle.serde_json.specs.Find.{get, as_null}
 use Rattle.serde_json.specs.Written.{has_float, members_have_float}
 use Rattle.sdp_formats_json.specs.Names.{field_name}
-use Rattle.sdp_formats_json.specs.Shapes.{Shape, and_then, or_refused, tested, number_where, word, rate, flag, with_name, word_of}
+use Rattle.sdp_formats_json.specs.Shapes.{Shape, and_then, or_refused, tested, number_where, byte, half_word, word, rate, flag, with_name, word_of}
 use Rattle.sdp_formats_json.specs.Shapes.{optional_data, optional_fits, optional_read, given_read}
 use Rattle.sdp_formats_json.specs.Entries.{Entry, entry, optional, put_all, read_all, all_fit, object_of}
+use Rattle.sdp_formats_json.specs.Entries.{put_groups, read_groups, groups_fit, object_in}
 use Rattle.sdp_formats_json.specs.declared.error.Field.{Field}
 use Rattle.sdp_formats_json.specs.declared.error.JsonError.{JsonError}
 
@@ -49,6 +50,7 @@ rate_back : (e : JsonError) (n : ℕ) → (nat_lt 0 n && nat_lt n (2 ^ 32)) ≡ 
 rate_back e n h = let two = rate_fits n h in let k = two.0 in rw k (some_rate e n two.1)
 
 pub rate-sound : (n : ℕ) → Sound rate n
+unfolding rate word
 rate-sound n = record {
   back = λ field a h. rate_back _ a h;
   given = λ a. refl;
@@ -56,7 +58,20 @@ rate-sound n = record {
   shallow = λ a. omega arith;
 }
 
+pub byte-sound : (n : ℕ) → Sound byte n
+unfolding byte
+byte-sound n = number_where-sound _ n
+
+pub half_word-sound : (n : ℕ) → Sound half_word n
+unfolding half_word
+half_word-sound n = number_where-sound _ n
+
+pub word-sound : (n : ℕ) → Sound word n
+unfolding word
+word-sound n = number_where-sound _ n
+
 pub flag-sound : (n : ℕ) → Sound flag n
+unfolding flag
 flag-sound n = record {
   back = λ field a h. refl;
   given = λ a. refl;
@@ -184,4 +199,44 @@ object-sound es blank n sound found whole = record {
   given = λ r. refl;
   no_float = λ r. put_all_no_float es r n no_members sound refl;
   shallow = λ r. let h = put_all_shallow es r n no_members sound (omega arith) in omega arith;
+}
+
+abbrev pub AllSounds : {R : Type 0} → List (List (Entry R)) → ℕ → Type 0
+AllSounds [] n = Unit {0}
+AllSounds (g ∷ gs) n = AllSound g n × AllSounds gs n
+
+abbrev pub AllFounds : {R : Type 0} → List (List (Entry R)) → Data → R → Type 0
+AllFounds [] d r = Unit {0}
+AllFounds (g ∷ gs) d r = AllFound g d r × AllFounds gs d r
+
+abbrev pub moved_groups : {R : Type 0} → List (List (Entry R)) → R → R → R
+moved_groups [] from to = to
+moved_groups (g ∷ gs) from to = moved_groups gs from (moved g from to)
+
+groups_back : {R : Type 0} (gs : List (List (Entry R))) (d : Data) (n : ℕ) (from to : R) → AllSounds gs n
+    → AllFounds gs d from → groups_fit gs from ≡ true → read_groups gs d to ≡ Ok (moved_groups gs from to)
+groups_back [] d n from to sound found h = refl
+groups_back (g ∷ gs) d n from to sound found h =
+    let two = and_parts (all_fit g from) (groups_fit gs from) h in
+    ap (λ x. and_then x (read_groups gs d)) (read_back g d n from to sound.0 found.0 two.0)
+    ∙ groups_back gs d n from (moved g from to) sound.1 found.1 two.1
+
+groups_no_float : {R : Type 0} (gs : List (List (Entry R))) (r : R) (n : ℕ) (ms : Members) → AllSounds gs n
+    → members_have_float ms ≡ false → members_have_float (put_groups gs r ms) ≡ false
+groups_no_float [] r n ms sound h = h
+groups_no_float (g ∷ gs) r n ms sound h = groups_no_float gs r n _ sound.1 (put_all_no_float g r n ms sound.0 h)
+
+groups_shallow : {R : Type 0} (gs : List (List (Entry R))) (r : R) (n : ℕ) (ms : Members) → AllSounds gs n
+    → members_depth ms ≤ n → members_depth (put_groups gs r ms) ≤ n
+groups_shallow [] r n ms sound h = h
+groups_shallow (g ∷ gs) r n ms sound h = groups_shallow gs r n _ sound.1 (put_all_shallow g r n ms sound.0 h)
+
+pub groups-sound : {R : Type 0} (gs : List (List (Entry R))) (blank : R) (n : ℕ) → AllSounds gs n
+    → ((r : R) → AllFounds gs (object (put_groups gs r no_members)) r) → ((r : R) → moved_groups gs r blank ≡ r)
+    → Sound (object_in gs blank) (suc n)
+groups-sound gs blank n sound found whole = record {
+  back = λ field r h. groups_back gs (object (put_groups gs r no_members)) n r blank sound (found r) h ∙ ap Ok (whole r);
+  given = λ r. refl;
+  no_float = λ r. groups_no_float gs r n no_members sound refl;
+  shallow = λ r. let h = groups_shallow gs r n no_members sound (omega arith) in omega arith;
 }

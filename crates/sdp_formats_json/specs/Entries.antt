@@ -58,3 +58,23 @@ object_of entries blank = record {
   reads = λ field d. if is_some (as_object d) then read_all entries d blank else Err (Unfit field);
   fits = all_fit entries;
 }
+
+-- The same in groups of fields, one group after the other.
+abbrev pub put_groups : {R : Type 0} → List (List (Entry R)) → R → Members → Members
+put_groups [] r ms = ms
+put_groups (g ∷ gs) r ms = put_groups gs r (put_all g r ms)
+
+abbrev pub read_groups : {R : Type 0} → List (List (Entry R)) → Data → R → Result R JsonError
+read_groups [] d r = Ok r
+read_groups (g ∷ gs) d r = and_then (read_all g d r) (read_groups gs d)
+
+abbrev pub groups_fit : {R : Type 0} → List (List (Entry R)) → R → Bool
+groups_fit [] r = true
+groups_fit (g ∷ gs) r = all_fit g r && groups_fit gs r
+
+abbrev pub object_in : {R : Type 0} → List (List (Entry R)) → R → Shape R
+object_in groups blank = record {
+  writes = λ r. object (put_groups groups r no_members);
+  reads = λ field d. if is_some (as_object d) then read_groups groups d blank else Err (Unfit field);
+  fits = groups_fit groups;
+}

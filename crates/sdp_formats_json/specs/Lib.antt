@@ -3,3 +3,6 @@ pub mod Named
 pub mod NamedLaws
 pub mod Shapes
 pub mod Entries
+pub mod Levels
+pub mod Formats
+pub mod Rows

@@ -4,7 +4,7 @@ use Rattle.sdp_formats_json.specs.declared.error.Field.{Field}
 use Rattle.sdp_formats_json.specs.declared.error.Field.TheVariants as field
 
 -- The name of a field, as JSON has it.
-abbrev pub field_name : Field → List ℕ
+unfoldable pub field_name : Field → List ℕ
 field_name field.Pt = codes "pt"
 field_name field.Resend = codes "resend"
 field_name field.Spec = codes "spec"

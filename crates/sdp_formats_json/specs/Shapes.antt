@@ -39,24 +39,25 @@ number_where test = record {
   fits = test;
 }
 
-abbrev pub byte : Shape ℕ
+unfoldable pub byte : Shape ℕ
 byte = number_where (λ n. nat_lt n (2 ^ 8))
 
-abbrev pub half_word : Shape ℕ
+unfoldable pub half_word : Shape ℕ
 half_word = number_where (λ n. nat_lt n (2 ^ 16))
 
-abbrev pub word : Shape ℕ
+unfoldable pub word : Shape ℕ
 word = number_where (λ n. nat_lt n (2 ^ 32))
 
 -- a clock rate is a word above 0
-abbrev pub rate : Shape ℕ
+unfoldable pub rate : Shape ℕ
+unfolding word
 rate = record {
   writes = word.writes;
   reads = λ field d. and_then (word.reads field d) (λ n. or_refused (Unfit field) (frequency_of n));
   fits = λ n. nat_lt 0 n && nat_lt n (2 ^ 32);
 }
 
-abbrev pub flag : Shape Bool
+unfoldable pub flag : Shape Bool
 flag = record {
   writes = boolean;
   reads = λ field d. or_refused (Unfit field) (as_bool d);

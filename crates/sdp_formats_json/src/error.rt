@@ -48,6 +48,7 @@ pub enum Field {
 
 impl Field {
     /// The name of the field, as JSON has it.
+    #[tactic(auto, unfolding(crate::specs::Names::field_name))]
     pub fn as_str(self) -> &'static str
         ensures { result.now ≡ field_name self }
     {

@@ -2,8 +2,14 @@
 #![tactic(auto)]
 
 mod error;
+mod format;
+mod levels;
 mod members;
 mod named;
+mod row;
 mod shaped;
+mod text;
 
 pub use error::{Field, JsonError};
+pub use sdp_formats_rows::PayloadParams;
+pub use text::{row_from_json, row_to_json};

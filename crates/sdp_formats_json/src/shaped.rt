@@ -25,6 +25,7 @@ pub(crate) trait Shaped: Copy + Drop {
         ensures { result ≡ shape.reads field (view value.now) };
 }
 
+#[tactic(auto, unfolding(crate::specs::Shapes::byte))]
 impl Shaped for u8 {
     ghost shape = { byte };
 
@@ -40,6 +41,7 @@ impl Shaped for u8 {
     }
 }
 
+#[tactic(auto, unfolding(crate::specs::Shapes::half_word))]
 impl Shaped for u16 {
     ghost shape = { half_word };
 
@@ -55,6 +57,7 @@ impl Shaped for u16 {
     }
 }
 
+#[tactic(auto, unfolding(crate::specs::Shapes::word))]
 impl Shaped for u32 {
     ghost shape = { word };
 
@@ -70,6 +73,7 @@ impl Shaped for u32 {
     }
 }
 
+#[tactic(auto, unfolding(crate::specs::Shapes::flag))]
 impl Shaped for bool {
     ghost shape = { flag };
 
@@ -82,6 +86,7 @@ impl Shaped for bool {
     }
 }
 
+#[tactic(auto, unfolding(crate::specs::Shapes::byte))]
 impl Shaped for Pt {
     ghost shape = { byte };
 
@@ -94,6 +99,7 @@ impl Shaped for Pt {
     }
 }
 
+#[tactic(auto, unfolding(crate::specs::Shapes::rate, crate::specs::Shapes::word))]
 impl Shaped for Frequency {
     ghost shape = { rate };
 
