@@ -81,6 +81,7 @@ flag-sound n = record {
 
 pub word_of-sound : {A : Type 0} (name : A → List ℕ) (table : List A) (n : ℕ)
     → ((a : A) → with_name name table (name a) ≡ Some a) → Sound (word_of name table) n
+unfolding word_of
 word_of-sound name table n known = record {
   back = λ field a h. rw (known a);
   given = λ a. refl;
@@ -95,6 +96,7 @@ pub record SoundEntry {R : Type 0} (e : Entry R) (n : ℕ) : Type 0 where
 
 pub entry-sound : {R A : Type 0} (field : Field) (shape : Shape A) (value : R → A) (with_value : A → R → R) (n : ℕ)
     → Sound shape n → SoundEntry (entry field shape value with_value) n
+unfolding entry
 entry-sound field shape value with_value n sound = record {
   back = λ from to h. ap (λ a. and_then a (λ x. Ok (with_value x to))) (sound.back field (value from) h);
   no_float = λ r. sound.no_float (value r);
@@ -118,6 +120,7 @@ optional_shallow shape n sound (Some a) = sound.shallow a
 
 pub optional-sound : {R A : Type 0} (field : Field) (shape : Shape A) (value : R → Option A)
     (with_value : Option A → R → R) (n : ℕ) → Sound shape n → SoundEntry (optional field shape value with_value) n
+unfolding optional
 optional-sound field shape value with_value n sound = record {
   back = λ from to h. ap (λ a. and_then a (λ x. Ok (with_value x to)))
       (optional_back shape n sound field (value from) h);

@@ -18,7 +18,7 @@ pub record Entry (R : Type 0) : Type 0 where
   pub moves : R → R → R
 
 -- a field that has to be there
-abbrev pub entry : {R A : Type 0} → Field → Shape A → (R → A) → (A → R → R) → Entry R
+unfoldable pub entry : {R A : Type 0} → Field → Shape A → (R → A) → (A → R → R) → Entry R
 entry field shape value with_value = record {
   field = field;
   gives = λ r. shape.writes (value r);
@@ -28,7 +28,7 @@ entry field shape value with_value = record {
 }
 
 -- a field that may be missing
-abbrev pub optional : {R A : Type 0} → Field → Shape A → (R → Option A) → (Option A → R → R) → Entry R
+unfoldable pub optional : {R A : Type 0} → Field → Shape A → (R → Option A) → (Option A → R → R) → Entry R
 optional field shape value with_value = record {
   field = field;
   gives = λ r. optional_data shape (value r);

@@ -74,7 +74,7 @@ name_read name table field None = Err (Unfit field)
 name_read name table field (Some text) = or_refused (Unknown field) (with_name name table text)
 
 -- values of a table, by their names
-abbrev pub word_of : {A : Type 0} → (A → List ℕ) → List A → Shape A
+unfoldable pub word_of : {A : Type 0} → (A → List ℕ) → List A → Shape A
 word_of name table = record {
   writes = λ a. string (name a);
   reads = λ field d. name_read name table field (as_str d);

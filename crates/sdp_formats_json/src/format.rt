@@ -2,6 +2,7 @@
 
 ghost use Rattle.std.specs.Prelude.{◌≡◌, OnOk, true};
 ghost use Rattle.serde_json.specs.View.{view, members_view};
+ghost use Rattle.sdp_formats_rows.specs.Formats.{no_format};
 ghost use Rattle.sdp_formats_json.specs.Entries.{all_fit, put_all, read_all};
 ghost use Rattle.sdp_formats_json.specs.Formats.{format, opus_entries, other_entries, video_entries};
 
@@ -12,7 +13,7 @@ use sdp_formats_rows::FormatParams;
 use serde_json::{Map, Value};
 use std::alloc::{AllocError, Global};
 
-#[tactic(auto, unfolding(crate::specs::Formats::opus_entries))]
+#[tactic(auto, unfolding(crate::specs::Formats::opus_entries, crate::specs::Entries::optional))]
 fn put_opus(
     map: &mut Map<String, Value>,
     alloc: Global,
@@ -29,7 +30,7 @@ fn put_opus(
     put_optional(map, alloc, Field::UseDtx, format.use_dtx)
 }
 
-#[tactic(auto, unfolding(crate::specs::Formats::video_entries))]
+#[tactic(auto, unfolding(crate::specs::Formats::video_entries, crate::specs::Entries::optional))]
 fn put_video(
     map: &mut Map<String, Value>,
     alloc: Global,
@@ -48,7 +49,7 @@ fn put_video(
     put_optional(map, alloc, Field::Tier, format.tier)
 }
 
-#[tactic(auto, unfolding(crate::specs::Formats::other_entries))]
+#[tactic(auto, unfolding(crate::specs::Formats::other_entries, crate::specs::Entries::optional))]
 fn put_other(
     map: &mut Map<String, Value>,
     alloc: Global,
@@ -66,7 +67,7 @@ fn put_other(
     put_optional(map, alloc, Field::ModeSet, format.mode_set)
 }
 
-#[tactic(auto, unfolding(crate::specs::Formats::opus_entries))]
+#[tactic(auto, unfolding(crate::specs::Formats::opus_entries, crate::specs::Entries::optional))]
 fn with_opus(mut format: FormatParams, value: &Value) -> Result<FormatParams, JsonError>
     ensures { result ≡ read_all opus_entries (view value.now) format }
 {
@@ -78,7 +79,7 @@ fn with_opus(mut format: FormatParams, value: &Value) -> Result<FormatParams, Js
     Ok(format)
 }
 
-#[tactic(auto, unfolding(crate::specs::Formats::video_entries))]
+#[tactic(auto, unfolding(crate::specs::Formats::video_entries, crate::specs::Entries::optional))]
 fn with_video(mut format: FormatParams, value: &Value) -> Result<FormatParams, JsonError>
     ensures { result ≡ read_all video_entries (view value.now) format }
 {
@@ -92,7 +93,7 @@ fn with_video(mut format: FormatParams, value: &Value) -> Result<FormatParams, J
     Ok(format)
 }
 
-#[tactic(auto, unfolding(crate::specs::Formats::other_entries))]
+#[tactic(auto, unfolding(crate::specs::Formats::other_entries, crate::specs::Entries::optional))]
 fn with_other(mut format: FormatParams, value: &Value) -> Result<FormatParams, JsonError>
     ensures { result ≡ read_all other_entries (view value.now) format }
 {
@@ -103,6 +104,12 @@ fn with_other(mut format: FormatParams, value: &Value) -> Result<FormatParams, J
     format.octet_align = optional_member(value, Field::OctetAlign)?;
     format.mode_set = optional_member(value, Field::ModeSet)?;
     Ok(format)
+}
+
+fn no_format() -> FormatParams
+    ensures { result ≡ no_format }
+{
+    FormatParams::default()
 }
 
 #[tactic(auto, unfolding(crate::specs::Formats::format))]
@@ -121,7 +128,7 @@ impl Shaped for FormatParams {
         if !value.is_object() {
             return Err(JsonError::Unfit(field));
         }
-        let format = with_opus(FormatParams::default(), value)?;
+        let format = with_opus(no_format(), value)?;
         let format = with_video(format, value)?;
         with_other(format, value)
     }

@@ -23,7 +23,7 @@ fn h265_of(profile: H265Profile, tier: H265Tier, level: H265Level) -> H265Profil
     H265ProfileTierLevel::from((profile.to_id(), tier.to_flag(), level.to_id()))
 }
 
-#[tactic(auto, unfolding(crate::specs::Levels::h265))]
+#[tactic(auto, unfolding(crate::specs::Levels::h265, crate::specs::Entries::entry, crate::specs::Shapes::word_of))]
 impl Shaped for H265ProfileTierLevel {
     ghost shape = { h265 };
 
@@ -53,7 +53,7 @@ fn h266_of(profile: H266Profile, tier: H266Tier, level: H266Level) -> H266Profil
     H266ProfileTierLevel::from((profile.to_id(), tier.to_flag(), level.to_id()))
 }
 
-#[tactic(auto, unfolding(crate::specs::Levels::h266))]
+#[tactic(auto, unfolding(crate::specs::Levels::h266, crate::specs::Entries::entry, crate::specs::Shapes::word_of))]
 impl Shaped for H266ProfileTierLevel {
     ghost shape = { h266 };
 

@@ -89,6 +89,7 @@ fn given<T: Shaped>(value: &Value, field: Field) -> Result<Option<T>, JsonError>
 }
 
 /// The field of an object, by its name in a table.
+#[tactic(auto, unfolding(crate::specs::Shapes::word_of))]
 pub(crate) fn named_member<T: Named>(
     value: &Value,
     field: Field,

@@ -29,7 +29,7 @@ fn blank_spec() -> CodecSpec
     }
 }
 
-#[tactic(auto, unfolding(crate::specs::Rows::spec))]
+#[tactic(auto, unfolding(crate::specs::Rows::spec, crate::specs::Entries::entry, crate::specs::Entries::optional, crate::specs::Shapes::word_of))]
 impl Shaped for CodecSpec {
     ghost shape = { spec };
 
@@ -55,7 +55,7 @@ impl Shaped for CodecSpec {
     }
 }
 
-#[tactic(auto, unfolding(crate::specs::Rows::feedback_entries))]
+#[tactic(auto, unfolding(crate::specs::Rows::feedback_entries, crate::specs::Entries::entry))]
 fn put_feedback(
     map: &mut Map<String, Value>,
     alloc: Global,
@@ -72,7 +72,7 @@ fn put_feedback(
     put(map, alloc, Field::FbRemb, row.fb_remb())
 }
 
-#[tactic(auto, unfolding(crate::specs::Rows::codec_entries))]
+#[tactic(auto, unfolding(crate::specs::Rows::codec_entries, crate::specs::Entries::entry, crate::specs::Entries::optional))]
 fn put_codec(
     map: &mut Map<String, Value>,
     alloc: Global,
@@ -87,7 +87,7 @@ fn put_codec(
     put(map, alloc, Field::Spec, row.spec())
 }
 
-#[tactic(auto, unfolding(crate::specs::Rows::lock_entries))]
+#[tactic(auto, unfolding(crate::specs::Rows::lock_entries, crate::specs::Entries::entry, crate::specs::Entries::optional))]
 fn put_lock(
     map: &mut Map<String, Value>,
     alloc: Global,
@@ -121,7 +121,7 @@ fn blank_row() -> PayloadParams
     PayloadParams::new(Pt::from(0), None, blank_spec())
 }
 
-#[tactic(auto, unfolding(crate::specs::Rows::codec_entries))]
+#[tactic(auto, unfolding(crate::specs::Rows::codec_entries, crate::specs::Entries::entry, crate::specs::Entries::optional))]
 fn with_codec(row: PayloadParams, value: &Value) -> Result<PayloadParams, JsonError>
     ensures read { result ≡ read_all codec_entries (view value.now) row }
     ensures lock { IfOk result (λ r. r.locked ≡ row.locked) }
@@ -132,7 +132,7 @@ fn with_codec(row: PayloadParams, value: &Value) -> Result<PayloadParams, JsonEr
     Ok(row.with_types(pt, resend, row.red()).with_spec(spec))
 }
 
-#[tactic(auto, unfolding(crate::specs::Rows::feedback_entries))]
+#[tactic(auto, unfolding(crate::specs::Rows::feedback_entries, crate::specs::Entries::entry))]
 fn with_feedback(mut row: PayloadParams, value: &Value) -> Result<PayloadParams, JsonError>
     ensures read { result ≡ read_all feedback_entries (view value.now) row }
     ensures lock { IfOk result (λ r. r.locked ≡ row.locked) }
@@ -145,7 +145,7 @@ fn with_feedback(mut row: PayloadParams, value: &Value) -> Result<PayloadParams,
     Ok(row)
 }
 
-#[tactic(auto, unfolding(crate::specs::Rows::lock_entries))]
+#[tactic(auto, unfolding(crate::specs::Rows::lock_entries, crate::specs::Entries::entry, crate::specs::Entries::optional))]
 fn with_lock(row: PayloadParams, value: &Value) -> Result<PayloadParams, JsonError>
     requires { row.locked ≡ false }
     ensures { result ≡ read_all lock_entries (view value.now) row }

@@ -22,7 +22,8 @@ pub fn row_to_json(alloc: Global, row: &PayloadParams) -> Result<String, AllocEr
     ensures reads { IfOk result (λ s. read (string_bytes s) ≡ Some (row_data row.now)) }
     ensures comes_back { IfOk result (λ s. row_of_text (string_bytes s) ≡ Ok row.now) }
 {
-    row_value(alloc, row)?.to_string(alloc)
+    let value = row_value(alloc, row)?;
+    value.to_string(alloc)
 }
 
 /// The row that a JSON text says: an object of its fields, in any order; those that may be missing are None where they
@@ -32,6 +33,7 @@ pub fn row_to_json(alloc: Global, row: &PayloadParams) -> Result<String, AllocEr
 ///
 /// `NotJson` for a text that is no JSON, `NotObject` for one that is no object; then of the fields the first in their
 /// order that is `Missing`, `Unfit` or `Unknown`; `Memory` where memory is wanting.
+#[tactic(auto, unfolding(crate::specs::Rows::row_of_text))]
 pub fn row_from_json(alloc: Global, text: &str) -> Result<PayloadParams, JsonError>
     ensures { Answers (λ row. row) result (row_of_text text.now) }
 {
