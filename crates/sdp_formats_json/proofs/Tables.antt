@@ -22,11 +22,15 @@ use Rattle.sdp_formats_json.proofs.Sound.{byte-sound, half_word-sound, word-soun
 use Rattle.sdp_formats_json.proofs.Sound.{flag-sound, word_of-sound, entry-sound, optional-sound, object-sound}
 use Rattle.sdp_formats_json.proofs.Sound.{groups-sound}
 
-
 h265-sounds : AllSound h265_entries 0
-h265-sounds =
-    (entry-sound _ _ _ _ 0 (word_of-sound _ _ 0 h265_profile_known), (entry-sound _ _ _ _ 0 (word_of-sound _ _ 0
-    h265_tier_known), (entry-sound _ _ _ _ 0 (word_of-sound _ _ 0 h265_level_known), tt)))
+h265-sounds = (
+  entry-sound _ _ _ _ 0 (word_of-sound _ _ 0 h265_profile_known),
+  (
+    entry-sound _ _ _ _ 0 (word_of-sound _ _ 0
+        h265_tier_known),
+    (entry-sound _ _ _ _ 0 (word_of-sound _ _ 0 h265_level_known), tt),
+  ),
+)
 
 h265-found : (r : H265ProfileTierLevel) → AllFound h265_entries (object (put_all h265_entries r no_members)) r
 unfolding entry field_name
@@ -41,9 +45,14 @@ unfolding h265
 h265-sound = object-sound h265_entries fallback 0 h265-sounds h265-found h265-moved
 
 h266-sounds : AllSound h266_entries 0
-h266-sounds =
-    (entry-sound _ _ _ _ 0 (word_of-sound _ _ 0 h266_profile_known), (entry-sound _ _ _ _ 0 (word_of-sound _ _ 0
-    h266_tier_known), (entry-sound _ _ _ _ 0 (word_of-sound _ _ 0 h266_level_known), tt)))
+h266-sounds = (
+  entry-sound _ _ _ _ 0 (word_of-sound _ _ 0 h266_profile_known),
+  (
+    entry-sound _ _ _ _ 0 (word_of-sound _ _ 0
+        h266_tier_known),
+    (entry-sound _ _ _ _ 0 (word_of-sound _ _ 0 h266_level_known), tt),
+  ),
+)
 
 h266-found : (r : H266ProfileTierLevel) → AllFound h266_entries (object (put_all h266_entries r no_members)) r
 unfolding entry field_name
@@ -59,30 +68,68 @@ h266-sound = object-sound h266_entries h266_fallback 0 h266-sounds h266-found h2
 
 opus-sounds : AllSound opus_entries 1
 unfolding opus_entries
-opus-sounds =
-    (optional-sound _ _ _ _ 1 (byte-sound 1), (optional-sound _ _ _ _ 1 (flag-sound 1), (optional-sound _ _ _ _ 1
-    (flag-sound 1), (optional-sound _ _ _ _ 1 (flag-sound 1), (optional-sound _ _ _ _ 1 (flag-sound 1), tt)))))
+opus-sounds = (
+  optional-sound _ _ _ _ 1 (byte-sound 1),
+  (
+    optional-sound _ _ _ _ 1 (flag-sound 1),
+    (
+      optional-sound _ _ _ _ 1
+          (flag-sound 1),
+      (optional-sound _ _ _ _ 1 (flag-sound 1), (optional-sound _ _ _ _ 1 (flag-sound 1), tt)),
+    ),
+  ),
+)
 
 video-sounds : AllSound video_entries 1
 unfolding video_entries
-video-sounds =
-    (optional-sound _ _ _ _ 1 (flag-sound 1), (optional-sound _ _ _ _ 1 (byte-sound 1), (optional-sound _ _ _ _ 1
-    (word-sound 1), (optional-sound _ _ _ _ 1 (word-sound 1), (optional-sound _ _ _ _ 1 (byte-sound 1),
-    (optional-sound _ _ _ _ 1 (byte-sound 1), (optional-sound _ _ _ _ 1 (byte-sound 1), tt)))))))
+video-sounds = (
+  optional-sound _ _ _ _ 1 (flag-sound 1),
+  (
+    optional-sound _ _ _ _ 1 (byte-sound 1),
+    (
+      optional-sound _ _ _ _ 1
+          (word-sound 1),
+      (
+        optional-sound _ _ _ _ 1 (word-sound 1),
+        (
+          optional-sound _ _ _ _ 1 (byte-sound 1),
+          (optional-sound _ _ _ _ 1 (byte-sound 1), (optional-sound _ _ _ _ 1 (byte-sound 1), tt)),
+        ),
+      ),
+    ),
+  ),
+)
 
 other-sounds : AllSound other_entries 1
 unfolding other_entries
-other-sounds =
-    (optional-sound _ _ _ _ 1 h265-sound, (optional-sound _ _ _ _ 1 h266-sound, (optional-sound _ _ _ _ 1
-    (half_word-sound 1), (optional-sound _ _ _ _ 1 (byte-sound 1), (optional-sound _ _ _ _ 1 (flag-sound 1),
-    (optional-sound _ _ _ _ 1 (half_word-sound 1), tt))))))
+other-sounds = (
+  optional-sound _ _ _ _ 1 h265-sound,
+  (
+    optional-sound _ _ _ _ 1 h266-sound,
+    (
+      optional-sound _ _ _ _ 1
+          (half_word-sound 1),
+      (
+        optional-sound _ _ _ _ 1 (byte-sound 1),
+        (
+          optional-sound _ _ _ _ 1 (flag-sound 1),
+          (optional-sound _ _ _ _ 1 (half_word-sound 1), tt),
+        ),
+      ),
+    ),
+  ),
+)
 
 format-found : (r : FormatParams) → AllFounds (opus_entries ∷ video_entries ∷ other_entries ∷ [])
     (object (put_groups (opus_entries ∷ video_entries ∷ other_entries ∷ []) r no_members)) r
 unfolding opus_entries video_entries other_entries optional field_name
-format-found r =
-    ((refl, (refl, (refl, (refl, (refl, tt))))), ((refl, (refl, (refl, (refl, (refl, (refl, (refl, tt))))))),
-    ((refl, (refl, (refl, (refl, (refl, (refl, tt)))))), tt)))
+format-found r = (
+  (refl, (refl, (refl, (refl, (refl, tt))))),
+  (
+    (refl, (refl, (refl, (refl, (refl, (refl, (refl, tt))))))),
+    ((refl, (refl, (refl, (refl, (refl, (refl, tt)))))), tt),
+  ),
+)
 
 format-moved : (r : FormatParams) → moved_groups (opus_entries ∷ video_entries ∷ other_entries ∷ []) r no_format ≡ r
 unfolding opus_entries video_entries other_entries optional
@@ -94,9 +141,17 @@ format-sound = groups-sound (opus_entries ∷ video_entries ∷ other_entries �
     (opus-sounds, (video-sounds, (other-sounds, tt))) format-found format-moved
 
 spec-sounds : AllSound spec_entries 2
-spec-sounds =
-    (entry-sound _ _ _ _ 2 (word_of-sound _ _ 2 codec_known), (entry-sound _ _ _ _ 2 (rate-sound 2), (optional-sound
-    _ _ _ _ 2 (byte-sound 2), (entry-sound _ _ _ _ 2 format-sound, tt))))
+spec-sounds = (
+  entry-sound _ _ _ _ 2 (word_of-sound _ _ 2 codec_known),
+  (
+    entry-sound _ _ _ _ 2 (rate-sound 2),
+    (
+      optional-sound
+          _ _ _ _ 2 (byte-sound 2),
+      (entry-sound _ _ _ _ 2 format-sound, tt),
+    ),
+  ),
+)
 
 spec-found : (r : CodecSpec) → AllFound spec_entries (object (put_all spec_entries r no_members)) r
 unfolding entry optional field_name
@@ -112,15 +167,31 @@ spec-sound = object-sound spec_entries blank_spec 2 spec-sounds spec-found spec-
 
 codec-sounds : AllSound codec_entries 3
 unfolding codec_entries
-codec-sounds =
-    (entry-sound _ _ _ _ 3 (byte-sound 3), (optional-sound _ _ _ _ 3 (byte-sound 3), (entry-sound _ _ _ _ 3
-    spec-sound, tt)))
+codec-sounds = (
+  entry-sound _ _ _ _ 3 (byte-sound 3),
+  (
+    optional-sound _ _ _ _ 3 (byte-sound 3),
+    (
+      entry-sound _ _ _ _ 3
+          spec-sound,
+      tt,
+    ),
+  ),
+)
 
 feedback-sounds : AllSound feedback_entries 3
 unfolding feedback_entries
-feedback-sounds =
-    (entry-sound _ _ _ _ 3 (flag-sound 3), (entry-sound _ _ _ _ 3 (flag-sound 3), (entry-sound _ _ _ _ 3 (flag-sound
-    3), (entry-sound _ _ _ _ 3 (flag-sound 3), (entry-sound _ _ _ _ 3 (flag-sound 3), tt)))))
+feedback-sounds = (
+  entry-sound _ _ _ _ 3 (flag-sound 3),
+  (
+    entry-sound _ _ _ _ 3 (flag-sound 3),
+    (
+      entry-sound _ _ _ _ 3 (flag-sound
+          3),
+      (entry-sound _ _ _ _ 3 (flag-sound 3), (entry-sound _ _ _ _ 3 (flag-sound 3), tt)),
+    ),
+  ),
+)
 
 lock-sounds : AllSound lock_entries 3
 unfolding lock_entries

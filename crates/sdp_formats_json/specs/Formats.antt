@@ -21,7 +21,7 @@ opus_entries =
 unfoldable pub video_entries : List (Entry FormatParams)
 video_entries =
     optional field.LevelAsymmetryAllowed flag (λ f. f.level_asymmetry_allowed)
-        (λ x f. record f { level_asymmetry_allowed = x })
+    (λ x f. record f { level_asymmetry_allowed = x })
     ∷ optional field.PacketizationMode byte (λ f. f.packetization_mode) (λ x f. record f { packetization_mode = x })
     ∷ optional field.ProfileLevelId word (λ f. f.profile_level_id) (λ x f. record f { profile_level_id = x })
     ∷ optional field.ProfileId word (λ f. f.profile_id) (λ x f. record f { profile_id = x })
@@ -33,9 +33,9 @@ video_entries =
 unfoldable pub other_entries : List (Entry FormatParams)
 other_entries =
     optional field.H265ProfileTierLevel h265 (λ f. f.h265_profile_tier_level)
-        (λ x f. record f { h265_profile_tier_level = x })
+    (λ x f. record f { h265_profile_tier_level = x })
     ∷ optional field.H266ProfileTierLevel h266 (λ f. f.h266_profile_tier_level)
-        (λ x f. record f { h266_profile_tier_level = x })
+    (λ x f. record f { h266_profile_tier_level = x })
     ∷ optional field.SpropMaxDonDiff half_word (λ f. f.sprop_max_don_diff) (λ x f. record f { sprop_max_don_diff = x })
     ∷ optional field.TelephoneEventMax byte (λ f. f.telephone_event_max) (λ x f. record f { telephone_event_max = x })
     ∷ optional field.OctetAlign flag (λ f. f.octet_align) (λ x f. record f { octet_align = x })

@@ -11,38 +11,71 @@ use thiserror::Error;
 /// A field of a row, of its codec, of its format, or of a profile, tier and level.
 #[derive(Clone, Copy, Debug, Drop)]
 pub enum Field {
+    /// The payload type of a row.
     Pt,
+    /// The type of its retransmissions.
     Resend,
+    /// Its codec with settings.
     Spec,
+    /// Its transport-wide feedback.
     FbTransportCc,
+    /// Its NACK feedback.
     FbNack,
+    /// Its PLI feedback.
     FbPli,
+    /// Its FIR feedback.
     FbFir,
+    /// Its REMB feedback.
     FbRemb,
+    /// Its RED type.
     Red,
+    /// Its lock.
     Locked,
+    /// The codec of a specification.
     Codec,
+    /// Its clock rate.
     ClockRate,
+    /// Its channels.
     Channels,
+    /// Its format.
     Format,
+    /// `minptime` of a format.
     MinPTime,
+    /// `stereo`.
     Stereo,
+    /// `sprop-stereo`.
     SpropStereo,
+    /// `useinbandfec`.
     UseInbandFec,
+    /// `usedtx`.
     UseDtx,
+    /// `level-asymmetry-allowed`.
     LevelAsymmetryAllowed,
+    /// `packetization-mode`.
     PacketizationMode,
+    /// `profile-level-id`.
     ProfileLevelId,
+    /// `profile-id`.
     ProfileId,
+    /// `profile` of a format, and the profile of a profile, tier and level.
     Profile,
+    /// `level-idx`.
     LevelIdx,
+    /// `tier` of a format, and the tier of a profile, tier and level.
     Tier,
+    /// The profile, tier and level of H.265.
     H265ProfileTierLevel,
+    /// The profile, tier and level of H.266.
     H266ProfileTierLevel,
+    /// `sprop-max-don-diff`.
     SpropMaxDonDiff,
+    /// The highest telephone event.
     TelephoneEventMax,
+    /// `octet-align`.
     OctetAlign,
+    /// `mode-set`.
     ModeSet,
+    /// The level of a profile, tier and level.
     Level,
 }
 

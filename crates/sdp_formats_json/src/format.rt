@@ -40,8 +40,18 @@ fn put_video(
         ≡ put_all video_entries format.now (members_view map.old.entries)) }
     ensures fits { OnOk result (all_fit video_entries format.now ≡ true) }
 {
-    put_optional(map, alloc, Field::LevelAsymmetryAllowed, format.level_asymmetry_allowed)?;
-    put_optional(map, alloc, Field::PacketizationMode, format.packetization_mode)?;
+    put_optional(
+        map,
+        alloc,
+        Field::LevelAsymmetryAllowed,
+        format.level_asymmetry_allowed,
+    )?;
+    put_optional(
+        map,
+        alloc,
+        Field::PacketizationMode,
+        format.packetization_mode,
+    )?;
     put_optional(map, alloc, Field::ProfileLevelId, format.profile_level_id)?;
     put_optional(map, alloc, Field::ProfileId, format.profile_id)?;
     put_optional(map, alloc, Field::Profile, format.profile)?;
@@ -59,10 +69,30 @@ fn put_other(
         ≡ put_all other_entries format.now (members_view map.old.entries)) }
     ensures fits { OnOk result (all_fit other_entries format.now ≡ true) }
 {
-    put_optional(map, alloc, Field::H265ProfileTierLevel, format.h265_profile_tier_level)?;
-    put_optional(map, alloc, Field::H266ProfileTierLevel, format.h266_profile_tier_level)?;
-    put_optional(map, alloc, Field::SpropMaxDonDiff, format.sprop_max_don_diff)?;
-    put_optional(map, alloc, Field::TelephoneEventMax, format.telephone_event_max)?;
+    put_optional(
+        map,
+        alloc,
+        Field::H265ProfileTierLevel,
+        format.h265_profile_tier_level,
+    )?;
+    put_optional(
+        map,
+        alloc,
+        Field::H266ProfileTierLevel,
+        format.h266_profile_tier_level,
+    )?;
+    put_optional(
+        map,
+        alloc,
+        Field::SpropMaxDonDiff,
+        format.sprop_max_don_diff,
+    )?;
+    put_optional(
+        map,
+        alloc,
+        Field::TelephoneEventMax,
+        format.telephone_event_max,
+    )?;
     put_optional(map, alloc, Field::OctetAlign, format.octet_align)?;
     put_optional(map, alloc, Field::ModeSet, format.mode_set)
 }

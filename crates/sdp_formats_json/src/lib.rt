@@ -11,5 +11,5 @@ mod shaped;
 mod text;
 
 pub use error::{Field, JsonError};
-pub use sdp_formats_rows::PayloadParams;
+pub use sdp_formats_rows::{Codec, CodecSpec, FormatParams, Frequency, PayloadParams, Pt};
 pub use text::{row_from_json, row_to_json};

@@ -70,7 +70,10 @@ pub(crate) fn member<T: Shaped>(value: &Value, field: Field) -> Result<T, JsonEr
 }
 
 /// The field of an object, which may be missing.
-pub(crate) fn optional_member<T: Shaped>(value: &Value, field: Field) -> Result<Option<T>, JsonError>
+pub(crate) fn optional_member<T: Shaped>(
+    value: &Value,
+    field: Field,
+) -> Result<Option<T>, JsonError>
     ensures { result ≡ optional_read T.shape field (get (field_name field) (view value.now)) }
 {
     match value.get(field.as_str()) {

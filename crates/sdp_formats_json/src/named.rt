@@ -5,9 +5,7 @@ ghost use Rattle.sdp_formats_json.specs.Shapes.{with_name};
 ghost use Rattle.sdp_formats_json.specs.Named.{codec_name, h265_profile_name, h265_tier_name, h265_level_name};
 ghost use Rattle.sdp_formats_json.specs.Named.{h266_profile_name, h266_tier_name, h266_level_name};
 
-use h26x_payload_profiles::{
-    H265Level, H265Profile, H265Tier, H266Level, H266Profile, H266Tier,
-};
+use h26x_payload_profiles::{H265Level, H265Profile, H265Tier, H266Level, H266Profile, H266Tier};
 use payload_core_base::Codec;
 
 /// A value that JSON has by its name.
@@ -106,10 +104,7 @@ impl Named for H265Profile {
     }
 }
 
-pub(crate) const H265_TIERS: [H265Tier; 2] = [
-    H265Tier::Main,
-    H265Tier::High,
-];
+pub(crate) const H265_TIERS: [H265Tier; 2] = [H265Tier::Main, H265Tier::High];
 
 impl Named for H265Tier {
     ghost name = { h265_tier_name };
@@ -160,10 +155,7 @@ impl Named for H265Level {
     }
 }
 
-pub(crate) const H266_PROFILES: [H266Profile; 2] = [
-    H266Profile::Main10,
-    H266Profile::Main10_444,
-];
+pub(crate) const H266_PROFILES: [H266Profile; 2] = [H266Profile::Main10, H266Profile::Main10_444];
 
 impl Named for H266Profile {
     ghost name = { h266_profile_name };
@@ -176,10 +168,7 @@ impl Named for H266Profile {
     }
 }
 
-pub(crate) const H266_TIERS: [H266Tier; 2] = [
-    H266Tier::Main,
-    H266Tier::High,
-];
+pub(crate) const H266_TIERS: [H266Tier; 2] = [H266Tier::Main, H266Tier::High];
 
 impl Named for H266Tier {
     ghost name = { h266_tier_name };
