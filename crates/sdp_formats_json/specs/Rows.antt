@@ -2,8 +2,8 @@
 use Rattle.std.specs.Prelude.{◌≡◌, ℕ, List, [], ◌∷◌, Option, Some, None, Result, Ok, Err, is_some}
 use Rattle.std.specs.Prelude.{if◌then◌else◌}
 use Rattle.payload_core_base.specs.declared.codec.Codec.TheVariants.{Null}
-use Rattle.serde_json.specs.Data.{Data, array, Items, no_items, item}
-use Rattle.serde_json.specs.Find.{as_array, as_object}
+use Rattle.serde_json.specs.Data.{Data}
+use Rattle.serde_json.specs.Find.{as_object}
 use Rattle.serde_json.specs.Read.{read}
 use Rattle.serde_json.specs.View.{view}
 use Rattle.serde_json.specs.declared.value.Value.{Value}
@@ -17,7 +17,7 @@ use Rattle.sdp_formats_json.specs.Formats.{format}
 use Rattle.sdp_formats_json.specs.declared.error.Field.{Field}
 use Rattle.sdp_formats_json.specs.declared.error.Field.TheVariants as field
 use Rattle.sdp_formats_json.specs.declared.error.JsonError.{JsonError}
-use Rattle.sdp_formats_json.specs.declared.error.JsonError.TheVariants.{NotJson, NotObject, NotArray, Memory}
+use Rattle.sdp_formats_json.specs.declared.error.JsonError.TheVariants.{NotJson, NotObject, Memory}
 
 -- A codec with its clock rate, channels and format is an object of these four.
 abbrev pub spec_entries : List (Entry CodecSpec)
@@ -82,31 +82,11 @@ of_read f None = Err NotJson
 unfoldable pub row_of_text : List ℕ → Result Row JsonError
 row_of_text text = of_read row_of_data (read text)
 
--- What is written of rows: an array of them.
-abbrev pub rows_items : List Row → Items
-rows_items [] = no_items
-rows_items (r ∷ rs) = item (row_data r) (rows_items rs)
-
-abbrev pub rows_data : List Row → Data
-rows_data rs = array (rows_items rs)
-
--- The rows that data say; the first item that is no row is the refusal.
-abbrev pub rows_of_items : Items → Result (List Row) JsonError
-rows_of_items no_items = Ok []
-rows_of_items (item d ds) = and_then (row_of_data d) (λ r. and_then (rows_of_items ds) (λ rs. Ok (r ∷ rs)))
-
-abbrev pub rows_of_array : Option Items → Result (List Row) JsonError
-rows_of_array (Some ds) = rows_of_items ds
-rows_of_array None = Err NotArray
-
-unfoldable pub rows_of_text : List ℕ → Result (List Row) JsonError
-rows_of_text text = of_read (λ d. rows_of_array (as_array d)) (read text)
-
 -- A reader answers as is said, or that memory was wanting.
-abbrev pub Answers : {A B : Type 0} → (A → B) → Result A JsonError → Result B JsonError → Type 0
-Answers f (Err Memory) said = Unit {0}
-Answers f (Err e) said = said ≡ Err e
-Answers f (Ok a) said = said ≡ Ok (f a)
+abbrev pub Answers : {A : Type 0} → Result A JsonError → Result A JsonError → Type 0
+Answers (Err Memory) said = Unit {0}
+Answers (Err e) said = said ≡ Err e
+Answers (Ok a) said = said ≡ Ok a
 
 -- What a text is read as, or that it is no JSON, or that memory was wanting.
 abbrev pub IsValue : Result Value JsonError → Option Data → Type 0

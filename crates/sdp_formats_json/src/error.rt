@@ -139,12 +139,9 @@ pub enum JsonError {
     /// The text is no JSON.
     #[error("no JSON")]
     NotJson,
-    /// The JSON, or an item of the array, is no object.
+    /// The JSON is no object.
     #[error("no object")]
     NotObject,
-    /// The JSON is no array.
-    #[error("no array")]
-    NotArray,
     /// This field is missing.
     #[error("{0} is missing")]
     Missing(Field),

@@ -35,7 +35,7 @@ pub fn row_to_json(alloc: Global, row: &PayloadParams) -> Result<String, AllocEr
 /// order that is `Missing`, `Unfit` or `Unknown`; `Memory` where memory is wanting.
 #[tactic(auto, unfolding(crate::specs::Rows::row_of_text))]
 pub fn row_from_json(alloc: Global, text: &str) -> Result<PayloadParams, JsonError>
-    ensures { Answers (λ row. row) result (row_of_text text.now) }
+    ensures { Answers result (row_of_text text.now) }
 {
     let value = value_of(alloc, text)?;
     row_of_value(&value)
