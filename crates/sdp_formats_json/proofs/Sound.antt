@@ -1,18 +1,18 @@
 -- Shapes whose values come back, and whose data are shallow and have no float.
-use Rattle.std.proofs.Common.{◌≡◌, ℕ, suc, max, ◌≤◌, ◌<◌, ◌^◌, Bool, true, false, cond, List, [], ◌∷◌, Option, Some, None}
-use Rattle.std.proofs.Common.{Result, Ok, Err, refl, sym, ap, ◌∙◌, arith, nat_lt, Ordering, Less, Equal, Greater}
-use Rattle.std.specs.Prelude.{◌&&◌, ◌||◌, ◌==◌, is_some}
+use Rattle.std.proofs.Common.{◌≡◌, ℕ, suc, ◌≤◌, ◌<◌, ◌^◌, Bool, true, false, List, [], ◌∷◌, Option, Some, None}
+use Rattle.std.proofs.Common.{Ok, refl, ap, ◌∙◌, arith, nat_lt, Ordering, Less, Equal, Greater}
+use Rattle.std.specs.Prelude.{◌&&◌, ◌||◌, ◌==◌}
 use Rattle.std.specs.Ordering.{match_ordering, nat_cmp}
 use Rattle.std.specs.Cmp.Lexicographic.{slice_cmp}
 use Rattle.std.proofs.lemmas.Bool.Decides.{nat_tests}
 use Rattle.rtp_wire.specs.Time.{frequency_of}
-use Rattle.serde_json.specs.Data.{Data, null, boolean, number, string, object, unsigned, Members, no_members, member}
+use Rattle.serde_json.specs.Data.{Data, object, Members, no_members, member}
 use Rattle.serde_json.specs.Data.{put, depth, members_depth}
 use Rattle.serde_json.specs.Find.{get, as_null}
 use Rattle.serde_json.specs.Written.{has_float, members_have_float}
 use Rattle.sdp_formats_json.specs.Names.{field_name}
 use Rattle.sdp_formats_json.specs.Shapes.{Shape, and_then, or_refused, tested, number_where, byte, half_word, word, rate, flag, with_name, word_of}
-use Rattle.sdp_formats_json.specs.Shapes.{optional_data, optional_fits, optional_read, given_read}
+use Rattle.sdp_formats_json.specs.Shapes.{optional_data, optional_fits, optional_read}
 use Rattle.sdp_formats_json.specs.Entries.{Entry, entry, optional, put_all, read_all, all_fit, object_of}
 use Rattle.sdp_formats_json.specs.Entries.{put_groups, read_groups, groups_fit, object_in}
 use Rattle.sdp_formats_json.specs.declared.error.Field.{Field}

@@ -1,5 +1,5 @@
 -- Rows, and all that they hold, come back.
-use Rattle.std.proofs.Common.{◌≡◌, List, [], ◌∷◌, refl}
+use Rattle.std.proofs.Common.{◌≡◌, [], ◌∷◌, refl}
 use Rattle.serde_json.specs.Data.{object, no_members}
 use Rattle.h26x_payload_profiles.specs.H265ProfileTierLevel.{fallback}
 use Rattle.h26x_payload_profiles.specs.H266ProfileTierLevel.{fallback as h266_fallback}
@@ -17,7 +17,7 @@ use Rattle.sdp_formats_json.specs.Levels.{h265, h265_entries, h266, h266_entries
 use Rattle.sdp_formats_json.specs.Formats.{format, opus_entries, video_entries, other_entries}
 use Rattle.sdp_formats_json.specs.Rows.{spec, spec_entries, blank_spec, row_shape, row_entries, blank_row}
 use Rattle.sdp_formats_json.specs.Rows.{codec_entries, feedback_entries, lock_entries}
-use Rattle.sdp_formats_json.proofs.Sound.{Sound, AllSound, AllSounds, AllFound, AllFounds, moved, moved_groups}
+use Rattle.sdp_formats_json.proofs.Sound.{Sound, AllSound, AllFound, AllFounds, moved, moved_groups}
 use Rattle.sdp_formats_json.proofs.Sound.{byte-sound, half_word-sound, word-sound, rate-sound}
 use Rattle.sdp_formats_json.proofs.Sound.{flag-sound, word_of-sound, entry-sound, optional-sound, object-sound}
 use Rattle.sdp_formats_json.proofs.Sound.{groups-sound}

@@ -5,7 +5,6 @@ use Rattle.sdp_formats_rows.specs.Formats.{no_format}
 use Rattle.sdp_formats_json.specs.Shapes.{Shape, byte, half_word, word, flag}
 use Rattle.sdp_formats_json.specs.Entries.{Entry, optional, object_in}
 use Rattle.sdp_formats_json.specs.Levels.{h265, h266}
-use Rattle.sdp_formats_json.specs.declared.error.Field.{Field}
 use Rattle.sdp_formats_json.specs.declared.error.Field.TheVariants as field
 
 -- The fields of Opus.

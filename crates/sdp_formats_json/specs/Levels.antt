@@ -9,7 +9,6 @@ use Rattle.sdp_formats_json.specs.Named.{h265_levels, h266_profile_name, h266_pr
 use Rattle.sdp_formats_json.specs.Named.{h266_level_name, h266_levels}
 use Rattle.sdp_formats_json.specs.Shapes.{Shape, word_of}
 use Rattle.sdp_formats_json.specs.Entries.{Entry, entry, object_of}
-use Rattle.sdp_formats_json.specs.declared.error.Field.{Field}
 use Rattle.sdp_formats_json.specs.declared.error.Field.TheVariants as field
 
 -- A profile, tier and level is an object of its three names.

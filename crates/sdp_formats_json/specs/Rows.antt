@@ -11,10 +11,9 @@ use Rattle.sdp_formats_rows.specs.declared.spec.CodecSpec.{CodecSpec}
 use Rattle.sdp_formats_rows.specs.Formats.{no_format}
 use Rattle.sdp_formats_rows.specs.Rows.{Row, new_row}
 use Rattle.sdp_formats_json.specs.Named.{codec_name, codecs}
-use Rattle.sdp_formats_json.specs.Shapes.{Shape, and_then, byte, rate, flag, word_of}
+use Rattle.sdp_formats_json.specs.Shapes.{Shape, byte, rate, flag, word_of}
 use Rattle.sdp_formats_json.specs.Entries.{Entry, entry, optional, object_of, object_in, read_groups}
 use Rattle.sdp_formats_json.specs.Formats.{format}
-use Rattle.sdp_formats_json.specs.declared.error.Field.{Field}
 use Rattle.sdp_formats_json.specs.declared.error.Field.TheVariants as field
 use Rattle.sdp_formats_json.specs.declared.error.JsonError.{JsonError}
 use Rattle.sdp_formats_json.specs.declared.error.JsonError.TheVariants.{NotJson, NotObject, Memory}

@@ -1,5 +1,5 @@
 -- A row's JSON has no float and nests little, so that its text says it, and the row comes back.
-use Rattle.std.proofs.Common.{◌≡◌, ℕ, ◌≤◌, Bool, true, false, List, Result, Ok, Err, Some, IfOk, string_bytes, ap, ◌∙◌, sym, arith}
+use Rattle.std.proofs.Common.{◌≡◌, ◌≤◌, true, false, Result, Ok, Err, Some, IfOk, string_bytes, ap, ◌∙◌, sym, arith}
 use Rattle.std.proofs.Common.{Global, String, subst}
 use Rattle.serde_json.specs.Data.{Data, depth}
 use Rattle.serde_json.specs.Read.{read, max_depth}
@@ -7,7 +7,6 @@ use Rattle.serde_json.specs.Written.{compact_text, has_float}
 use Rattle.sdp_formats_rows.specs.Rows.{Row}
 use Rattle.sdp_formats_json.specs.Rows.{row_data, row_of_text, row_of_data, of_read, row_shape}
 use Rattle.sdp_formats_json.specs.declared.error.Field.TheVariants as field
-use Rattle.sdp_formats_json.proofs.Sound.{Sound}
 use Rattle.sdp_formats_json.proofs.Tables.{row-sound}
 use Rattle.sdp_formats_json.proofs.text.row_to_json.Goals as goal
 
