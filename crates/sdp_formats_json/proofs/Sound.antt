@@ -11,7 +11,8 @@ use Rattle.serde_json.specs.Data.{put, depth, members_depth}
 use Rattle.serde_json.specs.Find.{get, as_null}
 use Rattle.serde_json.specs.Written.{has_float, members_have_float}
 use Rattle.sdp_formats_json.specs.Names.{field_name}
-use Rattle.sdp_formats_json.specs.Shapes.{Shape, and_then, or_refused, tested, number_where, byte, half_word, word, rate, flag, with_name, word_of}
+use Rattle.sdp_formats_json.specs.Shapes.{Shape, and_then, or_refused, tested, number_where, byte, half_word, word}
+use Rattle.sdp_formats_json.specs.Shapes.{rate, flag, with_name, word_of}
 use Rattle.sdp_formats_json.specs.Shapes.{optional_data, optional_fits, optional_read}
 use Rattle.sdp_formats_json.specs.Entries.{Entry, entry, optional, put_all, read_all, all_fit, object_of}
 use Rattle.sdp_formats_json.specs.Entries.{put_groups, read_groups, groups_fit, object_in}
@@ -40,7 +41,9 @@ number_where-sound test n = record {
 }
 
 rate_fits : (n : ℕ) → (nat_lt 0 n && nat_lt n (2 ^ 32)) ≡ true → (nat_lt n (2 ^ 32) ≡ true) × (0 < n)
-rate_fits n h = let two = and_parts (nat_lt 0 n) (nat_lt n (2 ^ 32)) h in let a = two.0 in (two.1, grind (arith, nat_tests))
+rate_fits n h =
+    let two = and_parts (nat_lt 0 n) (nat_lt n (2 ^ 32)) h in
+    let a = two.0 in (two.1, grind (arith, nat_tests))
 
 some_rate : (e : JsonError) (n : ℕ) → 0 < n → or_refused e (frequency_of n) ≡ Ok n
 some_rate e n h = let k : (n == 0) ≡ false = grind (arith, nat_tests) in rw k
@@ -238,7 +241,8 @@ pub groups-sound : {R : Type 0} (gs : List (List (Entry R))) (blank : R) (n : �
     → ((r : R) → AllFounds gs (object (put_groups gs r no_members)) r) → ((r : R) → moved_groups gs r blank ≡ r)
     → Sound (object_in gs blank) (suc n)
 groups-sound gs blank n sound found whole = record {
-  back = λ field r h. groups_back gs (object (put_groups gs r no_members)) n r blank sound (found r) h ∙ ap Ok (whole r);
+  back = λ field r h.
+      groups_back gs (object (put_groups gs r no_members)) n r blank sound (found r) h ∙ ap Ok (whole r);
   given = λ r. refl;
   no_float = λ r. groups_no_float gs r n no_members sound refl;
   shallow = λ r. let h = groups_shallow gs r n no_members sound (omega arith) in omega arith;

@@ -1,9 +1,10 @@
 -- Objects by tables of their fields.
-use Rattle.std.specs.Prelude.{◌&&◌, Bool, true, List, [], ◌∷◌, Option, Result, Ok, Err, is_some, if◌then◌else◌}
+use Rattle.std.specs.Prelude.{◌&&◌, Bool, true, List, [], ◌∷◌, Option, Result, Ok, Err, is_some, if◌then◌else◌, ⊤}
 use Rattle.serde_json.specs.Data.{Data, object, Members, no_members, put}
 use Rattle.serde_json.specs.Find.{get, as_object}
 use Rattle.sdp_formats_json.specs.Names.{field_name}
 use Rattle.sdp_formats_json.specs.Shapes.{Shape, and_then, member_read, optional_data, optional_fits, optional_read}
+use Rattle.sdp_formats_json.specs.Shapes.{word_of}
 use Rattle.sdp_formats_json.specs.declared.error.Field.{Field}
 use Rattle.sdp_formats_json.specs.declared.error.JsonError.{JsonError}
 use Rattle.sdp_formats_json.specs.declared.error.JsonError.TheVariants.{Unfit}
@@ -78,3 +79,8 @@ object_in groups blank = record {
   reads = λ field d. if is_some (as_object d) then read_groups groups d blank else Err (Unfit field);
   fits = groups_fit groups;
 }
+
+-- what a proof opens to see what the fields of a table are
+unfoldable pub open_fields : ⊤
+unfolding entry optional word_of
+open_fields = tt

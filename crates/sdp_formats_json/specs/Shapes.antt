@@ -1,5 +1,6 @@
 -- How values stand in JSON, and what JSON is read as a value.
-use Rattle.std.specs.Prelude.{ℕ, ◌^◌, ◌&&◌, Bool, true, List, Option, Some, None, Result, Ok, Err, nat_lt, find, bytes_eq}
+use Rattle.std.specs.Prelude.{ℕ, ◌^◌, ◌&&◌, Bool, true, List, Option, Some, None, Result, Ok, Err, nat_lt, find}
+use Rattle.std.specs.Prelude.{bytes_eq}
 use Rattle.std.specs.Prelude.{if◌then◌else◌, is_some, option_and_then}
 use Rattle.serde_json.specs.Data.{Data, null, boolean, number, string, unsigned}
 use Rattle.serde_json.specs.Find.{as_bool, as_null, as_number, as_str, as_u64}
@@ -8,8 +9,8 @@ use Rattle.sdp_formats_json.specs.declared.error.Field.{Field}
 use Rattle.sdp_formats_json.specs.declared.error.JsonError.{JsonError}
 use Rattle.sdp_formats_json.specs.declared.error.JsonError.TheVariants.{Missing, Unfit, Unknown}
 
--- How values of a type stand in JSON: what is written of a value, what the data of a field are read as, and which values
--- come back.
+-- How values of a type stand in JSON: what is written of a value, what the data of a field are read as, and which
+-- values come back.
 pub record Shape (A : Type 0) : Type 0 where
   pub writes : A → Data
   pub reads : Field → Data → Result A JsonError

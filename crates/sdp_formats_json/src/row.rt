@@ -4,7 +4,8 @@ ghost use Rattle.std.specs.Prelude.{◌≡◌, IfOk, None, OnOk, false, true};
 ghost use Rattle.serde_json.specs.View.{view, members_view};
 ghost use Rattle.sdp_formats_rows.specs.Rows.{new_row};
 ghost use Rattle.sdp_formats_json.specs.Entries.{all_fit, put_all, read_all};
-ghost use Rattle.sdp_formats_json.specs.Rows.{blank_row, blank_spec, codec_entries, feedback_entries, lock_entries, row_data};
+ghost use Rattle.sdp_formats_json.specs.Rows.{blank_row, blank_spec, codec_entries, feedback_entries, lock_entries};
+ghost use Rattle.sdp_formats_json.specs.Rows.{row_data};
 ghost use Rattle.sdp_formats_json.specs.Rows.{row_of_data, row_shape, spec};
 
 use crate::error::{Field, JsonError};
@@ -29,7 +30,7 @@ fn blank_spec() -> CodecSpec
     }
 }
 
-#[tactic(auto, unfolding(crate::specs::Rows::spec, crate::specs::Entries::entry, crate::specs::Entries::optional, crate::specs::Shapes::word_of))]
+#[tactic(auto, unfolding(crate::specs::Rows::spec, crate::specs::Entries::open_fields))]
 impl Shaped for CodecSpec {
     ghost shape = { spec };
 
@@ -55,7 +56,7 @@ impl Shaped for CodecSpec {
     }
 }
 
-#[tactic(auto, unfolding(crate::specs::Rows::feedback_entries, crate::specs::Entries::entry))]
+#[tactic(auto, unfolding(crate::specs::Rows::feedback_entries, crate::specs::Entries::open_fields))]
 fn put_feedback(
     map: &mut Map<String, Value>,
     alloc: Global,
@@ -72,7 +73,7 @@ fn put_feedback(
     put(map, alloc, Field::FbRemb, row.fb_remb())
 }
 
-#[tactic(auto, unfolding(crate::specs::Rows::codec_entries, crate::specs::Entries::entry, crate::specs::Entries::optional))]
+#[tactic(auto, unfolding(crate::specs::Rows::codec_entries, crate::specs::Entries::open_fields))]
 fn put_codec(
     map: &mut Map<String, Value>,
     alloc: Global,
@@ -87,7 +88,7 @@ fn put_codec(
     put(map, alloc, Field::Spec, row.spec())
 }
 
-#[tactic(auto, unfolding(crate::specs::Rows::lock_entries, crate::specs::Entries::entry, crate::specs::Entries::optional))]
+#[tactic(auto, unfolding(crate::specs::Rows::lock_entries, crate::specs::Entries::open_fields))]
 fn put_lock(
     map: &mut Map<String, Value>,
     alloc: Global,
@@ -121,7 +122,7 @@ fn blank_row() -> PayloadParams
     PayloadParams::new(Pt::from(0), None, blank_spec())
 }
 
-#[tactic(auto, unfolding(crate::specs::Rows::codec_entries, crate::specs::Entries::entry, crate::specs::Entries::optional))]
+#[tactic(auto, unfolding(crate::specs::Rows::codec_entries, crate::specs::Entries::open_fields))]
 fn with_codec(row: PayloadParams, value: &Value) -> Result<PayloadParams, JsonError>
     ensures read { result ≡ read_all codec_entries (view value.now) row }
     ensures lock { IfOk result (λ r. r.locked ≡ row.locked) }
@@ -132,7 +133,7 @@ fn with_codec(row: PayloadParams, value: &Value) -> Result<PayloadParams, JsonEr
     Ok(row.with_types(pt, resend, row.red()).with_spec(spec))
 }
 
-#[tactic(auto, unfolding(crate::specs::Rows::feedback_entries, crate::specs::Entries::entry))]
+#[tactic(auto, unfolding(crate::specs::Rows::feedback_entries, crate::specs::Entries::open_fields))]
 fn with_feedback(mut row: PayloadParams, value: &Value) -> Result<PayloadParams, JsonError>
     ensures read { result ≡ read_all feedback_entries (view value.now) row }
     ensures lock { IfOk result (λ r. r.locked ≡ row.locked) }
@@ -145,7 +146,7 @@ fn with_feedback(mut row: PayloadParams, value: &Value) -> Result<PayloadParams,
     Ok(row)
 }
 
-#[tactic(auto, unfolding(crate::specs::Rows::lock_entries, crate::specs::Entries::entry, crate::specs::Entries::optional))]
+#[tactic(auto, unfolding(crate::specs::Rows::lock_entries, crate::specs::Entries::open_fields))]
 fn with_lock(row: PayloadParams, value: &Value) -> Result<PayloadParams, JsonError>
     requires { row.locked ≡ false }
     ensures { result ≡ read_all lock_entries (view value.now) row }

@@ -13,4 +13,6 @@ meant : (x : H265ProfileTierLevel) (id flag level : ℕ) → ComesBack → id �
 meant x id flag level back i f l = rw (i, f, l, back x)
 
 pub returns : goal.returns
-returns c = c.from.ensures ∙ meant _ _ _ _ c.h265_tables_law.ensures.comes_back c.to_id.ensures c.to_flag.ensures c.to_id-2.ensures
+returns c =
+    c.from.ensures
+    ∙ meant _ _ _ _ c.h265_tables_law.ensures.comes_back c.to_id.ensures c.to_flag.ensures c.to_id-2.ensures
