@@ -1,8 +1,9 @@
 /* RTP headers, padding, sequence numbers and replay windows (RFC 3550), packetizers and depacketizers by codec, ends
  * that exchange offers and answers, send samples and receive units, and streams by codec, from a proved library.
  *
- * Link with libjilqamur.a, and with libjilqamur_codecs.a, which has the packetizers and depacketizers. The contract of each function is at its export in crates/jilqamur/src; nothing checks a C
- * caller, which keeps to this:
+ * Link with libjilqamur.a, and with libjilqamur_codecs.a, which has the packetizers and depacketizers. The contract of
+ * each function is at its export in crates/jilqamur/src or crates/jilqamur_codecs/src; nothing checks a C caller, which
+ * keeps to this:
  *   - every pointer is valid and aligned, and not null, but that of bytes whose length is 0 may be any non-null
  *     address;
  *   - what a call writes overlaps nothing else that it is given;
