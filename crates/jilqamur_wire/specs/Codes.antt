@@ -102,3 +102,42 @@ limit_too_small = 32
 
 abbrev pub payload : ℕ
 payload = 33
+
+abbrev pub packet_too_short : ℕ
+packet_too_short = 34
+
+abbrev pub sample_too_large : ℕ
+sample_too_large = 35
+
+abbrev pub too_many_references : ℕ
+too_many_references = 36
+
+abbrev pub h265_corrupted : ℕ
+h265_corrupted = 37
+
+abbrev pub h266_corrupted : ℕ
+h266_corrupted = 38
+
+abbrev pub aggregate_cut_short : ℕ
+aggregate_cut_short = 39
+
+abbrev pub unit_type_not_handled : ℕ
+unit_type_not_handled = 40
+
+abbrev pub vp8_corrupted : ℕ
+vp8_corrupted = 41
+
+abbrev pub vp9_corrupted : ℕ
+vp9_corrupted = 42
+
+abbrev pub av1_corrupted : ℕ
+av1_corrupted = 43
+
+abbrev pub red_corrupted : ℕ
+red_corrupted = 44
+
+abbrev pub event_invalid : ℕ
+event_invalid = 45
+
+abbrev pub amr_wb_corrupted : ℕ
+amr_wb_corrupted = 46

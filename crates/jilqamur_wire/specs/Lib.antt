@@ -1,4 +1,6 @@
 pub mod Codes
+pub mod Copies
+pub mod Handles
 pub mod Headers
 pub mod Owned
 pub mod Windows

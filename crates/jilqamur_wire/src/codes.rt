@@ -68,3 +68,29 @@ pub const TIME_TOO_LARGE: u32 = 31;
 pub const LIMIT_TOO_SMALL: u32 = 32;
 /// The codec refuses the sample or the payload.
 pub const PAYLOAD: u32 = 33;
+/// The packet has fewer bytes than its format needs.
+pub const PACKET_TOO_SHORT: u32 = 34;
+/// The sample can't be cut, and passes the limit.
+pub const SAMPLE_TOO_LARGE: u32 = 35;
+/// A VP9 descriptor lists a fourth reference (RFC 9628 4.2).
+pub const TOO_MANY_REFERENCES: u32 = 36;
+/// An H.265 packet breaks its format (RFC 7798 4.4).
+pub const H265_CORRUPTED: u32 = 37;
+/// An H.266 packet breaks its format (RFC 9328 4.3).
+pub const H266_CORRUPTED: u32 = 38;
+/// An aggregated unit passes the end of its packet (RFC 6184 5.7.1).
+pub const AGGREGATE_CUT_SHORT: u32 = 39;
+/// No packet of this unit type is read (RFC 6184 5.2, RFC 7798 4.2, RFC 9328 4.2).
+pub const UNIT_TYPE_NOT_HANDLED: u32 = 40;
+/// A VP8 descriptor breaks its format (RFC 7741 4.2).
+pub const VP8_CORRUPTED: u32 = 41;
+/// A VP9 descriptor breaks its format (RFC 9628 4.2).
+pub const VP9_CORRUPTED: u32 = 42;
+/// An AV1 packet breaks its format.
+pub const AV1_CORRUPTED: u32 = 43;
+/// A redundant payload breaks its format (RFC 2198 3).
+pub const RED_CORRUPTED: u32 = 44;
+/// Telephone event reports are no nonempty multiple of four bytes (RFC 4733 2.3).
+pub const EVENT_INVALID: u32 = 45;
+/// An AMR-WB packet or sample breaks its format (RFC 4867 4.3 and 4.4).
+pub const AMR_WB_CORRUPTED: u32 = 46;

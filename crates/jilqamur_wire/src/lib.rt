@@ -2,11 +2,13 @@
 #![tactic(auto)]
 
 pub mod codes;
+mod copying;
 mod header;
 mod parts;
 mod place;
 mod replay;
 
+pub use copying::{copy_out, text_in};
 pub use header::{WireHeader, read_header, write_header};
 pub use parts::Parts;
 pub use place::{WindowHandle, WindowPlace};
