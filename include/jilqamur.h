@@ -1,5 +1,5 @@
-/* RTP headers, padding, sequence numbers and replay windows (RFC 3550), ends that exchange offers and answers, send
- * samples and receive units, and streams by codec, from a proved library.
+/* RTP headers, padding, sequence numbers and replay windows (RFC 3550), packetizers and depacketizers by codec, ends
+ * that exchange offers and answers, send samples and receive units, and streams by codec, from a proved library.
  *
  * Link with libjilqamur.a. The contract of each function is at its export in crates/jilqamur/src; nothing checks a C
  * caller, which keeps to this:
@@ -61,7 +61,21 @@ enum {
     JILQAMUR_STREAM_FAILED = 30,      /* the stream sends no more */
     JILQAMUR_TIME_TOO_LARGE = 31,     /* the time does not fit 64 bits at the stream's clock */
     JILQAMUR_LIMIT_TOO_SMALL = 32,    /* a datagram would pass the limit */
-    JILQAMUR_PAYLOAD = 33             /* the codec refuses the sample or the payload */
+    JILQAMUR_PAYLOAD = 33,            /* the codec refuses the sample or the payload of a stream */
+    /* Why a packetizer refuses a sample, or a depacketizer a packet: */
+    JILQAMUR_PACKET_TOO_SHORT = 34,       /* the packet has fewer bytes than its format needs */
+    JILQAMUR_SAMPLE_TOO_LARGE = 35,       /* the sample can't be cut, and passes the limit */
+    JILQAMUR_TOO_MANY_REFERENCES = 36,    /* a VP9 descriptor lists a fourth reference (RFC 9628 4.2) */
+    JILQAMUR_H265_CORRUPTED = 37,         /* an H.265 packet breaks its format (RFC 7798 4.4) */
+    JILQAMUR_H266_CORRUPTED = 38,         /* an H.266 packet breaks its format (RFC 9328 4.3) */
+    JILQAMUR_AGGREGATE_CUT_SHORT = 39,    /* an aggregated unit passes the end of its packet (RFC 6184 5.7.1) */
+    JILQAMUR_UNIT_TYPE_NOT_HANDLED = 40,  /* no packet of this unit type is read (RFC 6184 5.2) */
+    JILQAMUR_VP8_CORRUPTED = 41,          /* a VP8 descriptor breaks its format (RFC 7741 4.2) */
+    JILQAMUR_VP9_CORRUPTED = 42,          /* a VP9 descriptor breaks its format (RFC 9628 4.2) */
+    JILQAMUR_AV1_CORRUPTED = 43,          /* an AV1 packet breaks its format */
+    JILQAMUR_RED_CORRUPTED = 44,          /* a redundant payload breaks its format (RFC 2198 3) */
+    JILQAMUR_EVENT_INVALID = 45,          /* event reports are no nonempty multiple of four bytes (RFC 4733 2.3) */
+    JILQAMUR_AMR_WB_CORRUPTED = 46        /* an AMR-WB packet or sample breaks its format (RFC 4867 4.3) */
 };
 
 /* What an answer means, in words; never null. */
@@ -102,6 +116,19 @@ static inline const char *jilqamur_error_text(uint32_t answer)
         "the time is too large",
         "a datagram would pass the limit",
         "the payload is refused",
+        "the packet is too short",
+        "the sample is larger than the limit",
+        "too many references",
+        "corrupted H.265 packet",
+        "corrupted H.266 packet",
+        "an aggregated unit passes the end of its packet",
+        "a unit of this type is not handled",
+        "corrupted VP8 packet",
+        "corrupted VP9 packet",
+        "corrupted AV1 packet",
+        "corrupted redundant packet",
+        "invalid telephone event",
+        "corrupted AMR-WB packet",
     };
     return answer < sizeof texts / sizeof texts[0] ? texts[answer] : "no such answer";
 }
@@ -156,6 +183,113 @@ uint32_t jilqamur_window_receive(jilqamur_window *window, const uint8_t *datagra
 
 /* Frees the window: JILQAMUR_OK, or JILQAMUR_CLOSED where the handle is closed. It is closed afterwards. */
 uint32_t jilqamur_window_close(jilqamur_window *window);
+
+/* How payloads are read and written, beside their codec. */
+typedef struct jilqamur_format {
+    uint32_t clock_rate;   /* ticks a second, at least 1 */
+    bool has_octet_align;  /* whether octet_align is given */
+    bool octet_align;      /* whether AMR-WB is octet-aligned (RFC 4867 8.1); not looked at where it isn't given */
+    bool has_max_don_diff; /* whether max_don_diff is given */
+    uint16_t max_don_diff; /* sprop-max-don-diff of H.265 and H.266; not looked at where it isn't given */
+} jilqamur_format;
+
+/* What is told of a unit beside its bytes. */
+typedef struct jilqamur_unit {
+    uint64_t first;          /* the widened sequence number of its first packet */
+    uint64_t last;           /* that of its last packet */
+    uint32_t time;           /* the RTP timestamp, in ticks of the clock rate */
+    bool is_keyframe;        /* whether the codec says that it is a keyframe; VP9 and audio never do */
+    bool has_picture_id;     /* whether VP8 or VP9 gives a picture id */
+    uint16_t picture_id;     /* it, of 7 or 15 bits (RFC 7741 4.2, RFC 9628 4.2); 0 where none is given */
+    bool has_base_layer;     /* whether VP8 gives the index of the temporal base layer frame */
+    uint8_t base_layer;      /* it, TL0PICIDX (RFC 7741 4.2); 0 where none is given */
+    bool has_event;          /* whether the unit is a packet of telephone events, whose first follows (RFC 4733 2.3) */
+    uint8_t event;           /* the event: 0 to 15 are the keys 0 to 9, *, #, A to D; 0 without one */
+    bool event_end;          /* whether it has ended */
+    uint8_t event_volume;    /* the tone's power below 0 dBm0, in dB, 0 to 63; 0 without an event */
+    uint64_t event_duration; /* how long it has lasted, in nanoseconds; 0 without an event */
+} jilqamur_unit;
+
+/* How a packetizer counts pictures, and which forms it writes. */
+typedef struct jilqamur_packetizer_params {
+    bool has_picture_id; /* whether VP8's frames have picture ids; VP9's always do */
+    uint16_t picture_id; /* the first picture id, at most 32,767; without has_picture_id VP9 begins at 0 */
+    bool for_browsers;   /* whether VP8 writes the picture id 0, and VP9 tells which frames are predicted */
+} jilqamur_packetizer_params;
+
+/* A handle of a packetizer that goes by a codec's name, and of the packets that its last sample left. One whose bytes
+ * are all 0 is closed; write no field of it after that. A copy of an open handle must not be used. What is opened must
+ * be closed, or its memory is never freed. At a closed handle each call but jilqamur_packetizer_open answers
+ * JILQAMUR_CLOSED, and changes nothing. */
+typedef struct jilqamur_packetizer {
+    bool full;
+    void *place;
+} jilqamur_packetizer;
+
+#define JILQAMUR_PACKETIZER_CLOSED {false, 0}
+
+/* Opens a packetizer that cut nothing, of the codec of this name: opus, PCMU, PCMA, G722, CN, AMR-WB, telephone-event,
+ * VP8, VP9, AV1, H264, H265 or H266, in any case. JILQAMUR_IN_USE where the handle is open; JILQAMUR_OUT_OF_RANGE for a
+ * picture id above 32,767, a clock rate of 0 or a codec that has no payload format, JILQAMUR_NOT_TEXT for a name that
+ * is no text, or JILQAMUR_MEMORY; and it is unchanged. */
+uint32_t jilqamur_packetizer_open(jilqamur_packetizer *packetizer, const jilqamur_packetizer_params *params,
+                                  const jilqamur_format *format, const uint8_t *codec, size_t codec_len);
+
+/* Frees the packetizer: JILQAMUR_OK, or JILQAMUR_CLOSED where the handle is closed. It is closed afterwards. */
+uint32_t jilqamur_packetizer_close(jilqamur_packetizer *packetizer);
+
+/* Cuts a sample of len bytes, a frame or an audio packet, into payloads of at most mtu bytes, which are left to be
+ * fetched in place of those before, and writes how many there are into count. One of JILQAMUR_PACKET_TOO_SHORT to
+ * JILQAMUR_AMR_WB_CORRUPTED where the codec refuses the sample, or JILQAMUR_MEMORY, and nothing has changed: count is
+ * then how many were left before. */
+uint32_t jilqamur_packetizer_packetize(jilqamur_packetizer *packetizer, size_t mtu, const uint8_t *sample, size_t len,
+                                       size_t *count);
+
+/* Copies the payload of this place, counted from 0, to the front of a buffer of len bytes, and writes its length in
+ * bytes into needed, and the marker of its RTP header into marker. JILQAMUR_TOO_SMALL, and the buffer is unchanged,
+ * while needed and marker are written; JILQAMUR_NOTHING where there is none of that place. The payloads stay until the
+ * next sample that is not refused. */
+uint32_t jilqamur_packetizer_packet(jilqamur_packetizer *packetizer, size_t index, uint8_t *buffer, size_t len,
+                                    size_t *needed, bool *marker);
+
+/* A handle of a depacketizer that goes by a codec's name, behind a buffer that puts packets in order, and of the unit
+ * that was popped last; kept like that of a packetizer. At a closed handle each call but jilqamur_depacketizer_open
+ * answers JILQAMUR_CLOSED, and changes nothing. */
+typedef struct jilqamur_depacketizer {
+    bool full;
+    void *place;
+} jilqamur_depacketizer;
+
+#define JILQAMUR_DEPACKETIZER_CLOSED {false, 0}
+
+/* Opens a depacketizer that took nothing, of the codec of this name. Past a missing packet a unit is handed out only
+ * once more than hold_back frames are complete. Refused as jilqamur_packetizer_open, but for a picture id. */
+uint32_t jilqamur_depacketizer_open(jilqamur_depacketizer *depacketizer, const jilqamur_format *format,
+                                    const uint8_t *codec, size_t codec_len, size_t hold_back);
+
+/* Frees the depacketizer: JILQAMUR_OK, or JILQAMUR_CLOSED where the handle is closed. It is closed afterwards. */
+uint32_t jilqamur_depacketizer_close(jilqamur_depacketizer *depacketizer);
+
+/* Takes a packet in, by its widened sequence number (jilqamur_number_widen, jilqamur_window_receive), its RTP
+ * timestamp, its marker and its payload of len bytes without padding: JILQAMUR_OK, or JILQAMUR_MEMORY, and nothing has
+ * changed. A packet whose number is held, or at or below that of the last unit, is passed over; of more than 4,096 the
+ * one of the lowest number goes. */
+uint32_t jilqamur_depacketizer_push(jilqamur_depacketizer *depacketizer, uint64_t number, uint32_t timestamp,
+                                    bool marker, const uint8_t *payload, size_t len);
+
+/* JILQAMUR_OK where a unit is due, which jilqamur_depacketizer_unit fetches. JILQAMUR_NOTHING where none is, one of
+ * JILQAMUR_PACKET_TOO_SHORT to JILQAMUR_AMR_WB_CORRUPTED where a packet of the next frame is refused, which is then
+ * done with, or JILQAMUR_MEMORY, and the frame stays. */
+uint32_t jilqamur_depacketizer_pop(jilqamur_depacketizer *depacketizer);
+
+/* The same, whether or not a packet before the lowest complete unit is missing: for the end of a stream. */
+uint32_t jilqamur_depacketizer_drain(jilqamur_depacketizer *depacketizer);
+
+/* Copies the bytes of the unit that was popped or drained last to the front of a buffer of len bytes, writes their
+ * count into needed, and what is told beside into unit. JILQAMUR_TOO_SMALL, and the buffer is unchanged, while needed
+ * and unit are written; JILQAMUR_NOTHING before the first unit. The unit stays until the next one. */
+uint32_t jilqamur_depacketizer_unit(jilqamur_depacketizer *depacketizer, uint8_t *buffer, size_t len, size_t *needed,
+                                    jilqamur_unit *unit);
 
 /* A handle of an end: what it offers, what it agreed on with the other end, its streams, and what calls left to be
  * fetched. One whose bytes are all 0 is closed; write no field of it after that. A copy of an open handle must not be
@@ -291,27 +425,10 @@ uint32_t jilqamur_end_poll(jilqamur_end *end, size_t stream);
 /* The same, whether or not a datagram before the lowest complete unit is missing: for the end of a stream. */
 uint32_t jilqamur_end_drain(jilqamur_end *end, size_t stream);
 
-/* What is told of a unit beside its bytes. */
-typedef struct jilqamur_unit {
-    uint64_t first;   /* the widened sequence number of its first datagram */
-    uint64_t last;    /* that of its last datagram */
-    uint32_t time;    /* the RTP timestamp, in ticks of the row's clock */
-    bool is_keyframe; /* whether the codec says that it is a keyframe; VP9 and audio never do */
-} jilqamur_unit;
-
 /* Copies the bytes of the unit that a poll or a drain left last to the front of a buffer of len bytes, writes their
  * count into needed, and what is told beside into unit. JILQAMUR_TOO_SMALL, and the buffer is unchanged, while needed
  * and unit are written; JILQAMUR_NOTHING before the first unit. The unit stays until the next one. */
 uint32_t jilqamur_end_unit(jilqamur_end *end, uint8_t *buffer, size_t len, size_t *needed, jilqamur_unit *unit);
-
-/* How payloads are read and written, beside their codec. */
-typedef struct jilqamur_format {
-    uint32_t clock_rate;   /* ticks a second, at least 1 */
-    bool has_octet_align;  /* whether octet_align is given */
-    bool octet_align;      /* whether AMR-WB is octet-aligned (RFC 4867 8.1); not looked at where it isn't given */
-    bool has_max_don_diff; /* whether max_don_diff is given */
-    uint16_t max_don_diff; /* sprop-max-don-diff of H.265 and H.266; not looked at where it isn't given */
-} jilqamur_format;
 
 /* How a sending stream without an end numbers and cuts its samples. */
 typedef struct jilqamur_sender_params {

@@ -1,5 +1,5 @@
-//! RTP headers, padding, sequence numbers and replay windows (RFC 3550), ends that exchange offers and answers, send
-//! samples and receive units, and streams by codec, from a proved library.
+//! RTP headers, padding, sequence numbers and replay windows (RFC 3550), packetizers and depacketizers by codec, ends
+//! that exchange offers and answers, send samples and receive units, and streams by codec, from a proved library.
 
 use std::{fmt, ptr};
 
@@ -7,12 +7,14 @@ mod ends;
 mod error;
 mod exchanges;
 mod params;
+mod payloads;
 mod streams;
 mod sys;
 
 pub use ends::{Datagrams, End};
 pub use error::EndError;
-pub use params::{Direction, Kind, Received, Row, Section, StreamParams, Unit};
+pub use params::{Direction, Kind, Received, Row, Section, StreamParams, TelephoneEvent, Unit};
+pub use payloads::{Depacketizer, Fault, Packet, Packetizer, PacketizerParams};
 pub use streams::{Format, Receiver, Sender, SenderParams};
 
 /// Why a call is refused.

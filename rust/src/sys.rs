@@ -1,6 +1,7 @@
 //! The exports, as `include/jilqamur.h` declares them.
 
 use crate::params::{Row, StreamParams};
+use crate::payloads::PacketizerParams;
 use crate::streams::{Format, SenderParams};
 use crate::Header;
 
@@ -23,6 +24,15 @@ pub(crate) struct Unit {
     pub(crate) last: u64,
     pub(crate) time: u32,
     pub(crate) is_keyframe: bool,
+    pub(crate) has_picture_id: bool,
+    pub(crate) picture_id: u16,
+    pub(crate) has_base_layer: bool,
+    pub(crate) base_layer: u8,
+    pub(crate) has_event: bool,
+    pub(crate) event: u8,
+    pub(crate) event_end: bool,
+    pub(crate) event_volume: u8,
+    pub(crate) event_duration: u64,
 }
 
 extern "C" {
@@ -48,6 +58,54 @@ extern "C" {
         number: *mut u64,
     ) -> u32;
     pub(crate) fn jilqamur_window_close(window: *mut Window) -> u32;
+    pub(crate) fn jilqamur_packetizer_open(
+        packetizer: *mut Handle,
+        params: *const PacketizerParams,
+        format: *const Format,
+        codec: *const u8,
+        codec_len: usize,
+    ) -> u32;
+    pub(crate) fn jilqamur_packetizer_close(packetizer: *mut Handle) -> u32;
+    pub(crate) fn jilqamur_packetizer_packetize(
+        packetizer: *mut Handle,
+        mtu: usize,
+        sample: *const u8,
+        len: usize,
+        count: *mut usize,
+    ) -> u32;
+    pub(crate) fn jilqamur_packetizer_packet(
+        packetizer: *mut Handle,
+        index: usize,
+        buffer: *mut u8,
+        len: usize,
+        needed: *mut usize,
+        marker: *mut bool,
+    ) -> u32;
+    pub(crate) fn jilqamur_depacketizer_open(
+        depacketizer: *mut Handle,
+        format: *const Format,
+        codec: *const u8,
+        codec_len: usize,
+        hold_back: usize,
+    ) -> u32;
+    pub(crate) fn jilqamur_depacketizer_close(depacketizer: *mut Handle) -> u32;
+    pub(crate) fn jilqamur_depacketizer_push(
+        depacketizer: *mut Handle,
+        number: u64,
+        timestamp: u32,
+        marker: bool,
+        payload: *const u8,
+        len: usize,
+    ) -> u32;
+    pub(crate) fn jilqamur_depacketizer_pop(depacketizer: *mut Handle) -> u32;
+    pub(crate) fn jilqamur_depacketizer_drain(depacketizer: *mut Handle) -> u32;
+    pub(crate) fn jilqamur_depacketizer_unit(
+        depacketizer: *mut Handle,
+        buffer: *mut u8,
+        len: usize,
+        needed: *mut usize,
+        unit: *mut Unit,
+    ) -> u32;
     pub(crate) fn jilqamur_end_open(end: *mut Handle) -> u32;
     pub(crate) fn jilqamur_end_close(end: *mut Handle) -> u32;
     pub(crate) fn jilqamur_end_row(

@@ -1,0 +1,4 @@
+pub mod Configured
+pub mod Cutting
+pub mod DepacketizerBox
+pub mod PacketizerBox

@@ -1,0 +1,262 @@
+//! Packetizers and depacketizers that go by a codec's name.
+
+use crate::ends::fetched;
+use crate::params::Unit;
+use crate::streams::Format;
+use crate::sys;
+use std::{fmt, ptr};
+
+/// Why a packetizer or a depacketizer refuses, by the number that `include/jilqamur.h` gives it.
+#[derive(Clone, Copy, Debug, PartialEq, Eq)]
+#[non_exhaustive]
+pub enum Fault {
+    /// Memory was wanting.
+    Memory,
+    /// A number is off its range, or no payload format has this name.
+    OutOfRange,
+    /// The packet has fewer bytes than its format needs.
+    PacketTooShort,
+    /// The sample can't be cut, and passes the limit.
+    SampleTooLarge,
+    /// A VP9 descriptor lists a fourth reference (RFC 9628 4.2).
+    TooManyReferences,
+    /// An H.265 packet breaks its format (RFC 7798 4.4).
+    H265Corrupted,
+    /// An H.266 packet breaks its format (RFC 9328 4.3).
+    H266Corrupted,
+    /// An aggregated unit passes the end of its packet (RFC 6184 5.7.1).
+    AggregateCutShort,
+    /// No packet of this unit type is read (RFC 6184 5.2).
+    UnitTypeNotHandled,
+    /// A VP8 descriptor breaks its format (RFC 7741 4.2).
+    Vp8Corrupted,
+    /// A VP9 descriptor breaks its format (RFC 9628 4.2).
+    Vp9Corrupted,
+    /// An AV1 packet breaks its format.
+    Av1Corrupted,
+    /// A redundant payload breaks its format (RFC 2198 3).
+    RedCorrupted,
+    /// Reports of telephone events are no nonempty multiple of four bytes (RFC 4733 2.3).
+    EventInvalid,
+    /// An AMR-WB packet or sample breaks its format (RFC 4867 4.3).
+    AmrWbCorrupted,
+}
+
+const FAULTS: [(Fault, &str); 13] = [
+    (Fault::PacketTooShort, "the packet is too short"),
+    (Fault::SampleTooLarge, "the sample is larger than the limit"),
+    (Fault::TooManyReferences, "too many references"),
+    (Fault::H265Corrupted, "corrupted H.265 packet"),
+    (Fault::H266Corrupted, "corrupted H.266 packet"),
+    (Fault::AggregateCutShort, "an aggregated unit passes the end of its packet"),
+    (Fault::UnitTypeNotHandled, "a unit of this type is not handled"),
+    (Fault::Vp8Corrupted, "corrupted VP8 packet"),
+    (Fault::Vp9Corrupted, "corrupted VP9 packet"),
+    (Fault::Av1Corrupted, "corrupted AV1 packet"),
+    (Fault::RedCorrupted, "corrupted redundant packet"),
+    (Fault::EventInvalid, "invalid telephone event"),
+    (Fault::AmrWbCorrupted, "corrupted AMR-WB packet"),
+];
+
+impl Fault {
+    fn of(answer: u32) -> Fault {
+        match answer {
+            1 => Fault::Memory,
+            10 => Fault::OutOfRange,
+            34..=46 => FAULTS[answer as usize - 34].0,
+            other => unreachable!("the library answers {other}"),
+        }
+    }
+}
+
+impl fmt::Display for Fault {
+    fn fmt(&self, f: &mut fmt::Formatter<'_>) -> fmt::Result {
+        f.write_str(match self {
+            Fault::Memory => "out of memory",
+            Fault::OutOfRange => "a number is out of range",
+            fault => FAULTS.iter().find(|(of, _)| of == fault).map_or("", |(_, text)| text),
+        })
+    }
+}
+
+impl std::error::Error for Fault {}
+
+fn done(answer: u32) -> Result<(), Fault> {
+    if answer == 0 { Ok(()) } else { Err(Fault::of(answer)) }
+}
+
+/// How a packetizer counts pictures, and which forms it writes.
+#[repr(C)]
+#[derive(Clone, Copy, Debug, Default, PartialEq, Eq)]
+pub struct PacketizerParams {
+    has_picture_id: bool,
+    picture_id: u16,
+    for_browsers: bool,
+}
+
+impl PacketizerParams {
+    /// Without picture ids in VP8 and from 0 on in VP9, in the plain forms.
+    #[must_use]
+    pub fn new() -> PacketizerParams {
+        PacketizerParams::default()
+    }
+
+    /// With the pictures of VP8 and VP9 counted from this id, at most 32,767.
+    #[must_use]
+    pub fn with_picture_id(self, picture_id: u16) -> PacketizerParams {
+        PacketizerParams { has_picture_id: true, picture_id, ..self }
+    }
+
+    /// With VP8's picture id 0 written, and with VP9's packets telling which frames are predicted.
+    #[must_use]
+    pub fn for_browsers(self) -> PacketizerParams {
+        PacketizerParams { for_browsers: true, ..self }
+    }
+}
+
+/// A payload, and the marker of its RTP header.
+#[derive(Clone, Debug, PartialEq, Eq)]
+pub struct Packet {
+    /// The payload.
+    pub payload: Vec<u8>,
+    /// The marker bit.
+    pub marker: bool,
+}
+
+/// A packetizer. It stays on its thread.
+pub struct Packetizer(sys::Handle);
+
+impl Packetizer {
+    /// A packetizer of the codec of this name that cut nothing.
+    ///
+    /// # Errors
+    /// `OutOfRange` or `Memory`.
+    pub fn new(codec: &str, format: Format, params: PacketizerParams) -> Result<Packetizer, Fault> {
+        let mut packetizer = sys::Handle { full: false, place: ptr::null_mut() };
+        // SAFETY: the handle is closed, and pointer and length are those of one slice.
+        done(unsafe {
+            sys::jilqamur_packetizer_open(&mut packetizer, &params, &format, codec.as_ptr(), codec.len())
+        })?;
+        Ok(Packetizer(packetizer))
+    }
+
+    /// The payloads of a sample, each of at most `mtu` bytes, one after the other.
+    ///
+    /// # Errors
+    /// Why the codec refuses the sample, or `Memory`; nothing has changed.
+    pub fn packetize(&mut self, mtu: usize, sample: &[u8]) -> Result<impl Iterator<Item = Packet> + '_, Fault> {
+        let mut count = 0;
+        // SAFETY: the handle is open, and pointer and length are those of one slice.
+        done(unsafe {
+            sys::jilqamur_packetizer_packetize(&mut self.0, mtu, sample.as_ptr(), sample.len(), &mut count)
+        })?;
+        Ok((0..count).map(|index| self.packet(index)))
+    }
+
+    fn packet(&mut self, index: usize) -> Packet {
+        let mut marker = false;
+        let payload = fetched(|buffer, len, needed| {
+            // SAFETY: the handle is open, and what is written are places of their own.
+            unsafe { sys::jilqamur_packetizer_packet(&mut self.0, index, buffer, len, needed, &mut marker) }
+        });
+        Packet { payload, marker }
+    }
+}
+
+impl Drop for Packetizer {
+    fn drop(&mut self) {
+        // SAFETY: the handle is open, and is not used again.
+        unsafe { sys::jilqamur_packetizer_close(&mut self.0) };
+    }
+}
+
+/// A depacketizer behind a buffer that puts packets in order. It stays on its thread.
+pub struct Depacketizer(sys::Handle);
+
+impl Depacketizer {
+    /// A depacketizer of the codec of this name that took nothing. Past a missing packet a unit is handed out only once
+    /// more than `hold_back` frames are complete.
+    ///
+    /// # Errors
+    /// `OutOfRange` or `Memory`.
+    pub fn new(codec: &str, format: Format, hold_back: usize) -> Result<Depacketizer, Fault> {
+        let mut depacketizer = sys::Handle { full: false, place: ptr::null_mut() };
+        // SAFETY: the handle is closed, and pointer and length are those of one slice.
+        done(unsafe {
+            sys::jilqamur_depacketizer_open(&mut depacketizer, &format, codec.as_ptr(), codec.len(), hold_back)
+        })?;
+        Ok(Depacketizer(depacketizer))
+    }
+
+    /// Takes a packet in, by its widened sequence number, its timestamp, its marker and its payload without padding.
+    /// One whose number is held, or at or below that of the last unit, is passed over.
+    ///
+    /// # Errors
+    /// `Memory`; nothing has changed.
+    pub fn push(&mut self, number: u64, timestamp: u32, marker: bool, payload: &[u8]) -> Result<(), Fault> {
+        // SAFETY: the handle is open, and pointer and length are those of one slice.
+        done(unsafe {
+            sys::jilqamur_depacketizer_push(
+                &mut self.0,
+                number,
+                timestamp,
+                marker,
+                payload.as_ptr(),
+                payload.len(),
+            )
+        })
+    }
+
+    /// The next unit, where one is due.
+    ///
+    /// # Errors
+    /// Why a packet of the next frame is refused, which is then done with; or `Memory`, and it stays.
+    pub fn pop(&mut self) -> Result<Option<Unit>, Fault> {
+        // SAFETY: the handle is open.
+        let answer = unsafe { sys::jilqamur_depacketizer_pop(&mut self.0) };
+        self.unit_of(answer)
+    }
+
+    /// The same, whether or not a packet before the lowest complete unit is missing: for the end of a stream.
+    ///
+    /// # Errors
+    /// As [`Depacketizer::pop`].
+    pub fn drain(&mut self) -> Result<Option<Unit>, Fault> {
+        // SAFETY: the handle is open.
+        let answer = unsafe { sys::jilqamur_depacketizer_drain(&mut self.0) };
+        self.unit_of(answer)
+    }
+
+    /// All units that are due, and faults between them.
+    pub fn units(&mut self) -> impl Iterator<Item = Result<Unit, Fault>> + '_ {
+        let mut is_over = false;
+        std::iter::from_fn(move || {
+            if is_over {
+                return None;
+            }
+            let unit = self.pop().transpose();
+            is_over = matches!(unit, None | Some(Err(Fault::Memory)));
+            unit
+        })
+    }
+
+    fn unit_of(&mut self, answer: u32) -> Result<Option<Unit>, Fault> {
+        if answer == 12 {
+            return Ok(None);
+        }
+        done(answer)?;
+        let mut told = sys::Unit::default();
+        let bytes = fetched(|buffer, len, needed| {
+            // SAFETY: the handle is open, and what is written are places of their own.
+            unsafe { sys::jilqamur_depacketizer_unit(&mut self.0, buffer, len, needed, &mut told) }
+        });
+        Ok(Some(Unit::of(told, bytes)))
+    }
+}
+
+impl Drop for Depacketizer {
+    fn drop(&mut self) {
+        // SAFETY: the handle is open, and is not used again.
+        unsafe { sys::jilqamur_depacketizer_close(&mut self.0) };
+    }
+}
