@@ -5,7 +5,8 @@ what the crates have.
 A definition is written `crate` `File.name`, `name`, ..: each name has to be declared in the crate's
 specs/File.antt. On the page of promises each name in the column of calls is a public function, and a
 name in parentheses is a clause of one. On any page a block of text behind a line `<!-- FILE -->` stands word for
-word in that file, at one depth of indentation. Prints what is missing, and ends with status 1 then.
+word in that file, at one depth of indentation. Each wrong body in wrong_bodies/ changes text that its file has once.
+Prints what is missing, and ends with status 1 then.
 """
 import re
 import sys
@@ -126,7 +127,25 @@ def differing_files():
         yield "docs/run.svg isn't crates/rtpgraph/stdout"
 
 
-found = [*missing_definitions(), *missing_promises(), *differing_blocks(), *differing_files()]
+def stale_wrong_bodies():
+    for edit in sorted(ROOT.glob("wrong_bodies/*/*.edit")):
+        file = None
+        for line in edit.read_text(encoding="utf-8").split("\n"):
+            if line.startswith("file: "):
+                file = CRATES / edit.parent.name / line[len("file: "):].strip()
+            elif line.startswith("old: "):
+                times = file.read_text(encoding="utf-8").count(line[len("old: "):]) if file and file.is_file() else 0
+                if times != 1:
+                    yield f"{edit.relative_to(ROOT)}: its old text stands {times} times in {file}, and not once"
+
+
+found = [
+    *missing_definitions(),
+    *missing_promises(),
+    *differing_blocks(),
+    *differing_files(),
+    *stale_wrong_bodies(),
+]
 for line in found:
     print(line)
 sys.exit(1 if found else 0)

@@ -247,4 +247,22 @@ impl<B: Packetizer> Packetizer for CodecPacketizer<B> {
             CodecPacketizer::Boxed(p) => p.is_marker(bytes, previous, last),
         }
     }
+
+    fn is_own_payload(&self, mtu: usize, bytes: &[u8]) -> bool {
+        match self {
+            CodecPacketizer::G711(p) => p.is_own_payload(mtu, bytes),
+            CodecPacketizer::G722(p) => p.is_own_payload(mtu, bytes),
+            CodecPacketizer::Opus(p) => p.is_own_payload(mtu, bytes),
+            CodecPacketizer::ComfortNoise(p) => p.is_own_payload(mtu, bytes),
+            CodecPacketizer::AmrWb(p) => p.is_own_payload(mtu, bytes),
+            CodecPacketizer::Telephone(p) => p.is_own_payload(mtu, bytes),
+            CodecPacketizer::Vp8(p) => p.is_own_payload(mtu, bytes),
+            CodecPacketizer::Vp9(p) => p.is_own_payload(mtu, bytes),
+            CodecPacketizer::Av1(p) => p.is_own_payload(mtu, bytes),
+            CodecPacketizer::H264(p) => p.is_own_payload(mtu, bytes),
+            CodecPacketizer::H265(p) => p.is_own_payload(mtu, bytes),
+            CodecPacketizer::H266(p) => p.is_own_payload(mtu, bytes),
+            CodecPacketizer::Boxed(p) => p.is_own_payload(mtu, bytes),
+        }
+    }
 }

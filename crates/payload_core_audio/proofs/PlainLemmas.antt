@@ -1,6 +1,6 @@
 -- What makes payloads without a header keep the codec law.
 use Rattle.std.proofs.Common.{◌≡◌, ℕ, zero, suc, ◌<◌, ◌≤◌, Bool, true, false, ltb, List, [], ◌∷◌, length, Err}
-use Rattle.std.proofs.Common.{if◌then◌else◌, refl, sym, subst, arith}
+use Rattle.std.proofs.Common.{if◌then◌else◌, refl, sym, subst, arith, ap, ◌∙◌}
 use mathlib.Core.Bool.{false≢true}
 use Rattle.std.specs.List.{All}
 use Rattle.std.proofs.lemmas.List.Elements.{All-cons, All-nil, All-weaker}
@@ -9,10 +9,20 @@ use Rattle.payload_core_base.specs.Packing.{Sender}
 use Rattle.payload_core_base.specs.Pieces.{pieces}
 use Rattle.payload_core_base.specs.declared.error.PacketError.TheVariants.{ErrPayloadTooLarge}
 use Rattle.std.proofs.lemmas.Bool.Decides.{nat_tests}
-use Rattle.payload_core_base.proofs.PieceLemmas.{pieces-none, pieces-within}
+use Rattle.payload_core_base.proofs.PieceLemmas.{pieces-none, pieces-within, pieces-step, pieces-empty}
+use Rattle.std.proofs.lemmas.List.{take_all, drop_all}
 use Rattle.payload_core_base.proofs.FrameLemmas.{IsWhole, whole-frames}
 use Rattle.payload_core_audio.specs.Plain.{plain_format, pieces_packing, pieces_coding, noise_coding, noise_packing}
-use Rattle.payload_core_audio.specs.Plain.{unit_of_piece, sent_as}
+use Rattle.payload_core_audio.specs.Plain.{unit_of_piece, sent_as, is_one_piece}
+
+-- a sample that has a byte and fits the limit is its one piece
+pub one_piece : (limit : ℕ) (sample : List ℕ) → is_one_piece limit sample ≡ true → pieces limit sample ≡ sample ∷ []
+one_piece limit sample fits =
+    let some : 0 < length sample = grind (arith, nat_tests, fits) in
+    let short : length sample ≤ limit = grind (arith, nat_tests, fits) in
+    pieces-step limit sample (omega arith) some
+    ∙ (λ i. take_all limit sample short i ∷ pieces limit (drop_all limit sample short i))
+    ∙ ap (λ (ps : List (List ℕ)). sample ∷ ps) (pieces-empty limit)
 
 -- a packet with a byte is a unit
 plain_whole : (p : List ℕ) → 0 < length p → IsWhole plain_format p (unit_of_piece p)

@@ -1,6 +1,6 @@
 -- Payloads without a header: each packet is a piece of a sample.
 use Rattle.std.specs.Prelude.{ℕ, ◌<◌, ◌≤◌, Bool, true, false, List, [], ◌∷◌, map, length, nat_lt, Result, Ok, Err}
-use Rattle.std.specs.Prelude.{if◌then◌else◌}
+use Rattle.std.specs.Prelude.{if◌then◌else◌, ◌&&◌, nat_le}
 use Rattle.payload_core_base.specs.Format.{Format, Fragment, Reading}
 use Rattle.payload_core_base.specs.Law.{Coding}
 use Rattle.payload_core_base.specs.Packing.{Packing, Sender, Sent}
@@ -24,6 +24,10 @@ no_marker packet last = false
 -- Opus, G.711 and G.722: the pieces of the limit (RFC 7587 4.2, RFC 3551 4.5).
 abbrev pub pieces_packing : Packing
 pieces_packing = record { pack = λ sender limit sample. sent_as sender (pieces limit sample); marks = no_marker }
+
+-- The sample has a byte, and fits the limit: it is its one piece.
+abbrev pub is_one_piece : ℕ → List ℕ → Bool
+is_one_piece limit sample = nat_lt 0 (length sample) && nat_le (length sample) limit
 
 -- The one packet of a sample that can't be cut: none for an empty sample, and none that passes the limit.
 abbrev pub pack_whole : Sender → ℕ → List ℕ → Result Sent PacketError

@@ -1,8 +1,8 @@
 //! Cutting and reading payloads without a header of their own.
 
 ghost use Rattle.payload_core_base.specs.Pieces.{pieces};
-ghost use Rattle.payload_core_audio.specs.Plain.{idle_sender, pack_whole, sent_as};
-ghost use Rattle.std.specs.Prelude.{◌≡◌, ◌≢◌, Err, IfErr, IfOk, map};
+ghost use Rattle.payload_core_audio.specs.Plain.{idle_sender, is_one_piece, pack_whole, sent_as};
+ghost use Rattle.std.specs.Prelude.{◌≡◌, ◌≢◌, ◌∷◌, [], Err, IfErr, IfOk, map, true};
 
 use payload_core_base::PacketError;
 use std::alloc::Global;
@@ -20,6 +20,15 @@ pub fn cut(alloc: Global, limit: usize, bytes: &[u8]) -> Result<Vec<Vec<u8>>, Pa
         packets.push(Vec::from_slice(alloc, piece)?)?;
     }
     Ok(packets)
+}
+
+#[tactic(auto, using(crate::proofs::PlainLemmas::one_piece))]
+/// Whether a sample is its one piece at a limit: it has a byte, and fits.
+pub fn is_one_piece(limit: usize, bytes: &[u8]) -> bool
+    ensures exactly { result ≡ is_one_piece limit bytes.now }
+    ensures piece { result ≡ true → pieces limit bytes.now ≡ bytes.now ∷ [] }
+{
+    !bytes.is_empty() && bytes.len() <= limit
 }
 
 /// The one packet of a sample that isn't cut; none of an empty sample.

@@ -1,9 +1,10 @@
 //! G.711 and G.722 payloads (RFC 3551 4.5).
 
-ghost use Rattle.payload_core_audio.specs.Plain.{idle_sender, pieces_packing, plain_format};
-ghost use Rattle.std.specs.Prelude.{None};
+ghost use Rattle.payload_core_audio.specs.Plain.{idle_sender, is_one_piece, pieces_packing, plain_format};
+ghost use Rattle.payload_core_base.specs.Packing.{Sends};
+ghost use Rattle.std.specs.Prelude.{◌≡◌, ◌∷◌, [], None, true};
 
-use crate::cut::cut;
+use crate::cut::{cut, is_one_piece};
 use payload_core_base::{CodecExtra, Depacketizer, PacketError, Packetizer};
 use std::alloc::Global;
 
@@ -34,6 +35,15 @@ impl Packetizer for G7xxPacketizer {
 
     fn is_marker(&mut self, _bytes: &[u8], _previous: Option<&[u8]>, _last: bool) -> bool {
         false
+    }
+
+    /// Whether it has a byte, and fits the limit.
+    fn is_own_payload(&self, mtu: usize, bytes: &[u8]) -> bool
+        ensures exactly { result ≡ is_one_piece mtu bytes.now }
+        ensures own { result ≡ true → Sends (pieces_packing.pack idle_sender mtu bytes.now) (bytes.now ∷ [])
+            idle_sender }
+    {
+        is_one_piece(mtu, bytes)
     }
 }
 

@@ -23,6 +23,10 @@ impl Packetizer for Box<dyn Packetizer + Drop> {
     fn is_marker(&mut self, bytes: &[u8], previous: Option<&[u8]>, last: bool) -> bool {
         (**self).is_marker(bytes, previous, last)
     }
+
+    fn is_own_payload(&self, mtu: usize, bytes: &[u8]) -> bool {
+        (**self).is_own_payload(mtu, bytes)
+    }
 }
 
 impl Depacketizer for Box<dyn Depacketizer + Drop> {

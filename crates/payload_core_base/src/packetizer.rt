@@ -1,7 +1,7 @@
 //! Cutting samples into packets.
 
 ghost use Rattle.payload_core_base.specs.Packing.{Packing, RefusesSample, Sender, Sends};
-ghost use Rattle.std.specs.Prelude.{◌≡◌, IfErr, IfOk, OnErr, false, map, true};
+ghost use Rattle.std.specs.Prelude.{◌≡◌, ◌∷◌, [], IfErr, IfOk, OnErr, false, map, true};
 
 use crate::error::PacketError;
 use std::alloc::Global;
@@ -39,6 +39,15 @@ pub trait Packetizer {
         ensures marker { result ≡ (packing self.old).marks bytes.now last }
         ensures packing { packing self.new ≡ packing self.old }
         ensures sender { sender self.new ≡ sender self.old };
+
+    /// Whether a sample is known to be the one payload that `packetize` makes of it, and to change nothing that is
+    /// kept, so that its bytes can be sent as they are: of no format, where it doesn't say when.
+    fn is_own_payload(&self, mtu: usize, bytes: &[u8]) -> bool
+        ensures own { let sent = (packing self.now).pack (sender self.now) mtu bytes.now in
+            result ≡ true → Sends sent (bytes.now ∷ []) (sender self.now) }
+    {
+        false
+    }
 
     /// Whether a marker tells the start of a talkspurt: of no format here.
     fn marks_talkspurt(&self) -> bool

@@ -1,9 +1,9 @@
 //! Sending samples through a packet sink.
 
-ghost use Rattle.payload_core_base.specs.Outgoing.{TakesAll, TakesFirst, all_outgoing};
+ghost use Rattle.payload_core_base.specs.Outgoing.{TakesAll, TakesFirst, all_outgoing, outgoing};
 ghost use Rattle.payload_core_base.specs.Packing.{RefusesSample};
 ghost use Rattle.payload_core_buffer.specs.Sending.{HasSent, StopsSending, outgoing_from};
-ghost use Rattle.std.specs.Prelude.{◌≡◌, ◌≢◌, ◌+◌, ◌≤◌, ◌⊎◌, Err, IfErr, OnErr, OnOk, map, vec_len};
+ghost use Rattle.std.specs.Prelude.{◌≡◌, ◌≢◌, ◌+◌, ◌≤◌, ◌⊎◌, Err, IfErr, OnErr, OnOk, map, true, vec_len};
 
 use payload_core_base::{PacketError, PacketSink, Packetizer};
 use rtp_wire_extensions::ExtensionValues;
@@ -43,6 +43,25 @@ fn send_all<P: Packetizer, S: PacketSink>(
         previous = Some(packet);
     }
     Ok(())
+}
+
+// Hands a sample on to the sink as its one packet.
+fn send_own<P: Packetizer, S: PacketSink>(
+    packetizer: &mut P,
+    sink: &mut S,
+    sample: &[u8],
+    time: u32,
+    values: &ExtensionValues,
+) -> Result<(), PacketError>
+    ensures packing { P.packing packetizer.new ≡ P.packing packetizer.old }
+    ensures sender { P.sender packetizer.new ≡ P.sender packetizer.old }
+    ensures sent { let marker = (P.packing packetizer.old).marks sample.now true in
+        OnOk result (S.takes sink.old (outgoing sample.now marker time values.now) sink.new) }
+    ensures stopped { OnErr result (S.keeps sink.old sink.new) }
+    ensures memory { IfErr result (λ e. e ≡ PacketError.Memory) }
+{
+    let marker = packetizer.is_marker(sample, None, true);
+    sink.send(sample, marker, time, values)
 }
 
 impl<P: Packetizer> Payloader<P> {
@@ -85,6 +104,9 @@ impl<P: Packetizer> Payloader<P> {
             let stopped = StopsSending S.takes S.keeps packing sent time values.now sink.old sink.new after in
             IfErr result (λ e. e ≡ PacketError.Memory → unsent ⊎ stopped) }
     {
+        if self.packetizer.is_own_payload(mtu, bytes) {
+            return send_own(&mut self.packetizer, sink, bytes, time, values);
+        }
         let packets = match self.packetizer.packetize(alloc, mtu, bytes) {
             Ok(packets) => packets,
             Err(e) => return Err(e),

@@ -23,7 +23,7 @@ use std::marker::Model;
 
 /// What an end keeps of its exchanges: its session, the header extensions that it wants, its rows, an offer that waits
 /// for its answer, and what was agreed last.
-#[derive(Debug, Drop)]
+#[derive(Debug)]
 pub struct Exchange {
     alloc: Global,
     session: Session,
@@ -31,6 +31,20 @@ pub struct Exchange {
     config: CodecConfig,
     pending: Option<Pending>,
     agreed: Vec<AgreedSection>,
+}
+
+/// Written out, so that who lets one go needs nothing of what is inside.
+impl Drop for Exchange {
+    fn drop(self) {
+        let Exchange {
+            alloc: _alloc,
+            session: _session,
+            exts: _exts,
+            config: _config,
+            pending: _pending,
+            agreed: _agreed,
+        } = self;
+    }
 }
 
 /// The sections of an offer that waits for its answer.

@@ -6,11 +6,17 @@ use rtp_wire::{ExtensionValues, MediaTime};
 use std::marker::Model;
 
 /// A sample with its time and its values of header extensions.
-#[derive(Drop)]
 pub struct Sample {
     time: MediaTime,
     values: ExtensionValues,
     bytes: Vec<u8>,
+}
+
+/// Written out, so that who lets one go needs nothing of what is inside.
+impl Drop for Sample {
+    fn drop(self) {
+        let Sample { time: _time, values: _values, bytes: _bytes } = self;
+    }
 }
 
 impl Model for Sample {

@@ -18,7 +18,7 @@ use std::alloc::{AllocError, Global};
 use std::marker::Model;
 
 /// A section as an exchange left it.
-#[derive(Debug, Drop)]
+#[derive(Debug)]
 pub struct AgreedSection {
     mid: Mid,
     kind: MediaKind,
@@ -28,6 +28,22 @@ pub struct AgreedSection {
     remote_ssrcs: Vec<Ssrc>,
     sends: bool,
     receives: bool,
+}
+
+/// Written out, so that who lets one go needs nothing of what is inside.
+impl Drop for AgreedSection {
+    fn drop(self) {
+        let AgreedSection {
+            mid: _mid,
+            kind: _kind,
+            rows: _rows,
+            exts: _exts,
+            own_ssrcs: _own_ssrcs,
+            remote_ssrcs: _remote_ssrcs,
+            sends: _sends,
+            receives: _receives,
+        } = self;
+    }
 }
 
 impl Model for AgreedSection {

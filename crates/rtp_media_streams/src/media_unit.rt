@@ -12,7 +12,6 @@ use std::marker::Model;
 /// A video frame or an audio packet: its bytes, its RTP timestamp (RFC 3550 5.1), the widened sequence numbers
 /// of the first and the last datagram that it came in, the values of the last one's header extensions
 /// (RFC 8285), and what its codec tells beside.
-#[derive(Drop)]
 pub struct Unit {
     bytes: Vec<u8>,
     time: u32,
@@ -20,6 +19,20 @@ pub struct Unit {
     first: SeqNo,
     last: SeqNo,
     extra: CodecExtra,
+}
+
+/// Written out, so that who lets one go needs nothing of what is inside.
+impl Drop for Unit {
+    fn drop(self) {
+        let Unit {
+            bytes: _bytes,
+            time: _time,
+            ext_vals: _ext_vals,
+            first: _first,
+            last: _last,
+            extra: _extra,
+        } = self;
+    }
 }
 
 impl Model for Unit {

@@ -34,7 +34,6 @@ use std::alloc::{AllocError, Global};
 use std::marker::Model;
 
 /// A receiving stream: its window and the packets that wait.
-#[derive(Drop)]
 pub struct ReceivingStream {
     alloc: Global,
     ssrc: Ssrc,
@@ -43,6 +42,21 @@ pub struct ReceivingStream {
     row: RowFormat,
     window: Option<SeqNoWindow>,
     buffer: DepacketizingBuffer<CodecDepacketizer<NotBoxed>>,
+}
+
+/// Written out, so that who lets one go needs nothing of what is inside.
+impl Drop for ReceivingStream {
+    fn drop(self) {
+        let ReceivingStream {
+            alloc: _alloc,
+            ssrc: _ssrc,
+            types: _types,
+            exts: _exts,
+            row: _row,
+            window: _window,
+            buffer: _buffer,
+        } = self;
+    }
 }
 
 impl Model for ReceivingStream {

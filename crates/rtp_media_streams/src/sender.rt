@@ -30,7 +30,6 @@ use std::marker::Model;
 const END_OF_NUMBERS: u64 = 0x4000_0000_0000_0000;
 
 /// A sending stream: how its samples are numbered and cut.
-#[derive(Drop)]
 pub struct SendingStream {
     alloc: Global,
     types: PayloadTypes,
@@ -44,6 +43,26 @@ pub struct SendingStream {
     mtu: usize,
     limit: usize,
     failed: bool,
+}
+
+/// Written out, so that who lets one go needs nothing of what is inside.
+impl Drop for SendingStream {
+    fn drop(self) {
+        let SendingStream {
+            alloc: _alloc,
+            types: _types,
+            stamp: _stamp,
+            row: _row,
+            has_id: _has_id,
+            for_browsers: _for_browsers,
+            payloader: _payloader,
+            redundancy: _redundancy,
+            next: _next,
+            mtu: _mtu,
+            limit: _limit,
+            failed: _failed,
+        } = self;
+    }
 }
 
 impl Model for SendingStream {
@@ -136,7 +155,7 @@ impl SendingStream {
         let Ok(sender) = RedSender::new(stream.alloc, distances) else {
             return Err(AllocError);
         };
-        stream.stamp = stream.stamp.with_type(red);
+        stream.stamp.set_type(red);
         stream.redundancy = Some(sender);
         Ok(stream)
     }
@@ -206,8 +225,7 @@ impl SendingStream {
         }
         let rate = rtp_rate_of(self.row.codec, self.row.clock_rate);
         let time = time.checked_rebase(rate).ok_or(SampleError::TimeTooLarge)?;
-        let header = self.stamp.header(0, false, 0, values);
-        let header_len = header.two_byte_len(&self.stamp.exts);
+        let header_len = self.stamp.two_byte_len(values);
         if self.limit < header_len || self.limit - header_len < self.mtu {
             return Err(SampleError::LimitTooSmall);
         }

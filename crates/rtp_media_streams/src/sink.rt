@@ -1,6 +1,8 @@
 //! Making datagrams of payloads.
 
-ghost use Rattle.std.specs.Prelude.{◌≡◌, ◌<◌, ◌^◌, []};
+ghost use Rattle.std.specs.Prelude.{◌≡◌, ◌<◌, ◌≤◌, ◌^◌, [], not, false};
+ghost use Rattle.rtp_wire.specs.Header.{two_byte_length};
+ghost use Rattle.rtp_wire.specs.Maps.{is_empty_map};
 ghost use Rattle.rtp_media_streams.specs.Sending.{stamped};
 
 use crate::datagram::Datagram;
@@ -17,7 +19,9 @@ pub(crate) struct Stamp {
     pub ssrc: Ssrc,
     pub pt: Pt,
     pub exts: ExtensionMap,
+    has_extension: bool,
     ghost payload_type: { pt < 128 },
+    ghost extension: { has_extension ≡ not (is_empty_map exts) },
 }
 
 impl Stamp {
@@ -28,20 +32,35 @@ impl Stamp {
         ensures pt { result.pt ≡ pt }
         ensures exts { result.exts ≡ exts }
     {
-        Stamp { ssrc, pt, exts }
+        let has_extension = !exts.is_empty();
+        Stamp {
+            ssrc,
+            pt,
+            exts,
+            has_extension,
+        }
     }
 
-    /// The stamp with another payload type.
-    pub fn with_type(self, pt: Pt) -> Self
+    /// Has it carry another payload type.
+    pub fn set_type(&mut self, pt: Pt)
         requires { pt < 128 }
-        ensures ssrc { result.ssrc ≡ self.ssrc }
-        ensures pt { result.pt ≡ pt }
-        ensures exts { result.exts ≡ self.exts }
+        ensures ssrc { self.new.ssrc ≡ self.old.ssrc }
+        ensures pt { self.new.pt ≡ pt }
+        ensures exts { self.new.exts ≡ self.old.exts }
     {
-        Stamp {
-            ssrc: self.ssrc,
-            pt,
-            exts: self.exts,
+        self.pt = pt;
+    }
+
+    /// The length of a header with these values, in bytes, each element of its block in the two-byte form.
+    pub fn two_byte_len(&self, values: &ExtensionValues) -> usize
+        ensures len { let header = stamped self.now.ssrc self.now.pt self.now.exts 0 false 0 values.now in
+            result ≡ two_byte_length self.now.exts header }
+        ensures bound { result ≤ 308 }
+    {
+        if self.has_extension {
+            FIXED_HEADER_LEN + 4 + self.exts.two_byte_len(values)
+        } else {
+            FIXED_HEADER_LEN
         }
     }
 
@@ -59,7 +78,7 @@ impl Stamp {
         RtpHeader {
             version: 2,
             has_padding: false,
-            has_extension: !self.exts.is_empty(),
+            has_extension: self.has_extension,
             csrc_count: 0,
             marker,
             payload_type: self.pt,

@@ -374,7 +374,7 @@ value-short RepairedRtpStreamId v h = name-short 8 (omega arith) v.rid_repair h.
 value-short RtpMid v h = name-short 16 (omega arith) v.mid h.mid
 value-short (UnknownUri uri) v h = tt
 
-carried-short : (o : Option Extension) (held : Extension → Bool) (v : ExtensionValues) → AreValues v
+pub carried-short : (o : Option Extension) (held : Extension → Bool) (v : ExtensionValues) → AreValues v
     → IfSome (carried_by o held v) (λ bytes. length bytes ≤ 16)
 carried-short None held v h = tt
 carried-short (Some ext) held v h = go (held ext) where

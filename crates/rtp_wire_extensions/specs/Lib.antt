@@ -7,3 +7,4 @@ pub mod Maps
 pub mod Values
 pub mod BlockLayout
 pub mod Seen
+pub mod Names

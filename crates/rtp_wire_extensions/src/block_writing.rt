@@ -1,6 +1,6 @@
 //! Extension blocks written.
 
-ghost use Rattle.std.specs.Prelude.{◌≡◌, ◌+◌, ◌*◌, ◌%◌, ◌≤◌, ◌<◌, ◌++◌, List, ℕ, true};
+ghost use Rattle.std.specs.Prelude.{◌≡◌, ◌+◌, ◌*◌, ◌%◌, ◌≤◌, ◌<◌, ◌++◌, ◌&&◌, List, ℕ, true};
 ghost use Rattle.std.specs.Prelude.{false, Some, length, ◌/◌, if◌then◌else◌};
 ghost use Rattle.rtp_wire_extensions.specs.Carried.{AreValues};
 ghost use Rattle.rtp_wire_extensions.specs.Elements.{place_elements, are_one_byte, elements_text, fill};
@@ -47,45 +47,45 @@ impl Extent {
     {
         self.filled_len(self.fits)
     }
+}
 
-    /// The profile of the block (RFC 8285 4.2 and 4.3).
-    fn profile(self) -> u16
-        ensures { result ≡ profile_of self.fits }
-    {
-        if self.fits { 0xBEDE } else { 0x1000 }
-    }
+/// The profile of a block in one of the two forms (RFC 8285 4.2 and 4.3).
+fn profile_of(one_byte: bool) -> u16
+    ensures { result ≡ profile_of one_byte }
+{
+    if one_byte { 0xBEDE } else { 0x1000 }
 }
 
 impl ExtensionMap {
-    /// The extent of what a place carries.
-    fn place_extent(
+    /// The extent of the elements so far and of what a place carries.
+    fn with_place(
         &self,
+        so_far: Extent,
         place: usize,
         values: &ExtensionValues,
         seen: &mut [bool; KINDS],
     ) -> Extent
         requires place { place < 16 }
+        requires few { so_far.count ≤ place }
+        requires short { so_far.bytes ≤ 16 * place }
         requires seen { HasSeen seen.old self.now place }
-        ensures fits { result.fits ≡ are_one_byte (place_elements self.now values.now place) }
-        ensures one_byte { result.count + result.bytes
-            ≡ length (elements_text true (place_elements self.now values.now place)) }
-        ensures two_byte { 2 * result.count + result.bytes
-            ≡ length (elements_text false (place_elements self.now values.now place)) }
-        ensures few { result.count ≤ 1 }
-        ensures short { result.bytes ≤ 16 }
+        ensures fits { result.fits ≡ (so_far.fits && are_one_byte (place_elements self.now values.now place)) }
+        ensures one_byte { result.count + result.bytes ≡ so_far.count + so_far.bytes
+            + length (elements_text true (place_elements self.now values.now place)) }
+        ensures two_byte { 2 * result.count + result.bytes ≡ 2 * so_far.count + so_far.bytes
+            + length (elements_text false (place_elements self.now values.now place)) }
+        ensures few { result.count ≤ place + 1 }
+        ensures short { result.bytes ≤ 16 * (place + 1) }
         ensures seen { HasSeen seen.new self.now (place + 1) }
     {
         let Some(len) = self.carried_len(place, values, seen) else {
-            return Extent {
-                fits: true,
-                count: 0,
-                bytes: 0,
-            };
+            return so_far;
         };
+        let fits = place < 14 && len >= 1 && len <= 16;
         Extent {
-            fits: place < 14 && len >= 1 && len <= 16,
-            count: 1,
-            bytes: len,
+            fits: so_far.fits && fits,
+            count: so_far.count + 1,
+            bytes: so_far.bytes + len,
         }
     }
 
@@ -100,17 +100,26 @@ impl ExtensionMap {
         ensures short { result.bytes ≤ 256 }
     {
         let mut seen = [false; KINDS];
-        let mut fits = true;
-        let mut count = 0;
-        let mut bytes = 0;
+        let mut extent = Extent {
+            fits: true,
+            count: 0,
+            bytes: 0,
+        };
         for place in 0..16 {
-            let here = self.place_extent(place, values, &mut seen);
-            let fits_here = here.fits;
-            fits = fits && fits_here;
-            count += here.count;
-            bytes += here.bytes;
+            extent = self.with_place(extent, place, values, &mut seen);
         }
-        Extent { fits, count, bytes }
+        extent
+    }
+
+    /// Whether each element that is written for these values fits the one-byte form.
+    fn fits_one_byte(&self, values: &ExtensionValues) -> bool
+        ensures { result ≡ are_one_byte (written_elements self.now values.now) }
+    {
+        values.in_range();
+        if self.ends_by_14() && values.has_full_names() {
+            return true;
+        }
+        self.extent(values).fits
     }
 
     /// The form of the block for these values: one-byte where each element fits it.
@@ -225,8 +234,7 @@ impl ExtensionMap {
         ensures written { (text before : List ℕ) → IsWritten text before buf.old → at ≡ length text →
             IsWritten (text ++ (block_of self.now values.now).content) before buf.new }
     {
-        let extent = self.extent(values);
-        self.write_content(values, extent.fits, buf, at)
+        self.write_content(values, self.fits_one_byte(values), buf, at)
     }
 
     /// Writes the block for these values at this place, profile and count of words first (RFC 3550 5.3.1), and
@@ -244,10 +252,12 @@ impl ExtensionMap {
             IsWritten (text ++ (front ++ block.content)) before buf.new }
     {
         values.in_range();
-        let extent = self.extent(values);
-        let words = extent.block_len() / 4;
-        let at = put(buf, at, &extent.profile().to_be_bytes());
-        let at = put(buf, at, &(words as u16).to_be_bytes());
-        self.write_content(values, extent.fits, buf, at)
+        let one_byte = self.fits_one_byte(values);
+        let count_at = put(buf, at, &profile_of(one_byte).to_be_bytes());
+        let start = put(buf, count_at, &[0; 2]);
+        let end = self.write_content(values, one_byte, buf, start);
+        let words = ((end - start) / 4) as u16;
+        put(buf, count_at, &words.to_be_bytes());
+        end
     }
 }

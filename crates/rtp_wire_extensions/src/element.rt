@@ -136,17 +136,13 @@ pub fn value_bytes(ext: &Extension, values: &ExtensionValues) -> Option<ElementB
         Extension::TransportSequenceNumber => transport_bytes(values.transport_cc),
         Extension::PlayoutDelay => delay_bytes(values.play_delay_min, values.play_delay_max),
         Extension::VideoContentType => byte_bytes(values.video_content_type),
-        Extension::RtpStreamId => values
-            .rid
-            .map(|name| ElementBytes::new(name.as_str().as_bytes())),
+        Extension::RtpStreamId => values.rid.map(|name| ElementBytes::new(name.as_bytes())),
         Extension::RepairedRtpStreamId => {
             values
                 .rid_repair
-                .map(|name| ElementBytes::new(name.as_str().as_bytes()))
+                .map(|name| ElementBytes::new(name.as_bytes()))
         }
-        Extension::RtpMid => values
-            .mid
-            .map(|name| ElementBytes::new(name.as_str().as_bytes())),
+        Extension::RtpMid => values.mid.map(|name| ElementBytes::new(name.as_bytes())),
         Extension::UnknownUri(_) => None,
     }
 }

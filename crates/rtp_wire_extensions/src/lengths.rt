@@ -73,9 +73,9 @@ pub fn value_len(ext: &Extension, values: &ExtensionValues) -> Option<usize>
         Extension::TransportSequenceNumber => transport_len(values.transport_cc),
         Extension::PlayoutDelay => delay_len(values.play_delay_min, values.play_delay_max),
         Extension::VideoContentType => byte_len(values.video_content_type),
-        Extension::RtpStreamId => values.rid.map(|name| name.as_str().len()),
-        Extension::RepairedRtpStreamId => values.rid_repair.map(|name| name.as_str().len()),
-        Extension::RtpMid => values.mid.map(|name| name.as_str().len()),
+        Extension::RtpStreamId => values.rid.map(|name| name.as_bytes().len()),
+        Extension::RepairedRtpStreamId => values.rid_repair.map(|name| name.as_bytes().len()),
+        Extension::RtpMid => values.mid.map(|name| name.as_bytes().len()),
         Extension::UnknownUri(_) => None,
     }
 }

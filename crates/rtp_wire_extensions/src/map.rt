@@ -1,12 +1,12 @@
 //! Which extension has which number.
 
 ghost use Rattle.std.specs.Prelude.{◌≡◌, ◌+◌, ◌-◌, ◌≤◌, ◌<◌, length, slice_set, Some, IfSome, IfOk};
-ghost use Rattle.std.specs.Prelude.{MatchOption, None};
+ghost use Rattle.std.specs.Prelude.{MatchOption, None, true};
 ghost use Rattle.std.specs.Prelude.{IsPermutation};
 ghost use Rattle.std.specs.Option.{option_copied, option_map};
 ghost use Rattle.rtp_wire_extensions.specs.Carried.{value_bytes};
 ghost use Rattle.rtp_wire_extensions.specs.declared.values.ExtensionValues.{ExtensionValues};
-ghost use Rattle.rtp_wire_extensions.specs.Elements.{slot_is, carried_at, lookup};
+ghost use Rattle.rtp_wire_extensions.specs.Elements.{slot, slot_is, carried_at, lookup};
 ghost use Rattle.rtp_wire_extensions.specs.Seen.{HasSeen};
 ghost use Rattle.rtp_wire_extensions.specs.Maps.{empty_map, is_empty_map, standard_map, place_of, id_of, moved};
 ghost use Rattle.rtp_wire_extensions.specs.Maps.{remapped};
@@ -37,9 +37,16 @@ pub enum ExtensionsForm {
 }
 
 /// Which extension has which number, 1 to 16 (RFC 8285 5).
-#[derive(Debug, Drop)]
+#[derive(Debug)]
 pub struct ExtensionMap {
     entries: [Option<Extension>; 16],
+}
+
+/// Written out, so that who lets one go needs nothing of what is inside.
+impl Drop for ExtensionMap {
+    fn drop(self) {
+        let ExtensionMap { entries: _entries } = self;
+    }
 }
 
 impl Model for ExtensionMap {
@@ -213,6 +220,14 @@ impl ExtensionMap {
             Some(ext) => value_bytes(ext, values),
             None => None,
         }
+    }
+
+    /// Whether no number above 14 has an extension.
+    pub(crate) fn ends_by_14(&self) -> bool
+        ensures last { result ≡ true → slot self.now 14 ≡ None }
+        ensures very_last { result ≡ true → slot self.now 15 ≡ None }
+    {
+        self.entries[14].is_none() && self.entries[15].is_none()
     }
 
     /// How many bytes a place carries of the values, at most 16.

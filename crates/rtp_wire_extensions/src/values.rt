@@ -1,8 +1,9 @@
 //! The values of header extensions.
 
-ghost use Rattle.std.specs.Prelude.{◌≡◌, ◌%◌, ◌^◌, ◌<◌, IfSome, FitsSigned};
+ghost use Rattle.std.specs.Prelude.{◌≡◌, ◌%◌, ◌^◌, ◌<◌, ◌≤◌, IfSome, FitsSigned, length, true};
 ghost use Rattle.rtp_wire_extensions.specs.Values.{absent};
 ghost use Rattle.rtp_wire_extensions.specs.Carried.{AreValues, IsCapture};
+ghost use Rattle.rtp_wire_extensions.specs.Names.{HasFullNames};
 ghost use Rattle.rtp_wire_ids.specs.Name.{IsName};
 ghost use Rattle.std.specs.Int.{w64};
 
@@ -105,6 +106,13 @@ impl ExtensionValues {
         }
     }
 
+    /// Whether each name that is there has a byte.
+    pub(crate) fn has_full_names(&self) -> bool
+        ensures { result ≡ true → HasFullNames self.now }
+    {
+        is_full_mid(self.mid) && is_full_rid(self.rid) && is_full_rid(self.rid_repair)
+    }
+
     /// Reads each value, so that callers know the range of its type.
     pub(crate) fn in_range(&self)
         ensures { AreValues self.now }
@@ -116,6 +124,26 @@ impl ExtensionValues {
         rid_in_range(self.rid);
         rid_in_range(self.rid_repair);
         capture_in_range(self.abs_capture_time);
+    }
+}
+
+/// Whether a media section's name, if it is there, has a byte.
+fn is_full_mid(mid: Option<Mid>) -> bool
+    ensures { result ≡ true → IfSome mid (λ text. 1 ≤ length text) }
+{
+    match mid {
+        Some(mid) => !mid.as_bytes().is_empty(),
+        None => true,
+    }
+}
+
+/// Whether a stream's name, if it is there, has a byte.
+fn is_full_rid(rid: Option<Rid>) -> bool
+    ensures { result ≡ true → IfSome rid (λ text. 1 ≤ length text) }
+{
+    match rid {
+        Some(rid) => !rid.as_bytes().is_empty(),
+        None => true,
     }
 }
 
@@ -143,7 +171,7 @@ fn mid_in_range(mid: Option<Mid>)
     ensures { IfSome mid (λ text. IsName 16 text) }
 {
     if let Some(mid) = mid {
-        let _text = mid.as_str();
+        let _text = mid.as_bytes();
     }
 }
 
@@ -151,7 +179,7 @@ fn rid_in_range(rid: Option<Rid>)
     ensures { IfSome rid (λ text. IsName 8 text) }
 {
     if let Some(rid) = rid {
-        let _text = rid.as_str();
+        let _text = rid.as_bytes();
     }
 }
 

@@ -77,6 +77,14 @@ impl Mid {
     {
         name_text(&self.bytes[..self.len])
     }
+
+    /// The name as bytes, which need no reading as text.
+    pub fn as_bytes(&self) -> &[u8]
+        ensures bytes { result.now ≡ self.now }
+        ensures named { name_of 16 self.now ≡ self.now }
+    {
+        &self.bytes[..self.len]
+    }
 }
 
 impl From<&str> for Mid {
@@ -134,6 +142,14 @@ impl Rid {
         ensures named { name_of 8 self.now ≡ self.now }
     {
         name_text(&self.bytes[..self.len])
+    }
+
+    /// The name as bytes, which need no reading as text.
+    pub fn as_bytes(&self) -> &[u8]
+        ensures bytes { result.now ≡ self.now }
+        ensures named { name_of 8 self.now ≡ self.now }
+    {
+        &self.bytes[..self.len]
     }
 }
 

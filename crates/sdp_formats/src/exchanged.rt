@@ -13,9 +13,16 @@ use std::fmt;
 use std::marker::Model;
 
 /// An offer (RFC 8829). Contracts see it as its session text.
-#[derive(Debug, Drop)]
+#[derive(Debug)]
 pub struct SdpOffer {
     sdp: Sdp,
+}
+
+/// Written out, so that who lets one go needs nothing of what is inside.
+impl Drop for SdpOffer {
+    fn drop(self) {
+        let SdpOffer { sdp: _sdp } = self;
+    }
 }
 
 impl Model for SdpOffer {
@@ -78,9 +85,16 @@ impl From<Sdp> for SdpOffer {
 }
 
 /// An answer (RFC 8829). Contracts see it as its session text.
-#[derive(Debug, Drop)]
+#[derive(Debug)]
 pub struct SdpAnswer {
     sdp: Sdp,
+}
+
+/// Written out, so that who lets one go needs nothing of what is inside.
+impl Drop for SdpAnswer {
+    fn drop(self) {
+        let SdpAnswer { sdp: _sdp } = self;
+    }
 }
 
 impl Model for SdpAnswer {

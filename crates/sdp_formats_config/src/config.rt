@@ -18,10 +18,17 @@ use std::marker::Model;
 
 /// The rows that an end is ready to use, in order of preference, and the distances of redundant
 /// audio.
-#[derive(Drop, Debug)]
+#[derive(Debug)]
 pub struct CodecConfig {
     params: Vec<PayloadParams>,
     red_distances: Vec<u32>,
+}
+
+/// Written out, so that who lets one go needs nothing of what is inside.
+impl Drop for CodecConfig {
+    fn drop(self) {
+        let CodecConfig { params: _params, red_distances: _red_distances } = self;
+    }
 }
 
 impl Model for CodecConfig {

@@ -6,7 +6,6 @@ use Rattle.rtp_wire_extensions.proofs.map.ExtensionMap.clone.Goals as goal
 pub loop-place-init : goal.loop-place-init
 loop-place-init c =
     let l : length c.self.inside.entries ≡ 16 = c.self.invariant in
-    let none : c.copy.inside.entries ≡ empty_map = cc in
     let start : empty_map ≡ copied_to c.self.inside.entries 0 = copied_start c.self.inside.entries l in
     cc
 

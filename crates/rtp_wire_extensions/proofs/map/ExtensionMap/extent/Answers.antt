@@ -20,22 +20,23 @@ loop-place-preserved c =
     let v = c.args.values.now in
     let n = c.loop-place.place in
     record {
-      seen = c.place_extent-here.ensures.seen;
-      fits = grind (arith, fits-more map v n _ _ c.loop-place.invariant.fits c.place_extent-here.ensures.fits);
+      seen = c.with_place-extent.ensures.seen;
+      fits = c.with_place-extent.ensures.fits
+          ∙ fits-more map v n _ _ c.loop-place.invariant.fits refl;
       one_byte = omega (
         arith,
         c.loop-place.invariant.one_byte,
-        c.place_extent-here.ensures.one_byte,
+        c.with_place-extent.ensures.one_byte,
         length-text-more true map v n,
       );
       two_byte = omega (
         arith,
         c.loop-place.invariant.two_byte,
-        c.place_extent-here.ensures.two_byte,
+        c.with_place-extent.ensures.two_byte,
         length-text-more false map v n,
       );
-      few = omega (arith, c.loop-place.invariant.few, c.place_extent-here.ensures.few);
-      short = omega (arith, c.loop-place.invariant.short, c.place_extent-here.ensures.short);
+      few = c.with_place-extent.ensures.few;
+      short = c.with_place-extent.ensures.short;
     }
 
 pub returns-clause-fits : goal.returns-clause-fits
