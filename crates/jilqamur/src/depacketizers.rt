@@ -63,7 +63,10 @@ pub extern "C" fn jilqamur_depacketizer_push(
 
 /// Pops a unit that is due.
 #[unsafe(no_mangle)]
-pub extern "C" fn jilqamur_depacketizer_pop(alloc: Global, depacketizer: &mut DepacketizerHandle) -> u32
+pub extern "C" fn jilqamur_depacketizer_pop(
+    alloc: Global,
+    depacketizer: &mut DepacketizerHandle,
+) -> u32
     ensures answer { AtObject depacketizer.old.place.object depacketizer.new.place.object result
         (λ p after. PopsAt p.hold_back p result after) }
     ensures kept { AtObject depacketizer.old.place.object depacketizer.new.place.object result

@@ -7,7 +7,13 @@ use Rattle.jilqamur_payloads.specs.PacketOutboxes.{PacketOutboxState, after_cut,
 cut-given : (p after : PacketOutboxState) (r : Result Sent PacketError) → Sends r after.packets after.sender
     → after.format ≡ p.format → after.has_id ≡ p.has_id → after.for_browsers ≡ p.for_browsers → after ≡ after_cut p r
 cut-given p after (Ok sent) sends format has_id forms =
-    λ i. record { format = format i; has_id = has_id i; for_browsers = forms i; sender = sends.1 i; packets = sends.0 i }
+    λ i. record {
+      format = format i;
+      has_id = has_id i;
+      for_browsers = forms i;
+      sender = sends.1 i;
+      packets = sends.0 i;
+    }
 cut-given p after (Err e) sends format has_id forms = absurd sends
 
 pub cut-behind : (p before after : PacketOutboxState) (packing : Packing) (mtu : ℕ) (sample : List ℕ) → before ≡ p

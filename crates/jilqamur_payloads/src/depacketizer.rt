@@ -28,7 +28,8 @@ impl DepacketizerHandle {
         ensures held_none { result ≡ ok → self.old.place.object ≡ None }
         ensures accepted { result ≡ ok → format_outcome format.now codec.now ≡ ok }
         ensures in_use { IsSome self.old.place.object → result ≡ in_use }
-        ensures refusal { result ≢ ok → result ≢ memory → result ≢ in_use → result ≡ format_outcome format.now codec.now }
+        ensures refusal { result ≢ ok → result ≢ memory → result ≢ in_use
+            → result ≡ format_outcome format.now codec.now }
         ensures unchanged { result ≢ ok → self.new.place.object ≡ self.old.place.object }
     {
         if let Some(held) = self.take(alloc) {
@@ -88,7 +89,8 @@ impl DepacketizerHandle {
 
     /// The same, whether or not a packet before the lowest complete frame is missing.
     pub fn drain(&mut self, alloc: Global) -> u32
-        ensures answer { AtObject self.old.place.object self.new.place.object result (λ p after. PopsAt 0 p result after) }
+        ensures answer { AtObject self.old.place.object self.new.place.object result
+            (λ p after. PopsAt 0 p result after) }
         ensures kept { AtObject self.old.place.object self.new.place.object result
             (λ p after. result ≢ ok → after.unit ≡ p.unit) }
     {
@@ -110,7 +112,8 @@ impl DepacketizerHandle {
     ) -> u32
         ensures bytes { AtObject self.old.place.object self.new.place.object result
             (λ p after. IsFetched (bytes_of p.unit) buffer.old result needed.new buffer.new) }
-        ensures told { AtObject self.old.place.object self.new.place.object result (λ p after. IsToldOf p.unit told.new) }
+        ensures told { AtObject self.old.place.object self.new.place.object result
+            (λ p after. IsToldOf p.unit told.new) }
         ensures closed { result ≡ closed
             → (buffer.new ≡ buffer.old) × (needed.new ≡ needed.old) × (told.new ≡ told.old) }
         ensures nothing { result ≡ nothing → (needed.new ≡ needed.old) × (told.new ≡ told.old) }

@@ -24,7 +24,8 @@ impl PacketizerHandle {
         format: &WireFormat,
         codec: &[u8],
     ) -> u32
-        ensures opened { result ≡ ok → self.new.place.object ≡ Some (new_packet_outbox params.now format.now codec.now) }
+        ensures opened { result ≡ ok
+            → self.new.place.object ≡ Some (new_packet_outbox params.now format.now codec.now) }
         ensures held_none { result ≡ ok → self.old.place.object ≡ None }
         ensures accepted { result ≡ ok → packetizer_outcome params.now format.now codec.now ≡ ok }
         ensures in_use { IsSome self.old.place.object → result ≡ in_use }

@@ -11,8 +11,8 @@ returns-then-for_browsers-clause-packing c =
     let format = c.args.format.now in
     let has = subst (λ (codecs : List Codec). Contains codecs format.codec) (sym c.with_zero_id.ensures.variant)
     c.plain_packetizer_for-packetizer.ensures.variant in
-    c.with_prediction.ensures.in_form (with_zero_id plain_forms) (settings_in format) (is_some c.args.picture_id) format.codec
-    has
+    c.with_prediction.ensures.in_form (with_zero_id plain_forms) (settings_in format) (is_some c.args.picture_id)
+    format.codec has
     (c.with_zero_id.ensures.in_form plain_forms (settings_in format) (is_some c.args.picture_id) format.codec
     c.plain_packetizer_for-packetizer.ensures.variant c.plain_packetizer_for-packetizer.ensures.packing)
     ∙ ap (λ (b : Bool). packing_of format (is_some c.args.picture_id) b) (sym c.if-for_browsers.true)
