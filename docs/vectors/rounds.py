@@ -334,6 +334,10 @@ def by_hand():
                              " | 111 - - open cc opus 2 ")
     yield "round sendonly", ("ok | 108 109 - locked cc H264 - profile-level-id=42e01f"
                              " | 111 - - locked cc opus 2 ")
+    yield "# A row is found by its type, and not by that of its retransmissions", None
+    yield "find 111", "opus"
+    yield "find 108", "H264"
+    yield "find 109", "none"
     yield "# A type of retransmissions that a locked row has is refused, and nothing changes", None
     yield "fresh", "ok"
     yield "locked 96 97 - cc VP8 90000 - -", "ok"

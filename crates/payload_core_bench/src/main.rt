@@ -4,9 +4,11 @@
 
 mod buffers;
 mod formats;
+mod line;
 mod tally;
 
 use formats::LIMIT;
+use line::Line;
 use payload_core::{
     AmrWbDepacketizer, AmrWbPacketizer, Av1Depacketizer, Av1Packetizer, Depacketizer,
     G711Depacketizer, G711Packetizer, OpusDepacketizer, OpusPacketizer, Packetizer, RedEncoder,
@@ -59,10 +61,11 @@ fn both_ways<P: Packetizer + Drop, D: Depacketizer + Drop>(
     mut depacketizer: D,
 ) -> anyhow::Result<()> {
     let packets = packetizer.packetize(rt.alloc(), LIMIT, sample)?;
-    let mut sent = Tally::new();
+    let mut line = Line::new();
     let start = Instant::now(rt)?;
-    formats::send(rt.alloc(), packetizer, &mut sent, sample, rounds)?;
-    report(rt, format, "sent", sent, start.elapsed(rt)?)?;
+    formats::send(rt.alloc(), packetizer, &mut line, sample, rounds)?;
+    report(rt, format, "sent", line.tally, start.elapsed(rt)?)?;
+    eprintln!(*rt; "{format}: bytes of the payloads are {} together", line.sum)?;
     let start = Instant::now(rt)?;
     let read = formats::receive(rt.alloc(), &mut depacketizer, &packets, rounds)?;
     report(rt, format, "read", read, start.elapsed(rt)?)?;

@@ -1,4 +1,4 @@
-//! Frames of a toy codec, in and out of order, and what a payloader sends.
+//! Faults, boxed formats and what a unit tells, by a toy codec, and what a payloader sends.
 
 use crate::calls::{PayloadList, sends};
 use payload_core::{
@@ -67,60 +67,6 @@ fn pops_behind<D: Depacketizer>(
 ) -> Result<bool, Fail> {
     push(alloc, buffer, meta, payload)?;
     pops(alloc, buffer, unit)
-}
-
-#[test]
-fn a_frame_in_any_order(rt: HostRuntime) -> Result<(), Fail> {
-    let alloc = rt.alloc();
-    let mut buffer = toy(alloc, 0);
-    push(alloc, &mut buffer, meta(7, 3, true), "031e")?;
-    assert!(rt; pops_behind(alloc, &mut buffer, meta(5, 3, false), "010a", "none")?);
-    let whole = pops_behind(alloc, &mut buffer, meta(6, 3, false), "0214", "5 7 0a141e")?;
-    assert!(rt; whole);
-    assert!(rt; pops(alloc, &mut buffer, "none")?);
-    Ok(())
-}
-
-#[test]
-fn no_frame_across_a_gap(rt: HostRuntime) -> Result<(), Fail> {
-    let alloc = rt.alloc();
-    let mut buffer = toy(alloc, 0);
-    push(alloc, &mut buffer, meta(5, 3, false), "010a")?;
-    assert!(rt; pops_behind(alloc, &mut buffer, meta(7, 3, true), "031e", "none")?);
-    Ok(())
-}
-
-#[test]
-fn no_frame_of_two_times(rt: HostRuntime) -> Result<(), Fail> {
-    let alloc = rt.alloc();
-    let mut buffer = toy(alloc, 0);
-    push(alloc, &mut buffer, meta(5, 3, false), "010a")?;
-    assert!(rt; pops_behind(alloc, &mut buffer, meta(6, 4, true), "031e", "none")?);
-    Ok(())
-}
-
-#[test]
-fn row_12_a_later_frame_waits(rt: HostRuntime) -> Result<(), Fail> {
-    let alloc = rt.alloc();
-    let mut buffer = toy(alloc, 127);
-    assert!(rt; pops_behind(alloc, &mut buffer, meta(0, 0, true), "0001", "0 0 01")?);
-    assert!(rt; pops_behind(alloc, &mut buffer, meta(2, 20, true), "0003", "none")?);
-    assert!(rt; pops_behind(alloc, &mut buffer, meta(1, 10, true), "0002", "1 1 02")?);
-    assert!(rt; pops(alloc, &mut buffer, "2 2 03")?);
-    assert!(rt; pops(alloc, &mut buffer, "none")?);
-    Ok(())
-}
-
-#[test]
-fn held_back_and_passed_over(rt: HostRuntime) -> Result<(), Fail> {
-    let alloc = rt.alloc();
-    let mut buffer = toy(alloc, 1);
-    assert!(rt; pops_behind(alloc, &mut buffer, meta(0, 0, true), "0001", "0 0 01")?);
-    assert!(rt; pops_behind(alloc, &mut buffer, meta(2, 20, true), "0003", "none")?);
-    assert!(rt; pops_behind(alloc, &mut buffer, meta(3, 30, true), "0004", "2 2 03")?);
-    assert!(rt; pops_behind(alloc, &mut buffer, meta(1, 10, true), "0002", "3 3 04")?);
-    assert!(rt; pops(alloc, &mut buffer, "none")?);
-    Ok(())
 }
 
 #[test]

@@ -49,53 +49,6 @@ pub fn told<D: Depacketizer>(
     Ok((hex::encode(alloc, out.as_slice())?, extra))
 }
 
-/// Whether packets give this unit, in hexadecimal.
-pub fn gives<D: Depacketizer>(
-    alloc: Global,
-    depacketizer: &mut D,
-    packets: &str,
-    unit: &str,
-) -> Result<bool, Fail> {
-    Ok(told(alloc, depacketizer, packets)?.0.as_str() == unit)
-}
-
-/// Whether packets give this unit, in hexadecimal, and tell this of it.
-pub fn tells<D: Depacketizer>(
-    alloc: Global,
-    depacketizer: &mut D,
-    packets: &str,
-    unit: &str,
-    extra: CodecExtra,
-) -> Result<bool, Fail> {
-    let (bytes, known) = told(alloc, depacketizer, packets)?;
-    Ok(bytes.as_str() == unit && known == extra)
-}
-
-/// What a packet in hexadecimal is refused with.
-pub fn refusal<D: Depacketizer>(
-    alloc: Global,
-    depacketizer: &mut D,
-    packet: &str,
-) -> Result<PacketError, Fail> {
-    let packet = hex::decode(alloc, packet)?;
-    let mut out = Vec::new(alloc);
-    let mut extra = CodecExtra::None;
-    let fault = depacketizer.depacketize(&packet, &mut out, &mut extra);
-    Ok(fault.err().ok_or("a packet that is read")?)
-}
-
-/// What a sample in hexadecimal is refused with.
-pub fn unsent<P: Packetizer>(
-    alloc: Global,
-    packetizer: &mut P,
-    mtu: usize,
-    sample: &str,
-) -> Result<PacketError, Fail> {
-    let sample = hex::decode(alloc, sample)?;
-    let fault = packetizer.packetize(alloc, mtu, &sample);
-    Ok(fault.err().ok_or("a sample that is sent")?)
-}
-
 /// The first byte of each packet, in hexadecimal, and its length, of packets in hexadecimal.
 pub fn outline(alloc: Global, packets: &str) -> Result<String, Fail> {
     let mut text = String::new(alloc);

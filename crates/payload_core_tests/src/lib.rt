@@ -17,5 +17,3 @@ mod codecs;
 mod red;
 #[cfg(test)]
 mod vp8;
-#[cfg(test)]
-mod vp9;

@@ -1,7 +1,7 @@
 //! The commands.
 
 use crate::printing::{refusal_text, rows_text};
-use crate::words::{next_row, next_spec, next_word};
+use crate::words::{next_number, next_row, next_spec, next_word};
 use anyhow::anyhow;
 use sdp_formats_config::{CodecConfig, Direction, PayloadParams, Pt};
 use std::alloc::Global;
@@ -35,6 +35,9 @@ pub fn answer(alloc: Global, rows: &mut Rows, line: &str) -> anyhow::Result<Stri
     }
     if command == "score" {
         return score(alloc, &mut words);
+    }
+    if command == "find" {
+        return find(alloc, rows, Pt::new_with_value(next_number(&mut words)?));
     }
     if command == "round" {
         return round(alloc, rows, Direction::from(next_word(&mut words)?));
@@ -81,6 +84,17 @@ fn score(alloc: Global, words: &mut SplitWhitespace<'_>) -> anyhow::Result<Strin
     let other = PayloadParams::new(Pt::new_with_value(97), None, next_spec(words)?);
     match one.match_score(&other) {
         Some(points) => Ok(format!(in alloc; "{points}")?),
+        None => Ok(String::from_str(alloc, "none")?),
+    }
+}
+
+// `find TYPE`: the codec of the first own row of a type.
+fn find(alloc: Global, rows: &Rows, pt: Pt) -> anyhow::Result<String> {
+    match rows.own.find(|row| row.pt() == pt) {
+        Some(row) => {
+            let codec = row.spec().codec;
+            Ok(format!(in alloc; "{codec}")?)
+        }
         None => Ok(String::from_str(alloc, "none")?),
     }
 }

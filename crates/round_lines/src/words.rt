@@ -12,7 +12,8 @@ pub fn next_word<'a>(words: &mut SplitWhitespace<'a>) -> anyhow::Result<&'a str>
     }
 }
 
-fn next_number(words: &mut SplitWhitespace<'_>) -> anyhow::Result<u8> {
+/// The next word, a number of 8 bits.
+pub fn next_number(words: &mut SplitWhitespace<'_>) -> anyhow::Result<u8> {
     Ok(next_word(words)?.parse::<u8>()?)
 }
 

@@ -30,7 +30,11 @@ pub struct End {
 /// Written out, so that who lets one go needs nothing of what is inside.
 impl Drop for End {
     fn drop(self) {
-        let End { alloc: _alloc, exchange: _exchange, streams: _streams } = self;
+        let End {
+            alloc: _alloc,
+            exchange: _exchange,
+            streams: _streams,
+        } = self;
     }
 }
 

@@ -15,7 +15,11 @@ pub struct Sample {
 /// Written out, so that who lets one go needs nothing of what is inside.
 impl Drop for Sample {
     fn drop(self) {
-        let Sample { time: _time, values: _values, bytes: _bytes } = self;
+        let Sample {
+            time: _time,
+            values: _values,
+            bytes: _bytes,
+        } = self;
     }
 }
 

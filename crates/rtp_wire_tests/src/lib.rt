@@ -10,8 +10,6 @@ mod extensions;
 #[cfg(test)]
 mod headers;
 #[cfg(test)]
-mod ids;
-#[cfg(test)]
 mod numbers;
 #[cfg(test)]
 mod times;

@@ -27,7 +27,10 @@ pub struct CodecConfig {
 /// Written out, so that who lets one go needs nothing of what is inside.
 impl Drop for CodecConfig {
     fn drop(self) {
-        let CodecConfig { params: _params, red_distances: _red_distances } = self;
+        let CodecConfig {
+            params: _params,
+            red_distances: _red_distances,
+        } = self;
     }
 }
 

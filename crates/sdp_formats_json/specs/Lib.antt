@@ -1,0 +1,8 @@
+pub mod Names
+pub mod Named
+pub mod NamedLaws
+pub mod Shapes
+pub mod Entries
+pub mod Levels
+pub mod Formats
+pub mod Rows
