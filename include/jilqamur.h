@@ -1,9 +1,8 @@
 /* RTP headers, padding, sequence numbers and replay windows (RFC 3550), packetizers and depacketizers by codec, ends
  * that exchange offers and answers, send samples and receive units, and streams by codec, from a proved library.
  *
- * Link with libjilqamur.a, and with libjilqamur_codecs.a, which has the packetizers and depacketizers. The contract of
- * each function is at its export in crates/jilqamur/src or crates/jilqamur_codecs/src; nothing checks a C caller, which
- * keeps to this:
+ * Link with libjilqamur.a. The contract of each function is at its export in crates/jilqamur/src; nothing checks a C
+ * caller, which keeps to this:
  *   - every pointer is valid and aligned, and not null, but that of bytes whose length is 0 may be any non-null
  *     address;
  *   - what a call writes overlaps nothing else that it is given;
@@ -194,8 +193,8 @@ typedef struct jilqamur_format {
     uint16_t max_don_diff; /* sprop-max-don-diff of H.265 and H.266; not looked at where it isn't given */
 } jilqamur_format;
 
-/* What is told of a depacketizer's unit beside its bytes. */
-typedef struct jilqamur_payload_unit {
+/* What is told of a unit beside its bytes. */
+typedef struct jilqamur_unit {
     uint64_t first;          /* the widened sequence number of its first packet */
     uint64_t last;           /* that of its last packet */
     uint32_t time;           /* the RTP timestamp, in ticks of the clock rate */
@@ -209,7 +208,7 @@ typedef struct jilqamur_payload_unit {
     bool event_end;          /* whether it has ended */
     uint8_t event_volume;    /* the tone's power below 0 dBm0, in dB, 0 to 63; 0 without an event */
     uint64_t event_duration; /* how long it has lasted, in nanoseconds; 0 without an event */
-} jilqamur_payload_unit;
+} jilqamur_unit;
 
 /* How a packetizer counts pictures, and which forms it writes. */
 typedef struct jilqamur_packetizer_params {
@@ -290,7 +289,7 @@ uint32_t jilqamur_depacketizer_drain(jilqamur_depacketizer *depacketizer);
  * count into needed, and what is told beside into unit. JILQAMUR_TOO_SMALL, and the buffer is unchanged, while needed
  * and unit are written; JILQAMUR_NOTHING before the first unit. The unit stays until the next one. */
 uint32_t jilqamur_depacketizer_unit(jilqamur_depacketizer *depacketizer, uint8_t *buffer, size_t len, size_t *needed,
-                                    jilqamur_payload_unit *unit);
+                                    jilqamur_unit *unit);
 
 /* A handle of an end: what it offers, what it agreed on with the other end, its streams, and what calls left to be
  * fetched. One whose bytes are all 0 is closed; write no field of it after that. A copy of an open handle must not be
@@ -425,14 +424,6 @@ uint32_t jilqamur_end_poll(jilqamur_end *end, size_t stream);
 
 /* The same, whether or not a datagram before the lowest complete unit is missing: for the end of a stream. */
 uint32_t jilqamur_end_drain(jilqamur_end *end, size_t stream);
-
-/* What is told of a unit beside its bytes. */
-typedef struct jilqamur_unit {
-    uint64_t first;   /* the widened sequence number of its first datagram */
-    uint64_t last;    /* that of its last datagram */
-    uint32_t time;    /* the RTP timestamp, in ticks of the row's clock */
-    bool is_keyframe; /* whether the codec says that it is a keyframe; VP9 and audio never do */
-} jilqamur_unit;
 
 /* Copies the bytes of the unit that a poll or a drain left last to the front of a buffer of len bytes, writes their
  * count into needed, and what is told beside into unit. JILQAMUR_TOO_SMALL, and the buffer is unchanged, while needed

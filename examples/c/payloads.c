@@ -60,7 +60,7 @@ static void send_again(stream *s, uint32_t time, size_t len)
 {
     size_t count = 0, needed = 0;
     bool marker = false;
-    jilqamur_payload_unit unit;
+    jilqamur_unit unit;
     if (jilqamur_packetizer_packetize(&s->packetizer, MTU, unit_bytes, len, &count) != JILQAMUR_OK)
         return;
     for (size_t i = 0; i < count; i++)
@@ -79,7 +79,7 @@ static void send_again(stream *s, uint32_t time, size_t len)
 static uint64_t take_units(stream *s, uint32_t (*next)(jilqamur_depacketizer *))
 {
     uint64_t before = s->units;
-    jilqamur_payload_unit unit;
+    jilqamur_unit unit;
     size_t len = 0;
     for (uint32_t answer; (answer = next(&s->depacketizer)) != JILQAMUR_NOTHING;) {
         if (answer == JILQAMUR_MEMORY)

@@ -3,7 +3,7 @@
 //! came of that is printed too. The arguments are FILE CODEC TYPE; the clock rate is 48,000, which telephone events
 //! alone go by.
 
-use jilqamur::{Depacketizer, Error, Fault, Format, Header, Packetizer, PacketizerParams, PayloadUnit, Window};
+use jilqamur::{Depacketizer, Error, Fault, Format, Header, Packetizer, PacketizerParams, Unit, Window};
 use std::io::{self, BufRead};
 
 const HOLD_BACK: usize = 127;
@@ -48,7 +48,7 @@ impl Stream {
     }
 
     /// Packetizes a unit, and reads the packets.
-    fn send_again(&mut self, unit: &PayloadUnit) -> Result<(), Fault> {
+    fn send_again(&mut self, unit: &Unit) -> Result<(), Fault> {
         let Ok(packets) = self.packetizer.packetize(MTU, &unit.bytes) else {
             return Ok(());
         };
@@ -63,7 +63,7 @@ impl Stream {
         Ok(())
     }
 
-    fn add(&mut self, unit: &PayloadUnit) -> Result<(), Fault> {
+    fn add(&mut self, unit: &Unit) -> Result<(), Fault> {
         if self.counts.units == 0 {
             self.counts.begins_with_keyframe = unit.is_keyframe;
         }
@@ -74,7 +74,7 @@ impl Stream {
     }
 
     /// Takes the units that `next` hands out; the answer is how many there were.
-    fn take_units(&mut self, next: fn(&mut Depacketizer) -> Result<Option<PayloadUnit>, Fault>) -> Result<u64, Fault> {
+    fn take_units(&mut self, next: fn(&mut Depacketizer) -> Result<Option<Unit>, Fault>) -> Result<u64, Fault> {
         let before = self.counts.units;
         loop {
             match next(&mut self.depacketizer) {

@@ -13,8 +13,8 @@ mod sys;
 
 pub use ends::{Datagrams, End};
 pub use error::EndError;
-pub use params::{Direction, Kind, Received, Row, Section, StreamParams, Unit};
-pub use payloads::{Depacketizer, Fault, Packet, Packetizer, PacketizerParams, PayloadUnit, TelephoneEvent};
+pub use params::{Direction, Kind, Received, Row, Section, StreamParams, TelephoneEvent, Unit};
+pub use payloads::{Depacketizer, Fault, Packet, Packetizer, PacketizerParams};
 pub use streams::{Format, Receiver, Sender, SenderParams};
 
 /// Why a call is refused.

@@ -1,6 +1,7 @@
 //! What ends and streams are made of, and what they tell.
 
 use crate::sys;
+use std::time::Duration;
 
 /// The numbers of a row: a payload type, and what it stands for.
 #[repr(C)]
@@ -138,6 +139,19 @@ pub enum Received {
     Taken(usize, u64),
 }
 
+/// One report of a telephone event (RFC 4733 2.3).
+#[derive(Clone, Copy, Debug, PartialEq, Eq)]
+pub struct TelephoneEvent {
+    /// The event: 0 to 15 are the keys 0 to 9, *, #, A to D.
+    pub event: u8,
+    /// Whether it has ended.
+    pub end: bool,
+    /// The power of the tone below 0 dBm0, in dB, 0 to 63.
+    pub volume: u8,
+    /// How long it has lasted.
+    pub duration: Duration,
+}
+
 /// A video frame or an audio packet.
 #[derive(Clone, Debug, PartialEq, Eq)]
 pub struct Unit {
@@ -149,6 +163,12 @@ pub struct Unit {
     pub time: u32,
     /// Whether the codec says that it is a keyframe; VP9 and audio never do.
     pub is_keyframe: bool,
+    /// The picture id, of 7 or 15 bits, where VP8 or VP9 gives one (RFC 7741 4.2, RFC 9628 4.2).
+    pub picture_id: Option<u16>,
+    /// The index of the temporal base layer frame, TL0PICIDX, where VP8 gives one (RFC 7741 4.2).
+    pub base_layer: Option<u8>,
+    /// The first report of a packet of telephone events (RFC 4733 2.3).
+    pub event: Option<TelephoneEvent>,
     /// The bytes.
     pub bytes: Vec<u8>,
 }
@@ -160,6 +180,14 @@ impl Unit {
             last: told.last,
             time: told.time,
             is_keyframe: told.is_keyframe,
+            picture_id: told.has_picture_id.then_some(told.picture_id),
+            base_layer: told.has_base_layer.then_some(told.base_layer),
+            event: told.has_event.then_some(TelephoneEvent {
+                event: told.event,
+                end: told.event_end,
+                volume: told.event_volume,
+                duration: Duration::from_nanos(told.event_duration),
+            }),
             bytes,
         }
     }

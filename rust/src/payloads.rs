@@ -1,9 +1,9 @@
 //! Packetizers and depacketizers that go by a codec's name.
 
 use crate::ends::fetched;
+use crate::params::Unit;
 use crate::streams::Format;
 use crate::sys;
-use std::time::Duration;
 use std::{fmt, ptr};
 
 /// Why a packetizer or a depacketizer refuses, by the number that `include/jilqamur.h` gives it.
@@ -170,60 +170,6 @@ impl Drop for Packetizer {
     }
 }
 
-/// One report of a telephone event (RFC 4733 2.3).
-#[derive(Clone, Copy, Debug, PartialEq, Eq)]
-pub struct TelephoneEvent {
-    /// The event: 0 to 15 are the keys 0 to 9, *, #, A to D.
-    pub event: u8,
-    /// Whether it has ended.
-    pub end: bool,
-    /// The power of the tone below 0 dBm0, in dB, 0 to 63.
-    pub volume: u8,
-    /// How long it has lasted.
-    pub duration: Duration,
-}
-
-/// A unit that was popped, and what is told of it.
-#[derive(Clone, Debug, PartialEq, Eq)]
-pub struct PayloadUnit {
-    /// The widened sequence number of its first packet.
-    pub first: u64,
-    /// That of its last packet.
-    pub last: u64,
-    /// The RTP timestamp, in ticks of the clock rate.
-    pub time: u32,
-    /// Whether the codec says that it is a keyframe; VP9 and audio never do.
-    pub is_keyframe: bool,
-    /// The picture id, of 7 or 15 bits, where VP8 or VP9 gives one (RFC 7741 4.2, RFC 9628 4.2).
-    pub picture_id: Option<u16>,
-    /// The index of the temporal base layer frame, TL0PICIDX, where VP8 gives one (RFC 7741 4.2).
-    pub base_layer: Option<u8>,
-    /// The first report of a packet of telephone events (RFC 4733 2.3).
-    pub event: Option<TelephoneEvent>,
-    /// The bytes.
-    pub bytes: Vec<u8>,
-}
-
-impl PayloadUnit {
-    fn of(told: sys::Told, bytes: Vec<u8>) -> PayloadUnit {
-        PayloadUnit {
-            first: told.first,
-            last: told.last,
-            time: told.time,
-            is_keyframe: told.is_keyframe,
-            picture_id: told.has_picture_id.then_some(told.picture_id),
-            base_layer: told.has_base_layer.then_some(told.base_layer),
-            event: told.has_event.then_some(TelephoneEvent {
-                event: told.event,
-                end: told.event_end,
-                volume: told.event_volume,
-                duration: Duration::from_nanos(told.event_duration),
-            }),
-            bytes,
-        }
-    }
-}
-
 /// A depacketizer behind a buffer that puts packets in order. It stays on its thread.
 pub struct Depacketizer(sys::Handle);
 
@@ -265,7 +211,7 @@ impl Depacketizer {
     ///
     /// # Errors
     /// Why a packet of the next frame is refused, which is then done with; or `Memory`, and it stays.
-    pub fn pop(&mut self) -> Result<Option<PayloadUnit>, Fault> {
+    pub fn pop(&mut self) -> Result<Option<Unit>, Fault> {
         // SAFETY: the handle is open.
         let answer = unsafe { sys::jilqamur_depacketizer_pop(&mut self.0) };
         self.unit_of(answer)
@@ -275,14 +221,14 @@ impl Depacketizer {
     ///
     /// # Errors
     /// As [`Depacketizer::pop`].
-    pub fn drain(&mut self) -> Result<Option<PayloadUnit>, Fault> {
+    pub fn drain(&mut self) -> Result<Option<Unit>, Fault> {
         // SAFETY: the handle is open.
         let answer = unsafe { sys::jilqamur_depacketizer_drain(&mut self.0) };
         self.unit_of(answer)
     }
 
     /// All units that are due, and faults between them.
-    pub fn units(&mut self) -> impl Iterator<Item = Result<PayloadUnit, Fault>> + '_ {
+    pub fn units(&mut self) -> impl Iterator<Item = Result<Unit, Fault>> + '_ {
         let mut is_over = false;
         std::iter::from_fn(move || {
             if is_over {
@@ -294,17 +240,17 @@ impl Depacketizer {
         })
     }
 
-    fn unit_of(&mut self, answer: u32) -> Result<Option<PayloadUnit>, Fault> {
+    fn unit_of(&mut self, answer: u32) -> Result<Option<Unit>, Fault> {
         if answer == 12 {
             return Ok(None);
         }
         done(answer)?;
-        let mut told = sys::Told::default();
+        let mut told = sys::Unit::default();
         let bytes = fetched(|buffer, len, needed| {
             // SAFETY: the handle is open, and what is written are places of their own.
             unsafe { sys::jilqamur_depacketizer_unit(&mut self.0, buffer, len, needed, &mut told) }
         });
-        Ok(Some(PayloadUnit::of(told, bytes)))
+        Ok(Some(Unit::of(told, bytes)))
     }
 }
 

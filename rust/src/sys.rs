@@ -24,15 +24,6 @@ pub(crate) struct Unit {
     pub(crate) last: u64,
     pub(crate) time: u32,
     pub(crate) is_keyframe: bool,
-}
-
-#[repr(C)]
-#[derive(Default)]
-pub(crate) struct Told {
-    pub(crate) first: u64,
-    pub(crate) last: u64,
-    pub(crate) time: u32,
-    pub(crate) is_keyframe: bool,
     pub(crate) has_picture_id: bool,
     pub(crate) picture_id: u16,
     pub(crate) has_base_layer: bool,
@@ -113,7 +104,7 @@ extern "C" {
         buffer: *mut u8,
         len: usize,
         needed: *mut usize,
-        unit: *mut Told,
+        unit: *mut Unit,
     ) -> u32;
     pub(crate) fn jilqamur_end_open(end: *mut Handle) -> u32;
     pub(crate) fn jilqamur_end_close(end: *mut Handle) -> u32;

@@ -2,10 +2,11 @@
 
 ghost use Rattle.std.specs.Prelude.{◌≡◌, ◌≢◌, Some};
 ghost use Rattle.jilqamur_wire.specs.Codes.{ok, closed};
-ghost use Rattle.jilqamur_ends.specs.Answers.{At, AtEnd};
+ghost use Rattle.jilqamur_wire.specs.Handles.{AtObject};
+ghost use Rattle.jilqamur_ends.specs.Answers.{AtEnd};
 ghost use Rattle.jilqamur_ends.specs.Peers.{behind_end, behind_text};
 ghost use Rattle.jilqamur_ends.specs.Exchanges.{AnswersOffer, AnswersAnswer, AnswersAccept, AnswersWithdraw, WithText};
-ghost use Rattle.jilqamur_ends.specs.Fetched.{IsCopied};
+ghost use Rattle.jilqamur_wire.specs.Copies.{IsCopied};
 
 use jilqamur_ends::EndHandle;
 use jilqamur_wire::codes;
@@ -14,12 +15,12 @@ use std::alloc::Global;
 /// The offer of the gathered sections.
 #[unsafe(no_mangle)]
 pub extern "C" fn jilqamur_end_offer(alloc: Global, end: &mut EndHandle) -> u32
-    ensures answer { At end.old.place.object end.new.place.object result
+    ensures answer { AtObject end.old.place.object end.new.place.object result
         (λ p after. AtEnd p.end after.end result
         (λ e now. AnswersOffer e p.sections result after.text now)) }
-    ensures kept { At end.old.place.object end.new.place.object result
+    ensures kept { AtObject end.old.place.object end.new.place.object result
         (λ p after. result ≢ ok → after.text ≡ p.text) }
-    ensures rest { At end.old.place.object end.new.place.object result
+    ensures rest { AtObject end.old.place.object end.new.place.object result
         (λ p after. after ≡ behind_text p after.end after.text) }
 {
     let Some(mut peer) = end.take(alloc) else {
@@ -33,12 +34,12 @@ pub extern "C" fn jilqamur_end_offer(alloc: Global, end: &mut EndHandle) -> u32
 /// The answer to an offer, of the gathered sections.
 #[unsafe(no_mangle)]
 pub extern "C" fn jilqamur_end_answer(alloc: Global, end: &mut EndHandle, offer: &[u8]) -> u32
-    ensures answer { At end.old.place.object end.new.place.object result
+    ensures answer { AtObject end.old.place.object end.new.place.object result
         (λ p after. WithText offer.now p.end after.end result
         (λ e now. AnswersAnswer e offer.now p.sections result after.text now)) }
-    ensures kept { At end.old.place.object end.new.place.object result
+    ensures kept { AtObject end.old.place.object end.new.place.object result
         (λ p after. result ≢ ok → after.text ≡ p.text) }
-    ensures rest { At end.old.place.object end.new.place.object result
+    ensures rest { AtObject end.old.place.object end.new.place.object result
         (λ p after. after ≡ behind_text p after.end after.text) }
 {
     let Some(mut peer) = end.take(alloc) else {
@@ -52,10 +53,10 @@ pub extern "C" fn jilqamur_end_answer(alloc: Global, end: &mut EndHandle, offer:
 /// Takes the answer to the pending offer.
 #[unsafe(no_mangle)]
 pub extern "C" fn jilqamur_end_accept(alloc: Global, end: &mut EndHandle, answer: &[u8]) -> u32
-    ensures answer { At end.old.place.object end.new.place.object result
+    ensures answer { AtObject end.old.place.object end.new.place.object result
         (λ p after. WithText answer.now p.end after.end result
         (λ e now. AnswersAccept e answer.now result now)) }
-    ensures rest { At end.old.place.object end.new.place.object result
+    ensures rest { AtObject end.old.place.object end.new.place.object result
         (λ p after. after ≡ behind_end p after.end) }
 {
     let Some(mut peer) = end.take(alloc) else {
@@ -69,9 +70,9 @@ pub extern "C" fn jilqamur_end_accept(alloc: Global, end: &mut EndHandle, answer
 /// Gives a pending offer up.
 #[unsafe(no_mangle)]
 pub extern "C" fn jilqamur_end_withdraw(alloc: Global, end: &mut EndHandle) -> u32
-    ensures answer { At end.old.place.object end.new.place.object result
+    ensures answer { AtObject end.old.place.object end.new.place.object result
         (λ p after. AtEnd p.end after.end result (λ e now. AnswersWithdraw e result now)) }
-    ensures rest { At end.old.place.object end.new.place.object result
+    ensures rest { AtObject end.old.place.object end.new.place.object result
         (λ p after. after ≡ behind_end p after.end) }
 {
     let Some(mut peer) = end.take(alloc) else {
@@ -90,7 +91,7 @@ pub extern "C" fn jilqamur_end_text(
     buffer: &mut [u8],
     needed: &mut usize,
 ) -> u32
-    ensures text { At end.old.place.object end.new.place.object result
+    ensures text { AtObject end.old.place.object end.new.place.object result
         (λ p after. IsCopied p.text buffer.old result needed.new buffer.new) }
     ensures closed { result ≡ closed → (buffer.new ≡ buffer.old) × (needed.new ≡ needed.old) }
     ensures unchanged { end.new.place.object ≡ end.old.place.object }

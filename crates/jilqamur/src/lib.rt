@@ -1,5 +1,5 @@
-//! Headers, replay windows, streams and ends for C programs: exports over `jilqamur_wire`, `jilqamur_streams` and
-//! `jilqamur_ends`, as `include/jilqamur.h` declares them.
+//! Headers, replay windows, payload formats, streams and ends for C programs: exports over `jilqamur_wire`,
+//! `jilqamur_payloads`, `jilqamur_streams` and `jilqamur_ends`, as `include/jilqamur.h` declares them.
 #![tactic(auto)]
 
 ghost use Rattle.std.specs.Prelude.{◌≡◌, ◌≢◌, ◌++◌, length, drop, Some, None, IsSome, MatchOption};
@@ -12,9 +12,11 @@ ghost use Rattle.rtp_wire_extensions.specs.Maps.{empty_map};
 ghost use Rattle.jilqamur_wire.specs.Codes.{ok, memory, in_use, closed, unreadable, damaged, unwritable};
 ghost use Rattle.jilqamur_wire.specs.Headers.{as_wire, as_header, write_outcome};
 ghost use Rattle.jilqamur_wire.specs.Windows.{ReceivedAs, behind, fresh};
-ghost use Rattle.jilqamur.specs.Answers.{answer_of};
+ghost use Rattle.jilqamur_wire.specs.Handles.{answer_of};
 
+mod depacketizers;
 mod exchanging;
+mod packetizers;
 mod receivers;
 mod receiving;
 mod senders;

@@ -2,13 +2,14 @@
 
 ghost use Rattle.std.specs.Prelude.{◌≡◌, ◌≢◌, None, Some, IsSome};
 ghost use Rattle.jilqamur_wire.specs.Codes.{ok, memory, nothing, closed, in_use};
-ghost use Rattle.jilqamur_ends.specs.Fetched.{IsFetched, IsToldOf, bytes_of};
-ghost use Rattle.jilqamur_streams.specs.Formats.{format_outcome};
-ghost use Rattle.jilqamur_streams.specs.Inboxes.{Polls, Drains, AtReceiver, new_inbox, Takes};
-ghost use Rattle.jilqamur.specs.Answers.{answer_of};
+ghost use Rattle.jilqamur_wire.specs.Copies.{IsFetched};
+ghost use Rattle.jilqamur_wire.specs.Handles.{AtObject, answer_of};
+ghost use Rattle.jilqamur_payloads.specs.Formats.{format_outcome};
+ghost use Rattle.jilqamur_streams.specs.Fetched.{IsToldOf, bytes_of};
+ghost use Rattle.jilqamur_streams.specs.Inboxes.{Polls, Drains, new_inbox, Takes};
 
-use jilqamur_ends::WireUnit;
-use jilqamur_streams::{Inbox, ReceiverHandle, WireFormat};
+use jilqamur_payloads::{WireFormat, WireUnit};
+use jilqamur_streams::ReceiverHandle;
 use jilqamur_wire::codes;
 use std::alloc::Global;
 
@@ -28,21 +29,7 @@ pub extern "C" fn jilqamur_receiver_open(
     ensures refusal { result ≢ ok → result ≢ memory → result ≢ in_use → result ≡ format_outcome format.now codec.now }
     ensures unchanged { result ≢ ok → receiver.new.place.object ≡ receiver.old.place.object }
 {
-    if let Some(held) = receiver.take(alloc) {
-        receiver.put(held);
-        return codes::IN_USE;
-    }
-    let opened = match Inbox::new(alloc, format, codec, hold_back) {
-        Ok(opened) => opened,
-        Err(code) => return code,
-    };
-    match Box::new(alloc, opened) {
-        Ok(opened) => {
-            receiver.put(opened);
-            codes::OK
-        }
-        Err(_) => codes::MEMORY,
-    }
+    receiver.open(alloc, format, codec, hold_back)
 }
 
 /// Frees the stream of a handle.
@@ -51,10 +38,7 @@ pub extern "C" fn jilqamur_receiver_close(alloc: Global, receiver: &mut Receiver
     ensures held { result ≡ answer_of receiver.old.place.object }
     ensures empty { receiver.new.place.object ≡ None }
 {
-    match receiver.take(alloc) {
-        Some(_) => codes::OK,
-        None => codes::CLOSED,
-    }
+    receiver.close(alloc)
 }
 
 /// Takes a packet in.
@@ -68,7 +52,7 @@ pub extern "C" fn jilqamur_receiver_push(
     payload: &[u8],
     number: &mut u64,
 ) -> u32
-    ensures answer { AtReceiver receiver.old.place.object receiver.new.place.object result
+    ensures answer { AtObject receiver.old.place.object receiver.new.place.object result
         (λ p after. Takes p low time marker payload.now result number.new after) }
     ensures number { result ≢ ok → number.new ≡ number.old }
 {
@@ -83,9 +67,9 @@ pub extern "C" fn jilqamur_receiver_push(
 /// Polls for a unit.
 #[unsafe(no_mangle)]
 pub extern "C" fn jilqamur_receiver_poll(alloc: Global, receiver: &mut ReceiverHandle) -> u32
-    ensures answer { AtReceiver receiver.old.place.object receiver.new.place.object result
+    ensures answer { AtObject receiver.old.place.object receiver.new.place.object result
         (λ p after. Polls p result after) }
-    ensures kept { AtReceiver receiver.old.place.object receiver.new.place.object result
+    ensures kept { AtObject receiver.old.place.object receiver.new.place.object result
         (λ p after. result ≢ ok → after.unit ≡ p.unit) }
 {
     let Some(mut inbox) = receiver.take(alloc) else {
@@ -99,9 +83,9 @@ pub extern "C" fn jilqamur_receiver_poll(alloc: Global, receiver: &mut ReceiverH
 /// Drains a unit.
 #[unsafe(no_mangle)]
 pub extern "C" fn jilqamur_receiver_drain(alloc: Global, receiver: &mut ReceiverHandle) -> u32
-    ensures answer { AtReceiver receiver.old.place.object receiver.new.place.object result
+    ensures answer { AtObject receiver.old.place.object receiver.new.place.object result
         (λ p after. Drains p result after) }
-    ensures kept { AtReceiver receiver.old.place.object receiver.new.place.object result
+    ensures kept { AtObject receiver.old.place.object receiver.new.place.object result
         (λ p after. result ≢ ok → after.unit ≡ p.unit) }
 {
     let Some(mut inbox) = receiver.take(alloc) else {
@@ -121,9 +105,9 @@ pub extern "C" fn jilqamur_receiver_unit(
     needed: &mut usize,
     told: &mut WireUnit,
 ) -> u32
-    ensures bytes { AtReceiver receiver.old.place.object receiver.new.place.object result
+    ensures bytes { AtObject receiver.old.place.object receiver.new.place.object result
         (λ p after. IsFetched (bytes_of p.unit) buffer.old result needed.new buffer.new) }
-    ensures told { AtReceiver receiver.old.place.object receiver.new.place.object result
+    ensures told { AtObject receiver.old.place.object receiver.new.place.object result
         (λ p after. IsToldOf p.unit told.new) }
     ensures closed { result ≡ closed
         → (buffer.new ≡ buffer.old) × (needed.new ≡ needed.old) × (told.new ≡ told.old) }

@@ -2,12 +2,15 @@
 
 ghost use Rattle.std.specs.Prelude.{◌≡◌, ◌≢◌, Some};
 ghost use Rattle.jilqamur_wire.specs.Codes.{ok, nothing, closed};
-ghost use Rattle.jilqamur_ends.specs.Answers.{At, AtEnd};
+ghost use Rattle.jilqamur_wire.specs.Handles.{AtObject};
+ghost use Rattle.jilqamur_ends.specs.Answers.{AtEnd};
 ghost use Rattle.jilqamur_ends.specs.Peers.{behind_end, behind_poll};
-ghost use Rattle.jilqamur_ends.specs.Fetched.{IsFetched, IsToldOf, bytes_of};
+ghost use Rattle.jilqamur_wire.specs.Copies.{IsFetched};
+ghost use Rattle.jilqamur_streams.specs.Fetched.{IsToldOf, bytes_of};
 ghost use Rattle.jilqamur_ends.specs.Receiving.{Receives, Polls, Drains};
 
-use jilqamur_ends::{EndHandle, WireUnit};
+use jilqamur_ends::EndHandle;
+use jilqamur_payloads::WireUnit;
 use jilqamur_wire::codes;
 use std::alloc::Global;
 
@@ -20,12 +23,12 @@ pub extern "C" fn jilqamur_end_receive(
     stream: &mut usize,
     number: &mut u64,
 ) -> u32
-    ensures answer { At end.old.place.object end.new.place.object result
+    ensures answer { AtObject end.old.place.object end.new.place.object result
         (λ p after. AtEnd p.end after.end result
         (λ e now. Receives e datagram.now result stream.new number.new now)) }
     ensures stream { result ≢ ok → stream.new ≡ stream.old }
     ensures number { result ≢ ok → number.new ≡ number.old }
-    ensures rest { At end.old.place.object end.new.place.object result
+    ensures rest { AtObject end.old.place.object end.new.place.object result
         (λ p after. after ≡ behind_end p after.end) }
 {
     let Some(mut peer) = end.take(alloc) else {
@@ -39,12 +42,12 @@ pub extern "C" fn jilqamur_end_receive(
 /// Polls a receiving stream.
 #[unsafe(no_mangle)]
 pub extern "C" fn jilqamur_end_poll(alloc: Global, end: &mut EndHandle, stream: usize) -> u32
-    ensures answer { At end.old.place.object end.new.place.object result
+    ensures answer { AtObject end.old.place.object end.new.place.object result
         (λ p after. AtEnd p.end after.end result
         (λ e now. Polls e stream p.unit result after.unit now)) }
-    ensures kept { At end.old.place.object end.new.place.object result
+    ensures kept { AtObject end.old.place.object end.new.place.object result
         (λ p after. result ≢ ok → after.unit ≡ p.unit) }
-    ensures rest { At end.old.place.object end.new.place.object result
+    ensures rest { AtObject end.old.place.object end.new.place.object result
         (λ p after. after ≡ behind_poll p after.end after.unit) }
 {
     let Some(mut peer) = end.take(alloc) else {
@@ -58,12 +61,12 @@ pub extern "C" fn jilqamur_end_poll(alloc: Global, end: &mut EndHandle, stream: 
 /// Drains a receiving stream.
 #[unsafe(no_mangle)]
 pub extern "C" fn jilqamur_end_drain(alloc: Global, end: &mut EndHandle, stream: usize) -> u32
-    ensures answer { At end.old.place.object end.new.place.object result
+    ensures answer { AtObject end.old.place.object end.new.place.object result
         (λ p after. AtEnd p.end after.end result
         (λ e now. Drains e stream p.unit result after.unit now)) }
-    ensures kept { At end.old.place.object end.new.place.object result
+    ensures kept { AtObject end.old.place.object end.new.place.object result
         (λ p after. result ≢ ok → after.unit ≡ p.unit) }
-    ensures rest { At end.old.place.object end.new.place.object result
+    ensures rest { AtObject end.old.place.object end.new.place.object result
         (λ p after. after ≡ behind_poll p after.end after.unit) }
 {
     let Some(mut peer) = end.take(alloc) else {
@@ -83,9 +86,9 @@ pub extern "C" fn jilqamur_end_unit(
     needed: &mut usize,
     told: &mut WireUnit,
 ) -> u32
-    ensures bytes { At end.old.place.object end.new.place.object result
+    ensures bytes { AtObject end.old.place.object end.new.place.object result
         (λ p after. IsFetched (bytes_of p.unit) buffer.old result needed.new buffer.new) }
-    ensures told { At end.old.place.object end.new.place.object result
+    ensures told { AtObject end.old.place.object end.new.place.object result
         (λ p after. IsToldOf p.unit told.new) }
     ensures closed { result ≡ closed
         → (buffer.new ≡ buffer.old) × (needed.new ≡ needed.old) × (told.new ≡ told.old) }

@@ -3,11 +3,12 @@
 ghost use Rattle.std.specs.Prelude.{◌≡◌, ◌≢◌, length, None, Some, IsSome};
 ghost use Rattle.std.specs.List.{slice_get};
 ghost use Rattle.jilqamur_wire.specs.Codes.{ok, memory, nothing, closed, in_use};
-ghost use Rattle.jilqamur_ends.specs.Fetched.{IsFetched};
-ghost use Rattle.jilqamur_streams.specs.Outboxes.{AtSender, new_outbox, sender_outcome, Pushes};
-ghost use Rattle.jilqamur.specs.Answers.{answer_of};
+ghost use Rattle.jilqamur_wire.specs.Copies.{IsFetched};
+ghost use Rattle.jilqamur_wire.specs.Handles.{AtObject, answer_of};
+ghost use Rattle.jilqamur_streams.specs.Outboxes.{new_outbox, sender_outcome, Pushes};
 
-use jilqamur_streams::{Outbox, SenderHandle, WireFormat, WireSender};
+use jilqamur_payloads::WireFormat;
+use jilqamur_streams::{SenderHandle, WireSender};
 use jilqamur_wire::codes;
 use std::alloc::Global;
 
@@ -28,21 +29,7 @@ pub extern "C" fn jilqamur_sender_open(
         → result ≡ sender_outcome params.now format.now codec.now }
     ensures unchanged { result ≢ ok → sender.new.place.object ≡ sender.old.place.object }
 {
-    if let Some(held) = sender.take(alloc) {
-        sender.put(held);
-        return codes::IN_USE;
-    }
-    let opened = match Outbox::new(alloc, params, format, codec) {
-        Ok(opened) => opened,
-        Err(code) => return code,
-    };
-    match Box::new(alloc, opened) {
-        Ok(opened) => {
-            sender.put(opened);
-            codes::OK
-        }
-        Err(_) => codes::MEMORY,
-    }
+    sender.open(alloc, params, format, codec)
 }
 
 /// Frees the stream of a handle.
@@ -51,10 +38,7 @@ pub extern "C" fn jilqamur_sender_close(alloc: Global, sender: &mut SenderHandle
     ensures held { result ≡ answer_of sender.old.place.object }
     ensures empty { sender.new.place.object ≡ None }
 {
-    match sender.take(alloc) {
-        Some(_) => codes::OK,
-        None => codes::CLOSED,
-    }
+    sender.close(alloc)
 }
 
 /// Sends a sample.
@@ -66,9 +50,9 @@ pub extern "C" fn jilqamur_sender_push_sample(
     sample: &[u8],
     count: &mut usize,
 ) -> u32
-    ensures answer { AtSender sender.old.place.object sender.new.place.object result
+    ensures answer { AtObject sender.old.place.object sender.new.place.object result
         (λ p after. Pushes p ticks sample.now result after) }
-    ensures count { AtSender sender.old.place.object sender.new.place.object result
+    ensures count { AtObject sender.old.place.object sender.new.place.object result
         (λ p after. count.new ≡ length after.datagrams) }
     ensures closed { result ≡ closed → count.new ≡ count.old }
 {
@@ -89,7 +73,7 @@ pub extern "C" fn jilqamur_sender_datagram(
     buffer: &mut [u8],
     needed: &mut usize,
 ) -> u32
-    ensures datagram { AtSender sender.old.place.object sender.new.place.object result
+    ensures datagram { AtObject sender.old.place.object sender.new.place.object result
         (λ p after. IsFetched (slice_get p.datagrams index) buffer.old result needed.new buffer.new) }
     ensures closed { result ≡ closed → (buffer.new ≡ buffer.old) × (needed.new ≡ needed.old) }
     ensures nothing { result ≡ nothing → needed.new ≡ needed.old }

@@ -3,13 +3,12 @@
 ghost use Rattle.std.specs.Prelude.{◌≡◌, ◌≢◌, None, Some, IsSome};
 ghost use Rattle.sdp_formats_config.specs.Configs.{default_rows};
 ghost use Rattle.jilqamur_wire.specs.Codes.{ok, memory, in_use};
-ghost use Rattle.jilqamur_ends.specs.Answers.{At};
+ghost use Rattle.jilqamur_wire.specs.Handles.{AtObject, answer_of};
 ghost use Rattle.jilqamur_ends.specs.Peers.{with_row, with_rows, with_section, with_extension, empty_peer};
 ghost use Rattle.jilqamur_ends.specs.Drafts.{row_of, row_outcome, section_of, section_outcome, extension_outcome};
 ghost use Rattle.jilqamur_ends.specs.Drafts.{make_outcome, made, without_draft};
-ghost use Rattle.jilqamur.specs.Answers.{answer_of};
 
-use jilqamur_ends::{EndHandle, Peer, WireRow};
+use jilqamur_ends::{EndHandle, WireRow};
 use jilqamur_wire::codes;
 use std::alloc::Global;
 
@@ -22,17 +21,7 @@ pub extern "C" fn jilqamur_end_open(alloc: Global, end: &mut EndHandle) -> u32
     ensures refusal { result ≢ ok → result ≢ memory → result ≡ in_use }
     ensures unchanged { result ≢ ok → end.new.place.object ≡ end.old.place.object }
 {
-    if let Some(held) = end.take(alloc) {
-        end.put(held);
-        return codes::IN_USE;
-    }
-    match Box::new(alloc, Peer::empty(alloc)) {
-        Ok(peer) => {
-            end.put(peer);
-            codes::OK
-        }
-        Err(_) => codes::MEMORY,
-    }
+    end.open(alloc)
 }
 
 /// Frees what a handle holds.
@@ -41,10 +30,7 @@ pub extern "C" fn jilqamur_end_close(alloc: Global, end: &mut EndHandle) -> u32
     ensures held { result ≡ answer_of end.old.place.object }
     ensures empty { end.new.place.object ≡ None }
 {
-    match end.take(alloc) {
-        Some(_) => codes::OK,
-        None => codes::CLOSED,
-    }
+    end.close(alloc)
 }
 
 /// A row more in the draft of the next end.
@@ -56,9 +42,9 @@ pub extern "C" fn jilqamur_end_row(
     codec: &[u8],
     format: &[u8],
 ) -> u32
-    ensures outcome { At end.old.place.object end.new.place.object result
+    ensures outcome { AtObject end.old.place.object end.new.place.object result
         (λ p after. result ≢ memory → result ≡ row_outcome row.now codec.now format.now) }
-    ensures added { At end.old.place.object end.new.place.object result
+    ensures added { AtObject end.old.place.object end.new.place.object result
         (λ p after. result ≡ ok → after ≡ with_row p (row_of row.now codec.now format.now)) }
     ensures unchanged { result ≢ ok → end.new.place.object ≡ end.old.place.object }
 {
@@ -73,9 +59,9 @@ pub extern "C" fn jilqamur_end_row(
 /// The default rows more in the draft of the next end.
 #[unsafe(no_mangle)]
 pub extern "C" fn jilqamur_end_default_rows(alloc: Global, end: &mut EndHandle) -> u32
-    ensures outcome { At end.old.place.object end.new.place.object result
+    ensures outcome { AtObject end.old.place.object end.new.place.object result
         (λ p after. result ≢ memory → result ≡ ok) }
-    ensures added { At end.old.place.object end.new.place.object result
+    ensures added { AtObject end.old.place.object end.new.place.object result
         (λ p after. result ≡ ok → after ≡ with_rows p default_rows) }
     ensures unchanged { result ≢ ok → end.new.place.object ≡ end.old.place.object }
 {
@@ -95,9 +81,9 @@ pub extern "C" fn jilqamur_end_extension(
     id: u8,
     uri: &[u8],
 ) -> u32
-    ensures outcome { At end.old.place.object end.new.place.object result
+    ensures outcome { AtObject end.old.place.object end.new.place.object result
         (λ p after. result ≢ memory → result ≡ extension_outcome id uri.now) }
-    ensures put { At end.old.place.object end.new.place.object result
+    ensures put { AtObject end.old.place.object end.new.place.object result
         (λ p after. result ≡ ok → after ≡ with_extension p id uri.now) }
     ensures unchanged { result ≢ ok → end.new.place.object ≡ end.old.place.object }
 {
@@ -112,11 +98,11 @@ pub extern "C" fn jilqamur_end_extension(
 /// The end of the draft.
 #[unsafe(no_mangle)]
 pub extern "C" fn jilqamur_end_make(alloc: Global, end: &mut EndHandle, session: u64) -> u32
-    ensures outcome { At end.old.place.object end.new.place.object result
+    ensures outcome { AtObject end.old.place.object end.new.place.object result
         (λ p after. result ≢ memory → result ≡ make_outcome p) }
-    ensures made { At end.old.place.object end.new.place.object result
+    ensures made { AtObject end.old.place.object end.new.place.object result
         (λ p after. result ≡ ok → after ≡ made p session) }
-    ensures refused { At end.old.place.object end.new.place.object result
+    ensures refused { AtObject end.old.place.object end.new.place.object result
         (λ p after. result ≢ ok → after ≡ without_draft p) }
 {
     let Some(mut peer) = end.take(alloc) else {
@@ -138,9 +124,9 @@ pub extern "C" fn jilqamur_end_section(
     receives: bool,
     ssrcs: &[u32],
 ) -> u32
-    ensures outcome { At end.old.place.object end.new.place.object result
+    ensures outcome { AtObject end.old.place.object end.new.place.object result
         (λ p after. result ≢ memory → result ≡ section_outcome mid.now) }
-    ensures added { At end.old.place.object end.new.place.object result
+    ensures added { AtObject end.old.place.object end.new.place.object result
         (λ p after. result ≡ ok → after ≡ with_section p (section_of mid.now is_video sends receives ssrcs.now)) }
     ensures unchanged { result ≢ ok → end.new.place.object ≡ end.old.place.object }
 {

@@ -3,10 +3,10 @@
 ghost use Rattle.std.specs.Prelude.{◌≡◌, ◌≢◌, length, Some};
 ghost use Rattle.std.specs.List.{slice_get};
 ghost use Rattle.jilqamur_wire.specs.Codes.{ok, memory, nothing, closed};
-ghost use Rattle.jilqamur_ends.specs.Answers.{At};
+ghost use Rattle.jilqamur_wire.specs.Handles.{AtObject};
 ghost use Rattle.jilqamur_ends.specs.Peers.{behind_end, behind_sample};
 ghost use Rattle.jilqamur_ends.specs.Exchanges.{WithText};
-ghost use Rattle.jilqamur_ends.specs.Fetched.{IsFetched};
+ghost use Rattle.jilqamur_wire.specs.Copies.{IsFetched};
 ghost use Rattle.jilqamur_ends.specs.Sending.{AnswersSender, AnswersSample, params_of};
 ghost use Rattle.jilqamur_ends.specs.Receiving.{OpensReceiver};
 
@@ -26,13 +26,13 @@ pub extern "C" fn jilqamur_end_open_sender(
     distances: &[u8],
     stream: &mut usize,
 ) -> u32
-    ensures answer { At end.old.place.object end.new.place.object result
+    ensures answer { AtObject end.old.place.object end.new.place.object result
         (λ p after. result ≢ memory → WithText mid.now p.end after.end result
         (λ e now. AnswersSender e mid.now ssrc pt (params_of params.now distances.now) result stream.new now)) }
-    ensures memory { At end.old.place.object end.new.place.object result
+    ensures memory { AtObject end.old.place.object end.new.place.object result
         (λ p after. result ≡ memory → after ≡ p) }
     ensures stream { result ≢ ok → stream.new ≡ stream.old }
-    ensures rest { At end.old.place.object end.new.place.object result
+    ensures rest { AtObject end.old.place.object end.new.place.object result
         (λ p after. after ≡ behind_end p after.end) }
 {
     let Some(mut peer) = end.take(alloc) else {
@@ -54,11 +54,11 @@ pub extern "C" fn jilqamur_end_open_receiver(
     hold_back: usize,
     stream: &mut usize,
 ) -> u32
-    ensures answer { At end.old.place.object end.new.place.object result
+    ensures answer { AtObject end.old.place.object end.new.place.object result
         (λ p after. WithText mid.now p.end after.end result
         (λ e now. OpensReceiver e mid.now ssrc pt hold_back result stream.new now)) }
     ensures stream { result ≢ ok → stream.new ≡ stream.old }
-    ensures rest { At end.old.place.object end.new.place.object result
+    ensures rest { AtObject end.old.place.object end.new.place.object result
         (λ p after. after ≡ behind_end p after.end) }
 {
     let Some(mut peer) = end.take(alloc) else {
@@ -80,15 +80,15 @@ pub extern "C" fn jilqamur_end_push_sample(
     sample: &[u8],
     count: &mut usize,
 ) -> u32
-    ensures answer { At end.old.place.object end.new.place.object result
+    ensures answer { AtObject end.old.place.object end.new.place.object result
         (λ p after. WithText mid.now p.end after.end result
         (λ e now. AnswersSample e stream ticks mid.now sample.now result after.datagrams now)) }
-    ensures count { At end.old.place.object end.new.place.object result
+    ensures count { AtObject end.old.place.object end.new.place.object result
         (λ p after. count.new ≡ length after.datagrams) }
     ensures closed { result ≡ closed → count.new ≡ count.old }
-    ensures kept { At end.old.place.object end.new.place.object result
+    ensures kept { AtObject end.old.place.object end.new.place.object result
         (λ p after. result ≢ ok → after.datagrams ≡ p.datagrams) }
-    ensures rest { At end.old.place.object end.new.place.object result
+    ensures rest { AtObject end.old.place.object end.new.place.object result
         (λ p after. after ≡ behind_sample p after.end after.datagrams) }
 {
     let Some(mut peer) = end.take(alloc) else {
@@ -108,7 +108,7 @@ pub extern "C" fn jilqamur_end_datagram(
     buffer: &mut [u8],
     needed: &mut usize,
 ) -> u32
-    ensures datagram { At end.old.place.object end.new.place.object result
+    ensures datagram { AtObject end.old.place.object end.new.place.object result
         (λ p after. IsFetched (slice_get p.datagrams index) buffer.old result needed.new buffer.new) }
     ensures closed { result ≡ closed → (buffer.new ≡ buffer.old) × (needed.new ≡ needed.old) }
     ensures nothing { result ≡ nothing → needed.new ≡ needed.old }

@@ -1,3 +1,2 @@
 pub mod AsBox
-pub mod Texts
 pub mod BareSession

@@ -1,7 +1,6 @@
 pub mod Answers
 pub mod Drafts
 pub mod Exchanges
-pub mod Fetched
 pub mod Owned
 pub mod Peers
 pub mod Receiving

@@ -1,12 +1,11 @@
 -- What calls of receiving streams answer.
-use Rattle.std.specs.Prelude.{ℕ, ◌≡◌, ◌≢◌, List, length, Option, Some, None, Ok, Err}
+use Rattle.std.specs.Prelude.{ℕ, ◌≡◌, ◌≢◌, List, length, Option, Some, None}
 use Rattle.rtp_wire.specs.Name.{name_of}
-use Rattle.rtp_media_runs.specs.Hearing.{MediaUnit, poll_answer}
-use Rattle.rtp_media_streams.specs.Drains.{drain_answer, drained_receiver, holding}
-use Rattle.rtp_media_streams.specs.Polls.{IsInterrupted, PollResult, given}
+use Rattle.rtp_media_runs.specs.Hearing.{MediaUnit}
+use Rattle.rtp_media_streams.specs.Drains.{drained_receiver, holding}
+use Rattle.rtp_media_streams.specs.Polls.{IsInterrupted, PollResult}
 use Rattle.rtp_media_streams.specs.Receiving.{Receiving, polled_receiver, with_stream}
 use Rattle.rtp_media_streams.specs.Rows.{format_of}
-use Rattle.rtp_media_streams.specs.declared.errors.PollFault.TheVariants as fault
 use Rattle.rtp_media_ends.specs.Arrivals.{verdict_of, after_datagram}
 use Rattle.rtp_media_ends.specs.Ends.{EndState, is_receiver_at, receiver_at, with_receiver, after_open_receiver}
 use Rattle.rtp_media_ends.specs.Ends.{refusal_of_open_receiver}
@@ -14,7 +13,8 @@ use Rattle.rtp_media_ends.specs.declared.errors.OpenError.{OpenError}
 use Rattle.rtp_media_ends.specs.declared.errors.OpenError.TheVariants as open_error
 use Rattle.rtp_media_ends.specs.declared.received.Received.{Received}
 use Rattle.rtp_media_ends.specs.declared.received.Received.TheVariants as received
-use Rattle.jilqamur_wire.specs.Codes.{ok, memory, unreadable, foreign, damaged, refused, nothing, payload}
+use Rattle.jilqamur_streams.specs.Answers.{drain_result, poll_code, poll_result, unit_behind}
+use Rattle.jilqamur_wire.specs.Codes.{ok, memory, unreadable, foreign, damaged, refused}
 use Rattle.jilqamur_wire.specs.Codes.{no_stream, no_section, row_not_agreed, row_differs, wrong_direction}
 use Rattle.jilqamur_wire.specs.Codes.{ssrc_not_named, already_open}
 use Rattle.jilqamur_ends.specs.Exchanges.{Where}
@@ -61,18 +61,6 @@ pub record Receives (e : EndState) (datagram : List ℕ) (result stream number :
   pub is_behind : result ≢ memory → after ≡ after_datagram e datagram
   pub stays : result ≡ memory → after ≡ e
 
--- The number of a poll's answer.
-abbrev pub poll_code : PollResult → ℕ
-poll_code (Ok None) = nothing
-poll_code (Ok (Some unit)) = ok
-poll_code (Err (fault.Payload e)) = payload
-poll_code (Err fault.Memory) = memory
-
--- the unit that a poll leaves, or the one that was left before
-abbrev pub unit_behind : PollResult → Option MediaUnit → Option MediaUnit
-unit_behind (Ok (Some unit)) before = Some unit
-unit_behind answer before = before
-
 -- What a poll answers whose stream answers and becomes this, or stays like that where memory is wanting.
 pub record AnswersPoll (e : EndState) (n : ℕ) (answer : PollResult) (behind : Receiving)
     (Stops : EndState → Type 0) (before : Option MediaUnit) (result : ℕ) (unit : Option MediaUnit)
@@ -94,12 +82,6 @@ DrainStops e n after =
     IsInterrupted (format_of (receiver_at e n).row) (holding 0 (receiver_at e n).stream)
     (holding 0 (receiver_at after n).stream)
     × (after ≡ with_receiver e n (with_stream (receiver_at e n) (receiver_at after n).stream))
-
-abbrev pub poll_result : Receiving → PollResult
-poll_result r = given (poll_answer (format_of r.row) r.stream)
-
-abbrev pub drain_result : Receiving → PollResult
-drain_result r = given (drain_answer (format_of r.row) r.stream)
 
 -- no stream that receives has this number
 abbrev pub HasNoStream : EndState → Option MediaUnit → ℕ → Option MediaUnit → EndState → Type 0

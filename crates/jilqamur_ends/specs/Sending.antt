@@ -5,14 +5,12 @@ use Rattle.rtp_wire.specs.Time.{Time}
 use Rattle.rtp_wire.specs.Values.{absent}
 use Rattle.rtp_wire.specs.declared.ExtensionValues.{ExtensionValues}
 use Rattle.rtp_media_streams.specs.Sending.{HasFailed, sent_datagrams, after_sample, refusal_of_sample}
-use Rattle.rtp_media_streams.specs.declared.errors.SampleError.{SampleError}
-use Rattle.rtp_media_streams.specs.declared.errors.SampleError.TheVariants as sample_error
 use Rattle.rtp_media_ends.specs.Ends.{EndState, agreed_red, after_open_sender, refusal_of_open_sender}
 use Rattle.rtp_media_ends.specs.Ends.{is_sender_at, sender_at, with_sender}
 use Rattle.rtp_media_ends.specs.Params.{is_sound_params}
 use Rattle.rtp_media_ends.specs.declared.params.StreamParams.{StreamParams}
-use Rattle.jilqamur_wire.specs.Codes.{ok, memory, out_of_range, no_stream, stream_failed, time_too_large}
-use Rattle.jilqamur_wire.specs.Codes.{limit_too_small, payload}
+use Rattle.jilqamur_wire.specs.Codes.{ok, memory, out_of_range, no_stream}
+use Rattle.jilqamur_streams.specs.Answers.{sample_outcome}
 use Rattle.jilqamur_ends.specs.declared.sending.WireStream.{WireStream}
 use Rattle.jilqamur_ends.specs.Exchanges.{Where}
 use Rattle.jilqamur_ends.specs.Receiving.{open_outcome}
@@ -56,18 +54,6 @@ IsUnsound e result after = (result ≡ out_of_range) × (after ≡ e)
 abbrev pub AnswersSender : EndState → List ℕ → ℕ → ℕ → StreamParams → ℕ → ℕ → EndState → Type 0
 AnswersSender e mid ssrc pt params result stream after = Where (is_sound_for e mid pt params)
     (OpensSender e mid ssrc pt params result stream after) (IsUnsound e result after)
-
--- The number of a refused sample.
-abbrev pub sample_code : SampleError → ℕ
-sample_code sample_error.StreamFailed = stream_failed
-sample_code sample_error.TimeTooLarge = time_too_large
-sample_code sample_error.LimitTooSmall = limit_too_small
-sample_code (sample_error.Payload e) = payload
-sample_code sample_error.Memory = memory
-
-abbrev pub sample_outcome : Option SampleError → ℕ
-sample_outcome None = ok
-sample_outcome (Some e) = sample_code e
 
 -- a time in ticks of the clock of the stream's row
 abbrev pub time_at : EndState → ℕ → ℕ → Time

@@ -1,7 +1,6 @@
 //! What an end is made of, gathered call by call.
 
-ghost use Rattle.std.specs.Prelude.{◌≡◌, ◌≢◌, true, false, IfOk, IfSome, IfNone};
-ghost use Rattle.std.specs.Str.{is_utf8};
+ghost use Rattle.std.specs.Prelude.{◌≡◌, ◌≢◌, IfOk};
 ghost use Rattle.sdp_formats_config.specs.Configs.{default_rows};
 ghost use Rattle.jilqamur_wire.specs.Codes.{ok, memory};
 ghost use Rattle.jilqamur_ends.specs.Peers.{with_row, with_rows, with_section, with_extension};
@@ -10,7 +9,7 @@ ghost use Rattle.jilqamur_ends.specs.Drafts.{section_outcome, extension_outcome,
 ghost use Rattle.jilqamur_ends.specs.Drafts.{made, without_draft};
 
 use crate::peer::Peer;
-use jilqamur_wire::codes;
+use jilqamur_wire::{codes, text_in};
 use rtp_media_ends::{
     Codec, CodecConfig, CodecSpec, End, EndError, FormatParams, MediaKind, PayloadParams,
     SectionSpec, Session,
@@ -45,18 +44,6 @@ fn given(has: bool, number: u8) -> Option<u8>
     ensures { result ≡ given has number }
 {
     if has { Some(number) } else { None }
-}
-
-/// The text that bytes are, where they are UTF-8.
-#[tactic(auto, using(crate::proofs::Texts::text, crate::proofs::Texts::no_text))]
-pub fn text_in(bytes: &[u8]) -> Option<&str>
-    ensures some { IfSome result (λ text. (text.now ≡ bytes.now) × (is_utf8 bytes.now ≡ true)) }
-    ensures none { IfNone result (is_utf8 bytes.now ≡ false) }
-{
-    match str::from_utf8(bytes) {
-        Ok(text) => Some(text),
-        Err(_) => None,
-    }
 }
 
 fn row_of(row: &WireRow, clock_rate: Frequency, codec: &str, format: &str) -> PayloadParams

@@ -6,9 +6,8 @@ ghost use Rattle.jilqamur_ends.specs.Answers.{AtEnd};
 ghost use Rattle.jilqamur_ends.specs.Exchanges.{AnswersOffer, AnswersAnswer, AnswersAccept, AnswersWithdraw};
 ghost use Rattle.jilqamur_ends.specs.Exchanges.{WithText, exchange_code};
 
-use crate::draft::text_in;
 use crate::peer::Peer;
-use jilqamur_wire::codes;
+use jilqamur_wire::{codes, text_in};
 use rtp_media_ends::{End, ExchangeError, SectionSpec};
 use std::alloc::Global;
 use std::mem;

@@ -2,6 +2,7 @@
 #![tactic(auto)]
 
 mod draft;
+mod end;
 mod exchanges;
 mod fetch;
 mod peer;
@@ -9,9 +10,7 @@ mod place;
 mod receiving;
 mod sending;
 
-pub use draft::{WireRow, text_in};
-pub use fetch::{WireUnit, datagram_at, unit_at};
+pub use draft::WireRow;
 pub use peer::Peer;
 pub use place::{EndHandle, EndPlace};
-pub use receiving::poll_code;
-pub use sending::{WireStream, sample_code};
+pub use sending::WireStream;

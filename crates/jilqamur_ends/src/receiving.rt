@@ -11,13 +11,13 @@ ghost use Rattle.jilqamur_wire.specs.Codes.{ok, memory};
 ghost use Rattle.jilqamur_ends.specs.Answers.{AtEnd};
 ghost use Rattle.jilqamur_ends.specs.Exchanges.{WithText};
 ghost use Rattle.jilqamur_ends.specs.Receiving.{OpensReceiver, Receives, Polls, Drains, IsTakenAs, open_code};
-ghost use Rattle.jilqamur_ends.specs.Receiving.{open_outcome, verdict_code, poll_code, unit_behind, poll_result};
-ghost use Rattle.jilqamur_ends.specs.Receiving.{drain_result, PollStops, DrainStops};
+ghost use Rattle.jilqamur_ends.specs.Receiving.{open_outcome, verdict_code, PollStops, DrainStops};
+ghost use Rattle.jilqamur_streams.specs.Answers.{poll_code, unit_behind, poll_result, drain_result};
 
-use crate::draft::text_in;
 use crate::peer::Peer;
-use jilqamur_wire::codes;
-use rtp_media_ends::{End, OpenError, PollFault, Received, Unit};
+use jilqamur_streams::poll_code;
+use jilqamur_wire::{codes, text_in};
+use rtp_media_ends::{End, OpenError, Received, Unit};
 use rtp_wire::{Mid, Pt, Ssrc};
 
 /// The number of a refusal to open a stream.
@@ -52,22 +52,6 @@ fn verdict_code(verdict: Received, stream: &mut usize, number: &mut u64) -> u32
             *number = taken.get();
             codes::OK
         }
-    }
-}
-
-/// Keeps the unit of a poll, where there is one, and answers the poll's number.
-pub fn poll_code(answer: Result<Option<Unit>, PollFault>, unit: &mut Option<Unit>) -> u32
-    ensures code { result ≡ poll_code answer }
-    ensures unit { unit.new ≡ unit_behind answer unit.old }
-{
-    match answer {
-        Ok(None) => codes::NOTHING,
-        Ok(Some(next)) => {
-            *unit = Some(next);
-            codes::OK
-        }
-        Err(PollFault::Payload(_)) => codes::PAYLOAD,
-        Err(PollFault::Memory) => codes::MEMORY,
     }
 }
 

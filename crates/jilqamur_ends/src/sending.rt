@@ -6,13 +6,13 @@ ghost use Rattle.jilqamur_wire.specs.Codes.{ok, memory};
 ghost use Rattle.jilqamur_ends.specs.Answers.{AtEnd};
 ghost use Rattle.jilqamur_ends.specs.Exchanges.{WithText};
 ghost use Rattle.jilqamur_ends.specs.Sending.{params_of, distances_of, id_of, AnswersSender, AnswersSample};
-ghost use Rattle.jilqamur_ends.specs.Sending.{sample_code, values_of, mid_of};
+ghost use Rattle.jilqamur_ends.specs.Sending.{values_of, mid_of};
 
-use crate::draft::text_in;
 use crate::peer::Peer;
 use crate::receiving::open_code;
-use jilqamur_wire::codes;
-use rtp_media_ends::{Datagram, Distances, End, SampleError, StreamParams};
+use jilqamur_streams::sample_code;
+use jilqamur_wire::{codes, text_in};
+use rtp_media_ends::{Datagram, Distances, End, StreamParams};
 use rtp_wire::{ExtensionValues, MediaTime, Mid, Pt, Ssrc};
 use std::alloc::{AllocError, Global};
 
@@ -68,19 +68,6 @@ fn params_of(
         picture_id: id_of(stream.has_picture_id, stream.picture_id),
         for_browsers: stream.for_browsers,
     })
-}
-
-/// The number of a refused sample.
-pub fn sample_code(error: SampleError) -> u32
-    ensures { result ≡ sample_code error }
-{
-    match error {
-        SampleError::StreamFailed => codes::STREAM_FAILED,
-        SampleError::TimeTooLarge => codes::TIME_TOO_LARGE,
-        SampleError::LimitTooSmall => codes::LIMIT_TOO_SMALL,
-        SampleError::Payload(_) => codes::PAYLOAD,
-        SampleError::Memory => codes::MEMORY,
-    }
 }
 
 fn mid_of(text: &str) -> Option<Mid>

@@ -8,11 +8,11 @@ use Rattle.rtp_media_streams.specs.Polls.{IsInterrupted, PollResult}
 use Rattle.rtp_media_streams.specs.Receiving.{Receiving, arrived, opened_receiver, polled_receiver, taken_number}
 use Rattle.rtp_media_streams.specs.Receiving.{with_stream}
 use Rattle.rtp_media_streams.specs.Rows.{format_of}
-use Rattle.jilqamur_wire.specs.Codes.{ok, memory, refused, closed}
-use Rattle.jilqamur_ends.specs.Receiving.{poll_code, unit_behind, poll_result, drain_result}
+use Rattle.jilqamur_wire.specs.Codes.{ok, memory, refused}
+use Rattle.jilqamur_streams.specs.Answers.{poll_code, unit_behind, poll_result, drain_result}
 use Rattle.jilqamur_streams.specs.Formats.{row_of}
 use Rattle.jilqamur_streams.specs.Outboxes.{type_alone}
-use Rattle.jilqamur_streams.specs.declared.format.WireFormat.{WireFormat}
+use Rattle.jilqamur_payloads.specs.declared.format.WireFormat.{WireFormat}
 
 pub record InboxState : Type 0 where
   pub stream : Receiving
@@ -68,10 +68,3 @@ Polls p result after = AnswersPoll p (poll_result p.stream) (polled_receiver p.s
 
 abbrev pub Drains : InboxState → ℕ → InboxState → Type 0
 Drains p result after = AnswersPoll p (drain_result p.stream) (drained_receiver p.stream) DrainStops result after
-
--- A call at a closed handle says so, and it stays closed; else what the handle holds answers.
-abbrev pub AtReceiver : Option InboxState → Option InboxState → ℕ → (InboxState → InboxState → Type 0) → Type 0
-AtReceiver None None result answers = result ≡ closed
-AtReceiver None (Some after) result answers = ⊥
-AtReceiver (Some p) None result answers = ⊥
-AtReceiver (Some p) (Some after) result answers = answers p after

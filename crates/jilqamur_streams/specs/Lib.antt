@@ -1,3 +1,5 @@
+pub mod Answers
+pub mod Fetched
 pub mod Formats
 pub mod Inboxes
 pub mod OwnedReceiver

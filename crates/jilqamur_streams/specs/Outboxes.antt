@@ -1,5 +1,5 @@
 -- A sending stream by codec, and the datagrams that its last sample left.
-use Rattle.std.specs.Prelude.{ℕ, ◌≡◌, ◌≢◌, ◌==◌, ◌||◌, Bool, nat_lt, List, [], Option, Some, None}
+use Rattle.std.specs.Prelude.{ℕ, ◌≡◌, ◌≢◌, ◌==◌, ◌||◌, Bool, nat_lt, List, [], None}
 use Rattle.std.specs.Prelude.{if◌then◌else◌}
 use Rattle.rtp_wire.specs.Maps.{empty_map}
 use Rattle.rtp_wire.specs.Time.{Time}
@@ -7,10 +7,11 @@ use Rattle.rtp_wire.specs.Values.{absent}
 use Rattle.rtp_media_streams.specs.Sending.{HasFailed, Sending, opened_sender, sent_datagrams, after_sample}
 use Rattle.rtp_media_streams.specs.Sending.{refusal_of_sample}
 use Rattle.rtp_media_streams.specs.declared.types.PayloadTypes.{PayloadTypes}
-use Rattle.jilqamur_wire.specs.Codes.{ok, memory, out_of_range, closed}
-use Rattle.jilqamur_ends.specs.Sending.{sample_outcome}
-use Rattle.jilqamur_streams.specs.Formats.{format_outcome, number_given, row_of}
-use Rattle.jilqamur_streams.specs.declared.format.WireFormat.{WireFormat}
+use Rattle.jilqamur_wire.specs.Codes.{ok, memory, out_of_range}
+use Rattle.jilqamur_streams.specs.Answers.{sample_outcome}
+use Rattle.jilqamur_payloads.specs.Formats.{format_outcome, number_given}
+use Rattle.jilqamur_streams.specs.Formats.{row_of}
+use Rattle.jilqamur_payloads.specs.declared.format.WireFormat.{WireFormat}
 use Rattle.jilqamur_streams.specs.declared.outbox.WireSender.{WireSender}
 
 pub record OutboxState : Type 0 where
@@ -49,10 +50,3 @@ pub record Pushes (p : OutboxState) (ticks : ℕ) (sample : List ℕ) (result : 
   pub keeps : result ≢ ok → after.datagrams ≡ p.datagrams
   pub stays : result ≢ ok → result ≢ memory → after.stream ≡ p.stream
   pub fails : result ≡ memory → HasFailed p.stream after.stream
-
--- A call at a closed handle says so, and it stays closed; else what the handle holds answers.
-abbrev pub AtSender : Option OutboxState → Option OutboxState → ℕ → (OutboxState → OutboxState → Type 0) → Type 0
-AtSender None None result answers = result ≡ closed
-AtSender None (Some after) result answers = ⊥
-AtSender (Some p) None result answers = ⊥
-AtSender (Some p) (Some after) result answers = answers p after

@@ -1,76 +1,30 @@
-//! Payload formats as C programs name them.
+//! What a stream of a codec goes by.
 
 ghost use Rattle.std.specs.Prelude.{◌≡◌, ◌≢◌, true, IfOk, IfErr, OnOk};
 ghost use Rattle.h26x_payload.specs.Codings.{has_format};
 ghost use Rattle.jilqamur_wire.specs.Codes.{ok};
-ghost use Rattle.jilqamur_streams.specs.Formats.{flag_given, number_given, row_of, format_outcome};
+ghost use Rattle.jilqamur_payloads.specs.Formats.{format_outcome};
+ghost use Rattle.jilqamur_streams.specs.Formats.{row_of};
 
-use jilqamur_ends::text_in;
-use jilqamur_wire::codes;
-use payload_core_base::Codec;
+use jilqamur_payloads::{WireFormat, read_format};
 use rtp_media_streams::RowFormat;
-use rtp_wire::Frequency;
-
-/// How payloads are read and written, beside their codec.
-#[repr(C)]
-#[derive(Clone, Copy, Debug, Drop)]
-pub struct WireFormat {
-    /// Ticks a second, at least 1.
-    pub clock_rate: u32,
-    /// Whether `octet_align` is given.
-    pub has_octet_align: bool,
-    /// Whether AMR-WB is octet-aligned (RFC 4867 8.1); not looked at where it isn't given.
-    pub octet_align: bool,
-    /// Whether `max_don_diff` is given.
-    pub has_max_don_diff: bool,
-    /// `sprop-max-don-diff` of H.265 and H.266 (RFC 7798 7.1, RFC 9328 7.2); not looked at where it isn't given.
-    pub max_don_diff: u16,
-}
-
-fn flag_given(has: bool, flag: bool) -> Option<bool>
-    ensures { result ≡ flag_given has flag }
-{
-    if has { Some(flag) } else { None }
-}
-
-fn number_given(has: bool, number: u16) -> Option<u16>
-    ensures { result ≡ number_given has number }
-{
-    if has { Some(number) } else { None }
-}
-
-fn has_format(codec: Codec) -> bool
-    ensures { result ≡ has_format codec }
-{
-    match codec {
-        Codec::Rtx | Codec::Red | Codec::Null | Codec::Unknown => false,
-        _ => true,
-    }
-}
 
 /// What a stream of this format and codec goes by; else `OUT_OF_RANGE` for a clock rate of 0, `NOT_TEXT`, or
 /// `OUT_OF_RANGE` for a name that is none of a codec with a payload format.
-pub(crate) fn read_format(format: &WireFormat, codec: &[u8]) -> Result<RowFormat, u32>
+pub(crate) fn read_row(format: &WireFormat, codec: &[u8]) -> Result<RowFormat, u32>
     ensures row { IfOk result (λ row. row ≡ row_of format.now codec.now) }
     ensures format { IfOk result (λ row. has_format row.codec ≡ true) }
     ensures accepted { OnOk result (format_outcome format.now codec.now ≡ ok) }
     ensures refused { IfErr result (λ code. code ≡ format_outcome format.now codec.now) }
     ensures refusal { IfErr result (λ code. code ≢ ok) }
 {
-    let Some(clock_rate) = Frequency::new(format.clock_rate) else {
-        return Err(codes::OUT_OF_RANGE);
-    };
-    let Some(codec) = text_in(codec) else {
-        return Err(codes::NOT_TEXT);
-    };
-    let codec = Codec::from(codec);
-    if !has_format(codec) {
-        return Err(codes::OUT_OF_RANGE);
+    match read_format(format, codec) {
+        Ok(format) => Ok(RowFormat {
+            codec: format.codec,
+            clock_rate: format.clock_rate,
+            octet_align: format.octet_align,
+            sprop_max_don_diff: format.max_don_diff,
+        }),
+        Err(code) => Err(code),
     }
-    Ok(RowFormat {
-        codec,
-        clock_rate,
-        octet_align: flag_given(format.has_octet_align, format.octet_align),
-        sprop_max_don_diff: number_given(format.has_max_don_diff, format.max_don_diff),
-    })
 }

@@ -2,12 +2,15 @@
 
 ghost use Rattle.std.specs.Prelude.{◌≡◌, ◌≢◌, IfOk, IfErr, OnOk};
 ghost use Rattle.jilqamur_wire.specs.Codes.{ok, nothing};
-ghost use Rattle.jilqamur_ends.specs.Fetched.{IsFetched, IsToldOf, bytes_of};
-ghost use Rattle.jilqamur_streams.specs.Formats.{format_outcome};
+ghost use Rattle.jilqamur_wire.specs.Copies.{IsFetched};
+ghost use Rattle.jilqamur_streams.specs.Fetched.{IsToldOf, bytes_of};
+ghost use Rattle.jilqamur_payloads.specs.Formats.{format_outcome};
 ghost use Rattle.jilqamur_streams.specs.Inboxes.{new_inbox, Takes, Polls, Drains};
 
-use crate::format::{WireFormat, read_format};
-use jilqamur_ends::{WireUnit, poll_code, unit_at};
+use crate::answers::poll_code;
+use crate::fetch::unit_at;
+use crate::format::read_row;
+use jilqamur_payloads::{WireFormat, WireUnit};
 use jilqamur_wire::codes;
 use rtp_media_streams::{PayloadTypes, ReceivingStream, Unit};
 use rtp_wire::{ExtensionMap, ExtensionValues, Pt, Ssrc};
@@ -47,7 +50,7 @@ impl Inbox {
         ensures refused { IfErr result (λ code. code ≡ format_outcome format.now codec.now) }
         ensures refusal { IfErr result (λ code. code ≢ ok) }
     {
-        let row = match read_format(format, codec) {
+        let row = match read_row(format, codec) {
             Ok(row) => row,
             Err(code) => return Err(code),
         };

@@ -1,13 +1,17 @@
 //! Streams by codec, without an end, in the shapes that cross to C.
 #![tactic(auto)]
 
+mod answers;
+mod fetch;
 mod format;
+mod handles;
 mod inbox;
 mod outbox;
 mod receiver_place;
 mod sender_place;
 
-pub use format::WireFormat;
+pub use answers::{poll_code, sample_code};
+pub use fetch::{datagram_at, unit_at};
 pub use inbox::Inbox;
 pub use outbox::{Outbox, WireSender};
 pub use receiver_place::{ReceiverHandle, ReceiverPlace};

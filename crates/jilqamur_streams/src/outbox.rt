@@ -3,12 +3,14 @@
 ghost use Rattle.std.specs.Prelude.{◌≡◌, ◌≢◌, length, IfOk, IfErr, OnOk};
 ghost use Rattle.std.specs.List.{slice_get};
 ghost use Rattle.jilqamur_wire.specs.Codes.{ok, nothing};
-ghost use Rattle.jilqamur_ends.specs.Fetched.{IsFetched};
-ghost use Rattle.jilqamur_streams.specs.Formats.{number_given};
+ghost use Rattle.jilqamur_wire.specs.Copies.{IsFetched};
+ghost use Rattle.jilqamur_payloads.specs.Formats.{number_given};
 ghost use Rattle.jilqamur_streams.specs.Outboxes.{new_outbox, is_off_range, sender_outcome, Pushes};
 
-use crate::format::{WireFormat, read_format};
-use jilqamur_ends::{datagram_at, sample_code};
+use crate::answers::sample_code;
+use crate::fetch::datagram_at;
+use crate::format::read_row;
+use jilqamur_payloads::WireFormat;
 use jilqamur_wire::codes;
 use rtp_media_streams::{Datagram, PayloadTypes, SendingStream};
 use rtp_wire::{ExtensionMap, ExtensionValues, MediaTime, Pt, Ssrc};
@@ -81,7 +83,7 @@ impl Outbox {
         if is_off_range(sender) {
             return Err(codes::OUT_OF_RANGE);
         }
-        let row = match read_format(format, codec) {
+        let row = match read_row(format, codec) {
             Ok(row) => row,
             Err(code) => return Err(code),
         };
