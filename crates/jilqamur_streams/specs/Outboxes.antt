@@ -1,5 +1,5 @@
 -- A sending stream by codec, and the datagrams that its last sample left.
-use Rattle.std.specs.Prelude.{ℕ, ◌≡◌, ◌≢◌, ◌==◌, ◌||◌, Bool, nat_lt, List, [], Option, Some, None}
+use Rattle.std.specs.Prelude.{ℕ, ◌≡◌, ◌≢◌, ◌==◌, ◌||◌, Bool, nat_lt, List, [], None}
 use Rattle.std.specs.Prelude.{if◌then◌else◌}
 use Rattle.rtp_wire.specs.Maps.{empty_map}
 use Rattle.rtp_wire.specs.Time.{Time}

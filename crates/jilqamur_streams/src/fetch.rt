@@ -24,7 +24,12 @@ pub fn unit_at(
     match unit {
         None => codes::NOTHING,
         Some(unit) => {
-            *told = wire_unit(unit.first().get(), unit.last().get(), unit.time(), unit.extra());
+            *told = wire_unit(
+                unit.first().get(),
+                unit.last().get(),
+                unit.time(),
+                unit.extra(),
+            );
             copy_out(unit.bytes(), buffer, needed)
         }
     }

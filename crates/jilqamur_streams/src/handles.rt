@@ -76,7 +76,8 @@ impl ReceiverHandle {
         ensures held_none { result ≡ ok → self.old.place.object ≡ None }
         ensures accepted { result ≡ ok → format_outcome format.now codec.now ≡ ok }
         ensures in_use { IsSome self.old.place.object → result ≡ in_use }
-        ensures refusal { result ≢ ok → result ≢ memory → result ≢ in_use → result ≡ format_outcome format.now codec.now }
+        ensures refusal { result ≢ ok → result ≢ memory → result ≢ in_use
+            → result ≡ format_outcome format.now codec.now }
         ensures unchanged { result ≢ ok → self.new.place.object ≡ self.old.place.object }
     {
         if let Some(held) = self.take(alloc) {

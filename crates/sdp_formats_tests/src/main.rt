@@ -1,13 +1,15 @@
 //! Reads the session texts whose names stand on standard input, and prints for each what it has: session attributes,
-//! attributes and sources of each section, lines of a form that isn't known, candidates, bytes that are left, and
-//! whether what was read is printed as a text that is read and printed alike. Of a text behind `prefixes` it reads each
-//! prefix, and prints how many are session texts.
+//! attributes and sources of each section, lines of a form that isn't known, candidates, bytes that are left, whether
+//! another reading and a copy are the same, and whether what was read is printed as a text that is read and printed
+//! alike. Of a text behind `prefixes` it reads each prefix, and prints how many are session texts.
 #![tactic(auto)]
 
 use sdp_formats::{MediaAttribute, MediaLine, Sdp, SdpError, SessionAttribute, sdp_parser};
+use sdp_formats_clones::TryClone;
+use sdp_formats_equality::same::Same;
 use sdp_formats_forms::Maybe;
 use sdp_formats_ssrcs::ssrc_info;
-use sdp_formats_wholes::{assert_consistency, bundle_mids, ice_candidates};
+use sdp_formats_wholes::{assert_consistency, bundle_mids, ice_candidates, parse, sctp_init};
 use std::{fs, io};
 
 fn is_unused(attribute: &MediaAttribute) -> bool {
@@ -54,6 +56,22 @@ fn print_whole(rt: &HostRuntime, sdp: &Sdp) -> io::Result<()> {
         Ok(()) => println!(*rt; "  whole: {candidates} candidates, {bundled} bundled"),
         Err(SdpError::Memory) => println!(*rt; "  whole: out of memory"),
         Err(_) => println!(*rt; "  whole: {candidates} candidates, {bundled} bundled, parts apart"),
+    }
+}
+
+// Whether the text is read by itself as the same value, of which a copy is the same, and what its data channels have.
+fn print_again(rt: &HostRuntime, text: &str, sdp: &Sdp) -> io::Result<()> {
+    let copied = sdp.try_clone(rt.alloc())?.is_same(sdp);
+    let init = match sctp_init(sdp) {
+        Some(init) => init.as_str(),
+        None => "none",
+    };
+    match parse(rt.alloc(), text) {
+        Ok(again) => {
+            let same = again.is_same(sdp);
+            println!(*rt; "  again: the same {same}, a copy the same {copied}, sctp-init {init}")
+        }
+        Err(_) => println!(*rt; "  again: out of memory"),
     }
 }
 
@@ -111,6 +129,7 @@ fn print_text(rt: &HostRuntime, name: &str, text: &str) -> io::Result<()> {
                 print_section(rt, section)?;
             }
             print_whole(rt, &sdp)?;
+            print_again(rt, text, &sdp)?;
             let printed = sdp.to_sdp_string(rt.alloc())?;
             print_printed(rt, text, printed.as_str())
         }
