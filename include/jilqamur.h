@@ -397,8 +397,8 @@ uint32_t jilqamur_end_open_sender(jilqamur_end *end, const uint8_t *mid, size_t 
 uint32_t jilqamur_end_open_receiver(jilqamur_end *end, const uint8_t *mid, size_t mid_len, uint32_t ssrc,
                                     uint8_t payload_type, size_t hold_back, size_t *stream);
 
-/* The values of header extensions (RFC 8285), but the names of sections and streams. One that is not given is not looked
- * at where a sample is sent, and is 0 or false in values that were read. */
+/* The values of header extensions (RFC 8285), but the names of sections and streams. One that is not given is not
+ * looked at where a sample is sent, and is 0 or false in values that were read. */
 typedef struct jilqamur_values {
     bool has_audio_level;       /* whether the audio level is given */
     int8_t audio_level;         /* it, in dBov, -127 to 0; carried with the voice activity alone (RFC 6464) */
@@ -425,10 +425,10 @@ typedef struct jilqamur_values {
 /* Sends a sample of sample_len bytes under a time in ticks of the row's clock: its datagrams are left to be fetched in
  * place of those before, and count is how many there are. They carry the values that are given, and the section's name
  * where mid_len is not 0, each if the agreed map has a number for it (RFC 8285, RFC 9143 15). JILQAMUR_NOT_TEXT,
- * JILQAMUR_NOT_MADE without an end,
- * JILQAMUR_NO_STREAM; else the first that holds of JILQAMUR_STREAM_FAILED, JILQAMUR_TIME_TOO_LARGE,
- * JILQAMUR_LIMIT_TOO_SMALL and JILQAMUR_PAYLOAD, and the end is unchanged; or JILQAMUR_MEMORY, and the stream sends no
- * more. The datagrams that were left before stay then, and count is how many those are. */
+ * JILQAMUR_NOT_MADE without an end, JILQAMUR_NO_STREAM; else the first that holds of JILQAMUR_STREAM_FAILED,
+ * JILQAMUR_TIME_TOO_LARGE, JILQAMUR_LIMIT_TOO_SMALL and JILQAMUR_PAYLOAD, and the end is unchanged; or
+ * JILQAMUR_MEMORY, and the stream sends no more. The datagrams that were left before stay then, and count is how many
+ * those are. */
 uint32_t jilqamur_end_push_sample(jilqamur_end *end, size_t stream, uint64_t ticks, const jilqamur_values *values,
                                   const uint8_t *mid, size_t mid_len, const uint8_t *sample, size_t sample_len,
                                   size_t *count);

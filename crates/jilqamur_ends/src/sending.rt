@@ -169,10 +169,10 @@ impl Peer {
 
     /// Sends a sample under a time in ticks of the row's clock, and answers `OK`: its datagrams, at most `mtu` bytes
     /// of it in each, are left to be fetched in place of those before, and `count` is how many there are. They carry
-    /// the values and the section's name that are given and that the stream's map has a number for (RFC 9143 15). `NOT_TEXT` for a
-    /// name that isn't UTF-8, `NOT_MADE` without an end, `NO_STREAM` where no sending stream has the number;
-    /// else the first that holds of `STREAM_FAILED`, `TIME_TOO_LARGE`, `LIMIT_TOO_SMALL` and `PAYLOAD`, and nothing
-    /// has changed, or `MEMORY`, and the stream sends no more.
+    /// the values that are given, and the section's name where one is, each if the stream's map has a number for it
+    /// (RFC 8285, RFC 9143 15). `NOT_TEXT` for a name that isn't UTF-8, `NOT_MADE` without an end, `NO_STREAM` where
+    /// no sending stream has the number; else the first that holds of `STREAM_FAILED`, `TIME_TOO_LARGE`,
+    /// `LIMIT_TOO_SMALL` and `PAYLOAD`, and nothing has changed, or `MEMORY`, and the stream sends no more.
     pub fn push_sample(
         &mut self,
         stream: usize,
