@@ -397,14 +397,41 @@ uint32_t jilqamur_end_open_sender(jilqamur_end *end, const uint8_t *mid, size_t 
 uint32_t jilqamur_end_open_receiver(jilqamur_end *end, const uint8_t *mid, size_t mid_len, uint32_t ssrc,
                                     uint8_t payload_type, size_t hold_back, size_t *stream);
 
+/* The values of header extensions (RFC 8285), but the names of sections and streams. One that is not given is not
+ * looked at where a sample is sent, and is 0 or false in values that were read. */
+typedef struct jilqamur_values {
+    bool has_audio_level;       /* whether the audio level is given */
+    int8_t audio_level;         /* it, in dBov, -127 to 0; carried with the voice activity alone (RFC 6464) */
+    bool has_voice_activity;    /* whether the voice activity is given */
+    bool voice_activity;        /* whether the audio has voice; carried with the audio level alone */
+    bool has_abs_send_time;     /* whether the time of sending is given */
+    uint64_t abs_send_time;     /* it, in microseconds; carried modulo 64 seconds, in units of 2^-18 seconds */
+    bool has_transport_cc;      /* whether the number over all streams of a transport is given */
+    uint16_t transport_cc;      /* it */
+    bool has_video_orientation; /* whether the orientation is given */
+    uint8_t video_orientation;  /* how the picture is turned, by the low two bits (3GPP TS 26.114 7.4.5) */
+    bool has_play_delay_min;    /* whether the least delay until play is given */
+    uint16_t play_delay_min;    /* it, in 10 ms, 0 to 4095; carried with the greatest alone */
+    bool has_play_delay_max;    /* whether the greatest delay until play is given */
+    uint16_t play_delay_max;    /* it, in 10 ms, 0 to 4095; carried with the least alone */
+    bool has_video_content_type; /* whether the content type is given */
+    uint8_t video_content_type; /* what the video shows */
+    bool has_capture_time;      /* whether the time of capture is given */
+    uint64_t capture_time;      /* it: NTP time, in seconds with 32 bits before and 32 behind the point */
+    bool has_clock_offset;      /* whether the clock's offset is given; carried with the time of capture alone */
+    int64_t clock_offset;       /* how far the sender's clock is ahead, in seconds with 32 bits behind the point */
+} jilqamur_values;
+
 /* Sends a sample of sample_len bytes under a time in ticks of the row's clock: its datagrams are left to be fetched in
- * place of those before, and count is how many there are. Where mid_len is not 0 they carry the section's name, if the
- * agreed map has a number for it (RFC 9143 15). JILQAMUR_NOT_TEXT, JILQAMUR_NOT_MADE without an end,
- * JILQAMUR_NO_STREAM; else the first that holds of JILQAMUR_STREAM_FAILED, JILQAMUR_TIME_TOO_LARGE,
- * JILQAMUR_LIMIT_TOO_SMALL and JILQAMUR_PAYLOAD, and the end is unchanged; or JILQAMUR_MEMORY, and the stream sends no
- * more. The datagrams that were left before stay then, and count is how many those are. */
-uint32_t jilqamur_end_push_sample(jilqamur_end *end, size_t stream, uint64_t ticks, const uint8_t *mid, size_t mid_len,
-                                  const uint8_t *sample, size_t sample_len, size_t *count);
+ * place of those before, and count is how many there are. They carry the values that are given, and the section's name
+ * where mid_len is not 0, each if the agreed map has a number for it (RFC 8285, RFC 9143 15). JILQAMUR_NOT_TEXT,
+ * JILQAMUR_NOT_MADE without an end, JILQAMUR_NO_STREAM; else the first that holds of JILQAMUR_STREAM_FAILED,
+ * JILQAMUR_TIME_TOO_LARGE, JILQAMUR_LIMIT_TOO_SMALL and JILQAMUR_PAYLOAD, and the end is unchanged; or
+ * JILQAMUR_MEMORY, and the stream sends no more. The datagrams that were left before stay then, and count is how many
+ * those are. */
+uint32_t jilqamur_end_push_sample(jilqamur_end *end, size_t stream, uint64_t ticks, const jilqamur_values *values,
+                                  const uint8_t *mid, size_t mid_len, const uint8_t *sample, size_t sample_len,
+                                  size_t *count);
 
 /* Copies the datagram of this place, counted from 0, to the front of a buffer of len bytes, and writes its length in
  * bytes into needed. JILQAMUR_TOO_SMALL, and the buffer is unchanged; JILQAMUR_NOTHING where there is none of that
@@ -429,6 +456,10 @@ uint32_t jilqamur_end_drain(jilqamur_end *end, size_t stream);
  * count into needed, and what is told beside into unit. JILQAMUR_TOO_SMALL, and the buffer is unchanged, while needed
  * and unit are written; JILQAMUR_NOTHING before the first unit. The unit stays until the next one. */
 uint32_t jilqamur_end_unit(jilqamur_end *end, uint8_t *buffer, size_t len, size_t *needed, jilqamur_unit *unit);
+
+/* Tells the values of the header extensions of the last datagram of that unit. JILQAMUR_NOTHING before the first unit,
+ * and values is unchanged. */
+uint32_t jilqamur_end_values(jilqamur_end *end, jilqamur_values *values);
 
 /* How a sending stream without an end numbers and cuts its samples. */
 typedef struct jilqamur_sender_params {

@@ -159,8 +159,9 @@ static void sample(jilqamur_end *end, char **w, size_t words)
     const char *mid = words > 5 ? w[5] + 4 : "";
     uint8_t datagram[65536];
     size_t len = from_hex(w[4]), count = 0, needed = 0;
-    uint32_t answer = jilqamur_end_push_sample(end, (size_t)number(w[2]), number(w[3]), bytes_of(mid), strlen(mid),
-                                               bytes_of(w[4]), len, &count);
+    jilqamur_values none = {0};
+    uint32_t answer = jilqamur_end_push_sample(end, (size_t)number(w[2]), number(w[3]), &none, bytes_of(mid),
+                                               strlen(mid), bytes_of(w[4]), len, &count);
     for (size_t i = 0; answer == JILQAMUR_OK && i < count; i++) {
         if (jilqamur_end_datagram(end, i, datagram, sizeof datagram, &needed) != JILQAMUR_OK)
             exit(1);

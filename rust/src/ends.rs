@@ -3,6 +3,7 @@
 use crate::error::{done, EndError};
 use crate::params::{Received, Row, StreamParams, Unit};
 use crate::sys;
+use crate::values::Values;
 use std::ptr;
 
 /// What a call copies: it is called once for the size that is needed, and once for the bytes.
@@ -149,7 +150,23 @@ impl End {
         sample: &[u8],
         mid: Option<&str>,
     ) -> Result<Datagrams<'_>, EndError> {
+        self.push_sample_with(stream, ticks, sample, mid, &Values::default())
+    }
+
+    /// The same, with values of header extensions: each is carried if the agreed map has a number for it.
+    ///
+    /// # Errors
+    /// As [`End::push_sample`].
+    pub fn push_sample_with(
+        &mut self,
+        stream: usize,
+        ticks: u64,
+        sample: &[u8],
+        mid: Option<&str>,
+        values: &Values,
+    ) -> Result<Datagrams<'_>, EndError> {
         let mid = mid.unwrap_or("");
+        let values = values.given();
         let mut count = 0;
         // SAFETY: the handle is open, and pointers and lengths are those of one slice each.
         done(unsafe {
@@ -157,6 +174,7 @@ impl End {
                 &mut self.0,
                 stream,
                 ticks,
+                &values,
                 mid.as_ptr(),
                 mid.len(),
                 sample.as_ptr(),
@@ -224,6 +242,15 @@ impl End {
             is_over = !matches!(unit, Some(Ok(_) | Err(EndError::Payload)));
             unit
         })
+    }
+
+    /// The values of the header extensions of the last datagram of the unit that was handed out last. None before the
+    /// first.
+    pub fn values(&mut self) -> Option<Values> {
+        let mut told = sys::Values::default();
+        // SAFETY: the handle is open, and what is written is a place of its own.
+        let answer = unsafe { sys::jilqamur_end_values(&mut self.0, &mut told) };
+        (answer == 0).then(|| Values::of(&told))
     }
 
     fn unit_of(&mut self, answer: u32) -> Result<Option<Unit>, EndError> {

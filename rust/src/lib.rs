@@ -10,12 +10,14 @@ mod params;
 mod payloads;
 mod streams;
 mod sys;
+mod values;
 
 pub use ends::{Datagrams, End};
 pub use error::EndError;
 pub use params::{Direction, Kind, Received, Row, Section, StreamParams, TelephoneEvent, Unit};
 pub use payloads::{Depacketizer, Fault, Packet, Packetizer, PacketizerParams};
 pub use streams::{Format, Receiver, Sender, SenderParams};
+pub use values::Values;
 
 /// Why a call is refused.
 #[derive(Clone, Copy, Debug, PartialEq, Eq)]

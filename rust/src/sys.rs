@@ -35,6 +35,31 @@ pub(crate) struct Unit {
     pub(crate) event_duration: u64,
 }
 
+#[repr(C)]
+#[derive(Default)]
+pub(crate) struct Values {
+    pub(crate) has_audio_level: bool,
+    pub(crate) audio_level: i8,
+    pub(crate) has_voice_activity: bool,
+    pub(crate) voice_activity: bool,
+    pub(crate) has_abs_send_time: bool,
+    pub(crate) abs_send_time: u64,
+    pub(crate) has_transport_cc: bool,
+    pub(crate) transport_cc: u16,
+    pub(crate) has_video_orientation: bool,
+    pub(crate) video_orientation: u8,
+    pub(crate) has_play_delay_min: bool,
+    pub(crate) play_delay_min: u16,
+    pub(crate) has_play_delay_max: bool,
+    pub(crate) play_delay_max: u16,
+    pub(crate) has_video_content_type: bool,
+    pub(crate) video_content_type: u8,
+    pub(crate) has_capture_time: bool,
+    pub(crate) capture_time: u64,
+    pub(crate) has_clock_offset: bool,
+    pub(crate) clock_offset: i64,
+}
+
 extern "C" {
     pub(crate) fn jilqamur_header_read(datagram: *const u8, len: usize, header: *mut Header) -> u32;
     pub(crate) fn jilqamur_header_write(
@@ -158,6 +183,7 @@ extern "C" {
         end: *mut Handle,
         stream: usize,
         ticks: u64,
+        values: *const Values,
         mid: *const u8,
         mid_len: usize,
         sample: *const u8,
@@ -187,6 +213,7 @@ extern "C" {
         needed: *mut usize,
         unit: *mut Unit,
     ) -> u32;
+    pub(crate) fn jilqamur_end_values(end: *mut Handle, values: *mut Values) -> u32;
     pub(crate) fn jilqamur_sender_open(
         sender: *mut Handle,
         params: *const SenderParams,

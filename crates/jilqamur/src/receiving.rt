@@ -7,11 +7,11 @@ ghost use Rattle.jilqamur_ends.specs.Answers.{AtEnd};
 ghost use Rattle.jilqamur_ends.specs.Peers.{behind_end, behind_poll};
 ghost use Rattle.jilqamur_wire.specs.Copies.{IsFetched};
 ghost use Rattle.jilqamur_streams.specs.Fetched.{IsToldOf, bytes_of};
-ghost use Rattle.jilqamur_ends.specs.Receiving.{Receives, Polls, Drains};
+ghost use Rattle.jilqamur_ends.specs.Receiving.{Receives, Polls, Drains, TellsValues};
 
 use jilqamur_ends::EndHandle;
 use jilqamur_payloads::WireUnit;
-use jilqamur_wire::codes;
+use jilqamur_wire::{WireValues, codes};
 use std::alloc::Global;
 
 /// Takes a datagram in.
@@ -99,6 +99,26 @@ pub extern "C" fn jilqamur_end_unit(
         return codes::CLOSED;
     };
     let code = peer.unit(buffer, needed, told);
+    end.put(peer);
+    code
+}
+
+/// Tells the values of header extensions of the unit that is left.
+#[unsafe(no_mangle)]
+pub extern "C" fn jilqamur_end_values(
+    alloc: Global,
+    end: &mut EndHandle,
+    told: &mut WireValues,
+) -> u32
+    ensures values { AtObject end.old.place.object end.new.place.object result
+        (λ p after. TellsValues p.unit told.old result told.new) }
+    ensures closed { result ≡ closed → told.new ≡ told.old }
+    ensures unchanged { end.new.place.object ≡ end.old.place.object }
+{
+    let Some(mut peer) = end.take(alloc) else {
+        return codes::CLOSED;
+    };
+    let code = peer.values(told);
     end.put(peer);
     code
 }

@@ -11,7 +11,7 @@ ghost use Rattle.jilqamur_ends.specs.Sending.{AnswersSender, AnswersSample, para
 ghost use Rattle.jilqamur_ends.specs.Receiving.{OpensReceiver};
 
 use jilqamur_ends::{EndHandle, WireStream};
-use jilqamur_wire::codes;
+use jilqamur_wire::{WireValues, codes};
 use std::alloc::Global;
 
 /// Opens a sending stream.
@@ -76,13 +76,14 @@ pub extern "C" fn jilqamur_end_push_sample(
     end: &mut EndHandle,
     stream: usize,
     ticks: u64,
+    values: &WireValues,
     mid: &[u8],
     sample: &[u8],
     count: &mut usize,
 ) -> u32
     ensures answer { AtObject end.old.place.object end.new.place.object result
         (λ p after. WithText mid.now p.end after.end result
-        (λ e now. AnswersSample e stream ticks mid.now sample.now result after.datagrams now)) }
+        (λ e now. AnswersSample e stream ticks values.now mid.now sample.now result after.datagrams now)) }
     ensures count { AtObject end.old.place.object end.new.place.object result
         (λ p after. count.new ≡ length after.datagrams) }
     ensures closed { result ≡ closed → count.new ≡ count.old }
@@ -94,7 +95,7 @@ pub extern "C" fn jilqamur_end_push_sample(
     let Some(mut peer) = end.take(alloc) else {
         return codes::CLOSED;
     };
-    let code = peer.push_sample(stream, ticks, mid, sample, count);
+    let code = peer.push_sample(stream, ticks, values, mid, sample, count);
     end.put(peer);
     code
 }

@@ -14,9 +14,11 @@ use Rattle.rtp_media_ends.specs.declared.errors.OpenError.TheVariants as open_er
 use Rattle.rtp_media_ends.specs.declared.received.Received.{Received}
 use Rattle.rtp_media_ends.specs.declared.received.Received.TheVariants as received
 use Rattle.jilqamur_streams.specs.Answers.{drain_result, poll_code, poll_result, unit_behind}
-use Rattle.jilqamur_wire.specs.Codes.{ok, memory, unreadable, foreign, damaged, refused}
+use Rattle.jilqamur_wire.specs.Codes.{ok, memory, nothing, unreadable, foreign, damaged, refused}
 use Rattle.jilqamur_wire.specs.Codes.{no_stream, no_section, row_not_agreed, row_differs, wrong_direction}
 use Rattle.jilqamur_wire.specs.Codes.{ssrc_not_named, already_open}
+use Rattle.jilqamur_wire.specs.Values.{values_told}
+use Rattle.jilqamur_wire.specs.declared.values.WireValues.{WireValues}
 use Rattle.jilqamur_ends.specs.Exchanges.{Where}
 
 -- The number of a refusal to open a stream.
@@ -97,3 +99,8 @@ abbrev pub Drains : EndState → ℕ → Option MediaUnit → ℕ → Option Med
 Drains e n before result unit after = Where (is_receiver_at e n)
     (AnswersPoll e n (drain_result (receiver_at e n)) (drained_receiver (receiver_at e n)) (DrainStops e n) before
     result unit after) (HasNoStream e before result unit after)
+
+-- What is told of the header extensions of the last datagram of a unit, where there is one.
+abbrev pub TellsValues : Option MediaUnit → WireValues → ℕ → WireValues → Type 0
+TellsValues None before result told = (result ≡ nothing) × (told ≡ before)
+TellsValues (Some u) before result told = (result ≡ ok) × (told ≡ values_told u.values)

@@ -2,7 +2,6 @@
 use Rattle.std.specs.Prelude.{ℕ, ◌≡◌, ◌≢◌, ◌==◌, Bool, true, false, List, length, Option, Some, None, if◌then◌else◌}
 use Rattle.rtp_wire.specs.Name.{name_of}
 use Rattle.rtp_wire.specs.Time.{Time}
-use Rattle.rtp_wire.specs.Values.{absent}
 use Rattle.rtp_wire.specs.declared.ExtensionValues.{ExtensionValues}
 use Rattle.rtp_media_streams.specs.Sending.{HasFailed, sent_datagrams, after_sample, refusal_of_sample}
 use Rattle.rtp_media_ends.specs.Ends.{EndState, agreed_red, after_open_sender, refusal_of_open_sender}
@@ -10,6 +9,8 @@ use Rattle.rtp_media_ends.specs.Ends.{is_sender_at, sender_at, with_sender}
 use Rattle.rtp_media_ends.specs.Params.{is_sound_params}
 use Rattle.rtp_media_ends.specs.declared.params.StreamParams.{StreamParams}
 use Rattle.jilqamur_wire.specs.Codes.{ok, memory, out_of_range, no_stream}
+use Rattle.jilqamur_wire.specs.Values.{values_given}
+use Rattle.jilqamur_wire.specs.declared.values.WireValues.{WireValues}
 use Rattle.jilqamur_streams.specs.Answers.{sample_outcome}
 use Rattle.jilqamur_ends.specs.declared.sending.WireStream.{WireStream}
 use Rattle.jilqamur_ends.specs.Exchanges.{Where}
@@ -59,12 +60,12 @@ AnswersSender e mid ssrc pt params result stream after = Where (is_sound_for e m
 abbrev pub time_at : EndState → ℕ → ℕ → Time
 time_at e n ticks = record { ticks = ticks; rate = (sender_at e n).row.clock_rate }
 
--- the values of a sample's header extensions: the name of its section, where one is given (RFC 9143 15)
+-- the values of a sample's header extensions: those given, and the name of its section, where one is (RFC 9143 15)
 abbrev pub mid_of : List ℕ → Option (List ℕ)
 mid_of text = if length text == 0 then None else Some (name_of 16 text)
 
-abbrev pub values_of : List ℕ → ExtensionValues
-values_of mid = record absent { mid = mid_of mid }
+abbrev pub values_of : WireValues → List ℕ → ExtensionValues
+values_of w mid = values_given w (mid_of mid)
 
 -- a sending stream ran out of memory: it is marked as failed, and the others stay
 abbrev pub SenderFails : EndState → ℕ → EndState → Type 0
@@ -83,6 +84,6 @@ abbrev pub HasNoSender : EndState → ℕ → EndState → Type 0
 HasNoSender e result after = (result ≡ no_stream) × (after ≡ e)
 
 -- What a sample at a stream answers.
-abbrev pub AnswersSample : EndState → ℕ → ℕ → List ℕ → List ℕ → ℕ → List (List ℕ) → EndState → Type 0
-AnswersSample e n ticks mid sample result datagrams after = Where (is_sender_at e n)
-    (Sends e n (time_at e n ticks) (values_of mid) sample result datagrams after) (HasNoSender e result after)
+abbrev pub AnswersSample : EndState → ℕ → ℕ → WireValues → List ℕ → List ℕ → ℕ → List (List ℕ) → EndState → Type 0
+AnswersSample e n ticks values mid sample result datagrams after = Where (is_sender_at e n)
+    (Sends e n (time_at e n ticks) (values_of values mid) sample result datagrams after) (HasNoSender e result after)

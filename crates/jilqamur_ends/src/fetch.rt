@@ -5,11 +5,12 @@ ghost use Rattle.std.specs.List.{slice_get};
 ghost use Rattle.jilqamur_wire.specs.Codes.{nothing};
 ghost use Rattle.jilqamur_wire.specs.Copies.{IsCopied, IsFetched};
 ghost use Rattle.jilqamur_streams.specs.Fetched.{IsToldOf, bytes_of};
+ghost use Rattle.jilqamur_ends.specs.Receiving.{TellsValues};
 
 use crate::peer::Peer;
 use jilqamur_payloads::WireUnit;
 use jilqamur_streams::{datagram_at, unit_at};
-use jilqamur_wire::copy_out;
+use jilqamur_wire::{WireValues, codes, copy_out};
 
 impl Peer {
     /// Copies the text that the last offer or answer left, and answers `OK`, or `TOO_SMALL`, and the buffer is
@@ -37,5 +38,19 @@ impl Peer {
         ensures nothing { result ≡ nothing → (needed.new ≡ needed.old) × (told.new ≡ told.old) }
     {
         unit_at(&self.unit, buffer, needed, told)
+    }
+
+    /// Tells the values of the header extensions of the last datagram of the unit that a poll left last, and answers
+    /// `OK`; `NOTHING` before the first unit, and `told` is unchanged.
+    pub fn values(&self, told: &mut WireValues) -> u32
+        ensures { TellsValues self.now.unit told.old result told.new }
+    {
+        match &self.unit {
+            None => codes::NOTHING,
+            Some(unit) => {
+                *told = WireValues::of(&unit.ext_vals());
+                codes::OK
+            }
+        }
     }
 }

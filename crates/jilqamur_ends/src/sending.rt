@@ -6,14 +6,14 @@ ghost use Rattle.jilqamur_wire.specs.Codes.{ok, memory};
 ghost use Rattle.jilqamur_ends.specs.Answers.{AtEnd};
 ghost use Rattle.jilqamur_ends.specs.Exchanges.{WithText};
 ghost use Rattle.jilqamur_ends.specs.Sending.{params_of, distances_of, id_of, AnswersSender, AnswersSample};
-ghost use Rattle.jilqamur_ends.specs.Sending.{values_of, mid_of};
+ghost use Rattle.jilqamur_ends.specs.Sending.{mid_of};
 
 use crate::peer::Peer;
 use crate::receiving::open_code;
 use jilqamur_streams::sample_code;
-use jilqamur_wire::{codes, text_in};
+use jilqamur_wire::{WireValues, codes, text_in};
 use rtp_media_ends::{Datagram, Distances, End, StreamParams};
-use rtp_wire::{ExtensionValues, MediaTime, Mid, Pt, Ssrc};
+use rtp_wire::{MediaTime, Mid, Pt, Ssrc};
 use std::alloc::{AllocError, Global};
 
 /// How a sending stream numbers and cuts its samples.
@@ -79,14 +79,6 @@ fn mid_of(text: &str) -> Option<Mid>
     Some(Mid::from(text))
 }
 
-fn values_of(mid: &str) -> ExtensionValues
-    ensures { result ≡ values_of mid.now }
-{
-    let mut values = ExtensionValues::absent();
-    values.mid = mid_of(mid);
-    values
-}
-
 fn open_with(
     end: &mut Option<End>,
     mid: &str,
@@ -119,12 +111,13 @@ fn push_at(
     end: &mut Option<End>,
     stream: usize,
     ticks: u64,
+    values: &WireValues,
     mid: &str,
     sample: &[u8],
     datagrams: &mut Vec<Datagram>,
 ) -> u32
     ensures answer { AtEnd end.old end.new result
-        (λ e after. AnswersSample e stream ticks mid.now sample.now result datagrams.new.items after) }
+        (λ e after. AnswersSample e stream ticks values.now mid.now sample.now result datagrams.new.items after) }
     ensures kept { result ≢ ok → datagrams.new.items ≡ datagrams.old.items }
 {
     let Some(end) = end else {
@@ -134,7 +127,7 @@ fn push_at(
         return codes::NO_STREAM;
     }
     let time = MediaTime::new(ticks, end.clock_rate(stream));
-    match end.push_sample(stream, time, sample, &values_of(mid)) {
+    match end.push_sample(stream, time, sample, &values.values(mid_of(mid))) {
         Ok(sent) => {
             *datagrams = sent;
             codes::OK
@@ -176,20 +169,21 @@ impl Peer {
 
     /// Sends a sample under a time in ticks of the row's clock, and answers `OK`: its datagrams, at most `mtu` bytes
     /// of it in each, are left to be fetched in place of those before, and `count` is how many there are. They carry
-    /// the section's name, where one is given and the stream's map has a number for it (RFC 9143 15). `NOT_TEXT` for a
-    /// name that isn't UTF-8, `NOT_MADE` without an end, `NO_STREAM` where no sending stream has the number;
-    /// else the first that holds of `STREAM_FAILED`, `TIME_TOO_LARGE`, `LIMIT_TOO_SMALL` and `PAYLOAD`, and nothing
-    /// has changed, or `MEMORY`, and the stream sends no more.
+    /// the values that are given, and the section's name where one is, each if the stream's map has a number for it
+    /// (RFC 8285, RFC 9143 15). `NOT_TEXT` for a name that isn't UTF-8, `NOT_MADE` without an end, `NO_STREAM` where
+    /// no sending stream has the number; else the first that holds of `STREAM_FAILED`, `TIME_TOO_LARGE`,
+    /// `LIMIT_TOO_SMALL` and `PAYLOAD`, and nothing has changed, or `MEMORY`, and the stream sends no more.
     pub fn push_sample(
         &mut self,
         stream: usize,
         ticks: u64,
+        values: &WireValues,
         mid: &[u8],
         sample: &[u8],
         count: &mut usize,
     ) -> u32
         ensures answer { WithText mid.now self.old.end self.new.end result
-            (λ e after. AnswersSample e stream ticks mid.now sample.now result self.new.datagrams after) }
+            (λ e after. AnswersSample e stream ticks values.now mid.now sample.now result self.new.datagrams after) }
         ensures count { count.new ≡ length self.new.datagrams }
         ensures kept { result ≢ ok → self.new.datagrams ≡ self.old.datagrams }
         ensures rest { self.new ≡ record self.old { end = self.new.end; datagrams = self.new.datagrams } }
@@ -200,6 +194,7 @@ impl Peer {
                     &mut self.end,
                     stream,
                     ticks,
+                    values,
                     mid,
                     sample,
                     &mut self.datagrams,

@@ -3,4 +3,5 @@ pub mod Copies
 pub mod Handles
 pub mod Headers
 pub mod Owned
+pub mod Values
 pub mod Windows

@@ -1,4 +1,4 @@
-//! Headers and replay windows in the shapes that cross to C.
+//! Headers, values of header extensions and replay windows in the shapes that cross to C.
 #![tactic(auto)]
 
 pub mod codes;
@@ -7,9 +7,11 @@ mod header;
 mod parts;
 mod place;
 mod replay;
+mod values;
 
 pub use copying::{copy_out, text_in};
 pub use header::{WireHeader, read_header, write_header};
 pub use parts::Parts;
 pub use place::{WindowHandle, WindowPlace};
 pub use replay::Replay;
+pub use values::WireValues;
