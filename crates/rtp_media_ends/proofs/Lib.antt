@@ -9,3 +9,6 @@ pub mod MayOpen
 pub mod NewReceiver
 pub mod Stopping
 pub mod Numbers
+pub mod StreamKeys
+pub mod Looked
+pub mod Indexing

@@ -26,7 +26,7 @@ eqb-same : (a : ℕ) → (a == a) ≡ true
 eqb-same a = grind (arith, nat_tests)
 
 -- types that have one of these share one with them
-shares : (types others : PayloadTypes) (pt : ℕ) → has_type others pt ≡ true → has_type types pt ≡ true
+pub shares : (types others : PayloadTypes) (pt : ℕ) → has_type others pt ≡ true → has_type types pt ≡ true
     → share_type types others ≡ true
 shares types others pt among has = own (others.pt == pt) (eqb-is others.pt pt) among where
   by_red : (red : Option ℕ) → is_type red pt ≡ true → has_red_type types red ≡ true
@@ -53,7 +53,7 @@ not-own r ssrc pt types among none = by (r.ssrc == ssrc) (has_type r.types pt)
       by true false share h = refl
       by true true share h = absurd (true≢false (sym (share refl) ∙ h))
 
-not-taken : (x : OpenStream) (ssrc pt : ℕ) (types : PayloadTypes) → has_type types pt ≡ true
+pub not-taken : (x : OpenStream) (ssrc pt : ℕ) (types : PayloadTypes) → has_type types pt ≡ true
     → receives_as ssrc types x ≡ false → takes ssrc pt x ≡ false
 not-taken (Sender s) ssrc pt types among none = refl
 not-taken (Receiver r) ssrc pt types among none = not-own r ssrc pt types among none

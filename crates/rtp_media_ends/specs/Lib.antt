@@ -6,3 +6,5 @@ pub mod Arrivals
 pub mod FullArrival
 pub mod OwnEvents
 pub mod Transparency
+pub mod StreamIndex
+pub mod Indexed

@@ -12,6 +12,7 @@ mod receive_all;
 mod receiving;
 
 use crate::open_stream::OpenStream;
+use crate::stream_index::StreamIndex;
 pub use exchanges::connect;
 pub use receive_all::{Polls, ReceivedAll};
 use rtp_media_negotiation::{EndError, Exchange, PayloadParams};
@@ -25,6 +26,10 @@ pub struct End {
     alloc: Global,
     exchange: Exchange,
     streams: Vec<OpenStream>,
+    /// The numbers of those that send.
+    senders: StreamIndex,
+    /// The numbers of those that receive.
+    receivers: StreamIndex,
 }
 
 /// Written out, so that who lets one go needs nothing of what is inside.
@@ -34,6 +39,8 @@ impl Drop for End {
             alloc: _alloc,
             exchange: _exchange,
             streams: _streams,
+            senders: _senders,
+            receivers: _receivers,
         } = self;
     }
 }
@@ -51,6 +58,10 @@ impl Model for End {
       exchange = e.exchange;
       streams = e.streams.items;
     } };
+
+    ghost use Rattle.rtp_media_ends.specs.Indexed.{AreIndexed};
+
+    ghost invariant = { λ e. AreIndexed e.senders e.receivers e.streams.items };
 }
 
 impl End {
@@ -67,6 +78,8 @@ impl End {
             alloc,
             exchange: Exchange::fixed(alloc)?,
             streams: Vec::new(alloc),
+            senders: StreamIndex::new(alloc),
+            receivers: StreamIndex::new(alloc),
         })
     }
 

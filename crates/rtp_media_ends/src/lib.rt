@@ -3,10 +3,12 @@
 
 mod end;
 mod errors;
+mod finding;
 mod laws;
 mod open_stream;
 mod params;
 mod received;
+mod stream_index;
 
 pub use end::{End, Polls, ReceivedAll, connect};
 pub use errors::{OpenError, ReceiveError};

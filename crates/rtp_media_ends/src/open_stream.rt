@@ -2,7 +2,8 @@
 
 ghost use Rattle.std.specs.Prelude.{◌≡◌, not};
 ghost use Rattle.rtp_media_ends.specs.Arrivals.{takes};
-ghost use Rattle.rtp_media_ends.specs.Ends.{is_sending, receives_as, sends_as};
+ghost use Rattle.rtp_media_ends.specs.Ends.{is_sending};
+ghost use Rattle.rtp_media_ends.specs.Indexed.{sends};
 
 use rtp_media_streams::{PayloadTypes, ReceivingStream, SendingStream};
 use rtp_wire::{Pt, Ssrc};
@@ -37,23 +38,15 @@ impl OpenStream {
         }
     }
 
-    /// Whether it could send the datagrams of a stream of this SSRC and these payload types.
-    pub fn sends_as(&self, ssrc: Ssrc, types: &PayloadTypes) -> bool
-        ensures { result ≡ sends_as ssrc types.now self.now }
+    /// Whether it could send datagrams of this SSRC and payload type.
+    pub fn sends(&self, ssrc: Ssrc, pt: Pt) -> bool
+        ensures { result ≡ sends ssrc pt self.now }
     {
         match self {
-            OpenStream::Sender(sender) => sender.conflicts_with(ssrc, types),
+            OpenStream::Sender(sender) => {
+                sender.conflicts_with(ssrc, &PayloadTypes { pt, red: None })
+            }
             OpenStream::Receiver(_) => false,
-        }
-    }
-
-    /// Whether it could take the datagrams of a stream of this SSRC and these payload types.
-    pub fn receives_as(&self, ssrc: Ssrc, types: &PayloadTypes) -> bool
-        ensures { result ≡ receives_as ssrc types.now self.now }
-    {
-        match self {
-            OpenStream::Sender(_) => false,
-            OpenStream::Receiver(receiver) => receiver.conflicts_with(ssrc, types),
         }
     }
 

@@ -12,6 +12,7 @@ ghost use Rattle.rtp_media_ends.specs.Ends.{new_end, with_exchange};
 ghost use Rattle.rtp_media_ends.specs.Connections.{Connects, HaveExchanged, HaveOneAgreement, IsRefused};
 
 use super::End;
+use crate::stream_index::StreamIndex;
 use rtp_media_negotiation::{
     CodecConfig, EndError, Exchange, ExchangeError, SectionSpec, Session, one_agreement_law,
 };
@@ -39,6 +40,8 @@ impl End {
             alloc,
             exchange: Exchange::new(alloc, config, session, exts)?,
             streams: Vec::new(alloc),
+            senders: StreamIndex::new(alloc),
+            receivers: StreamIndex::new(alloc),
         })
     }
 

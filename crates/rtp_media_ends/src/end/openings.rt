@@ -1,6 +1,6 @@
 //! Streams that an end opens.
 
-ghost use Rattle.std.specs.Prelude.{◌≡◌, ◌≢◌, ◌<◌, Some, None, length, true, OnOk, OnErr, IfOk, IfErr, IfSome};
+ghost use Rattle.std.specs.Prelude.{◌≡◌, ◌≢◌, ◌<◌, Some, None, length, true, false, OnOk, OnErr, IfOk, IfErr, IfSome};
 ghost use Rattle.std.specs.Prelude.{IsSome, IsSomeAnd};
 ghost use Rattle.std.specs.List.{list_any};
 ghost use Rattle.std.specs.Option.{option_map};
@@ -17,6 +17,7 @@ ghost use Rattle.rtp_media_ends.specs.Params.{IsSound};
 
 use super::End;
 use crate::errors::OpenError;
+use crate::finding::{could_receive, could_send};
 use crate::open_stream::OpenStream;
 use crate::params::{Distances, StreamParams};
 use h26x_payload::codec_law;
@@ -61,11 +62,12 @@ impl End {
         codec_law();
         let row = self.sender_row(mid, ssrc, pt)?;
         let exts = self.stream_exts(mid)?;
+        let types = types_of(&row);
         let number = self.streams.len();
         let stream = SendingStream::new(
             self.alloc,
             ssrc,
-            types_of(&row),
+            types,
             exts,
             row_format_of(&row),
             params.picture_id,
@@ -75,6 +77,7 @@ impl End {
             params.limit,
         );
         let stream = with_distances(self.alloc, stream, row.red(), params.red.as_ref())?;
+        self.senders.set_types(ssrc, &types, number)?;
         self.streams.push(OpenStream::Sender(stream))?;
         Ok(number)
     }
@@ -108,6 +111,7 @@ impl End {
         let exts = self.stream_exts(mid)?;
         let number = self.streams.len();
         let format = row_format_of(&row);
+        self.receivers.set_types(ssrc, &types, number)?;
         let stream = ReceivingStream::new(self.alloc, ssrc, types, exts, format, hold_back);
         self.streams.push(OpenStream::Receiver(stream))?;
         Ok(number)
@@ -119,6 +123,7 @@ impl End {
         ensures row { IfOk result (λ r. agreed_row_of self.now.exchange.agreed mid pt ≡ Some r) }
         ensures carried { IfOk result (λ r. is_carried r ≡ true) }
         ensures opens { OnOk result (refusal_of_open_sender self.now mid ssrc pt ≡ None) }
+        ensures free { IfOk result (λ r. list_any (sends_as ssrc (types_of r)) self.now.streams ≡ false) }
         ensures refused { IfErr result (λ e. refusal_of_open_sender self.now mid ssrc pt ≡ Some e) }
     {
         let section = section_named(&self.exchange, mid)?;
@@ -127,7 +132,7 @@ impl End {
             self.exchange.agrees_with(&row),
             section.is_sending(),
             section.names_own(ssrc),
-            could_send(&self.streams, ssrc, &types_of(&row)),
+            could_send(&self.streams, &self.senders, ssrc, &types_of(&row)),
         );
         match refusal {
             None => Ok(row),
@@ -141,6 +146,7 @@ impl End {
         ensures row { IfOk result (λ r. agreed_row_of self.now.exchange.agreed mid pt ≡ Some r) }
         ensures carried { IfOk result (λ r. is_carried r ≡ true) }
         ensures opens { OnOk result (refusal_of_open_receiver self.now mid ssrc pt ≡ None) }
+        ensures free { IfOk result (λ r. list_any (receives_as ssrc (types_of r)) self.now.streams ≡ false) }
         ensures refused { IfErr result (λ e. refusal_of_open_receiver self.now mid ssrc pt ≡ Some e) }
     {
         let section = section_named(&self.exchange, mid)?;
@@ -149,7 +155,7 @@ impl End {
             self.exchange.agrees_with(&row),
             section.is_receiving(),
             section.names_remote(ssrc),
-            could_receive(&self.streams, ssrc, &types_of(&row)),
+            could_receive(&self.streams, &self.receivers, ssrc, &types_of(&row)),
         );
         match refusal {
             None => Ok(row),
@@ -284,18 +290,4 @@ fn with_distances(
         .map(|d| u32::from(*d))
         .collect(alloc)?;
     stream.with_red(red, &distances)
-}
-
-/// Whether one of the streams could send the datagrams of one of this SSRC and these payload types.
-fn could_send(streams: &[OpenStream], ssrc: Ssrc, types: &PayloadTypes) -> bool
-    ensures { result ≡ list_any (sends_as ssrc types.now) streams.now }
-{
-    streams.iter().any(|s| s.sends_as(ssrc, types))
-}
-
-/// Whether one of the streams could take the datagrams of one of this SSRC and these payload types.
-fn could_receive(streams: &[OpenStream], ssrc: Ssrc, types: &PayloadTypes) -> bool
-    ensures { result ≡ list_any (receives_as ssrc types.now) streams.now }
-{
-    streams.iter().any(|s| s.receives_as(ssrc, types))
 }

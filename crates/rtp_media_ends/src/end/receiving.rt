@@ -16,10 +16,11 @@ ghost use Rattle.rtp_media_ends.specs.Ends.{receiver_at, with_receiver, is_recei
 
 use super::End;
 use crate::errors::ReceiveError;
+use crate::finding::stream_for;
 use crate::open_stream::OpenStream;
 use crate::received::Received;
 use rtp_media_streams::{PollFault, ReceivingStream, Unit};
-use rtp_wire::{ExtensionMap, Pt, RtpHeader, Ssrc};
+use rtp_wire::{ExtensionMap, RtpHeader};
 use std::alloc::AllocError;
 
 impl End {
@@ -55,7 +56,13 @@ impl End {
         let Some(header) = header else {
             return Ok(Received::Unreadable);
         };
-        let Some(stream) = stream_for(&self.streams, header.ssrc, header.payload_type) else {
+        let found = stream_for(
+            &self.streams,
+            &self.receivers,
+            header.ssrc,
+            header.payload_type,
+        );
+        let Some(stream) = found else {
             return Ok(Received::Foreign);
         };
         let OpenStream::Receiver(receiver) = &mut self.streams[stream] else {
@@ -176,15 +183,6 @@ impl End {
             OpenStream::Sender(_) => unreachable!(),
         }
     }
-}
-
-/// The number of the stream that takes this SSRC and payload type.
-fn stream_for(streams: &[OpenStream], ssrc: Ssrc, pt: Pt) -> Option<usize>
-    ensures stream { result ≡ stream_for streams.now ssrc pt }
-    ensures within { IfSome result (λ n. n < length streams.now) }
-    ensures receives { IfSome result (λ n. is_sending (nth_stream streams.now n) ≡ false) }
-{
-    streams.iter().position(|s| s.takes(ssrc, pt))
 }
 
 /// The payload that a datagram brings a stream, if there is one and it has a byte.

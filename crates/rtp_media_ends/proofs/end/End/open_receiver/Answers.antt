@@ -1,6 +1,12 @@
-use Rattle.std.proofs.Common.{◌≡◌, ℕ, length, sym, subst₂, arith, true}
+use Rattle.std.proofs.Common.{◌≡◌, ◌∙◌, ℕ, length, sym, subst₂, arith, true, false, ap, ap₂, List}
 use Rattle.std.proofs.lemmas.Grind.{common_steps}
-use Rattle.rtp_media_ends.specs.Ends.{EndState, after_open_receiver, is_receiver_at, new_receiver}
+use Rattle.std.specs.List.{list_any}
+use Rattle.rtp_media_streams.specs.Receiving.{Receiving}
+use Rattle.rtp_media_streams.specs.declared.types.PayloadTypes.{PayloadTypes}
+use Rattle.rtp_media_ends.specs.declared.open_stream.OpenStream.{OpenStream}
+use Rattle.rtp_media_ends.specs.Ends.{EndState, after_open_receiver, is_receiver_at, new_receiver, receives_as}
+use Rattle.rtp_media_ends.specs.Indexed.{AreIndexed}
+use Rattle.rtp_media_ends.proofs.Indexing.{may-receive, receiver-added}
 use Rattle.rtp_media_ends.specs.FullArrival.{HasReceiver}
 use Rattle.rtp_media_ends.specs.contracts.end.End.{the_view}
 use Rattle.rtp_media_ends.proofs.NewReceiver.{opened-receiver}
@@ -14,6 +20,8 @@ returns-clause-receiver c =
       alloc = c.self.inside.alloc;
       exchange = c.self.inside.exchange;
       streams = c.push.new.self;
+      senders = c.self.inside.senders;
+      receivers = c.set_types.new.self;
     })
     ≡ after_open_receiver c.args.self.now c.args.mid c.args.ssrc c.args.pt c.args.hold_back =
     grind (arith, common_steps) in
@@ -29,6 +37,8 @@ returns-clause-receives c =
       alloc = c.self.inside.alloc;
       exchange = c.self.inside.exchange;
       streams = c.push.new.self;
+      senders = c.self.inside.senders;
+      receivers = c.set_types.new.self;
     })
     ≡ after_open_receiver c.args.self.now c.args.mid c.args.ssrc c.args.pt c.args.hold_back =
     grind (arith, common_steps) in
@@ -36,3 +46,35 @@ returns-clause-receives c =
     subst₂ (λ (e : EndState) (n : ℕ). is_receiver_at e n ≡ true) (sym after) number
     (new-receiver-receives c.args.self.now
     (new_receiver c.args.self.now c.args.mid c.args.ssrc c.args.pt c.args.hold_back))
+
+pub invariant_of-self : goal.invariant_of-self
+invariant_of-self c =
+    let free : list_any (receives_as c.args.ssrc c.types_of-types.result) c.self.inside.streams.items ≡ false =
+    ap₂ (λ (t : PayloadTypes) (ss : List OpenStream). list_any (receives_as c.args.ssrc t) ss) c.types_of-types.ensures
+    (ap (λ (e : EndState). e.streams) c.self.view_is) ∙ c.in_ok-row.ensures.free in
+    may-receive c.self.inside.senders c.self.inside.receivers c.set_types.new.self c.self.inside.streams.items c.args.ssrc
+    c.types_of-types.result c.set_types.ensures.others free c.self.invariant
+
+pub invariant_of-self-in_err-push : goal.invariant_of-self-in_err-push
+invariant_of-self-in_err-push c =
+    let free : list_any (receives_as c.args.ssrc c.types_of-types.result) c.self.inside.streams.items ≡ false =
+    ap₂ (λ (t : PayloadTypes) (ss : List OpenStream). list_any (receives_as c.args.ssrc t) ss) c.types_of-types.ensures
+    (ap (λ (e : EndState). e.streams) c.self.view_is) ∙ c.in_ok-row.ensures.free in
+    let same : c.push.new.self.items ≡ c.self.inside.streams.items = grind (arith, common_steps) in
+    rw same
+    (may-receive c.self.inside.senders c.self.inside.receivers c.set_types.new.self c.self.inside.streams.items c.args.ssrc
+    c.types_of-types.result c.set_types.ensures.others free c.self.invariant)
+
+pub invariant_of-self-2 : goal.invariant_of-self-2
+invariant_of-self-2 c =
+    let free : list_any (receives_as c.args.ssrc c.types_of-types.result) c.self.inside.streams.items ≡ false =
+    ap₂ (λ (t : PayloadTypes) (ss : List OpenStream). list_any (receives_as c.args.ssrc t) ss) c.types_of-types.ensures
+    (ap (λ (e : EndState). e.streams) c.self.view_is) ∙ c.in_ok-row.ensures.free in
+    let indexed : AreIndexed c.self.inside.senders c.set_types.new.self c.self.inside.streams.items =
+    may-receive c.self.inside.senders c.self.inside.receivers c.set_types.new.self c.self.inside.streams.items c.args.ssrc
+    c.types_of-types.result c.set_types.ensures.others free c.self.invariant in
+    let number : c.len-number.result ≡ length c.self.inside.streams.items = grind (arith, common_steps) in
+    rw c.in_ok-push.ensures.items
+    (receiver-added c.self.inside.senders c.set_types.new.self c.self.inside.streams.items c.new-stream.result c.args.ssrc
+    c.types_of-types.result c.len-number.result (ap (λ (r : Receiving). r.ssrc) c.new-stream.ensures)
+    (ap (λ (r : Receiving). r.types) c.new-stream.ensures) number indexed c.in_ok-set_types.ensures.set)

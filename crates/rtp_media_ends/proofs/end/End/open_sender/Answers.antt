@@ -1,10 +1,15 @@
-use Rattle.std.proofs.Common.{◌≡◌, ℕ, ◌∙◌, length, sym, subst, subst₂, arith, true}
+use Rattle.std.proofs.Common.{◌≡◌, ℕ, ◌∙◌, length, sym, subst, subst₂, arith, true, false, ap, ap₂, List}
 use Rattle.std.proofs.lemmas.Grind.{common_steps}
 use Rattle.std.specs.Prelude.{Option}
+use Rattle.std.specs.List.{list_any}
 use Rattle.sdp_formats_rows.specs.Rows.{Row}
-use Rattle.rtp_media_streams.specs.Sending.{opened_sender}
+use Rattle.rtp_media_streams.specs.Sending.{Sending, opened_sender}
+use Rattle.rtp_media_streams.specs.declared.types.PayloadTypes.{PayloadTypes}
+use Rattle.rtp_media_ends.specs.declared.open_stream.OpenStream.{OpenStream}
 use Rattle.rtp_media_ends.specs.Ends.{EndState, after_open_sender, is_sender_at, new_sender, red_in, row_format_of}
-use Rattle.rtp_media_ends.specs.Ends.{types_of, with_distances}
+use Rattle.rtp_media_ends.specs.Ends.{sends_as, types_of, with_distances}
+use Rattle.rtp_media_ends.specs.Indexed.{AreIndexed}
+use Rattle.rtp_media_ends.proofs.Indexing.{may-send, same-ssrc, same-types, sender-added}
 use Rattle.rtp_media_ends.specs.contracts.end.End.{the_view}
 use Rattle.rtp_media_ends.specs.FullArrival.{IsSender}
 use Rattle.rtp_media_ends.specs.Params.{IsSound}
@@ -32,6 +37,8 @@ returns-clause-sends c =
       alloc = c.self.inside.alloc;
       exchange = c.self.inside.exchange;
       streams = c.push.new.self;
+      senders = c.set_types.new.self;
+      receivers = c.self.inside.receivers;
     })
     ≡ after_open_sender c.args.self.now c.args.mid c.args.ssrc c.args.pt c.args.params =
     grind (arith, common_steps) in
@@ -39,3 +46,42 @@ returns-clause-sends c =
     subst₂ (λ (e : EndState) (n : ℕ). is_sender_at e n ≡ true) (sym after) number
     (new-sender-sends c.args.self.now
     (new_sender c.args.self.now c.args.mid c.args.ssrc c.args.pt c.args.params))
+
+pub invariant_of-self : goal.invariant_of-self
+invariant_of-self c =
+    let free : list_any (sends_as c.args.ssrc c.types_of-types.result) c.self.inside.streams.items ≡ false =
+    ap₂ (λ (t : PayloadTypes) (ss : List OpenStream). list_any (sends_as c.args.ssrc t) ss) c.types_of-types.ensures
+    (ap (λ (e : EndState). e.streams) c.self.view_is) ∙ c.in_ok-row.ensures.free in
+    may-send c.self.inside.senders c.set_types.new.self c.self.inside.receivers c.self.inside.streams.items c.args.ssrc
+    c.types_of-types.result c.set_types.ensures.others free c.self.invariant
+
+pub invariant_of-self-in_err-push : goal.invariant_of-self-in_err-push
+invariant_of-self-in_err-push c =
+    let free : list_any (sends_as c.args.ssrc c.types_of-types.result) c.self.inside.streams.items ≡ false =
+    ap₂ (λ (t : PayloadTypes) (ss : List OpenStream). list_any (sends_as c.args.ssrc t) ss) c.types_of-types.ensures
+    (ap (λ (e : EndState). e.streams) c.self.view_is) ∙ c.in_ok-row.ensures.free in
+    let same : c.push.new.self.items ≡ c.self.inside.streams.items = grind (arith, common_steps) in
+    rw same
+    (may-send c.self.inside.senders c.set_types.new.self c.self.inside.receivers c.self.inside.streams.items c.args.ssrc
+    c.types_of-types.result c.set_types.ensures.others free c.self.invariant)
+
+pub invariant_of-self-2 : goal.invariant_of-self-2
+invariant_of-self-2 c =
+    let free : list_any (sends_as c.args.ssrc c.types_of-types.result) c.self.inside.streams.items ≡ false =
+    ap₂ (λ (t : PayloadTypes) (ss : List OpenStream). list_any (sends_as c.args.ssrc t) ss) c.types_of-types.ensures
+    (ap (λ (e : EndState). e.streams) c.self.view_is) ∙ c.in_ok-row.ensures.free in
+    let indexed : AreIndexed c.set_types.new.self c.self.inside.receivers c.self.inside.streams.items =
+    may-send c.self.inside.senders c.set_types.new.self c.self.inside.receivers c.self.inside.streams.items c.args.ssrc
+    c.types_of-types.result c.set_types.ensures.others free c.self.invariant in
+    let number : c.len-number.result ≡ length c.self.inside.streams.items = grind (arith, common_steps) in
+    let opened : Sending = opened_sender c.args.ssrc c.types_of-types.result c.in_ok-exts.exts
+    c.row_format_of.result c.args.params.picture_id c.args.params.for_browsers c.args.params.first c.args.params.mtu
+    c.args.params.limit in
+    let stream : c.in_ok-stream.stream ≡ with_distances opened c.in_ok-row.row.red c.args.params.red =
+    grind (arith, common_steps) in
+    rw c.in_ok-push.ensures.items
+    (sender-added c.set_types.new.self c.self.inside.receivers c.self.inside.streams.items c.in_ok-stream.stream
+    c.args.ssrc c.types_of-types.result c.len-number.result
+    (ap (λ (x : Sending). x.ssrc) stream ∙ same-ssrc opened c.in_ok-row.row.red c.args.params.red)
+    (ap (λ (x : Sending). x.types) stream ∙ same-types opened c.in_ok-row.row.red c.args.params.red) number indexed
+    c.in_ok-set_types.ensures.set)

@@ -4,6 +4,7 @@ use Rattle.rtp_media_ends.specs.declared.open_stream.OpenStream.{OpenStream}
 use Rattle.rtp_media_ends.specs.Ends.{EndState, receiver_at}
 use Rattle.rtp_media_ends.specs.FullArrival.{after_datagrams, ArePolledOut}
 use Rattle.rtp_media_ends.proofs.Exact.{exact}
+use Rattle.rtp_media_ends.proofs.Indexing.{polled-out, polled-some}
 use Rattle.rtp_media_ends.proofs.Isolation.{found-after}
 use Rattle.rtp_media_ends.proofs.Stopping.{out-of}
 use Rattle.rtp_media_ends.proofs.end.End.receive_all.Goals as goal
@@ -23,3 +24,13 @@ returns-clause-exact c stream hold_back sender samples arrivals all =
     exact c.codec_law.ensures.codec_in_forms c.args.self.now stream hold_back sender samples arrivals
     c.args.datagrams.now _ _ all
     (out-of _ _ _ there.1 (polled.each stream there.0))
+
+pub invariant_of-self : goal.invariant_of-self
+invariant_of-self c =
+    polled-some c.self.inside.senders c.self.inside.receivers c.self.inside.streams.items c.poll_each.new.streams.items
+    c.in_err-polls.ensures.some c.self.invariant
+
+pub invariant_of-self-2 : goal.invariant_of-self-2
+invariant_of-self-2 c =
+    polled-out c.self.inside.senders c.self.inside.receivers c.self.inside.streams.items c.poll_each.new.streams.items
+    c.in_ok-polls.polls.items c.in_ok-polls.ensures.out c.self.invariant

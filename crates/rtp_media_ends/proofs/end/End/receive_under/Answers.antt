@@ -1,0 +1,15 @@
+use Rattle.std.proofs.Common.{◌≡◌, arith, ap}
+use Rattle.std.proofs.lemmas.Grind.{common_steps}
+use Rattle.rtp_media_streams.specs.Receiving.{Receiving}
+use Rattle.rtp_media_ends.specs.declared.open_stream.OpenStream.TheVariants.{Receiver}
+use Rattle.rtp_media_ends.specs.Ends.{nth_stream}
+use Rattle.rtp_media_ends.proofs.Indexing.{kept-receiver}
+use Rattle.rtp_media_ends.proofs.end.End.receive_under.Goals as goal
+
+pub invariant_of-self-2 : goal.invariant_of-self-2
+invariant_of-self-2 c =
+    let is : nth_stream c.self.inside.streams.items c.in-Some-found.stream ≡ Receiver c.in-Receiver.receiver =
+    grind (arith, common_steps) in
+    kept-receiver c.self.inside.senders c.self.inside.receivers c.self.inside.streams.items c.in-Some-found.stream
+    c.in-Receiver.receiver c.receive.new.self is (ap (λ (r : Receiving). r.ssrc) c.in_ok-taken.ensures.after)
+    (ap (λ (r : Receiving). r.types) c.in_ok-taken.ensures.after) c.self.invariant
