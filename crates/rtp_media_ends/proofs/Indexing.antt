@@ -25,7 +25,8 @@ use Rattle.rtp_media_ends.proofs.NewReceiver.{not-taken, shares}
 
 -- ---- found
 
-module _ (has : ℕ → ℕ → OpenStream → Bool) (ss : List OpenStream) (index : StreamIndex) (indexed : IsIndexed has index ss)
+module _ (has : ℕ → ℕ → OpenStream → Bool) (ss : List OpenStream) (index : StreamIndex)
+    (indexed : IsIndexed has index ss)
     (ssrc pt : ℕ) where
   place : tested (has ssrc pt) ss (Receiver no_receiver) (number_at index ssrc pt) ≡ position (has ssrc pt) ss
   place = looked-up (has ssrc pt) ss (Receiver no_receiver) (number_at index ssrc pt) (λ n. indexed n ssrc pt)
@@ -171,7 +172,8 @@ module _ (has : ℕ → ℕ → OpenStream → Bool) (conflicts : ℕ → Payloa
       → list_any (conflicts ssrc types) ss ≡ false → IsIndexed has before ss → IsIndexed has after ss
   others-stand before after ss ssrc types others free indexed n s p lt own = by (is_key_of ssrc types s p) refl where
     apart : (b : Bool) → conflicts ssrc types (nth_stream ss n) ≡ b → b ≡ false
-    apart true is = absurd (true≢false (sym (list_any_at (conflicts ssrc types) ss n (Receiver no_receiver) lt is) ∙ free))
+    apart true is =
+        absurd (true≢false (sym (list_any_at (conflicts ssrc types) ss n (Receiver no_receiver) lt is) ∙ free))
     apart false is = refl
 
     by : (b : Bool) → is_key_of ssrc types s p ≡ b → number_at after s p ≡ Some n

@@ -13,7 +13,8 @@ equal Less e = grind (arith, common_steps, e)
 equal Equal e = refl
 equal Greater e = grind (arith, common_steps, e)
 
-by_cases : (a b s p : ℕ) (at : Bool) → is_eq (ordering_then (nat_cmp a s) (nat_cmp b p)) ≡ at → is_key a b s p ≡ false → at ≡ false
+by_cases : (a b s p : ℕ) (at : Bool) → is_eq (ordering_then (nat_cmp a s) (nat_cmp b p)) ≡ at
+    → is_key a b s p ≡ false → at ≡ false
 by_cases a b s p false e n = refl
 by_cases a b s p true e n =
     let same = exact_pairs nat_cmp nat_cmp exact_unsigned exact_unsigned (a, b) (s, p) (equal _ e) in
@@ -21,5 +22,6 @@ by_cases a b s p true e n =
     let pt : b ≡ p = ap (λ (x : ℕ × ℕ). x.1) same in
     grind (arith, common_steps, ssrc, pt, n)
 
-pub other-key : (a b s p : ℕ) → is_key a b s p ≡ false → is_at (key_cmp (record { ssrc = a; pt = b })) (record { ssrc = s; pt = p }) ≡ false
+pub other-key : (a b s p : ℕ) → is_key a b s p ≡ false
+    → is_at (key_cmp (record { ssrc = a; pt = b })) (record { ssrc = s; pt = p }) ≡ false
 other-key a b s p n = by_cases a b s p _ refl n

@@ -14,11 +14,13 @@ second true b h = absurd (true≢false h)
 pub returns-then-is_taken : goal.returns-then-is_taken
 returns-then-is_taken c =
     first c.is_taken.result c.is_taken_as_red-by_red.result c.if-is_taken.true
-    ∙ could-take c.args.ssrc c.args.types.now c.args.streams.now c.is_taken.result c.is_taken_as_red-by_red.result c.is_taken.ensures
+    ∙ could-take c.args.ssrc c.args.types.now c.args.streams.now c.is_taken.result c.is_taken_as_red-by_red.result
+    c.is_taken.ensures
     c.is_taken_as_red-by_red.ensures
 
 pub returns-else-is_taken : goal.returns-else-is_taken
 returns-else-is_taken c =
     second c.is_taken.result c.is_taken_as_red-by_red.result c.if-is_taken.false
-    ∙ could-take c.args.ssrc c.args.types.now c.args.streams.now c.is_taken.result c.is_taken_as_red-by_red.result c.is_taken.ensures
+    ∙ could-take c.args.ssrc c.args.types.now c.args.streams.now c.is_taken.result c.is_taken_as_red-by_red.result
+    c.is_taken.ensures
     c.is_taken_as_red-by_red.ensures

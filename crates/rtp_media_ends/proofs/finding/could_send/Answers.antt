@@ -14,11 +14,13 @@ second true b h = absurd (true≢false h)
 pub returns-then-is_sent : goal.returns-then-is_sent
 returns-then-is_sent c =
     first c.is_sent.result c.is_sent_as_red-by_red.result c.if-is_sent.true
-    ∙ could-be-sent c.args.ssrc c.args.types.now c.args.streams.now c.is_sent.result c.is_sent_as_red-by_red.result c.is_sent.ensures
+    ∙ could-be-sent c.args.ssrc c.args.types.now c.args.streams.now c.is_sent.result c.is_sent_as_red-by_red.result
+    c.is_sent.ensures
     c.is_sent_as_red-by_red.ensures
 
 pub returns-else-is_sent : goal.returns-else-is_sent
 returns-else-is_sent c =
     second c.is_sent.result c.is_sent_as_red-by_red.result c.if-is_sent.false
-    ∙ could-be-sent c.args.ssrc c.args.types.now c.args.streams.now c.is_sent.result c.is_sent_as_red-by_red.result c.is_sent.ensures
+    ∙ could-be-sent c.args.ssrc c.args.types.now c.args.streams.now c.is_sent.result c.is_sent_as_red-by_red.result
+    c.is_sent.ensures
     c.is_sent_as_red-by_red.ensures

@@ -52,7 +52,8 @@ invariant_of-self c =
     let free : list_any (receives_as c.args.ssrc c.types_of-types.result) c.self.inside.streams.items ≡ false =
     ap₂ (λ (t : PayloadTypes) (ss : List OpenStream). list_any (receives_as c.args.ssrc t) ss) c.types_of-types.ensures
     (ap (λ (e : EndState). e.streams) c.self.view_is) ∙ c.in_ok-row.ensures.free in
-    may-receive c.self.inside.senders c.self.inside.receivers c.set_types.new.self c.self.inside.streams.items c.args.ssrc
+    may-receive c.self.inside.senders c.self.inside.receivers c.set_types.new.self c.self.inside.streams.items
+    c.args.ssrc
     c.types_of-types.result c.set_types.ensures.others free c.self.invariant
 
 pub invariant_of-self-in_err-push : goal.invariant_of-self-in_err-push
@@ -62,7 +63,8 @@ invariant_of-self-in_err-push c =
     (ap (λ (e : EndState). e.streams) c.self.view_is) ∙ c.in_ok-row.ensures.free in
     let same : c.push.new.self.items ≡ c.self.inside.streams.items = grind (arith, common_steps) in
     rw same
-    (may-receive c.self.inside.senders c.self.inside.receivers c.set_types.new.self c.self.inside.streams.items c.args.ssrc
+    (may-receive c.self.inside.senders c.self.inside.receivers c.set_types.new.self c.self.inside.streams.items
+    c.args.ssrc
     c.types_of-types.result c.set_types.ensures.others free c.self.invariant)
 
 pub invariant_of-self-2 : goal.invariant_of-self-2
@@ -71,10 +73,12 @@ invariant_of-self-2 c =
     ap₂ (λ (t : PayloadTypes) (ss : List OpenStream). list_any (receives_as c.args.ssrc t) ss) c.types_of-types.ensures
     (ap (λ (e : EndState). e.streams) c.self.view_is) ∙ c.in_ok-row.ensures.free in
     let indexed : AreIndexed c.self.inside.senders c.set_types.new.self c.self.inside.streams.items =
-    may-receive c.self.inside.senders c.self.inside.receivers c.set_types.new.self c.self.inside.streams.items c.args.ssrc
+    may-receive c.self.inside.senders c.self.inside.receivers c.set_types.new.self c.self.inside.streams.items
+    c.args.ssrc
     c.types_of-types.result c.set_types.ensures.others free c.self.invariant in
     let number : c.len-number.result ≡ length c.self.inside.streams.items = grind (arith, common_steps) in
     rw c.in_ok-push.ensures.items
-    (receiver-added c.self.inside.senders c.set_types.new.self c.self.inside.streams.items c.new-stream.result c.args.ssrc
+    (receiver-added c.self.inside.senders c.set_types.new.self c.self.inside.streams.items c.new-stream.result
+    c.args.ssrc
     c.types_of-types.result c.len-number.result (ap (λ (r : Receiving). r.ssrc) c.new-stream.ensures)
     (ap (λ (r : Receiving). r.types) c.new-stream.ensures) number indexed c.in_ok-set_types.ensures.set)

@@ -28,7 +28,8 @@ same-at (Err Memory) x y time values bytes after unchanged failed =
     (ap (λ (s : Sending). s.ssrc) (failed refl), ap (λ (s : Sending). s.types) (failed refl))
 same-at (Err StreamFailed) x y time values bytes after unchanged failed = same (unchanged (grind (arith, common_steps)))
 same-at (Err TimeTooLarge) x y time values bytes after unchanged failed = same (unchanged (grind (arith, common_steps)))
-same-at (Err LimitTooSmall) x y time values bytes after unchanged failed = same (unchanged (grind (arith, common_steps)))
+same-at (Err LimitTooSmall) x y time values bytes after unchanged failed =
+    same (unchanged (grind (arith, common_steps)))
 same-at (Err (Payload p)) x y time values bytes after unchanged failed = same (unchanged (grind (arith, common_steps)))
 
 pub invariant_of-self : goal.invariant_of-self
