@@ -1,6 +1,6 @@
 #!/usr/bin/env python3
 """Writes what `crates/round_lines` reads and must answer: rounds of rows, worked out with an array of marks from the
-rules of negotiation alone, beside rounds that were put together by hand.
+rules of negotiation alone, beside rounds that were put together by hand, and rows, formats and configs by hand.
 
 Run it with `python3 docs/vectors/rounds.py`. Random rounds come from a fixed seed.
 """
@@ -354,19 +354,98 @@ def by_hand():
     yield "round sendrecv", "ok | 9 - 63 locked cc G722 -  | 0 - - locked cc PCMU - "
 
 
-def default_rows():
-    """The rows of a config with all defaults."""
+def default_rows(*names):
+    """The default rows of these codecs, in this order; `red` behind a name gives them a RED type."""
     asym = {"level_asymmetry_allowed": True}
-    yield audio("opus", 111, 48000, channels=2, minptime=10, useinbandfec=True)
-    yield video("VP8", 96, 97)
-    for pt, rtx, mode, number in [(127, 121, 1, 0x42001F), (125, 107, 0, 0x42001F), (108, 109, 1, 0x42E01F),
-                                  (124, 120, 0, 0x42E01F), (123, 119, 1, 0x4D001F), (35, 36, 0, 0x4D001F),
-                                  (114, 115, 1, 0x64001F)]:
-        yield video("H264", pt, rtx, packetization_mode=mode, profile_level_id=number, **asym)
-    yield video("H265", 102, 103, h265=(1, 0, 180))
-    yield video("VP9", 98, 99, profile_id=0)
-    yield video("VP9", 100, 101, profile_id=2)
-    yield video("AV1", 45, 46)
+    for name in names:
+        codec, _, red = name.partition(" ")
+        if codec == "opus":
+            yield audio(codec, 111, 48000, red and 63 or None, channels=2, minptime=10, useinbandfec=True)
+        elif codec in ("PCMU", "PCMA", "G722"):
+            pt, clock, red_type = {"PCMU": (0, 8000, 61), "PCMA": (8, 8000, 60), "G722": (9, 16000, 62)}[codec]
+            yield audio(codec, pt, clock, red and red_type or None)
+        elif codec == "CN":
+            yield audio(codec, 13, 8000)
+        elif codec == "AMR-WB":
+            yield audio(codec, 122, 16000, channels=1, octet_align=True)
+        elif codec == "H264":
+            for pt, rtx, mode, number in [(127, 121, 1, 0x42001F), (125, 107, 0, 0x42001F), (108, 109, 1, 0x42E01F),
+                                          (124, 120, 0, 0x42E01F), (123, 119, 1, 0x4D001F), (35, 36, 0, 0x4D001F),
+                                          (114, 115, 1, 0x64001F)]:
+                yield video(codec, pt, rtx, packetization_mode=mode, profile_level_id=number, **asym)
+        elif codec == "H265":
+            yield video(codec, 102, 103, h265=(1, 0, 180))
+        elif codec == "H266":
+            yield video(codec, 104, 105, h266=(1, 0, 96))
+        elif codec == "VP9":
+            yield video(codec, 98, 99, profile_id=0)
+            yield video(codec, 100, 101, profile_id=2)
+        else:
+            yield video(codec, *{"VP8": (96, 97), "AV1": (45, 46)}[codec])
+
+
+def formats():
+    """Format parameters that a text gives: the text, and the parameters alone."""
+    yield "# Format parameters, read and printed", None
+    for text, fmt in [("octet-align=1; mode-set=0, 1,2;max-red=220", {"octet-align": True, "mode-set": 7}),
+                      ("profile-level-id=1f;packetization-mode=1", {"packetization-mode": 1, "profile-level-id": 0x1F}),
+                      ("0-16;useinbandfec=1", {"useinbandfec": True, "events": 16}),
+                      ("mode-set=0,9", {}), (" 0-16 ", {"events": 16}), ("0-+1", {}),
+                      ("MinPTime=10;minptime=x;profile-id=2", {"minptime": 10, "profile-id": 2}),
+                      ("tier=1;tier=x;level-id=93;profile-id=1", {"h265": (1, 0, 93)})]:
+        yield f"format {text}", fmt_text(fmt)
+
+
+def feedback_and_equality():
+    """Each flag is put by its own setter; rows are equal where all but their locks are."""
+    flags = ["cc", "nack", "pli", "fir", "remb"]
+    yield "# Feedback of a new row, and with one flag off", None
+    for off in ["-", *flags]:
+        yield f"feedback {off} VP8 90000 - -", " ".join("-" if flag == off else flag for flag in flags)
+    yield "feedback - opus 48000 2 -", "cc - - - -"
+    yield "# Equality ignores the lock", None
+    row, with_red = "96 - - cc VP8 90000 - -", "96 - 63 cc VP8 90000 - -"
+    yield f"equal open {row} locked {row}", "equal"
+    yield f"equal open {row} open {with_red}", "unequal"
+
+
+def counted(rows):
+    return str(len(rows)) + "".join(f" | {row_answer(r)}" for r in rows)
+
+
+def enabled(*names):
+    """The lines that enable these codecs, and the rows that an end has then, if it had none."""
+    for name in names:
+        yield f"enable {name}" + ("" if name.endswith(" red") else " -"), "ok"
+    yield "rows", counted(list(default_rows(*names)))
+
+
+def configs():
+    """Default rows of codecs, and the distances of redundancy."""
+    opus, = default_rows("opus")
+    vp8, = default_rows("VP8")
+    yield "# Opus is replaced, behind all others, and dropped", None
+    yield "fresh", "ok"
+    for line in ["enable opus red", "enable VP8 -", "enable opus -"]:
+        yield line, "ok"
+    yield "rows", counted([vp8, opus])
+    yield "disable opus -", "ok"
+    yield "rows", counted([vp8])
+    yield "clear", "ok"
+    yield "rows", "0"
+    yield "# Audio and video are enabled", None
+    yield "fresh", "ok"
+    yield from enabled("PCMU red", "PCMA red", "G722 red", "CN", "AMR-WB")
+    yield "fresh", "ok"
+    yield from enabled("H265", "H266", "opus red")
+    yield "fresh", "ok"
+    yield from enabled("H264", "VP9", "AV1")
+    yield "add 126 telephone-event 8000 - -", "ok"
+    yield "rows", counted([*default_rows("H264", "VP9", "AV1"), audio("telephone-event", 126, 8000)])
+    yield "# Distances are put in order", None
+    yield "distances", "[1]"
+    yield "distances 5 1 0 3 3 1 999", "[1, 3, 5]"
+    yield "distances 4 2", "[1, 2, 4]"
 
 
 def rows_move_away():
@@ -377,7 +456,7 @@ def rows_move_away():
     yield from lines_of("Own types in place of claimed ones",
                         [h264(96, 97, 0x42E01F, locked=True), video("VP8", 110, 111)],
                         [([video("VP8", 96, 97)], "sendonly")])
-    own = list(default_rows())
+    own = list(default_rows("opus", "VP8", "H264", "H265", "VP9", "AV1"))
     remote = [h264(103, 104, 0x42001F), h264(109, 114, 0x42E01F), h264(117, 118, 0x4D001F)]
     after, answer = run_round(own, remote, "sendonly")
     kinds = [(r.pt, r.rtx, r.locked) for r in after]
@@ -473,7 +552,8 @@ def random_rounds(seed, count):
 
 
 def main():
-    rows = [*by_hand(), *rows_move_away(), *no_type_is_left(), *random_rounds(1, 300)]
+    rows = [*by_hand(), *formats(), *feedback_and_equality(), *configs(), *rows_move_away(), *no_type_is_left(),
+            *random_rounds(1, 300)]
     read, told = [], []
     for line, answer in rows:
         read.append(line)

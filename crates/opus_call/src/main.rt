@@ -1,14 +1,21 @@
 //! Calls between two ends, proved: they agree on a codec, one sends three samples, and the other hands out just these,
-//! in order, though the second arrives last. The codecs are Opus, G.711 and G.722, with redundancy and without.
+//! in order, though the second arrives last. The codecs are Opus, G.711 and G.722, with redundancy and without. Behind
+//! them stand worked rows, which are compared and not proved.
 #![tactic(auto)]
 
 mod carrying;
+mod rows;
+mod sessions;
 mod setting;
 mod silence;
 mod stopped;
 
 use carrying::carry;
+use rows::{a_time_in_milliseconds, a_time_that_does_not_fit, receive_all_hands_out_in_order};
 use rtp_media::{Codec, Distances, Played};
+use sessions::{
+    lines_that_would_be_read_otherwise_are_refused, offers_say_the_lines_of_the_session,
+};
 use setting::{end_of, section, short_samples};
 use std::alloc::Global;
 use std::io;
@@ -16,7 +23,7 @@ use std::process::ExitCode;
 use stopped::Stopped;
 
 /// Prints for each codec what comes out at the end that receives: without redundancy, and with each payload behind the
-/// one before.
+/// one before. Then a line for each worked row; the status is 1 where one is wrong.
 fn main(rt: HostRuntime) -> ExitCode {
     for codec in [Codec::Opus, Codec::PCMU, Codec::PCMA, Codec::G722] {
         for has_red in [false, true] {
@@ -32,7 +39,14 @@ fn main(rt: HostRuntime) -> ExitCode {
             }
         }
     }
-    ExitCode::from(0)
+    match print_rows(&rt, rt.alloc()) {
+        Ok(true) => ExitCode::from(0),
+        Ok(false) => ExitCode::from(1),
+        Err(fault) => {
+            let _ = eprintln!(rt; "{fault}");
+            ExitCode::from(1)
+        }
+    }
 }
 
 /// A call of ends whose rows have a RED type, or none.
@@ -68,4 +82,34 @@ fn print(rt: &impl Print, codec: Codec, all: &[Played]) -> io::Result<()> {
         }
     }
     Ok(())
+}
+
+/// A line for each row that the program's lines can't say, and whether all are as they must be.
+fn print_rows(rt: &impl Print, alloc: Global) -> anyhow::Result<bool> {
+    let rows = [
+        (
+            "row 12, receive_all",
+            receive_all_hands_out_in_order(alloc)?,
+        ),
+        (
+            "row 20, a time that does not fit",
+            a_time_that_does_not_fit(alloc)?,
+        ),
+        ("a time in milliseconds", a_time_in_milliseconds(alloc)?),
+        (
+            "an offer with lines of the session",
+            offers_say_the_lines_of_the_session(alloc)?,
+        ),
+        (
+            "lines that would be read otherwise",
+            lines_that_would_be_read_otherwise_are_refused(alloc)?,
+        ),
+    ];
+    let mut all_are_right = true;
+    for (name, is_right) in rows {
+        let word = if is_right { "ok" } else { "wrong" };
+        println!(rt; "{name}: {word}")?;
+        all_are_right &= is_right;
+    }
+    Ok(all_are_right)
 }

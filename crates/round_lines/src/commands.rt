@@ -1,6 +1,8 @@
 //! The commands.
 
+use crate::configs::{distances, enable};
 use crate::printing::{refusal_text, rows_text};
+use crate::row::{equal, feedback, format_text};
 use crate::words::{next_number, next_row, next_spec, next_word};
 use anyhow::anyhow;
 use sdp_formats_config::{CodecConfig, Direction, PayloadParams, Pt};
@@ -33,20 +35,44 @@ pub fn answer(alloc: Global, rows: &mut Rows, line: &str) -> anyhow::Result<Stri
     if command == "#" {
         return Ok(String::from_str(alloc, line)?);
     }
-    if command == "score" {
-        return score(alloc, &mut words);
+    if command == "format" {
+        return format_text(alloc, line);
     }
-    if command == "find" {
-        return find(alloc, rows, Pt::new_with_value(next_number(&mut words)?));
-    }
-    if command == "round" {
-        return round(alloc, rows, Direction::from(next_word(&mut words)?));
+    if let Some(text) = report(alloc, rows, command, &mut words)? {
+        return Ok(text);
     }
     change(alloc, rows, command, &mut words)?;
     Ok(String::from_str(alloc, "ok")?)
 }
 
-// Rows put behind the others, or none left.
+// What a command gives that tells something; None at another one.
+fn report(
+    alloc: Global,
+    rows: &mut Rows,
+    command: &str,
+    words: &mut SplitWhitespace<'_>,
+) -> anyhow::Result<Option<String>> {
+    let text = if command == "score" {
+        score(alloc, words)?
+    } else if command == "feedback" {
+        feedback(alloc, words)?
+    } else if command == "equal" {
+        equal(alloc, words)?
+    } else if command == "distances" {
+        distances(alloc, &mut rows.own, words)?
+    } else if command == "find" {
+        find(alloc, rows, Pt::new_with_value(next_number(words)?))?
+    } else if command == "rows" {
+        own_rows(alloc, rows)?
+    } else if command == "round" {
+        round(alloc, rows, Direction::from(next_word(words)?))?
+    } else {
+        return Ok(None);
+    };
+    Ok(Some(text))
+}
+
+// Rows put behind the others or in place of some, or none left.
 fn change(
     alloc: Global,
     rows: &mut Rows,
@@ -57,6 +83,14 @@ fn change(
         *rows = Rows::new(alloc);
     } else if command == "defaults" {
         rows.own = CodecConfig::new_with_defaults(alloc)?;
+    } else if command == "enable" {
+        enable(&mut rows.own, true, words)?;
+    } else if command == "disable" {
+        enable(&mut rows.own, false, words)?;
+    } else if command == "add" {
+        add(rows, words)?;
+    } else if command == "clear" {
+        rows.own.clear();
     } else if command == "other" {
         rows.remote = Vec::new(alloc);
     } else if command == "own" {
@@ -75,6 +109,21 @@ fn change(
 
 fn push_own(rows: &mut Rows, row: PayloadParams) -> anyhow::Result<()> {
     rows.own.push(row)?;
+    Ok(())
+}
+
+// `add TYPE SPEC`: a new row of a codec behind the others.
+fn add(rows: &mut Rows, words: &mut SplitWhitespace<'_>) -> anyhow::Result<()> {
+    let pt = Pt::new_with_value(next_number(words)?);
+    let spec = next_spec(words)?;
+    rows.own.add_config(
+        pt,
+        None,
+        spec.codec,
+        spec.clock_rate,
+        spec.channels,
+        spec.format,
+    )?;
     Ok(())
 }
 
@@ -97,6 +146,13 @@ fn find(alloc: Global, rows: &Rows, pt: Pt) -> anyhow::Result<String> {
         }
         None => Ok(String::from_str(alloc, "none")?),
     }
+}
+
+// `rows`: how many own rows there are, and which.
+fn own_rows(alloc: Global, rows: &Rows) -> anyhow::Result<String> {
+    let count = rows.own.params().len();
+    let text = rows_text(alloc, rows.own.params())?;
+    Ok(format!(in alloc; "{count}{text}")?)
 }
 
 // `round DIRECTION`: what a round with the other end's rows leaves.

@@ -1,9 +1,11 @@
-//! Runs rounds of rows, a line of standard input after the other. Its transcript holds rows and what rounds leave of
-//! them, which a model that shares no code with the project worked out.
+//! Runs rounds of rows, a line of standard input after the other, and commands on rows, formats and configs. Its
+//! transcript holds rows and what rounds leave of them, which a model that shares no code with the project worked out.
 #![tactic(auto)]
 
 mod commands;
+mod configs;
 mod printing;
+mod row;
 mod words;
 
 use commands::{Rows, answer};

@@ -1,5 +1,7 @@
 -- What an exchange agreed on, and which streams it allows.
 use Rattle.std.specs.Prelude.{◌≡◌, ℕ, Bool, true, false, ◌&&◌, ◌==◌, List, [], ◌∷◌, Option, Some, None, find}
+use Rattle.std.specs.BTreeSet.{BTreeSet, contains}
+use Rattle.std.specs.Ordering.{nat_cmp}
 use Rattle.std.specs.Str.{bytes_eq}
 use Rattle.std.specs.List.{list_any}
 use Rattle.std.specs.Option.{option_map}
@@ -116,6 +118,10 @@ map_of_text lines mid = option_map (λ m. map_of_lines m.attrs) (line_of lines m
 -- Whether an SSRC is among these.
 abbrev pub is_named : List ℕ → ℕ → Bool
 is_named ssrcs ssrc = list_any (λ s. s == ssrc) ssrcs
+
+-- A set of SSRCs has those of a list.
+abbrev pub IsSetOf : List ℕ → BTreeSet ℕ → Type 0
+IsSetOf ssrcs set = (ssrc : ℕ) → contains nat_cmp set ssrc ≡ is_named ssrcs ssrc
 
 -- one codec at one clock rate with one number of channels
 abbrev pub same_codec : CodecSpec → CodecSpec → Bool

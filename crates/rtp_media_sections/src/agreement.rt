@@ -8,6 +8,7 @@ ghost use Rattle.rtp_media_sections.specs.Agreement.{row_in, shape_of_agreed};
 use crate::extmaps::map_of_lines;
 use crate::read::{kind_of, mid_of, ssrcs_of};
 use crate::section::{SectionSpec, Shape};
+use crate::ssrc_list::SsrcList;
 use payload_core_base::MediaKind;
 use rtp_wire::{ExtensionMap, Mid, Pt, Ssrc};
 use sdp_formats_config::CodecConfig;
@@ -24,8 +25,8 @@ pub struct AgreedSection {
     kind: MediaKind,
     rows: Vec<PayloadParams>,
     exts: ExtensionMap,
-    own_ssrcs: Vec<Ssrc>,
-    remote_ssrcs: Vec<Ssrc>,
+    own_ssrcs: SsrcList,
+    remote_ssrcs: SsrcList,
     sends: bool,
     receives: bool,
 }
@@ -56,8 +57,8 @@ impl Model for AgreedSection {
       kind = a.kind;
       rows = a.rows.items;
       map = a.exts;
-      own_ssrcs = a.own_ssrcs.items;
-      remote_ssrcs = a.remote_ssrcs.items;
+      own_ssrcs = a.own_ssrcs;
+      remote_ssrcs = a.remote_ssrcs;
       sends = a.sends;
       receives = a.receives;
     } };
@@ -81,8 +82,8 @@ impl AgreedSection {
             kind: MediaKind::Audio,
             rows,
             exts: ExtensionMap::empty(),
-            own_ssrcs: vec![in alloc; Ssrc::from(44)]?,
-            remote_ssrcs: vec![in alloc; Ssrc::from(44)]?,
+            own_ssrcs: SsrcList::of(alloc, vec![in alloc; Ssrc::from(44)]?)?,
+            remote_ssrcs: SsrcList::of(alloc, vec![in alloc; Ssrc::from(44)]?)?,
             sends: true,
             receives: true,
         })
@@ -141,22 +142,15 @@ impl AgreedSection {
     pub fn names_own(&self, ssrc: Ssrc) -> bool
         ensures { result ≡ is_named self.now.own_ssrcs ssrc }
     {
-        names(&self.own_ssrcs, ssrc)
+        self.own_ssrcs.names(ssrc)
     }
 
     /// Whether the other end names the SSRC.
     pub fn names_remote(&self, ssrc: Ssrc) -> bool
         ensures { result ≡ is_named self.now.remote_ssrcs ssrc }
     {
-        names(&self.remote_ssrcs, ssrc)
+        self.remote_ssrcs.names(ssrc)
     }
-}
-
-/// Whether the SSRC is among these.
-fn names(ssrcs: &[Ssrc], ssrc: Ssrc) -> bool
-    ensures { result ≡ is_named ssrcs.now ssrc }
-{
-    ssrcs.iter().any(|s| s.get() == ssrc.get())
 }
 
 /// What the end agrees on that answers an offered section, by its own text of the answer.
@@ -179,8 +173,8 @@ pub fn agreed_by_answer(
         kind: kind_of(&answer.typ),
         rows: rtp_params(alloc, answer)?,
         exts: map_of_lines(alloc, answer.attrs.as_slice())?,
-        own_ssrcs: wanted.ssrcs.clone()?,
-        remote_ssrcs: ssrcs_of(alloc, offer)?,
+        own_ssrcs: SsrcList::of(alloc, wanted.ssrcs.clone()?)?,
+        remote_ssrcs: SsrcList::of(alloc, ssrcs_of(alloc, offer)?)?,
         sends: dir.is_sending(),
         receives: dir.is_receiving(),
     })
@@ -205,8 +199,8 @@ pub fn agreed_by_accept(
         kind: kind_of(&answer.typ),
         rows: rtp_params(alloc, answer)?,
         exts: map_of_lines(alloc, answer.attrs.as_slice())?,
-        own_ssrcs: wanted.ssrcs.clone()?,
-        remote_ssrcs: ssrcs_of(alloc, answer)?,
+        own_ssrcs: SsrcList::of(alloc, wanted.ssrcs.clone()?)?,
+        remote_ssrcs: SsrcList::of(alloc, ssrcs_of(alloc, answer)?)?,
         sends: dir.is_receiving() && wanted.dir.is_sending(),
         receives: dir.is_sending() && wanted.dir.is_receiving(),
     })

@@ -9,6 +9,7 @@ mod lines;
 mod meaning;
 mod read;
 mod section;
+mod ssrc_list;
 
 pub use agreement::{AgreedSection, agreed_by_accept, agreed_by_answer};
 pub use answered::{answered_rows, answered_section};

@@ -26,19 +26,15 @@ impl Call {
     pub fn new(alloc: Global, case: &Case, hold_back: usize) -> Result<Self, Stopped> {
         let mut a = end(alloc, case, 1)?;
         let mut b = end(alloc, case, 2)?;
+        let ssrc = Ssrc::from(44);
         connect(
             &mut a,
             &mut b,
-            sections(alloc, case, 44)?,
-            sections(alloc, case, 45)?,
+            sections(alloc, case, vec![in alloc; ssrc]?)?,
+            sections(alloc, case, vec![in alloc; Ssrc::from(45)]?)?,
         )?;
-        let (mid, ssrc, pt) = (Mid::from("0"), Ssrc::from(44), Pt::from(TYPE));
-        let params = params(alloc, case)?;
-        if !params.is_sound(a.agreed_red(mid, pt)) {
-            return Err(Stopped::Refused);
-        }
-        let tx = a.open_sender(mid, ssrc, pt, params)?;
-        let rx = b.open_receiver(mid, ssrc, pt, hold_back)?;
+        let tx = open_sender(alloc, &mut a, case, ssrc)?;
+        let rx = b.open_receiver(Mid::from("0"), ssrc, Pt::from(TYPE), hold_back)?;
         Ok(Call { a, b, tx, rx })
     }
 
@@ -69,14 +65,18 @@ impl Call {
 }
 
 /// An end of one row.
-fn end(alloc: Global, case: &Case, session: u64) -> Result<End, Stopped> {
+pub fn end(alloc: Global, case: &Case, session: u64) -> Result<End, Stopped> {
     let config = CodecConfig::new_from_payload_params(vec![in alloc; case.row()]?);
     let session = Session::new(alloc, SessionId::from(session));
     Ok(End::new(alloc, config, session, ExtensionMap::empty())?)
 }
 
-/// One section that flows both ways, of this SSRC.
-fn sections(alloc: Global, case: &Case, ssrc: u32) -> Result<Vec<SectionSpec>, AllocError> {
+/// One section that flows both ways, of these SSRCs.
+pub fn sections(
+    alloc: Global,
+    case: &Case,
+    ssrcs: Vec<Ssrc>,
+) -> Result<Vec<SectionSpec>, AllocError> {
     let kind = if case.codec.is_video() {
         MediaKind::Video
     } else {
@@ -86,11 +86,26 @@ fn sections(alloc: Global, case: &Case, ssrc: u32) -> Result<Vec<SectionSpec>, A
         mid: Mid::from("0"),
         kind,
         dir: Direction::SendRecv,
-        ssrcs: vec![in alloc; Ssrc::from(ssrc)]?,
+        ssrcs,
     };
     let mut sections = Vec::new(alloc);
     sections.push(section)?;
     Ok(sections)
+}
+
+/// A sending stream of the section, and its number.
+pub fn open_sender(
+    alloc: Global,
+    end: &mut End,
+    case: &Case,
+    ssrc: Ssrc,
+) -> Result<usize, Stopped> {
+    let (mid, pt) = (Mid::from("0"), Pt::from(TYPE));
+    let params = params(alloc, case)?;
+    if !params.is_sound(end.agreed_red(mid, pt)) {
+        return Err(Stopped::Refused);
+    }
+    Ok(end.open_sender(mid, ssrc, pt, params)?)
 }
 
 /// Packets of 200 bytes, so that pictures have several, and with redundancy one and three packets back.

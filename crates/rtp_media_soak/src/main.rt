@@ -5,6 +5,7 @@
 mod calls;
 mod cases;
 mod counts;
+mod many;
 mod random;
 mod samples;
 mod schedules;
@@ -13,6 +14,7 @@ mod stopped;
 use calls::{Call, FIRST};
 use cases::{Case, cases};
 use counts::{Canonical, Counts, count_units};
+use many::{DATAGRAMS, many_streams};
 use random::Random;
 use rtp_media_play::Sample;
 use rtp_wire::{ExtensionValues, MediaTime};
@@ -28,29 +30,68 @@ const SAMPLES: usize = 400;
 /// The seeds of the runs of each codec.
 const SEEDS: [u64; 3] = [1, 2, 3];
 
+/// How many streams the ends with many streams have.
+const MANY: [u32; 5] = [1, 8, 100, 2_000, 8_000];
+
 /// Two lines for each codec: one of tame schedules, under which every unit is to come out, and one of sane ones, in
-/// which datagrams are lost and come late. Status 1 where something is wrong.
+/// which datagrams are lost and come late; and a line for each number of streams. Times are printed on standard error.
+/// Status 1 where something is wrong.
 fn main(rt: HostRuntime) -> ExitCode {
     let mut status = 0;
     for case in cases() {
-        let (name, manner) = (case.codec.as_str(), case.manner());
         for is_tame in [true, false] {
-            let kind = if is_tame { "tame" } else { "sane" };
-            match soak(rt.alloc(), &case, is_tame) {
-                Ok(counts) => {
-                    let _ = println!(rt;
-                        "{name}{manner}, {kind}: {} sent, {} whole, {} partial, {} lost: ok",
-                        counts.sent, counts.whole, counts.partial, counts.lost
-                    );
-                }
-                Err(stopped) => {
-                    status = 1;
-                    let _ = println!(rt; "{name}{manner}, {kind}: {stopped}");
-                }
+            if !report(&rt, &case, is_tame) {
+                status = 1;
             }
         }
     }
+    for count in MANY {
+        if !report_many(&rt, count) {
+            status = 1;
+        }
+    }
     ExitCode::from(status)
+}
+
+/// Prints what the runs of a codec were; answers whether they were right.
+fn report(rt: &HostRuntime, case: &Case, is_tame: bool) -> bool {
+    let (name, manner) = (case.codec.as_str(), case.manner());
+    let kind = if is_tame { "tame" } else { "sane" };
+    match soak(rt.alloc(), case, is_tame) {
+        Ok(counts) => {
+            let _ = println!(*rt;
+                "{name}{manner}, {kind}: {} sent, {} whole, {} partial, {} lost: ok",
+                counts.sent, counts.whole, counts.partial, counts.lost
+            );
+            true
+        }
+        Err(stopped) => {
+            let _ = println!(*rt; "{name}{manner}, {kind}: {stopped}");
+            false
+        }
+    }
+}
+
+/// Prints what ends with so many streams do; answers whether it was right.
+fn report_many(rt: &HostRuntime, count: u32) -> bool {
+    let case = cases()[0];
+    match many_streams(rt, &case, count) {
+        Ok(times) => {
+            let opened = times.opened.as_nanos() / u128::from(count);
+            let received = times.received.as_nanos() / u128::from(DATAGRAMS);
+            let _ = println!(*rt;
+                "{count} streams: {DATAGRAMS} datagrams of the last, and a unit of each: ok"
+            );
+            let _ = eprintln!(*rt;
+                "{count} streams: {opened} ns to open one, {received} ns to receive and poll a datagram"
+            );
+            true
+        }
+        Err(stopped) => {
+            let _ = println!(*rt; "{count} streams: {stopped}");
+            false
+        }
+    }
 }
 
 /// The runs of all seeds.

@@ -1,7 +1,8 @@
 //! What was wrong of a run.
 
-use rtp_media_ends::{EndError, ExchangeError, OpenError, SampleError};
+use rtp_media_ends::{EndError, ExchangeError, OpenError, ReceiveError, SampleError};
 use std::alloc::{AllocError, AllocFailed};
+use std::io;
 use thiserror::Error;
 
 /// What was wrong of a run.
@@ -22,6 +23,9 @@ pub enum Stopped {
     /// Memory was wanting.
     #[error("out of memory")]
     Memory,
+    /// The clock could not be read.
+    #[error("no clock")]
+    Clock,
 }
 
 impl From<EndError> for Stopped {
@@ -45,6 +49,18 @@ impl From<OpenError> for Stopped {
 impl From<SampleError> for Stopped {
     fn from(_error: SampleError) -> Stopped {
         Stopped::Refused
+    }
+}
+
+impl From<ReceiveError> for Stopped {
+    fn from(_error: ReceiveError) -> Stopped {
+        Stopped::Memory
+    }
+}
+
+impl From<io::Error> for Stopped {
+    fn from(_error: io::Error) -> Stopped {
+        Stopped::Clock
     }
 }
 

@@ -1,7 +1,5 @@
-//! Tests of payload rows and of the program's lines.
+//! Tests of the program's loop over readers and writers that fail.
 #![tactic(auto)]
 
 #[cfg(test)]
-mod lines;
-#[cfg(test)]
-mod rows;
+mod faults;

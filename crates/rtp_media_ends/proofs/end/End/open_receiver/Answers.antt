@@ -8,7 +8,6 @@ use Rattle.rtp_media_ends.specs.Ends.{EndState, after_open_receiver, is_receiver
 use Rattle.rtp_media_ends.specs.Indexed.{AreIndexed}
 use Rattle.rtp_media_ends.proofs.Indexing.{may-receive, receiver-added}
 use Rattle.rtp_media_ends.specs.FullArrival.{HasReceiver}
-use Rattle.rtp_media_ends.specs.contracts.end.End.{the_view}
 use Rattle.rtp_media_ends.proofs.NewReceiver.{opened-receiver}
 use Rattle.rtp_media_ends.proofs.Numbers.{new-receiver-receives}
 use Rattle.rtp_media_ends.proofs.end.End.open_receiver.Goals as goal
@@ -16,14 +15,8 @@ use Rattle.rtp_media_ends.proofs.end.End.open_receiver.Goals as goal
 pub returns-clause-receiver : goal.returns-clause-receiver
 unfolding after_open_receiver
 returns-clause-receiver c =
-    let after : the_view (record {
-      alloc = c.self.inside.alloc;
-      exchange = c.self.inside.exchange;
-      streams = c.push.new.self;
-      senders = c.self.inside.senders;
-      receivers = c.set_types.new.self;
-    })
-    ≡ after_open_receiver c.args.self.now c.args.mid c.args.ssrc c.args.pt c.args.hold_back =
+    let opened : EndState = record { exchange = c.self.inside.exchange; streams = c.push.new.self.items } in
+    let after : opened ≡ after_open_receiver c.args.self.now c.args.mid c.args.ssrc c.args.pt c.args.hold_back =
     grind (arith, common_steps) in
     let number : length c.args.self.now.streams ≡ c.len-number.result = grind (arith, common_steps) in
     subst₂ (λ (e : EndState) (n : ℕ). HasReceiver e n
@@ -33,14 +26,8 @@ returns-clause-receiver c =
 pub returns-clause-receives : goal.returns-clause-receives
 unfolding after_open_receiver
 returns-clause-receives c =
-    let after : the_view (record {
-      alloc = c.self.inside.alloc;
-      exchange = c.self.inside.exchange;
-      streams = c.push.new.self;
-      senders = c.self.inside.senders;
-      receivers = c.set_types.new.self;
-    })
-    ≡ after_open_receiver c.args.self.now c.args.mid c.args.ssrc c.args.pt c.args.hold_back =
+    let opened : EndState = record { exchange = c.self.inside.exchange; streams = c.push.new.self.items } in
+    let after : opened ≡ after_open_receiver c.args.self.now c.args.mid c.args.ssrc c.args.pt c.args.hold_back =
     grind (arith, common_steps) in
     let number : length c.args.self.now.streams ≡ c.len-number.result = grind (arith, common_steps) in
     subst₂ (λ (e : EndState) (n : ℕ). is_receiver_at e n ≡ true) (sym after) number

@@ -10,7 +10,6 @@ use Rattle.rtp_media_ends.specs.Ends.{EndState, after_open_sender, is_sender_at,
 use Rattle.rtp_media_ends.specs.Ends.{sends_as, types_of, with_distances}
 use Rattle.rtp_media_ends.specs.Indexed.{AreIndexed}
 use Rattle.rtp_media_ends.proofs.Indexing.{may-send, same-ssrc, same-types, sender-added}
-use Rattle.rtp_media_ends.specs.contracts.end.End.{the_view}
 use Rattle.rtp_media_ends.specs.FullArrival.{IsSender}
 use Rattle.rtp_media_ends.specs.Params.{IsSound}
 use Rattle.rtp_media_ends.proofs.Numbers.{new-sender-sends}
@@ -33,14 +32,8 @@ returns-clause-sender c =
 pub returns-clause-sends : goal.returns-clause-sends
 unfolding after_open_sender
 returns-clause-sends c =
-    let after : the_view (record {
-      alloc = c.self.inside.alloc;
-      exchange = c.self.inside.exchange;
-      streams = c.push.new.self;
-      senders = c.set_types.new.self;
-      receivers = c.self.inside.receivers;
-    })
-    ≡ after_open_sender c.args.self.now c.args.mid c.args.ssrc c.args.pt c.args.params =
+    let opened : EndState = record { exchange = c.self.inside.exchange; streams = c.push.new.self.items } in
+    let after : opened ≡ after_open_sender c.args.self.now c.args.mid c.args.ssrc c.args.pt c.args.params =
     grind (arith, common_steps) in
     let number : length c.args.self.now.streams ≡ c.len-number.result = grind (arith, common_steps) in
     subst₂ (λ (e : EndState) (n : ℕ). is_sender_at e n ≡ true) (sym after) number

@@ -1,0 +1,22 @@
+-- SSRCs in a set, and those of the list that are left.
+use Rattle.std.proofs.Common.{◌≡◌, ℕ, ◌+◌, ◌<◌, Bool, true, false, ◌||◌, ◌==◌, List, length, drop, refl, sym, ◌∙◌, ap}
+use Rattle.std.proofs.lemmas.List.{at_drop_more}
+use Rattle.std.specs.Cmp.{unsigned_tied}
+use Rattle.std.specs.Ordering.{is_eq, nat_cmp}
+use Rattle.std.specs.Prelude.{cond, slice_index_or}
+use Rattle.rtp_media_sections.specs.Agreement.{is_named}
+
+either : (same old rest : Bool) → (cond same true old || rest) ≡ (old || (same || rest))
+either true true rest = refl
+either true false rest = refl
+either false old rest = refl
+
+-- One more of the list in the set, and one fewer left.
+pub one-more : (ssrcs : List ℕ) (i : ℕ) (n : ℕ) (old new : Bool) → i < length ssrcs
+    → new ≡ cond (is_eq (nat_cmp (slice_index_or ssrcs i 0) n)) true old
+    → (new || is_named (drop (i + 1) ssrcs) n) ≡ (old || is_named (drop i ssrcs) n)
+one-more ssrcs i n old new lt is =
+    ap (λ (b : Bool). b || is_named (drop (i + 1) ssrcs) n) is
+    ∙ either (is_eq (nat_cmp (slice_index_or ssrcs i 0) n)) old (is_named (drop (i + 1) ssrcs) n)
+    ∙ ap (λ (b : Bool). old || (b || is_named (drop (i + 1) ssrcs) n)) (unsigned_tied (slice_index_or ssrcs i 0) n)
+    ∙ ap (λ (b : Bool). old || b) (sym (at_drop_more (λ (xs : List ℕ). is_named xs n) ssrcs i 0 lt))

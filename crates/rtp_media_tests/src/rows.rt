@@ -1,3 +1,0 @@
-mod configs;
-mod feedback;
-mod formats;
