@@ -5,7 +5,7 @@ use payload_core::{
     CodecExtra, Depacketizer, PacketError, PacketSink, Packetizer, Payloader, RedDecoder,
 };
 use rtp_wire::ExtensionValues;
-use std::alloc::Global;
+use std::alloc::{AllocError, Global};
 
 /// The limit of a payload in bytes.
 pub const LIMIT: usize = 1200;
@@ -41,6 +41,24 @@ pub fn receive<D: Depacketizer>(
         for packet in packets {
             depacketizer.depacketize(packet, &mut out, &mut extra)?;
         }
+        tally.add(packets.len(), out.len());
+    }
+    Ok(tally)
+}
+
+/// The simplest reader, beside which others are measured: what the packets hold is put into one fragment, and that into
+/// what is handed out, so often; answers how many were read, and what they gave.
+pub fn copy_twice(alloc: Global, packets: &[Vec<u8>], rounds: u32) -> Result<Tally, AllocError> {
+    let mut tally = Tally::new();
+    let mut fragment = Vec::new(alloc);
+    let mut out = Vec::new(alloc);
+    for _ in 0..rounds {
+        fragment.clear();
+        out.clear();
+        for packet in packets {
+            fragment.extend_from_slice(packet)?;
+        }
+        out.extend_from_slice(&fragment)?;
         tally.add(packets.len(), out.len());
     }
     Ok(tally)

@@ -151,7 +151,17 @@ fn av1(
         rounds,
         Av1Packetizer::new(),
         depacketizer,
-    )
+    )?;
+    baseline(rt, format, &unit, rounds)
+}
+
+/// The packets of an AV1 unit as plain bytes, copied twice, as a reader has to.
+fn baseline(rt: &HostRuntime, format: &str, unit: &[u8], rounds: u32) -> anyhow::Result<()> {
+    let packets = Av1Packetizer::new().packetize(rt.alloc(), LIMIT, unit)?;
+    let start = Instant::now(rt)?;
+    let copied = formats::copy_twice(rt.alloc(), &packets, rounds)?;
+    report(rt, format, "copied twice", copied, start.elapsed(rt)?)?;
+    Ok(())
 }
 
 /// AV1 units of growing size.
@@ -161,7 +171,13 @@ fn av1_sizes(rt: &HostRuntime) -> anyhow::Result<()> {
     let header = [0x32, 0xC0, 0x9A, 0x0C];
     av1(rt, "AV1 of 200,000 bytes", &header, 200_000, VIDEO / 16)?;
     let header = [0x32, 0x80, 0x92, 0xF4, 0x01];
-    av1(rt, "AV1 of 4,000,000 bytes", &header, 4_000_000, 4)
+    av1(
+        rt,
+        "AV1 of 4,000,000 bytes",
+        &header,
+        4_000_000,
+        VIDEO / 160,
+    )
 }
 
 /// Pushes packets into a buffer in which so many wait, and pops after each.

@@ -12,6 +12,9 @@ use std::alloc::{AllocError, Global};
 /// The first number of each stream.
 pub const FIRST: u64 = 32_767;
 
+/// Payloads so short that pictures have several.
+const SHORT: usize = 200;
+
 /// Two ends of a codec, and the numbers of a stream that one sends and the other receives.
 #[derive(Drop)]
 pub struct Call {
@@ -33,7 +36,7 @@ impl Call {
             sections(alloc, case, vec![in alloc; ssrc]?)?,
             sections(alloc, case, vec![in alloc; Ssrc::from(45)]?)?,
         )?;
-        let tx = open_sender(alloc, &mut a, case, ssrc)?;
+        let tx = open_sender(alloc, &mut a, case, ssrc, SHORT)?;
         let rx = b.open_receiver(Mid::from("0"), ssrc, Pt::from(TYPE), hold_back)?;
         Ok(Call { a, b, tx, rx })
     }
@@ -93,23 +96,24 @@ pub fn sections(
     Ok(sections)
 }
 
-/// A sending stream of the section, and its number.
+/// A sending stream of the section with payloads of at most so many bytes, and its number.
 pub fn open_sender(
     alloc: Global,
     end: &mut End,
     case: &Case,
     ssrc: Ssrc,
+    mtu: usize,
 ) -> Result<usize, Stopped> {
     let (mid, pt) = (Mid::from("0"), Pt::from(TYPE));
-    let params = params(alloc, case)?;
+    let params = params(alloc, case, mtu)?;
     if !params.is_sound(end.agreed_red(mid, pt)) {
         return Err(Stopped::Refused);
     }
     Ok(end.open_sender(mid, ssrc, pt, params)?)
 }
 
-/// Packets of 200 bytes, so that pictures have several, and with redundancy one and three packets back.
-fn params(alloc: Global, case: &Case) -> Result<StreamParams, AllocError> {
+/// With redundancy one and three packets back.
+fn params(alloc: Global, case: &Case, mtu: usize) -> Result<StreamParams, AllocError> {
     let red = if case.has_red() {
         Some(Distances::from_vec(vec![in alloc; 1, 3]?))
     } else {
@@ -117,8 +121,8 @@ fn params(alloc: Global, case: &Case) -> Result<StreamParams, AllocError> {
     };
     Ok(StreamParams {
         first: FIRST,
-        mtu: 200,
-        limit: 300,
+        mtu,
+        limit: mtu.saturating_add(100),
         red,
         picture_id: Some(32_000),
         for_browsers: false,

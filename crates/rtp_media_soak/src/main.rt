@@ -7,6 +7,7 @@ mod cases;
 mod counts;
 mod many;
 mod random;
+mod rates;
 mod samples;
 mod schedules;
 mod stopped;
@@ -14,8 +15,9 @@ mod stopped;
 use calls::{Call, FIRST};
 use cases::{Case, cases};
 use counts::{Canonical, Counts, count_units};
-use many::{DATAGRAMS, many_streams};
+use many::{Load, Times, carry};
 use random::Random;
+use rates::{sized_sample, usual_size};
 use rtp_media_play::Sample;
 use rtp_wire::{ExtensionValues, MediaTime};
 use samples::{Drawn, draw_sample};
@@ -30,19 +32,30 @@ const SAMPLES: usize = 400;
 /// The seeds of the runs of each codec.
 const SEEDS: [u64; 3] = [1, 2, 3];
 
+/// How many bytes the samples of which rates are told have together, and how many they are at most.
+const BYTES: usize = 2_000_000;
+
+const MOST: usize = 20_000;
+
+/// The bytes of a large picture.
+const LARGE: usize = 196_000;
+
 /// How many streams the ends with many streams have.
 const MANY: [u32; 5] = [1, 8, 100, 2_000, 8_000];
 
 /// Two lines for each codec: one of tame schedules, under which every unit is to come out, and one of sane ones, in
-/// which datagrams are lost and come late; and a line for each number of streams. Times are printed on standard error.
-/// Status 1 where something is wrong.
+/// which datagrams are lost and come late; a line for samples of real sizes of each, and one for each number of
+/// streams. Times are printed on standard error. Status 1 where something is wrong.
 fn main(rt: HostRuntime) -> ExitCode {
     let mut status = 0;
     for case in cases() {
-        for is_tame in [true, false] {
-            if !report(&rt, &case, is_tame) {
-                status = 1;
-            }
+        if !report(&rt, &case, true) || !report(&rt, &case, false) {
+            status = 1;
+        }
+    }
+    for case in cases() {
+        if !report_rates(&rt, &case) {
+            status = 1;
         }
     }
     for count in MANY {
@@ -72,23 +85,70 @@ fn report(rt: &HostRuntime, case: &Case, is_tame: bool) -> bool {
     }
 }
 
-/// Prints what ends with so many streams do; answers whether it was right.
-fn report_many(rt: &HostRuntime, count: u32) -> bool {
-    let case = cases()[0];
-    match many_streams(rt, &case, count) {
+/// Prints how samples of a codec's usual size, and large pictures, go through two ends; answers whether all came.
+fn report_rates(rt: &HostRuntime, case: &Case) -> bool {
+    let is_right = report_rate(rt, case, usual_size(case.codec));
+    if case.codec.is_video() {
+        return is_right && report_rate(rt, case, LARGE);
+    }
+    is_right
+}
+
+/// Prints how samples of so many bytes go through two ends; answers whether all came.
+fn report_rate(rt: &HostRuntime, case: &Case, size: usize) -> bool {
+    let (name, manner) = (case.codec.as_str(), case.manner());
+    let count = (BYTES / size.max(1)).min(MOST) as u32;
+    match carry_sized(rt, case, size, count) {
         Ok(times) => {
-            let opened = times.opened.as_nanos() / u128::from(count);
-            let received = times.received.as_nanos() / u128::from(DATAGRAMS);
-            let _ = println!(*rt;
-                "{count} streams: {DATAGRAMS} datagrams of the last, and a unit of each: ok"
-            );
+            let bytes = u128::from(count) * size as u128;
+            let sent = bytes / times.sent.as_micros().max(1);
+            let received = bytes / times.received.as_micros().max(1);
+            let _ = println!(*rt; "{name}{manner}: {count} samples of {size} bytes: ok");
             let _ = eprintln!(*rt;
-                "{count} streams: {opened} ns to open one, {received} ns to receive and poll a datagram"
+                "{name}{manner}, {size} bytes: {sent} MB a second sent, {received} received"
             );
             true
         }
         Err(stopped) => {
-            let _ = println!(*rt; "{count} streams: {stopped}");
+            let _ = println!(*rt; "{name}{manner}, {size} bytes: {stopped}");
+            false
+        }
+    }
+}
+
+/// One stream of so many samples of a size.
+fn carry_sized(rt: &HostRuntime, case: &Case, size: usize, count: u32) -> Result<Times, Stopped> {
+    let sample = sized_sample(rt.alloc(), case, size)?;
+    let load = Load {
+        streams: 1,
+        sample: &sample,
+        count,
+    };
+    carry(rt, case, load)
+}
+
+/// Prints what ends with so many streams do; answers whether it was right.
+fn report_many(rt: &HostRuntime, streams: u32) -> bool {
+    let load = Load {
+        streams,
+        sample: &[1, 2, 3, 4],
+        count: 4_000,
+    };
+    match carry(rt, &cases()[0], load) {
+        Ok(times) => {
+            let opened = times.opened.as_nanos() / u128::from(streams);
+            let received = times.received.as_nanos() / u128::from(load.count);
+            let _ = println!(*rt;
+                "{streams} streams: {} datagrams of the last, and a unit of each: ok",
+                load.count
+            );
+            let _ = eprintln!(*rt;
+                "{streams} streams: {opened} ns to open one, {received} ns to receive and poll a datagram"
+            );
+            true
+        }
+        Err(stopped) => {
+            let _ = println!(*rt; "{streams} streams: {stopped}");
             false
         }
     }

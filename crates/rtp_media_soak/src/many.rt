@@ -1,4 +1,4 @@
-//! Ends with many streams.
+//! Ends with many streams, and samples of real sizes.
 
 use crate::calls::{end, open_sender, sections};
 use crate::cases::{Case, TYPE};
@@ -8,56 +8,72 @@ use rtp_wire::{ExtensionValues, MediaTime, Mid, Pt, Ssrc};
 use std::alloc::Global;
 use std::time::{Duration, Instant};
 
-/// How many datagrams are received.
-pub const DATAGRAMS: u32 = 4_000;
+/// The payload bytes of a packet.
+const MTU: usize = 1_200;
 
-/// What opening receiving streams for all SSRCs of a section took, and receiving and polling datagrams of the last one.
+/// How many streams two ends have, and which sample the last of them carries how often.
+#[derive(Clone, Copy, Drop)]
+pub struct Load<'a> {
+    pub streams: u32,
+    pub sample: &'a [u8],
+    pub count: u32,
+}
+
+/// What sending the samples took, opening receiving streams for all SSRCs of the section, and receiving and polling
+/// the datagrams.
 #[derive(Clone, Copy, Drop)]
 pub struct Times {
+    pub sent: Duration,
     pub opened: Duration,
     pub received: Duration,
 }
 
-/// Two ends whose section names the SSRCs from 1 to a count: one receives the datagrams of all, the other sends those
-/// of the last.
-pub fn many_streams(rt: &HostRuntime, case: &Case, count: u32) -> Result<Times, Stopped> {
+/// Two ends whose section names the SSRCs from 1 to the number of streams: one receives the datagrams of all, the other
+/// sends those of the last.
+pub fn carry(rt: &HostRuntime, case: &Case, load: Load<'_>) -> Result<Times, Stopped> {
     let alloc = rt.alloc();
     let mut sender = end(alloc, case, 1)?;
     let mut receiver = end(alloc, case, 2)?;
-    let ssrcs = (1..=count).map(Ssrc::from).collect(alloc)?;
+    let ssrcs = (1..=load.streams).map(Ssrc::from).collect(alloc)?;
     connect(
         &mut sender,
         &mut receiver,
         sections(alloc, case, ssrcs)?,
         sections(alloc, case, vec![in alloc; Ssrc::from(0)]?)?,
     )?;
-    let datagrams = datagrams_of(alloc, case, &mut sender, Ssrc::from(count))?;
     let start = Instant::now(rt)?;
-    open_all(&mut receiver, count)?;
+    open_all(&mut receiver, load.streams)?;
     let opened = start.elapsed(rt)?;
     let start = Instant::now(rt)?;
-    for datagram in &datagrams {
-        receive(&mut receiver, datagram)?;
+    let datagrams = datagrams_of(alloc, case, &mut sender, load)?;
+    let sent = start.elapsed(rt)?;
+    let start = Instant::now(rt)?;
+    if received(&mut receiver, &datagrams)? != load.count {
+        return Err(Stopped::Missing);
     }
     let received = start.elapsed(rt)?;
-    Ok(Times { opened, received })
+    Ok(Times {
+        sent,
+        opened,
+        received,
+    })
 }
 
-/// The datagrams of small samples, one of each.
+/// The datagrams of the samples.
 fn datagrams_of(
     alloc: Global,
     case: &Case,
     sender: &mut End,
-    ssrc: Ssrc,
+    load: Load<'_>,
 ) -> Result<Vec<Datagram>, Stopped> {
-    let tx = open_sender(alloc, sender, case, ssrc)?;
+    let tx = open_sender(alloc, sender, case, Ssrc::from(load.streams), MTU)?;
     let mut datagrams = Vec::new(alloc);
-    for place in 0..DATAGRAMS {
+    for place in 0..load.count {
         if !sender.is_sender(tx) {
             return Err(Stopped::Refused);
         }
         let time = MediaTime::new(960 * u64::from(place), case.rtp_clock());
-        let mut sent = sender.push_sample(tx, time, &[1, 2, 3, 4], &ExtensionValues::absent())?;
+        let mut sent = sender.push_sample(tx, time, load.sample, &ExtensionValues::absent())?;
         datagrams.append(&mut sent)?;
     }
     Ok(datagrams)
@@ -71,8 +87,18 @@ fn open_all(receiver: &mut End, count: u32) -> Result<(), Stopped> {
     Ok(())
 }
 
-/// Each datagram is taken, and its unit comes out.
-fn receive(receiver: &mut End, datagram: &Datagram) -> Result<(), Stopped> {
+/// How many units come of datagrams, each of which is taken and followed by a poll.
+fn received(receiver: &mut End, datagrams: &[Datagram]) -> Result<u32, Stopped> {
+    let mut units = 0u32;
+    for datagram in datagrams {
+        if has_unit(receiver, datagram)? {
+            units = units.saturating_add(1);
+        }
+    }
+    Ok(units)
+}
+
+fn has_unit(receiver: &mut End, datagram: &Datagram) -> Result<bool, Stopped> {
     let Received::Taken(rx, _) = receiver.receive(datagram.as_slice())? else {
         return Err(Stopped::Missing);
     };
@@ -80,8 +106,7 @@ fn receive(receiver: &mut End, datagram: &Datagram) -> Result<(), Stopped> {
         return Err(Stopped::Refused);
     }
     match receiver.poll(rx) {
-        Ok(Some(_unit)) => Ok(()),
-        Ok(None) => Err(Stopped::Missing),
+        Ok(unit) => Ok(unit.is_some()),
         Err(_) => Err(Stopped::Fault),
     }
 }
