@@ -12,11 +12,12 @@ either true false rest = refl
 either false old rest = refl
 
 -- One more of the list in the set, and one fewer left.
-pub one-more : (ssrcs : List ℕ) (i : ℕ) (n : ℕ) (old new : Bool) → i < length ssrcs
-    → new ≡ cond (is_eq (nat_cmp (slice_index_or ssrcs i 0) n)) true old
+pub one-more : (ssrcs : List ℕ) (i : ℕ) (n : ℕ) (one other : ℕ) (old new : Bool) → i < length ssrcs
+    → one ≡ slice_index_or ssrcs i other → new ≡ cond (is_eq (nat_cmp one n)) true old
     → (new || is_named (drop (i + 1) ssrcs) n) ≡ (old || is_named (drop i ssrcs) n)
-one-more ssrcs i n old new lt is =
+one-more ssrcs i n one other old new lt item is =
     ap (λ (b : Bool). b || is_named (drop (i + 1) ssrcs) n) is
-    ∙ either (is_eq (nat_cmp (slice_index_or ssrcs i 0) n)) old (is_named (drop (i + 1) ssrcs) n)
-    ∙ ap (λ (b : Bool). old || (b || is_named (drop (i + 1) ssrcs) n)) (unsigned_tied (slice_index_or ssrcs i 0) n)
-    ∙ ap (λ (b : Bool). old || b) (sym (at_drop_more (λ (xs : List ℕ). is_named xs n) ssrcs i 0 lt))
+    ∙ either (is_eq (nat_cmp one n)) old (is_named (drop (i + 1) ssrcs) n)
+    ∙ ap (λ (b : Bool). old || (b || is_named (drop (i + 1) ssrcs) n)) (unsigned_tied one n)
+    ∙ ap (λ (k : ℕ). old || ((k == n) || is_named (drop (i + 1) ssrcs) n)) item
+    ∙ ap (λ (b : Bool). old || b) (sym (at_drop_more (λ (xs : List ℕ). is_named xs n) ssrcs i other lt))
