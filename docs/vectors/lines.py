@@ -2,13 +2,18 @@
 """Writes what `crates/payload_lines` reads and must answer: samples and packets that were packed from the layouts of
 the standards alone, beside rows that were put together by hand.
 
-Run it with `python3 docs/vectors/lines.py`. A row is a line and its answer; a row without one answers itself. The packers are `h26x.py` and `payloads.py`, the access units of encoders stand in `*_units.txt`.
+Run it with `python3 docs/vectors/lines.py`. A row is a line and its answer; a row without one answers itself. The
+packers are `h26x.py`, `av1.py` and `payloads.py`, headers and tables stand in `headers.py`, rows by hand in `rows.py`
+and `parts.py`, the units of encoders in `*_units.txt`.
 """
 
 from pathlib import Path
 
+import av1
 import h26x
+import headers
 import payloads
+from parts import PARTS
 from rows import BY_HAND, told
 
 HERE = Path(__file__).parent
@@ -62,14 +67,18 @@ def of_frames(cases):
 
 def rows():
     yield from BY_HAND
+    yield from PARTS
     idr, irap, h266_irap = [5], range(16, 24), range(7, 10)
     yield from of_units("H264", h26x.H264, idr, h26x.h264())
     yield from of_units("H265", h26x.H265, irap, h26x.h265())
     yield from of_units("H266", h26x.H266, h266_irap, h26x.h266())
     yield from encoded("H264", h26x.H264, idr)
     yield from encoded("H265", h26x.H265, irap)
+    yield from av1.sizes()
+    yield from av1.encoded(HERE / "av1_units.txt")
     for cases in (payloads.vp8, payloads.vp9, payloads.amr_wb, payloads.telephone, payloads.plain):
         yield from of_frames(cases())
+    yield from headers.rows()
 
 
 if __name__ == "__main__":

@@ -1,19 +1,31 @@
 //! The commands.
 
+use crate::boxed::carried;
 use crate::formats::{Formats, depacketizer_of};
 use crate::printing::{hex_of, payloads, unit};
 use crate::words::{bytes_of, next_word};
+use crate::{events, h26x, profiles, redundancy, vp8};
 use anyhow::anyhow;
 use h26x_payload::{detect_h264_keyframe, detect_h265_keyframe, detect_h266_keyframe};
 use payload_core::{
-    Codec, CodecExtra, Depacketizer, PacketList, RtpMeta, detect_av1_keyframe, detect_vp8_keyframe,
+    Codec, CodecExtra, Depacketizer, PacketList, RedSender, RtpMeta, detect_av1_keyframe,
+    detect_vp8_keyframe,
 };
 use rtp_wire::{ExtensionValues, SeqNo};
 use std::alloc::Global;
 use std::str::SplitWhitespace;
 
-/// What a line gives: `codec NAME ..` takes up a payload format, the others are about the one that was taken up last.
-pub fn answer(alloc: Global, formats: &mut Option<Formats>, line: &str) -> anyhow::Result<String> {
+/// What lines were about so far.
+#[derive(Drop)]
+pub struct Subjects {
+    /// The payload format that was taken up last.
+    pub formats: Option<Formats>,
+    /// The payloads that were sent beside older ones.
+    pub sender: RedSender,
+}
+
+/// What a line gives: `codec NAME ..` takes up a payload format, and those that name nothing else are about it.
+pub fn answer(alloc: Global, subjects: &mut Subjects, line: &str) -> anyhow::Result<String> {
     let mut words = line.split_whitespace();
     let Some(command) = words.next() else {
         return Ok(String::new(alloc));
@@ -23,12 +35,37 @@ pub fn answer(alloc: Global, formats: &mut Option<Formats>, line: &str) -> anyho
     }
     if command == "codec" {
         let name = next_word(&mut words)?;
-        *formats = Some(Formats::of(alloc, name, &mut words)?);
+        subjects.formats = Some(Formats::of(alloc, name, &mut words)?);
         return Ok(String::from_str(alloc, line)?);
     }
-    match formats {
+    if command == "red" {
+        return redundancy::answer(alloc, &mut subjects.sender, &mut words);
+    }
+    if let Some(text) = of_codec(alloc, command, &mut words) {
+        return text;
+    }
+    match &mut subjects.formats {
         Some(formats) => of_format(alloc, formats, command, &mut words),
         None => Err(anyhow!("no codec yet")),
+    }
+}
+
+// What a command gives that is about no payload format; none where it is another one.
+fn of_codec(
+    alloc: Global,
+    command: &str,
+    words: &mut SplitWhitespace<'_>,
+) -> Option<anyhow::Result<String>> {
+    match command {
+        "vp8" => Some(vp8::answer(alloc, words)),
+        "event" => Some(events::answer(alloc, words)),
+        "shows" => Some(h26x::shows(alloc, words)),
+        "units" => Some(h26x::units(alloc, words)),
+        "header" => Some(h26x::header(alloc, words)),
+        "profile" => Some(profiles::profile(alloc, words)),
+        "idc" => Some(profiles::idc(alloc, words)),
+        "level" => Some(profiles::level(alloc, words)),
+        _ => None,
     }
 }
 
@@ -56,6 +93,9 @@ fn of_format(
     }
     if command == "short" {
         return short_packets(alloc, formats);
+    }
+    if command == "boxed" {
+        return carried(alloc, formats, words);
     }
     let packet = bytes_of(alloc, next_word(words)?)?;
     let is_so = if command == "head" {

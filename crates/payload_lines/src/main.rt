@@ -2,23 +2,32 @@
 //! samples and packets that were made outside, beside what they give.
 #![tactic(auto)]
 
+mod boxed;
 mod commands;
+mod events;
 mod formats;
+mod h26x;
 mod printing;
+mod profiles;
+mod redundancy;
+mod vp8;
 mod words;
 
-use commands::answer;
-use formats::Formats;
+use commands::{Subjects, answer};
+use payload_core::RedSender;
 use std::io::{BufRead, BufReader};
 
 /// Answers each line by a line: a comment by itself, a command by what it gives, and another line, or a sample or
 /// packet that is refused, by the word `fault` and the reason.
 fn main(rt: HostRuntime) -> anyhow::Result<()> {
     let alloc = rt.alloc();
-    let mut formats: Option<Formats> = None;
+    let mut subjects = Subjects {
+        formats: None,
+        sender: RedSender::new(alloc, &[])?,
+    };
     for line in BufReader::new(alloc, rt.reader())?.lines(alloc) {
         let line = line?;
-        match answer(alloc, &mut formats, line.as_str()) {
+        match answer(alloc, &mut subjects, line.as_str()) {
             Ok(text) => println!(rt; "{text}")?,
             Err(fault) => println!(rt; "fault {fault}")?,
         }

@@ -1,0 +1,124 @@
+//! Units and headers of H.264, H.265 and H.266.
+
+use crate::printing::hex_of;
+use crate::words::{bytes_of, next_word};
+use anyhow::anyhow;
+use h26x_payload::{
+    H265FragmentationUnitHeader, H265NALUHeader, H266FragmentationUnitHeader, H266NALUHeader,
+    detect_h264_nalu, nal_units,
+};
+use std::alloc::Global;
+use std::str::SplitWhitespace;
+
+/// `units TEXT`: the units of a text (ITU-T H.264 annex B), parted by blanks; a dash stands for none.
+pub fn units(alloc: Global, words: &mut SplitWhitespace<'_>) -> anyhow::Result<String> {
+    let text = bytes_of(alloc, next_word(words)?)?;
+    let mut units = String::new(alloc);
+    for unit in nal_units(&text) {
+        if !units.is_empty() {
+            units.push(' ')?;
+        }
+        units.push_str(hex_of(alloc, unit)?.as_str())?;
+    }
+    if units.is_empty() {
+        units.push('-')?;
+    }
+    Ok(units)
+}
+
+/// `shows TYPE PACKET`: whether an H.264 packet shows a unit of a type.
+pub fn shows(alloc: Global, words: &mut SplitWhitespace<'_>) -> anyhow::Result<String> {
+    let nalu_type = next_word(words)?.parse::<u8>()?;
+    let packet = bytes_of(alloc, next_word(words)?)?;
+    let is_so = detect_h264_nalu(&packet, nalu_type);
+    Ok(String::from_str(alloc, if is_so { "yes" } else { "no" })?)
+}
+
+/// `header CODEC BYTES`: what a header tells, of one byte that of a fragment, of two that of a unit or a packet.
+pub fn header(alloc: Global, words: &mut SplitWhitespace<'_>) -> anyhow::Result<String> {
+    let codec = next_word(words)?;
+    let bytes = bytes_of(alloc, next_word(words)?)?;
+    match (codec, bytes.as_slice()) {
+        ("H265", [byte]) => fragment_h265(alloc, H265FragmentationUnitHeader(*byte)),
+        ("H266", [byte]) => fragment_h266(alloc, H266FragmentationUnitHeader(*byte)),
+        ("H265", [high, low]) => {
+            let word = u16::from(*high) * 256 + u16::from(*low);
+            unit_h265(alloc, H265NALUHeader(word))
+        }
+        ("H266", [high, low]) => unit_h266(alloc, H266NALUHeader::new(*high, *low)),
+        _ => Err(anyhow!("no header of {codec}")),
+    }
+}
+
+// What an H.265 header is of.
+fn kind_h265(header: H265NALUHeader) -> &'static str {
+    if header.is_aggregation_packet() {
+        "aggregate"
+    } else if header.is_fragmentation_unit() {
+        "fragment"
+    } else if header.is_paci_packet() {
+        "PACI"
+    } else if header.is_idr_picture() {
+        "IDR"
+    } else if header.is_irap() {
+        "IRAP"
+    } else if header.is_type_vcl_unit() {
+        "VCL"
+    } else {
+        "other"
+    }
+}
+
+// An H.265 header: what it is of, F, the type, the layer and TID, and the header of these three.
+fn unit_h265(alloc: Global, header: H265NALUHeader) -> anyhow::Result<String> {
+    let kind = kind_h265(header);
+    let f = if header.f() { "F " } else { "" };
+    let (nalu_type, layer, tid) = (header.nalu_type(), header.layer_id(), header.tid());
+    let again = H265NALUHeader::new_with_type(nalu_type, layer, tid).0;
+    Ok(format!(in alloc; "{kind} {f}{nalu_type} {layer} {tid} {again:04x}")?)
+}
+
+// An H.265 fragment's header: S, E and the type, and the header of these three.
+fn fragment_h265(alloc: Global, header: H265FragmentationUnitHeader) -> anyhow::Result<String> {
+    let (s, e, fu_type) = (header.s(), header.e(), header.fu_type());
+    let again = H265FragmentationUnitHeader::new(s, e, fu_type).0;
+    Ok(format!(in alloc; "{s} {e} {fu_type} {again:02x}")?)
+}
+
+// What an H.266 header is of.
+fn kind_h266(header: H266NALUHeader) -> &'static str {
+    if header.is_aggregation_packet() {
+        "aggregate"
+    } else if header.is_fragmentation_unit() {
+        "fragment"
+    } else if header.is_irap() {
+        "IRAP"
+    } else {
+        "other"
+    }
+}
+
+// F and Z of an H.266 header.
+fn marks_h266(header: H266NALUHeader) -> &'static str {
+    match (header.f(), header.z()) {
+        (true, true) => "F Z ",
+        (true, false) => "F ",
+        (false, true) => "Z ",
+        (false, false) => "",
+    }
+}
+
+// An H.266 header: what it is of, F and Z, the type, the layer and TID, and the header of these three.
+fn unit_h266(alloc: Global, header: H266NALUHeader) -> anyhow::Result<String> {
+    let (kind, marks) = (kind_h266(header), marks_h266(header));
+    let (nalu_type, layer, tid) = (header.nalu_type(), header.layer_id(), header.tid());
+    let again = H266NALUHeader::new_with_type(nalu_type, layer, tid).0;
+    Ok(format!(in alloc; "{kind} {marks}{nalu_type} {layer} {tid} {again:04x}")?)
+}
+
+// An H.266 fragment's header: S, E, P and the type, and the header of these four.
+fn fragment_h266(alloc: Global, header: H266FragmentationUnitHeader) -> anyhow::Result<String> {
+    let (s, e, p, fu_type) = (header.s(), header.e(), header.p(), header.fu_type());
+    let again = H266FragmentationUnitHeader::new(s, e, p, fu_type).0;
+    Ok(format!(in alloc; "{s} {e} {p} {fu_type} {again:02x}")?)
+}

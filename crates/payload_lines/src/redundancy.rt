@@ -1,0 +1,114 @@
+//! Payloads beside older ones (RFC 2198).
+
+use crate::printing::hex_of;
+use crate::words::{bytes_of, next_word};
+use anyhow::anyhow;
+use payload_core::{RedBlock, RedDecoder, RedEncoder, RedSender, RedundantBlock};
+use std::alloc::Global;
+use std::str::SplitWhitespace;
+
+/// What `new DISTANCES`, `sync DISTANCES`, `wrap`, `write` and `read PACKET` give.
+pub fn answer(
+    alloc: Global,
+    sender: &mut RedSender,
+    words: &mut SplitWhitespace<'_>,
+) -> anyhow::Result<String> {
+    let command = next_word(words)?;
+    if command == "wrap" {
+        return wrapped(alloc, sender, words);
+    }
+    if command == "write" {
+        return written(alloc, words);
+    }
+    let word = next_word(words)?;
+    if command == "read" {
+        return read(alloc, &bytes_of(alloc, word)?);
+    }
+    let distances = distances_of(alloc, word)?;
+    if command == "new" {
+        *sender = RedSender::new(alloc, &[])?;
+    }
+    sync(sender, &distances)?;
+    Ok(String::from_str(alloc, word)?)
+}
+
+// Numbers that commas part; a dash stands for none.
+fn distances_of(alloc: Global, word: &str) -> anyhow::Result<Vec<u32>> {
+    let mut distances = Vec::new(alloc);
+    if word == "-" {
+        return Ok(distances);
+    }
+    for part in word.split(',') {
+        distances.push(part.parse::<u32>()?)?;
+    }
+    Ok(distances)
+}
+
+// Takes other distances, if they are some.
+fn sync(sender: &mut RedSender, distances: &[u32]) -> anyhow::Result<()> {
+    if !RedSender::are_distances(distances) {
+        return Err(anyhow!("no distances"));
+    }
+    sender.sync(distances)?;
+    Ok(())
+}
+
+// `wrap TYPE TIME BUDGET PAYLOAD`: the packet that a payload is sent in.
+fn wrapped(
+    alloc: Global,
+    sender: &mut RedSender,
+    words: &mut SplitWhitespace<'_>,
+) -> anyhow::Result<String> {
+    let pt = next_word(words)?.parse::<u8>()?;
+    let time = next_word(words)?.parse::<u32>()?;
+    let budget = next_word(words)?.parse::<usize>()?;
+    let payload = bytes_of(alloc, next_word(words)?)?;
+    let packet = sender.wrap(pt, &payload, time, budget)?;
+    hex_of(alloc, packet.as_slice())
+}
+
+// A block from `TYPE@OFFSET=PAYLOAD`.
+fn block_of(alloc: Global, word: &str) -> anyhow::Result<RedundantBlock> {
+    let Some((pt, rest)) = word.split_once('@') else {
+        return Err(anyhow!("no block {word}"));
+    };
+    let Some((offset, payload)) = rest.split_once('=') else {
+        return Err(anyhow!("no block {word}"));
+    };
+    Ok(RedundantBlock {
+        pt: pt.parse::<u8>()?,
+        timestamp_offset: offset.parse::<u32>()?,
+        payload: bytes_of(alloc, payload)?,
+    })
+}
+
+// `write TYPE PAYLOAD BLOCK ..`: the packet of a primary payload behind blocks.
+fn written(alloc: Global, words: &mut SplitWhitespace<'_>) -> anyhow::Result<String> {
+    let pt = next_word(words)?.parse::<u8>()?;
+    let payload = bytes_of(alloc, next_word(words)?)?;
+    let mut blocks = Vec::new(alloc);
+    for word in words {
+        blocks.push(block_of(alloc, word)?)?;
+    }
+    let packet = RedEncoder::encode(alloc, pt, &payload, &blocks)?;
+    hex_of(alloc, packet.as_slice())
+}
+
+// A block as it is written for `write`, and a star behind the primary payload.
+fn block_text(alloc: Global, block: RedBlock<'_>) -> anyhow::Result<String> {
+    let payload = hex_of(alloc, block.payload)?;
+    let star = if block.primary { "*" } else { "" };
+    Ok(format!(in alloc; "{}@{}={payload}{star}", block.pt, block.timestamp_offset)?)
+}
+
+// The blocks of a packet, parted by blanks.
+fn read(alloc: Global, packet: &[u8]) -> anyhow::Result<String> {
+    let mut text = String::new(alloc);
+    for block in RedDecoder::decode(packet)? {
+        if !text.is_empty() {
+            text.push(' ')?;
+        }
+        text.push_str(block_text(alloc, block)?.as_str())?;
+    }
+    Ok(text)
+}
