@@ -6,12 +6,22 @@ use sdp_formats_forms::Text;
 use std::fmt;
 
 /// A key and its value, as `minptime=10`.
-#[derive(Debug, PartialEq, Eq, Drop)]
+#[derive(Debug, PartialEq, Eq)]
 pub struct Pair {
     /// The key.
     pub key: Text,
     /// The value.
     pub value: Text,
+}
+
+/// Written out, so that who lets one go needs nothing of what is inside.
+impl Drop for Pair {
+    fn drop(self) {
+        let Pair {
+            key: _key,
+            value: _value,
+        } = self;
+    }
 }
 
 impl fmt::Display for Pair {

@@ -1,5 +1,5 @@
 -- Sections as they are printed (RFC 8866 5.13, 5.14).
-use Rattle.std.specs.Prelude.{ℕ, not, List, [], ◌∷◌, map, codes, if◌then◌else◌}
+use Rattle.std.specs.Prelude.{ℕ, not, List, [], ◌∷◌, Option, None, Some, map, codes, if◌then◌else◌}
 use Rattle.std.specs.Fmt.{decimal}
 use Rattle.std.specs.Option.{option_map}
 use Rattle.sdp_formats_forms.specs.Joined.{spelled, joined, maybe_text}
@@ -49,6 +49,33 @@ listed_text _ = []
 -- a line with a value behind its name
 abbrev pub named : List ℕ → List ℕ → List ℕ
 named name value = spelled (name ∷ value ∷ line_end ∷ [])
+
+-- the same of a value that may have a text
+abbrev pub named_output : List ℕ → Option (List ℕ) → Option (List ℕ)
+named_output name None = None
+named_output name (Some value) = Some (named name value)
+
+-- the line of an attribute that is a plain word
+abbrev pub flag_text : MediaAttribute → List ℕ
+flag_text RecvOnly = codes "a=recvonly\r\n"
+flag_text SendRecv = codes "a=sendrecv\r\n"
+flag_text SendOnly = codes "a=sendonly\r\n"
+flag_text Inactive = codes "a=inactive\r\n"
+flag_text RtcpMux = codes "a=rtcp-mux\r\n"
+flag_text RtcpMuxOnly = codes "a=rtcp-mux-only\r\n"
+flag_text RtcpRsize = codes "a=rtcp-rsize\r\n"
+flag_text EndOfCandidates = codes "a=end-of-candidates\r\n"
+flag_text _ = []
+
+-- an attribute of several parts
+abbrev pub parted_text : MediaAttribute → List ℕ
+parted_text (ExtMap id ext) = spelled (codes "a=extmap:" ∷ decimal id ∷ codes " " ∷ uri_of ext ∷ line_end ∷ [])
+parted_text (RtpMap pt value) = spelled (codes "a=rtpmap:" ∷ decimal pt ∷ codes " " ∷ rtp_map_text value
+    ∷ line_end ∷ [])
+parted_text (RtcpFb pt value) = spelled (codes "a=rtcp-fb:" ∷ decimal pt ∷ codes " " ∷ value ∷ line_end ∷ [])
+parted_text (Ssrc ssrc attr value) = spelled (codes "a=ssrc:" ∷ decimal ssrc ∷ codes " " ∷ attr ∷ codes ":" ∷ value
+    ∷ line_end ∷ [])
+parted_text _ = []
 
 -- the line of an attribute
 unfoldable pub attribute_text : MediaAttribute → List ℕ

@@ -3,6 +3,7 @@
 
 mod candidate;
 mod consistency;
+mod direction;
 mod fingerprint;
 mod lookups;
 mod media;

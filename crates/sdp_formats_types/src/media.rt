@@ -1,7 +1,7 @@
 //! Media sections.
 
 ghost use Rattle.std.specs.Prelude.{◌≡◌};
-ghost use Rattle.sdp_formats_types.specs.Media.{is_media, is_channel, proto_text, is_direction, direction_attribute};
+ghost use Rattle.sdp_formats_types.specs.Media.{is_media, is_channel, proto_text};
 
 use crate::candidate::Candidate;
 use crate::fingerprint::Fingerprint;
@@ -9,7 +9,7 @@ use crate::session::Bandwidth;
 use crate::setup::Setup;
 use crate::streams::{Msid, RestrictionId, RidDirection, Simulcast};
 use payload_core_base::Codec;
-use rtp_wire::{Direction, Extension, Frequency, Mid, Pt, Ssrc};
+use rtp_wire::{Extension, Frequency, Mid, Pt, Ssrc};
 use sdp_formats_forms::{Listed, Maybe, Text};
 use sdp_formats_params::{FormatParam, Pair};
 use std::fmt;
@@ -92,7 +92,7 @@ impl fmt::Display for MediaType {
 }
 
 /// A section: its line `m=` and what follows up to the next (RFC 8866 5.14).
-#[derive(Debug, Drop)]
+#[derive(Debug)]
 pub struct MediaLine {
     /// What it carries.
     pub typ: MediaType,
@@ -106,6 +106,20 @@ pub struct MediaLine {
     pub bw: Option<Bandwidth>,
     /// The attributes, in order (RFC 8866 5.13).
     pub attrs: Listed<MediaAttribute>,
+}
+
+/// Written out, so that who lets one go needs nothing of what is inside.
+impl Drop for MediaLine {
+    fn drop(self) {
+        let MediaLine {
+            typ: _typ,
+            disabled: _disabled,
+            proto: _proto,
+            pts: _pts,
+            bw: _bw,
+            attrs: _attrs,
+        } = self;
+    }
 }
 
 /// What `a=rtpmap` says of a payload type (RFC 8866 6.6).
@@ -133,7 +147,7 @@ impl fmt::Display for RtpMap {
 }
 
 /// An attribute of a section (RFC 8866 5.13).
-#[derive(Debug, Drop)]
+#[derive(Debug)]
 pub enum MediaAttribute {
     /// `a=rtcp` (RFC 3605 2.1).
     Rtcp(Text),
@@ -236,30 +250,44 @@ pub enum MediaAttribute {
     Unused(Text),
 }
 
-impl MediaAttribute {
-    /// Whether it is one of the four directions.
-    pub fn is_direction(&self) -> bool
-        ensures { result ≡ is_direction self.now }
-    {
-        matches!(
-            self,
-            MediaAttribute::RecvOnly
-                | MediaAttribute::SendRecv
-                | MediaAttribute::SendOnly
-                | MediaAttribute::Inactive
-        )
-    }
-}
-
-impl From<Direction> for MediaAttribute {
-    ghost from_gives = { λ d a. a ≡ direction_attribute d };
-
-    fn from(direction: Direction) -> MediaAttribute {
-        match direction {
-            Direction::SendOnly => MediaAttribute::SendOnly,
-            Direction::RecvOnly => MediaAttribute::RecvOnly,
-            Direction::SendRecv => MediaAttribute::SendRecv,
-            Direction::Inactive => MediaAttribute::Inactive,
+/// Written out, so that who lets one go needs nothing of what is inside.
+impl Drop for MediaAttribute {
+    fn drop(self) {
+        match self {
+            Self::Rtcp(_text) | Self::IceUfrag(_text) | Self::IcePwd(_text) => {}
+            Self::IceOptions(_text) | Self::SctpInit(_text) | Self::Unused(_text) => {}
+            Self::Fingerprint(_fingerprint) => {}
+            Self::Setup(_setup) => {}
+            Self::Mid(_mid) => {}
+            Self::SctpPort(_port) => {}
+            Self::MaxMessageSize(_size) => {}
+            Self::ExtMap { id: _id, ext: _ext } => {}
+            Self::RecvOnly | Self::SendRecv | Self::SendOnly | Self::Inactive => {}
+            Self::RtcpMux | Self::RtcpMuxOnly | Self::RtcpRsize | Self::EndOfCandidates => {}
+            Self::Msid(_msid) => {}
+            Self::Candidate(_candidate) => {}
+            Self::RtpMap { pt: _, value: _map } => {}
+            Self::RtcpFb { pt: _, value: _fb } => {}
+            Self::Fmtp {
+                pt: _,
+                values: _values,
+            } => {}
+            Self::Rid {
+                id: _id,
+                direction: _direction,
+                pt: _types,
+                restriction: _restriction,
+            } => {}
+            Self::Simulcast(_simulcast) => {}
+            Self::SsrcGroup {
+                semantics: _semantics,
+                ssrcs: _ssrcs,
+            } => {}
+            Self::Ssrc {
+                ssrc: _ssrc,
+                attr: _attr,
+                value: _value,
+            } => {}
         }
     }
 }

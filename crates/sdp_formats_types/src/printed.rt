@@ -5,6 +5,21 @@ use sdp_formats_forms::{Joined, Text};
 use sdp_formats_params::{FormatParam, Pair};
 use std::fmt;
 
+/// A line with a value behind its name: the name, and the value.
+#[derive(Drop)]
+pub struct Named<'a, T>(pub &'a str, pub &'a T);
+
+impl<'a, T: fmt::Display> fmt::Display for Named<'a, T> {
+    ghost use Rattle.sdp_formats_types.specs.PrintedMedia.{named_output};
+
+    ghost output = { λ n. named_output n.0.now (T.Display.output n.1.now) };
+
+    fn fmt<W: fmt::Write>(&self, f: &mut fmt::Formatter<W>) -> fmt::Result {
+        let (name, value) = (self.0, self.1);
+        write!(f, "{name}{value}\r\n")
+    }
+}
+
 /// Format parameters with semicolons between.
 #[derive(Drop)]
 pub struct Params<'a>(pub &'a [FormatParam]);

@@ -1,12 +1,13 @@
 //! Sections and their attributes as they are printed (RFC 8866 5.13, 5.14).
 
 ghost use Rattle.std.specs.Prelude.{◌≡◌};
-ghost use Rattle.sdp_formats_types.specs.PrintedMedia.{port_of};
+ghost use Rattle.sdp_formats_types.specs.PrintedMedia.{flag_text, port_of};
 
 use crate::media::{MediaAttribute, MediaLine};
-use crate::printed::{Params, RidRestrictions, RidTypes, Sources, Types};
+use crate::printed::{Named, Params, RidRestrictions, RidTypes, Sources, Types};
 use sdp_formats_forms::{Joined, Maybe};
 use std::fmt;
+use std::fmt::Display;
 
 /// Its line with its end; nothing for an `a=fmtp` without parameters, and for a simulcast that was made up or names no
 /// layer.
@@ -19,38 +20,72 @@ impl fmt::Display for MediaAttribute {
     #[tactic(auto, unfolding(crate::specs::PrintedMedia::attribute_text))]
     fn fmt<W: fmt::Write>(&self, f: &mut fmt::Formatter<W>) -> fmt::Result {
         match self {
-            MediaAttribute::Rtcp(value) => write!(f, "a=rtcp:{value}\r\n"),
-            MediaAttribute::IceUfrag(value) => write!(f, "a=ice-ufrag:{value}\r\n"),
-            MediaAttribute::IcePwd(value) => write!(f, "a=ice-pwd:{value}\r\n"),
-            MediaAttribute::IceOptions(value) => write!(f, "a=ice-options:{value}\r\n"),
-            MediaAttribute::Fingerprint(value) => write!(f, "a=fingerprint:{value}\r\n"),
-            MediaAttribute::Setup(value) => write!(f, "a=setup:{value}\r\n"),
-            MediaAttribute::Mid(value) => write!(f, "a=mid:{value}\r\n"),
-            MediaAttribute::SctpPort(port) => write!(f, "a=sctp-port:{port}\r\n"),
-            MediaAttribute::MaxMessageSize(size) => write!(f, "a=max-message-size:{size}\r\n"),
-            MediaAttribute::SctpInit(value) => write!(f, "a=sctp-init:{value}\r\n"),
+            MediaAttribute::Rtcp(value) => Named("a=rtcp:", value).fmt(f),
+            MediaAttribute::IceUfrag(value) => Named("a=ice-ufrag:", value).fmt(f),
+            MediaAttribute::IcePwd(value) => Named("a=ice-pwd:", value).fmt(f),
+            MediaAttribute::IceOptions(value) => Named("a=ice-options:", value).fmt(f),
+            MediaAttribute::Fingerprint(value) => Named("a=fingerprint:", value).fmt(f),
+            MediaAttribute::Setup(value) => Named("a=setup:", value).fmt(f),
+            MediaAttribute::Mid(value) => Named("a=mid:", value).fmt(f),
+            MediaAttribute::SctpPort(port) => Named("a=sctp-port:", port).fmt(f),
+            MediaAttribute::MaxMessageSize(size) => Named("a=max-message-size:", size).fmt(f),
+            MediaAttribute::SctpInit(value) => Named("a=sctp-init:", value).fmt(f),
+            MediaAttribute::Msid(value) => Named("a=msid:", value).fmt(f),
+            MediaAttribute::Candidate(value) => Named("a=", value).fmt(f),
+            MediaAttribute::Unused(value) => Named("a=", value).fmt(f),
+            MediaAttribute::RecvOnly
+            | MediaAttribute::SendRecv
+            | MediaAttribute::SendOnly
+            | MediaAttribute::Inactive
+            | MediaAttribute::RtcpMux
+            | MediaAttribute::RtcpMuxOnly
+            | MediaAttribute::RtcpRsize
+            | MediaAttribute::EndOfCandidates => f.write_str(flag_line(self)),
+            MediaAttribute::Simulcast(value) => value.fmt(f),
+            MediaAttribute::Fmtp { .. }
+            | MediaAttribute::Rid { .. }
+            | MediaAttribute::SsrcGroup { .. } => ListedAttribute(self).fmt(f),
+            _ => PartedAttribute(self).fmt(f),
+        }
+    }
+}
+
+// The line of an attribute that is a plain word, with its end; nothing for another.
+fn flag_line(attribute: &MediaAttribute) -> &'static str
+    ensures { result.now ≡ flag_text attribute.now }
+{
+    match attribute {
+        MediaAttribute::RecvOnly => "a=recvonly\r\n",
+        MediaAttribute::SendRecv => "a=sendrecv\r\n",
+        MediaAttribute::SendOnly => "a=sendonly\r\n",
+        MediaAttribute::Inactive => "a=inactive\r\n",
+        MediaAttribute::RtcpMux => "a=rtcp-mux\r\n",
+        MediaAttribute::RtcpMuxOnly => "a=rtcp-mux-only\r\n",
+        MediaAttribute::RtcpRsize => "a=rtcp-rsize\r\n",
+        MediaAttribute::EndOfCandidates => "a=end-of-candidates\r\n",
+        _ => "",
+    }
+}
+
+// An attribute of several parts; nothing for another.
+#[derive(Drop)]
+struct PartedAttribute<'a>(&'a MediaAttribute);
+
+impl fmt::Display for PartedAttribute<'_> {
+    ghost use Rattle.std.specs.Prelude.{Some};
+    ghost use Rattle.sdp_formats_types.specs.PrintedMedia.{parted_text};
+
+    ghost output = { λ a. Some (parted_text a.0.now) };
+
+    fn fmt<W: fmt::Write>(&self, f: &mut fmt::Formatter<W>) -> fmt::Result {
+        match self.0 {
             MediaAttribute::ExtMap { id, ext } => write!(f, "a=extmap:{id} {ext}\r\n"),
-            MediaAttribute::RecvOnly => f.write_str("a=recvonly\r\n"),
-            MediaAttribute::SendRecv => f.write_str("a=sendrecv\r\n"),
-            MediaAttribute::SendOnly => f.write_str("a=sendonly\r\n"),
-            MediaAttribute::Inactive => f.write_str("a=inactive\r\n"),
-            MediaAttribute::Msid(value) => write!(f, "a=msid:{value}\r\n"),
-            MediaAttribute::RtcpMux => f.write_str("a=rtcp-mux\r\n"),
-            MediaAttribute::RtcpMuxOnly => f.write_str("a=rtcp-mux-only\r\n"),
-            MediaAttribute::RtcpRsize => f.write_str("a=rtcp-rsize\r\n"),
-            MediaAttribute::Candidate(value) => write!(f, "a={value}\r\n"),
-            MediaAttribute::EndOfCandidates => f.write_str("a=end-of-candidates\r\n"),
             MediaAttribute::RtpMap { pt, value } => write!(f, "a=rtpmap:{pt} {value}\r\n"),
             MediaAttribute::RtcpFb { pt, value } => write!(f, "a=rtcp-fb:{pt} {value}\r\n"),
-            MediaAttribute::Simulcast(value) => write!(f, "{value}"),
             MediaAttribute::Ssrc { ssrc, attr, value } => {
                 write!(f, "a=ssrc:{ssrc} {attr}:{value}\r\n")
             }
-            MediaAttribute::Unused(value) => write!(f, "a={value}\r\n"),
-            listed => {
-                let listed = ListedAttribute(listed);
-                write!(f, "{listed}")
-            }
+            _ => Ok(()),
         }
     }
 }

@@ -21,7 +21,7 @@ pub struct Sdp {
 }
 
 /// What stands before the first section.
-#[derive(Debug, Drop)]
+#[derive(Debug)]
 pub struct Session {
     /// The number of the session (RFC 8866 5.2).
     pub id: SessionId,
@@ -29,6 +29,17 @@ pub struct Session {
     pub bw: Option<Bandwidth>,
     /// The attributes, in order (RFC 8866 5.13).
     pub attrs: Listed<SessionAttribute>,
+}
+
+/// Written out, so that who lets one go needs nothing of what is inside.
+impl Drop for Session {
+    fn drop(self) {
+        let Session {
+            id: _id,
+            bw: _bw,
+            attrs: _attrs,
+        } = self;
+    }
 }
 
 impl Session {
@@ -67,7 +78,7 @@ impl fmt::Display for Bandwidth {
 }
 
 /// An attribute of the session (RFC 8866 5.13).
-#[derive(Debug, Drop)]
+#[derive(Debug)]
 pub enum SessionAttribute {
     /// `a=group` (RFC 5888 5).
     Group {
@@ -103,4 +114,26 @@ pub enum SessionAttribute {
     EndOfCandidates,
     /// Any other attribute: what stands behind `a=`.
     Unused(Text),
+}
+
+/// Written out, so that who lets one go needs nothing of what is inside.
+impl Drop for SessionAttribute {
+    fn drop(self) {
+        match self {
+            Self::Group {
+                typ: _typ,
+                mids: _mids,
+            } => {}
+            Self::MsidSemantic {
+                semantic: _semantic,
+                stream_ids: _stream_ids,
+            } => {}
+            Self::AllowMixedExts | Self::IceLite | Self::EndOfCandidates => {}
+            Self::IceUfrag(_text) | Self::IcePwd(_text) => {}
+            Self::IceOptions(_text) | Self::Unused(_text) => {}
+            Self::Fingerprint(_fingerprint) => {}
+            Self::Setup(_setup) => {}
+            Self::Candidate(_candidate) => {}
+        }
+    }
 }

@@ -5,11 +5,13 @@ ghost use Rattle.std.specs.String.{string_bytes};
 ghost use Rattle.sdp_formats_types.specs.PrintedSession.{sdp_text};
 
 use crate::media::MediaLine;
-use crate::printed::{Mids, Words};
+use crate::printed::{Mids, Named, Words};
 use crate::session::{Sdp, Session, SessionAttribute};
-use sdp_formats_forms::{Joined, Maybe};
+use rtp_wire::Mid;
+use sdp_formats_forms::{Joined, Maybe, Text};
 use std::alloc::{AllocError, Global};
 use std::fmt;
+use std::fmt::Display;
 
 /// Its line with its end.
 impl fmt::Display for SessionAttribute {
@@ -21,13 +23,7 @@ impl fmt::Display for SessionAttribute {
     #[tactic(auto, unfolding(crate::specs::PrintedSession::attribute_text))]
     fn fmt<W: fmt::Write>(&self, f: &mut fmt::Formatter<W>) -> fmt::Result {
         match self {
-            SessionAttribute::Group { typ, mids } => {
-                if mids.as_slice().is_empty() {
-                    return write!(f, "a=group:{typ}\r\n");
-                }
-                let mids = Mids(mids.as_slice());
-                write!(f, "a=group:{typ} {mids}\r\n")
-            }
+            SessionAttribute::Group { typ, mids } => Group(typ, mids.as_slice()).fmt(f),
             SessionAttribute::MsidSemantic {
                 semantic,
                 stream_ids,
@@ -37,15 +33,35 @@ impl fmt::Display for SessionAttribute {
             }
             SessionAttribute::AllowMixedExts => f.write_str("a=extmap-allow-mixed\r\n"),
             SessionAttribute::IceLite => f.write_str("a=ice-lite\r\n"),
-            SessionAttribute::IceUfrag(value) => write!(f, "a=ice-ufrag:{value}\r\n"),
-            SessionAttribute::IcePwd(value) => write!(f, "a=ice-pwd:{value}\r\n"),
-            SessionAttribute::IceOptions(value) => write!(f, "a=ice-options:{value}\r\n"),
-            SessionAttribute::Fingerprint(value) => write!(f, "a=fingerprint:{value}\r\n"),
-            SessionAttribute::Setup(value) => write!(f, "a=setup:{value}\r\n"),
-            SessionAttribute::Candidate(value) => write!(f, "a={value}\r\n"),
+            SessionAttribute::IceUfrag(value) => Named("a=ice-ufrag:", value).fmt(f),
+            SessionAttribute::IcePwd(value) => Named("a=ice-pwd:", value).fmt(f),
+            SessionAttribute::IceOptions(value) => Named("a=ice-options:", value).fmt(f),
+            SessionAttribute::Fingerprint(value) => Named("a=fingerprint:", value).fmt(f),
+            SessionAttribute::Setup(value) => Named("a=setup:", value).fmt(f),
+            SessionAttribute::Candidate(value) => Named("a=", value).fmt(f),
             SessionAttribute::EndOfCandidates => f.write_str("a=end-of-candidates\r\n"),
-            SessionAttribute::Unused(value) => write!(f, "a={value}\r\n"),
+            SessionAttribute::Unused(value) => Named("a=", value).fmt(f),
         }
+    }
+}
+
+// An `a=group` line: what the group means, and its sections.
+#[derive(Drop)]
+struct Group<'a>(&'a Text, &'a [Mid]);
+
+impl fmt::Display for Group<'_> {
+    ghost use Rattle.std.specs.Prelude.{Some};
+    ghost use Rattle.sdp_formats_types.specs.PrintedSession.{group_text};
+
+    ghost output = { λ g. Some (group_text g.0.now g.1.now) };
+
+    fn fmt<W: fmt::Write>(&self, f: &mut fmt::Formatter<W>) -> fmt::Result {
+        let typ = self.0;
+        if self.1.is_empty() {
+            return write!(f, "a=group:{typ}\r\n");
+        }
+        let mids = Mids(self.1);
+        write!(f, "a=group:{typ} {mids}\r\n")
     }
 }
 
