@@ -7,6 +7,7 @@ ghost use Rattle.sdp_formats_types.specs.Consistency.{is_mid};
 
 use sdp_formats::{Fingerprint, IceCreds, Listed, MediaAttribute, MediaLine, Sdp, Setup};
 use std::alloc::{AllocError, Global};
+use std::mem;
 
 /// How a browser reaches an end (RFC 8839, RFC 8842).
 #[derive(Drop)]
@@ -86,8 +87,10 @@ fn dress_section(
 ) -> Result<MediaLine, AllocError>
     ensures { IfOk result (λ s. s ≡ dressed_section transport.now section) }
 {
-    let attrs = dress_attributes(alloc, section.attrs.into_vec(), transport)?;
-    Ok(MediaLine { attrs, ..section })
+    let mut section = section;
+    let attrs = mem::replace(&mut section.attrs, Listed::new(alloc));
+    section.attrs = dress_attributes(alloc, attrs.into_vec(), transport)?;
+    Ok(section)
 }
 
 /// The text with the transport's lines behind the `a=mid` of each section: ICE's name and password, the

@@ -6,14 +6,16 @@ ghost use Rattle.sdp_formats_forms.specs.Form.{maybe};
 ghost use Rattle.sdp_formats_forms.specs.Refusals.{Gives, GivesBy, fielded};
 ghost use Rattle.sdp_formats_ice.specs.Words.{tcptype_word};
 ghost use Rattle.sdp_formats_ice.specs.Candidates.{related_in, related_field, with_rest, related_rest};
-ghost use Rattle.sdp_formats_ice.specs.Candidates.{candidate_fields, candidate_place, placed, candidate};
+ghost use Rattle.sdp_formats_ice.specs.Candidates.{tcptype_field, tcptype_rest, ufrag_field, candidate_fields};
+ghost use Rattle.sdp_formats_ice.specs.Candidates.{candidate_base, candidate_carrier, carried};
+ghost use Rattle.sdp_formats_ice.specs.Candidates.{candidate_place, placed, candidate};
 
 use crate::words::{kind_of, protocol_of, tcptype_of};
 use sdp_formats_forms::{
     Refusal, Text, behind, copied, copy, field, halves, number_16, number_32, some, split,
     stripped, text_of,
 };
-use sdp_formats_types::{Candidate, RelatedAddress, TcpType};
+use sdp_formats_types::{Candidate, Protocol, RelatedAddress, TcpType};
 use std::alloc::Global;
 
 // The fields behind a candidate's kind.
@@ -62,27 +64,67 @@ fn maybe_tcptype(word: Option<&str>) -> Result<Option<TcpType>, Refusal>
     }
 }
 
+#[tactic(auto, unfolding(crate::specs::Candidates::tcptype_field))]
+fn tcptype_field(text: Option<&str>) -> Result<(Option<TcpType>, Option<&str>), Refusal>
+    ensures { GivesBy tcptype_rest result (tcptype_field (option_copied text.entry)) }
+{
+    let (word, rest) = field(text, "tcptype ")?;
+    Ok((maybe_tcptype(word)?, rest))
+}
+
+// The name of the credentials, among fields that are passed over, up to the end.
+#[tactic(auto, unfolding(crate::specs::Candidates::ufrag_field))]
+fn ufrag_field(text: Option<&str>) -> Result<Option<&str>, Refusal>
+    ensures { GivesBy option_copied result (ufrag_field (option_copied text.entry)) }
+{
+    let (_, rest) = field(text, "generation ")?;
+    let (_, rest) = field(rest, "network-id ")?;
+    let (ufrag, rest) = field(rest, "ufrag ")?;
+    let (_, rest) = field(rest, "network-cost ")?;
+    if rest.is_some() {
+        return Err(Refusal::Unfit);
+    }
+    Ok(ufrag)
+}
+
 // What the fields behind a candidate's kind say.
 #[tactic(auto, unfolding(crate::specs::Candidates::candidate_fields))]
 fn candidate_fields(alloc: Global, tail: Option<&str>) -> Result<Fields, Refusal>
     ensures { Gives result (candidate_fields (option_copied tail.entry)) }
 {
     let (related, tail) = related_field(alloc, tail)?;
-    let (word, tail) = field(tail, "tcptype ")?;
-    let tcptype = maybe_tcptype(word)?;
-    let (_, tail) = field(tail, "generation ")?;
-    let (_, tail) = field(tail, "network-id ")?;
-    let (ufrag, tail) = field(tail, "ufrag ")?;
-    let (_, tail) = field(tail, "network-cost ")?;
-    if tail.is_some() {
-        return Err(Refusal::Unfit);
-    }
+    let (tcptype, tail) = tcptype_field(tail)?;
+    let ufrag = ufrag_field(tail)?;
     let ufrag = copied(alloc, ufrag)?;
     Ok(Fields {
         related,
         tcptype,
         ufrag,
     })
+}
+
+// The foundation, the component and what stands behind them.
+#[tactic(auto, unfolding(crate::specs::Candidates::candidate_base))]
+fn candidate_base(text: &str) -> Result<(&str, u16, &str), Refusal>
+    ensures { GivesBy placed result (candidate_base text.now) }
+{
+    let (foundation, rest) = split(text, ' ')?;
+    let foundation = some(foundation)?;
+    let (component, rest) = split(rest, ' ')?;
+    let component = number_16(component)?;
+    Ok((foundation, component, rest))
+}
+
+// The protocol, the priority and what stands behind them.
+#[tactic(auto, unfolding(crate::specs::Candidates::candidate_carrier))]
+fn candidate_carrier(text: &str) -> Result<(Protocol, u32, &str), Refusal>
+    ensures { GivesBy carried result (candidate_carrier text.now) }
+{
+    let (protocol, rest) = split(text, ' ')?;
+    let protocol = protocol_of(protocol)?;
+    let (priority, rest) = split(rest, ' ')?;
+    let priority = number_32(priority)?;
+    Ok((protocol, priority, rest))
 }
 
 // The address, the port and what stands behind `typ `.
@@ -107,14 +149,8 @@ fn candidate_place(text: &str) -> Result<(&str, u16, &str), Refusal>
 pub fn candidate(alloc: Global, value: &str) -> Result<Candidate, Refusal>
     ensures { Gives result (candidate value.now) }
 {
-    let (foundation, rest) = split(value, ' ')?;
-    let foundation = some(foundation)?;
-    let (component, rest) = split(rest, ' ')?;
-    let component_id = number_16(component)?;
-    let (proto, rest) = split(rest, ' ')?;
-    let proto = protocol_of(proto)?;
-    let (prio, rest) = split(rest, ' ')?;
-    let prio = number_32(prio)?;
+    let (foundation, component_id, rest) = candidate_base(value)?;
+    let (proto, prio, rest) = candidate_carrier(rest)?;
     let (addr, port, rest) = candidate_place(rest)?;
     let (kind, tail) = halves(rest, ' ');
     let kind = kind_of(kind)?;

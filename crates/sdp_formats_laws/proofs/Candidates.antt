@@ -11,8 +11,8 @@ use Rattle.sdp_formats_forms.specs.Joined.{maybe_text}
 use Rattle.sdp_formats_forms.specs.Numbers.{number_below}
 use Rattle.sdp_formats_forms.specs.Split.{Lacks, halves, halves_of}
 use Rattle.sdp_formats_forms.specs.Words.{behind-append}
-use Rattle.sdp_formats_ice.specs.Candidates.{candidate, candidate_fields, candidate_place, related_field}
-use Rattle.sdp_formats_ice.specs.Candidates.{related_in}
+use Rattle.sdp_formats_ice.specs.Candidates.{candidate, candidate_base, candidate_carrier, candidate_fields}
+use Rattle.sdp_formats_ice.specs.Candidates.{candidate_place, related_field, related_in, tcptype_field, ufrag_field}
 use Rattle.sdp_formats_ice.specs.Words.{kind_word, protocol_word, tcptype_word}
 use Rattle.sdp_formats_types.specs.PrintedCandidates.{candidate_text, kind_text, parts_text, protocol_text}
 use Rattle.sdp_formats_types.specs.PrintedCandidates.{related_text}
@@ -149,17 +149,26 @@ ufrag_read : (u : Option (List ℕ)) → IfSome u IsWord → field (codes "ufrag
 ufrag_read None h = refl
 ufrag_read (Some w) h = field_there (codes "ufrag ") w None h.0.0 h.1
 
+tcp_field_read : (t : Option TcpType) (u : Option (List ℕ))
+    → tcptype_field (tcp_tail t (ufrag_tail u)) ≡ Some (t, ufrag_tail u)
+unfolding tcptype_field
+tcp_field_read t u = then _ _ _ _ (tcp_read t u) (then _ _ _ _ (tcp_back t) refl)
+
+ufrag_field_read : (u : Option (List ℕ)) → IfSome u IsWord → ufrag_field (ufrag_tail u) ≡ Some u
+unfolding ufrag_field
+ufrag_field_read u h =
+    then _ _ _ _ (generation_none u)
+    (then _ _ _ _ (network_none u)
+    (then _ _ _ _ (ufrag_read u h) refl))
+
 fields_read : (r : Option RelatedAddress) (t : Option TcpType) (u : Option (List ℕ)) → IfSome r IsPrintableRelated
     → IfSome u IsWord → candidate_fields (related_tail r (tcp_tail t (ufrag_tail u)))
     ≡ Some (record { related = r; tcptype = t; ufrag = u })
 unfolding candidate_fields
 fields_read r t u related ufrag =
     then _ _ _ _ (related_read r t u related)
-    (then _ _ _ _ (tcp_read t u)
-    (then _ _ _ _ (tcp_back t)
-    (then _ _ _ _ (generation_none u)
-    (then _ _ _ _ (network_none u)
-    (then _ _ _ _ (ufrag_read u ufrag) refl)))))
+    (then _ _ _ _ (tcp_field_read t u)
+    (then _ _ _ _ (ufrag_field_read u ufrag) refl))
 
 -- words that stand for a choice
 protocol_back : (p : Protocol) → (protocol_word (protocol_text p) ≡ Some p) × Lacks 32 (protocol_text p)
@@ -178,9 +187,32 @@ kind_back Relayed = (refl, lacks 32 (codes "relay") refl)
 abbrev pub place_text : Candidate → List ℕ → List ℕ
 place_text c tail = c.addr ++ 32 ∷ (decimal c.port ++ 32 ∷ (codes "typ " ++ (kind_text c.kind ++ tail)))
 
+abbrev pub carrier_text : Candidate → List ℕ → List ℕ
+carrier_text c tail = protocol_text c.proto ++ 32 ∷ (decimal c.prio ++ 32 ∷ place_text c tail)
+
 abbrev pub body_text : Candidate → List ℕ → List ℕ
-body_text c tail = c.foundation ++ 32 ∷ (decimal c.component_id ++ 32 ∷ (protocol_text c.proto
-    ++ 32 ∷ (decimal c.prio ++ 32 ∷ place_text c tail)))
+body_text c tail = c.foundation ++ 32 ∷ (decimal c.component_id ++ 32 ∷ carrier_text c tail)
+
+base_read : (c : Candidate) (tail : List ℕ) → IsWord c.foundation → c.component_id < 2 ^ 16
+    → candidate_base (body_text c tail) ≡ Some (c.foundation, c.component_id, carrier_text c tail)
+unfolding candidate_base
+base_read c tail h small =
+    then _ _ _ _ (split_first-at 32 c.foundation (decimal c.component_id ++ 32 ∷ carrier_text c tail) h.1)
+    (then _ _ _ _ (text_some c.foundation h.0.0)
+    (then _ _ _ _ (split_first-at 32 (decimal c.component_id) (carrier_text c tail)
+    (Lacks-decimal 32 c.component_id (lit< tt) (omega (small, arith))))
+    (then _ _ _ _ (number_below-decimal (2 ^ 16) c.component_id small (lit≤ tt)) refl)))
+
+carrier_read : (c : Candidate) (tail : List ℕ) → c.prio < 2 ^ 32
+    → candidate_carrier (carrier_text c tail) ≡ Some (c.proto, c.prio, place_text c tail)
+unfolding candidate_carrier
+carrier_read c tail small =
+    then _ _ _ _ (split_first-at 32 (protocol_text c.proto) (decimal c.prio ++ 32 ∷ place_text c tail)
+    (protocol_back c.proto).1)
+    (then _ _ _ _ (protocol_back c.proto).0
+    (then _ _ _ _ (split_first-at 32 (decimal c.prio) (place_text c tail)
+    (Lacks-decimal 32 c.prio (lit< tt) (omega (small, arith))))
+    (then _ _ _ _ (number_below-decimal (2 ^ 32) c.prio small (lit≤ tt)) refl)))
 
 place_read : (c : Candidate) (tail : List ℕ) → IsWord c.addr → c.port < 2 ^ 16
     → candidate_place (place_text c tail) ≡ Some (c.addr, c.port, kind_text c.kind ++ tail)
@@ -198,23 +230,12 @@ unfolding candidate
 body_read c h =
     let tail = behind_blank (tail_of c) in
     let kind = halves-blank (kind_text c.kind) (tail_of c) (kind_back c.kind).1 in
-    then _ _ _ _ (split_first-at 32 c.foundation (decimal c.component_id ++ 32 ∷ (protocol_text c.proto
-    ++ 32 ∷ (decimal c.prio ++ 32 ∷ place_text c tail))) h.0.1)
-    (then _ _ _ _ (text_some c.foundation h.0.0.0)
-    (then _ _ _ _ (split_first-at 32 (decimal c.component_id) (protocol_text c.proto
-    ++ 32 ∷ (decimal c.prio ++ 32 ∷ place_text c tail)) (Lacks-decimal 32 c.component_id (lit< tt) (omega
-    (h.1, arith))))
-    (then _ _ _ _ (number_below-decimal (2 ^ 16) c.component_id h.1 (lit≤ tt))
-    (then _ _ _ _ (split_first-at 32 (protocol_text c.proto) (decimal c.prio ++ 32 ∷ place_text c tail)
-    (protocol_back c.proto).1)
-    (then _ _ _ _ (protocol_back c.proto).0
-    (then _ _ _ _ (split_first-at 32 (decimal c.prio) (place_text c tail)
-    (Lacks-decimal 32 c.prio (lit< tt) (omega (h.2, arith))))
-    (then _ _ _ _ (number_below-decimal (2 ^ 32) c.prio h.2 (lit≤ tt))
+    then _ _ _ _ (base_read c tail h.0 h.1)
+    (then _ _ _ _ (carrier_read c tail h.2)
     (then _ _ _ _ (place_read c tail h.3 h.4)
     (then _ _ _ _ (ap (λ (x : List ℕ × Option (List ℕ)). kind_word x.0) kind ∙ (kind_back c.kind).0)
     (then _ _ _ _ (ap (λ (x : List ℕ × Option (List ℕ)). candidate_fields x.1) kind
-    ∙ fields_read c.related c.tcptype c.ufrag h.5 h.6) refl))))))))))
+    ∙ fields_read c.related c.tcptype c.ufrag h.5 h.6) refl))))
 
 -- the text of a candidate, behind its name
 pub candidate_body : Candidate → List ℕ
