@@ -136,7 +136,7 @@ fn report_many(rt: &HostRuntime, streams: u32) -> bool {
     };
     match carry(rt, &cases()[0], load) {
         Ok(times) => {
-            let opened = times.opened.as_nanos() / u128::from(streams);
+            let opened = times.opened.as_nanos() / u128::from(streams).max(1);
             let received = times.received.as_nanos() / u128::from(load.count);
             let _ = println!(*rt;
                 "{streams} streams: {} datagrams of the last, and a unit of each: ok",

@@ -17,9 +17,8 @@ pub fn usual_size(codec: Codec) -> usize {
 /// A sample of a codec with so many bytes behind what it begins with.
 pub fn sized_sample(alloc: Global, case: &Case, size: usize) -> Result<Vec<u8>, AllocError> {
     let mut sample = Vec::from_slice(alloc, head_of(case.codec, size))?;
-    while sample.len() < size {
-        sample.push(8)?;
-    }
+    let mut rest = vec![in alloc; 8; size.saturating_sub(sample.len())]?;
+    sample.append(&mut rest)?;
     Ok(sample)
 }
 
