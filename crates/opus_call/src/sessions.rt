@@ -24,24 +24,21 @@ pub(crate) fn lines_that_would_be_read_otherwise_are_refused(
         typ: text(alloc, "BUNDLE")?,
         mids: Listed::new(alloc),
     };
-    let known = SessionAttribute::Unused(text(alloc, "ice-lite")?);
-    let two_lines = SessionAttribute::Unused(text(alloc, "x\r\na=ice-lite")?);
-    let own = SessionAttribute::Unused(text(alloc, "x-own:1")?);
-    Ok(
-        is_refused(alloc, group)?
-            && is_refused(alloc, known)?
-            && is_refused(alloc, two_lines)?
-            && !is_refused(alloc, own)?
-            && !is_refused(alloc, SessionAttribute::AllowMixedExts)?,
-    )
+    let group = is_refused(alloc, group)?;
+    let known = is_line_refused(alloc, "ice-lite")?;
+    let two_lines = is_line_refused(alloc, "x\r\na=ice-lite")?;
+    let own = is_line_refused(alloc, "x-own:1")?;
+    let mixed = is_refused(alloc, SessionAttribute::AllowMixedExts)?;
+    Ok(group && known && two_lines && !own && !mixed)
 }
 
-fn is_refused(alloc: Global, attribute: SessionAttribute) -> anyhow::Result<bool> {
-    match end_with(alloc, attributes(alloc, attribute)?) {
-        Ok(_) => Ok(false),
-        Err(EndError::NotWritable) => Ok(true),
-        Err(refusal) => Err(refusal.into()),
-    }
+fn is_line_refused(alloc: Global, line: &str) -> Result<bool, AllocError> {
+    is_refused(alloc, SessionAttribute::Unused(text(alloc, line)?))
+}
+
+fn is_refused(alloc: Global, attribute: SessionAttribute) -> Result<bool, AllocError> {
+    let end = end_with(alloc, attributes(alloc, attribute)?);
+    Ok(matches!(end, Err(EndError::NotWritable)))
 }
 
 fn attributes(
