@@ -1,5 +1,5 @@
-//! Worked rows that the program's lines can't say: datagrams handed in as one list, and samples whose time is at another
-//! clock than their stream's.
+//! Worked rows that the program's lines can't say: datagrams handed in as one list, and samples whose time is at
+//! another clock than their stream's.
 
 use anyhow::ensure;
 use rtp_media::{Datagram, End, PollFault, Received, ReceivedAll, SampleError, StreamParams, Unit};

@@ -16,8 +16,8 @@ struct Values<'a> {
     level_id: Option<&'a str>,
 }
 
-/// `profile CODEC VALUE ..`: what a codec's values mean, of H.264 a profile-level-id in hexadecimal, of the others a profile-id, a tier-flag
-/// and a level-id, where a dash stands for one that isn't given.
+/// `profile CODEC VALUE ..`: what a codec's values mean, of H.264 a profile-level-id in hexadecimal, of the others a
+/// profile-id, a tier-flag and a level-id, where a dash stands for one that isn't given.
 pub fn profile(alloc: Global, words: &mut SplitWhitespace<'_>) -> anyhow::Result<String> {
     let codec = next_word(words)?;
     if codec == "H264" {
