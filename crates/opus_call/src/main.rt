@@ -4,6 +4,7 @@
 #![tactic(auto)]
 
 mod carrying;
+mod faults;
 mod rows;
 mod sessions;
 mod setting;
@@ -11,6 +12,7 @@ mod silence;
 mod stopped;
 
 use carrying::carry;
+use faults::{an_input_that_takes_more_reads, reads_and_writes_that_fail};
 use rows::{a_time_in_milliseconds, a_time_that_does_not_fit, receive_all_hands_out_in_order};
 use rtp_media::{Codec, Distances, Played};
 use sessions::{
@@ -103,6 +105,14 @@ fn print_rows(rt: &impl Print, alloc: Global) -> anyhow::Result<bool> {
         (
             "lines that would be read otherwise",
             lines_that_would_be_read_otherwise_are_refused(alloc)?,
+        ),
+        (
+            "reads and writes that fail",
+            reads_and_writes_that_fail(alloc),
+        ),
+        (
+            "an input that takes more reads",
+            an_input_that_takes_more_reads(alloc),
         ),
     ];
     let mut all_are_right = true;

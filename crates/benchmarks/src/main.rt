@@ -1,0 +1,24 @@
+//! How long headers, windows, payload formats, the buffer and session texts take, beside plain copies. Standard input
+//! is the session text. Counts are printed on standard output, times on standard error.
+#![tactic(auto)]
+
+mod buffers;
+mod formats;
+mod h26x;
+mod headers;
+mod line;
+mod measured;
+mod payloads;
+mod samples;
+mod tally;
+mod texts;
+
+use std::io;
+
+fn main(rt: HostRuntime) -> anyhow::Result<()> {
+    let text = io::read_to_string(rt.alloc(), rt.reader())?;
+    headers::measure(&rt)?;
+    payloads::measure(&rt)?;
+    h26x::measure(&rt)?;
+    texts::measure(&rt, text.as_str())
+}

@@ -1,0 +1,62 @@
+//! Rows as JSON.
+
+use sdp_formats_json::{
+    Codec, CodecSpec, FormatParams, Frequency, PayloadParams, Pt, row_from_json, row_to_json,
+};
+
+fn opus() -> PayloadParams {
+    let spec = CodecSpec {
+        codec: Codec::Opus,
+        clock_rate: Frequency::FORTY_EIGHT_KHZ,
+        channels: Some(2),
+        format: FormatParams::parse_line("minptime=10;useinbandfec=1"),
+    };
+    PayloadParams::new(Pt::from(111), None, spec).with_red(Pt::from(63))
+}
+
+fn video(pt: u8, resend: u8, codec: Codec, format: &str) -> PayloadParams {
+    let spec = CodecSpec {
+        codec,
+        clock_rate: Frequency::NINETY_KHZ,
+        channels: None,
+        format: FormatParams::parse_line(format),
+    };
+    PayloadParams::new(Pt::from(pt), Some(Pt::from(resend)), spec)
+}
+
+fn print_row(rt: &HostRuntime, row: &PayloadParams) -> anyhow::Result<()> {
+    let text = row_to_json(rt.alloc(), row)?;
+    println!(*rt; "{text}")?;
+    let again = row_from_json(rt.alloc(), text.as_str())?;
+    let same = again == *row && again.is_locked() == row.is_locked();
+    let (pt, codec) = (again.pt(), again.spec().codec);
+    Ok(println!(*rt; "  type {pt}: {codec}, read back as it is: {same}")?)
+}
+
+fn print_line(rt: &HostRuntime, line: &str) -> anyhow::Result<()> {
+    match row_from_json(rt.alloc(), line) {
+        Ok(row) => print_row(rt, &row),
+        Err(error) => Ok(println!(*rt; "{line}: {error}")?),
+    }
+}
+
+/// Prints some rows as JSON and reads them back; then reads the rows whose JSON stands on lines, and prints each as JSON
+/// again, or why it is none.
+pub fn print_rows(rt: &HostRuntime, lines: &str) -> anyhow::Result<()> {
+    print_row(rt, &opus())?;
+    print_row(rt, &video(96, 97, Codec::Vp8, ""))?;
+    let h264 = "level-asymmetry-allowed=1;packetization-mode=1;profile-level-id=42e01f";
+    print_row(rt, &video(102, 103, Codec::H264, h264))?;
+    let mut h265 = video(
+        104,
+        105,
+        Codec::H265,
+        "profile-id=1;tier-flag=0;level-id=93",
+    );
+    h265.lock();
+    print_row(rt, &h265)?;
+    for line in lines.lines() {
+        print_line(rt, line)?;
+    }
+    Ok(())
+}
