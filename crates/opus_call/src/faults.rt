@@ -116,6 +116,12 @@ pub(crate) fn an_input_that_takes_more_reads(alloc: Global) -> bool {
     let all = (Ok(Status::Success), "sender 1\n");
     let in_four = runs_so(alloc, 4, source(line), sink(alloc, usize::MAX, false), all);
     let fewer = (Err(RunFault::Read), "sender 1\n");
-    let in_three = runs_so(alloc, 3, source(line), sink(alloc, usize::MAX, false), fewer);
+    let in_three = runs_so(
+        alloc,
+        3,
+        source(line),
+        sink(alloc, usize::MAX, false),
+        fewer,
+    );
     in_four && in_three
 }
