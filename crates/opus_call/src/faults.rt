@@ -69,12 +69,12 @@ impl Write for Sink {
 }
 
 /// A source of these bytes, which then ends.
-fn source(rest: &[u8]) -> Source<'_> {
+fn make_source(rest: &[u8]) -> Source<'_> {
     Source { rest, fails: false }
 }
 
 /// A sink with so much room.
-fn sink(alloc: Global, room: usize, fails: bool) -> Sink {
+fn make_sink(alloc: Global, room: usize, fails: bool) -> Sink {
     Sink {
         taken: Vec::new(alloc),
         room,
@@ -102,11 +102,29 @@ pub(crate) fn reads_and_writes_that_fail(alloc: Global) -> bool {
         fails: true,
     };
     let wanted = (Err(RunFault::Read), "sender 1\n");
-    let read = runs_so(alloc, MANY, failing, sink(alloc, usize::MAX, false), wanted);
+    let read = runs_so(
+        alloc,
+        MANY,
+        failing,
+        make_sink(alloc, usize::MAX, false),
+        wanted,
+    );
     let lines = b"fixed a\nfixed b\n";
     let wanted = (Err(RunFault::Write), "sender 1\nse");
-    let write = runs_so(alloc, MANY, source(lines), sink(alloc, 11, true), wanted);
-    let none_taken = runs_so(alloc, MANY, source(lines), sink(alloc, 11, false), wanted);
+    let write = runs_so(
+        alloc,
+        MANY,
+        make_source(lines),
+        make_sink(alloc, 11, true),
+        wanted,
+    );
+    let none_taken = runs_so(
+        alloc,
+        MANY,
+        make_source(lines),
+        make_sink(alloc, 11, false),
+        wanted,
+    );
     read && write && none_taken
 }
 
@@ -114,13 +132,19 @@ pub(crate) fn reads_and_writes_that_fail(alloc: Global) -> bool {
 pub(crate) fn an_input_that_takes_more_reads(alloc: Global) -> bool {
     let line = b"fixed a\n";
     let all = (Ok(Status::Success), "sender 1\n");
-    let in_four = runs_so(alloc, 4, source(line), sink(alloc, usize::MAX, false), all);
+    let in_four = runs_so(
+        alloc,
+        4,
+        make_source(line),
+        make_sink(alloc, usize::MAX, false),
+        all,
+    );
     let fewer = (Err(RunFault::Read), "sender 1\n");
     let in_three = runs_so(
         alloc,
         3,
-        source(line),
-        sink(alloc, usize::MAX, false),
+        make_source(line),
+        make_sink(alloc, usize::MAX, false),
         fewer,
     );
     in_four && in_three
