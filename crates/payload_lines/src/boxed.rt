@@ -2,7 +2,7 @@
 
 use crate::formats::{Formats, depacketizer_of, packetizer_of};
 use crate::printing::{payloads, unit};
-use crate::words::{bytes_of, next_word};
+use crate::words::{next_bytes, next_number};
 use h26x_payload::{CodecDepacketizer, CodecPacketizer};
 use payload_core::{
     Depacketizer, DepacketizingBuffer, PacketList, Packetizer, Payloader, RtpMeta, SentPacket,
@@ -18,8 +18,8 @@ pub fn carried(
     formats: &Formats,
     words: &mut SplitWhitespace<'_>,
 ) -> anyhow::Result<String> {
-    let limit = next_word(words)?.parse::<usize>()?;
-    let sample = bytes_of(alloc, next_word(words)?)?;
+    let limit = next_number::<usize>(words)?;
+    let sample = next_bytes(alloc, words)?;
     let sent = sent(alloc, formats, limit, &sample)?;
     let unit = received(alloc, formats, sent.packets())?;
     let payloads = payloads(alloc, sent.packets())?;

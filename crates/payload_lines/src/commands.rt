@@ -3,7 +3,7 @@
 use crate::boxed::carried;
 use crate::formats::{Formats, depacketizer_of};
 use crate::printing::{hex_of, payloads, unit};
-use crate::words::{bytes_of, next_word};
+use crate::words::{bytes_of, next_bytes, next_number, next_word};
 use crate::{events, h26x, profiles, redundancy, vp8};
 use anyhow::anyhow;
 use h26x_payload::{detect_h264_keyframe, detect_h265_keyframe, detect_h266_keyframe};
@@ -97,7 +97,7 @@ fn of_format(
     if command == "boxed" {
         return carried(alloc, formats, words);
     }
-    let packet = bytes_of(alloc, next_word(words)?)?;
+    let packet = next_bytes(alloc, words)?;
     let is_so = if command == "head" {
         depacketizer_of(alloc, formats.codec, formats.options)?.is_partition_head(&packet)
     } else if command == "keyframe" {
@@ -114,8 +114,8 @@ fn packed(
     formats: &mut Formats,
     words: &mut SplitWhitespace<'_>,
 ) -> anyhow::Result<String> {
-    let limit = next_word(words)?.parse::<usize>()?;
-    let sample = bytes_of(alloc, next_word(words)?)?;
+    let limit = next_number::<usize>(words)?;
+    let sample = next_bytes(alloc, words)?;
     let mut sink = PacketList::new(alloc);
     let values = ExtensionValues::absent();
     formats
@@ -150,8 +150,8 @@ fn pushed(
     formats: &mut Formats,
     words: &mut SplitWhitespace<'_>,
 ) -> anyhow::Result<String> {
-    let number = next_word(words)?.parse::<u64>()?;
-    let time = next_word(words)?.parse::<u32>()?;
+    let number = next_number::<u64>(words)?;
+    let time = next_number::<u32>(words)?;
     let word = next_word(words)?;
     let packet = bytes_of(alloc, word.strip_suffix("*").unwrap_or(word))?;
     let meta = RtpMeta {

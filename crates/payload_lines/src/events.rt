@@ -1,7 +1,7 @@
 //! Reports of telephone events (RFC 4733 2.3).
 
 use crate::printing::hex_of;
-use crate::words::{bytes_of, next_word};
+use crate::words::{next_bytes, next_number, next_word};
 use anyhow::anyhow;
 use payload_core::{Frequency, TelephoneEvent};
 use std::alloc::Global;
@@ -10,11 +10,11 @@ use std::str::SplitWhitespace;
 /// What `read RATE PACKET` and `write RATE EVENT VOLUME NANOSECONDS [end]` give.
 pub fn answer(alloc: Global, words: &mut SplitWhitespace<'_>) -> anyhow::Result<String> {
     let command = next_word(words)?;
-    let Some(rate) = Frequency::new(next_word(words)?.parse::<u32>()?) else {
+    let Some(rate) = Frequency::new(next_number::<u32>(words)?) else {
         return Err(anyhow!("no clock rate"));
     };
     if command == "read" {
-        return read(alloc, &bytes_of(alloc, next_word(words)?)?, rate);
+        return read(alloc, &next_bytes(alloc, words)?, rate);
     }
     let Some(report) = event_of(words)?.to_bytes(rate) else {
         return Err(anyhow!("no report"));
@@ -24,9 +24,9 @@ pub fn answer(alloc: Global, words: &mut SplitWhitespace<'_>) -> anyhow::Result<
 
 // An event from its words.
 fn event_of(words: &mut SplitWhitespace<'_>) -> anyhow::Result<TelephoneEvent> {
-    let event = next_word(words)?.parse::<u8>()?;
-    let volume = next_word(words)?.parse::<u8>()?;
-    let duration = next_word(words)?.parse::<u64>()?;
+    let event = next_number::<u8>(words)?;
+    let volume = next_number::<u8>(words)?;
+    let duration = next_number::<u64>(words)?;
     Ok(TelephoneEvent {
         event,
         end: words.next() == Some("end"),

@@ -67,6 +67,29 @@ pub fn packetizer_of(
     Ok(packetizer)
 }
 
+// An option whose name and number a word says.
+fn put_number(options: &mut Options, word: &str) -> anyhow::Result<()> {
+    let (name, number) = word.split_once('=').unwrap_or((word, ""));
+    match name {
+        "numbers" => options.max_don_diff = Some(number.parse::<u16>()?),
+        "id" => options.picture_id = Some(number.parse::<u16>()?),
+        "hold" => options.hold_back = number.parse::<usize>()?,
+        _ => return Err(anyhow!("no option {word}")),
+    }
+    Ok(())
+}
+
+// An option that a word says.
+fn put_option(options: &mut Options, word: &str) -> anyhow::Result<()> {
+    match word {
+        "aligned" => options.octet_align = Some(true),
+        "browsers" => options.for_browsers = true,
+        "16kHz" => options.clock_rate = Frequency::SIXTEEN_KHZ,
+        _ => return put_number(options, word),
+    }
+    Ok(())
+}
+
 // The options that words say, each by its name.
 fn options_of(words: &mut SplitWhitespace<'_>) -> anyhow::Result<Options> {
     let mut options = Options {
@@ -78,21 +101,7 @@ fn options_of(words: &mut SplitWhitespace<'_>) -> anyhow::Result<Options> {
         hold_back: 127,
     };
     for word in words {
-        if word == "aligned" {
-            options.octet_align = Some(true);
-        } else if word == "browsers" {
-            options.for_browsers = true;
-        } else if word == "16kHz" {
-            options.clock_rate = Frequency::SIXTEEN_KHZ;
-        } else if let Some(number) = word.strip_prefix("numbers=") {
-            options.max_don_diff = Some(number.parse::<u16>()?);
-        } else if let Some(number) = word.strip_prefix("id=") {
-            options.picture_id = Some(number.parse::<u16>()?);
-        } else if let Some(number) = word.strip_prefix("hold=") {
-            options.hold_back = number.parse::<usize>()?;
-        } else {
-            return Err(anyhow!("no option {word}"));
-        }
+        put_option(&mut options, word)?;
     }
     Ok(options)
 }

@@ -1,7 +1,7 @@
 //! Units and headers of H.264, H.265 and H.266.
 
 use crate::printing::hex_of;
-use crate::words::{bytes_of, next_word};
+use crate::words::{next_bytes, next_number, next_word};
 use anyhow::anyhow;
 use h26x_payload::{
     H265FragmentationUnitHeader, H265NALUHeader, H266FragmentationUnitHeader, H266NALUHeader,
@@ -12,7 +12,7 @@ use std::str::SplitWhitespace;
 
 /// `units TEXT`: the units of a text (ITU-T H.264 annex B), parted by blanks; a dash stands for none.
 pub fn units(alloc: Global, words: &mut SplitWhitespace<'_>) -> anyhow::Result<String> {
-    let text = bytes_of(alloc, next_word(words)?)?;
+    let text = next_bytes(alloc, words)?;
     let mut units = String::new(alloc);
     for unit in nal_units(&text) {
         if !units.is_empty() {
@@ -28,8 +28,8 @@ pub fn units(alloc: Global, words: &mut SplitWhitespace<'_>) -> anyhow::Result<S
 
 /// `shows TYPE PACKET`: whether an H.264 packet shows a unit of a type.
 pub fn shows(alloc: Global, words: &mut SplitWhitespace<'_>) -> anyhow::Result<String> {
-    let nalu_type = next_word(words)?.parse::<u8>()?;
-    let packet = bytes_of(alloc, next_word(words)?)?;
+    let nalu_type = next_number::<u8>(words)?;
+    let packet = next_bytes(alloc, words)?;
     let is_so = detect_h264_nalu(&packet, nalu_type);
     Ok(String::from_str(alloc, if is_so { "yes" } else { "no" })?)
 }
@@ -37,7 +37,7 @@ pub fn shows(alloc: Global, words: &mut SplitWhitespace<'_>) -> anyhow::Result<S
 /// `header CODEC BYTES`: what a header tells, of one byte that of a fragment, of two that of a unit or a packet.
 pub fn header(alloc: Global, words: &mut SplitWhitespace<'_>) -> anyhow::Result<String> {
     let codec = next_word(words)?;
-    let bytes = bytes_of(alloc, next_word(words)?)?;
+    let bytes = next_bytes(alloc, words)?;
     match (codec, bytes.as_slice()) {
         ("H265", [byte]) => fragment_h265(alloc, H265FragmentationUnitHeader(*byte)),
         ("H266", [byte]) => fragment_h266(alloc, H266FragmentationUnitHeader(*byte)),

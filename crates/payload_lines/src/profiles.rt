@@ -1,6 +1,6 @@
 //! Profiles and levels of H.264, H.265 and H.266, from their numbers and from the values of a session text.
 
-use crate::words::{bytes_of, next_word};
+use crate::words::{bytes_of, next_number, next_word};
 use anyhow::anyhow;
 use h26x_payload::{
     H264LevelIdc, H264ProfileIdc, H264ProfileLevel, H265ProfileTierLevel, H266ProfileTierLevel,
@@ -69,12 +69,12 @@ fn profile_h266(alloc: Global, values: Values<'_>) -> anyhow::Result<String> {
 
 /// `idc NUMBER`: the profile_idc of a byte of H.264.
 pub fn idc(alloc: Global, words: &mut SplitWhitespace<'_>) -> anyhow::Result<String> {
-    let idc = H264ProfileIdc::try_from(next_word(words)?.parse::<u8>()?)?;
+    let idc = H264ProfileIdc::try_from(next_number::<u8>(words)?)?;
     Ok(format!(in alloc; "{idc:?}")?)
 }
 
 /// `level NUMBER`: the level of a level_idc of H.264, and its place among the levels.
 pub fn level(alloc: Global, words: &mut SplitWhitespace<'_>) -> anyhow::Result<String> {
-    let level = H264LevelIdc::try_from(next_word(words)?.parse::<u8>()?)?;
+    let level = H264LevelIdc::try_from(next_number::<u8>(words)?)?;
     Ok(format!(in alloc; "{level:?} {}", level.ordinal())?)
 }

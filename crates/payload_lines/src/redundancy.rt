@@ -1,7 +1,7 @@
 //! Payloads beside older ones (RFC 2198).
 
 use crate::printing::hex_of;
-use crate::words::{bytes_of, next_word};
+use crate::words::{bytes_of, next_bytes, next_number, next_word};
 use anyhow::anyhow;
 use payload_core::{RedBlock, RedDecoder, RedEncoder, RedSender, RedundantBlock};
 use std::alloc::Global;
@@ -59,10 +59,10 @@ fn wrapped(
     sender: &mut RedSender,
     words: &mut SplitWhitespace<'_>,
 ) -> anyhow::Result<String> {
-    let pt = next_word(words)?.parse::<u8>()?;
-    let time = next_word(words)?.parse::<u32>()?;
-    let budget = next_word(words)?.parse::<usize>()?;
-    let payload = bytes_of(alloc, next_word(words)?)?;
+    let pt = next_number::<u8>(words)?;
+    let time = next_number::<u32>(words)?;
+    let budget = next_number::<usize>(words)?;
+    let payload = next_bytes(alloc, words)?;
     let packet = sender.wrap(pt, &payload, time, budget)?;
     hex_of(alloc, packet.as_slice())
 }
@@ -84,8 +84,8 @@ fn block_of(alloc: Global, word: &str) -> anyhow::Result<RedundantBlock> {
 
 // `write TYPE PAYLOAD BLOCK ..`: the packet of a primary payload behind blocks.
 fn written(alloc: Global, words: &mut SplitWhitespace<'_>) -> anyhow::Result<String> {
-    let pt = next_word(words)?.parse::<u8>()?;
-    let payload = bytes_of(alloc, next_word(words)?)?;
+    let pt = next_number::<u8>(words)?;
+    let payload = next_bytes(alloc, words)?;
     let mut blocks = Vec::new(alloc);
     for word in words {
         blocks.push(block_of(alloc, word)?)?;

@@ -1,7 +1,7 @@
 //! Ids in VP8 payload descriptors (RFC 7741 4.2).
 
 use crate::printing::hex_of;
-use crate::words::{bytes_of, next_word};
+use crate::words::{next_bytes, next_word};
 use anyhow::anyhow;
 use payload_core::{Vp8Descriptor, Vp8Patch, Vp8PatchBuilder};
 use std::alloc::Global;
@@ -21,7 +21,7 @@ struct Ids {
 /// What `read PAYLOAD` and `patch PAYLOAD [id=N] [tl0=N] [key=N]` give.
 pub fn answer(alloc: Global, words: &mut SplitWhitespace<'_>) -> anyhow::Result<String> {
     let command = next_word(words)?;
-    let payload = bytes_of(alloc, next_word(words)?)?;
+    let payload = next_bytes(alloc, words)?;
     if command == "read" {
         return read(alloc, &payload);
     }

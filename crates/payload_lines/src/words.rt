@@ -2,7 +2,7 @@
 
 use anyhow::anyhow;
 use std::alloc::Global;
-use std::str::SplitWhitespace;
+use std::str::{FromStr, SplitWhitespace};
 
 /// The next word of a command, which has one.
 pub fn next_word<'a>(words: &mut SplitWhitespace<'a>) -> anyhow::Result<&'a str> {
@@ -10,6 +10,23 @@ pub fn next_word<'a>(words: &mut SplitWhitespace<'a>) -> anyhow::Result<&'a str>
         Some(word) => Ok(word),
         None => Err(anyhow!("a word is missing")),
     }
+}
+
+/// The next word of a command, a number.
+pub fn next_number<T: FromStr + Drop>(words: &mut SplitWhitespace<'_>) -> anyhow::Result<T>
+where
+    T::Err: Drop,
+{
+    let word = next_word(words)?;
+    match word.parse::<T>() {
+        Ok(number) => Ok(number),
+        Err(_) => Err(anyhow!("no number {word}")),
+    }
+}
+
+/// The next word of a command, bytes as [`bytes_of`] reads them.
+pub fn next_bytes(alloc: Global, words: &mut SplitWhitespace<'_>) -> anyhow::Result<Vec<u8>> {
+    bytes_of(alloc, next_word(words)?)
 }
 
 /// Bytes in hexadecimal, of which `+` joins parts, and `:N` behind a part repeats it so often; a dash stands for none.
