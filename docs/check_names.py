@@ -52,7 +52,8 @@ def missing_definitions():
 
 def sources(crate="*"):
     if crate not in sources.kept:
-        sources.kept[crate] = "\n".join(p.read_text(encoding="utf-8") for p in sorted(CRATES.glob(f"{crate}/src/**/*.rt")))
+        files = sorted(CRATES.glob(f"{crate}/src/**/*.rt"))
+        sources.kept[crate] = "\n".join(p.read_text(encoding="utf-8") for p in files)
     return sources.kept[crate]
 
 

@@ -1,6 +1,6 @@
-//! Packets without an end, code to copy: a recorder, a link that loses packets, and captures of browsers. Standard input
-//! has two parts, parted by a line `==`: datagrams in hexadecimal, a line each, of which the recorder takes the VP8
-//! stream of SSRC 44 and payload type 96; and captures, a line each: `FILE CODEC TYPE [REDTYPE]`.
+//! Packets without an end, code to copy: a recorder, a link that loses packets, and captures of browsers. Standard
+//! input has two parts, parted by a line `==`: datagrams in hexadecimal, a line each, of which the recorder takes the
+//! VP8 stream of SSRC 44 and payload type 96; and captures, a line each: `FILE CODEC TYPE [REDTYPE]`.
 #![tactic(auto)]
 
 mod capture;

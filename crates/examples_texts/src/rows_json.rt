@@ -40,8 +40,8 @@ fn print_line(rt: &HostRuntime, line: &str) -> anyhow::Result<()> {
     }
 }
 
-/// Prints some rows as JSON and reads them back; then reads the rows whose JSON stands on lines, and prints each as JSON
-/// again, or why it is none.
+/// Prints some rows as JSON and reads them back; then reads the rows whose JSON stands on lines, and prints each as
+/// JSON again, or why it is none.
 pub fn print_rows(rt: &HostRuntime, lines: &str) -> anyhow::Result<()> {
     print_row(rt, &opus())?;
     print_row(rt, &video(96, 97, Codec::Vp8, ""))?;

@@ -1,5 +1,5 @@
-//! Dresses a session text of an end for a browser: an end's offer or answer leaves with the transport's lines behind the
-//! `a=mid` of each section. What the browser answers goes to the end as it is.
+//! Dresses a session text of an end for a browser: an end's offer or answer leaves with the transport's lines behind
+//! the `a=mid` of each section. What the browser answers goes to the end as it is.
 
 use crate::dress::{Transport, dress};
 use sdp_formats::{Fingerprint, IceCreds, Listed, Setup, Text, sdp_parser};
