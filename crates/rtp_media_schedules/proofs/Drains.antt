@@ -1,5 +1,6 @@
 -- A whole run under a sane schedule, whose polls hold back as many complete frames as each of them says.
-use Rattle.std.proofs.Common.{◌≡◌, ℕ, ◌+◌, ◌%◌, ◌^◌, ◌≤◌, refl, sym, ◌∙◌, ap, ap₂, Bool, true, false, List, [], ◌∷◌, map}
+use Rattle.std.proofs.Common.{◌≡◌, ℕ, ◌+◌, ◌%◌, ◌^◌, ◌≤◌, refl, sym, ◌∙◌, ap, ap₂, Bool, true, false}
+use Rattle.std.proofs.Common.{List, [], ◌∷◌, map}
 use Rattle.std.proofs.Common.{length}
 use Rattle.std.specs.Prelude.{Option, None, Some, if◌then◌else◌}
 use Rattle.payload_core_base.specs.Format.{Format}
