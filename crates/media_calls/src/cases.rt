@@ -1,0 +1,131 @@
+//! The rows that are soaked.
+
+use rtp_media::{Codec, CodecSpec, FormatParams, PayloadParams};
+use rtp_wire::{Frequency, Pt};
+
+/// The payload type of each row, and its RED type where it has one.
+pub const TYPE: u8 = 111;
+
+const RED_TYPE: u8 = 63;
+
+/// What a row has beside its codec.
+#[derive(Clone, Copy, Drop)]
+pub enum Beside {
+    Nothing,
+    Redundancy,
+    OctetAlign,
+    DecodingOrder,
+}
+
+/// A codec as a row of both ends.
+#[derive(Clone, Copy, Drop)]
+pub struct Case {
+    pub codec: Codec,
+    pub beside: Beside,
+}
+
+impl Case {
+    /// What it has beside its codec, in words.
+    pub fn manner(&self) -> &'static str {
+        match self.beside {
+            Beside::Nothing => "",
+            Beside::Redundancy => " with redundancy",
+            Beside::OctetAlign => " octet-aligned",
+            Beside::DecodingOrder => " with decoding order numbers",
+        }
+    }
+
+    /// Whether it has a RED type.
+    pub fn has_red(&self) -> bool {
+        matches!(self.beside, Beside::Redundancy)
+    }
+
+    /// The row.
+    pub fn row(&self) -> PayloadParams {
+        let spec = CodecSpec {
+            codec: self.codec,
+            clock_rate: self.clock_rate(),
+            channels: self.channels(),
+            format: self.format(),
+        };
+        let row = PayloadParams::new(Pt::from(TYPE), None, spec);
+        if self.has_red() {
+            return row.with_red(Pt::from(RED_TYPE));
+        }
+        row
+    }
+
+    /// The clock of the stream's timestamps, which G.722 counts at 8,000 Hz (RFC 3551 4.5.2).
+    pub fn rtp_clock(&self) -> Frequency {
+        match self.codec {
+            Codec::G722 => Frequency::EIGHT_KHZ,
+            _ => self.clock_rate(),
+        }
+    }
+
+    fn clock_rate(&self) -> Frequency {
+        match self.codec {
+            Codec::Opus => Frequency::FORTY_EIGHT_KHZ,
+            Codec::G722 | Codec::AmrWb => Frequency::SIXTEEN_KHZ,
+            codec if codec.is_video() => Frequency::NINETY_KHZ,
+            _ => Frequency::EIGHT_KHZ,
+        }
+    }
+
+    fn channels(&self) -> Option<u8> {
+        match self.codec {
+            Codec::Opus => Some(2),
+            Codec::AmrWb => Some(1),
+            _ => None,
+        }
+    }
+
+    fn format(&self) -> FormatParams {
+        FormatParams::parse_line(match self.codec {
+            Codec::Opus => "minptime=10;useinbandfec=1",
+            Codec::Tele => "0-16",
+            Codec::Vp9 => "profile-id=0",
+            Codec::H264 => "packetization-mode=1;profile-level-id=42001f",
+            _ => match self.beside {
+                Beside::OctetAlign => "octet-align=1",
+                Beside::DecodingOrder => "sprop-max-don-diff=1",
+                _ => "",
+            },
+        })
+    }
+}
+
+fn plain(codec: Codec) -> Case {
+    Case {
+        codec,
+        beside: Beside::Nothing,
+    }
+}
+
+fn with(codec: Codec, beside: Beside) -> Case {
+    Case { codec, beside }
+}
+
+/// Each codec that has a payload format, in each of its layouts.
+pub fn cases() -> [Case; 18] {
+    [
+        plain(Codec::Opus),
+        with(Codec::Opus, Beside::Redundancy),
+        plain(Codec::PCMU),
+        plain(Codec::PCMA),
+        with(Codec::PCMA, Beside::Redundancy),
+        plain(Codec::G722),
+        plain(Codec::CN),
+        plain(Codec::AmrWb),
+        with(Codec::AmrWb, Beside::OctetAlign),
+        plain(Codec::Tele),
+        plain(Codec::Vp8),
+        plain(Codec::Vp9),
+        plain(Codec::Av1),
+        plain(Codec::H264),
+        plain(Codec::H265),
+        with(Codec::H265, Beside::DecodingOrder),
+        plain(Codec::H266),
+        with(Codec::H266, Beside::DecodingOrder),
+    ]
+}

@@ -1,0 +1,90 @@
+//! Calls between two ends. First ones that are proved: they agree on Opus, G.711 or G.722, one sends three samples, and
+//! the other hands out just these, in order, though the second arrives last. Then worked rows, and long runs of every
+//! codec under drawn schedules, which are compared and not proved.
+#![tactic(auto)]
+
+mod calls;
+mod carrying;
+mod cases;
+mod counts;
+mod faults;
+mod many;
+mod proved;
+mod random;
+mod rates;
+mod rows;
+mod samples;
+mod schedules;
+mod sessions;
+mod silence;
+mod soak;
+mod stopped;
+
+use faults::{an_input_that_takes_more_reads, reads_and_writes_that_fail};
+use proved::print_calls;
+use rows::{a_time_in_milliseconds, a_time_that_does_not_fit, receive_all_hands_out_in_order};
+use sessions::{
+    lines_that_would_be_read_otherwise_are_refused, offers_say_the_lines_of_the_session,
+};
+use soak::soak_all;
+use std::alloc::Global;
+use std::process::ExitCode;
+
+/// Prints what comes out of the proved calls, a line for each worked row, and a line for each run; status 1 where
+/// something is wrong.
+fn main(rt: HostRuntime) -> ExitCode {
+    if let Err(stopped) = print_calls(&rt) {
+        let _ = eprintln!(rt; "{stopped}");
+        return ExitCode::from(1);
+    }
+    match print_rows(&rt, rt.alloc()) {
+        Ok(true) => {}
+        Ok(false) => return ExitCode::from(1),
+        Err(fault) => {
+            let _ = eprintln!(rt; "{fault}");
+            return ExitCode::from(1);
+        }
+    }
+    if soak_all(&rt) {
+        return ExitCode::from(0);
+    }
+    ExitCode::from(1)
+}
+
+/// A line for each row that the program's lines can't say, and whether all are as they must be.
+fn print_rows(rt: &impl Print, alloc: Global) -> anyhow::Result<bool> {
+    let rows = [
+        (
+            "row 12, receive_all",
+            receive_all_hands_out_in_order(alloc)?,
+        ),
+        (
+            "row 20, a time that does not fit",
+            a_time_that_does_not_fit(alloc)?,
+        ),
+        ("a time in milliseconds", a_time_in_milliseconds(alloc)?),
+        (
+            "an offer with lines of the session",
+            offers_say_the_lines_of_the_session(alloc)?,
+        ),
+        (
+            "lines that would be read otherwise",
+            lines_that_would_be_read_otherwise_are_refused(alloc)?,
+        ),
+        (
+            "reads and writes that fail",
+            reads_and_writes_that_fail(alloc),
+        ),
+        (
+            "an input that takes more reads",
+            an_input_that_takes_more_reads(alloc),
+        ),
+    ];
+    let mut all_are_right = true;
+    for (name, is_right) in rows {
+        let word = if is_right { "ok" } else { "wrong" };
+        println!(rt; "{name}: {word}")?;
+        all_are_right &= is_right;
+    }
+    Ok(all_are_right)
+}

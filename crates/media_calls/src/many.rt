@@ -1,0 +1,112 @@
+//! Ends with many streams, and samples of real sizes.
+
+use crate::calls::{end, open_sender, sections};
+use crate::cases::{Case, TYPE};
+use crate::stopped::Stopped;
+use rtp_media::{Datagram, End, Received, connect};
+use rtp_wire::{ExtensionValues, MediaTime, Mid, Pt, Ssrc};
+use std::alloc::Global;
+use std::time::{Duration, Instant};
+
+/// The payload bytes of a packet.
+const MTU: usize = 1_200;
+
+/// How many streams two ends have, and which sample the last of them carries how often.
+#[derive(Clone, Copy, Drop)]
+pub struct Load<'a> {
+    pub streams: u32,
+    pub sample: &'a [u8],
+    pub count: u32,
+}
+
+/// What sending the samples took, opening receiving streams for all SSRCs of the section, and receiving and polling
+/// the datagrams.
+#[derive(Clone, Copy, Drop)]
+pub struct Times {
+    pub sent: Duration,
+    pub opened: Duration,
+    pub received: Duration,
+}
+
+/// Two ends whose section names the SSRCs from 1 to the number of streams: one receives the datagrams of all, the other
+/// sends those of the last.
+pub fn carry(rt: &HostRuntime, case: &Case, load: Load<'_>) -> Result<Times, Stopped> {
+    let alloc = rt.alloc();
+    let mut sender = end(alloc, case, 1)?;
+    let mut receiver = end(alloc, case, 2)?;
+    let ssrcs = (1..=load.streams).map(Ssrc::from).collect(alloc)?;
+    connect(
+        &mut sender,
+        &mut receiver,
+        sections(alloc, case, ssrcs)?,
+        sections(alloc, case, vec![in alloc; Ssrc::from(0)]?)?,
+    )?;
+    let start = Instant::now(rt)?;
+    open_all(&mut receiver, load.streams)?;
+    let opened = start.elapsed(rt)?;
+    let start = Instant::now(rt)?;
+    let datagrams = datagrams_of(alloc, case, &mut sender, load)?;
+    let sent = start.elapsed(rt)?;
+    let start = Instant::now(rt)?;
+    if received(&mut receiver, &datagrams)? != load.count {
+        return Err(Stopped::Missing);
+    }
+    let received = start.elapsed(rt)?;
+    Ok(Times {
+        sent,
+        opened,
+        received,
+    })
+}
+
+/// The datagrams of the samples.
+fn datagrams_of(
+    alloc: Global,
+    case: &Case,
+    sender: &mut End,
+    load: Load<'_>,
+) -> Result<Vec<Datagram>, Stopped> {
+    let tx = open_sender(alloc, sender, case, Ssrc::from(load.streams), MTU)?;
+    let mut datagrams = Vec::new(alloc);
+    for place in 0..load.count {
+        if !sender.is_sender(tx) {
+            return Err(Stopped::Refused);
+        }
+        let time = MediaTime::new(960 * u64::from(place), case.rtp_clock());
+        let mut sent = sender.push_sample(tx, time, load.sample, &ExtensionValues::absent())?;
+        datagrams.append(&mut sent)?;
+    }
+    Ok(datagrams)
+}
+
+fn open_all(receiver: &mut End, count: u32) -> Result<(), Stopped> {
+    let mid = Mid::from("0");
+    for ssrc in 1..=count {
+        receiver.open_receiver(mid, Ssrc::from(ssrc), Pt::from(TYPE), 0)?;
+    }
+    Ok(())
+}
+
+/// How many units come of datagrams, each of which is taken and followed by a poll.
+fn received(receiver: &mut End, datagrams: &[Datagram]) -> Result<u32, Stopped> {
+    let mut units = 0u32;
+    for datagram in datagrams {
+        if has_unit(receiver, datagram)? {
+            units = units.saturating_add(1);
+        }
+    }
+    Ok(units)
+}
+
+fn has_unit(receiver: &mut End, datagram: &Datagram) -> Result<bool, Stopped> {
+    let Received::Taken(rx, _) = receiver.receive(datagram.as_slice())? else {
+        return Err(Stopped::Missing);
+    };
+    if !receiver.is_receiver(rx) {
+        return Err(Stopped::Refused);
+    }
+    match receiver.poll(rx) {
+        Ok(unit) => Ok(unit.is_some()),
+        Err(_) => Err(Stopped::Fault),
+    }
+}
