@@ -29,7 +29,7 @@ extern "C" {
 /* What calls answer. */
 enum {
     JILQAMUR_OK = 0,         /* the call did what it says */
-    JILQAMUR_MEMORY = 1,     /* memory was wanting */
+    JILQAMUR_MEMORY = 1,     /* memory ran out */
     JILQAMUR_IN_USE = 2,     /* the handle holds an object already */
     JILQAMUR_CLOSED = 3,     /* the handle holds no object */
     JILQAMUR_UNREADABLE = 4, /* no RTP header stands in front of the bytes */

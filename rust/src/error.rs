@@ -6,7 +6,7 @@ use std::fmt;
 #[derive(Clone, Copy, Debug, PartialEq, Eq)]
 #[non_exhaustive]
 pub enum EndError {
-    /// Memory was wanting.
+    /// Out of memory.
     Memory,
     /// A number is off the range that is written at it.
     OutOfRange,

@@ -23,7 +23,7 @@ pub use values::Values;
 #[derive(Clone, Copy, Debug, PartialEq, Eq)]
 #[non_exhaustive]
 pub enum Error {
-    /// Memory was wanting.
+    /// Out of memory.
     Memory,
     /// No RTP header stands in front of the bytes.
     Unreadable,

@@ -10,7 +10,7 @@ use std::{fmt, ptr};
 #[derive(Clone, Copy, Debug, PartialEq, Eq)]
 #[non_exhaustive]
 pub enum Fault {
-    /// Memory was wanting.
+    /// Out of memory.
     Memory,
     /// A number is off its range, or no payload format has this name.
     OutOfRange,

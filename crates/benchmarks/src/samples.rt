@@ -8,7 +8,7 @@ const SET: u32 = 20;
 /// The bytes behind a slice's header.
 const SLICE: u32 = 3_000;
 
-// Appends a unit of this header and so many bytes, behind a start code.
+/// Appends a unit of this header and so many bytes, behind a start code.
 fn push_unit(text: &mut Vec<u8>, header: &[u8], size: u32) -> Result<(), AllocError> {
     text.extend_from_slice(&[0, 0, 0, 1])?;
     text.extend_from_slice(header)?;

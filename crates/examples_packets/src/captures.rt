@@ -6,7 +6,7 @@ use rtp_wire::{ExtensionMap, RtpHeader, Ssrc};
 use std::alloc::Global;
 use std::fs;
 
-// The place of the stream of an SSRC, which is made where there is none.
+/// The place of the stream of an SSRC, which is made where there is none.
 fn stream_of(
     alloc: Global,
     capture: &Capture,
@@ -22,7 +22,7 @@ fn stream_of(
     Ok(streams.len().saturating_sub(1))
 }
 
-// Takes a datagram in, if it is of the capture's payload types.
+/// Takes a datagram in, if it is of the capture's payload types.
 fn receive(
     alloc: Global,
     capture: &Capture,
@@ -42,7 +42,7 @@ fn receive(
     Ok(())
 }
 
-// The streams of a capture: a line for each datagram, its time in milliseconds and its bytes in hexadecimal.
+/// The streams of a capture: a line for each datagram, its time in milliseconds and its bytes in hexadecimal.
 fn received(alloc: Global, capture: &Capture, text: &str) -> anyhow::Result<Vec<Stream>> {
     let mut streams = Vec::new(alloc);
     for line in text.lines() {

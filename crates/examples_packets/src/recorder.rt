@@ -65,7 +65,7 @@ impl Recorder {
     /// Appends the frames that are due.
     ///
     /// # Errors
-    /// Where a packet of a frame is refused, which is done with then, or memory is wanting.
+    /// Where a packet of a frame is refused, which is done with then, or memory runs out.
     pub fn frames(&mut self, frames: &mut Vec<Depacketized>) -> Result<(), PacketError> {
         self.buffer.pop_all(frames)
     }

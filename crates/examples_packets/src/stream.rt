@@ -44,7 +44,7 @@ pub struct Stream {
     buffer: DepacketizingBuffer<CodecDepacketizer<NotBoxed>>,
 }
 
-// Whether a keyframe is told of a unit.
+/// Whether a keyframe is told of a unit.
 fn is_keyframe(extra: CodecExtra) -> bool {
     match extra {
         CodecExtra::Vp8(extra) => extra.is_keyframe,
@@ -54,7 +54,7 @@ fn is_keyframe(extra: CodecExtra) -> bool {
     }
 }
 
-// The primary payload of a redundant one, if it has this type.
+/// The primary payload of a redundant one, if it has this type.
 fn primary_of(payload: &[u8], pt: u8) -> Option<&[u8]> {
     let Ok(blocks) = RedDecoder::decode(payload) else {
         return None;
@@ -67,7 +67,7 @@ fn primary_of(payload: &[u8], pt: u8) -> Option<&[u8]> {
     None
 }
 
-// The payload of a datagram without its padding and redundancy.
+/// The payload of a datagram without its padding and redundancy.
 fn payload_of<'a>(capture: &Capture, header: &RtpHeader, datagram: &'a [u8]) -> Option<&'a [u8]> {
     if header.header_len > datagram.len() {
         return None;
@@ -80,7 +80,7 @@ fn payload_of<'a>(capture: &Capture, header: &RtpHeader, datagram: &'a [u8]) -> 
 }
 
 impl Counts {
-    // Counts a unit.
+    /// Counts a unit.
     fn add(&mut self, unit: &Depacketized) {
         let is_key = is_keyframe(unit.extra);
         if self.units == 0 {
@@ -148,7 +148,7 @@ impl Stream {
         self.pop()
     }
 
-    // Hands out what is due.
+    /// Hands out what is due.
     fn pop(&mut self) -> Result<(), PacketError> {
         match self.buffer.pop() {
             Ok(Some(unit)) => self.counts.add(&unit),

@@ -12,7 +12,7 @@ abbrev pub transport_lines : Transport → List MediaAttribute
 transport_lines t = a.IceUfrag t.creds.ufrag ∷ a.IcePwd t.creds.pass ∷ a.Fingerprint t.fingerprint ∷ a.Setup t.setup
     ∷ a.RtcpMux ∷ []
 
--- an attribute, with the transport's lines behind the section's name
+-- An attribute, with the transport's lines behind the section's name.
 abbrev pub dressed_attribute : Transport → MediaAttribute → List MediaAttribute
 dressed_attribute t attribute = attribute ∷ (if is_mid attribute then transport_lines t else [])
 

@@ -20,7 +20,7 @@ pub struct Transport {
     pub setup: Setup,
 }
 
-// The transport's lines behind all others.
+/// The transport's lines behind all others.
 fn push_transport(
     alloc: Global,
     transport: &Transport,
@@ -39,7 +39,7 @@ fn push_transport(
     attributes.push(MediaAttribute::RtcpMux)
 }
 
-// Whether it is the section's name.
+/// Whether it is the section's name.
 #[tactic(auto, unfolding(sdp_formats_types::specs::Consistency::is_mid))]
 fn is_mid(attribute: &MediaAttribute) -> bool
     ensures { result ≡ is_mid attribute.now }
@@ -47,7 +47,7 @@ fn is_mid(attribute: &MediaAttribute) -> bool
     matches!(attribute, MediaAttribute::Mid(_))
 }
 
-// The attribute behind all others, and the transport's lines behind it where it is the section's name.
+/// The attribute behind all others, and the transport's lines behind it where it is the section's name.
 fn push_dressed(
     alloc: Global,
     attribute: MediaAttribute,
@@ -64,7 +64,7 @@ fn push_dressed(
     Ok(())
 }
 
-// The attributes with the transport's lines behind the section's name.
+/// The attributes with the transport's lines behind the section's name.
 fn dress_attributes(
     alloc: Global,
     attributes: Vec<MediaAttribute>,
@@ -79,7 +79,7 @@ fn dress_attributes(
     Ok(dressed)
 }
 
-// The section with the transport's lines.
+/// The section with the transport's lines.
 fn dress_section(
     alloc: Global,
     section: MediaLine,

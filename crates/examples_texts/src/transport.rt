@@ -4,7 +4,7 @@
 use crate::dress::{Transport, dress};
 use sdp_formats::{Fingerprint, IceCreds, Listed, Setup, Text, sdp_parser};
 
-// A text of the program's own.
+/// A text of the program's own.
 fn text(rt: &HostRuntime, text: &str) -> anyhow::Result<Text> {
     Ok(Text::of(String::from_str(rt.alloc(), text)?))
 }

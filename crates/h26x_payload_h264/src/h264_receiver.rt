@@ -23,7 +23,7 @@ pub struct H264Depacketizer {
     unit: OpenUnit,
 }
 
-// How many bytes the whole units of an aggregate take, each with its size.
+/// How many bytes the whole units of an aggregate take, each with its size.
 fn sized_len(body: &[u8]) -> usize
     ensures { result ≡ length (flat_map sized (aggregated 0 0 body.now).units) }
 {
@@ -39,7 +39,7 @@ fn sized_len(body: &[u8]) -> usize
     len
 }
 
-// How a fault of an aggregate is told, with what stands behind its whole units.
+/// How a fault of an aggregate is told, with what stands behind its whole units.
 fn refusal_of(fault: AggregateFault, behind: &[u8]) -> PacketError
     ensures { result ≡ refusal_of fault behind.now }
 {
@@ -55,7 +55,7 @@ fn refusal_of(fault: AggregateFault, behind: &[u8]) -> PacketError
     }
 }
 
-// What is wrong with an aggregate behind its whole units, if anything.
+/// What is wrong with an aggregate behind its whole units, if anything.
 fn stap_a_fault(body: &[u8]) -> Option<PacketError>
     ensures { result ≡ stap_a_fault body.now }
 {
@@ -66,7 +66,7 @@ fn stap_a_fault(body: &[u8]) -> Option<PacketError>
     Some(refusal_of(fault, behind))
 }
 
-// Whether a unit is of this type.
+/// Whether a unit is of this type.
 fn is_of_type(nalu_type: u8, unit: &[u8]) -> bool
     ensures { result ≡ is_of_type nalu_type unit.now }
 {
@@ -76,7 +76,7 @@ fn is_of_type(nalu_type: u8, unit: &[u8]) -> bool
     }
 }
 
-// Whether an aggregate holds a unit of this type.
+/// Whether an aggregate holds a unit of this type.
 fn holds_type(nalu_type: u8, body: &[u8]) -> bool
     ensures { result ≡ list_any (is_of_type nalu_type) (aggregated 0 0 body.now).units }
 {
@@ -93,7 +93,7 @@ fn holds_type(nalu_type: u8, body: &[u8]) -> bool
     false
 }
 
-// Whether a fragment's FU header has S and this type.
+/// Whether a fragment's FU header has S and this type.
 fn starts_type(nalu_type: u8, body: &[u8]) -> bool
     ensures { result ≡ starts_type nalu_type body.now }
 {
@@ -126,7 +126,7 @@ pub fn detect_h264_keyframe(packet: &[u8]) -> bool
     detect_h264_nalu(packet, IDR_NALU_TYPE)
 }
 
-// Whether a packet of the unit showed an IDR picture.
+/// Whether a packet of the unit showed an IDR picture.
 fn was_keyframe(extra: &CodecExtra) -> bool
     ensures { result ≡ was_keyframe extra.now }
 {
@@ -147,7 +147,7 @@ impl H264Depacketizer {
         }
     }
 
-    // What a packet gives.
+    /// What a packet gives.
     fn give(&mut self, packet: &[u8], out: &mut Vec<u8>) -> Result<(), PacketError>
         ensures given { let given = given self.old.unit packet.now in
             OnOk result (Adds given out.old.items out.new.items self.new.unit) }
@@ -166,7 +166,7 @@ impl H264Depacketizer {
         }
     }
 
-    // What an aggregate gives.
+    /// What an aggregate gives.
     fn give_units(&mut self, body: &[u8], out: &mut Vec<u8>) -> Result<(), PacketError>
         ensures given { let given = given_by PacketKind.Aggregate self.old.unit 0 body.now in
             OnOk result (Adds given out.old.items out.new.items self.new.unit) }
@@ -182,7 +182,7 @@ impl H264Depacketizer {
         Ok(())
     }
 
-    // What a fragment gives.
+    /// What a fragment gives.
     fn give_fragment(
         &mut self,
         first: u8,

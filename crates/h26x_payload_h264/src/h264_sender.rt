@@ -44,7 +44,7 @@ struct WaitingSets<'a> {
     pps: Option<&'a [u8]>,
 }
 
-// The type of a unit, 0 without a byte.
+/// The type of a unit, 0 without a byte.
 fn unit_type(unit: &[u8]) -> u8
     ensures { result ≡ unit_type unit.now }
 {
@@ -54,7 +54,7 @@ fn unit_type(unit: &[u8]) -> u8
     }
 }
 
-// Writes a unit behind its size.
+/// Writes a unit behind its size.
 fn push_sized(unit: &[u8], out: &mut Vec<u8>) -> Result<(), PacketError>
     requires { length unit.now ≤ 65535 }
     ensures written { OnOk result (out.new.items ≡ out.old.items ++ sized unit.now) }
@@ -66,7 +66,7 @@ fn push_sized(unit: &[u8], out: &mut Vec<u8>) -> Result<(), PacketError>
     Ok(())
 }
 
-// The STAP-A of two parameter sets.
+/// The STAP-A of two parameter sets.
 fn stap_a(alloc: Global, sps: &[u8], pps: &[u8]) -> Result<Vec<u8>, PacketError>
     requires sps { length sps.now ≤ 65535 }
     requires pps { length pps.now ≤ 65535 }
@@ -80,7 +80,7 @@ fn stap_a(alloc: Global, sps: &[u8], pps: &[u8]) -> Result<Vec<u8>, PacketError>
     Ok(packet)
 }
 
-// Sends two parameter sets together, where they can leave.
+/// Sends two parameter sets together, where they can leave.
 fn push_together(
     alloc: Global,
     limit: usize,
@@ -103,7 +103,7 @@ fn push_together(
     Ok(())
 }
 
-// A fragment of a unit.
+/// A fragment of a unit.
 fn fu_a(
     alloc: Global,
     header: u8,
@@ -123,7 +123,7 @@ fn fu_a(
     Ok(packet)
 }
 
-// Sends the fragments of a unit.
+/// Sends the fragments of a unit.
 fn push_fragments(
     alloc: Global,
     limit: usize,
@@ -148,7 +148,7 @@ fn push_fragments(
     Ok(())
 }
 
-// Sends a unit by itself, where it can leave.
+/// Sends a unit by itself, where it can leave.
 fn push_alone(
     alloc: Global,
     limit: usize,
@@ -169,7 +169,7 @@ fn push_alone(
     push_fragments(alloc, limit, unit, packets)
 }
 
-// Sends a unit that leaves, and before it the parameter sets, where both wait; the sets that wait then.
+/// Sends a unit that leaves, and before it the parameter sets, where both wait; the sets that wait then.
 fn push_leaving<'a>(
     alloc: Global,
     limit: usize,
@@ -199,7 +199,7 @@ fn push_leaving<'a>(
     })
 }
 
-// Sends what leaves with a unit; the sets that wait then.
+/// Sends what leaves with a unit; the sets that wait then.
 fn push_unit<'a>(
     alloc: Global,
     limit: usize,
@@ -228,7 +228,7 @@ fn push_unit<'a>(
     }
 }
 
-// Sends what leaves of a sample's units; the sets that wait then.
+/// Sends what leaves of a sample's units; the sets that wait then.
 fn push_units<'a>(
     alloc: Global,
     limit: usize,
@@ -249,7 +249,7 @@ fn push_units<'a>(
     Ok(waiting)
 }
 
-// A waiting set as a slice.
+/// A waiting set as a slice.
 fn slice_of(set: &Option<Vec<u8>>) -> Option<&[u8]>
     ensures { option_map (λ s. s.now) result ≡ option_map (λ v. v.items) set.now }
 {
@@ -259,7 +259,7 @@ fn slice_of(set: &Option<Vec<u8>>) -> Option<&[u8]>
     }
 }
 
-// A copy of a waiting set.
+/// A copy of a waiting set.
 fn copy_of(alloc: Global, set: Option<&[u8]>) -> Result<Option<Vec<u8>>, PacketError>
     ensures copy { IfOk result (λ copy. option_map (λ v. v.items) copy ≡ option_map (λ s. s.now) set.entry) }
     ensures memory { IfErr result (λ e. e ≡ PacketError.Memory) }

@@ -20,7 +20,7 @@ pub struct Form {
     pub limit: usize,
 }
 
-// The layer of a unit, below 64. A byte that is not there counts as 0.
+/// The layer of a unit, below 64. A byte that is not there counts as 0.
 fn layer_of(unit: &[u8]) -> u8
     ensures { result ≡ layer_of unit.now }
 {
@@ -31,7 +31,7 @@ fn layer_of(unit: &[u8]) -> u8
     }
 }
 
-// TID of a unit, below 8. A byte that is not there counts as 0.
+/// TID of a unit, below 8. A byte that is not there counts as 0.
 fn tid_of(unit: &[u8]) -> u8
     ensures { result ≡ tid_of unit.now }
 {
@@ -41,7 +41,7 @@ fn tid_of(unit: &[u8]) -> u8
     }
 }
 
-// Writes a decoding order number, where it is sent.
+/// Writes a decoding order number, where it is sent.
 fn push_donl(donl: bool, number: u16, out: &mut Vec<u8>) -> Result<(), PacketError>
     ensures written { OnOk result (out.new.items ≡ out.old.items ++ donl_bytes donl number) }
     ensures memory { IfErr result (λ e. e ≡ PacketError.Memory) }
@@ -53,7 +53,7 @@ fn push_donl(donl: bool, number: u16, out: &mut Vec<u8>) -> Result<(), PacketErr
     Ok(())
 }
 
-// Writes a unit behind its size.
+/// Writes a unit behind its size.
 fn push_sized(unit: &[u8], out: &mut Vec<u8>) -> Result<(), PacketError>
     requires { length unit.now ≤ 65535 }
     ensures written { OnOk result (out.new.items ≡ out.old.items ++ sized unit.now) }
@@ -65,7 +65,7 @@ fn push_sized(unit: &[u8], out: &mut Vec<u8>) -> Result<(), PacketError>
     Ok(())
 }
 
-// Writes a later unit of an aggregate: DOND 0, where decoding order numbers are sent, and the unit behind its size.
+/// Writes a later unit of an aggregate: DOND 0, where decoding order numbers are sent, and the unit behind its size.
 fn push_later(donl: bool, unit: &[u8], out: &mut Vec<u8>) -> Result<(), PacketError>
     requires { length unit.now ≤ 65535 }
     ensures written { OnOk result (out.new.items ≡ out.old.items ++ (dond_bytes donl ++ sized unit.now)) }

@@ -25,7 +25,7 @@ pub struct H265Depacketizer {
     unit: OpenUnit,
 }
 
-// Whether a unit is of a random access picture.
+/// Whether a unit is of a random access picture.
 fn is_irap_unit(unit: &[u8]) -> bool
     ensures { result ≡ is_irap_unit unit.now }
 {
@@ -35,7 +35,7 @@ fn is_irap_unit(unit: &[u8]) -> bool
     }
 }
 
-// Whether units in an aggregate, with so many bytes before the sizes, are of a random access picture.
+/// Whether units in an aggregate, with so many bytes before the sizes, are of a random access picture.
 fn has_irap(lead: usize, later: usize, body: &[u8]) -> bool
     ensures { result ≡ list_any is_irap_unit (aggregated lead later body.now).units }
 {
@@ -54,7 +54,7 @@ fn has_irap(lead: usize, later: usize, body: &[u8]) -> bool
     false
 }
 
-// Whether a fragment, behind its header, starts a unit of a random access picture.
+/// Whether a fragment, behind its header, starts a unit of a random access picture.
 fn starts_irap(body: &[u8]) -> bool
     ensures { result ≡ starts_irap body.now }
 {
@@ -67,7 +67,7 @@ fn starts_irap(body: &[u8]) -> bool
     }
 }
 
-// Whether a packet shows a random access picture, with decoding order numbers or without.
+/// Whether a packet shows a random access picture, with decoding order numbers or without.
 fn shows_irap(donl: bool, packet: &[u8]) -> bool
     ensures { result ≡ shows_irap donl packet.now }
 {
@@ -94,7 +94,7 @@ pub fn detect_h265_keyframe(packet: &[u8]) -> bool
     shows_irap(false, packet)
 }
 
-// Whether a packet of the unit showed a random access picture.
+/// Whether a packet of the unit showed a random access picture.
 fn was_keyframe(extra: &CodecExtra) -> bool
     ensures { result ≡ was_keyframe extra.now }
 {
@@ -104,7 +104,7 @@ fn was_keyframe(extra: &CodecExtra) -> bool
     }
 }
 
-// Whether a packet is cut short behind its header.
+/// Whether a packet is cut short behind its header.
 fn is_cut_short(donl: bool, kind: PacketKind, body: &[u8]) -> bool
     ensures { result ≡ is_cut_short donl kind body.now }
 {
@@ -121,7 +121,7 @@ fn is_cut_short(donl: bool, kind: PacketKind, body: &[u8]) -> bool
     }
 }
 
-// Whether what stands in an aggregate ends before a size does.
+/// Whether what stands in an aggregate ends before a size does.
 fn ends_short(donl: bool, body: &[u8]) -> bool
     ensures { result ≡ is_cut_short donl PacketKind.Aggregate body.now }
 {
@@ -154,7 +154,7 @@ impl H265Depacketizer {
         self.donl = value;
     }
 
-    // What a packet gives.
+    /// What a packet gives.
     fn give(&mut self, packet: &[u8], out: &mut Vec<u8>) -> Result<(), PacketError>
         ensures given { let given = given self.old.donl self.old.unit packet.now in
             OnOk result (Adds given out.old.items out.new.items self.new.unit) }
@@ -184,7 +184,7 @@ impl H265Depacketizer {
         }
     }
 
-    // What a unit alone gives.
+    /// What a unit alone gives.
     fn give_single(
         &mut self,
         high: u8,
@@ -204,7 +204,7 @@ impl H265Depacketizer {
         push_unit_of(&[high, low], unit, out)
     }
 
-    // What an aggregate gives.
+    /// What an aggregate gives.
     fn give_units(&mut self, body: &[u8], out: &mut Vec<u8>) -> Result<(), PacketError>
         ensures given { let given = given_by self.old.donl PacketKind.Aggregate self.old.unit 0 0 body.now in
             OnOk result (Adds given out.old.items out.new.items self.new.unit) }
@@ -223,7 +223,7 @@ impl H265Depacketizer {
         Ok(())
     }
 
-    // What a fragment gives.
+    /// What a fragment gives.
     fn give_fragment(
         &mut self,
         high: u8,

@@ -55,7 +55,7 @@ struct Kept<'a> {
     pps: Option<&'a [u8]>,
 }
 
-// The type of a unit, 0 without a byte.
+/// The type of a unit, 0 without a byte.
 fn unit_type(unit: &[u8]) -> u8
     ensures { result ≡ unit_type unit.now }
 {
@@ -65,7 +65,7 @@ fn unit_type(unit: &[u8]) -> u8
     }
 }
 
-// Sends three parameter sets together, where they can leave; the number of the next unit.
+/// Sends three parameter sets together, where they can leave; the number of the next unit.
 fn push_together(
     form: Form,
     number: u16,
@@ -94,7 +94,7 @@ fn push_together(
     Ok(number.wrapping_add(3))
 }
 
-// Sends the later fragments of a unit.
+/// Sends the later fragments of a unit.
 fn push_later_fragments(
     form: Form,
     cut: Cut,
@@ -114,7 +114,7 @@ fn push_later_fragments(
     Ok(())
 }
 
-// Sends the fragments of a unit.
+/// Sends the fragments of a unit.
 fn push_fragments(
     form: Form,
     number: u16,
@@ -143,7 +143,7 @@ fn push_fragments(
     push_later_fragments(form, cut, rest, packets)
 }
 
-// Sends a unit by itself, where it can leave; the number of the next unit.
+/// Sends a unit by itself, where it can leave; the number of the next unit.
 fn push_alone(
     form: Form,
     number: u16,
@@ -167,7 +167,7 @@ fn push_alone(
     Ok(number.wrapping_add(1))
 }
 
-// Sends a unit that leaves, and before it the parameter sets, where all three wait; what is kept then.
+/// Sends a unit that leaves, and before it the parameter sets, where all three wait; what is kept then.
 fn push_leaving<'a>(
     form: Form,
     unit: &[u8],
@@ -204,7 +204,7 @@ fn push_leaving<'a>(
     })
 }
 
-// Sends a unit that leaves, and no parameter sets; what is kept then.
+/// Sends a unit that leaves, and no parameter sets; what is kept then.
 fn push_without<'a>(
     form: Form,
     unit: &[u8],
@@ -228,7 +228,7 @@ fn push_without<'a>(
     })
 }
 
-// Sends what leaves with a unit; what is kept then.
+/// Sends what leaves with a unit; what is kept then.
 fn push_unit<'a>(
     form: Form,
     unit: &'a [u8],
@@ -270,7 +270,7 @@ fn push_unit<'a>(
     }
 }
 
-// Sends what leaves of a sample's units; what is kept then.
+/// Sends what leaves of a sample's units; what is kept then.
 fn push_units<'a>(
     form: Form,
     sample: &'a [u8],
@@ -295,7 +295,7 @@ fn push_units<'a>(
     Ok(kept)
 }
 
-// A waiting set as a slice.
+/// A waiting set as a slice.
 fn slice_of(set: &Option<Vec<u8>>) -> Option<&[u8]>
     ensures { option_map (λ s. s.now) result ≡ option_map (λ v. v.items) set.now }
 {
@@ -305,7 +305,7 @@ fn slice_of(set: &Option<Vec<u8>>) -> Option<&[u8]>
     }
 }
 
-// A copy of a waiting set.
+/// A copy of a waiting set.
 fn copy_of(alloc: Global, set: Option<&[u8]>) -> Result<Option<Vec<u8>>, PacketError>
     ensures copy { IfOk result (λ copy. option_map (λ v. v.items) copy ≡ option_map (λ s. s.now) set.entry) }
     ensures memory { IfErr result (λ e. e ≡ PacketError.Memory) }

@@ -21,7 +21,7 @@ pub struct Form {
     pub limit: usize,
 }
 
-// The layer of a unit, below 64. A byte that is not there counts as 0.
+/// The layer of a unit, below 64. A byte that is not there counts as 0.
 fn layer_of(unit: &[u8]) -> u8
     ensures { result ≡ layer_of unit.now }
 {
@@ -31,7 +31,7 @@ fn layer_of(unit: &[u8]) -> u8
     }
 }
 
-// TID of a unit, below 8. A byte that is not there counts as 0.
+/// TID of a unit, below 8. A byte that is not there counts as 0.
 fn tid_of(unit: &[u8]) -> u8
     ensures { result ≡ tid_of unit.now }
 {
@@ -41,7 +41,7 @@ fn tid_of(unit: &[u8]) -> u8
     }
 }
 
-// The least layer of parameter sets that leave together.
+/// The least layer of parameter sets that leave together.
 fn least_layer(vps: Option<&[u8]>, sps: &[u8], pps: &[u8]) -> u8
     ensures { result ≡ least layer_of (joining (option_map (λ s. s.now) vps.entry) sps.now pps.now) }
 {
@@ -52,7 +52,7 @@ fn least_layer(vps: Option<&[u8]>, sps: &[u8], pps: &[u8]) -> u8
     }
 }
 
-// Their least TID.
+/// Their least TID.
 fn least_tid(vps: Option<&[u8]>, sps: &[u8], pps: &[u8]) -> u8
     ensures { result ≡ least tid_of (joining (option_map (λ s. s.now) vps.entry) sps.now pps.now) }
 {
@@ -63,7 +63,7 @@ fn least_tid(vps: Option<&[u8]>, sps: &[u8], pps: &[u8]) -> u8
     }
 }
 
-// Writes a decoding order number, where it is sent.
+/// Writes a decoding order number, where it is sent.
 fn push_donl(donl: bool, number: u16, out: &mut Vec<u8>) -> Result<(), PacketError>
     ensures written { OnOk result (out.new.items ≡ out.old.items ++ donl_bytes donl number) }
     ensures memory { IfErr result (λ e. e ≡ PacketError.Memory) }
@@ -75,7 +75,7 @@ fn push_donl(donl: bool, number: u16, out: &mut Vec<u8>) -> Result<(), PacketErr
     Ok(())
 }
 
-// Writes a unit behind its size.
+/// Writes a unit behind its size.
 fn push_sized(unit: &[u8], out: &mut Vec<u8>) -> Result<(), PacketError>
     requires { length unit.now ≤ 65535 }
     ensures written { OnOk result (out.new.items ≡ out.old.items ++ sized unit.now) }
@@ -87,7 +87,7 @@ fn push_sized(unit: &[u8], out: &mut Vec<u8>) -> Result<(), PacketError>
     Ok(())
 }
 
-// Writes a set behind its size, if there is one.
+/// Writes a set behind its size, if there is one.
 fn push_sized_if(set: Option<&[u8]>, out: &mut Vec<u8>) -> Result<(), PacketError>
     requires { IfSome set (λ s. length s.now ≤ 65535) }
     ensures written { OnOk result (out.new.items ≡ out.old.items ++ sized_if (option_map (λ s. s.now) set.entry)) }

@@ -23,7 +23,7 @@ pub struct H266Depacketizer {
     unit: OpenUnit,
 }
 
-// Whether a unit is of a random access picture.
+/// Whether a unit is of a random access picture.
 fn is_irap_unit(unit: &[u8]) -> bool
     ensures { result ≡ is_irap_unit unit.now }
 {
@@ -33,7 +33,7 @@ fn is_irap_unit(unit: &[u8]) -> bool
     }
 }
 
-// Whether units in an aggregate, with so many bytes before the first size, are of a random access picture.
+/// Whether units in an aggregate, with so many bytes before the first size, are of a random access picture.
 fn has_irap(lead: usize, body: &[u8]) -> bool
     ensures { result ≡ list_any is_irap_unit (aggregated lead 0 body.now).units }
 {
@@ -52,7 +52,7 @@ fn has_irap(lead: usize, body: &[u8]) -> bool
     false
 }
 
-// Whether a fragment, behind its header, starts a unit of a random access picture.
+/// Whether a fragment, behind its header, starts a unit of a random access picture.
 fn starts_irap(body: &[u8]) -> bool
     ensures { result ≡ starts_irap body.now }
 {
@@ -65,7 +65,7 @@ fn starts_irap(body: &[u8]) -> bool
     }
 }
 
-// Whether a packet shows a random access picture, with decoding order numbers or without.
+/// Whether a packet shows a random access picture, with decoding order numbers or without.
 fn shows_irap(donl: bool, packet: &[u8]) -> bool
     ensures { result ≡ shows_irap donl packet.now }
 {
@@ -92,7 +92,7 @@ pub fn detect_h266_keyframe(packet: &[u8]) -> bool
     shows_irap(false, packet)
 }
 
-// Whether a packet of the unit showed a random access picture.
+/// Whether a packet of the unit showed a random access picture.
 fn was_keyframe(extra: &CodecExtra) -> bool
     ensures { result ≡ was_keyframe extra.now }
 {
@@ -102,7 +102,7 @@ fn was_keyframe(extra: &CodecExtra) -> bool
     }
 }
 
-// Whether a packet is cut short behind its header.
+/// Whether a packet is cut short behind its header.
 fn is_cut_short(donl: bool, kind: PacketKind, body: &[u8]) -> bool
     ensures { result ≡ is_cut_short donl kind body.now }
 {
@@ -119,7 +119,7 @@ fn is_cut_short(donl: bool, kind: PacketKind, body: &[u8]) -> bool
     }
 }
 
-// Whether what stands in an aggregate ends before a size does.
+/// Whether what stands in an aggregate ends before a size does.
 fn ends_short(donl: bool, body: &[u8]) -> bool
     ensures { result ≡ is_cut_short donl PacketKind.Aggregate body.now }
 {
@@ -152,7 +152,7 @@ impl H266Depacketizer {
         self.donl = value;
     }
 
-    // What a packet gives.
+    /// What a packet gives.
     fn give(&mut self, packet: &[u8], out: &mut Vec<u8>) -> Result<(), PacketError>
         ensures given { let given = given self.old.donl self.old.unit packet.now in
             OnOk result (Adds given out.old.items out.new.items self.new.unit) }
@@ -182,7 +182,7 @@ impl H266Depacketizer {
         }
     }
 
-    // What a unit alone gives.
+    /// What a unit alone gives.
     fn give_single(
         &mut self,
         high: u8,
@@ -202,7 +202,7 @@ impl H266Depacketizer {
         push_unit_of(&[high, low], unit, out)
     }
 
-    // What an aggregate gives.
+    /// What an aggregate gives.
     fn give_units(&mut self, body: &[u8], out: &mut Vec<u8>) -> Result<(), PacketError>
         ensures given { let given = given_by self.old.donl PacketKind.Aggregate self.old.unit 0 0 body.now in
             OnOk result (Adds given out.old.items out.new.items self.new.unit) }
@@ -220,7 +220,7 @@ impl H266Depacketizer {
         Ok(())
     }
 
-    // What a fragment gives.
+    /// What a fragment gives.
     fn give_fragment(
         &mut self,
         high: u8,

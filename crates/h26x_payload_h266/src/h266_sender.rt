@@ -56,7 +56,7 @@ struct Kept<'a> {
     pps: Option<&'a [u8]>,
 }
 
-// The type of a unit, 0 if it has less than two bytes.
+/// The type of a unit, 0 if it has less than two bytes.
 fn unit_type(unit: &[u8]) -> u8
     ensures { result ≡ unit_type unit.now }
 {
@@ -66,7 +66,7 @@ fn unit_type(unit: &[u8]) -> u8
     }
 }
 
-// How many bytes a set has, 0 if there is none.
+/// How many bytes a set has, 0 if there is none.
 fn length_of(set: Option<&[u8]>) -> usize
     ensures { result ≡ length (unwrap_or (option_map (λ s. s.now) set.entry) []) }
 {
@@ -76,8 +76,8 @@ fn length_of(set: Option<&[u8]>) -> usize
     }
 }
 
-// Sends an SPS and a PPS together, and a VPS before them, if there is one, where they can leave; the number of the
-// next unit.
+/// Sends an SPS and a PPS together, and a VPS before them, if there is one, where they can leave; the number of the
+/// next unit.
 fn push_together(
     form: Form,
     number: u16,
@@ -108,7 +108,7 @@ fn push_together(
     Ok(number.wrapping_add(count))
 }
 
-// Sends the later fragments of a unit.
+/// Sends the later fragments of a unit.
 fn push_later_fragments(
     form: Form,
     cut: Cut,
@@ -128,7 +128,7 @@ fn push_later_fragments(
     Ok(())
 }
 
-// Sends the fragments of a unit.
+/// Sends the fragments of a unit.
 fn push_fragments(
     form: Form,
     number: u16,
@@ -157,7 +157,7 @@ fn push_fragments(
     push_later_fragments(form, cut, rest, packets)
 }
 
-// Sends a unit by itself, where it can leave; the number of the next unit.
+/// Sends a unit by itself, where it can leave; the number of the next unit.
 fn push_alone(
     form: Form,
     number: u16,
@@ -181,7 +181,7 @@ fn push_alone(
     Ok(number.wrapping_add(1))
 }
 
-// Sends a unit that leaves, and before it the parameter sets, where an SPS and a PPS wait; what is kept then.
+/// Sends a unit that leaves, and before it the parameter sets, where an SPS and a PPS wait; what is kept then.
 fn push_leaving<'a>(
     form: Form,
     unit: &[u8],
@@ -215,7 +215,7 @@ fn push_leaving<'a>(
     })
 }
 
-// Sends a unit that leaves, and no parameter sets; what is kept then.
+/// Sends a unit that leaves, and no parameter sets; what is kept then.
 fn push_without<'a>(
     form: Form,
     unit: &[u8],
@@ -239,7 +239,7 @@ fn push_without<'a>(
     })
 }
 
-// Sends what leaves with a unit; what is kept then.
+/// Sends what leaves with a unit; what is kept then.
 fn push_unit<'a>(
     form: Form,
     unit: &'a [u8],
@@ -281,7 +281,7 @@ fn push_unit<'a>(
     }
 }
 
-// Sends what leaves of a sample's units; what is kept then.
+/// Sends what leaves of a sample's units; what is kept then.
 fn push_units<'a>(
     form: Form,
     sample: &'a [u8],
@@ -306,7 +306,7 @@ fn push_units<'a>(
     Ok(kept)
 }
 
-// A waiting set as a slice.
+/// A waiting set as a slice.
 fn slice_of(set: &Option<Vec<u8>>) -> Option<&[u8]>
     ensures { option_map (λ s. s.now) result ≡ option_map (λ v. v.items) set.now }
 {
@@ -316,7 +316,7 @@ fn slice_of(set: &Option<Vec<u8>>) -> Option<&[u8]>
     }
 }
 
-// A copy of a waiting set.
+/// A copy of a waiting set.
 fn copy_of(alloc: Global, set: Option<&[u8]>) -> Result<Option<Vec<u8>>, PacketError>
     ensures copy { IfOk result (λ copy. option_map (λ v. v.items) copy ≡ option_map (λ s. s.now) set.entry) }
     ensures memory { IfErr result (λ e. e ≡ PacketError.Memory) }

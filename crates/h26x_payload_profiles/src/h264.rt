@@ -273,7 +273,7 @@ const ROWS: [ProfileRow; 9] = [
     },
 ];
 
-// The profile of the row whose masked bits the two bytes have.
+/// The profile of the row whose masked bits the two bytes have.
 fn masked_profile(idc: u8, iop: u8) -> Option<H264Profile>
     ensures { result ≡ masked_profile ROWS idc iop }
 {
@@ -282,7 +282,7 @@ fn masked_profile(idc: u8, iop: u8) -> Option<H264Profile>
         .map(|row| row.profile)
 }
 
-// The same by the digits of the table, which the masks stand for.
+/// The same by the digits of the table, which the masks stand for.
 fn profile_of(idc: u8, iop: u8) -> Option<H264Profile>
     ensures { result ≡ profile_of idc iop }
 {
@@ -318,7 +318,7 @@ impl H264ProfileLevel {
     }
 }
 
-// What a number of three bytes means.
+/// What a number of three bytes means.
 fn profile_level_of(number: u32) -> Option<H264ProfileLevel>
     ensures { result ≡ profile_level_of number }
 {

@@ -10,7 +10,7 @@ use std::marker::Model;
 /// The start code that each unit is written behind (ITU-T H.264 annex B).
 pub const ANNEXB_NALUSTART_CODE: [u8; 4] = [0, 0, 0, 1];
 
-/// Writes a unit behind its start code. Where memory is wanting, `out` is as it was.
+/// Writes a unit behind its start code. Where memory runs out, `out` is as it was.
 pub fn push_unit(unit: &[u8], out: &mut Vec<u8>) -> Result<(), PacketError>
     ensures written { OnOk result (out.new.items ≡ out.old.items ++ behind_code unit.now) }
     ensures unchanged { OnErr result (out.new.items ≡ out.old.items) }
@@ -25,7 +25,7 @@ pub fn push_unit(unit: &[u8], out: &mut Vec<u8>) -> Result<(), PacketError>
     Ok(())
 }
 
-/// Writes a unit of a header and a body behind its start code. Where memory is wanting, `out` is as it was.
+/// Writes a unit of a header and a body behind its start code. Where memory runs out, `out` is as it was.
 pub fn push_unit_of(header: &[u8], body: &[u8], out: &mut Vec<u8>) -> Result<(), PacketError>
     ensures written { OnOk result (out.new.items ≡ out.old.items ++ behind_code (header.now ++ body.now)) }
     ensures unchanged { OnErr result (out.new.items ≡ out.old.items) }
@@ -40,7 +40,7 @@ pub fn push_unit_of(header: &[u8], body: &[u8], out: &mut Vec<u8>) -> Result<(),
     Ok(())
 }
 
-// A unit that begins with this header, behind its start code.
+/// A unit that begins with this header, behind its start code.
 fn begun(alloc: Global, header: &[u8], part: &[u8]) -> Result<Vec<u8>, PacketError>
     ensures begun { IfOk result (λ v. v.items ≡ behind_code (header.now ++ part.now)) }
     ensures memory { IfErr result (λ e. e ≡ PacketError.Memory) }
@@ -78,7 +78,7 @@ impl OpenUnit {
 
     /// Takes a fragment: with `is_start` it begins a unit with this header, whatever was open; else it goes on with
     /// the open one, and is passed over where none is. With `is_end` the unit is then written behind its start code,
-    /// and none is open. Where memory is wanting, the open unit and `out` are as they were.
+    /// and none is open. Where memory runs out, the open unit and `out` are as they were.
     pub fn put(
         &mut self,
         is_start: bool,
@@ -100,7 +100,7 @@ impl OpenUnit {
         self.go_on(is_end, part, out)
     }
 
-    // A fragment that begins a unit.
+    /// A fragment that begins a unit.
     fn start(
         &mut self,
         is_end: bool,
@@ -124,7 +124,7 @@ impl OpenUnit {
         Ok(())
     }
 
-    // A fragment that goes on with a unit.
+    /// A fragment that goes on with a unit.
     fn go_on(&mut self, is_end: bool, part: &[u8], out: &mut Vec<u8>) -> Result<(), PacketError>
         ensures written { OnOk result (out.new.items ≡ out.old.items
             ++ written_at is_end (continued self.old part.now)) }

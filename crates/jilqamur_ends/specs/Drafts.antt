@@ -22,7 +22,7 @@ use Rattle.jilqamur_wire.specs.Codes.{row_not_plain, types_not_distinct, not_wri
 use Rattle.jilqamur_ends.specs.declared.draft.WireRow.{WireRow}
 use Rattle.jilqamur_ends.specs.Peers.{PeerState}
 
--- a number that is given, or none
+-- A number that is given, or none.
 abbrev pub given : Bool → ℕ → Option ℕ
 given false n = None
 given true n = Some n
@@ -78,7 +78,7 @@ abbrev pub end_outcome : Option EndError → ℕ
 end_outcome None = ok
 end_outcome (Some error) = end_code error
 
--- What making an end of a draft answers, want of memory aside.
+-- What making an end of a draft answers, lack of memory aside.
 abbrev pub make_outcome : PeerState → ℕ
 make_outcome p = end_outcome (refusal_of_new p.rows p.exts)
 

@@ -25,13 +25,13 @@ exchange_code (error.NoCommonRow mid) = no_common_row
 exchange_code error.NotWritable = not_writable
 exchange_code error.Memory = memory
 
--- an offer's text is left, where nothing refuses it
+-- An offer's text is left, where nothing refuses it.
 pub record Offered (e : EndState) (sections : List Wanted) (text : List ℕ) (after : EndState) : Type 0 where
   pub may_offer : refusal_of_offer e.exchange sections ≡ None
   pub text_is : text ≡ sdp_text (offer_of e.exchange sections)
   pub is_pending : after ≡ with_exchange e (with_offer e.exchange (Some sections))
 
--- a call's refusal is answered by its number, and the end stays
+-- A call's refusal is answered by its number, and the end stays.
 pub record IsRefusedAs (e : EndState) (names : ExchangeError → Type 0) (result : ℕ) (after : EndState) : Type 0 where
   pub error : ExchangeError
   pub named : names error
@@ -44,7 +44,7 @@ AnswersOffer e sections result text after =
     ((result ≡ ok) × Offered e sections text after)
     ⊎ IsRefusedAs e (λ error. Refuses error (refusal_of_offer e.exchange sections)) result after
 
--- an answer's text is left, where nothing refuses it
+-- An answer's text is left, where nothing refuses it.
 pub record Answered (e : EndState) (offer : List ℕ) (sections : List Wanted) (text : List ℕ) (after : EndState)
     : Type 0 where
   pub may_answer : MayAnswer e.exchange offer sections
@@ -57,7 +57,7 @@ AnswersAnswer e offer sections result text after =
     ((result ≡ ok) × Answered e offer sections text after)
     ⊎ IsRefusedAs e (RefusesAnswer e.exchange offer sections) result after
 
--- an answer's text is taken, where nothing refuses it
+-- An answer's text is taken, where nothing refuses it.
 pub record Accepted (e : EndState) (answer : List ℕ) (after : EndState) : Type 0 where
   pub may_accept : MayAccept e.exchange answer
   pub accepts : Accepts e.exchange answer after.exchange
@@ -74,7 +74,7 @@ AnswersWithdraw e result after =
     (result ≡ (if is_some e.exchange.pending then ok else nothing))
     × (after ≡ with_exchange e (with_offer e.exchange None))
 
--- one claim where a test holds, another one where it doesn't
+-- One claim where a test holds, another one where it doesn't.
 abbrev pub Where : Bool → Type 0 → Type 0 → Type 0
 Where true holds fails = holds
 Where false holds fails = fails

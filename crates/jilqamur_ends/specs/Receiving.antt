@@ -51,7 +51,7 @@ verdict_code received.Damaged = damaged
 verdict_code received.Refused = refused
 verdict_code (received.Taken stream number) = ok
 
--- the stream that took it, and its widened number
+-- The stream that took it, and its widened number.
 abbrev pub IsTakenAs : Received → ℕ → ℕ → Type 0
 IsTakenAs (received.Taken s n) stream number = (stream ≡ s) × (number ≡ n)
 IsTakenAs verdict stream number = Unit {0}
@@ -63,7 +63,7 @@ pub record Receives (e : EndState) (datagram : List ℕ) (result stream number :
   pub is_behind : result ≢ memory → after ≡ after_datagram e datagram
   pub stays : result ≡ memory → after ≡ e
 
--- What a poll answers whose stream answers and becomes this, or stays like that where memory is wanting.
+-- What a poll answers whose stream answers and becomes this, or stays like that where memory runs out.
 pub record AnswersPoll (e : EndState) (n : ℕ) (answer : PollResult) (behind : Receiving)
     (Stops : EndState → Type 0) (before : Option MediaUnit) (result : ℕ) (unit : Option MediaUnit)
     (after : EndState) : Type 0 where
@@ -73,7 +73,7 @@ pub record AnswersPoll (e : EndState) (n : ℕ) (answer : PollResult) (behind : 
   pub keeps : result ≡ memory → unit ≡ before
   pub stops : result ≡ memory → Stops after
 
--- memory is wanting for a unit that is ready: its frame stays
+-- Memory runs out for a unit that is ready: its frame stays.
 abbrev pub PollStops : EndState → ℕ → EndState → Type 0
 PollStops e n after =
     IsInterrupted (format_of (receiver_at e n).row) (receiver_at e n).stream (receiver_at after n).stream
@@ -85,7 +85,7 @@ DrainStops e n after =
     (holding 0 (receiver_at after n).stream)
     × (after ≡ with_receiver e n (with_stream (receiver_at e n) (receiver_at after n).stream))
 
--- no stream that receives has this number
+-- No stream that receives has this number.
 abbrev pub HasNoStream : EndState → Option MediaUnit → ℕ → Option MediaUnit → EndState → Type 0
 HasNoStream e before result unit after = (result ≡ no_stream) × (unit ≡ before) × (after ≡ e)
 

@@ -16,7 +16,7 @@ use Rattle.jilqamur_ends.specs.declared.sending.WireStream.{WireStream}
 use Rattle.jilqamur_ends.specs.Exchanges.{Where}
 use Rattle.jilqamur_ends.specs.Receiving.{open_outcome}
 
--- distances that are given, or no redundancy
+-- Distances that are given, or no redundancy.
 abbrev pub distances_of : Bool → List ℕ → Option (List ℕ)
 distances_of false distances = None
 distances_of true distances = Some distances
@@ -36,7 +36,7 @@ params_of w distances = record {
   for_browsers = w.for_browsers;
 }
 
--- whether they are sound for the row that is agreed
+-- Whether they are sound for the row that is agreed.
 abbrev pub is_sound_for : EndState → List ℕ → ℕ → StreamParams → Bool
 is_sound_for e mid pt params = is_sound_params (agreed_red e (name_of 16 mid) pt) params
 
@@ -47,7 +47,7 @@ pub record OpensSender (e : EndState) (mid : List ℕ) (ssrc pt : ℕ) (params :
   pub opened : result ≡ ok → after ≡ after_open_sender e (name_of 16 mid) ssrc pt params
   pub stays : result ≢ ok → after ≡ e
 
--- parameters that aren't sound are refused first
+-- Parameters that aren't sound are refused first.
 abbrev pub IsUnsound : EndState → ℕ → EndState → Type 0
 IsUnsound e result after = (result ≡ out_of_range) × (after ≡ e)
 
@@ -56,18 +56,18 @@ abbrev pub AnswersSender : EndState → List ℕ → ℕ → ℕ → StreamParam
 AnswersSender e mid ssrc pt params result stream after = Where (is_sound_for e mid pt params)
     (OpensSender e mid ssrc pt params result stream after) (IsUnsound e result after)
 
--- a time in ticks of the clock of the stream's row
+-- A time in ticks of the clock of the stream's row.
 abbrev pub time_at : EndState → ℕ → ℕ → Time
 time_at e n ticks = record { ticks = ticks; rate = (sender_at e n).row.clock_rate }
 
--- the values of a sample's header extensions: those given, and the name of its section, where one is (RFC 9143 15)
+-- The values of a sample's header extensions: those given, and the name of its section, where one is (RFC 9143 15).
 abbrev pub mid_of : List ℕ → Option (List ℕ)
 mid_of text = if length text == 0 then None else Some (name_of 16 text)
 
 abbrev pub values_of : WireValues → List ℕ → ExtensionValues
 values_of w mid = values_given w (mid_of mid)
 
--- a sending stream ran out of memory: it is marked as failed, and the others stay
+-- A sending stream ran out of memory: it is marked as failed, and the others stay.
 abbrev pub SenderFails : EndState → ℕ → EndState → Type 0
 SenderFails e n after = HasFailed (sender_at e n) (sender_at after n) × (after ≡ with_sender e n (sender_at after n))
 
@@ -79,7 +79,7 @@ pub record Sends (e : EndState) (n : ℕ) (time : Time) (values : ExtensionValue
   pub stays : result ≢ ok → result ≢ memory → after ≡ e
   pub fails : result ≡ memory → SenderFails e n after
 
--- no stream that sends has this number
+-- No stream that sends has this number.
 abbrev pub HasNoSender : EndState → ℕ → EndState → Type 0
 HasNoSender e result after = (result ≡ no_stream) × (after ≡ e)
 

@@ -138,7 +138,7 @@ fn push_at(
 
 impl Peer {
     /// Opens a sending stream of this SSRC for the agreed row of a payload type, writes its number, counted from 0
-    /// over the streams of both directions, and answers `OK`. `MEMORY` where it is wanting, `NOT_TEXT` for a name that
+    /// over the streams of both directions, and answers `OK`. `MEMORY` where it runs out, `NOT_TEXT` for a name that
     /// isn't UTF-8, `NOT_MADE` without an end, `OUT_OF_RANGE` for parameters that aren't sound for the row's RED type;
     /// else the first that holds of `NO_SECTION`, `ROW_NOT_AGREED`, `ROW_DIFFERS`, `WRONG_DIRECTION`,
     /// `SSRC_NOT_NAMED` and `ALREADY_OPEN`. Nothing has changed then.

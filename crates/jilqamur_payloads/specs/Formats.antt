@@ -11,7 +11,7 @@ use Rattle.jilqamur_wire.specs.Codes.{ok, not_text, out_of_range}
 use Rattle.jilqamur_payloads.specs.declared.format.PayloadFormat.{PayloadFormat}
 use Rattle.jilqamur_payloads.specs.declared.format.WireFormat.{WireFormat}
 
--- a value that is given, or none
+-- A value that is given, or none.
 abbrev pub flag_given : Bool → Bool → Option Bool
 flag_given false flag = None
 flag_given true flag = Some flag

@@ -29,7 +29,7 @@ poll_code (Ok (Some unit)) = ok
 poll_code (Err (fault.Payload e)) = payload
 poll_code (Err fault.Memory) = memory
 
--- the unit that a poll leaves, or the one that was left before
+-- The unit that a poll leaves, or the one that was left before.
 abbrev pub unit_behind : PollResult → Option MediaUnit → Option MediaUnit
 unit_behind (Ok (Some unit)) before = Some unit
 unit_behind answer before = before

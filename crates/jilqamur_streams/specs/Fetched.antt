@@ -12,7 +12,7 @@ abbrev pub bytes_of : Option MediaUnit → Option (List ℕ)
 bytes_of None = None
 bytes_of (Some u) = Some u.bytes
 
--- what is told of the unit
+-- What is told of the unit.
 abbrev pub IsToldOf : Option MediaUnit → WireUnit → Type 0
 IsToldOf None told = Unit {0}
 IsToldOf (Some u) told = told ≡ wire_unit u

@@ -25,7 +25,7 @@ new_inbox format codec hold_back = record {
   unit = None;
 }
 
--- the number of a packet, and the widened number that it was taken under
+-- The number of a packet, and the widened number that it was taken under.
 abbrev pub take_outcome : Option ℕ → ℕ
 take_outcome None = refused
 take_outcome (Some number) = ok
@@ -44,7 +44,7 @@ pub record Takes (p : InboxState) (low time : ℕ) (marker : Bool) (payload : Li
   pub stays : result ≡ memory → after.stream ≡ p.stream
   pub unit : after.unit ≡ p.unit
 
--- memory is wanting for a unit that is ready: its frame stays
+-- Memory runs out for a unit that is ready: its frame stays.
 abbrev pub PollStops : Receiving → Receiving → Type 0
 PollStops r after =
     IsInterrupted (format_of r.row) r.stream after.stream × (after ≡ with_stream r after.stream)
@@ -54,7 +54,7 @@ DrainStops r after =
     IsInterrupted (format_of r.row) (holding 0 r.stream) (holding 0 after.stream)
     × (after ≡ with_stream r after.stream)
 
--- What a poll answers whose stream answers and becomes this, or stays like that where memory is wanting.
+-- What a poll answers whose stream answers and becomes this, or stays like that where memory runs out.
 pub record AnswersPoll (p : InboxState) (answer : PollResult) (behind : Receiving)
     (Stops : Receiving → Receiving → Type 0) (result : ℕ) (after : InboxState) : Type 0 where
   pub number : result ≢ memory → result ≡ poll_code answer

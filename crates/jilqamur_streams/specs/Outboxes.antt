@@ -18,7 +18,7 @@ pub record OutboxState : Type 0 where
   pub stream : Sending
   pub datagrams : List (List ℕ)
 
--- a type without redundancy
+-- A type without redundancy.
 abbrev pub type_alone : ℕ → PayloadTypes
 type_alone pt = record { pt = pt; red = None }
 
@@ -37,7 +37,7 @@ is_off_range w = nat_lt 127 w.payload_type || (w.mtu == 0 || nat_lt 32767 w.pict
 abbrev pub sender_outcome : WireSender → WireFormat → List ℕ → ℕ
 sender_outcome w format codec = if is_off_range w then out_of_range else format_outcome format codec
 
--- a time in ticks of the stream's clock
+-- A time in ticks of the stream's clock.
 abbrev pub time_at : Sending → ℕ → Time
 time_at s ticks = record { ticks = ticks; rate = s.row.clock_rate }
 

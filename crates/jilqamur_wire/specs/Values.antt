@@ -32,7 +32,7 @@ values_given w mid = record {
   abs_capture_time = if_given w.has_capture_time (capture_of w);
 }
 
--- no capture time
+-- No capture time.
 abbrev pub no_capture : AbsCaptureTime
 no_capture = record { capture_time = 0; clock_offset = None }
 

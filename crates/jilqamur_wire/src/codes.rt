@@ -2,7 +2,7 @@
 
 /// The call did what it says.
 pub const OK: u32 = 0;
-/// Memory was wanting.
+/// Out of memory.
 pub const MEMORY: u32 = 1;
 /// The handle holds an object already.
 pub const IN_USE: u32 = 2;

@@ -25,27 +25,27 @@ sends_pieces PCMA = true
 sends_pieces G722 = true
 sends_pieces _ = false
 
--- a row of one of them
+-- A row of one of them.
 abbrev pub SendsPieces : Row → Type 0
 SendsPieces row = sends_pieces row.spec.codec ≡ true
 
--- the bytes of what is handed out
+-- The bytes of what is handed out.
 abbrev pub bytes_out : Result MediaUnit PacketError → Result (List ℕ) PacketError
 bytes_out (Ok u) = Ok u.bytes
 bytes_out (Err e) = Err e
 
--- whether a poll answered None
+-- Whether a poll answered None.
 abbrev pub is_silent : Result (Option MediaUnit) PacketError → Bool
 is_silent (Ok None) = true
 is_silent (Ok (Some u)) = false
 is_silent (Err e) = false
 
--- whether the last poll up to an answer answered None
+-- Whether the last poll up to an answer answered None.
 abbrev pub silent_at : Bool → Played → Bool
 silent_at before (Received verdict) = before
 silent_at before (Polled answer) = is_silent answer
 
--- whether the last poll answered None, where this holds of the polls before
+-- Whether the last poll answered None, where this holds of the polls before.
 abbrev pub silent_after : Bool → List Played → Bool
 silent_after before [] = before
 silent_after before (p ∷ ps) = silent_after (silent_at before p) ps

@@ -23,7 +23,7 @@ use std::alloc::Global;
 /// sample once and in order.
 ///
 /// # Errors
-/// Where the exchange, an opening or a sample is refused, or memory is wanting.
+/// Where the exchange, an opening or a sample is refused, or memory runs out.
 pub(crate) fn carry(
     alloc: Global,
     a: &mut End,

@@ -26,7 +26,7 @@ pub enum Stopped {
     /// A unit is missing though every datagram came in time.
     #[error("a unit is missing")]
     Missing,
-    /// Memory was wanting.
+    /// Out of memory.
     #[error("out of memory")]
     Memory,
     /// The clock could not be read.

@@ -16,7 +16,7 @@ use std::alloc::Global;
 // How many speech bits the frame types 0 to 9 have (3GPP TS 26.201).
 const SPEECH_BITS: [u16; 10] = [132, 177, 253, 285, 317, 365, 397, 461, 477, 40];
 
-// How many speech bits a frame type has; None where the type is for later use.
+/// How many speech bits a frame type has; None where the type is for later use.
 fn speech_bits(ft: u8) -> Option<usize>
     requires { ft < 16 }
     ensures value { result ≡ speech_bits ft }
@@ -54,7 +54,7 @@ fn field_size(octet_align: bool, size: usize) -> usize
     }
 }
 
-// How many speech bits a sample has, if it has just the bytes of so many.
+/// How many speech bits a sample has, if it has just the bytes of so many.
 fn sample_size(bytes: &[u8]) -> Option<usize>
     requires { 0 < length bytes.now }
     ensures value { result ≡ sample_size bytes.now }
@@ -64,7 +64,7 @@ fn sample_size(bytes: &[u8]) -> Option<usize>
     (bytes.len() == (size + 7) / 8 + 1).then_some(size)
 }
 
-// How many entries the table of contents of a packet has, and the place behind them, if all are there.
+/// How many entries the table of contents of a packet has, and the place behind them, if all are there.
 fn entries(octet_align: bool, packet: &[u8]) -> Option<(usize, BitPlace)>
     ensures found { IfSome result (λ e. (last_entry octet_align packet.now ≡ Some (e.0 - 1)) × (0 < e.0)) }
     ensures place { IfSome result (λ e. (place_of e.1 ≡ entry_place octet_align e.0)
@@ -88,7 +88,7 @@ fn entries(octet_align: bool, packet: &[u8]) -> Option<(usize, BitPlace)>
     None
 }
 
-// The frames of so many entries, whose speech stands from a place on: each its header and its speech.
+/// The frames of so many entries, whose speech stands from a place on: each its header and its speech.
 fn frames(
     alloc: Global,
     octet_align: bool,
@@ -168,7 +168,7 @@ impl Depacketizer for AmrWbDepacketizer {
     }
 }
 
-// Byte `k` of a bandwidth-efficient packet: 1111, F clear, FT, Q, the speech bits, and zeros.
+/// Byte `k` of a bandwidth-efficient packet: 1111, F clear, FT, Q, the speech bits, and zeros.
 fn efficient_byte(bytes: &[u8], size: usize, k: usize) -> u8
     requires few { (8 * k < size + 10) × (size ≤ 477) }
     requires room { 8 + size ≤ 8 * length bytes.now }
@@ -184,7 +184,7 @@ fn efficient_byte(bytes: &[u8], size: usize, k: usize) -> u8
     front_of(left, BitPlace::at(8 * k - 2).byte(bytes))
 }
 
-// How many bytes the packet of a sample with so many speech bits has.
+/// How many bytes the packet of a sample with so many speech bits has.
 fn packet_len(octet_align: bool, size: usize) -> usize
     requires { size ≤ 477 }
     ensures { (sample : List ℕ) → length (amr_wb_packet octet_align sample size) ≡ result }
@@ -196,7 +196,7 @@ fn packet_len(octet_align: bool, size: usize) -> usize
     }
 }
 
-// The packet of a sample with so many speech bits in the octet-aligned layout.
+/// The packet of a sample with so many speech bits in the octet-aligned layout.
 fn aligned_packet(alloc: Global, bytes: &[u8], size: usize) -> Result<Vec<u8>, PacketError>
     requires few { size ≤ 477 }
     requires room { 8 + size ≤ 8 * length bytes.now }
@@ -210,7 +210,7 @@ fn aligned_packet(alloc: Global, bytes: &[u8], size: usize) -> Result<Vec<u8>, P
     Ok(packet)
 }
 
-// The packet of a sample with so many speech bits in the bandwidth-efficient layout.
+/// The packet of a sample with so many speech bits in the bandwidth-efficient layout.
 fn efficient_packet(alloc: Global, bytes: &[u8], size: usize) -> Result<Vec<u8>, PacketError>
     requires few { size ≤ 477 }
     requires room { 8 + size ≤ 8 * length bytes.now }
@@ -224,7 +224,7 @@ fn efficient_packet(alloc: Global, bytes: &[u8], size: usize) -> Result<Vec<u8>,
     Ok(packet)
 }
 
-// The packet of a sample with so many speech bits.
+/// The packet of a sample with so many speech bits.
 fn packet_of(
     alloc: Global,
     octet_align: bool,

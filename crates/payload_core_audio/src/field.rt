@@ -28,7 +28,7 @@ pub fn header_at(bytes: &[u8], place: BitPlace) -> u8
     place.byte(bytes) % 128 / 4 * 4
 }
 
-// Appends so many bytes that begin at a place.
+/// Appends so many bytes that begin at a place.
 fn push_bytes(
     bytes: &[u8],
     place: BitPlace,

@@ -12,7 +12,7 @@ use payload_core_base::PacketError;
 use std::alloc::Global;
 use std::mem;
 
-// So many elements behind their sizes, and the rest as the last one.
+/// So many elements behind their sizes, and the rest as the last one.
 fn counted_elements(alloc: Global, count: u8, body: &[u8]) -> Result<Vec<&[u8]>, PacketError>
     ensures value { IfOk result (λ es. counted_elements count body.now ≡ Some (map (λ e. e.now) es.items)) }
     ensures refused { IfErr result (λ e. e ≢ PacketError.Memory → (e ≡ PacketError.ErrAv1CorruptedPacket)
@@ -31,7 +31,7 @@ fn counted_elements(alloc: Global, count: u8, body: &[u8]) -> Result<Vec<&[u8]>,
     Ok(elements)
 }
 
-// Elements behind their sizes up to the end.
+/// Elements behind their sizes up to the end.
 fn sized_elements(alloc: Global, body: &[u8]) -> Result<Vec<&[u8]>, PacketError>
     ensures value { IfOk result (λ es. sized_elements (length body.now) body.now ≡ Some (map (λ e. e.now) es.items)) }
     ensures refused { IfErr result (λ e. e ≢ PacketError.Memory → (e ≡ PacketError.ErrAv1CorruptedPacket)
@@ -62,7 +62,7 @@ pub fn elements_of(alloc: Global, w: u8, body: &[u8]) -> Result<Vec<&[u8]>, Pack
     }
 }
 
-// Whether an element is empty or a unit.
+/// Whether an element is empty or a unit.
 fn is_unit(element: &[u8]) -> bool
     ensures { result ≡ is_some (given element.now) }
 {
@@ -81,7 +81,7 @@ pub fn are_units(elements: &[&[u8]]) -> bool
     true
 }
 
-// Writes the unit that a complete element is, if it is kept.
+/// Writes the unit that a complete element is, if it is kept.
 fn give(element: &[u8], out: &mut Vec<u8>) -> Result<(), PacketError>
     ensures given { IfOk result (λ _. Gathers out.old.items (given element.now) out.new.items) }
     ensures kept { Keeps out.old.items out.new.items }
@@ -100,7 +100,7 @@ fn give(element: &[u8], out: &mut Vec<u8>) -> Result<(), PacketError>
     Ok(())
 }
 
-// Writes what complete elements give, one behind the other.
+/// Writes what complete elements give, one behind the other.
 fn give_all(elements: &[&[u8]], out: &mut Vec<u8>) -> Result<(), PacketError>
     ensures given { IfOk result (λ _. Gathers out.old.items (all_given (map (λ e. e.now) elements.now)) out.new.items) }
     ensures kept { Keeps out.old.items out.new.items }
@@ -116,7 +116,7 @@ fn give_all(elements: &[&[u8]], out: &mut Vec<u8>) -> Result<(), PacketError>
     Ok(())
 }
 
-// The fragment that an element opens, in the memory of an earlier one: none where it is empty.
+/// The fragment that an element opens, in the memory of an earlier one: none where it is empty.
 fn opened_by(
     alloc: Global,
     spare: &mut Vec<u8>,

@@ -36,7 +36,7 @@ pub fn detect_av1_keyframe(packet: &[u8]) -> bool
     }
 }
 
-// Whether the bit of this weight is set.
+/// Whether the bit of this weight is set.
 fn has_bit(byte: u8, weight: u8) -> bool
     requires { 0 < weight }
     ensures { result ≡ (byte / weight % 2 == 1) }
@@ -56,7 +56,7 @@ impl Av1Depacketizer {
         }
     }
 
-    // Another fragment is open, or none; the memory of the one before stays for a later one.
+    /// Another fragment is open, or none; the memory of the one before stays for a later one.
     fn reopen(&mut self, opened: Option<Vec<u8>>)
         ensures { option_map (λ v. v.items) self.new.fragment ≡ option_map (λ v. v.items) opened }
     {
@@ -66,7 +66,7 @@ impl Av1Depacketizer {
         }
     }
 
-    // Takes elements, with which an open fragment is given up.
+    /// Takes elements, with which an open fragment is given up.
     fn take_fresh(
         &mut self,
         opens_last: bool,
@@ -88,7 +88,7 @@ impl Av1Depacketizer {
         Ok(())
     }
 
-    // Takes elements beside the open fragment, which stays unless the last one opens another.
+    /// Takes elements beside the open fragment, which stays unless the last one opens another.
     fn take_beside(
         &mut self,
         opens_last: bool,
@@ -115,7 +115,7 @@ impl Av1Depacketizer {
         Ok(())
     }
 
-    // Takes a packet's one element, which goes on with the open fragment.
+    /// Takes a packet's one element, which goes on with the open fragment.
     fn take_one_joined(
         &mut self,
         opens_last: bool,
@@ -146,8 +146,8 @@ impl Av1Depacketizer {
         Ok(())
     }
 
-    // Takes a packet's elements, of which the first goes on with the open fragment. The others are looked at before
-    // it is written, so that a packet that is refused costs no copy of what is open.
+    /// Takes a packet's elements, of which the first goes on with the open fragment. The others are looked at before
+    /// it is written, so that a packet that is refused costs no copy of what is open.
     fn take_joined(
         &mut self,
         opens_last: bool,
@@ -184,7 +184,7 @@ impl Av1Depacketizer {
         Ok(())
     }
 
-    // Takes the elements of a packet with Z: the first one goes on with the open fragment.
+    /// Takes the elements of a packet with Z: the first one goes on with the open fragment.
     fn take_behind(
         &mut self,
         opens_last: bool,
@@ -216,7 +216,7 @@ impl Av1Depacketizer {
         self.take_joined(opens_last, element, others, out)
     }
 
-    // Takes the elements of a packet with this first byte.
+    /// Takes the elements of a packet with this first byte.
     fn take(&mut self, first: u8, elements: &[&[u8]], out: &mut Vec<u8>) -> Result<(), PacketError>
         ensures given { let all = begun (has_z first) (option_map (λ v. v.items) self.old.fragment)
             (map (λ e. e.now) elements.now) in
@@ -238,7 +238,7 @@ impl Av1Depacketizer {
     }
 }
 
-// Whether a packet of the unit had N.
+/// Whether a packet of the unit had N.
 fn was_keyframe(extra: &CodecExtra) -> bool
     ensures { result ≡ was_keyframe extra.now }
 {

@@ -25,7 +25,7 @@ const COUNTED: usize = 3;
 #[derive(Clone, Copy, Debug, Drop)]
 pub struct Av1Packetizer;
 
-// How many bytes of the element at a place fit the room that is left.
+/// How many bytes of the element at a place fit the room that is left.
 fn fitting(place: usize, room: usize, len: usize) -> usize
     requires { len < size_limit }
     ensures { result ≡ greatest_part place room len }
@@ -40,8 +40,8 @@ fn fitting(place: usize, room: usize, len: usize) -> usize
     part
 }
 
-// The elements of the longest prefix of texts that fits the room, which are then gone, and whether the last one
-// is cut.
+/// The elements of the longest prefix of texts that fits the room, which are then gone, and whether the last one
+/// is cut.
 fn next_elements<'a>(
     alloc: Global,
     room: usize,
@@ -75,7 +75,7 @@ fn next_elements<'a>(
     Ok((elements, false))
 }
 
-// The aggregation header of a packet.
+/// The aggregation header of a packet.
 fn aggregation(z: bool, y: bool, n: bool, count: usize) -> u8
     ensures { result ≡ aggregation z y n count }
 {
@@ -86,7 +86,7 @@ fn aggregation(z: bool, y: bool, n: bool, count: usize) -> u8
     goes_on + is_cut + 16 * w + begins
 }
 
-// Whether the element at a place has its size in front: all but the last one of at most three.
+/// Whether the element at a place has its size in front: all but the last one of at most three.
 fn has_size(place: usize, count: usize) -> bool
     requires { place < count }
     ensures { result ≡ (nat_lt (place + 1) count || nat_le 3 place) }
@@ -94,7 +94,7 @@ fn has_size(place: usize, count: usize) -> bool
     place + 1 < count || place >= COUNTED
 }
 
-// Writes an element, with its size in front or without.
+/// Writes an element, with its size in front or without.
 fn push_element(has_size: bool, element: &[u8], out: &mut Vec<u8>) -> Result<(), PacketError>
     requires { length element.now < size_limit }
     ensures written { IfOk result (λ _. out.new.items ≡ out.old.items
@@ -108,7 +108,7 @@ fn push_element(has_size: bool, element: &[u8], out: &mut Vec<u8>) -> Result<(),
     Ok(())
 }
 
-// The packet of elements.
+/// The packet of elements.
 fn packet(
     alloc: Global,
     z: bool,
@@ -128,7 +128,7 @@ fn packet(
     Ok(packet)
 }
 
-// The packets of texts.
+/// The packets of texts.
 fn packets(
     alloc: Global,
     limit: usize,
@@ -161,7 +161,7 @@ struct Kept {
     begins: bool,
 }
 
-// Keeps a unit, if it is sent.
+/// Keeps a unit, if it is sent.
 fn keep(alloc: Global, obu: &Obu<'_>, kept: &mut Kept) -> Result<(), PacketError>
     ensures texts { let os = filter is_kept (spec_obu obu.now.header obu.now.extension obu.now.payload.now ∷ []) in
         IfOk result (λ _. map (λ t. t.items) kept.new.texts.items ≡ map (λ t. t.items) kept.old.texts.items
@@ -178,7 +178,7 @@ fn keep(alloc: Global, obu: &Obu<'_>, kept: &mut Kept) -> Result<(), PacketError
     Ok(())
 }
 
-// The units of a sample that are sent.
+/// The units of a sample that are sent.
 fn kept_of(alloc: Global, sample: &[u8]) -> Result<Kept, PacketError>
     ensures texts { IfOk result (λ k. option_map texts_of (kept_of sample.now)
         ≡ Some (map (λ t. t.items) k.texts.items)) }
@@ -211,7 +211,7 @@ impl Av1Packetizer {
     }
 }
 
-// The texts as slices.
+/// The texts as slices.
 fn slices(alloc: Global, texts: &[Vec<u8>]) -> Result<VecDeque<&[u8]>, PacketError>
     ensures slices { IfOk result (λ q. map (λ t. t.now) q.items ≡ map (λ t. t.items) texts.now) }
     ensures memory { IfErr result (λ e. e ≡ PacketError.Memory) }

@@ -8,7 +8,7 @@ ghost use Rattle.payload_core_av1.specs.Bounds.{bound_of};
 
 use payload_core_base::PacketError;
 
-// The size that stands in front of a text in at most so many bytes, and what stands behind it.
+/// The size that stands in front of a text in at most so many bytes, and what stands behind it.
 fn size_within(most: u8, text: &[u8]) -> Option<(usize, &[u8])>
     requires { most ≤ 8 }
     ensures value { MatchOption result (size_within most text.now ≡ None)

@@ -22,35 +22,35 @@ pub struct Obu<'a> {
     pub payload: &'a [u8],
 }
 
-// Whether the header byte has X.
+/// Whether the header byte has X.
 fn has_extension(header: u8) -> bool
     ensures { result ≡ has_extension header }
 {
     header / 4 % 2 == 1
 }
 
-// Whether the header byte has S.
+/// Whether the header byte has S.
 fn has_size(header: u8) -> bool
     ensures { result ≡ has_size header }
 {
     header / 2 % 2 == 1
 }
 
-// The header byte with S.
+/// The header byte with S.
 fn with_size(header: u8) -> u8
     ensures { result ≡ with_size header }
 {
     if has_size(header) { header } else { header + 2 }
 }
 
-// The header byte without S.
+/// The header byte without S.
 fn without_size(header: u8) -> u8
     ensures { result ≡ without_size header }
 {
     if has_size(header) { header - 2 } else { header }
 }
 
-// A payload and what stands behind it, if its size can be spelled.
+/// A payload and what stands behind it, if its size can be spelled.
 fn if_small<'a>(payload: &'a [u8], rest: &'a [u8]) -> Option<(&'a [u8], &'a [u8])>
     ensures value { MatchOption result (if_small (Some (record { part = payload.now; rest = rest.now })) ≡ None)
         (λ cut. if_small (Some (record { part = payload.now; rest = rest.now }))
@@ -65,7 +65,7 @@ fn if_small<'a>(payload: &'a [u8], rest: &'a [u8]) -> Option<(&'a [u8], &'a [u8]
     }
 }
 
-// The payload that stands in front of a text, with S behind its size, and what stands behind it.
+/// The payload that stands in front of a text, with S behind its size, and what stands behind it.
 fn payload_in(has_size: bool, text: &[u8]) -> Option<(&[u8], &[u8])>
     ensures value { MatchOption result (payload_in has_size text.now ≡ None)
         (λ cut. payload_in has_size text.now ≡ Some (record { part = cut.0.now; rest = cut.1.now })) }
@@ -131,7 +131,7 @@ impl Obu<'_> {
         !matches!(self.header / 8 % 16, 2 | 8 | 15)
     }
 
-    /// Writes the unit with S and its size in the shortest form. Where memory is wanting, a part of it may stand
+    /// Writes the unit with S and its size in the shortest form. Where memory runs out, a part of it may stand
     /// behind the old bytes.
     pub fn push_with_size(&self, out: &mut Vec<u8>) -> Result<(), PacketError>
         requires { length self.now.payload.now < payload_limit }

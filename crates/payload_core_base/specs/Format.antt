@@ -26,7 +26,7 @@ abbrev pub Gives : Result Reading PacketError → List ℕ → List ℕ → Code
 Gives (Ok r) old new extra fragment = (new ≡ old ++ r.written) × (extra ≡ r.extra) × (fragment ≡ r.fragment)
 Gives (Err e) old new extra fragment = ⊥
 
--- The packet is refused with this error, or memory is wanting.
+-- The packet is refused with this error, or memory runs out.
 abbrev pub Refuses : Result Reading PacketError → PacketError → Type 0
 Refuses r e = e ≢ Memory → r ≡ Err e
 

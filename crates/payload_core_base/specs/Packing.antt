@@ -25,7 +25,7 @@ abbrev pub Sends : Result Sent PacketError → List (List ℕ) → Sender → Ty
 Sends (Ok sent) packets sender = (packets ≡ sent.packets) × (sender ≡ sent.sender)
 Sends (Err e) packets sender = ⊥
 
--- The sample is refused with this error, or memory is wanting.
+-- The sample is refused with this error, or memory runs out.
 abbrev pub RefusesSample : Result Sent PacketError → PacketError → Type 0
 RefusesSample r e = e ≢ Memory → r ≡ Err e
 

@@ -111,7 +111,7 @@ impl Codec {
         }
     }
 
-    // Those that a name is read as.
+    /// Those that a name is read as.
     fn named() -> array::IntoIter<Codec, 15>
         ensures { array_into_iter_items result ≡ named_codecs }
     {

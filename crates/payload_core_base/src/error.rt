@@ -45,7 +45,7 @@ pub enum PacketError {
     /// An AMR-WB packet or sample breaks its format (RFC 4867 4.3 and 4.4).
     #[error("corrupted AMR-WB packet")]
     ErrAmrWbCorruptedPacket,
-    /// Memory was wanting.
+    /// Out of memory.
     #[error("out of memory")]
     Memory,
 }

@@ -8,7 +8,7 @@ use rtp_wire_extensions::ExtensionValues;
 
 /// Takes the payloads of packets, one after the other.
 ///
-/// After success a sink has just one payload more, and after want of memory none: so say its two laws.
+/// After success a sink has just one payload more, and after lack of memory none: so say its two laws.
 pub trait PacketSink {
     /// What a sink has of a payload that it took.
     ghost Entry: { Type 0 };

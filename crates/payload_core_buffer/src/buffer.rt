@@ -134,7 +134,7 @@ impl<D: Depacketizer> DepacketizingBuffer<D> {
     ///
     /// # Errors
     ///
-    /// The first fault or want of memory ends it, with the units before it appended; the next call goes on behind a
+    /// The first fault or lack of memory ends it, with the units before it appended; the next call goes on behind a
     /// fault.
     pub fn pop_all(&mut self, units: &mut Vec<Depacketized>) -> Result<(), PacketError>
         ensures format { D.format self.new.depacketizer ≡ D.format self.old.depacketizer }

@@ -20,7 +20,7 @@ pub struct Frame {
     pub end: usize,
 }
 
-// Whether `next` goes on with the run of `held`.
+/// Whether `next` goes on with the run of `held`.
 fn goes_on<D: Depacketizer>(depacketizer: &D, held: &Held, next: &Held) -> bool
     ensures { result ≡ goes_on (D.format depacketizer.now) (packet_of held.now) (packet_of next.now) }
 {
@@ -29,7 +29,7 @@ fn goes_on<D: Depacketizer>(depacketizer: &D, held: &Held, next: &Held) -> bool
         && !depacketizer.is_partition_tail(held.meta.marker, &held.payload)
 }
 
-// Whether a packet goes on with the run of the one before it, if there is one.
+/// Whether a packet goes on with the run of the one before it, if there is one.
 fn is_joined<D: Depacketizer>(depacketizer: &D, before: Option<&Held>, held: &Held) -> bool
     ensures { result ≡ is_joined_to (D.format depacketizer.now) (option_map (λ h. packet_of h.now) before.entry)
         (packet_of held.now) }
@@ -40,7 +40,7 @@ fn is_joined<D: Depacketizer>(depacketizer: &D, before: Option<&Held>, held: &He
     }
 }
 
-// Where the run starts that is open behind a packet at place `i`, from the one that is open before it.
+/// Where the run starts that is open behind a packet at place `i`, from the one that is open before it.
 fn run_behind(run: Option<usize>, is_joined: bool, is_head: bool, i: usize) -> Option<usize>
     ensures { result ≡ run_or_head (kept_run is_joined run) is_head i }
 {
@@ -50,7 +50,7 @@ fn run_behind(run: Option<usize>, is_joined: bool, is_head: bool, i: usize) -> O
     }
 }
 
-// Where the run starts that is open behind the packet at place `i`, from the one that is open before it.
+/// Where the run starts that is open behind the packet at place `i`, from the one that is open before it.
 fn run_at<D: Depacketizer>(
     depacketizer: &D,
     before: Option<&Held>,
@@ -67,7 +67,7 @@ fn run_at<D: Depacketizer>(
     run_behind(run, is_joined, is_head, i)
 }
 
-// The frame of a run up to before `end`, whose last packet is a tail or isn't.
+/// The frame of a run up to before `end`, whose last packet is a tail or isn't.
 fn frame_of_run(is_tail: bool, run: Option<usize>, end: usize) -> Option<Frame>
     ensures { result ≡ frame_of_run is_tail run end }
 {
@@ -84,7 +84,7 @@ struct Found {
     count: usize,
 }
 
-// The frames so far and perhaps one more.
+/// The frames so far and perhaps one more.
 fn found_with(found: Found, frame: Option<Frame>) -> Found
     requires { found.count < 2 ^ 64 - 1 }
     ensures lowest { result.lowest ≡ (if is_some found.lowest then found.lowest else frame) }
@@ -99,7 +99,7 @@ fn found_with(found: Found, frame: Option<Frame>) -> Found
     }
 }
 
-// The complete frames.
+/// The complete frames.
 fn complete_frames<D: Depacketizer>(depacketizer: &D, held: &BTreeMap<u64, Held>) -> Found
     ensures lowest { result.lowest ≡ lowest_of
         (complete_frames (D.format depacketizer.now) (packets_of (values held.now))) }
@@ -121,7 +121,7 @@ fn complete_frames<D: Depacketizer>(depacketizer: &D, held: &BTreeMap<u64, Held>
     found
 }
 
-// Whether the number is right behind the cutoff, or there is none.
+/// Whether the number is right behind the cutoff, or there is none.
 fn is_next(cutoff: Option<SeqNo>, number: SeqNo) -> bool
     ensures { result ≡ is_next cutoff number }
 {

@@ -66,7 +66,7 @@ impl PacketList {
     }
 }
 
-/// Takes each packet as it is: just one more after success, and none after want of memory.
+/// Takes each packet as it is: just one more after success, and none after lack of memory.
 impl PacketSink for PacketList {
     ghost use Rattle.payload_core_base.specs.Outgoing.{Outgoing};
     ghost use Rattle.std.specs.Prelude.{◌++◌, ◌∷◌, [], refl};

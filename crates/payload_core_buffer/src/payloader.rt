@@ -15,7 +15,7 @@ pub struct Payloader<P> {
     packetizer: P,
 }
 
-// Hands packets on to the sink, in order.
+/// Hands packets on to the sink, in order.
 fn send_all<P: Packetizer, S: PacketSink>(
     packetizer: &mut P,
     sink: &mut S,
@@ -45,7 +45,7 @@ fn send_all<P: Packetizer, S: PacketSink>(
     Ok(())
 }
 
-// Hands a sample on to the sink as its one packet.
+/// Hands a sample on to the sink as its one packet.
 fn send_own<P: Packetizer, S: PacketSink>(
     packetizer: &mut P,
     sink: &mut S,

@@ -16,7 +16,7 @@ use rtp_wire_ids::SeqNo;
 use std::alloc::Global;
 use std::collections::BTreeMap;
 
-// What is known of the packets of a frame.
+/// What is known of the packets of a frame.
 fn metas(
     alloc: Global,
     held: &BTreeMap<u64, Held>,
@@ -35,7 +35,7 @@ fn metas(
     Ok(metas)
 }
 
-// Drops the first packets.
+/// Drops the first packets.
 fn remove_front(held: &mut BTreeMap<u64, Held>, count: usize)
     ensures { held.new.entries ≡ drop count held.old.entries }
 {
@@ -44,7 +44,7 @@ fn remove_front(held: &mut BTreeMap<u64, Held>, count: usize)
     }
 }
 
-// Drops a frame with all before it, and moves the cutoff to its last number.
+/// Drops a frame with all before it, and moves the cutoff to its last number.
 fn finish(held: &mut BTreeMap<u64, Held>, cutoff: &mut Option<SeqNo>, frame: Frame)
     requires some { 0 < frame.end }
     requires within { frame.end ≤ btree_map_len held.old }

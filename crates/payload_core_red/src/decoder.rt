@@ -24,14 +24,14 @@ pub struct RedBlocks<'a> {
     left: usize,
 }
 
-// The byte at a place, 0 behind the end.
+/// The byte at a place, 0 behind the end.
 fn byte_at(text: &[u8], place: usize) -> u8
     ensures { result ≡ slice_index text.now place }
 {
     text.get(place).copied().unwrap_or(0)
 }
 
-// What stands before and behind so many bytes, where there are so many.
+/// What stands before and behind so many bytes, where there are so many.
 fn parted(text: &[u8], size: usize) -> (&[u8], &[u8])
     ensures front { result.0.now ≡ take size text.now }
     ensures behind { result.1.now ≡ drop size text.now }
@@ -39,14 +39,14 @@ fn parted(text: &[u8], size: usize) -> (&[u8], &[u8])
     text.split_at(size.min(text.len()))
 }
 
-// The offset in the header that stands in front.
+/// The offset in the header that stands in front.
 fn offset_at(headers: &[u8]) -> u32
     ensures { result ≡ offset_at headers.now }
 {
     u32::from(byte_at(headers, 1)) * 64 + u32::from(byte_at(headers, 2) / 4)
 }
 
-// The length in the header that stands in front.
+/// The length in the header that stands in front.
 fn size_at(headers: &[u8]) -> usize
     ensures value { result ≡ size_at headers.now }
     ensures few { result < 1024 }
@@ -54,7 +54,7 @@ fn size_at(headers: &[u8]) -> usize
     usize::from(byte_at(headers, 2) % 4) * 256 + usize::from(byte_at(headers, 3))
 }
 
-// How many headers stand before the first with F clear; None where they are more than 32.
+/// How many headers stand before the first with F clear; None where they are more than 32.
 fn count_of_blocks(packet: &[u8]) -> Option<usize>
     ensures value { result ≡ count_of_blocks packet.now }
     ensures few { IfSome result (λ count. count ≤ 32) }
@@ -67,7 +67,7 @@ fn count_of_blocks(packet: &[u8]) -> Option<usize>
     None
 }
 
-// The bytes of the payloads of so many blocks.
+/// The bytes of the payloads of so many blocks.
 fn size_of_blocks(count: usize, packet: &[u8]) -> usize
     requires { count ≤ 32 }
     ensures value { result ≡ size_of_blocks count packet.now }

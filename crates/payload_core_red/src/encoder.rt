@@ -14,7 +14,7 @@ use std::alloc::Global;
 #[derive(Clone, Copy, Debug, Drop)]
 pub struct RedEncoder;
 
-// The first 32 blocks that fit.
+/// The first 32 blocks that fit.
 fn fitting(alloc: Global, blocks: &[RedundantBlock]) -> Result<Vec<OldPayload<'_>>, PacketError>
     ensures fitting { IfOk result (λ olds. map old_block olds.items ≡ take 32 (filter fits (map block_of blocks.now))) }
     ensures memory { IfErr result (λ e. e ≡ PacketError.Memory) }

@@ -85,7 +85,7 @@ impl RedSender {
         Ok(())
     }
 
-    // What is sent for a payload.
+    /// What is sent for a payload.
     fn wrapped(
         &self,
         pt: u8,

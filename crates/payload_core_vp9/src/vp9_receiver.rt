@@ -31,7 +31,7 @@ impl Vp9Depacketizer {
     }
 }
 
-// Whether the bit of this weight is set.
+/// Whether the bit of this weight is set.
 fn has_bit(byte: u8, weight: u8) -> bool
     requires { 0 < weight }
     ensures { result ≡ has_bit weight byte }
@@ -39,14 +39,14 @@ fn has_bit(byte: u8, weight: u8) -> bool
     byte / weight % 2 == 1
 }
 
-// The byte at a place, 0 behind the end.
+/// The byte at a place, 0 behind the end.
 fn byte_at(text: &[u8], place: usize) -> u8
     ensures { result ≡ slice_index text.now place }
 {
     text.get(place).copied().unwrap_or(0)
 }
 
-// What stands behind so many bytes, nothing behind the end.
+/// What stands behind so many bytes, nothing behind the end.
 fn behind(text: &[u8], size: usize) -> &[u8]
     ensures { result.now ≡ drop size text.now }
 {
@@ -57,7 +57,7 @@ fn behind(text: &[u8], size: usize) -> &[u8]
     }
 }
 
-// How many bytes the picture id has that stands at the front, where I is set: two with M.
+/// How many bytes the picture id has that stands at the front, where I is set: two with M.
 fn picture_id_size(first: u8, text: &[u8]) -> usize
     ensures value { result ≡ picture_id_size first text.now }
     ensures few { result ≤ 2 }
@@ -71,7 +71,7 @@ fn picture_id_size(first: u8, text: &[u8]) -> usize
     }
 }
 
-// The picture id that stands at the front, where I is set.
+/// The picture id that stands at the front, where I is set.
 fn picture_id_of(first: u8, text: &[u8]) -> Option<u16>
     ensures { result ≡ picture_id_of first text.now }
 {
@@ -85,7 +85,7 @@ fn picture_id_of(first: u8, text: &[u8]) -> Option<u16>
     }
 }
 
-// How many bytes tell the layers, where L is set: TL0PICIDX stands there without F alone.
+/// How many bytes tell the layers, where L is set: TL0PICIDX stands there without F alone.
 fn layers_size(first: u8) -> usize
     ensures value { result ≡ layers_size first }
     ensures few { result ≤ 2 }
@@ -99,7 +99,7 @@ fn layers_size(first: u8) -> usize
     }
 }
 
-// How many references stand at the front, where P and F are set: one more behind each with N, and three at most.
+/// How many references stand at the front, where P and F are set: one more behind each with N, and three at most.
 fn references_size(first: u8, text: &[u8]) -> usize
     ensures value { result ≡ references_size first text.now }
     ensures few { result ≤ 3 }
@@ -115,14 +115,14 @@ fn references_size(first: u8, text: &[u8]) -> usize
     }
 }
 
-// Whether a fourth reference is announced.
+/// Whether a fourth reference is announced.
 fn lists_too_many(first: u8, text: &[u8]) -> bool
     ensures { result ≡ lists_too_many first text.now }
 {
     references_size(first, text) == 3 && has_bit(byte_at(text, 2), 1)
 }
 
-// How many bytes a picture has that begins with this byte: it, and R references.
+/// How many bytes a picture has that begins with this byte: it, and R references.
 fn picture_size(byte: u8) -> usize
     ensures value { result ≡ picture_size byte }
     ensures few { result ≤ 4 }
@@ -130,7 +130,7 @@ fn picture_size(byte: u8) -> usize
     1 + usize::from(byte / 4 % 4)
 }
 
-// What stands behind the pictures of a picture group.
+/// What stands behind the pictures of a picture group.
 fn behind_pictures(count: u8, text: &[u8]) -> &[u8]
     ensures { result.now ≡ behind_pictures count text.now }
 {
@@ -141,7 +141,7 @@ fn behind_pictures(count: u8, text: &[u8]) -> &[u8]
     rest
 }
 
-// What stands behind the scalability structure, where V is set.
+/// What stands behind the scalability structure, where V is set.
 fn behind_structure(first: u8, text: &[u8]) -> &[u8]
     ensures { result.now ≡ behind_structure first text.now }
 {
@@ -162,7 +162,7 @@ fn behind_structure(first: u8, text: &[u8]) -> &[u8]
     }
 }
 
-// What stands behind the picture id and the layers.
+/// What stands behind the picture id and the layers.
 fn references_of(first: u8, rest: &[u8]) -> &[u8]
     ensures { result.now ≡ references_of first rest.now }
 {
@@ -172,7 +172,7 @@ fn references_of(first: u8, rest: &[u8]) -> &[u8]
     )
 }
 
-// What stands behind the descriptor.
+/// What stands behind the descriptor.
 fn payload_of(first: u8, rest: &[u8]) -> &[u8]
     ensures { result.now ≡ payload_of first rest.now }
 {

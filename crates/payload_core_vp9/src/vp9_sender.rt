@@ -20,7 +20,7 @@ pub struct Vp9Packetizer {
     ghost in_range: { id < 32768 },
 }
 
-// Whether the frame's own header says that it isn't a key frame (VP9 bitstream specification 6.2).
+/// Whether the frame's own header says that it isn't a key frame (VP9 bitstream specification 6.2).
 fn is_predicted(frame: &[u8]) -> bool
     ensures { result ≡ is_predicted frame.now }
 {
@@ -38,8 +38,8 @@ fn is_predicted(frame: &[u8]) -> bool
     has_marker && bits != 0
 }
 
-// How many bytes the descriptor has that is sent: flags, a picture id of 15 bits, and a reference where the frame is
-// told to be predicted.
+/// How many bytes the descriptor has that is sent: flags, a picture id of 15 bits, and a reference where the frame is
+/// told to be predicted.
 fn descriptor_size(told: bool) -> usize
     ensures value { result ≡ descriptor_size told }
     ensures few { result ≤ 4 }
@@ -47,7 +47,7 @@ fn descriptor_size(told: bool) -> usize
     if told { 4 } else { 3 }
 }
 
-// The descriptor of a packet, and its piece behind it.
+/// The descriptor of a packet, and its piece behind it.
 fn packet(
     alloc: Global,
     told: bool,
@@ -74,7 +74,7 @@ fn packet(
     Ok(packet)
 }
 
-// The packets of a frame, cut into pieces of this size.
+/// The packets of a frame, cut into pieces of this size.
 fn packets(
     alloc: Global,
     told: bool,

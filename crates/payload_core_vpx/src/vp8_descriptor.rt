@@ -48,7 +48,7 @@ pub struct Vp8Descriptor {
     key_idx: Option<u8>,
 }
 
-// Whether the bit of this weight is set.
+/// Whether the bit of this weight is set.
 pub(crate) fn has_bit(byte: u8, weight: u8) -> bool
     requires { 0 < weight }
     ensures { result ≡ has_bit weight byte }
@@ -56,14 +56,14 @@ pub(crate) fn has_bit(byte: u8, weight: u8) -> bool
     byte / weight % 2 == 1
 }
 
-// The byte at a place, 0 behind the end.
+/// The byte at a place, 0 behind the end.
 fn byte_at(payload: &[u8], place: usize) -> u8
     ensures { result ≡ slice_index payload.now place }
 {
     payload.get(place).copied().unwrap_or(0)
 }
 
-// What stands behind so many bytes, nothing behind the end.
+/// What stands behind so many bytes, nothing behind the end.
 fn behind(payload: &[u8], size: usize) -> &[u8]
     ensures { result.now ≡ drop size payload.now }
 {
@@ -74,7 +74,7 @@ fn behind(payload: &[u8], size: usize) -> &[u8]
     }
 }
 
-// Which fields the descriptor of a payload has.
+/// Which fields the descriptor of a payload has.
 fn shape_of(payload: &[u8]) -> Shape
     ensures { result ≡ shape_of payload.now }
 {
@@ -92,7 +92,7 @@ fn shape_of(payload: &[u8]) -> Shape
 }
 
 impl Shape {
-    // How many bytes the picture id has.
+    /// How many bytes the picture id has.
     fn picture_id_size(self) -> usize
         ensures value { result ≡ picture_id_size self }
         ensures few { result ≤ 2 }
@@ -106,7 +106,7 @@ impl Shape {
         }
     }
 
-    // Where TL0PICIDX stands, if it is there.
+    /// Where TL0PICIDX stands, if it is there.
     pub(crate) fn tl0_place(self) -> usize
         ensures value { result ≡ tl0_place self }
         ensures few { result ≤ 4 }
@@ -114,7 +114,7 @@ impl Shape {
         2 + self.picture_id_size()
     }
 
-    // Where KEYIDX stands, if it is there.
+    /// Where KEYIDX stands, if it is there.
     pub(crate) fn key_place(self) -> usize
         ensures value { result ≡ key_place self }
         ensures few { result ≤ 5 }
@@ -126,7 +126,7 @@ impl Shape {
         }
     }
 
-    // How many bytes the descriptor has.
+    /// How many bytes the descriptor has.
     fn layout_size(self) -> usize
         ensures value { result ≡ layout_size self }
         ensures few { result ≤ 6 }
@@ -140,7 +140,7 @@ impl Shape {
         }
     }
 
-    // The picture id of a payload of this shape.
+    /// The picture id of a payload of this shape.
     fn picture_id_in(self, payload: &[u8]) -> Option<u16>
         ensures { result ≡ picture_id_in self payload.now }
     {
@@ -154,7 +154,7 @@ impl Shape {
         }
     }
 
-    // TL0PICIDX of a payload of this shape.
+    /// TL0PICIDX of a payload of this shape.
     fn tl0_pic_idx_in(self, payload: &[u8]) -> Option<u8>
         ensures { result ≡ tl0_pic_idx_in self payload.now }
     {
@@ -165,7 +165,7 @@ impl Shape {
         }
     }
 
-    // KEYIDX of a payload of this shape.
+    /// KEYIDX of a payload of this shape.
     fn key_idx_in(self, payload: &[u8]) -> Option<u8>
         ensures { result ≡ key_idx_in self payload.now }
     {
@@ -177,7 +177,7 @@ impl Shape {
     }
 }
 
-// What the descriptor of a payload of this shape tells.
+/// What the descriptor of a payload of this shape tells.
 fn described_in(shape: Shape, payload: &[u8]) -> Vp8Descriptor
     ensures { result ≡ described_in shape payload.now }
 {
@@ -237,7 +237,7 @@ impl Vp8Descriptor {
         self.begins_frame && begins_keyframe(behind(payload, self.shape.layout_size()))
     }
 
-    // What stands behind the descriptor.
+    /// What stands behind the descriptor.
     pub(crate) fn frame_of<'a>(&self, payload: &'a [u8]) -> &'a [u8]
         ensures { result.now ≡ drop (layout_size self.now.shape) payload.now }
     {
@@ -252,7 +252,7 @@ impl Vp8Descriptor {
     }
 }
 
-// Whether a frame is a keyframe: the low bit of its first byte is clear.
+/// Whether a frame is a keyframe: the low bit of its first byte is clear.
 fn begins_keyframe(frame: &[u8]) -> bool
     ensures { result ≡ begins_keyframe frame.now }
 {

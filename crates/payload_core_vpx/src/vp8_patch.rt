@@ -49,7 +49,7 @@ pub struct Vp8Patch {
     key_idx: Option<u8>,
 }
 
-// Refuses a picture id that is missing or too large.
+/// Refuses a picture id that is missing or too large.
 fn check_picture_id(shape: Shape, id: Option<u16>) -> Option<Vp8PatchError>
     ensures { result ≡ picture_id_refusal shape id }
 {
@@ -66,7 +66,7 @@ fn check_picture_id(shape: Shape, id: Option<u16>) -> Option<Vp8PatchError>
     }
 }
 
-// Refuses a TL0PICIDX that is missing.
+/// Refuses a TL0PICIDX that is missing.
 fn check_tl0_pic_idx(shape: Shape, index: Option<u8>) -> Option<Vp8PatchError>
     ensures { result ≡ tl0_pic_idx_refusal shape index }
 {
@@ -77,7 +77,7 @@ fn check_tl0_pic_idx(shape: Shape, index: Option<u8>) -> Option<Vp8PatchError>
     }
 }
 
-// Refuses a KEYIDX that is missing or too large.
+/// Refuses a KEYIDX that is missing or too large.
 fn check_key_idx(shape: Shape, index: Option<u8>) -> Option<Vp8PatchError>
     ensures { result ≡ key_idx_refusal shape index }
 {
@@ -94,7 +94,7 @@ fn check_key_idx(shape: Shape, index: Option<u8>) -> Option<Vp8PatchError>
 }
 
 impl Vp8PatchBuilder {
-    // A builder without ids, for descriptors of this shape.
+    /// A builder without ids, for descriptors of this shape.
     pub(crate) fn of(shape: Shape) -> Self
         ensures { result ≡ builder_of shape }
     {
@@ -154,7 +154,7 @@ impl Vp8PatchBuilder {
     }
 }
 
-// Writes a picture id into its field.
+/// Writes a picture id into its field.
 fn put_picture_id(out: &mut [u8], long: bool, id: Option<u16>)
     requires { ForSome id (λ _. picture_id_end long < length out.old) }
     ensures { out.new ≡ with_picture_id long id out.old }
@@ -170,7 +170,7 @@ fn put_picture_id(out: &mut [u8], long: bool, id: Option<u16>)
     }
 }
 
-// Writes a TL0PICIDX at its place.
+/// Writes a TL0PICIDX at its place.
 fn put_tl0_pic_idx(out: &mut [u8], place: usize, index: Option<u8>)
     requires { ForSome index (λ _. place < length out.old) }
     ensures { out.new ≡ with_tl0_pic_idx place index out.old }
@@ -180,7 +180,7 @@ fn put_tl0_pic_idx(out: &mut [u8], place: usize, index: Option<u8>)
     }
 }
 
-// Writes a KEYIDX behind the TID and Y at its place.
+/// Writes a KEYIDX behind the TID and Y at its place.
 fn put_key_idx(out: &mut [u8], place: usize, index: Option<u8>)
     requires { ForSome index (λ _. place < length out.old) }
     ensures { out.new ≡ with_key_idx place index out.old }

@@ -21,7 +21,7 @@ pub struct Vp8Packetizer {
     ghost in_range: { id < 32768 },
 }
 
-// How many bytes the descriptor has.
+/// How many bytes the descriptor has.
 fn descriptor_size(tells: bool, id: u16) -> usize
     ensures value { result ≡ descriptor_size tells id }
     ensures few { result ≤ 4 }
@@ -35,7 +35,7 @@ fn descriptor_size(tells: bool, id: u16) -> usize
     }
 }
 
-// The descriptor of a packet, and its piece behind it.
+/// The descriptor of a packet, and its piece behind it.
 fn packet(
     alloc: Global,
     tells: bool,
@@ -65,7 +65,7 @@ fn packet(
     Ok(packet)
 }
 
-// The packets of a frame, cut into pieces of this size.
+/// The packets of a frame, cut into pieces of this size.
 fn packets(
     alloc: Global,
     tells: bool,
@@ -121,7 +121,7 @@ impl Vp8Packetizer {
         }
     }
 
-    // Whether the next frame's packets tell its id.
+    /// Whether the next frame's packets tell its id.
     fn tells_id(&self) -> bool
         ensures { result ≡ tells_id self.now.has_id self.now.zero_id self.now.id }
     {

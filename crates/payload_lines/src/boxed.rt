@@ -26,7 +26,7 @@ pub fn carried(
     Ok(format!(in alloc; "{payloads} {unit}")?)
 }
 
-// The packets of a sample.
+/// The packets of a sample.
 fn sent(
     alloc: Global,
     formats: &Formats,
@@ -43,7 +43,7 @@ fn sent(
     Ok(sink)
 }
 
-// The unit of packets.
+/// The unit of packets.
 fn received(alloc: Global, formats: &Formats, packets: &[SentPacket]) -> anyhow::Result<String> {
     let depacketizer = depacketizer_of(alloc, formats.codec, formats.options)?;
     let boxed: Box<dyn Depacketizer + Drop> = Box::new(alloc, depacketizer)?;

@@ -50,7 +50,7 @@ pub fn answer(alloc: Global, subjects: &mut Subjects, line: &str) -> anyhow::Res
     }
 }
 
-// What a command gives that is about no payload format; none where it is another one.
+/// What a command gives that is about no payload format; none where it is another one.
 fn of_codec(
     alloc: Global,
     command: &str,
@@ -69,7 +69,7 @@ fn of_codec(
     }
 }
 
-// What a command gives about a payload format.
+/// What a command gives about a payload format.
 fn of_format(
     alloc: Global,
     formats: &mut Formats,
@@ -108,7 +108,7 @@ fn of_format(
     Ok(String::from_str(alloc, if is_so { "yes" } else { "no" })?)
 }
 
-// `pack LIMIT SAMPLE`: the payloads that a sample is sent as.
+/// `pack LIMIT SAMPLE`: the payloads that a sample is sent as.
 fn packed(
     alloc: Global,
     formats: &mut Formats,
@@ -124,7 +124,7 @@ fn packed(
     payloads(alloc, sink.packets())
 }
 
-// `read PACKET ..`: the bytes that packets give, one after the other from no open fragment on, and what is told then.
+/// `read PACKET ..`: the bytes that packets give, one after the other from no open fragment on, and what is told then.
 fn read(
     alloc: Global,
     formats: &Formats,
@@ -144,7 +144,7 @@ fn read(
     Ok(format!(in alloc; "{bytes} {extra:?}")?)
 }
 
-// `push NUMBER TIME PACKET`: the packet is held, with the marker where a star stands behind it.
+/// `push NUMBER TIME PACKET`: the packet is held, with the marker where a star stands behind it.
 fn pushed(
     alloc: Global,
     formats: &mut Formats,
@@ -164,7 +164,7 @@ fn pushed(
     Ok(String::from_str(alloc, "pushed")?)
 }
 
-// Whether a packet is read from no open fragment on.
+/// Whether a packet is read from no open fragment on.
 fn is_read(alloc: Global, formats: &Formats, packet: &[u8]) -> anyhow::Result<bool> {
     let mut depacketizer = depacketizer_of(alloc, formats.codec, formats.options)?;
     let mut bytes = Vec::new(alloc);
@@ -176,7 +176,7 @@ fn is_read(alloc: Global, formats: &Formats, packet: &[u8]) -> anyhow::Result<bo
     )
 }
 
-// `short`: how many of the packets of no byte, one and two bytes are read.
+/// `short`: how many of the packets of no byte, one and two bytes are read.
 fn short_packets(alloc: Global, formats: &Formats) -> anyhow::Result<String> {
     let none = u32::from(is_read(alloc, formats, &[])?);
     let mut ones: u32 = 0;
@@ -190,7 +190,7 @@ fn short_packets(alloc: Global, formats: &Formats) -> anyhow::Result<String> {
     Ok(format!(in alloc; "{none} of none, {ones} of one byte, {twos} of two")?)
 }
 
-// Whether a packet shows a keyframe of a codec that has a test of that.
+/// Whether a packet shows a keyframe of a codec that has a test of that.
 fn is_keyframe(codec: Codec, packet: &[u8]) -> bool {
     match codec {
         Codec::Vp8 => detect_vp8_keyframe(packet),

@@ -22,7 +22,7 @@ pub fn answer(alloc: Global, words: &mut SplitWhitespace<'_>) -> anyhow::Result<
     hex_of(alloc, &report)
 }
 
-// An event from its words.
+/// An event from its words.
 fn event_of(words: &mut SplitWhitespace<'_>) -> anyhow::Result<TelephoneEvent> {
     let event = next_number::<u8>(words)?;
     let volume = next_number::<u8>(words)?;
@@ -35,7 +35,7 @@ fn event_of(words: &mut SplitWhitespace<'_>) -> anyhow::Result<TelephoneEvent> {
     })
 }
 
-// The events of a packet, each by its number, its nanoseconds and whether it ended.
+/// The events of a packet, each by its number, its nanoseconds and whether it ended.
 fn read(alloc: Global, packet: &[u8], rate: Frequency) -> anyhow::Result<String> {
     let Some(events) = TelephoneEvent::parse_all(packet, rate) else {
         return Err(anyhow!("no reports"));
@@ -47,7 +47,7 @@ fn read(alloc: Global, packet: &[u8], rate: Frequency) -> anyhow::Result<String>
     Ok(text)
 }
 
-// An event behind a blank, as `write` reads it.
+/// An event behind a blank, as `write` reads it.
 fn event_text(alloc: Global, event: TelephoneEvent) -> anyhow::Result<String> {
     let end = if event.end { " end" } else { "" };
     Ok(format!(in alloc;

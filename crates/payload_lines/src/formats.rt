@@ -67,7 +67,7 @@ pub fn packetizer_of(
     Ok(packetizer)
 }
 
-// An option whose name and number a word says.
+/// An option whose name and number a word says.
 fn put_number(options: &mut Options, word: &str) -> anyhow::Result<()> {
     let (name, number) = word.split_once('=').unwrap_or((word, ""));
     match name {
@@ -79,7 +79,7 @@ fn put_number(options: &mut Options, word: &str) -> anyhow::Result<()> {
     Ok(())
 }
 
-// An option that a word says.
+/// An option that a word says.
 fn put_option(options: &mut Options, word: &str) -> anyhow::Result<()> {
     match word {
         "aligned" => options.octet_align = Some(true),
@@ -90,7 +90,7 @@ fn put_option(options: &mut Options, word: &str) -> anyhow::Result<()> {
     Ok(())
 }
 
-// The options that words say, each by its name.
+/// The options that words say, each by its name.
 fn options_of(words: &mut SplitWhitespace<'_>) -> anyhow::Result<Options> {
     let mut options = Options {
         octet_align: None,

@@ -50,7 +50,7 @@ pub fn header(alloc: Global, words: &mut SplitWhitespace<'_>) -> anyhow::Result<
     }
 }
 
-// What an H.265 header is of.
+/// What an H.265 header is of.
 fn kind_h265(header: H265NALUHeader) -> &'static str {
     if header.is_aggregation_packet() {
         "aggregate"
@@ -69,7 +69,7 @@ fn kind_h265(header: H265NALUHeader) -> &'static str {
     }
 }
 
-// An H.265 header: what it is of, F, the type, the layer and TID, and the header of these three.
+/// An H.265 header: what it is of, F, the type, the layer and TID, and the header of these three.
 fn unit_h265(alloc: Global, header: H265NALUHeader) -> anyhow::Result<String> {
     let kind = kind_h265(header);
     let f = if header.f() { "F " } else { "" };
@@ -78,14 +78,14 @@ fn unit_h265(alloc: Global, header: H265NALUHeader) -> anyhow::Result<String> {
     Ok(format!(in alloc; "{kind} {f}{nalu_type} {layer} {tid} {again:04x}")?)
 }
 
-// An H.265 fragment's header: S, E and the type, and the header of these three.
+/// An H.265 fragment's header: S, E and the type, and the header of these three.
 fn fragment_h265(alloc: Global, header: H265FragmentationUnitHeader) -> anyhow::Result<String> {
     let (s, e, fu_type) = (header.s(), header.e(), header.fu_type());
     let again = H265FragmentationUnitHeader::new(s, e, fu_type).0;
     Ok(format!(in alloc; "{s} {e} {fu_type} {again:02x}")?)
 }
 
-// What an H.266 header is of.
+/// What an H.266 header is of.
 fn kind_h266(header: H266NALUHeader) -> &'static str {
     if header.is_aggregation_packet() {
         "aggregate"
@@ -98,7 +98,7 @@ fn kind_h266(header: H266NALUHeader) -> &'static str {
     }
 }
 
-// F and Z of an H.266 header.
+/// F and Z of an H.266 header.
 fn marks_h266(header: H266NALUHeader) -> &'static str {
     match (header.f(), header.z()) {
         (true, true) => "F Z ",
@@ -108,7 +108,7 @@ fn marks_h266(header: H266NALUHeader) -> &'static str {
     }
 }
 
-// An H.266 header: what it is of, F and Z, the type, the layer and TID, and the header of these three.
+/// An H.266 header: what it is of, F and Z, the type, the layer and TID, and the header of these three.
 fn unit_h266(alloc: Global, header: H266NALUHeader) -> anyhow::Result<String> {
     let (kind, marks) = (kind_h266(header), marks_h266(header));
     let (nalu_type, layer, tid) = (header.nalu_type(), header.layer_id(), header.tid());
@@ -116,7 +116,7 @@ fn unit_h266(alloc: Global, header: H266NALUHeader) -> anyhow::Result<String> {
     Ok(format!(in alloc; "{kind} {marks}{nalu_type} {layer} {tid} {again:04x}")?)
 }
 
-// An H.266 fragment's header: S, E, P and the type, and the header of these four.
+/// An H.266 fragment's header: S, E, P and the type, and the header of these four.
 fn fragment_h266(alloc: Global, header: H266FragmentationUnitHeader) -> anyhow::Result<String> {
     let (s, e, p, fu_type) = (header.s(), header.e(), header.p(), header.fu_type());
     let again = H266FragmentationUnitHeader::new(s, e, p, fu_type).0;

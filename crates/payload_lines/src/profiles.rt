@@ -34,12 +34,12 @@ pub fn profile(alloc: Global, words: &mut SplitWhitespace<'_>) -> anyhow::Result
     profile_h266(alloc, values)
 }
 
-// A value, unless a dash stands for it.
+/// A value, unless a dash stands for it.
 fn given(word: &str) -> Option<&str> {
     if word == "-" { None } else { Some(word) }
 }
 
-// The profile and the level of a profile-level-id.
+/// The profile and the level of a profile-level-id.
 fn profile_h264(alloc: Global, word: &str) -> anyhow::Result<String> {
     let mut number: u32 = 0;
     for byte in bytes_of(alloc, word)? {
@@ -49,7 +49,7 @@ fn profile_h264(alloc: Global, word: &str) -> anyhow::Result<String> {
     Ok(format!(in alloc; "{:?} {:?}", read.profile(), read.level())?)
 }
 
-// The profile, tier and level of values, and the level's place.
+/// The profile, tier and level of values, and the level's place.
 fn profile_h265(alloc: Global, values: Values<'_>) -> anyhow::Result<String> {
     let (profile_id, tier_flag) = (values.profile_id, values.tier_flag);
     let Some(read) = H265ProfileTierLevel::from_fmtp(profile_id, tier_flag, values.level_id) else {
@@ -58,7 +58,7 @@ fn profile_h265(alloc: Global, values: Values<'_>) -> anyhow::Result<String> {
     Ok(format!(in alloc; "{:?} {:?} {:?}", read.profile(), read.tier(), read.level())?)
 }
 
-// The same of H.266.
+/// The same of H.266.
 fn profile_h266(alloc: Global, values: Values<'_>) -> anyhow::Result<String> {
     let (profile_id, tier_flag) = (values.profile_id, values.tier_flag);
     let Some(read) = H266ProfileTierLevel::from_fmtp(profile_id, tier_flag, values.level_id) else {

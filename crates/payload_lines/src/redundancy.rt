@@ -32,7 +32,7 @@ pub fn answer(
     Ok(String::from_str(alloc, word)?)
 }
 
-// Numbers that commas part; a dash stands for none.
+/// Numbers that commas part; a dash stands for none.
 fn distances_of(alloc: Global, word: &str) -> anyhow::Result<Vec<u32>> {
     let mut distances = Vec::new(alloc);
     if word == "-" {
@@ -44,7 +44,7 @@ fn distances_of(alloc: Global, word: &str) -> anyhow::Result<Vec<u32>> {
     Ok(distances)
 }
 
-// Takes other distances, if they are some.
+/// Takes other distances, if they are some.
 fn sync(sender: &mut RedSender, distances: &[u32]) -> anyhow::Result<()> {
     if !RedSender::are_distances(distances) {
         return Err(anyhow!("no distances"));
@@ -53,7 +53,7 @@ fn sync(sender: &mut RedSender, distances: &[u32]) -> anyhow::Result<()> {
     Ok(())
 }
 
-// `wrap TYPE TIME BUDGET PAYLOAD`: the packet that a payload is sent in.
+/// `wrap TYPE TIME BUDGET PAYLOAD`: the packet that a payload is sent in.
 fn wrapped(
     alloc: Global,
     sender: &mut RedSender,
@@ -67,7 +67,7 @@ fn wrapped(
     hex_of(alloc, packet.as_slice())
 }
 
-// A block from `TYPE@OFFSET=PAYLOAD`.
+/// A block from `TYPE@OFFSET=PAYLOAD`.
 fn block_of(alloc: Global, word: &str) -> anyhow::Result<RedundantBlock> {
     let Some((pt, rest)) = word.split_once('@') else {
         return Err(anyhow!("no block {word}"));
@@ -82,7 +82,7 @@ fn block_of(alloc: Global, word: &str) -> anyhow::Result<RedundantBlock> {
     })
 }
 
-// `write TYPE PAYLOAD BLOCK ..`: the packet of a primary payload behind blocks.
+/// `write TYPE PAYLOAD BLOCK ..`: the packet of a primary payload behind blocks.
 fn written(alloc: Global, words: &mut SplitWhitespace<'_>) -> anyhow::Result<String> {
     let pt = next_number::<u8>(words)?;
     let payload = next_bytes(alloc, words)?;
@@ -94,14 +94,14 @@ fn written(alloc: Global, words: &mut SplitWhitespace<'_>) -> anyhow::Result<Str
     hex_of(alloc, packet.as_slice())
 }
 
-// A block as it is written for `write`, and a star behind the primary payload.
+/// A block as it is written for `write`, and a star behind the primary payload.
 fn block_text(alloc: Global, block: RedBlock<'_>) -> anyhow::Result<String> {
     let payload = hex_of(alloc, block.payload)?;
     let star = if block.primary { "*" } else { "" };
     Ok(format!(in alloc; "{}@{}={payload}{star}", block.pt, block.timestamp_offset)?)
 }
 
-// The blocks of a packet, parted by blanks.
+/// The blocks of a packet, parted by blanks.
 fn read(alloc: Global, packet: &[u8]) -> anyhow::Result<String> {
     let mut text = String::new(alloc);
     for block in RedDecoder::decode(packet)? {

@@ -29,7 +29,7 @@ pub fn answer(alloc: Global, words: &mut SplitWhitespace<'_>) -> anyhow::Result<
     patched(alloc, &payload, ids)
 }
 
-// The picture id, TL0PICIDX and KEYIDX of a payload, and whether it begins a keyframe.
+/// The picture id, TL0PICIDX and KEYIDX of a payload, and whether it begins a keyframe.
 fn read(alloc: Global, payload: &[u8]) -> anyhow::Result<String> {
     let descriptor = Vp8Descriptor::parse(payload)?;
     let (id, tl0, key) = (
@@ -41,7 +41,7 @@ fn read(alloc: Global, payload: &[u8]) -> anyhow::Result<String> {
     Ok(format!(in alloc; "{id:?} {tl0:?} {key:?} {begins}")?)
 }
 
-// The ids that words say, each by its name.
+/// The ids that words say, each by its name.
 fn ids_of(words: &mut SplitWhitespace<'_>) -> anyhow::Result<Ids> {
     let mut ids = Ids {
         picture_id: None,
@@ -62,7 +62,7 @@ fn ids_of(words: &mut SplitWhitespace<'_>) -> anyhow::Result<Ids> {
     Ok(ids)
 }
 
-// A builder with these ids.
+/// A builder with these ids.
 fn with_ids(mut builder: Vp8PatchBuilder, ids: Ids) -> Vp8PatchBuilder {
     if let Some(id) = ids.picture_id {
         builder = builder.picture_id(id);
@@ -76,14 +76,14 @@ fn with_ids(mut builder: Vp8PatchBuilder, ids: Ids) -> Vp8PatchBuilder {
     builder
 }
 
-// A payload with these ids in place of its own.
+/// A payload with these ids in place of its own.
 fn patched(alloc: Global, payload: &[u8], ids: Ids) -> anyhow::Result<String> {
     let descriptor = Vp8Descriptor::parse(payload)?;
     let patch = with_ids(descriptor.patch(), ids).build()?;
     copied(alloc, payload, &patch)
 }
 
-// A payload with the ids of a patch.
+/// A payload with the ids of a patch.
 fn copied(alloc: Global, payload: &[u8], patch: &Vp8Patch) -> anyhow::Result<String> {
     if payload.len() < REACHES_IDS {
         return Err(anyhow!("a payload of fewer than six bytes"));

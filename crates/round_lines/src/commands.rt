@@ -45,7 +45,7 @@ pub fn answer(alloc: Global, rows: &mut Rows, line: &str) -> anyhow::Result<Stri
     Ok(String::from_str(alloc, "ok")?)
 }
 
-// What a command gives that tells something; None at another one.
+/// What a command gives that tells something; None at another one.
 fn report(
     alloc: Global,
     rows: &mut Rows,
@@ -72,7 +72,7 @@ fn report(
     Ok(Some(text))
 }
 
-// Rows put behind the others or in place of some, or none left.
+/// Rows put behind the others or in place of some, or none left.
 fn change(
     alloc: Global,
     rows: &mut Rows,
@@ -112,7 +112,7 @@ fn push_own(rows: &mut Rows, row: PayloadParams) -> anyhow::Result<()> {
     Ok(())
 }
 
-// `add TYPE SPEC`: a new row of a codec behind the others.
+/// `add TYPE SPEC`: a new row of a codec behind the others.
 fn add(rows: &mut Rows, words: &mut SplitWhitespace<'_>) -> anyhow::Result<()> {
     let pt = Pt::new_with_value(next_number(words)?);
     let spec = next_spec(words)?;
@@ -127,7 +127,7 @@ fn add(rows: &mut Rows, words: &mut SplitWhitespace<'_>) -> anyhow::Result<()> {
     Ok(())
 }
 
-// `score SPEC SPEC`: how well two rows match.
+/// `score SPEC SPEC`: how well two rows match.
 fn score(alloc: Global, words: &mut SplitWhitespace<'_>) -> anyhow::Result<String> {
     let one = PayloadParams::new(Pt::new_with_value(96), None, next_spec(words)?);
     let other = PayloadParams::new(Pt::new_with_value(97), None, next_spec(words)?);
@@ -137,7 +137,7 @@ fn score(alloc: Global, words: &mut SplitWhitespace<'_>) -> anyhow::Result<Strin
     }
 }
 
-// `find TYPE`: the codec of the first own row of a type.
+/// `find TYPE`: the codec of the first own row of a type.
 fn find(alloc: Global, rows: &Rows, pt: Pt) -> anyhow::Result<String> {
     match rows.own.find(|row| row.pt() == pt) {
         Some(row) => {
@@ -148,14 +148,14 @@ fn find(alloc: Global, rows: &Rows, pt: Pt) -> anyhow::Result<String> {
     }
 }
 
-// `rows`: how many own rows there are, and which.
+/// `rows`: how many own rows there are, and which.
 fn own_rows(alloc: Global, rows: &Rows) -> anyhow::Result<String> {
     let count = rows.own.params().len();
     let text = rows_text(alloc, rows.own.params())?;
     Ok(format!(in alloc; "{count}{text}")?)
 }
 
-// `round DIRECTION`: what a round with the other end's rows leaves.
+/// `round DIRECTION`: what a round with the other end's rows leaves.
 fn round(alloc: Global, rows: &mut Rows, dir: Direction) -> anyhow::Result<String> {
     let refusal = match rows.own.round(rows.remote.as_slice(), dir) {
         Ok(()) => String::from_str(alloc, "ok")?,

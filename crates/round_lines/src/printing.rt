@@ -17,7 +17,7 @@ fn channels_text(alloc: Global, channels: Option<u8>) -> anyhow::Result<String> 
     }
 }
 
-// A row: its types, whether it is locked and uses transport-wide feedback, its codec, channels and format.
+/// A row: its types, whether it is locked and uses transport-wide feedback, its codec, channels and format.
 fn row_text(alloc: Global, row: &PayloadParams) -> anyhow::Result<String> {
     let spec = row.spec();
     let pt = row.pt();

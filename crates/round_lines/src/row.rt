@@ -45,7 +45,7 @@ fn put_off(row: &mut PayloadParams, flag: &str) -> anyhow::Result<()> {
     Ok(())
 }
 
-// The flag's name, or a dash where it is off.
+/// The flag's name, or a dash where it is off.
 fn told(name: &'static str, is_on: bool) -> &'static str {
     if is_on { name } else { "-" }
 }

@@ -17,7 +17,7 @@ pub fn next_number(words: &mut SplitWhitespace<'_>) -> anyhow::Result<u8> {
     Ok(next_word(words)?.parse::<u8>()?)
 }
 
-// A number, or none at a dash.
+/// A number, or none at a dash.
 fn maybe_number(words: &mut SplitWhitespace<'_>) -> anyhow::Result<Option<u8>> {
     let word = next_word(words)?;
     if word == "-" {

@@ -34,25 +34,25 @@ pub record EndAndDraft : Type 0 where
   pub rows : List Row
   pub exts : Numbering
 
--- this end or none, and an empty draft
+-- This end or none, and an empty draft.
 abbrev pub empty_draft : Option EndState → EndAndDraft
 empty_draft end = record { end = end; rows = []; exts = empty_map }
 
--- one claim where a test holds, another one where it doesn't
+-- One claim where a test holds, another one where it doesn't.
 abbrev pub Where : Bool → Type 0 → Type 0 → Type 0
 Where true holds fails = holds
 Where false holds fails = fails
 
--- one line is printed
+-- One line is printed.
 abbrev pub Prints : List Reply → Reply → Type 0
 Prints replies reply = replies ≡ reply ∷ []
 
--- the format of a command, none at a dash
+-- The format of a command, none at a dash.
 abbrev pub format_for : Option (List ℕ) → FormatParams
 format_for None = no_format
 format_for (Some text) = format_of text
 
--- the row that a command drafts
+-- The row that a command drafts.
 abbrev pub drafted_row : RowCommand → Row
 drafted_row c = record (new_row c.pt c.resend
     (record {
@@ -88,14 +88,14 @@ AnswersEnd old c (Some error) new replies =
 abbrev pub refusal_of_draft : EndAndDraft → Option EndError
 refusal_of_draft kept = refusal_of_new kept.rows kept.exts
 
--- the section that a word names
+-- The section that a word names.
 abbrev pub wanted_of : SectionWord → Wanted
 wanted_of s = record { mid = name_of 16 s.mid; kind = s.kind; dir = s.direction; ssrcs = s.ssrcs }
 
 abbrev pub wanted_in : List SectionWord → List Wanted
 wanted_in sections = map wanted_of sections
 
--- an offer's text is printed, where nothing refuses it
+-- An offer's text is printed, where nothing refuses it.
 pub record PrintsOffer (e : EndState) (sections : List Wanted) (after : EndState) (replies : List Reply) : Type 0 where
   pub text : List ℕ
   pub may_offer : refusal_of_offer e.exchange sections ≡ None
@@ -103,7 +103,7 @@ pub record PrintsOffer (e : EndState) (sections : List Wanted) (after : EndState
   pub is_pending : after ≡ offering e sections
   pub printed : Prints replies (reply.Text text)
 
--- a call's refusal is printed under the name that it has, and the end stays
+-- A call's refusal is printed under the name that it has, and the end stays.
 pub record PrintsRefusal (e after : EndState) (names : ExchangeError → Type 0) (replies : List Reply) : Type 0 where
   pub error : ExchangeError
   pub named : names error
@@ -116,7 +116,7 @@ AnswersOffer e sections after replies =
     PrintsOffer e sections after replies ⊎ PrintsRefusal e after
     (λ error. Refuses error (refusal_of_offer e.exchange sections)) replies
 
--- an answer's text is printed, where nothing refuses it
+-- An answer's text is printed, where nothing refuses it.
 pub record PrintsAnswer (e : EndState) (text : List ℕ) (sections : List Wanted) (after : EndState)
     (replies : List Reply) : Type 0 where
   pub answer : List ℕ
@@ -131,7 +131,7 @@ AnswersAnswer e text sections after replies =
     PrintsAnswer e text sections after replies
     ⊎ PrintsRefusal e after (RefusesAnswer e.exchange text sections) replies
 
--- an answer is accepted, where nothing refuses it
+-- An answer is accepted, where nothing refuses it.
 pub record PrintsAccept (e : EndState) (text : List ℕ) (after : EndState) (replies : List Reply) : Type 0 where
   pub may_accept : MayAccept e.exchange text
   pub accepts : Accepts e.exchange text after.exchange
@@ -150,7 +150,7 @@ AnswersWithdraw e after replies =
     (after ≡ with_exchange e (with_offer e.exchange None))
     × Prints replies (if is_some e.exchange.pending then reply.Done else reply.NoOffer)
 
--- both texts are printed
+-- Both texts are printed.
 pub record PrintsBoth (a b : EndState) (sections_a sections_b : List Wanted) (after_a after_b : EndState)
     (replies : List Reply) : Type 0 where
   pub offer : List ℕ
@@ -177,7 +177,7 @@ AtEnd None (Some after) replies answers = ⊥
 AtEnd (Some e) None replies answers = ⊥
 AtEnd (Some e) (Some after) replies answers = answers e after
 
--- the same for a line with a text, which must be UTF-8
+-- The same for a line with a text, which must be UTF-8.
 abbrev pub WithText : List ℕ → Option EndState → Option EndState → List Reply → (EndState → EndState → Type 0) → Type 0
 WithText text old new replies answers =
     Where (is_utf8 text) (AtEnd old new replies answers) ((new ≡ old) × Prints replies reply.ErrorLine)

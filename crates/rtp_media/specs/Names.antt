@@ -11,7 +11,7 @@ use Rattle.rtp_media_streams.specs.declared.errors.SampleError.TheVariants as sa
 use Rattle.rtp_media_streams.specs.declared.errors.PollFault.{PollFault}
 use Rattle.rtp_media_streams.specs.declared.errors.PollFault.TheVariants as poll_fault
 
--- out of memory has one name in all of them
+-- Out of memory has one name in all of them.
 abbrev pub memory : List ℕ
 memory = codes "Memory"
 

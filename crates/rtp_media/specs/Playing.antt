@@ -22,21 +22,21 @@ use Rattle.rtp_media.specs.Exchanging.{Prints, Where}
 use Rattle.rtp_media.specs.Names.{fault_name, memory, sample_error_name}
 use Rattle.rtp_media.specs.Program.{unit_reply, verdict_reply}
 
--- what happens at an item
+-- What happens at an item.
 abbrev pub event_of : PlayItem → Event
 event_of (item.Arrive k) = event.Arrive k
 event_of (item.Foreign bytes) = event.Foreign bytes
 event_of item.Poll = event.Poll
 
--- a kept sample, at a clock rate
+-- A kept sample, at a clock rate.
 abbrev pub sample_at : ℕ → QueueCommand → Sample
 sample_at rate q = record { time = record { ticks = q.time; rate = rate }; values = absent; bytes = q.sample }
 
--- the kept samples, at the clock rate of a sending stream's row
+-- The kept samples, at the clock rate of a sending stream's row.
 abbrev pub samples_for : EndState → ℕ → List QueueCommand → List Sample
 samples_for a tx queue = map (sample_at (sender_at a tx).row.clock_rate) queue
 
--- the line for an answer
+-- The line for an answer.
 abbrev pub played_reply : Played → Reply
 played_reply (play_answer.Received verdict) = verdict_reply verdict
 played_reply (play_answer.Polled (Ok unit)) = unit_reply unit
@@ -55,7 +55,7 @@ PrintsRefusal a b samples c after_a after_b replies =
     (error : SampleError) × (error ≢ sample_error.Memory) × IsRefusedAt a c.tx samples error after_a × (after_b ≡ b)
     × Prints replies (reply.Refused (sample_error_name error))
 
--- Memory was wanting, after a part.
+-- Memory ran out, after a part.
 abbrev pub PrintsMemory : EndState → EndState → List Sample → PlayCommand → EndState → EndState → List Reply → Type 0
 PrintsMemory a b samples c after_a after_b replies =
     IsCutShort a b c.tx c.rx samples (map event_of c.items) after_a after_b × Prints replies (reply.Refused memory)

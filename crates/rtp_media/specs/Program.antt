@@ -37,15 +37,15 @@ pub record EndStep : Type 0 where
   pub end : Option EndState
   pub replies : List Reply
 
--- one line is printed, and the end stays
+-- One line is printed, and the end stays.
 abbrev pub prints : Option EndState → Reply → EndStep
 prints end reply = record { end = end; replies = reply ∷ [] }
 
--- one line is printed, and the end is this one
+-- One line is printed, and the end is this one.
 abbrev pub becomes : EndState → Reply → EndStep
 becomes e reply = record { end = Some e; replies = reply ∷ [] }
 
--- the stream parameters that a command gives
+-- The stream parameters that a command gives.
 abbrev pub params_of : SendCommand → StreamParams
 params_of c = record {
   first = c.first;
@@ -56,7 +56,7 @@ params_of c = record {
   for_browsers = false;
 }
 
--- a command's conditions: distances are for a row with a RED type alone
+-- A command's conditions: distances are for a row with a RED type alone.
 abbrev pub is_sound_send : EndState → SendCommand → Bool
 is_sound_send e c = is_sound_params (agreed_red e (name_of 16 c.mid) c.pt) (params_of c)
 
@@ -82,11 +82,11 @@ abbrev pub open_step : Option EndState → OpenCommand → EndStep
 open_step None c = prints None reply.ErrorLine
 open_step (Some e) c = receiver_step e c (refusal_of_open_receiver e (name_of 16 c.mid) c.ssrc c.pt)
 
--- a command's time, at the clock rate of its stream's row
+-- A command's time, at the clock rate of its stream's row.
 abbrev pub time_of : EndState → SampleCommand → Time
 time_of e c = record { ticks = c.time; rate = (sender_at e c.stream).row.clock_rate }
 
--- the values that a sample is given: the name of its section, where one is (RFC 9143 15)
+-- The values that a sample is given: the name of its section, where one is (RFC 9143 15).
 abbrev pub values_given : Option (List ℕ) → ExtensionValues
 values_given mid = record absent { mid = option_map (name_of 16) mid }
 
@@ -126,7 +126,7 @@ abbrev pub poll_reply : PollResult → Reply
 poll_reply (Ok unit) = unit_reply unit
 poll_reply (Err fault) = reply.Fault (fault_name fault)
 
--- what a poll of a receiving stream answers
+-- What a poll of a receiving stream answers.
 abbrev pub poll_result : Receiving → PollResult
 poll_result r = given (poll_answer (format_of r.row) r.stream)
 
@@ -150,7 +150,7 @@ step_of end (Receive c) = receive_step end c
 step_of end (Poll c) = poll_step end c
 step_of end command = prints end reply.ErrorLine
 
--- the end is this, and so are the replies
+-- The end is this, and so are the replies.
 abbrev pub IsStep : EndStep → Option EndState → List Reply → Type 0
 IsStep step end replies = (end ≡ step.end) × (replies ≡ step.replies)
 

@@ -45,7 +45,7 @@ letter_of (Connect c) = A
 letter_of (Queue c) = A
 letter_of (Play c) = A
 
--- the draft stays, and the end is answered for
+-- The draft stays, and the end is answered for.
 abbrev pub KeepsDraft : EndAndDraft → EndAndDraft → Type 0
 KeepsDraft old new = (new.rows ≡ old.rows) × (new.exts ≡ old.exts)
 
@@ -66,12 +66,12 @@ AnswersAt old (Withdraw letter) new replies =
     AtEnd old.end new.end replies (λ e after. AnswersWithdraw e after replies) × KeepsDraft old new
 AnswersAt old command new replies = IsAnswered old.end command new.end replies × KeepsDraft old new
 
--- what a command's letter stands for is answered for, and the other stays
+-- What a command's letter stands for is answered for, and the other stays.
 abbrev pub IsAnsweredAt : Letter → ProgramState → Command → ProgramState → List Reply → Type 0
 IsAnsweredAt A old command new replies = AnswersAt old.a command new.a replies × (new.b ≡ old.b)
 IsAnsweredAt B old command new replies = AnswersAt old.b command new.b replies × (new.a ≡ old.a)
 
--- both ends are connected, where both are there
+-- Both ends are connected, where both are there.
 abbrev pub ConnectsEnds : Option EndState → Option EndState → ConnectCommand → Option EndState → Option EndState
     → List Reply → Type 0
 ConnectsEnds (Some a) (Some b) c (Some after_a) (Some after_b) replies =

@@ -392,7 +392,7 @@ fn unit_reply(unit: Option<Unit>) -> Reply
 ///
 /// # Errors
 /// At the first read or write that fails, where the input doesn't end within 16,777,216 reads, and
-/// where memory for a line or its replies is wanting.
+/// where memory for a line or its replies runs out.
 pub fn run<R: Read, W: Write>(
     alloc: Global,
     reader: &mut R,

@@ -1,4 +1,4 @@
--- Runs that stop for want of memory.
+-- Runs that stop for lack of memory.
 use Rattle.std.proofs.Common.{◌≡◌, ◌≢◌, ℕ, zero, suc, ◌+◌, ◌<◌, ◌≤◌, refl, sym, ◌∙◌, ap, ap₂, subst, arith, inl, Bool}
 use Rattle.std.proofs.Common.{true, false, List, [], ◌∷◌, length, length-set, take, add-one, true≢false}
 use Rattle.std.proofs.lemmas.Bool.Decides.{nat_tests}

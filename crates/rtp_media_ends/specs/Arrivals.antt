@@ -20,7 +20,7 @@ pub data Arrival : Type 0 where
   NoPayload : Arrival
   Own : (stream low time : ℕ) (marker : Bool) (values : ExtensionValues) (payload : List ℕ) → Arrival
 
--- the payload, if there is one and it has a byte
+-- The payload, if there is one and it has a byte.
 abbrev pub own_of : ℕ → RtpHeader → ExtensionValues → Option (List ℕ) → Arrival
 own_of stream header values None = NoPayload
 own_of stream header values (Some []) = NoPayload
@@ -33,12 +33,12 @@ arrival_for streams (Some stream) header datagram =
     own_of stream header (values_read (nth_receiver streams stream).map datagram)
     (media_payload (nth_receiver streams stream).types header datagram)
 
--- whether datagrams of this SSRC and type are a receiving stream's own
+-- Whether datagrams of this SSRC and type are a receiving stream's own.
 abbrev pub takes : ℕ → ℕ → OpenStream → Bool
 takes ssrc pt (Sender s) = false
 takes ssrc pt (Receiver r) = is_own r ssrc pt
 
--- the number of the receiving stream of an SSRC and a payload type
+-- The number of the receiving stream of an SSRC and a payload type.
 abbrev pub stream_for : List OpenStream → ℕ → ℕ → Option ℕ
 stream_for streams ssrc pt = position (takes ssrc pt) streams
 

@@ -11,11 +11,11 @@ use Rattle.rtp_media_sections.specs.Agreement.{Agreed, agreed_map_of, agreed_row
 use Rattle.rtp_media_sections.specs.Sections.{Wanted}
 use Rattle.rtp_media_ends.specs.Ends.{EndState, with_exchange}
 
--- the end that offers, its offer pending
+-- The end that offers, its offer pending.
 abbrev pub offering : EndState → List Wanted → EndState
 offering a sections = with_exchange a (with_offer a.exchange (Some sections))
 
--- the text of its offer
+-- The text of its offer.
 abbrev pub offer_text : EndState → List Wanted → List ℕ
 offer_text a sections = sdp_text (offer_of a.exchange sections)
 

@@ -29,33 +29,33 @@ pub record EndState : Type 0 where
   pub exchange : Exchanged
   pub streams : List OpenStream
 
--- the end with this stream in place of its n-th
+-- The end with this stream in place of its n-th.
 abbrev pub with_sender : EndState → ℕ → Sending → EndState
 with_sender e n s = record { exchange = e.exchange; streams = slice_set e.streams n (Sender s) }
 
 abbrev pub with_receiver : EndState → ℕ → Receiving → EndState
 with_receiver e n r = record { exchange = e.exchange; streams = slice_set e.streams n (Receiver r) }
 
--- the end after an exchange: its streams stay
+-- The end after an exchange: its streams stay.
 abbrev pub with_exchange : EndState → Exchanged → EndState
 with_exchange e x = record { exchange = x; streams = e.streams }
 
--- the end with one stream more
+-- The end with one stream more.
 abbrev pub with_new_sender : EndState → Sending → EndState
 with_new_sender e s = record { exchange = e.exchange; streams = e.streams ++ Sender s ∷ [] }
 
 abbrev pub with_new_receiver : EndState → Receiving → EndState
 with_new_receiver e r = record { exchange = e.exchange; streams = e.streams ++ Receiver r ∷ [] }
 
--- the payload types of a row
+-- The payload types of a row.
 abbrev pub types_of : Row → PayloadTypes
 types_of row = record { pt = row.pt; red = row.red }
 
--- those of no row
+-- Those of no row.
 abbrev pub no_types : PayloadTypes
 no_types = record { pt = 0; red = None }
 
--- what a row says of its payloads
+-- What a row says of its payloads.
 abbrev pub row_format_of : Row → RowFormat
 row_format_of row = record {
   codec = row.spec.codec;
@@ -64,18 +64,18 @@ row_format_of row = record {
   sprop_max_don_diff = row.spec.format.sprop_max_don_diff;
 }
 
--- that of no row
+-- That of no row.
 abbrev pub no_row_format : RowFormat
 no_row_format = record { codec = Unknown; clock_rate = 1; octet_align = None; sprop_max_don_diff = None }
 
--- streams of no row
+-- Streams of no row.
 abbrev pub no_sender : Sending
 no_sender = opened_sender 0 no_types empty_map no_row_format None false 0 1 0
 
 abbrev pub no_receiver : Receiving
 no_receiver = opened_receiver 0 no_types empty_map no_row_format 0
 
--- a stream as one that sends, and as one that receives
+-- A stream as one that sends, and as one that receives.
 abbrev pub sending_of : OpenStream → Sending
 sending_of (Sender s) = s
 sending_of (Receiver r) = no_sender
@@ -88,7 +88,7 @@ abbrev pub is_sending : OpenStream → Bool
 is_sending (Sender s) = true
 is_sending (Receiver r) = false
 
--- the n-th stream
+-- The n-th stream.
 abbrev pub nth_stream : List OpenStream → ℕ → OpenStream
 nth_stream streams n = slice_index_or streams n (Receiver no_receiver)
 
@@ -101,14 +101,14 @@ nth_receiver streams n = receiving_of (nth_stream streams n)
 abbrev pub receiver_at : EndState → ℕ → Receiving
 receiver_at e n = nth_receiver e.streams n
 
--- whether a number is that of a stream that sends, and of one that receives
+-- Whether a number is that of a stream that sends, and of one that receives.
 abbrev pub is_sender_at : EndState → ℕ → Bool
 is_sender_at e n = nat_lt n (length e.streams) && is_sending (nth_stream e.streams n)
 
 abbrev pub is_receiver_at : EndState → ℕ → Bool
 is_receiver_at e n = nat_lt n (length e.streams) && not (is_sending (nth_stream e.streams n))
 
--- whether a stream could send, or take, the datagrams of one of this SSRC and these payload types
+-- Whether a stream could send, or take, the datagrams of one of this SSRC and these payload types.
 abbrev pub sends_as : ℕ → PayloadTypes → OpenStream → Bool
 sends_as ssrc types (Sender s) = sending.conflicts_with s ssrc types
 sends_as ssrc types (Receiver r) = false
@@ -117,7 +117,7 @@ abbrev pub receives_as : ℕ → PayloadTypes → OpenStream → Bool
 receives_as ssrc types (Sender s) = false
 receives_as ssrc types (Receiver r) = receiving.conflicts_with r ssrc types
 
--- a RED type has 7 bits and is another than the row's
+-- A RED type has 7 bits and is another than the row's.
 abbrev pub is_red_of : ℕ → Option ℕ → Bool
 is_red_of pt None = true
 is_red_of pt (Some red) = nat_le red 127 && not (red == pt)
@@ -130,7 +130,7 @@ abbrev pub carried : Option Row → Option Row
 carried None = None
 carried (Some row) = if is_carried row then Some row else None
 
--- the section's row of a type, where a stream can carry it
+-- The section's row of a type, where a stream can carry it.
 abbrev pub carried_row : Agreed → ℕ → Option Row
 carried_row a pt = carried (row_in a.rows pt)
 
@@ -164,21 +164,21 @@ abbrev pub receiver_refusal_in : List Row → Option Agreed → List OpenStream 
 receiver_refusal_in own None streams ssrc pt = Some NoSection
 receiver_refusal_in own (Some a) streams ssrc pt = receiver_refusal_of own a streams ssrc (carried_row a pt)
 
--- Why `open_sender` is refused, want of memory aside.
+-- Why `open_sender` is refused, lack of memory aside.
 unfoldable pub refusal_of_open_sender : EndState → List ℕ → ℕ → ℕ → Option OpenError
 refusal_of_open_sender e mid ssrc pt =
     sender_refusal_in e.exchange.config.rows (section_of e.exchange.agreed mid) e.streams ssrc pt
 
--- Why `open_receiver` is refused, want of memory aside.
+-- Why `open_receiver` is refused, lack of memory aside.
 unfoldable pub refusal_of_open_receiver : EndState → List ℕ → ℕ → ℕ → Option OpenError
 refusal_of_open_receiver e mid ssrc pt =
     receiver_refusal_in e.exchange.config.rows (section_of e.exchange.agreed mid) e.streams ssrc pt
 
--- the map of header extensions of a new stream: the agreed one
+-- The map of header extensions of a new stream: the agreed one.
 abbrev pub stream_map : EndState → List ℕ → Numbering
 stream_map e mid = unwrap_or (agreed_map_of e.exchange.agreed mid) empty_map
 
--- what the row of a new stream says of its payloads
+-- What the row of a new stream says of its payloads.
 abbrev pub row_format_in : Option Row → RowFormat
 row_format_in None = no_row_format
 row_format_in (Some row) = row_format_of row
@@ -186,7 +186,7 @@ row_format_in (Some row) = row_format_of row
 abbrev pub agreed_format : EndState → List ℕ → ℕ → RowFormat
 agreed_format e mid pt = row_format_in (agreed_row_of e.exchange.agreed mid pt)
 
--- the payload types of a new stream, and its RED type
+-- The payload types of a new stream, and its RED type.
 abbrev pub types_in : Option Row → PayloadTypes
 types_in None = no_types
 types_in (Some row) = types_of row
@@ -201,7 +201,7 @@ agreed_types e mid pt = types_in (agreed_row_of e.exchange.agreed mid pt)
 abbrev pub agreed_red : EndState → List ℕ → ℕ → Option ℕ
 agreed_red e mid pt = red_in (agreed_row_of e.exchange.agreed mid pt)
 
--- a new stream, which adds redundancy under the RED type where distances are given
+-- A new stream, which adds redundancy under the RED type where distances are given.
 abbrev pub with_distances : Sending → Option ℕ → Option (List ℕ) → Sending
 with_distances s red None = s
 with_distances s red (Some distances) = redundant_sender s (unwrap_or red 0) distances
@@ -219,11 +219,11 @@ abbrev pub new_receiver : EndState → List ℕ → ℕ → ℕ → ℕ → Rece
 new_receiver e mid ssrc pt hold_back =
     opened_receiver ssrc (agreed_types e mid pt) (stream_map e mid) (agreed_format e mid pt) hold_back
 
--- the end with a sending stream more
+-- The end with a sending stream more.
 unfoldable pub after_open_sender : EndState → List ℕ → ℕ → ℕ → StreamParams → EndState
 after_open_sender e mid ssrc pt params = with_new_sender e (new_sender e mid ssrc pt params)
 
--- the end with a receiving stream more
+-- The end with a receiving stream more.
 unfoldable pub after_open_receiver : EndState → List ℕ → ℕ → ℕ → ℕ → EndState
 after_open_receiver e mid ssrc pt hold_back = with_new_receiver e (new_receiver e mid ssrc pt hold_back)
 

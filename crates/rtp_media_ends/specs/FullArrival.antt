@@ -31,11 +31,11 @@ abbrev pub after_datagrams : EndState → List (List ℕ) → EndState
 after_datagrams e [] = e
 after_datagrams e (d ∷ ds) = after_datagrams (after_datagram e d) ds
 
--- the end with these streams
+-- The end with these streams.
 abbrev pub with_streams : EndState → List OpenStream → EndState
 with_streams e streams = record { exchange = e.exchange; streams = streams }
 
--- A receiving stream was polled until None or want of memory: its answers, and the stream after them.
+-- A receiving stream was polled until None or lack of memory: its answers, and the stream after them.
 pub record IsPolledOut (before : Receiving) (answers : Answers) (after : Receiving) : Type 0 where
   pub polled : IsPolled (format_of before.row) before.stream answers after.stream
   pub same_stream : after ≡ with_stream before after.stream
@@ -45,7 +45,7 @@ pub record WasPolledSome (before after : Receiving) : Type 0 where
   pub some : IsPolledSome (format_of before.row) before.stream after.stream
   pub same_stream : after ≡ with_stream before after.stream
 
--- A stream that sends answers nothing and stays; one that receives was polled until None or want of memory.
+-- A stream that sends answers nothing and stays; one that receives was polled until None or lack of memory.
 abbrev pub AnswersAll : OpenStream → Answers → OpenStream → Type 0
 AnswersAll (Sender s) answers after = (answers ≡ []) × (after ≡ Sender s)
 AnswersAll (Receiver r) answers after =
@@ -74,11 +74,11 @@ ReceivesAndPollsSome e datagrams after =
     ⊎ (ArePolledSome (after_datagrams e datagrams).streams after.streams
     × (after ≡ with_streams (after_datagrams e datagrams) after.streams))
 
--- the answers of the n-th stream
+-- The answers of the n-th stream.
 abbrev pub answers_at : List Answers → ℕ → Answers
 answers_at answers n = slice_index_or answers n []
 
--- Each receiving stream was polled until None or want of memory.
+-- Each receiving stream was polled until None or lack of memory.
 pub record ArePolledOut (before : List OpenStream) (answers : List Answers) (after : List OpenStream) : Type 0 where
   pub as_many : length after ≡ length before
   pub as_many_answers : length answers ≡ length before
@@ -92,7 +92,7 @@ is_header_of ssrc types (Some header) = (ssrc == header.ssrc) && has_type types 
 abbrev pub is_own_datagram : ℕ → PayloadTypes → List ℕ → Bool
 is_own_datagram ssrc types datagram = is_header_of ssrc types (header_in empty_map datagram)
 
--- the payload format of a sending stream
+-- The payload format of a sending stream.
 abbrev pub coding_of : Sending → Coding
 coding_of s = coding_in s.row s.has_id s.for_browsers
 
@@ -100,11 +100,11 @@ coding_of s = coding_in s.row s.has_id s.for_browsers
 abbrev pub sent_samples : Sending → List Sample → List SentSample
 sent_samples s samples = sent_by (coding_of s) (packet_limit s) s.packetizer (samples_of s samples)
 
--- how many datagrams they have
+-- How many datagrams they have.
 abbrev pub count_of : Sending → List Sample → ℕ
 count_of s samples = length (packets_of (sent_samples s samples))
 
--- the datagram of a number
+-- The datagram of a number.
 abbrev pub sent_datagram : Sending → List Sample → ℕ → List ℕ
 sent_datagram s samples number = slice_index_or (datagrams_of s samples) (number - s.next) []
 
@@ -112,7 +112,7 @@ sent_datagram s samples number = slice_index_or (datagrams_of s samples) (number
 abbrev pub units_of : Sending → List Sample → List Timed
 units_of s samples = map whole_unit (canonical_units s.next (sent_samples s samples))
 
--- the end takes what has the SSRC of this stream and one of its types as this stream's own
+-- The end takes what has the SSRC of this stream and one of its types as this stream's own.
 abbrev pub IsFound : EndState → ℕ → Receiving → Type 0
 IsFound e stream r = (pt : ℕ) → has_type r.types pt ≡ true → stream_for e.streams r.ssrc pt ≡ Some stream
 

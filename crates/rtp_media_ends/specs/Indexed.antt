@@ -8,12 +8,12 @@ use Rattle.rtp_media_ends.specs.declared.stream_index.StreamIndex.{StreamIndex}
 use Rattle.rtp_media_ends.specs.declared.open_stream.OpenStream.{OpenStream}
 use Rattle.rtp_media_ends.specs.declared.open_stream.OpenStream.TheVariants.{Sender, Receiver}
 
--- whether a stream could send datagrams of this SSRC and type
+-- Whether a stream could send datagrams of this SSRC and type.
 abbrev pub sends : ℕ → ℕ → OpenStream → Bool
 sends ssrc pt (Sender s) = (s.ssrc == ssrc) && has_type s.types pt
 sends ssrc pt (Receiver r) = false
 
--- what a stream has under a RED type, where there is one
+-- What a stream has under a RED type, where there is one.
 abbrev pub has_red : (ℕ → ℕ → OpenStream → Bool) → ℕ → Option ℕ → OpenStream → Bool
 has_red has ssrc None stream = false
 has_red has ssrc (Some red) stream = has ssrc red stream

@@ -21,7 +21,7 @@ abbrev pub is_picture_id : Option ℕ → Bool
 is_picture_id None = true
 is_picture_id (Some id) = nat_le id 32767
 
--- whether numbers rise above this one, and are at most 8
+-- Whether numbers rise above this one, and are at most 8.
 abbrev pub rise_above : ℕ → List ℕ → Bool
 rise_above least [] = true
 rise_above least (d ∷ ds) = nat_lt least d && (nat_le d 8 && rise_above d ds)

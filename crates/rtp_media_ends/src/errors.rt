@@ -24,7 +24,7 @@ pub enum OpenError {
     /// A stream of this direction has this SSRC and type.
     #[error("such a stream is open already")]
     AlreadyOpen,
-    /// Memory was wanting.
+    /// Out of memory.
     #[error("out of memory")]
     Memory,
 }
@@ -54,7 +54,7 @@ impl<T: Drop> From<AllocFailed<T>> for OpenError {
 /// Why a datagram is not taken in.
 #[derive(Clone, Copy, Debug, PartialEq, Eq, Drop, Error)]
 pub enum ReceiveError {
-    /// Memory was wanting.
+    /// Out of memory.
     #[error("out of memory")]
     Memory,
 }

@@ -58,7 +58,7 @@ pub struct StreamParams {
     pub for_browsers: bool,
 }
 
-// Whether distances rise strictly, and are 1 to 8.
+/// Whether distances rise strictly, and are 1 to 8.
 fn are_distances(distances: &[u8]) -> bool
     ensures { result ≡ rise_above 0 distances.now }
 {

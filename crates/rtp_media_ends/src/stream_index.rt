@@ -57,7 +57,7 @@ impl StreamIndex {
         Ok(())
     }
 
-    /// Sets the number of a stream under its SSRC and each of its types. Where memory is wanting it may be set under
+    /// Sets the number of a stream under its SSRC and each of its types. Where memory runs out it may be set under
     /// one of them.
     pub fn set_types(
         &mut self,

@@ -3,30 +3,30 @@ use Rattle.std.specs.Prelude.{◌≡◌, ℕ, ◌==◌, false, nat_le, if◌then
 use Rattle.std.specs.Prelude.{None, Some}
 use Rattle.std.specs.List.{slice_split}
 
--- the pieces, where an empty last one doesn't count
+-- The pieces, where an empty last one doesn't count.
 abbrev pub without_empty_last : List (List ℕ) → List (List ℕ)
 without_empty_last [] = []
 without_empty_last (last ∷ []) = if length last == 0 then [] else last ∷ []
 without_empty_last (piece ∷ next ∷ pieces) = piece ∷ without_empty_last (next ∷ pieces)
 
--- a line of at most 1,048,576 bytes, or None for a longer one
+-- A line of at most 1,048,576 bytes, or None for a longer one.
 abbrev pub kept : List ℕ → Option (List ℕ)
 kept line = if nat_le (length line) 1048576 then Some line else None
 
--- what stands between line feeds; the end of input ends a line too
+-- What stands between line feeds; the end of input ends a line too.
 unfoldable pub lines_of : List ℕ → List (Option (List ℕ))
 lines_of input = map kept (without_empty_last (slice_split (λ byte. byte == 10) input))
 
--- a line and its line feed
+-- A line and its line feed.
 abbrev pub with_feed : List ℕ → List ℕ
 with_feed line = line ++ 10 ∷ []
 
--- no line feed is among the bytes
+-- No line feed is among the bytes.
 abbrev pub HasNoFeed : List ℕ → Type 0
 HasNoFeed [] = Unit {0}
 HasNoFeed (byte ∷ bytes) = ((byte == 10) ≡ false) × HasNoFeed bytes
 
--- a kept line with one more byte
+-- A kept line with one more byte.
 abbrev pub longer : Option (List ℕ) → ℕ → Option (List ℕ)
 longer None byte = None
 longer (Some line) byte = kept (line ++ byte ∷ [])

@@ -83,14 +83,14 @@ poll_of words = do
   stream ← first (number_below (2 ^ 64)) letter.1
   ended stream.1 (Poll (record { letter = letter.0; stream = stream.0 }))
 
--- a command of whole runs, by its first word
+-- A command of whole runs, by its first word.
 abbrev pub run_command_of : List ℕ → List (List ℕ) → Option Command
 run_command_of verb words =
     if bytes_eq verb (codes "queue") then queue_of words
     else if bytes_eq verb (codes "play") then play_of words
     else None
 
--- a command that makes an end or exchanges texts, or one of whole runs, by its first word
+-- A command that makes an end or exchanges texts, or one of whole runs, by its first word.
 abbrev pub exchange_command_of : List ℕ → List (List ℕ) → Option Command
 exchange_command_of verb words =
     if bytes_eq verb (codes "row") then row_of words
@@ -103,7 +103,7 @@ exchange_command_of verb words =
     else if bytes_eq verb (codes "connect") then connect_of words
     else run_command_of verb words
 
--- a command by its first word
+-- A command by its first word.
 abbrev pub command_of : List (List ℕ) → Option Command
 command_of [] = None
 command_of (verb ∷ words) =
@@ -115,7 +115,7 @@ command_of (verb ∷ words) =
     else if bytes_eq verb (codes "poll") then poll_of words
     else exchange_command_of verb words
 
--- what a line says, where it is understood
+-- What a line says, where it is understood.
 unfoldable pub line_of : List ℕ → Option Line
 line_of bytes =
     if length bytes == 0 then Some line.Empty

@@ -8,7 +8,7 @@ use Rattle.rtp_media_lines.specs.declared.playing.PlayItem.{PlayItem}
 use Rattle.rtp_media_lines.specs.declared.playing.PlayItem.TheVariants.{Arrive, Foreign, Poll}
 use Rattle.rtp_media_lines.specs.Words.{behind, each_of, ended, first, hex_of, number_below, ◌>>=◌}
 
--- what stands behind an `a`, or else behind an `f`
+-- What stands behind an `a`, or else behind an `f`.
 abbrev pub item_behind : Option (List ℕ) → Option (List ℕ) → Option PlayItem
 item_behind (Some number) bytes = option_map Arrive (number_below (2 ^ 64) number)
 item_behind None (Some bytes) = option_map Foreign (hex_of bytes)
@@ -20,7 +20,7 @@ item_of word =
     if bytes_eq word (codes "p") then Some Poll
     else item_behind (behind (codes "a") word) (behind (codes "f") word)
 
--- an item in each word
+-- An item in each word.
 abbrev pub items_of : List (List ℕ) → Option (List PlayItem)
 items_of words = each_of item_of words
 

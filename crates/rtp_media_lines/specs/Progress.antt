@@ -9,7 +9,7 @@ use Rattle.rtp_media_lines.specs.Input.{lines_of, kept, HasNoFeed}
 use Rattle.rtp_media_lines.specs.Replies.{reply_text}
 use Rattle.rtp_media_lines.specs.Runs.{Answers, AnswersAll, Printed, status_of}
 
--- one line was answered: its replies were printed, and nothing else
+-- One line was answered: its replies were printed, and nothing else.
 pub record PrintedOne {S : Type 0} (gives : S → Command → S → List Reply → Type 0) (old : S) (line : Option (List ℕ))
     (new : S) (before after : Option (List ℕ)) (status : Status) : Type 0 where
   pub replies : List Reply
@@ -17,7 +17,7 @@ pub record PrintedOne {S : Type 0} (gives : S → Command → S → List Reply �
   pub printed : Appends before after (flat_map reply_text replies)
   pub status_is : status ≡ status_of replies
 
--- of the bytes seen so far the ended lines are answered, and the last line, which may go on, is held
+-- Of the bytes seen so far the ended lines are answered, and the last line, which may go on, is held.
 pub record Progress {S : Type 0} (gives : S → Command → S → List Reply → Type 0) (start : S)
     (before : Option (List ℕ)) (seen : List ℕ)
     (state : S) (after : Option (List ℕ)) (held : Option (List ℕ)) (status : Status) : Type 0 where
@@ -31,14 +31,14 @@ pub record Progress {S : Type 0} (gives : S → Command → S → List Reply →
   pub printed : Appends before after (flat_map reply_text replies)
   pub status_is : status ≡ status_of replies
 
--- a run that has come so far goes on by these bytes
+-- A run that has come so far goes on by these bytes.
 abbrev pub GoesOn : {S : Type 0} → (S → Command → S → List Reply → Type 0) → List ℕ
     → S → Option (List ℕ) → Option (List ℕ) → Status → S → Option (List ℕ) → Option (List ℕ) → Status → Type 0
 GoesOn {S} gives bytes state after held status next later holds more =
     (start : S) (before : Option (List ℕ)) (seen : List ℕ) → Progress gives start before seen state after held status
     → Progress gives start before (seen ++ bytes) next later holds more
 
--- a run that has come so far ends here
+-- A run that has come so far ends here.
 abbrev pub Ends : {S : Type 0} → (S → Command → S → List Reply → Type 0)
     → S → Option (List ℕ) → Option (List ℕ) → Status → S → Option (List ℕ) → Status → Type 0
 Ends {S} gives state after held status next later more =

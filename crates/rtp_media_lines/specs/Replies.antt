@@ -6,18 +6,18 @@ use Rattle.rtp_media_lines.specs.declared.reply.Reply.TheVariants.{Done, ErrorLi
 use Rattle.rtp_media_lines.specs.declared.reply.Reply.TheVariants.{Datagram, Unreadable, Foreign, Damaged, NotTaken}
 use Rattle.rtp_media_lines.specs.declared.reply.Reply.TheVariants.{Taken, NextUnit, NoUnit, Fault, Text, NoOffer}
 
--- words parted by single blanks, and a line feed
+-- Words parted by single blanks, and a line feed.
 abbrev pub text_line : List (List ℕ) → List ℕ
 text_line [] = 10 ∷ []
 text_line (word ∷ []) = word ++ 10 ∷ []
 text_line (word ∷ next ∷ words) = word ++ 32 ∷ text_line (next ∷ words)
 
--- two hexadecimal digits in lower case for each byte, or a dash for none
+-- Two hexadecimal digits in lower case for each byte, or a dash for none.
 abbrev pub hex_text : List ℕ → List ℕ
 hex_text [] = codes "-"
 hex_text (byte ∷ bytes) = encode_lower (byte ∷ bytes)
 
--- the words of a reply
+-- The words of a reply.
 abbrev pub reply_words : Reply → List (List ℕ)
 reply_words Done = codes "ok" ∷ []
 reply_words ErrorLine = codes "error" ∷ codes "line" ∷ []
@@ -37,7 +37,7 @@ reply_words (Fault name) = codes "fault" ∷ name ∷ []
 reply_words (Text bytes) = codes "text" ∷ hex_text bytes ∷ []
 reply_words NoOffer = codes "none" ∷ []
 
--- the printed line
+-- The printed line.
 abbrev pub reply_text : Reply → List ℕ
 reply_text reply = text_line (reply_words reply)
 

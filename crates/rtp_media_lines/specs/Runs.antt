@@ -13,7 +13,7 @@ use Rattle.rtp_media_lines.specs.Lines.{line_of}
 use Rattle.rtp_media_lines.specs.Replies.{reply_text, is_error_line}
 use Rattle.rtp_media_lines.specs.Input.{lines_of}
 
--- what a line says; a line that is too long says nothing
+-- What a line says; a line that is too long says nothing.
 abbrev pub said_by : Option (List ℕ) → Option Line
 said_by None = None
 said_by (Some text) = line_of text
@@ -36,11 +36,11 @@ module _ {S : Type 0} (gives : S → Command → S → List Reply → Type 0) wh
       (mid : S) × (first : List Reply) × (others : List Reply) × Answers old line mid first
       × AnswersAll mid lines new others × (replies ≡ first ++ others)
 
--- whether an error line was printed
+-- Whether an error line was printed.
 abbrev pub status_of : List Reply → Status
 status_of replies = if list_any is_error_line replies then status.ErrorLine else status.Success
 
--- a program that read this input answered its lines, printed the replies and nothing else
+-- A program that read this input answered its lines, printed the replies and nothing else.
 pub record Printed {S : Type 0} (gives : S → Command → S → List Reply → Type 0) (old new : S)
     (before after : Option (List ℕ)) (input : List ℕ) (status : Status) : Type 0 where
   pub replies : List Reply
@@ -48,6 +48,6 @@ pub record Printed {S : Type 0} (gives : S → Command → S → List Reply → 
   pub printed : Appends before after (flat_map reply_text replies)
   pub status_is : status ≡ status_of replies
 
--- the bytes that the reader gave to its end
+-- The bytes that the reader gave to its end.
 abbrev pub ReadsAll : Option (List ℕ) → Option (List ℕ) → List ℕ → Type 0
 ReadsAll old new input = Consumes old new input × IsAtEnd new

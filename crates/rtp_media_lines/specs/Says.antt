@@ -58,7 +58,7 @@ pub record AreOpenWords (words : List (List ℕ)) (open' : OpenCommand) : Type 0
   pub pt_says : number_below (2 ^ 8) pt ≡ Some open'.pt
   pub hold_back_says : number_below (2 ^ 64) hold_back ≡ Some open'.hold_back
 
--- nothing, or `mid=TEXT`
+-- Nothing, or `mid=TEXT`.
 abbrev pub mid_words : Option (List ℕ) → List (List ℕ)
 mid_words None = []
 mid_words (Some text) = (codes "mid=" ++ text) ∷ []
@@ -181,7 +181,7 @@ pub record ArePlayWords (words : List (List ℕ)) (play : PlayCommand) : Type 0 
   pub rx_says : number_below (2 ^ 64) rx ≡ Some play.rx
   pub items_say : items_of items ≡ Some play.items
 
--- the words are those of the command's line, in their order and no others
+-- The words are those of the command's line, in their order and no others.
 abbrev pub Says : List (List ℕ) → Command → Type 0
 -- fixed E
 Says words (Fixed letter) = (e : List ℕ) × (words ≡ codes "fixed" ∷ e ∷ []) × (letter_of e ≡ Some letter)

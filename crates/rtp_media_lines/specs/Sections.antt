@@ -14,7 +14,7 @@ abbrev pub kind_of : List ℕ → Option MediaKind
 kind_of word = if bytes_eq word (codes "audio") then Some Audio else if bytes_eq word (codes "video") then Some Video
     else None
 
--- one of the four words of a direction
+-- One of the four words of a direction.
 abbrev pub direction_of : List ℕ → Option Direction
 direction_of word =
     if bytes_eq word (codes "sendrecv") then Some SendRecv
@@ -23,15 +23,15 @@ direction_of word =
     else if bytes_eq word (codes "inactive") then Some Inactive
     else None
 
--- numbers of 32 bits, parted by single commas; a dash for none
+-- Numbers of 32 bits, parted by single commas; a dash for none.
 abbrev pub ssrcs_of : List ℕ → Option (List ℕ)
 ssrcs_of word = if bytes_eq word (codes "-") then Some [] else each_of (number_below (2 ^ 32)) (comma_parts word)
 
--- what stands between single colons
+-- What stands between single colons.
 abbrev pub colon_parts : List ℕ → List (List ℕ)
 colon_parts word = slice_split (λ b. b == 58) word
 
--- the parts of what is left of a word, none where its last part has been read
+-- The parts of what is left of a word, none where its last part has been read.
 abbrev pub colon_parts_in : Option (List ℕ) → List (List ℕ)
 colon_parts_in None = []
 colon_parts_in (Some rest) = colon_parts rest
@@ -45,11 +45,11 @@ section_of word = do
   ssrcs ← first ssrcs_of direction.1
   ended ssrcs.1 (record { mid = mid.0; kind = kind.0; direction = direction.0; ssrcs = ssrcs.0 })
 
--- a section in each word
+-- A section in each word.
 abbrev pub sections_of : List (List ℕ) → Option (List SectionWord)
 sections_of words = each_of section_of words
 
--- a section in each word up to a slash, and the words behind it
+-- A section in each word up to a slash, and the words behind it.
 abbrev pub sections_then_slash : List (List ℕ) → Option (List SectionWord × List (List ℕ))
 sections_then_slash [] = None
 sections_then_slash (word ∷ words) =

@@ -3,12 +3,12 @@ use Rattle.std.specs.Prelude.{ℕ}
 use Rattle.rtp_media_lines.specs.declared.status.Status.{Status}
 use Rattle.rtp_media_lines.specs.declared.status.Status.TheVariants.{Success, ErrorLine}
 
--- the program's exit status
+-- The program's exit status.
 abbrev pub code_of : Status → ℕ
 code_of Success = 0
 code_of ErrorLine = 2
 
--- an error line stays one, whatever comes later
+-- An error line stays one, whatever comes later.
 abbrev pub worse : Status → Status → Status
 worse Success later = later
 worse ErrorLine later = ErrorLine

@@ -14,7 +14,7 @@ use Rattle.rtp_media_negotiation.specs.declared.errors.ExchangeError.TheVariants
 use Rattle.rtp_media_sections.specs.Lines.{shape_of_line}
 use Rattle.rtp_media_sections.specs.Sections.{Wanted, correspond, shape_of}
 
--- an error that isn't want of memory has its reason
+-- an error that isn't lack of memory has its reason
 by-reason : (text : List ℕ) (f : List MediaLine → Option ExchangeError) (lines : List MediaLine) → Says text lines
     → (e : ExchangeError) → (e ≢ Memory → f lines ≡ Some e)
     → IsUnread text e ⊎ ((ls : List MediaLine) × Says text ls × (f ls ≡ Some e))

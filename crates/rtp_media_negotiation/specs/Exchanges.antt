@@ -18,16 +18,16 @@ pub record Exchanged : Type 0 where
   pub pending : Option (List Wanted)
   pub agreed : List Agreed
 
--- a session with neither attributes nor bandwidth
+-- A session with neither attributes nor bandwidth.
 abbrev pub bare_session : ℕ → Session
 bare_session id = record { id = id; bw = None; attrs = [] }
 
--- an end that has agreed on nothing
+-- An end that has agreed on nothing.
 abbrev pub fresh : Session → Numbering → Config → Exchanged
 fresh session wanted config =
     record { session = session; wanted = wanted; config = config; pending = None; agreed = [] }
 
--- an end that has agreed as if by an exchange
+-- An end that has agreed as if by an exchange.
 unfoldable pub fixed : Exchanged
 fixed = record {
   session = bare_session 0;
@@ -37,11 +37,11 @@ fixed = record {
   agreed = fixed_section ∷ [];
 }
 
--- after an offer of these sections
+-- After an offer of these sections.
 abbrev pub with_offer : Exchanged → Option (List Wanted) → Exchanged
 with_offer x wanted = record x { pending = wanted }
 
--- after an exchange that left the rows so and agreed on these sections
+-- After an exchange that left the rows so and agreed on these sections.
 abbrev pub with_agreement : Exchanged → List Row → List Agreed → Exchanged
 with_agreement x rows agreed =
     record x { config = record x.config { rows = rows }; pending = None; agreed = agreed }

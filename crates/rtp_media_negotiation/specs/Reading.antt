@@ -5,7 +5,7 @@ use Rattle.sdp_formats.specs.declared.error.SdpError.TheVariants as sdp
 use Rattle.rtp_media_negotiation.specs.declared.errors.ExchangeError.{ExchangeError}
 use Rattle.rtp_media_negotiation.specs.declared.errors.ExchangeError.TheVariants as error
 
--- The text says nothing and is unreadable, or memory is wanting.
+-- The text says nothing and is unreadable, or memory runs out.
 abbrev pub IsUnread : List ℕ → ExchangeError → Type 0
 IsUnread text (error.Unreadable (sdp.ParseError t)) = SaysNothing text
 IsUnread text error.Memory = Unit {0}

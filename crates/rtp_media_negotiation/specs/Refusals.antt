@@ -1,4 +1,4 @@
--- Why calls are refused, want of memory aside: the first reason that holds.
+-- Why calls are refused, lack of memory aside: the first reason that holds.
 use Rattle.std.specs.Prelude.{◌≡◌, ◌≢◌, ◌⊎◌, IsFalse, ℕ, Bool, true, not, ◌&&◌, ◌==◌, length, Result, Ok, Err}
 use Rattle.std.specs.Prelude.{if◌then◌else◌, List, []}
 use Rattle.std.specs.Prelude.{◌∷◌, ◌++◌, Option, Some, None, is_some, map, find, suc}
@@ -29,7 +29,7 @@ use Rattle.rtp_media_sections.specs.Extensions.{is_writable_map}
 use Rattle.rtp_media_sections.specs.Lines.{is_media_line, mid_of, remote_of, shape_of_line, types_listed}
 use Rattle.rtp_media_sections.specs.Sections.{Wanted, correspond, may_follow, shape_of}
 
--- what is refused next, where nothing was refused yet
+-- What is refused next, where nothing was refused yet.
 abbrev pub else_refused : {A : Type 0} → Option A → Option A → Option A
 else_refused (Some why) next = Some why
 else_refused None next = next
@@ -146,7 +146,7 @@ refusal_by_offer x lines (Some wanted) = else_refused (refusal_of_sections x lin
 unfoldable pub refusal_of_accept : Exchanged → List MediaLine → Option ExchangeError
 refusal_of_accept x lines = refusal_by_offer x lines x.pending
 
--- An error is the reason, unless memory was wanting.
+-- An error is the reason, unless memory ran out.
 abbrev pub Refuses : ExchangeError → Option ExchangeError → Type 0
 Refuses e why = e ≢ error.Memory → why ≡ Some e
 
@@ -176,7 +176,7 @@ pub record IsReason (x : Exchanged) (text : List ℕ) (wanted : List Wanted) (e 
   pub why : (refusal_of_answer x lines wanted ≡ Some e)
       ⊎ ((e ≡ error.NotWritable) × ((refusal_of_answer x lines wanted ≡ None) × CannotSay x lines wanted))
 
--- An error of `answer`: the text says nothing, or memory is wanting; or there is a reason.
+-- An error of `answer`: the text says nothing, or memory runs out; or there is a reason.
 abbrev pub RefusesAnswer : Exchanged → List ℕ → List Wanted → ExchangeError → Type 0
 RefusesAnswer x text wanted e = IsUnread text e ⊎ IsReason x text wanted e
 

@@ -18,7 +18,7 @@ pub enum EndError {
     /// The session has attributes or bandwidth, or the URI of a header extension is empty or has a blank or a line end.
     #[error("the session can't be written")]
     NotWritable,
-    /// Memory was wanting.
+    /// Out of memory.
     #[error("out of memory")]
     Memory,
 }
@@ -59,7 +59,7 @@ pub enum ExchangeError {
     /// The name of a section is empty, or the text would not say what it has to.
     #[error("the text can't be written")]
     NotWritable,
-    /// Memory was wanting.
+    /// Out of memory.
     #[error("out of memory")]
     Memory,
 }

@@ -23,7 +23,7 @@ fn mids_of(alloc: Global, sections: &[SectionSpec]) -> Result<Vec<Mid>, AllocErr
     Ok(mids)
 }
 
-// One bundle of these sections.
+/// One bundle of these sections.
 fn bundle_of(alloc: Global, sections: &[SectionSpec]) -> Result<SessionAttribute, AllocError>
     ensures { IfOk result (λ group. group ≡ bundle_of sections.now) }
 {
@@ -33,7 +33,7 @@ fn bundle_of(alloc: Global, sections: &[SectionSpec]) -> Result<SessionAttribute
     })
 }
 
-// The text of a session with a bundle of its sections, and of their lines.
+/// The text of a session with a bundle of its sections, and of their lines.
 fn bundled_text(
     alloc: Global,
     session: &Session,

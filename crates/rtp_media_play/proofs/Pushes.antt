@@ -182,7 +182,7 @@ refused-at before now next tx i samples datagrams x e is lt at refused same =
           (subst₂ (λ (s : Sending) (y : Sample). refusal_for s y ≡ Some e) stream at refused);
     }
 
--- memory was wanting in the next one
+-- memory ran out in the next one
 pub fails-at : (before now next : EndState) (tx i : ℕ) (samples : List Sample) (datagrams : List (List ℕ))
     → IsPushed before tx samples i now datagrams → HasFailed (sender_at now tx) (sender_at next tx)
     → next ≡ with_sender now tx (sender_at next tx) → PushesSome before tx samples next

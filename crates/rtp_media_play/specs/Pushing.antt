@@ -10,7 +10,7 @@ use Rattle.rtp_media_ends.specs.Ends.{EndState, receiver_at, sender_at, with_rec
 use Rattle.rtp_media_play.specs.Schedules.{after_schedule}
 use Rattle.rtp_media_play.specs.declared.schedule.Event.{Event}
 
--- Why a stream refuses one of these samples: the first refusal, want of memory aside.
+-- Why a stream refuses one of these samples: the first refusal, lack of memory aside.
 abbrev pub refusal_of_samples : Sending → List Sample → Option SampleError
 refusal_of_samples s [] = None
 refusal_of_samples s (x ∷ xs) = first_refusal (refusal_of_sample s x.time x.values x.bytes)
@@ -29,7 +29,7 @@ pub record IsRefusedAt (e : EndState) (tx : ℕ) (samples : List Sample) (error 
   pub after_is : after ≡ after_pushes e tx (take count samples)
   pub refused : refusal_of_samples (sender_at e tx) samples ≡ Some error
 
--- Some first samples were pushed, and then memory was wanting: the stream has failed, or is as they left it.
+-- Some first samples were pushed, and then memory ran out: the stream has failed, or is as they left it.
 pub record PushesSome (e : EndState) (tx : ℕ) (samples : List Sample) (after : EndState) : Type 0 where
   pub count : ℕ
   pub place : count ≤ length samples
@@ -44,7 +44,7 @@ PollStops e rx after =
     IsInterrupted (format_of (receiver_at e rx).row) (receiver_at e rx).stream (receiver_at after rx).stream
     × (after ≡ with_receiver e rx (with_stream (receiver_at e rx) (receiver_at after rx).stream))
 
--- Some first events of a schedule happened, and then memory was wanting, maybe in a poll.
+-- Some first events of a schedule happened, and then memory ran out, maybe in a poll.
 pub record PlaysSome (sent : List (List ℕ)) (rx : ℕ) (e : EndState) (schedule : List Event) (after : EndState)
     : Type 0 where
   pub count : ℕ
@@ -52,7 +52,7 @@ pub record PlaysSome (sent : List (List ℕ)) (rx : ℕ) (e : EndState) (schedul
   pub stops : (after ≡ after_schedule sent rx e (take count schedule))
       ⊎ PollStops (after_schedule sent rx e (take count schedule)) rx after
 
--- Memory was wanting while samples were pushed, and nothing of the schedule happened; or all were pushed, and some
+-- Memory ran out while samples were pushed, and nothing of the schedule happened; or all were pushed, and some
 -- first events happened.
 pub data IsCutShort (a b : EndState) (tx rx : ℕ) (samples : List Sample) (schedule : List Event)
     (after_a after_b : EndState) : Type 0 where

@@ -22,7 +22,7 @@ AreForeign ssrc types (Arrive k ∷ xs) = AreForeign ssrc types xs
 AreForeign ssrc types (Foreign bytes ∷ xs) = (is_own_datagram ssrc types bytes ≡ false) × AreForeign ssrc types xs
 AreForeign ssrc types (Poll ∷ xs) = AreForeign ssrc types xs
 
--- the arrivals of a stream's datagrams by true numbers, and the polls
+-- The arrivals of a stream's datagrams by true numbers, and the polls.
 abbrev pub turns_at : Sending → List Sample → List Event → List Turn
 turns_at s samples schedule = turns_of s.next (count_of s samples) schedule
 
@@ -32,7 +32,7 @@ pub record IsSaneSchedule (s : Sending) (samples : List Sample) (schedule : List
   pub foreign : AreForeign s.ssrc s.types schedule
   pub order : IsSane s.next (count_of s samples) [] (turns_at s samples schedule)
 
--- how many datagrams each unit of samples has
+-- How many datagrams each unit of samples has.
 abbrev pub sizes_at : Sending → List Sample → List ℕ
 sizes_at s samples = frame_sizes (format_of s.row) (sent_samples s samples)
 

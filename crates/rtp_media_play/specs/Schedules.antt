@@ -16,17 +16,17 @@ use Rattle.rtp_media_play.specs.declared.schedule.Event.TheVariants.{Arrive, For
 use Rattle.rtp_media_play.specs.declared.schedule.Played.{Played}
 use Rattle.rtp_media_play.specs.declared.schedule.Played.TheVariants.{Received, Polled}
 
--- what is said of bytes
+-- What is said of bytes.
 abbrev pub verdicts_on : EndState → Option (List ℕ) → List Played
 verdicts_on e None = []
 verdicts_on e (Some bytes) = Received (verdict_of e bytes) ∷ []
 
--- the end after them
+-- The end after them.
 abbrev pub after_bytes : EndState → Option (List ℕ) → EndState
 after_bytes e None = e
 after_bytes e (Some bytes) = after_datagram e bytes
 
--- what a poll of a stream answers
+-- What a poll of a stream answers.
 abbrev pub answer_at : EndState → ℕ → Answer
 answer_at e rx = poll_answer (format_of (receiver_at e rx).row) (receiver_at e rx).stream
 

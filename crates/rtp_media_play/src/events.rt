@@ -23,7 +23,7 @@ pub(crate) fn receive(end: &mut End, bytes: &[u8]) -> Result<Option<Played>, All
     }
 }
 
-/// Polls a receiving stream of an end; want of memory is no answer.
+/// Polls a receiving stream of an end; lack of memory is no answer.
 pub(crate) fn poll(end: &mut End, rx: usize) -> Result<Option<Played>, AllocError>
     requires { is_receiver_at end.old rx ≡ true }
     ensures answer { IfOk result (λ answer. answer ≡ Some (Played.Polled (answer_at end.old rx))) }

@@ -13,7 +13,7 @@ use std::alloc::{AllocError, Global};
 ///
 /// # Errors
 /// What the first refused sample is refused for; those before it were pushed. `SampleError::Memory` also where memory
-/// for the list of datagrams is wanting.
+/// for the list of datagrams runs out.
 pub(crate) fn push_samples(
     alloc: Global,
     end: &mut End,

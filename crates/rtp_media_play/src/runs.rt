@@ -35,7 +35,7 @@ use std::alloc::{AllocError, Global};
 ///
 /// # Errors
 /// What the first refused sample is refused for: those before it were pushed, and nothing of the schedule happens.
-/// `SampleError::Memory` where memory is wanting, at a sample, a datagram or a poll, after a part was done.
+/// `SampleError::Memory` where memory runs out, at a sample, a datagram or a poll, after a part was done.
 pub fn play(
     alloc: Global,
     a: &mut End,

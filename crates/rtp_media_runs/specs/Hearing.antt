@@ -26,7 +26,7 @@ pub record Content : Type 0 where
 abbrev pub content_of : ℕ → Bool → ExtensionValues → List ℕ → Content
 content_of time marker values bytes = record { time = time; marker = marker; values = values; bytes = bytes }
 
--- what is known of it under a number
+-- What is known of it under a number.
 abbrev pub meta_of : ℕ → Content → RtpMeta
 meta_of number content = record {
   seq_no = number;
@@ -36,7 +36,7 @@ meta_of number content = record {
       content.values;
 }
 
--- its packet under a number
+-- Its packet under a number.
 abbrev pub packet_of : ℕ → Content → Packet
 packet_of number content = packet_from (meta_of number content) content.bytes
 
@@ -53,7 +53,7 @@ pub record MediaUnit : Type 0 where
 abbrev pub meta_at : List RtpMeta → ℕ → RtpMeta
 meta_at metas k = slice_index_or metas k no_packet.meta
 
--- the unit of packets of which this is known, and that gave these bytes and this extra
+-- The unit of packets of which this is known, and that gave these bytes and this extra.
 abbrev pub unit_from : List RtpMeta → List ℕ → CodecExtra → MediaUnit
 unit_from metas bytes extra = record {
   first = (meta_at metas 0).seq_no;
@@ -79,7 +79,7 @@ pub record Stream : Type 0 where
   pub cutoff : Option ℕ
   pub fragment : Fragment
 
--- a stream that heard nothing
+-- A stream that heard nothing.
 abbrev pub fresh : ℕ → Stream
 fresh hold_back = record { hold_back = hold_back; window = None; held = []; cutoff = None; fragment = None }
 
@@ -91,11 +91,11 @@ abbrev pub answer_by : Option PacketError → List RtpMeta → List ℕ → Code
 answer_by None metas bytes extra = Ok (Some (unit_from metas bytes extra))
 answer_by (Some e) metas bytes extra = Err e
 
--- the answer that packets give, of which this is known and which were read so
+-- The answer that packets give, of which this is known and which were read so.
 abbrev pub answer_of : List RtpMeta → Run → Answer
 answer_of metas run = answer_by run.fault metas run.written run.extra
 
--- what is read of the packets of a frame
+-- What is read of the packets of a frame.
 abbrev pub run_among : Format → Fragment → List Packet → Frame → Run
 run_among format fragment held frame = run_of format fragment (packets_between held frame)
 
@@ -104,11 +104,11 @@ answer_among format fragment held None = Ok None
 answer_among format fragment held (Some frame) =
     answer_of (metas_of (packets_between held frame)) (run_among format fragment held frame)
 
--- the number that the low bits stand for at this stream
+-- The number that the low bits stand for at this stream.
 abbrev pub number_at : Stream → ℕ → ℕ
 number_at s low = widened (greatest_in s.window) low
 
--- the stream after a datagram of a number, which the window refuses or the buffer takes
+-- The stream after a datagram of a number, which the window refuses or the buffer takes.
 abbrev pub taken_by : Stream → ℕ → Content → Stream
 taken_by s number content =
     if is_accepted s.window number
@@ -121,11 +121,11 @@ taken_by s number content =
     }
     else s
 
--- the places of the frame that a poll hands out
+-- The places of the frame that a poll hands out.
 unfoldable pub due : Format → Stream → Option Frame
 due format s = due_frame format s.cutoff s.hold_back s.held
 
--- the stream behind a frame: all up to its end is gone, whether it was read or refused
+-- The stream behind a frame: all up to its end is gone, whether it was read or refused.
 abbrev pub stream_behind : Format → Stream → Option Frame → Stream
 stream_behind format s None = s
 stream_behind format s (Some frame) = record {
@@ -142,7 +142,7 @@ polled format s = stream_behind format s (due format s)
 unfoldable pub poll_answer : Format → Stream → Answer
 poll_answer format s = answer_among format s.fragment s.held (due format s)
 
--- one step on own events
+-- One step on own events.
 abbrev pub heard_step : Format → Stream → Event → Stream
 heard_step format s (Comes low content) = taken_by s (number_at s low) content
 heard_step format s Poll = polled format s
@@ -153,7 +153,7 @@ heard format s [] = []
 heard format s (Comes low content ∷ es) = heard format (taken_by s (number_at s low) content) es
 heard format s (Poll ∷ es) = poll_answer format s ∷ heard format (polled format s) es
 
--- the stream after a list of own events
+-- The stream after a list of own events.
 abbrev pub after_events : Format → Stream → List Event → Stream
 after_events format s [] = s
 after_events format s (e ∷ es) = after_events format (heard_step format s e) es

@@ -20,7 +20,7 @@ abbrev pub sent_or : Sender → Result Sent PacketError → Sent
 sent_or before (Ok sent) = sent
 sent_or before (Err e) = record { packets = []; sender = before }
 
--- what is handed out, without its numbers and what its format tells beside
+-- What is handed out, without its numbers and what its format tells beside.
 abbrev pub timed_unit : Result MediaUnit PacketError → Result Timed PacketError
 timed_unit (Ok u) = Ok (timed u.time u.values u.bytes)
 timed_unit (Err e) = Err e

@@ -11,21 +11,21 @@ pub data HeldTurn : Type 0 where
   Arrive : (number : ℕ) → HeldTurn
   AskAt : (hold_back : ℕ) → HeldTurn
 
--- the turn, whatever is held back
+-- The turn, whatever is held back.
 abbrev pub turn_of : HeldTurn → Turn
 turn_of (Arrive x) = turns.Arrive x
 turn_of (AskAt k) = turns.Ask
 
--- the turn at a stream that holds so many back
+-- The turn at a stream that holds so many back.
 abbrev pub turn_at : ℕ → Turn → HeldTurn
 turn_at k (turns.Arrive x) = Arrive x
 turn_at k turns.Ask = AskAt k
 
--- the stream, holding so many back
+-- The stream, holding so many back.
 abbrev pub holding : ℕ → Stream → Stream
 holding k s = record s { hold_back = k }
 
--- the answers to the polls
+-- The answers to the polls.
 abbrev pub heard_at : Format → Sender → Stream → List HeldTurn → List Answer
 heard_at format sender s [] = []
 heard_at format sender s (Arrive x ∷ ts) = heard_at format sender (taken_by s (number_at s (x % 65536)) (sender x)) ts

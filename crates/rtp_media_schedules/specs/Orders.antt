@@ -15,11 +15,11 @@ IsSane first count past [] = Unit {0}
 IsSane first count past (Arrive x ∷ ts) = IsSaneArrival first count past x × IsSane first count (x ∷ past) ts
 IsSane first count past (Ask ∷ ts) = IsSane first count past ts
 
--- all so many numbers from this one on came
+-- All so many numbers from this one on came.
 abbrev pub has_come : List ℕ → ℕ → ℕ → Bool
 has_come past next size = list_all (is_among past) (range_with_len next size)
 
--- the number of the next frame after a poll, and the frames from there on
+-- The number of the next frame after a poll, and the frames from there on.
 abbrev pub next_after : List ℕ → ℕ → List ℕ → ℕ
 next_after past next [] = next
 next_after past next (size ∷ sizes) = if has_come past next size then next + size else next

@@ -23,18 +23,18 @@ abbrev pub AreSentAs : Format → List SentSample → Type 0
 AreSentAs format [] = Unit {0}
 AreSentAs format (s ∷ ss) = AreFramesOf format s.packets s.units × AreSentAs format ss
 
--- all their packets
+-- All their packets.
 abbrev pub packets_of : List SentSample → List MarkedPacket
 packets_of ss = flat_map (λ s. s.packets) ss
 
 abbrev pub contents_by : ℕ → ExtensionValues → List MarkedPacket → List Content
 contents_by time values ps = map (λ p. content_of time p.marker values p.payload) ps
 
--- what their datagrams bring, in order
+-- What their datagrams bring, in order.
 abbrev pub datagrams : List SentSample → List Content
 datagrams ss = flat_map (λ s. contents_by s.time s.values s.packets) ss
 
--- the units of a sample with datagrams from n on
+-- The units of a sample with datagrams from n on.
 abbrev pub units_in : ℕ → SentSample → List Canonical
 units_in n s = map (λ parts. record {
   first = n;
@@ -50,17 +50,17 @@ abbrev pub canonical_units : ℕ → List SentSample → List Canonical
 canonical_units n [] = []
 canonical_units n (s ∷ ss) = units_in n s ++ canonical_units (n + length s.packets) ss
 
--- how many packets there are up to each tail, of which so many are open
+-- How many packets there are up to each tail, of which so many are open.
 abbrev pub sizes_from : Format → ℕ → List MarkedPacket → List ℕ
 sizes_from format open_ [] = []
 sizes_from format open_ (p ∷ ps) = if format.tail p.marker p.payload then (open_ + 1) ∷ sizes_from format 0 ps
     else sizes_from format (open_ + 1) ps
 
--- how many datagrams each unit has
+-- How many datagrams each unit has.
 abbrev pub frame_sizes : Format → List SentSample → List ℕ
 frame_sizes format ss = sizes_from format 0 (packets_of ss)
 
--- a canonical unit, without its numbers
+-- A canonical unit, without its numbers.
 abbrev pub whole_unit : Canonical → Timed
 whole_unit c = timed c.time c.values (joined c.parts)
 
@@ -78,7 +78,7 @@ sent_by coding limit sender (x ∷ xs) =
     }
     ∷ sent_by coding limit (sent_or sender (coding.packing.pack sender limit x.bytes)).sender xs
 
--- each of them is well-formed at the limit
+-- Each of them is well-formed at the limit.
 abbrev pub AreWellFormed : Coding → ℕ → List Timed → Type 0
 AreWellFormed coding limit [] = Unit {0}
 AreWellFormed coding limit (x ∷ xs) = coding.IsWellFormed limit x.bytes × AreWellFormed coding limit xs

@@ -19,32 +19,32 @@ pub record SentFrame : Type 0 where
   pub packets : List MarkedPacket
   pub parts : List (List ℕ)
 
--- each is the frame of its parts in this format
+-- Each is the frame of its parts in this format.
 abbrev pub AreFrames : Format → List SentFrame → Type 0
 AreFrames format [] = Unit {0}
 AreFrames format (f ∷ fs) = IsFrameOf format f.packets f.parts × AreFrames format fs
 
--- how many packets each has
+-- How many packets each has.
 abbrev pub sizes : List SentFrame → List ℕ
 sizes fs = map (λ f. length f.packets) fs
 
--- how many packets they have
+-- How many packets they have.
 abbrev pub total : List ℕ → ℕ
 total [] = 0
 total (z ∷ zs) = z + total zs
 
--- what a frame's datagrams bring
+-- What a frame's datagrams bring.
 abbrev pub contents_in : SentFrame → List Content
 contents_in f = map (λ p. content_of f.time p.marker f.values p.payload) f.packets
 
--- the contents of all datagrams, in order
+-- The contents of all datagrams, in order.
 abbrev pub contents : List SentFrame → List Content
 contents fs = flat_map contents_in fs
 
 abbrev pub no_content : Content
 no_content = content_of 0 false absent []
 
--- what the datagram of a number brings, where these are numbered from the first on
+-- What the datagram of a number brings, where these are numbered from the first on.
 abbrev pub numbered : ℕ → List Content → Sender
 numbered first cs x = slice_index_or cs (x - first) no_content
 
@@ -60,16 +60,16 @@ pub record Canonical : Type 0 where
   pub values : ExtensionValues
   pub parts : List (List ℕ)
 
--- the canonical unit of a frame that is numbered from n on
+-- The canonical unit of a frame that is numbered from n on.
 abbrev pub canonical : ℕ → SentFrame → Canonical
 canonical n f = record { first = n; end = n + length f.packets; time = f.time; values = f.values; parts = f.parts }
 
--- the canonical units of frames that are numbered from n on
+-- The canonical units of frames that are numbered from n on.
 abbrev pub canonical_from : ℕ → List SentFrame → List Canonical
 canonical_from n [] = []
 canonical_from n (f ∷ fs) = canonical n f ∷ canonical_from (n + length f.packets) fs
 
--- a canonical unit as it is handed out: whole, with what its format tells beside
+-- A canonical unit as it is handed out: whole, with what its format tells beside.
 abbrev pub whole : Canonical → CodecExtra → MediaUnit
 whole c extra = record {
   first = c.first;

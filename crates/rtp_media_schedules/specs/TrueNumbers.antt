@@ -7,7 +7,7 @@ use Rattle.rtp_media_schedules.specs.Turns.{Sender, Turn, Arrive, Ask, greatest_
 use Rattle.rtp_media_runs.specs.Hearing.{Stream, number_at}
 use Rattle.rtp_media_schedules.specs.Orders.{IsSaneArrival}
 
--- what came in some turns, newest first, behind what came before
+-- What came in some turns, newest first, behind what came before.
 abbrev pub arrived : List ℕ → List Turn → List ℕ
 arrived past [] = past
 arrived past (Arrive x ∷ ts) = arrived (x ∷ past) ts
@@ -24,12 +24,12 @@ AreRecorded [] (Some w) = ⊥
 AreRecorded (y ∷ ys) None = ⊥
 AreRecorded (y ∷ ys) (Some w) = IsRecorded (y ∷ ys) w
 
--- numbers that rise, from lo on and below hi
+-- Numbers that rise, from lo on and below hi.
 abbrev pub Rises : ℕ → ℕ → List ℕ → Type 0
 Rises lo hi [] = Unit {0}
 Rises lo hi (x ∷ xs) = (lo ≤ x) × (x < hi) × Rises (x + 1) hi xs
 
--- the first number that is not done with
+-- The first number that is not done with.
 abbrev pub behind : ℕ → Option ℕ → ℕ
 behind first None = first
 behind first (Some c) = c + 1

@@ -9,16 +9,16 @@ pub data Turn : Type 0 where
   Arrive : (number : ℕ) → Turn
   Ask : Turn
 
--- what the sender's datagrams bring, by true number
+-- What the sender's datagrams bring, by true number.
 abbrev pub Sender : Type 0
 Sender = ℕ → Content
 
--- what a turn is to the stream, which sees 16 bits of the number (RFC 3550 5.1)
+-- What a turn is to the stream, which sees 16 bits of the number (RFC 3550 5.1).
 abbrev pub event_of : Sender → Turn → Event
 event_of sender (Arrive x) = Comes (x % 65536) (sender x)
 event_of sender Ask = Poll
 
--- is this number among those?
+-- Is this number among those?
 abbrev pub is_among : List ℕ → ℕ → Bool
 is_among [] x = false
 is_among (y ∷ ys) x = (x == y) || is_among ys x
@@ -40,15 +40,15 @@ pub record IsGoodArrival (first count : ℕ) (past : List ℕ) (x : ℕ) : Type 
   pub near : IsNear past x
   pub in_reach : (y : ℕ) → first ≤ y → y + 128 ≤ x → is_among past y ≡ true
 
--- each number of the stream came
+-- Each number of the stream came.
 abbrev pub AllCame : ℕ → ℕ → List ℕ → Type 0
 AllCame first count past = (y : ℕ) → first ≤ y → y < first + count → is_among past y ≡ true
 
--- good arrivals, of all numbers in the end
+-- Good arrivals, of all numbers in the end.
 abbrev pub AreGoodArrivals : ℕ → ℕ → List ℕ → List ℕ → Type 0
 AreGoodArrivals first count past [] = AllCame first count past
 AreGoodArrivals first count past (x ∷ xs) = IsGoodArrival first count past x × AreGoodArrivals first count (x ∷ past) xs
 
--- how many of the numbers that came were not handed out, where next is the first of these
+-- How many of the numbers that came were not handed out, where next is the first of these.
 abbrev pub waiting : ℕ → ℕ → List ℕ → ℕ → ℕ
 waiting first count past next = count_by (is_among past) (range_with_len next (first + count - next))

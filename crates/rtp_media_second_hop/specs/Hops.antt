@@ -29,7 +29,7 @@ pub record Hop : Type 0 where
   pub params : StreamParams
   pub hold_back : ℕ
 
--- the sending stream
+-- The sending stream.
 abbrev pub sender_over : Hop → Sending
 sender_over h = new_sender h.sender h.mid h.ssrc h.pt h.params
 
@@ -49,7 +49,7 @@ abbrev pub IsTame : Hop → List Sample → List Event → Type 0
 IsTame h samples schedule =
     IsTameSchedule (sender_over h) samples h.hold_back schedule (answers_over h samples schedule)
 
--- what its row says of its payloads, its map of header extensions, and the most bytes of a packet
+-- What its row says of its payloads, its map of header extensions, and the most bytes of a packet.
 abbrev pub row_over : Hop → RowFormat
 row_over h = agreed_format h.sender h.mid h.pt
 

@@ -25,7 +25,7 @@ pub record FitsPacket (h : Hop) (x : Sample) : Type 0 where
   pub fits : length x.bytes ≤ limit_over h
   pub values : AreValues x.values
 
--- the bytes of what is handed out
+-- The bytes of what is handed out.
 abbrev pub bytes_out : Result MediaUnit PacketError → Result (List ℕ) PacketError
 bytes_out (Ok u) = Ok u.bytes
 bytes_out (Err e) = Err e

@@ -6,7 +6,7 @@ use Rattle.rtp_media_ends.specs.declared.params.StreamParams.{StreamParams}
 use Rattle.rtp_media_play.specs.Units.{packet_limit_of}
 use Rattle.rtp_media_second_hop.specs.Hops.{Hop}
 
--- the stream opened with other parameters
+-- The stream opened with other parameters.
 abbrev pub opened_with : Hop → StreamParams → Hop
 opened_with h params = record h { params = params }
 

@@ -123,11 +123,11 @@ is_named ssrcs ssrc = list_any (λ s. s == ssrc) ssrcs
 abbrev pub IsSetOf : List ℕ → BTreeSet ℕ → Type 0
 IsSetOf ssrcs set = (ssrc : ℕ) → contains nat_cmp set ssrc ≡ is_named ssrcs ssrc
 
--- one codec at one clock rate with one number of channels
+-- One codec at one clock rate with one number of channels.
 abbrev pub same_codec : CodecSpec → CodecSpec → Bool
 same_codec a b = is_codec a.codec b.codec && ((a.clock_rate == b.clock_rate) && same a.channels b.channels)
 
--- one layout of payloads
+-- One layout of payloads.
 abbrev pub same_layout : FormatParams → FormatParams → Bool
 same_layout a b = same_flag a.octet_align b.octet_align && same a.sprop_max_don_diff b.sprop_max_don_diff
 

@@ -16,7 +16,7 @@ use Rattle.rtp_media_sections.specs.Extensions.{answered_extmaps}
 use Rattle.rtp_media_sections.specs.Lines.{section_line}
 use Rattle.rtp_media_sections.specs.Sections.{Wanted}
 
--- the direction that sends and receives so
+-- The direction that sends and receives so.
 abbrev pub flow : Bool → Bool → Direction
 flow true true = SendRecv
 flow true false = SendOnly
@@ -28,7 +28,7 @@ flow false false = Inactive
 abbrev pub answered_direction : Direction → Direction → Direction
 answered_direction offered wanted = flow (sends wanted && receives offered) (receives wanted && sends offered)
 
--- the locked row of a type
+-- The locked row of a type.
 abbrev pub locked_row : List Row → Option ℕ → Option Row
 locked_row rows None = None
 locked_row rows (Some pt) = find (λ row. row.locked && (row.pt == pt)) rows

@@ -18,7 +18,7 @@ extmap_line entry = ExtMap entry.0 entry.1
 abbrev pub extmap_lines : Numbering → List MediaAttribute
 extmap_lines exts = map extmap_line (numbered exts 1 16)
 
--- neither a blank nor CR nor LF
+-- Neither a blank nor CR nor LF.
 abbrev pub is_word_byte : ℕ → Bool
 is_word_byte b = not (b == 32) && (not (b == 13) && not (b == 10))
 
@@ -29,7 +29,7 @@ is_word bytes = not (length bytes == 0) && list_all is_word_byte bytes
 abbrev pub is_writable_map : Numbering → Bool
 is_writable_map exts = list_all (λ entry. is_word (uri_of entry.1)) (numbered exts 1 16)
 
--- whether a map has a place for a line's number
+-- Whether a map has a place for a line's number.
 abbrev pub is_numbered : ℕ → Bool
 is_numbered id = nat_le 1 id && nat_le id 16
 

@@ -69,7 +69,7 @@ impl AgreedSection {
     ///
     /// # Errors
     ///
-    /// `AllocError` where memory is wanting.
+    /// `AllocError` where memory runs out.
     pub fn fixed(alloc: Global) -> Result<Self, AllocError>
         ensures { IfOk result (λ a. a ≡ fixed_section) }
     {
@@ -157,7 +157,7 @@ impl AgreedSection {
 ///
 /// # Errors
 ///
-/// `AllocError` where memory is wanting.
+/// `AllocError` where memory runs out.
 #[tactic(auto, unfolding(crate::specs::Agreement::agreed_by_answer))]
 pub fn agreed_by_answer(
     alloc: Global,
@@ -184,7 +184,7 @@ pub fn agreed_by_answer(
 ///
 /// # Errors
 ///
-/// `AllocError` where memory is wanting.
+/// `AllocError` where memory runs out.
 #[tactic(auto, unfolding(crate::specs::Agreement::agreed_by_accept))]
 pub fn agreed_by_accept(
     alloc: Global,

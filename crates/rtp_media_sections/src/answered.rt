@@ -45,7 +45,7 @@ fn locked_at(rows: &[PayloadParams], pt: Pt) -> Option<PayloadParams>
         .find(|row| row.is_locked() && row.pt().get() == pt.get())
 }
 
-// The locked row of a type, if there is one.
+/// The locked row of a type, if there is one.
 fn locked_row(rows: &[PayloadParams], pt: Option<Pt>) -> Option<PayloadParams>
     ensures { result ≡ locked_row rows.now pt }
 {
@@ -71,7 +71,7 @@ fn push_once(rows: &mut Vec<PayloadParams>, row: &PayloadParams) -> Result<(), A
     Ok(())
 }
 
-// Puts the row under whose type an offered one is used behind the others, unless it is there.
+/// Puts the row under whose type an offered one is used behind the others, unless it is there.
 #[tactic(auto, unfolding(crate::specs::Answered::row_answering))]
 fn push_answering(
     rows: &mut Vec<PayloadParams>,

@@ -60,7 +60,7 @@ fn is_numbered(id: u8) -> bool
     id >= 1 && id <= MAX_ID
 }
 
-// A line again, if an end with this map answers it.
+/// A line again, if an end with this map answers it.
 #[tactic(auto, unfolding(crate::specs::Extensions::is_answered))]
 fn push_answered(
     alloc: Global,

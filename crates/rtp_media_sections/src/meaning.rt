@@ -46,7 +46,7 @@ fn same_layout(a: &FormatParams, b: &FormatParams) -> bool
         && same_order(a.sprop_max_don_diff, b.sprop_max_don_diff)
 }
 
-// Whether two rows mean the same to a stream.
+/// Whether two rows mean the same to a stream.
 fn means_same(own: &PayloadParams, row: &PayloadParams) -> bool
     ensures { result ≡ means_same own.now row.now }
 {

@@ -67,7 +67,7 @@ fn same_shape(a: &Shape, b: &Shape) -> bool
     a.mid.as_str() == b.mid.as_str() && same_kind(a.kind, b.kind)
 }
 
-// Whether the sections of the first list are those of the second one, place by place.
+/// Whether the sections of the first list are those of the second one, place by place.
 fn are_same(some: &[Shape], others: &[Shape]) -> bool
     requires { length some.now ≤ length others.now }
     ensures { result ≡ list_all same_shape (zip some.now others.now) }

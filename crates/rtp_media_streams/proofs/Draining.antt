@@ -1,4 +1,4 @@
--- Polls until None or want of memory, as far as the loop has come.
+-- Polls until None or lack of memory, as far as the loop has come.
 use Rattle.std.proofs.Common.{◌≡◌, ◌≢◌, ℕ, zero, suc, refl, sym, ◌∙◌, ap, subst, arith, List, [], ◌∷◌, ◌++◌, map}
 use Rattle.std.proofs.Common.{replicate, append_assoc, append-nil, inl, inr}
 use Rattle.std.specs.Prelude.{Option, Some, None, Result, Ok, Err}
@@ -54,7 +54,7 @@ some-polls-short format start now after is short = record {
   stops = inr (subst (λ (s : Stream). IsInterrupted format s after) is.reached short);
 }
 
--- polls until None or want of memory are some polls
+-- polls until None or lack of memory are some polls
 pub polled-some : (format : Format) {s t : Stream} {os : Answers} → IsPolled format s os t → IsPolledSome format s t
 polled-some format (Silent none) = record { count = 0; stops = inl refl }
 polled-some format (HandsOut some rest) =
@@ -119,7 +119,7 @@ module _ (format : Format) where
   something None metas bytes extra h = cc
   something (Some e) metas bytes extra h = cc
 
-  -- memory is wanting only where a frame is ready
+  -- memory runs out only where a frame is ready
   wants-something : (s t : Stream) → IsInterrupted format s t → poll_answer format s ≢ Ok None
   unfolding poll_answer
   wants-something s t wants none =

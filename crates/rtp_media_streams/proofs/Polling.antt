@@ -143,7 +143,7 @@ module _ (format : Format) (s : Stream) where
       length-drop faults.frame.end s.held,
     )
 
-  -- memory was wanting
+  -- memory ran out
   pub interrupted : (after : Fragment) (new : List Packet) (now : Option ℕ) (hold_back : ℕ) → hold_back ≡ s.hold_back
       → PopKeeps format s.fragment after s.held new due_now s.cutoff now
       → IsInterrupted format s (kept hold_back new now after)

@@ -5,14 +5,14 @@ use Rattle.rtp_media_runs.specs.Hearing.{Answer, Stream, poll_answer, polled}
 use Rattle.rtp_media_streams.specs.Receiving.{Receiving, with_stream}
 use Rattle.rtp_media_streams.specs.Rows.{format_of}
 
--- the stream that holds so many complete frames back
+-- The stream that holds so many complete frames back.
 abbrev pub holding : ℕ → Stream → Stream
 holding n s = record { hold_back = n; window = s.window; held = s.held; cutoff = s.cutoff; fragment = s.fragment }
 
 abbrev pub drain_answer : Format → Stream → Answer
 drain_answer format s = poll_answer format (holding 0 s)
 
--- the stream after it, which holds as many back as before
+-- The stream after it, which holds as many back as before.
 abbrev pub drained : Format → Stream → Stream
 drained format s = holding s.hold_back (polled format (holding 0 s))
 

@@ -16,12 +16,12 @@ use Rattle.rtp_media_streams.specs.declared.errors.PollFault.TheVariants.{Memory
 abbrev pub PollResult : Type 0
 PollResult = Result (Option MediaUnit) PollFault
 
--- an answer as a poll gives it where memory is found
+-- An answer as a poll gives it where memory is found.
 abbrev pub given : Answer → PollResult
 given (Ok unit) = Ok unit
 given (Err e) = Err (Payload e)
 
--- Memory was wanting for a frame that is due: all stays but the fragment, which is the one that some of its
+-- Memory ran out for a frame that is due: all stays but the fragment, which is the one that some of its
 -- packets leave open.
 pub record IsInterrupted (format : Format) (before after : Stream) : Type 0 where
   pub frame : Frame
@@ -33,7 +33,7 @@ pub record IsInterrupted (format : Format) (before after : Stream) : Type 0 wher
 abbrev pub Answers : Type 0
 Answers = List (Result MediaUnit PollFault)
 
--- Polls until None or want of memory: what they answer one after the other, and the stream after them.
+-- Polls until None or lack of memory: what they answer one after the other, and the stream after them.
 pub data IsPolled (format : Format) : Stream → Answers → Stream → Type 0 where
   Silent : {s : Stream} (none : poll_answer format s ≡ Ok None) → IsPolled format s [] s
   HandsOut : {s t : Stream} {u : MediaUnit} {os : Answers} (some : poll_answer format s ≡ Ok (Some u))
@@ -42,27 +42,27 @@ pub data IsPolled (format : Format) : Stream → Answers → Stream → Type 0 w
       (rest : IsPolled format (polled format s) os t) → IsPolled format s (Err (Payload e) ∷ os) t
   WantsMemory : {s t : Stream} (wants : IsInterrupted format s t) → IsPolled format s (Err Memory ∷ []) t
 
--- the stream after so many polls
+-- The stream after so many polls.
 abbrev pub after_polls : Format → ℕ → Stream → Stream
 after_polls format zero s = s
 after_polls format (suc n) s = after_polls format n (polled format s)
 
--- A stream was polled some times, or none, and nothing else; at the last poll memory may have been wanting.
+-- A stream was polled some times, or none, and nothing else; at the last poll memory may have run out.
 pub record IsPolledSome (format : Format) (before after : Stream) : Type 0 where
   pub count : ℕ
   pub stops : (after ≡ after_polls format count before) ⊎ IsInterrupted format (after_polls format count before) after
 
--- what is handed out, without its numbers and what its format tells beside
+-- What is handed out, without its numbers and what its format tells beside.
 abbrev pub timed_answer : Result MediaUnit PollFault → Result Timed PollFault
 timed_answer (Ok u) = Ok (timed u.time u.values u.bytes)
 timed_answer (Err e) = Err e
 
--- The answers are the first of these units, but not all, and then want of memory.
+-- The answers are the first of these units, but not all, and then lack of memory.
 pub record IsCutShort (units : List Timed) (answers : Answers) : Type 0 where
   pub count : ℕ
   pub stopped : count < length units
   pub answers_are : map timed_answer answers ≡ map Ok (take count units) ++ Err Memory ∷ []
 
--- The answers are these units, unless memory was wanting.
+-- The answers are these units, unless memory ran out.
 abbrev pub AreAnswered : List Timed → Answers → Type 0
 AreAnswered units answers = (map timed_answer answers ≡ map Ok units) ⊎ IsCutShort units answers

@@ -24,7 +24,7 @@ pub record Receiving : Type 0 where
   pub row : RowFormat
   pub stream : Stream
 
--- a stream that heard nothing
+-- A stream that heard nothing.
 abbrev pub opened_receiver : ℕ → PayloadTypes → Numbering → RowFormat → ℕ → Receiving
 opened_receiver ssrc types map row hold_back = record {
   ssrc = ssrc;
@@ -34,7 +34,7 @@ opened_receiver ssrc types map row hold_back = record {
   stream = fresh hold_back;
 }
 
--- the same stream with other things kept
+-- The same stream with other things kept.
 abbrev pub with_stream : Receiving → Stream → Receiving
 with_stream r s = record { ssrc = r.ssrc; types = r.types; map = r.map; row = r.row; stream = s }
 
@@ -46,11 +46,11 @@ values_of_header (Some h) = h.ext_vals
 abbrev pub values_read : Numbering → List ℕ → ExtensionValues
 values_read map datagram = values_of_header (header_in map datagram)
 
--- whether datagrams of this SSRC and type are its own
+-- Whether datagrams of this SSRC and type are its own.
 abbrev pub is_own : Receiving → ℕ → ℕ → Bool
 is_own r ssrc pt = (r.ssrc == ssrc) && has_type r.types pt
 
--- whether its datagrams could be those of another stream of this SSRC and these payload types
+-- Whether its datagrams could be those of another stream of this SSRC and these payload types.
 abbrev pub conflicts_with : Receiving → ℕ → PayloadTypes → Bool
 conflicts_with r ssrc types = (r.ssrc == ssrc) && share_type r.types types
 
@@ -60,19 +60,19 @@ abbrev pub media_payload : PayloadTypes → RtpHeader → List ℕ → Option (L
 media_payload types header datagram =
     option_and_then (unwrapped types header.payload_type) (unpadded header.has_padding (payload_in header datagram))
 
--- the number of a datagram with these low bits, where it is taken
+-- The number of a datagram with these low bits, where it is taken.
 abbrev pub taken_number : Stream → ℕ → Option ℕ
 taken_number s low = if is_accepted s.window (number_at s low) then Some (number_at s low) else None
 
--- the stream after it
+-- The stream after it.
 abbrev pub arrived : Stream → ℕ → ℕ → Bool → ExtensionValues → List ℕ → Stream
 arrived s low time marker values payload = taken_by s (number_at s low) (content_of time marker values payload)
 
--- the stream after a poll
+-- The stream after a poll.
 abbrev pub polled_receiver : Receiving → Receiving
 polled_receiver r = with_stream r (polled (format_of r.row) r.stream)
 
--- the stream of a window, a buffer and an open fragment
+-- The stream of a window, a buffer and an open fragment.
 abbrev pub stream_of : {D : Type 0} → Option Window → Buffered D → Fragment → Stream
 stream_of window b fragment = record {
   hold_back = b.hold_back;

@@ -9,7 +9,7 @@ use Rattle.payload_core_red.specs.RedSending.{masked}
 use Rattle.payload_core_red.specs.RedWrapping.{levels}
 use Rattle.rtp_media_streams.specs.declared.types.PayloadTypes.{PayloadTypes}
 
--- the first of these blocks, as many as so many bytes have room for
+-- The first of these blocks, as many as so many bytes have room for.
 abbrev pub fitting : ℕ → List Block → List Block
 fitting room [] = []
 fitting room (b ∷ bs) = if nat_le (4 + length b.payload) room then b ∷ fitting (room - (4 + length b.payload)) bs
@@ -31,12 +31,12 @@ wraps pt budget r [] = []
 wraps pt budget r (o ∷ os) =
     outgoing (wrapped pt budget r o) o.marker o.time o.values ∷ wraps pt budget (keeping r pt o.payload o.time) os
 
--- what is kept after them
+-- What is kept after them.
 abbrev pub kept_after : ℕ → Redundancy → List Outgoing → Redundancy
 kept_after pt r [] = r
 kept_after pt r (o ∷ os) = kept_after pt (keeping r pt o.payload o.time) os
 
--- the bytes of the primary payload, where it has this type
+-- The bytes of the primary payload, where it has this type.
 abbrev pub primary_of : ℕ → List Item → Option (List ℕ)
 primary_of pt [] = None
 primary_of pt (item ∷ items) = if item.primary then (if item.pt == pt then Some item.payload else None)

@@ -29,7 +29,7 @@ format_of row = (coding_in row false false).format
 unfoldable pub packing_of : RowFormat → Bool → Bool → Packing
 packing_of row has_id for_browsers = (coding_in row has_id for_browsers).packing
 
--- what a row's packetizer keeps before the first sample, with a first picture id or none
+-- What a row's packetizer keeps before the first sample, with a first picture id or none.
 unfoldable pub first_state : RowFormat → Option ℕ → Sender
 first_state row picture_id = first_sender (unwrap_or picture_id 0) row.codec
 

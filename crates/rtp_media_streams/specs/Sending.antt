@@ -27,7 +27,7 @@ use Rattle.rtp_media_streams.specs.declared.errors.SampleError.TheVariants.{Payl
 -- the numbers of its header extensions (RFC 8285 5), what its row says of its payloads and whether they have
 -- picture ids and the forms for browsers, the number of its next datagram, the most bytes of a payload and of a
 -- datagram, what its packetizer keeps between samples, what it keeps to send once more, where it adds redundancy
--- (RFC 2198), and whether memory was wanting in it.
+-- (RFC 2198), and whether memory ran out in it.
 pub record Sending : Type 0 where
   pub ssrc : ℕ
   pub types : PayloadTypes
@@ -43,7 +43,7 @@ pub record Sending : Type 0 where
   pub redundancy : Option Redundancy
   pub failed : Bool
 
--- a stream that sent nothing
+-- A stream that sent nothing.
 abbrev pub opened_sender : ℕ → PayloadTypes → Numbering → RowFormat → Option ℕ → Bool → ℕ → ℕ → ℕ → Sending
 opened_sender ssrc types map row picture_id for_browsers first mtu limit = record {
   ssrc = ssrc;
@@ -61,7 +61,7 @@ opened_sender ssrc types map row picture_id for_browsers first mtu limit = recor
   failed = false;
 }
 
--- the stream that adds redundancy at these distances, under this type
+-- The stream that adds redundancy at these distances, under this type.
 abbrev pub redundant_sender : Sending → ℕ → List ℕ → Sending
 redundant_sender s red distances = record s
     { wire_type = red; redundancy = Some (record { distances = distances; history = [] }) }
@@ -75,7 +75,7 @@ IsTypedBy types wire (Some r) = (types.red ≡ Some wire) × (wire ≢ types.pt)
 abbrev pub IsTyped : Sending → Type 0
 IsTyped s = IsTypedBy s.types s.wire_type s.redundancy
 
--- whether its datagrams could be those of another stream of this SSRC and these payload types
+-- Whether its datagrams could be those of another stream of this SSRC and these payload types.
 abbrev pub conflicts_with : Sending → ℕ → PayloadTypes → Bool
 conflicts_with s ssrc types = (s.ssrc == ssrc) && share_type s.types types
 
@@ -118,7 +118,7 @@ timestamp s time = rebased_ticks time (rtp_rate s.row) % 2 ^ 32
 abbrev pub carried : Sending → ExtensionValues → ExtensionValues
 carried s values = (image s.map (header_of s 0 false 0 values)).ext_vals
 
--- the most bytes of a packet, with or without redundancy: one byte less where it is added
+-- The most bytes of a packet, with or without redundancy: one byte less where it is added.
 abbrev pub limit_of_packets : ℕ → Option Redundancy → ℕ
 limit_of_packets mtu None = mtu
 limit_of_packets mtu (Some r) = mtu - 1
@@ -126,11 +126,11 @@ limit_of_packets mtu (Some r) = mtu - 1
 abbrev pub packet_limit : Sending → ℕ
 packet_limit s = limit_of_packets s.mtu s.redundancy
 
--- how the codec cuts a sample, or why it refuses it
+-- How the codec cuts a sample, or why it refuses it.
 abbrev pub packed : Sending → List ℕ → Result Sent PacketError
 packed s bytes = (packing_of s.row s.has_id s.for_browsers).pack s.packetizer (packet_limit s) bytes
 
--- the packets of a sample, and what the packetizer keeps after it
+-- The packets of a sample, and what the packetizer keeps after it.
 abbrev pub sent : Sending → List ℕ → Sent
 sent s bytes = sent_or s.packetizer (packed s bytes)
 
@@ -151,7 +151,7 @@ on_wire pt mtu (Some r) os = wraps pt mtu r os
 abbrev pub wire_payloads : Sending → List Outgoing → List Outgoing
 wire_payloads s os = on_wire s.types.pt s.mtu s.redundancy os
 
--- what is kept after payloads
+-- What is kept after payloads.
 abbrev pub still_kept : ℕ → Option Redundancy → List Outgoing → Option Redundancy
 still_kept pt None os = None
 still_kept pt (Some r) os = Some (kept_after pt r os)
@@ -160,11 +160,11 @@ still_kept pt (Some r) os = Some (kept_after pt r os)
 abbrev pub sent_datagrams : Sending → Time → ExtensionValues → List ℕ → List (List ℕ)
 sent_datagrams s time values bytes = datagrams_from s s.next (wire_payloads s (sent_payloads s time values bytes))
 
--- the stream with another next number, and other things kept for later samples
+-- The stream with another next number, and other things kept for later samples.
 abbrev pub with_next : Sending → ℕ → Sender → Option Redundancy → Sending
 with_next s next packetizer kept = record s { next = next; packetizer = packetizer; redundancy = kept }
 
--- the stream after these payloads of a sample
+-- The stream after these payloads of a sample.
 abbrev pub after_payloads : Sending → Sender → List Outgoing → Sending
 after_payloads s packetizer os = with_next s (s.next + length os) packetizer (still_kept s.types.pt s.redundancy os)
 
@@ -172,7 +172,7 @@ after_payloads s packetizer os = with_next s (s.next + length os) packetizer (st
 abbrev pub after_sample : Sending → Time → ExtensionValues → List ℕ → Sending
 after_sample s time values bytes = after_payloads s (sent s bytes).sender (sent_payloads s time values bytes)
 
--- Memory was wanting in the stream: it sends no more. What it keeps for later samples may have moved on, and
+-- Memory ran out in the stream: it sends no more. What it keeps for later samples may have moved on, and
 -- nothing else changes.
 abbrev pub HasFailed : Sending → Sending → Type 0
 HasFailed before after = after ≡ record before
@@ -183,7 +183,7 @@ HasFailed before after = after ≡ record before
 abbrev pub longest_datagram : Sending → ExtensionValues → ℕ
 longest_datagram s values = s.mtu + two_byte_length s.map (header_of s 0 false 0 values)
 
--- why a codec refuses a sample
+-- Why a codec refuses a sample.
 abbrev pub payload_refusal : Result Sent PacketError → Option SampleError
 payload_refusal (Ok sent) = None
 payload_refusal (Err e) = Some (Payload e)
@@ -196,12 +196,12 @@ refusal_before_payload s time values =
     else if nat_lt s.limit (longest_datagram s values) then Some LimitTooSmall
     else None
 
--- the first refusal, where there is one
+-- The first refusal, where there is one.
 abbrev pub first_refusal : Option SampleError → Option SampleError → Option SampleError
 first_refusal None later = later
 first_refusal (Some e) later = Some e
 
--- Why a sample is refused, want of memory aside: the first that holds.
+-- Why a sample is refused, lack of memory aside: the first that holds.
 abbrev pub refusal_of_sample : Sending → Time → ExtensionValues → List ℕ → Option SampleError
 refusal_of_sample s time values bytes = first_refusal (refusal_before_payload s time values)
     (payload_refusal (packed s bytes))
@@ -218,7 +218,7 @@ datagrams_of s [] = []
 datagrams_of s (x ∷ xs) = sent_datagrams s x.time x.values x.bytes
     ++ datagrams_of (after_sample s x.time x.values x.bytes) xs
 
--- the stream after them
+-- The stream after them.
 abbrev pub after_samples : Sending → List Sample → Sending
 after_samples s [] = s
 after_samples s (x ∷ xs) = after_samples (after_sample s x.time x.values x.bytes) xs

@@ -6,7 +6,7 @@ abbrev pub is_type : Option ℕ → ℕ → Bool
 is_type None pt = false
 is_type (Some type) pt = type == pt
 
--- whether one of them is this
+-- Whether one of them is this.
 abbrev pub has_type : PayloadTypes → ℕ → Bool
 has_type types pt = (types.pt == pt) || is_type types.red pt
 
@@ -14,6 +14,6 @@ abbrev pub has_red_type : PayloadTypes → Option ℕ → Bool
 has_red_type types None = false
 has_red_type types (Some red) = has_type types red
 
--- whether they have one in common
+-- Whether they have one in common.
 abbrev pub share_type : PayloadTypes → PayloadTypes → Bool
 share_type types others = has_type types others.pt || has_red_type types others.red

@@ -7,7 +7,7 @@ use thiserror::Error;
 /// Why a sample is not sent; of several reasons the first listed is answered.
 #[derive(Clone, Copy, Debug, PartialEq, Eq, Drop, Error)]
 pub enum SampleError {
-    /// Memory was wanting in the stream before, or its numbers are used up.
+    /// Memory ran out in the stream before, or its numbers are used up.
     #[error("the stream sends no more")]
     StreamFailed,
     /// The time does not fit 64 bits at the stream's clock.
@@ -19,7 +19,7 @@ pub enum SampleError {
     /// The codec does not take the sample.
     #[error("the sample is refused: {0}")]
     Payload(PacketError),
-    /// Memory was wanting.
+    /// Out of memory.
     #[error("out of memory")]
     Memory,
 }
@@ -41,7 +41,7 @@ pub enum PollFault {
     /// The payloads of the frame do not fit their format.
     #[error("the payload is refused: {0}")]
     Payload(PacketError),
-    /// Memory was wanting.
+    /// Out of memory.
     #[error("out of memory")]
     Memory,
 }

@@ -113,7 +113,7 @@ fn record(window: &mut Option<SeqNoWindow>, number: SeqNo)
     }
 }
 
-/// Holds a packet; the only refusal is want of memory.
+/// Holds a packet; the only refusal is lack of memory.
 fn hold(
     buffer: &mut DepacketizingBuffer<CodecDepacketizer<NotBoxed>>,
     meta: RtpMeta,
@@ -373,8 +373,8 @@ impl ReceivingStream {
         drain(&mut self.buffer)
     }
 
-    /// Polls until no unit is ready or memory for one is wanting, and answers what the polls answered, in
-    /// order. Where memory for that list is wanting, what was polled is lost, and nothing else changes.
+    /// Polls until no unit is ready or memory for one runs out, and answers what the polls answered, in
+    /// order. Where memory for that list runs out, what was polled is lost, and nothing else changes.
     pub fn poll_all(&mut self) -> Result<Vec<Result<Unit, PollFault>>, AllocError>
         ensures polled { IfOk result (λ answers. IsPolled (format_of self.old.row) self.old.stream answers.items
             self.new.stream) }

@@ -15,7 +15,7 @@ pub struct PayloadTypes {
     pub red: Option<Pt>,
 }
 
-// Whether this is the type, where there is one.
+/// Whether this is the type, where there is one.
 fn is_type(type_of: Option<Pt>, pt: Pt) -> bool
     ensures { result ≡ is_type type_of pt }
 {

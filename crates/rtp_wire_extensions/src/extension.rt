@@ -159,7 +159,7 @@ impl Extension {
     /// The same extension again.
     ///
     /// # Errors
-    /// `AllocError` where memory for the URI of an unknown one is wanting.
+    /// `AllocError` where memory for the URI of an unknown one runs out.
     pub fn clone(&self, alloc: Global) -> Result<Extension, AllocError>
         ensures { IfOk result (λ ext. ext ≡ self.now) }
     {

@@ -114,7 +114,7 @@ impl ExtensionMap {
     /// The same map again.
     ///
     /// # Errors
-    /// `AllocError` where memory for the URI of an unknown extension is wanting.
+    /// `AllocError` where memory for the URI of an unknown extension runs out.
     pub fn clone(&self, alloc: Global) -> Result<ExtensionMap, AllocError>
         ensures { IfOk result (λ map. map ≡ self.now) }
     {

@@ -4,7 +4,7 @@ use Rattle.rtp_media_lines.specs.Runs.{Printed}
 use Rattle.rtp_media_lines.specs.declared.status.Status.{Status}
 use Rattle.rtp_media.specs.ProgramState.{AnswersCommand, ProgramState, initial_state}
 
--- this text has the replies to the lines, from a start without ends on, and this status follows
+-- This text has the replies to the lines, from a start without ends on, and this status follows.
 abbrev pub AreReplies : List ℕ → List ℕ → Status → Type 0
 AreReplies lines text status =
     (ends : ProgramState) × Printed AnswersCommand initial_state ends (Some []) (Some text) lines status

@@ -22,7 +22,7 @@ pub fn refusal_of(name: &str) -> &'static str {
         "TimeTooLarge" => "the time doesn't fit 64 bits at the stream's clock",
         "LimitTooSmall" => "MTU and a header with all values pass LIMIT",
         "Payload" => "the codec doesn't take these bytes",
-        "Memory" => "memory is wanting",
+        "Memory" => "memory runs out",
         _ => "the call refused",
     }
 }
@@ -41,7 +41,7 @@ pub fn verdict_of(reply: &str) -> Option<&'static str> {
 /// Why a poll handed nothing out, though a unit was due.
 pub fn fault_of(name: &str) -> &'static str {
     if name == "Memory" {
-        "memory is wanting; the unit stays"
+        "memory runs out; the unit stays"
     } else {
         "a packet of the frame isn't of its format; the frame is done with"
     }

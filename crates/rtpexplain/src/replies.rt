@@ -9,7 +9,7 @@ use std::alloc::Global;
 /// The replies of the program to these lines, as it prints them, and its status.
 ///
 /// # Errors
-/// Where memory is wanting, or the lines are more than the program reads.
+/// Where memory runs out, or the lines are more than the program reads.
 pub fn replies(alloc: Global, lines: &[u8]) -> Result<(Vec<u8>, Status), RunFault>
     ensures { IfOk result (λ r. AreReplies lines.now r.0.items r.1) }
 {

@@ -7,7 +7,7 @@ use std::io;
 use std::process::ExitCode;
 
 /// Status 0, or 2 where an `error line` was printed; 1 where the input could not be read, the answers
-/// could not be written, or memory was wanting, after a line on standard error that says which.
+/// could not be written, or memory ran out, after a line on standard error that says which.
 fn main(rt: HostRuntime) -> ExitCode {
     let mut reader = rt.reader();
     let mut writer = io::writer(&rt);

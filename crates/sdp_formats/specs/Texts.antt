@@ -7,7 +7,7 @@ use Rattle.sdp_formats_types.specs.declared.session.Session.{Session}
 use Rattle.sdp_formats.specs.declared.error.SdpError.{SdpError}
 use Rattle.sdp_formats.specs.declared.error.SdpError.TheVariants.{ParseError, Inconsistent, Memory}
 
--- the text says nothing
+-- The text says nothing.
 abbrev pub SaysNothing : List ℕ → Type 0
 SaysNothing text = (sdp : Sdp) (rest : List ℕ) → SdpSays text sdp rest → ⊥
 

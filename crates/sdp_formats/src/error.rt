@@ -10,7 +10,7 @@ pub enum SdpError {
     ParseError(String),
     /// Its parts don't go together.
     Inconsistent(String),
-    /// Memory was wanting.
+    /// Out of memory.
     Memory,
 }
 

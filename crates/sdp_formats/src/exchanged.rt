@@ -38,7 +38,7 @@ impl SdpOffer {
     ///
     /// # Errors
     ///
-    /// `ParseError` where the text has no good header, or a section with a fault; `Memory` where memory is wanting.
+    /// `ParseError` where the text has no good header, or a section with a fault; `Memory` where memory runs out.
     pub fn from_sdp_string(alloc: Global, input: &str) -> Result<SdpOffer, SdpError>
         ensures { ReadsText input.now result }
     {
@@ -57,7 +57,7 @@ impl SdpOffer {
     ///
     /// # Errors
     ///
-    /// `AllocError` where memory is wanting.
+    /// `AllocError` where memory runs out.
     pub fn to_sdp_string(&self, alloc: Global) -> Result<String, AllocError>
         ensures { IfOk result (λ text. string_bytes text ≡ sdp_text self.now) }
     {
@@ -110,7 +110,7 @@ impl SdpAnswer {
     ///
     /// # Errors
     ///
-    /// `ParseError` where the text has no good header, or a section with a fault; `Memory` where memory is wanting.
+    /// `ParseError` where the text has no good header, or a section with a fault; `Memory` where memory runs out.
     pub fn from_sdp_string(alloc: Global, input: &str) -> Result<SdpAnswer, SdpError>
         ensures { ReadsText input.now result }
     {
@@ -129,7 +129,7 @@ impl SdpAnswer {
     ///
     /// # Errors
     ///
-    /// `AllocError` where memory is wanting.
+    /// `AllocError` where memory runs out.
     pub fn to_sdp_string(&self, alloc: Global) -> Result<String, AllocError>
         ensures { IfOk result (λ text. string_bytes text ≡ sdp_text self.now) }
     {

@@ -10,7 +10,7 @@ use sdp_formats_reader::{read_sdp, read_session};
 use sdp_formats_types::{Sdp, Session};
 use std::alloc::Global;
 
-// The text of an error.
+/// The text of an error.
 fn told(alloc: Global, text: &str) -> Result<String, SdpError>
     ensures { IfErr result (λ e. e ≡ Memory) }
 {
@@ -21,7 +21,7 @@ fn told(alloc: Global, text: &str) -> Result<String, SdpError>
 ///
 /// # Errors
 ///
-/// `ParseError` where the text has no good header, or a section with a fault; `Memory` where memory is wanting.
+/// `ParseError` where the text has no good header, or a section with a fault; `Memory` where memory runs out.
 pub fn sdp_parser(alloc: Global, text: &str) -> Result<(Sdp, &str), SdpError>
     ensures { ParsesSdp text.now result }
 {
@@ -39,7 +39,7 @@ pub fn sdp_parser(alloc: Global, text: &str) -> Result<(Sdp, &str), SdpError>
 ///
 /// # Errors
 ///
-/// `ParseError` where the text has no good header; `Memory` where memory is wanting.
+/// `ParseError` where the text has no good header; `Memory` where memory runs out.
 pub fn session_parser(alloc: Global, text: &str) -> Result<(Session, &str), SdpError>
     ensures { ParsesSession text.now result }
 {

@@ -13,7 +13,7 @@ pub trait TryClone: Sized {
     ///
     /// # Errors
     ///
-    /// `AllocError` where memory is wanting.
+    /// `AllocError` where memory runs out.
     fn try_clone(&self, alloc: Global) -> Result<Self, AllocError>
         ensures { IfOk result (λ copy. copy ≡ self.now) };
 }

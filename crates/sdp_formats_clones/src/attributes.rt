@@ -35,7 +35,7 @@ impl TryClone for SessionAttribute {
     }
 }
 
-// A copy of an attribute of a kind that holds several values; of another kind `Inactive`.
+/// A copy of an attribute of a kind that holds several values; of another kind `Inactive`.
 #[tactic(auto, unfolding(sdp_formats_equality::specs::Compound::is_compound))]
 fn compound(alloc: Global, attribute: &Attribute) -> Result<Attribute, AllocError>
     requires { IsTrue (is_compound attribute.now) }

@@ -151,7 +151,7 @@ fn h264_mode(number: u8, resend: u8, mode: bool, profile_level_id: u32) -> Paylo
     h264_row(Pt::new_with_value(number), resend, mode, profile_level_id)
 }
 
-// In packetization mode 1 or 0.
+/// In packetization mode 1 or 0.
 pub(crate) fn h264_row(
     pt: Pt,
     resend: Option<Pt>,

@@ -1,13 +1,38 @@
 //! Equality of attributes of a section.
 
 ghost use Rattle.std.specs.Prelude.{◌≡◌, ◌↔◌, IsTrue};
-ghost use Rattle.sdp_formats_equality.specs.Compound.{is_compound};
+ghost use Rattle.sdp_formats_equality.specs.Compound.{is_compound, is_source};
 
 use crate::same::Same;
 use sdp_formats_types::MediaAttribute as Attribute;
 
-// Whether two attributes are of one kind that holds several values, and the same.
-#[tactic(auto, unfolding(crate::specs::Compound::is_compound))]
+/// Whether two attributes are of one kind that is about sources, and the same.
+#[tactic(auto, unfolding(crate::specs::Compound::is_source))]
+fn is_same_source(attribute: &Attribute, other: &Attribute) -> bool
+    ensures { IsTrue result ↔ ((attribute.now ≡ other.now) × IsTrue (is_source attribute.now)) }
+{
+    match (attribute, other) {
+        (
+            Attribute::SsrcGroup { semantics, ssrcs },
+            Attribute::SsrcGroup {
+                semantics: a,
+                ssrcs: b,
+            },
+        ) => semantics.is_same(a) && ssrcs.is_same(b),
+        (
+            Attribute::Ssrc { ssrc, attr, value },
+            Attribute::Ssrc {
+                ssrc: a,
+                attr: b,
+                value: c,
+            },
+        ) => { ssrc == a && attr.is_same(b) && value.is_same(c) }
+        _ => false,
+    }
+}
+
+/// Whether two attributes are of one kind that holds several values, and the same.
+#[tactic(auto, unfolding(crate::specs::Compound::is_compound, crate::specs::Compound::is_source))]
 fn is_same_compound(attribute: &Attribute, other: &Attribute) -> bool
     ensures { IsTrue result ↔ ((attribute.now ≡ other.now) × IsTrue (is_compound attribute.now)) }
 {
@@ -38,22 +63,7 @@ fn is_same_compound(attribute: &Attribute, other: &Attribute) -> bool
                 restriction: d,
             },
         ) => id.is_same(a) && direction == b && pt.is_same(c) && restriction.is_same(d),
-        (
-            Attribute::SsrcGroup { semantics, ssrcs },
-            Attribute::SsrcGroup {
-                semantics: a,
-                ssrcs: b,
-            },
-        ) => semantics.is_same(a) && ssrcs.is_same(b),
-        (
-            Attribute::Ssrc { ssrc, attr, value },
-            Attribute::Ssrc {
-                ssrc: a,
-                attr: b,
-                value: c,
-            },
-        ) => { ssrc == a && attr.is_same(b) && value.is_same(c) }
-        _ => false,
+        _ => is_same_source(attribute, other),
     }
 }
 

@@ -7,7 +7,7 @@ use Rattle.sdp_formats_params.specs.declared.param.FormatParam.{FormatParam}
 use Rattle.sdp_formats_params.specs.declared.param.FormatParam.TheVariants as param
 use Rattle.sdp_formats_format_laws.specs.Ranges.{IsModes}
 
--- a parameter with a value of its width
+-- A parameter with a value of its width.
 abbrev pub IsKeyed : FormatParam → Type 0
 IsKeyed (param.MinPTime v) = v < 2 ^ 8
 IsKeyed (param.Stereo v) = Unit {0}
@@ -51,7 +51,7 @@ pair_of (param.OctetAlign v) = pair (codes "octet-align") (decimal (flag_digit v
 pair_of (param.ModeSet v) = pair (codes "mode-set") (modes_text v)
 pair_of _ = pair [] []
 
--- of another key than those of a profile, tier and level (RFC 7798 7.1)
+-- Of another key than those of a profile, tier and level (RFC 7798 7.1).
 abbrev pub IsOrdinary : FormatParam → Type 0
 IsOrdinary (param.ProfileId v) = ⊥
 IsOrdinary (param.MinPTime v) = IsKeyed (param.MinPTime v)

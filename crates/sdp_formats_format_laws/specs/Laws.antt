@@ -10,7 +10,7 @@ use Rattle.sdp_formats_rows.specs.Rows.{Row}
 use Rattle.sdp_formats_section_rows.specs.Attributes.{params_in}
 use Rattle.sdp_formats_types.specs.Printed.{params_text}
 
--- a text that can stand on a line
+-- A text that can stand on a line.
 abbrev pub OnLine : List ℕ → Type 0
 OnLine t = (t ≢ []) × Lacks 10 t × Lacks 13 t
 

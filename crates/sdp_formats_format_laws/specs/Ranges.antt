@@ -2,11 +2,11 @@
 use Rattle.std.specs.Prelude.{◌<◌, ◌≤◌, ◌^◌, ℕ, Option, Some, None, IfSome}
 use Rattle.sdp_formats_rows.specs.declared.format.FormatParams.{FormatParams}
 
--- one of nine modes at least (RFC 4867 8.2)
+-- One of nine modes at least (RFC 4867 8.2).
 abbrev pub IsModes : ℕ → Type 0
 IsModes modes = (0 < modes) × (modes < 2 ^ 9)
 
--- not both
+-- Not both.
 abbrev pub AtMostOne : {A B : Type 0} → Option A → Option B → Type 0
 AtMostOne (Some a) (Some b) = ⊥
 AtMostOne (Some a) None = Unit {0}

@@ -92,7 +92,7 @@ cut_maybe-exact c f g fs gs = record {
   complete = λ t ab s. maybe_complete c f g t ab.0 ab.1 fs gs s;
 }
 
--- pieces
+-- Pieces.
 onto_joined : (c b : ℕ) (t : List ℕ) (pieces : List (List ℕ)) → b ≢ c → IsJoined c pieces t
     → IsJoined c (onto_first b pieces) (b ∷ t)
 onto_joined c b t [] other h = absurd h

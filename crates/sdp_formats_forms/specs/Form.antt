@@ -15,11 +15,11 @@ pub record IsExact {A : Type 0} (f : Form A) : Type 0 where
   pub sound : (text : List ℕ) (a : A) → f.reads text ≡ Some a → f.Says text a
   pub complete : (text : List ℕ) (a : A) → f.Says text a → f.reads text ≡ Some a
 
--- what a function on texts says
+-- What a function on texts says.
 abbrev pub told : {A : Type 0} → (List ℕ → Option A) → Form A
 told f = record { reads = f; Says = λ t a. f t ≡ Some a }
 
--- any text but the empty one
+-- Any text but the empty one.
 abbrev pub some_text : List ℕ → Option (List ℕ)
 some_text [] = None
 some_text (b ∷ bs) = Some (b ∷ bs)
@@ -27,25 +27,25 @@ some_text (b ∷ bs) = Some (b ∷ bs)
 abbrev pub any_text : Form (List ℕ)
 any_text = told some_text
 
--- a number below a limit
+-- A number below a limit.
 abbrev pub number : ℕ → Form ℕ
 number limit = told (number_below limit)
 
--- a value made of a form's value
+-- A value made of a form's value.
 abbrev pub made : {A B : Type 0} → (A → B) → Form A → Form B
 made h f = record {
   reads = λ t. option_map h (f.reads t);
   Says = λ t b. (a : _) × f.Says t a × (b ≡ h a);
 }
 
--- these words, and then a form
+-- These words, and then a form.
 abbrev pub after : {A : Type 0} → List ℕ → Form A → Form A
 after words f = record {
   reads = λ t. behind words t >>= f.reads;
   Says = λ t a. (rest : List ℕ) × (t ≡ words ++ rest) × f.Says rest a;
 }
 
--- one form before the first such byte, and one behind it
+-- One form before the first such byte, and one behind it.
 abbrev pub both : {A B : Type 0} → (List ℕ → Option A) → (List ℕ → Option B) → List ℕ × List ℕ → Option (A × B)
 both f g p = f p.0 >>= λ a. g p.1 >>= λ b. Some (a, b)
 
@@ -55,12 +55,12 @@ cut c f g = record {
   Says = λ t ab. (front back : List ℕ) × (t ≡ front ++ c ∷ back) × Lacks c front × f.Says front ab.0 × g.Says back ab.1;
 }
 
--- a form of what may be there
+-- A form of what may be there.
 abbrev pub maybe : {A : Type 0} → (List ℕ → Option A) → Option (List ℕ) → Option (Option A)
 maybe f None = Some None
 maybe f (Some t) = option_map Some (f t)
 
--- one form before the first such byte, and one behind it where there is such a byte
+-- One form before the first such byte, and one behind it where there is such a byte.
 abbrev pub both_maybe : {A B : Type 0} → (List ℕ → Option A) → (Option (List ℕ) → Option B) → List ℕ
     × Option (List ℕ) → Option (A × B)
 both_maybe f g h = f h.0 >>= λ a. g h.1 >>= λ b. Some (a, b)
@@ -76,7 +76,7 @@ cut_maybe c f g = record {
   Says = λ t ab. SaysMaybe c f.Says g.Says t ab.0 ab.1;
 }
 
--- pieces between such bytes, each of a form
+-- Pieces between such bytes, each of a form.
 abbrev pub each : {A : Type 0} → (List ℕ → Option A) → List (List ℕ) → Option (List A)
 each f [] = Some []
 each f (t ∷ ts) = f t >>= λ a. each f ts >>= λ as'. Some (a ∷ as')
@@ -93,14 +93,14 @@ separated c f = record {
   Says = λ t as'. (pieces : List (List ℕ)) × IsJoined c pieces t × Each f.Says pieces as';
 }
 
--- the first of two forms that fits
+-- The first of two forms that fits.
 abbrev pub either : {A : Type 0} → Form A → Form A → Form A
 either f g = record {
   reads = λ t. option_or (f.reads t) (g.reads t);
   Says = λ t a. f.Says t a ⊎ (((x : _) → f.Says t x → ⊥) × g.Says t a);
 }
 
--- a form's values that pass a test
+-- A form's values that pass a test.
 abbrev pub passed : {A : Type 0} → (A → Bool) → A → Option A
 passed p a = if p a then Some a else None
 
@@ -110,7 +110,7 @@ only p f = record {
   Says = λ t a. f.Says t a × (p a ≡ true);
 }
 
--- the word behind a field's name and what is left behind a blank; no word where the text doesn't begin with the name
+-- The word behind a field's name and what is left behind a blank; no word where the text doesn't begin with the name.
 abbrev pub field_word : List ℕ × Option (List ℕ) → Option (Option (List ℕ) × Option (List ℕ))
 field_word h = some_text h.0 >>= λ w. Some (Some w, h.1)
 

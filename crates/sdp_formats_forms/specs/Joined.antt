@@ -7,23 +7,23 @@ use Rattle.std.specs.declared.fmt.Formatter.{Formatter}
 use Rattle.std.specs.Fmt.{DisplaysOnOk, digits}
 use Rattle.sdp_formats_forms.specs.Bind.{◌>>=◌}
 
--- texts one behind the other
+-- Texts one behind the other.
 abbrev pub spelled : List (List ℕ) → List ℕ
 spelled [] = []
 spelled (text ∷ []) = text
 spelled (text ∷ next ∷ texts) = text ++ spelled (next ∷ texts)
 
--- the texts, each behind the separator
+-- The texts, each behind the separator.
 abbrev pub each_behind : List ℕ → List (List ℕ) → List ℕ
 each_behind separator [] = []
 each_behind separator (text ∷ texts) = separator ++ text ++ each_behind separator texts
 
--- the texts with the separator between each two
+-- The texts with the separator between each two.
 abbrev pub joined : List ℕ → List (List ℕ) → List ℕ
 joined separator [] = []
 joined separator (text ∷ texts) = text ++ each_behind separator texts
 
--- the same of values of which each may have a text
+-- The same of values of which each may have a text.
 abbrev pub outputs_behind : List ℕ → List (Option (List ℕ)) → Option (List ℕ)
 outputs_behind separator [] = Some []
 outputs_behind separator (o ∷ os) = o >>= λ text. outputs_behind separator os
@@ -39,14 +39,14 @@ outputs_some separator text [] = refl
 outputs_some separator text (x ∷ xs) =
     ap (λ o. o >>= λ more. Some (separator ++ text x ++ more)) (outputs_some separator text xs)
 
--- where each value has a text, these are joined
+-- Where each value has a text, these are joined.
 pub joined_some : {A : Type 0} (separator : List ℕ) (text : A → List ℕ) (xs : List A)
     → joined_outputs separator (map (λ x. Some (text x)) xs) ≡ Some (joined separator (map text xs))
 joined_some separator text [] = refl
 joined_some separator text (x ∷ xs) =
     ap (λ o. o >>= λ more. Some (text x ++ more)) (outputs_some separator text xs)
 
--- a text that may be there, behind another
+-- A text that may be there, behind another.
 abbrev pub maybe_text : List ℕ → Option (List ℕ) → List ℕ
 maybe_text before None = []
 maybe_text before (Some text) = before ++ text
@@ -61,7 +61,7 @@ pub maybe_some : {A : Type 0} (before : List ℕ) (text : A → List ℕ) (o : O
 maybe_some before text None = refl
 maybe_some before text (Some x) = refl
 
--- what writes a text writes the same text in another form
+-- What writes a text writes the same text in another form.
 pub writes_same : {W : Type 0} (took : W → List ℕ → W → Type 0) (f : Formatter W) (r : Result (Unit {0}) Error)
     (o p : Option (List ℕ)) (g : Formatter W) → o ≡ p → DisplaysOnOk took f r o g → DisplaysOnOk took f r p g
 writes_same took f r o p g same = subst (λ x. DisplaysOnOk took f r x g) same
@@ -71,7 +71,7 @@ pub maybe_same : (before : List ℕ) (o : Option (List ℕ))
 maybe_same before None = refl
 maybe_same before (Some x) = refl
 
--- a byte in two hexadecimal digits
+-- A byte in two hexadecimal digits.
 abbrev pub octet_text : ℕ → List ℕ
 octet_text byte = digits 16 true (byte / 16) ++ digits 16 true (byte % 16)
 
@@ -80,7 +80,7 @@ pub joined_said : {A : Type 0} (separator : List ℕ) (text : A → List ℕ) (x
 joined_said separator text xs ys same =
     ap (λ zs. joined_outputs separator (map (λ x. Some (text x)) zs)) same ∙ joined_some separator text ys
 
--- the same of values that are texts
+-- The same of values that are texts.
 outputs_same : (separator : List ℕ) (xs : List (List ℕ))
     → outputs_behind separator (map (λ x. Some x) xs) ≡ Some (each_behind separator xs)
 outputs_same separator [] = refl

@@ -3,16 +3,16 @@ use Rattle.std.specs.Prelude.{ℕ, List, [], ◌∷◌, ◌++◌, Option, None, 
 use Rattle.std.specs.Option.{option_map}
 use Rattle.sdp_formats_forms.specs.Split.{parts}
 
--- the pieces of what is left of a text, if anything is
+-- The pieces of what is left of a text, if anything is.
 abbrev pub parts_from : ℕ → Option (List ℕ) → List (List ℕ)
 parts_from c None = []
 parts_from c (Some rest) = parts c rest
 
--- values before those that are there
+-- Values before those that are there.
 abbrev pub with_front : {A : Type 0} → List A → Option (List A) → Option (List A)
 with_front front o = option_map (λ more. front ++ more) o
 
--- the first value
+-- The first value.
 abbrev pub head : {A : Type 0} → List A → Option A
 head [] = None
 head (a ∷ as') = Some a

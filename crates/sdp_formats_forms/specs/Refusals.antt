@@ -17,19 +17,19 @@ Gives (Ok x) said = said ≡ Some x
 Gives (Err Unfit) said = said ≡ None
 Gives (Err Memory) said = Unit {0}
 
--- two pieces of a text
+-- Two pieces of a text.
 abbrev pub parted : Bor (List ℕ) × Bor (List ℕ) → List ℕ × List ℕ
 parted p = (p.0.now, p.1.now)
 
--- a piece of a text, and another that may be there
+-- A piece of a text, and another that may be there.
 abbrev pub halved : Bor (List ℕ) × Option (Bor (List ℕ)) → List ℕ × Option (List ℕ)
 halved p = (p.0.now, option_copied p.1)
 
--- a word that may be there, and what is left of a text, if anything is
+-- A word that may be there, and what is left of a text, if anything is.
 abbrev pub fielded : Option (Bor (List ℕ)) × Option (Bor (List ℕ)) → Option (List ℕ) × Option (List ℕ)
 fielded p = (option_copied p.0, option_copied p.1)
 
--- what was read, or none where the text is unfit
+-- What was read, or none where the text is unfit.
 abbrev pub fitted_of : {A : Type 0} → Result A Refusal → Result (Option A) Refusal
 fitted_of (Ok a) = Ok (Some a)
 fitted_of (Err Unfit) = Ok None

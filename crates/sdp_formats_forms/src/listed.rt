@@ -68,7 +68,7 @@ impl<T> Listed<T> {
     ///
     /// # Errors
     ///
-    /// `AllocError` where memory is wanting; the list is then as before.
+    /// `AllocError` where memory runs out; the list is then as before.
     pub fn push(&mut self, value: T) -> Result<(), AllocError>
     where
         T: Drop,

@@ -73,7 +73,7 @@ pub fn field<'a>(
 ///
 /// # Errors
 ///
-/// `Memory` where memory was wanting.
+/// `Memory` where memory ran out.
 pub fn fitted<T>(read: Result<T, Refusal>) -> Result<Option<T>, Refusal>
     ensures { result ≡ fitted_of read }
 {
@@ -88,7 +88,7 @@ pub fn fitted<T>(read: Result<T, Refusal>) -> Result<Option<T>, Refusal>
 ///
 /// # Errors
 ///
-/// `Memory` where memory is wanting.
+/// `Memory` where memory runs out.
 pub fn copy(alloc: Global, text: &str) -> Result<Text, Refusal>
     ensures { Gives result (Some text.now) }
 {
@@ -99,7 +99,7 @@ pub fn copy(alloc: Global, text: &str) -> Result<Text, Refusal>
 ///
 /// # Errors
 ///
-/// `Memory` where memory is wanting.
+/// `Memory` where memory runs out.
 pub fn copied(alloc: Global, text: Option<&str>) -> Result<Option<Text>, Refusal>
     ensures { Gives result (Some (option_copied text.entry)) }
 {
@@ -152,7 +152,7 @@ pub fn some(text: &str) -> Result<&str, Refusal>
 ///
 /// # Errors
 ///
-/// `Unfit` where it is empty, `Memory` where memory is wanting.
+/// `Unfit` where it is empty, `Memory` where memory runs out.
 pub fn text_of(alloc: Global, text: &str) -> Result<Text, Refusal>
     ensures { Gives result (some_text text.now) }
 {

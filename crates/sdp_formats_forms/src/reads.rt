@@ -22,7 +22,7 @@ pub trait Reads<T: Drop> {
         ensures { Gives result (reads text.now) };
 }
 
-// The text before the first such character, and what stands behind it.
+/// The text before the first such character, and what stands behind it.
 fn part(text: &str, at: char) -> (&str, Option<&str>)
     requires { at < 128 }
     ensures { parts at text.now ≡ result.0.now ∷ parts_from at (option_copied result.1) }
@@ -41,7 +41,7 @@ fn part(text: &str, at: char) -> (&str, Option<&str>)
 ///
 /// # Errors
 ///
-/// `Unfit` where a word isn't of the form, `Memory` where memory is wanting.
+/// `Unfit` where a word isn't of the form, `Memory` where memory runs out.
 pub fn list_of<T: Drop, R: Reads<T>>(
     alloc: Global,
     text: &str,

@@ -7,7 +7,7 @@ use std::alloc::{AllocError, AllocFailed};
 pub enum Refusal {
     /// It isn't of the form.
     Unfit,
-    /// Memory was wanting.
+    /// Out of memory.
     Memory,
 }
 

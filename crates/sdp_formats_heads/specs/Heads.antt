@@ -14,7 +14,7 @@ use Rattle.sdp_formats_types.specs.declared.media.MediaType.TheVariants.{Audio, 
 use Rattle.sdp_formats_types.specs.declared.media.Proto.{Proto}
 use Rattle.sdp_formats_types.specs.declared.media.Proto.TheVariants.{Srtp, Sctp}
 
--- digits alone, no plus
+-- Digits alone, no plus.
 abbrev pub session_number : List ℕ → Option ℕ
 session_number t = if list_all is_ascii_digit t then number_below (2 ^ 64) t else None
 
@@ -29,7 +29,7 @@ is_begun t = is_some (behind (codes "audio") t)
 abbrev pub unknown_type : List ℕ → Option MediaType
 unknown_type t = if is_begun t then None else option_map Unknown (some_text t)
 
--- a kind's name, or a word that doesn't begin with one
+-- A kind's name, or a word that doesn't begin with one.
 abbrev pub media_type : List ℕ → Option MediaType
 media_type t =
     if bytes_eq t (codes "audio") then Some Audio
@@ -48,7 +48,7 @@ proto t =
 abbrev pub pt_number : List ℕ → Option ℕ
 pt_number t = number_below (2 ^ 8) t
 
--- payload types between blanks; none where one isn't a number; a blank doesn't come first
+-- Payload types between blanks; none where one isn't a number; a blank doesn't come first.
 abbrev pub formats : List ℕ → Option (List ℕ)
 formats t =
     if length t == 0 then Some []

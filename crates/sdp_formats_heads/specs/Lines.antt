@@ -11,11 +11,11 @@ use Rattle.sdp_formats_types.specs.declared.session.Bandwidth.{Bandwidth}
 abbrev pub passed : Passed
 passed = record {}
 
--- this text alone
+-- This text alone.
 abbrev pub exactly : List ℕ → Form Passed
 exactly words = told (λ t. if bytes_eq t words then Some passed else None)
 
--- any text but the empty one
+-- Any text but the empty one.
 abbrev pub something : Form Passed
 something = made (λ t. passed) any_text
 

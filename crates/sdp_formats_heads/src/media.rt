@@ -40,7 +40,7 @@ impl Reads<Pt> for PtNumber {
     }
 }
 
-// Does the word begin with the name of a kind?
+/// Does the word begin with the name of a kind?
 fn is_begun(word: &str) -> bool
     ensures { result ≡ is_begun word.now }
 {

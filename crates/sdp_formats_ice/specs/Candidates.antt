@@ -13,14 +13,14 @@ use Rattle.sdp_formats_types.specs.declared.candidate.RelatedAddress.{RelatedAdd
 use Rattle.sdp_formats_ice.specs.declared.candidates.Fields.{Fields}
 use Rattle.sdp_formats_ice.specs.Words.{protocol_word, kind_word, tcptype_word}
 
--- what is read, and a text that may be left
+-- What is read, and a text that may be left.
 abbrev pub with_rest : RelatedAddress × Option (Bor (List ℕ)) → RelatedAddress × Option (List ℕ)
 with_rest p = (p.0, option_copied p.1)
 
 abbrev pub related_rest : Option RelatedAddress × Option (Bor (List ℕ)) → Option RelatedAddress × Option (List ℕ)
 related_rest p = (p.0, option_copied p.1)
 
--- an address, `rport ` and a port, and what is left behind a blank
+-- An address, `rport ` and a port, and what is left behind a blank.
 unfoldable pub related_in : List ℕ → Option (RelatedAddress × Option (List ℕ))
 related_in t = do
   cut ← split_first 32 t
@@ -29,7 +29,7 @@ related_in t = do
   port ← number_below (2 ^ 16) (halves 32 rest).0
   Some (record { addr = addr; port = port }, (halves 32 rest).1)
 
--- the address that a candidate was derived from, where the text begins with `raddr `
+-- The address that a candidate was derived from, where the text begins with `raddr `.
 abbrev pub related_behind : List ℕ → Option (List ℕ) → Option (Option RelatedAddress × Option (List ℕ))
 related_behind t None = Some (None, Some t)
 related_behind t (Some v) = related_in v >>= λ r. Some (Some r.0, r.1)
@@ -38,7 +38,7 @@ abbrev pub related_field : Option (List ℕ) → Option (Option RelatedAddress �
 related_field None = Some (None, None)
 related_field (Some t) = related_behind t (behind (codes "raddr ") t)
 
--- no text is left
+-- No text is left.
 abbrev pub ended : {A : Type 0} → A → Option (List ℕ) → Option A
 ended a None = Some a
 ended a (Some t) = None
@@ -52,7 +52,7 @@ tcptype_field t = do
   tcptype ← maybe tcptype_word word.0
   Some (tcptype, word.1)
 
--- the name of the credentials, among fields that are passed over, up to the end
+-- The name of the credentials, among fields that are passed over, up to the end.
 unfoldable pub ufrag_field : Option (List ℕ) → Option (Option (List ℕ))
 ufrag_field t = do
   generation ← field (codes "generation ") t
@@ -69,14 +69,14 @@ candidate_fields t = do
   ufrag ← ufrag_field tcptype.1
   Some (record { related = related.0; tcptype = tcptype.0; ufrag = ufrag })
 
--- two texts with a number between
+-- Two texts with a number between.
 abbrev pub placed : Bor (List ℕ) × ℕ × Bor (List ℕ) → List ℕ × ℕ × List ℕ
 placed p = (p.0.now, p.1, p.2.now)
 
 abbrev pub carried : Protocol × ℕ × Bor (List ℕ) → Protocol × ℕ × List ℕ
 carried p = (p.0, p.1, p.2.now)
 
--- the foundation, the component and what stands behind them
+-- The foundation, the component and what stands behind them.
 unfoldable pub candidate_base : List ℕ → Option (List ℕ × ℕ × List ℕ)
 candidate_base t = do
   first ← split_first 32 t
@@ -85,7 +85,7 @@ candidate_base t = do
   component ← number_below (2 ^ 16) second.0
   Some (foundation, component, second.1)
 
--- the protocol, the priority and what stands behind them
+-- The protocol, the priority and what stands behind them.
 unfoldable pub candidate_carrier : List ℕ → Option (Protocol × ℕ × List ℕ)
 candidate_carrier t = do
   first ← split_first 32 t
@@ -94,7 +94,7 @@ candidate_carrier t = do
   priority ← number_below (2 ^ 32) second.0
   Some (protocol, priority, second.1)
 
--- the address, the port and what stands behind `typ `
+-- The address, the port and what stands behind `typ `.
 unfoldable pub candidate_place : List ℕ → Option (List ℕ × ℕ × List ℕ)
 candidate_place t = do
   first ← split_first 32 t

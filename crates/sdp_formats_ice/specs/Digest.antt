@@ -4,7 +4,7 @@ use Rattle.sdp_formats_forms.specs.Bind.{◌>>=◌}
 use Rattle.sdp_formats_forms.specs.Form.{Form, told, any_text, made, cut, separated}
 use Rattle.sdp_formats_types.specs.declared.fingerprint.Fingerprint.{Fingerprint}
 
--- a hexadecimal digit in either case
+-- A hexadecimal digit in either case.
 abbrev pub hex_digit : ℕ → Option ℕ
 hex_digit c =
     if nat_le 48 c && nat_le c 57 then Some (c - 48)
@@ -12,7 +12,7 @@ hex_digit c =
     else if nat_le 97 c && nat_le c 102 then Some (c - 97 + 10)
     else None
 
--- a byte in two of them
+-- A byte in two of them.
 abbrev pub hex_byte : List ℕ → Option ℕ
 hex_byte [] = None
 hex_byte (a ∷ []) = None

@@ -26,7 +26,7 @@ struct Fields {
     ufrag: Option<Text>,
 }
 
-// The address and port behind `raddr `, and what is left behind a blank.
+/// The address and port behind `raddr `, and what is left behind a blank.
 #[tactic(auto, unfolding(crate::specs::Candidates::related_in))]
 fn related_in(alloc: Global, text: &str) -> Result<(RelatedAddress, Option<&str>), Refusal>
     ensures { GivesBy with_rest result (related_in text.now) }
@@ -72,7 +72,7 @@ fn tcptype_field(text: Option<&str>) -> Result<(Option<TcpType>, Option<&str>), 
     Ok((maybe_tcptype(word)?, rest))
 }
 
-// The name of the credentials, among fields that are passed over, up to the end.
+/// The name of the credentials, among fields that are passed over, up to the end.
 #[tactic(auto, unfolding(crate::specs::Candidates::ufrag_field))]
 fn ufrag_field(text: Option<&str>) -> Result<Option<&str>, Refusal>
     ensures { GivesBy option_copied result (ufrag_field (option_copied text.entry)) }
@@ -87,7 +87,7 @@ fn ufrag_field(text: Option<&str>) -> Result<Option<&str>, Refusal>
     Ok(ufrag)
 }
 
-// What the fields behind a candidate's kind say.
+/// What the fields behind a candidate's kind say.
 #[tactic(auto, unfolding(crate::specs::Candidates::candidate_fields))]
 fn candidate_fields(alloc: Global, tail: Option<&str>) -> Result<Fields, Refusal>
     ensures { Gives result (candidate_fields (option_copied tail.entry)) }
@@ -103,7 +103,7 @@ fn candidate_fields(alloc: Global, tail: Option<&str>) -> Result<Fields, Refusal
     })
 }
 
-// The foundation, the component and what stands behind them.
+/// The foundation, the component and what stands behind them.
 #[tactic(auto, unfolding(crate::specs::Candidates::candidate_base))]
 fn candidate_base(text: &str) -> Result<(&str, u16, &str), Refusal>
     ensures { GivesBy placed result (candidate_base text.now) }
@@ -115,7 +115,7 @@ fn candidate_base(text: &str) -> Result<(&str, u16, &str), Refusal>
     Ok((foundation, component, rest))
 }
 
-// The protocol, the priority and what stands behind them.
+/// The protocol, the priority and what stands behind them.
 #[tactic(auto, unfolding(crate::specs::Candidates::candidate_carrier))]
 fn candidate_carrier(text: &str) -> Result<(Protocol, u32, &str), Refusal>
     ensures { GivesBy carried result (candidate_carrier text.now) }
@@ -127,7 +127,7 @@ fn candidate_carrier(text: &str) -> Result<(Protocol, u32, &str), Refusal>
     Ok((protocol, priority, rest))
 }
 
-// The address, the port and what stands behind `typ `.
+/// The address, the port and what stands behind `typ `.
 #[tactic(auto, unfolding(crate::specs::Candidates::candidate_place))]
 fn candidate_place(text: &str) -> Result<(&str, u16, &str), Refusal>
     ensures { GivesBy placed result (candidate_place text.now) }
@@ -144,7 +144,7 @@ fn candidate_place(text: &str) -> Result<(&str, u16, &str), Refusal>
 ///
 /// # Errors
 ///
-/// `Unfit` where it is no candidate, `Memory` where memory is wanting.
+/// `Unfit` where it is no candidate, `Memory` where memory runs out.
 #[tactic(auto, unfolding(crate::specs::Candidates::candidate))]
 pub fn candidate(alloc: Global, value: &str) -> Result<Candidate, Refusal>
     ensures { Gives result (candidate value.now) }

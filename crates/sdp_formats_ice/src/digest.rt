@@ -45,7 +45,7 @@ impl Reads<u8> for HexByte {
 ///
 /// # Errors
 ///
-/// `Unfit` where it is no such value, `Memory` where memory is wanting.
+/// `Unfit` where it is no such value, `Memory` where memory runs out.
 pub fn fingerprint(alloc: Global, value: &str) -> Result<Fingerprint, Refusal>
     ensures { Gives result (fingerprint.reads value.now) }
 {

@@ -18,7 +18,7 @@ pub record Entry (R : Type 0) : Type 0 where
   pub fits : R → Bool
   pub moves : R → R → R
 
--- a field that has to be there
+-- A field that has to be there.
 unfoldable pub entry : {R A : Type 0} → Field → Shape A → (R → A) → (A → R → R) → Entry R
 entry field shape value with_value = record {
   field = field;
@@ -28,7 +28,7 @@ entry field shape value with_value = record {
   moves = λ from to. with_value (value from) to;
 }
 
--- a field that may be missing
+-- A field that may be missing.
 unfoldable pub optional : {R A : Type 0} → Field → Shape A → (R → Option A) → (Option A → R → R) → Entry R
 optional field shape value with_value = record {
   field = field;
@@ -80,7 +80,7 @@ object_in groups blank = record {
   fits = groups_fit groups;
 }
 
--- what a proof opens to see what the fields of a table are
+-- What a proof opens to see what the fields of a table are.
 unfoldable pub open_fields : ⊤
 unfolding entry optional word_of
 open_fields = tt

@@ -81,13 +81,13 @@ of_read f None = Err NotJson
 unfoldable pub row_of_text : List ℕ → Result Row JsonError
 row_of_text text = of_read row_of_data (read text)
 
--- A reader answers as is said, or that memory was wanting.
+-- A reader answers as is said, or that memory ran out.
 abbrev pub Answers : {A : Type 0} → Result A JsonError → Result A JsonError → Type 0
 Answers (Err Memory) said = Unit {0}
 Answers (Err e) said = said ≡ Err e
 Answers (Ok a) said = said ≡ Ok a
 
--- What a text is read as, or that it is no JSON, or that memory was wanting.
+-- What a text is read as, or that it is no JSON, or that memory ran out.
 abbrev pub IsValue : Result Value JsonError → Option Data → Type 0
 IsValue (Ok v) said = said ≡ Some (view v)
 IsValue (Err NotJson) said = said ≡ None

@@ -20,19 +20,19 @@ abbrev pub and_then : {A B E : Type 0} → Result A E → (A → Result B E) →
 and_then (Ok a) f = f a
 and_then (Err e) f = Err e
 
--- the value that is there, or else a refusal
+-- The value that is there, or else a refusal.
 abbrev pub or_refused : {A : Type 0} → JsonError → Option A → Result A JsonError
 or_refused e (Some a) = Ok a
 or_refused e None = Err e
 
--- a number that passes a test
+-- A number that passes a test.
 abbrev pub tested : (ℕ → Bool) → ℕ → Option ℕ
 tested test n = if test n then Some n else None
 
 abbrev pub tested_number : (ℕ → Bool) → Data → Option ℕ
 tested_number test d = option_and_then (tested test) (option_and_then as_u64 (as_number d))
 
--- numbers that pass a test
+-- Numbers that pass a test.
 abbrev pub number_where : (ℕ → Bool) → Shape ℕ
 number_where test = record {
   writes = λ n. number (unsigned n);
@@ -49,7 +49,7 @@ half_word = number_where (λ n. nat_lt n (2 ^ 16))
 unfoldable pub word : Shape ℕ
 word = number_where (λ n. nat_lt n (2 ^ 32))
 
--- a clock rate is a word above 0
+-- A clock rate is a word above 0.
 unfoldable pub rate : Shape ℕ
 unfolding word
 rate = record {
@@ -65,16 +65,16 @@ flag = record {
   fits = λ b. true;
 }
 
--- the first of a table with this name
+-- The first of a table with this name.
 abbrev pub with_name : {A : Type 0} → (A → List ℕ) → List A → List ℕ → Option A
 with_name name table text = find (λ a. bytes_eq (name a) text) table
 
--- the first of a table with this name, where there is one
+-- The first of a table with this name, where there is one.
 abbrev pub name_read : {A : Type 0} → (A → List ℕ) → List A → Field → Option (List ℕ) → Result A JsonError
 name_read name table field None = Err (Unfit field)
 name_read name table field (Some text) = or_refused (Unknown field) (with_name name table text)
 
--- values of a table, by their names
+-- Values of a table, by their names.
 unfoldable pub word_of : {A : Type 0} → (A → List ℕ) → List A → Shape A
 word_of name table = record {
   writes = λ a. string (name a);
@@ -82,12 +82,12 @@ word_of name table = record {
   fits = λ a. true;
 }
 
--- what stands under a field's name is read as a value, which has to be there
+-- What stands under a field's name is read as a value, which has to be there.
 abbrev pub member_read : {A : Type 0} → Shape A → Field → Option Data → Result A JsonError
 member_read shape field None = Err (Missing field)
 member_read shape field (Some d) = shape.reads field d
 
--- what is written of a value that may be missing
+-- What is written of a value that may be missing.
 abbrev pub optional_data : {A : Type 0} → Shape A → Option A → Data
 optional_data shape None = null
 optional_data shape (Some a) = shape.writes a
@@ -96,12 +96,12 @@ abbrev pub optional_fits : {A : Type 0} → Shape A → Option A → Bool
 optional_fits shape None = true
 optional_fits shape (Some a) = shape.fits a
 
--- a null is no value
+-- A null is no value.
 abbrev pub given_read : {A : Type 0} → Shape A → Field → Data → Result (Option A) JsonError
 given_read shape field d =
     if is_some (as_null d) then Ok None else and_then (shape.reads field d) (λ a. Ok (Some a))
 
--- what stands under a field's name is read as a value that may be missing; nothing or null stands for none
+-- What stands under a field's name is read as a value that may be missing; nothing or null stands for none.
 abbrev pub optional_read : {A : Type 0} → Shape A → Field → Option Data → Result (Option A) JsonError
 optional_read shape field None = Ok None
 optional_read shape field (Some d) = given_read shape field d

@@ -151,7 +151,7 @@ pub enum JsonError {
     /// The value of this field, a codec, profile, tier or level, has a name that isn't known.
     #[error("{0} has a name that isn't known")]
     Unknown(Field),
-    /// Memory was wanting.
+    /// Out of memory.
     #[error("out of memory")]
     Memory,
 }

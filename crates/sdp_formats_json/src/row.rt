@@ -18,7 +18,7 @@ use sdp_formats_rows::{CodecSpec, FormatParams, PayloadParams};
 use serde_json::{Map, Value};
 use std::alloc::{AllocError, Global};
 
-// A codec to be filled in.
+/// A codec to be filled in.
 fn blank_spec() -> CodecSpec
     ensures { result ≡ blank_spec }
 {
@@ -115,7 +115,7 @@ pub(crate) fn row_value(alloc: Global, row: &PayloadParams) -> Result<Value, All
     Ok(Value::Object(map))
 }
 
-// A row to be filled in.
+/// A row to be filled in.
 fn blank_row() -> PayloadParams
     ensures { result ≡ blank_row }
 {

@@ -16,7 +16,7 @@ use std::alloc::{AllocError, Global};
 ///
 /// # Errors
 ///
-/// `AllocError` where memory is wanting.
+/// `AllocError` where memory runs out.
 pub fn row_to_json(alloc: Global, row: &PayloadParams) -> Result<String, AllocError>
     ensures text { IfOk result (λ s. string_bytes s ≡ compact_text (row_data row.now)) }
     ensures reads { IfOk result (λ s. read (string_bytes s) ≡ Some (row_data row.now)) }
@@ -32,7 +32,7 @@ pub fn row_to_json(alloc: Global, row: &PayloadParams) -> Result<String, AllocEr
 /// # Errors
 ///
 /// `NotJson` for a text that is no JSON, `NotObject` for one that is no object; then of the fields the first in their
-/// order that is `Missing`, `Unfit` or `Unknown`; `Memory` where memory is wanting.
+/// order that is `Missing`, `Unfit` or `Unknown`; `Memory` where memory runs out.
 #[tactic(auto, unfolding(crate::specs::Rows::row_of_text))]
 pub fn row_from_json(alloc: Global, text: &str) -> Result<PayloadParams, JsonError>
     ensures { Answers result (row_of_text text.now) }

@@ -26,7 +26,7 @@ pub count_map : {A B : Type 0} (f : A → B) (p : B → Bool) (q : A → Bool) �
     → count_by p (map f xs) ≡ count_by q xs
 count_map f p q e xs = count_from f p q e xs 0
 
--- some in front of the others: the same for each and for one of them
+-- Some in front of the others: the same for each and for one of them.
 any_middle : {A : Type 0} (q : A → Bool) (xs : List A) (y : A) (ys : List A)
     → list_any q (xs ++ y ∷ ys) ≡ (q y || list_any q (xs ++ ys))
 any_middle q [] y ys = refl

@@ -4,7 +4,7 @@ use Rattle.sdp_formats_forms.specs.Split.{Lacks}
 use Rattle.sdp_formats_reader.specs.Grammar.{SdpSays}
 use Rattle.sdp_formats_types.specs.declared.session.Sdp.{Sdp}
 
--- a text with CR LF in the place of each LF
+-- A text with CR LF in the place of each LF.
 abbrev pub with_returns : List ℕ → List ℕ
 with_returns [] = []
 with_returns (b ∷ t) = if b == 10 then 13 ∷ 10 ∷ with_returns t else b ∷ with_returns t
@@ -17,13 +17,13 @@ ReadsByAnyEnd = (text : List ℕ) (sdp : Sdp) → Lacks 13 text
     × ((rest : List ℕ) → SdpSays (with_returns text) sdp rest
     → (left : List ℕ) × (rest ≡ with_returns left) × SdpSays text sdp left)
 
--- no line, or the last one is ended by LF
+-- No line, or the last one is ended by LF.
 abbrev pub is_ended : List ℕ → Bool
 is_ended [] = true
 is_ended (b ∷ []) = b == 10
 is_ended (b ∷ c ∷ t) = is_ended (c ∷ t)
 
--- a text that begins with no letter of a kind of line
+-- A text that begins with no letter of a kind of line.
 abbrev pub FitsNowhere : List ℕ → Type 0
 FitsNowhere [] = Unit {0}
 FitsNowhere (b ∷ t) = Lacks b (codes "vosiuepczkbtrma")

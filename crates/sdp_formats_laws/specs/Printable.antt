@@ -25,15 +25,15 @@ use Rattle.sdp_formats_types.specs.declared.media.MediaAttribute.TheVariants.{Ca
 use Rattle.sdp_formats_types.specs.declared.media.MediaAttribute.TheVariants.{RtcpFb, Fmtp, Rid, Simulcast, SsrcGroup}
 use Rattle.sdp_formats_types.specs.declared.media.MediaAttribute.TheVariants.{Fingerprint, Ssrc, Unused}
 
--- a text of a line: some bytes, and no end of a line among them
+-- A text of a line: some bytes, and no end of a line among them.
 abbrev pub IsText : List ℕ → Type 0
 IsText t = (t ≢ []) × Lacks 10 t × Lacks 13 t
 
--- a text without a blank
+-- A text without a blank.
 abbrev pub IsWord : List ℕ → Type 0
 IsWord t = IsText t × Lacks 32 t
 
--- a codec that its name stands for, with rates and channels that can be written
+-- A codec that its name stands for, with rates and channels that can be written.
 abbrev pub IsPrintableMap : map_of.RtpMap → Type 0
 IsPrintableMap m = (codec_named (codec_name m.codec) ≡ m.codec) × IsWord (codec_name m.codec)
     × Lacks 47 (codec_name m.codec) × (0 < m.clock_rate) × (m.clock_rate < 2 ^ 32) × IfSome m.channels (λ n. n < 2 ^ 8)
@@ -42,12 +42,12 @@ abbrev pub AreBelow : ℕ → List ℕ → Type 0
 AreBelow limit [] = Unit {0}
 AreBelow limit (n ∷ ns) = (n < limit) × AreBelow limit ns
 
--- a fingerprint of a named hash function, with a byte at least
+-- A fingerprint of a named hash function, with a byte at least.
 abbrev pub IsPrintableDigest : List ℕ → List ℕ → Type 0
 IsPrintableDigest name [] = ⊥
 IsPrintableDigest name (b ∷ bs) = IsWord name × AreBelow 256 (b ∷ bs)
 
--- a candidate whose texts are words, with numbers of their width
+-- A candidate whose texts are words, with numbers of their width.
 abbrev pub IsPrintableRelated : RelatedAddress → Type 0
 IsPrintableRelated r = IsWord r.addr × (r.port < 2 ^ 16)
 
@@ -55,7 +55,7 @@ abbrev pub IsPrintableCandidate : candidate.Candidate → Type 0
 IsPrintableCandidate c = IsWord c.foundation × (c.component_id < 2 ^ 16) × (c.prio < 2 ^ 32) × IsWord c.addr
     × (c.port < 2 ^ 16) × IfSome c.related IsPrintableRelated × IfSome c.ufrag IsWord
 
--- a name of letters and numbers (RFC 8851 4), and none of the signs that part names
+-- A name of letters and numbers (RFC 8851 4), and none of the signs that part names.
 pub record IsName (t : List ℕ) : Type 0 where
   pub word : IsWord t
   pub name : has_name_chars t ≡ true
@@ -63,7 +63,7 @@ pub record IsName (t : List ℕ) : Type 0 where
   pub semicolon : Lacks 59 t
   pub tilde : Lacks 126 t
 
--- restrictions that can stand on a line, the first of which doesn't begin with the letter p
+-- Restrictions that can stand on a line, the first of which doesn't begin with the letter p.
 abbrev pub AreOnLine : List Pair → Type 0
 AreOnLine [] = Unit {0}
 AreOnLine (p ∷ ps) = (IsText p.key × IsText p.value) × AreOnLine ps
@@ -80,12 +80,12 @@ AreLimits (pt ∷ []) [] = pt ≤ 127
 AreLimits (pt ∷ []) (p ∷ ps) = ⊥
 AreLimits (pt ∷ other ∷ pts) ps = ⊥
 
--- layers by their names alone
+-- Layers by their names alone.
 abbrev pub AreLayers : List SimulcastLayer → Type 0
 AreLayers [] = Unit {0}
 AreLayers (l ∷ ls) = (IsName l.restriction_id.0 × (l.attributes ≡ None)) × AreLayers ls
 
--- a layer at least, one way or the other
+-- A layer at least, one way or the other.
 abbrev pub AreWays : List SimulcastLayer → List SimulcastLayer → Type 0
 AreWays [] [] = ⊥
 AreWays [] (r ∷ rs) = AreLayers (r ∷ rs)

@@ -14,7 +14,7 @@ abbrev pub AreWords : List (List ℕ) → Type 0
 AreWords [] = Unit {0}
 AreWords (w ∷ ws) = IsWord w × AreWords ws
 
--- names of sections, as they are kept
+-- Names of sections, as they are kept.
 abbrev pub AreMids : List (List ℕ) → Type 0
 AreMids [] = Unit {0}
 AreMids (m ∷ ms) = IsWord m × (name_of 16 m ≡ m) × AreMids ms

@@ -17,12 +17,12 @@ abbrev pub IsEach : {A : Type 0} → (A → Type 0) → List A → Type 0
 IsEach P [] = Unit {0}
 IsEach P (x ∷ xs) = P x × IsEach P xs
 
--- a bandwidth, if there is one, of texts that can stand where they are printed
+-- A bandwidth, if there is one, of texts that can stand where they are printed.
 abbrev pub IsPrintableBandwidth : Option Bandwidth → Type 0
 IsPrintableBandwidth None = Unit {0}
 IsPrintableBandwidth (Some b) = IsText b.typ × Lacks 58 b.typ × IsText b.val
 
--- a kind and its formats: at least one payload type, or none for a channel of data
+-- A kind and its formats: at least one payload type, or none for a channel of data.
 abbrev pub AreFormats : MediaType → List ℕ → Type 0
 AreFormats Application pts = pts ≡ []
 AreFormats typ [] = ⊥

@@ -4,8 +4,8 @@ use Rattle.sdp_formats_row_lines.specs.AsRead.{as_read}
 use Rattle.sdp_formats_types.specs.declared.media.MediaLine.{MediaLine}
 use Rattle.sdp_formats_types.specs.declared.session.Sdp.{Sdp}
 
--- the section itself, but for parameters of `a=fmtp`: a profile, tier and level comes in front of the others, a range
--- of telephone events is a range and a type of redundant audio a list of types
+-- The section itself, but for parameters of `a=fmtp`: a profile, tier and level comes in front of the others, a range
+-- of telephone events is a range and a type of redundant audio a list of types.
 abbrev pub section_as_read : MediaLine → MediaLine
 section_as_read m = record m { attrs = map as_read m.attrs }
 

@@ -10,11 +10,11 @@ use Rattle.sdp_formats_types.specs.declared.MediaLine.{MediaLine}
 abbrev pub gives_direction : MediaAttribute → Bool
 gives_direction a = is_some (direction_in a)
 
--- the first attribute that gives a direction gives this one, and all others stay
+-- The first attribute that gives a direction gives this one, and all others stay.
 abbrev pub directed : Direction → List MediaAttribute → List MediaAttribute
 directed direction attrs = slice_set attrs (position_or_len gives_direction attrs) (direction_attribute direction)
 
--- the section with other attributes
+-- The section with other attributes.
 abbrev pub with_attrs : MediaLine → List MediaAttribute → MediaLine
 with_attrs m attrs =
     record { typ = m.typ; disabled = m.disabled; proto = m.proto; pts = m.pts; bw = m.bw; attrs = attrs }

@@ -8,12 +8,12 @@ use Rattle.sdp_formats_lookups.specs.declared.from_text.FingerprintError.{Finger
 use Rattle.sdp_formats_lookups.specs.declared.from_text.FingerprintError.TheVariants.{Malformed, Memory}
 use Rattle.sdp_formats_types.specs.declared.Fingerprint.{Fingerprint}
 
--- whether each byte is a hexadecimal digit
+-- Whether each byte is a hexadecimal digit.
 abbrev pub all_hex : List ℕ → Bool
 all_hex [] = true
 all_hex (c ∷ cs) = nat_lt (digit_value c) 16 && all_hex cs
 
--- the number below 256 that hexadecimal digits write, one or more of them, a plus before them or not
+-- The number below 256 that hexadecimal digits write, one or more of them, a plus before them or not.
 abbrev pub hex_number : List ℕ → Option ℕ
 hex_number text =
     if nat_lt 0 (length (without_leading_plus text)) && all_hex (without_leading_plus text)
@@ -24,11 +24,11 @@ hex_number text =
 abbrev pub make_print : List ℕ × List ℕ → Fingerprint
 make_print x = record { hash_func = x.0; bytes = x.1 }
 
--- a name, which may be empty, up to the first blank, and numbers with colons between
+-- A name, which may be empty, up to the first blank, and numbers with colons between.
 abbrev pub print_in_text : Form Fingerprint
 print_in_text = made make_print (cut 32 (told Some) (separated 58 (told hex_number)))
 
--- a text gives what it says, and is malformed exactly where it says nothing
+-- A text gives what it says, and is malformed exactly where it says nothing.
 abbrev pub IsFromText : Result Fingerprint FingerprintError → Option Fingerprint → Type 0
 IsFromText (Ok print) said = said ≡ Some print
 IsFromText (Err Malformed) said = said ≡ None

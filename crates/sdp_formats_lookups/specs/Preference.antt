@@ -5,7 +5,7 @@ use Rattle.std.specs.List.{list_all}
 use Rattle.std.specs.Str.{str_eq_ignore_ascii_case}
 use Rattle.sdp_formats_types.specs.declared.Fingerprint.{Fingerprint}
 
--- the place of a hash function, 0 first: SHA-256, SHA-1, any other; a name in capitals is the same name
+-- The place of a hash function, 0 first: SHA-256, SHA-1, any other; a name in capitals is the same name.
 abbrev pub place_of_hash : List ℕ → ℕ
 place_of_hash name =
     if str_eq_ignore_ascii_case name (codes "sha-256") then 0
@@ -15,7 +15,7 @@ place_of_hash name =
 unfoldable pub hash_preference : Fingerprint → ℕ
 hash_preference print = place_of_hash print.hash_func
 
--- it is one of them, none before it has a place as low, and none behind it a lower one
+-- It is one of them, none before it has a place as low, and none behind it a lower one.
 pub record IsFirstOfLowest (prints : List Fingerprint) (print : Fingerprint) : Type 0 where
   pub before : List Fingerprint
   pub behind : List Fingerprint
@@ -23,12 +23,12 @@ pub record IsFirstOfLowest (prints : List Fingerprint) (print : Fingerprint) : T
   pub first : IsTrue (list_all (λ p. nat_lt (hash_preference print) (hash_preference p)) before)
   pub lowest : IsTrue (list_all (λ p. nat_le (hash_preference print) (hash_preference p)) behind)
 
--- none of no fingerprint, else the first of those with the lowest place
+-- None of no fingerprint, else the first of those with the lowest place.
 abbrev pub IsPreferred : List Fingerprint → Option Fingerprint → Type 0
 IsPreferred prints None = prints ≡ []
 IsPreferred prints (Some print) = IsFirstOfLowest prints print
 
--- the best so far with one more, and that of a list
+-- The best so far with one more, and that of a list.
 abbrev pub chosen : Option Fingerprint → Option Fingerprint → Option Fingerprint
 chosen best None = best
 chosen None (Some print) = Some print

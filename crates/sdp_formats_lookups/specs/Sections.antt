@@ -37,7 +37,7 @@ unfoldable pub ends_candidates : MediaAttribute → Bool
 ends_candidates a.EndOfCandidates = true
 ends_candidates _ = false
 
--- the name and the password of the credentials, where both are given
+-- The name and the password of the credentials, where both are given.
 abbrev pub with_pass : List ℕ → Option (List ℕ) → Option (List ℕ × List ℕ)
 with_pass name None = None
 with_pass name (Some pass) = Some (name, pass)
@@ -49,7 +49,7 @@ with_name (Some name) pass = with_pass name pass
 abbrev pub creds_of : List MediaAttribute → Option (List ℕ × List ℕ)
 creds_of attrs = with_name (first_of ice_ufrag_in attrs) (first_of ice_pwd_in attrs)
 
--- the numbers of header extensions, and the extensions (RFC 8285 8)
+-- The numbers of header extensions, and the extensions (RFC 8285 8).
 unfoldable pub extmap_in : MediaAttribute → List (ℕ × Extension)
 extmap_in (a.ExtMap id ext) = (id, ext) ∷ []
 extmap_in _ = []
@@ -60,7 +60,7 @@ extmap_view x = (x.0, x.1.now)
 abbrev pub extmaps_view : List (ℕ × Bor Extension) → List (ℕ × Extension)
 extmaps_view xs = map extmap_view xs
 
--- the names of streams (RFC 8851 4), eight bytes of each
+-- The names of streams (RFC 8851 4), eight bytes of each.
 unfoldable pub rid_in : MediaAttribute → List (List ℕ)
 rid_in (a.Rid id direction pts restrictions) = name_of 8 id.0 ∷ []
 rid_in _ = []

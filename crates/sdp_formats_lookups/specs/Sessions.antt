@@ -30,7 +30,7 @@ unfoldable pub is_lite : SessionAttribute → Bool
 is_lite a.IceLite = true
 is_lite _ = false
 
--- the name and the password of the credentials, where both are given
+-- The name and the password of the credentials, where both are given.
 abbrev pub with_pass : List ℕ → Option (List ℕ) → Option (List ℕ × List ℕ)
 with_pass name None = None
 with_pass name (Some pass) = Some (name, pass)

@@ -17,7 +17,7 @@ session_prints s = filter_map session.fingerprint_in s.attrs
 abbrev pub section_prints : MediaLine → List Fingerprint
 section_prints m = filter_map sections.fingerprint_in m.attrs
 
--- the first list that has something
+-- The first list that has something.
 abbrev pub first_listed : {A : Type 0} → List (List A) → List A
 first_listed [] = []
 first_listed ([] ∷ lists) = first_listed lists

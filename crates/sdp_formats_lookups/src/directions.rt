@@ -34,7 +34,7 @@ pub fn has_direction(section: &MediaLine) -> bool
         .any(|attribute| gives_direction(attribute))
 }
 
-// The place of the first attribute that gives a direction.
+/// The place of the first attribute that gives a direction.
 fn place_of_direction(attributes: &[MediaAttribute]) -> Option<usize>
     ensures value { result ≡ position gives_direction attributes.now }
     ensures within { IfSome result (λ place. place < length attributes.now) }
@@ -44,7 +44,7 @@ fn place_of_direction(attributes: &[MediaAttribute]) -> Option<usize>
         .position(|attribute| gives_direction(attribute))
 }
 
-// Turns the first attribute that gives a direction.
+/// Turns the first attribute that gives a direction.
 fn turn(attributes: &mut [MediaAttribute], direction: Direction)
     ensures { attributes.new ≡ directed direction attributes.old }
 {

@@ -14,7 +14,7 @@ use std::fmt;
 pub enum FingerprintError {
     /// It has no blank, or a part of its digest is no number below 256 in base 16.
     Malformed,
-    /// Memory was wanting.
+    /// Out of memory.
     Memory,
 }
 
@@ -56,7 +56,7 @@ fn read(alloc: Global, text: &str) -> Result<Fingerprint, Refusal>
 ///
 /// # Errors
 ///
-/// `Malformed` where the text is no such text, `Memory` where memory is wanting.
+/// `Malformed` where the text is no such text, `Memory` where memory runs out.
 pub fn fingerprint_from_str(alloc: Global, text: &str) -> Result<Fingerprint, FingerprintError>
     ensures { IsFromText result (print_in_text.reads text.now) }
 {

@@ -25,7 +25,7 @@ fn push_rid(rids: &mut Vec<Rid>, attribute: &MediaAttribute) -> Result<(), Alloc
 ///
 /// # Errors
 ///
-/// `AllocError` where memory is wanting.
+/// `AllocError` where memory runs out.
 pub fn rids(alloc: Global, section: &MediaLine) -> Result<Vec<Rid>, AllocError>
     ensures { IfOk result (λ rids. rids.items ≡ flat_map rid_in section.now.attrs) }
 {
@@ -57,7 +57,7 @@ fn push_extmap<'a>(
 ///
 /// # Errors
 ///
-/// `AllocError` where memory is wanting.
+/// `AllocError` where memory runs out.
 pub fn extmaps(alloc: Global, section: &MediaLine) -> Result<Vec<(u8, &Extension)>, AllocError>
     ensures { IfOk result (λ extmaps. extmaps_view extmaps.items ≡ flat_map extmap_in section.now.attrs) }
 {

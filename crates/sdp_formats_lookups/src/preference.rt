@@ -22,7 +22,7 @@ pub fn hash_preference(print: &Fingerprint) -> u8
     2
 }
 
-// The better of two fingerprints, the first of equal ones.
+/// The better of two fingerprints, the first of equal ones.
 fn better<'a>(best: &'a Fingerprint, print: &'a Fingerprint) -> &'a Fingerprint
     ensures { chosen (Some best.entry.now) (Some print.entry.now) ≡ Some result.now }
 {
@@ -32,7 +32,7 @@ fn better<'a>(best: &'a Fingerprint, print: &'a Fingerprint) -> &'a Fingerprint
     best
 }
 
-// The best so far, with one more if there is one.
+/// The best so far, with one more if there is one.
 pub(crate) fn chosen<'a>(
     best: Option<&'a Fingerprint>,
     print: Option<&'a Fingerprint>,

@@ -48,6 +48,6 @@ media_attribute =
     (either mid_line
     second_attribute)))))
 
--- a line `a=`
+-- A line `a=`.
 abbrev pub attribute_line : Form MediaAttribute
 attribute_line = after (codes "a=") media_attribute

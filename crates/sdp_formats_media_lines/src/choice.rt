@@ -124,7 +124,7 @@ fn second_attribute(alloc: Global, text: &str) -> Result<MediaAttribute, Refusal
     third_attribute(alloc, text)
 }
 
-// What stands behind `a=`.
+/// What stands behind `a=`.
 #[tactic(auto, unfolding(crate::specs::Choice::media_attribute))]
 fn media_attribute(alloc: Global, text: &str) -> Result<MediaAttribute, Refusal>
     ensures { Gives result (media_attribute.reads text.now) }

@@ -23,7 +23,7 @@ and_true false b h = absurd (cc)
 both_true : (a b : Bool) → a ≡ true → b ≡ true → (a && b) ≡ true
 both_true a b h k = cc
 
--- blanks in front
+-- Blanks in front.
 unblanked-front : (t : List ℕ) → (front : List ℕ) × Blanks front × (t ≡ front ++ unblanked t)
 unblanked-front [] = ([], refl, refl)
 unblanked-front (b ∷ t) = front_case b t (is_blank b) refl (unblanked-front t)
@@ -52,7 +52,7 @@ unblanked-word [] t n h = absurd (n refl)
 unblanked-word (b ∷ w) t n h = ap (λ x. cond x (unblanked (w ++ t)) (b ∷ (w ++ t)))
     (word_blank b (and_true (is_word_byte b) (list_all is_word_byte w) h).0)
 
--- a word's reading
+-- A word's reading.
 some_some : (t w : List ℕ) → some_text t ≡ Some w → (t ≡ w) × (w ≢ [])
 some_some [] w h = absurd (none_some w h)
 some_some (b ∷ t) w h = let same = some_same (b ∷ t) w h in (same, λ e. cons_nil b t (same ∙ e))
@@ -79,7 +79,7 @@ pub word-complete : (w : List ℕ) → w ≢ [] → list_all is_word_byte w ≡ 
 word-complete w n h = ap (λ o. o >>= λ a. cond (list_all is_word_byte a) (Some a) None) (some_is w n)
     ∙ ap (λ x. cond x (Some w) None) h
 
--- cuts
+-- Cuts.
 lacks-front : (k : ℕ) (a b : List ℕ) → Lacks k (a ++ b) → Lacks k a
 lacks-front k [] b h = tt
 lacks-front k (x ∷ a) b h = (h.0, lacks-front k a b h.1)
@@ -94,7 +94,7 @@ at-cut c t front back whole lacks = ap (halves_of t) (ap (split_first c) whole �
 pub at-none : (c : ℕ) (t : List ℕ) → Lacks c t → halves c t ≡ (t, None)
 at-none c t lacks = ap (halves_of t) (split_first-nowhere c t lacks)
 
--- the first half lacks the byte and is the front of the text
+-- The first half lacks the byte and is the front of the text.
 front_by : (c : ℕ) (t : List ℕ) → IsCut c t → Lacks c (halves c t).0 × ((more : List ℕ) × (t ≡ (halves c t).0 ++ more))
 front_by c t (somewhere front back whole lacks) =
     let e = ap (λ (x : List ℕ × Option (List ℕ)). x.0) (at-cut c t front back whole lacks) in
@@ -187,7 +187,7 @@ pair-sound t p r h =
       a.2,
     )
 
--- a pair that is there is read
+-- A pair that is there is read.
 blank_not : (b : ℕ) → is_blank b ≡ true → b ≢ 59
 blank_not b h = grind (arith, nat_tests)
 
@@ -263,7 +263,7 @@ pair-complete t p r s =
     (ap padded h.0 ∙ padded-complete p.value tail s.6.0 s.6.1 s.7)
     ∙ ap (λ x. Some (make_pair (p.key, p.value), x)) h.1
 
--- blanks alone hold no word
+-- Blanks alone hold no word.
 pub blank_word : (front w t : List ℕ) → list_all is_blank (front ++ (w ++ t)) ≡ true → w ≢ []
     → list_all is_word_byte w ≡ true → ⊥
 blank_word [] [] t h n k = n refl

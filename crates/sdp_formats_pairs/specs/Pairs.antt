@@ -10,27 +10,27 @@ use Rattle.sdp_formats_forms.specs.Split.{split_first, halves, behind}
 use Rattle.sdp_formats_params.specs.declared.Pair.{Pair}
 use Rattle.sdp_formats_pairs.specs.Runs.{run}
 
--- a blank or a tab
+-- A blank or a tab.
 abbrev pub is_blank : ℕ → Bool
 is_blank b = b == 32 || b == 9
 
--- neither a blank nor a tab
+-- Neither a blank nor a tab.
 abbrev pub is_word_byte : ℕ → Bool
 is_word_byte b = not (b == 32) && not (b == 9)
 
 abbrev pub word : Form (List ℕ)
 word = only (list_all is_word_byte) any_text
 
--- the text behind one blank
+-- The text behind one blank.
 abbrev pub behind_blank : List ℕ → Option (List ℕ)
 behind_blank t = option_or (behind (codes " ") t) (behind (9 ∷ []) t)
 
--- the text behind the blanks that it begins with
+-- The text behind the blanks that it begins with.
 abbrev pub unblanked : List ℕ → List ℕ
 unblanked [] = []
 unblanked (b ∷ t) = if is_blank b then unblanked t else b ∷ t
 
--- a word, and behind it blanks alone
+-- A word, and behind it blanks alone.
 abbrev pub word_before : List ℕ → List ℕ
 word_before t = (halves 9 (halves 32 t).0).0
 
@@ -43,7 +43,7 @@ padded t = do
   tail ← behind w t
   passed_tail w tail
 
--- nothing, where nothing stands there
+-- Nothing, where nothing stands there.
 abbrev pub or_empty : Option (List ℕ) → List ℕ
 or_empty None = []
 or_empty (Some t) = t
@@ -59,7 +59,7 @@ pair_at t = do
   value ← padded (halves 59 cut.1).0
   Some (make_pair (key, value), or_empty (halves 59 cut.1).1)
 
--- pairs up to the end, or up to blanks behind a last `;`
+-- Pairs up to the end, or up to blanks behind a last `;`.
 abbrev pub whole : List Pair × List ℕ → Option (List Pair)
 whole x = if length x.0 == 0 then None else if list_all is_blank x.1 then Some x.0 else None
 
@@ -77,13 +77,13 @@ restriction_at t = do
   value ← word.reads (halves 59 cut.1).0
   Some (make_pair (key, value), or_empty (halves 59 cut.1).1)
 
--- whether the text ends with a semicolon
+-- Whether the text ends with a semicolon.
 abbrev pub ends_open : List ℕ → Bool
 ends_open [] = false
 ends_open (b ∷ []) = b == 59
 ends_open (b ∷ c ∷ t) = ends_open (c ∷ t)
 
--- pairs up to the end
+-- Pairs up to the end.
 abbrev pub all_read : List Pair × List ℕ → Option (List Pair)
 all_read x = if length x.1 == 0 then Some x.0 else None
 

@@ -6,7 +6,7 @@ use Rattle.sdp_formats_pairs.specs.PairsSay.{IsWord, pair_list}
 use Rattle.sdp_formats_params.specs.Printed.{pair_text}
 use Rattle.sdp_formats_params.specs.declared.Pair.{Pair}
 
--- a key and a value that can stand round `=`: words without blanks and tabs, the key without `=`, the value without `;`
+-- A key and a value that can stand round `=`: words without blanks and tabs, no `=` in the key, no `;` in the value.
 abbrev pub IsPair : Pair → Type 0
 IsPair p = IsWord 61 p.key × IsWord 59 p.value
 

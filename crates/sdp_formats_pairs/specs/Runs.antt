@@ -4,7 +4,7 @@ use Rattle.std.proofs.Common.{◌∙◌, ap, arith}
 use Rattle.sdp_formats_forms.specs.Steps.{none_some, some_same, none_if}
 use Rattle.sdp_formats_steps.specs.Step.{Step, Stops, Begins, Many, IsFunctional, IsShortening}
 
--- the step of a reader
+-- The step of a reader.
 abbrev pub At : {A : Type 0} → (List ℕ → Option (A × List ℕ)) → Step A
 At f t a r = f t ≡ Some (a, r)
 
@@ -12,7 +12,7 @@ abbrev pub onto_run : {A : Type 0} → Option (A × List ℕ) → List ℕ → (
 onto_run None t more = ([], t)
 onto_run (Some x) t more = (x.0 ∷ (more x.1).0, (more x.1).1)
 
--- the values, at most so many, and the rest
+-- The values, at most so many, and the rest.
 abbrev pub run : {A : Type 0} → (List ℕ → Option (A × List ℕ)) → ℕ → List ℕ → List A × List ℕ
 run f zero t = ([], t)
 run f (suc n) t = onto_run (f t) t (run f n)

@@ -43,7 +43,7 @@ fn is_blank_alone(text: &str) -> bool
         .all(|byte| *byte == b' ' || *byte == b'\t')
 }
 
-// The text behind one blank or tab.
+/// The text behind one blank or tab.
 fn behind_blank(text: &str) -> Option<&str>
     ensures { option_copied result ≡ behind_blank text.now }
 {
@@ -53,7 +53,7 @@ fn behind_blank(text: &str) -> Option<&str>
     }
 }
 
-// The text behind the blanks and tabs that it begins with.
+/// The text behind the blanks and tabs that it begins with.
 pub(crate) fn unblanked(text: &str) -> &str
     ensures { result.now ≡ unblanked text.now }
 {
@@ -72,7 +72,7 @@ fn word_before(text: &str) -> &str
     word
 }
 
-// A word with blanks and tabs alone behind it.
+/// A word with blanks and tabs alone behind it.
 #[tactic(auto, unfolding(crate::specs::Pairs::padded))]
 fn padded(text: &str) -> Result<&str, Refusal>
     ensures { GivesBy (λ x. x.now) result (padded text.now) }
@@ -118,7 +118,7 @@ impl Stepped<Pair> for PairStep {
     }
 }
 
-// The pairs, where there are some and blanks alone are left.
+/// The pairs, where there are some and blanks alone are left.
 fn whole(pairs: Listed<Pair>, rest: &str) -> Result<Listed<Pair>, Refusal>
     ensures { Gives result (whole (pairs, rest.now)) }
 {

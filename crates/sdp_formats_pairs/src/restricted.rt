@@ -57,7 +57,7 @@ fn all_read(pairs: Listed<Pair>, rest: &str) -> Result<Listed<Pair>, Refusal>
 ///
 /// # Errors
 ///
-/// `Unfit` where it is no such list, `Memory` where memory is wanting.
+/// `Unfit` where it is no such list, `Memory` where memory runs out.
 #[tactic(auto, unfolding(crate::specs::Pairs::restrictions_of))]
 pub fn restrictions(alloc: Global, text: &str) -> Result<Listed<Pair>, Refusal>
     ensures { Gives result (restrictions_of text.now) }

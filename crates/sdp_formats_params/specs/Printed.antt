@@ -25,7 +25,7 @@ use Rattle.sdp_formats_params.specs.declared.param.FormatParam.TheVariants.{Apt,
 abbrev pub pair_text : Pair → List ℕ
 pair_text p = p.key ++ (codes "=" ++ p.value)
 
--- a flag is 1 or 0
+-- A flag is 1 or 0.
 abbrev pub flag_digit : Bool → ℕ
 flag_digit true = 1
 flag_digit false = 0
@@ -34,7 +34,7 @@ abbrev pub levels_text : ℕ → ℕ → ℕ → List ℕ
 levels_text profile tier level = spelled (codes "profile-id=" ∷ decimal profile ∷ codes ";tier-flag=" ∷ decimal tier
     ∷ codes ";level-id=" ∷ decimal level ∷ [])
 
--- the modes, 0 to 8, whose bits are set (RFC 4867 8.2)
+-- The modes, 0 to 8, whose bits are set (RFC 4867 8.2).
 abbrev pub has_mode : ℕ → ℕ → Bool
 has_mode modes mode = nat_le mode 8 && (modes / 2 ^ mode % 2 == 1)
 
@@ -48,12 +48,12 @@ modes_among modes all = map decimal (filter (has_mode modes) all)
 abbrev pub modes_text : ℕ → List ℕ
 modes_text modes = joined (codes ",") (modes_among modes (0 ∷ 1 ∷ 2 ∷ 3 ∷ 4 ∷ 5 ∷ 6 ∷ 7 ∷ 8 ∷ []))
 
--- texts with commas between, the first behind one too unless it is the first of all
+-- Texts with commas between, the first behind one too unless it is the first of all.
 abbrev pub modes_left : Bool → List (List ℕ) → List ℕ
 modes_left true texts = joined (codes ",") texts
 modes_left false texts = each_behind (codes ",") texts
 
--- at least six hexadecimal digits
+-- At least six hexadecimal digits.
 abbrev pub six_digits : ℕ → List ℕ
 six_digits number = padded_integral (format_spec 32 0 4 6 (2 ^ 64 - 1)) false [] (digits 16 false number)
 

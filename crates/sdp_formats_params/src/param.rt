@@ -75,7 +75,7 @@ pub(crate) fn has_name(key: &str, name: &str) -> bool
     name.eq_ignore_ascii_case(key)
 }
 
-// The parameter of a known key.
+/// The parameter of a known key.
 fn value_param(key: Key, value: &str) -> FormatParam
     ensures { result ≡ value_param key value.now }
 {
@@ -109,7 +109,7 @@ fn value_param(key: Key, value: &str) -> FormatParam
     }
 }
 
-// The parameter of a key whose value is a number of eight bits.
+/// The parameter of a key whose value is a number of eight bits.
 fn byte_param(key: Key, number: Option<u8>) -> FormatParam
     ensures { result ≡ byte_param key number }
 {
@@ -126,7 +126,7 @@ fn byte_param(key: Key, number: Option<u8>) -> FormatParam
     }
 }
 
-// The parameter of a key that has no value of its own in `FormatParams`.
+/// The parameter of a key that has no value of its own in `FormatParams`.
 fn other_param(key: &str, value: &str) -> FormatParam
     ensures { result ≡ other_param key.now value.now }
 {

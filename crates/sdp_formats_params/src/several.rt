@@ -163,7 +163,7 @@ impl FormatParam {
     ///
     /// # Errors
     ///
-    /// `AllocError` where memory is wanting.
+    /// `AllocError` where memory runs out.
     pub fn parse_pairs(alloc: Global, pairs: &[Pair]) -> Result<Listed<FormatParam>, AllocError>
         ensures { IfOk result (λ params. params ≡ params_of pairs.now) }
     {

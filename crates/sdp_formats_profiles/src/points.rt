@@ -9,14 +9,14 @@ pub(crate) fn distance(place: usize, other: usize) -> usize
     place.abs_diff(other)
 }
 
-// Points where a test holds.
+/// Points where a test holds.
 pub(crate) fn points_if(holds: bool, points: usize) -> Option<usize>
     ensures { result ≡ points_if holds points }
 {
     if holds { Some(points) } else { None }
 }
 
-// What levels at these places leave of 100 points.
+/// What levels at these places leave of 100 points.
 pub(crate) fn level_points(place: usize, other: usize) -> usize
     ensures { result ≡ level_points place other }
 {

@@ -17,18 +17,18 @@ use Rattle.sdp_formats_types.specs.declared.media.MediaLine.{MediaLine}
 use Rattle.sdp_formats_types.specs.declared.session.Sdp.{Sdp}
 use Rattle.sdp_formats_types.specs.declared.session.Session.{Session}
 
--- the lines `v=`, `o=` and `s=`: the session's number
+-- The lines `v=`, `o=` and `s=`: the session's number.
 unfoldable pub OpeningSays : List ℕ → ℕ → List ℕ → Type 0
 OpeningSays text id rest = (v : Passed) × (one : List ℕ) × LineOf version_line.Says text v one
     × (two : List ℕ) × LineOf origin_line.Says one id two
     × (s : Passed) × LineOf name_line.Says two s rest
 
--- the line `t=` and any `r=`
+-- The line `t=` and any `r=`.
 unfoldable pub TimesSay : List ℕ → Passed → List ℕ → Type 0
 TimesSay text t rest = (one : List ℕ) × LineOf times_line.Says text t one
     × (rs : List Passed) × Many (LineOf repeat_line.Says) one rs rest
 
--- the header, and the attributes up to the first section (RFC 8866 5)
+-- The header, and the attributes up to the first section (RFC 8866 5).
 unfoldable pub SessionSays : List ℕ → Session → List ℕ → Type 0
 SessionSays text session rest = (one : List ℕ) × OpeningSays text session.id one
     × (others : List Passed) × (two : List ℕ) × Many (LineOf other_line.Says) one others two
@@ -36,7 +36,7 @@ SessionSays text session rest = (one : List ℕ) × OpeningSays text session.id 
     × (t : Passed) × (four : List ℕ) × TimesSay three t four
     × Many (LineOf session_line.Says) four session.attrs rest
 
--- the section that a line `m=`, a bandwidth and attributes make
+-- The section that a line `m=`, a bandwidth and attributes make.
 abbrev pub section_of : MediaHead → MediaLine → Type 0
 section_of h section = (section.typ ≡ h.typ) × (section.disabled ≡ h.disabled) × (section.proto ≡ h.proto)
     × (section.pts ≡ h.pts)

@@ -16,7 +16,7 @@ use crate::error::RoundError;
 use crate::negotiated::negotiated;
 use sdp_formats_rows::{Codec, PayloadParams};
 
-// The row's own type where it is unclaimed, else a free one.
+/// The row's own type where it is unclaimed, else a free one.
 fn fallback(
     role: Role,
     before: &[PayloadParams],
@@ -152,7 +152,7 @@ fn matched_row(
     Ok(locked_as(row, best, pt, resend, red))
 }
 
-// The best of the remote rows whose type no locked row has.
+/// The best of the remote rows whose type no locked row has.
 fn best_open(
     remote: &[PayloadParams],
     now: &[PayloadParams],

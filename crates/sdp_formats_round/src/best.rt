@@ -6,7 +6,7 @@ ghost use Rattle.sdp_formats_round.specs.Best.{best_row, better, is_reached, poi
 
 use sdp_formats_rows::PayloadParams;
 
-// Whether these points are there and no fewer than the best so far.
+/// Whether these points are there and no fewer than the best so far.
 fn is_reached(best: Option<usize>, points: Option<usize>) -> bool
     ensures { result ≡ is_reached best points }
 {
@@ -26,7 +26,7 @@ fn points_of(row: &PayloadParams, best: Option<&PayloadParams>) -> Option<usize>
     }
 }
 
-// The best match of a row so far with one more.
+/// The best match of a row so far with one more.
 pub(crate) fn better<'a>(
     row: &PayloadParams,
     best: Option<&'a PayloadParams>,

@@ -16,7 +16,7 @@ pub enum RoundError {
     /// No payload type is free.
     #[error("no payload type is free")]
     NoFreeType,
-    /// Memory is wanting.
+    /// Memory runs out.
     #[error("out of memory")]
     Memory,
 }

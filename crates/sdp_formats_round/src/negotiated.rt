@@ -100,7 +100,7 @@ fn negotiated_channels(codec: Codec, ours: Option<u8>, theirs: Option<u8>) -> Op
     }
 }
 
-// What a match with `theirs` leaves of a row's codec settings.
+/// What a match with `theirs` leaves of a row's codec settings.
 #[tactic(auto, unfolding(crate::specs::Negotiated::negotiated))]
 pub(crate) fn negotiated(ours: CodecSpec, theirs: &CodecSpec) -> CodecSpec
     ensures { result ≡ negotiated ours theirs.now }

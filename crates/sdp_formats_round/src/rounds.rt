@@ -10,7 +10,7 @@ use crate::settled::settled_rows;
 use crate::standing::standing_rows;
 use sdp_formats_rows::PayloadParams;
 
-// The three passes over a copy of the rows.
+/// The three passes over a copy of the rows.
 #[tactic(auto, unfolding(crate::specs::Rounds::round))]
 fn turn_rows(
     dictated: bool,

@@ -6,11 +6,11 @@ use Rattle.sdp_formats_types.specs.declared.media.RtpMap.{RtpMap as Map}
 use Rattle.sdp_formats_types.specs.declared.media.MediaAttribute.{MediaAttribute}
 use Rattle.sdp_formats_types.specs.declared.media.MediaAttribute.TheVariants.{RtcpFb, RtpMap}
 
--- a payload type of 7 bits (RFC 3550 5.1)
+-- A payload type of 7 bits (RFC 3550 5.1).
 abbrev pub payload_type : Form ℕ
 payload_type = only (λ n. nat_le n 127) (number (2 ^ 8))
 
--- a clock rate above 0
+-- A clock rate above 0.
 abbrev pub clock_rate : Form ℕ
 clock_rate = only (λ n. nat_lt 0 n) (number (2 ^ 32))
 

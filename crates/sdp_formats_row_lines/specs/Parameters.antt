@@ -27,7 +27,7 @@ plain_byte t = if list_all is_ascii_digit t then number_below (2 ^ 8) t else Non
 abbrev pub range : Form (List FormatParam)
 range = made (λ n. BareRange n ∷ []) (after (codes "0-") (told plain_byte))
 
--- anything, nothing too
+-- Anything, nothing too.
 abbrev pub unknown_values : List FormatParam
 unknown_values = Unknown ∷ []
 

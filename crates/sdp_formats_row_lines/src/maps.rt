@@ -42,7 +42,7 @@ fn clock_rate(text: &str) -> Result<Frequency, Refusal>
 ///
 /// # Errors
 ///
-/// `Unfit` where it is no such value, `Memory` where memory is wanting.
+/// `Unfit` where it is no such value, `Memory` where memory runs out.
 pub fn rtcp_fb(alloc: Global, value: &str) -> Result<MediaAttribute, Refusal>
     ensures { Gives result (rtcp_fb.reads value.now) }
 {

@@ -70,7 +70,7 @@ fn range(alloc: Global, text: &str) -> Result<Listed<FormatParam>, Refusal>
     one(alloc, FormatParam::BareRange(last))
 }
 
-// The first form that fits.
+/// The first form that fits.
 fn parameters(alloc: Global, text: &str) -> Result<Listed<FormatParam>, Refusal>
     ensures { Gives result (parameters.reads text.now) }
 {
@@ -108,7 +108,7 @@ fn bare_fmtp(alloc: Global, value: &str) -> Result<MediaAttribute, Refusal>
 ///
 /// # Errors
 ///
-/// `Unfit` where it doesn't begin with a payload type up to 127, `Memory` where memory is wanting.
+/// `Unfit` where it doesn't begin with a payload type up to 127, `Memory` where memory runs out.
 pub fn fmtp(alloc: Global, value: &str) -> Result<MediaAttribute, Refusal>
     ensures { Gives result (fmtp.reads value.now) }
 {

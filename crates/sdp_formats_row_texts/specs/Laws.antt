@@ -21,7 +21,7 @@ use Rattle.sdp_formats_types.specs.declared.media.MediaType.{MediaType}
 use Rattle.sdp_formats_types.specs.declared.media.MediaType.TheVariants.{Audio, Video}
 use Rattle.sdp_formats_types.specs.declared.session.Sdp.{Sdp}
 
--- a clock rate of 32 bits above 0 and channels of 8 bits, as every row of the program has
+-- A clock rate of 32 bits above 0 and channels of 8 bits, as every row of the program has.
 abbrev pub IsSized : Row → Type 0
 IsSized row = (0 < row.spec.clock_rate) × (row.spec.clock_rate < 2 ^ 32) × IfSome row.spec.channels (λ n. n < 2 ^ 8)
 
@@ -52,7 +52,7 @@ pub record ListsRows (m : MediaLine) (rows : List Row) : Type 0 where
 abbrev pub RowsArePrintable : Type 0
 RowsArePrintable = (m : MediaLine) (rows : List Row) → ListsRows m rows → IsPrintableSection m
 
--- the rows that a section names
+-- The rows that a section names.
 abbrev pub section_rows : MediaLine → List Row
 section_rows m = rows_of m.pts m.attrs
 
@@ -74,7 +74,7 @@ RowTextsComeBack = (sdp : Sdp) (rows : List (List Row)) → IsPrintableSession s
     → SdpSays (sdp_text sdp) (text_as_read sdp) []
     × (map section_rows (text_as_read sdp).media_lines ≡ map (map unlocked) rows)
 
--- a line of another kind than `a=fmtp`
+-- A line of another kind than `a=fmtp`.
 abbrev pub is_other_line : MediaAttribute → Bool
 is_other_line (Fmtp pt values) = false
 is_other_line _ = true

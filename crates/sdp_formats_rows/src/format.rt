@@ -61,7 +61,7 @@ pub struct FormatParams {
     pub mode_set: Option<u16>,
 }
 
-// No parameter given.
+/// No parameter given.
 pub(crate) fn no_format() -> FormatParams
     ensures { result ≡ no_format }
 {
@@ -93,7 +93,7 @@ impl FormatParams {
     }
 }
 
-// Does a part of the line give a tier or level?
+/// Does a part of the line give a tier or level?
 fn gives_level(line: &str) -> bool
     ensures { result ≡ list_any gives_level (parts 59 line.now) }
 {
@@ -155,7 +155,7 @@ fn field_value<'a>(part: &'a str, key: Key, before: Option<&'a str>) -> Option<&
     }
 }
 
-// The last value of a key.
+/// The last value of a key.
 fn last_value<'a>(line: &'a str, key: Key) -> Option<&'a str>
     ensures { option_copied result ≡ last_value key (parts 59 line.now) None }
 {
@@ -190,7 +190,7 @@ fn with_values(
     }
 }
 
-// The profile, tier and level of a line, and nothing else.
+/// The profile, tier and level of a line, and nothing else.
 fn level_format(line: &str) -> FormatParams
     ensures { result ≡ level_format (parts 59 line.now) }
 {

@@ -42,7 +42,7 @@ fn same_numbers(a: Option<(u8, u8, u8)>, b: Option<(u8, u8, u8)>) -> bool
     }
 }
 
-// Both on or neither, where none given is off.
+/// Both on or neither, where none given is off.
 pub(crate) fn alike(a: Option<bool>, b: Option<bool>) -> bool
     ensures { result ≡ alike a b }
 {

@@ -103,7 +103,7 @@ fn given_266(f: &FormatParams) -> GivenH266
     }
 }
 
-// Formats of one codec that differ.
+/// Formats of one codec that differ.
 fn format_score(codec: Codec, a: &FormatParams, b: &FormatParams) -> Option<usize>
     ensures { result ≡ format_score codec a.now b.now }
 {

@@ -30,7 +30,7 @@ fn push_fmtp(
     Ok(())
 }
 
-// A type mapped to a codec, with one parameter.
+/// A type mapped to a codec, with one parameter.
 fn push_link(
     alloc: Global,
     attributes: &mut Vec<MediaAttribute>,
@@ -96,7 +96,7 @@ fn push_red(
 ///
 /// # Errors
 ///
-/// `AllocError` where memory is wanting.
+/// `AllocError` where memory runs out.
 pub fn as_media_attrs(alloc: Global, row: &PayloadParams) -> Result<Vec<MediaAttribute>, AllocError>
     ensures { IfOk result (λ attributes. attributes.items ≡ attributes_of row.now) }
 {

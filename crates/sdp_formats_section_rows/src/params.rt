@@ -117,7 +117,7 @@ fn push_param(
 ///
 /// # Errors
 ///
-/// `AllocError` where memory is wanting.
+/// `AllocError` where memory runs out.
 pub fn to_format_param(alloc: Global, f: &FormatParams) -> Result<Vec<FormatParam>, AllocError>
     ensures { IfOk result (λ params. params.items ≡ params_of f.now) }
 {

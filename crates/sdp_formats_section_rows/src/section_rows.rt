@@ -55,7 +55,7 @@ fn linked_after(
     }
 }
 
-// The type of retransmissions or of redundant audio of a type.
+/// The type of retransmissions or of redundant audio of a type.
 fn linked(role: Codec, attributes: &[MediaAttribute], mappings: &[Mapping], pt: Pt) -> Option<u8>
     ensures { result ≡ linked role attributes.now mappings.now pt }
 {
@@ -105,7 +105,7 @@ fn red_of(attributes: &[MediaAttribute], mappings: &[Mapping], mapping: &Mapping
     None
 }
 
-// The row of a mapped type and its format.
+/// The row of a mapped type and its format.
 fn row_of(
     attributes: &[MediaAttribute],
     mappings: &[Mapping],
@@ -208,7 +208,7 @@ fn rows_of(
 ///
 /// # Errors
 ///
-/// `AllocError` where memory is wanting.
+/// `AllocError` where memory runs out.
 pub fn rtp_params(alloc: Global, section: &MediaLine) -> Result<Vec<PayloadParams>, AllocError>
     ensures { IfOk result (λ rows. rows.items ≡ rows_of section.now.pts section.now.attrs) }
 {

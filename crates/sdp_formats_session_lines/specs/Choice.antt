@@ -25,6 +25,6 @@ session_attribute =
     (either ice_options_line
     later_attribute)))))
 
--- a line `a=`
+-- A line `a=`.
 abbrev pub attribute_line : Form SessionAttribute
 attribute_line = after (codes "a=") session_attribute

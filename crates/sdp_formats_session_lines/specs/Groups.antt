@@ -7,21 +7,21 @@ use Rattle.sdp_formats_forms.specs.Split.{behind}
 use Rattle.sdp_formats_types.specs.declared.session.SessionAttribute.{SessionAttribute}
 use Rattle.sdp_formats_types.specs.declared.session.SessionAttribute.TheVariants.{Group, MsidSemantic}
 
--- a text without a blank at its end
+-- A text without a blank at its end.
 abbrev pub without_last : List ℕ → List ℕ
 without_last [] = []
 without_last (b ∷ []) = if b == 32 then [] else b ∷ []
 without_last (b ∷ c ∷ t) = b ∷ without_last (c ∷ t)
 
--- a text without a blank at its beginning
+-- A text without a blank at its beginning.
 abbrev pub without_first : List ℕ → List ℕ
 without_first t = unwrap_or (behind (codes " ") t) t
 
--- a form of a part of the text
+-- A form of a part of the text.
 abbrev pub through : {A : Type 0} → (List ℕ → List ℕ) → Form A → Form A
 through part f = record { reads = λ t. f.reads (part t); Says = λ t a. f.Says (part t) a }
 
--- the name of a section
+-- The name of a section.
 abbrev pub mid_word : List ℕ → Option (List ℕ)
 mid_word t = option_map (name_of 16) (some_text t)
 

@@ -32,7 +32,7 @@ fn later_attribute(alloc: Global, text: &str) -> Result<SessionAttribute, Refusa
     Ok(SessionAttribute::Unused(text_of(alloc, text)?))
 }
 
-// What stands behind `a=`.
+/// What stands behind `a=`.
 #[tactic(auto, unfolding(crate::specs::Choice::session_attribute))]
 fn session_attribute(alloc: Global, text: &str) -> Result<SessionAttribute, Refusal>
     ensures { Gives result (session_attribute.reads text.now) }

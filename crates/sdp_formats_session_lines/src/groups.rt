@@ -40,7 +40,7 @@ impl Reads<Text> for AnyWord {
     }
 }
 
-// The text without a blank at its end.
+/// The text without a blank at its end.
 fn without_last(text: &str) -> &str
     ensures { result.now ≡ without_last text.now }
 {
@@ -50,7 +50,7 @@ fn without_last(text: &str) -> &str
     }
 }
 
-// The text without a blank at its beginning.
+/// The text without a blank at its beginning.
 fn without_first(text: &str) -> &str
     ensures { result.now ≡ without_first text.now }
 {
@@ -78,7 +78,7 @@ fn mids_of(alloc: Global, mids: Option<Listed<Mid>>) -> Listed<Mid>
     }
 }
 
-// The value of an `a=group` line (RFC 5888 5).
+/// The value of an `a=group` line (RFC 5888 5).
 pub(crate) fn group(alloc: Global, value: &str) -> Result<SessionAttribute, Refusal>
     ensures { Gives result (group.reads value.now) }
 {
@@ -88,7 +88,7 @@ pub(crate) fn group(alloc: Global, value: &str) -> Result<SessionAttribute, Refu
     Ok(SessionAttribute::Group { typ, mids })
 }
 
-// The value of an `a=msid-semantic` line.
+/// The value of an `a=msid-semantic` line.
 pub(crate) fn msid_semantic(alloc: Global, value: &str) -> Result<SessionAttribute, Refusal>
     ensures { Gives result (msid_semantic.reads value.now) }
 {

@@ -2,16 +2,16 @@
 use Rattle.std.specs.Prelude.{ℕ, ◌==◌, Bool, not, List, [], ◌∷◌, ◌++◌, filter, Option, Some, None, if◌then◌else◌}
 use Rattle.std.specs.List.{list_any}
 
--- each value of a list once, in the order in which they are first there
+-- Each value of a list once, in the order in which they are first there.
 abbrev pub distinct : List ℕ → List ℕ
 distinct [] = []
 distinct (n ∷ ns) = n ∷ filter (λ m. not (m == n)) (distinct ns)
 
--- it is one of them
+-- It is one of them.
 abbrev pub is_among : ℕ → List ℕ → Bool
 is_among n ns = list_any (λ m. m == n) ns
 
--- a list with one value more, if it isn't there yet
+-- A list with one value more, if it isn't there yet.
 abbrev pub with_new : List ℕ → ℕ → List ℕ
 with_new ns n = if is_among n ns then ns else ns ++ n ∷ []
 

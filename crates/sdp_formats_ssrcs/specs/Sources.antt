@@ -11,35 +11,35 @@ use Rattle.sdp_formats_types.specs.declared.MediaAttribute.{MediaAttribute}
 use Rattle.sdp_formats_types.specs.declared.MediaAttribute.TheVariants as a
 use Rattle.sdp_formats_types.specs.declared.SsrcInfo.{SsrcInfo}
 
--- what the last attribute says that says something
+-- What the last attribute says that says something.
 abbrev pub last_of : {A B : Type 0} → (A → Option B) → List A → Option B
 last_of f xs = last_or None (filter_map f xs)
 
--- a word for no stream: a hyphen, with white space round it or not (RFC 8830 2)
+-- A word for no stream: a hyphen, with white space round it or not (RFC 8830 2).
 abbrev pub is_no_stream : List ℕ → Bool
 is_no_stream word = pointwise nat_eq (trim word) (codes "-")
 
--- the name that a word gives, without the white space round it
+-- The name that a word gives, without the white space round it.
 unfoldable pub name_in : List ℕ → Option (List ℕ)
 name_in word = if is_no_stream word then None else Some (trim word)
 
 abbrev pub name_given : Option (List ℕ) → Option (List ℕ)
 name_given word = option_flatten (option_map name_in word)
 
--- the word of the stream: up to the first blank
+-- The word of the stream: up to the first blank.
 abbrev pub stream_word : List ℕ → List ℕ
 stream_word value = (halves 32 value).0
 
--- the word of the track, if there is a blank: between it and the next
+-- The word of the track, if there is a blank: between it and the next.
 abbrev pub track_word : List ℕ → Option (List ℕ)
 track_word value = option_map stream_word ((halves 32 value).1)
 
--- the source that an `a=ssrc` line speaks of
+-- The source that an `a=ssrc` line speaks of.
 unfoldable pub source_in : MediaAttribute → Option ℕ
 source_in (a.Ssrc ssrc attr value) = Some ssrc
 source_in _ = None
 
--- the value that an `a=ssrc` line gives of this source under this word, in either case
+-- The value that an `a=ssrc` line gives of this source under this word, in either case.
 unfoldable pub value_in : List ℕ → ℕ → MediaAttribute → Option (List ℕ)
 value_in word source (a.Ssrc ssrc attr value) =
     if (ssrc == source) && str_eq_ignore_ascii_case attr word then Some value else None
@@ -51,12 +51,12 @@ stream_in source attribute = option_map stream_word (value_in (codes "msid") sou
 abbrev pub track_in : ℕ → MediaAttribute → Option (List ℕ)
 track_in source attribute = option_flatten (option_map track_word (value_in (codes "msid") source attribute))
 
--- a group of two: the repaired source and the one that repairs it
+-- A group of two: the repaired source and the one that repairs it.
 abbrev pub pair_of : List ℕ → Option (ℕ × ℕ)
 pair_of (repaired ∷ repairing ∷ []) = Some (repaired, repairing)
 pair_of _ = None
 
--- the pair of a group of retransmission, named in either case (RFC 4588 8.3)
+-- The pair of a group of retransmission, named in either case (RFC 4588 8.3).
 unfoldable pub repair_in : MediaAttribute → Option (ℕ × ℕ)
 repair_in (a.SsrcGroup semantics ssrcs) =
     if str_eq_ignore_ascii_case semantics (codes "fid") then pair_of ssrcs else None
@@ -65,14 +65,14 @@ repair_in _ = None
 abbrev pub repairing_in : MediaAttribute → Option ℕ
 repairing_in attribute = option_map (λ p. p.1) (repair_in attribute)
 
--- the source that this one repairs
+-- The source that this one repairs.
 abbrev pub repaired_if : ℕ → ℕ × ℕ → Option ℕ
 repaired_if source p = if p.1 == source then Some p.0 else None
 
 abbrev pub repaired_in : ℕ → MediaAttribute → Option ℕ
 repaired_in source attribute = option_flatten (option_map (repaired_if source) (repair_in attribute))
 
--- what the attributes say of a source: of each thing the last that is said
+-- What the attributes say of a source: of each thing the last that is said.
 abbrev pub info_of : List MediaAttribute → ℕ → SsrcInfo
 info_of attrs source = record {
   ssrc = source;
@@ -82,7 +82,7 @@ info_of attrs source = record {
   track_id = name_given (last_of (track_in source) attrs);
 }
 
--- the sources that attributes name: first those of `a=ssrc` lines, then those that repair others, each once
+-- The sources that attributes name: first those of `a=ssrc` lines, then those that repair others, each once.
 abbrev pub sources_of : List MediaAttribute → List ℕ
 sources_of attrs = distinct (filter_map source_in attrs ++ filter_map repairing_in attrs)
 

@@ -54,7 +54,7 @@ fn info_of(
 ///
 /// # Errors
 ///
-/// `AllocError` where memory is wanting.
+/// `AllocError` where memory runs out.
 pub fn ssrc_info(alloc: Global, section: &MediaLine) -> Result<Vec<SsrcInfo>, AllocError>
     ensures { IfOk result (λ infos. infos.items ≡ infos_of section.now.attrs) }
 {

@@ -27,7 +27,7 @@ fn name(alloc: Global, word: &str) -> Result<Option<Text>, AllocError>
     Ok(Some(Text::of(String::from_str(alloc, word.trim())?)))
 }
 
-// The name that a word gives, where there is one.
+/// The name that a word gives, where there is one.
 pub(crate) fn name_given(alloc: Global, word: Option<&str>) -> Result<Option<Text>, AllocError>
     ensures { IfOk result (λ name. name ≡ name_given (option_copied word.entry)) }
 {
@@ -52,7 +52,7 @@ fn value_in<'a>(word: &str, source: Ssrc, attribute: &'a MediaAttribute) -> Opti
     }
 }
 
-// The last name of its end.
+/// The last name of its end.
 pub(crate) fn last_cname(source: Ssrc, attributes: &[MediaAttribute]) -> Option<&str>
     ensures { option_copied result ≡ last_of (value_in (codes "cname") source) attributes.now }
 {
@@ -91,7 +91,7 @@ fn track_in(source: Ssrc, attribute: &MediaAttribute) -> Option<&str>
     track_word(value_in("msid", source, attribute)?)
 }
 
-// The last word for its stream.
+/// The last word for its stream.
 pub(crate) fn last_stream(source: Ssrc, attributes: &[MediaAttribute]) -> Option<&str>
     ensures { option_copied result ≡ last_of (stream_in source) attributes.now }
 {
@@ -104,7 +104,7 @@ pub(crate) fn last_stream(source: Ssrc, attributes: &[MediaAttribute]) -> Option
     last
 }
 
-// The last word for its track.
+/// The last word for its track.
 pub(crate) fn last_track(source: Ssrc, attributes: &[MediaAttribute]) -> Option<&str>
     ensures { option_copied result ≡ last_of (track_in source) attributes.now }
 {
@@ -126,7 +126,7 @@ fn pair_of(ssrcs: &[Ssrc]) -> Option<(Ssrc, Ssrc)>
     }
 }
 
-// The repaired source and the one that repairs it, of a group of retransmission.
+/// The repaired source and the one that repairs it, of a group of retransmission.
 #[tactic(auto, unfolding(crate::specs::Sources::repair_in))]
 pub(crate) fn repair_in(attribute: &MediaAttribute) -> Option<(Ssrc, Ssrc)>
     ensures { result ≡ repair_in attribute.now }
@@ -152,7 +152,7 @@ fn repaired_in(source: Ssrc, attribute: &MediaAttribute) -> Option<Ssrc>
     None
 }
 
-// The last source that it repairs.
+/// The last source that it repairs.
 pub(crate) fn last_repaired(source: Ssrc, attributes: &[MediaAttribute]) -> Option<Ssrc>
     ensures { result ≡ last_of (repaired_in source) attributes.now }
 {

@@ -33,7 +33,7 @@ fn is_among(source: Ssrc, sources: &[Ssrc]) -> bool
     sources.iter().any(|other| *other == source)
 }
 
-// Adds a source, if there is one that isn't there yet.
+/// Adds a source, if there is one that isn't there yet.
 fn push_new(sources: &mut Vec<Ssrc>, source: Option<Ssrc>) -> Result<(), AllocError>
     ensures { OnOk result (sources.new.items ≡ with_one sources.old.items source) }
 {
@@ -66,7 +66,7 @@ fn push_repairing(sources: &mut Vec<Ssrc>, attributes: &[MediaAttribute]) -> Res
     Ok(())
 }
 
-// The sources that attributes name.
+/// The sources that attributes name.
 pub(crate) fn sources_of(
     alloc: Global,
     attributes: &[MediaAttribute],

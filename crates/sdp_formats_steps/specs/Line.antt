@@ -6,7 +6,7 @@ use Rattle.std.specs.List.{list_any}
 use Rattle.std.specs.Option.{option_map}
 use Rattle.sdp_formats_forms.specs.Split.{Lacks, halves}
 
--- how a line ends: by LF, by CR LF, or with the text
+-- How a line ends: by LF, by CR LF, or with the text.
 abbrev pub IsEnded : List ℕ → List ℕ → List ℕ → Type 0
 IsEnded text content rest = (text ≡ content ++ 10 ∷ rest) ⊎ (text ≡ content ++ 13 ∷ 10 ∷ rest)
     ⊎ ((text ≡ content) × (rest ≡ []))
@@ -16,25 +16,25 @@ IsEnded text content rest = (text ≡ content ++ 10 ∷ rest) ⊎ (text ≡ cont
 abbrev pub IsLine : List ℕ → List ℕ → List ℕ → Type 0
 IsLine text content rest = IsEnded text content rest × Lacks 10 content × Lacks 13 content × (content ≢ [])
 
--- a line of a form
+-- A line of a form.
 abbrev pub LineOf : {A : Type 0} → (List ℕ → A → Type 0) → List ℕ → A → List ℕ → Type 0
 LineOf F text a rest = (content : List ℕ) × IsLine text content rest × F content a
 
--- whether a CR stands in it
+-- Whether a CR stands in it.
 abbrev pub has_return : List ℕ → Bool
 has_return t = list_any (λ b. b == 13) t
 
--- a line without the CR before its LF
+-- A line without the CR before its LF.
 abbrev pub without_return : List ℕ → List ℕ
 without_return [] = []
 without_return (b ∷ []) = if b == 13 then [] else b ∷ []
 without_return (b ∷ c ∷ t) = b ∷ without_return (c ∷ t)
 
--- the content before a line's end
+-- The content before a line's end.
 abbrev pub passed_line : List ℕ → List ℕ → Option (List ℕ × List ℕ)
 passed_line content rest = if length content == 0 || has_return content then None else Some (content, rest)
 
--- a line's content and the rest, by the piece before the first LF and what stands behind it
+-- A line's content and the rest, by the piece before the first LF and what stands behind it.
 abbrev pub line_in : List ℕ × Option (List ℕ) → Option (List ℕ × List ℕ)
 line_in (piece, None) = passed_line piece []
 line_in (piece, Some rest) = passed_line (without_return piece) rest

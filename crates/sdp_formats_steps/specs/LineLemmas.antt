@@ -53,7 +53,7 @@ without-lacks [] h = refl
 without-lacks (b ∷ []) h = other_byte b 13 [] (b ∷ []) h.0
 without-lacks (b ∷ c ∷ t) h = ap (λ x. b ∷ x) (without-lacks (c ∷ t) h.1)
 
--- what is left of a piece without its CR
+-- What is left of a piece without its CR.
 split_return : (t : List ℕ) → (t ≡ without_return t ++ 13 ∷ []) ⊎ (t ≡ without_return t)
 split_return [] = inr refl
 split_return (b ∷ []) = ⊎_elim (λ e. inl

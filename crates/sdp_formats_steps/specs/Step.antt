@@ -4,24 +4,24 @@ use Rattle.std.specs.Borrow.{Bor}
 use Rattle.sdp_formats_forms.specs.declared.refusal.Refusal.{Refusal}
 use Rattle.sdp_formats_forms.specs.declared.refusal.Refusal.TheVariants.{Unfit, Memory}
 
--- from this text on a value, and this rest behind it
+-- From this text on a value, and this rest behind it.
 abbrev pub Step : Type 0 → Type 1
 Step A = List ℕ → A → List ℕ → Type 0
 
--- nothing begins here
+-- Nothing begins here.
 abbrev pub Stops : {A : Type 0} → Step A → List ℕ → Type 0
 Stops S t = (a : _) (r : List ℕ) → S t a r → ⊥
 
--- values one after the other
+-- Values one after the other.
 abbrev pub Begins : {A : Type 0} → Step A → List ℕ → List A → List ℕ → Type 0
 Begins S t [] r = r ≡ t
 Begins S t (a ∷ as') r = (m : List ℕ) × S t a m × Begins S m as' r
 
--- as many values as there are
+-- As many values as there are.
 abbrev pub Many : {A : Type 0} → Step A → List ℕ → List A → List ℕ → Type 0
 Many S t as' r = Begins S t as' r × Stops S r
 
--- a value if there is one
+-- A value if there is one.
 abbrev pub Perhaps : {A : Type 0} → Step A → List ℕ → Option A → List ℕ → Type 0
 Perhaps S t None r = (r ≡ t) × Stops S t
 Perhaps S t (Some a) r = S t a r
@@ -42,11 +42,11 @@ Finds S t (Ok x) = S t x.0 x.1.now
 Finds S t (Err Unfit) = ⊥
 Finds S t (Err Memory) = Unit {0}
 
--- each step leaves less
+-- Each step leaves less.
 abbrev pub IsShortening : {A : Type 0} → Step A → Type 0
 IsShortening S = (t : List ℕ) (a : _) (r : List ℕ) → S t a r → length r < length t
 
--- what is left is shorter
+-- What is left is shorter.
 abbrev pub Shortens : {A : Type 0} → List ℕ → Result (A × Bor (List ℕ)) Refusal → Type 0
 Shortens t (Ok x) = length x.1.now < length t
 Shortens t (Err e) = Unit {0}

@@ -3,7 +3,7 @@ use Rattle.std.proofs.Common.{◌≡◌, ◌≤◌, ◌<◌, ℕ, List, [], ◌�
 use Rattle.std.proofs.Common.{◌∙◌, ap, subst}
 use Rattle.sdp_formats_steps.specs.Step.{Step, Stops, Begins, Many, Perhaps, IsFunctional, IsShortening}
 
--- one more value behind some
+-- One more value behind some.
 pub begins-more : {A : Type 0} (S : Step A) (t : List ℕ) (as' : List A) (m : List ℕ) (a : A) (r : List ℕ)
     → Begins S t as' m → S m a r → Begins S t (as' ++ a ∷ []) r
 begins-more S t [] m a r h s = (r, subst (λ x. S x a r) h s, refl)
@@ -46,7 +46,7 @@ pub perhaps-shorter : {A : Type 0} (S : Step A) → IsShortening S → (t : List
 perhaps-shorter S f t None r h = omega (arith, ap length h.0)
 perhaps-shorter S f t (Some a) r h = omega (arith, f t a r h)
 
--- two lines, each of whose values is determined
+-- Two lines, each of whose values is determined.
 pub first-stops : {A : Type 0} (S : Step A) → IsFunctional S → (t m : List ℕ) (a b : A) (n : List ℕ) → S t a m
     → S t b n → n ≡ m
 first-stops S f t m a b n h k = sym (f t a b m n h k).1

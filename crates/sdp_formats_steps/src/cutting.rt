@@ -13,7 +13,7 @@ fn has_return(text: &str) -> bool
     text.as_bytes().iter().any(|byte| *byte == 13)
 }
 
-// The line without the CR before its LF.
+/// The line without the CR before its LF.
 fn without_return(piece: &str) -> &str
     ensures { result.now ≡ without_return piece.now }
 {

@@ -28,7 +28,7 @@ pub trait Lined<T: Drop> {
 ///
 /// # Errors
 ///
-/// `Unfit` where the text begins with no line of the kind, `Memory` where memory is wanting.
+/// `Unfit` where the text begins with no line of the kind, `Memory` where memory runs out.
 pub fn line_of<T: Drop, L: Lined<T>>(alloc: Global, text: &str) -> Result<(T, &str), Refusal>
     ensures steps { Steps (LineOf L.form.Says) text.now result }
     ensures shortens { Shortens text.now result }

@@ -21,7 +21,7 @@ pub trait Stepped<T: Drop> {
 ///
 /// # Errors
 ///
-/// `Memory` where memory is wanting, and no other.
+/// `Memory` where memory runs out, and no other.
 pub fn many<T: Drop, S: Stepped<T>>(alloc: Global, text: &str) -> Result<(Listed<T>, &str), Refusal>
     ensures { Finds (Many S.says) text.now result }
 {
@@ -38,7 +38,7 @@ pub fn many<T: Drop, S: Stepped<T>>(alloc: Global, text: &str) -> Result<(Listed
 ///
 /// # Errors
 ///
-/// `Memory` where memory is wanting, and no other.
+/// `Memory` where memory runs out, and no other.
 pub fn perhaps<T: Drop, S: Stepped<T>>(
     alloc: Global,
     text: &str,

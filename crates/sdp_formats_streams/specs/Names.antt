@@ -7,13 +7,13 @@ use Rattle.ucd_category.specs.GeneralCategory.{general_category}
 use Rattle.ucd_category.specs.GeneralCategoryGroup.{in_group}
 use Rattle.ucd_category.specs.declared.GeneralCategoryGroup.TheVariants.{Letter, Number}
 
--- a letter or a number of any script, by its general category
+-- A letter or a number of any script, by its general category.
 abbrev pub is_name_char : ℕ → Bool
 is_name_char c = in_group Letter (general_category c) || in_group Number (general_category c)
 
 abbrev pub has_name_chars : List ℕ → Bool
 has_name_chars t = list_all is_name_char (chars t)
 
--- one or more letters and numbers
+-- One or more letters and numbers.
 abbrev pub name : Form (List ℕ)
 name = only has_name_chars any_text

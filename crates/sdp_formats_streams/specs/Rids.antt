@@ -16,7 +16,7 @@ use Rattle.sdp_formats_types.specs.declared.streams.RestrictionId.{RestrictionId
 use Rattle.sdp_formats_types.specs.declared.media.MediaAttribute.{MediaAttribute}
 use Rattle.sdp_formats_types.specs.declared.media.MediaAttribute.TheVariants.{Rid}
 
--- which way a stream goes
+-- Which way a stream goes.
 abbrev pub way : List ℕ → Option RidDirection
 way t = if bytes_eq t (codes "send") then Some Send else if bytes_eq t (codes "recv") then Some Recv else None
 
@@ -26,7 +26,7 @@ make_limits types pairs = record { pt = types; restriction = pairs }
 abbrev pub no_limits : Limits
 no_limits = make_limits [] []
 
--- behind a payload type nothing, or a blank and one restriction at least
+-- Behind a payload type nothing, or a blank and one restriction at least.
 abbrev pub later_limits : Option (List ℕ) → Option (List Pair)
 later_limits None = Some []
 later_limits (Some t) = some_text t >>= restrictions_of
@@ -34,7 +34,7 @@ later_limits (Some t) = some_text t >>= restrictions_of
 abbrev pub of_type : ℕ → Option (List ℕ)
 of_type pt = Some (pt ∷ [])
 
--- a payload type up to a blank, and restrictions
+-- A payload type up to a blank, and restrictions.
 unfoldable pub typed_limits : List ℕ → Option Limits
 typed_limits t = do
   pt ← payload_type.reads (halves 32 t).0
@@ -42,7 +42,7 @@ typed_limits t = do
   types ← of_type pt
   Some (make_limits types pairs)
 
--- restrictions alone, the first key of which doesn't begin with p
+-- Restrictions alone, the first key of which doesn't begin with p.
 abbrev pub untyped_limits : List ℕ → Option Limits
 untyped_limits t = if is_some (behind (codes "p") t) then None else option_map (make_limits []) (restrictions_of t)
 

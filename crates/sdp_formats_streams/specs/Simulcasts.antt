@@ -18,7 +18,7 @@ use Rattle.sdp_formats_types.specs.declared.streams.SimulcastLayer.{SimulcastLay
 abbrev pub make_id : Bool → List ℕ → RestrictionId
 make_id active t = record { 0 = t; 1 = active }
 
--- a name, of a stream that isn't active at first behind a tilde
+-- A name, of a stream that isn't active at first behind a tilde.
 abbrev pub untilded : List ℕ → Option (List ℕ) → Option RestrictionId
 untilded t (Some rest) = option_map (make_id false) (name.reads rest)
 untilded t None = option_map (make_id true) (name.reads t)
@@ -32,7 +32,7 @@ make_layer id = record { restriction_id = id; attributes = None }
 abbrev pub layer : List ℕ → Option SimulcastLayer
 layer t = option_map make_layer (layer_name t)
 
--- the first of some alternatives
+-- The first of some alternatives.
 abbrev pub first_layer : List ℕ → Option SimulcastLayer
 first_layer t = each layer (parts 44 t) >>= head
 
@@ -46,7 +46,7 @@ make_way x = record { direction = x.0; layers = x.1 }
 abbrev pub direction_layers : Form OneWay
 direction_layers = made make_way (cut 32 (told way) groups)
 
--- whether two directions are different
+-- Whether two directions are different.
 abbrev pub differ : RidDirection → RidDirection → Bool
 differ Send Send = false
 differ Send Recv = true

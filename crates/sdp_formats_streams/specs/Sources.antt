@@ -23,7 +23,7 @@ msid = made make_names (cut 32 any_text any_text)
 abbrev pub ssrc : Form MediaAttribute
 ssrc = made (λ x. Ssrc x.0 x.1.0 x.1.1) (cut 32 (number (2 ^ 32)) (cut 58 any_text any_text))
 
--- the number of a source
+-- The number of a source.
 abbrev pub ssrc_number : List ℕ → Option ℕ
 ssrc_number t = number_below (2 ^ 32) t
 

@@ -29,7 +29,7 @@ fn has_name_chars(text: &str) -> bool
     true
 }
 
-// One or more letters and numbers.
+/// One or more letters and numbers.
 pub(crate) fn name(alloc: Global, text: &str) -> Result<Text, Refusal>
     ensures { Gives result (name.reads text.now) }
 {

@@ -41,7 +41,7 @@ fn no_limits(alloc: Global) -> Limits
     }
 }
 
-// Restrictions behind a payload type's blank: one at least.
+/// Restrictions behind a payload type's blank: one at least.
 fn later_limits(alloc: Global, text: Option<&str>) -> Result<Listed<Pair>, Refusal>
     ensures { Gives result (later_limits (option_copied text.entry)) }
 {
@@ -114,7 +114,7 @@ fn or_none(alloc: Global, limits: Option<Limits>) -> Limits
 ///
 /// # Errors
 ///
-/// `Unfit` where it is no such value, `Memory` where memory is wanting.
+/// `Unfit` where it is no such value, `Memory` where memory runs out.
 pub fn rid(alloc: Global, value: &str) -> Result<MediaAttribute, Refusal>
     ensures { Gives result (rid.reads value.now) }
 {

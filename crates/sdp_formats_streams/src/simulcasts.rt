@@ -126,7 +126,7 @@ fn made(
 ///
 /// # Errors
 ///
-/// `Unfit` where it is no such value, `Memory` where memory is wanting.
+/// `Unfit` where it is no such value, `Memory` where memory runs out.
 pub fn simulcast(alloc: Global, value: &str) -> Result<Simulcast, Refusal>
     ensures { Gives result (simulcast.reads value.now) }
 {

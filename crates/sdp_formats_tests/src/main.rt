@@ -45,7 +45,7 @@ fn print_sources(rt: &HostRuntime, section: &MediaLine) -> io::Result<()> {
     Ok(())
 }
 
-// What the text says as a whole.
+/// What the text says as a whole.
 fn print_whole(rt: &HostRuntime, sdp: &Sdp) -> io::Result<()> {
     let candidates = ice_candidates(rt.alloc(), sdp)?.len();
     let bundled = match bundle_mids(sdp) {
@@ -59,7 +59,7 @@ fn print_whole(rt: &HostRuntime, sdp: &Sdp) -> io::Result<()> {
     }
 }
 
-// Whether the text is read by itself as the same value, of which a copy is the same, and what its data channels have.
+/// Whether the text is read by itself as the same value, of which a copy is the same, and what its data channels have.
 fn print_again(rt: &HostRuntime, text: &str, sdp: &Sdp) -> io::Result<()> {
     let copied = sdp.try_clone(rt.alloc())?.is_same(sdp);
     let init = match sctp_init(sdp) {
@@ -75,7 +75,7 @@ fn print_again(rt: &HostRuntime, text: &str, sdp: &Sdp) -> io::Result<()> {
     }
 }
 
-// Whether the text is read whole, and printed as it stands.
+/// Whether the text is read whole, and printed as it stands.
 fn is_printed_alike(rt: &HostRuntime, printed: &str) -> Result<bool, SdpError> {
     let (sdp, rest) = sdp_parser(rt.alloc(), printed)?;
     if !rest.is_empty() {
@@ -85,7 +85,7 @@ fn is_printed_alike(rt: &HostRuntime, printed: &str) -> Result<bool, SdpError> {
     Ok(again.as_str() == printed)
 }
 
-// Lines of the printed text that stand in the text that was read.
+/// Lines of the printed text that stand in the text that was read.
 fn kept_lines(text: &str, printed: &str) -> usize {
     let mut kept = 0;
     for line in printed.lines() {
@@ -138,7 +138,7 @@ fn print_text(rt: &HostRuntime, name: &str, text: &str) -> io::Result<()> {
     }
 }
 
-// How many of the first so many prefixes of a text, by bytes, are read, and how many not.
+/// How many of the first so many prefixes of a text, by bytes, are read, and how many not.
 fn count_prefixes(rt: &HostRuntime, text: &str, count: usize) -> Result<(usize, usize), SdpError> {
     let (mut read, mut unread) = (0usize, 0usize);
     for end in 0..count {

@@ -29,7 +29,7 @@ is_setup _ = false
 unfoldable pub is_direction_of : MediaAttribute → Bool
 is_direction_of a = is_direction a
 
--- what is counted in a section
+-- What is counted in a section.
 abbrev pub is_of : Counted → MediaAttribute → Bool
 is_of counted.Mid a = is_mid a
 is_of counted.Setup a = is_setup a
@@ -38,28 +38,28 @@ is_of counted.Direction a = is_direction_of a
 abbrev pub count_of : Counted → MediaLine → ℕ
 count_of kind m = count_by (is_of kind) m.attrs
 
--- a line that maps this payload type
+-- A line that maps this payload type.
 abbrev pub maps_type : ℕ → MediaAttribute → Bool
 maps_type pt (RtpMap mapped value) = mapped == pt
 maps_type pt _ = false
 
--- a payload type with a meaning of its own: G.711, G.722 and comfort noise (RFC 3551 6)
+-- A payload type with a meaning of its own: G.711, G.722 and comfort noise (RFC 3551 6).
 abbrev pub is_static : ℕ → Bool
 is_static pt = (pt == 0) || ((pt == 8) || ((pt == 9) || (pt == 13)))
 
--- mapped once, or not at all where it has a meaning of its own
+-- Mapped once, or not at all where it has a meaning of its own.
 abbrev pub is_mapped : List MediaAttribute → ℕ → Bool
 is_mapped attrs pt = (count_by (maps_type pt) attrs == 1) || ((count_by (maps_type pt) attrs == 0) && is_static pt)
 
 abbrev pub are_mapped : List MediaAttribute → List ℕ → Bool
 are_mapped attrs pts = list_all (is_mapped attrs) pts
 
--- a parameter that names another type than this one as retransmitted (RFC 4588 8.6)
+-- A parameter that names another type than this one as retransmitted (RFC 4588 8.6).
 abbrev pub apt_differs : ℕ → FormatParam → Bool
 apt_differs apt (Apt other) = not (other == apt)
 apt_differs apt _ = false
 
--- a line that says nothing else of what a payload type retransmits
+-- A line that says nothing else of what a payload type retransmits.
 abbrev pub attribute_agrees : ℕ → ℕ → MediaAttribute → Bool
 attribute_agrees pt apt (Fmtp other values) = not (other == pt) || not (list_any (apt_differs apt) values)
 attribute_agrees pt apt _ = true
@@ -75,7 +75,7 @@ abbrev pub gives_apt : List MediaAttribute → MediaAttribute → Bool
 gives_apt attrs (Fmtp pt values) = list_all (values_agree attrs pt) values
 gives_apt attrs _ = true
 
--- each payload type retransmits one other at most
+-- Each payload type retransmits one other at most.
 abbrev pub apts_agree : List MediaAttribute → Bool
 apts_agree attrs = list_all (gives_apt attrs) attrs
 
@@ -95,7 +95,7 @@ later_fault_of m =
     else if (is_rtp m.proto && (length m.pts == 0)) && not m.disabled then Some NoPayloadType
     else last_fault_of m
 
--- the first fault of a section, in this order
+-- The first fault of a section, in this order.
 abbrev pub fault_of : MediaLine → Option Inconsistency
 fault_of m =
     if count_of counted.Mid m == 0 then Some MissingMid

@@ -8,7 +8,7 @@ use Rattle.sdp_formats_types.specs.declared.media.MediaAttribute.TheVariants as 
 use Rattle.sdp_formats_types.specs.declared.setup.Setup as setup
 use Rattle.sdp_formats_types.specs.declared.streams.Msid as names
 
--- what the first attribute says that says something
+-- What the first attribute says that says something.
 abbrev pub first_of : {A B : Type 0} → (A → Option B) → List A → Option B
 first_of f [] = None
 first_of f (x ∷ xs) = option_or (f x) (first_of f xs)
@@ -32,6 +32,6 @@ unfoldable pub setup_in : MediaAttribute → Option setup.Setup
 setup_in (a.Setup setup) = Some setup
 setup_in _ = None
 
--- the first direction that an attribute gives; inactive where none does (RFC 8866 6.7)
+-- The first direction that an attribute gives; inactive where none does (RFC 8866 6.7).
 abbrev pub direction_of : List MediaAttribute → Direction
 direction_of attributes = unwrap_or (first_of direction_in attributes) way.Inactive

@@ -14,7 +14,7 @@ use Rattle.sdp_formats_types.specs.declared.streams.SimulcastLayer.{SimulcastLay
 use Rattle.sdp_formats_types.specs.declared.streams.SimulcastGroups.{SimulcastGroups}
 use Rattle.sdp_formats_types.specs.declared.streams.Simulcast.{Simulcast}
 
--- the end of a line (RFC 8866 5)
+-- The end of a line (RFC 8866 5).
 abbrev pub line_end : List ℕ
 line_end = 13 ∷ 10 ∷ []
 
@@ -26,7 +26,7 @@ abbrev pub way_text : RidDirection → List ℕ
 way_text Send = codes "send"
 way_text Recv = codes "recv"
 
--- a name, behind a tilde where its stream isn't active at first (RFC 8853 5.1)
+-- A name, behind a tilde where its stream isn't active at first (RFC 8853 5.1).
 abbrev pub name_of : Bool → List ℕ → List ℕ
 name_of true name = name
 name_of false name = codes "~" ++ name
@@ -54,18 +54,18 @@ unfoldable pub simulcast_text : Simulcast → List ℕ
 simulcast_text s = if s.is_munged then []
     else ways_text (is_empty s.send.0) (is_empty s.recv.0) (layers_text s.send) (layers_text s.recv)
 
--- parameters with semicolons between (RFC 8866 6.15)
+-- Parameters with semicolons between (RFC 8866 6.15).
 abbrev pub params_text : List FormatParam → List ℕ
 params_text params = joined (codes ";") (map param_text params)
 
 abbrev pub numbers_text : List ℕ → List ℕ → List ℕ
 numbers_text separator numbers = joined separator (map decimal numbers)
 
--- words with blanks between
+-- Words with blanks between.
 abbrev pub words_text : List (List ℕ) → List ℕ
 words_text words = joined (codes " ") words
 
--- the payload types and restrictions of an `a=rid` line (RFC 8851 4)
+-- The payload types and restrictions of an `a=rid` line (RFC 8851 4).
 unfoldable pub rid_types_text : List ℕ → List ℕ
 rid_types_text types = if is_empty types then [] else codes " pt=" ++ numbers_text (codes ",") types
 

@@ -36,7 +36,7 @@ abbrev pub rtp_map_text : map_of.RtpMap → List ℕ
 rtp_map_text m = spelled (codec_name m.codec ∷ codes "/" ∷ decimal m.clock_rate
     ∷ maybe_text (codes "/") (option_map decimal m.channels) ∷ [])
 
--- an attribute with a list
+-- An attribute with a list.
 unfoldable pub listed_text : MediaAttribute → List ℕ
 listed_text (Fmtp pt values) = if is_empty values then []
     else spelled (codes "a=fmtp:" ∷ decimal pt ∷ codes " " ∷ params_text values ∷ line_end ∷ [])
@@ -46,16 +46,16 @@ listed_text (SsrcGroup semantics ssrcs) = spelled (codes "a=ssrc-group:" ∷ sem
     ∷ numbers_text (codes " ") ssrcs ∷ line_end ∷ [])
 listed_text _ = []
 
--- a line with a value behind its name
+-- A line with a value behind its name.
 abbrev pub named : List ℕ → List ℕ → List ℕ
 named name value = spelled (name ∷ value ∷ line_end ∷ [])
 
--- the same of a value that may have a text
+-- The same of a value that may have a text.
 abbrev pub named_output : List ℕ → Option (List ℕ) → Option (List ℕ)
 named_output name None = None
 named_output name (Some value) = Some (named name value)
 
--- the line of an attribute that is a plain word
+-- The line of an attribute that is a plain word.
 abbrev pub flag_text : MediaAttribute → List ℕ
 flag_text RecvOnly = codes "a=recvonly\r\n"
 flag_text SendRecv = codes "a=sendrecv\r\n"
@@ -67,7 +67,7 @@ flag_text RtcpRsize = codes "a=rtcp-rsize\r\n"
 flag_text EndOfCandidates = codes "a=end-of-candidates\r\n"
 flag_text _ = []
 
--- an attribute of several parts
+-- An attribute of several parts.
 abbrev pub parted_text : MediaAttribute → List ℕ
 parted_text (ExtMap id ext) = spelled (codes "a=extmap:" ∷ decimal id ∷ codes " " ∷ uri_of ext ∷ line_end ∷ [])
 parted_text (RtpMap pt value) = spelled (codes "a=rtpmap:" ∷ decimal pt ∷ codes " " ∷ rtp_map_text value
@@ -77,7 +77,7 @@ parted_text (Ssrc ssrc attr value) = spelled (codes "a=ssrc:" ∷ decimal ssrc �
     ∷ line_end ∷ [])
 parted_text _ = []
 
--- the line of an attribute
+-- The line of an attribute.
 unfoldable pub attribute_text : MediaAttribute → List ℕ
 attribute_text (Rtcp value) = named (codes "a=rtcp:") value
 attribute_text (IceUfrag value) = named (codes "a=ice-ufrag:") value
@@ -116,7 +116,7 @@ attributes_text attributes = joined [] (map attribute_text attributes)
 abbrev pub bandwidth_text : Bandwidth → List ℕ
 bandwidth_text b = spelled (codes "b=" ∷ b.typ ∷ codes ":" ∷ b.val ∷ line_end ∷ [])
 
--- the formats of a line `m=`
+-- The formats of a line `m=`.
 unfoldable pub formats_text : MediaLine → List ℕ
 formats_text m = if is_channel m.typ then codes "webrtc-datachannel"
     else if is_empty m.pts then codes "0" else numbers_text (codes " ") m.pts

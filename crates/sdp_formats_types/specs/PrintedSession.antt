@@ -21,7 +21,7 @@ abbrev pub group_text : List ℕ → List (List ℕ) → List ℕ
 group_text typ mids = if is_empty mids then named (codes "a=group:") typ
     else spelled (codes "a=group:" ∷ typ ∷ codes " " ∷ words_text mids ∷ line_end ∷ [])
 
--- the line of an attribute
+-- The line of an attribute.
 unfoldable pub attribute_text : SessionAttribute → List ℕ
 attribute_text (Group typ mids) = group_text typ mids
 attribute_text (MsidSemantic semantic streams) = spelled (codes "a=msid-semantic: " ∷ semantic ∷ codes " "
@@ -43,7 +43,7 @@ attributes_text attributes = joined [] (map attribute_text attributes)
 abbrev pub sections_text : List MediaLine → List ℕ
 sections_text sections = joined [] (map section_text sections)
 
--- version, originator with the session's number, name, bandwidth if there is one, time, attributes
+-- Version, originator with the session's number, name, bandwidth if there is one, time, attributes.
 unfoldable pub session_text : Session → List ℕ
 session_text s = spelled (codes "v=0\r\no=str0m-0.25.0 " ∷ decimal s.id ∷ codes " 2 IN IP4 0.0.0.0\r\ns=-\r\n"
     ∷ maybe_text [] (option_map bandwidth_text s.bw) ∷ codes "t=0 0\r\n" ∷ attributes_text s.attrs ∷ [])

@@ -215,7 +215,7 @@ impl Candidate {
     ///
     /// # Errors
     ///
-    /// `AllocError` where memory is wanting.
+    /// `AllocError` where memory runs out.
     pub fn to_sdp_string(&self, alloc: Global) -> Result<String, AllocError>
         ensures { IfOk result (λ text. string_bytes text ≡ candidate_text self.now) }
     {

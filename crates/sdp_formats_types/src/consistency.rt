@@ -125,7 +125,7 @@ fn apt_differs(apt: Pt, param: &FormatParam) -> bool
     }
 }
 
-// Does no `a=fmtp` line of the payload type name another type than this one?
+/// Does no `a=fmtp` line of the payload type name another type than this one?
 fn apts_agree_with(attributes: &[MediaAttribute], pt: Pt, apt: Pt) -> bool
     ensures { result ≡ apts_agree_with attributes.now pt apt }
 {

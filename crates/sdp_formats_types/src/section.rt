@@ -50,7 +50,7 @@ impl fmt::Display for MediaAttribute {
     }
 }
 
-// The line of an attribute that is a plain word, with its end; nothing for another.
+/// The line of an attribute that is a plain word, with its end; nothing for another.
 fn flag_line(attribute: &MediaAttribute) -> &'static str
     ensures { result.now ≡ flag_text attribute.now }
 {

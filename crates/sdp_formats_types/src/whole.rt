@@ -135,7 +135,7 @@ impl Sdp {
     ///
     /// # Errors
     ///
-    /// `AllocError` where memory is wanting.
+    /// `AllocError` where memory runs out.
     pub fn to_sdp_string(&self, alloc: Global) -> Result<String, AllocError>
         ensures { IfOk result (λ text. string_bytes text ≡ sdp_text self.now) }
     {

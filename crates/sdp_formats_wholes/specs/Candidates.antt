@@ -21,21 +21,21 @@ section_candidate _ = None
 abbrev pub section_candidates : MediaLine → List Candidate
 section_candidates m = filter_map section_candidate m.attrs
 
--- all candidates of a text, those of the session first
+-- All candidates of a text, those of the session first.
 abbrev pub candidates_of : Sdp → List Candidate
 candidates_of sdp = filter_map session_candidate sdp.session.attrs ++ flat_map section_candidates sdp.media_lines
 
--- it is one of them
+-- It is one of them.
 abbrev pub IsAmong : Candidate → List Candidate → Type 0
 IsAmong candidate [] = ⊥
 IsAmong candidate (other ∷ others) = (other ≡ candidate) ⊎ IsAmong candidate others
 
--- one more is put behind the others, if it isn't among them yet
+-- One more is put behind the others, if it isn't among them yet.
 abbrev pub Adds : List Candidate → Candidate → List Candidate → Type 0
 Adds seen candidate now = (IsAmong candidate seen × (now ≡ seen))
     ⊎ ((IsAmong candidate seen → ⊥) × (now ≡ seen ++ candidate ∷ []))
 
--- each candidate once, in the order in which they are first there
+-- Each candidate once, in the order in which they are first there.
 abbrev pub AreEachOnce : List Candidate → List Candidate → Type 0
 AreEachOnce candidates once = FoldsTo Adds [] candidates once
 

@@ -15,7 +15,7 @@ use Rattle.sdp_formats_types.specs.declared.SessionAttribute.TheVariants as a
 abbrev pub is_name : List ℕ → List ℕ → Bool
 is_name name other = pointwise nat_eq name other
 
--- no name stands twice
+-- No name stands twice.
 abbrev pub are_apart : List (List ℕ) → Bool
 are_apart [] = true
 are_apart (name ∷ names) = not (list_any (is_name name) names) && are_apart names
@@ -23,7 +23,7 @@ are_apart (name ∷ names) = not (list_any (is_name name) names) && are_apart na
 abbrev pub mid_of : MediaLine → Option (List ℕ)
 mid_of m = first_of mid_in m.attrs
 
--- the sections of a group, of whatever meaning
+-- The sections of a group, of whatever meaning.
 unfoldable pub group_in : SessionAttribute → Option (List (List ℕ))
 group_in (a.Group typ mids) = Some mids
 group_in _ = None
@@ -32,7 +32,7 @@ abbrev pub lists : List (List ℕ) → Option (List ℕ) → Bool
 lists mids None = false
 lists mids (Some name) = list_any (is_name name) mids
 
--- a section belongs to the group if it is in use, or if the group names it
+-- A section belongs to the group if it is in use, or if the group names it.
 abbrev pub belongs : List (List ℕ) → MediaLine → Bool
 belongs mids m = not m.disabled || lists mids (mid_of m)
 
@@ -48,7 +48,7 @@ pub record IsWhole (sdp : Sdp) : Type 0 where
   pub group : first_of group_in sdp.session.attrs ≡ Some mids
   pub grouped : mids ≡ filter_map (grouped_mid mids) sdp.media_lines
 
--- what a test of a text answers
+-- What a test of a text answers.
 abbrev pub AssertsWhole : Sdp → Result (Unit {0}) SdpError → Type 0
 AssertsWhole sdp (Ok x) = IsWhole sdp
 AssertsWhole sdp (Err (Inconsistent text)) = IsWhole sdp → ⊥

@@ -10,18 +10,18 @@ use Rattle.sdp_formats_types.specs.declared.Sdp.{Sdp}
 use Rattle.sdp_formats_types.specs.declared.SessionAttribute.{SessionAttribute}
 use Rattle.sdp_formats_types.specs.declared.SessionAttribute.TheVariants as a
 
--- the sections of a group of this meaning
+-- The sections of a group of this meaning.
 unfoldable pub bundle_in : SessionAttribute → Option (List (List ℕ))
 bundle_in (a.Group typ mids) = if pointwise nat_eq typ (codes "BUNDLE") then Some mids else None
 bundle_in _ = None
 
--- the sections of the first bundle (RFC 9143 7)
+-- The sections of the first bundle (RFC 9143 7).
 abbrev pub bundle_of : Sdp → Option (List (List ℕ))
 bundle_of sdp = first_of bundle_in sdp.session.attrs
 
 abbrev pub init_in : MediaLine → Option (List ℕ)
 init_in m = first_of sctp_init_in m.attrs
 
--- what the first section of data channels says of the association's first chunk
+-- What the first section of data channels says of the association's first chunk.
 abbrev pub init_of : Sdp → Option (List ℕ)
 init_of sdp = option_flatten (option_map init_in (find (λ m. is_channel m.typ) sdp.media_lines))

@@ -60,7 +60,7 @@ fn push_of_section<'a>(
     Ok(())
 }
 
-// All candidates of a text, those of the session first.
+/// All candidates of a text, those of the session first.
 fn all_candidates(alloc: Global, sdp: &Sdp) -> Result<Vec<&Candidate>, AllocError>
     ensures { IfOk result (λ all. borrowed all.items ≡ candidates_of sdp.now) }
 {
@@ -99,7 +99,7 @@ fn push_new<'a>(seen: &mut Vec<&'a Candidate>, candidate: &'a Candidate) -> Resu
 ///
 /// # Errors
 ///
-/// `AllocError` where memory is wanting.
+/// `AllocError` where memory runs out.
 pub fn ice_candidates(alloc: Global, sdp: &Sdp) -> Result<Vec<&Candidate>, AllocError>
     ensures { IfOk result (λ once. AreEachOnce (candidates_of sdp.now) (borrowed once.items)) }
 {

@@ -138,7 +138,7 @@ fn is_whole(alloc: Global, sdp: &Sdp) -> Result<bool, AllocError>
 ///
 /// # Errors
 ///
-/// `Inconsistent` where they don't go together; `Memory` where memory is wanting.
+/// `Inconsistent` where they don't go together; `Memory` where memory runs out.
 pub fn assert_consistency(alloc: Global, sdp: &Sdp) -> Result<(), SdpError>
     ensures { AssertsWhole sdp.now result }
 {

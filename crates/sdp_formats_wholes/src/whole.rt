@@ -16,7 +16,7 @@ use std::alloc::Global;
 ///
 /// # Errors
 ///
-/// `ParseError` where the text has no good header, or a section with a fault; `Memory` where memory is wanting.
+/// `ParseError` where the text has no good header, or a section with a fault; `Memory` where memory runs out.
 pub fn parse(alloc: Global, input: &str) -> Result<Sdp, SdpError>
     ensures { ReadsText input.now result }
 {

@@ -3,6 +3,6 @@ use Rattle.std.specs.Prelude.{ℕ, List, ◌∷◌}
 use Rattle.sdp_formats_types.specs.declared.session.Session.{Session}
 use Rattle.sdp_formats_types.specs.declared.session.SessionAttribute.{SessionAttribute}
 
--- the session with an attribute before its own
+-- The session with an attribute before its own.
 abbrev pub with_first : SessionAttribute → Session → Session
 with_first attribute s = record s { attrs = attribute ∷ s.attrs }

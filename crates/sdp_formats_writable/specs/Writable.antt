@@ -10,17 +10,17 @@ use Rattle.sdp_formats_types.specs.declared.session.SessionAttribute.{SessionAtt
 use Rattle.sdp_formats_types.specs.declared.session.SessionAttribute.TheVariants.{Group, Unused}
 use Rattle.sdp_formats_writable.specs.Lines.{IsLineOf}
 
--- a group of sections
+-- A group of sections.
 abbrev pub is_group : SessionAttribute → Bool
 is_group (Group typ mids) = true
 is_group _ = false
 
--- an attribute of no kind that is known
+-- An attribute of no kind that is known.
 abbrev pub is_unused : SessionAttribute → Bool
 is_unused (Unused text) = true
 is_unused _ = false
 
--- what is read of an attribute's line is the attribute, or one of no known kind
+-- What is read of an attribute's line is the attribute, or one of no known kind.
 abbrev pub ComesBack : SessionAttribute → SessionAttribute → Type 0
 ComesBack a b = (is_unused b ≡ true) ⊎ (b ≡ a)
 
@@ -28,7 +28,7 @@ ComesBack a b = (is_unused b ≡ true) ⊎ (b ≡ a)
 unfoldable pub IsWritableAttribute : SessionAttribute → Type 0
 IsWritableAttribute a = (is_group a ≡ false) × IsLineOf attribute_line (attribute_text a) (ComesBack a)
 
--- a bandwidth whose line is read as it
+-- A bandwidth whose line is read as it.
 unfoldable pub IsWritableBandwidth : Bandwidth → Type 0
 IsWritableBandwidth b = IsLineOf bandwidth_line (bandwidth_text b) (λ c. c ≡ b)
 

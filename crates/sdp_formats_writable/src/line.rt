@@ -39,7 +39,7 @@ fn is_all(rest: &str, is_so: bool) -> bool
     rest.is_empty() && is_so
 }
 
-// Whether a text is one line, of which the attribute comes back.
+/// Whether a text is one line, of which the attribute comes back.
 fn says_attribute(
     alloc: Global,
     text: &str,
@@ -55,7 +55,7 @@ fn says_attribute(
     }
 }
 
-// Whether a text is one line that says the bandwidth.
+/// Whether a text is one line that says the bandwidth.
 fn says_bandwidth(alloc: Global, text: &str, bandwidth: &Bandwidth) -> Result<bool, AllocError>
     ensures { IfOk result (λ says. IsTrue says ↔ IsLineOf bandwidth_line text.now (λ b. b ≡ bandwidth.now)) }
 {

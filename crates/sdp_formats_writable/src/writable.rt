@@ -32,7 +32,7 @@ fn may_have(alloc: Global, bandwidth: &Option<Bandwidth>) -> Result<bool, AllocE
 ///
 /// # Errors
 ///
-/// `AllocError` where memory is wanting.
+/// `AllocError` where memory runs out.
 pub fn is_writable_session(alloc: Global, session: &Session) -> Result<bool, AllocError>
     ensures { IfOk result (λ writable. IsTrue writable ↔ IsWritableSession session.now) }
 {

@@ -44,7 +44,7 @@ fn answer(alloc: Global, state: &mut State, line: &str) -> anyhow::Result<String
     }
 }
 
-// What a command gives with the words behind it.
+/// What a command gives with the words behind it.
 fn of_words(
     alloc: Global,
     state: &mut State,

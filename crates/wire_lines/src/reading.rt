@@ -7,7 +7,7 @@ use std::fmt;
 use std::fmt::Write;
 use std::str::SplitWhitespace;
 
-// A field by its name, where it is there.
+/// A field by its name, where it is there.
 fn put<T: fmt::Display + Drop>(
     text: &mut String,
     name: &str,
@@ -19,7 +19,7 @@ fn put<T: fmt::Display + Drop>(
     Ok(())
 }
 
-// The fields, each as the words of a header that is written say it.
+/// The fields, each as the words of a header that is written say it.
 fn put_fields(text: &mut String, header: &RtpHeader) -> Result<(), AllocError> {
     put(text, "type", Some(header.payload_type))?;
     put(text, "number", Some(header.sequence_number))?;
@@ -77,7 +77,7 @@ fn fields_text(alloc: Global, header: &RtpHeader, behind: &[u8]) -> Result<Strin
     Ok(text)
 }
 
-// What is left of a payload without its padding.
+/// What is left of a payload without its padding.
 fn unpadded(alloc: Global, has_padding: bool, payload: &[u8]) -> Result<String, AllocError> {
     match unpad_payload(has_padding, payload) {
         Some(rest) => hex_of(alloc, rest),

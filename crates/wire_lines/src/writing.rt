@@ -24,7 +24,7 @@ pub fn written(
     Ok(hex_of(alloc, &bytes)?)
 }
 
-// Sets the fields that words name.
+/// Sets the fields that words name.
 fn set_fields(header: &mut RtpHeader, words: &mut SplitWhitespace<'_>) -> anyhow::Result<()> {
     for word in words {
         let (name, value) = part(word, '=');
@@ -48,7 +48,7 @@ fn set_field(header: &mut RtpHeader, name: &str, value: &str) -> anyhow::Result<
     Ok(())
 }
 
-// A source that has no place is counted, so that the header isn't written.
+/// A source that has no place is counted, so that the header isn't written.
 fn push_source(header: &mut RtpHeader, source: u32) {
     if header.csrc_count < 15 {
         header.csrc[header.csrc_count] = source;
@@ -77,7 +77,7 @@ where
     Ok(())
 }
 
-// The values that are no plain numbers.
+/// The values that are no plain numbers.
 fn set_other(values: &mut ExtensionValues, name: &str, value: &str) -> anyhow::Result<()> {
     match name {
         "mid" => values.mid = Some(Mid::from(value)),

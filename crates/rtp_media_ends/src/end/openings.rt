@@ -250,7 +250,7 @@ fn has_format(codec: Codec) -> bool
     }
 }
 
-// A RED type has 7 bits and is another than the row's.
+/// A RED type has 7 bits and is another than the row's.
 fn is_red_of(pt: Pt, red: Option<Pt>) -> bool
     ensures { result ≡ is_red_of pt red }
 {

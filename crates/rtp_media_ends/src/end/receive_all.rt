@@ -58,7 +58,7 @@ pub struct ReceivedAll {
 
 impl End {
     /// Takes datagrams in, one after the other, and then polls each receiving stream, in rising
-    /// number, until it answers None or memory for a unit is wanting, which is its last answer then.
+    /// number, until it answers None or memory for a unit runs out, which is its last answer then.
     ///
     /// # Errors
     /// `ReceiveError::Memory`, after a part of that was done: some first datagrams were received, or all were and
@@ -70,7 +70,7 @@ impl End {
         ensures others { OnOk result (self.new ≡ with_streams (after_datagrams self.old datagrams.now)
             self.new.streams) }
         // All datagrams of a stream's samples came: its polls answer exactly the canonical units, unless
-        // memory for one was wanting.
+        // memory for one ran out.
         ensures exact { IfOk result (λ all. (stream hold_back : ℕ) (sender : Sending) (samples : List Sample)
             (arrivals : List ℕ) →
             HasAllOf self.old stream hold_back sender samples arrivals datagrams.now →
@@ -98,7 +98,7 @@ impl End {
     }
 }
 
-/// Polls each receiving stream until it answers None or memory is wanting.
+/// Polls each receiving stream until it answers None or memory runs out.
 fn poll_each(alloc: Global, streams: &mut Vec<OpenStream>) -> Result<Vec<Polls>, AllocError>
     ensures out { IfOk result (λ polls. ArePolledOut streams.old.items polls.items streams.new.items) }
     ensures some { OnErr result (ArePolledSome streams.old.items streams.new.items) }
@@ -112,7 +112,7 @@ fn poll_each(alloc: Global, streams: &mut Vec<OpenStream>) -> Result<Vec<Polls>,
     Ok(polls)
 }
 
-/// Polls a stream, where it receives, until it answers None or memory is wanting.
+/// Polls a stream, where it receives, until it answers None or memory runs out.
 fn poll_out(alloc: Global, stream: &mut OpenStream) -> Result<Polls, AllocError>
     ensures out { IfOk result (λ polls. AnswersAll stream.old polls stream.new) }
     ensures some { OnErr result (AnswersSome stream.old stream.new) }

@@ -159,14 +159,14 @@ impl End {
         }
     }
 
-    /// Polls a receiving stream until no unit is ready or memory for one is wanting, and answers what the polls
+    /// Polls a receiving stream until no unit is ready or memory for one runs out, and answers what the polls
     /// answered, in order.
     ///
     /// # Conditions
     /// The number is that of a receiving stream: [`End::is_receiver`].
     ///
     /// # Errors
-    /// `AllocError` where memory for that list is wanting: what was polled is lost, and nothing else changes.
+    /// `AllocError` where memory for that list runs out: what was polled is lost, and nothing else changes.
     pub fn poll_all(&mut self, stream: usize) -> Result<Vec<Result<Unit, PollFault>>, AllocError>
         requires { is_receiver_at self.old stream ≡ true }
         ensures polled { let receiver = receiver_at self.old stream in

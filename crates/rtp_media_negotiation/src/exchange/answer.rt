@@ -24,7 +24,7 @@ use sdp_formats_config::CodecConfig;
 use sdp_formats_types::MediaLine;
 use std::alloc::{AllocError, Global};
 
-// Whether the sections of a text have the names and kinds of wanted ones.
+/// Whether the sections of a text have the names and kinds of wanted ones.
 fn corresponds(
     alloc: Global,
     lines: &[MediaLine],
@@ -38,7 +38,7 @@ fn corresponds(
     Ok(correspond(said.as_slice(), wanted.as_slice()))
 }
 
-// The sections that the text of an answer says again.
+/// The sections that the text of an answer says again.
 #[tactic(auto, using(crate::proofs::Refusing::other_said))]
 fn said_again(
     alloc: Global,
@@ -62,7 +62,7 @@ fn said_again(
 }
 
 impl Exchange {
-    // The config after the rounds with the sections of a text, where these are exchanged for wanted ones.
+    /// The config after the rounds with the sections of a text, where these are exchanged for wanted ones.
     #[tactic(auto, unfolding(crate::specs::Refusals::refusal_of_sections))]
     fn settle(
         &self,
@@ -83,7 +83,7 @@ impl Exchange {
         settled(self.alloc, &self.config, lines)
     }
 
-    // The config with which an offer is answered.
+    /// The config with which an offer is answered.
     #[tactic(auto, unfolding(crate::specs::Refusals::refusal_of_answer))]
     fn settle_answer(
         &self,
@@ -150,7 +150,7 @@ impl Exchange {
         Ok(answer)
     }
 
-    // The config with which an answer is accepted.
+    /// The config with which an answer is accepted.
     #[tactic(auto, unfolding(crate::specs::Refusals::refusal_of_accept))]
     fn settle_accept(
         &self,

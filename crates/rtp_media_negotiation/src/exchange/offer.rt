@@ -23,7 +23,7 @@ fn lists_none(config: &CodecConfig, section: &SectionSpec) -> Result<bool, Alloc
     Ok(rows.is_empty())
 }
 
-// Whether each section would list a row.
+/// Whether each section would list a row.
 fn check_rows(config: &CodecConfig, sections: &[SectionSpec]) -> Result<(), ExchangeError>
     ensures ok { OnOk result (no_row_of (find (lists_none config.now.rows) sections.now) ≡ None) }
     ensures refused { IfErr result (λ e. e ≢ ExchangeError.Memory
@@ -55,7 +55,7 @@ impl Exchange {
         Ok(may_follow(agreed.as_slice(), wanted.as_slice()))
     }
 
-    // Why an offer of these sections is refused.
+    /// Why an offer of these sections is refused.
     #[tactic(auto, unfolding(crate::specs::Refusals::refusal_of_offer))]
     fn check_offer(&self, sections: &[SectionSpec]) -> Result<(), ExchangeError>
         ensures ok { OnOk result (refusal_of_offer self.now sections.now ≡ None) }

@@ -16,7 +16,7 @@ impl CodecConfig {
     ///
     /// # Errors
     ///
-    /// `AllocError` where memory is wanting; the config is then as before.
+    /// `AllocError` where memory runs out; the config is then as before.
     pub fn push(&mut self, row: PayloadParams) -> Result<(), AllocError>
         ensures ok { OnOk result (self.new ≡ with_row row self.old) }
         ensures err { OnErr result (self.new ≡ self.old) }
@@ -29,7 +29,7 @@ impl CodecConfig {
     ///
     /// # Errors
     ///
-    /// `AllocError` where memory is wanting; the config is then as before.
+    /// `AllocError` where memory runs out; the config is then as before.
     pub fn add_config(
         &mut self,
         pt: Pt,
@@ -58,7 +58,7 @@ impl CodecConfig {
     ///
     /// # Errors
     ///
-    /// `AllocError` where memory is wanting; the config is then as before.
+    /// `AllocError` where memory runs out; the config is then as before.
     pub fn add_h264(
         &mut self,
         pt: Pt,
@@ -80,7 +80,7 @@ impl CodecConfig {
     ///
     /// # Errors
     ///
-    /// `AllocError` where memory is wanting; the config is then as before.
+    /// `AllocError` where memory runs out; the config is then as before.
     pub fn add_h265(
         &mut self,
         pt: Pt,
@@ -103,7 +103,7 @@ impl CodecConfig {
     ///
     /// # Errors
     ///
-    /// `AllocError` where memory is wanting; the config is then as before.
+    /// `AllocError` where memory runs out; the config is then as before.
     pub fn add_h266(
         &mut self,
         pt: Pt,

@@ -14,14 +14,14 @@ use crate::rows;
 use sdp_formats_rows::{Codec, PayloadParams};
 use std::alloc::AllocError;
 
-// Whether both are one codec.
+/// Whether both are one codec.
 fn is_same_codec(codec: Codec, other: Codec) -> bool
     ensures { result ≡ is_codec codec other }
 {
     codec == other
 }
 
-// Drops the rows of a codec.
+/// Drops the rows of a codec.
 fn drop_rows(rows: &mut Vec<PayloadParams>, codec: Codec)
     ensures rows { rows.new.items ≡ rows_without codec rows.old.items }
     ensures len { vec_len rows.new ≤ vec_len rows.old }
@@ -30,7 +30,7 @@ fn drop_rows(rows: &mut Vec<PayloadParams>, codec: Codec)
     rows.retain(|row| !is_same_codec(row.spec().codec, codec));
 }
 
-// Drops the rows of a codec and puts these behind all others; at want of memory nothing changes.
+/// Drops the rows of a codec and puts these behind all others; where memory runs out nothing changes.
 fn put_rows(
     rows: &mut Vec<PayloadParams>,
     codec: Codec,
@@ -51,7 +51,7 @@ impl CodecConfig {
     ///
     /// # Errors
     ///
-    /// `AllocError` where memory is wanting; the config is then as before.
+    /// `AllocError` where memory runs out; the config is then as before.
     pub fn enable_opus(&mut self, enabled: bool, use_red: bool) -> Result<(), AllocError>
         ensures off { enabled ≡ false → self.new ≡ with_rows Opus [] self.old }
         ensures never_refused { enabled ≡ false → IsOk result }
@@ -87,7 +87,7 @@ impl CodecConfig {
     ///
     /// # Errors
     ///
-    /// `AllocError` where memory is wanting, never to disable; the config is then as before.
+    /// `AllocError` where memory runs out, never to disable; the config is then as before.
     pub fn enable_pcmu(&mut self, enabled: bool, use_red: bool) -> Result<(), AllocError>
         ensures ok { OnOk result (self.new ≡ with_rows PCMU (rows_if enabled (pcmu_row use_red ∷ [])) self.old) }
         ensures err { OnErr result (self.new ≡ self.old) }
@@ -101,7 +101,7 @@ impl CodecConfig {
     ///
     /// # Errors
     ///
-    /// `AllocError` where memory is wanting, never to disable; the config is then as before.
+    /// `AllocError` where memory runs out, never to disable; the config is then as before.
     pub fn enable_pcma(&mut self, enabled: bool, use_red: bool) -> Result<(), AllocError>
         ensures ok { OnOk result (self.new ≡ with_rows PCMA (rows_if enabled (pcma_row use_red ∷ [])) self.old) }
         ensures err { OnErr result (self.new ≡ self.old) }
@@ -116,7 +116,7 @@ impl CodecConfig {
     ///
     /// # Errors
     ///
-    /// `AllocError` where memory is wanting, never to disable; the config is then as before.
+    /// `AllocError` where memory runs out, never to disable; the config is then as before.
     pub fn enable_g722(&mut self, enabled: bool, use_red: bool) -> Result<(), AllocError>
         ensures ok { OnOk result (self.new ≡ with_rows G722 (rows_if enabled (g722_row use_red ∷ [])) self.old) }
         ensures err { OnErr result (self.new ≡ self.old) }
@@ -130,7 +130,7 @@ impl CodecConfig {
     ///
     /// # Errors
     ///
-    /// `AllocError` where memory is wanting, never to disable; the config is then as before.
+    /// `AllocError` where memory runs out, never to disable; the config is then as before.
     pub fn enable_comfort_noise(&mut self, enabled: bool) -> Result<(), AllocError>
         ensures ok { OnOk result (self.new ≡ with_rows CN (rows_if enabled (comfort_noise_row ∷ [])) self.old) }
         ensures err { OnErr result (self.new ≡ self.old) }
@@ -144,7 +144,7 @@ impl CodecConfig {
     ///
     /// # Errors
     ///
-    /// `AllocError` where memory is wanting, never to disable; the config is then as before.
+    /// `AllocError` where memory runs out, never to disable; the config is then as before.
     pub fn enable_amr_wb(&mut self, enabled: bool) -> Result<(), AllocError>
         ensures ok { OnOk result (self.new ≡ with_rows AmrWb (rows_if enabled (amr_wb_row ∷ [])) self.old) }
         ensures err { OnErr result (self.new ≡ self.old) }
@@ -158,7 +158,7 @@ impl CodecConfig {
     ///
     /// # Errors
     ///
-    /// `AllocError` where memory is wanting, never to disable; the config is then as before.
+    /// `AllocError` where memory runs out, never to disable; the config is then as before.
     pub fn enable_vp8(&mut self, enabled: bool) -> Result<(), AllocError>
         ensures ok { OnOk result (self.new ≡ with_rows Vp8 (rows_if enabled (vp8_row ∷ [])) self.old) }
         ensures err { OnErr result (self.new ≡ self.old) }
@@ -172,7 +172,7 @@ impl CodecConfig {
     ///
     /// # Errors
     ///
-    /// `AllocError` where memory is wanting, never to disable; the config is then as before.
+    /// `AllocError` where memory runs out, never to disable; the config is then as before.
     pub fn enable_vp9(&mut self, enabled: bool) -> Result<(), AllocError>
         ensures ok { OnOk result (self.new ≡ with_rows Vp9 (rows_if enabled (vp9_rows)) self.old) }
         ensures err { OnErr result (self.new ≡ self.old) }
@@ -186,7 +186,7 @@ impl CodecConfig {
     ///
     /// # Errors
     ///
-    /// `AllocError` where memory is wanting, never to disable; the config is then as before.
+    /// `AllocError` where memory runs out, never to disable; the config is then as before.
     pub fn enable_av1(&mut self, enabled: bool) -> Result<(), AllocError>
         ensures ok { OnOk result (self.new ≡ with_rows Av1 (rows_if enabled (av1_row ∷ [])) self.old) }
         ensures err { OnErr result (self.new ≡ self.old) }
@@ -201,7 +201,7 @@ impl CodecConfig {
     ///
     /// # Errors
     ///
-    /// `AllocError` where memory is wanting, never to disable; the config is then as before.
+    /// `AllocError` where memory runs out, never to disable; the config is then as before.
     pub fn enable_h264(&mut self, enabled: bool) -> Result<(), AllocError>
         ensures ok { OnOk result (self.new ≡ with_rows H264 (rows_if enabled (h264_rows)) self.old) }
         ensures err { OnErr result (self.new ≡ self.old) }
@@ -215,7 +215,7 @@ impl CodecConfig {
     ///
     /// # Errors
     ///
-    /// `AllocError` where memory is wanting, never to disable; the config is then as before.
+    /// `AllocError` where memory runs out, never to disable; the config is then as before.
     pub fn enable_h265(&mut self, enabled: bool) -> Result<(), AllocError>
         ensures ok { OnOk result (self.new ≡ with_rows H265 (rows_if enabled (h265_default ∷ [])) self.old) }
         ensures err { OnErr result (self.new ≡ self.old) }
@@ -229,7 +229,7 @@ impl CodecConfig {
     ///
     /// # Errors
     ///
-    /// `AllocError` where memory is wanting, never to disable; the config is then as before.
+    /// `AllocError` where memory runs out, never to disable; the config is then as before.
     pub fn enable_h266(&mut self, enabled: bool) -> Result<(), AllocError>
         ensures ok { OnOk result (self.new ≡ with_rows H266 (rows_if enabled (h266_default ∷ [])) self.old) }
         ensures err { OnErr result (self.new ≡ self.old) }

@@ -15,7 +15,7 @@ use sdp_formats_round::best_row;
 use sdp_formats_rows::{MediaKind, PayloadParams, Pt};
 use std::alloc::{AllocError, Global};
 
-// Whether an audio row has the clock rate of these telephone events.
+/// Whether an audio row has the clock rate of these telephone events.
 fn matches_clock(rows: &[PayloadParams], events: &PayloadParams) -> bool
     ensures { result ≡ matches_clock rows.now events.now }
 {
@@ -95,7 +95,7 @@ impl CodecConfig {
     ///
     /// # Errors
     ///
-    /// `AllocError` where memory is wanting.
+    /// `AllocError` where memory runs out.
     pub fn all_for_kind(
         &self,
         kind: MediaKind,

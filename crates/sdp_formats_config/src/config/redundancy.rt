@@ -40,7 +40,7 @@ impl CodecConfig {
     ///
     /// # Errors
     ///
-    /// `AllocError` where memory is wanting; the config is then as before.
+    /// `AllocError` where memory runs out; the config is then as before.
     pub fn set_red_distances(&mut self, distances: &[u32]) -> Result<(), AllocError>
         ensures ok { OnOk result (self.new ≡ record self.old { distances = kept_distances distances.now }) }
         ensures err { OnErr result (self.new ≡ self.old) }

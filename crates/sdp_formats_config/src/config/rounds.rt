@@ -43,7 +43,7 @@ impl CodecConfig {
     ///
     /// The first refusal that is met, the locked rows first, then those that are matched, then those that are left:
     /// `TypeTaken` and `ResendTaken` where a type is above 127 or claimed already, `NoFreeType` where none is free;
-    /// `Memory` where memory is wanting. The config is then as before.
+    /// `Memory` where memory runs out. The config is then as before.
     pub fn round(&mut self, remote: &[PayloadParams], dir: Direction) -> Result<(), RoundError>
         ensures ok { OnOk result (round (receives dir) remote.now self.old.rows ≡ Ok self.new.rows) }
         ensures refused { IfErr result (λ e. e ≢ Memory → round (receives dir) remote.now self.old.rows ≡ Err e) }
