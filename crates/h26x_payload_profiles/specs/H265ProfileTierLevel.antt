@@ -1,6 +1,6 @@
 -- A profile, a tier and a level of H.265, and the three numbers that session texts have for them (RFC 7798 7.1).
 use Rattle.std.specs.Prelude.{◌≡◌, ℕ, List, Option, Some, None, unwrap_or}
-use Rattle.h26x_payload_profiles.specs.Tables.{with_number}
+use Rattle.payload_core_tables.specs.Tables.{with_number}
 use Rattle.h26x_payload_profiles.specs.Values.{given_or}
 use Rattle.h26x_payload_profiles.specs.H265Level.{level_id, levels}
 use Rattle.h26x_payload_profiles.specs.H265Profile.{profile_id, profiles}

@@ -1,15 +1,19 @@
 //! Profiles, tiers and levels of H.265 (RFC 7798 7.1).
 
 ghost use Rattle.std.specs.Prelude.{◌≡◌, Option, option_map};
-ghost use Rattle.h26x_payload_profiles.specs.Tables.{IsRising, IsTable, place_of, with_number};
+ghost use Rattle.payload_core_tables.specs.Names.{HasOwnNames};
+ghost use Rattle.payload_core_tables.specs.Tables.{IsRising, IsTable, place_of, with_number};
 ghost use Rattle.h26x_payload_profiles.specs.H265Level.{level_id, levels};
 ghost use Rattle.h26x_payload_profiles.specs.H265Profile.{profile_id, profiles};
 ghost use Rattle.h26x_payload_profiles.specs.H265Tier.{tier_flag, tiers};
 ghost use Rattle.h26x_payload_profiles.specs.H265ProfileTierLevel.{ComesBack, at_level, fallback, given, known};
 ghost use Rattle.h26x_payload_profiles.specs.H265ProfileTierLevel.{known_or_fallback};
+ghost use Rattle.h26x_payload_profiles.specs.H265Names.{profile_name, tier_name, level_name};
 
-use crate::tables::{Numbered, find_number};
+use crate::h265_names::{H265_LEVELS, H265_PROFILES};
 use crate::values::given_or;
+use payload_core_tables::{Numbered, find_number};
+use serde::{Deserialize, Serialize};
 
 /// A profile of H.265.
 #[derive(Clone, Copy, Debug, PartialEq, Eq, Drop)]
@@ -43,22 +47,7 @@ impl H265Profile {
     pub fn from_id(id: u8) -> Option<Self>
         ensures { result ≡ with_number profile_id profiles id }
     {
-        find_number(
-            &[
-                H265Profile::Main,
-                H265Profile::Main10,
-                H265Profile::MainStillPicture,
-                H265Profile::FormatRangeExtensions,
-                H265Profile::HighThroughput,
-                H265Profile::MultiviewMain,
-                H265Profile::ScalableMain,
-                H265Profile::ThreeDMain,
-                H265Profile::ScreenContentCoding,
-                H265Profile::ScreenContentCodingExtensions,
-                H265Profile::HighThroughputScreenContentCoding,
-            ],
-            id,
-        )
+        find_number(&H265_PROFILES, id)
     }
 
     /// Its `profile-id`.
@@ -103,7 +92,11 @@ impl H265Tier {
     pub fn from_flag(flag: u8) -> Option<Self>
         ensures { result ≡ with_number tier_flag tiers flag }
     {
-        find_number(&[H265Tier::Main, H265Tier::High], flag)
+        match flag {
+            0 => Some(H265Tier::Main),
+            1 => Some(H265Tier::High),
+            _ => None,
+        }
     }
 
     /// Its `tier-flag`.
@@ -114,14 +107,6 @@ impl H265Tier {
             H265Tier::Main => 0,
             H265Tier::High => 1,
         }
-    }
-}
-
-impl Numbered for H265Tier {
-    ghost number = { tier_flag };
-
-    fn number(self) -> u8 {
-        self.to_flag()
     }
 }
 
@@ -161,24 +146,7 @@ impl H265Level {
     pub fn from_id(id: u8) -> Option<Self>
         ensures { result ≡ with_number level_id levels id }
     {
-        find_number(
-            &[
-                H265Level::Level1,
-                H265Level::Level2,
-                H265Level::Level2_1,
-                H265Level::Level3,
-                H265Level::Level3_1,
-                H265Level::Level4,
-                H265Level::Level4_1,
-                H265Level::Level5,
-                H265Level::Level5_1,
-                H265Level::Level5_2,
-                H265Level::Level6,
-                H265Level::Level6_1,
-                H265Level::Level6_2,
-            ],
-            id,
-        )
+        find_number(&H265_LEVELS, id)
     }
 
     /// Its `level-id`.
@@ -219,7 +187,7 @@ impl Numbered for H265Level {
 }
 
 /// A profile, a tier and a level of H.265.
-#[derive(Clone, Copy, Debug, PartialEq, Eq, Drop)]
+#[derive(Clone, Copy, Debug, PartialEq, Eq, Drop, Serialize, Deserialize)]
 pub struct H265ProfileTierLevel {
     profile: H265Profile,
     tier: H265Tier,
@@ -331,7 +299,8 @@ impl From<(u8, u8, u8)> for H265ProfileTierLevel {
 }
 
 /// What the tables of H.265 are: a number finds the profile, tier or level whose own it is, and no other; the
-/// levels are ordered by their places, which is by their numbers; and three numbers come back.
+/// levels are ordered by their places, which is by their numbers; each is found by its name; and three numbers come
+/// back.
 pub fn h265_tables_law()
     ensures profiles { IsTable profile_id profiles }
     ensures tiers { IsTable tier_flag tiers }
@@ -339,4 +308,7 @@ pub fn h265_tables_law()
     ensures rising { IsRising level_id levels ⟦<H265Level as Ord>⟧.cmp }
     ensures comes_back { ComesBack }
     ensures fallback { H265ProfileTierLevel.FALLBACK ≡ fallback }
+    ensures profile_names { HasOwnNames profile_name profiles }
+    ensures tier_names { HasOwnNames tier_name tiers }
+    ensures level_names { HasOwnNames level_name levels }
 {}

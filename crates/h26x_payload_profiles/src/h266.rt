@@ -1,15 +1,19 @@
 //! Profiles, tiers and levels of H.266 (RFC 9328 7.1).
 
 ghost use Rattle.std.specs.Prelude.{◌≡◌, Option, option_map};
-ghost use Rattle.h26x_payload_profiles.specs.Tables.{IsRising, IsTable, place_of, with_number};
+ghost use Rattle.payload_core_tables.specs.Names.{HasOwnNames};
+ghost use Rattle.payload_core_tables.specs.Tables.{IsRising, IsTable, place_of, with_number};
 ghost use Rattle.h26x_payload_profiles.specs.H266Level.{level_id, levels};
 ghost use Rattle.h26x_payload_profiles.specs.H266Profile.{profile_id, profiles};
 ghost use Rattle.h26x_payload_profiles.specs.H266Tier.{tier_flag, tiers};
 ghost use Rattle.h26x_payload_profiles.specs.H266ProfileTierLevel.{ComesBack, at_level, fallback, given, known};
 ghost use Rattle.h26x_payload_profiles.specs.H266ProfileTierLevel.{known_or_fallback};
+ghost use Rattle.h26x_payload_profiles.specs.H266Names.{profile_name, tier_name, level_name};
 
-use crate::tables::{Numbered, find_number};
+use crate::h266_names::H266_LEVELS;
 use crate::values::given_or;
+use payload_core_tables::{Numbered, find_number};
+use serde::{Deserialize, Serialize};
 
 /// A profile of H.266.
 #[derive(Clone, Copy, Debug, PartialEq, Eq, Drop)]
@@ -25,7 +29,11 @@ impl H266Profile {
     pub fn from_id(id: u8) -> Option<Self>
         ensures { result ≡ with_number profile_id profiles id }
     {
-        find_number(&[H266Profile::Main10, H266Profile::Main10_444], id)
+        match id {
+            1 => Some(H266Profile::Main10),
+            33 => Some(H266Profile::Main10_444),
+            _ => None,
+        }
     }
 
     /// Its `profile-id`.
@@ -36,14 +44,6 @@ impl H266Profile {
             H266Profile::Main10 => 1,
             H266Profile::Main10_444 => 33,
         }
-    }
-}
-
-impl Numbered for H266Profile {
-    ghost number = { profile_id };
-
-    fn number(self) -> u8 {
-        self.to_id()
     }
 }
 
@@ -61,7 +61,11 @@ impl H266Tier {
     pub fn from_flag(flag: u8) -> Option<Self>
         ensures { result ≡ with_number tier_flag tiers flag }
     {
-        find_number(&[H266Tier::Main, H266Tier::High], flag)
+        match flag {
+            0 => Some(H266Tier::Main),
+            1 => Some(H266Tier::High),
+            _ => None,
+        }
     }
 
     /// Its `tier-flag`.
@@ -72,14 +76,6 @@ impl H266Tier {
             H266Tier::Main => 0,
             H266Tier::High => 1,
         }
-    }
-}
-
-impl Numbered for H266Tier {
-    ghost number = { tier_flag };
-
-    fn number(self) -> u8 {
-        self.to_flag()
     }
 }
 
@@ -123,26 +119,7 @@ impl H266Level {
     pub fn from_id(id: u8) -> Option<Self>
         ensures { result ≡ with_number level_id levels id }
     {
-        find_number(
-            &[
-                H266Level::Level1,
-                H266Level::Level2,
-                H266Level::Level2_1,
-                H266Level::Level3,
-                H266Level::Level3_1,
-                H266Level::Level4,
-                H266Level::Level4_1,
-                H266Level::Level5,
-                H266Level::Level5_1,
-                H266Level::Level5_2,
-                H266Level::Level6,
-                H266Level::Level6_1,
-                H266Level::Level6_2,
-                H266Level::Level6_3,
-                H266Level::Level15_5,
-            ],
-            id,
-        )
+        find_number(&H266_LEVELS, id)
     }
 
     /// Its `level-id`.
@@ -185,7 +162,7 @@ impl Numbered for H266Level {
 }
 
 /// A profile, a tier and a level of H.266.
-#[derive(Clone, Copy, Debug, PartialEq, Eq, Drop)]
+#[derive(Clone, Copy, Debug, PartialEq, Eq, Drop, Serialize, Deserialize)]
 pub struct H266ProfileTierLevel {
     profile: H266Profile,
     tier: H266Tier,
@@ -297,7 +274,8 @@ impl From<(u8, u8, u8)> for H266ProfileTierLevel {
 }
 
 /// What the tables of H.266 are: a number finds the profile, tier or level whose own it is, and no other; the
-/// levels are ordered by their places, which is by their numbers; and three numbers come back.
+/// levels are ordered by their places, which is by their numbers; each is found by its name; and three numbers come
+/// back.
 pub fn h266_tables_law()
     ensures profiles { IsTable profile_id profiles }
     ensures tiers { IsTable tier_flag tiers }
@@ -305,4 +283,7 @@ pub fn h266_tables_law()
     ensures rising { IsRising level_id levels ⟦<H266Level as Ord>⟧.cmp }
     ensures comes_back { ComesBack }
     ensures fallback { H266ProfileTierLevel.FALLBACK ≡ fallback }
+    ensures profile_names { HasOwnNames profile_name profiles }
+    ensures tier_names { HasOwnNames tier_name tiers }
+    ensures level_names { HasOwnNames level_name levels }
 {}

@@ -1,16 +1,18 @@
-//! Profiles, tiers and levels of H.264, H.265 and H.266.
+//! Profiles, tiers and levels of H.265 and H.266, and those of H.264 from the crate below.
 #![tactic(auto)]
 
-mod h264;
 mod h265;
+mod h265_names;
 mod h266;
+mod h266_names;
 mod laws;
-mod tables;
 mod values;
 
-pub use h264::{
+pub use h26x_payload_h264_profiles::{
     H264LevelIdc, H264Profile, H264ProfileError, H264ProfileIdc, H264ProfileLevel, h264_tables_law,
 };
 pub use h265::{H265Level, H265Profile, H265ProfileTierLevel, H265Tier, h265_tables_law};
+pub use h265_names::{H265_LEVELS, H265_PROFILES, H265_TIERS};
 pub use h266::{H266Level, H266Profile, H266ProfileTierLevel, H266Tier, h266_tables_law};
+pub use h266_names::{H266_LEVELS, H266_PROFILES, H266_TIERS};
 pub use laws::levels_apart_law;

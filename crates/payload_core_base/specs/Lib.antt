@@ -1,3 +1,4 @@
+pub mod CodecNames
 pub mod Codecs
 pub mod Format
 pub mod Outgoing

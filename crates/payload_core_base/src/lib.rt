@@ -4,6 +4,7 @@
 
 mod boxed;
 mod codec;
+mod codec_names;
 mod depacketizer;
 mod error;
 mod extra;
@@ -12,6 +13,7 @@ mod sink;
 mod telephone_event;
 
 pub use codec::{Codec, MediaKind};
+pub use codec_names::CODECS;
 pub use depacketizer::Depacketizer;
 pub use error::PacketError;
 pub use extra::{

@@ -1,7 +1,12 @@
 //! Identifiers that are plain numbers.
 
-ghost use Rattle.std.specs.Prelude.{◌≡◌};
+ghost use Rattle.std.specs.Prelude.{◌≡◌, IfOk};
+ghost use Rattle.serde.specs.Event.{Sends, unsigned};
+ghost use Rattle.serde.specs.Steps.{Gives};
 
+use serde::de::DeserializeOwned;
+use serde::{Described, Deserialize, Deserializer, Format, Serialize, Serializer};
+use std::alloc::Global;
 use std::fmt;
 use std::marker::Model;
 
@@ -93,6 +98,50 @@ impl fmt::Display for Pt {
 
     fn fmt<W: fmt::Write>(&self, f: &mut fmt::Formatter<W>) -> fmt::Result {
         write!(f, "{}", self.0)
+    }
+}
+
+impl Described for Pt {
+    ghost writes = { λ pt. Sends (unsigned pt) };
+}
+
+/// Its number is written.
+impl Serialize for Pt {
+    fn serialize<S: Serializer>(&self, out: &mut S) -> Result<(), S::Error> {
+        out.u64(u64::from(self.0))
+    }
+}
+
+/// A number up to 255 is read.
+impl<'de> Deserialize<'de> for Pt {
+    fn deserialize<F: Format>(
+        _alloc: Global,
+        from: &mut Deserializer<'de, '_, F>,
+    ) -> Result<Pt, F::Error>
+        ensures { IfOk result (λ pt. Gives F.gives from.old (unsigned pt) from.new) }
+    {
+        read_pt(from)
+    }
+}
+
+impl DeserializeOwned for Pt {
+    fn deserialize_owned<F: Format>(
+        _alloc: Global,
+        from: &mut Deserializer<'_, '_, F>,
+    ) -> Result<Pt, F::Error>
+        ensures { IfOk result (λ pt. Gives F.gives from.old (unsigned pt) from.new) }
+    {
+        read_pt(from)
+    }
+}
+
+/// The payload type whose number is read.
+fn read_pt<F: Format>(from: &mut Deserializer<'_, '_, F>) -> Result<Pt, F::Error>
+    ensures { IfOk result (λ pt. Gives F.gives from.old (unsigned pt) from.new) }
+{
+    match u8::try_from(from.u64()?) {
+        Ok(number) => Ok(Pt(number)),
+        Err(_) => Err(from.invalid()),
     }
 }
 

@@ -1,8 +1,13 @@
 //! Clock rates.
 
-ghost use Rattle.std.specs.Prelude.{◌≡◌, ◌<◌};
+ghost use Rattle.std.specs.Prelude.{◌≡◌, ◌<◌, IfOk};
+ghost use Rattle.serde.specs.Event.{Sends, unsigned};
+ghost use Rattle.serde.specs.Steps.{Gives};
 ghost use Rattle.rtp_wire_time.specs.Time.{frequency_of};
 
+use serde::de::DeserializeOwned;
+use serde::{Described, Deserialize, Deserializer, Format, Serialize, Serializer};
+use std::alloc::Global;
 use std::fmt;
 use std::marker::Model;
 use std::str::FromStr;
@@ -110,5 +115,50 @@ impl FromStr for Frequency {
             Ok(ticks) => Frequency::new(ticks).ok_or(ParseFrequencyError),
             Err(_) => Err(ParseFrequencyError),
         }
+    }
+}
+
+impl Described for Frequency {
+    ghost writes = { λ frequency. Sends (unsigned frequency) };
+}
+
+/// Its ticks a second are written.
+impl Serialize for Frequency {
+    fn serialize<S: Serializer>(&self, out: &mut S) -> Result<(), S::Error> {
+        out.u64(u64::from(self.0))
+    }
+}
+
+/// A number of ticks is read, 1 to 4,294,967,295.
+impl<'de> Deserialize<'de> for Frequency {
+    fn deserialize<F: Format>(
+        _alloc: Global,
+        from: &mut Deserializer<'de, '_, F>,
+    ) -> Result<Frequency, F::Error>
+        ensures { IfOk result (λ frequency. Gives F.gives from.old (unsigned frequency) from.new) }
+    {
+        read_frequency(from)
+    }
+}
+
+impl DeserializeOwned for Frequency {
+    fn deserialize_owned<F: Format>(
+        _alloc: Global,
+        from: &mut Deserializer<'_, '_, F>,
+    ) -> Result<Frequency, F::Error>
+        ensures { IfOk result (λ frequency. Gives F.gives from.old (unsigned frequency) from.new) }
+    {
+        read_frequency(from)
+    }
+}
+
+/// The clock rate whose ticks are read.
+fn read_frequency<F: Format>(from: &mut Deserializer<'_, '_, F>) -> Result<Frequency, F::Error>
+    ensures { IfOk result (λ frequency. Gives F.gives from.old (unsigned frequency) from.new) }
+{
+    let ticks = u32::try_from(from.u64()?).unwrap_or(0);
+    match Frequency::new(ticks) {
+        Some(frequency) => Ok(frequency),
+        None => Err(from.invalid()),
     }
 }

@@ -9,7 +9,7 @@ use Rattle.h26x_payload_profiles.specs.H265ProfileTierLevel.{ComesBack as ComesB
 use Rattle.h26x_payload_profiles.specs.H265ProfileTierLevel.{known_values as values_265, together as together_265}
 use Rattle.h26x_payload_profiles.specs.H266ProfileTierLevel.{ComesBack as ComesBack266, given as given_266}
 use Rattle.h26x_payload_profiles.specs.H266ProfileTierLevel.{known_values as values_266}
-use Rattle.h26x_payload_profiles.specs.Tables.{with_number}
+use Rattle.payload_core_tables.specs.Tables.{with_number}
 use Rattle.h26x_payload_profiles.specs.H265Level.{level_id as level_265, levels as levels_265}
 use Rattle.h26x_payload_profiles.specs.H265Profile.{profile_id as profile_265, profiles as profiles_265}
 use Rattle.h26x_payload_profiles.specs.H265Tier.{tier_flag as tier_265, tiers as tiers_265}

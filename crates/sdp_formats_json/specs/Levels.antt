@@ -4,9 +4,16 @@ use Rattle.h26x_payload_profiles.specs.declared.h265.H265ProfileTierLevel.{H265P
 use Rattle.h26x_payload_profiles.specs.declared.h266.H266ProfileTierLevel.{H266ProfileTierLevel}
 use Rattle.h26x_payload_profiles.specs.H265ProfileTierLevel.{fallback}
 use Rattle.h26x_payload_profiles.specs.H266ProfileTierLevel.{fallback as h266_fallback}
-use Rattle.sdp_formats_json.specs.Named.{h265_profile_name, h265_profiles, h265_tier_name, h265_tiers, h265_level_name}
-use Rattle.sdp_formats_json.specs.Named.{h265_levels, h266_profile_name, h266_profiles, h266_tier_name, h266_tiers}
-use Rattle.sdp_formats_json.specs.Named.{h266_level_name, h266_levels}
+use Rattle.h26x_payload_profiles.specs.H265Names.{profile_name as h265_profile_name, tier_name as h265_tier_name}
+use Rattle.h26x_payload_profiles.specs.H265Names.{level_name as h265_level_name}
+use Rattle.h26x_payload_profiles.specs.H265Profile.{profiles as h265_profiles}
+use Rattle.h26x_payload_profiles.specs.H265Tier.{tiers as h265_tiers}
+use Rattle.h26x_payload_profiles.specs.H265Level.{levels as h265_levels}
+use Rattle.h26x_payload_profiles.specs.H266Names.{profile_name as h266_profile_name, tier_name as h266_tier_name}
+use Rattle.h26x_payload_profiles.specs.H266Names.{level_name as h266_level_name}
+use Rattle.h26x_payload_profiles.specs.H266Profile.{profiles as h266_profiles}
+use Rattle.h26x_payload_profiles.specs.H266Tier.{tiers as h266_tiers}
+use Rattle.h26x_payload_profiles.specs.H266Level.{levels as h266_levels}
 use Rattle.sdp_formats_json.specs.Shapes.{Shape, word_of}
 use Rattle.sdp_formats_json.specs.Entries.{Entry, entry, object_of}
 use Rattle.sdp_formats_json.specs.declared.error.Field.TheVariants as field

@@ -1,5 +1,4 @@
 pub mod Names
-pub mod Named
 pub mod NamedLaws
 pub mod Shapes
 pub mod Entries

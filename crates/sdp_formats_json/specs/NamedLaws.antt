@@ -1,9 +1,17 @@
 -- Each codec, profile, tier and level has a name of its own.
 use Rattle.std.specs.Prelude.{◌≡◌, Some, refl}
-use Rattle.sdp_formats_json.specs.Shapes.{with_name}
-use Rattle.sdp_formats_json.specs.Named.{codec_name, codecs, h265_profile_name, h265_profiles, h265_tier_name}
-use Rattle.sdp_formats_json.specs.Named.{h265_tiers, h265_level_name, h265_levels, h266_profile_name, h266_profiles}
-use Rattle.sdp_formats_json.specs.Named.{h266_tier_name, h266_tiers, h266_level_name, h266_levels}
+use Rattle.payload_core_tables.specs.Names.{with_name}
+use Rattle.payload_core_base.specs.CodecNames.{variant_name as codec_name, codecs}
+use Rattle.h26x_payload_profiles.specs.H265Names.{profile_name as h265_profile_name, tier_name as h265_tier_name}
+use Rattle.h26x_payload_profiles.specs.H265Names.{level_name as h265_level_name}
+use Rattle.h26x_payload_profiles.specs.H265Profile.{profiles as h265_profiles}
+use Rattle.h26x_payload_profiles.specs.H265Tier.{tiers as h265_tiers}
+use Rattle.h26x_payload_profiles.specs.H265Level.{levels as h265_levels}
+use Rattle.h26x_payload_profiles.specs.H266Names.{profile_name as h266_profile_name, tier_name as h266_tier_name}
+use Rattle.h26x_payload_profiles.specs.H266Names.{level_name as h266_level_name}
+use Rattle.h26x_payload_profiles.specs.H266Profile.{profiles as h266_profiles}
+use Rattle.h26x_payload_profiles.specs.H266Tier.{tiers as h266_tiers}
+use Rattle.h26x_payload_profiles.specs.H266Level.{levels as h266_levels}
 use Rattle.payload_core_base.specs.declared.codec.Codec.{Codec}
 use Rattle.payload_core_base.specs.declared.codec.Codec.TheVariants as codec
 use Rattle.h26x_payload_profiles.specs.declared.h265.H265Profile.{H265Profile}

@@ -1,10 +1,10 @@
 -- How values stand in JSON, and what JSON is read as a value.
-use Rattle.std.specs.Prelude.{ℕ, ◌^◌, ◌&&◌, Bool, true, List, Option, Some, None, Result, Ok, Err, nat_lt, find}
-use Rattle.std.specs.Prelude.{bytes_eq}
+use Rattle.std.specs.Prelude.{ℕ, ◌^◌, ◌&&◌, Bool, true, List, Option, Some, None, Result, Ok, Err, nat_lt}
 use Rattle.std.specs.Prelude.{if◌then◌else◌, is_some, option_and_then}
 use Rattle.serde_json.specs.Data.{Data, null, boolean, number, string, unsigned}
 use Rattle.serde_json.specs.Find.{as_bool, as_null, as_number, as_str, as_u64}
 use Rattle.rtp_wire.specs.Time.{frequency_of}
+use Rattle.payload_core_tables.specs.Names.{with_name}
 use Rattle.sdp_formats_json.specs.declared.error.Field.{Field}
 use Rattle.sdp_formats_json.specs.declared.error.JsonError.{JsonError}
 use Rattle.sdp_formats_json.specs.declared.error.JsonError.TheVariants.{Missing, Unfit, Unknown}
@@ -64,10 +64,6 @@ flag = record {
   reads = λ field d. or_refused (Unfit field) (as_bool d);
   fits = λ b. true;
 }
-
--- The first of a table with this name.
-abbrev pub with_name : {A : Type 0} → (A → List ℕ) → List A → List ℕ → Option A
-with_name name table text = find (λ a. bytes_eq (name a) text) table
 
 -- The first of a table with this name, where there is one.
 abbrev pub name_read : {A : Type 0} → (A → List ℕ) → List A → Field → Option (List ℕ) → Result A JsonError

@@ -5,13 +5,11 @@ ghost use Rattle.sdp_formats_json.specs.Levels.{h265, h266};
 
 use crate::error::{Field, JsonError};
 use crate::members::{named_member, put_name};
-use crate::named::{
-    H265_LEVELS, H265_PROFILES, H265_TIERS, H266_LEVELS, H266_PROFILES, H266_TIERS,
-};
 use crate::shaped::Shaped;
 use h26x_payload_profiles::{
-    H265Level, H265Profile, H265ProfileTierLevel, H265Tier, H266Level, H266Profile,
-    H266ProfileTierLevel, H266Tier, h265_tables_law, h266_tables_law,
+    H265_LEVELS, H265_PROFILES, H265_TIERS, H265Level, H265Profile, H265ProfileTierLevel, H265Tier,
+    H266_LEVELS, H266_PROFILES, H266_TIERS, H266Level, H266Profile, H266ProfileTierLevel, H266Tier,
+    h265_tables_law, h266_tables_law,
 };
 use serde_json::{Map, Value};
 use std::alloc::{AllocError, Global};

@@ -5,7 +5,6 @@ mod error;
 mod format;
 mod levels;
 mod members;
-mod named;
 mod row;
 mod shaped;
 mod text;

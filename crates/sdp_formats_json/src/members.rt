@@ -9,8 +9,8 @@ ghost use Rattle.sdp_formats_json.specs.Shapes.{given_read, member_read, name_re
 ghost use Rattle.sdp_formats_json.specs.Shapes.{optional_read, word_of};
 
 use crate::error::{Field, JsonError};
-use crate::named::{Named, find_named};
 use crate::shaped::Shaped;
+use payload_core_tables::{Named, find_named};
 use serde_json::{Map, Value};
 use std::alloc::{AllocError, Global};
 

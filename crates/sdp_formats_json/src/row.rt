@@ -10,9 +10,8 @@ ghost use Rattle.sdp_formats_json.specs.Rows.{row_of_data, row_shape, spec};
 
 use crate::error::{Field, JsonError};
 use crate::members::{member, named_member, optional_member, put, put_name, put_optional};
-use crate::named::CODECS;
 use crate::shaped::Shaped;
-use payload_core_base::Codec;
+use payload_core_base::{CODECS, Codec};
 use rtp_wire::{Frequency, Pt};
 use sdp_formats_rows::{CodecSpec, FormatParams, PayloadParams};
 use serde_json::{Map, Value};

@@ -1,14 +1,14 @@
 -- How well what two sides give of H.264 matches (RFC 6184 8.1, 8.2.2).
 use Rattle.std.specs.Prelude.{ℕ, Bool, ◌==◌, Option, Some, None, unwrap_or, if◌then◌else◌}
-use Rattle.h26x_payload_profiles.specs.Tables.{place_of}
-use Rattle.h26x_payload_profiles.specs.H264LevelIdc.{level_idc, levels}
-use Rattle.h26x_payload_profiles.specs.H264ProfileLevel.{fallback, profile_level_of}
-use Rattle.h26x_payload_profiles.specs.declared.h264.H264LevelIdc.{H264LevelIdc}
-use Rattle.h26x_payload_profiles.specs.declared.h264.H264Profile.{H264Profile}
-use Rattle.h26x_payload_profiles.specs.declared.h264.H264Profile.TheVariants.{ConstrainedBaseline, Baseline, Main}
-use Rattle.h26x_payload_profiles.specs.declared.h264.H264Profile.TheVariants.{High, ConstrainedHigh}
-use Rattle.h26x_payload_profiles.specs.declared.h264.H264Profile.TheVariants.{High444Predictive}
-use Rattle.h26x_payload_profiles.specs.declared.h264.H264ProfileLevel.{H264ProfileLevel}
+use Rattle.payload_core_tables.specs.Tables.{place_of}
+use Rattle.h26x_payload_h264_profiles.specs.H264LevelIdc.{level_idc, levels}
+use Rattle.h26x_payload_h264_profiles.specs.H264ProfileLevel.{fallback, profile_level_of}
+use Rattle.h26x_payload_h264_profiles.specs.declared.h264.H264LevelIdc.{H264LevelIdc}
+use Rattle.h26x_payload_h264_profiles.specs.declared.h264.H264Profile.{H264Profile}
+use Rattle.h26x_payload_h264_profiles.specs.declared.h264.H264Profile.TheVariants.{ConstrainedBaseline, Baseline, Main}
+use Rattle.h26x_payload_h264_profiles.specs.declared.h264.H264Profile.TheVariants.{High, ConstrainedHigh}
+use Rattle.h26x_payload_h264_profiles.specs.declared.h264.H264Profile.TheVariants.{High444Predictive}
+use Rattle.h26x_payload_h264_profiles.specs.declared.h264.H264ProfileLevel.{H264ProfileLevel}
 use Rattle.sdp_formats_profiles.specs.declared.h264.GivenH264.{GivenH264}
 use Rattle.sdp_formats_profiles.specs.Points.{level_points, points_if}
 

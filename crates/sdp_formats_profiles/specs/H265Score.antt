@@ -1,7 +1,7 @@
 -- How well what two sides give of H.265 matches, and what a match leaves of it (RFC 7798 7.1).
 use Rattle.std.specs.Prelude.{ℕ, ◌%◌, nat_le, ◌&&◌, ◌==◌, Option, Some, None, unwrap_or}
 use Rattle.std.specs.Prelude.{if◌then◌else◌}
-use Rattle.h26x_payload_profiles.specs.Tables.{place_of}
+use Rattle.payload_core_tables.specs.Tables.{place_of}
 use Rattle.h26x_payload_profiles.specs.H265Level.{level_id, levels}
 use Rattle.h26x_payload_profiles.specs.H265Profile.{profile_id}
 use Rattle.h26x_payload_profiles.specs.H265Tier.{tier_flag}

@@ -1,7 +1,7 @@
 -- How well what two sides give of H.266 matches, and what a match leaves of it (RFC 9328 7.2).
 use Rattle.std.specs.Prelude.{ℕ, ◌%◌, nat_le, ◌&&◌, ◌==◌, Option, Some, None, unwrap_or}
 use Rattle.std.specs.Prelude.{if◌then◌else◌}
-use Rattle.h26x_payload_profiles.specs.Tables.{place_of}
+use Rattle.payload_core_tables.specs.Tables.{place_of}
 use Rattle.h26x_payload_profiles.specs.H266Level.{level_id, levels}
 use Rattle.h26x_payload_profiles.specs.H266Profile.{profile_id}
 use Rattle.h26x_payload_profiles.specs.H266Tier.{tier_flag}

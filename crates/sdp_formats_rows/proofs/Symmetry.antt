@@ -8,7 +8,7 @@ use Rattle.h26x_payload_profiles.specs.H265Profile as profile_265
 use Rattle.h26x_payload_profiles.specs.H265Tier as tier_265
 use Rattle.h26x_payload_profiles.specs.H266Profile as profile_266
 use Rattle.h26x_payload_profiles.specs.H266Tier as tier_266
-use Rattle.h26x_payload_profiles.specs.declared.h264.H264ProfileLevel.{H264ProfileLevel}
+use Rattle.h26x_payload_h264_profiles.specs.declared.h264.H264ProfileLevel.{H264ProfileLevel}
 use Rattle.h26x_payload_profiles.specs.declared.h265.H265ProfileTierLevel.{H265ProfileTierLevel}
 use Rattle.h26x_payload_profiles.specs.declared.h266.H266ProfileTierLevel.{H266ProfileTierLevel}
 use Rattle.payload_core_base.specs.declared.codec.Codec.{Codec}

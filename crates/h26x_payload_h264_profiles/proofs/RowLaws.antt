@@ -4,11 +4,11 @@ use Rattle.std.proofs.Common.{Option, Some, refl, sym, ap, ◌∙◌, arith, inl
 use Rattle.std.specs.Prelude.{◌&&◌, bit_and, codes, count_by, find, not, option_map}
 use Rattle.std.proofs.lemmas.Bool.{false≢true}
 use Rattle.std.proofs.lemmas.Bool.Decides.{eqb_tells, nat_tests}
-use Rattle.h26x_payload_profiles.specs.H264Profile.{Row, has_digits, is_of_row, profile_of, rows}
-use Rattle.h26x_payload_profiles.specs.H264ProfileLevel.{HasOneRow}
-use Rattle.h26x_payload_profiles.specs.H264Rows.{masked_profile}
-use Rattle.h26x_payload_profiles.specs.declared.h264.ProfileRow.{ProfileRow}
-use Rattle.h26x_payload_profiles.specs.declared.h264.TheConstants.{ROWS}
+use Rattle.h26x_payload_h264_profiles.specs.H264Profile.{Row, has_digits, is_of_row, profile_of, rows}
+use Rattle.h26x_payload_h264_profiles.specs.H264ProfileLevel.{HasOneRow}
+use Rattle.h26x_payload_h264_profiles.specs.H264Rows.{masked_profile}
+use Rattle.h26x_payload_h264_profiles.specs.declared.h264.ProfileRow.{ProfileRow}
+use Rattle.h26x_payload_h264_profiles.specs.declared.h264.TheConstants.{ROWS}
 
 -- a test holds of every number below a bound
 abbrev all_below : (ℕ → Bool) → ℕ → Bool

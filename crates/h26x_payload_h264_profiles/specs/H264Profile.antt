@@ -1,10 +1,10 @@
 -- The profiles of H.264, by profile_idc and profile_iop (RFC 6184 8.1, table 5).
 use Rattle.std.specs.Prelude.{ℕ, ◌+◌, ◌/◌, ◌%◌, ◌^◌, ◌==◌, ◌&&◌, ◌||◌, Bool, true, List, [], ◌∷◌, codes, find, length}
 use Rattle.std.specs.Prelude.{option_map, Option}
-use Rattle.h26x_payload_profiles.specs.declared.h264.H264Profile.{H264Profile}
-use Rattle.h26x_payload_profiles.specs.declared.h264.H264Profile.TheVariants.{ConstrainedBaseline, Baseline, Main}
-use Rattle.h26x_payload_profiles.specs.declared.h264.H264Profile.TheVariants.{High, ConstrainedHigh}
-use Rattle.h26x_payload_profiles.specs.declared.h264.H264Profile.TheVariants.{High444Predictive}
+use Rattle.h26x_payload_h264_profiles.specs.declared.h264.H264Profile.{H264Profile}
+use Rattle.h26x_payload_h264_profiles.specs.declared.h264.H264Profile.TheVariants.{ConstrainedBaseline, Baseline, Main}
+use Rattle.h26x_payload_h264_profiles.specs.declared.h264.H264Profile.TheVariants.{High, ConstrainedHigh}
+use Rattle.h26x_payload_h264_profiles.specs.declared.h264.H264Profile.TheVariants.{High444Predictive}
 
 -- A row: profile_idc, the digits of profile_iop from its highest bit on, where x is either, and the profile.
 pub record Row : Type 0 where

@@ -1,7 +1,7 @@
 -- The profile_idc that rows of the profile table have (RFC 6184 8.1).
 use Rattle.std.specs.Prelude.{ℕ, List, [], ◌∷◌}
-use Rattle.h26x_payload_profiles.specs.declared.h264.H264ProfileIdc.{H264ProfileIdc}
-use Rattle.h26x_payload_profiles.specs.declared.h264.H264ProfileIdc.TheVariants.{X42, X4D, X58, X64, XF4}
+use Rattle.h26x_payload_h264_profiles.specs.declared.h264.H264ProfileIdc.{H264ProfileIdc}
+use Rattle.h26x_payload_h264_profiles.specs.declared.h264.H264ProfileIdc.TheVariants.{X42, X4D, X58, X64, XF4}
 
 abbrev pub profile_idcs : List H264ProfileIdc
 profile_idcs = X42 ∷ X4D ∷ X58 ∷ X64 ∷ XF4 ∷ []

@@ -1,7 +1,7 @@
-//! Tables of values that have numbers.
+//! Values that have numbers.
 
 ghost use Rattle.std.specs.Prelude.{◌≡◌, ℕ};
-ghost use Rattle.h26x_payload_profiles.specs.Tables.{with_number};
+ghost use Rattle.payload_core_tables.specs.Tables.{with_number};
 
 /// A value with a number of its own.
 pub trait Numbered: Copy {

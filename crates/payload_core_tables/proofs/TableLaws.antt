@@ -6,7 +6,7 @@ use Rattle.std.proofs.lemmas.Bool.{false≢true}
 use Rattle.std.specs.Ordering.{nat_cmp}
 use Rattle.std.specs.declared.cmp.Ordering.{Ordering}
 use Rattle.std.specs.declared.cmp.Ordering.TheVariants.{Less, Equal, Greater}
-use Rattle.h26x_payload_profiles.specs.Tables.{IsRising, IsTable, place_of, with_number}
+use Rattle.payload_core_tables.specs.Tables.{IsRising, IsTable, place_of, with_number}
 
 found_by : {X : Type 0} (number : X → ℕ) (wanted : ℕ) (t : Bool) (y x : X) (others : Option X)
     → eqb (number y) wanted ≡ t → (others ≡ Some x → number x ≡ wanted) → cond t (Some y) others ≡ Some x → number x

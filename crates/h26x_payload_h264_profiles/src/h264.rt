@@ -1,15 +1,19 @@
 //! Profiles and levels of H.264 (RFC 6184 8.1).
 
 ghost use Rattle.std.specs.Prelude.{◌≡◌};
-ghost use Rattle.h26x_payload_profiles.specs.Tables.{IsRising, IsTable, place_of, with_number};
-ghost use Rattle.h26x_payload_profiles.specs.H264LevelIdc.{level_idc, levels};
-ghost use Rattle.h26x_payload_profiles.specs.H264Profile.{profile_of};
-ghost use Rattle.h26x_payload_profiles.specs.H264Rows.{masked_profile};
-ghost use Rattle.h26x_payload_profiles.specs.H264ProfileIdc.{profile_idc, profile_idcs};
-ghost use Rattle.h26x_payload_profiles.specs.H264ProfileLevel.{HasOneRow, fallback, profile_level_of, read_level_idc};
-ghost use Rattle.h26x_payload_profiles.specs.H264ProfileLevel.{read_profile_idc, read_profile_level};
+ghost use Rattle.payload_core_tables.specs.Names.{HasOwnNames};
+ghost use Rattle.payload_core_tables.specs.Tables.{IsRising, IsTable, place_of, with_number};
+ghost use Rattle.h26x_payload_h264_profiles.specs.H264LevelIdc.{level_idc, levels};
+ghost use Rattle.h26x_payload_h264_profiles.specs.H264Profile.{profile_of};
+ghost use Rattle.h26x_payload_h264_profiles.specs.H264Rows.{masked_profile};
+ghost use Rattle.h26x_payload_h264_profiles.specs.H264ProfileIdc.{profile_idc, profile_idcs};
+ghost use Rattle.h26x_payload_h264_profiles.specs.H264ProfileLevel.{HasOneRow, fallback, profile_level_of, read_level_idc};
+ghost use Rattle.h26x_payload_h264_profiles.specs.H264ProfileLevel.{read_profile_idc, read_profile_level};
+ghost use Rattle.h26x_payload_h264_profiles.specs.H264Names.{profile_name, profile_idc_name, level_name, profiles};
 
-use crate::tables::{Numbered, find_number};
+use crate::h264_names::{H264_LEVELS, H264_PROFILE_IDCS};
+use payload_core_tables::{Numbered, find_number};
+use serde::{Deserialize, Serialize};
 use thiserror::Error;
 
 /// Why a number of H.264 is refused.
@@ -79,17 +83,7 @@ impl TryFrom<u8> for H264ProfileIdc {
     ghost try_from_gives = { λ byte read. read ≡ read_profile_idc byte };
 
     fn try_from(byte: u8) -> Result<Self, H264ProfileError> {
-        find_number(
-            &[
-                H264ProfileIdc::X42,
-                H264ProfileIdc::X4D,
-                H264ProfileIdc::X58,
-                H264ProfileIdc::X64,
-                H264ProfileIdc::XF4,
-            ],
-            byte,
-        )
-        .ok_or(H264ProfileError::UnknownProfileIdc(byte))
+        find_number(&H264_PROFILE_IDCS, byte).ok_or(H264ProfileError::UnknownProfileIdc(byte))
     }
 }
 
@@ -180,31 +174,7 @@ impl TryFrom<u8> for H264LevelIdc {
     ghost try_from_gives = { λ byte read. read ≡ read_level_idc byte };
 
     fn try_from(byte: u8) -> Result<Self, H264ProfileError> {
-        find_number(
-            &[
-                H264LevelIdc::Level1,
-                H264LevelIdc::Level1_1,
-                H264LevelIdc::Level1_2,
-                H264LevelIdc::Level1_3,
-                H264LevelIdc::Level2,
-                H264LevelIdc::Level2_1,
-                H264LevelIdc::Level2_2,
-                H264LevelIdc::Level3,
-                H264LevelIdc::Level3_1,
-                H264LevelIdc::Level3_2,
-                H264LevelIdc::Level4,
-                H264LevelIdc::Level4_1,
-                H264LevelIdc::Level4_2,
-                H264LevelIdc::Level5,
-                H264LevelIdc::Level5_1,
-                H264LevelIdc::Level5_2,
-                H264LevelIdc::Level6,
-                H264LevelIdc::Level6_1,
-                H264LevelIdc::Level6_2,
-            ],
-            byte,
-        )
-        .ok_or(H264ProfileError::UnknownLevelIdc(byte))
+        find_number(&H264_LEVELS, byte).ok_or(H264ProfileError::UnknownLevelIdc(byte))
     }
 }
 
@@ -290,7 +260,7 @@ fn profile_of(idc: u8, iop: u8) -> Option<H264Profile>
 }
 
 /// A profile and a level of H.264.
-#[derive(Clone, Copy, Debug, PartialEq, Eq, Drop)]
+#[derive(Clone, Copy, Debug, PartialEq, Eq, Drop, Serialize, Deserialize)]
 pub struct H264ProfileLevel {
     profile: H264Profile,
     level: H264LevelIdc,
@@ -344,11 +314,15 @@ impl TryFrom<u32> for H264ProfileLevel {
 
 /// What the tables of H.264 are: at most one row of the profile table has two bytes; a number finds the
 /// profile_idc or the level whose own it is, and no other; and the levels are ordered by their places, which is
-/// by their numbers. Where nothing is said, baseline at level 1 stands.
+/// by their numbers. Each profile, profile_idc and level is found by its name. Where nothing is said, baseline at
+/// level 1 stands.
 pub fn h264_tables_law()
     ensures one_row { HasOneRow }
     ensures profile_idcs { IsTable profile_idc profile_idcs }
     ensures levels { IsTable level_idc levels }
     ensures rising { IsRising level_idc levels ⟦<H264LevelIdc as Ord>⟧.cmp }
     ensures fallback { H264ProfileLevel.FALLBACK ≡ fallback }
+    ensures profile_names { HasOwnNames profile_name profiles }
+    ensures profile_idc_names { HasOwnNames profile_idc_name profile_idcs }
+    ensures level_names { HasOwnNames level_name levels }
 {}

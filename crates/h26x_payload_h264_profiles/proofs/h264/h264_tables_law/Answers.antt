@@ -1,12 +1,12 @@
 use Rattle.std.proofs.Common.{◌≡◌, Some, refl}
 use Rattle.std.specs.Prelude.{slice_get}
-use Rattle.h26x_payload_profiles.specs.Tables.{place_of, with_number}
-use Rattle.h26x_payload_profiles.specs.H264LevelIdc.{level_idc, levels}
-use Rattle.h26x_payload_profiles.specs.declared.h264.H264LevelIdc.{H264LevelIdc}
-use Rattle.h26x_payload_profiles.specs.declared.h264.H264LevelIdc.TheVariants.{Level1}
-use Rattle.h26x_payload_profiles.proofs.RowLaws.{has_one_row}
-use Rattle.h26x_payload_profiles.proofs.TableLaws.{is_rising, is_table}
-use Rattle.h26x_payload_profiles.proofs.h264.h264_tables_law.Goals as goal
+use Rattle.payload_core_tables.specs.Tables.{place_of, with_number}
+use Rattle.h26x_payload_h264_profiles.specs.H264LevelIdc.{level_idc, levels}
+use Rattle.h26x_payload_h264_profiles.specs.declared.h264.H264LevelIdc.{H264LevelIdc}
+use Rattle.h26x_payload_h264_profiles.specs.declared.h264.H264LevelIdc.TheVariants.{Level1}
+use Rattle.h26x_payload_h264_profiles.proofs.RowLaws.{has_one_row}
+use Rattle.payload_core_tables.proofs.TableLaws.{is_rising, is_table}
+use Rattle.h26x_payload_h264_profiles.proofs.h264.h264_tables_law.Goals as goal
 
 own : (level : H264LevelIdc) → with_number level_idc levels (level_idc level) ≡ Some level
 own Level1 = refl

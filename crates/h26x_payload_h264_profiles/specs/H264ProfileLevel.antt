@@ -1,19 +1,19 @@
 -- A profile and a level of H.264, and the number profile-level-id that session texts have for them (RFC 6184 8.1).
 use Rattle.std.specs.Prelude.{ℕ, ◌/◌, ◌%◌, ◌<◌, ◌≤◌, count_by, nat_lt, ok_or, Option, Some, None, Result}
 use Rattle.std.specs.Prelude.{if◌then◌else◌}
-use Rattle.h26x_payload_profiles.specs.Tables.{with_number}
-use Rattle.h26x_payload_profiles.specs.H264LevelIdc.{level_idc, levels}
-use Rattle.h26x_payload_profiles.specs.H264Profile.{is_of_row, profile_of, rows}
-use Rattle.h26x_payload_profiles.specs.H264ProfileIdc.{profile_idc, profile_idcs}
-use Rattle.h26x_payload_profiles.specs.declared.h264.H264LevelIdc.{H264LevelIdc}
-use Rattle.h26x_payload_profiles.specs.declared.h264.H264LevelIdc.TheVariants.{Level1}
-use Rattle.h26x_payload_profiles.specs.declared.h264.H264Profile.{H264Profile}
-use Rattle.h26x_payload_profiles.specs.declared.h264.H264Profile.TheVariants.{Baseline}
-use Rattle.h26x_payload_profiles.specs.declared.h264.H264ProfileIdc.{H264ProfileIdc}
-use Rattle.h26x_payload_profiles.specs.declared.h264.H264ProfileLevel.{H264ProfileLevel}
-use Rattle.h26x_payload_profiles.specs.declared.h264.H264ProfileError.{H264ProfileError}
-use Rattle.h26x_payload_profiles.specs.declared.h264.H264ProfileError.TheVariants.{UnknownLevelIdc, UnknownProfileIdc}
-use Rattle.h26x_payload_profiles.specs.declared.h264.H264ProfileError.TheVariants.{UnknownProfileLevelId}
+use Rattle.payload_core_tables.specs.Tables.{with_number}
+use Rattle.h26x_payload_h264_profiles.specs.H264LevelIdc.{level_idc, levels}
+use Rattle.h26x_payload_h264_profiles.specs.H264Profile.{is_of_row, profile_of, rows}
+use Rattle.h26x_payload_h264_profiles.specs.H264ProfileIdc.{profile_idc, profile_idcs}
+use Rattle.h26x_payload_h264_profiles.specs.declared.h264.H264LevelIdc.{H264LevelIdc}
+use Rattle.h26x_payload_h264_profiles.specs.declared.h264.H264LevelIdc.TheVariants.{Level1}
+use Rattle.h26x_payload_h264_profiles.specs.declared.h264.H264Profile.{H264Profile}
+use Rattle.h26x_payload_h264_profiles.specs.declared.h264.H264Profile.TheVariants.{Baseline}
+use Rattle.h26x_payload_h264_profiles.specs.declared.h264.H264ProfileIdc.{H264ProfileIdc}
+use Rattle.h26x_payload_h264_profiles.specs.declared.h264.H264ProfileLevel.{H264ProfileLevel}
+use Rattle.h26x_payload_h264_profiles.specs.declared.h264.H264ProfileError.{H264ProfileError}
+use Rattle.h26x_payload_h264_profiles.specs.declared.h264.H264ProfileError.TheVariants.{UnknownLevelIdc, UnknownProfileIdc}
+use Rattle.h26x_payload_h264_profiles.specs.declared.h264.H264ProfileError.TheVariants.{UnknownProfileLevelId}
 
 -- The two together, where each is known.
 abbrev pub together : Option H264Profile → Option H264LevelIdc → Option H264ProfileLevel
