@@ -28,9 +28,25 @@ fn print_row(rt: &HostRuntime, row: &PayloadParams) -> anyhow::Result<()> {
     let text = row_to_json(rt.alloc(), row)?;
     println!(*rt; "{text}")?;
     let again = row_from_json(rt.alloc(), text.as_str())?;
-    let same = again == *row && again.is_locked() == row.is_locked();
+    let same = is_same(&again, row);
     let (pt, codec) = (again.pt(), again.spec().codec);
-    Ok(println!(*rt; "  type {pt}: {codec}, read back as it is: {same}")?)
+    println!(*rt; "  type {pt}: {codec}, read back as it is: {same}")?;
+    print_by_serde(rt, row, text.as_str())
+}
+
+/// Whether two rows are the same, with their locks.
+fn is_same(one: &PayloadParams, other: &PayloadParams) -> bool {
+    *one == *other && one.is_locked() == other.is_locked()
+}
+
+/// Prints the row's JSON by serde, and whether each way reads what the other wrote.
+fn print_by_serde(rt: &HostRuntime, row: &PayloadParams, text: &str) -> anyhow::Result<()> {
+    let by_serde = serde_json::to_string(rt.alloc(), row)?;
+    println!(*rt; "  by serde: {by_serde}")?;
+    let ours = row_from_json(rt.alloc(), by_serde.as_str())?;
+    let theirs: PayloadParams = serde_json::from_str(rt.alloc(), text)?;
+    let same = is_same(&ours, row) && is_same(&theirs, row);
+    Ok(println!(*rt; "  each reads what the other wrote: {same}")?)
 }
 
 fn print_line(rt: &HostRuntime, line: &str) -> anyhow::Result<()> {
