@@ -1,6 +1,4 @@
-pub mod Formats
 pub mod Rows
-pub mod Texts
 pub mod Codecs
 pub mod Same
 pub mod Scores

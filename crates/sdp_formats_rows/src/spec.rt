@@ -1,8 +1,8 @@
 //! Codecs with their settings.
 
-use crate::format::FormatParams;
 use payload_core_base::Codec;
 use rtp_wire::{Frequency, Pt};
+use sdp_formats_format::FormatParams;
 
 /// A codec with its clock rate, channels and format (RFC 8866 6.6 and 6.15).
 #[derive(Clone, Copy, Debug, PartialEq, Eq, Drop)]
