@@ -9,7 +9,7 @@ use Rattle.rtp_wire_ids.specs.declared.direction.Direction.{Direction}
 use Rattle.rtp_wire_ids.specs.declared.direction.Direction.TheVariants.{SendOnly, RecvOnly, SendRecv, Inactive}
 use Rattle.rtp_wire.specs.Maps.{empty_map}
 use Rattle.rtp_wire.specs.Name.{name_of}
-use Rattle.sdp_formats_rows.specs.Formats.{format_of}
+use Rattle.sdp_formats_format.specs.Formats.{format_of}
 use Rattle.sdp_formats_rows.specs.Rows.{Row, new_row}
 use Rattle.rtp_media_sections.specs.Sections.{Wanted}
 use Rattle.rtp_media_negotiation.specs.declared.errors.EndError.{EndError}

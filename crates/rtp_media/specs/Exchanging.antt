@@ -7,8 +7,8 @@ use Rattle.rtp_wire.specs.Elements.{Numbering}
 use Rattle.rtp_wire.specs.Kinds.{extension_of}
 use Rattle.rtp_wire.specs.Maps.{empty_map}
 use Rattle.rtp_wire.specs.Name.{name_of}
-use Rattle.sdp_formats_rows.specs.declared.format.FormatParams.{FormatParams}
-use Rattle.sdp_formats_rows.specs.Formats.{format_of, no_format}
+use Rattle.sdp_formats_format.specs.declared.format.FormatParams.{FormatParams}
+use Rattle.sdp_formats_format.specs.Formats.{format_of, no_format}
 use Rattle.sdp_formats_rows.specs.Rows.{Row, new_row}
 use Rattle.sdp_formats_types.specs.PrintedSession.{sdp_text}
 use Rattle.rtp_media_negotiation.specs.declared.errors.EndError.{EndError}

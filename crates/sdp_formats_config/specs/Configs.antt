@@ -8,8 +8,8 @@ use Rattle.payload_core_base.specs.declared.codec.Codec.TheVariants.{H265, H266}
 use Rattle.h26x_payload_profiles.specs.H265ProfileTierLevel.{known_or_fallback as known_265}
 use Rattle.h26x_payload_profiles.specs.H266ProfileTierLevel.{known_or_fallback as known_266}
 use Rattle.sdp_formats_rows.specs.Codecs.{is_codec, spec_of, opus_spec}
-use Rattle.sdp_formats_rows.specs.declared.format.FormatParams.{FormatParams}
-use Rattle.sdp_formats_rows.specs.Formats.{no_format}
+use Rattle.sdp_formats_format.specs.declared.format.FormatParams.{FormatParams}
+use Rattle.sdp_formats_format.specs.Formats.{no_format}
 use Rattle.sdp_formats_rows.specs.Rows.{Row, new_row}
 
 -- A config: its rows in order, and the redundancy distances that were set (RFC 2198), none where they weren't.

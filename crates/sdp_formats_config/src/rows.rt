@@ -8,7 +8,7 @@ ghost use Rattle.sdp_formats_config.specs.Configs.{vp9_rows, av1_row, h264_forma
 ghost use Rattle.sdp_formats_config.specs.Configs.{h265_default, h266_default};
 ghost use Rattle.sdp_formats_rows.specs.Codecs.{spec_of};
 ghost use Rattle.sdp_formats_rows.specs.Rows.{new_row};
-ghost use Rattle.sdp_formats_rows.specs.Formats.{no_format};
+ghost use Rattle.sdp_formats_format.specs.Formats.{no_format};
 
 use h26x_payload_profiles::{H265ProfileTierLevel, H266ProfileTierLevel};
 use sdp_formats_rows::{Codec, CodecSpec, FormatParams, Frequency, PayloadParams, Pt};

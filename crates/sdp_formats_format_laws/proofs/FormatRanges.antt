@@ -18,10 +18,10 @@ use Rattle.sdp_formats_params.specs.Numbers.{modes_of, behind, range_end, range_
 use Rattle.sdp_formats_params.specs.Parts.{parts}
 use Rattle.sdp_formats_params.specs.declared.key.Key.{Key}
 use Rattle.sdp_formats_params.specs.declared.key.Key.TheVariants as key
-use Rattle.sdp_formats_rows.specs.Formats.{no_format, replaced, with_value, with_key, with_range, with_fields}
-use Rattle.sdp_formats_rows.specs.Formats.{with_parts}
-use Rattle.sdp_formats_rows.specs.Formats.{gives_level, last_value, with_level, with_values, level_format, format_of}
-use Rattle.sdp_formats_rows.specs.declared.format.FormatParams.{FormatParams}
+use Rattle.sdp_formats_format.specs.Formats.{no_format, replaced, with_value, with_key, with_range, with_fields}
+use Rattle.sdp_formats_format.specs.Formats.{with_parts}
+use Rattle.sdp_formats_format.specs.Formats.{gives_level, last_value, with_level, with_values, level_format, format_of}
+use Rattle.sdp_formats_format.specs.declared.format.FormatParams.{FormatParams}
 use Rattle.sdp_formats_format_laws.specs.Ranges.{IsModes, IsInRange, AtMostOne}
 
 -- a number that was read is below its limit

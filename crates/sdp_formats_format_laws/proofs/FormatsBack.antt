@@ -18,7 +18,7 @@ use Rattle.h26x_payload_profiles.specs.declared.h266.H266ProfileTierLevel.{H266P
 use Rattle.sdp_formats_pairs.specs.PrintedPairs.{PairsComeBack}
 use Rattle.sdp_formats_params.specs.declared.param.FormatParam.{FormatParam}
 use Rattle.sdp_formats_params.specs.declared.param.FormatParam.TheVariants as param
-use Rattle.sdp_formats_rows.specs.declared.format.FormatParams.{FormatParams}
+use Rattle.sdp_formats_format.specs.declared.format.FormatParams.{FormatParams}
 use Rattle.sdp_formats_section_rows.specs.Attributes.{all_params, given_param, listed_param, params_of}
 use Rattle.sdp_formats_format_laws.proofs.KeyedLists.{keyed_on_line, keyed_read}
 use Rattle.sdp_formats_format_laws.proofs.LevelLists.{IsRising, level_back, weaker}

@@ -10,15 +10,15 @@ use Rattle.sdp_formats_forms.specs.Form.{IsExact}
 use Rattle.sdp_formats_pairs.specs.PairsSay.{pair_list}
 use Rattle.sdp_formats_pairs.specs.PrintedPairs.{PairsComeBack}
 use Rattle.sdp_formats_params.specs.declared.param.FormatParam.TheVariants as param
-use Rattle.sdp_formats_rows.specs.Formats.{format_of}
+use Rattle.sdp_formats_format.specs.Formats.{format_of}
 use Rattle.sdp_formats_rows.specs.Plain.{comes_back, events_alone, has_plain_events, has_plain_feedback}
 use Rattle.sdp_formats_rows.specs.Plain.{has_plain_level}
 use Rattle.sdp_formats_rows.specs.Plain.{has_plain_red, has_plain_types, is_plain, is_plain_codec}
 use Rattle.sdp_formats_rows.specs.Rows.{Row}
 use Rattle.sdp_formats_rows.specs.Same.{same, same_flag, same_format, same_h264, same_levels, same_numbers, same_opus}
 use Rattle.sdp_formats_rows.specs.Same.{same_speech, same_video}
-use Rattle.sdp_formats_rows.specs.Texts.{format_text, numbers_265, numbers_266}
-use Rattle.sdp_formats_rows.specs.declared.format.FormatParams.{FormatParams}
+use Rattle.sdp_formats_format.specs.Texts.{format_text, numbers_265, numbers_266}
+use Rattle.sdp_formats_format.specs.declared.format.FormatParams.{FormatParams}
 use Rattle.sdp_formats_section_rows.specs.Attributes.{params_in, params_of}
 use Rattle.sdp_formats_format_laws.proofs.FormatRanges.{Apart, format_held}
 use Rattle.sdp_formats_format_laws.proofs.FormatsBack.{OneLevel, format_back}

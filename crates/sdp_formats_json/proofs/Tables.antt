@@ -5,10 +5,10 @@ use Rattle.h26x_payload_profiles.specs.H265ProfileTierLevel.{fallback}
 use Rattle.h26x_payload_profiles.specs.H266ProfileTierLevel.{fallback as h266_fallback}
 use Rattle.h26x_payload_profiles.specs.declared.h265.H265ProfileTierLevel.{H265ProfileTierLevel}
 use Rattle.h26x_payload_profiles.specs.declared.h266.H266ProfileTierLevel.{H266ProfileTierLevel}
-use Rattle.sdp_formats_rows.specs.declared.format.FormatParams.{FormatParams}
+use Rattle.sdp_formats_format.specs.declared.format.FormatParams.{FormatParams}
 use Rattle.sdp_formats_rows.specs.declared.spec.CodecSpec.{CodecSpec}
 use Rattle.sdp_formats_rows.specs.Rows.{Row}
-use Rattle.sdp_formats_rows.specs.Formats.{no_format}
+use Rattle.sdp_formats_format.specs.Formats.{no_format}
 use Rattle.sdp_formats_json.specs.Names.{field_name}
 use Rattle.sdp_formats_json.specs.Entries.{entry, optional, put_all, put_groups}
 use Rattle.sdp_formats_json.specs.NamedLaws.{codec_known, h265_profile_known, h265_tier_known, h265_level_known}

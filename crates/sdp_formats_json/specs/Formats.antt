@@ -1,7 +1,7 @@
 -- Formats in JSON.
 use Rattle.std.specs.Prelude.{List, [], ◌∷◌}
-use Rattle.sdp_formats_rows.specs.declared.format.FormatParams.{FormatParams}
-use Rattle.sdp_formats_rows.specs.Formats.{no_format}
+use Rattle.sdp_formats_format.specs.declared.format.FormatParams.{FormatParams}
+use Rattle.sdp_formats_format.specs.Formats.{no_format}
 use Rattle.sdp_formats_json.specs.Shapes.{Shape, byte, half_word, word, flag}
 use Rattle.sdp_formats_json.specs.Entries.{Entry, optional, object_in}
 use Rattle.sdp_formats_json.specs.Levels.{h265, h266}

@@ -7,7 +7,7 @@ use Rattle.sdp_formats_profiles.specs.H265Score.{h265_agreed}
 use Rattle.sdp_formats_profiles.specs.H266Score.{h266_agreed}
 use Rattle.sdp_formats_profiles.specs.declared.h265.GivenH265.{GivenH265}
 use Rattle.sdp_formats_profiles.specs.declared.h266.GivenH266.{GivenH266}
-use Rattle.sdp_formats_rows.specs.declared.format.FormatParams.{FormatParams}
+use Rattle.sdp_formats_format.specs.declared.format.FormatParams.{FormatParams}
 use Rattle.sdp_formats_rows.specs.declared.spec.CodecSpec.{CodecSpec}
 use Rattle.sdp_formats_rows.specs.Scores.{given_265, given_266}
 

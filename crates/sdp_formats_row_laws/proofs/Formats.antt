@@ -7,8 +7,8 @@ use Rattle.std.specs.Option.{option_map}
 use Rattle.payload_core_base.specs.declared.codec.Codec.TheVariants as codec
 use Rattle.sdp_formats_params.specs.declared.param.FormatParam.{FormatParam}
 use Rattle.sdp_formats_params.specs.declared.param.FormatParam.TheVariants as param
-use Rattle.sdp_formats_rows.specs.Formats.{no_format}
-use Rattle.sdp_formats_rows.specs.declared.format.FormatParams.{FormatParams}
+use Rattle.sdp_formats_format.specs.Formats.{no_format}
+use Rattle.sdp_formats_format.specs.declared.format.FormatParams.{FormatParams}
 use Rattle.sdp_formats_section_rows.specs.Attributes.{all_params, given_param, listed_param, params_of}
 use Rattle.sdp_formats_section_rows.specs.Given.{is_unsupported, with_param}
 use Rattle.sdp_formats_section_rows.specs.SectionRows.{names}

@@ -10,13 +10,13 @@ use Rattle.payload_core_base.specs.declared.codec.Codec.TheVariants as codec
 use Rattle.sdp_formats_params.specs.declared.param.FormatParam.{FormatParam}
 use Rattle.sdp_formats_params.specs.declared.param.FormatParam.TheVariants as param
 use Rattle.sdp_formats_rows.specs.Codecs.{is_codec}
-use Rattle.sdp_formats_rows.specs.Formats.{no_format}
+use Rattle.sdp_formats_format.specs.Formats.{no_format}
 use Rattle.sdp_formats_rows.specs.Plain.{events_alone, has_plain_events}
 use Rattle.sdp_formats_rows.specs.Rows.{Row}
 use Rattle.sdp_formats_rows.specs.Same.{same, same_flag, same_format, same_h264, same_levels, same_numbers}
 use Rattle.sdp_formats_rows.specs.Same.{same_opus, same_speech, same_video}
-use Rattle.sdp_formats_rows.specs.Texts.{numbers_265, numbers_266}
-use Rattle.sdp_formats_rows.specs.declared.format.FormatParams.{FormatParams}
+use Rattle.sdp_formats_format.specs.Texts.{numbers_265, numbers_266}
+use Rattle.sdp_formats_format.specs.declared.format.FormatParams.{FormatParams}
 use Rattle.sdp_formats_rows.specs.declared.spec.CodecSpec.{CodecSpec}
 use Rattle.sdp_formats_section_rows.specs.Attributes.{all_feedback, feedback_line, feedback_lines}
 use Rattle.sdp_formats_section_rows.specs.Attributes.{fmtp_of, is_used, params_in, params_of, words_of}

@@ -13,8 +13,8 @@ use Rattle.sdp_formats_params.specs.declared.FormatParam.TheVariants as param
 use Rattle.sdp_formats_row_lines.specs.AsRead.{as_read, is_level, is_other, params_as_read, spelled_as}
 use Rattle.sdp_formats_row_texts.specs.Laws.{section_rows}
 use Rattle.sdp_formats_rows.specs.Codecs.{is_codec}
-use Rattle.sdp_formats_rows.specs.Formats.{no_format}
-use Rattle.sdp_formats_rows.specs.declared.FormatParams.{FormatParams}
+use Rattle.sdp_formats_format.specs.Formats.{no_format}
+use Rattle.sdp_formats_format.specs.declared.format.FormatParams.{FormatParams}
 use Rattle.sdp_formats_section_rows.specs.Given.{events_after, events_in, format_given, is_declined, is_unsupported}
 use Rattle.sdp_formats_section_rows.specs.Given.{most_of, with_attribute, with_events, with_line, with_param}
 use Rattle.sdp_formats_section_rows.specs.Mapped.{is_mapped_to, mapping_in, mappings, spec_of_map, with_static}

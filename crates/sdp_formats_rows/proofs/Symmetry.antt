@@ -18,10 +18,10 @@ use Rattle.sdp_formats_profiles.specs.Points.{points_if, distance, level_points}
 use Rattle.sdp_formats_profiles.specs.H264Score as h264
 use Rattle.sdp_formats_profiles.specs.H265Score as h265
 use Rattle.sdp_formats_profiles.specs.H266Score as h266
-use Rattle.sdp_formats_rows.specs.declared.format.FormatParams.{FormatParams}
+use Rattle.sdp_formats_format.specs.declared.format.FormatParams.{FormatParams}
 use Rattle.sdp_formats_rows.specs.declared.spec.CodecSpec.{CodecSpec}
 use Rattle.sdp_formats_rows.specs.Codecs.{codec_number, is_codec}
-use Rattle.sdp_formats_rows.specs.Texts.{numbers_265, numbers_266}
+use Rattle.sdp_formats_format.specs.Texts.{numbers_265, numbers_266}
 use Rattle.sdp_formats_rows.specs.Same.{same, same_bool, same_flag, same_numbers, alike, same_opus, same_speech}
 use Rattle.sdp_formats_rows.specs.Same.{same_h264, same_video, same_levels, same_format}
 use Rattle.sdp_formats_rows.specs.Scores.{opus_score, modes_score, is_mono, amr_wb_score, vp9_score, av1_score}

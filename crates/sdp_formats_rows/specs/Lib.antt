@@ -1,8 +1,7 @@
-pub mod Formats
 pub mod Rows
-pub mod Texts
 pub mod Codecs
 pub mod Same
 pub mod Scores
 pub mod Laws
 pub mod Plain
+pub mod Fields

@@ -1,8 +1,8 @@
 -- When what two formats give is the same.
 use Rattle.std.specs.Prelude.{ℕ, Bool, true, false, ◌&&◌, ◌==◌, not, Option, Some, None, unwrap_or}
 use Rattle.std.specs.Option.{option_map}
-use Rattle.sdp_formats_rows.specs.Texts.{numbers_265, numbers_266}
-use Rattle.sdp_formats_rows.specs.declared.format.FormatParams.{FormatParams}
+use Rattle.sdp_formats_format.specs.Texts.{numbers_265, numbers_266}
+use Rattle.sdp_formats_format.specs.declared.format.FormatParams.{FormatParams}
 
 abbrev pub same : Option ℕ → Option ℕ → Bool
 same None None = true

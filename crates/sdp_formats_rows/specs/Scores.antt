@@ -10,7 +10,7 @@ use Rattle.sdp_formats_profiles.specs.H266Score.{h266_score}
 use Rattle.sdp_formats_profiles.specs.declared.h264.GivenH264.{GivenH264}
 use Rattle.sdp_formats_profiles.specs.declared.h265.GivenH265.{GivenH265}
 use Rattle.sdp_formats_profiles.specs.declared.h266.GivenH266.{GivenH266}
-use Rattle.sdp_formats_rows.specs.declared.format.FormatParams.{FormatParams}
+use Rattle.sdp_formats_format.specs.declared.format.FormatParams.{FormatParams}
 use Rattle.sdp_formats_rows.specs.declared.spec.CodecSpec.{CodecSpec}
 use Rattle.sdp_formats_rows.specs.Codecs.{is_codec}
 use Rattle.sdp_formats_rows.specs.Same.{same, same_flag, same_format, alike}

@@ -7,14 +7,15 @@ ghost use Rattle.sdp_formats_rows.specs.Plain.{has_plain_level, has_plain_red, h
 ghost use Rattle.sdp_formats_rows.specs.Plain.{is_plain};
 ghost use Rattle.sdp_formats_rows.specs.Plain.{is_plain_codec, is_plain_rate, is_type};
 
-use crate::format::{FormatParams, no_format};
 use crate::row::PayloadParams;
 use crate::same::{same_byte, same_format};
 use crate::spec::CodecSpec;
 use payload_core_base::Codec;
 use rtp_wire::Pt;
+use sdp_formats_format::FormatParams;
 use std::alloc::{AllocError, Global};
 
+/// Is it a type of seven bits, if it is given?
 fn is_type(pt: Option<Pt>) -> bool
     ensures { result ≡ is_type pt }
 {
@@ -24,24 +25,28 @@ fn is_type(pt: Option<Pt>) -> bool
     }
 }
 
+/// Are all types of seven bits?
 fn has_plain_types(row: &PayloadParams) -> bool
     ensures { result ≡ has_plain_types row.now }
 {
     row.pt().get() < 128 && is_type(row.resend()) && is_type(row.red())
 }
 
+/// Is it the same codec?
 fn is_codec(codec: Codec, other: Codec) -> bool
     ensures { result ≡ is_codec codec other }
 {
     codec == other
 }
 
+/// Is it audio, video or telephone events?
 fn is_media_codec(codec: Codec) -> bool
     ensures { result ≡ is_media_codec codec }
 {
     codec.is_audio() || codec.is_video() || codec.is_tele()
 }
 
+/// Is G.722 at 16,000 Hz without its one channel (RFC 3551 4.5.2)?
 fn is_plain_rate(spec: &CodecSpec) -> bool
     ensures { result ≡ is_plain_rate spec.now }
 {
@@ -49,12 +54,14 @@ fn is_plain_rate(spec: &CodecSpec) -> bool
         || (spec.clock_rate.get() == 16_000 && !same_byte(spec.channels, Some(1)))
 }
 
+/// Is it a codec of media, at a clock rate that a line can say?
 fn is_plain_codec(spec: &CodecSpec) -> bool
     ensures { result ≡ is_plain_codec spec.now }
 {
     is_media_codec(spec.codec) && is_plain_rate(spec)
 }
 
+/// Are NACK, PLI, FIR and REMB all on for video, and off for others?
 fn has_plain_feedback(row: &PayloadParams) -> bool
     ensures { result ≡ has_plain_feedback row.now }
 {
@@ -65,21 +72,24 @@ fn has_plain_feedback(row: &PayloadParams) -> bool
         && row.fb_remb() == is_video
 }
 
+/// Has only audio a RED type?
 fn has_plain_red(row: &PayloadParams) -> bool
     ensures { result ≡ has_plain_red row.now }
 {
     row.red().is_none() || row.spec().codec.is_audio()
 }
 
+/// The range of telephone events and nothing else.
 fn events_alone(format: &FormatParams) -> FormatParams
     ensures { result ≡ events_alone format.now }
 {
     FormatParams {
         telephone_event_max: format.telephone_event_max,
-        ..no_format()
+        ..FormatParams::default()
     }
 }
 
+/// Have telephone events a maximum and nothing else, and others none?
 fn has_plain_events(spec: &CodecSpec) -> bool
     ensures { result ≡ has_plain_events spec.now }
 {
@@ -90,6 +100,7 @@ fn has_plain_events(spec: &CodecSpec) -> bool
     spec.format.telephone_event_max.is_none()
 }
 
+/// Does a profile, tier and level stand under its own codec alone?
 fn has_plain_level(spec: &CodecSpec) -> bool
     ensures { result ≡ has_plain_level spec.now }
 {
@@ -97,6 +108,7 @@ fn has_plain_level(spec: &CodecSpec) -> bool
         && (spec.format.h266_profile_tier_level.is_none() || is_codec(spec.codec, Codec::H266))
 }
 
+/// Is the printed format read as itself?
 fn comes_back(alloc: Global, format: &FormatParams) -> Result<bool, AllocError>
     ensures { IfOk result (λ b. b ≡ comes_back format.now) }
 {
@@ -104,6 +116,7 @@ fn comes_back(alloc: Global, format: &FormatParams) -> Result<bool, AllocError>
     Ok(same_format(&FormatParams::parse_line(text.as_str()), format))
 }
 
+/// Can a section list the row so that it comes back as it is?
 pub(crate) fn is_plain(alloc: Global, row: &PayloadParams) -> Result<bool, AllocError>
     ensures { IfOk result (λ b. b ≡ is_plain row.now) }
 {

@@ -5,33 +5,37 @@ ghost use Rattle.std.specs.Option.{option_map};
 ghost use Rattle.sdp_formats_rows.specs.Same.{alike, same, same_flag, same_format, same_h264, same_levels};
 ghost use Rattle.sdp_formats_rows.specs.Same.{same_numbers, same_opus, same_speech, same_video};
 
-use crate::format::FormatParams;
-use crate::printing::{numbers_265, numbers_266};
+use sdp_formats_format::{FormatParams, numbers_265, numbers_266};
 
+/// Is it the same byte, or none at both?
 pub(crate) fn same_byte(a: Option<u8>, b: Option<u8>) -> bool
     ensures { result ≡ same a b }
 {
     a == b
 }
 
+/// Is it the same number of sixteen bits, or none at both?
 fn same_half_word(a: Option<u16>, b: Option<u16>) -> bool
     ensures { result ≡ same a b }
 {
     a == b
 }
 
+/// Is it the same number of 32 bits, or none at both?
 fn same_word(a: Option<u32>, b: Option<u32>) -> bool
     ensures { result ≡ same a b }
 {
     a == b
 }
 
+/// Is it the same flag, or none at both?
 pub(crate) fn same_flag(a: Option<bool>, b: Option<bool>) -> bool
     ensures { result ≡ same_flag a b }
 {
     a == b
 }
 
+/// Are they the same three numbers, or none at both?
 fn same_numbers(a: Option<(u8, u8, u8)>, b: Option<(u8, u8, u8)>) -> bool
     ensures { result ≡ same_numbers a b }
 {
@@ -49,6 +53,7 @@ pub(crate) fn alike(a: Option<bool>, b: Option<bool>) -> bool
     a.unwrap_or(false) == b.unwrap_or(false)
 }
 
+/// Are the parameters of Opus the same?
 fn same_opus(a: &FormatParams, b: &FormatParams) -> bool
     ensures { result ≡ same_opus a.now b.now }
 {
@@ -59,6 +64,7 @@ fn same_opus(a: &FormatParams, b: &FormatParams) -> bool
         && same_flag(a.use_dtx, b.use_dtx)
 }
 
+/// Are the parameters of AMR-WB and telephone events the same?
 fn same_speech(a: &FormatParams, b: &FormatParams) -> bool
     ensures { result ≡ same_speech a.now b.now }
 {
@@ -67,6 +73,7 @@ fn same_speech(a: &FormatParams, b: &FormatParams) -> bool
         && same_byte(a.telephone_event_max, b.telephone_event_max)
 }
 
+/// Are the parameters of H.264 the same?
 fn same_h264(a: &FormatParams, b: &FormatParams) -> bool
     ensures { result ≡ same_h264 a.now b.now }
 {
@@ -75,6 +82,7 @@ fn same_h264(a: &FormatParams, b: &FormatParams) -> bool
         && same_word(a.profile_level_id, b.profile_level_id)
 }
 
+/// Are the parameters of other video codecs the same?
 fn same_video(a: &FormatParams, b: &FormatParams) -> bool
     ensures { result ≡ same_video a.now b.now }
 {
@@ -85,6 +93,7 @@ fn same_video(a: &FormatParams, b: &FormatParams) -> bool
         && same_half_word(a.sprop_max_don_diff, b.sprop_max_don_diff)
 }
 
+/// Are the profiles, tiers and levels of H.265 and H.266 the same?
 fn same_levels(a: &FormatParams, b: &FormatParams) -> bool
     ensures { result ≡ same_levels a.now b.now }
 {
@@ -97,6 +106,7 @@ fn same_levels(a: &FormatParams, b: &FormatParams) -> bool
     )
 }
 
+/// Are all parameters the same?
 pub(crate) fn same_format(a: &FormatParams, b: &FormatParams) -> bool
     ensures { result ≡ same_format a.now b.now }
 {

@@ -8,24 +8,27 @@ ghost use Rattle.sdp_formats_rows.specs.Scores.{amr_wb_score, av1_score, codec_s
 ghost use Rattle.sdp_formats_rows.specs.Scores.{given_265, given_266, is_mono, modes_score, opus_score, penalty};
 ghost use Rattle.sdp_formats_rows.specs.Scores.{score, settings_score, vp9_score};
 
-use crate::format::FormatParams;
 use crate::same::{alike, same_byte, same_flag, same_format};
 use crate::spec::CodecSpec;
 use payload_core_base::Codec;
+use sdp_formats_format::FormatParams;
 use sdp_formats_profiles::{GivenH264, GivenH265, GivenH266, h264_score, h265_score, h266_score};
 
+/// What is taken off where values aren't the same.
 fn penalty(is_same: bool, points: usize) -> usize
     ensures { result ≡ penalty is_same points }
 {
     if is_same { 0 } else { points }
 }
 
+/// These points where it holds, else no match.
 fn points_if(holds: bool, points: usize) -> Option<usize>
     ensures { result ≡ points_if holds points }
 {
     if holds { Some(points) } else { None }
 }
 
+/// The points of two formats of Opus: each parameter that differs takes off its own (RFC 7587 6.1).
 fn opus_score(a: &FormatParams, b: &FormatParams) -> usize
     ensures { result ≡ opus_score a.now b.now }
 {
@@ -36,6 +39,7 @@ fn opus_score(a: &FormatParams, b: &FormatParams) -> usize
         - penalty(alike(a.sprop_stereo, b.sprop_stereo), 8)
 }
 
+/// The points of two sets of modes: one set, or none at a side (RFC 4867 8.3.1).
 fn modes_score(a: Option<u16>, b: Option<u16>) -> Option<usize>
     ensures { result ≡ modes_score a b }
 {
@@ -46,12 +50,14 @@ fn modes_score(a: Option<u16>, b: Option<u16>) -> Option<usize>
     }
 }
 
+/// Is it one channel, given or not?
 fn is_mono(spec: &CodecSpec) -> bool
     ensures { result ≡ is_mono spec.now }
 {
     spec.channels.unwrap_or(1) == 1
 }
 
+/// The points of two rows of AMR-WB: mono at both sides, and aligned alike (RFC 4867 8.3.1).
 fn amr_wb_score(a: &CodecSpec, b: &CodecSpec) -> Option<usize>
     ensures { result ≡ amr_wb_score a.now b.now }
 {
@@ -61,12 +67,14 @@ fn amr_wb_score(a: &CodecSpec, b: &CodecSpec) -> Option<usize>
     None
 }
 
+/// The points of two formats of VP9: one profile, 0 where none is given (RFC 9628 6.1).
 fn vp9_score(a: &FormatParams, b: &FormatParams) -> Option<usize>
     ensures { result ≡ vp9_score a.now b.now }
 {
     points_if(a.profile_id.unwrap_or(0) == b.profile_id.unwrap_or(0), 100)
 }
 
+/// The points of two formats of AV1: one profile, level and tier, each at its default where it isn't given.
 fn av1_score(a: &FormatParams, b: &FormatParams) -> Option<usize>
     ensures { result ≡ av1_score a.now b.now }
 {
@@ -76,6 +84,7 @@ fn av1_score(a: &FormatParams, b: &FormatParams) -> Option<usize>
     points_if(is_same, 100)
 }
 
+/// What a format gives of H.264.
 fn given_264(f: &FormatParams) -> GivenH264
     ensures { result ≡ given_264 f.now }
 {
@@ -85,6 +94,7 @@ fn given_264(f: &FormatParams) -> GivenH264
     }
 }
 
+/// What a format gives of H.265.
 fn given_265(f: &FormatParams) -> GivenH265
     ensures { result ≡ given_265 f.now }
 {
@@ -94,6 +104,7 @@ fn given_265(f: &FormatParams) -> GivenH265
     }
 }
 
+/// What a format gives of H.266.
 fn given_266(f: &FormatParams) -> GivenH266
     ensures { result ≡ given_266 f.now }
 {
@@ -118,6 +129,7 @@ fn format_score(codec: Codec, a: &FormatParams, b: &FormatParams) -> Option<usiz
     }
 }
 
+/// The points of two rows of one codec at one clock rate: the same channels, and one format or its codec's table.
 fn settings_score(a: &CodecSpec, b: &CodecSpec) -> Option<usize>
     ensures { result ≡ settings_score a.now b.now }
 {
@@ -130,6 +142,7 @@ fn settings_score(a: &CodecSpec, b: &CodecSpec) -> Option<usize>
     format_score(a.codec, &a.format, &b.format)
 }
 
+/// The points of two rows of one codec at one clock rate, by the rule of the codec.
 fn codec_score(codec: Codec, a: &CodecSpec, b: &CodecSpec) -> Option<usize>
     ensures { result ≡ codec_score codec a.now b.now }
 {
@@ -140,12 +153,14 @@ fn codec_score(codec: Codec, a: &CodecSpec, b: &CodecSpec) -> Option<usize>
     }
 }
 
+/// Is it the same codec?
 fn is_codec(codec: Codec, other: Codec) -> bool
     ensures { result ≡ is_codec codec other }
 {
     codec == other
 }
 
+/// How well two codecs with their settings match; other codecs and clock rates don't.
 #[tactic(auto, unfolding(crate::specs::Scores::score))]
 pub(crate) fn score(a: &CodecSpec, b: &CodecSpec) -> Option<usize>
     ensures { result ≡ score a.now b.now }

@@ -1,11 +1,12 @@
 //! Codecs with their settings.
 
-use crate::format::FormatParams;
 use payload_core_base::Codec;
 use rtp_wire::{Frequency, Pt};
+use sdp_formats_format::FormatParams;
+use serde::{Deserialize, Serialize};
 
 /// A codec with its clock rate, channels and format (RFC 8866 6.6 and 6.15).
-#[derive(Clone, Copy, Debug, PartialEq, Eq, Drop)]
+#[derive(Clone, Copy, Debug, PartialEq, Eq, Drop, Serialize, Deserialize)]
 pub struct CodecSpec {
     /// The codec.
     pub codec: Codec,

@@ -16,8 +16,8 @@ use Rattle.sdp_formats_params.specs.declared.param.FormatParam.TheVariants.{H266
 use Rattle.sdp_formats_params.specs.declared.param.FormatParam.TheVariants.{TelephoneEvents, BareRange, OctetAlign}
 use Rattle.sdp_formats_params.specs.declared.param.FormatParam.TheVariants.{ModeSet, AmrWbUnsupported}
 use Rattle.sdp_formats_rows.specs.Codecs.{is_codec}
-use Rattle.sdp_formats_rows.specs.Formats.{no_format}
-use Rattle.sdp_formats_rows.specs.declared.format.FormatParams.{FormatParams}
+use Rattle.sdp_formats_format.specs.Formats.{no_format}
+use Rattle.sdp_formats_format.specs.declared.format.FormatParams.{FormatParams}
 use Rattle.sdp_formats_types.specs.declared.media.MediaAttribute.{MediaAttribute}
 use Rattle.sdp_formats_types.specs.declared.media.MediaAttribute.TheVariants.{Fmtp}
 use Rattle.sdp_formats_section_rows.specs.declared.given.Events.{Events}

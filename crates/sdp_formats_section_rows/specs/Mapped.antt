@@ -5,7 +5,7 @@ use Rattle.std.specs.List.{list_any, flat_map}
 use Rattle.payload_core_base.specs.declared.codec.Codec.{Codec}
 use Rattle.payload_core_base.specs.declared.codec.Codec.TheVariants.{G722}
 use Rattle.sdp_formats_rows.specs.Codecs.{is_codec, rtp_clock_rate, static_spec}
-use Rattle.sdp_formats_rows.specs.declared.format.FormatParams.{FormatParams}
+use Rattle.sdp_formats_format.specs.declared.format.FormatParams.{FormatParams}
 use Rattle.sdp_formats_rows.specs.declared.spec.CodecSpec.{CodecSpec}
 use Rattle.sdp_formats_types.specs.declared.media.MediaAttribute.{MediaAttribute}
 use Rattle.sdp_formats_types.specs.declared.media.MediaAttribute.TheVariants as attribute

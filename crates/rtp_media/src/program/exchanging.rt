@@ -2,7 +2,7 @@
 
 ghost use Rattle.std.specs.Prelude.{◌≡◌, [], ◌∷◌, None, Some, IfOk, IfSome, IfNone, true, false};
 ghost use Rattle.std.specs.Str.{is_utf8};
-ghost use Rattle.sdp_formats_rows.specs.Formats.{no_format};
+ghost use Rattle.sdp_formats_format.specs.Formats.{no_format};
 ghost use Rattle.rtp_media.specs.Exchanging.{Prints, AtEnd, WithText, wanted_of, wanted_in, drafted_row, format_for};
 ghost use Rattle.rtp_media.specs.Exchanging.{AnswersRow, AnswersExt, AnswersEnd, AnswersOffer, AnswersAnswer};
 ghost use Rattle.rtp_media.specs.Exchanging.{AnswersAccept, AnswersWithdraw, AnswersConnect, refusal_of_draft};

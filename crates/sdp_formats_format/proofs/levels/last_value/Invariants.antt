@@ -1,8 +1,8 @@
 use Rattle.std.proofs.Common.{◌≡◌, length, None}
 use Rattle.std.specs.Option.{option_copied}
 use Rattle.sdp_formats_params.specs.Parts.{parts, parts_in}
-use Rattle.sdp_formats_rows.specs.Formats.{last_value}
-use Rattle.sdp_formats_rows.proofs.format.last_value.Given as goal
+use Rattle.sdp_formats_format.specs.Formats.{last_value}
+use Rattle.sdp_formats_format.proofs.levels.last_value.Given as goal
 
 -- what was found so far, and the parts that are left
 abbrev pub invariant-loop-rest : goal.invariant-loop-rest

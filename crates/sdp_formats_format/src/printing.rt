@@ -3,15 +3,16 @@
 ghost use Rattle.std.specs.Prelude.{◌≡◌, ◌≤◌, ◌++◌, ◌∷◌, [], IfOk, OnOk};
 ghost use Rattle.std.specs.String.{string_bytes};
 ghost use Rattle.std.specs.Option.{option_map};
-ghost use Rattle.sdp_formats_rows.specs.Texts.{number_text, flag_number, flag_text, profile_level_text, range_text};
-ghost use Rattle.sdp_formats_rows.specs.Texts.{has_mode, set_modes, behind_commas, listed, modes_text, opus_pieces};
-ghost use Rattle.sdp_formats_rows.specs.Texts.{h264_pieces, video_pieces, other_pieces, separated, with_piece};
-ghost use Rattle.sdp_formats_rows.specs.Texts.{with_pieces, format_text, level_text, numbers_265, numbers_266};
+ghost use Rattle.sdp_formats_format.specs.Texts.{number_text, flag_number, flag_text, profile_level_text, range_text};
+ghost use Rattle.sdp_formats_format.specs.Texts.{has_mode, set_modes, behind_commas, listed, modes_text, opus_pieces};
+ghost use Rattle.sdp_formats_format.specs.Texts.{h264_pieces, video_pieces, other_pieces, separated, with_piece};
+ghost use Rattle.sdp_formats_format.specs.Texts.{with_pieces, format_text, level_text, numbers_265, numbers_266};
 
 use crate::format::FormatParams;
 use sdp_formats_params::{H265ProfileTierLevel, H266ProfileTierLevel, Key, bit_of};
 use std::alloc::{AllocError, Global};
 
+/// Adds a semicolon where something stands before it.
 fn push_separator(text: &mut String) -> Result<(), AllocError>
     ensures { OnOk result (string_bytes text.new ≡ separated (string_bytes text.old)) }
 {
@@ -21,6 +22,7 @@ fn push_separator(text: &mut String) -> Result<(), AllocError>
     text.push_str(";")
 }
 
+/// Adds a number with its key, if it is given.
 #[tactic(auto, unfolding(crate::specs::Texts::with_piece))]
 fn push_number(text: &mut String, key: Key, number: Option<u32>) -> Result<(), AllocError>
     ensures { OnOk result (string_bytes text.new
@@ -36,6 +38,7 @@ fn push_number(text: &mut String, key: Key, number: Option<u32>) -> Result<(), A
     }
 }
 
+/// A flag as a number.
 fn flag_number(flag: Option<bool>) -> Option<u32>
     ensures { result ≡ option_map flag_number flag }
 {
@@ -46,6 +49,7 @@ fn flag_number(flag: Option<bool>) -> Option<u32>
     }
 }
 
+/// Adds a flag with its key, if it is given.
 fn push_flag(text: &mut String, key: Key, flag: Option<bool>) -> Result<(), AllocError>
     ensures { OnOk result (string_bytes text.new
         ≡ with_piece (string_bytes text.old) (option_map (flag_text key) flag)) }
@@ -53,6 +57,7 @@ fn push_flag(text: &mut String, key: Key, flag: Option<bool>) -> Result<(), Allo
     push_number(text, key, flag_number(flag))
 }
 
+/// Adds a byte with its key, if it is given.
 fn push_byte(text: &mut String, key: Key, number: Option<u8>) -> Result<(), AllocError>
     ensures { OnOk result (string_bytes text.new
         ≡ with_piece (string_bytes text.old) (option_map (number_text key) number)) }
@@ -63,6 +68,7 @@ fn push_byte(text: &mut String, key: Key, number: Option<u8>) -> Result<(), Allo
     }
 }
 
+/// Adds a number of sixteen bits with its key, if it is given.
 fn push_half_word(text: &mut String, key: Key, number: Option<u16>) -> Result<(), AllocError>
     ensures { OnOk result (string_bytes text.new
         ≡ with_piece (string_bytes text.old) (option_map (number_text key) number)) }
@@ -73,6 +79,7 @@ fn push_half_word(text: &mut String, key: Key, number: Option<u16>) -> Result<()
     }
 }
 
+/// Adds the profile and level of H.264 in six hexadecimal digits, if they are given.
 #[tactic(auto, unfolding(crate::specs::Texts::with_piece))]
 fn push_profile_level(text: &mut String, number: Option<u32>) -> Result<(), AllocError>
     ensures { OnOk result (string_bytes text.new
@@ -87,6 +94,7 @@ fn push_profile_level(text: &mut String, number: Option<u32>) -> Result<(), Allo
     }
 }
 
+/// Adds the range of telephone events, if it is given.
 #[tactic(auto, unfolding(crate::specs::Texts::with_piece))]
 fn push_range(text: &mut String, event: Option<u8>) -> Result<(), AllocError>
     ensures { OnOk result (string_bytes text.new ≡ with_piece (string_bytes text.old) (option_map range_text event)) }
@@ -100,6 +108,7 @@ fn push_range(text: &mut String, event: Option<u8>) -> Result<(), AllocError>
     }
 }
 
+/// Is the bit of the mode set?
 fn has_mode(modes: u16, mode: u8) -> bool
     ensures { result ≡ has_mode modes mode }
 {
@@ -109,6 +118,7 @@ fn has_mode(modes: u16, mode: u8) -> bool
     modes / bit_of(mode) % 2 == 1
 }
 
+/// The modes whose bits are set.
 fn set_modes(alloc: Global, modes: u16) -> Result<Vec<u8>, AllocError>
     ensures { IfOk result (λ v. v.items ≡ set_modes modes) }
 {
@@ -119,6 +129,7 @@ fn set_modes(alloc: Global, modes: u16) -> Result<Vec<u8>, AllocError>
         .collect(alloc)
 }
 
+/// Adds numbers, each behind a comma.
 fn push_behind_commas(text: &mut String, numbers: &[u8]) -> Result<(), AllocError>
     ensures { OnOk result (string_bytes text.new ≡ string_bytes text.old ++ behind_commas numbers.now) }
 {
@@ -130,6 +141,7 @@ fn push_behind_commas(text: &mut String, numbers: &[u8]) -> Result<(), AllocErro
     Ok(())
 }
 
+/// Adds numbers with commas between.
 fn push_listed(text: &mut String, numbers: &[u8]) -> Result<(), AllocError>
     ensures { OnOk result (string_bytes text.new ≡ string_bytes text.old ++ listed numbers.now) }
 {
@@ -142,6 +154,7 @@ fn push_listed(text: &mut String, numbers: &[u8]) -> Result<(), AllocError>
     }
 }
 
+/// Adds the modes of AMR-WB, if they are given.
 #[tactic(auto, unfolding(crate::specs::Texts::with_piece))]
 fn push_modes(alloc: Global, text: &mut String, modes: Option<u16>) -> Result<(), AllocError>
     ensures { OnOk result (string_bytes text.new ≡ with_piece (string_bytes text.old) (option_map modes_text modes)) }
@@ -157,6 +170,7 @@ fn push_modes(alloc: Global, text: &mut String, modes: Option<u16>) -> Result<()
     }
 }
 
+/// Adds the three numbers of a profile, tier and level.
 fn push_numbers(text: &mut String, profile: u8, tier: u8, level: u8) -> Result<(), AllocError>
     ensures { OnOk result (string_bytes text.new
         ≡ separated (string_bytes text.old) ++ level_text (profile, tier, level)) }
@@ -168,6 +182,7 @@ fn push_numbers(text: &mut String, profile: u8, tier: u8, level: u8) -> Result<(
     )
 }
 
+/// Adds a profile, tier and level, if it is given.
 #[tactic(auto, unfolding(crate::specs::Texts::with_piece))]
 fn push_level(text: &mut String, numbers: Option<(u8, u8, u8)>) -> Result<(), AllocError>
     ensures { OnOk result (string_bytes text.new ≡ with_piece (string_bytes text.old) (option_map level_text numbers)) }
@@ -178,7 +193,8 @@ fn push_level(text: &mut String, numbers: Option<(u8, u8, u8)>) -> Result<(), Al
     }
 }
 
-pub(crate) fn numbers_265(level: Option<H265ProfileTierLevel>) -> Option<(u8, u8, u8)>
+/// The three numbers of an H.265 profile, tier and level (RFC 7798 7.1).
+pub fn numbers_265(level: Option<H265ProfileTierLevel>) -> Option<(u8, u8, u8)>
     ensures { result ≡ option_map numbers_265 level }
 {
     match level {
@@ -187,7 +203,8 @@ pub(crate) fn numbers_265(level: Option<H265ProfileTierLevel>) -> Option<(u8, u8
     }
 }
 
-pub(crate) fn numbers_266(level: Option<H266ProfileTierLevel>) -> Option<(u8, u8, u8)>
+/// The three numbers of an H.266 profile, tier and level (RFC 9328 7.2).
+pub fn numbers_266(level: Option<H266ProfileTierLevel>) -> Option<(u8, u8, u8)>
     ensures { result ≡ option_map numbers_266 level }
 {
     match level {
@@ -196,6 +213,7 @@ pub(crate) fn numbers_266(level: Option<H266ProfileTierLevel>) -> Option<(u8, u8
     }
 }
 
+/// Adds the parameters of Opus.
 fn push_opus(text: &mut String, f: &FormatParams) -> Result<(), AllocError>
     ensures { OnOk result (string_bytes text.new ≡ with_pieces (string_bytes text.old) (opus_pieces f.now)) }
 {
@@ -206,6 +224,7 @@ fn push_opus(text: &mut String, f: &FormatParams) -> Result<(), AllocError>
     push_flag(text, Key::UseDtx, f.use_dtx)
 }
 
+/// Adds the parameters of H.264.
 fn push_h264(text: &mut String, f: &FormatParams) -> Result<(), AllocError>
     ensures { OnOk result (string_bytes text.new ≡ with_pieces (string_bytes text.old) (h264_pieces f.now)) }
 {
@@ -214,6 +233,7 @@ fn push_h264(text: &mut String, f: &FormatParams) -> Result<(), AllocError>
     push_profile_level(text, f.profile_level_id)
 }
 
+/// Adds the parameters of other video codecs.
 fn push_video(text: &mut String, f: &FormatParams) -> Result<(), AllocError>
     ensures { OnOk result (string_bytes text.new ≡ with_pieces (string_bytes text.old) (video_pieces f.now)) }
 {
@@ -226,6 +246,7 @@ fn push_video(text: &mut String, f: &FormatParams) -> Result<(), AllocError>
     push_half_word(text, Key::SpropMaxDonDiff, f.sprop_max_don_diff)
 }
 
+/// Adds the parameters of telephone events and AMR-WB.
 fn push_others(alloc: Global, text: &mut String, f: &FormatParams) -> Result<(), AllocError>
     ensures { OnOk result (string_bytes text.new ≡ with_pieces (string_bytes text.old) (other_pieces f.now)) }
 {

@@ -2,8 +2,8 @@ use Rattle.std.proofs.Common.{◌≡◌, length}
 use Rattle.std.specs.List.{list_any}
 use Rattle.std.specs.Option.{option_copied}
 use Rattle.sdp_formats_params.specs.Parts.{parts, parts_in}
-use Rattle.sdp_formats_rows.specs.Formats.{gives_level}
-use Rattle.sdp_formats_rows.proofs.format.gives_level.Given as goal
+use Rattle.sdp_formats_format.specs.Formats.{gives_level}
+use Rattle.sdp_formats_format.proofs.levels.gives_level.Given as goal
 
 -- the parts that are left decide
 abbrev pub invariant-loop-rest : goal.invariant-loop-rest

@@ -1,8 +1,8 @@
 use Rattle.std.proofs.Common.{◌≡◌, length}
 use Rattle.std.specs.Option.{option_copied}
 use Rattle.sdp_formats_params.specs.Parts.{parts_in}
-use Rattle.sdp_formats_rows.specs.Formats.{with_parts, format_of}
-use Rattle.sdp_formats_rows.proofs.format.FormatParams.parse_line.Given as goal
+use Rattle.sdp_formats_format.specs.Formats.{with_parts, format_of}
+use Rattle.sdp_formats_format.proofs.format.FormatParams.parse_line.Given as goal
 
 -- the parameters so far with the parts that are left
 abbrev pub invariant-loop-rest : goal.invariant-loop-rest

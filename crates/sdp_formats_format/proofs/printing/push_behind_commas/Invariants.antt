@@ -1,7 +1,7 @@
 use Rattle.std.proofs.Common.{◌≡◌, ◌++◌, length}
 use Rattle.std.specs.String.{string_bytes}
-use Rattle.sdp_formats_rows.specs.Texts.{behind_commas}
-use Rattle.sdp_formats_rows.proofs.printing.push_behind_commas.Given as goal
+use Rattle.sdp_formats_format.specs.Texts.{behind_commas}
+use Rattle.sdp_formats_format.proofs.printing.push_behind_commas.Given as goal
 
 -- the text so far with the numbers that are left
 abbrev pub invariant-loop-number : goal.invariant-loop-number
