@@ -6,10 +6,10 @@ use Rattle.sdp_formats_forms.specs.Bind.{◌>>=◌}
 use Rattle.sdp_formats_forms.specs.Form.{some_text, field, maybe}
 use Rattle.sdp_formats_forms.specs.Numbers.{number_below}
 use Rattle.sdp_formats_forms.specs.Split.{split_first, halves, behind}
-use Rattle.sdp_formats_types.specs.declared.candidate.Candidate.{Candidate}
-use Rattle.sdp_formats_types.specs.declared.candidate.Protocol.{Protocol}
-use Rattle.sdp_formats_types.specs.declared.candidate.TcpType.{TcpType}
-use Rattle.sdp_formats_types.specs.declared.candidate.RelatedAddress.{RelatedAddress}
+use Rattle.sdp_formats_values.specs.declared.candidate.Candidate.{Candidate}
+use Rattle.sdp_formats_values.specs.declared.candidate.Protocol.{Protocol}
+use Rattle.sdp_formats_values.specs.declared.candidate.TcpType.{TcpType}
+use Rattle.sdp_formats_values.specs.declared.candidate.RelatedAddress.{RelatedAddress}
 use Rattle.sdp_formats_ice.specs.declared.candidates.Fields.{Fields}
 use Rattle.sdp_formats_ice.specs.Words.{protocol_word, kind_word, tcptype_word}
 

@@ -2,7 +2,7 @@
 use Rattle.std.specs.Prelude.{ℕ, ◌+◌, ◌-◌, ◌*◌, ◌&&◌, List, [], ◌∷◌, Option, Some, None, nat_le, if◌then◌else◌}
 use Rattle.sdp_formats_forms.specs.Bind.{◌>>=◌}
 use Rattle.sdp_formats_forms.specs.Form.{Form, told, any_text, made, cut, separated}
-use Rattle.sdp_formats_types.specs.declared.fingerprint.Fingerprint.{Fingerprint}
+use Rattle.sdp_formats_values.specs.declared.fingerprint.Fingerprint.{Fingerprint}
 
 -- A hexadecimal digit in either case.
 abbrev pub hex_digit : ℕ → Option ℕ

@@ -1,15 +1,15 @@
 -- Words that stand for a choice.
 use Rattle.std.specs.Prelude.{ℕ, List, codes, Option, Some, None, if◌then◌else◌}
 use Rattle.std.specs.Str.{bytes_eq, str_eq_ignore_ascii_case}
-use Rattle.sdp_formats_types.specs.declared.setup.Setup.{Setup}
-use Rattle.sdp_formats_types.specs.declared.setup.Setup.TheVariants.{ActPass, Active, Passive}
-use Rattle.sdp_formats_types.specs.declared.candidate.Protocol.{Protocol}
-use Rattle.sdp_formats_types.specs.declared.candidate.Protocol.TheVariants.{Udp, Tcp, SslTcp, Tls}
-use Rattle.sdp_formats_types.specs.declared.candidate.CandidateKind.{CandidateKind}
-use Rattle.sdp_formats_types.specs.declared.candidate.CandidateKind.TheVariants.{Host, PeerReflexive, ServerReflexive}
-use Rattle.sdp_formats_types.specs.declared.candidate.CandidateKind.TheVariants.{Relayed}
-use Rattle.sdp_formats_types.specs.declared.candidate.TcpType.{TcpType}
-use Rattle.sdp_formats_types.specs.declared.candidate.TcpType.TheVariants as tcp
+use Rattle.sdp_formats_values.specs.declared.setup.Setup.{Setup}
+use Rattle.sdp_formats_values.specs.declared.setup.Setup.TheVariants.{ActPass, Active, Passive}
+use Rattle.sdp_formats_values.specs.declared.candidate.Protocol.{Protocol}
+use Rattle.sdp_formats_values.specs.declared.candidate.Protocol.TheVariants.{Udp, Tcp, SslTcp, Tls}
+use Rattle.sdp_formats_values.specs.declared.candidate.CandidateKind.{CandidateKind}
+use Rattle.sdp_formats_values.specs.declared.candidate.CandidateKind.TheVariants.{Host, PeerReflexive, ServerReflexive}
+use Rattle.sdp_formats_values.specs.declared.candidate.CandidateKind.TheVariants.{Relayed}
+use Rattle.sdp_formats_values.specs.declared.candidate.TcpType.{TcpType}
+use Rattle.sdp_formats_values.specs.declared.candidate.TcpType.TheVariants as tcp
 
 -- Which end opens a connection (RFC 4145 4).
 abbrev pub setup_word : List ℕ → Option Setup

@@ -6,7 +6,7 @@ use Rattle.sdp_formats_media_lines.specs.Choice.{media_attribute, second_attribu
 use Rattle.sdp_formats_session_lines.specs.Choice.{attribute_line as session_line, session_attribute, later_attribute}
 use Rattle.sdp_formats_types.specs.PrintedMedia.{attribute_text}
 use Rattle.sdp_formats_types.specs.PrintedSession.{attribute_text as session_text}
-use Rattle.sdp_formats_types.specs.declared.candidate.Candidate as candidate
+use Rattle.sdp_formats_values.specs.declared.candidate.Candidate as candidate
 use Rattle.sdp_formats_types.specs.declared.media.MediaAttribute.TheVariants.{Candidate}
 use Rattle.sdp_formats_types.specs.declared.session.SessionAttribute.TheVariants as session
 use Rattle.sdp_formats_laws.proofs.Candidates.{candidate_body, candidate_named, candidate_read, lacks_candidate}

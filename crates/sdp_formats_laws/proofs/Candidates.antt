@@ -14,19 +14,19 @@ use Rattle.sdp_formats_forms.specs.Words.{behind-append}
 use Rattle.sdp_formats_ice.specs.Candidates.{candidate, candidate_base, candidate_carrier, candidate_fields}
 use Rattle.sdp_formats_ice.specs.Candidates.{candidate_place, related_field, related_in, tcptype_field, ufrag_field}
 use Rattle.sdp_formats_ice.specs.Words.{kind_word, protocol_word, tcptype_word}
-use Rattle.sdp_formats_types.specs.PrintedCandidates.{candidate_text, kind_text, parts_text, protocol_text}
-use Rattle.sdp_formats_types.specs.PrintedCandidates.{related_text}
-use Rattle.sdp_formats_types.specs.PrintedCandidates.{tcp_type_text}
+use Rattle.sdp_formats_values.specs.PrintedCandidates.{candidate_text, kind_text, parts_text, protocol_text}
+use Rattle.sdp_formats_values.specs.PrintedCandidates.{related_text}
+use Rattle.sdp_formats_values.specs.PrintedCandidates.{tcp_type_text}
 use Rattle.sdp_formats_types.specs.PrintedMedia.{named}
-use Rattle.sdp_formats_types.specs.declared.candidate.Candidate.{Candidate}
-use Rattle.sdp_formats_types.specs.declared.candidate.CandidateKind.{CandidateKind}
-use Rattle.sdp_formats_types.specs.declared.candidate.CandidateKind.TheVariants.{Host, PeerReflexive}
-use Rattle.sdp_formats_types.specs.declared.candidate.CandidateKind.TheVariants.{ServerReflexive, Relayed}
-use Rattle.sdp_formats_types.specs.declared.candidate.Protocol.{Protocol}
-use Rattle.sdp_formats_types.specs.declared.candidate.Protocol.TheVariants.{Udp, Tcp, SslTcp, Tls}
-use Rattle.sdp_formats_types.specs.declared.candidate.RelatedAddress.{RelatedAddress}
-use Rattle.sdp_formats_types.specs.declared.candidate.TcpType.{TcpType}
-use Rattle.sdp_formats_types.specs.declared.candidate.TcpType.TheVariants.{Active, Passive, So}
+use Rattle.sdp_formats_values.specs.declared.candidate.Candidate.{Candidate}
+use Rattle.sdp_formats_values.specs.declared.candidate.CandidateKind.{CandidateKind}
+use Rattle.sdp_formats_values.specs.declared.candidate.CandidateKind.TheVariants.{Host, PeerReflexive}
+use Rattle.sdp_formats_values.specs.declared.candidate.CandidateKind.TheVariants.{ServerReflexive, Relayed}
+use Rattle.sdp_formats_values.specs.declared.candidate.Protocol.{Protocol}
+use Rattle.sdp_formats_values.specs.declared.candidate.Protocol.TheVariants.{Udp, Tcp, SslTcp, Tls}
+use Rattle.sdp_formats_values.specs.declared.candidate.RelatedAddress.{RelatedAddress}
+use Rattle.sdp_formats_values.specs.declared.candidate.TcpType.{TcpType}
+use Rattle.sdp_formats_values.specs.declared.candidate.TcpType.TheVariants.{Active, Passive, So}
 use Rattle.sdp_formats_laws.proofs.Decimals.{number_below-decimal, Lacks-decimal}
 use Rattle.sdp_formats_laws.proofs.PlainKinds.{lacks_two}
 use Rattle.sdp_formats_laws.proofs.Printed.{lacks, lacks_both, text_some}

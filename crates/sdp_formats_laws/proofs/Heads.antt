@@ -17,7 +17,8 @@ use Rattle.sdp_formats_forms.specs.Split.{Lacks, behind, parts}
 use Rattle.sdp_formats_heads.specs.Heads.{session_number, formats, pt_number}
 use Rattle.sdp_formats_heads.specs.Lines.{version_line, origin_line, name_line, bandwidth_line, times_line}
 use Rattle.sdp_formats_heads.specs.Lines.{connection_line, passed, make_bandwidth}
-use Rattle.sdp_formats_types.specs.Printed.{line_end, numbers_text}
+use Rattle.sdp_formats_values.specs.Printed.{line_end}
+use Rattle.sdp_formats_types.specs.Printed.{numbers_text}
 use Rattle.sdp_formats_types.specs.PrintedMedia.{named, bandwidth_text}
 use Rattle.sdp_formats_types.specs.declared.session.Bandwidth.{Bandwidth}
 use Rattle.sdp_formats_laws.proofs.Decimals.{own, number_below-decimal, Lacks-decimal}

@@ -17,9 +17,10 @@ use Rattle.sdp_formats_row_lines.specs.Maps.{payload_type, clock_rate, make_map}
 use Rattle.sdp_formats_row_lines.specs.AsRead.{params_as_read}
 use Rattle.sdp_formats_row_lines.specs.Parameters.{parameters}
 use Rattle.sdp_formats_streams.specs.Sources.{make_names, ssrc_number}
-use Rattle.sdp_formats_types.specs.Printed.{is_empty, line_end, params_text, numbers_text}
+use Rattle.sdp_formats_values.specs.Printed.{is_empty, line_end}
+use Rattle.sdp_formats_types.specs.Printed.{params_text, numbers_text}
 use Rattle.sdp_formats_types.specs.PrintedMedia.{attribute_text, listed_text, named, rtp_map_text}
-use Rattle.sdp_formats_types.specs.declared.streams.Msid as names
+use Rattle.sdp_formats_values.specs.declared.streams.Msid as names
 use Rattle.sdp_formats_types.specs.declared.media.RtpMap as map_of
 use Rattle.sdp_formats_types.specs.declared.media.MediaAttribute.TheVariants.{ExtMap}
 use Rattle.sdp_formats_types.specs.declared.media.MediaAttribute.TheVariants.{Msid}
@@ -28,7 +29,7 @@ use Rattle.sdp_formats_types.specs.declared.media.MediaAttribute.TheVariants.{Rt
 use Rattle.sdp_formats_types.specs.declared.media.MediaAttribute.TheVariants.{Ssrc, Unused}
 use Rattle.sdp_formats_laws.proofs.Decimals.{number_below-decimal, Lacks-decimal}
 use Rattle.sdp_formats_ice.specs.Digest.{make_fingerprint}
-use Rattle.sdp_formats_types.specs.declared.fingerprint.Fingerprint as print_of
+use Rattle.sdp_formats_values.specs.declared.fingerprint.Fingerprint as print_of
 use Rattle.sdp_formats_types.specs.declared.media.MediaAttribute.TheVariants.{Fingerprint}
 use Rattle.sdp_formats_laws.proofs.Fingerprints.{digest_text, lacks_digest, fingerprint_reads}
 use Rattle.sdp_formats_laws.proofs.Printed.{IsPrintedAs, named_line, named_by, two_parts, at_text, text_some}

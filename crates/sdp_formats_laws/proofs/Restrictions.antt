@@ -19,13 +19,14 @@ use Rattle.sdp_formats_row_lines.specs.Maps.{payload_type}
 use Rattle.sdp_formats_streams.specs.Names.{has_name_chars, name}
 use Rattle.sdp_formats_streams.specs.Rids.{limits_of, later_limits, make_id, make_limits, make_rid, maybe_limits}
 use Rattle.sdp_formats_streams.specs.Rids.{typed_limits, limits_behind, way}
-use Rattle.sdp_formats_types.specs.Printed.{is_empty, line_end, rid_types_text, rid_restrictions_text}
-use Rattle.sdp_formats_types.specs.Printed.{way_text}
+use Rattle.sdp_formats_values.specs.Printed.{is_empty, line_end}
+use Rattle.sdp_formats_types.specs.Printed.{rid_types_text, rid_restrictions_text}
+use Rattle.sdp_formats_values.specs.Printed.{way_text}
 use Rattle.sdp_formats_types.specs.PrintedMedia.{attribute_text, listed_text}
 use Rattle.sdp_formats_types.specs.declared.media.MediaAttribute.TheVariants.{Rid}
-use Rattle.sdp_formats_types.specs.declared.streams.RestrictionId.{RestrictionId}
-use Rattle.sdp_formats_types.specs.declared.streams.RidDirection.{RidDirection}
-use Rattle.sdp_formats_types.specs.declared.streams.RidDirection.TheVariants.{Send, Recv}
+use Rattle.sdp_formats_values.specs.declared.streams.RestrictionId.{RestrictionId}
+use Rattle.sdp_formats_values.specs.declared.streams.RidDirection.{RidDirection}
+use Rattle.sdp_formats_values.specs.declared.streams.RidDirection.TheVariants.{Send, Recv}
 use Rattle.sdp_formats_laws.proofs.Candidates.{behind_blank, halves-blank, then, all_above, lacks_above}
 use Rattle.sdp_formats_laws.proofs.Decimals.{Lacks-decimal}
 use Rattle.sdp_formats_laws.proofs.PlainKinds.{first_fits, lacks_two}

@@ -14,13 +14,13 @@ use Rattle.sdp_formats_media_lines.specs.Choice.{media_attribute, second_attribu
 use Rattle.sdp_formats_streams.specs.Rids.{way}
 use Rattle.sdp_formats_streams.specs.Simulcasts.{direction_layers, first_layer, grouped, groups, is_other, layer}
 use Rattle.sdp_formats_streams.specs.Simulcasts.{make_id, make_layer, make_way, other_layers, sent, simulcast, untilded}
-use Rattle.sdp_formats_types.specs.Printed.{is_empty, layer_text, layers_text, line_end, name_of, simulcast_text}
-use Rattle.sdp_formats_types.specs.Printed.{ways_text}
+use Rattle.sdp_formats_values.specs.Printed.{is_empty, layer_text, layers_text, line_end, name_of, simulcast_text}
+use Rattle.sdp_formats_values.specs.Printed.{ways_text}
 use Rattle.sdp_formats_types.specs.PrintedMedia.{attribute_text}
 use Rattle.sdp_formats_types.specs.declared.media.MediaAttribute.TheVariants.{Simulcast}
-use Rattle.sdp_formats_types.specs.declared.streams.RidDirection.TheVariants.{Send, Recv}
-use Rattle.sdp_formats_types.specs.declared.streams.Simulcast as ways
-use Rattle.sdp_formats_types.specs.declared.streams.SimulcastLayer.{SimulcastLayer}
+use Rattle.sdp_formats_values.specs.declared.streams.RidDirection.TheVariants.{Send, Recv}
+use Rattle.sdp_formats_values.specs.declared.streams.Simulcast as ways
+use Rattle.sdp_formats_values.specs.declared.streams.SimulcastLayer.{SimulcastLayer}
 use Rattle.sdp_formats_laws.proofs.Candidates.{lacks_above}
 use Rattle.sdp_formats_laws.proofs.PlainKinds.{first_fits, lacks_two}
 use Rattle.sdp_formats_laws.proofs.Printed.{IsPrintedAs, at_text, named_by, named_line, lacks, lacks_both}

@@ -14,7 +14,7 @@ use Rattle.sdp_formats_reader.specs.Grammar.{OpeningSays, TimesSay, SessionSays,
 use Rattle.sdp_formats_session_lines.specs.Choice.{attribute_line, session_attribute}
 use Rattle.sdp_formats_steps.specs.Line.{LineOf}
 use Rattle.sdp_formats_steps.specs.Step.{Stops, Begins}
-use Rattle.sdp_formats_types.specs.Printed.{line_end}
+use Rattle.sdp_formats_values.specs.Printed.{line_end}
 use Rattle.sdp_formats_types.specs.PrintedMedia.{named, bandwidth_text, section_text}
 use Rattle.sdp_formats_types.specs.PrintedSession.{attribute_text, attributes_text, session_text, sections_text}
 use Rattle.sdp_formats_types.specs.PrintedSession.{sdp_text}

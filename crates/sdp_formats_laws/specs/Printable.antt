@@ -11,9 +11,9 @@ use Rattle.sdp_formats_row_lines.specs.AsRead.{params_as_read}
 use Rattle.sdp_formats_row_lines.specs.Parameters.{parameters}
 use Rattle.sdp_formats_streams.specs.Names.{has_name_chars}
 use Rattle.sdp_formats_types.specs.Printed.{params_text}
-use Rattle.sdp_formats_types.specs.declared.candidate.Candidate as candidate
-use Rattle.sdp_formats_types.specs.declared.candidate.RelatedAddress.{RelatedAddress}
-use Rattle.sdp_formats_types.specs.declared.streams.SimulcastLayer.{SimulcastLayer}
+use Rattle.sdp_formats_values.specs.declared.candidate.Candidate as candidate
+use Rattle.sdp_formats_values.specs.declared.candidate.RelatedAddress.{RelatedAddress}
+use Rattle.sdp_formats_values.specs.declared.streams.SimulcastLayer.{SimulcastLayer}
 use Rattle.sdp_formats_types.specs.declared.media.RtpMap as map_of
 use Rattle.sdp_formats_types.specs.declared.media.MediaAttribute.{MediaAttribute}
 use Rattle.sdp_formats_types.specs.declared.media.MediaAttribute.TheVariants.{Rtcp, IceUfrag, IcePwd, IceOptions}

@@ -6,7 +6,7 @@ use Rattle.std.specs.List.{filter_map, cons_option, list_all}
 use Rattle.std.specs.Option.{option_to_list}
 use Rattle.std.proofs.lemmas.Grind.{common_steps}
 use Rattle.std.proofs.lemmas.List.Folds.{list_all-append}
-use Rattle.sdp_formats_types.specs.declared.Fingerprint.{Fingerprint}
+use Rattle.sdp_formats_values.specs.declared.fingerprint.Fingerprint.{Fingerprint}
 use Rattle.sdp_formats_types.specs.declared.MediaLine.{MediaLine}
 use Rattle.sdp_formats_lookups.specs.Preference.{hash_preference, IsFirstOfLowest, IsPreferred}
 use Rattle.sdp_formats_lookups.specs.Preference.{chosen, better, best_of}

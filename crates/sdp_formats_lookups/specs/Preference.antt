@@ -3,7 +3,7 @@ use Rattle.std.specs.Prelude.{◌≡◌, ℕ, IsTrue, nat_lt, nat_le, List, [], 
 use Rattle.std.specs.Prelude.{if◌then◌else◌}
 use Rattle.std.specs.List.{list_all}
 use Rattle.std.specs.Str.{str_eq_ignore_ascii_case}
-use Rattle.sdp_formats_types.specs.declared.Fingerprint.{Fingerprint}
+use Rattle.sdp_formats_values.specs.declared.fingerprint.Fingerprint.{Fingerprint}
 
 -- The place of a hash function, 0 first: SHA-256, SHA-1, any other; a name in capitals is the same name.
 abbrev pub place_of_hash : List ℕ → ℕ

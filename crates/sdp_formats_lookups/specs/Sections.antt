@@ -6,8 +6,8 @@ use Rattle.rtp_wire.specs.declared.Extension.{Extension}
 use Rattle.sdp_formats_types.specs.Lookups.{first_of}
 use Rattle.sdp_formats_types.specs.declared.MediaAttribute.{MediaAttribute}
 use Rattle.sdp_formats_types.specs.declared.MediaAttribute.TheVariants as a
-use Rattle.sdp_formats_types.specs.declared.Fingerprint as print
-use Rattle.sdp_formats_types.specs.declared.Simulcast as simulcast
+use Rattle.sdp_formats_values.specs.declared.fingerprint.Fingerprint as print
+use Rattle.sdp_formats_values.specs.declared.streams.Simulcast as simulcast
 
 unfoldable pub sctp_init_in : MediaAttribute → Option (List ℕ)
 sctp_init_in (a.SctpInit value) = Some value

@@ -3,8 +3,8 @@ use Rattle.std.specs.Prelude.{ℕ, Bool, true, false, List, Option, Some, None}
 use Rattle.sdp_formats_types.specs.Lookups.{first_of}
 use Rattle.sdp_formats_types.specs.declared.SessionAttribute.{SessionAttribute}
 use Rattle.sdp_formats_types.specs.declared.SessionAttribute.TheVariants as a
-use Rattle.sdp_formats_types.specs.declared.Fingerprint as print
-use Rattle.sdp_formats_types.specs.declared.Setup as setup
+use Rattle.sdp_formats_values.specs.declared.fingerprint.Fingerprint as print
+use Rattle.sdp_formats_values.specs.declared.setup.Setup as setup
 
 unfoldable pub setup_in : SessionAttribute → Option (setup.Setup)
 setup_in (a.Setup value) = Some value

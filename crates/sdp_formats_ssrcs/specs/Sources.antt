@@ -9,7 +9,7 @@ use Rattle.sdp_formats_forms.specs.Split.{halves}
 use Rattle.sdp_formats_ssrcs.specs.Distinct.{distinct}
 use Rattle.sdp_formats_types.specs.declared.MediaAttribute.{MediaAttribute}
 use Rattle.sdp_formats_types.specs.declared.MediaAttribute.TheVariants as a
-use Rattle.sdp_formats_types.specs.declared.SsrcInfo.{SsrcInfo}
+use Rattle.sdp_formats_values.specs.declared.streams.SsrcInfo.{SsrcInfo}
 
 -- What the last attribute says that says something.
 abbrev pub last_of : {A B : Type 0} → (A → Option B) → List A → Option B

@@ -10,9 +10,9 @@ use Rattle.sdp_formats_params.specs.declared.Pair.{Pair}
 use Rattle.sdp_formats_row_lines.specs.Maps.{payload_type}
 use Rattle.sdp_formats_streams.specs.Names.{name}
 use Rattle.sdp_formats_streams.specs.declared.rids.Limits.{Limits}
-use Rattle.sdp_formats_types.specs.declared.streams.RidDirection.{RidDirection}
-use Rattle.sdp_formats_types.specs.declared.streams.RidDirection.TheVariants.{Send, Recv}
-use Rattle.sdp_formats_types.specs.declared.streams.RestrictionId.{RestrictionId}
+use Rattle.sdp_formats_values.specs.declared.streams.RidDirection.{RidDirection}
+use Rattle.sdp_formats_values.specs.declared.streams.RidDirection.TheVariants.{Send, Recv}
+use Rattle.sdp_formats_values.specs.declared.streams.RestrictionId.{RestrictionId}
 use Rattle.sdp_formats_types.specs.declared.media.MediaAttribute.{MediaAttribute}
 use Rattle.sdp_formats_types.specs.declared.media.MediaAttribute.TheVariants.{Rid}
 

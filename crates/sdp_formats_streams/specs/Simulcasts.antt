@@ -8,12 +8,12 @@ use Rattle.sdp_formats_forms.specs.Split.{behind, parts}
 use Rattle.sdp_formats_streams.specs.Names.{name}
 use Rattle.sdp_formats_streams.specs.Rids.{way}
 use Rattle.sdp_formats_streams.specs.declared.simulcasts.OneWay.{OneWay}
-use Rattle.sdp_formats_types.specs.declared.streams.RestrictionId.{RestrictionId}
-use Rattle.sdp_formats_types.specs.declared.streams.RidDirection.{RidDirection}
-use Rattle.sdp_formats_types.specs.declared.streams.RidDirection.TheVariants.{Send, Recv}
-use Rattle.sdp_formats_types.specs.declared.streams.Simulcast.{Simulcast}
-use Rattle.sdp_formats_types.specs.declared.streams.SimulcastGroups.{SimulcastGroups}
-use Rattle.sdp_formats_types.specs.declared.streams.SimulcastLayer.{SimulcastLayer}
+use Rattle.sdp_formats_values.specs.declared.streams.RestrictionId.{RestrictionId}
+use Rattle.sdp_formats_values.specs.declared.streams.RidDirection.{RidDirection}
+use Rattle.sdp_formats_values.specs.declared.streams.RidDirection.TheVariants.{Send, Recv}
+use Rattle.sdp_formats_values.specs.declared.streams.Simulcast.{Simulcast}
+use Rattle.sdp_formats_values.specs.declared.streams.SimulcastGroups.{SimulcastGroups}
+use Rattle.sdp_formats_values.specs.declared.streams.SimulcastLayer.{SimulcastLayer}
 
 abbrev pub make_id : Bool → List ℕ → RestrictionId
 make_id active t = record { 0 = t; 1 = active }

@@ -3,7 +3,7 @@ use Rattle.std.specs.Prelude.{ℕ, ◌^◌, List, Option}
 use Rattle.rtp_wire.specs.Kinds.{extension_of}
 use Rattle.sdp_formats_forms.specs.Form.{Form, told, any_text, number, made, cut, cut_maybe, separated}
 use Rattle.sdp_formats_forms.specs.Numbers.{number_below}
-use Rattle.sdp_formats_types.specs.declared.streams.Msid.{Msid as Names}
+use Rattle.sdp_formats_values.specs.declared.streams.Msid.{Msid as Names}
 use Rattle.sdp_formats_types.specs.declared.media.MediaAttribute.{MediaAttribute}
 use Rattle.sdp_formats_types.specs.declared.media.MediaAttribute.TheVariants.{ExtMap, SsrcGroup, Ssrc}
 

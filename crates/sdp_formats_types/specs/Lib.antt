@@ -1,8 +1,5 @@
-pub mod Setup
-pub mod Streams
 pub mod Media
 pub mod Consistency
-pub mod PrintedCandidates
 pub mod Printed
 pub mod PrintedMedia
 pub mod PrintedSession

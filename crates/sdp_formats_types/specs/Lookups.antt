@@ -5,8 +5,8 @@ use Rattle.rtp_wire.specs.declared.Direction.{Direction}
 use Rattle.rtp_wire.specs.declared.Direction.TheVariants as way
 use Rattle.sdp_formats_types.specs.declared.media.MediaAttribute.{MediaAttribute}
 use Rattle.sdp_formats_types.specs.declared.media.MediaAttribute.TheVariants as a
-use Rattle.sdp_formats_types.specs.declared.setup.Setup as setup
-use Rattle.sdp_formats_types.specs.declared.streams.Msid as names
+use Rattle.sdp_formats_values.specs.declared.setup.Setup as setup
+use Rattle.sdp_formats_values.specs.declared.streams.Msid as names
 
 -- What the first attribute says that says something.
 abbrev pub first_of : {A B : Type 0} → (A → Option B) → List A → Option B

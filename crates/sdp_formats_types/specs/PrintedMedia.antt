@@ -6,10 +6,12 @@ use Rattle.sdp_formats_forms.specs.Joined.{spelled, joined, maybe_text}
 use Rattle.payload_core_base.specs.Codecs.{codec_name}
 use Rattle.rtp_wire.specs.Kinds.{uri_of}
 use Rattle.sdp_formats_types.specs.Media.{proto_text, is_channel}
-use Rattle.sdp_formats_types.specs.Setup.{setup_text}
-use Rattle.sdp_formats_types.specs.Printed.{line_end, fingerprint_text, way_text, simulcast_text, params_text}
-use Rattle.sdp_formats_types.specs.Printed.{numbers_text, rid_types_text, rid_restrictions_text, is_empty, msid_text}
-use Rattle.sdp_formats_types.specs.PrintedCandidates.{candidate_text}
+use Rattle.sdp_formats_values.specs.Setup.{setup_text}
+use Rattle.sdp_formats_values.specs.Printed.{line_end, fingerprint_text, way_text, simulcast_text}
+use Rattle.sdp_formats_types.specs.Printed.{params_text}
+use Rattle.sdp_formats_values.specs.Printed.{is_empty, msid_text}
+use Rattle.sdp_formats_types.specs.Printed.{numbers_text, rid_types_text, rid_restrictions_text}
+use Rattle.sdp_formats_values.specs.PrintedCandidates.{candidate_text}
 use Rattle.sdp_formats_types.specs.declared.session.Bandwidth.{Bandwidth}
 use Rattle.sdp_formats_types.specs.declared.media.RtpMap as map_of
 use Rattle.sdp_formats_types.specs.declared.media.MediaLine.{MediaLine}

@@ -38,6 +38,7 @@ pub enum Inconsistency {
     ConflictingApts,
 }
 
+/// Is it an `a=mid` line?
 #[tactic(auto, unfolding(crate::specs::Consistency::is_mid))]
 fn is_mid(attribute: &MediaAttribute) -> bool
     ensures { result ≡ is_mid attribute.now }
@@ -45,6 +46,7 @@ fn is_mid(attribute: &MediaAttribute) -> bool
     matches!(attribute, MediaAttribute::Mid(_))
 }
 
+/// Is it an `a=setup` line?
 #[tactic(auto, unfolding(crate::specs::Consistency::is_setup))]
 fn is_setup(attribute: &MediaAttribute) -> bool
     ensures { result ≡ is_setup attribute.now }
@@ -52,6 +54,7 @@ fn is_setup(attribute: &MediaAttribute) -> bool
     matches!(attribute, MediaAttribute::Setup(_))
 }
 
+/// Does it map this payload type?
 fn maps_type(pt: Pt, attribute: &MediaAttribute) -> bool
     ensures { result ≡ maps_type pt attribute.now }
 {
@@ -61,6 +64,7 @@ fn maps_type(pt: Pt, attribute: &MediaAttribute) -> bool
     }
 }
 
+/// Has the payload type a meaning of its own (RFC 3551 6)?
 fn is_static(pt: Pt) -> bool
     ensures { result ≡ is_static pt }
 {
@@ -68,6 +72,7 @@ fn is_static(pt: Pt) -> bool
     number == 0 || number == 8 || number == 9 || number == 13
 }
 
+/// Is it one of the four directions?
 #[tactic(auto, unfolding(crate::specs::Consistency::is_direction_of))]
 fn is_direction_of(attribute: &MediaAttribute) -> bool
     ensures { result ≡ is_direction_of attribute.now }
@@ -75,6 +80,7 @@ fn is_direction_of(attribute: &MediaAttribute) -> bool
     attribute.is_direction()
 }
 
+/// Is the attribute one of what is counted?
 fn is_of(kind: Counted, attribute: &MediaAttribute) -> bool
     ensures { result ≡ is_of kind attribute.now }
 {
@@ -85,6 +91,7 @@ fn is_of(kind: Counted, attribute: &MediaAttribute) -> bool
     }
 }
 
+/// How many attributes there are of this kind.
 fn count(attributes: &[MediaAttribute], kind: Counted) -> usize
     ensures { result ≡ count_by (is_of kind) attributes.now }
 {
@@ -94,6 +101,7 @@ fn count(attributes: &[MediaAttribute], kind: Counted) -> usize
         .count()
 }
 
+/// How many lines map this payload type.
 fn count_maps(attributes: &[MediaAttribute], pt: Pt) -> usize
     ensures { result ≡ count_by (maps_type pt) attributes.now }
 {
@@ -103,6 +111,7 @@ fn count_maps(attributes: &[MediaAttribute], pt: Pt) -> usize
         .count()
 }
 
+/// Is the payload type mapped once, or not at all where it has a meaning of its own?
 fn is_mapped(attributes: &[MediaAttribute], pt: Pt) -> bool
     ensures { result ≡ is_mapped attributes.now pt }
 {
@@ -110,12 +119,14 @@ fn is_mapped(attributes: &[MediaAttribute], pt: Pt) -> bool
     count == 1 || (count == 0 && is_static(pt))
 }
 
+/// Is each of the payload types mapped so?
 fn are_mapped(attributes: &[MediaAttribute], pts: &[Pt]) -> bool
     ensures { result ≡ are_mapped attributes.now pts.now }
 {
     pts.iter().all(|pt| is_mapped(attributes, *pt))
 }
 
+/// Does the parameter name another type than this one as retransmitted (RFC 4588 8.6)?
 fn apt_differs(apt: Pt, param: &FormatParam) -> bool
     ensures { result ≡ apt_differs apt param.now }
 {
@@ -134,12 +145,14 @@ fn apts_agree_with(attributes: &[MediaAttribute], pt: Pt, apt: Pt) -> bool
         .all(|attribute| attribute_agrees(attribute, pt, apt))
 }
 
+/// Does one of the parameters name another type than this one?
 fn has_other_apt(values: &[FormatParam], apt: Pt) -> bool
     ensures { result ≡ list_any (apt_differs apt) values.now }
 {
     values.iter().any(|param| apt_differs(apt, param))
 }
 
+/// Does the line say nothing else of what the payload type retransmits?
 fn attribute_agrees(attribute: &MediaAttribute, pt: Pt, apt: Pt) -> bool
     ensures { result ≡ attribute_agrees pt apt attribute.now }
 {
@@ -151,6 +164,7 @@ fn attribute_agrees(attribute: &MediaAttribute, pt: Pt, apt: Pt) -> bool
     }
 }
 
+/// Does no other line of the payload type name another type than this parameter?
 fn values_agree(attributes: &[MediaAttribute], pt: Pt, param: &FormatParam) -> bool
     ensures { result ≡ values_agree attributes.now pt param.now }
 {
@@ -160,6 +174,7 @@ fn values_agree(attributes: &[MediaAttribute], pt: Pt, param: &FormatParam) -> b
     }
 }
 
+/// Does no other line of the payload type name another type than one of these parameters?
 fn all_agree(attributes: &[MediaAttribute], pt: Pt, values: &[FormatParam]) -> bool
     ensures { result ≡ list_all (values_agree attributes.now pt) values.now }
 {
@@ -168,6 +183,7 @@ fn all_agree(attributes: &[MediaAttribute], pt: Pt, values: &[FormatParam]) -> b
         .all(|param| values_agree(attributes, pt, param))
 }
 
+/// Do all other lines agree with what this one says is retransmitted?
 fn gives_apt(attributes: &[MediaAttribute], attribute: &MediaAttribute) -> bool
     ensures { result ≡ gives_apt attributes.now attribute.now }
 {
@@ -177,6 +193,7 @@ fn gives_apt(attributes: &[MediaAttribute], attribute: &MediaAttribute) -> bool
     }
 }
 
+/// Does each payload type retransmit one other at most?
 fn apts_agree(attributes: &[MediaAttribute]) -> bool
     ensures { result ≡ apts_agree attributes.now }
 {
@@ -203,6 +220,7 @@ impl MediaLine {
         self.later_fault()
     }
 
+    /// The first fault of direction, payload types and what comes behind.
     fn later_fault(&self) -> Option<Inconsistency>
         ensures { result ≡ later_fault_of self.now }
     {
@@ -216,6 +234,7 @@ impl MediaLine {
         self.last_fault()
     }
 
+    /// The first fault of mapped types and retransmissions.
     fn last_fault(&self) -> Option<Inconsistency>
         ensures { result ≡ last_fault_of self.now }
     {

@@ -5,10 +5,10 @@ ghost use Rattle.std.specs.Option.{option_copied};
 ghost use Rattle.sdp_formats_types.specs.Lookups.{direction_in, direction_of, first_of, mid_in, msid_in, setup_in};
 
 use crate::media::{MediaAttribute, MediaLine};
-use crate::setup::Setup;
-use crate::streams::Msid;
 use rtp_wire::{Direction, Mid};
+use sdp_formats_values::{Msid, Setup};
 
+/// The name that the attribute gives, if it is one.
 #[tactic(auto, unfolding(crate::specs::Lookups::mid_in))]
 fn mid_in(attribute: &MediaAttribute) -> Option<Mid>
     ensures { result ≡ mid_in attribute.now }
@@ -19,6 +19,7 @@ fn mid_in(attribute: &MediaAttribute) -> Option<Mid>
     }
 }
 
+/// The direction that the attribute gives, if it is one.
 #[tactic(auto, unfolding(crate::specs::Lookups::direction_in))]
 fn direction_in(attribute: &MediaAttribute) -> Option<Direction>
     ensures { result ≡ direction_in attribute.now }
@@ -32,6 +33,7 @@ fn direction_in(attribute: &MediaAttribute) -> Option<Direction>
     }
 }
 
+/// The names of stream and track that the attribute gives, if it gives them.
 #[tactic(auto, unfolding(crate::specs::Lookups::msid_in))]
 fn msid_in(attribute: &MediaAttribute) -> Option<&Msid>
     ensures { option_copied result ≡ msid_in attribute.now }
@@ -42,6 +44,7 @@ fn msid_in(attribute: &MediaAttribute) -> Option<&Msid>
     }
 }
 
+/// Which end opens the connection, if the attribute says it.
 #[tactic(auto, unfolding(crate::specs::Lookups::setup_in))]
 fn setup_in(attribute: &MediaAttribute) -> Option<Setup>
     ensures { result ≡ setup_in attribute.now }
@@ -52,6 +55,7 @@ fn setup_in(attribute: &MediaAttribute) -> Option<Setup>
     }
 }
 
+/// The name that the first `a=mid` gives.
 fn first_mid(attributes: &[MediaAttribute]) -> Option<Mid>
     ensures { result ≡ first_of mid_in attributes.now }
 {
@@ -63,6 +67,7 @@ fn first_mid(attributes: &[MediaAttribute]) -> Option<Mid>
     None
 }
 
+/// The first direction that an attribute gives.
 fn first_direction(attributes: &[MediaAttribute]) -> Option<Direction>
     ensures { result ≡ first_of direction_in attributes.now }
 {
@@ -74,6 +79,7 @@ fn first_direction(attributes: &[MediaAttribute]) -> Option<Direction>
     None
 }
 
+/// The names that the first `a=msid` gives.
 fn first_msid(attributes: &[MediaAttribute]) -> Option<&Msid>
     ensures { option_copied result ≡ first_of msid_in attributes.now }
 {
@@ -85,6 +91,7 @@ fn first_msid(attributes: &[MediaAttribute]) -> Option<&Msid>
     None
 }
 
+/// What the first `a=setup` gives.
 fn first_setup(attributes: &[MediaAttribute]) -> Option<Setup>
     ensures { result ≡ first_of setup_in attributes.now }
 {

@@ -3,15 +3,14 @@
 ghost use Rattle.std.specs.Prelude.{◌≡◌};
 ghost use Rattle.sdp_formats_types.specs.Media.{is_media, is_channel, proto_text};
 
-use crate::candidate::Candidate;
-use crate::fingerprint::Fingerprint;
 use crate::session::Bandwidth;
-use crate::setup::Setup;
-use crate::streams::{Msid, RestrictionId, RidDirection, Simulcast};
 use payload_core_base::Codec;
 use rtp_wire::{Extension, Frequency, Mid, Pt, Ssrc};
 use sdp_formats_forms::{Listed, Maybe, Text};
 use sdp_formats_params::{FormatParam, Pair};
+use sdp_formats_values::{
+    Candidate, Fingerprint, Msid, RestrictionId, RidDirection, Setup, Simulcast,
+};
 use std::fmt;
 
 /// What a section carries (RFC 8866 5.14).

@@ -2,12 +2,10 @@
 
 ghost use Rattle.std.specs.Prelude.{◌≡◌, [], None};
 
-use crate::candidate::Candidate;
-use crate::fingerprint::Fingerprint;
 use crate::media::MediaLine;
-use crate::setup::Setup;
 use rtp_wire::{Mid, SessionId};
 use sdp_formats_forms::{Listed, Text};
+use sdp_formats_values::{Candidate, Fingerprint, Setup};
 use std::alloc::Global;
 use std::fmt;
 

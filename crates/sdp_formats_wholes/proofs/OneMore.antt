@@ -1,7 +1,7 @@
 -- One candidate more.
 use Rattle.std.proofs.Common.{◌≡◌, List, ◌∷◌, sym, subst, Bor}
 use Rattle.std.specs.List.{FoldsTo}
-use Rattle.sdp_formats_types.specs.declared.Candidate.{Candidate}
+use Rattle.sdp_formats_values.specs.declared.candidate.Candidate.{Candidate}
 use Rattle.sdp_formats_wholes.specs.Candidates.{Adds, borrowed}
 
 pub one_more : (seen now last : List Candidate) (left rest : List (Bor Candidate)) (next : Bor Candidate)

@@ -2,7 +2,7 @@
 use Rattle.std.specs.Prelude.{◌≡◌, ◌++◌, ◌⊎◌, List, [], ◌∷◌, map, Option, Some, None}
 use Rattle.std.specs.Borrow.{Bor}
 use Rattle.std.specs.List.{FoldsTo, filter_map, flat_map}
-use Rattle.sdp_formats_types.specs.declared.Candidate.{Candidate}
+use Rattle.sdp_formats_values.specs.declared.candidate.Candidate.{Candidate}
 use Rattle.sdp_formats_types.specs.declared.MediaAttribute.{MediaAttribute}
 use Rattle.sdp_formats_types.specs.declared.MediaAttribute.TheVariants as media
 use Rattle.sdp_formats_types.specs.declared.MediaLine.{MediaLine}

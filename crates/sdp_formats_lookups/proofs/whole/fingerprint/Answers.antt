@@ -1,5 +1,5 @@
 use Rattle.std.proofs.Common.{List, map, subst, sym}
-use Rattle.sdp_formats_types.specs.declared.Fingerprint.{Fingerprint}
+use Rattle.sdp_formats_values.specs.declared.fingerprint.Fingerprint.{Fingerprint}
 use Rattle.sdp_formats_lookups.specs.Preference.{IsFirstOfLowest}
 use Rattle.sdp_formats_lookups.specs.Whole.{section_prints, session_prints}
 use Rattle.sdp_formats_lookups.proofs.Preferred.{first_listed-some}

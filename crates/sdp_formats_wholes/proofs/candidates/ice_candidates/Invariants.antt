@@ -1,6 +1,6 @@
 use Rattle.std.proofs.Common.{List, [], drop}
 use Rattle.std.specs.List.{FoldsTo}
-use Rattle.sdp_formats_types.specs.declared.Candidate.{Candidate}
+use Rattle.sdp_formats_values.specs.declared.candidate.Candidate.{Candidate}
 use Rattle.sdp_formats_wholes.specs.Candidates.{Adds, borrowed}
 use Rattle.sdp_formats_wholes.proofs.candidates.ice_candidates.Given as goal
 

@@ -1,7 +1,7 @@
 //! Which end opens a connection (RFC 4145 4).
 
 ghost use Rattle.std.specs.Prelude.{◌≡◌};
-ghost use Rattle.sdp_formats_types.specs.Setup.{setup_text, inverted, towards};
+ghost use Rattle.sdp_formats_values.specs.Setup.{setup_text, inverted, towards};
 
 use std::fmt;
 

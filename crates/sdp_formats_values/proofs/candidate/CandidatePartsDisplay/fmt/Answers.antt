@@ -1,8 +1,8 @@
 use Rattle.std.proofs.Common.{codes}
 use Rattle.std.specs.Fmt.{◌++?◌}
 use Rattle.sdp_formats_forms.specs.Joined.{maybe_some, maybe_same, writes_same}
-use Rattle.sdp_formats_types.specs.PrintedCandidates.{related_text, tcp_type_text}
-use Rattle.sdp_formats_types.proofs.candidate.CandidatePartsDisplay.fmt.Goals as goal
+use Rattle.sdp_formats_values.specs.PrintedCandidates.{related_text, tcp_type_text}
+use Rattle.sdp_formats_values.proofs.candidate.CandidatePartsDisplay.fmt.Goals as goal
 
 pub returns-clause-writes : goal.returns-clause-writes
 returns-clause-writes g c = writes_same _ _ _ _ _ _

@@ -3,15 +3,15 @@ use Rattle.std.specs.Prelude.{ℕ, List, [], ◌∷◌, codes}
 use Rattle.std.specs.Fmt.{decimal}
 use Rattle.std.specs.Option.{option_map}
 use Rattle.sdp_formats_forms.specs.Joined.{spelled, maybe_text}
-use Rattle.sdp_formats_types.specs.declared.candidate.Candidate.{Candidate}
-use Rattle.sdp_formats_types.specs.declared.candidate.RelatedAddress.{RelatedAddress}
-use Rattle.sdp_formats_types.specs.declared.candidate.Protocol.{Protocol}
-use Rattle.sdp_formats_types.specs.declared.candidate.Protocol.TheVariants.{Udp, Tcp, SslTcp, Tls}
-use Rattle.sdp_formats_types.specs.declared.candidate.CandidateKind.{CandidateKind}
-use Rattle.sdp_formats_types.specs.declared.candidate.CandidateKind.TheVariants.{Host, PeerReflexive}
-use Rattle.sdp_formats_types.specs.declared.candidate.CandidateKind.TheVariants.{ServerReflexive, Relayed}
-use Rattle.sdp_formats_types.specs.declared.candidate.TcpType.{TcpType}
-use Rattle.sdp_formats_types.specs.declared.candidate.TcpType.TheVariants.{Active, Passive, So}
+use Rattle.sdp_formats_values.specs.declared.candidate.Candidate.{Candidate}
+use Rattle.sdp_formats_values.specs.declared.candidate.RelatedAddress.{RelatedAddress}
+use Rattle.sdp_formats_values.specs.declared.candidate.Protocol.{Protocol}
+use Rattle.sdp_formats_values.specs.declared.candidate.Protocol.TheVariants.{Udp, Tcp, SslTcp, Tls}
+use Rattle.sdp_formats_values.specs.declared.candidate.CandidateKind.{CandidateKind}
+use Rattle.sdp_formats_values.specs.declared.candidate.CandidateKind.TheVariants.{Host, PeerReflexive}
+use Rattle.sdp_formats_values.specs.declared.candidate.CandidateKind.TheVariants.{ServerReflexive, Relayed}
+use Rattle.sdp_formats_values.specs.declared.candidate.TcpType.{TcpType}
+use Rattle.sdp_formats_values.specs.declared.candidate.TcpType.TheVariants.{Active, Passive, So}
 
 abbrev pub protocol_text : Protocol → List ℕ
 protocol_text Udp = codes "udp"

@@ -2,7 +2,7 @@
 
 ghost use Rattle.std.specs.Prelude.{◌≡◌, IfOk};
 ghost use Rattle.std.specs.String.{string_bytes};
-ghost use Rattle.sdp_formats_types.specs.PrintedCandidates.{protocol_text, kind_text, tcp_type_text, candidate_text};
+ghost use Rattle.sdp_formats_values.specs.PrintedCandidates.{protocol_text, kind_text, tcp_type_text, candidate_text};
 
 use sdp_formats_forms::{Maybe, Text};
 use std::alloc::{AllocError, Global};
@@ -162,7 +162,7 @@ impl fmt::Display for TcpType {
 
 impl fmt::Display for RelatedAddress {
     ghost use Rattle.std.specs.Prelude.{Some};
-    ghost use Rattle.sdp_formats_types.specs.PrintedCandidates.{related_text};
+    ghost use Rattle.sdp_formats_values.specs.PrintedCandidates.{related_text};
 
     ghost output = { λ r. Some (related_text r) };
 
@@ -179,7 +179,7 @@ struct CandidateParts<'a>(&'a Candidate);
 
 impl fmt::Display for CandidateParts<'_> {
     ghost use Rattle.std.specs.Prelude.{Some};
-    ghost use Rattle.sdp_formats_types.specs.PrintedCandidates.{parts_text};
+    ghost use Rattle.sdp_formats_values.specs.PrintedCandidates.{parts_text};
 
     ghost output = { λ p. Some (parts_text p.0.now) };
 

@@ -2,8 +2,8 @@
 
 ghost use Rattle.std.specs.Prelude.{◌≡◌, true, IfOk};
 ghost use Rattle.std.specs.String.{string_bytes};
-ghost use Rattle.sdp_formats_types.specs.Printed.{way_text, name_text};
-ghost use Rattle.sdp_formats_types.specs.Streams.{inverted};
+ghost use Rattle.sdp_formats_values.specs.Printed.{way_text, name_text};
+ghost use Rattle.sdp_formats_values.specs.Streams.{inverted};
 
 use rtp_wire::Ssrc;
 use sdp_formats_forms::{Joined, Listed, Text};
@@ -89,7 +89,7 @@ pub struct SimulcastLayer {
 /// The name of its `a=rid` line.
 impl fmt::Display for SimulcastLayer {
     ghost use Rattle.std.specs.Prelude.{Some};
-    ghost use Rattle.sdp_formats_types.specs.Printed.{layer_text};
+    ghost use Rattle.sdp_formats_values.specs.Printed.{layer_text};
 
     ghost output = { λ l. Some (layer_text l) };
 
@@ -106,7 +106,7 @@ pub struct SimulcastGroups(pub Listed<SimulcastLayer>);
 /// The names of the layers with semicolons between.
 impl fmt::Display for SimulcastGroups {
     ghost use Rattle.std.specs.Prelude.{Some};
-    ghost use Rattle.sdp_formats_types.specs.Printed.{layers_text};
+    ghost use Rattle.sdp_formats_values.specs.Printed.{layers_text};
 
     ghost output = { λ g. Some (layers_text g) };
 
@@ -144,7 +144,7 @@ impl Simulcast {
 /// The whole line with its end; nothing where it was made up or names no layer.
 impl fmt::Display for Simulcast {
     ghost use Rattle.std.specs.Prelude.{Some};
-    ghost use Rattle.sdp_formats_types.specs.Printed.{simulcast_text};
+    ghost use Rattle.sdp_formats_values.specs.Printed.{simulcast_text};
 
     ghost output = { λ s. Some (simulcast_text s) };
 
@@ -174,7 +174,7 @@ pub struct Msid {
 
 impl fmt::Display for Msid {
     ghost use Rattle.std.specs.Prelude.{Some};
-    ghost use Rattle.sdp_formats_types.specs.Printed.{msid_text};
+    ghost use Rattle.sdp_formats_values.specs.Printed.{msid_text};
 
     ghost output = { λ m. Some (msid_text m) };
 

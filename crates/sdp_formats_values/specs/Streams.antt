@@ -1,5 +1,5 @@
 -- Streams of a section.
-use Rattle.sdp_formats_types.specs.declared.streams.Simulcast.{Simulcast}
+use Rattle.sdp_formats_values.specs.declared.streams.Simulcast.{Simulcast}
 
 -- A simulcast as the other end sees it (RFC 8853 5.1).
 abbrev pub inverted : Simulcast → Simulcast

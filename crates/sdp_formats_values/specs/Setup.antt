@@ -1,7 +1,7 @@
 -- Which end opens a connection (RFC 4145 4).
 use Rattle.std.specs.Prelude.{ℕ, List, codes, Option, Some, None}
-use Rattle.sdp_formats_types.specs.declared.setup.Setup.{Setup}
-use Rattle.sdp_formats_types.specs.declared.setup.Setup.TheVariants.{ActPass, Active, Passive}
+use Rattle.sdp_formats_values.specs.declared.setup.Setup.{Setup}
+use Rattle.sdp_formats_values.specs.declared.setup.Setup.TheVariants.{ActPass, Active, Passive}
 
 abbrev pub setup_text : Setup → List ℕ
 setup_text ActPass = codes "actpass"

@@ -14,7 +14,7 @@ pub struct Fingerprint {
 
 impl fmt::Display for Fingerprint {
     ghost use Rattle.std.specs.Prelude.{Some};
-    ghost use Rattle.sdp_formats_types.specs.Printed.{fingerprint_text};
+    ghost use Rattle.sdp_formats_values.specs.Printed.{fingerprint_text};
 
     ghost output = { λ f. Some (fingerprint_text f) };
 

@@ -1,0 +1,4 @@
+pub mod Setup
+pub mod Streams
+pub mod PrintedCandidates
+pub mod Printed

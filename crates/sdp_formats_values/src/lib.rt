@@ -1,0 +1,14 @@
+//! Values of session texts that stand alone: candidates, fingerprints, setups, names and layers of streams.
+#![tactic(auto)]
+
+mod candidate;
+mod fingerprint;
+mod setup;
+mod streams;
+
+pub use candidate::{Candidate, CandidateKind, IceCreds, Protocol, RelatedAddress, TcpType};
+pub use fingerprint::Fingerprint;
+pub use setup::Setup;
+pub use streams::{
+    Msid, RestrictionId, RidDirection, Simulcast, SimulcastGroups, SimulcastLayer, SsrcInfo,
+};
