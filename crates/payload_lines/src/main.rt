@@ -19,18 +19,22 @@ use std::io::{BufRead, BufReader};
 
 /// Answers each line by a line: a comment by itself, a command by what it gives, and another line, or a sample or
 /// packet that is refused, by the word `fault` and the reason.
-fn main(rt: HostRuntime) -> anyhow::Result<()> {
+fn answer_lines(rt: &HostRuntime, subjects: &mut Subjects) -> anyhow::Result<()> {
     let alloc = rt.alloc();
-    let mut subjects = Subjects {
-        formats: None,
-        sender: RedSender::new(alloc, &[])?,
-    };
     for line in BufReader::new(alloc, rt.reader())?.lines(alloc) {
         let line = line?;
-        match answer(alloc, &mut subjects, line.as_str()) {
-            Ok(text) => println!(rt; "{text}")?,
-            Err(fault) => println!(rt; "fault {fault}")?,
+        match answer(alloc, subjects, line.as_str()) {
+            Ok(text) => println!(*rt; "{text}")?,
+            Err(fault) => println!(*rt; "fault {fault}")?,
         }
     }
     Ok(())
+}
+
+fn main(rt: HostRuntime) -> anyhow::Result<()> {
+    let mut subjects = Subjects {
+        formats: None,
+        sender: RedSender::new(rt.alloc(), &[])?,
+    };
+    answer_lines(&rt, &mut subjects)
 }
