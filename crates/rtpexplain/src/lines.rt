@@ -1,13 +1,7 @@
 //! The lines that are read, those that the program is given, and its replies to each.
 
-use crate::text::{count_words, word_at};
 use std::alloc::{AllocError, Global};
-
-/// The lines of an input.
-pub fn lines_of(alloc: Global, input: &[u8]) -> Result<Vec<&[u8]>, AllocError> {
-    let lines = input.strip_suffix(b"\n").unwrap_or(input);
-    lines.split(|byte| *byte == b'\n').collect(alloc)
-}
+use std::str::Lines;
 
 /// Whether a line isn't for the program: `help`, or one that begins with `#`.
 pub fn is_comment(line: &[u8]) -> bool {
@@ -16,68 +10,93 @@ pub fn is_comment(line: &[u8]) -> bool {
 
 /// A line as it is shown.
 pub fn text_of(line: &[u8]) -> &str {
-    str::from_utf8(line).unwrap_or("(a line that isn't UTF-8)")
+    match str::from_utf8(line) {
+        Ok(text) => text,
+        Err(_) => "(a line that isn't UTF-8)",
+    }
 }
 
 /// The lines that the program is given: an empty one for each comment. A run without items, which may print nothing,
 /// gets the arrival of no bytes, so that each line but an empty one is replied to.
-pub fn program_of(alloc: Global, lines: &[&[u8]]) -> Result<Vec<u8>, AllocError> {
+pub fn program_of(alloc: Global, input: &[u8]) -> Result<Vec<u8>, AllocError> {
     let mut program = Vec::new(alloc);
-    for line in lines {
+    for line in input.split(|b| *b == b'\n') {
         if !is_comment(line) {
             program.extend_from_slice(line)?;
         }
-        let end: &[u8] = if is_run_without_items(text_of(line)) {
-            b" f-\n"
-        } else {
-            b"\n"
-        };
-        program.extend_from_slice(end)?;
+        if is_run_without_items(line) {
+            program.extend_from_slice(b" f-")?;
+        }
+        program.push(b'\n')?;
     }
     Ok(program)
 }
 
 /// Whether a line is `play TX RX` and no more.
-fn is_run_without_items(line: &str) -> bool {
-    line.starts_with("play ") && count_words(line) == 3
+pub fn is_run_without_items(line: &[u8]) -> bool {
+    line.starts_with(b"play ") && line.split(|b| *b == b' ').count() == 3
 }
 
-/// How many of the next replies are those to a line.
-pub fn count_replies(line: &[u8], next: &[&str]) -> usize {
-    if line.is_empty() || is_comment(line) {
-        return 0;
-    }
-    let least = least_replies(text_of(line));
-    let mut count = 0usize;
-    for reply in next {
-        count = count.saturating_add(1);
-        if is_last(reply, count >= least) {
+/// The replies to a line, which the next of all replies begin with.
+pub fn replies_to<'a>(
+    alloc: Global,
+    line: &str,
+    all: &mut Lines<'a>,
+) -> Result<Vec<&'a str>, AllocError> {
+    let mut taken = Vec::new(alloc);
+    for count in 1..usize::MAX {
+        let Some(reply) = all.next() else {
+            break;
+        };
+        let is_shown = !(reply == "unreadable" && is_run_without_items(line.as_bytes()));
+        if is_shown {
+            taken.push(reply)?;
+        }
+        if is_last(line, reply, count) {
             break;
         }
     }
-    count
+    Ok(taken)
 }
 
-/// How many replies a line has at least, beside datagrams, where it isn't refused.
-fn least_replies(line: &str) -> usize {
-    match word_at(line, 0) {
-        "connect" => 2,
-        "play" => count_words(line).saturating_sub(3),
-        _ => 1,
+/// Whether no reply to the line follows this one, of which it is the one of this count.
+fn is_last(line: &str, reply: &str, count: usize) -> bool {
+    if reply == "error line" || reply.starts_with("refused ") {
+        return true;
+    }
+    match verb_of(line) {
+        Some("sample") => !reply.starts_with("datagram "),
+        Some("connect") => count >= 2,
+        Some("play") => count.saturating_add(3) >= line.split(' ').count(),
+        _ => true,
     }
 }
 
-/// Whether no reply to a line follows this one, where as many as it has at least came, or not.
-fn is_last(reply: &str, are_enough: bool) -> bool {
-    reply == "error line"
-        || reply.starts_with("refused ")
-        || (are_enough && !reply.starts_with("datagram "))
+/// The first word of a line.
+pub fn verb_of(line: &str) -> Option<&str> {
+    line.split(' ').next()
 }
 
-/// The replies to a line that are shown: not that to the item that a run without items was given.
-pub fn shown_of<'a>(line: &str, replies: &'a [&'a str]) -> &'a [&'a str] {
-    match replies.first() {
-        Some(reply) if *reply == "unreadable" && is_run_without_items(line) => &[],
-        _ => replies,
+/// The word of this place in a line, counted from 0; an empty one where there is none.
+pub fn word_at(line: &str, place: usize) -> &str {
+    for (k, word) in line.split(' ').enumerate() {
+        if k == place {
+            return word;
+        }
     }
+    ""
+}
+
+/// The number that decimal digits write.
+pub fn number_of(word: &str) -> Option<u64> {
+    if word.bytes().all(|b| b.is_ascii_digit()) {
+        word.parse::<u64>().ok()
+    } else {
+        None
+    }
+}
+
+/// The number of this place in a line, where there is one.
+pub fn number_at(line: &str, place: usize) -> Option<u64> {
+    number_of(word_at(line, place))
 }

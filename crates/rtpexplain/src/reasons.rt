@@ -1,247 +1,242 @@
-//! Why a line is an `error line`.
+//! Why a line is an `error line`, or was refused.
 
 use crate::forms::{form_of, misfit};
-use crate::known::Known;
-use crate::text::{count_words, has_word, number_at, number_of, put, put_numbers, word_at};
+use crate::known::{Known, KnownEnd};
+use crate::lines::{number_at, number_of, verb_of, word_at};
+use crate::refusals::{fault_of, refusal_of, verdict_of};
 use rtp_media_lines::MAX_LINE_LENGTH;
 use std::alloc::{AllocError, Global};
 
-/// Puts why a line isn't understood, or its conditions fail.
-pub fn put_error(page: &mut String, known: &Known, line: &[u8]) -> Result<(), AllocError> {
-    if line.len() > MAX_LINE_LENGTH {
-        put_numbers(
-            page,
-            &[("the line is longer than ", MAX_LINE_LENGTH as u64)],
-        )?;
-        return page.push_str(" bytes");
+/// Why the program gave a line this reply, where it says no.
+pub fn reason_of(
+    alloc: Global,
+    known: &Known,
+    line: &[u8],
+    reply: &str,
+) -> Result<Option<String>, AllocError> {
+    if reply == "error line" {
+        return Ok(Some(error_of(alloc, known, line)?));
     }
-    match str::from_utf8(line) {
-        Ok(line) => put_error_of_text(page, known, line),
-        Err(_) => page.push_str("the line isn't UTF-8"),
+    if let Some(verdict) = verdict_of(reply) {
+        return Ok(Some(String::from_str(alloc, verdict)?));
+    }
+    let name = word_at(reply, 1);
+    match word_at(reply, 0) {
+        "refused" => Ok(Some(String::from_str(alloc, refusal_of(name))?)),
+        "fault" => Ok(Some(String::from_str(alloc, fault_of(name))?)),
+        _ => Ok(None),
     }
 }
 
-/// Puts what is wrong with a line that is a text.
-fn put_error_of_text(page: &mut String, known: &Known, line: &str) -> Result<(), AllocError> {
-    let wrong = if line.ends_with("\r") {
-        "the line ends with a carriage return"
-    } else if has_word(line, "") {
-        "words are parted by one blank, and none stands at the ends"
-    } else {
-        ""
-    };
-    if !wrong.is_empty() {
-        return page.push_str(wrong);
+/// Why a line isn't understood, or its conditions fail.
+fn error_of(alloc: Global, known: &Known, line: &[u8]) -> Result<String, AllocError> {
+    if line.len() > MAX_LINE_LENGTH {
+        return format!(in alloc; "the line is longer than {MAX_LINE_LENGTH} bytes");
     }
-    let verb = word_at(line, 0);
-    let form = form_of(verb);
-    if form.is_empty() {
-        return put(
-            page,
-            &["no line begins with `", verb, "`; `help` lists the lines"],
+    let Ok(line) = str::from_utf8(line) else {
+        return String::from_str(alloc, "the line isn't UTF-8");
+    };
+    if line.ends_with("\r") {
+        return String::from_str(alloc, "the line ends with a carriage return");
+    }
+    if line.split(' ').any(|word| word.is_empty()) {
+        return String::from_str(
+            alloc,
+            "words are parted by one blank, and none stands at the ends",
         );
     }
-    put_misfit(page, known, form, line)
+    let verb = word_at(line, 0);
+    let Some(form) = form_of(verb) else {
+        return format!(in alloc; "no line begins with `{verb}`; `help` lists the lines");
+    };
+    if let Some(reason) = unfit_word(alloc, form, line)? {
+        return Ok(reason);
+    }
+    match unmet(alloc, known, line)? {
+        Some(reason) => Ok(reason),
+        None => String::from_str(alloc, "its conditions fail"),
+    }
 }
 
-/// Puts how the words of a line don't fit its form, or else the condition that it doesn't meet.
-fn put_misfit<'a>(
-    page: &mut String,
-    known: &Known,
-    form: &'a str,
-    line: &'a str,
-) -> Result<(), AllocError> {
-    let (name, word, wanted) = unfit_word(*page.allocator(), form, line);
-    if !wanted.is_empty() {
-        return put(page, &[name, " is `", word, "`, and has to be ", wanted]);
-    }
-    if form.starts_with("connect ") {
-        if has_word(line, "/") {
-            return put_unmet(page, known, line);
+/// The first word that doesn't fit the form.
+fn unfit_word(alloc: Global, form: &str, line: &str) -> Result<Option<String>, AllocError> {
+    for (place, word) in line.split(' ').enumerate() {
+        if place == 0 {
+            continue;
         }
-        return page.push_str("no `/` parts the sections");
-    }
-    let (mark, word, fault) = missing_or_left(form, line);
-    if fault.is_empty() {
-        return put_unmet(page, known, line);
-    }
-    put(page, &[mark, word, fault, form, "`"])
-}
-
-/// The name of the first word that doesn't fit the form, the word, and what it has to be; empty texts where all fit.
-fn unfit_word<'a>(alloc: Global, form: &'a str, line: &'a str) -> (&'a str, &'a str, &'a str) {
-    let mut place = 0usize;
-    for word in line.split(' ') {
-        let name = name_at(form, place, word);
-        let wanted = misfit(alloc, name, word);
-        if !wanted.is_empty() {
-            return (name, word, wanted);
+        if let Some(reason) = misfit(alloc, name_at(form, place, word), word)? {
+            return Ok(Some(reason));
         }
-        place = place.saturating_add(1);
     }
-    ("", "", "")
+    missing_or_left(alloc, form, line)
 }
 
 /// The name that a word of this place stands for; an empty one where it is one too many.
 fn name_at<'a>(form: &'a str, place: usize, word: &str) -> &'a str {
-    if place > 0 && word_at(form, 0) == "connect" {
+    if verb_of(form) == Some("connect") {
         return if word == "/" { "/" } else { "SECTION.." };
     }
-    if form.ends_with("..") {
-        let last = count_words(form).saturating_sub(1);
-        return word_at(form, place.min(last));
+    let name = word_at(form, place);
+    if name.is_empty() && form.ends_with("..") {
+        word_at(form, form.split(' ').count().saturating_sub(1))
+    } else {
+        name
     }
-    word_at(form, place)
 }
 
-/// A word that is missing or is left over, behind its mark and before what is wrong with it; empty texts where none is.
-fn missing_or_left<'a>(form: &'a str, line: &'a str) -> (&'a str, &'a str, &'a str) {
-    let (count, names) = (count_words(line), count_words(form));
+/// A word that is missing, or is left over.
+fn missing_or_left(alloc: Global, form: &str, line: &str) -> Result<Option<String>, AllocError> {
+    let count = line.split(' ').count();
+    let names = form.split(' ').count();
     let is_open = form.ends_with("..");
-    let spare = usize::from(is_open || form.ends_with("]"));
-    if count.saturating_add(spare) < names {
-        ("", word_at(form, count), " is missing: `")
-    } else if count > names && !is_open {
-        ("`", word_at(line, names), "` is one word too many: `")
+    let least = if is_open || form.ends_with("]") {
+        names.saturating_sub(1)
     } else {
-        ("", "", "")
-    }
-}
-
-/// Puts the condition that a line of the right words doesn't meet.
-fn put_unmet(page: &mut String, known: &Known, line: &str) -> Result<(), AllocError> {
-    let (verb, letter) = (word_at(line, 0), word_at(line, 1));
-    if verb == "row" {
-        return page.push_str("CLOCK has to be 1 or more");
-    }
-    if verb == "ext" {
-        let id = word_at(line, 2);
-        return put(page, &[id, " is no number of a header extension: 1 to 16"]);
-    }
-    let letters = if has_word("connect play", verb) {
-        "a b"
-    } else {
-        letter
+        names
     };
-    let unmade = unmade_of(known, letters);
-    if unmade.is_empty() {
-        return put_unmet_at(page, known, line);
+    if verb_of(form) == Some("connect") {
+        return match line.split(' ').any(|word| word == "/") {
+            true => Ok(None),
+            false => Ok(Some(String::from_str(alloc, "no `/` parts the sections")?)),
+        };
     }
-    put(
-        page,
-        &[
-            "no end ",
-            unmade,
-            ": `fixed ",
-            unmade,
-            "` or `end ",
-            unmade,
-            " SESSION` makes one",
-        ],
-    )
+    if count < least {
+        let name = word_at(form, count);
+        return Ok(Some(format!(in alloc; "{name} is missing: `{form}`")?));
+    }
+    if count > names && !is_open {
+        let word = word_at(line, names);
+        return Ok(Some(format!(in alloc; "`{word}` is one word too many: `{form}`")?));
+    }
+    Ok(None)
 }
 
-/// The first of these letters whose end isn't there.
-fn unmade_of<'a>(known: &Known, letters: &'a str) -> &'a str {
-    for letter in letters.split(' ') {
-        if !known.end(letter).is_made {
-            return letter;
+/// The condition that a line of the right words doesn't meet.
+fn unmet(alloc: Global, known: &Known, line: &str) -> Result<Option<String>, AllocError> {
+    match word_at(line, 0) {
+        "row" => Ok(Some(String::from_str(alloc, "CLOCK has to be 1 or more")?)),
+        "ext" => {
+            let id = word_at(line, 2);
+            Ok(Some(format!(in alloc; "{id} is no number of a header extension: 1 to 16")?))
+        }
+        "connect" => unmade(alloc, known, "a", "b"),
+        "play" => match unmade(alloc, known, "a", "b")? {
+            Some(reason) => Ok(Some(reason)),
+            None => match unopened(
+                alloc,
+                "sending",
+                word_at(line, 1),
+                "a",
+                is_sender(&known.a, word_at(line, 1)),
+            )? {
+                Some(reason) => Ok(Some(reason)),
+                None => unopened(
+                    alloc,
+                    "receiving",
+                    word_at(line, 2),
+                    "b",
+                    is_receiver(&known.b, word_at(line, 2)),
+                ),
+            },
+        },
+        _ => {
+            let letter = word_at(line, 1);
+            match unmade(alloc, known, letter, letter)? {
+                Some(reason) => Ok(Some(reason)),
+                None => unmet_at(alloc, known, letter, line),
+            }
         }
     }
-    ""
 }
 
-/// Puts the condition that a line about ends that are made doesn't meet.
-fn put_unmet_at(page: &mut String, known: &Known, line: &str) -> Result<(), AllocError> {
-    let letter = word_at(line, 1);
+/// The condition that a line about an end that is made doesn't meet.
+fn unmet_at(
+    alloc: Global,
+    known: &Known,
+    letter: &str,
+    line: &str,
+) -> Result<Option<String>, AllocError> {
     let end = known.end(letter);
-    let (sending, receiving) = (end.senders.len(), end.receivers.len());
+    let stream = word_at(line, 2);
     match word_at(line, 0) {
-        "play" => put_unmet_run(page, known, line),
-        "sample" => put_unopened(page, "sending", sending, word_at(line, 2), letter),
-        "poll" => put_unopened(page, "receiving", receiving, word_at(line, 2), letter),
-        "send" => put_unsound(page, line),
-        "answer" | "accept" => page.push_str("HEX isn't a text of UTF-8"),
-        _ => page.push_str("its conditions fail"),
+        "sample" => unopened(alloc, "sending", stream, letter, is_sender(end, stream)),
+        "poll" => unopened(alloc, "receiving", stream, letter, is_receiver(end, stream)),
+        "answer" | "accept" => Ok(Some(String::from_str(alloc, "HEX isn't a text of UTF-8")?)),
+        "send" => Ok(Some(unsound(alloc, line)?)),
+        _ => Ok(None),
     }
 }
 
-/// Puts the stream of a run that isn't there.
-fn put_unmet_run(page: &mut String, known: &Known, line: &str) -> Result<(), AllocError> {
-    let (tx, rx) = (word_at(line, 1), word_at(line, 2));
-    let count = known.a.senders.len();
-    if !is_below(tx, count) {
-        return put_unopened(page, "sending", count, tx, "a");
+/// An end that isn't there.
+fn unmade(
+    alloc: Global,
+    known: &Known,
+    first: &str,
+    second: &str,
+) -> Result<Option<String>, AllocError> {
+    for letter in [first, second] {
+        if !known.end(letter).is_made {
+            return Ok(Some(format!(in alloc;
+                "no end {letter}: `fixed {letter}` or `end {letter} SESSION` makes one"
+            )?));
+        }
     }
-    put_unopened(page, "receiving", known.b.receivers.len(), rx, "b")
+    Ok(None)
 }
 
-/// Whether a word is a number below this one.
-fn is_below(word: &str, count: usize) -> bool {
-    match number_of(word) {
-        Some(number) => number < count as u64,
-        None => false,
-    }
+fn is_sender(end: &KnownEnd, stream: &str) -> bool {
+    number_of(stream).is_some_and(|n| end.senders.contains_key(&n))
 }
 
-/// Puts a stream that isn't one of so many.
-fn put_unopened(
-    page: &mut String,
+fn is_receiver(end: &KnownEnd, stream: &str) -> bool {
+    number_of(stream).is_some_and(|n| end.receivers.contains_key(&n))
+}
+
+/// A stream that isn't there.
+fn unopened(
+    alloc: Global,
     way: &str,
-    count: usize,
     stream: &str,
     letter: &str,
-) -> Result<(), AllocError> {
-    if is_below(stream, count) {
-        return page.push_str("its conditions fail");
+    is_there: bool,
+) -> Result<Option<String>, AllocError> {
+    if is_there {
+        return Ok(None);
     }
-    put(page, &["no ", way, " stream ", stream, " of ", letter])
+    Ok(Some(format!(in alloc; "no {way} stream {stream} of {letter}")?))
 }
 
-/// Puts what is wrong with the parameters of a sending stream.
-fn put_unsound(page: &mut String, line: &str) -> Result<(), AllocError> {
-    let wrong = wrong_number(
-        number_at(line, 5).unwrap_or(u64::MAX),
-        number_at(line, 6).unwrap_or(u64::MAX),
-        number_at(line, 9).unwrap_or(0),
-    );
-    if !wrong.is_empty() {
-        return page.push_str(wrong);
+/// What is wrong with the parameters of a sending stream.
+fn unsound(alloc: Global, line: &str) -> Result<String, AllocError> {
+    let distances = word_at(line, 8);
+    if number_at(line, 5).is_none_or(|first| first >= 32_768) {
+        return String::from_str(alloc, "FIRST has to be below 32768");
     }
-    if !do_rise(word_at(line, 8)) {
-        return page.push_str("DISTANCES have to rise, within 1 to 8");
+    if number_at(line, 6) == Some(0) {
+        return String::from_str(alloc, "MTU has to be 1 or more");
+    }
+    if number_at(line, 9).is_some_and(|id| id > 32_767) {
+        return String::from_str(alloc, "PICTUREID has to be 32767 or less");
+    }
+    if number_at(line, 6) == Some(1) {
+        return String::from_str(alloc, "MTU has to be 2 or more with redundancy");
+    }
+    if !do_rise(distances) {
+        return String::from_str(alloc, "DISTANCES have to rise, within 1 to 8");
     }
     let pt = word_at(line, 4);
-    put(
-        page,
-        &[
-            "no row of type ",
-            pt,
-            " is agreed that has a RED type, so DISTANCES has to be `-`",
-        ],
+    format!(in alloc;
+        "no row of type {pt} is agreed that has a RED type, so DISTANCES has to be `-`"
     )
-}
-
-/// What is wrong with the numbers of a sending stream; an empty text where nothing is.
-fn wrong_number(first: u64, mtu: u64, picture_id: u64) -> &'static str {
-    if first >= 32_768 {
-        "FIRST has to be below 32768"
-    } else if mtu == 0 {
-        "MTU has to be 1 or more"
-    } else if picture_id > 32_767 {
-        "PICTUREID has to be 32767 or less"
-    } else if mtu == 1 {
-        "MTU has to be 2 or more with redundancy"
-    } else {
-        ""
-    }
 }
 
 /// Whether numbers that commas part rise strictly, within 1 to 8.
 fn do_rise(distances: &str) -> bool {
     let mut least = 0;
     for word in distances.split(',') {
-        let distance = number_of(word).unwrap_or(0);
+        let Some(distance) = number_of(word) else {
+            return false;
+        };
         if distance <= least || distance > 8 {
             return false;
         }

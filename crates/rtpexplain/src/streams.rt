@@ -1,7 +1,7 @@
 //! What is known of streams.
 
-use crate::text::{put, put_numbers};
-use std::alloc::{AllocError, Global};
+use std::alloc::Global;
+use std::fmt;
 
 /// The most packets that a receiving stream holds.
 const MAX_HELD: usize = 4096;
@@ -14,18 +14,10 @@ pub struct Sender {
     pub datagrams: u64,
 }
 
-impl Sender {
-    /// Puts what became of the stream of this number at the end of this letter.
-    pub fn put_on(&self, page: &mut String, letter: &str, number: u64) -> Result<(), AllocError> {
-        let counts = [
-            (": SSRC ", self.ssrc),
-            (", type ", self.pt),
-            (", ", self.datagrams),
-        ];
-        put_numbers(page, &[("  sender ", number)])?;
-        put(page, &[" of ", letter])?;
-        put_numbers(page, &counts)?;
-        page.push_str(" datagrams printed\n")
+impl fmt::Display for Sender {
+    fn fmt<W: fmt::Write>(&self, f: &mut fmt::Formatter<W>) -> fmt::Result {
+        let (ssrc, pt, datagrams) = (self.ssrc, self.pt, self.datagrams);
+        write!(f, "SSRC {ssrc}, type {pt}, {datagrams} datagrams printed")
     }
 }
 
@@ -34,16 +26,14 @@ impl Sender {
 pub struct Receiver {
     pub ssrc: u64,
     pub pt: u64,
-    /// The numbers that were taken and wait to be handed out, as long as these can be known.
-    waiting: Vec<u64>,
-    are_known: bool,
+    /// The numbers that were taken and wait to be handed out; None where that can't be known any more.
+    waiting: Option<Vec<u64>>,
     taken: u64,
     refused: u64,
     damaged: u64,
     units: u64,
     faults: u64,
-    /// The numbers below this one came too late, or were handed out.
-    next: u64,
+    cutoff: Option<u64>,
 }
 
 impl Receiver {
@@ -52,80 +42,74 @@ impl Receiver {
         Receiver {
             ssrc,
             pt,
-            waiting: Vec::new(alloc),
-            are_known: true,
+            waiting: Some(Vec::new(alloc)),
             taken: 0,
             refused: 0,
             damaged: 0,
             units: 0,
             faults: 0,
-            next: 0,
+            cutoff: None,
         }
-    }
-
-    /// Notes the first word of what was said of a datagram or a poll, and the number in it.
-    pub fn hear(&mut self, word: &str, number: u64) -> Result<(), AllocError> {
-        match word {
-            "taken" => return self.take(number),
-            "refused" => self.refused = self.refused.saturating_add(1),
-            "damaged" => self.damaged = self.damaged.saturating_add(1),
-            "unit" => self.hand_out(number),
-            "fault" => self.fail(),
-            _ => {}
-        }
-        Ok(())
     }
 
     /// A datagram of this number was taken.
-    fn take(&mut self, number: u64) -> Result<(), AllocError> {
+    pub fn take(&mut self, number: u64) -> anyhow::Result<()> {
         self.taken = self.taken.saturating_add(1);
-        if number < self.next {
+        if self.cutoff.is_some_and(|cutoff| number <= cutoff) {
             return Ok(());
         }
-        self.are_known &= self.waiting.len() < MAX_HELD;
-        if self.are_known {
-            self.waiting.push(number)?;
+        let Some(waiting) = &mut self.waiting else {
+            return Ok(());
+        };
+        waiting.push(number)?;
+        if waiting.len() > MAX_HELD {
+            self.waiting = None;
         }
         Ok(())
     }
 
+    /// A datagram was refused.
+    pub fn refuse(&mut self) {
+        self.refused = self.refused.saturating_add(1);
+    }
+
+    /// A datagram was damaged.
+    pub fn damage(&mut self) {
+        self.damaged = self.damaged.saturating_add(1);
+    }
+
     /// A unit was handed out, of packets up to this number.
-    fn hand_out(&mut self, last: u64) {
+    pub fn hand_out(&mut self, last: u64) {
         self.units = self.units.saturating_add(1);
-        self.next = last.saturating_add(1);
-        self.waiting.retain(|number| *number > last);
+        self.cutoff = Some(last);
+        if let Some(waiting) = &mut self.waiting {
+            waiting.retain(|number| *number > last);
+        }
     }
 
     /// A poll was a fault, of a frame that isn't named.
-    fn fail(&mut self) {
+    pub fn fail(&mut self) {
         self.faults = self.faults.saturating_add(1);
-        self.are_known = false;
+        self.waiting = None;
     }
+}
 
-    /// Puts what became of the stream of this number at the end of this letter.
-    pub fn put_on(&self, page: &mut String, letter: &str, number: u64) -> Result<(), AllocError> {
-        put_numbers(page, &[("  receiver ", number)])?;
-        put(page, &[" of ", letter])?;
-        self.put_counts(page)?;
-        if !self.are_known {
-            return page.push_str("\n");
+impl fmt::Display for Receiver {
+    fn fmt<W: fmt::Write>(&self, f: &mut fmt::Formatter<W>) -> fmt::Result {
+        let (ssrc, pt) = (self.ssrc, self.pt);
+        let (taken, refused, damaged) = (self.taken, self.refused, self.damaged);
+        let (units, faults) = (self.units, self.faults);
+        write!(
+            f,
+            "SSRC {ssrc}, type {pt}, {taken} taken, {refused} refused, {damaged} damaged, "
+        )?;
+        write!(f, "{units} units, {faults} faults")?;
+        match &self.waiting {
+            Some(waiting) => {
+                let held = waiting.len();
+                write!(f, ", {held} packets held")
+            }
+            None => Ok(()),
         }
-        put_numbers(page, &[(", ", self.waiting.len() as u64)])?;
-        page.push_str(" packets held\n")
-    }
-
-    /// Puts what is always known of the stream.
-    fn put_counts(&self, page: &mut String) -> Result<(), AllocError> {
-        let counts = [
-            (": SSRC ", self.ssrc),
-            (", type ", self.pt),
-            (", ", self.taken),
-            (" taken, ", self.refused),
-            (" refused, ", self.damaged),
-            (" damaged, ", self.units),
-            (" units, ", self.faults),
-        ];
-        put_numbers(page, &counts)?;
-        page.push_str(" faults")
     }
 }
