@@ -1,11 +1,13 @@
 -- The levels of H.264 in rising order, and their level_idc: ten times the level (RFC 6184 8.1).
 use Rattle.std.specs.Prelude.{ℕ, List, [], ◌∷◌}
 use Rattle.h26x_payload_h264_profiles.specs.declared.h264.H264LevelIdc.{H264LevelIdc}
-use Rattle.h26x_payload_h264_profiles.specs.declared.h264.H264LevelIdc.TheVariants.{Level1, Level1_1, Level1_2, Level1_3}
-use Rattle.h26x_payload_h264_profiles.specs.declared.h264.H264LevelIdc.TheVariants.{Level2, Level2_1, Level2_2, Level3}
-use Rattle.h26x_payload_h264_profiles.specs.declared.h264.H264LevelIdc.TheVariants.{Level3_1, Level3_2, Level4, Level4_1}
-use Rattle.h26x_payload_h264_profiles.specs.declared.h264.H264LevelIdc.TheVariants.{Level4_2, Level5, Level5_1, Level5_2}
-use Rattle.h26x_payload_h264_profiles.specs.declared.h264.H264LevelIdc.TheVariants.{Level6, Level6_1, Level6_2}
+use Rattle.h26x_payload_h264_profiles.specs.declared.h264.H264LevelIdc.TheVariants.{Level1, Level1_1, Level1_2}
+use Rattle.h26x_payload_h264_profiles.specs.declared.h264.H264LevelIdc.TheVariants.{Level1_3, Level2, Level2_1}
+use Rattle.h26x_payload_h264_profiles.specs.declared.h264.H264LevelIdc.TheVariants.{Level2_2, Level3, Level3_1}
+use Rattle.h26x_payload_h264_profiles.specs.declared.h264.H264LevelIdc.TheVariants.{Level3_2, Level4, Level4_1}
+use Rattle.h26x_payload_h264_profiles.specs.declared.h264.H264LevelIdc.TheVariants.{Level4_2, Level5, Level5_1}
+use Rattle.h26x_payload_h264_profiles.specs.declared.h264.H264LevelIdc.TheVariants.{Level5_2, Level6, Level6_1}
+use Rattle.h26x_payload_h264_profiles.specs.declared.h264.H264LevelIdc.TheVariants.{Level6_2}
 
 abbrev pub levels : List H264LevelIdc
 levels = Level1 ∷ Level1_1 ∷ Level1_2 ∷ Level1_3 ∷ Level2 ∷ Level2_1 ∷ Level2_2 ∷ Level3 ∷ Level3_1 ∷ Level3_2

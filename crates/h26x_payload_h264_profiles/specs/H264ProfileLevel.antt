@@ -12,8 +12,8 @@ use Rattle.h26x_payload_h264_profiles.specs.declared.h264.H264Profile.TheVariant
 use Rattle.h26x_payload_h264_profiles.specs.declared.h264.H264ProfileIdc.{H264ProfileIdc}
 use Rattle.h26x_payload_h264_profiles.specs.declared.h264.H264ProfileLevel.{H264ProfileLevel}
 use Rattle.h26x_payload_h264_profiles.specs.declared.h264.H264ProfileError.{H264ProfileError}
-use Rattle.h26x_payload_h264_profiles.specs.declared.h264.H264ProfileError.TheVariants.{UnknownLevelIdc, UnknownProfileIdc}
-use Rattle.h26x_payload_h264_profiles.specs.declared.h264.H264ProfileError.TheVariants.{UnknownProfileLevelId}
+use Rattle.h26x_payload_h264_profiles.specs.declared.h264.H264ProfileError.TheVariants.{UnknownLevelIdc}
+use Rattle.h26x_payload_h264_profiles.specs.declared.h264.H264ProfileError.TheVariants.{UnknownProfileIdc, UnknownProfileLevelId}
 
 -- The two together, where each is known.
 abbrev pub together : Option H264Profile → Option H264LevelIdc → Option H264ProfileLevel

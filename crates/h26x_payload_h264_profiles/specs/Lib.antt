@@ -1,3 +1,4 @@
+pub mod H264Fields
 pub mod H264LevelIdc
 pub mod H264Names
 pub mod H264Profile

@@ -7,13 +7,13 @@ ghost use Rattle.h26x_payload_h264_profiles.specs.H264LevelIdc.{level_idc, level
 ghost use Rattle.h26x_payload_h264_profiles.specs.H264Profile.{profile_of};
 ghost use Rattle.h26x_payload_h264_profiles.specs.H264Rows.{masked_profile};
 ghost use Rattle.h26x_payload_h264_profiles.specs.H264ProfileIdc.{profile_idc, profile_idcs};
-ghost use Rattle.h26x_payload_h264_profiles.specs.H264ProfileLevel.{HasOneRow, fallback, profile_level_of, read_level_idc};
-ghost use Rattle.h26x_payload_h264_profiles.specs.H264ProfileLevel.{read_profile_idc, read_profile_level};
+ghost use Rattle.h26x_payload_h264_profiles.specs.H264ProfileLevel.{HasOneRow, fallback, profile_level_of};
+ghost use Rattle.h26x_payload_h264_profiles.specs.H264ProfileLevel.{read_level_idc, read_profile_idc, read_profile_level};
 ghost use Rattle.h26x_payload_h264_profiles.specs.H264Names.{profile_name, profile_idc_name, level_name, profiles};
 
 use crate::h264_names::{H264_LEVELS, H264_PROFILE_IDCS};
 use payload_core_tables::{Numbered, find_number};
-use serde::{Deserialize, Serialize};
+use serde::Deserialize;
 use thiserror::Error;
 
 /// Why a number of H.264 is refused.
@@ -260,7 +260,7 @@ fn profile_of(idc: u8, iop: u8) -> Option<H264Profile>
 }
 
 /// A profile and a level of H.264.
-#[derive(Clone, Copy, Debug, PartialEq, Eq, Drop, Serialize, Deserialize)]
+#[derive(Clone, Copy, Debug, PartialEq, Eq, Drop, Deserialize)]
 pub struct H264ProfileLevel {
     profile: H264Profile,
     level: H264LevelIdc,

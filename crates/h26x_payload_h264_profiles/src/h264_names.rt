@@ -4,12 +4,13 @@ ghost use Rattle.std.specs.Prelude.{◌≡◌, IfOk};
 ghost use Rattle.serde.specs.Event.{Sends};
 ghost use Rattle.serde.specs.Steps.{Gives};
 ghost use Rattle.payload_core_tables.specs.Names.{ReadsName, name_event};
+ghost use Rattle.h26x_payload_h264_profiles.specs.H264Fields.{WritesProfileLevel};
 ghost use Rattle.h26x_payload_h264_profiles.specs.H264Names.{profile_name, profile_idc_name, level_name, profiles};
 ghost use Rattle.h26x_payload_h264_profiles.specs.H264ProfileIdc.{profile_idcs};
 ghost use Rattle.h26x_payload_h264_profiles.specs.H264LevelIdc.{levels};
 
-use crate::h264::{H264LevelIdc, H264Profile, H264ProfileIdc};
-use payload_core_tables::{Named, read_name, write_name};
+use crate::h264::{H264LevelIdc, H264Profile, H264ProfileIdc, H264ProfileLevel};
+use payload_core_tables::{Named, read_name, write_field, write_name};
 use serde::de::DeserializeOwned;
 use serde::{Described, Deserialize, Deserializer, Format, Serialize, Serializer};
 use std::alloc::Global;
@@ -212,5 +213,19 @@ impl DeserializeOwned for H264LevelIdc {
         ensures { IfOk result (ReadsName (λ e. Gives F.gives from.old e from.new) level_name levels) }
     {
         read_name(alloc, from, &H264_LEVELS)
+    }
+}
+
+impl Described for H264ProfileLevel {
+    ghost writes = { WritesProfileLevel };
+}
+
+/// Its fields are written by their names.
+impl Serialize for H264ProfileLevel {
+    fn serialize<S: Serializer>(&self, out: &mut S) -> Result<(), S::Error> {
+        out.begin_map(Some(2))?;
+        write_field("profile", &self.profile(), out)?;
+        write_field("level", &self.level(), out)?;
+        out.end_map()
     }
 }

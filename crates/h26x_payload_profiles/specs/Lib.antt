@@ -1,8 +1,10 @@
+pub mod H265Fields
 pub mod H265Level
 pub mod H265Names
 pub mod H265Profile
 pub mod H265ProfileTierLevel
 pub mod H265Tier
+pub mod H266Fields
 pub mod H266Level
 pub mod H266Names
 pub mod H266Profile

@@ -4,13 +4,14 @@ ghost use Rattle.std.specs.Prelude.{◌≡◌, IfOk};
 ghost use Rattle.serde.specs.Event.{Sends};
 ghost use Rattle.serde.specs.Steps.{Gives};
 ghost use Rattle.payload_core_tables.specs.Names.{ReadsName, name_event};
+ghost use Rattle.h26x_payload_profiles.specs.H265Fields.{WritesProfileTierLevel};
 ghost use Rattle.h26x_payload_profiles.specs.H265Names.{profile_name, tier_name, level_name};
 ghost use Rattle.h26x_payload_profiles.specs.H265Profile.{profiles};
 ghost use Rattle.h26x_payload_profiles.specs.H265Tier.{tiers};
 ghost use Rattle.h26x_payload_profiles.specs.H265Level.{levels};
 
-use crate::h265::{H265Level, H265Profile, H265Tier};
-use payload_core_tables::{Named, read_name, write_name};
+use crate::h265::{H265Level, H265Profile, H265ProfileTierLevel, H265Tier};
+use payload_core_tables::{Named, read_name, write_field, write_name};
 use serde::de::DeserializeOwned;
 use serde::{Described, Deserialize, Deserializer, Format, Serialize, Serializer};
 use std::alloc::Global;
@@ -202,5 +203,20 @@ impl DeserializeOwned for H265Level {
         ensures { IfOk result (ReadsName (λ e. Gives F.gives from.old e from.new) level_name levels) }
     {
         read_name(alloc, from, &H265_LEVELS)
+    }
+}
+
+impl Described for H265ProfileTierLevel {
+    ghost writes = { WritesProfileTierLevel };
+}
+
+/// Its fields are written by their names.
+impl Serialize for H265ProfileTierLevel {
+    fn serialize<S: Serializer>(&self, out: &mut S) -> Result<(), S::Error> {
+        out.begin_map(Some(3))?;
+        write_field("profile", &self.profile(), out)?;
+        write_field("tier", &self.tier(), out)?;
+        write_field("level", &self.level(), out)?;
+        out.end_map()
     }
 }

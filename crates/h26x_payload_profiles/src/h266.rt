@@ -13,7 +13,7 @@ ghost use Rattle.h26x_payload_profiles.specs.H266Names.{profile_name, tier_name,
 use crate::h266_names::H266_LEVELS;
 use crate::values::given_or;
 use payload_core_tables::{Numbered, find_number};
-use serde::{Deserialize, Serialize};
+use serde::Deserialize;
 
 /// A profile of H.266.
 #[derive(Clone, Copy, Debug, PartialEq, Eq, Drop)]
@@ -162,7 +162,7 @@ impl Numbered for H266Level {
 }
 
 /// A profile, a tier and a level of H.266.
-#[derive(Clone, Copy, Debug, PartialEq, Eq, Drop, Serialize, Deserialize)]
+#[derive(Clone, Copy, Debug, PartialEq, Eq, Drop, Deserialize)]
 pub struct H266ProfileTierLevel {
     profile: H266Profile,
     tier: H266Tier,

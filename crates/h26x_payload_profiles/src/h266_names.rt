@@ -4,13 +4,14 @@ ghost use Rattle.std.specs.Prelude.{◌≡◌, IfOk};
 ghost use Rattle.serde.specs.Event.{Sends};
 ghost use Rattle.serde.specs.Steps.{Gives};
 ghost use Rattle.payload_core_tables.specs.Names.{ReadsName, name_event};
+ghost use Rattle.h26x_payload_profiles.specs.H266Fields.{WritesProfileTierLevel};
 ghost use Rattle.h26x_payload_profiles.specs.H266Names.{profile_name, tier_name, level_name};
 ghost use Rattle.h26x_payload_profiles.specs.H266Profile.{profiles};
 ghost use Rattle.h26x_payload_profiles.specs.H266Tier.{tiers};
 ghost use Rattle.h26x_payload_profiles.specs.H266Level.{levels};
 
-use crate::h266::{H266Level, H266Profile, H266Tier};
-use payload_core_tables::{Named, read_name, write_name};
+use crate::h266::{H266Level, H266Profile, H266ProfileTierLevel, H266Tier};
+use payload_core_tables::{Named, read_name, write_field, write_name};
 use serde::de::DeserializeOwned;
 use serde::{Described, Deserialize, Deserializer, Format, Serialize, Serializer};
 use std::alloc::Global;
@@ -185,5 +186,20 @@ impl DeserializeOwned for H266Level {
         ensures { IfOk result (ReadsName (λ e. Gives F.gives from.old e from.new) level_name levels) }
     {
         read_name(alloc, from, &H266_LEVELS)
+    }
+}
+
+impl Described for H266ProfileTierLevel {
+    ghost writes = { WritesProfileTierLevel };
+}
+
+/// Its fields are written by their names.
+impl Serialize for H266ProfileTierLevel {
+    fn serialize<S: Serializer>(&self, out: &mut S) -> Result<(), S::Error> {
+        out.begin_map(Some(3))?;
+        write_field("profile", &self.profile(), out)?;
+        write_field("tier", &self.tier(), out)?;
+        write_field("level", &self.level(), out)?;
+        out.end_map()
     }
 }

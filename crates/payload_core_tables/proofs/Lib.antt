@@ -1,1 +1,2 @@
+pub mod FieldLaws
 pub mod TableLaws

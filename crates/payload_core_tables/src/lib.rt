@@ -1,9 +1,11 @@
-//! Tables of values that have numbers or names of their own, and how such values are written and read by name, as
-//! serde's derive does for the variants of an enum.
+//! Tables of values that have numbers or names of their own, and how such values and the fields of structs are
+//! written and read by name, as serde's derive does for an enum's variants and for a struct.
 #![tactic(auto)]
 
+mod fields;
 mod named;
 mod numbered;
 
+pub use fields::write_field;
 pub use named::{Named, find_named, read_name, write_name};
 pub use numbered::{Numbered, find_number};

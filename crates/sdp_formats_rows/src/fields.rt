@@ -1,17 +1,18 @@
-//! Rows as serde writes and reads them: by the names of their fields.
+//! Codecs with their settings, and rows, as serde writes and reads them: by the names of their fields.
 
-ghost use Rattle.std.specs.Prelude.{◌≡◌};
-ghost use Rattle.sdp_formats_rows.specs.Fields.{row_of_fields};
+ghost use Rattle.std.specs.Prelude.{◌≡◌, OnOk};
+ghost use Rattle.sdp_formats_rows.specs.Fields.{WritesCodec, WritesFeedback, WritesRow, WritesSpec, row_of_fields};
 
 use crate::row::PayloadParams;
 use crate::spec::CodecSpec;
+use payload_core_tables::write_field;
 use rtp_wire::Pt;
 use serde::de::DeserializeOwned;
 use serde::{Described, Deserialize, Deserializer, Format, Serialize, Serializer};
 use std::alloc::Global;
 
 /// The fields of a row.
-#[derive(Clone, Copy, Drop, Serialize, Deserialize)]
+#[derive(Clone, Copy, Drop, Deserialize)]
 struct Fields {
     pt: Pt,
     resend: Option<Pt>,
@@ -60,7 +61,60 @@ fn row_of(fields: &Fields) -> PayloadParams
     row
 }
 
-impl Described for PayloadParams {}
+impl Described for CodecSpec {
+    ghost writes = { WritesSpec };
+}
+
+/// Its fields are written by their names.
+impl Serialize for CodecSpec {
+    fn serialize<S: Serializer>(&self, out: &mut S) -> Result<(), S::Error> {
+        out.begin_map(Some(4))?;
+        write_field("codec", &self.codec, out)?;
+        write_field("clock_rate", &self.clock_rate, out)?;
+        write_field("channels", &self.channels, out)?;
+        write_field("format", &self.format, out)?;
+        out.end_map()
+    }
+}
+
+impl Described for Fields {
+    ghost writes = { λ fields. WritesRow (row_of_fields fields) };
+}
+
+impl Serialize for Fields {
+    fn serialize<S: Serializer>(&self, out: &mut S) -> Result<(), S::Error> {
+        out.begin_map(Some(10))?;
+        write_codec(self, out)?;
+        write_feedback(self, out)?;
+        write_field("red", &self.red, out)?;
+        write_field("locked", &self.locked, out)?;
+        out.end_map()
+    }
+}
+
+/// The fields of types and codec.
+fn write_codec<S: Serializer>(fields: &Fields, out: &mut S) -> Result<(), S::Error>
+    ensures { OnOk result (WritesCodec (row_of_fields fields.now) (S.written out.old) (S.written out.new)) }
+{
+    write_field("pt", &fields.pt, out)?;
+    write_field("resend", &fields.resend, out)?;
+    write_field("spec", &fields.spec, out)
+}
+
+/// The fields of feedback.
+fn write_feedback<S: Serializer>(fields: &Fields, out: &mut S) -> Result<(), S::Error>
+    ensures { OnOk result (WritesFeedback (row_of_fields fields.now) (S.written out.old) (S.written out.new)) }
+{
+    write_field("fb_transport_cc", &fields.fb_transport_cc, out)?;
+    write_field("fb_nack", &fields.fb_nack, out)?;
+    write_field("fb_pli", &fields.fb_pli, out)?;
+    write_field("fb_fir", &fields.fb_fir, out)?;
+    write_field("fb_remb", &fields.fb_remb, out)
+}
+
+impl Described for PayloadParams {
+    ghost writes = { WritesRow };
+}
 
 /// Its fields are written by their names.
 impl Serialize for PayloadParams {

@@ -1,0 +1,13 @@
+-- What is written of a profile, tier and level of H.265: its fields by their names.
+use Rattle.std.specs.Prelude.{codes}
+use Rattle.serde.specs.Event.{Log, Sends, Then}
+use Rattle.payload_core_tables.specs.Fields.{InMap, WritesField}
+use Rattle.payload_core_tables.specs.Names.{name_event}
+use Rattle.h26x_payload_profiles.specs.declared.h265.H265ProfileTierLevel.{H265ProfileTierLevel}
+use Rattle.h26x_payload_profiles.specs.H265Names.{profile_name, tier_name, level_name}
+
+abbrev pub WritesProfileTierLevel : H265ProfileTierLevel → Log → Log → Type 0
+WritesProfileTierLevel all = InMap 3 (Then
+    (WritesField (codes "profile") (Sends (name_event (profile_name all.profile)))) (Then
+    (WritesField (codes "tier") (Sends (name_event (tier_name all.tier))))
+    (WritesField (codes "level") (Sends (name_event (level_name all.level))))))
