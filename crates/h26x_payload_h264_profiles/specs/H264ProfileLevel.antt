@@ -13,7 +13,8 @@ use Rattle.h26x_payload_h264_profiles.specs.declared.h264.H264ProfileIdc.{H264Pr
 use Rattle.h26x_payload_h264_profiles.specs.declared.h264.H264ProfileLevel.{H264ProfileLevel}
 use Rattle.h26x_payload_h264_profiles.specs.declared.h264.H264ProfileError.{H264ProfileError}
 use Rattle.h26x_payload_h264_profiles.specs.declared.h264.H264ProfileError.TheVariants.{UnknownLevelIdc}
-use Rattle.h26x_payload_h264_profiles.specs.declared.h264.H264ProfileError.TheVariants.{UnknownProfileIdc, UnknownProfileLevelId}
+use Rattle.h26x_payload_h264_profiles.specs.declared.h264.H264ProfileError.TheVariants.{UnknownProfileIdc}
+use Rattle.h26x_payload_h264_profiles.specs.declared.h264.H264ProfileError.TheVariants.{UnknownProfileLevelId}
 
 -- The two together, where each is known.
 abbrev pub together : Option H264Profile → Option H264LevelIdc → Option H264ProfileLevel

@@ -8,7 +8,8 @@ ghost use Rattle.h26x_payload_h264_profiles.specs.H264Profile.{profile_of};
 ghost use Rattle.h26x_payload_h264_profiles.specs.H264Rows.{masked_profile};
 ghost use Rattle.h26x_payload_h264_profiles.specs.H264ProfileIdc.{profile_idc, profile_idcs};
 ghost use Rattle.h26x_payload_h264_profiles.specs.H264ProfileLevel.{HasOneRow, fallback, profile_level_of};
-ghost use Rattle.h26x_payload_h264_profiles.specs.H264ProfileLevel.{read_level_idc, read_profile_idc, read_profile_level};
+ghost use Rattle.h26x_payload_h264_profiles.specs.H264ProfileLevel.{read_level_idc, read_profile_idc};
+ghost use Rattle.h26x_payload_h264_profiles.specs.H264ProfileLevel.{read_profile_level};
 ghost use Rattle.h26x_payload_h264_profiles.specs.H264Names.{profile_name, profile_idc_name, level_name, profiles};
 
 use crate::h264_names::{H264_LEVELS, H264_PROFILE_IDCS};

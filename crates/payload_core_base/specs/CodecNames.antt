@@ -1,5 +1,5 @@
--- The codecs, and the names of their variants, which serde's derive would give them.
-use Rattle.std.specs.Prelude.{ℕ, List, [], ◌∷◌, codes}
+-- The names of the codecs' variants, which serde's derive would give them.
+use Rattle.std.specs.Prelude.{ℕ, List, codes}
 use Rattle.payload_core_base.specs.declared.codec.Codec.{Codec}
 use Rattle.payload_core_base.specs.declared.codec.Codec.TheVariants.{Opus, PCMU, PCMA, G722, CN, AmrWb, H264, H265}
 use Rattle.payload_core_base.specs.declared.codec.Codec.TheVariants.{H266, Vp8, Vp9, Av1, Tele, Rtx, Red, Null}
@@ -23,8 +23,3 @@ variant_name Rtx = codes "Rtx"
 variant_name Red = codes "Red"
 variant_name Null = codes "Null"
 variant_name Unknown = codes "Unknown"
-
-abbrev pub codecs : List Codec
-codecs = Opus ∷ PCMU ∷ PCMA ∷ G722 ∷ CN ∷ AmrWb ∷ H264 ∷ H265 ∷
-    H266 ∷ Vp8 ∷ Vp9 ∷ Av1 ∷ Tele ∷ Rtx ∷ Red ∷ Null ∷
-    Unknown ∷ []

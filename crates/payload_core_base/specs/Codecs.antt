@@ -28,13 +28,19 @@ codec_name Red = codes "red"
 codec_name Null = codes "null"
 codec_name Unknown = codes "unknown"
 
--- The codecs that a name is read as: all but no codec and an unknown one.
-abbrev pub named_codecs : List Codec
-named_codecs = Opus ∷ PCMU ∷ PCMA ∷ G722 ∷ CN ∷ AmrWb ∷ H264 ∷ H265 ∷ H266 ∷ Vp8 ∷ Vp9 ∷ Av1 ∷ Tele ∷ Rtx ∷ Red ∷ []
+abbrev pub codecs : List Codec
+codecs = Opus ∷ PCMU ∷ PCMA ∷ G722 ∷ CN ∷ AmrWb ∷ H264 ∷ H265 ∷ H266 ∷ Vp8 ∷ Vp9 ∷ Av1 ∷ Tele ∷ Rtx ∷ Red ∷ Null
+    ∷ Unknown ∷ []
 
--- The codec whose name the text is, in any ASCII case, else an unknown one.
+-- A text is the name of a codec, in any ASCII case; none is read as no codec or as an unknown one.
+abbrev pub is_named : List ℕ → Codec → Bool
+is_named text Null = false
+is_named text Unknown = false
+is_named text codec = str_eq_ignore_ascii_case (codec_name codec) text
+
+-- The codec whose name the text is, else an unknown one.
 unfoldable pub codec_named : List ℕ → Codec
-codec_named text = unwrap_or (find (λ codec. str_eq_ignore_ascii_case (codec_name codec) text) named_codecs) Unknown
+codec_named text = unwrap_or (find (is_named text) codecs) Unknown
 
 -- Which codecs are audio, video and telephone events.
 abbrev pub is_audio_codec : Codec → Bool

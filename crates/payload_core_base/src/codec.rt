@@ -1,12 +1,12 @@
 //! Codecs and kinds of media.
 
-ghost use Rattle.std.specs.Prelude.{◌≡◌};
+ghost use Rattle.std.specs.Prelude.{◌≡◌, find};
 ghost use Rattle.payload_core_base.specs.Codecs.{codec_named, codec_name, is_audio_codec, is_video_codec};
 ghost use Rattle.payload_core_base.specs.Codecs.{is_tele_codec, kind_of_codec, kind_name, is_audio_kind};
-ghost use Rattle.payload_core_base.specs.Codecs.{is_video_kind, named_codecs};
-ghost use Rattle.std.specs.Array.Iter.{array_into_iter_items};
+ghost use Rattle.payload_core_base.specs.Codecs.{is_named, is_video_kind};
 
-use std::{array, fmt};
+use crate::codec_names::CODECS;
+use std::fmt;
 
 /// A codec or payload format, as `a=rtpmap` names it (RFC 8866 6.6).
 #[derive(Clone, Copy, Debug, PartialEq, Eq, Drop)]
@@ -111,42 +111,31 @@ impl Codec {
         }
     }
 
-    /// Those that a name is read as.
-    fn named() -> array::IntoIter<Codec, 15>
-        ensures { array_into_iter_items result ≡ named_codecs }
+    /// Whether the text, in any ASCII case, is its name: none is read as no codec or as an unknown one.
+    fn is_named(self, text: &str) -> bool
+        ensures { result ≡ is_named text.now self }
     {
-        [
-            Codec::Opus,
-            Codec::PCMU,
-            Codec::PCMA,
-            Codec::G722,
-            Codec::CN,
-            Codec::AmrWb,
-            Codec::H264,
-            Codec::H265,
-            Codec::H266,
-            Codec::Vp8,
-            Codec::Vp9,
-            Codec::Av1,
-            Codec::Tele,
-            Codec::Rtx,
-            Codec::Red,
-        ]
-        .into_iter()
+        match self {
+            Codec::Null | Codec::Unknown => false,
+            _ => self.as_str().eq_ignore_ascii_case(text),
+        }
     }
+}
+
+/// The first of a table whose name the text is.
+fn first_named(table: &[Codec], text: &str) -> Option<Codec>
+    ensures { result ≡ find (is_named text.now) table.now }
+{
+    table.iter().copied().find(|codec| codec.is_named(text))
 }
 
 /// The codec of a name, in any ASCII case; another text is `Unknown`.
 impl From<&str> for Codec {
     ghost from_gives = { λ text codec. codec ≡ codec_named text.now };
 
+    #[tactic(auto, unfolding(crate::specs::Codecs::codec_named))]
     fn from(text: &str) -> Codec {
-        for codec in Codec::named() {
-            if codec.as_str().eq_ignore_ascii_case(text) {
-                return codec;
-            }
-        }
-        Codec::Unknown
+        first_named(&CODECS, text).unwrap_or(Codec::Unknown)
     }
 }
 

@@ -4,7 +4,8 @@ ghost use Rattle.std.specs.Prelude.{◌≡◌, IfOk};
 ghost use Rattle.serde.specs.Event.{Sends};
 ghost use Rattle.serde.specs.Steps.{Gives};
 ghost use Rattle.payload_core_tables.specs.Names.{ReadsName, name_event};
-ghost use Rattle.payload_core_base.specs.CodecNames.{codecs, variant_name};
+ghost use Rattle.payload_core_base.specs.Codecs.{codecs};
+ghost use Rattle.payload_core_base.specs.CodecNames.{variant_name};
 
 use crate::codec::Codec;
 use payload_core_tables::{Named, read_name, write_name};

@@ -1,7 +1,7 @@
 -- Elements that fit the one-byte form by the numbers of their map and their names alone.
 use Rattle.std.proofs.Common.{◌≡◌, ℕ, zero, suc, ◌<◌, ◌≤◌, Bool, true, false, ◌&&◌, refl, sym, ap, ◌∙◌, arith, List}
-use Rattle.std.proofs.Common.{◌∷◌, length}
-use Rattle.std.specs.Prelude.{if◌then◌else◌, Option, Some, None, IfSome, nat_lt, nat_le, ℤ}
+use Rattle.std.proofs.Common.{length}
+use Rattle.std.specs.Prelude.{if◌then◌else◌, Option, Some, None, IfSome, nat_lt, ℤ}
 use Rattle.std.proofs.lemmas.Bool.Decides.{nat_tests}
 use Rattle.rtp_wire_extensions.specs.declared.extension.Extension.{Extension}
 use Rattle.rtp_wire_extensions.specs.declared.extension.Extension.TheVariants.{AbsoluteSendTime, AbsoluteCaptureTime}

@@ -2,7 +2,7 @@
 use Rattle.std.proofs.Common.{◌≡◌, ℕ, zero, suc, ◌+◌, ◌*◌, ◌-◌, ◌/◌, ◌%◌, ◌<◌, ◌≤◌, Bool, true, false, true≢false}
 use Rattle.std.proofs.Common.{◌==◌, refl, sym, ap, ◌∙◌, ◌≢◌, arith, List, [], ◌∷◌, ◌++◌, length, take, drop}
 use Rattle.std.proofs.Common.{length-take, length-drop, append_assoc, inl, inr}
-use Rattle.std.specs.Prelude.{if◌then◌else◌, Option, Some, None, nat_lt, ◌||◌, ◌⊎◌}
+use Rattle.std.specs.Prelude.{if◌then◌else◌, Some, None, nat_lt, ◌||◌, ◌⊎◌}
 use Rattle.std.specs.List.{flat_map}
 use Rattle.std.proofs.lemmas.Bool.Decides.{nat_tests}
 use Rattle.std.proofs.lemmas.List.{take-append-drop}
@@ -15,13 +15,13 @@ use Rattle.rtp_wire_extensions.specs.declared.extension.Extension.TheVariants.{R
 use Rattle.rtp_wire_extensions.specs.declared.extension.Extension.TheVariants.{UnknownUri}
 use Rattle.rtp_wire_extensions.specs.declared.values.ExtensionValues.{ExtensionValues}
 use Rattle.rtp_wire_extensions.specs.Carried.{with_value}
-use Rattle.rtp_wire_extensions.specs.Elements.{Element, Numbering, Step, element_text, padding, lookup, on_step, step}
-use Rattle.rtp_wire_extensions.specs.Elements.{taken, taken_long, values_from, with_element}
+use Rattle.rtp_wire_extensions.specs.Elements.{Element, Numbering, Step, padding, lookup, step}
+use Rattle.rtp_wire_extensions.specs.Elements.{taken, values_from, with_element}
 use Rattle.rtp_wire_extensions.specs.Values.{form_of_profile}
 use Rattle.rtp_wire_extensions.specs.BlockLayout.{Piece, Padding, Holds, piece_text, IsPiece, ArePieces, AreBytes}
 use Rattle.rtp_wire_extensions.specs.BlockLayout.{EndsElements, IsLaidOut, said_by_piece, said_by_pieces}
 use Rattle.rtp_wire_extensions.specs.BlockLayout.{may_have_length}
-use Rattle.rtp_wire_extensions.proofs.BlockLaws.{if-then, if-else, lt-of-no, eq-no, step-element, values_from-end}
+use Rattle.rtp_wire_extensions.proofs.BlockLaws.{if-then, if-else, lt-of-no, step-element, values_from-end}
 use Rattle.rtp_wire_extensions.proofs.BlockLaws.{values_from-step}
 
 -- what a piece is read as

@@ -1,5 +1,5 @@
 -- The first number of each kind of extension.
-use Rattle.std.proofs.Common.{◌≡◌, ℕ, zero, suc, ◌+◌, ◌<◌, ◌≤◌, ◌≢◌, Bool, true, false, eqb, ◌&&◌, ◌||◌, refl, sym, ap}
+use Rattle.std.proofs.Common.{◌≡◌, ℕ, zero, suc, ◌+◌, ◌<◌, ◌≤◌, ◌≢◌, Bool, true, false, ◌&&◌, ◌||◌, refl, sym, ap}
 use Rattle.std.proofs.Common.{◌∙◌, arith, List, [], length, replicate, add-one, get_or-set_same, get_or-set_other}
 use Rattle.std.specs.Prelude.{Option, None, Some, if◌then◌else◌, slice_index_or, slice_set, ◌==◌, ℕ}
 use Rattle.std.specs.Str.{bytes_eq}

@@ -78,9 +78,10 @@ impl ExtensionMap {
         ensures short { result.bytes ≤ 16 * (place + 1) }
         ensures seen { HasSeen seen.new self.now (place + 1) }
     {
-        let Some(len) = self.carried_len(place, values, seen) else {
+        let Some(value) = self.carried(place, values, seen) else {
             return so_far;
         };
+        let len = value.as_slice().len();
         let fits = place < 14 && len >= 1 && len <= 16;
         Extent {
             fits: so_far.fits && fits,

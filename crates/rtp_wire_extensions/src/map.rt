@@ -3,7 +3,7 @@
 ghost use Rattle.std.specs.Prelude.{◌≡◌, ◌+◌, ◌-◌, ◌≤◌, ◌<◌, length, slice_set, Some, IfSome, IfOk};
 ghost use Rattle.std.specs.Prelude.{MatchOption, None, true};
 ghost use Rattle.std.specs.Prelude.{IsPermutation};
-ghost use Rattle.std.specs.Option.{option_copied, option_map};
+ghost use Rattle.std.specs.Option.{option_copied};
 ghost use Rattle.rtp_wire_extensions.specs.Carried.{value_bytes};
 ghost use Rattle.rtp_wire_extensions.specs.declared.values.ExtensionValues.{ExtensionValues};
 ghost use Rattle.rtp_wire_extensions.specs.Elements.{slot, slot_is, carried_at, lookup};
@@ -13,7 +13,6 @@ ghost use Rattle.rtp_wire_extensions.specs.Maps.{remapped};
 
 use crate::element::{ElementBytes, value_bytes};
 use crate::extension::Extension;
-use crate::lengths::value_len;
 use crate::values::ExtensionValues;
 use std::alloc::{AllocError, Global};
 use std::marker::Model;
@@ -110,7 +109,7 @@ impl ExtensionMap {
         }
     }
 
-    #[tactic(auto, using(crate::proofs::MapLaws::copied_start, crate::proofs::MapLaws::copied_more, crate::proofs::MapLaws::copied_none, crate::proofs::MapLaws::copied_end))]
+    #[tactic(auto, using(crate::proofs::MapLaws::copied_more, crate::proofs::MapLaws::copied_none))]
     /// The same map again.
     ///
     /// # Errors
@@ -228,25 +227,6 @@ impl ExtensionMap {
         ensures very_last { result ≡ true → slot self.now 15 ≡ None }
     {
         self.entries[14].is_none() && self.entries[15].is_none()
-    }
-
-    /// How many bytes a place carries of the values, at most 16.
-    pub(crate) fn carried_len(
-        &self,
-        place: usize,
-        values: &ExtensionValues,
-        seen: &mut [bool; KINDS],
-    ) -> Option<usize>
-        requires place { place < 16 }
-        requires seen { HasSeen seen.old self.now place }
-        ensures value { result ≡ option_map length (carried_at self.now place values.now) }
-        ensures short { IfSome result (λ len. len ≤ 16) }
-        ensures seen { HasSeen seen.new self.now (place + 1) }
-    {
-        match self.carrier(place, seen) {
-            Some(ext) => value_len(ext, values),
-            None => None,
-        }
     }
 
     /// Gives each extension of the pairs its number there, if the map has the extension and the

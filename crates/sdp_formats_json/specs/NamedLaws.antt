@@ -1,7 +1,8 @@
 -- Each codec, profile, tier and level has a name of its own.
 use Rattle.std.specs.Prelude.{◌≡◌, Some, refl}
 use Rattle.payload_core_tables.specs.Names.{with_name}
-use Rattle.payload_core_base.specs.CodecNames.{variant_name as codec_name, codecs}
+use Rattle.payload_core_base.specs.CodecNames.{variant_name as codec_name}
+use Rattle.payload_core_base.specs.Codecs.{codecs}
 use Rattle.h26x_payload_profiles.specs.H265Names.{profile_name as h265_profile_name, tier_name as h265_tier_name}
 use Rattle.h26x_payload_profiles.specs.H265Names.{level_name as h265_level_name}
 use Rattle.h26x_payload_profiles.specs.H265Profile.{profiles as h265_profiles}

@@ -10,7 +10,8 @@ use Rattle.serde_json.specs.declared.value.Value.{Value}
 use Rattle.sdp_formats_rows.specs.declared.spec.CodecSpec.{CodecSpec}
 use Rattle.sdp_formats_format.specs.Formats.{no_format}
 use Rattle.sdp_formats_rows.specs.Rows.{Row, new_row}
-use Rattle.payload_core_base.specs.CodecNames.{variant_name as codec_name, codecs}
+use Rattle.payload_core_base.specs.CodecNames.{variant_name as codec_name}
+use Rattle.payload_core_base.specs.Codecs.{codecs}
 use Rattle.sdp_formats_json.specs.Shapes.{Shape, byte, rate, flag, word_of}
 use Rattle.sdp_formats_json.specs.Entries.{Entry, entry, optional, object_of, object_in, read_groups}
 use Rattle.sdp_formats_json.specs.Formats.{format}
