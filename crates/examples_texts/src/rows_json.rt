@@ -49,6 +49,16 @@ fn print_by_serde(rt: &HostRuntime, row: &PayloadParams, text: &str) -> anyhow::
     Ok(println!(*rt; "  each reads what the other wrote: {same}")?)
 }
 
+/// Prints how long the JSON of a list of rows is by serde, and whether the list is read back as it is.
+fn print_list(rt: &HostRuntime, rows: Vec<PayloadParams>) -> anyhow::Result<()> {
+    let text = serde_json::to_string(rt.alloc(), &rows)?;
+    let again: Vec<PayloadParams> = serde_json::from_str(rt.alloc(), text.as_str())?;
+    let same = again.len() == rows.len()
+        && again.iter().zip(rows.iter()).all(|(a, b)| is_same(a, b));
+    println!(*rt; "list: {} rows in {} bytes", rows.len(), text.len())?;
+    Ok(println!(*rt; "  read back as it is: {same}")?)
+}
+
 fn print_line(rt: &HostRuntime, line: &str) -> anyhow::Result<()> {
     match row_from_json(rt.alloc(), line) {
         Ok(row) => print_row(rt, &row),
@@ -74,5 +84,5 @@ pub fn print_rows(rt: &HostRuntime, lines: &str) -> anyhow::Result<()> {
     for line in lines.lines() {
         print_line(rt, line)?;
     }
-    Ok(())
+    print_list(rt, vec![in rt.alloc(); opus(), h265]?)
 }

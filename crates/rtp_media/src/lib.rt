@@ -11,7 +11,7 @@ pub use rtp_media_ends::{
     Received, ReceivedAll, RoundError, SampleError, SdpError, SectionSpec, Session,
     SessionAttribute, StreamParams, Unit, connect,
 };
-pub use rtp_media_lines::{RunFault, Status};
+pub use rtp_media_input::{RunFault, Status};
 pub use rtp_media_play::{Event, Played, Sample, headline, play};
 pub use rtp_wire::{
     Direction, Extension, ExtensionMap, ExtensionValues, Frequency, MediaTime, Mid, Pt, SessionId,

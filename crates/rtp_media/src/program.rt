@@ -2,7 +2,7 @@
 
 ghost use Rattle.std.specs.Prelude.{◌≡◌, ◌≢◌, ℕ, ◌<◌, ◌++◌, List, [], ◌∷◌, map, IfOk, OnOk, IfSome, Some, None};
 ghost use Rattle.std.specs.Io.KnownBytes.{Appends, Consumes, IsAtEnd};
-ghost use Rattle.rtp_media_lines.specs.Runs.{Printed, ReadsAll};
+ghost use Rattle.rtp_media_input.specs.Runs.{Printed, ReadsAll};
 ghost use Rattle.rtp_media_lines.specs.declared.line.Command.{Command};
 ghost use Rattle.rtp_media.specs.Exchanging.{empty_draft};
 ghost use Rattle.rtp_media.specs.Playing.{PlaysEnds};
@@ -20,9 +20,10 @@ use exchanging::{
 use names::{fault_name, memory, open_error_name, sample_error_name};
 use playing::{keep_sample, play_ends};
 use rtp_media_ends::{Datagram, Distances, End, PayloadParams, Received, StreamParams, Unit};
+use rtp_media_input::{Respond, RunFault, Status, run_lines};
 use rtp_media_lines::{
     Bytes, Command, ConnectCommand, Letter, OpenCommand, PlayCommand, PollCommand, QueueCommand,
-    ReceiveCommand, Reply, Respond, RunFault, SampleCommand, SendCommand, Status, Text, run_lines,
+    ReceiveCommand, Reply, SampleCommand, SendCommand, Text,
 };
 use rtp_wire::{ExtensionMap, ExtensionValues, MediaTime, Mid, Pt, Ssrc};
 use std::alloc::{AllocError, Global};

@@ -1,13 +1,10 @@
 pub mod Behind
 pub mod Each
 pub mod CommandWords
-pub mod InputLines
 pub mod LineCases
 pub mod Numbers
 pub mod ReadBack
-pub mod Sent
 pub mod Splits
-pub mod Steps
 pub mod ReadSteps
 pub mod PlayWords
 pub mod ExchangeWords

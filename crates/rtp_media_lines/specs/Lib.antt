@@ -1,13 +1,8 @@
 pub mod ExchangeLines
 pub mod PlayLines
-pub mod Input
 pub mod Lines
 pub mod Misreads
-pub mod Progress
 pub mod Replies
-pub mod Runs
 pub mod Says
 pub mod Sections
-pub mod Statuses
 pub mod Words
-pub mod Writes

@@ -1,12 +1,10 @@
 //! What the program prints.
 
 ghost use Rattle.std.specs.Prelude.{◌≡◌, ◌++◌, IfOk, OnOk, OnErr, string_bytes, [], ◌∷◌};
-ghost use Rattle.std.specs.List.{flat_map, list_any};
-ghost use Rattle.rtp_media_lines.specs.Runs.{status_of};
+ghost use Rattle.std.specs.List.{flat_map};
 ghost use Rattle.rtp_media_lines.specs.Replies.{reply_text, hex_text, is_error_line, text_line};
 
 use crate::owned::Bytes;
-use crate::status::Status;
 use std::alloc::{AllocError, Global};
 use std::marker::Model;
 
@@ -177,21 +175,4 @@ pub fn print(alloc: Global, replies: &[Reply]) -> Result<Vec<u8>, AllocError>
         reply.append_to(alloc, &mut text)?;
     }
     Ok(text)
-}
-
-/// Whether an `error line` is among the replies.
-pub(crate) fn status_of(replies: &[Reply]) -> Status
-    ensures { result ≡ status_of replies.now }
-{
-    if has_error_line(replies) {
-        Status::ErrorLine
-    } else {
-        Status::Success
-    }
-}
-
-fn has_error_line(replies: &[Reply]) -> bool
-    ensures { result ≡ list_any is_error_line replies.now }
-{
-    replies.iter().any(|reply| reply.is_error_line())
 }

@@ -1,0 +1,3 @@
+pub mod InputLines
+pub mod Sent
+pub mod Steps

@@ -1,0 +1,5 @@
+pub mod Input
+pub mod Progress
+pub mod Runs
+pub mod Statuses
+pub mod Writes
