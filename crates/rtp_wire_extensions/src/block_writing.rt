@@ -37,16 +37,6 @@ impl Extent {
         let len = front + self.bytes;
         len + (4 - len % 4) % 4
     }
-
-    /// The length of the block's bytes, behind profile and count of words.
-    fn block_len(self) -> usize
-        requires few { self.count ≤ 16 }
-        requires short { self.bytes ≤ 256 }
-        ensures { let len = (if self.fits then self.count else 2 * self.count) + self.bytes in
-            result ≡ len + fill len }
-    {
-        self.filled_len(self.fits)
-    }
 }
 
 /// The profile of a block in one of the two forms (RFC 8285 4.2 and 4.3).
@@ -155,7 +145,8 @@ impl ExtensionMap {
         ensures in_range { AreValues values.now }
     {
         values.in_range();
-        self.extent(values).block_len()
+        let extent = self.extent(values);
+        extent.filled_len(extent.fits)
     }
 
     #[tactic(auto, unfolding(crate::specs::Values::two_byte_block))]

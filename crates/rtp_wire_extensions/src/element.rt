@@ -1,8 +1,8 @@
 //! The bytes of each extension's value.
 
 ghost use Rattle.std.specs.Prelude.{◌≡◌, ◌≤◌, ◌<◌, length};
-ghost use Rattle.rtp_wire_extensions.specs.Carried.{level_number, level_bytes, send_bytes, transport_bytes};
-ghost use Rattle.rtp_wire_extensions.specs.Carried.{byte_bytes, delay_bytes, capture_bytes, value_bytes, AreValues};
+ghost use Rattle.rtp_wire_extensions.specs.Carried.{level_bytes, send_bytes};
+ghost use Rattle.rtp_wire_extensions.specs.Carried.{delay_bytes, capture_bytes, value_bytes};
 
 use crate::extension::Extension;
 use crate::values::{AbsCaptureTime, ExtensionValues};
@@ -45,23 +45,16 @@ impl ElementBytes {
     }
 }
 
-/// The audio level as a positive number, if it is in its range.
-pub(crate) fn level_number(level: i8) -> Option<u8>
-    ensures { result ≡ level_number level }
-{
-    if level > 0 || level < -127 {
-        return None;
-    }
-    Some(level.unsigned_abs())
-}
-
 /// The audio level with voice (RFC 6464 3).
 fn level_bytes(level: Option<i8>, voice: Option<bool>) -> Option<ElementBytes>
     ensures { result ≡ level_bytes level voice }
 {
     let level = level?;
     let voice = voice?;
-    let number = level_number(level)?;
+    if level > 0 || level < -127 {
+        return None;
+    }
+    let number = level.unsigned_abs();
     let first = if voice { 128 + number } else { number };
     Some(ElementBytes::new(&[first]))
 }
@@ -77,20 +70,6 @@ fn send_bytes(time: Option<u64>) -> Option<ElementBytes>
         (number % 256) as u8,
     ];
     Some(ElementBytes::new(&bytes))
-}
-
-/// The number over all streams.
-fn transport_bytes(number: Option<u16>) -> Option<ElementBytes>
-    ensures { result ≡ transport_bytes number }
-{
-    Some(ElementBytes::new(&number?.to_be_bytes()))
-}
-
-/// A value of one byte.
-fn byte_bytes(number: Option<u8>) -> Option<ElementBytes>
-    ensures { result ≡ byte_bytes number }
-{
-    Some(ElementBytes::new(&[number?]))
 }
 
 /// Two delays of 12 bits.
@@ -132,10 +111,22 @@ pub fn value_bytes(ext: &Extension, values: &ExtensionValues) -> Option<ElementB
         Extension::AbsoluteSendTime => send_bytes(values.abs_send_time),
         Extension::AbsoluteCaptureTime => capture_bytes(values.abs_capture_time),
         Extension::AudioLevel => level_bytes(values.audio_level, values.voice_activity),
-        Extension::VideoOrientation => byte_bytes(values.video_orientation.map(|v| v.get())),
-        Extension::TransportSequenceNumber => transport_bytes(values.transport_cc),
+        Extension::VideoOrientation => {
+            values
+                .video_orientation
+                .map(|v| ElementBytes::new(&[v.get()]))
+        },
+        Extension::TransportSequenceNumber => {
+            values
+                .transport_cc
+                .map(|number| ElementBytes::new(&number.to_be_bytes()))
+        },
         Extension::PlayoutDelay => delay_bytes(values.play_delay_min, values.play_delay_max),
-        Extension::VideoContentType => byte_bytes(values.video_content_type),
+        Extension::VideoContentType => {
+            values
+                .video_content_type
+                .map(|number| ElementBytes::new(&[number]))
+        },
         Extension::RtpStreamId => values.rid.map(|name| ElementBytes::new(name.as_bytes())),
         Extension::RepairedRtpStreamId => {
             values

@@ -59,16 +59,6 @@ impl Model for ExtensionMap {
     ghost invariant = { λ m. length m.entries ≡ 16 };
 }
 
-/// Whether a slot has the extension.
-fn slot_is(slot: &Option<Extension>, ext: &Extension) -> bool
-    ensures { result ≡ slot_is slot.now ext.now }
-{
-    match slot {
-        None => false,
-        Some(own) => own.is_same(ext),
-    }
-}
-
 impl ExtensionMap {
     /// A map without an extension.
     pub fn empty() -> Self
@@ -180,7 +170,10 @@ impl ExtensionMap {
         ensures value { result ≡ place_of self.now ext.now }
         ensures within { IfSome result (λ place. place < 16) }
     {
-        self.entries.iter().position(|slot| slot_is(slot, ext))
+        self.entries.iter().position(|slot| match slot {
+            None => false,
+            Some(own) => own.is_same(ext),
+        })
     }
 
     /// What a place carries a value of, which is then seen: an extension under its least number alone. Another one

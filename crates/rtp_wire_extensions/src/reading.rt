@@ -2,7 +2,7 @@
 
 ghost use Rattle.std.specs.Prelude.{◌≡◌, ◌≤◌, ◌<◌, ◌+◌, MatchOption, true, false, length, drop};
 ghost use Rattle.std.specs.Int.{w64, from_be_bytes};
-ghost use Rattle.rtp_wire_extensions.specs.Carried.{is_text, minus, with_value};
+ghost use Rattle.rtp_wire_extensions.specs.Carried.{is_text, with_value};
 
 use crate::extension::Extension;
 use crate::values::{AbsCaptureTime, ExtensionValues, VideoOrientation};
@@ -61,19 +61,11 @@ fn set_capture_time(values: &mut ExtensionValues, bytes: &[u8])
     }
 }
 
-/// A number below 128 as one of the other sign.
-fn minus(number: u8) -> i8
-    requires { number < 128 }
-    ensures { result ≡ minus number }
-{
-    -(number as i8)
-}
-
 fn set_audio_level(values: &mut ExtensionValues, bytes: &[u8])
     ensures { values.new ≡ with_value Extension.AudioLevel bytes.now values.old }
 {
     if bytes.len() == 1 {
-        values.audio_level = Some(minus(bytes[0] % 128));
+        values.audio_level = Some(-((bytes[0] % 128) as i8));
         values.voice_activity = Some(bytes[0] / 128 == 1);
     }
 }

@@ -110,7 +110,9 @@ impl ExtensionValues {
     pub(crate) fn has_full_names(&self) -> bool
         ensures { result ≡ true → HasFullNames self.now }
     {
-        is_full_mid(self.mid) && is_full_rid(self.rid) && is_full_rid(self.rid_repair)
+        self.mid.is_none_or(|name| !name.as_bytes().is_empty())
+            && is_full_rid(self.rid)
+            && is_full_rid(self.rid_repair)
     }
 
     /// Reads each value, so that callers know the range of its type.
@@ -124,16 +126,6 @@ impl ExtensionValues {
         rid_in_range(self.rid);
         rid_in_range(self.rid_repair);
         capture_in_range(self.abs_capture_time);
-    }
-}
-
-/// Whether a media section's name, if it is there, has a byte.
-fn is_full_mid(mid: Option<Mid>) -> bool
-    ensures { result ≡ true → IfSome mid (λ text. 1 ≤ length text) }
-{
-    match mid {
-        Some(mid) => !mid.as_bytes().is_empty(),
-        None => true,
     }
 }
 
