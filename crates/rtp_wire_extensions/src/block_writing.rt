@@ -13,6 +13,7 @@ ghost use Rattle.rtp_wire_extensions.specs.declared.values.ExtensionValues.{Exte
 ghost use Rattle.rtp_wire_extensions.specs.Seen.{HasSeen};
 ghost use Rattle.rtp_wire_extensions.specs.Written.{IsWritten};
 
+use crate::lengths::value_len;
 use crate::map::{ExtensionMap, ExtensionsForm, KINDS};
 use crate::values::ExtensionValues;
 use crate::writing::put;
@@ -68,10 +69,12 @@ impl ExtensionMap {
         ensures short { result.bytes ≤ 16 * (place + 1) }
         ensures seen { HasSeen seen.new self.now (place + 1) }
     {
-        let Some(value) = self.carried(place, values, seen) else {
+        let Some(ext) = self.carrier(place, seen) else {
             return so_far;
         };
-        let len = value.as_slice().len();
+        let Some(len) = value_len(ext, values) else {
+            return so_far;
+        };
         let fits = place < 14 && len >= 1 && len <= 16;
         Extent {
             fits: so_far.fits && fits,

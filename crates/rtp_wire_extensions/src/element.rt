@@ -46,7 +46,7 @@ impl ElementBytes {
 }
 
 /// The audio level with voice (RFC 6464 3).
-fn level_bytes(level: Option<i8>, voice: Option<bool>) -> Option<ElementBytes>
+pub(crate) fn level_bytes(level: Option<i8>, voice: Option<bool>) -> Option<ElementBytes>
     ensures { result ≡ level_bytes level voice }
 {
     let level = level?;
@@ -73,7 +73,7 @@ fn send_bytes(time: Option<u64>) -> Option<ElementBytes>
 }
 
 /// Two delays of 12 bits.
-fn delay_bytes(least: Option<u16>, most: Option<u16>) -> Option<ElementBytes>
+pub(crate) fn delay_bytes(least: Option<u16>, most: Option<u16>) -> Option<ElementBytes>
     ensures { result ≡ delay_bytes least most }
 {
     let least = least?;

@@ -6,6 +6,7 @@ mod blocks;
 mod element;
 mod extension;
 mod iteration;
+mod lengths;
 mod map;
 mod reading;
 mod values;

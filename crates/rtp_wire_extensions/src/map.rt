@@ -178,7 +178,7 @@ impl ExtensionMap {
 
     /// What a place carries a value of, which is then seen: an extension under its least number alone. Another one
     /// of a kind that was seen carries nothing, nor does an unknown one.
-    fn carrier(&self, place: usize, seen: &mut [bool; KINDS]) -> Option<&Extension>
+    pub(crate) fn carrier(&self, place: usize, seen: &mut [bool; KINDS]) -> Option<&Extension>
         requires place { place < 16 }
         requires seen { HasSeen seen.old self.now place }
         ensures carried { (values : ExtensionValues) → MatchOption result (carried_at self.now place values ≡ None)

@@ -111,8 +111,10 @@ impl ExtensionValues {
         ensures { result ≡ true → HasFullNames self.now }
     {
         self.mid.is_none_or(|name| !name.as_bytes().is_empty())
-            && is_full_rid(self.rid)
-            && is_full_rid(self.rid_repair)
+            && self.rid.is_none_or(|name| !name.as_bytes().is_empty())
+            && self
+                .rid_repair
+                .is_none_or(|name| !name.as_bytes().is_empty())
     }
 
     /// Reads each value, so that callers know the range of its type.
@@ -126,16 +128,6 @@ impl ExtensionValues {
         rid_in_range(self.rid);
         rid_in_range(self.rid_repair);
         capture_in_range(self.abs_capture_time);
-    }
-}
-
-/// Whether a stream's name, if it is there, has a byte.
-fn is_full_rid(rid: Option<Rid>) -> bool
-    ensures { result ≡ true → IfSome rid (λ text. 1 ≤ length text) }
-{
-    match rid {
-        Some(rid) => !rid.as_bytes().is_empty(),
-        None => true,
     }
 }
 

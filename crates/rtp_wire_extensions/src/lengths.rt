@@ -1,0 +1,41 @@
+//! How many bytes each extension's value has.
+
+ghost use Rattle.std.specs.Prelude.{◌≡◌, ◌≤◌, IfSome, length};
+ghost use Rattle.std.specs.Option.{option_map};
+ghost use Rattle.rtp_wire_extensions.specs.Carried.{value_bytes};
+
+use crate::element::{delay_bytes, level_bytes};
+use crate::extension::Extension;
+use crate::values::ExtensionValues;
+
+/// How many bytes an extension carries of the values, at most 16, if any.
+pub fn value_len(ext: &Extension, values: &ExtensionValues) -> Option<usize>
+    ensures value { result ≡ option_map length (value_bytes ext.now values.now) }
+    ensures short { IfSome result (λ len. len ≤ 16) }
+{
+    match ext {
+        Extension::AbsoluteSendTime => values.abs_send_time.map(|_time| 3),
+        Extension::AbsoluteCaptureTime => {
+            values
+                .abs_capture_time
+                .map(|time| if time.clock_offset.is_some() { 16 } else { 8 })
+        }
+        Extension::AudioLevel => {
+            level_bytes(values.audio_level, values.voice_activity).map(|level| level
+                .as_slice()
+                .len())
+        }
+        Extension::VideoOrientation => values.video_orientation.map(|_turn| 1),
+        Extension::TransportSequenceNumber => values.transport_cc.map(|_number| 2),
+        Extension::PlayoutDelay => {
+            delay_bytes(values.play_delay_min, values.play_delay_max).map(|delay| delay
+                .as_slice()
+                .len())
+        }
+        Extension::VideoContentType => values.video_content_type.map(|_content| 1),
+        Extension::RtpStreamId => values.rid.map(|name| name.as_bytes().len()),
+        Extension::RepairedRtpStreamId => values.rid_repair.map(|name| name.as_bytes().len()),
+        Extension::RtpMid => values.mid.map(|name| name.as_bytes().len()),
+        Extension::UnknownUri(_) => None,
+    }
+}
