@@ -3,7 +3,7 @@
 ghost use Rattle.std.specs.Prelude.{◌≡◌, IfOk, OnOk, ◌++◌};
 ghost use Rattle.examples_texts.specs.Dressed.{transport_lines, dressed_attribute, dressed_attributes};
 ghost use Rattle.examples_texts.specs.Dressed.{dressed_section, dressed};
-ghost use Rattle.sdp_formats_types.specs.Consistency.{is_mid};
+ghost use Rattle.sdp_formats_types.specs.Media.{is_mid};
 
 use sdp_formats::{Fingerprint, IceCreds, Listed, MediaAttribute, MediaLine, Sdp, Setup};
 use std::alloc::{AllocError, Global};
@@ -40,7 +40,7 @@ fn push_transport(
 }
 
 /// Whether it is the section's name.
-#[tactic(auto, unfolding(sdp_formats_types::specs::Consistency::is_mid))]
+#[tactic(auto, unfolding(sdp_formats_types::specs::Media::is_mid))]
 fn is_mid(attribute: &MediaAttribute) -> bool
     ensures { result ≡ is_mid attribute.now }
 {

@@ -13,7 +13,7 @@ use Rattle.sdp_formats_round.specs.Types.{types_of}
 use Rattle.sdp_formats_rows.specs.Rows.{Row}
 use Rattle.sdp_formats_section_rows.specs.Attributes.{attributes_of}
 use Rattle.sdp_formats_section_rows.specs.SectionRows.{rows_of}
-use Rattle.sdp_formats_types.specs.Consistency.{is_rtp}
+use Rattle.sdp_formats_types.specs.Media.{is_rtp}
 use Rattle.sdp_formats_types.specs.Lookups.{direction_of, first_of, mid_in}
 use Rattle.sdp_formats_types.specs.Media.{direction_attribute, is_media}
 use Rattle.sdp_formats_types.specs.declared.media.MediaAttribute.{MediaAttribute}

@@ -6,11 +6,13 @@ use Rattle.std.specs.Prelude.{is_none}
 use Rattle.sdp_formats_params.specs.declared.param.FormatParam.{FormatParam}
 use Rattle.sdp_formats_params.specs.declared.param.FormatParam.TheVariants as param
 use Rattle.sdp_formats_row_lines.specs.AsRead.{as_read, spelled_as}
-use Rattle.sdp_formats_types.specs.Consistency.{apt_differs, apts_agree, apts_agree_with, are_mapped, attribute_agrees}
-use Rattle.sdp_formats_types.specs.Consistency.{fault_of, gives_apt, is_consistent, is_direction_of, is_mapped, is_mid}
-use Rattle.sdp_formats_types.specs.Consistency.{is_rtp, is_setup, is_static, maps_type, values_agree}
-use Rattle.sdp_formats_types.specs.declared.Inconsistency.{Inconsistency}
-use Rattle.sdp_formats_types.specs.declared.Inconsistency.TheVariants as fault
+use Rattle.sdp_formats_consistency.specs.Consistency.{apt_differs, apts_agree, apts_agree_with, are_mapped}
+use Rattle.sdp_formats_consistency.specs.Consistency.{attribute_agrees, fault_of, gives_apt, is_consistent}
+use Rattle.sdp_formats_consistency.specs.Consistency.{is_direction_of, is_mapped, is_setup, is_static, maps_type}
+use Rattle.sdp_formats_consistency.specs.Consistency.{values_agree}
+use Rattle.sdp_formats_types.specs.Media.{is_mid, is_rtp}
+use Rattle.sdp_formats_consistency.specs.declared.Inconsistency.{Inconsistency}
+use Rattle.sdp_formats_consistency.specs.declared.Inconsistency.TheVariants as fault
 use Rattle.sdp_formats_types.specs.declared.media.MediaAttribute.{MediaAttribute}
 use Rattle.sdp_formats_types.specs.declared.media.MediaAttribute.TheVariants.{Fmtp}
 use Rattle.sdp_formats_types.specs.declared.media.MediaLine.{MediaLine}

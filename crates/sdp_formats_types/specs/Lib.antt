@@ -1,5 +1,4 @@
 pub mod Media
-pub mod Consistency
 pub mod Printed
 pub mod PrintedMedia
 pub mod PrintedSession

@@ -7,7 +7,7 @@ use Rattle.sdp_formats_types.specs.declared.media.MediaType.TheVariants.{Audio, 
 use Rattle.sdp_formats_types.specs.declared.media.Proto.{Proto}
 use Rattle.sdp_formats_types.specs.declared.media.Proto.TheVariants.{Srtp, Sctp}
 use Rattle.sdp_formats_types.specs.declared.media.MediaAttribute.{MediaAttribute}
-use Rattle.sdp_formats_types.specs.declared.media.MediaAttribute.TheVariants.{RecvOnly, SendRecv, SendOnly, Inactive}
+use Rattle.sdp_formats_types.specs.declared.media.MediaAttribute.TheVariants.{Mid, RecvOnly, SendRecv, SendOnly, Inactive}
 
 abbrev pub is_media : MediaType → Bool
 is_media Audio = true
@@ -22,6 +22,15 @@ is_channel _ = false
 abbrev pub proto_text : Proto → List ℕ
 proto_text Srtp = codes "UDP/TLS/RTP/SAVPF"
 proto_text Sctp = codes "UDP/DTLS/SCTP"
+
+abbrev pub is_rtp : Proto → Bool
+is_rtp Srtp = true
+is_rtp Sctp = false
+
+-- The name of a section (RFC 5888 4).
+unfoldable pub is_mid : MediaAttribute → Bool
+is_mid (Mid m) = true
+is_mid _ = false
 
 -- One of the four directions (RFC 8866 6.7).
 abbrev pub is_direction : MediaAttribute → Bool

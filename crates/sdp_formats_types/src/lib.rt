@@ -1,7 +1,6 @@
 //! What session texts say: the session, its media sections and their attributes (RFC 8866).
 #![tactic(auto)]
 
-mod consistency;
 mod direction;
 mod lookups;
 mod media;
@@ -10,7 +9,6 @@ mod section;
 mod session;
 mod whole;
 
-pub use consistency::Inconsistency;
 pub use media::{MediaAttribute, MediaLine, MediaType, Proto, RtpMap};
 pub use sdp_formats_forms::{Listed, Text};
 pub use sdp_formats_params::{FormatParam, H265ProfileTierLevel, H266ProfileTierLevel, Pair};

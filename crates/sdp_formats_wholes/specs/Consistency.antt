@@ -5,7 +5,7 @@ use Rattle.std.specs.Cmp.Lexicographic.{pointwise}
 use Rattle.std.specs.List.{filter_map, list_all, list_any}
 use Rattle.sdp_formats.specs.declared.error.SdpError.{SdpError}
 use Rattle.sdp_formats.specs.declared.error.SdpError.TheVariants.{ParseError, Inconsistent, Memory}
-use Rattle.sdp_formats_types.specs.Consistency.{is_consistent}
+use Rattle.sdp_formats_consistency.specs.Consistency.{is_consistent}
 use Rattle.sdp_formats_types.specs.Lookups.{first_of, mid_in}
 use Rattle.sdp_formats_types.specs.declared.MediaLine.{MediaLine}
 use Rattle.sdp_formats_types.specs.declared.Sdp.{Sdp}

@@ -3,13 +3,14 @@
 ghost use Rattle.std.specs.Prelude.{◌≡◌, ◌↔◌, IfOk, IsTrue, OnOk};
 ghost use Rattle.std.specs.List.{filter_map, list_all, list_any};
 ghost use Rattle.std.specs.Option.{option_copied};
-ghost use Rattle.sdp_formats_types.specs.Consistency.{is_consistent};
+ghost use Rattle.sdp_formats_consistency.specs.Consistency.{is_consistent};
 ghost use Rattle.sdp_formats_types.specs.Lookups.{first_of};
 ghost use Rattle.sdp_formats_wholes.specs.Consistency.{AssertsWhole, IsWhole, are_apart, belongs, group_in};
 ghost use Rattle.sdp_formats_wholes.specs.Consistency.{grouped_mid, is_name, lists, mid_of};
 
 use rtp_wire::Mid;
 use sdp_formats::SdpError;
+use sdp_formats_consistency::is_consistent;
 use sdp_formats_equality::same::Same;
 use sdp_formats_types::{Listed, MediaLine, Sdp, SessionAttribute};
 use std::alloc::{AllocError, Global};
@@ -17,7 +18,7 @@ use std::alloc::{AllocError, Global};
 fn are_consistent(sections: &[MediaLine]) -> bool
     ensures { result ≡ list_all is_consistent sections.now }
 {
-    sections.iter().all(|section| section.is_consistent())
+    sections.iter().all(|section| is_consistent(section))
 }
 
 fn is_name(name: Mid, other: Mid) -> bool

@@ -3,7 +3,7 @@ use Rattle.std.proofs.lemmas.Result.{err_from_is_err_and}
 use Rattle.std.specs.List.{list_all}
 use Rattle.sdp_formats_steps.specs.Line.{LineOf}
 use Rattle.sdp_formats_steps.specs.Step.{Many, Perhaps}
-use Rattle.sdp_formats_types.specs.Consistency.{is_consistent}
+use Rattle.sdp_formats_consistency.specs.Consistency.{is_consistent}
 use Rattle.sdp_formats_heads.specs.Lines.{version_line, origin_line, name_line, other_line, bandwidth_line}
 use Rattle.sdp_formats_heads.specs.Lines.{times_line, repeat_line, connection_line, head_line}
 use Rattle.sdp_formats_reader.specs.Grammar.{OpeningSays, TimesSay, SessionSays, SectionSays, SdpSays, ReadsSdp}

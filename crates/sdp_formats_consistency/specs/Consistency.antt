@@ -4,23 +4,14 @@ use Rattle.std.specs.Prelude.{count_by, nat_lt, length, if◌then◌else◌}
 use Rattle.std.specs.List.{list_all, list_any}
 use Rattle.sdp_formats_params.specs.declared.FormatParam.{FormatParam}
 use Rattle.sdp_formats_params.specs.declared.FormatParam.TheVariants.{Apt}
-use Rattle.sdp_formats_types.specs.Media.{is_direction}
-use Rattle.sdp_formats_types.specs.declared.consistency.Counted.{Counted}
-use Rattle.sdp_formats_types.specs.declared.consistency.Counted.TheVariants as counted
-use Rattle.sdp_formats_types.specs.declared.consistency.Inconsistency.{Inconsistency}
-use Rattle.sdp_formats_types.specs.declared.consistency.Inconsistency.TheVariants.{MissingMid, SeveralMids}
-use Rattle.sdp_formats_types.specs.declared.consistency.Inconsistency.TheVariants.{SeveralSetups, Directions}
-use Rattle.sdp_formats_types.specs.declared.consistency.Inconsistency.TheVariants.{NoPayloadType, RtpMaps}
-use Rattle.sdp_formats_types.specs.declared.consistency.Inconsistency.TheVariants.{ConflictingApts}
+use Rattle.sdp_formats_types.specs.Media.{is_direction, is_mid, is_rtp}
+use Rattle.sdp_formats_consistency.specs.declared.faults.Counted.{Counted}
+use Rattle.sdp_formats_consistency.specs.declared.faults.Counted.TheVariants as counted
+use Rattle.sdp_formats_consistency.specs.declared.faults.Inconsistency.{Inconsistency}
+use Rattle.sdp_formats_consistency.specs.declared.faults.Inconsistency.TheVariants as fault
 use Rattle.sdp_formats_types.specs.declared.media.MediaAttribute.{MediaAttribute}
-use Rattle.sdp_formats_types.specs.declared.media.MediaAttribute.TheVariants.{Mid, Setup, RtpMap, Fmtp}
+use Rattle.sdp_formats_types.specs.declared.media.MediaAttribute.TheVariants.{Setup, RtpMap, Fmtp}
 use Rattle.sdp_formats_types.specs.declared.media.MediaLine.{MediaLine}
-use Rattle.sdp_formats_types.specs.declared.media.Proto.{Proto}
-use Rattle.sdp_formats_types.specs.declared.media.Proto.TheVariants.{Srtp, Sctp}
-
-unfoldable pub is_mid : MediaAttribute → Bool
-is_mid (Mid m) = true
-is_mid _ = false
 
 unfoldable pub is_setup : MediaAttribute → Bool
 is_setup (Setup s) = true
@@ -79,28 +70,24 @@ gives_apt attrs _ = true
 abbrev pub apts_agree : List MediaAttribute → Bool
 apts_agree attrs = list_all (gives_apt attrs) attrs
 
-abbrev pub is_rtp : Proto → Bool
-is_rtp Srtp = true
-is_rtp Sctp = false
-
 abbrev pub last_fault_of : MediaLine → Option Inconsistency
 last_fault_of m =
-    if not (are_mapped m.attrs m.pts) then Some RtpMaps
-    else if not (apts_agree m.attrs) then Some ConflictingApts
+    if not (are_mapped m.attrs m.pts) then Some fault.RtpMaps
+    else if not (apts_agree m.attrs) then Some fault.ConflictingApts
     else None
 
 abbrev pub later_fault_of : MediaLine → Option Inconsistency
 later_fault_of m =
-    if is_rtp m.proto && not (count_of counted.Direction m == 1) then Some Directions
-    else if (is_rtp m.proto && (length m.pts == 0)) && not m.disabled then Some NoPayloadType
+    if is_rtp m.proto && not (count_of counted.Direction m == 1) then Some fault.Directions
+    else if (is_rtp m.proto && (length m.pts == 0)) && not m.disabled then Some fault.NoPayloadType
     else last_fault_of m
 
 -- The first fault of a section, in this order.
 abbrev pub fault_of : MediaLine → Option Inconsistency
 fault_of m =
-    if count_of counted.Mid m == 0 then Some MissingMid
-    else if nat_lt 1 (count_of counted.Mid m) then Some SeveralMids
-    else if nat_lt 1 (count_of counted.Setup m) then Some SeveralSetups
+    if count_of counted.Mid m == 0 then Some fault.MissingMid
+    else if nat_lt 1 (count_of counted.Mid m) then Some fault.SeveralMids
+    else if nat_lt 1 (count_of counted.Setup m) then Some fault.SeveralSetups
     else later_fault_of m
 
 abbrev pub is_consistent : MediaLine → Bool
