@@ -2,6 +2,7 @@
 #![tactic(auto)]
 
 pub mod infos;
+mod known;
 mod said;
 mod sources;
 

@@ -1,9 +1,10 @@
-//! What is said of one source.
+//! What one attribute says of a source.
 
-ghost use Rattle.std.specs.Prelude.{◌≡◌, IfOk, codes};
+ghost use Rattle.std.specs.Prelude.{◌≡◌, ℕ, IfOk, codes};
 ghost use Rattle.std.specs.Option.{option_copied};
-ghost use Rattle.sdp_formats_ssrcs.specs.Sources.{is_no_stream, last_of, name_given, name_in, pair_of, repair_in};
-ghost use Rattle.sdp_formats_ssrcs.specs.Sources.{repaired_in, stream_in, stream_word, track_in, track_word, value_in};
+ghost use Rattle.sdp_formats_ssrcs.specs.Said.{word_of};
+ghost use Rattle.sdp_formats_ssrcs.specs.Sources.{is_no_stream, name_given, name_in, pair_of, repair_in, stream_in};
+ghost use Rattle.sdp_formats_ssrcs.specs.Sources.{stream_word, track_in, track_word, value_in};
 
 use rtp_wire::Ssrc;
 use sdp_formats_forms::{Text, halves};
@@ -37,14 +38,15 @@ pub(crate) fn name_given(alloc: Global, word: Option<&str>) -> Result<Option<Tex
     }
 }
 
+/// The source of an `a=ssrc` line with its value, if it has this word, in either case.
 #[tactic(auto, unfolding(crate::specs::Sources::value_in))]
-fn value_in<'a>(word: &str, source: Ssrc, attribute: &'a MediaAttribute) -> Option<&'a str>
-    ensures { option_copied result ≡ value_in word.now source attribute.now }
+fn value_said<'a>(word: &str, attribute: &'a MediaAttribute) -> Option<(u32, &'a str)>
+    ensures { (source : ℕ) → word_of source result ≡ value_in word.now source attribute.now }
 {
     match attribute {
         MediaAttribute::Ssrc { ssrc, attr, value } => {
-            if *ssrc == source && attr.as_str().eq_ignore_ascii_case(word) {
-                return Some(value.as_str());
+            if attr.as_str().eq_ignore_ascii_case(word) {
+                return Some((ssrc.get(), value.as_str()));
             }
             None
         }
@@ -52,17 +54,11 @@ fn value_in<'a>(word: &str, source: Ssrc, attribute: &'a MediaAttribute) -> Opti
     }
 }
 
-/// The last name of its end.
-pub(crate) fn last_cname(source: Ssrc, attributes: &[MediaAttribute]) -> Option<&str>
-    ensures { option_copied result ≡ last_of (value_in (codes "cname") source) attributes.now }
+/// A source with the name of its end.
+pub(crate) fn cname_said(attribute: &MediaAttribute) -> Option<(u32, &str)>
+    ensures { (source : ℕ) → word_of source result ≡ value_in (codes "cname") source attribute.now }
 {
-    let mut last = None;
-    for attribute in attributes {
-        if let Some(value) = value_in("cname", source, attribute) {
-            last = Some(value);
-        }
-    }
-    last
+    value_said("cname", attribute)
 }
 
 fn stream_word(value: &str) -> &str
@@ -79,42 +75,20 @@ fn track_word(value: &str) -> Option<&str>
     Some(stream_word(rest?))
 }
 
-fn stream_in(source: Ssrc, attribute: &MediaAttribute) -> Option<&str>
-    ensures { option_copied result ≡ stream_in source attribute.now }
+/// A source with the word for its stream.
+pub(crate) fn stream_said(attribute: &MediaAttribute) -> Option<(u32, &str)>
+    ensures { (source : ℕ) → word_of source result ≡ stream_in source attribute.now }
 {
-    Some(stream_word(value_in("msid", source, attribute)?))
+    let (source, value) = value_said("msid", attribute)?;
+    Some((source, stream_word(value)))
 }
 
-fn track_in(source: Ssrc, attribute: &MediaAttribute) -> Option<&str>
-    ensures { option_copied result ≡ track_in source attribute.now }
+/// A source with the word for its track.
+pub(crate) fn track_said(attribute: &MediaAttribute) -> Option<(u32, &str)>
+    ensures { (source : ℕ) → word_of source result ≡ track_in source attribute.now }
 {
-    track_word(value_in("msid", source, attribute)?)
-}
-
-/// The last word for its stream.
-pub(crate) fn last_stream(source: Ssrc, attributes: &[MediaAttribute]) -> Option<&str>
-    ensures { option_copied result ≡ last_of (stream_in source) attributes.now }
-{
-    let mut last = None;
-    for attribute in attributes {
-        if let Some(word) = stream_in(source, attribute) {
-            last = Some(word);
-        }
-    }
-    last
-}
-
-/// The last word for its track.
-pub(crate) fn last_track(source: Ssrc, attributes: &[MediaAttribute]) -> Option<&str>
-    ensures { option_copied result ≡ last_of (track_in source) attributes.now }
-{
-    let mut last = None;
-    for attribute in attributes {
-        if let Some(word) = track_in(source, attribute) {
-            last = Some(word);
-        }
-    }
-    last
+    let (source, value) = value_said("msid", attribute)?;
+    Some((source, track_word(value)?))
 }
 
 fn pair_of(ssrcs: &[Ssrc]) -> Option<(Ssrc, Ssrc)>
@@ -140,27 +114,4 @@ pub(crate) fn repair_in(attribute: &MediaAttribute) -> Option<(Ssrc, Ssrc)>
         }
         _ => None,
     }
-}
-
-fn repaired_in(source: Ssrc, attribute: &MediaAttribute) -> Option<Ssrc>
-    ensures { result ≡ repaired_in source attribute.now }
-{
-    let (repaired, repairing) = repair_in(attribute)?;
-    if repairing == source {
-        return Some(repaired);
-    }
-    None
-}
-
-/// The last source that it repairs.
-pub(crate) fn last_repaired(source: Ssrc, attributes: &[MediaAttribute]) -> Option<Ssrc>
-    ensures { result ≡ last_of (repaired_in source) attributes.now }
-{
-    let mut last = None;
-    for attribute in attributes {
-        if let Some(repaired) = repaired_in(source, attribute) {
-            last = Some(repaired);
-        }
-    }
-    last
 }

@@ -2,13 +2,15 @@
 
 ghost use Rattle.std.specs.Prelude.{◌≡◌, ◌++◌, IfOk, OnOk, fold};
 ghost use Rattle.std.specs.List.{filter_map};
-ghost use Rattle.sdp_formats_ssrcs.specs.Distinct.{is_among, with_new, with_one};
+ghost use Rattle.sdp_formats_ssrcs.specs.Distinct.{with_new, with_one};
+ghost use Rattle.sdp_formats_ssrcs.specs.Seen.{AreSeen};
 ghost use Rattle.sdp_formats_ssrcs.specs.Sources.{repairing_in, source_in, sources_of};
 
 use crate::said::repair_in;
 use rtp_wire::Ssrc;
 use sdp_formats_types::MediaAttribute;
 use std::alloc::{AllocError, Global};
+use std::collections::BTreeSet;
 
 #[tactic(auto, unfolding(crate::specs::Sources::source_in))]
 fn source_in(attribute: &MediaAttribute) -> Option<Ssrc>
@@ -27,41 +29,52 @@ fn repairing_in(attribute: &MediaAttribute) -> Option<Ssrc>
     Some(repairing)
 }
 
-fn is_among(source: Ssrc, sources: &[Ssrc]) -> bool
-    ensures { result ≡ is_among source sources.now }
-{
-    sources.iter().any(|other| *other == source)
-}
-
 /// Adds a source, if there is one that isn't there yet.
-fn push_new(sources: &mut Vec<Ssrc>, source: Option<Ssrc>) -> Result<(), AllocError>
-    ensures { OnOk result (sources.new.items ≡ with_one sources.old.items source) }
+fn push_new(
+    sources: &mut Vec<Ssrc>,
+    seen: &mut BTreeSet<u32>,
+    source: Option<Ssrc>,
+) -> Result<(), AllocError>
+    requires { AreSeen seen.old sources.old.items }
+    ensures sources { OnOk result (sources.new.items ≡ with_one sources.old.items source) }
+    ensures seen { OnOk result (AreSeen seen.new sources.new.items) }
 {
     let Some(source) = source else {
         return Ok(());
     };
-    if is_among(source, sources.as_slice()) {
-        return Ok(());
+    if seen.insert(source.get())? {
+        sources.push(source)?;
     }
-    sources.push(source)?;
     Ok(())
 }
 
-fn push_sources(sources: &mut Vec<Ssrc>, attributes: &[MediaAttribute]) -> Result<(), AllocError>
-    ensures { OnOk result (sources.new.items ≡ fold with_new sources.old.items (filter_map source_in attributes.now)) }
+fn push_sources(
+    sources: &mut Vec<Ssrc>,
+    seen: &mut BTreeSet<u32>,
+    attributes: &[MediaAttribute],
+) -> Result<(), AllocError>
+    requires { AreSeen seen.old sources.old.items }
+    ensures sources { OnOk result (sources.new.items
+        ≡ fold with_new sources.old.items (filter_map source_in attributes.now)) }
+    ensures seen { OnOk result (AreSeen seen.new sources.new.items) }
 {
     for attribute in attributes {
-        push_new(sources, source_in(attribute))?;
+        push_new(sources, seen, source_in(attribute))?;
     }
     Ok(())
 }
 
-fn push_repairing(sources: &mut Vec<Ssrc>, attributes: &[MediaAttribute]) -> Result<(), AllocError>
+fn push_repairing(
+    sources: &mut Vec<Ssrc>,
+    seen: &mut BTreeSet<u32>,
+    attributes: &[MediaAttribute],
+) -> Result<(), AllocError>
+    requires { AreSeen seen.old sources.old.items }
     ensures { OnOk result (sources.new.items
         ≡ fold with_new sources.old.items (filter_map repairing_in attributes.now)) }
 {
     for attribute in attributes {
-        push_new(sources, repairing_in(attribute))?;
+        push_new(sources, seen, repairing_in(attribute))?;
     }
     Ok(())
 }
@@ -74,7 +87,8 @@ pub(crate) fn sources_of(
     ensures { IfOk result (λ sources. sources.items ≡ sources_of attributes.now) }
 {
     let mut sources = Vec::new(alloc);
-    push_sources(&mut sources, attributes)?;
-    push_repairing(&mut sources, attributes)?;
+    let mut seen = BTreeSet::new(alloc);
+    push_sources(&mut sources, &mut seen, attributes)?;
+    push_repairing(&mut sources, &mut seen, attributes)?;
     Ok(sources)
 }

@@ -5,4 +5,4 @@ use Rattle.sdp_formats_ssrcs.proofs.infos.ssrc_info.Given as goal
 -- what is told so far, and what the sources that are left have
 abbrev pub invariant-loop-source : goal.invariant-loop-source
 invariant-loop-source l =
-    l.infos.items ++ map (info_of l.attributes) (drop l.source-index l.source-items) ≡ infos_of l.section.attrs
+    l.infos.items ++ map (info_of l.section.attrs) (drop l.source-index l.source-items) ≡ infos_of l.section.attrs

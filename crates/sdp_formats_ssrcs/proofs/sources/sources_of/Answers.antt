@@ -10,5 +10,6 @@ returns c =
     let attrs = c.args.attributes.now in
     let named = filter_map source_in attrs in
     let repairing = filter_map repairing_in attrs in
-    let first = c.in_ok-push_sources.ensures ∙ ap (λ (l : List ℕ). fold with_new l named) c.new-sources.ensures.items in
+    let empty = ap (λ (l : List ℕ). fold with_new l named) c.new-sources.ensures.items in
+    let first = c.in_ok-push_sources.ensures.sources ∙ empty in
     c.in_ok-push_repairing.ensures ∙ ap (λ (l : List ℕ). fold with_new l repairing) first ∙ once named repairing
