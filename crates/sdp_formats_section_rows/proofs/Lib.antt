@@ -1,0 +1,2 @@
+mod TypeLists
+mod RowsByType

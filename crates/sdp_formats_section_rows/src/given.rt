@@ -16,7 +16,7 @@ use sdp_formats_types::{FormatParam, MediaAttribute};
 
 // What was given so far of a range of telephone events.
 #[derive(Clone, Copy, Drop)]
-enum Events {
+pub(crate) enum Events {
     Default,
     UpTo(u8),
     Declined,
@@ -74,7 +74,11 @@ fn with_attribute(pt: Pt, format: FormatParams, attribute: &MediaAttribute) -> F
     }
 }
 
-fn with_attributes(pt: Pt, mut format: FormatParams, attributes: &[MediaAttribute]) -> FormatParams
+pub(crate) fn with_attributes(
+    pt: Pt,
+    mut format: FormatParams,
+    attributes: &[MediaAttribute],
+) -> FormatParams
     ensures { result ≡ fold (with_attribute pt) format attributes.now }
 {
     for attribute in attributes {
@@ -138,7 +142,7 @@ fn events_after(pt: Pt, events: Events, attribute: &MediaAttribute) -> Events
     }
 }
 
-fn events_given(pt: Pt, attributes: &[MediaAttribute]) -> Events
+pub(crate) fn events_given(pt: Pt, attributes: &[MediaAttribute]) -> Events
     ensures { result ≡ fold (events_after pt) Default attributes.now }
 {
     let mut events = Events::Default;
@@ -148,7 +152,7 @@ fn events_given(pt: Pt, attributes: &[MediaAttribute]) -> Events
     events
 }
 
-fn most_of(events: Events) -> Option<u8>
+pub(crate) fn most_of(events: Events) -> Option<u8>
     ensures { result ≡ most_of events }
 {
     match events {
@@ -158,7 +162,7 @@ fn most_of(events: Events) -> Option<u8>
     }
 }
 
-fn with_events(most: u8) -> FormatParams
+pub(crate) fn with_events(most: u8) -> FormatParams
     ensures { result ≡ with_events most }
 {
     FormatParams {
@@ -167,7 +171,7 @@ fn with_events(most: u8) -> FormatParams
     }
 }
 
-fn any_declined(pt: Pt, attributes: &[MediaAttribute]) -> bool
+pub(crate) fn any_declined(pt: Pt, attributes: &[MediaAttribute]) -> bool
     ensures { result ≡ list_any (is_declined pt) attributes.now }
 {
     attributes
@@ -175,7 +179,7 @@ fn any_declined(pt: Pt, attributes: &[MediaAttribute]) -> bool
         .any(|attribute| is_declined(pt, attribute))
 }
 
-fn is_amr_wb(codec: Codec) -> bool
+pub(crate) fn is_amr_wb(codec: Codec) -> bool
     ensures { result ≡ is_codec codec AmrWb }
 {
     codec == Codec::AmrWb

@@ -2,11 +2,14 @@
 #![tactic(auto)]
 
 mod attributes;
+mod facts;
 mod feedback;
 mod given;
+mod links;
 mod mapped;
 mod params;
 mod section_rows;
+mod type_lists;
 
 pub use attributes::as_media_attrs;
 pub use given::{format_given, with_param};

@@ -1,19 +1,20 @@
 //! Which codecs a section maps payload types to.
 
-ghost use Rattle.std.specs.Prelude.{◌≡◌, ◌++◌, ◌==◌, ◌&&◌, IfOk, OnOk, fold};
-ghost use Rattle.std.specs.List.{list_any};
+ghost use Rattle.std.specs.Prelude.{◌≡◌, ◌++◌, ◌==◌, ◌&&◌, Some, IfOk, OnOk, fold};
+ghost use Rattle.std.specs.Prelude.{if◌then◌else◌};
 ghost use Rattle.sdp_formats_rows.specs.Codecs.{is_codec};
-ghost use Rattle.sdp_formats_section_rows.specs.Mapped.{is_mapped, is_mapped_to, map_of, mapping_in, mappings};
-ghost use Rattle.sdp_formats_section_rows.specs.Mapped.{mappings_in, spec_of_map, static_mapping, unless_one};
-ghost use Rattle.sdp_formats_section_rows.specs.Mapped.{with_static};
+ghost use Rattle.sdp_formats_section_rows.specs.Mapped.{is_mapped, map_of, mapping_in, mappings, mappings_in};
+ghost use Rattle.sdp_formats_section_rows.specs.Mapped.{spec_of_map, static_mapping, unless_one, with_static};
+ghost use Rattle.sdp_formats_section_rows.specs.TypeLists.{AreMapped};
 
+use crate::type_lists::is_listed;
 use rtp_wire::{Frequency, Pt};
 use sdp_formats_rows::{Codec, CodecSpec, FormatParams};
 use sdp_formats_types::{MediaAttribute, RtpMap};
 use std::alloc::{AllocError, Global};
 
 /// A payload type and what it is mapped to.
-#[derive(Clone, Copy, Debug, PartialEq, Eq, Drop)]
+#[derive(Clone, Copy, Drop)]
 pub(crate) struct Mapping {
     pub pt: Pt,
     pub map: RtpMap,
@@ -39,7 +40,7 @@ fn unless_one(channels: Option<u8>) -> Option<u8>
     }
 }
 
-fn is_codec(codec: Codec, other: Codec) -> bool
+pub(crate) fn is_codec(codec: Codec, other: Codec) -> bool
     ensures { result ≡ is_codec codec other }
 {
     codec == other
@@ -96,33 +97,41 @@ fn is_mapped(mappings: &[Mapping], pt: Pt) -> bool
     mappings.iter().any(|mapping| mapping.pt.get() == pt.get())
 }
 
-fn push_static_mapping(
+/// Puts a static type behind the mappings, unless it is mapped.
+fn push_unless_mapped(
     mappings: &mut Vec<Mapping>,
     pt: Pt,
-    spec: Option<CodecSpec>,
+    spec: &CodecSpec,
 ) -> Result<(), AllocError>
-    ensures { OnOk result (mappings.new.items ≡ mappings.old.items ++ static_mapping pt spec) }
-{
-    match spec {
-        Some(spec) => {
-            mappings.push(Mapping {
-                pt,
-                map: map_of(&spec),
-            })?;
-            Ok(())
-        }
-        None => Ok(()),
-    }
-}
-
-#[tactic(auto, unfolding(crate::specs::Mapped::with_static))]
-fn push_static(mappings: &mut Vec<Mapping>, pt: Pt) -> Result<(), AllocError>
-    ensures { OnOk result (mappings.new.items ≡ with_static mappings.old.items pt) }
+    ensures { OnOk result (mappings.new.items ≡ (if is_mapped mappings.old.items pt then mappings.old.items
+        else mappings.old.items ++ static_mapping pt (Some spec.now))) }
 {
     if is_mapped(mappings.as_slice(), pt) {
         return Ok(());
     }
-    push_static_mapping(mappings, pt, CodecSpec::from_static_pt(pt))
+    mappings.push(Mapping {
+        pt,
+        map: map_of(spec),
+    })?;
+    Ok(())
+}
+
+/// The same for a listed type, where it is a static one. A list may repeat it, so it is looked for but once.
+#[tactic(auto, unfolding(crate::specs::Mapped::with_static))]
+fn push_static(mappings: &mut Vec<Mapping>, met: &mut Vec<Pt>, pt: Pt) -> Result<(), AllocError>
+    requires { AreMapped mappings.old.items met.old.items }
+    ensures mappings { OnOk result (mappings.new.items ≡ with_static mappings.old.items pt) }
+    ensures met { OnOk result (AreMapped mappings.new.items met.new.items) }
+{
+    let Some(spec) = CodecSpec::from_static_pt(pt) else {
+        return Ok(());
+    };
+    if is_listed(met.as_slice(), pt) {
+        return Ok(());
+    }
+    push_unless_mapped(mappings, pt, &spec)?;
+    met.push(pt)?;
+    Ok(())
 }
 
 /// The mapped types of a section: those of its lines in order, then each static type of its list that no line maps.
@@ -134,16 +143,9 @@ pub(crate) fn mappings(
     ensures { IfOk result (λ maps. maps.items ≡ mappings pts.now attributes.now) }
 {
     let mut mappings = mappings_in(alloc, attributes)?;
+    let mut met = Vec::new(alloc);
     for pt in pts {
-        push_static(&mut mappings, *pt)?;
+        push_static(&mut mappings, &mut met, *pt)?;
     }
     Ok(mappings)
-}
-
-/// Whether a type is mapped to this codec.
-pub(crate) fn is_mapped_to(codec: Codec, mappings: &[Mapping], pt: Pt) -> bool
-    ensures { result ≡ is_mapped_to codec mappings.now pt }
-{
-    mappings.iter().any(|mapping| mapping.pt.get() == pt.get()
-        && is_codec(mapping.map.codec, codec))
 }

@@ -1,161 +1,106 @@
 //! The rows of a section.
 
-ghost use Rattle.std.specs.Prelude.{◌≡◌, ◌++◌, ◌==◌, None, IfOk, OnOk, fold, codes};
-ghost use Rattle.std.specs.List.{flat_map, list_any};
+ghost use Rattle.std.specs.Prelude.{◌≡◌, ◌++◌, None, IfOk, OnOk};
+ghost use Rattle.std.specs.List.{flat_map};
 ghost use Rattle.std.specs.Prelude.{if◌then◌else◌};
 ghost use Rattle.payload_core_base.specs.Codecs.{is_audio_codec};
-ghost use Rattle.payload_core_base.specs.declared.codec.Codec.TheVariants.{Red};
-ghost use Rattle.sdp_formats_section_rows.specs.SectionRows.{has_feedback, has_row, is_feedback, linked};
-ghost use Rattle.sdp_formats_section_rows.specs.SectionRows.{linked_after, names, row_given, row_of, rows_given};
-ghost use Rattle.sdp_formats_section_rows.specs.SectionRows.{rows_of};
-ghost use Rattle.sdp_formats_section_rows.specs.SectionRows.{listed};
+ghost use Rattle.sdp_formats_section_rows.specs.Facts.{AreKept, facts_of, format_by, has_row_by, may_have_row};
+ghost use Rattle.sdp_formats_section_rows.specs.Facts.{row_by, row_with, rows_by};
+ghost use Rattle.sdp_formats_section_rows.specs.SectionRows.{listed, rows_given, rows_of};
 
-use crate::given::format_given;
-use crate::mapped::{Mapping, is_mapped_to, mappings, spec_of_map};
+use crate::facts::{TypeFacts, facts_in, facts_of};
+use crate::given::{is_amr_wb, with_events};
+use crate::mapped::{Mapping, mappings, spec_of_map};
+use crate::type_lists::types_mapped_to;
 use rtp_wire::Pt;
 use sdp_formats_rows::{Codec, FormatParams, PayloadParams};
-use sdp_formats_types::{FormatParam, MediaAttribute, MediaLine};
+use sdp_formats_types::MediaLine;
 use std::alloc::{AllocError, Global};
 
-fn names(role: Codec, pt: Pt, param: &FormatParam) -> bool
-    ensures { result ≡ names role pt param.now }
+fn format_by(codec: Codec, facts: &TypeFacts) -> Option<FormatParams>
+    ensures { result ≡ format_by codec facts.now }
 {
-    match (role, param) {
-        (Codec::Rtx, FormatParam::Apt(named)) => named.get() == pt.get(),
-        (Codec::Red, FormatParam::BarePtList(named)) => named.get() == pt.get(),
-        (Codec::Red, FormatParam::Red(named)) => named.get() == pt.get(),
-        _ => false,
+    if codec.is_tele() {
+        return match facts.events_most {
+            Some(most) => Some(with_events(most)),
+            None => None,
+        };
     }
-}
-
-fn any_names(role: Codec, pt: Pt, params: &[FormatParam]) -> bool
-    ensures { result ≡ list_any (names role pt) params.now }
-{
-    params.iter().any(|param| names(role, pt, param))
-}
-
-#[tactic(auto, unfolding(crate::specs::SectionRows::linked_after))]
-fn linked_after(
-    role: Codec,
-    mappings: &[Mapping],
-    pt: Pt,
-    found: Option<u8>,
-    attribute: &MediaAttribute,
-) -> Option<u8>
-    ensures { result ≡ linked_after role mappings.now pt found attribute.now }
-{
-    match attribute {
-        MediaAttribute::Fmtp { pt: by, values } => {
-            if is_mapped_to(role, mappings, *by) && any_names(role, pt, values.as_slice()) {
-                return Some(by.get());
-            }
-            found
-        }
-        _ => found,
+    if is_amr_wb(codec) && facts.is_declined {
+        return None;
     }
+    Some(facts.format)
 }
 
-/// The type of retransmissions or of redundant audio of a type.
-fn linked(role: Codec, attributes: &[MediaAttribute], mappings: &[Mapping], pt: Pt) -> Option<u8>
-    ensures { result ≡ linked role attributes.now mappings.now pt }
+fn red_of(codec: Codec, facts: &TypeFacts) -> Option<Pt>
+    ensures { result ≡ (if is_audio_codec codec then facts.now.red else None) }
 {
-    let mut found = None;
-    for attribute in attributes {
-        found = linked_after(role, mappings, pt, found, attribute);
-    }
-    found
-}
-
-fn type_of(number: Option<u8>) -> Option<Pt>
-    ensures { result ≡ number }
-{
-    match number {
-        Some(number) => Some(Pt::new_with_value(number)),
-        None => None,
-    }
-}
-
-#[tactic(auto, unfolding(crate::specs::SectionRows::is_feedback))]
-fn is_feedback(pt: Pt, text: &str, attribute: &MediaAttribute) -> bool
-    ensures { result ≡ is_feedback pt text.now attribute.now }
-{
-    match attribute {
-        MediaAttribute::RtcpFb { pt: given, value } => {
-            given.get() == pt.get() && value.as_str() == text
-        }
-        _ => false,
-    }
-}
-
-fn has_feedback(attributes: &[MediaAttribute], pt: Pt, text: &str) -> bool
-    ensures { result ≡ has_feedback attributes.now pt text.now }
-{
-    attributes
-        .iter()
-        .any(|attribute| is_feedback(pt, text, attribute))
-}
-
-fn red_of(attributes: &[MediaAttribute], mappings: &[Mapping], mapping: &Mapping) -> Option<Pt>
-    ensures { result ≡ (if is_audio_codec mapping.now.map.codec
-        then linked Red attributes.now mappings.now mapping.now.pt else None) }
-{
-    if mapping.map.codec.is_audio() {
-        return type_of(linked(Codec::Red, attributes, mappings, mapping.pt));
-    }
-    None
+    if codec.is_audio() { facts.red } else { None }
 }
 
 /// The row of a mapped type and its format.
-fn row_of(
-    attributes: &[MediaAttribute],
-    mappings: &[Mapping],
-    mapping: &Mapping,
-    format: FormatParams,
-) -> PayloadParams
-    ensures { result ≡ row_of attributes.now mappings.now mapping.now format }
+fn row_with(mapping: &Mapping, facts: &TypeFacts, format: FormatParams) -> PayloadParams
+    ensures { result ≡ row_with mapping.now facts.now format }
 {
     let pt = mapping.pt;
-    let resend = type_of(linked(Codec::Rtx, attributes, mappings, pt));
-    let red = red_of(attributes, mappings, mapping);
+    let red = red_of(mapping.map.codec, facts);
     let is_video = mapping.map.codec.is_video();
     let row = PayloadParams::new(pt, None, spec_of_map(&mapping.map, format));
-    let mut row = row.with_types(pt, resend, red);
-    row.set_fb_transport_cc(has_feedback(attributes, pt, "transport-cc"));
-    row.set_fb_nack(is_video || has_feedback(attributes, pt, "nack"));
-    row.set_fb_pli(is_video || has_feedback(attributes, pt, "nack pli"));
-    row.set_fb_fir(is_video || has_feedback(attributes, pt, "ccm fir"));
-    row.set_fb_remb(is_video || has_feedback(attributes, pt, "goog-remb"));
+    let mut row = row.with_types(pt, facts.resend, red);
+    row.set_fb_transport_cc(facts.feedback.transport_cc);
+    row.set_fb_nack(is_video || facts.feedback.nack);
+    row.set_fb_pli(is_video || facts.feedback.pli);
+    row.set_fb_fir(is_video || facts.feedback.fir);
+    row.set_fb_remb(is_video || facts.feedback.remb);
     row
 }
 
-fn is_listed(pts: &[Pt], pt: Pt) -> bool
-    ensures { result ≡ list_any (λ t. t == pt) pts.now }
+fn may_have_row(codec: Codec) -> bool
+    ensures { result ≡ may_have_row codec }
 {
-    pts.iter().any(|listed| listed.get() == pt.get())
+    codec.is_audio() || codec.is_video() || codec.is_tele()
 }
 
-fn has_row(pts: &[Pt], mapping: &Mapping) -> bool
-    ensures { result ≡ has_row pts.now mapping.now }
+fn has_row(codec: Codec, facts: &TypeFacts) -> bool
+    ensures { result ≡ has_row_by codec facts.now }
+{
+    codec.is_audio() || codec.is_video() || (codec.is_tele() && facts.is_listed)
+}
+
+fn row_by(mapping: &Mapping, facts: &TypeFacts) -> Option<PayloadParams>
+    ensures { result ≡ row_by mapping.now facts.now }
 {
     let codec = mapping.map.codec;
-    codec.is_audio() || codec.is_video() || (codec.is_tele() && is_listed(pts, mapping.pt))
-}
-
-fn row_given(
-    pts: &[Pt],
-    attributes: &[MediaAttribute],
-    mappings: &[Mapping],
-    mapping: &Mapping,
-) -> Option<PayloadParams>
-    ensures { result ≡ row_given pts.now attributes.now mappings.now mapping.now }
-{
-    if !has_row(pts, mapping) {
+    if !has_row(codec, facts) {
         return None;
     }
-    match format_given(mapping.map.codec, mapping.pt, attributes) {
-        Some(format) => Some(row_of(attributes, mappings, mapping, format)),
+    match format_by(codec, facts) {
+        Some(format) => Some(row_with(mapping, facts, format)),
         None => None,
     }
+}
+
+/// The row of a mapped type, by what is kept of the type, or else is found and kept.
+fn row_kept(
+    kept: &mut Vec<TypeFacts>,
+    section: &MediaLine,
+    resend_types: &[Pt],
+    red_types: &[Pt],
+    mapping: &Mapping,
+) -> Result<Option<PayloadParams>, AllocError>
+    requires { AreKept (facts_of section.now.pts section.now.attrs resend_types.now red_types.now) kept.old.items }
+    ensures row { IfOk result (λ row. row ≡ row_by mapping.now
+        (facts_of section.now.pts section.now.attrs resend_types.now red_types.now mapping.now.pt)) }
+    ensures kept { OnOk result
+        (AreKept (facts_of section.now.pts section.now.attrs resend_types.now red_types.now) kept.new.items) }
+{
+    if let Some(facts) = facts_in(kept.as_slice(), mapping.pt) {
+        return Ok(row_by(mapping, facts));
+    }
+    let facts = facts_of(section, resend_types, red_types, mapping.pt);
+    let row = row_by(mapping, &facts);
+    kept.push(facts)?;
+    Ok(row)
 }
 
 fn push_if(rows: &mut Vec<PayloadParams>, row: Option<PayloadParams>) -> Result<(), AllocError>
@@ -170,32 +115,50 @@ fn push_if(rows: &mut Vec<PayloadParams>, row: Option<PayloadParams>) -> Result<
     }
 }
 
-#[tactic(auto, unfolding(crate::specs::SectionRows::rows_given))]
+#[tactic(auto, unfolding(crate::specs::Facts::rows_by))]
 fn push_row(
     rows: &mut Vec<PayloadParams>,
-    pts: &[Pt],
-    attributes: &[MediaAttribute],
-    mappings: &[Mapping],
+    kept: &mut Vec<TypeFacts>,
+    section: &MediaLine,
+    resend_types: &[Pt],
+    red_types: &[Pt],
     mapping: &Mapping,
 ) -> Result<(), AllocError>
-    ensures { OnOk result (rows.new.items
-        ≡ rows.old.items ++ rows_given pts.now attributes.now mappings.now mapping.now) }
+    requires { AreKept (facts_of section.now.pts section.now.attrs resend_types.now red_types.now) kept.old.items }
+    ensures rows { OnOk result (rows.new.items ≡ rows.old.items
+        ++ rows_by section.now.pts section.now.attrs resend_types.now red_types.now mapping.now) }
+    ensures kept { OnOk result
+        (AreKept (facts_of section.now.pts section.now.attrs resend_types.now red_types.now) kept.new.items) }
 {
-    push_if(rows, row_given(pts, attributes, mappings, mapping))
+    if !may_have_row(mapping.map.codec) {
+        return Ok(());
+    }
+    let row = row_kept(kept, section, resend_types, red_types, mapping)?;
+    push_if(rows, row)
 }
 
+// A type is one byte, so that there are at most 256 to look through for each mapping.
 fn rows_of(
     alloc: Global,
-    pts: &[Pt],
-    attributes: &[MediaAttribute],
+    section: &MediaLine,
     mappings: &[Mapping],
 ) -> Result<Vec<PayloadParams>, AllocError>
     ensures { IfOk result (λ rows. rows.items
-        ≡ flat_map (rows_given pts.now attributes.now mappings.now) mappings.now) }
+        ≡ flat_map (rows_given section.now.pts section.now.attrs mappings.now) mappings.now) }
 {
+    let resend_types = types_mapped_to(alloc, Codec::Rtx, mappings)?;
+    let red_types = types_mapped_to(alloc, Codec::Red, mappings)?;
+    let mut kept = Vec::new(alloc);
     let mut rows = Vec::new(alloc);
     for mapping in mappings {
-        push_row(&mut rows, pts, attributes, mappings, mapping)?;
+        push_row(
+            &mut rows,
+            &mut kept,
+            section,
+            resend_types.as_slice(),
+            red_types.as_slice(),
+            mapping,
+        )?;
     }
     Ok(rows)
 }
@@ -212,8 +175,6 @@ fn rows_of(
 pub fn rtp_params(alloc: Global, section: &MediaLine) -> Result<Vec<PayloadParams>, AllocError>
     ensures { IfOk result (λ rows. rows.items ≡ rows_of section.now.pts section.now.attrs) }
 {
-    let pts = section.pts.as_slice();
-    let attributes = section.attrs.as_slice();
-    let mappings = mappings(alloc, pts, attributes)?;
-    rows_of(alloc, pts, attributes, mappings.as_slice())
+    let mappings = mappings(alloc, section.pts.as_slice(), section.attrs.as_slice())?;
+    rows_of(alloc, section, mappings.as_slice())
 }

@@ -1,0 +1,61 @@
+//! The type of retransmissions or of redundant audio of a payload type.
+
+ghost use Rattle.std.specs.Prelude.{◌≡◌, None, fold};
+ghost use Rattle.std.specs.List.{list_any};
+ghost use Rattle.sdp_formats_section_rows.specs.Facts.{linked_by, linked_in};
+ghost use Rattle.sdp_formats_section_rows.specs.SectionRows.{names};
+
+use crate::type_lists::is_listed;
+use rtp_wire::Pt;
+use sdp_formats_rows::Codec;
+use sdp_formats_types::{FormatParam, MediaAttribute};
+
+fn names(role: Codec, pt: Pt, param: &FormatParam) -> bool
+    ensures { result ≡ names role pt param.now }
+{
+    match (role, param) {
+        (Codec::Rtx, FormatParam::Apt(named)) => named.get() == pt.get(),
+        (Codec::Red, FormatParam::BarePtList(named)) => named.get() == pt.get(),
+        (Codec::Red, FormatParam::Red(named)) => named.get() == pt.get(),
+        _ => false,
+    }
+}
+
+fn any_names(role: Codec, pt: Pt, params: &[FormatParam]) -> bool
+    ensures { result ≡ list_any (names role pt) params.now }
+{
+    params.iter().any(|param| names(role, pt, param))
+}
+
+// A parameter names one type, so that asking for names first leaves few questions to the list.
+#[tactic(auto, unfolding(crate::specs::Facts::linked_by))]
+fn linked_by(
+    role: Codec,
+    types: &[Pt],
+    pt: Pt,
+    found: Option<Pt>,
+    attribute: &MediaAttribute,
+) -> Option<Pt>
+    ensures { result ≡ linked_by role types.now pt found attribute.now }
+{
+    match attribute {
+        MediaAttribute::Fmtp { pt: by, values } => {
+            if any_names(role, pt, values.as_slice()) && is_listed(types, *by) {
+                return Some(*by);
+            }
+            found
+        }
+        _ => found,
+    }
+}
+
+/// The last of the types in a role that names a type.
+pub(crate) fn linked(role: Codec, types: &[Pt], attributes: &[MediaAttribute], pt: Pt) -> Option<Pt>
+    ensures { result ≡ linked_in role types.now attributes.now pt }
+{
+    let mut found = None;
+    for attribute in attributes {
+        found = linked_by(role, types, pt, found, attribute);
+    }
+    found
+}
