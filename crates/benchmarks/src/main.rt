@@ -7,6 +7,7 @@ mod formats;
 mod h26x;
 mod headers;
 mod line;
+mod made_texts;
 mod measured;
 mod payloads;
 mod samples;
@@ -20,5 +21,6 @@ fn main(rt: HostRuntime) -> anyhow::Result<()> {
     headers::measure(&rt)?;
     payloads::measure(&rt)?;
     h26x::measure(&rt)?;
-    texts::measure(&rt, text.as_str())
+    texts::measure(&rt, text.as_str())?;
+    made_texts::measure(&rt)
 }

@@ -29,7 +29,7 @@ fn printed(alloc: Global, sdp: &Sdp) -> Result<usize, AllocError> {
 }
 
 /// Prints how many bytes went through in this time.
-fn report(rt: &HostRuntime, what: &str, bytes: usize, time: Duration) -> io::Result<()> {
+pub fn report(rt: &HostRuntime, what: &str, bytes: usize, time: Duration) -> io::Result<()> {
     println!(*rt; "{what}: {bytes} bytes")?;
     let micros = time.as_micros().max(1);
     let rate = bytes as u128 / micros;

@@ -55,10 +55,11 @@ unfoldable pub facts_of : List ℕ → List MediaAttribute → List ℕ → List
 facts_of pts attrs resend_types red_types pt =
     facts_with pts attrs pt (linked_in Rtx resend_types attrs pt) (linked_in Red red_types attrs pt)
 
--- Each one kept is that of its type.
+-- What is kept of a type, if anything is.
 abbrev pub find_facts : List TypeFacts → ℕ → Option TypeFacts
 find_facts kept pt = find (λ facts. facts.pt == pt) kept
 
+-- Whatever is found of a type is what the section says of it.
 abbrev pub AreKept : (ℕ → TypeFacts) → List TypeFacts → Type 0
 AreKept facts kept = (pt : ℕ) (f : TypeFacts) → find_facts kept pt ≡ Some f → f ≡ facts pt
 
