@@ -1,1 +1,4 @@
+mod KeyOrder
+mod KeySets
 mod OneMore
+mod OneName

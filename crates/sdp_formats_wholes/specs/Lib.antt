@@ -1,3 +1,5 @@
 pub mod Candidates
 pub mod Consistency
+pub mod Keys
+pub mod NameSets
 pub mod Wholes

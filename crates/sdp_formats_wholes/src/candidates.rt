@@ -1,14 +1,16 @@
 //! The candidates of a whole text.
 
-ghost use Rattle.std.specs.Prelude.{◌≡◌, ◌↔◌, ◌++◌, IfOk, IsTrue, OnOk};
+ghost use Rattle.std.specs.Prelude.{◌≡◌, ◌++◌, IfOk, OnOk};
 ghost use Rattle.std.specs.List.{filter_map, flat_map};
 ghost use Rattle.std.specs.Option.{option_copied};
-ghost use Rattle.sdp_formats_wholes.specs.Candidates.{Adds, AreEachOnce, IsAmong, borrowed, candidates_of};
+ghost use Rattle.sdp_formats_wholes.specs.Candidates.{Adds, AreEachOnce, borrowed, candidates_of};
 ghost use Rattle.sdp_formats_wholes.specs.Candidates.{section_candidate, section_candidates, session_candidate};
+ghost use Rattle.sdp_formats_wholes.specs.Keys.{HasKeysOf};
 
-use sdp_formats_equality::same::Same;
+use crate::keys::{CandidateKey, candidate_key};
 use sdp_formats_types::{Candidate, MediaAttribute, MediaLine, Sdp, SessionAttribute};
 use std::alloc::{AllocError, Global};
+use std::collections::BTreeSet;
 
 #[tactic(auto, unfolding(crate::specs::Candidates::session_candidate))]
 fn session_candidate(attribute: &SessionAttribute) -> Option<&Candidate>
@@ -73,24 +75,20 @@ fn all_candidates(alloc: Global, sdp: &Sdp) -> Result<Vec<&Candidate>, AllocErro
     Ok(candidates)
 }
 
-fn is_among(candidate: &Candidate, seen: &[&Candidate]) -> bool
-    ensures { IsTrue result ↔ IsAmong candidate.now (borrowed seen.now) }
+/// Adds a candidate that is in no earlier place, and its key.
+fn push_new<'a>(
+    once: &mut Vec<&'a Candidate>,
+    keys: &mut BTreeSet<CandidateKey<'a>>,
+    candidate: &'a Candidate,
+) -> Result<(), AllocError>
+    requires { HasKeysOf keys.old (borrowed once.old.items) }
+    ensures added { OnOk result (Adds (borrowed once.old.items) candidate.now (borrowed once.new.items)) }
+    ensures kept { OnOk result (HasKeysOf keys.new (borrowed once.new.items)) }
 {
-    for other in seen {
-        if other.is_same(candidate) {
-            return true;
-        }
-    }
-    false
-}
-
-fn push_new<'a>(seen: &mut Vec<&'a Candidate>, candidate: &'a Candidate) -> Result<(), AllocError>
-    ensures { OnOk result (Adds (borrowed seen.old.items) candidate.now (borrowed seen.new.items)) }
-{
-    if is_among(candidate, seen.as_slice()) {
+    if !keys.insert(candidate_key(candidate))? {
         return Ok(());
     }
-    seen.push(candidate)?;
+    once.push(candidate)?;
     Ok(())
 }
 
@@ -105,8 +103,9 @@ pub fn ice_candidates(alloc: Global, sdp: &Sdp) -> Result<Vec<&Candidate>, Alloc
 {
     let all = all_candidates(alloc, sdp)?;
     let mut once = Vec::new(alloc);
+    let mut keys = BTreeSet::new(alloc);
     for candidate in all.as_slice() {
-        push_new(&mut once, *candidate)?;
+        push_new(&mut once, &mut keys, *candidate)?;
     }
     Ok(once)
 }

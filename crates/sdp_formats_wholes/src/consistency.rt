@@ -1,13 +1,14 @@
 //! Whether the parts of a whole text go together.
 
 ghost use Rattle.std.specs.Prelude.{◌≡◌, ◌↔◌, IfOk, IsTrue, OnOk};
-ghost use Rattle.std.specs.List.{filter_map, list_all, list_any};
+ghost use Rattle.std.specs.List.{filter_map, list_all};
 ghost use Rattle.std.specs.Option.{option_copied};
 ghost use Rattle.sdp_formats_consistency.specs.Consistency.{is_consistent};
 ghost use Rattle.sdp_formats_types.specs.Lookups.{first_of};
 ghost use Rattle.sdp_formats_wholes.specs.Consistency.{AssertsWhole, IsWhole, are_apart, belongs, group_in};
-ghost use Rattle.sdp_formats_wholes.specs.Consistency.{grouped_mid, is_name, lists, mid_of};
+ghost use Rattle.sdp_formats_wholes.specs.Consistency.{grouped_mid, lists, mid_of};
 
+use crate::name_set::NameSet;
 use rtp_wire::Mid;
 use sdp_formats::SdpError;
 use sdp_formats_consistency::is_consistent;
@@ -21,27 +22,11 @@ fn are_consistent(sections: &[MediaLine]) -> bool
     sections.iter().all(|section| is_consistent(section))
 }
 
-fn is_name(name: Mid, other: Mid) -> bool
-    ensures { result ≡ is_name name other }
+fn are_apart(alloc: Global, names: &[Mid]) -> Result<bool, AllocError>
+    ensures { IfOk result (λ r. r ≡ are_apart names.now) }
 {
-    name.as_str() == other.as_str()
-}
-
-fn is_among(name: Mid, names: &[Mid]) -> bool
-    ensures { result ≡ list_any (is_name name) names.now }
-{
-    names.iter().any(|other| is_name(name, *other))
-}
-
-fn are_apart(names: &[Mid]) -> bool
-    ensures { result ≡ are_apart names.now }
-{
-    for place in 0..names.len() {
-        if is_among(names[place], &names[place + 1..]) {
-            return false;
-        }
-    }
-    true
+    let names = NameSet::of(alloc, names)?;
+    Ok(names.are_apart())
 }
 
 fn names_of(alloc: Global, sections: &[MediaLine]) -> Result<Vec<Mid>, AllocError>
@@ -77,22 +62,22 @@ fn first_group(attributes: &[SessionAttribute]) -> Option<&Listed<Mid>>
     None
 }
 
-fn lists(mids: &[Mid], name: Option<Mid>) -> bool
+fn lists(mids: &NameSet<'_>, name: Option<Mid>) -> bool
     ensures { result ≡ lists mids.now name }
 {
     match name {
-        Some(name) => is_among(name, mids),
+        Some(name) => mids.has(name),
         None => false,
     }
 }
 
-fn belongs(mids: &[Mid], section: &MediaLine) -> bool
+fn belongs(mids: &NameSet<'_>, section: &MediaLine) -> bool
     ensures { result ≡ belongs mids.now section.now }
 {
     !section.disabled || lists(mids, section.mid())
 }
 
-fn grouped_mid(mids: &[Mid], section: &MediaLine) -> Option<Mid>
+fn grouped_mid(mids: &NameSet<'_>, section: &MediaLine) -> Option<Mid>
     ensures { result ≡ grouped_mid mids.now section.now }
 {
     if belongs(mids, section) {
@@ -101,7 +86,11 @@ fn grouped_mid(mids: &[Mid], section: &MediaLine) -> Option<Mid>
     None
 }
 
-fn grouped(alloc: Global, mids: &[Mid], sections: &[MediaLine]) -> Result<Vec<Mid>, AllocError>
+fn grouped(
+    alloc: Global,
+    mids: &NameSet<'_>,
+    sections: &[MediaLine],
+) -> Result<Vec<Mid>, AllocError>
     ensures { IfOk result (λ names. names.items ≡ filter_map (grouped_mid mids.now) sections.now) }
 {
     let mut names = Vec::new(alloc);
@@ -116,7 +105,8 @@ fn grouped(alloc: Global, mids: &[Mid], sections: &[MediaLine]) -> Result<Vec<Mi
 fn is_grouped(alloc: Global, mids: &Listed<Mid>, sections: &[MediaLine]) -> Result<bool, AllocError>
     ensures { IfOk result (λ r. IsTrue r ↔ (mids.now ≡ filter_map (grouped_mid mids.now) sections.now)) }
 {
-    let names = Listed::of(grouped(alloc, mids.as_slice(), sections)?);
+    let listed = NameSet::of(alloc, mids.as_slice())?;
+    let names = Listed::of(grouped(alloc, &listed, sections)?);
     Ok(mids.is_same(&names))
 }
 
@@ -125,7 +115,7 @@ fn is_whole(alloc: Global, sdp: &Sdp) -> Result<bool, AllocError>
 {
     let sections = sdp.media_lines.as_slice();
     let names = names_of(alloc, sections)?;
-    if !are_consistent(sections) || !are_apart(names.as_slice()) {
+    if !are_consistent(sections) || !are_apart(alloc, names.as_slice())? {
         return Ok(false);
     }
     match first_group(sdp.session.attrs.as_slice()) {

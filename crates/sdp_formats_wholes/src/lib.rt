@@ -3,6 +3,8 @@
 
 mod candidates;
 mod consistency;
+mod keys;
+mod name_set;
 mod whole;
 
 pub use candidates::ice_candidates;
