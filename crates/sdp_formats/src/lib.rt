@@ -12,7 +12,7 @@ pub use sdp_formats_consistency::{Inconsistency, check_consistent, is_consistent
 pub use sdp_formats_forms::FingerprintFmt;
 pub use sdp_formats_types::{
     Bandwidth, Candidate, CandidateKind, Fingerprint, FormatParam, H265ProfileTierLevel,
-    H266ProfileTierLevel, IceCreds, Listed, MediaAttribute, MediaLine, MediaType,
-    Msid, Pair, Proto, Protocol, RelatedAddress, RestrictionId, RidDirection, RtpMap, Sdp, Session,
+    H266ProfileTierLevel, IceCreds, Listed, MediaAttribute, MediaLine, MediaType, Msid, Pair,
+    Proto, Protocol, RelatedAddress, RestrictionId, RidDirection, RtpMap, Sdp, Session,
     SessionAttribute, Setup, Simulcast, SimulcastGroups, SimulcastLayer, SsrcInfo, TcpType, Text,
 };
