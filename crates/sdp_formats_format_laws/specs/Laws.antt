@@ -7,7 +7,7 @@ use Rattle.sdp_formats_row_lines.specs.AsRead.{params_as_read}
 use Rattle.sdp_formats_row_lines.specs.Parameters.{parameters}
 use Rattle.sdp_formats_rows.specs.Plain.{is_plain}
 use Rattle.sdp_formats_rows.specs.Rows.{Row}
-use Rattle.sdp_formats_section_rows.specs.Attributes.{params_in}
+use Rattle.sdp_formats_row_attributes.specs.Attributes.{params_in}
 use Rattle.sdp_formats_types.specs.Printed.{params_text}
 
 -- A text that can stand on a line.

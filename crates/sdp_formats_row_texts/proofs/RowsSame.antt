@@ -17,7 +17,8 @@ use Rattle.sdp_formats_format.specs.Formats.{no_format}
 use Rattle.sdp_formats_format.specs.declared.format.FormatParams.{FormatParams}
 use Rattle.sdp_formats_section_rows.specs.Given.{events_after, events_in, format_given, is_declined, is_unsupported}
 use Rattle.sdp_formats_section_rows.specs.Given.{most_of, with_attribute, with_events, with_line, with_param}
-use Rattle.sdp_formats_section_rows.specs.Mapped.{is_mapped_to, mapping_in, mappings, spec_of_map, with_static}
+use Rattle.sdp_formats_row_attributes.specs.Maps.{spec_of_map}
+use Rattle.sdp_formats_section_rows.specs.Mapped.{is_mapped_to, mapping_in, mappings, with_static}
 use Rattle.sdp_formats_section_rows.specs.SectionRows.{has_feedback, has_row, is_feedback, linked, linked_after, listed}
 use Rattle.sdp_formats_section_rows.specs.SectionRows.{names, row_of, rows_given}
 use Rattle.sdp_formats_types.specs.declared.MediaAttribute.{MediaAttribute}

@@ -1,6 +1,5 @@
 pub mod Given
 pub mod Mapped
 pub mod SectionRows
-pub mod Attributes
 pub mod TypeLists
 pub mod Facts

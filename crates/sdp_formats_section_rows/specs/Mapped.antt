@@ -3,29 +3,12 @@ use Rattle.std.specs.Prelude.{ℕ, Bool, ◌==◌, ◌&&◌, List, [], ◌∷◌
 use Rattle.std.specs.Prelude.{if◌then◌else◌}
 use Rattle.std.specs.List.{list_any, flat_map}
 use Rattle.payload_core_base.specs.declared.codec.Codec.{Codec}
-use Rattle.payload_core_base.specs.declared.codec.Codec.TheVariants.{G722}
-use Rattle.sdp_formats_rows.specs.Codecs.{is_codec, rtp_clock_rate, static_spec}
-use Rattle.sdp_formats_format.specs.declared.format.FormatParams.{FormatParams}
+use Rattle.sdp_formats_rows.specs.Codecs.{is_codec, static_spec}
+use Rattle.sdp_formats_row_attributes.specs.Maps.{map_of}
 use Rattle.sdp_formats_rows.specs.declared.spec.CodecSpec.{CodecSpec}
 use Rattle.sdp_formats_types.specs.declared.media.MediaAttribute.{MediaAttribute}
 use Rattle.sdp_formats_types.specs.declared.media.MediaAttribute.TheVariants as attribute
-use Rattle.sdp_formats_types.specs.declared.media.RtpMap.{RtpMap}
 use Rattle.sdp_formats_section_rows.specs.declared.mapped.Mapping.{Mapping}
-
--- What `a=rtpmap` says of a codec: the clock rate of its timestamps.
-abbrev pub map_of : CodecSpec → RtpMap
-map_of spec = record { codec = spec.codec; clock_rate = rtp_clock_rate spec; channels = spec.channels }
-
--- The codec that it means: G.722 at 16,000 Hz, its one channel not given (RFC 3551 4.5.2).
-abbrev pub unless_one : Option ℕ → Option ℕ
-unless_one None = None
-unless_one (Some n) = if n == 1 then None else Some n
-
-abbrev pub spec_of_map : RtpMap → FormatParams → CodecSpec
-spec_of_map m format =
-    if is_codec m.codec G722
-    then record { codec = m.codec; clock_rate = 16000; channels = unless_one m.channels; format = format }
-    else record { codec = m.codec; clock_rate = m.clock_rate; channels = m.channels; format = format }
 
 -- The types that `a=rtpmap` lines map, in order.
 abbrev pub mapping_in : MediaAttribute → List Mapping

@@ -3,13 +3,14 @@
 ghost use Rattle.std.specs.Prelude.{◌≡◌, ◌++◌, ◌==◌, ◌&&◌, Some, IfOk, OnOk, fold};
 ghost use Rattle.std.specs.Prelude.{if◌then◌else◌};
 ghost use Rattle.sdp_formats_rows.specs.Codecs.{is_codec};
-ghost use Rattle.sdp_formats_section_rows.specs.Mapped.{is_mapped, map_of, mapping_in, mappings, mappings_in};
-ghost use Rattle.sdp_formats_section_rows.specs.Mapped.{spec_of_map, static_mapping, unless_one, with_static};
+ghost use Rattle.sdp_formats_section_rows.specs.Mapped.{is_mapped, mapping_in, mappings, mappings_in, static_mapping};
+ghost use Rattle.sdp_formats_section_rows.specs.Mapped.{with_static};
 ghost use Rattle.sdp_formats_section_rows.specs.TypeLists.{AreMapped};
 
 use crate::type_lists::is_listed;
-use rtp_wire::{Frequency, Pt};
-use sdp_formats_rows::{Codec, CodecSpec, FormatParams};
+use rtp_wire::Pt;
+use sdp_formats_row_attributes::map_of;
+use sdp_formats_rows::{Codec, CodecSpec};
 use sdp_formats_types::{MediaAttribute, RtpMap};
 use std::alloc::{AllocError, Global};
 
@@ -20,50 +21,10 @@ pub(crate) struct Mapping {
     pub map: RtpMap,
 }
 
-/// What `a=rtpmap` says of a codec: its name, the clock rate of its timestamps, its channels (RFC 8866 6.6).
-pub fn map_of(spec: &CodecSpec) -> RtpMap
-    ensures { result ≡ map_of spec.now }
-{
-    RtpMap {
-        codec: spec.codec,
-        clock_rate: spec.rtp_clock_rate(),
-        channels: spec.channels,
-    }
-}
-
-fn unless_one(channels: Option<u8>) -> Option<u8>
-    ensures { result ≡ unless_one channels }
-{
-    match channels {
-        Some(1) => None,
-        other => other,
-    }
-}
-
 pub(crate) fn is_codec(codec: Codec, other: Codec) -> bool
     ensures { result ≡ is_codec codec other }
 {
     codec == other
-}
-
-/// The codec that `a=rtpmap` means, in this format: G.722 at 16,000 Hz, its one channel not given (RFC 3551 4.5.2).
-pub fn spec_of_map(map: &RtpMap, format: FormatParams) -> CodecSpec
-    ensures { result ≡ spec_of_map map.now format }
-{
-    if is_codec(map.codec, Codec::G722) {
-        return CodecSpec {
-            codec: map.codec,
-            clock_rate: Frequency::SIXTEEN_KHZ,
-            channels: unless_one(map.channels),
-            format,
-        };
-    }
-    CodecSpec {
-        codec: map.codec,
-        clock_rate: map.clock_rate,
-        channels: map.channels,
-        format,
-    }
 }
 
 fn push_mapping(mappings: &mut Vec<Mapping>, attribute: &MediaAttribute) -> Result<(), AllocError>

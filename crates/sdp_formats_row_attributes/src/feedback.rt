@@ -2,8 +2,8 @@
 
 ghost use Rattle.std.specs.Prelude.{◌≡◌, ◌++◌, OnOk};
 ghost use Rattle.std.specs.Array.Iter.{array_into_iter_items};
-ghost use Rattle.sdp_formats_section_rows.specs.Attributes.{all_feedback, feedback_line, feedback_lines, is_used};
-ghost use Rattle.sdp_formats_section_rows.specs.Attributes.{words_of};
+ghost use Rattle.sdp_formats_row_attributes.specs.Attributes.{all_feedback, feedback_line, feedback_lines, is_used};
+ghost use Rattle.sdp_formats_row_attributes.specs.Attributes.{words_of};
 
 use sdp_formats_rows::PayloadParams;
 use sdp_formats_types::{MediaAttribute, Text};

@@ -1,11 +1,11 @@
 //! The attributes that list a row.
 
 ghost use Rattle.std.specs.Prelude.{◌≡◌, ◌++◌, IfOk, OnOk};
-ghost use Rattle.sdp_formats_section_rows.specs.Attributes.{attributes_of, fmtp_of, link_lines, red_lines};
-ghost use Rattle.sdp_formats_section_rows.specs.Attributes.{resend_lines};
+ghost use Rattle.sdp_formats_row_attributes.specs.Attributes.{attributes_of, fmtp_of, link_lines, red_lines};
+ghost use Rattle.sdp_formats_row_attributes.specs.Attributes.{resend_lines};
 
 use crate::feedback::push_feedback;
-use crate::mapped::map_of;
+use crate::maps::map_of;
 use crate::params::params_in;
 use rtp_wire::Pt;
 use sdp_formats_rows::{Codec, PayloadParams};

@@ -2,8 +2,8 @@
 
 ghost use Rattle.std.specs.Prelude.{◌≡◌, ◌++◌, IfOk, OnOk};
 ghost use Rattle.std.specs.Array.Iter.{array_into_iter_items};
-ghost use Rattle.sdp_formats_section_rows.specs.Attributes.{all_params, given_param, listed_param, param_in};
-ghost use Rattle.sdp_formats_section_rows.specs.Attributes.{params_in, params_of};
+ghost use Rattle.sdp_formats_row_attributes.specs.Attributes.{all_params, given_param, listed_param, param_in};
+ghost use Rattle.sdp_formats_row_attributes.specs.Attributes.{params_in, params_of};
 
 use sdp_formats_rows::{CodecSpec, FormatParams};
 use sdp_formats_types::FormatParam;

@@ -14,11 +14,11 @@ use Rattle.sdp_formats_rows.specs.declared.spec.CodecSpec.{CodecSpec}
 use Rattle.sdp_formats_types.specs.declared.media.MediaAttribute.{MediaAttribute}
 use Rattle.sdp_formats_types.specs.declared.media.MediaAttribute.TheVariants as attribute
 use Rattle.sdp_formats_types.specs.declared.media.RtpMap.{RtpMap}
-use Rattle.sdp_formats_section_rows.specs.Mapped.{map_of}
-use Rattle.sdp_formats_section_rows.specs.declared.params.Param.{Param}
-use Rattle.sdp_formats_section_rows.specs.declared.params.Param.TheVariants as of
-use Rattle.sdp_formats_section_rows.specs.declared.feedback.Feedback.{Feedback}
-use Rattle.sdp_formats_section_rows.specs.declared.feedback.Feedback.TheVariants as feedback
+use Rattle.sdp_formats_row_attributes.specs.Maps.{map_of}
+use Rattle.sdp_formats_row_attributes.specs.declared.params.Param.{Param}
+use Rattle.sdp_formats_row_attributes.specs.declared.params.Param.TheVariants as of
+use Rattle.sdp_formats_row_attributes.specs.declared.feedback.Feedback.{Feedback}
+use Rattle.sdp_formats_row_attributes.specs.declared.feedback.Feedback.TheVariants as feedback
 
 -- The parameters of a format, in the order of printing.
 abbrev pub param_in : FormatParams → Param → Option FormatParam
