@@ -7,7 +7,8 @@ use Rattle.sdp_formats_types.specs.declared.media.MediaType.TheVariants.{Audio, 
 use Rattle.sdp_formats_types.specs.declared.media.Proto.{Proto}
 use Rattle.sdp_formats_types.specs.declared.media.Proto.TheVariants.{Srtp, Sctp}
 use Rattle.sdp_formats_types.specs.declared.media.MediaAttribute.{MediaAttribute}
-use Rattle.sdp_formats_types.specs.declared.media.MediaAttribute.TheVariants.{Mid, RecvOnly, SendRecv, SendOnly, Inactive}
+use Rattle.sdp_formats_types.specs.declared.media.MediaAttribute.TheVariants.{Mid, RecvOnly, SendRecv, SendOnly}
+use Rattle.sdp_formats_types.specs.declared.media.MediaAttribute.TheVariants.{Inactive}
 
 abbrev pub is_media : MediaType → Bool
 is_media Audio = true
