@@ -2,7 +2,7 @@
 
 use crate::boxed::carried;
 use crate::formats::{Formats, depacketizer_of};
-use crate::printing::{hex_of, payloads, unit};
+use crate::printing::{hex_of, payloads, unit, yes_or_no};
 use crate::words::{bytes_of, next_bytes, next_number, next_word};
 use crate::{events, h26x, profiles, redundancy, vp8};
 use anyhow::anyhow;
@@ -27,45 +27,38 @@ pub struct Subjects {
 /// What a line gives: `codec NAME ..` takes up a payload format, and those that name nothing else are about it.
 pub fn answer(alloc: Global, subjects: &mut Subjects, line: &str) -> anyhow::Result<String> {
     let mut words = line.split_whitespace();
-    let Some(command) = words.next() else {
-        return Ok(String::new(alloc));
-    };
-    if command == "#" {
-        return Ok(String::from_str(alloc, line)?);
-    }
-    if command == "codec" {
-        let name = next_word(&mut words)?;
-        subjects.formats = Some(Formats::of(alloc, name, &mut words)?);
-        return Ok(String::from_str(alloc, line)?);
-    }
-    if command == "red" {
-        return redundancy::answer(alloc, &mut subjects.sender, &mut words);
-    }
-    if let Some(text) = of_codec(alloc, command, &mut words) {
-        return text;
-    }
-    match &mut subjects.formats {
-        Some(formats) => of_format(alloc, formats, command, &mut words),
-        None => Err(anyhow!("no codec yet")),
+    match words.next() {
+        None => Ok(String::new(alloc)),
+        Some("#") => Ok(String::from_str(alloc, line)?),
+        Some("codec") => {
+            subjects.formats = Some(Formats::of(alloc, &mut words)?);
+            Ok(String::from_str(alloc, line)?)
+        }
+        Some(command) => of_words(alloc, subjects, command, &mut words),
     }
 }
 
-/// What a command gives that is about no payload format; none where it is another one.
-fn of_codec(
+/// What a command gives with the words behind it.
+fn of_words(
     alloc: Global,
+    subjects: &mut Subjects,
     command: &str,
     words: &mut SplitWhitespace<'_>,
-) -> Option<anyhow::Result<String>> {
+) -> anyhow::Result<String> {
     match command {
-        "vp8" => Some(vp8::answer(alloc, words)),
-        "event" => Some(events::answer(alloc, words)),
-        "shows" => Some(h26x::shows(alloc, words)),
-        "units" => Some(h26x::units(alloc, words)),
-        "header" => Some(h26x::header(alloc, words)),
-        "profile" => Some(profiles::profile(alloc, words)),
-        "idc" => Some(profiles::idc(alloc, words)),
-        "level" => Some(profiles::level(alloc, words)),
-        _ => None,
+        "red" => redundancy::answer(alloc, &mut subjects.sender, words),
+        "vp8" => vp8::answer(alloc, words),
+        "event" => events::answer(alloc, words),
+        "shows" => h26x::shows(alloc, words),
+        "units" => h26x::units(alloc, words),
+        "header" => h26x::header(alloc, words),
+        "profile" => profiles::profile(alloc, words),
+        "idc" => profiles::idc(alloc, words),
+        "level" => profiles::level(alloc, words),
+        _ => match &mut subjects.formats {
+            Some(formats) => of_format(alloc, formats, command, words),
+            None => Err(anyhow!("no codec yet")),
+        },
     }
 }
 
@@ -76,36 +69,39 @@ fn of_format(
     command: &str,
     words: &mut SplitWhitespace<'_>,
 ) -> anyhow::Result<String> {
-    if command == "pack" {
-        return packed(alloc, formats, words);
+    match command {
+        "pack" => packed(alloc, formats, words),
+        "read" => read(alloc, formats, words),
+        "push" => pushed(alloc, formats, words),
+        "pop" => unit(alloc, formats.buffer.pop()?),
+        "drain" => unit(alloc, formats.buffer.drain()?),
+        "short" => short_packets(alloc, formats),
+        "boxed" => carried(alloc, formats, words),
+        "head" => head(alloc, formats, words),
+        "keyframe" => keyframe(alloc, formats.codec, words),
+        _ => Err(anyhow!("no command {command}")),
     }
-    if command == "read" {
-        return read(alloc, formats, words);
-    }
-    if command == "push" {
-        return pushed(alloc, formats, words);
-    }
-    if command == "pop" {
-        return unit(alloc, formats.buffer.pop()?);
-    }
-    if command == "drain" {
-        return unit(alloc, formats.buffer.drain()?);
-    }
-    if command == "short" {
-        return short_packets(alloc, formats);
-    }
-    if command == "boxed" {
-        return carried(alloc, formats, words);
-    }
+}
+
+/// `head PACKET`: whether a packet is the head of a frame.
+fn head(
+    alloc: Global,
+    formats: &Formats,
+    words: &mut SplitWhitespace<'_>,
+) -> anyhow::Result<String> {
     let packet = next_bytes(alloc, words)?;
-    let is_so = if command == "head" {
-        depacketizer_of(alloc, formats.codec, formats.options)?.is_partition_head(&packet)
-    } else if command == "keyframe" {
-        is_keyframe(formats.codec, &packet)
-    } else {
-        return Err(anyhow!("no command {command}"));
-    };
-    Ok(String::from_str(alloc, if is_so { "yes" } else { "no" })?)
+    let depacketizer = depacketizer_of(alloc, formats.codec, formats.options)?;
+    yes_or_no(alloc, depacketizer.is_partition_head(&packet))
+}
+
+/// `keyframe PACKET`: whether a packet shows a keyframe.
+fn keyframe(
+    alloc: Global,
+    codec: Codec,
+    words: &mut SplitWhitespace<'_>,
+) -> anyhow::Result<String> {
+    let packet = next_bytes(alloc, words)?;
+    yes_or_no(alloc, is_keyframe(codec, &packet))
 }
 
 /// `pack LIMIT SAMPLE`: the payloads that a sample is sent as.

@@ -1,5 +1,6 @@
 //! The payload format that the next lines are about.
 
+use crate::words::next_word;
 use anyhow::anyhow;
 use h26x_payload::{CodecDepacketizer, CodecPacketizer, NotBoxed};
 use payload_core::{Codec, DepacketizingBuffer, Payloader};
@@ -108,12 +109,8 @@ fn options_of(words: &mut SplitWhitespace<'_>) -> anyhow::Result<Options> {
 
 impl Formats {
     /// The payload format that words name: `NAME [aligned] [numbers=N] [id=N] [browsers] [hold=N] [16kHz]`.
-    pub fn of(
-        alloc: Global,
-        name: &str,
-        words: &mut SplitWhitespace<'_>,
-    ) -> anyhow::Result<Formats> {
-        let codec = Codec::from(name);
+    pub fn of(alloc: Global, words: &mut SplitWhitespace<'_>) -> anyhow::Result<Formats> {
+        let codec = Codec::from(next_word(words)?);
         let options = options_of(words)?;
         let depacketizer = depacketizer_of(alloc, codec, options)?;
         Ok(Formats {

@@ -1,6 +1,6 @@
 //! Units and headers of H.264, H.265 and H.266.
 
-use crate::printing::hex_of;
+use crate::printing::{hex_of, yes_or_no};
 use crate::words::{next_bytes, next_number, next_word};
 use anyhow::anyhow;
 use h26x_payload::{
@@ -30,8 +30,7 @@ pub fn units(alloc: Global, words: &mut SplitWhitespace<'_>) -> anyhow::Result<S
 pub fn shows(alloc: Global, words: &mut SplitWhitespace<'_>) -> anyhow::Result<String> {
     let nalu_type = next_number::<u8>(words)?;
     let packet = next_bytes(alloc, words)?;
-    let is_so = detect_h264_nalu(&packet, nalu_type);
-    Ok(String::from_str(alloc, if is_so { "yes" } else { "no" })?)
+    yes_or_no(alloc, detect_h264_nalu(&packet, nalu_type))
 }
 
 /// `header CODEC BYTES`: what a header tells, of one byte that of a fragment, of two that of a unit or a packet.

@@ -18,6 +18,11 @@ pub fn hex_of(alloc: Global, bytes: &[u8]) -> anyhow::Result<String> {
     Ok(hex::encode(alloc, bytes)?)
 }
 
+/// Whether something is so.
+pub fn yes_or_no(alloc: Global, is_so: bool) -> anyhow::Result<String> {
+    Ok(String::from_str(alloc, if is_so { "yes" } else { "no" })?)
+}
+
 /// Payloads, parted by blanks, and a star behind each that has the marker; a dash stands for none.
 pub fn payloads(alloc: Global, packets: &[SentPacket]) -> anyhow::Result<String> {
     let mut text = String::new(alloc);

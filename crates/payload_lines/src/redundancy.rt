@@ -13,23 +13,14 @@ pub fn answer(
     sender: &mut RedSender,
     words: &mut SplitWhitespace<'_>,
 ) -> anyhow::Result<String> {
-    let command = next_word(words)?;
-    if command == "wrap" {
-        return wrapped(alloc, sender, words);
+    match next_word(words)? {
+        "wrap" => wrapped(alloc, sender, words),
+        "write" => written(alloc, words),
+        "read" => read(alloc, &next_bytes(alloc, words)?),
+        "new" => synced(alloc, sender, true, words),
+        "sync" => synced(alloc, sender, false, words),
+        command => Err(anyhow!("no command red {command}")),
     }
-    if command == "write" {
-        return written(alloc, words);
-    }
-    let word = next_word(words)?;
-    if command == "read" {
-        return read(alloc, &bytes_of(alloc, word)?);
-    }
-    let distances = distances_of(alloc, word)?;
-    if command == "new" {
-        *sender = RedSender::new(alloc, &[])?;
-    }
-    sync(sender, &distances)?;
-    Ok(String::from_str(alloc, word)?)
 }
 
 /// Numbers that commas part; a dash stands for none.
@@ -44,13 +35,23 @@ fn distances_of(alloc: Global, word: &str) -> anyhow::Result<Vec<u32>> {
     Ok(distances)
 }
 
-/// Takes other distances, if they are some.
-fn sync(sender: &mut RedSender, distances: &[u32]) -> anyhow::Result<()> {
-    if !RedSender::are_distances(distances) {
+/// Takes the distances of the next word, if they are some, with what was sent before or with nothing.
+fn synced(
+    alloc: Global,
+    sender: &mut RedSender,
+    is_new: bool,
+    words: &mut SplitWhitespace<'_>,
+) -> anyhow::Result<String> {
+    let word = next_word(words)?;
+    let distances = distances_of(alloc, word)?;
+    if !RedSender::are_distances(&distances) {
         return Err(anyhow!("no distances"));
     }
-    sender.sync(distances)?;
-    Ok(())
+    if is_new {
+        *sender = RedSender::new(alloc, &[])?;
+    }
+    sender.sync(&distances)?;
+    Ok(String::from_str(alloc, word)?)
 }
 
 /// `wrap TYPE TIME BUDGET PAYLOAD`: the packet that a payload is sent in.

@@ -29,47 +29,31 @@ impl Rows {
 /// What a line gives.
 pub fn answer(alloc: Global, rows: &mut Rows, line: &str) -> anyhow::Result<String> {
     let mut words = line.split_whitespace();
-    let Some(command) = words.next() else {
-        return Ok(String::new(alloc));
-    };
-    if command == "#" {
-        return Ok(String::from_str(alloc, line)?);
+    match words.next() {
+        None => Ok(String::new(alloc)),
+        Some("#") => Ok(String::from_str(alloc, line)?),
+        Some("format") => format_text(alloc, line),
+        Some(command) => of_words(alloc, rows, command, &mut words),
     }
-    if command == "format" {
-        return format_text(alloc, line);
-    }
-    if let Some(text) = report(alloc, rows, command, &mut words)? {
-        return Ok(text);
-    }
-    change(alloc, rows, command, &mut words)?;
-    Ok(String::from_str(alloc, "ok")?)
 }
 
-/// What a command gives that tells something; None at another one.
-fn report(
+/// What a command gives.
+fn of_words(
     alloc: Global,
     rows: &mut Rows,
     command: &str,
     words: &mut SplitWhitespace<'_>,
-) -> anyhow::Result<Option<String>> {
-    let text = if command == "score" {
-        score(alloc, words)?
-    } else if command == "feedback" {
-        feedback(alloc, words)?
-    } else if command == "equal" {
-        equal(alloc, words)?
-    } else if command == "distances" {
-        distances(alloc, &mut rows.own, words)?
-    } else if command == "find" {
-        find(alloc, rows, Pt::new_with_value(next_number(words)?))?
-    } else if command == "rows" {
-        own_rows(alloc, rows)?
-    } else if command == "round" {
-        round(alloc, rows, Direction::from(next_word(words)?))?
-    } else {
-        return Ok(None);
-    };
-    Ok(Some(text))
+) -> anyhow::Result<String> {
+    match command {
+        "score" => score(alloc, words),
+        "feedback" => feedback(alloc, words),
+        "equal" => equal(alloc, words),
+        "distances" => distances(alloc, &mut rows.own, words),
+        "find" => find(alloc, rows, words),
+        "rows" => own_rows(alloc, rows),
+        "round" => round(alloc, rows, words),
+        _ => change(alloc, rows, command, words),
+    }
 }
 
 /// Rows put behind the others or in place of some, or none left.
@@ -78,38 +62,26 @@ fn change(
     rows: &mut Rows,
     command: &str,
     words: &mut SplitWhitespace<'_>,
-) -> anyhow::Result<()> {
-    if command == "fresh" {
-        *rows = Rows::new(alloc);
-    } else if command == "defaults" {
-        rows.own = CodecConfig::new_with_defaults(alloc)?;
-    } else if command == "enable" {
-        enable(&mut rows.own, true, words)?;
-    } else if command == "disable" {
-        enable(&mut rows.own, false, words)?;
-    } else if command == "add" {
-        add(rows, words)?;
-    } else if command == "clear" {
-        rows.own.clear();
-    } else if command == "other" {
-        rows.remote = Vec::new(alloc);
-    } else if command == "own" {
-        push_own(rows, next_row(words)?)?;
-    } else if command == "locked" {
-        let mut row = next_row(words)?;
-        row.lock();
-        push_own(rows, row)?;
-    } else if command == "remote" {
-        rows.remote.push(next_row(words)?)?;
-    } else {
-        return Err(anyhow!("no command {command}"));
+) -> anyhow::Result<String> {
+    match command {
+        "fresh" => *rows = Rows::new(alloc),
+        "defaults" => rows.own = CodecConfig::new_with_defaults(alloc)?,
+        "enable" => enable(&mut rows.own, true, words)?,
+        "disable" => enable(&mut rows.own, false, words)?,
+        "add" => add(rows, words)?,
+        "clear" => rows.own.clear(),
+        "other" => rows.remote.clear(),
+        "own" => rows.own.push(next_row(words)?)?,
+        "locked" => rows.own.push(locked(next_row(words)?))?,
+        "remote" => rows.remote.push(next_row(words)?)?,
+        _ => return Err(anyhow!("no command {command}")),
     }
-    Ok(())
+    Ok(String::from_str(alloc, "ok")?)
 }
 
-fn push_own(rows: &mut Rows, row: PayloadParams) -> anyhow::Result<()> {
-    rows.own.push(row)?;
-    Ok(())
+fn locked(mut row: PayloadParams) -> PayloadParams {
+    row.lock();
+    row
 }
 
 /// `add TYPE SPEC`: a new row of a codec behind the others.
@@ -138,7 +110,8 @@ fn score(alloc: Global, words: &mut SplitWhitespace<'_>) -> anyhow::Result<Strin
 }
 
 /// `find TYPE`: the codec of the first own row of a type.
-fn find(alloc: Global, rows: &Rows, pt: Pt) -> anyhow::Result<String> {
+fn find(alloc: Global, rows: &Rows, words: &mut SplitWhitespace<'_>) -> anyhow::Result<String> {
+    let pt = Pt::new_with_value(next_number(words)?);
     match rows.own.find(|row| row.pt() == pt) {
         Some(row) => {
             let codec = row.spec().codec;
@@ -156,7 +129,12 @@ fn own_rows(alloc: Global, rows: &Rows) -> anyhow::Result<String> {
 }
 
 /// `round DIRECTION`: what a round with the other end's rows leaves.
-fn round(alloc: Global, rows: &mut Rows, dir: Direction) -> anyhow::Result<String> {
+fn round(
+    alloc: Global,
+    rows: &mut Rows,
+    words: &mut SplitWhitespace<'_>,
+) -> anyhow::Result<String> {
+    let dir = Direction::from(next_word(words)?);
     let refusal = match rows.own.round(rows.remote.as_slice(), dir) {
         Ok(()) => String::from_str(alloc, "ok")?,
         Err(refusal) => refusal_text(alloc, refusal)?,

@@ -29,18 +29,14 @@ pub fn feedback(alloc: Global, words: &mut SplitWhitespace<'_>) -> anyhow::Resul
 }
 
 fn put_off(row: &mut PayloadParams, flag: &str) -> anyhow::Result<()> {
-    if flag == "cc" {
-        row.set_fb_transport_cc(false);
-    } else if flag == "nack" {
-        row.set_fb_nack(false);
-    } else if flag == "pli" {
-        row.set_fb_pli(false);
-    } else if flag == "fir" {
-        row.set_fb_fir(false);
-    } else if flag == "remb" {
-        row.set_fb_remb(false);
-    } else if flag != "-" {
-        return Err(anyhow!("no feedback {flag}"));
+    match flag {
+        "cc" => row.set_fb_transport_cc(false),
+        "nack" => row.set_fb_nack(false),
+        "pli" => row.set_fb_pli(false),
+        "fir" => row.set_fb_fir(false),
+        "remb" => row.set_fb_remb(false),
+        "-" => {}
+        _ => return Err(anyhow!("no feedback {flag}")),
     }
     Ok(())
 }

@@ -16,12 +16,10 @@ use std::alloc::Global;
 fn letter_of(word: &str) -> Option<Letter>
     ensures { result ≡ letter_of word.now }
 {
-    if word == "a" {
-        Some(Letter::A)
-    } else if word == "b" {
-        Some(Letter::B)
-    } else {
-        None
+    match word {
+        "a" => Some(Letter::A),
+        "b" => Some(Letter::B),
+        _ => None,
     }
 }
 

@@ -165,56 +165,40 @@ fn command_of(alloc: Global, words: Words<'_>) -> Result<Command, Misread>
     ensures { Reads result (command_of words.entry) }
 {
     let (verb, rest) = words.next()?;
-    if verb == "fixed" {
-        fixed_of(rest)
-    } else if verb == "send" {
-        send_of(alloc, rest)
-    } else if verb == "open" {
-        open_of(alloc, rest)
-    } else if verb == "sample" {
-        sample_of(alloc, rest)
-    } else if verb == "receive" {
-        receive_of(alloc, rest)
-    } else if verb == "poll" {
-        poll_of(rest)
-    } else {
-        exchange_command_of(alloc, verb, rest)
+    match verb {
+        "fixed" => fixed_of(rest),
+        "send" => send_of(alloc, rest),
+        "open" => open_of(alloc, rest),
+        "sample" => sample_of(alloc, rest),
+        "receive" => receive_of(alloc, rest),
+        "poll" => poll_of(rest),
+        _ => exchange_command_of(alloc, verb, rest),
     }
 }
 
 fn exchange_command_of(alloc: Global, verb: &str, rest: Words<'_>) -> Result<Command, Misread>
     ensures { Reads result (exchange_command_of verb.now rest.entry) }
 {
-    if verb == "row" {
-        row_of(alloc, rest)
-    } else if verb == "ext" {
-        ext_of(alloc, rest)
-    } else if verb == "end" {
-        end_of(rest)
-    } else if verb == "offer" {
-        offer_of(alloc, rest)
-    } else if verb == "answer" {
-        answer_of(alloc, rest)
-    } else if verb == "accept" {
-        accept_of(alloc, rest)
-    } else if verb == "withdraw" {
-        withdraw_of(rest)
-    } else if verb == "connect" {
-        connect_of(alloc, rest)
-    } else {
-        run_command_of(alloc, verb, rest)
+    match verb {
+        "row" => row_of(alloc, rest),
+        "ext" => ext_of(alloc, rest),
+        "end" => end_of(rest),
+        "offer" => offer_of(alloc, rest),
+        "answer" => answer_of(alloc, rest),
+        "accept" => accept_of(alloc, rest),
+        "withdraw" => withdraw_of(rest),
+        "connect" => connect_of(alloc, rest),
+        _ => run_command_of(alloc, verb, rest),
     }
 }
 
 fn run_command_of(alloc: Global, verb: &str, rest: Words<'_>) -> Result<Command, Misread>
     ensures { Reads result (run_command_of verb.now rest.entry) }
 {
-    if verb == "queue" {
-        queue_of(alloc, rest)
-    } else if verb == "play" {
-        play_of(alloc, rest)
-    } else {
-        Err(Misread::NotUnderstood)
+    match verb {
+        "queue" => queue_of(alloc, rest),
+        "play" => play_of(alloc, rest),
+        _ => Err(Misread::NotUnderstood),
     }
 }
 

@@ -80,12 +80,10 @@ impl Sections {
 fn kind_of(word: &str) -> Option<MediaKind>
     ensures { result ≡ kind_of word.now }
 {
-    if word == "audio" {
-        Some(MediaKind::Audio)
-    } else if word == "video" {
-        Some(MediaKind::Video)
-    } else {
-        None
+    match word {
+        "audio" => Some(MediaKind::Audio),
+        "video" => Some(MediaKind::Video),
+        _ => None,
     }
 }
 
@@ -93,16 +91,12 @@ fn kind_of(word: &str) -> Option<MediaKind>
 fn direction_of(word: &str) -> Option<Direction>
     ensures { result ≡ direction_of word.now }
 {
-    if word == "sendrecv" {
-        Some(Direction::SendRecv)
-    } else if word == "sendonly" {
-        Some(Direction::SendOnly)
-    } else if word == "recvonly" {
-        Some(Direction::RecvOnly)
-    } else if word == "inactive" {
-        Some(Direction::Inactive)
-    } else {
-        None
+    match word {
+        "sendrecv" => Some(Direction::SendRecv),
+        "sendonly" => Some(Direction::SendOnly),
+        "recvonly" => Some(Direction::RecvOnly),
+        "inactive" => Some(Direction::Inactive),
+        _ => None,
     }
 }
 
