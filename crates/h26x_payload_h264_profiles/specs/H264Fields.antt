@@ -1,5 +1,5 @@
--- What is written of a profile and level of H.264: its fields by their names.
-use Rattle.std.specs.Prelude.{codes}
+-- What is written and read of a profile and level of H.264: its fields by their names.
+use Rattle.std.specs.Prelude.{ℕ, ◌==◌, codes, if◌then◌else◌}
 use Rattle.serde.specs.Event.{Log, Sends, Then}
 use Rattle.payload_core_tables.specs.Fields.{InMap, WritesField}
 use Rattle.payload_core_tables.specs.Names.{name_event}
@@ -10,3 +10,9 @@ abbrev pub WritesProfileLevel : H264ProfileLevel → Log → Log → Type 0
 WritesProfileLevel both = InMap 2 (Then
     (WritesField (codes "profile") (Sends (name_event (profile_name both.profile))))
     (WritesField (codes "level") (Sends (name_event (level_name both.level)))))
+
+-- The profile and level with another one's field at this place among the fields.
+abbrev pub with_field : ℕ → H264ProfileLevel → H264ProfileLevel → H264ProfileLevel
+with_field place other own =
+    if place == 0 then record own { profile = other.profile }
+    else record own { level = other.level }

@@ -14,7 +14,6 @@ ghost use Rattle.h26x_payload_h264_profiles.specs.H264Names.{profile_name, profi
 
 use crate::h264_names::{H264_LEVELS, H264_PROFILE_IDCS};
 use payload_core_tables::{Numbered, find_number};
-use serde::Deserialize;
 use thiserror::Error;
 
 /// Why a number of H.264 is refused.
@@ -261,10 +260,10 @@ fn profile_of(idc: u8, iop: u8) -> Option<H264Profile>
 }
 
 /// A profile and a level of H.264.
-#[derive(Clone, Copy, Debug, PartialEq, Eq, Drop, Deserialize)]
+#[derive(Clone, Copy, Debug, PartialEq, Eq, Drop)]
 pub struct H264ProfileLevel {
-    profile: H264Profile,
-    level: H264LevelIdc,
+    pub(crate) profile: H264Profile,
+    pub(crate) level: H264LevelIdc,
 }
 
 impl H264ProfileLevel {

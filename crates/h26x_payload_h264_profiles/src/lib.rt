@@ -3,6 +3,7 @@
 
 mod h264;
 mod h264_names;
+mod reading;
 
 pub use h264::{
     H264LevelIdc, H264Profile, H264ProfileError, H264ProfileIdc, H264ProfileLevel, h264_tables_law,

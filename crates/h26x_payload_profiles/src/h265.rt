@@ -13,7 +13,6 @@ ghost use Rattle.h26x_payload_profiles.specs.H265Names.{profile_name, tier_name,
 use crate::h265_names::{H265_LEVELS, H265_PROFILES};
 use crate::values::given_or;
 use payload_core_tables::{Numbered, find_number};
-use serde::Deserialize;
 
 /// A profile of H.265.
 #[derive(Clone, Copy, Debug, PartialEq, Eq, Drop)]
@@ -187,11 +186,11 @@ impl Numbered for H265Level {
 }
 
 /// A profile, a tier and a level of H.265.
-#[derive(Clone, Copy, Debug, PartialEq, Eq, Drop, Deserialize)]
+#[derive(Clone, Copy, Debug, PartialEq, Eq, Drop)]
 pub struct H265ProfileTierLevel {
-    profile: H265Profile,
-    tier: H265Tier,
-    level: H265Level,
+    pub(crate) profile: H265Profile,
+    pub(crate) tier: H265Tier,
+    pub(crate) level: H265Level,
 }
 
 impl H265ProfileTierLevel {

@@ -13,7 +13,6 @@ ghost use Rattle.h26x_payload_profiles.specs.H266Names.{profile_name, tier_name,
 use crate::h266_names::H266_LEVELS;
 use crate::values::given_or;
 use payload_core_tables::{Numbered, find_number};
-use serde::Deserialize;
 
 /// A profile of H.266.
 #[derive(Clone, Copy, Debug, PartialEq, Eq, Drop)]
@@ -162,11 +161,11 @@ impl Numbered for H266Level {
 }
 
 /// A profile, a tier and a level of H.266.
-#[derive(Clone, Copy, Debug, PartialEq, Eq, Drop, Deserialize)]
+#[derive(Clone, Copy, Debug, PartialEq, Eq, Drop)]
 pub struct H266ProfileTierLevel {
-    profile: H266Profile,
-    tier: H266Tier,
-    level: H266Level,
+    pub(crate) profile: H266Profile,
+    pub(crate) tier: H266Tier,
+    pub(crate) level: H266Level,
 }
 
 impl H266ProfileTierLevel {

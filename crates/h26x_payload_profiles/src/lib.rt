@@ -6,6 +6,7 @@ mod h265_names;
 mod h266;
 mod h266_names;
 mod laws;
+mod reading;
 mod values;
 
 pub use h26x_payload_h264_profiles::{

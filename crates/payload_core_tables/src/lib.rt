@@ -5,7 +5,9 @@
 mod fields;
 mod named;
 mod numbered;
+mod struct_fields;
 
 pub use fields::write_field;
 pub use named::{Named, find_named, read_name, write_name};
 pub use numbered::{Numbered, find_number};
+pub use struct_fields::{FIELD, ReadFields, read_field, read_fields};

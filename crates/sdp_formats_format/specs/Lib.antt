@@ -1,3 +1,4 @@
 pub mod Fields
 pub mod Formats
+pub mod Reading
 pub mod Texts

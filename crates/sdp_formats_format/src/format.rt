@@ -6,10 +6,9 @@ ghost use Rattle.sdp_formats_format.specs.Formats.{no_format, format_of};
 use crate::levels::{gives_level, level_format};
 use crate::values::with_part;
 use sdp_formats_params::{H265ProfileTierLevel, H266ProfileTierLevel, split_semicolon};
-use serde::Deserialize;
 
 /// Format parameters of a codec, as `a=fmtp` gives them (RFC 8866 6.15); None is not given.
-#[derive(Clone, Copy, Debug, PartialEq, Eq, Default, Drop, Deserialize)]
+#[derive(Clone, Copy, Debug, PartialEq, Eq, Default, Drop)]
 pub struct FormatParams {
     /// Opus `minptime`: the least duration of a packet in milliseconds (RFC 7587 6.1).
     pub min_p_time: Option<u8>,

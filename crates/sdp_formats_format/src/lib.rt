@@ -5,6 +5,7 @@ mod fields;
 mod format;
 mod levels;
 mod printing;
+mod reading;
 mod values;
 
 pub use format::FormatParams;

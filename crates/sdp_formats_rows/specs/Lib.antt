@@ -4,4 +4,5 @@ pub mod Same
 pub mod Scores
 pub mod Laws
 pub mod Plain
+pub mod Reading
 pub mod Fields

@@ -1,4 +1,4 @@
-//! Codecs with their settings, and rows, as serde writes and reads them: by the names of their fields.
+//! Codecs with their settings, and rows, as serde writes them: by the names of their fields.
 
 ghost use Rattle.std.specs.Prelude.{◌≡◌, OnOk};
 ghost use Rattle.sdp_formats_rows.specs.Fields.{WritesCodec, WritesFeedback, WritesRow, WritesSpec, row_of_fields};
@@ -7,23 +7,21 @@ use crate::row::PayloadParams;
 use crate::spec::CodecSpec;
 use payload_core_tables::write_field;
 use rtp_wire::Pt;
-use serde::de::DeserializeOwned;
-use serde::{Described, Deserialize, Deserializer, Format, Serialize, Serializer};
-use std::alloc::Global;
+use serde::{Described, Serialize, Serializer};
 
 /// The fields of a row.
-#[derive(Clone, Copy, Drop, Deserialize)]
-struct Fields {
-    pt: Pt,
-    resend: Option<Pt>,
-    spec: CodecSpec,
-    fb_transport_cc: bool,
-    fb_nack: bool,
-    fb_pli: bool,
-    fb_fir: bool,
-    fb_remb: bool,
-    red: Option<Pt>,
-    locked: bool,
+#[derive(Clone, Copy, Drop)]
+pub(crate) struct Fields {
+    pub(crate) pt: Pt,
+    pub(crate) resend: Option<Pt>,
+    pub(crate) spec: CodecSpec,
+    pub(crate) fb_transport_cc: bool,
+    pub(crate) fb_nack: bool,
+    pub(crate) fb_pli: bool,
+    pub(crate) fb_fir: bool,
+    pub(crate) fb_remb: bool,
+    pub(crate) red: Option<Pt>,
+    pub(crate) locked: bool,
 }
 
 /// The fields of a row.
@@ -45,7 +43,7 @@ fn fields_of(row: &PayloadParams) -> Fields
 }
 
 /// The row of these fields.
-fn row_of(fields: &Fields) -> PayloadParams
+pub(crate) fn row_of(fields: &Fields) -> PayloadParams
     ensures { result ≡ row_of_fields fields.now }
 {
     let mut row = PayloadParams::new(fields.pt, fields.resend, fields.spec);
@@ -120,26 +118,5 @@ impl Described for PayloadParams {
 impl Serialize for PayloadParams {
     fn serialize<S: Serializer>(&self, out: &mut S) -> Result<(), S::Error> {
         fields_of(self).serialize(out)
-    }
-}
-
-/// The fields are read in any order; `resend` and `red` may be missing.
-impl<'de> Deserialize<'de> for PayloadParams {
-    fn deserialize<F: Format>(
-        alloc: Global,
-        from: &mut Deserializer<'de, '_, F>,
-    ) -> Result<Self, F::Error> {
-        let fields = Fields::deserialize(alloc, from)?;
-        Ok(row_of(&fields))
-    }
-}
-
-impl DeserializeOwned for PayloadParams {
-    fn deserialize_owned<F: Format>(
-        alloc: Global,
-        from: &mut Deserializer<'_, '_, F>,
-    ) -> Result<Self, F::Error> {
-        let fields = Fields::deserialize_owned(alloc, from)?;
-        Ok(row_of(&fields))
     }
 }

@@ -3,6 +3,7 @@
 
 mod fields;
 mod plain;
+mod reading;
 mod row;
 mod same;
 mod score;

@@ -3,10 +3,9 @@
 use payload_core_base::Codec;
 use rtp_wire::{Frequency, Pt};
 use sdp_formats_format::FormatParams;
-use serde::Deserialize;
 
 /// A codec with its clock rate, channels and format (RFC 8866 6.6 and 6.15).
-#[derive(Clone, Copy, Debug, PartialEq, Eq, Drop, Deserialize)]
+#[derive(Clone, Copy, Debug, PartialEq, Eq, Drop)]
 pub struct CodecSpec {
     /// The codec.
     pub codec: Codec,
