@@ -1,6 +1,6 @@
 //! Sending H.264 payloads (RFC 6184 5.6, 5.7.1 and 5.8).
 
-ghost use Rattle.h26x_payload_annexb.specs.Units.{units_of};
+ghost use Rattle.h26x_payload_units.specs.Units.{units_of};
 ghost use Rattle.h26x_payload_units.specs.Aggregates.{sized};
 ghost use Rattle.h26x_payload_units.specs.Departures.{alone, departing, departures, together, waiting_after};
 ghost use Rattle.h26x_payload_units.specs.Departures.{waiting_behind};
@@ -17,7 +17,7 @@ use crate::constants::{
     PPS_NALU_TYPE, SPS_NALU_TYPE, STAPA_HEADER_SIZE, STAPA_NALU_LENGTH_SIZE,
 };
 use crate::headers::type_of;
-use h26x_payload_annexb::nal_units;
+use h26x_payload_units::nal_units;
 use payload_core_base::{PacketError, Packetizer};
 use std::alloc::Global;
 

@@ -7,9 +7,9 @@ use Rattle.std.proofs.lemmas.Bool.Decides.{nat_tests}
 use Rattle.std.proofs.lemmas.List.{append-nil, drop_all, length-append, length-drop, length-take, map-append}
 use Rattle.std.proofs.lemmas.List.{take-append-drop, take_all}
 use Rattle.std.proofs.lemmas.List.Elements.{All-append, All-cons, All-head, All-nil, All-tail, All-weaker}
-use Rattle.h26x_payload_annexb.specs.Cut.{AreUnits}
-use Rattle.h26x_payload_annexb.specs.Units.{units_of}
-use Rattle.h26x_payload_annexb.proofs.UnitLemmas.{units_law}
+use Rattle.h26x_payload_units.specs.Cut.{AreUnits}
+use Rattle.h26x_payload_units.specs.Units.{units_of}
+use Rattle.h26x_payload_units.proofs.UnitLemmas.{units_law}
 use Rattle.payload_core_base.specs.Format.{Run, read_all, run_behind}
 use Rattle.payload_core_base.specs.Law.{AreFramesOf, AreFull, AreWithin, IsFrameOf, joined}
 use Rattle.payload_core_base.specs.Packing.{MarkedPacket, Sender, is_none_left, marked}

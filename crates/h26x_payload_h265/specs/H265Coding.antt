@@ -1,7 +1,7 @@
 -- What H.265 packets of a sample are to a receiver.
 use Rattle.std.specs.Prelude.{◌≡◌, ℕ, ◌+◌, ◌<◌, ◌≤◌, Bool, List, [], ◌∷◌, length, map, None}
 use Rattle.std.specs.List.{flat_map}
-use Rattle.h26x_payload_annexb.specs.Units.{units_of}
+use Rattle.h26x_payload_units.specs.Units.{units_of}
 use Rattle.payload_core_base.specs.Format.{Run, read_all}
 use Rattle.payload_core_base.specs.Law.{AreFull, AreWithin, CodecLaw, Coding}
 use Rattle.payload_core_base.specs.Packing.{Sender}

@@ -2,7 +2,7 @@
 use Rattle.std.specs.Prelude.{ℕ, ◌+◌, ◌-◌, ◌*◌, ◌/◌, ◌%◌, ◌==◌, ◌&&◌, ◌||◌, Bool, true, List, [], ◌∷◌, ◌++◌, length}
 use Rattle.std.specs.Prelude.{take, drop, min, nat_le, Result, Ok, if◌then◌else◌}
 use Rattle.std.specs.List.{flat_map, list_all}
-use Rattle.h26x_payload_annexb.specs.Units.{units_of}
+use Rattle.h26x_payload_units.specs.Units.{units_of}
 use Rattle.payload_core_base.specs.Packing.{Packing, Sender, Sent}
 use Rattle.payload_core_base.specs.Pieces.{pieces}
 use Rattle.payload_core_base.specs.declared.error.PacketError.{PacketError}

@@ -1,6 +1,6 @@
 //! Sending H.265 payloads (RFC 7798 4.4).
 
-ghost use Rattle.h26x_payload_annexb.specs.Units.{units_of};
+ghost use Rattle.h26x_payload_units.specs.Units.{units_of};
 ghost use Rattle.h26x_payload_h265.specs.H265Numbers.{donl_size};
 ghost use Rattle.h26x_payload_h265.specs.H265Packing.{fragment, fragments_of, h265_packing, h265_rules, packets_of};
 ghost use Rattle.h26x_payload_h265.specs.H265Packing.{role_by, unit_type};
@@ -21,7 +21,7 @@ use crate::constants::{
 };
 use crate::h265_packets::{Cut, Form, aggregate, fragment, single, single_size};
 use crate::headers::{dond_size, donl_size, type_of};
-use h26x_payload_annexb::nal_units;
+use h26x_payload_units::nal_units;
 use payload_core_base::{PacketError, Packetizer};
 use std::alloc::Global;
 

@@ -1,6 +1,6 @@
 //! Sending H.266 payloads (RFC 9328 4.3).
 
-ghost use Rattle.h26x_payload_annexb.specs.Units.{units_of};
+ghost use Rattle.h26x_payload_units.specs.Units.{units_of};
 ghost use Rattle.h26x_payload_h266.specs.H266Numbers.{donl_size};
 ghost use Rattle.h26x_payload_h266.specs.H266Packing.{fragment, fragments_of, h266_packing, h266_rules, packets_of};
 ghost use Rattle.h26x_payload_h266.specs.H266Packing.{role_by, unit_type};
@@ -21,7 +21,7 @@ use crate::constants::{
 };
 use crate::h266_packets::{Cut, Form, aggregate, fragment, single, single_size};
 use crate::headers::{donl_size, type_of};
-use h26x_payload_annexb::nal_units;
+use h26x_payload_units::nal_units;
 use payload_core_base::{PacketError, Packetizer};
 use std::alloc::Global;
 

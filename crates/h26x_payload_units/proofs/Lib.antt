@@ -1,3 +1,8 @@
+pub mod CutLemmas
+pub mod LayoutLemmas
+pub mod PlaceLemmas
+pub mod SplitLemmas
+pub mod UnitLemmas
 pub mod AggregateLaw
 pub mod AggregateLemmas
 pub mod BundleLemmas

@@ -1,3 +1,7 @@
+pub mod Cut
+pub mod Places
+pub mod Units
+pub mod UnitsLeft
 pub mod AggregateLayout
 pub mod Aggregates
 pub mod Departures

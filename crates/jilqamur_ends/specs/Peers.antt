@@ -4,7 +4,7 @@ use Rattle.rtp_wire.specs.Kinds.{extension_of}
 use Rattle.rtp_wire.specs.Maps.{empty_map}
 use Rattle.sdp_formats_rows.specs.Rows.{Row}
 use Rattle.rtp_media_sections.specs.Sections.{Wanted}
-use Rattle.rtp_media_runs.specs.Hearing.{MediaUnit}
+use Rattle.rtp_media_schedules.specs.Hearing.{MediaUnit}
 use Rattle.rtp_media_ends.specs.Ends.{EndState}
 
 -- What a handle of an end holds: the end, once it is made; the rows and the map of the next end, and the sections of

@@ -1,7 +1,7 @@
 -- What calls of receiving streams answer.
 use Rattle.std.specs.Prelude.{ℕ, ◌≡◌, ◌≢◌, List, length, Option, Some, None}
 use Rattle.rtp_wire.specs.Name.{name_of}
-use Rattle.rtp_media_runs.specs.Hearing.{MediaUnit}
+use Rattle.rtp_media_schedules.specs.Hearing.{MediaUnit}
 use Rattle.rtp_media_streams.specs.Drains.{drained_receiver, holding}
 use Rattle.rtp_media_streams.specs.Polls.{IsInterrupted, PollResult}
 use Rattle.rtp_media_streams.specs.Receiving.{Receiving, polled_receiver, with_stream}

@@ -1,6 +1,6 @@
 -- What samples and polls answer, as numbers.
 use Rattle.std.specs.Prelude.{ℕ, Option, Some, None, Ok, Err}
-use Rattle.rtp_media_runs.specs.Hearing.{MediaUnit, poll_answer}
+use Rattle.rtp_media_schedules.specs.Hearing.{MediaUnit, poll_answer}
 use Rattle.rtp_media_streams.specs.Drains.{drain_answer}
 use Rattle.rtp_media_streams.specs.Polls.{PollResult, given}
 use Rattle.rtp_media_streams.specs.Receiving.{Receiving}

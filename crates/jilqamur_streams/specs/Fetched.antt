@@ -1,6 +1,6 @@
 -- What is told of units.
 use Rattle.std.specs.Prelude.{ℕ, ◌≡◌, List, Option, Some, None}
-use Rattle.rtp_media_runs.specs.Hearing.{MediaUnit}
+use Rattle.rtp_media_schedules.specs.Hearing.{MediaUnit}
 use Rattle.jilqamur_payloads.specs.Units.{told_by}
 use Rattle.jilqamur_payloads.specs.declared.payload_unit.WireUnit.{WireUnit}
 

@@ -2,7 +2,7 @@
 use Rattle.std.specs.Prelude.{ℕ, ◌≡◌, ◌≢◌, Bool, List, Option, Some, None}
 use Rattle.rtp_wire.specs.Maps.{empty_map}
 use Rattle.rtp_wire.specs.Values.{absent}
-use Rattle.rtp_media_runs.specs.Hearing.{MediaUnit}
+use Rattle.rtp_media_schedules.specs.Hearing.{MediaUnit}
 use Rattle.rtp_media_streams.specs.Drains.{drained_receiver, holding}
 use Rattle.rtp_media_streams.specs.Polls.{IsInterrupted, PollResult}
 use Rattle.rtp_media_streams.specs.Receiving.{Receiving, arrived, opened_receiver, polled_receiver, taken_number}

@@ -8,7 +8,7 @@ use Rattle.h26x_payload.specs.Codings.{Forms, Settings}
 use Rattle.rtp_wire.specs.Carried.{AreValues}
 use Rattle.rtp_wire.specs.Values.{absent}
 use Rattle.sdp_formats_rows.specs.Rows.{Row}
-use Rattle.rtp_media_runs.specs.Samples.{Timed}
+use Rattle.rtp_media_schedules.specs.SentSamples.{Timed}
 use Rattle.rtp_media_schedules.specs.Samples.{AreWellFormed}
 use Rattle.rtp_media_streams.specs.Rows.{forms_for, settings_in}
 use Rattle.rtp_media_streams.specs.Sending.{Sample, Sending, opened_sender, packet_limit, samples_of}

@@ -4,8 +4,8 @@ use Rattle.std.proofs.Common.{Bool, true, false, ◌&&◌, List, [], ◌∷◌, 
 use Rattle.std.proofs.Common.{Result, ◌⊎◌, true≢false}
 use Rattle.std.specs.Prelude.{All}
 use Rattle.payload_core_base.specs.declared.error.PacketError.{PacketError}
-use Rattle.rtp_media_runs.specs.Hearing.{Answer, EndsSilent, MediaUnit}
-use Rattle.rtp_media_runs.specs.Samples.{Timed, timed_unit}
+use Rattle.rtp_media_schedules.specs.Hearing.{Answer, EndsSilent, MediaUnit}
+use Rattle.rtp_media_schedules.specs.SentSamples.{Timed, timed_unit}
 use Rattle.payload_core_base.specs.Format.{Format}
 use Rattle.rtp_media_schedules.specs.Orders.{IsGoodPoll, IsTame, first_size}
 use Rattle.rtp_media_schedules.specs.Samples.{SentSample, canonical_units, frame_sizes, packets_of, whole_unit}

@@ -13,7 +13,7 @@ use Rattle.payload_core_base.proofs.PieceLemmas.{pieces-empty, pieces-step}
 use Rattle.payload_core_audio.specs.Plain.{pieces_coding, pieces_packing, plain_format, unit_of_piece}
 use Rattle.h26x_payload.specs.Codings as codings
 use Rattle.h26x_payload.specs.Codings.{Forms, Settings}
-use Rattle.rtp_media_runs.specs.Samples.{Timed}
+use Rattle.rtp_media_schedules.specs.SentSamples.{Timed}
 use Rattle.rtp_media_schedules.specs.Samples.{SentSample, sent_by}
 use Rattle.rtp_media_streams.specs.Rows.{format_of, forms_for, settings_in}
 use Rattle.rtp_media_streams.specs.Sending.{Sample, Sending, packet_limit, samples_of}

@@ -5,7 +5,7 @@ use Rattle.payload_core_base.specs.declared.codec.Codec.{Codec}
 use Rattle.payload_core_base.specs.declared.codec.Codec.TheVariants.{Opus, PCMU, PCMA, G722}
 use Rattle.payload_core_base.specs.declared.error.PacketError.{PacketError}
 use Rattle.rtp_wire.specs.Values.{absent}
-use Rattle.rtp_media_runs.specs.Hearing.{MediaUnit}
+use Rattle.rtp_media_schedules.specs.Hearing.{MediaUnit}
 use Rattle.rtp_media_streams.specs.Sending.{Sample}
 use Rattle.sdp_formats_rows.specs.Rows.{Row}
 use Rattle.rtp_media_play.specs.declared.schedule.Played.{Played}

@@ -1,7 +1,7 @@
 //! A call of three samples, of any codec whose packets are pieces of its samples.
 
 ghost use Rattle.std.specs.Prelude.{◌≡◌, ◌≤◌, ℕ, List, length, map, true, All, IfOk, IfSome, IsTrue, Ok, None};
-ghost use Rattle.rtp_media_runs.specs.Hearing.{handed_out};
+ghost use Rattle.rtp_media_schedules.specs.Hearing.{handed_out};
 ghost use Rattle.rtp_media_streams.specs.Sending.{packet_limit};
 ghost use Rattle.rtp_media_ends.specs.Connections.{HaveExchanged};
 ghost use Rattle.rtp_media_ends.specs.Ends.{is_receiver_at, is_sender_at, sender_at};

@@ -6,7 +6,7 @@ use Rattle.rtp_wire.specs.Name.{name_of}
 use Rattle.rtp_wire.specs.Time.{Time}
 use Rattle.rtp_wire.specs.Values.{absent}
 use Rattle.rtp_wire.specs.declared.ExtensionValues.{ExtensionValues}
-use Rattle.rtp_media_runs.specs.Hearing.{MediaUnit, poll_answer}
+use Rattle.rtp_media_schedules.specs.Hearing.{MediaUnit, poll_answer}
 use Rattle.rtp_media_streams.specs.Polls.{IsInterrupted, PollResult, given}
 use Rattle.rtp_media_streams.specs.Rows.{format_of}
 use Rattle.rtp_media_streams.specs.Sending.{HasFailed, sent_datagrams, after_sample, refusal_of_sample}

@@ -22,8 +22,8 @@ use Rattle.payload_core_base.specs.declared.error.PacketError.{PacketError}
 use Rattle.payload_core_buffer.specs.Sending.{outgoing_from}
 use Rattle.payload_core_red.specs.RedHistory.{Redundancy, keeping}
 use Rattle.payload_core_red.specs.RedReading.{read_red}
-use Rattle.rtp_media_runs.specs.Hearing.{Content, Comes, content_of}
-use Rattle.rtp_media_runs.specs.Samples.{Timed, sent_or, timed}
+use Rattle.rtp_media_schedules.specs.Hearing.{Content, Comes, content_of}
+use Rattle.rtp_media_schedules.specs.SentSamples.{Timed, sent_or, timed}
 use Rattle.rtp_media_schedules.specs.Samples.{AreWellFormed, SentSample, contents_by, datagrams, packets_of, sent_by}
 use Rattle.rtp_media_schedules.specs.Sending.{no_content}
 use Rattle.rtp_media_streams.specs.Redundant.{primary_of, unwrapped, wrapped}

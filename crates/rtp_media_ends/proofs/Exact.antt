@@ -10,9 +10,10 @@ use Rattle.h26x_payload.specs.Dispatch.{KeepCodecLawInForms}
 use Rattle.payload_core_base.specs.Format.{Format}
 use Rattle.payload_core_base.specs.Outgoing.{Outgoing}
 use Rattle.payload_core_base.specs.declared.error.PacketError.{PacketError}
-use Rattle.rtp_media_runs.specs.Hearing.{Answer, Content, EndsSilent, Event, Comes, Poll, Stream, after_events, fresh}
-use Rattle.rtp_media_runs.specs.Hearing.{handed_out, heard, number_at, taken_by}
-use Rattle.rtp_media_runs.specs.Samples.{Timed, timed_unit}
+use Rattle.rtp_media_schedules.specs.Hearing.{Answer, Content, EndsSilent, Event, Comes, Poll, Stream, after_events}
+use Rattle.rtp_media_schedules.specs.Hearing.{fresh}
+use Rattle.rtp_media_schedules.specs.Hearing.{handed_out, heard, number_at, taken_by}
+use Rattle.rtp_media_schedules.specs.SentSamples.{Timed, timed_unit}
 use Rattle.rtp_media_schedules.specs.Samples.{AreSentAs, SentSample, canonical_units, datagrams}
 use Rattle.rtp_media_schedules.specs.Samples.{whole_unit}
 use Rattle.rtp_media_schedules.specs.Sending.{Canonical, numbered}

@@ -12,7 +12,7 @@ use Rattle.rtp_wire.specs.Maps.{empty_map}
 use Rattle.rtp_wire.specs.declared.ExtensionValues.{ExtensionValues}
 use Rattle.rtp_wire.specs.declared.header.RtpHeader.{RtpHeader}
 use Rattle.payload_core_base.specs.Format.{Format}
-use Rattle.rtp_media_runs.specs.Hearing.{Stream, Event, heard_step, after_events}
+use Rattle.rtp_media_schedules.specs.Hearing.{Stream, Event, heard_step, after_events}
 use Rattle.rtp_media_streams.specs.Receiving.{Receiving, is_own, media_payload, values_read, with_stream}
 use Rattle.rtp_media_streams.specs.Rows.{format_of}
 use Rattle.rtp_media_streams.specs.Types.{is_type}

@@ -7,8 +7,8 @@ use Rattle.std.proofs.lemmas.List.Elements.{All-head, All-tail}
 use Rattle.h26x_payload.specs.Dispatch.{KeepCodecLawInForms}
 use Rattle.payload_core_base.specs.Packing.{Sender}
 use Rattle.rtp_wire.specs.Values.{Numbering}
-use Rattle.rtp_media_runs.specs.Hearing.{Event, Comes}
-use Rattle.rtp_media_runs.specs.Samples.{Timed, timed}
+use Rattle.rtp_media_schedules.specs.Hearing.{Event, Comes}
+use Rattle.rtp_media_schedules.specs.SentSamples.{Timed, timed}
 use Rattle.rtp_media_schedules.specs.Samples.{AreWellFormed, SentSample, datagrams, packets_of, sent_by}
 use Rattle.rtp_media_schedules.specs.Sending.{numbered}
 use Rattle.rtp_media_streams.specs.Receiving.{Receiving}

@@ -5,7 +5,7 @@ use Rattle.rtp_wire.specs.Header.{header_in}
 use Rattle.rtp_wire.specs.Maps.{empty_map}
 use Rattle.rtp_wire.specs.declared.header.RtpHeader.{RtpHeader}
 use Rattle.payload_core_base.specs.Law.{Coding}
-use Rattle.rtp_media_runs.specs.Samples.{Timed}
+use Rattle.rtp_media_schedules.specs.SentSamples.{Timed}
 use Rattle.rtp_media_schedules.specs.Samples.{AreWellFormed, SentSample, canonical_units, packets_of, sent_by}
 use Rattle.rtp_media_schedules.specs.Samples.{whole_unit}
 use Rattle.rtp_media_schedules.specs.Turns.{AreGoodArrivals}

@@ -1,7 +1,7 @@
 //! What holds of every end.
 
 ghost use Rattle.std.specs.Prelude.{◌≡◌, ◌↔◌, ℕ, List, map, None};
-ghost use Rattle.rtp_media_runs.specs.Hearing.{after_events};
+ghost use Rattle.rtp_media_schedules.specs.Hearing.{after_events};
 ghost use Rattle.rtp_media_ends.specs.Ends.{EndState, receiver_at, refusal_of_open_receiver};
 ghost use Rattle.rtp_media_ends.specs.Ends.{refusal_of_open_sender};
 ghost use Rattle.rtp_media_ends.specs.OpensAt.{ReceivesAt, SendsAt};

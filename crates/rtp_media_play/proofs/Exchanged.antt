@@ -7,8 +7,8 @@ use Rattle.rtp_wire.specs.Maps.{empty_map}
 use Rattle.rtp_wire.specs.Values.{Numbering}
 use Rattle.sdp_formats_rows.specs.Rows.{Row}
 use Rattle.payload_core_base.specs.Packing.{Sender}
-use Rattle.rtp_media_runs.specs.Hearing.{Stream, fresh, heard}
-use Rattle.rtp_media_runs.specs.Samples.{Timed, timed}
+use Rattle.rtp_media_schedules.specs.Hearing.{Stream, fresh, heard}
+use Rattle.rtp_media_schedules.specs.SentSamples.{Timed, timed}
 use Rattle.rtp_media_schedules.specs.Samples.{whole_unit}
 use Rattle.rtp_media_streams.specs.Receiving.{Receiving, opened_receiver, with_stream}
 use Rattle.rtp_media_streams.specs.Rows.{coding_in, format_of, forms_for, settings_in}

@@ -5,7 +5,7 @@ use Rattle.std.specs.Prelude.{Result, Ok, Err}
 use Rattle.payload_core_base.specs.Law.{CodecLaw, Coding, SendsUnits, joined}
 use Rattle.payload_core_base.specs.Packing as packing
 use Rattle.payload_core_base.specs.declared.error.PacketError.{PacketError}
-use Rattle.rtp_media_runs.specs.Samples.{Timed, sent_or, timed}
+use Rattle.rtp_media_schedules.specs.SentSamples.{Timed, sent_or, timed}
 use Rattle.rtp_media_schedules.specs.Samples.{AreWellFormed, SentSample, canonical_units, sent_by, units_in, whole_unit}
 use Rattle.rtp_media_play.specs.Units.{units_by}
 

@@ -9,9 +9,9 @@ use Rattle.rtp_wire.specs.Maps.{empty_map}
 use Rattle.rtp_wire.specs.declared.header.RtpHeader.{RtpHeader}
 use Rattle.h26x_payload.specs.Dispatch.{KeepCodecLawInForms}
 use Rattle.payload_core_base.specs.Format.{Format}
-use Rattle.rtp_media_runs.specs.Hearing as hearing
-use Rattle.rtp_media_runs.specs.Hearing.{Answer, Comes, EndsSilent, Stream, fresh, handed_out, heard}
-use Rattle.rtp_media_runs.specs.Samples.{timed_unit}
+use Rattle.rtp_media_schedules.specs.Hearing as hearing
+use Rattle.rtp_media_schedules.specs.Hearing.{Answer, Comes, EndsSilent, Stream, fresh, handed_out, heard}
+use Rattle.rtp_media_schedules.specs.SentSamples.{timed_unit}
 use Rattle.rtp_media_schedules.specs.Legal.{IsLegal}
 use Rattle.rtp_media_schedules.specs.Orders.{IsTame, first_size}
 use Rattle.rtp_media_schedules.specs.Samples.{AreSentAs, SentSample, canonical_units, datagrams}

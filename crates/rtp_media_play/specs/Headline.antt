@@ -1,7 +1,7 @@
 -- Two ends that exchanged texts, and each opened a stream.
 use Rattle.std.specs.Prelude.{ℕ, ◌+◌, ◌^◌, ◌<◌, ◌≤◌, List, length}
-use Rattle.rtp_media_runs.specs.Hearing.{Answer}
-use Rattle.rtp_media_runs.specs.Samples.{Timed}
+use Rattle.rtp_media_schedules.specs.Hearing.{Answer}
+use Rattle.rtp_media_schedules.specs.SentSamples.{Timed}
 use Rattle.rtp_media_streams.specs.Sending.{Sample, datagrams_of}
 use Rattle.rtp_media_ends.specs.Connections.{HaveExchanged}
 use Rattle.rtp_media_ends.specs.Ends.{EndState, after_open_receiver, agreed_format, agreed_red, new_sender, stream_map}

@@ -1,6 +1,6 @@
 -- Sane and tame schedules of a sending stream's samples, and the stream that hears them.
 use Rattle.std.specs.Prelude.{ℕ, ◌≡◌, ◌+◌, ◌^◌, ◌≤◌, false, List, [], ◌∷◌, ◌++◌}
-use Rattle.rtp_media_runs.specs.Hearing.{Answer, EndsSilent}
+use Rattle.rtp_media_schedules.specs.Hearing.{Answer, EndsSilent}
 use Rattle.rtp_media_schedules.specs.Orders.{IsSane, IsTame, first_size}
 use Rattle.rtp_media_schedules.specs.Samples.{canonical_units, frame_sizes}
 use Rattle.rtp_media_schedules.specs.Sending.{Canonical}

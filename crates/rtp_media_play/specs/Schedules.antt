@@ -2,8 +2,8 @@
 use Rattle.std.specs.Prelude.{ℕ, ◌+◌, nat_lt, if◌then◌else◌, List, [], ◌∷◌, ◌++◌, Option, Some, None}
 use Rattle.std.specs.Prelude.{option_and_then, slice_get}
 use Rattle.std.specs.List.{filter_map}
-use Rattle.rtp_media_runs.specs.Hearing as hearing
-use Rattle.rtp_media_runs.specs.Hearing.{Answer, poll_answer}
+use Rattle.rtp_media_schedules.specs.Hearing as hearing
+use Rattle.rtp_media_schedules.specs.Hearing.{Answer, poll_answer}
 use Rattle.rtp_media_schedules.specs.Turns.{Turn, Ask}
 use Rattle.rtp_media_schedules.specs.Turns as turns
 use Rattle.rtp_media_streams.specs.Receiving.{Receiving, polled_receiver}

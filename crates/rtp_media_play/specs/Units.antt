@@ -6,7 +6,7 @@ use Rattle.rtp_wire.specs.Header.{image}
 use Rattle.rtp_wire.specs.Time.{rebased_ticks}
 use Rattle.rtp_wire.specs.Values.{Numbering}
 use Rattle.rtp_wire.specs.declared.ExtensionValues.{ExtensionValues}
-use Rattle.rtp_media_runs.specs.Samples.{Timed, timed}
+use Rattle.rtp_media_schedules.specs.SentSamples.{Timed, timed}
 use Rattle.rtp_media_streams.specs.Rows.{coding_in, first_state, rtp_rate}
 use Rattle.rtp_media_streams.specs.Sending.{Sample, stamped}
 use Rattle.rtp_media_streams.specs.declared.row_format.RowFormat.{RowFormat}

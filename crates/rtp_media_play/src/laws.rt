@@ -1,8 +1,8 @@
 //! What holds of every run between two ends.
 
 ghost use Rattle.std.specs.Prelude.{◌≡◌, ◌↔◌, ℕ, List, length, map, None, Ok};
-ghost use Rattle.rtp_media_runs.specs.Hearing.{fresh, handed_out, heard};
-ghost use Rattle.rtp_media_runs.specs.Samples.{timed_unit};
+ghost use Rattle.rtp_media_schedules.specs.Hearing.{fresh, handed_out, heard};
+ghost use Rattle.rtp_media_schedules.specs.SentSamples.{timed_unit};
 ghost use Rattle.rtp_media_schedules.specs.Legal.{IsLegal};
 ghost use Rattle.rtp_media_schedules.specs.Samples.{whole_unit};
 ghost use Rattle.rtp_media_streams.specs.Rows.{format_of};

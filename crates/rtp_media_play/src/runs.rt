@@ -3,8 +3,8 @@
 ghost use Rattle.std.specs.Prelude.{◌≡◌, ◌≢◌, ◌⊎◌, ◌++◌, ℕ, List, true, map, IfOk, IfErr, OnOk, OnErr, None};
 ghost use Rattle.std.specs.Prelude.{option_to_list};
 ghost use Rattle.std.specs.Prelude.{Ok};
-ghost use Rattle.rtp_media_runs.specs.Hearing.{handed_out, heard};
-ghost use Rattle.rtp_media_runs.specs.Samples.{timed_unit};
+ghost use Rattle.rtp_media_schedules.specs.Hearing.{handed_out, heard};
+ghost use Rattle.rtp_media_schedules.specs.SentSamples.{timed_unit};
 ghost use Rattle.rtp_media_schedules.specs.Legal.{IsLegal};
 ghost use Rattle.rtp_media_streams.specs.Rows.{format_of};
 ghost use Rattle.rtp_media_ends.specs.Ends.{is_receiver_at, is_sender_at, receiver_at};

@@ -6,9 +6,10 @@ use Rattle.std.specs.Prelude.{Option, None, Some, if◌then◌else◌}
 use Rattle.payload_core_base.specs.Format.{Format}
 use Rattle.payload_core_buffer.specs.Buffered.{pushed}
 use Rattle.payload_core_buffer.specs.declared.frame.Frame.{Frame}
-use Rattle.rtp_media_runs.specs.Hearing as hearing
-use Rattle.rtp_media_runs.specs.Hearing.{Answer, Content, Stream, due, fresh, heard, packet_of, poll_answer, polled}
-use Rattle.rtp_media_runs.specs.Hearing.{stream_behind, taken_by}
+use Rattle.rtp_media_schedules.specs.Hearing as hearing
+use Rattle.rtp_media_schedules.specs.Hearing.{Answer, Content, Stream, due, fresh, heard, packet_of, poll_answer}
+use Rattle.rtp_media_schedules.specs.Hearing.{polled}
+use Rattle.rtp_media_schedules.specs.Hearing.{stream_behind, taken_by}
 use Rattle.rtp_wire.specs.Replay.{is_accepted, recorded_in}
 use Rattle.rtp_media_schedules.specs.Drains.{HeldTurn, Arrive, AskAt, heard_at, holding, turn_at, turn_of}
 use Rattle.rtp_media_schedules.specs.Legal.{IsLegal, Ended, Silent}

@@ -16,10 +16,10 @@ use Rattle.payload_core_buffer.specs.Packets.{Packet, metas_of, payloads_of}
 use Rattle.payload_core_buffer.specs.Pops.{no_extra, run_of}
 use Rattle.payload_core_buffer.specs.declared.frame.Frame.{Frame}
 use Rattle.payload_core_buffer.specs.declared.held.RtpMeta.{RtpMeta}
-use Rattle.rtp_media_runs.specs.Hearing.{content_of, Content, MediaUnit, unit_from, meta_at}
+use Rattle.rtp_media_schedules.specs.Hearing.{content_of, Content, MediaUnit, unit_from, meta_at}
 use Rattle.rtp_media_schedules.specs.Turns.{Sender}
 use Rattle.rtp_media_schedules.proofs.Places.{packet}
-use Rattle.rtp_media_runs.specs.Hearing.{answer_of, answer_by}
+use Rattle.rtp_media_schedules.specs.Hearing.{answer_of, answer_by}
 use Rattle.rtp_media_schedules.specs.Legal.{IsFinalRunOf}
 use Rattle.rtp_media_schedules.specs.Sending.{SentFrame, canonical}
 use Rattle.rtp_media_schedules.proofs.Numbers.{packet-at, Rises-behind}

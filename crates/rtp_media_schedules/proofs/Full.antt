@@ -7,8 +7,8 @@ use Rattle.std.proofs.lemmas.List.Sums.{count_by-le-length}
 use Rattle.std.proofs.lemmas.List.FromFn.{length-range_with_len}
 use Rattle.payload_core_base.specs.Format.{Format}
 use Rattle.rtp_media_schedules.specs.Turns.{Turn, Arrive, Ask, AllCame, AreGoodArrivals, event_of, is_among, waiting}
-use Rattle.rtp_media_runs.specs.Samples.{timed_unit}
-use Rattle.rtp_media_runs.specs.Hearing.{EndsSilent, fresh, handed_out, heard}
+use Rattle.rtp_media_schedules.specs.SentSamples.{timed_unit}
+use Rattle.rtp_media_schedules.specs.Hearing.{EndsSilent, fresh, handed_out, heard}
 use Rattle.rtp_media_schedules.specs.Orders.{IsTame, first_size, left_after, next_after}
 use Rattle.rtp_media_schedules.specs.Samples.{AreSentAs, SentSample, canonical_units, datagrams, frame_sizes}
 use Rattle.rtp_media_schedules.specs.Samples.{packets_of, whole_unit}

@@ -1,3 +1,4 @@
+pub mod Cuts
 pub mod Places
 pub mod Windows
 pub mod Numbers
@@ -12,3 +13,4 @@ pub mod TrueNumbers
 pub mod Selections
 pub mod Polls
 pub mod Drains
+mod NotLegal

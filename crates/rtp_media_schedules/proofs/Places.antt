@@ -9,7 +9,7 @@ use Rattle.std.specs.List.{range_with_len}
 use Rattle.std.proofs.lemmas.Bool.Decides.{nat_tests}
 use Rattle.payload_core_buffer.specs.Buffered.{held_with, limited}
 use Rattle.payload_core_buffer.specs.Packets.{Packet}
-use Rattle.rtp_media_runs.specs.Hearing.{packet_of}
+use Rattle.rtp_media_schedules.specs.Hearing.{packet_of}
 use Rattle.rtp_media_schedules.specs.Turns.{Sender}
 
 abbrev pub packet : Sender → ℕ → Packet

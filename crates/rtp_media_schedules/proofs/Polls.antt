@@ -6,8 +6,8 @@ use Rattle.std.proofs.lemmas.List.{length-drop}
 use Rattle.payload_core_base.specs.Format.{Format}
 use Rattle.payload_core_buffer.specs.Frames.{IsFrame}
 use Rattle.payload_core_buffer.specs.declared.frame.Frame.{Frame}
-use Rattle.rtp_media_runs.specs.Hearing.{EndsSilent, Poll, Stream, due, heard, poll_answer}
-use Rattle.rtp_media_runs.specs.Hearing.{stream_behind}
+use Rattle.rtp_media_schedules.specs.Hearing.{EndsSilent, Poll, Stream, due, heard, poll_answer}
+use Rattle.rtp_media_schedules.specs.Hearing.{stream_behind}
 use Rattle.rtp_media_schedules.proofs.Sane.{due-is, poll_answer-is, polled-is}
 
 -- once a poll answers None, the later ones do

@@ -17,7 +17,7 @@ use Rattle.payload_core_buffer.specs.Frames.{lowest_of, number_at, packet_at, ru
 use Rattle.payload_core_buffer.specs.Packets.{Packet}
 use Rattle.payload_core_buffer.specs.declared.frame.Frame.{Frame}
 use Rattle.payload_core_buffer.proofs.FrameLemmas.{lowest_is}
-use Rattle.rtp_media_runs.specs.Hearing.{Content}
+use Rattle.rtp_media_schedules.specs.Hearing.{Content}
 use Rattle.rtp_media_schedules.specs.Turns.{Sender}
 use Rattle.rtp_media_schedules.proofs.Places.{packet, eqb-no, eqb-yes, nat_lt-no}
 use Rattle.rtp_media_schedules.specs.Sending.{SentFrame}

@@ -11,11 +11,11 @@ use Rattle.payload_core_base.specs.Packing.{MarkedPacket, Sent, marked}
 use Rattle.payload_core_base.specs.Packing as packing
 use Rattle.payload_core_base.specs.declared.error.PacketError.{PacketError}
 use Rattle.rtp_wire.specs.declared.ExtensionValues.{ExtensionValues}
-use Rattle.rtp_media_runs.specs.Hearing.{Content, MediaUnit, content_of}
-use Rattle.rtp_media_runs.specs.Samples.{Timed, sent_or, timed, timed_unit}
+use Rattle.rtp_media_schedules.specs.Hearing.{Content, MediaUnit, content_of}
+use Rattle.rtp_media_schedules.specs.SentSamples.{Timed, sent_or, timed, timed_unit}
 use Rattle.rtp_media_schedules.specs.Turns.{Turn, Arrive, Ask, event_of}
-use Rattle.rtp_media_runs.specs.Hearing.{Answer, EndsSilent, Stream, after_events, fresh, handed_out, heard}
-use Rattle.rtp_media_runs.specs.Hearing.{number_at, poll_answer, polled, taken_by}
+use Rattle.rtp_media_schedules.specs.Hearing.{Answer, EndsSilent, Stream, after_events, fresh, handed_out, heard}
+use Rattle.rtp_media_schedules.specs.Hearing.{number_at, poll_answer, polled, taken_by}
 use Rattle.rtp_media_schedules.specs.Legal.{IsFinalRunOf, IsLegal, Ended, Silent, PassedOver, HandedOut}
 use Rattle.rtp_media_schedules.specs.Orders.{IsSane, IsTame, first_size}
 use Rattle.rtp_media_schedules.specs.Samples.{AreSentAs, AreWellFormed, SentSample, canonical_units, contents_by}

@@ -14,15 +14,15 @@ use Rattle.payload_core_buffer.specs.Frames.{packets_between}
 use Rattle.payload_core_buffer.specs.Packets.{Packet, metas_of}
 use Rattle.payload_core_buffer.specs.declared.frame.Frame.{Frame}
 use Rattle.payload_core_buffer.proofs.FrameLemmas.{lowest_is}
-use Rattle.rtp_media_runs.specs.Hearing.{content_of, Content, MediaUnit}
+use Rattle.rtp_media_schedules.specs.Hearing.{content_of, Content, MediaUnit}
 use Rattle.rtp_media_schedules.specs.Turns.{Sender, Turn, Arrive, Ask, event_of, greatest_of, IsNear}
 use Rattle.rtp_media_schedules.proofs.Places.{packet}
 use Rattle.rtp_wire.specs.Replay.{Window, accepts, is_accepted, recorded_in, greatest_in}
 use Rattle.rtp_wire.specs.Widening.{widened}
 use Rattle.rtp_wire.proofs.WideningLaws.{widened-near}
-use Rattle.rtp_media_runs.specs.Hearing as hearing
-use Rattle.rtp_media_runs.specs.Hearing.{Stream, Answer, answer_among, answer_of, due, fresh, heard, poll_answer}
-use Rattle.rtp_media_runs.specs.Hearing.{polled, run_among, stream_behind, taken_by}
+use Rattle.rtp_media_schedules.specs.Hearing as hearing
+use Rattle.rtp_media_schedules.specs.Hearing.{Stream, Answer, answer_among, answer_of, due, fresh, heard, poll_answer}
+use Rattle.rtp_media_schedules.specs.Hearing.{polled, run_among, stream_behind, taken_by}
 use Rattle.rtp_media_schedules.specs.Legal.{IsFinalRunOf, IsLegal, Ended, Silent}
 use Rattle.rtp_media_schedules.specs.Orders.{IsSane, IsSaneArrival}
 use Rattle.rtp_media_schedules.specs.Sending.{SentFrame, AreFrames, canonical, canonical_from, contents, contents_in}

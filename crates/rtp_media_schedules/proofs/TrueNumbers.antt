@@ -16,8 +16,8 @@ use Rattle.rtp_media_schedules.specs.Turns.{Sender, Turn, Arrive, Ask, event_of,
 use Rattle.rtp_media_schedules.proofs.Places.{packet}
 use Rattle.rtp_media_schedules.proofs.Windows.{contains-window_with, eq_by_cmp-nat}
 use Rattle.rtp_wire.specs.Replay.{Window, accepts, is_accepted, recorded_in, window_at, window_with}
-use Rattle.rtp_media_runs.specs.Hearing as hearing
-use Rattle.rtp_media_runs.specs.Hearing.{Stream, after_events, due, fresh, polled, stream_behind, taken_by}
+use Rattle.rtp_media_schedules.specs.Hearing as hearing
+use Rattle.rtp_media_schedules.specs.Hearing.{Stream, after_events, due, fresh, polled, stream_behind, taken_by}
 use Rattle.rtp_media_schedules.specs.Orders.{IsSane, IsSaneArrival}
 use Rattle.rtp_media_schedules.specs.TrueNumbers.{AreRecorded, AreTrueNumbers, IsRecorded, Rises, arrived, behind}
 use Rattle.rtp_media_schedules.proofs.Numbers.{IsHeld, Rises-behind, held-limited, packet-at}

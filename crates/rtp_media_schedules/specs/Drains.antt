@@ -2,7 +2,7 @@
 -- drain none.
 use Rattle.std.specs.Prelude.{ℕ, ◌%◌, List, [], ◌∷◌}
 use Rattle.payload_core_base.specs.Format.{Format}
-use Rattle.rtp_media_runs.specs.Hearing.{Answer, Stream, number_at, poll_answer, polled, taken_by}
+use Rattle.rtp_media_schedules.specs.Hearing.{Answer, Stream, number_at, poll_answer, polled, taken_by}
 use Rattle.rtp_media_schedules.specs.Turns as turns
 use Rattle.rtp_media_schedules.specs.Turns.{Sender, Turn}
 

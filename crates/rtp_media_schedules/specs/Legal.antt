@@ -2,8 +2,8 @@
 use Rattle.std.specs.Prelude.{ℕ, suc, ◌≡◌, ◌<◌, ◌≤◌, List, [], ◌∷◌, length, drop, map, slice_index, slice_index_or}
 use Rattle.std.specs.Prelude.{None, Some, Ok}
 use Rattle.payload_core_base.specs.Law.{joined}
-use Rattle.rtp_media_runs.specs.Hearing.{MediaUnit}
-use Rattle.rtp_media_runs.specs.Hearing.{Answer, handed_out}
+use Rattle.rtp_media_schedules.specs.Hearing.{MediaUnit}
+use Rattle.rtp_media_schedules.specs.Hearing.{Answer, handed_out}
 use Rattle.rtp_media_schedules.specs.Sending.{Canonical}
 
 -- What is handed out is the unit or, where it has several parts, a nonempty final run of them, with its time

@@ -1,3 +1,5 @@
+pub mod Hearing
+pub mod SentSamples
 pub mod Turns
 pub mod Orders
 pub mod Sending

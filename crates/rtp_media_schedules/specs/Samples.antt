@@ -5,8 +5,8 @@ use Rattle.payload_core_base.specs.Format.{Format}
 use Rattle.payload_core_base.specs.Law.{AreFramesOf, Coding, joined}
 use Rattle.payload_core_base.specs.Packing.{MarkedPacket, marked}
 use Rattle.payload_core_base.specs.Packing as packing
-use Rattle.rtp_media_runs.specs.Hearing.{Content, content_of}
-use Rattle.rtp_media_runs.specs.Samples.{Timed, sent_or, timed}
+use Rattle.rtp_media_schedules.specs.Hearing.{Content, content_of}
+use Rattle.rtp_media_schedules.specs.SentSamples.{Timed, sent_or, timed}
 use Rattle.rtp_media_schedules.specs.Sending.{Canonical}
 use Rattle.rtp_wire.specs.declared.ExtensionValues.{ExtensionValues}
 

@@ -6,7 +6,7 @@ use Rattle.payload_core_base.specs.Law.{IsFrameOf, joined}
 use Rattle.payload_core_base.specs.Packing.{MarkedPacket}
 use Rattle.payload_core_base.specs.declared.error.PacketError.{PacketError}
 use Rattle.payload_core_base.specs.declared.extra.CodecExtra.{CodecExtra}
-use Rattle.rtp_media_runs.specs.Hearing.{Content, MediaUnit, content_of}
+use Rattle.rtp_media_schedules.specs.Hearing.{Content, MediaUnit, content_of}
 use Rattle.rtp_media_schedules.specs.Turns.{Sender}
 use Rattle.rtp_wire.specs.Values.{absent}
 use Rattle.rtp_wire.specs.declared.ExtensionValues.{ExtensionValues}

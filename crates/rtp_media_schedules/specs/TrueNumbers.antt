@@ -2,9 +2,9 @@
 use Rattle.std.specs.Prelude.{ℕ, ◌≡◌, ◌+◌, ◌%◌, ◌<◌, ◌≤◌, List, [], ◌∷◌, map, Option, None, Some}
 use Rattle.std.specs.FinSet as set
 use Rattle.rtp_wire.specs.Replay.{Window}
-use Rattle.rtp_media_runs.specs.Hearing.{packet_of}
+use Rattle.rtp_media_schedules.specs.Hearing.{packet_of}
 use Rattle.rtp_media_schedules.specs.Turns.{Sender, Turn, Arrive, Ask, greatest_of, is_among}
-use Rattle.rtp_media_runs.specs.Hearing.{Stream, number_at}
+use Rattle.rtp_media_schedules.specs.Hearing.{Stream, number_at}
 use Rattle.rtp_media_schedules.specs.Orders.{IsSaneArrival}
 
 -- What came in some turns, newest first, behind what came before.

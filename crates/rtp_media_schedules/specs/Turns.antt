@@ -2,7 +2,7 @@
 use Rattle.std.specs.Prelude.{ℕ, ◌≡◌, ◌+◌, ◌-◌, ◌%◌, ◌<◌, ◌≤◌, max, Bool, true, false, ◌||◌, ◌==◌, List, [], ◌∷◌}
 use Rattle.std.specs.Prelude.{count_by}
 use Rattle.std.specs.List.{range_with_len}
-use Rattle.rtp_media_runs.specs.Hearing.{Content, Event, Comes, Poll}
+use Rattle.rtp_media_schedules.specs.Hearing.{Content, Event, Comes, Poll}
 
 -- An arrival of the datagram of this true number, or a poll.
 pub data Turn : Type 0 where

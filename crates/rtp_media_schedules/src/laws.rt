@@ -4,9 +4,9 @@ ghost use Rattle.std.specs.Prelude.{◌≡◌, ℕ, ◌+◌, ◌^◌, ◌≤◌,
 ghost use Rattle.std.specs.Prelude.{None};
 ghost use Rattle.payload_core_base.specs.Format.{Format};
 ghost use Rattle.rtp_media_schedules.specs.Turns.{Sender, Turn, AreGoodArrivals, Arrive, Ask, event_of};
-ghost use Rattle.rtp_media_runs.specs.Samples.{timed_unit};
-ghost use Rattle.rtp_media_runs.specs.Hearing.{Answer, after_events, EndsSilent, fresh, handed_out, heard, Poll};
-ghost use Rattle.rtp_media_runs.specs.Hearing.{Stream};
+ghost use Rattle.rtp_media_schedules.specs.SentSamples.{timed_unit};
+ghost use Rattle.rtp_media_schedules.specs.Hearing.{Answer, after_events, EndsSilent, fresh, handed_out, heard, Poll};
+ghost use Rattle.rtp_media_schedules.specs.Hearing.{Stream};
 ghost use Rattle.rtp_media_schedules.specs.Drains.{HeldTurn, heard_at, turn_at, turn_of};
 ghost use Rattle.rtp_media_schedules.specs.Legal.{IsLegal, IsSelection};
 ghost use Rattle.rtp_media_schedules.specs.Orders.{IsSane, IsTame, first_size};

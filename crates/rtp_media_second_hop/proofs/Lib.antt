@@ -1,3 +1,12 @@
+pub mod Whole
+pub mod Audio
+pub mod Speech
+pub mod Frames
+pub mod Obus
+pub mod Sets
+pub mod AnnexB
+pub mod H26x
+pub mod Codecs
 pub mod Values
 pub mod Units
 pub mod Passed

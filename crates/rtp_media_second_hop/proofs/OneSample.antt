@@ -15,8 +15,8 @@ use Rattle.payload_core_audio.specs.Plain.{pieces_packing, plain_format, unit_of
 use Rattle.h26x_payload.specs.Codings as codings
 use Rattle.h26x_payload.specs.Dispatch.{FirstIsReached, KeepCodecLawInForms}
 use Rattle.rtp_wire.specs.Carried.{AreValues}
-use Rattle.rtp_media_runs.specs.Hearing as hearing
-use Rattle.rtp_media_runs.specs.Hearing.{EndsSilent, Stream, fresh, heard, number_at, taken_by}
+use Rattle.rtp_media_schedules.specs.Hearing as hearing
+use Rattle.rtp_media_schedules.specs.Hearing.{EndsSilent, Stream, fresh, heard, number_at, taken_by}
 use Rattle.rtp_media_schedules.specs.Orders.{IsGoodPoll, IsTame, first_size}
 use Rattle.rtp_media_schedules.specs.Samples.{SentSample, frame_sizes, packets_of, sent_by}
 use Rattle.rtp_media_schedules.specs.Turns as turns

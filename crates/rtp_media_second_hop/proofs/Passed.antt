@@ -9,13 +9,13 @@ use Rattle.rtp_wire.specs.Carried.{AreValues}
 use Rattle.rtp_wire.specs.Time.{Time, rebased_ticks}
 use Rattle.rtp_wire.specs.Values.{Numbering}
 use Rattle.rtp_wire.specs.declared.ExtensionValues.{ExtensionValues}
-use Rattle.rtp_media_runs.specs.Hearing.{Answer, MediaUnit, handed_out}
-use Rattle.rtp_media_runs.specs.Samples.{Timed, timed, timed_unit}
+use Rattle.rtp_media_schedules.specs.Hearing.{Answer, MediaUnit, handed_out}
+use Rattle.rtp_media_schedules.specs.SentSamples.{Timed, timed, timed_unit}
 use Rattle.rtp_media_streams.specs.Rows.{rtp_rate}
 use Rattle.rtp_media_streams.specs.Sending.{Sample, Sending, carried, samples_of, timestamp}
 use Rattle.rtp_media_streams.specs.declared.row_format.RowFormat.{RowFormat}
 use Rattle.rtp_media_play.specs.Units.{arriving, arriving_values}
-use Rattle.h26x_payload_hops.specs.Again.{IsKeptBy}
+use Rattle.rtp_media_second_hop.specs.Again.{IsKeptBy}
 use Rattle.rtp_media_second_hop.specs.Hops.{as_samples, carried_again, unstamped, without_send_time}
 use Rattle.rtp_media_second_hop.proofs.Units.{EachKept, EachTimed}
 use Rattle.rtp_media_second_hop.proofs.Values.{arriving-are-values, arriving-twice}

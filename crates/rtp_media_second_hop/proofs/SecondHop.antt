@@ -4,11 +4,11 @@ use Rattle.std.specs.Prelude.{All, Ok, is_some, unwrap_or}
 use Rattle.payload_core_base.specs.Law.{Coding}
 use Rattle.payload_core_base.specs.Packing.{Sender}
 use Rattle.h26x_payload.specs.Dispatch.{FirstIsReached, KeepCodecLawInForms}
-use Rattle.h26x_payload_hops.specs.Codecs.{AllGiveAgain, FirstFollow, follows_in, is_kept_in}
+use Rattle.rtp_media_second_hop.specs.Codecs.{AllGiveAgain, FirstFollow, follows_in, is_kept_in}
 use Rattle.rtp_wire.specs.Carried.{AreValues}
 use Rattle.rtp_wire.specs.Values.{Numbering}
-use Rattle.rtp_media_runs.specs.Hearing.{handed_out}
-use Rattle.rtp_media_runs.specs.Samples.{Timed, timed_unit}
+use Rattle.rtp_media_schedules.specs.Hearing.{handed_out}
+use Rattle.rtp_media_schedules.specs.SentSamples.{Timed, timed_unit}
 use Rattle.rtp_media_schedules.specs.Samples.{AreWellFormed}
 use Rattle.rtp_media_streams.specs.Rows.{coding_in, first_state, forms_for, rtp_rate, settings_in}
 use Rattle.rtp_media_streams.specs.Sending.{Sample, Sending, opened_sender, packet_limit, samples_of}

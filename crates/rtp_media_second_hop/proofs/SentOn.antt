@@ -11,11 +11,11 @@ use Rattle.payload_core_base.specs.declared.error.PacketError.{PacketError}
 use Rattle.payload_core_audio.specs.Plain.{unit_of_piece}
 use Rattle.h26x_payload.specs.Codings as codings
 use Rattle.h26x_payload.specs.Dispatch.{FirstIsReached, KeepCodecLawInForms}
-use Rattle.h26x_payload_hops.specs.Codecs.{is_kept_in}
+use Rattle.rtp_media_second_hop.specs.Codecs.{is_kept_in}
 use Rattle.rtp_wire.specs.Time.{rebased_ticks}
 use Rattle.rtp_wire.specs.Values.{Numbering}
-use Rattle.rtp_media_runs.specs.Hearing.{MediaUnit, handed_out}
-use Rattle.rtp_media_runs.specs.Samples.{Timed, timed}
+use Rattle.rtp_media_schedules.specs.Hearing.{MediaUnit, handed_out}
+use Rattle.rtp_media_schedules.specs.SentSamples.{Timed, timed}
 use Rattle.rtp_media_streams.specs.Rows.{first_state, forms_for, rtp_rate, settings_in}
 use Rattle.rtp_media_streams.specs.Sending.{Sample}
 use Rattle.rtp_media_streams.specs.declared.row_format.RowFormat.{RowFormat}

@@ -4,10 +4,10 @@ use Rattle.payload_core_base.specs.Law.{Coding, joined}
 use Rattle.payload_core_base.specs.Packing.{Sender}
 use Rattle.rtp_wire.specs.Values.{Numbering}
 use Rattle.rtp_wire.specs.declared.ExtensionValues.{ExtensionValues}
-use Rattle.rtp_media_runs.specs.Samples.{Timed, timed}
+use Rattle.rtp_media_schedules.specs.SentSamples.{Timed, timed}
 use Rattle.rtp_media_schedules.specs.Samples.{AreWellFormed}
 use Rattle.rtp_media_play.specs.Units.{units_by}
-use Rattle.h26x_payload_hops.specs.Again.{AreSentWhole, ComesAgain, GivesAgain, IsKeptBy, Relation, unit_bytes}
+use Rattle.rtp_media_second_hop.specs.Again.{AreSentWhole, ComesAgain, GivesAgain, IsKeptBy, Relation, unit_bytes}
 use Rattle.rtp_media_second_hop.specs.Hops.{carried_again}
 
 -- what is so of each time with its values

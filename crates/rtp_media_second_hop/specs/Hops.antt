@@ -1,11 +1,11 @@
 -- Streams between two ends, and units that come out of one and are sent on over another.
 use Rattle.std.specs.Prelude.{ℕ, ◌≡◌, ◌+◌, ◌^◌, ◌≤◌, List, [], ◌∷◌, All, Some, None, Result, Ok, Err}
 use Rattle.payload_core_base.specs.declared.error.PacketError.{PacketError}
-use Rattle.h26x_payload_hops.specs.Codecs.{is_kept_in}
+use Rattle.rtp_media_second_hop.specs.Codecs.{is_kept_in}
 use Rattle.rtp_wire.specs.Values.{Numbering}
 use Rattle.rtp_wire.specs.declared.ExtensionValues.{ExtensionValues}
-use Rattle.rtp_media_runs.specs.Hearing.{Answer, MediaUnit}
-use Rattle.rtp_media_runs.specs.Samples.{Timed, timed}
+use Rattle.rtp_media_schedules.specs.Hearing.{Answer, MediaUnit}
+use Rattle.rtp_media_schedules.specs.SentSamples.{Timed, timed}
 use Rattle.rtp_media_streams.specs.Rows.{rtp_rate, settings_in}
 use Rattle.rtp_media_streams.specs.Sending.{Sample, Sending}
 use Rattle.rtp_media_streams.specs.declared.row_format.RowFormat.{RowFormat}

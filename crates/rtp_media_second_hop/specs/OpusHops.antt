@@ -3,7 +3,7 @@ use Rattle.std.specs.Prelude.{ℕ, ◌≡◌, ◌<◌, ◌≤◌, List, [], ◌�
 use Rattle.payload_core_base.specs.declared.codec.Codec.TheVariants.{Opus}
 use Rattle.payload_core_base.specs.declared.error.PacketError.{PacketError}
 use Rattle.rtp_wire.specs.Carried.{AreValues}
-use Rattle.rtp_media_runs.specs.Hearing.{MediaUnit}
+use Rattle.rtp_media_schedules.specs.Hearing.{MediaUnit}
 use Rattle.rtp_media_streams.specs.Sending.{Sample}
 use Rattle.rtp_media_play.specs.declared.schedule.Event.{Event}
 use Rattle.rtp_media_play.specs.declared.schedule.Event.TheVariants.{Arrive, Poll}

@@ -1,14 +1,14 @@
 //! What holds of streams that send on what came out of others.
 
 ghost use Rattle.std.specs.Prelude.{◌≡◌, List, map};
-ghost use Rattle.rtp_media_runs.specs.Hearing.{handed_out};
+ghost use Rattle.rtp_media_schedules.specs.Hearing.{handed_out};
 ghost use Rattle.rtp_media_streams.specs.Sending.{Sample};
 ghost use Rattle.rtp_media_play.specs.declared.schedule.Event.{Event};
 ghost use Rattle.rtp_media_second_hop.specs.Hops.{Carries, Hop, IsTame, SendsOn, answers_over, carried_again};
 ghost use Rattle.rtp_media_second_hop.specs.Hops.{map_over, passed_on, units_over, unstamped};
 
+use crate::again_law;
 use h26x_payload::codec_law;
-use h26x_payload_hops::again_law;
 use rtp_media_play::headline;
 
 /// The second hop: the units of a tame run, sent on as samples with their times and values over a second stream that

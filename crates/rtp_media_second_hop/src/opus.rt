@@ -1,7 +1,7 @@
 //! The second hop with Opus.
 
 ghost use Rattle.std.specs.Prelude.{◌≡◌, [], ◌∷◌, map, Ok};
-ghost use Rattle.rtp_media_runs.specs.Hearing.{handed_out};
+ghost use Rattle.rtp_media_schedules.specs.Hearing.{handed_out};
 ghost use Rattle.rtp_media_streams.specs.Sending.{Sample};
 ghost use Rattle.rtp_media_second_hop.specs.Hops.{Hop, IsAlike, IsTame, SendsOn, answers_over, passed_on};
 ghost use Rattle.rtp_media_second_hop.specs.OpusHops.{CarriesOpus, FitsPacket, bytes_out, one_arrival};

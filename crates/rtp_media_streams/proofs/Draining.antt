@@ -6,10 +6,11 @@ use Rattle.payload_core_base.specs.Format.{Format}
 use Rattle.payload_core_base.specs.declared.error.PacketError.{PacketError}
 use Rattle.payload_core_base.specs.declared.extra.CodecExtra.{CodecExtra}
 use Rattle.payload_core_buffer.specs.declared.held.RtpMeta.{RtpMeta}
-use Rattle.rtp_media_runs.specs.Hearing.{Answer, EndsSilent, Event, MediaUnit, Poll, Stream, answer_among, answer_by}
-use Rattle.rtp_media_runs.specs.Hearing.{handed_out, heard, poll_answer, polled}
-use Rattle.rtp_media_runs.specs.Samples.{Timed, timed_unit}
-use Rattle.rtp_media_runs.proofs.Cuts.{silent-stays}
+use Rattle.rtp_media_schedules.specs.Hearing.{Answer, EndsSilent, Event, MediaUnit, Poll, Stream, answer_among}
+use Rattle.rtp_media_schedules.specs.Hearing.{answer_by}
+use Rattle.rtp_media_schedules.specs.Hearing.{handed_out, heard, poll_answer, polled}
+use Rattle.rtp_media_schedules.specs.SentSamples.{Timed, timed_unit}
+use Rattle.rtp_media_schedules.proofs.Cuts.{silent-stays}
 use Rattle.rtp_media_streams.specs.declared.errors.PollFault.{PollFault}
 use Rattle.rtp_media_streams.specs.declared.errors.PollFault.TheVariants.{Memory, Payload}
 use Rattle.rtp_media_streams.specs.Polls.{Answers, AreAnswered, IsInterrupted, IsPolled, Silent, HandsOut, Faults}

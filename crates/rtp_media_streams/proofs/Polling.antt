@@ -11,8 +11,9 @@ use Rattle.payload_core_buffer.specs.Pops.{Faults, PopGives, PopKeeps}
 use Rattle.payload_core_buffer.specs.declared.frame.Frame.{Frame}
 use Rattle.payload_core_buffer.specs.declared.held.RtpMeta.{RtpMeta}
 use Rattle.rtp_wire.specs.Replay.{Window}
-use Rattle.rtp_media_runs.specs.Hearing.{Answer, Stream, answer_among, answer_by, due, poll_answer, polled, run_among}
-use Rattle.rtp_media_runs.specs.Hearing.{stream_behind, unit_from}
+use Rattle.rtp_media_schedules.specs.Hearing.{Answer, Stream, answer_among, answer_by, due, poll_answer, polled}
+use Rattle.rtp_media_schedules.specs.Hearing.{run_among}
+use Rattle.rtp_media_schedules.specs.Hearing.{stream_behind, unit_from}
 use Rattle.rtp_media_streams.specs.Drains.{holding}
 use Rattle.rtp_media_streams.specs.Polls.{IsInterrupted}
 use Rattle.rtp_media_streams.specs.Receiving.{Receiving, with_stream}

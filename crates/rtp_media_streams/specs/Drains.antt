@@ -1,7 +1,7 @@
 -- What a drain of a receiving stream answers: a poll that holds no complete frame back, for the end of a stream.
 use Rattle.std.specs.Prelude.{ℕ}
 use Rattle.payload_core_base.specs.Format.{Format}
-use Rattle.rtp_media_runs.specs.Hearing.{Answer, Stream, poll_answer, polled}
+use Rattle.rtp_media_schedules.specs.Hearing.{Answer, Stream, poll_answer, polled}
 use Rattle.rtp_media_streams.specs.Receiving.{Receiving, with_stream}
 use Rattle.rtp_media_streams.specs.Rows.{format_of}
 

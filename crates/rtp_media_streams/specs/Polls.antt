@@ -7,8 +7,8 @@ use Rattle.payload_core_base.specs.declared.error.PacketError.{PacketError}
 use Rattle.payload_core_buffer.specs.Frames.{packets_between}
 use Rattle.payload_core_buffer.specs.Pops.{ReadsPart}
 use Rattle.payload_core_buffer.specs.declared.frame.Frame.{Frame}
-use Rattle.rtp_media_runs.specs.Hearing.{Answer, MediaUnit, Stream, due, poll_answer, polled}
-use Rattle.rtp_media_runs.specs.Samples.{Timed, timed}
+use Rattle.rtp_media_schedules.specs.Hearing.{Answer, MediaUnit, Stream, due, poll_answer, polled}
+use Rattle.rtp_media_schedules.specs.SentSamples.{Timed, timed}
 use Rattle.rtp_media_streams.specs.declared.errors.PollFault.{PollFault}
 use Rattle.rtp_media_streams.specs.declared.errors.PollFault.TheVariants.{Memory, Payload}
 

@@ -8,7 +8,7 @@ use Rattle.rtp_wire.specs.declared.ExtensionValues.{ExtensionValues}
 use Rattle.rtp_wire.specs.declared.header.RtpHeader.{RtpHeader}
 use Rattle.payload_core_base.specs.Format.{Fragment}
 use Rattle.payload_core_buffer.specs.Buffered.{Buffered}
-use Rattle.rtp_media_runs.specs.Hearing.{Stream, content_of, fresh, number_at, taken_by, polled}
+use Rattle.rtp_media_schedules.specs.Hearing.{Stream, content_of, fresh, number_at, taken_by, polled}
 use Rattle.rtp_media_streams.specs.Redundant.{unwrapped}
 use Rattle.rtp_media_streams.specs.Rows.{format_of}
 use Rattle.rtp_media_streams.specs.Types.{has_type, share_type}

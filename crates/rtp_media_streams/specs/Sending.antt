@@ -13,7 +13,7 @@ use Rattle.rtp_wire.specs.Maps.{is_empty_map}
 use Rattle.rtp_wire.specs.Values.{Numbering}
 use Rattle.rtp_wire.specs.declared.ExtensionValues.{ExtensionValues}
 use Rattle.rtp_wire.specs.declared.header.RtpHeader.{RtpHeader}
-use Rattle.rtp_media_runs.specs.Samples.{Timed, sent_or, timed}
+use Rattle.rtp_media_schedules.specs.SentSamples.{Timed, sent_or, timed}
 use Rattle.rtp_media_streams.specs.Redundant.{wraps, kept_after}
 use Rattle.rtp_media_streams.specs.Rows.{first_state, packing_of, rtp_rate}
 use Rattle.rtp_media_streams.specs.Types.{share_type}

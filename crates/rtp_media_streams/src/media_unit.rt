@@ -2,7 +2,7 @@
 
 ghost use Rattle.std.specs.Prelude.{◌≡◌};
 ghost use Rattle.payload_core_buffer.specs.Metas.{metas_of_unit};
-ghost use Rattle.rtp_media_runs.specs.Hearing.{unit_from};
+ghost use Rattle.rtp_media_schedules.specs.Hearing.{unit_from};
 
 use payload_core_base::CodecExtra;
 use payload_core_buffer::Depacketized;
@@ -36,7 +36,7 @@ impl Drop for Unit {
 }
 
 impl Model for Unit {
-    ghost use Rattle.rtp_media_runs.specs.Hearing.{MediaUnit};
+    ghost use Rattle.rtp_media_schedules.specs.Hearing.{MediaUnit};
 
     ghost Value = { MediaUnit };
 

@@ -9,7 +9,7 @@ ghost use Rattle.rtp_wire.specs.Widening.{widened};
 ghost use Rattle.payload_core_base.specs.Format.{Format};
 ghost use Rattle.payload_core_buffer.specs.Buffered.{pushed};
 ghost use Rattle.payload_core_buffer.specs.Packets.{packet_from};
-ghost use Rattle.rtp_media_runs.specs.Hearing.{poll_answer, polled};
+ghost use Rattle.rtp_media_schedules.specs.Hearing.{poll_answer, polled};
 ghost use Rattle.payload_core_buffer.specs.Frames.{complete_frames};
 ghost use Rattle.rtp_media_streams.specs.Drains.{drain_answer, drained, drained_receiver, holding};
 ghost use Rattle.rtp_media_streams.specs.Polls.{IsInterrupted, IsPolled, IsPolledSome, given};

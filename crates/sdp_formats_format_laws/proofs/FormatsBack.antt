@@ -15,7 +15,7 @@ use Rattle.h26x_payload_profiles.specs.H266Profile.{profile_id as profile_266}
 use Rattle.h26x_payload_profiles.specs.H266Tier.{tier_flag as tier_266}
 use Rattle.h26x_payload_profiles.specs.declared.h265.H265ProfileTierLevel.{H265ProfileTierLevel as Level265}
 use Rattle.h26x_payload_profiles.specs.declared.h266.H266ProfileTierLevel.{H266ProfileTierLevel as Level266}
-use Rattle.sdp_formats_pairs.specs.PrintedPairs.{PairsComeBack}
+use Rattle.sdp_formats_streams.specs.PrintedPairs.{PairsComeBack}
 use Rattle.sdp_formats_params.specs.declared.param.FormatParam.{FormatParam}
 use Rattle.sdp_formats_params.specs.declared.param.FormatParam.TheVariants as param
 use Rattle.sdp_formats_format.specs.declared.format.FormatParams.{FormatParams}

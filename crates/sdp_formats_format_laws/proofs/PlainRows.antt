@@ -7,8 +7,8 @@ use Rattle.h26x_payload_profiles.specs.H265ProfileTierLevel.{ComesBack as ComesB
 use Rattle.h26x_payload_profiles.specs.H266ProfileTierLevel.{ComesBack as ComesBack266}
 use Rattle.payload_core_base.specs.Codecs.{is_tele_codec}
 use Rattle.sdp_formats_forms.specs.Form.{IsExact}
-use Rattle.sdp_formats_pairs.specs.PairsSay.{pair_list}
-use Rattle.sdp_formats_pairs.specs.PrintedPairs.{PairsComeBack}
+use Rattle.sdp_formats_streams.specs.PairsSay.{pair_list}
+use Rattle.sdp_formats_streams.specs.PrintedPairs.{PairsComeBack}
 use Rattle.sdp_formats_params.specs.declared.param.FormatParam.TheVariants as param
 use Rattle.sdp_formats_format.specs.Formats.{format_of}
 use Rattle.sdp_formats_rows.specs.Plain.{comes_back, events_alone, has_plain_events, has_plain_feedback}

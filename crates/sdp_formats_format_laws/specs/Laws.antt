@@ -3,8 +3,8 @@ use Rattle.std.specs.Prelude.{◌≡◌, ◌≢◌, ◌≤◌, ℕ, List, [], �
 use Rattle.sdp_formats_forms.specs.Split.{Lacks}
 use Rattle.sdp_formats_params.specs.declared.param.FormatParam.{FormatParam}
 use Rattle.sdp_formats_params.specs.declared.param.FormatParam.TheVariants.{Apt, Red}
-use Rattle.sdp_formats_row_lines.specs.AsRead.{params_as_read}
-use Rattle.sdp_formats_row_lines.specs.Parameters.{parameters}
+use Rattle.sdp_formats_streams.specs.AsRead.{params_as_read}
+use Rattle.sdp_formats_streams.specs.Parameters.{parameters}
 use Rattle.sdp_formats_rows.specs.Plain.{is_plain}
 use Rattle.sdp_formats_rows.specs.Rows.{Row}
 use Rattle.sdp_formats_row_attributes.specs.Attributes.{params_in}

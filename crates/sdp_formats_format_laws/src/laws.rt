@@ -3,7 +3,7 @@
 ghost use Rattle.sdp_formats_format_laws.specs.Laws.{LinksComeBack, PlainParametersComeBack};
 
 use h26x_payload_profiles::{h265_tables_law, h266_tables_law};
-use sdp_formats_pairs::{pairs_law, printed_pairs_law};
+use sdp_formats_streams::{pairs_law, printed_pairs_law};
 
 /// The parameters of a plain row, as its section lists them, are read as they are printed (RFC 8866 6.15): the same
 /// parameters, a profile, tier and level in front of the others.

@@ -1,3 +1,4 @@
+pub mod StepRounds
 pub mod Numerals
 pub mod Gives
 pub mod Partings

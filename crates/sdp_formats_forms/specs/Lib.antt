@@ -1,3 +1,7 @@
+pub mod Step
+pub mod Line
+pub mod StepLemmas
+pub mod LineLemmas
 pub mod Bind
 pub mod Refusals
 pub mod Split

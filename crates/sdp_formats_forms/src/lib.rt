@@ -1,15 +1,21 @@
-//! The forms that lines of session texts are made of: words, numbers, cuts at a sign, lists, and what a reader answers.
+//! The forms that lines of session texts are made of: words, numbers, cuts at a sign, lists, and what a reader answers;
+//! and steps over a text: a line, a value that may be there, and as many values as there are.
 #![tactic(auto)]
 
+mod cutting;
 mod joined;
+mod lined;
 mod listed;
 mod numbers;
 mod primitives;
 mod reads;
 mod refusal;
+mod stepped;
 mod text;
 
+pub use cutting::line;
 pub use joined::{FingerprintFmt, Joined, Maybe};
+pub use lined::{Lined, line_of};
 pub use listed::Listed;
 pub use numbers::{maybe_number_8, number_8, number_16, number_32, number_64};
 pub use primitives::{
@@ -17,4 +23,5 @@ pub use primitives::{
 };
 pub use reads::{Reads, list_of};
 pub use refusal::Refusal;
+pub use stepped::{Stepped, many, perhaps};
 pub use text::Text;

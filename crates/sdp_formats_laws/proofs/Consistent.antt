@@ -5,7 +5,7 @@ use Rattle.std.specs.List.{count_by, list_all}
 use Rattle.std.specs.Prelude.{is_none}
 use Rattle.sdp_formats_params.specs.declared.param.FormatParam.{FormatParam}
 use Rattle.sdp_formats_params.specs.declared.param.FormatParam.TheVariants as param
-use Rattle.sdp_formats_row_lines.specs.AsRead.{as_read, spelled_as}
+use Rattle.sdp_formats_streams.specs.AsRead.{as_read, spelled_as}
 use Rattle.sdp_formats_consistency.specs.Consistency.{apt_differs, apts_agree, apts_agree_with, are_mapped}
 use Rattle.sdp_formats_consistency.specs.Consistency.{attribute_agrees, fault_of, gives_apt, is_consistent}
 use Rattle.sdp_formats_consistency.specs.Consistency.{is_direction_of, is_mapped, is_setup, is_static, maps_type}

@@ -14,9 +14,9 @@ use Rattle.sdp_formats_forms.specs.Form.{IsExact, any_text, some_text, cut, each
 use Rattle.sdp_formats_forms.specs.Joined.{each_behind}
 use Rattle.sdp_formats_forms.specs.Numbers.{number_below}
 use Rattle.sdp_formats_forms.specs.Split.{Lacks, behind, parts}
-use Rattle.sdp_formats_heads.specs.Heads.{session_number, formats, pt_number}
-use Rattle.sdp_formats_heads.specs.Lines.{version_line, origin_line, name_line, bandwidth_line, times_line}
-use Rattle.sdp_formats_heads.specs.Lines.{connection_line, passed, make_bandwidth}
+use Rattle.sdp_formats_session_lines.specs.Heads.{session_number, formats, pt_number}
+use Rattle.sdp_formats_session_lines.specs.Lines.{version_line, origin_line, name_line, bandwidth_line, times_line}
+use Rattle.sdp_formats_session_lines.specs.Lines.{connection_line, passed, make_bandwidth}
 use Rattle.sdp_formats_values.specs.Printed.{line_end}
 use Rattle.sdp_formats_types.specs.Printed.{numbers_text}
 use Rattle.sdp_formats_types.specs.PrintedMedia.{named, bandwidth_text}

@@ -4,13 +4,14 @@ use Rattle.std.proofs.Common.{◌∙◌, ap, subst, inl, inr, ⊎_elim, append_a
 use Rattle.std.proofs.lemmas.Bool.Decides.{Decides-eqb}
 use Rattle.sdp_formats_forms.specs.Cuts.{IsCut, somewhere, nowhere, cut_of}
 use Rattle.sdp_formats_forms.specs.Split.{Lacks}
-use Rattle.sdp_formats_heads.specs.Heads.{media_line, origin}
-use Rattle.sdp_formats_heads.specs.Lines.{bandwidth_line, connection_line, exactly, head_line, name_line, origin_line}
-use Rattle.sdp_formats_heads.specs.Lines.{other_line, repeat_line, something, times_line, version_line}
+use Rattle.sdp_formats_session_lines.specs.Heads.{media_line, origin}
+use Rattle.sdp_formats_session_lines.specs.Lines.{bandwidth_line, connection_line, exactly, head_line, name_line}
+use Rattle.sdp_formats_session_lines.specs.Lines.{origin_line}
+use Rattle.sdp_formats_session_lines.specs.Lines.{other_line, repeat_line, something, times_line, version_line}
 use Rattle.sdp_formats_media_lines.specs.Choice.{attribute_line, media_attribute}
 use Rattle.sdp_formats_session_lines.specs.Choice.{attribute_line as session_line, session_attribute}
-use Rattle.sdp_formats_steps.specs.Line.{IsLine, LineOf}
-use Rattle.sdp_formats_steps.specs.Step.{Stops}
+use Rattle.sdp_formats_forms.specs.Line.{IsLine, LineOf}
+use Rattle.sdp_formats_forms.specs.Step.{Stops}
 use Rattle.sdp_formats_laws.proofs.Carried.{Carries, CarriesLines, texts}
 use Rattle.sdp_formats_laws.proofs.LineEnds.{lacking, one_cut}
 use Rattle.sdp_formats_laws.proofs.Sections.{no_bandwidth}

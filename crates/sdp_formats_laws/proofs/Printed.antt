@@ -6,7 +6,7 @@ use Rattle.std.proofs.lemmas.Bool.Decides.{nat_tests}
 use Rattle.sdp_formats_forms.specs.Form.{Form, IsExact, some_text}
 use Rattle.sdp_formats_forms.specs.Split.{Lacks}
 use Rattle.sdp_formats_forms.specs.Joined.{spelled}
-use Rattle.sdp_formats_steps.specs.Line.{LineOf}
+use Rattle.sdp_formats_forms.specs.Line.{LineOf}
 use Rattle.sdp_formats_values.specs.Printed.{line_end}
 use Rattle.sdp_formats_types.specs.PrintedMedia.{named}
 use Rattle.sdp_formats_laws.specs.Printable.{IsText}

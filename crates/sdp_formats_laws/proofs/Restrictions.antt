@@ -11,11 +11,11 @@ use Rattle.sdp_formats_forms.specs.Joined.{each_behind}
 use Rattle.sdp_formats_forms.specs.Split.{Lacks, behind}
 use Rattle.sdp_formats_media_lines.specs.Choice.{attribute_line}
 use Rattle.sdp_formats_media_lines.specs.Choice.{media_attribute, second_attribute, third_attribute, last_attribute}
-use Rattle.sdp_formats_pairs.specs.Pairs.{restrictions_of}
-use Rattle.sdp_formats_pairs.specs.PrintedPairs.{RestrictionsComeBack, pairs_text}
+use Rattle.sdp_formats_streams.specs.Pairs.{restrictions_of}
+use Rattle.sdp_formats_streams.specs.PrintedPairs.{RestrictionsComeBack, pairs_text}
 use Rattle.sdp_formats_params.specs.Printed.{pair_text}
 use Rattle.sdp_formats_params.specs.declared.Pair.{Pair}
-use Rattle.sdp_formats_row_lines.specs.Maps.{payload_type}
+use Rattle.sdp_formats_streams.specs.Maps.{payload_type}
 use Rattle.sdp_formats_streams.specs.Names.{has_name_chars, name}
 use Rattle.sdp_formats_streams.specs.Rids.{limits_of, later_limits, make_id, make_limits, make_rid, maybe_limits}
 use Rattle.sdp_formats_streams.specs.Rids.{typed_limits, limits_behind, way}

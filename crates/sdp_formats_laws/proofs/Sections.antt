@@ -9,15 +9,15 @@ use Rattle.sdp_formats_forms.specs.Exact.{told-exact, made-exact, after-exact, c
 use Rattle.sdp_formats_forms.specs.Form.{IsExact, any_text, some_text, cut, told}
 use Rattle.sdp_formats_forms.specs.Joined.{maybe_text}
 use Rattle.sdp_formats_forms.specs.Split.{Lacks}
-use Rattle.sdp_formats_heads.specs.Heads.{media_type, proto, formats, make_head}
-use Rattle.sdp_formats_heads.specs.Lines.{connection_line, bandwidth_line, head_line, passed}
-use Rattle.sdp_formats_heads.specs.declared.media.MediaHead.{MediaHead}
+use Rattle.sdp_formats_session_lines.specs.Heads.{media_type, proto, formats, make_head}
+use Rattle.sdp_formats_session_lines.specs.Lines.{connection_line, bandwidth_line, head_line, passed}
+use Rattle.sdp_formats_session_lines.specs.declared.media.MediaHead.{MediaHead}
 use Rattle.sdp_formats_media_lines.specs.Choice.{attribute_line, media_attribute}
-use Rattle.sdp_formats_pairs.specs.PrintedPairs.{RestrictionsComeBack}
+use Rattle.sdp_formats_streams.specs.PrintedPairs.{RestrictionsComeBack}
 use Rattle.sdp_formats_reader.specs.Grammar.{SectionSays}
-use Rattle.sdp_formats_row_lines.specs.AsRead.{as_read}
-use Rattle.sdp_formats_steps.specs.Line.{LineOf}
-use Rattle.sdp_formats_steps.specs.Step.{Stops, Begins, Many, Perhaps}
+use Rattle.sdp_formats_streams.specs.AsRead.{as_read}
+use Rattle.sdp_formats_forms.specs.Line.{LineOf}
+use Rattle.sdp_formats_forms.specs.Step.{Stops, Begins, Many, Perhaps}
 use Rattle.sdp_formats_types.specs.Media.{proto_text, is_channel}
 use Rattle.sdp_formats_values.specs.Printed.{line_end, is_empty}
 use Rattle.sdp_formats_types.specs.Printed.{numbers_text}

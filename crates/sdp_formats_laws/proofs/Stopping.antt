@@ -3,8 +3,8 @@ use Rattle.std.proofs.Common.{◌≡◌, ◌≢◌, ◌⊎◌, ℕ, List, [], �
 use Rattle.std.proofs.Common.{⊎_elim, subst, map, append_assoc}
 use Rattle.sdp_formats_forms.specs.Form.{Form, after, either}
 use Rattle.sdp_formats_forms.specs.Joined.{joined, each_behind}
-use Rattle.sdp_formats_steps.specs.Line.{LineOf, IsLine}
-use Rattle.sdp_formats_steps.specs.Step.{Stops, Begins}
+use Rattle.sdp_formats_forms.specs.Line.{LineOf, IsLine}
+use Rattle.sdp_formats_forms.specs.Step.{Stops, Begins}
 use Rattle.sdp_formats_laws.specs.PrintableTexts.{IsEach}
 
 -- the first byte of a text

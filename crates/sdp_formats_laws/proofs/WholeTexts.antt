@@ -5,15 +5,15 @@ use Rattle.std.specs.Option.{option_map}
 use Rattle.sdp_formats_forms.specs.Form.{IsExact}
 use Rattle.sdp_formats_forms.specs.Joined.{each_behind, maybe_text}
 use Rattle.sdp_formats_forms.specs.Split.{Lacks}
-use Rattle.sdp_formats_heads.specs.Lines.{version_line, origin_line, name_line, other_line, times_line}
-use Rattle.sdp_formats_heads.specs.Lines.{something, passed}
-use Rattle.sdp_formats_heads.specs.Heads.{media_line}
+use Rattle.sdp_formats_session_lines.specs.Lines.{version_line, origin_line, name_line, other_line, times_line}
+use Rattle.sdp_formats_session_lines.specs.Lines.{something, passed}
+use Rattle.sdp_formats_session_lines.specs.Heads.{media_line}
 use Rattle.sdp_formats_media_lines.specs.Choice.{attribute_line as media_attribute_line}
-use Rattle.sdp_formats_pairs.specs.PrintedPairs.{RestrictionsComeBack}
+use Rattle.sdp_formats_streams.specs.PrintedPairs.{RestrictionsComeBack}
 use Rattle.sdp_formats_reader.specs.Grammar.{OpeningSays, TimesSay, SessionSays, SectionSays, SdpSays}
 use Rattle.sdp_formats_session_lines.specs.Choice.{attribute_line, session_attribute}
-use Rattle.sdp_formats_steps.specs.Line.{LineOf}
-use Rattle.sdp_formats_steps.specs.Step.{Stops, Begins}
+use Rattle.sdp_formats_forms.specs.Line.{LineOf}
+use Rattle.sdp_formats_forms.specs.Step.{Stops, Begins}
 use Rattle.sdp_formats_values.specs.Printed.{line_end}
 use Rattle.sdp_formats_types.specs.PrintedMedia.{named, bandwidth_text, section_text}
 use Rattle.sdp_formats_types.specs.PrintedSession.{attribute_text, attributes_text, session_text, sections_text}

@@ -3,11 +3,11 @@ use Rattle.std.specs.Prelude.{ℕ, ◌^◌, List, Option, Some, None, codes, if�
 use Rattle.std.specs.Str.{bytes_eq}
 use Rattle.rtp_wire.specs.Name.{name_of}
 use Rattle.sdp_formats_forms.specs.Form.{Form, told, any_text, number, made, after}
-use Rattle.sdp_formats_ice.specs.Candidates.{candidate}
-use Rattle.sdp_formats_ice.specs.Digest.{fingerprint}
-use Rattle.sdp_formats_ice.specs.Words.{setup_word}
-use Rattle.sdp_formats_row_lines.specs.Maps.{rtpmap, rtcp_fb}
-use Rattle.sdp_formats_row_lines.specs.Parameters.{fmtp}
+use Rattle.sdp_formats_session_lines.specs.Candidates.{candidate}
+use Rattle.sdp_formats_session_lines.specs.Digest.{fingerprint}
+use Rattle.sdp_formats_session_lines.specs.Words.{setup_word}
+use Rattle.sdp_formats_streams.specs.Maps.{rtpmap, rtcp_fb}
+use Rattle.sdp_formats_streams.specs.Parameters.{fmtp}
 use Rattle.sdp_formats_streams.specs.Rids.{rid}
 use Rattle.sdp_formats_streams.specs.Simulcasts.{simulcast}
 use Rattle.sdp_formats_streams.specs.Sources.{extmap, msid, ssrc, ssrc_group}

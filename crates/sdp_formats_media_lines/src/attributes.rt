@@ -6,8 +6,7 @@ ghost use Rattle.sdp_formats_media_lines.specs.Kinds.{extmap_line, msid_line, rt
 ghost use Rattle.sdp_formats_media_lines.specs.Kinds.{rid_line, simulcast_line, ssrc_group_line, ssrc_line};
 
 use sdp_formats_forms::{Refusal, behind};
-use sdp_formats_row_lines::{fmtp, rtcp_fb, rtpmap};
-use sdp_formats_streams::{extmap, msid, rid, simulcast, ssrc, ssrc_group};
+use sdp_formats_streams::{extmap, fmtp, msid, rid, rtcp_fb, rtpmap, simulcast, ssrc, ssrc_group};
 use sdp_formats_types::MediaAttribute;
 use std::alloc::Global;
 

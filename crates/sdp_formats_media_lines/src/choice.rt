@@ -14,9 +14,8 @@ use crate::transport::{
     candidate_line, fingerprint_line, ice_options_line, ice_pwd_line, ice_ufrag_line,
     max_message_size_line, mid_line, rtcp_line, sctp_init_line, sctp_port_line, setup_line,
 };
-use sdp_formats_forms::{Refusal, behind, fitted, text_of};
-use sdp_formats_pairs::pairs_law;
-use sdp_formats_steps::{Lined, Stepped, line_of};
+use sdp_formats_forms::{Lined, Refusal, Stepped, behind, fitted, line_of, text_of};
+use sdp_formats_streams::pairs_law;
 use sdp_formats_types::MediaAttribute;
 use std::alloc::Global;
 
@@ -169,7 +168,7 @@ impl Lined<MediaAttribute> for MediaAttributeLine {
 }
 
 impl Stepped<MediaAttribute> for MediaAttributeLine {
-    ghost use Rattle.sdp_formats_steps.specs.Line.{LineOf};
+    ghost use Rattle.sdp_formats_forms.specs.Line.{LineOf};
     ghost use Rattle.sdp_formats_media_lines.specs.Choice.{attribute_line};
 
     ghost says = { LineOf attribute_line.Says };

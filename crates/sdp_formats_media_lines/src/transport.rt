@@ -8,7 +8,7 @@ ghost use Rattle.sdp_formats_media_lines.specs.Kinds.{max_message_size_line, sct
 
 use rtp_wire::Mid;
 use sdp_formats_forms::{Refusal, behind, number_16, number_64, some, text_of};
-use sdp_formats_ice::{candidate, fingerprint, setup_of};
+use sdp_formats_session_lines::{candidate, fingerprint, setup_of};
 use sdp_formats_types::MediaAttribute;
 use std::alloc::Global;
 

@@ -4,14 +4,14 @@ use Rattle.std.specs.Borrow.{Bor}
 use Rattle.std.specs.List.{list_all}
 use Rattle.sdp_formats_forms.specs.declared.refusal.Refusal.{Refusal}
 use Rattle.sdp_formats_forms.specs.declared.refusal.Refusal.TheVariants.{Unfit, Memory}
-use Rattle.sdp_formats_heads.specs.Lines.{version_line, origin_line, name_line, other_line, bandwidth_line}
-use Rattle.sdp_formats_heads.specs.Lines.{times_line, repeat_line, connection_line, head_line}
-use Rattle.sdp_formats_heads.specs.declared.media.MediaHead.{MediaHead}
-use Rattle.sdp_formats_heads.specs.declared.passed.Passed.{Passed}
+use Rattle.sdp_formats_session_lines.specs.Lines.{version_line, origin_line, name_line, other_line, bandwidth_line}
+use Rattle.sdp_formats_session_lines.specs.Lines.{times_line, repeat_line, connection_line, head_line}
+use Rattle.sdp_formats_session_lines.specs.declared.media.MediaHead.{MediaHead}
+use Rattle.sdp_formats_session_lines.specs.declared.passed.Passed.{Passed}
 use Rattle.sdp_formats_media_lines.specs.Choice.{attribute_line as media_line}
 use Rattle.sdp_formats_session_lines.specs.Choice.{attribute_line as session_line}
-use Rattle.sdp_formats_steps.specs.Line.{LineOf}
-use Rattle.sdp_formats_steps.specs.Step.{Stops, Many, Perhaps}
+use Rattle.sdp_formats_forms.specs.Line.{LineOf}
+use Rattle.sdp_formats_forms.specs.Step.{Stops, Many, Perhaps}
 use Rattle.sdp_formats_consistency.specs.Consistency.{is_consistent}
 use Rattle.sdp_formats_types.specs.declared.media.MediaLine.{MediaLine}
 use Rattle.sdp_formats_types.specs.declared.session.Sdp.{Sdp}

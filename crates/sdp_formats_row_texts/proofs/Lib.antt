@@ -1,3 +1,12 @@
+pub mod Lists
+pub mod Silent
+pub mod Formats
+pub mod Mapped
+pub mod Links
+pub mod Own
+pub mod Feedback
+pub mod Back
+pub mod Whole
 pub mod RowsSame
 pub mod RowLines
 pub mod RowTexts

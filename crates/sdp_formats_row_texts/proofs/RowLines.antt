@@ -13,7 +13,7 @@ use Rattle.sdp_formats_laws.specs.Printable.{AreBelow, IsPrintable, IsPrintableM
 use Rattle.sdp_formats_laws.specs.PrintableTexts.{AreFormats, IsEach, IsPrintableSection}
 use Rattle.sdp_formats_params.specs.declared.FormatParam.{FormatParam}
 use Rattle.sdp_formats_round.specs.Types.{listed, types_of}
-use Rattle.sdp_formats_row_laws.specs.Laws.{attributes_in, types_in}
+use Rattle.sdp_formats_row_texts.specs.RowsBack.{attributes_in, types_in}
 use Rattle.sdp_formats_row_texts.specs.Laws.{IsMedia, IsSized, ListsRows}
 use Rattle.sdp_formats_rows.specs.Codecs.{is_codec, rtp_clock_rate}
 use Rattle.sdp_formats_rows.specs.Plain.{comes_back, has_plain_events, has_plain_feedback, has_plain_level}

@@ -3,7 +3,7 @@ use Rattle.std.proofs.Common.{◌≡◌, List, [], ◌∷◌, map, refl, ◌∙�
 use Rattle.sdp_formats_laws.specs.PrintableTexts.{IsEach, IsPrintableSection, IsPrintableText}
 use Rattle.sdp_formats_laws.specs.ReadTexts.{section_as_read, text_as_read}
 use Rattle.sdp_formats_reader.specs.Grammar.{SdpSays}
-use Rattle.sdp_formats_row_laws.specs.Laws.{PlainRowsComeBack, unlocked}
+use Rattle.sdp_formats_row_texts.specs.RowsBack.{PlainRowsComeBack, unlocked}
 use Rattle.sdp_formats_row_texts.specs.Laws.{EachListsRows, ListsRows, ReadRowsAreRows, RowTextsComeBack}
 use Rattle.sdp_formats_row_texts.specs.Laws.{RowsArePrintable, section_rows}
 use Rattle.sdp_formats_rows.specs.Rows.{Row}

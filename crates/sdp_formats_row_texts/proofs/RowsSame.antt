@@ -10,7 +10,7 @@ use Rattle.sdp_formats_laws.specs.AsReadLemmas.{any_as_read, any_map}
 use Rattle.sdp_formats_laws.specs.ReadTexts.{section_as_read}
 use Rattle.sdp_formats_params.specs.declared.FormatParam.{FormatParam}
 use Rattle.sdp_formats_params.specs.declared.FormatParam.TheVariants as param
-use Rattle.sdp_formats_row_lines.specs.AsRead.{as_read, is_level, is_other, params_as_read, spelled_as}
+use Rattle.sdp_formats_streams.specs.AsRead.{as_read, is_level, is_other, params_as_read, spelled_as}
 use Rattle.sdp_formats_row_texts.specs.Laws.{section_rows}
 use Rattle.sdp_formats_rows.specs.Codecs.{is_codec}
 use Rattle.sdp_formats_format.specs.Formats.{no_format}

@@ -7,7 +7,7 @@ use Rattle.sdp_formats_laws.specs.ReadTexts.{section_as_read, text_as_read}
 use Rattle.sdp_formats_lookups.specs.Sections.{extmap_in}
 use Rattle.sdp_formats_reader.specs.Grammar.{SdpSays}
 use Rattle.sdp_formats_round.specs.Laws.{is_distinct}
-use Rattle.sdp_formats_row_laws.specs.Laws.{attributes_in, names_type, types_in, unlocked}
+use Rattle.sdp_formats_row_texts.specs.RowsBack.{attributes_in, names_type, types_in, unlocked}
 use Rattle.sdp_formats_rows.specs.Plain.{is_plain}
 use Rattle.sdp_formats_rows.specs.Rows.{Row}
 use Rattle.sdp_formats_section_rows.specs.SectionRows.{rows_of}

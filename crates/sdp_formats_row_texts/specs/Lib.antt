@@ -1,1 +1,2 @@
+pub mod RowsBack
 pub mod Laws

@@ -3,9 +3,9 @@
 ghost use Rattle.sdp_formats_row_texts.specs.Laws.{ReadRowsAreRows, ReadSectionsSayTheSame, RowTextsComeBack};
 ghost use Rattle.sdp_formats_row_texts.specs.Laws.{RowsArePrintable};
 
+use crate::plain_rows_come_back;
 use sdp_formats_format_laws::{links_law, plain_parameters_law};
 use sdp_formats_laws::printed_texts_law;
-use sdp_formats_row_laws::plain_rows_come_back;
 
 /// A section that lists plain rows, as `as_media_attrs` gives their attributes, can be printed: each of its lines is
 /// read as what it was printed of.

@@ -8,8 +8,7 @@ use crate::kinds::{
     candidate_line, end_word, fingerprint_line, group_line, ice_lite, ice_options_line,
     ice_pwd_line, ice_ufrag_line, msid_semantic_line, setup_line,
 };
-use sdp_formats_forms::{Refusal, behind, fitted, text_of};
-use sdp_formats_steps::{Lined, Stepped, line_of};
+use sdp_formats_forms::{Lined, Refusal, Stepped, behind, fitted, line_of, text_of};
 use sdp_formats_types::SessionAttribute;
 use std::alloc::Global;
 
@@ -75,7 +74,7 @@ impl Lined<SessionAttribute> for SessionAttributeLine {
 }
 
 impl Stepped<SessionAttribute> for SessionAttributeLine {
-    ghost use Rattle.sdp_formats_steps.specs.Line.{LineOf};
+    ghost use Rattle.sdp_formats_forms.specs.Line.{LineOf};
     ghost use Rattle.sdp_formats_session_lines.specs.Choice.{attribute_line};
 
     ghost says = { LineOf attribute_line.Says };

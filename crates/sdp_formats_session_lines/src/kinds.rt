@@ -7,8 +7,8 @@ ghost use Rattle.sdp_formats_session_lines.specs.Kinds.{ice_options_line, finger
 ghost use Rattle.sdp_formats_session_lines.specs.Kinds.{candidate_line, ice_lite, end_word};
 
 use crate::groups::{group, msid_semantic};
+use crate::{candidate, fingerprint, setup_of};
 use sdp_formats_forms::{Refusal, behind, text_of};
-use sdp_formats_ice::{candidate, fingerprint, setup_of};
 use sdp_formats_types::SessionAttribute;
 use std::alloc::Global;
 

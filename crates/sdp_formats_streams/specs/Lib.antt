@@ -1,3 +1,11 @@
+pub mod Maps
+pub mod Parameters
+pub mod AsRead
+pub mod Runs
+pub mod Pairs
+pub mod PairsSay
+pub mod PairLemmas
+pub mod PrintedPairs
 pub mod Names
 pub mod Sources
 pub mod Rids

@@ -8,10 +8,9 @@ ghost use Rattle.sdp_formats_streams.specs.Rids.{way, no_limits, of_type, later_
 ghost use Rattle.sdp_formats_streams.specs.Rids.{limits_of, maybe_limits, rid};
 
 use crate::names::name;
+use crate::{payload_type, restrictions};
 use rtp_wire::Pt;
 use sdp_formats_forms::{Listed, Refusal, halves, some, split, stripped};
-use sdp_formats_pairs::restrictions;
-use sdp_formats_row_lines::payload_type;
 use sdp_formats_types::{MediaAttribute, Pair, RestrictionId, RidDirection};
 use std::alloc::Global;
 

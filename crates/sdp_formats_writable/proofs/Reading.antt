@@ -6,9 +6,9 @@ use Rattle.std.proofs.lemmas.Bool.Decides.{nat_tests}
 use Rattle.std.specs.Prelude.{◌↔◌, IsTrue}
 use Rattle.sdp_formats_forms.specs.Form.{Form, IsExact}
 use Rattle.sdp_formats_forms.specs.Steps.{nil_cons}
-use Rattle.sdp_formats_steps.specs.Line.{LineOf}
-use Rattle.sdp_formats_steps.specs.LineLemmas.{line-functional}
-use Rattle.sdp_formats_steps.specs.Step.{Steps}
+use Rattle.sdp_formats_forms.specs.Line.{LineOf}
+use Rattle.sdp_formats_forms.specs.LineLemmas.{line-functional}
+use Rattle.sdp_formats_forms.specs.Step.{Steps}
 use Rattle.sdp_formats_forms.specs.declared.refusal.Refusal.{Refusal}
 use Rattle.sdp_formats_forms.specs.declared.refusal.Refusal.TheVariants.{Unfit}
 use Rattle.sdp_formats_writable.specs.Lines.{IsLineOf}

@@ -1,17 +1,15 @@
 //! Lines that are read as what they were printed of.
 
 ghost use Rattle.std.specs.Prelude.{◌≡◌, ◌↔◌, ◌&&◌, ◌==◌, IsTrue, IfOk, length};
-ghost use Rattle.sdp_formats_heads.specs.Lines.{bandwidth_line};
+ghost use Rattle.sdp_formats_session_lines.specs.Lines.{bandwidth_line};
 ghost use Rattle.sdp_formats_session_lines.specs.Choice.{attribute_line};
 ghost use Rattle.sdp_formats_writable.specs.Lines.{IsLineOf};
 ghost use Rattle.sdp_formats_writable.specs.Writable.{is_group, is_unused, ComesBack, IsWritableAttribute};
 ghost use Rattle.sdp_formats_writable.specs.Writable.{IsWritableBandwidth};
 
 use sdp_formats_equality::same::Same;
-use sdp_formats_forms::Refusal;
-use sdp_formats_heads::BandwidthLine;
-use sdp_formats_session_lines::SessionAttributeLine;
-use sdp_formats_steps::{Lined, Stepped};
+use sdp_formats_forms::{Lined, Refusal, Stepped};
+use sdp_formats_session_lines::{BandwidthLine, SessionAttributeLine};
 use sdp_formats_types::{Bandwidth, SessionAttribute};
 use std::alloc::{AllocError, Global};
 

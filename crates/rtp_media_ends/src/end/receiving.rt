@@ -8,7 +8,7 @@ ghost use Rattle.rtp_media_streams.specs.Drains.{drain_answer, drained_receiver,
 ghost use Rattle.rtp_media_streams.specs.Polls.{IsInterrupted, IsPolled, IsPolledSome, given};
 ghost use Rattle.rtp_media_streams.specs.Receiving.{media_payload, polled_receiver, with_stream};
 ghost use Rattle.rtp_media_streams.specs.Rows.{format_of};
-ghost use Rattle.rtp_media_runs.specs.Hearing.{poll_answer};
+ghost use Rattle.rtp_media_schedules.specs.Hearing.{poll_answer};
 ghost use Rattle.rtp_wire.specs.declared.ExtensionValues.{ExtensionValues};
 ghost use Rattle.rtp_media_ends.specs.Arrivals.{Own, NoPayload, own_of, stream_for, verdict_for, after_arrival};
 ghost use Rattle.rtp_media_ends.specs.Arrivals.{arrival_by, verdict_of, after_datagram};

@@ -1,6 +1,6 @@
 use Rattle.std.proofs.Common.{ℕ, List, ◌++◌, map, sym, ap, ◌∙◌, append_assoc}
 use Rattle.std.specs.List.{flat_map}
-use Rattle.h26x_payload_annexb.specs.UnitsLeft.{units_left}
+use Rattle.h26x_payload_units.specs.UnitsLeft.{units_left}
 use Rattle.h26x_payload_units.specs.Departures.{Departure, Rules, Waiting, departing, departures, waiting_after}
 use Rattle.h26x_payload_units.specs.Departures.{waiting_behind}
 use Rattle.h26x_payload_units.specs.Numbers.{Numbered, number_after, numbered}

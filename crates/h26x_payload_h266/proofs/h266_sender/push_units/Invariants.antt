@@ -1,7 +1,7 @@
 use Rattle.std.proofs.Common.{◌≡◌, ◌++◌, map}
 use Rattle.std.specs.List.{flat_map}
-use Rattle.h26x_payload_annexb.specs.Units.{units_of}
-use Rattle.h26x_payload_annexb.specs.UnitsLeft.{units_left}
+use Rattle.h26x_payload_units.specs.Units.{units_of}
+use Rattle.h26x_payload_units.specs.UnitsLeft.{units_left}
 use Rattle.h26x_payload_units.specs.Departures.{departures, waiting_after}
 use Rattle.h26x_payload_units.specs.Numbers.{number_after, numbered}
 use Rattle.h26x_payload_h266.specs.H266Packing.{h266_rules, packets_of}

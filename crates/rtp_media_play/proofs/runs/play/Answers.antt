@@ -1,6 +1,6 @@
 use Rattle.std.proofs.Common.{◌≡◌, ℕ, List, map, refl, sym, ◌∙◌, ap, subst}
-use Rattle.rtp_media_runs.specs.Hearing.{Answer, handed_out}
-use Rattle.rtp_media_runs.specs.Samples.{timed_unit}
+use Rattle.rtp_media_schedules.specs.Hearing.{Answer, handed_out}
+use Rattle.rtp_media_schedules.specs.SentSamples.{timed_unit}
 use Rattle.rtp_media_schedules.specs.Legal.{IsLegal}
 use Rattle.rtp_media_streams.specs.Sending.{datagrams_of}
 use Rattle.rtp_media_ends.specs.Ends.{receiver_at, sender_at}

@@ -1,5 +1,5 @@
 use Rattle.std.proofs.Common.{◌≡◌, ℕ, refl, sym, ◌∙◌, ap, None, Some, Ok}
-use Rattle.rtp_media_runs.specs.Hearing.{MediaUnit, Stream}
+use Rattle.rtp_media_schedules.specs.Hearing.{MediaUnit, Stream}
 use Rattle.rtp_media_streams.specs.Drains.{holding}
 use Rattle.rtp_media_streams.specs.Polls.{PollResult, given}
 use Rattle.rtp_media_streams.specs.Receiving.{stream_of}

@@ -1,5 +1,5 @@
 use Rattle.std.proofs.Common.{sym, ◌∙◌, ap, None, Some, Ok}
-use Rattle.rtp_media_runs.specs.Hearing.{MediaUnit}
+use Rattle.rtp_media_schedules.specs.Hearing.{MediaUnit}
 use Rattle.rtp_media_streams.specs.Polls.{PollResult, given}
 use Rattle.rtp_media_streams.specs.Receiving.{stream_of}
 use Rattle.rtp_media_streams.proofs.Polling.{fault_answer, fault_fewer, fault_stream, handed_answer, handed_stream}

@@ -1,5 +1,5 @@
 use Rattle.std.proofs.Common.{◌≡◌, ◌↔◌, Bool, IsTrue, subst, sym}
-use Rattle.sdp_formats_heads.specs.Lines.{bandwidth_line}
+use Rattle.sdp_formats_session_lines.specs.Lines.{bandwidth_line}
 use Rattle.sdp_formats_writable.specs.Lines.{IsLineOf}
 use Rattle.sdp_formats_writable.proofs.Reading.{line_read, none_read}
 use Rattle.sdp_formats_writable.proofs.line.says_bandwidth.Goals as goal

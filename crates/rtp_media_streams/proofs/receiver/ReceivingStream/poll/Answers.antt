@@ -1,6 +1,6 @@
 use Rattle.std.proofs.Common.{◌≡◌, ◌≢◌, ◌∙◌, ap, subst₂, IfErr, IfOk, Ok, Err}
 use Rattle.payload_core_base.specs.Format.{Format}
-use Rattle.rtp_media_runs.specs.Hearing.{Stream, poll_answer, polled}
+use Rattle.rtp_media_schedules.specs.Hearing.{Stream, poll_answer, polled}
 use Rattle.rtp_media_streams.specs.Polls.{given}
 use Rattle.rtp_media_streams.specs.Receiving.{Receiving}
 use Rattle.rtp_media_streams.specs.Rows.{format_of}

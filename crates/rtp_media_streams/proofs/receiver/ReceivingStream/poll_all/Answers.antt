@@ -1,6 +1,6 @@
 use Rattle.std.proofs.Common.{◌≡◌, ◌∙◌, ap, subst, None, Some, Result, Ok, Err, OnErr}
 use Rattle.payload_core_base.specs.Format.{Format}
-use Rattle.rtp_media_runs.specs.Hearing.{Stream, poll_answer, polled}
+use Rattle.rtp_media_schedules.specs.Hearing.{Stream, poll_answer, polled}
 use Rattle.rtp_media_streams.specs.Polls.{IsInterrupted, given}
 use Rattle.rtp_media_streams.specs.Receiving.{Receiving, with_stream}
 use Rattle.rtp_media_streams.specs.Rows.{format_of}

@@ -1,5 +1,0 @@
-pub mod CutLemmas
-pub mod LayoutLemmas
-pub mod PlaceLemmas
-pub mod SplitLemmas
-pub mod UnitLemmas

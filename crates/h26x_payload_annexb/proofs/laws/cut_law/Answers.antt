@@ -1,7 +1,0 @@
-use Rattle.h26x_payload_annexb.proofs.CutLemmas.{cut_law}
-use Rattle.h26x_payload_annexb.proofs.SplitLemmas.{place_law}
-use Rattle.h26x_payload_annexb.proofs.UnitLemmas.{comes_back, units_law}
-use Rattle.h26x_payload_annexb.proofs.laws.cut_law.Goals as goal
-
-pub returns : goal.returns
-returns c = record { cut = cut_law; units = units_law; places = place_law; comes_back = comes_back }

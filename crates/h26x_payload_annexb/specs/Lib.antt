@@ -1,4 +1,0 @@
-pub mod Cut
-pub mod Places
-pub mod Units
-pub mod UnitsLeft

@@ -1,9 +1,0 @@
-pub mod Whole
-pub mod Audio
-pub mod Speech
-pub mod Frames
-pub mod Obus
-pub mod Sets
-pub mod AnnexB
-pub mod H26x
-pub mod Codecs

@@ -1,0 +1,52 @@
+//! The units of a text, one after the other.
+
+ghost use Rattle.std.specs.Prelude.{◌≡◌};
+ghost use Rattle.h26x_payload_units.specs.Units.{units_of};
+ghost use Rattle.h26x_payload_units.specs.UnitsLeft.{units_left};
+
+use crate::places::{code_place, first_stretch};
+
+/// The NAL units of a text that are still to come, in order, each as the slice of the text where it stands. No
+/// unit is empty. It takes no memory.
+#[derive(Clone, Debug, Drop)]
+pub struct NalUnits<'a> {
+    // What stands behind the start code that was read last, or the whole text where it holds none.
+    rest: &'a [u8],
+}
+
+/// The NAL units of a text (ITU-T H.264 annex B): what stands between its start codes, and behind the last one.
+/// A start code is two or more zeros, as many as there are, and the 01 behind them. What stands before the first
+/// start code is none; a text without a start code is one unit, unless it is empty.
+pub fn nal_units(text: &[u8]) -> NalUnits<'_>
+    ensures { units_left result ≡ units_of text.now }
+{
+    match code_place(text) {
+        Some(place) => NalUnits {
+            rest: &text[place + 3..],
+        },
+        None => NalUnits { rest: text },
+    }
+}
+
+impl<'a> Iterator for NalUnits<'a> {
+    ghost use Rattle.h26x_payload_units.specs.UnitsLeft.{units_left};
+    ghost use Rattle.std.specs.Iterator.{YieldsFirstRef, at_most};
+    ghost use Rattle.std.specs.Prelude.{length};
+
+    type Item = &'a [u8];
+
+    ghost next_gives = { YieldsFirstRef units_left };
+
+    ghost remaining = { λ units. at_most (length units.rest.now) };
+
+    fn next(&mut self) -> Option<&'a [u8]> {
+        while !self.rest.is_empty() {
+            let (stretch, behind) = first_stretch(self.rest);
+            self.rest = behind;
+            if !stretch.is_empty() {
+                return Some(stretch);
+            }
+        }
+        None
+    }
+}

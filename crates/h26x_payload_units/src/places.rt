@@ -1,0 +1,52 @@
+//! Where start codes stand.
+
+ghost use Rattle.std.specs.Prelude.{◌≡◌, ℕ, ◌+◌, ◌<◌, ◌≤◌, MatchOption, length};
+ghost use Rattle.h26x_payload_units.specs.Places.{HasCodeAt, HasNoCodeBefore};
+ghost use Rattle.h26x_payload_units.specs.Units.{units_behind, without_zeros};
+ghost use Rattle.h26x_payload_units.specs.Cut.{with_unit};
+
+/// The place of the first 00 00 01 (ITU-T H.264 annex B), from 0.
+pub fn code_place(text: &[u8]) -> Option<usize>
+    ensures { MatchOption result (HasNoCodeBefore text.now (length text.now))
+        (λ place. HasCodeAt text.now place × HasNoCodeBefore text.now place) }
+{
+    let mut i = 0;
+    while i < text.len().saturating_sub(2) {
+        // A third byte above 0 rules out the next two places too.
+        let third = text[i + 2];
+        if third == 0 {
+            i += 1;
+        } else if third == 1 && text[i + 1] == 0 && text[i] == 0 {
+            return Some(i);
+        } else {
+            i += 3;
+        }
+    }
+    None
+}
+
+/// A text without the zeros at its end.
+pub fn without_zeros(text: &[u8]) -> &[u8]
+    ensures { result.now ≡ without_zeros text.now }
+{
+    let mut kept = text;
+    while let Some((last, front)) = kept.split_last() {
+        if *last != 0 {
+            return kept;
+        }
+        kept = front;
+    }
+    kept
+}
+
+/// What stands before the first start code (ITU-T H.264 annex B), and behind it; all and nothing
+/// without one.
+pub fn first_stretch(text: &[u8]) -> (&[u8], &[u8])
+    ensures units { units_behind text.now ≡ with_unit result.0.now (units_behind result.1.now) }
+    ensures shorter { 0 < length text.now → length result.1.now < length text.now }
+{
+    match code_place(text) {
+        Some(place) => (without_zeros(&text[..place]), &text[place + 3..]),
+        None => (text, &[]),
+    }
+}

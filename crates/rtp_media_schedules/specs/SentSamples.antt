@@ -1,0 +1,26 @@
+-- Samples with their times.
+use Rattle.std.specs.Prelude.{ℕ, List, [], Result, Ok, Err}
+use Rattle.payload_core_base.specs.Packing.{Sender, Sent}
+use Rattle.payload_core_base.specs.declared.error.PacketError.{PacketError}
+use Rattle.rtp_wire.specs.declared.ExtensionValues.{ExtensionValues}
+use Rattle.rtp_media_schedules.specs.Hearing.{MediaUnit}
+
+-- Bytes with their RTP timestamp (RFC 3550 5.1) and values of header extensions (RFC 8285): a sample, or a
+-- unit without its numbers.
+pub record Timed : Type 0 where
+  pub time : ℕ
+  pub values : ExtensionValues
+  pub bytes : List ℕ
+
+abbrev pub timed : ℕ → ExtensionValues → List ℕ → Timed
+timed time values bytes = record { time = time; values = values; bytes = bytes }
+
+-- What a sample leaves: a refused one sends nothing and changes nothing.
+abbrev pub sent_or : Sender → Result Sent PacketError → Sent
+sent_or before (Ok sent) = sent
+sent_or before (Err e) = record { packets = []; sender = before }
+
+-- What is handed out, without its numbers and what its format tells beside.
+abbrev pub timed_unit : Result MediaUnit PacketError → Result Timed PacketError
+timed_unit (Ok u) = Ok (timed u.time u.values u.bytes)
+timed_unit (Err e) = Err e

@@ -1,3 +1,0 @@
-pub mod PairRounds
-pub mod Ends
-pub mod Printed

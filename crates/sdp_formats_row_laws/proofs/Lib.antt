@@ -1,9 +1,0 @@
-pub mod Lists
-pub mod Silent
-pub mod Formats
-pub mod Mapped
-pub mod Links
-pub mod Own
-pub mod Feedback
-pub mod Back
-pub mod Whole
