@@ -63,7 +63,6 @@ pub use h26x_payload_profiles::H266Tier;
 pub use h26x_payload_profiles::h264_tables_law;
 pub use h26x_payload_profiles::h265_tables_law;
 pub use h26x_payload_profiles::h266_tables_law;
-pub use h26x_payload_profiles::levels_apart_law;
 pub use h26x_payload_units::NalUnits;
 pub use h26x_payload_units::cut_law;
 pub use h26x_payload_units::nal_units;

@@ -1,10 +1,14 @@
 -- What is written and read of a profile and level of H.264: its fields by their names.
-use Rattle.std.specs.Prelude.{ℕ, ◌==◌, codes, if◌then◌else◌}
-use Rattle.serde.specs.Event.{Log, Sends, Then}
+use Rattle.std.specs.Prelude.{◌≡◌, ℕ, ◌==◌, List, [], ◌∷◌, Bool, MatchBool, codes, if◌then◌else◌}
+use Rattle.serde.specs.Event.{Event, Log, Sends, Then}
+use Rattle.serde.specs.declared.deserializer.Deserializer.{Deserializer}
+use Rattle.serde.specs.declared.name.Name.{Name}
 use Rattle.payload_core_tables.specs.Fields.{InMap, WritesField}
-use Rattle.payload_core_tables.specs.Names.{name_event}
+use Rattle.payload_core_tables.specs.Names.{ReadsName, name_event}
+use Rattle.payload_core_tables.specs.Reading.{GivesOf, PicksOf, ReadsNamed}
 use Rattle.h26x_payload_h264_profiles.specs.declared.h264.H264ProfileLevel.{H264ProfileLevel}
-use Rattle.h26x_payload_h264_profiles.specs.H264Names.{profile_name, level_name}
+use Rattle.h26x_payload_h264_profiles.specs.H264Names.{profiles, profile_name, level_name}
+use Rattle.h26x_payload_h264_profiles.specs.H264LevelIdc.{levels}
 
 abbrev pub WritesProfileLevel : H264ProfileLevel → Log → Log → Type 0
 WritesProfileLevel both = InMap 2 (Then
@@ -16,3 +20,15 @@ abbrev pub with_field : ℕ → H264ProfileLevel → H264ProfileLevel → H264Pr
 with_field place other own =
     if place == 0 then record own { profile = other.profile }
     else record own { level = other.level }
+
+-- A field is read by the name of its value, and no other changes.
+abbrev pub ReadsField : ℕ → (Event → Type 0) → H264ProfileLevel → H264ProfileLevel → Type 0
+ReadsField place given old new = (new ≡ with_field place new old)
+    × MatchBool (place == 0) (ReadsName given profile_name profiles new.profile)
+    (ReadsName given level_name levels new.level)
+
+-- A profile and level is read: both fields by their names, over one that it had before.
+abbrev pub ReadsProfileLevel : {F E M : Type 0} → GivesOf F → PicksOf F → (F → F → Type 0) → Deserializer F E M
+    → Deserializer F E M → H264ProfileLevel → Type 0
+ReadsProfileLevel gives picks stays old new value = (start : H264ProfileLevel) × ReadsNamed gives picks stays ReadsField
+    (codes "profile" ∷ codes "level" ∷ []) (0 ∷ 1 ∷ []) old new start value

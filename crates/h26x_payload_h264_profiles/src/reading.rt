@@ -1,10 +1,11 @@
 //! A profile with its level as serde reads it: by the names of its fields.
 
-ghost use Rattle.std.specs.Prelude.{◌≡◌, OnOk};
-ghost use Rattle.h26x_payload_h264_profiles.specs.H264Fields.{with_field};
+ghost use Rattle.std.specs.Prelude.{IfOk, OnOk};
+ghost use Rattle.serde.specs.Steps.{Gives};
+ghost use Rattle.h26x_payload_h264_profiles.specs.H264Fields.{ReadsField, ReadsProfileLevel};
 
-use crate::h264::H264ProfileLevel;
-use payload_core_tables::{FIELD, ReadFields, read_field, read_fields};
+use crate::h264::{H264LevelIdc, H264Profile, H264ProfileLevel};
+use payload_core_tables::{FIELD, ReadFields, read_fields};
 use serde::de::DeserializeOwned;
 use serde::{Deserialize, Deserializer, Format, Name};
 use std::alloc::Global;
@@ -26,7 +27,9 @@ impl<'de> Deserialize<'de> for H264ProfileLevel {
     fn deserialize<F: Format>(
         alloc: Global,
         from: &mut Deserializer<'de, '_, F>,
-    ) -> Result<Self, F::Error> {
+    ) -> Result<Self, F::Error>
+        ensures { IfOk result (ReadsProfileLevel F.gives F.picks F.stays from.old from.new) }
+    {
         read_fields(H264ProfileLevel::FALLBACK, &NAMES, &[0, 1], alloc, from)
     }
 }
@@ -35,23 +38,28 @@ impl DeserializeOwned for H264ProfileLevel {
     fn deserialize_owned<F: Format>(
         alloc: Global,
         from: &mut Deserializer<'_, '_, F>,
-    ) -> Result<Self, F::Error> {
+    ) -> Result<Self, F::Error>
+        ensures { IfOk result (ReadsProfileLevel F.gives F.picks F.stays from.old from.new) }
+    {
         H264ProfileLevel::deserialize(alloc, from)
     }
 }
 
 impl ReadFields for H264ProfileLevel {
+    ghost reads = { ReadsField };
+
     fn read_at<F: Format>(
         &mut self,
         place: usize,
         alloc: Global,
         from: &mut Deserializer<'_, '_, F>,
     ) -> Result<(), F::Error>
-        ensures { OnOk result (self.new ≡ with_field place self.new self.old) }
+        ensures { OnOk result (ReadsField place (λ e. Gives F.gives from.old e from.new) self.old self.new) }
     {
         match place {
-            0 => read_field(&mut self.profile, alloc, from),
-            _ => read_field(&mut self.level, alloc, from),
+            0 => self.profile = H264Profile::deserialize(alloc, from)?,
+            _ => self.level = H264LevelIdc::deserialize(alloc, from)?,
         }
+        Ok(())
     }
 }

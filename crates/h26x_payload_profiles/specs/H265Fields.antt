@@ -1,9 +1,15 @@
 -- What is written and read of a profile, tier and level of H.265: its fields by their names.
-use Rattle.std.specs.Prelude.{ℕ, ◌==◌, codes, if◌then◌else◌}
-use Rattle.serde.specs.Event.{Log, Sends, Then}
+use Rattle.std.specs.Prelude.{◌≡◌, ℕ, ◌==◌, List, [], ◌∷◌, Bool, MatchBool, codes, if◌then◌else◌}
+use Rattle.serde.specs.Event.{Event, Log, Sends, Then}
+use Rattle.serde.specs.declared.deserializer.Deserializer.{Deserializer}
+use Rattle.serde.specs.declared.name.Name.{Name}
 use Rattle.payload_core_tables.specs.Fields.{InMap, WritesField}
-use Rattle.payload_core_tables.specs.Names.{name_event}
+use Rattle.payload_core_tables.specs.Names.{ReadsName, name_event}
+use Rattle.payload_core_tables.specs.Reading.{GivesOf, PicksOf, ReadsNamed}
 use Rattle.h26x_payload_profiles.specs.declared.h265.H265ProfileTierLevel.{H265ProfileTierLevel}
+use Rattle.h26x_payload_profiles.specs.H265Level.{levels}
+use Rattle.h26x_payload_profiles.specs.H265Profile.{profiles}
+use Rattle.h26x_payload_profiles.specs.H265Tier.{tiers}
 use Rattle.h26x_payload_profiles.specs.H265Names.{profile_name, tier_name, level_name}
 
 abbrev pub WritesProfileTierLevel : H265ProfileTierLevel → Log → Log → Type 0
@@ -18,3 +24,16 @@ with_h265_field place other own =
     if place == 0 then record own { profile = other.profile }
     else if place == 1 then record own { tier = other.tier }
     else record own { level = other.level }
+
+-- A field is read by the name of its value, and no other changes.
+abbrev pub ReadsH265Field : ℕ → (Event → Type 0) → H265ProfileTierLevel → H265ProfileTierLevel → Type 0
+ReadsH265Field place given old new = (new ≡ with_h265_field place new old)
+    × MatchBool (place == 0) (ReadsName given profile_name profiles new.profile)
+    (MatchBool (place == 1) (ReadsName given tier_name tiers new.tier)
+    (ReadsName given level_name levels new.level))
+
+-- A profile with its tier and level is read: the fields by their names, over one that it had before.
+abbrev pub ReadsH265 : {F E M : Type 0} → GivesOf F → PicksOf F → (F → F → Type 0) → Deserializer F E M
+    → Deserializer F E M → H265ProfileTierLevel → Type 0
+ReadsH265 gives picks stays old new value = (start : H265ProfileTierLevel) × ReadsNamed gives picks stays ReadsH265Field
+    (codes "profile" ∷ codes "tier" ∷ codes "level" ∷ []) (0 ∷ 1 ∷ 2 ∷ []) old new start value

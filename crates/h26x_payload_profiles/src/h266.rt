@@ -8,6 +8,7 @@ ghost use Rattle.h26x_payload_profiles.specs.H266Profile.{profile_id, profiles};
 ghost use Rattle.h26x_payload_profiles.specs.H266Tier.{tier_flag, tiers};
 ghost use Rattle.h26x_payload_profiles.specs.H266ProfileTierLevel.{ComesBack, at_level, fallback, given, known};
 ghost use Rattle.h26x_payload_profiles.specs.H266ProfileTierLevel.{known_or_fallback};
+ghost use Rattle.h26x_payload_profiles.specs.LevelsApart.{LevelsApart};
 ghost use Rattle.h26x_payload_profiles.specs.H266Names.{profile_name, tier_name, level_name};
 
 use crate::h266_names::H266_LEVELS;
@@ -273,8 +274,8 @@ impl From<(u8, u8, u8)> for H266ProfileTierLevel {
 }
 
 /// What the tables of H.266 are: a number finds the profile, tier or level whose own it is, and no other; the
-/// levels are ordered by their places, which is by their numbers; each is found by its name; and three numbers come
-/// back.
+/// levels are ordered by their places, which is by their numbers; each is found by its name; three numbers come back;
+/// and no `level-id` belongs to H.265 also, so that it tells the two apart.
 pub fn h266_tables_law()
     ensures profiles { IsTable profile_id profiles }
     ensures tiers { IsTable tier_flag tiers }
@@ -285,4 +286,5 @@ pub fn h266_tables_law()
     ensures profile_names { HasOwnNames profile_name profiles }
     ensures tier_names { HasOwnNames tier_name tiers }
     ensures level_names { HasOwnNames level_name levels }
+    ensures apart { LevelsApart }
 {}

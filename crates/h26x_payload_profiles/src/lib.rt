@@ -5,7 +5,6 @@ mod h265;
 mod h265_names;
 mod h266;
 mod h266_names;
-mod laws;
 mod reading;
 mod values;
 
@@ -16,4 +15,3 @@ pub use h265::{H265Level, H265Profile, H265ProfileTierLevel, H265Tier, h265_tabl
 pub use h265_names::{H265_LEVELS, H265_PROFILES, H265_TIERS};
 pub use h266::{H266Level, H266Profile, H266ProfileTierLevel, H266Tier, h266_tables_law};
 pub use h266_names::{H266_LEVELS, H266_PROFILES, H266_TIERS};
-pub use laws::levels_apart_law;

@@ -1,14 +1,7 @@
 //! Numbers that session texts write.
 
 ghost use Rattle.std.specs.Prelude.{◌≡◌, option_map};
-ghost use Rattle.h26x_payload_profiles.specs.Values.{byte_written, given_or};
-
-/// The number of 8 bits that a text writes.
-fn byte_written(text: &str) -> Option<u8>
-    ensures { result ≡ byte_written text.now }
-{
-    text.parse::<u8>().ok()
-}
+ghost use Rattle.h26x_payload_profiles.specs.Values.{given_or};
 
 /// The number of 8 bits that a value writes, none where it writes no such number; another one where no
 /// value is given.
@@ -16,7 +9,7 @@ pub fn given_or(absent: u8, value: Option<&str>) -> Option<u8>
     ensures { result ≡ given_or absent (option_map (λ t. t.now) value.entry) }
 {
     match value {
-        Some(text) => byte_written(text),
+        Some(text) => text.parse::<u8>().ok(),
         None => Some(absent),
     }
 }

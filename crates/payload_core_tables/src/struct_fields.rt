@@ -1,6 +1,9 @@
 //! Structs that are read field by field, as serde's derive reads them.
 
-ghost use Rattle.std.specs.Prelude.{◌≡◌, ◌<◌, IfOk, IfSome, OnErr, Some, length};
+ghost use Rattle.std.specs.Prelude.{◌≡◌, ◌++◌, ℕ, [], ◌∷◌, false, All, Any, IfNone, IfOk, OnErr, OnOk};
+ghost use Rattle.serde.specs.Event.{Event, boolean, nothing};
+ghost use Rattle.serde.specs.Steps.{Gives};
+ghost use Rattle.payload_core_tables.specs.Reading.{IsMissing, ReadsMap, ReadsSequence, ReadsStruct, is_among};
 
 use serde::{Case, Deserialize, Deserializer, Format, Name, NameKind};
 use std::alloc::Global;
@@ -16,6 +19,9 @@ pub const FIELD: Name<'static> = Name {
 
 /// A struct that is read field by field.
 pub trait ReadFields: Drop {
+    // Holds of the place of a field, what was read there, and the struct before and after it.
+    ghost reads: { ℕ → (Event → Type 0) → Self → Self → Type 0 };
+
     /// Reads the field at this place among the names of the fields.
     ///
     /// # Errors
@@ -26,27 +32,44 @@ pub trait ReadFields: Drop {
         place: usize,
         alloc: Global,
         from: &mut Deserializer<'_, '_, F>,
-    ) -> Result<(), F::Error>;
+    ) -> Result<(), F::Error>
+        ensures { OnOk result (reads place (λ e. Gives F.gives from.old e from.new) self.old self.new) };
 }
 
-/// Reads the value of a field, which stays as it is after an error.
+/// Reads the value of a field that may be missing or null, which stays as it is after an error.
 ///
 /// # Errors
 ///
 /// What the deserializer answers.
-pub fn read_field<'de, T: Deserialize<'de>, F: Format>(
-    field: &mut T,
+pub fn read_optional<'de, T: Deserialize<'de>, F: Format>(
+    field: &mut Option<T>,
     alloc: Global,
     from: &mut Deserializer<'de, '_, F>,
 ) -> Result<(), F::Error>
-    ensures { OnErr result (field.new ≡ field.old) }
+    ensures none { OnOk result (IfNone field.new (Gives F.gives from.old nothing from.new)) }
+    ensures unchanged { OnErr result (field.new ≡ field.old) }
 {
-    *field = T::deserialize(alloc, from)?;
+    *field = Option::deserialize(alloc, from)?;
     Ok(())
 }
 
-/// Reads the fields of a struct, 64 at most: of a map by their names in any order, or all of a sequence in their own
-/// order.
+/// Reads the value of a field that is true or false, which stays as it is after an error.
+///
+/// # Errors
+///
+/// What the deserializer answers.
+pub fn read_flag<F: Format>(
+    field: &mut bool,
+    from: &mut Deserializer<'_, '_, F>,
+) -> Result<(), F::Error>
+    ensures given { OnOk result (Gives F.gives from.old (boolean field.new) from.new) }
+    ensures unchanged { OnErr result (field.new ≡ field.old) }
+{
+    *field = from.bool()?;
+    Ok(())
+}
+
+/// Reads the fields of a struct: of a map by their names in any order, or all of a sequence in their own order.
 ///
 /// A map has to give the fields at the places `required`, and what it doesn't give stays as it is at the start. Fields
 /// of other names are passed over.
@@ -61,129 +84,112 @@ pub fn read_fields<T: ReadFields, F: Format>(
     required: &[usize],
     alloc: Global,
     from: &mut Deserializer<'_, '_, F>,
-) -> Result<T, F::Error> {
-    let mut value = start;
-    let mut fields = FieldsRead {
-        read: 0,
-        next_place: if from.begin_struct()? { Some(0) } else { None },
-    };
-    for _ in 0..u64::MAX {
-        match fields.next(names, from)? {
-            Some(place) => value.read_at(place, alloc, from)?,
-            None => break,
-        }
+) -> Result<T, F::Error>
+    ensures { IfOk result (ReadsStruct F.gives F.picks F.stays T.reads names.now required.now from.old from.new start) }
+{
+    if from.begin_struct()? {
+        read_sequence(start, names, alloc, from)
+    } else {
+        read_map(start, names, required, alloc, from)
     }
-    fields.end(names, required, from)?;
+}
+
+/// Reads the fields of a sequence that has begun.
+fn read_sequence<T: ReadFields, F: Format>(
+    start: T,
+    names: &[Name<'_>],
+    alloc: Global,
+    from: &mut Deserializer<'_, '_, F>,
+) -> Result<T, F::Error>
+    ensures { IfOk result (ReadsSequence F.gives F.stays T.reads names.now from.old from.new start) }
+{
+    let mut value = start;
+    for (place, name) in names.iter().enumerate() {
+        if !from.next_item()? {
+            return Err(from.missing(name.name));
+        }
+        value.read_at(place, alloc, from)?;
+    }
+    if from.next_item()? {
+        return Err(from.wrong_len());
+    }
     Ok(value)
 }
 
-/// Which fields of a struct are read so far.
-#[derive(Clone, Copy, Drop)]
-struct FieldsRead {
-    // The fields of a map that are read, a bit for each of the first 64.
-    read: u64,
-    // The place of the next field of a sequence.
-    next_place: Option<usize>,
-}
-
-impl FieldsRead {
-    /// The place of the next field among the names, None at the end of the struct. Its value is to be read next.
-    fn next<F: Format>(
-        &mut self,
-        names: &[Name<'_>],
-        from: &mut Deserializer<'_, '_, F>,
-    ) -> Result<Option<usize>, F::Error>
-        ensures { IfOk result (λ next. IfSome next (λ place. place < length names.now)) }
-    {
-        match self.next_place {
-            Some(place) => self.next_item(place, names, from),
-            None => self.next_key(names, from),
-        }
-    }
-
-    /// The place of the next field of a sequence, which is this one if it comes.
-    fn next_item<F: Format>(
-        &mut self,
-        place: usize,
-        names: &[Name<'_>],
-        from: &mut Deserializer<'_, '_, F>,
-    ) -> Result<Option<usize>, F::Error>
-        ensures { IfOk result (λ next. IfSome next (λ place. place < length names.now)) }
-    {
-        let is_given = from.next_item()?;
+/// Reads the fields of a map that has begun.
+fn read_map<T: ReadFields, F: Format>(
+    start: T,
+    names: &[Name<'_>],
+    required: &[usize],
+    alloc: Global,
+    from: &mut Deserializer<'_, '_, F>,
+) -> Result<T, F::Error>
+    ensures { IfOk result (ReadsMap F.gives F.picks T.reads names.now required.now from.old from.new start) }
+{
+    let mut value = start;
+    let mut places = Vec::new(alloc);
+    for _ in 0..u64::MAX {
+        let Some(place) = from.next_key(names)? else {
+            check_required(names, required, &places, from)?;
+            return Ok(value);
+        };
         match names.get(place) {
-            Some(_) if is_given => {
-                self.next_place = Some(place + 1);
-                Ok(Some(place))
+            Some(name) => {
+                note(&mut places, place, name.name, from)?;
+                value.read_at(place, alloc, from)?;
             }
-            Some(name) => Err(from.missing(name.name)),
-            None if is_given => Err(from.wrong_len()),
-            None => Ok(None),
+            None => from.skip()?,
         }
     }
+    Err(from.wrong_len())
+}
 
-    /// The place of the next field of a map.
-    fn next_key<F: Format>(
-        &mut self,
-        names: &[Name<'_>],
-        from: &mut Deserializer<'_, '_, F>,
-    ) -> Result<Option<usize>, F::Error>
-        ensures { IfOk result (λ next. IfSome next (λ place. place < length names.now)) }
-    {
-        for _ in 0..u64::MAX {
-            let Some(place) = from.next_key(names)? else {
-                return Ok(None);
-            };
-            match names.get(place) {
-                Some(name) => return self.note(place, name.name, from),
-                None => from.skip()?,
-            }
-        }
-        Ok(None)
+/// Notes that the field at this place comes.
+///
+/// # Errors
+///
+/// Where it came before, or memory runs out.
+fn note<F: Format>(
+    places: &mut Vec<usize>,
+    place: usize,
+    name: &str,
+    from: &Deserializer<'_, '_, F>,
+) -> Result<(), F::Error>
+    ensures is_new { OnOk result (is_among places.old.items place ≡ false) }
+    ensures noted { OnOk result (places.new.items ≡ places.old.items ++ place ∷ []) }
+{
+    if has(places, place) {
+        return Err(from.duplicate(name));
     }
-
-    /// This place, noted as that of a field which is read, if it wasn't read before.
-    fn note<F: Format>(
-        &mut self,
-        place: usize,
-        name: &str,
-        from: &Deserializer<'_, '_, F>,
-    ) -> Result<Option<usize>, F::Error>
-        ensures { IfOk result (λ next. next ≡ Some place) }
-    {
-        if self.has(place) {
-            return Err(from.duplicate(name));
-        }
-        self.read |= bit_of(place);
-        Ok(Some(place))
-    }
-
-    /// Is this field of a map read?
-    fn has(&self, place: usize) -> bool {
-        self.read & bit_of(place) != 0
-    }
-
-    /// Refuses the end of a map where a field is missing that is required: the first of them.
-    fn end<F: Format>(
-        &self,
-        names: &[Name<'_>],
-        required: &[usize],
-        from: &Deserializer<'_, '_, F>,
-    ) -> Result<(), F::Error> {
-        if self.next_place.is_some() {
-            return Ok(());
-        }
-        for place in required {
-            match names.get(*place) {
-                Some(name) if !self.has(*place) => return Err(from.missing(name.name)),
-                _ => {}
-            }
-        }
-        Ok(())
+    match places.push(place) {
+        Ok(()) => Ok(()),
+        Err(_) => Err(from.no_memory()),
     }
 }
 
-/// The bit of a place, if it is one of the first 64.
-fn bit_of(place: usize) -> u64 {
-    if place < 64 { 1 << place } else { 0 }
+/// Is this one of the places?
+fn has(places: &[usize], place: usize) -> bool
+    ensures { result ≡ is_among places.now place }
+{
+    places.iter().any(|noted| *noted == place)
+}
+
+/// Refuses the end of a map where a field is missing that is required: the first of them.
+fn check_required<F: Format>(
+    names: &[Name<'_>],
+    required: &[usize],
+    places: &[usize],
+    from: &Deserializer<'_, '_, F>,
+) -> Result<(), F::Error>
+    ensures came { OnOk result (All (λ place. ¬ IsMissing names.now places.now place) required.now) }
+    ensures missing { OnErr result (Any (IsMissing names.now places.now) required.now) }
+{
+    for place in required {
+        if let Some(name) = names.get(*place) {
+            if !has(places, *place) {
+                return Err(from.missing(name.name));
+            }
+        }
+    }
+    Ok(())
 }

@@ -1,10 +1,11 @@
 //! Format parameters as serde reads them: by the names of their fields.
 
-ghost use Rattle.std.specs.Prelude.{◌≡◌, OnOk};
-ghost use Rattle.sdp_formats_format.specs.Reading.{with_field};
+ghost use Rattle.std.specs.Prelude.{IfOk, OnOk};
+ghost use Rattle.serde.specs.Steps.{Gives};
+ghost use Rattle.sdp_formats_format.specs.Reading.{ReadsField, ReadsFormat};
 
 use crate::format::{FormatParams, no_format};
-use payload_core_tables::{FIELD, ReadFields, read_field, read_fields};
+use payload_core_tables::{FIELD, ReadFields, read_fields, read_optional};
 use serde::de::DeserializeOwned;
 use serde::{Deserialize, Deserializer, Format, Name};
 use std::alloc::Global;
@@ -90,7 +91,9 @@ impl<'de> Deserialize<'de> for FormatParams {
     fn deserialize<F: Format>(
         alloc: Global,
         from: &mut Deserializer<'de, '_, F>,
-    ) -> Result<FormatParams, F::Error> {
+    ) -> Result<FormatParams, F::Error>
+        ensures { IfOk result (ReadsFormat F.gives F.picks F.stays from.old from.new) }
+    {
         read_fields(no_format(), &NAMES, &[], alloc, from)
     }
 }
@@ -99,39 +102,43 @@ impl DeserializeOwned for FormatParams {
     fn deserialize_owned<F: Format>(
         alloc: Global,
         from: &mut Deserializer<'_, '_, F>,
-    ) -> Result<FormatParams, F::Error> {
+    ) -> Result<FormatParams, F::Error>
+        ensures { IfOk result (ReadsFormat F.gives F.picks F.stays from.old from.new) }
+    {
         FormatParams::deserialize(alloc, from)
     }
 }
 
 impl ReadFields for FormatParams {
+    ghost reads = { ReadsField };
+
     fn read_at<F: Format>(
         &mut self,
         place: usize,
         alloc: Global,
         from: &mut Deserializer<'_, '_, F>,
     ) -> Result<(), F::Error>
-        ensures { OnOk result (self.new ≡ with_field place self.new self.old) }
+        ensures { OnOk result (ReadsField place (λ e. Gives F.gives from.old e from.new) self.old self.new) }
     {
         match place {
-            0 => read_field(&mut self.min_p_time, alloc, from),
-            1 => read_field(&mut self.stereo, alloc, from),
-            2 => read_field(&mut self.sprop_stereo, alloc, from),
-            3 => read_field(&mut self.use_inband_fec, alloc, from),
-            4 => read_field(&mut self.use_dtx, alloc, from),
-            5 => read_field(&mut self.level_asymmetry_allowed, alloc, from),
-            6 => read_field(&mut self.packetization_mode, alloc, from),
-            7 => read_field(&mut self.profile_level_id, alloc, from),
-            8 => read_field(&mut self.profile_id, alloc, from),
-            9 => read_field(&mut self.profile, alloc, from),
-            10 => read_field(&mut self.level_idx, alloc, from),
-            11 => read_field(&mut self.tier, alloc, from),
-            12 => read_field(&mut self.h265_profile_tier_level, alloc, from),
-            13 => read_field(&mut self.h266_profile_tier_level, alloc, from),
-            14 => read_field(&mut self.sprop_max_don_diff, alloc, from),
-            15 => read_field(&mut self.telephone_event_max, alloc, from),
-            16 => read_field(&mut self.octet_align, alloc, from),
-            _ => read_field(&mut self.mode_set, alloc, from),
+            0 => read_optional(&mut self.min_p_time, alloc, from),
+            1 => read_optional(&mut self.stereo, alloc, from),
+            2 => read_optional(&mut self.sprop_stereo, alloc, from),
+            3 => read_optional(&mut self.use_inband_fec, alloc, from),
+            4 => read_optional(&mut self.use_dtx, alloc, from),
+            5 => read_optional(&mut self.level_asymmetry_allowed, alloc, from),
+            6 => read_optional(&mut self.packetization_mode, alloc, from),
+            7 => read_optional(&mut self.profile_level_id, alloc, from),
+            8 => read_optional(&mut self.profile_id, alloc, from),
+            9 => read_optional(&mut self.profile, alloc, from),
+            10 => read_optional(&mut self.level_idx, alloc, from),
+            11 => read_optional(&mut self.tier, alloc, from),
+            12 => read_optional(&mut self.h265_profile_tier_level, alloc, from),
+            13 => read_optional(&mut self.h266_profile_tier_level, alloc, from),
+            14 => read_optional(&mut self.sprop_max_don_diff, alloc, from),
+            15 => read_optional(&mut self.telephone_event_max, alloc, from),
+            16 => read_optional(&mut self.octet_align, alloc, from),
+            _ => read_optional(&mut self.mode_set, alloc, from),
         }
     }
 }

@@ -1,5 +1,14 @@
 -- How codecs with their settings and rows are read, as serde reads them: field by field.
-use Rattle.std.specs.Prelude.{ℕ, ◌==◌, if◌then◌else◌}
+use Rattle.std.specs.Prelude.{◌≡◌, ⊤, ℕ, ◌==◌, List, [], ◌∷◌, Bool, IfNone, None, MatchBool, codes, if◌then◌else◌}
+use Rattle.serde.specs.Event.{Event, boolean, nothing, unsigned}
+use Rattle.serde.specs.declared.deserializer.Deserializer.{Deserializer}
+use Rattle.serde.specs.declared.name.Name.{Name}
+use Rattle.payload_core_base.specs.CodecNames.{variant_name}
+use Rattle.payload_core_base.specs.Codecs.{codecs}
+use Rattle.payload_core_tables.specs.Names.{ReadsName}
+use Rattle.payload_core_tables.specs.Reading.{GivesOf, PicksOf, ReadsNamed}
+use Rattle.sdp_formats_rows.specs.Fields.{row_of_fields}
+use Rattle.sdp_formats_rows.specs.Rows.{Row}
 use Rattle.sdp_formats_rows.specs.declared.fields.Fields.{Fields}
 use Rattle.sdp_formats_rows.specs.declared.spec.CodecSpec.{CodecSpec}
 
@@ -24,3 +33,53 @@ with_field place other fields =
     else if place == 7 then record fields { fb_remb = other.fb_remb }
     else if place == 8 then record fields { red = other.red }
     else record fields { locked = other.locked }
+
+-- What was read at this place of a codec with its settings: of the format nothing is said.
+abbrev pub ReadsValue : ℕ → (Event → Type 0) → CodecSpec → Type 0
+ReadsValue place given spec =
+    MatchBool (place == 0) (ReadsName given variant_name codecs spec.codec)
+    (MatchBool (place == 1) (given (unsigned spec.clock_rate))
+    (MatchBool (place == 2) (IfNone spec.channels (given nothing)) ⊤))
+
+-- A field of a codec with its settings is read, and no other changes.
+abbrev pub ReadsSetting : ℕ → (Event → Type 0) → CodecSpec → CodecSpec → Type 0
+ReadsSetting place given old new = (new ≡ with_setting place new old) × ReadsValue place given new
+
+abbrev pub setting_names : List (List ℕ)
+setting_names = codes "codec" ∷ codes "clock_rate" ∷ codes "channels" ∷ codes "format" ∷ []
+
+-- A codec with its settings is read: the fields by their names, `channels` not given where it is missing.
+abbrev pub ReadsSpec : {F E M : Type 0} → GivesOf F → PicksOf F → (F → F → Type 0)
+    → Deserializer F E M → Deserializer F E M → CodecSpec → Type 0
+ReadsSpec gives picks stays old new value = (start : CodecSpec)
+    × ReadsNamed gives picks stays ReadsSetting setting_names (0 ∷ 1 ∷ 3 ∷ []) old new start value
+    × (start.channels ≡ None)
+
+-- What was read at this place of a row: of the codec with its settings nothing is said.
+abbrev pub ReadsValueOfRow : ℕ → (Event → Type 0) → Fields → Type 0
+ReadsValueOfRow place given fields =
+    MatchBool (place == 0) (given (unsigned fields.pt))
+    (MatchBool (place == 1) (IfNone fields.resend (given nothing))
+    (MatchBool (place == 2) ⊤
+    (MatchBool (place == 3) (given (boolean fields.fb_transport_cc))
+    (MatchBool (place == 4) (given (boolean fields.fb_nack))
+    (MatchBool (place == 5) (given (boolean fields.fb_pli))
+    (MatchBool (place == 6) (given (boolean fields.fb_fir))
+    (MatchBool (place == 7) (given (boolean fields.fb_remb))
+    (MatchBool (place == 8) (IfNone fields.red (given nothing)) (given (boolean fields.locked))))))))))
+
+-- A field of a row is read, and no other changes.
+abbrev pub ReadsField : ℕ → (Event → Type 0) → Fields → Fields → Type 0
+ReadsField place given old new = (new ≡ with_field place new old) × ReadsValueOfRow place given new
+
+abbrev pub field_names : List (List ℕ)
+field_names =
+    codes "pt" ∷ codes "resend" ∷ codes "spec" ∷ codes "fb_transport_cc" ∷ codes "fb_nack" ∷ codes "fb_pli" ∷
+    codes "fb_fir" ∷ codes "fb_remb" ∷ codes "red" ∷ codes "locked" ∷ []
+
+-- A row is read: the fields by their names, `resend` and `red` missing or not, neither given where it is missing.
+abbrev pub ReadsRow : {F E M : Type 0} → GivesOf F → PicksOf F → (F → F → Type 0)
+    → Deserializer F E M → Deserializer F E M → Row → Type 0
+ReadsRow gives picks stays old new row = (start fields : Fields)
+    × ReadsNamed gives picks stays ReadsField field_names (0 ∷ 2 ∷ 3 ∷ 4 ∷ 5 ∷ 6 ∷ 7 ∷ 9 ∷ []) old new start fields
+    × (row ≡ row_of_fields fields) × (start.resend ≡ None) × (start.red ≡ None)

@@ -1,13 +1,14 @@
 //! Codecs with their settings, and rows, as serde reads them: by the names of their fields.
 
-ghost use Rattle.std.specs.Prelude.{◌≡◌, OnOk};
-ghost use Rattle.sdp_formats_rows.specs.Reading.{with_field, with_setting};
+ghost use Rattle.std.specs.Prelude.{◌≡◌, IfOk, None, OnOk};
+ghost use Rattle.serde.specs.Steps.{Gives};
+ghost use Rattle.sdp_formats_rows.specs.Reading.{ReadsField, ReadsRow, ReadsSetting, ReadsSpec};
 
 use crate::fields::{Fields, row_of};
 use crate::row::PayloadParams;
 use crate::spec::CodecSpec;
 use payload_core_base::Codec;
-use payload_core_tables::{FIELD, ReadFields, read_field, read_fields};
+use payload_core_tables::{FIELD, ReadFields, read_fields, read_flag, read_optional};
 use rtp_wire::{Frequency, Pt};
 use sdp_formats_format::FormatParams;
 use serde::de::DeserializeOwned;
@@ -83,7 +84,9 @@ impl<'de> Deserialize<'de> for CodecSpec {
     fn deserialize<F: Format>(
         alloc: Global,
         from: &mut Deserializer<'de, '_, F>,
-    ) -> Result<Self, F::Error> {
+    ) -> Result<Self, F::Error>
+        ensures { IfOk result (ReadsSpec F.gives F.picks F.stays from.old from.new) }
+    {
         read_fields(first_spec(), &SPEC_NAMES, &[0, 1, 3], alloc, from)
     }
 }
@@ -92,13 +95,17 @@ impl DeserializeOwned for CodecSpec {
     fn deserialize_owned<F: Format>(
         alloc: Global,
         from: &mut Deserializer<'_, '_, F>,
-    ) -> Result<Self, F::Error> {
+    ) -> Result<Self, F::Error>
+        ensures { IfOk result (ReadsSpec F.gives F.picks F.stays from.old from.new) }
+    {
         CodecSpec::deserialize(alloc, from)
     }
 }
 
 /// What stands for the fields of a codec until they are read.
-fn first_spec() -> CodecSpec {
+fn first_spec() -> CodecSpec
+    ensures { result.channels ≡ None }
+{
     CodecSpec {
         codec: Codec::PCMU,
         clock_rate: Frequency::EIGHT_KHZ,
@@ -108,20 +115,23 @@ fn first_spec() -> CodecSpec {
 }
 
 impl ReadFields for CodecSpec {
+    ghost reads = { ReadsSetting };
+
     fn read_at<F: Format>(
         &mut self,
         place: usize,
         alloc: Global,
         from: &mut Deserializer<'_, '_, F>,
     ) -> Result<(), F::Error>
-        ensures { OnOk result (self.new ≡ with_setting place self.new self.old) }
+        ensures { OnOk result (ReadsSetting place (λ e. Gives F.gives from.old e from.new) self.old self.new) }
     {
         match place {
-            0 => read_field(&mut self.codec, alloc, from),
-            1 => read_field(&mut self.clock_rate, alloc, from),
-            2 => read_field(&mut self.channels, alloc, from),
-            _ => read_field(&mut self.format, alloc, from),
+            0 => self.codec = Codec::deserialize(alloc, from)?,
+            1 => self.clock_rate = Frequency::deserialize(alloc, from)?,
+            2 => read_optional(&mut self.channels, alloc, from)?,
+            _ => self.format = FormatParams::deserialize(alloc, from)?,
         }
+        Ok(())
     }
 }
 
@@ -130,7 +140,9 @@ impl<'de> Deserialize<'de> for PayloadParams {
     fn deserialize<F: Format>(
         alloc: Global,
         from: &mut Deserializer<'de, '_, F>,
-    ) -> Result<Self, F::Error> {
+    ) -> Result<Self, F::Error>
+        ensures { IfOk result (ReadsRow F.gives F.picks F.stays from.old from.new) }
+    {
         let required = [0, 2, 3, 4, 5, 6, 7, 9];
         let fields = read_fields(first_fields(), &ROW_NAMES, &required, alloc, from)?;
         Ok(row_of(&fields))
@@ -141,13 +153,18 @@ impl DeserializeOwned for PayloadParams {
     fn deserialize_owned<F: Format>(
         alloc: Global,
         from: &mut Deserializer<'_, '_, F>,
-    ) -> Result<Self, F::Error> {
+    ) -> Result<Self, F::Error>
+        ensures { IfOk result (ReadsRow F.gives F.picks F.stays from.old from.new) }
+    {
         PayloadParams::deserialize(alloc, from)
     }
 }
 
 /// What stands for the fields of a row until they are read.
-fn first_fields() -> Fields {
+fn first_fields() -> Fields
+    ensures resend { result.resend ≡ None }
+    ensures red { result.red ≡ None }
+{
     Fields {
         pt: Pt::from(0),
         resend: None,
@@ -163,25 +180,33 @@ fn first_fields() -> Fields {
 }
 
 impl ReadFields for Fields {
+    ghost reads = { ReadsField };
+
     fn read_at<F: Format>(
         &mut self,
         place: usize,
         alloc: Global,
         from: &mut Deserializer<'_, '_, F>,
     ) -> Result<(), F::Error>
-        ensures { OnOk result (self.new ≡ with_field place self.new self.old) }
+        ensures { OnOk result (ReadsField place (λ e. Gives F.gives from.old e from.new) self.old self.new) }
     {
         match place {
-            0 => read_field(&mut self.pt, alloc, from),
-            1 => read_field(&mut self.resend, alloc, from),
-            2 => read_field(&mut self.spec, alloc, from),
-            3 => read_field(&mut self.fb_transport_cc, alloc, from),
-            4 => read_field(&mut self.fb_nack, alloc, from),
-            5 => read_field(&mut self.fb_pli, alloc, from),
-            6 => read_field(&mut self.fb_fir, alloc, from),
-            7 => read_field(&mut self.fb_remb, alloc, from),
-            8 => read_field(&mut self.red, alloc, from),
-            _ => read_field(&mut self.locked, alloc, from),
+            0 => {
+                self.pt = Pt::deserialize(alloc, from)?;
+                Ok(())
+            }
+            1 => read_optional(&mut self.resend, alloc, from),
+            2 => {
+                self.spec = CodecSpec::deserialize(alloc, from)?;
+                Ok(())
+            }
+            3 => read_flag(&mut self.fb_transport_cc, from),
+            4 => read_flag(&mut self.fb_nack, from),
+            5 => read_flag(&mut self.fb_pli, from),
+            6 => read_flag(&mut self.fb_fir, from),
+            7 => read_flag(&mut self.fb_remb, from),
+            8 => read_optional(&mut self.red, alloc, from),
+            _ => read_flag(&mut self.locked, from),
         }
     }
 }

@@ -5,6 +5,7 @@ use Rattle.h26x_payload_profiles.specs.H266Level.{level_id, levels}
 use Rattle.h26x_payload_profiles.specs.declared.h266.H266Level.{H266Level}
 use Rattle.h26x_payload_profiles.specs.declared.h266.H266Level.TheVariants.{Level1}
 use Rattle.payload_core_tables.proofs.TableLaws.{is_rising}
+use Rattle.h26x_payload_profiles.proofs.LevelsApart.{levels_apart}
 use Rattle.h26x_payload_profiles.proofs.h266.h266_tables_law.Goals as goal
 
 -- each level stands at its place
@@ -14,3 +15,6 @@ stands _ = refl
 
 pub returns-clause-rising : goal.returns-clause-rising
 returns-clause-rising c = is_rising level_id levels _ stands refl
+
+pub returns-clause-apart : goal.returns-clause-apart
+returns-clause-apart c = levels_apart

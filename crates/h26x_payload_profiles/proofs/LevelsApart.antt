@@ -1,12 +1,13 @@
+-- No number of a level of H.265 finds a level of H.266.
 use Rattle.std.proofs.Common.{◌≡◌, None, Some, refl, sym, ap, ◌∙◌}
 use Rattle.h26x_payload_profiles.specs.H265Level.{level_id as h265_level_id}
 use Rattle.h26x_payload_profiles.specs.H266Level.{level_id as h266_level_id, levels}
 use Rattle.payload_core_tables.specs.Tables.{with_number}
+use Rattle.h26x_payload_profiles.specs.LevelsApart.{LevelsApart}
 use Rattle.h26x_payload_profiles.specs.declared.h265.H265Level.{H265Level}
 use Rattle.h26x_payload_profiles.specs.declared.h265.H265Level.TheVariants.{Level1}
 use Rattle.h26x_payload_profiles.specs.declared.h266.H266Level.{H266Level}
 use Rattle.h26x_payload_profiles.specs.declared.h266.H266Level.TheVariants as other
-use Rattle.h26x_payload_profiles.proofs.laws.levels_apart_law.Goals as goal
 
 -- no level of H.266 is found by a number of H.265
 none_found : (one : H265Level) → with_number h266_level_id levels (h265_level_id one) ≡ None
@@ -17,8 +18,8 @@ own_found : (level : H266Level) → with_number h266_level_id levels (h266_level
 own_found other.Level1 = refl
 own_found _ = refl
 
-pub returns : goal.returns
-returns c = λ one level same.
+pub levels_apart : LevelsApart
+levels_apart = λ one level same.
     let clash : None ≡ Some level = sym (none_found one) ∙ ap (with_number h266_level_id levels) same
     ∙ own_found level in
     cc
