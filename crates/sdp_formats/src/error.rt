@@ -37,6 +37,11 @@ impl<T: Drop> From<AllocFailed<T>> for SdpError {
 }
 
 impl fmt::Display for SdpError {
+    ghost use Rattle.std.specs.Prelude.{Some};
+    ghost use Rattle.sdp_formats.specs.Printed.{error_text};
+
+    ghost output = { λ e. Some (error_text e) };
+
     fn fmt<W: fmt::Write>(&self, f: &mut fmt::Formatter<W>) -> fmt::Result {
         match self {
             SdpError::ParseError(text) => write!(f, "SDP parse: {text}"),
