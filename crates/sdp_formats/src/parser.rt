@@ -1,6 +1,7 @@
 //! The reader of session texts.
 
-ghost use Rattle.std.specs.Prelude.{◌≡◌, IfErr};
+ghost use Rattle.std.specs.Prelude.{◌≡◌, IfErr, IfOk};
+ghost use Rattle.std.specs.String.{string_bytes};
 ghost use Rattle.sdp_formats.specs.declared.error.SdpError.TheVariants.{Memory};
 ghost use Rattle.sdp_formats.specs.Texts.{ParsesSdp, ParsesSession};
 
@@ -12,7 +13,8 @@ use std::alloc::Global;
 
 /// The text of an error.
 fn told(alloc: Global, text: &str) -> Result<String, SdpError>
-    ensures { IfErr result (λ e. e ≡ Memory) }
+    ensures says { IfOk result (λ s. string_bytes s ≡ text.now) }
+    ensures memory { IfErr result (λ e. e ≡ Memory) }
 {
     Ok(String::from_str(alloc, text)?)
 }
