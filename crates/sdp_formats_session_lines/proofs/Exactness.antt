@@ -1,6 +1,6 @@
 -- The kinds are read exactly where they say a value.
 use Rattle.std.proofs.Common.{ℕ, List, codes}
-use Rattle.sdp_formats_forms.specs.Form.{Form, IsExact, some_text, told, any_text}
+use Rattle.sdp_formats_forms.specs.Form.{Form, IsExact, some_text, any_text}
 use Rattle.sdp_formats_forms.specs.Exact.{told-exact, made-exact, after-exact, cut-exact, cut_maybe-exact}
 use Rattle.sdp_formats_forms.specs.Exact.{separated-exact, either-exact}
 use Rattle.sdp_formats_session_lines.specs.Groups.{through}

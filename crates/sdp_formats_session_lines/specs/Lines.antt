@@ -1,8 +1,7 @@
 -- Kinds of lines in a header and at the head of a section (RFC 8866 5).
-use Rattle.std.specs.Prelude.{ℕ, List, Option, Some, None, codes, if◌then◌else◌}
-use Rattle.std.specs.Option.{option_map}
+use Rattle.std.specs.Prelude.{ℕ, List, Some, None, codes, if◌then◌else◌}
 use Rattle.std.specs.Str.{bytes_eq}
-use Rattle.sdp_formats_forms.specs.Form.{Form, told, any_text, some_text, made, after, either, cut}
+use Rattle.sdp_formats_forms.specs.Form.{Form, told, any_text, made, after, either, cut}
 use Rattle.sdp_formats_session_lines.specs.Heads.{origin, media_line}
 use Rattle.sdp_formats_session_lines.specs.declared.media.MediaHead.{MediaHead}
 use Rattle.sdp_formats_session_lines.specs.declared.passed.Passed.{Passed}

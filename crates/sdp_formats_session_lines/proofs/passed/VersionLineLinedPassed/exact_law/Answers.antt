@@ -1,5 +1,4 @@
 use Rattle.std.proofs.Common.{codes}
-use Rattle.sdp_formats_forms.specs.Form.{some_text}
 use Rattle.sdp_formats_forms.specs.Exact.{told-exact, after-exact}
 use Rattle.sdp_formats_session_lines.proofs.passed.VersionLineLinedPassed.exact_law.Goals as goal
 
