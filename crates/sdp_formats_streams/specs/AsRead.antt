@@ -1,5 +1,5 @@
 -- What printed parameters are read as.
-use Rattle.std.specs.Prelude.{Bool, true, false, not, List, [], ◌∷◌, ◌++◌, map, filter}
+use Rattle.std.specs.Prelude.{Bool, true, false, not, List, ◌++◌, map, filter}
 use Rattle.sdp_formats_params.specs.declared.param.FormatParam.{FormatParam}
 use Rattle.sdp_formats_params.specs.declared.param.FormatParam.TheVariants.{H265ProfileTierLevel}
 use Rattle.sdp_formats_params.specs.declared.param.FormatParam.TheVariants.{H266ProfileTierLevel}
