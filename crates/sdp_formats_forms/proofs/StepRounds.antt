@@ -1,12 +1,12 @@
 -- The next line, and one value after the other.
-use Rattle.std.proofs.Common.{◌≡◌, ℕ, List, [], ◌∷◌, Option, Some, None, Bor, Result, Ok, Err, refl, sym, ◌∙◌, ap}
+use Rattle.std.proofs.Common.{◌≡◌, ℕ, List, Option, Some, None, Bor, Result, Ok, Err, sym, ◌∙◌}
 use Rattle.std.proofs.Common.{subst}
 use Rattle.sdp_formats_forms.specs.Refusals.{fitted_of}
 use Rattle.sdp_formats_forms.specs.declared.refusal.Refusal.{Refusal}
 use Rattle.sdp_formats_forms.specs.declared.refusal.Refusal.TheVariants.{Unfit, Memory}
 use Rattle.sdp_formats_forms.specs.Step.{Step, Steps, Stops}
 use Rattle.std.specs.Option.{option_map}
-use Rattle.sdp_formats_forms.specs.Steps.{none_some, some_same}
+use Rattle.sdp_formats_forms.specs.Steps.{none_some}
 use Rattle.sdp_formats_forms.specs.Form.{Form, IsExact}
 use Rattle.sdp_formats_forms.specs.Refusals.{Gives}
 use Rattle.sdp_formats_forms.specs.Line.{IsLine, LineOf, next_line, two_texts, TakesLine}

@@ -1,6 +1,6 @@
 -- A line of a text is what the reader cuts off.
 use Rattle.std.proofs.Common.{◌<◌, ◌+◌, arith, ◌≡◌, ◌≢◌, ◌⊎◌, ◌++◌, ◌==◌, ◌||◌, ℕ, suc, Bool, true, false, cond, List}
-use Rattle.std.proofs.Common.{[], ◌∷◌, length, Option, Some, None, refl, sym, ◌∙◌, ap, subst, inl, inr, ⊎_elim}
+use Rattle.std.proofs.Common.{[], ◌∷◌, length, Some, None, refl, sym, ◌∙◌, ap, subst, inl, inr, ⊎_elim}
 use Rattle.std.proofs.Common.{append_assoc}
 use Rattle.std.proofs.lemmas.Bool.{cases_Bool}
 use Rattle.std.proofs.lemmas.Bool.Decides.{Decides-eqb}
@@ -9,7 +9,7 @@ use Rattle.sdp_formats_forms.specs.Form.{Form, IsExact}
 use Rattle.sdp_formats_forms.specs.Cuts.{IsCut, somewhere, nowhere, cut_of, split_first-at, split_first-nowhere}
 use Rattle.sdp_formats_forms.specs.Cuts.{same_byte, other_byte, same_or_not}
 use Rattle.sdp_formats_forms.specs.Steps.{none_some, some_same}
-use Rattle.sdp_formats_forms.specs.Step.{Step, IsFunctional, IsShortening}
+use Rattle.sdp_formats_forms.specs.Step.{IsFunctional, IsShortening}
 use Rattle.sdp_formats_forms.specs.Line.{IsEnded, IsLine, LineOf, has_return, without_return, passed_line, line_in}
 use Rattle.sdp_formats_forms.specs.Line.{next_line}
 

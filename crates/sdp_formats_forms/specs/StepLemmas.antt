@@ -1,5 +1,5 @@
 -- Steps one after the other.
-use Rattle.std.proofs.Common.{◌≡◌, ◌≤◌, ◌<◌, ℕ, List, [], ◌∷◌, ◌++◌, length, arith, Option, Some, None, refl, sym}
+use Rattle.std.proofs.Common.{◌≡◌, ◌≤◌, ℕ, List, [], ◌∷◌, ◌++◌, length, arith, Option, Some, None, refl, sym}
 use Rattle.std.proofs.Common.{◌∙◌, ap, subst}
 use Rattle.sdp_formats_forms.specs.Step.{Step, Stops, Begins, Many, Perhaps, IsFunctional, IsShortening}
 

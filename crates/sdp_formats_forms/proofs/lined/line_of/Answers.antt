@@ -1,6 +1,5 @@
-use Rattle.std.proofs.Common.{rules}
 use Rattle.std.proofs.lemmas.Result.{err_from_is_err_and}
-use Rattle.sdp_formats_forms.proofs.StepRounds.{line-none, line-err}
+use Rattle.sdp_formats_forms.proofs.StepRounds.{line-err}
 use Rattle.sdp_formats_forms.proofs.lined.line_of.Goals as goal
 
 pub returns-in_default-clause-steps : goal.returns-in_default-clause-steps

@@ -1,5 +1,4 @@
-use Rattle.std.proofs.Common.{rules, sym, ap, ◌∙◌, Ok, Some, subst}
-use Rattle.sdp_formats_forms.specs.Step.{Begins}
+use Rattle.std.proofs.Common.{rules, sym, ap, ◌∙◌, Ok}
 use Rattle.sdp_formats_forms.specs.StepLemmas.{begins-more}
 use Rattle.sdp_formats_forms.proofs.StepRounds.{step-some}
 use Rattle.sdp_formats_forms.proofs.stepped.many.Goals as goal
