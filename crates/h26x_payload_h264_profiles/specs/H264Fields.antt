@@ -1,8 +1,7 @@
 -- What is written and read of a profile and level of H.264: its fields by their names.
-use Rattle.std.specs.Prelude.{◌≡◌, ℕ, ◌==◌, List, [], ◌∷◌, Bool, MatchBool, codes, if◌then◌else◌}
+use Rattle.std.specs.Prelude.{◌≡◌, ℕ, ◌==◌, [], ◌∷◌, MatchBool, codes, if◌then◌else◌}
 use Rattle.serde.specs.Event.{Event, Log, Sends, Then}
 use Rattle.serde.specs.declared.deserializer.Deserializer.{Deserializer}
-use Rattle.serde.specs.declared.name.Name.{Name}
 use Rattle.payload_core_tables.specs.Fields.{InMap, WritesField}
 use Rattle.payload_core_tables.specs.Names.{ReadsName, name_event}
 use Rattle.payload_core_tables.specs.Reading.{GivesOf, PicksOf, ReadsNamed}

@@ -1,9 +1,9 @@
 -- How the relation of a struct that is read goes on with each field.
-use Rattle.std.proofs.Common.{◌≡◌, ◌⊎◌, inl, inr, ◌<◌, ◌==◌, ◌||◌, ◌++◌, ◌+◌, ℕ, List, [], ◌∷◌, Bool, true, false}
+use Rattle.std.proofs.Common.{◌≡◌, inl, inr, ◌<◌, ◌==◌, ◌||◌, ◌++◌, ◌+◌, ℕ, List, [], ◌∷◌, Bool, true, false}
 use Rattle.std.proofs.Common.{length, refl, ap, ◌∙◌, sym, subst, arith, All, slice_index_or, Result, Ok, Err, IfOk}
 use Rattle.std.proofs.lemmas.List.Folds.{list_any-append}
-use Rattle.serde.specs.Event.{Event, struct_begins}
-use Rattle.serde.specs.Steps.{Begins, Gives, Picks, Stays}
+use Rattle.serde.specs.Event.{struct_begins}
+use Rattle.serde.specs.Steps.{Begins, Picks, Stays}
 use Rattle.serde.specs.declared.deserializer.Deserializer.{Deserializer}
 use Rattle.serde.specs.declared.name.Name.{Name}
 use Rattle.payload_core_tables.specs.Reading.{GivesOf, PicksOf, ReadsOf, is_among, IsMissing, ReadsFields, PassesOthers}

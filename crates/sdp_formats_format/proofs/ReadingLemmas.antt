@@ -1,8 +1,6 @@
 -- A format that is read over no format, by its fields' names.
-use Rattle.std.proofs.Common.{◌≡◌, ℕ, List, [], Bool, Result, Ok, Err, IfOk, subst}
-use Rattle.serde.specs.Event.{Event}
+use Rattle.std.proofs.Common.{◌≡◌, [], Result, Ok, Err, IfOk, subst}
 use Rattle.serde.specs.declared.deserializer.Deserializer.{Deserializer}
-use Rattle.serde.specs.declared.name.Name.{Name}
 use Rattle.payload_core_tables.specs.Reading.{GivesOf, PicksOf, ReadsNamed}
 use Rattle.sdp_formats_format.specs.declared.format.FormatParams.{FormatParams}
 use Rattle.sdp_formats_format.specs.Formats.{no_format}

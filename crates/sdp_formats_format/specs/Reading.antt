@@ -3,7 +3,6 @@ use Rattle.std.specs.Prelude.{◌≡◌, ℕ, ◌==◌, List, [], ◌∷◌, Boo
 use Rattle.std.specs.Option.{is_none}
 use Rattle.serde.specs.Event.{Event, nothing}
 use Rattle.serde.specs.declared.deserializer.Deserializer.{Deserializer}
-use Rattle.serde.specs.declared.name.Name.{Name}
 use Rattle.payload_core_tables.specs.Reading.{GivesOf, PicksOf, ReadsNamed}
 use Rattle.sdp_formats_format.specs.declared.format.FormatParams.{FormatParams}
 use Rattle.sdp_formats_format.specs.Formats.{no_format}

@@ -49,7 +49,3 @@ pub line-err : {A : Type 0} (f : Form A) → IsExact f → (t c r : List ℕ) (e
 line-err f exact t c r Unfit h k = λ a s l. none_some a
     (sym k ∙ exact.complete c a (subst (λ x. f.Says x a) (line-same t l.0 c s r l.1 h).0 l.2))
 line-err f exact t c r Memory h k = tt
-
-pub line-none : {A : Type 0} (f : Form A) (t : List ℕ) → ((content rest : List ℕ) → IsLine t content rest → ⊥)
-    → Stops (LineOf f.Says) t
-line-none f t h = λ a r l. h l.0 r l.1

@@ -1,8 +1,6 @@
 -- A codec with its settings that is read over one with no channels.
-use Rattle.std.proofs.Common.{◌≡◌, ℕ, List, [], ◌∷◌, Bool, None, Result, Ok, Err, IfOk}
-use Rattle.serde.specs.Event.{Event}
+use Rattle.std.proofs.Common.{◌≡◌, [], ◌∷◌, None, Result, Ok, Err, IfOk}
 use Rattle.serde.specs.declared.deserializer.Deserializer.{Deserializer}
-use Rattle.serde.specs.declared.name.Name.{Name}
 use Rattle.payload_core_tables.specs.Reading.{GivesOf, PicksOf, ReadsNamed}
 use Rattle.sdp_formats_rows.specs.declared.spec.CodecSpec.{CodecSpec}
 use Rattle.sdp_formats_rows.specs.Reading.{ReadsSetting, ReadsSpec, setting_names}

@@ -1,8 +1,7 @@
 -- How codecs with their settings and rows are read, as serde reads them: field by field.
-use Rattle.std.specs.Prelude.{◌≡◌, ⊤, ℕ, ◌==◌, List, [], ◌∷◌, Bool, IfNone, None, MatchBool, codes, if◌then◌else◌}
+use Rattle.std.specs.Prelude.{◌≡◌, ⊤, ℕ, ◌==◌, List, [], ◌∷◌, IfNone, None, MatchBool, codes, if◌then◌else◌}
 use Rattle.serde.specs.Event.{Event, boolean, nothing, unsigned}
 use Rattle.serde.specs.declared.deserializer.Deserializer.{Deserializer}
-use Rattle.serde.specs.declared.name.Name.{Name}
 use Rattle.payload_core_base.specs.CodecNames.{variant_name}
 use Rattle.payload_core_base.specs.Codecs.{codecs}
 use Rattle.payload_core_tables.specs.Names.{ReadsName}

@@ -1,4 +1,4 @@
-use Rattle.std.proofs.Common.{◌≡◌, rules, [], refl, inl, ap, arith}
+use Rattle.std.proofs.Common.{rules, [], refl, inl, ap, arith}
 use Rattle.payload_core_tables.specs.Reading.{is_among}
 use Rattle.payload_core_tables.proofs.ReadingLaws.{key_read, key_passed, same_reading, all_among}
 use Rattle.payload_core_tables.proofs.struct_fields.read_map.Goals as goal

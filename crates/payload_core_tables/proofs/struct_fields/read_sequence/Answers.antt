@@ -1,4 +1,4 @@
-use Rattle.std.proofs.Common.{◌≡◌, ◌∙◌, ℕ, ◌<◌, rules, arith}
+use Rattle.std.proofs.Common.{◌∙◌, rules, arith}
 use Rattle.payload_core_tables.proofs.ReadingLaws.{item_read}
 use Rattle.payload_core_tables.proofs.struct_fields.read_sequence.Goals as goal
 
