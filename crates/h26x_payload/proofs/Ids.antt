@@ -1,8 +1,8 @@
 -- What a packing of VP8 tells of its ids.
-use Rattle.std.proofs.Common.{◌≡◌, ℕ, Bool, true, false, List, [], ◌∷◌, length, get_or, Result, Ok, Err, refl, sym, ap}
+use Rattle.std.proofs.Common.{◌≡◌, ℕ, Bool, true, false, [], ◌∷◌, length, get_or, Result, Ok, Err, refl, sym, ap}
 use Rattle.std.proofs.Common.{◌∙◌, arith}
 use Rattle.std.specs.List.{Contains}
-use Rattle.payload_core_base.specs.Packing.{Packing, Sender, Sent}
+use Rattle.payload_core_base.specs.Packing.{Packing, Sent}
 use Rattle.payload_core_base.specs.Pieces.{pieces}
 use Rattle.payload_core_base.specs.declared.error.PacketError.{PacketError}
 use Rattle.payload_core_base.specs.declared.codec.Codec.{Codec}

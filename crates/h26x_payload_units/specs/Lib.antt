@@ -8,3 +8,6 @@ pub mod Departures
 pub mod FragmentRuns
 pub mod Fragments
 pub mod Numbers
+pub mod Headers
+pub mod H265Headers
+pub mod H266Headers

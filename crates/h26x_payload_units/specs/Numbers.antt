@@ -1,8 +1,9 @@
--- Decoding order numbers of what leaves (RFC 7798 4.4, RFC 9328 4.3): the units that are sent are counted, modulo
--- 65,536.
-use Rattle.std.specs.Prelude.{◌≡◌, ℕ, ◌+◌, ◌%◌, ◌<◌, List, [], ◌∷◌, ◌++◌, length}
+-- Decoding order numbers (RFC 7798 4.4, RFC 9328 4.3): the units that are sent are counted, modulo 65,536.
+use Rattle.std.specs.Prelude.{◌≡◌, ℕ, ◌+◌, ◌/◌, ◌%◌, ◌<◌, Bool, List, [], ◌∷◌, ◌++◌, length, if◌then◌else◌}
 use Rattle.std.specs.List.{flat_map}
 use Rattle.h26x_payload_units.specs.Departures.{Departure, units_in}
+use Rattle.h26x_payload_units.specs.declared.layout.Layout.{Layout}
+use Rattle.h26x_payload_units.specs.declared.layout.Layout.TheVariants.{H265, H266}
 
 -- What leaves, and the number of its first unit.
 pub record Numbered : Type 0 where
@@ -27,3 +28,21 @@ abbrev pub NumbersLaw : Type 0
 NumbersLaw = (n : ℕ) (ds es : List Departure) → n < 65536
     → (number_after n ds ≡ (n + length (flat_map units_in ds)) % 65536)
     × (numbered n (ds ++ es) ≡ numbered n ds ++ numbered (number_after n ds) es)
+
+-- DONL, where decoding order numbers are sent: two bytes.
+abbrev pub donl_bytes : Bool → ℕ → List ℕ
+donl_bytes donl number = if donl then number / 256 ∷ number % 256 ∷ [] else []
+
+-- DOND, where they are, in aggregates of H.265: one byte, always 0, since each unit's number is one above the one
+-- before.
+abbrev pub dond_bytes : Layout → Bool → List ℕ
+dond_bytes H265 donl = if donl then 0 ∷ [] else []
+dond_bytes H266 donl = []
+
+-- How many bytes DONL and DOND have.
+abbrev pub donl_size : Bool → ℕ
+donl_size donl = if donl then 2 else 0
+
+abbrev pub dond_size : Layout → Bool → ℕ
+dond_size H265 donl = if donl then 1 else 0
+dond_size H266 donl = 0

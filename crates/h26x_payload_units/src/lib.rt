@@ -1,18 +1,24 @@
 //! Texts cut into NAL units at their start codes (ITU-T H.264 annex B), and the rules that the payload formats of
 //! H.264, H.265 and H.266 share, with what holds of them: which units of samples leave and which wait, how units
 //! stand in an aggregate, how a unit is cut into fragments, and which units fragments give (RFC 6184, RFC 7798,
-//! RFC 9328).
+//! RFC 9328). Of H.265 and H.266 also the headers, by their layout.
 #![tactic(auto)]
 
 mod aggregates;
+mod h265_headers;
+mod h266_headers;
 mod iteration;
 mod laws;
+mod layout;
 mod open_unit;
 mod places;
 mod unit_laws;
 
 pub use aggregates::{AggregateFault, aggregate_fault, aggregated_units, first_aggregated};
+pub use h265_headers::{H265FragmentationUnitHeader, H265NALUHeader};
+pub use h266_headers::{H266FragmentationUnitHeader, H266NALUHeader};
 pub use iteration::{NalUnits, nal_units};
 pub use laws::{aggregates_law, fragments_law, numbers_law};
+pub use layout::{Layout, PacketKind, UnitKind, donl_size, has_end, has_f, has_start};
 pub use open_unit::{ANNEXB_NALUSTART_CODE, OpenUnit, push_unit, push_unit_of};
 pub use unit_laws::{cut_law, nal_units_law};

@@ -38,7 +38,8 @@ ReadsFields {D} {T} comes reads (place ∷ before) old new start value =
     (behind at_value : D) × (held : T) × ReadsFields comes reads before old behind start held
     × comes before place behind at_value × reads place at_value new held value
 
--- A key of another name is passed over, and what comes behind it up to the next that isn't.
+-- Nothing is passed over, or something that begins with a key of another name. Where it ends isn't said: a reader's
+-- `skip` promises nothing of it.
 abbrev pub PassesOthers : {F E M : Type 0} → PicksOf F → List Name → Deserializer F E M → Deserializer F E M → Type 0
 PassesOthers {F} {E} {M} picks names old new =
     (new ≡ old)

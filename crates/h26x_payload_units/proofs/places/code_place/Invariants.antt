@@ -1,4 +1,4 @@
-use Rattle.std.proofs.Common.{◌-◌, ◌+◌, length}
+use Rattle.std.proofs.Common.{◌-◌, length}
 use Rattle.h26x_payload_units.specs.Places.{HasNoCodeBefore}
 use Rattle.h26x_payload_units.proofs.places.code_place.Given as goal
 

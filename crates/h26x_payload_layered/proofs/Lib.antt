@@ -1,0 +1,5 @@
+pub mod SendingLemmas
+pub mod DepartureLemmas
+pub mod RunLaw
+pub mod Law
+pub mod FragmentLaw
