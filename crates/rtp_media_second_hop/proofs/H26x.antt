@@ -52,7 +52,7 @@ layered-by-rules : (layout : Layout) (donl : Bool) → IsByRules (layered.layere
     (layered_rules layout donl) (layered.IsSendable layout) least_limit
 layered-by-rules layout donl = record {
   bytes = λ s limit x. layered-texts (units_sent (layered_rules layout donl) (least_limit limit) s.waiting
-  (units_of x));
+      (units_of x));
   waits = λ s limit x. refl;
   sendable = λ limit x is. is;
   good = λ limit x is. is;
