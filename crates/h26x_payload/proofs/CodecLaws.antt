@@ -17,7 +17,7 @@ use Rattle.payload_core_av1.specs.Av1Coding.{av1_coding}
 use Rattle.h26x_payload_h264.specs.H264Coding.{h264_coding}
 use Rattle.h26x_payload_units.specs.declared.layout.Layout.{Layout}
 use Rattle.h26x_payload_units.specs.declared.layout.Layout.TheVariants as layouts
-use Rattle.h26x_payload_layered.specs.Coding.{layered_coding}
+use Rattle.h26x_payload_h265_h266.specs.Coding.{h265_h266_coding}
 use Rattle.h26x_payload.specs.Dispatch.{FirstIsReached, FormsKeepUnits, KeepCodecLaw, KeepCodecLawInForms}
 use Rattle.h26x_payload.specs.Codings.{Forms, Settings, coding_in, coding_of, plain_forms}
 
@@ -31,7 +31,7 @@ pub record TheLaws : Type 0 where
   pub vp9 : (prediction : Bool) → CodecLaw (vp9_coding prediction)
   pub av1 : CodecLaw av1_coding
   pub h264 : CodecLaw h264_coding
-  pub layered : (layout : Layout) (donl : Bool) → CodecLaw (layered_coding layout donl)
+  pub h265_h266 : (layout : Layout) (donl : Bool) → CodecLaw (h265_h266_coding layout donl)
 
 pub keep_codec_law_in : TheLaws → KeepCodecLawInForms
 keep_codec_law_in l f s has_id Opus = l.pieces
@@ -41,8 +41,8 @@ keep_codec_law_in l f s has_id G722 = l.pieces
 keep_codec_law_in l f s has_id CN = l.noise
 keep_codec_law_in l f s has_id AmrWb = l.amr_wb s.octet_align
 keep_codec_law_in l f s has_id H264 = l.h264
-keep_codec_law_in l f s has_id H265 = l.layered layouts.H265 s.donl
-keep_codec_law_in l f s has_id H266 = l.layered layouts.H266 s.donl
+keep_codec_law_in l f s has_id H265 = l.h265_h266 layouts.H265 s.donl
+keep_codec_law_in l f s has_id H266 = l.h265_h266 layouts.H266 s.donl
 keep_codec_law_in l f s has_id Vp8 = l.vp8 has_id f.zero_id
 keep_codec_law_in l f s has_id Vp9 = l.vp9 f.prediction
 keep_codec_law_in l f s has_id Av1 = l.av1

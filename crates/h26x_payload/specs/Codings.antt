@@ -14,7 +14,7 @@ use Rattle.payload_core_vp9.specs.Vp9.{vp9_coding}
 use Rattle.payload_core_av1.specs.Av1Coding.{av1_coding}
 use Rattle.h26x_payload_h264.specs.H264Coding.{h264_coding}
 use Rattle.h26x_payload_units.specs.declared.layout.Layout.TheVariants as layouts
-use Rattle.h26x_payload_layered.specs.Coding.{layered_coding}
+use Rattle.h26x_payload_h265_h266.specs.Coding.{h265_h266_coding}
 
 -- What is negotiated beside the codec: AMR-WB's layout, whether H.265 and H.266 have decoding order numbers, and the
 -- clock rate of telephone events.
@@ -81,8 +81,8 @@ coding_in f s has_id G722 = pieces_coding
 coding_in f s has_id CN = noise_coding
 coding_in f s has_id AmrWb = amr_wb_coding s.octet_align
 coding_in f s has_id H264 = h264_coding
-coding_in f s has_id H265 = layered_coding layouts.H265 s.donl
-coding_in f s has_id H266 = layered_coding layouts.H266 s.donl
+coding_in f s has_id H265 = h265_h266_coding layouts.H265 s.donl
+coding_in f s has_id H266 = h265_h266_coding layouts.H266 s.donl
 coding_in f s has_id Vp8 = vp8_coding has_id f.zero_id
 coding_in f s has_id Vp9 = vp9_coding f.prediction
 coding_in f s has_id Av1 = av1_coding

@@ -6,7 +6,7 @@ use Rattle.payload_core_base.specs.declared.codec.Codec.TheVariants as codecs
 use Rattle.payload_core_audio.specs.AmrWb.{amr_wb_format}
 use Rattle.payload_core_audio.specs.Telephone.{telephone_format}
 use Rattle.h26x_payload_units.specs.declared.layout.Layout.TheVariants as layouts
-use Rattle.h26x_payload_layered.specs.Reading.{layered_format}
+use Rattle.h26x_payload_h265_h266.specs.Reading.{h265_h266_format}
 use Rattle.h26x_payload.specs.Codings.{Settings}
 use Rattle.h26x_payload.specs.declared.codec_depacketizer.CodecDepacketizer.{CodecDepacketizer}
 use Rattle.h26x_payload.specs.declared.codec_depacketizer.CodecDepacketizer.TheVariants.{G711, G722, Opus}
@@ -34,8 +34,8 @@ codecs_of (Boxed b) = []
 -- clock rate; the others stay as they were.
 abbrev pub format_under : {B : Type 0} → Settings → Format → CodecDepacketizer B → Format
 format_under s before (AmrWb d) = amr_wb_format s.octet_align
-format_under s before (H265 d) = layered_format layouts.H265 s.donl
-format_under s before (H266 d) = layered_format layouts.H266 s.donl
+format_under s before (H265 d) = h265_h266_format layouts.H265 s.donl
+format_under s before (H266 d) = h265_h266_format layouts.H266 s.donl
 format_under s before (Telephone d) = telephone_format s.clock_rate
 format_under s before _ = before
 

@@ -7,7 +7,7 @@ use Rattle.payload_core_audio.specs.AmrWb.{amr_wb_packing}
 use Rattle.payload_core_vpx.specs.Vp8.{vp8_packing}
 use Rattle.payload_core_vp9.specs.Vp9.{vp9_packing}
 use Rattle.h26x_payload_units.specs.declared.layout.Layout.TheVariants as layouts
-use Rattle.h26x_payload_layered.specs.Packing.{layered_packing}
+use Rattle.h26x_payload_h265_h266.specs.Packing.{h265_h266_packing}
 use Rattle.h26x_payload.specs.Codings.{Settings}
 use Rattle.h26x_payload.specs.declared.codec_packetizer.CodecPacketizer.{CodecPacketizer}
 use Rattle.h26x_payload.specs.declared.codec_packetizer.CodecPacketizer.TheVariants.{G711, G722, Opus, ComfortNoise}
@@ -33,8 +33,8 @@ codecs_of (Boxed b) = []
 -- AMR-WB goes by the layout, H.265 and H.266 by whether there are decoding order numbers; the others stay as they were.
 abbrev pub packing_under : {B : Type 0} → Settings → Packing → CodecPacketizer B → Packing
 packing_under s before (AmrWb p) = amr_wb_packing s.octet_align
-packing_under s before (H265 p) = layered_packing layouts.H265 s.donl
-packing_under s before (H266 p) = layered_packing layouts.H266 s.donl
+packing_under s before (H265 p) = h265_h266_packing layouts.H265 s.donl
+packing_under s before (H266 p) = h265_h266_packing layouts.H266 s.donl
 packing_under s before _ = before
 
 -- H.265 and H.266 count from 0 again.

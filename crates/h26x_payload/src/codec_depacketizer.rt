@@ -4,7 +4,7 @@ ghost use Rattle.h26x_payload.specs.Codings.{Settings, coding_of, first_settings
 ghost use Rattle.std.specs.Prelude.{◌≡◌, Bool, Contains, IfSome, None, false, is_some};
 
 use h26x_payload_h264::H264Depacketizer;
-use h26x_payload_layered::{H265Depacketizer, H266Depacketizer};
+use h26x_payload_h265_h266::{H265Depacketizer, H266Depacketizer};
 use payload_core_audio::{
     AmrWbDepacketizer, ComfortNoiseDepacketizer, G711Depacketizer, OpusDepacketizer,
     TelephoneEventDepacketizer,

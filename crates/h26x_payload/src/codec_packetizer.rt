@@ -5,7 +5,7 @@ ghost use Rattle.h26x_payload.specs.Codings.{Forms, coding_in, settings_of, with
 ghost use Rattle.std.specs.Prelude.{◌≡◌, ◌<◌, Bool, Contains, IfSome, false, is_some, unwrap_or};
 
 use h26x_payload_h264::H264Packetizer;
-use h26x_payload_layered::{H265Packetizer, H266Packetizer};
+use h26x_payload_h265_h266::{H265Packetizer, H266Packetizer};
 use payload_core_audio::{
     AmrWbPacketizer, ComfortNoisePacketizer, G711Packetizer, G722Packetizer, OpusPacketizer,
     TelephoneEventPacketizer,

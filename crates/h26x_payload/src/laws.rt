@@ -7,7 +7,7 @@ ghost use Rattle.h26x_payload.specs.Dispatch.{PairKeepsCodecLawInForms};
 use crate::codec_depacketizer::CodecDepacketizer;
 use crate::codec_packetizer::CodecPacketizer;
 use h26x_payload_h264::h264_law;
-use h26x_payload_layered::layered_law;
+use h26x_payload_h265_h266::h265_h266_law;
 use payload_core_audio::{amr_wb_law, plain_laws, telephone_law};
 use payload_core_av1::av1_law;
 use payload_core_base::{Depacketizer, Packetizer};
@@ -33,7 +33,7 @@ pub fn codec_law()
     vp9_law();
     av1_law();
     h264_law();
-    layered_law();
+    h265_h266_law();
 }
 
 /// A packetizer and a depacketizer of one codec under the same settings, as `new` and `configure_for` leave them, keep

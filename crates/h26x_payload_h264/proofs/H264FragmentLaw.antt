@@ -8,9 +8,9 @@ use Rattle.payload_core_base.specs.Format.{Fragment, Reading, Run, read_all, run
 use Rattle.payload_core_base.specs.declared.error.PacketError.{PacketError}
 use Rattle.payload_core_base.specs.declared.extra.CodecExtra.{CodecExtra}
 use Rattle.payload_core_base.specs.declared.extra.CodecExtra.TheVariants.{H264}
-use Rattle.h26x_payload_h264.specs.declared.headers.PacketKind.{PacketKind}
-use Rattle.h26x_payload_h264.specs.declared.headers.PacketKind.TheVariants.{Single, Aggregate}
-use Rattle.h26x_payload_h264.specs.declared.headers.PacketKind.TheVariants.{Fragment as FragmentKind, Unhandled}
+use Rattle.h26x_payload_units.specs.declared.layout.PacketKind.{PacketKind}
+use Rattle.h26x_payload_units.specs.declared.layout.PacketKind.TheVariants.{Single, Aggregate}
+use Rattle.h26x_payload_units.specs.declared.layout.PacketKind.TheVariants.{Fragment as FragmentKind, Unhandled}
 use Rattle.h26x_payload_units.specs.Aggregates.{aggregated}
 use Rattle.h26x_payload_units.specs.Fragments.{continued, open_after, put_behind, written_at}
 use Rattle.h26x_payload_h264.specs.H264Fragments.{FragmentLaw, ends_by, h264_view, header_by, is_fragment_kind}

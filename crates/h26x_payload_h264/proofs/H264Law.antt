@@ -30,7 +30,7 @@ use Rattle.h26x_payload_units.proofs.BundleLemmas.{AreBundles, GivesParts, IsBun
 use Rattle.h26x_payload_units.proofs.DepartureLemmas.{Each}
 use Rattle.h26x_payload_h264.proofs.DepartureLemmas.{HasByte, IsFitting, IsGood, departures-fit, departures-good}
 use Rattle.h26x_payload_h264.proofs.H264RunLaw.{fragments_bundle, given-run, kind_is, single_kind}
-use Rattle.h26x_payload_h264.specs.declared.headers.PacketKind.TheVariants.{Single}
+use Rattle.h26x_payload_units.specs.declared.layout.PacketKind.TheVariants.{Single}
 
 joined_codes : (us : List (List ℕ)) → joined (map behind_code us) ≡ flat_map behind_code us
 joined_codes [] = refl

@@ -2,10 +2,11 @@
 use Rattle.std.specs.Prelude.{◌≡◌, ℕ, Bool, true, false, List, [], ◌∷◌, ◌++◌, None, Ok}
 use Rattle.payload_core_base.specs.Format.{Reading, Run, read_all}
 use Rattle.payload_core_base.specs.declared.extra.CodecExtra.{CodecExtra}
-use Rattle.h26x_payload_h264.specs.declared.headers.PacketKind.{PacketKind}
-use Rattle.h26x_payload_h264.specs.declared.headers.PacketKind.TheVariants.{Fragment}
+use Rattle.h26x_payload_units.specs.declared.layout.PacketKind.{PacketKind}
+use Rattle.h26x_payload_units.specs.declared.layout.PacketKind.TheVariants.{Fragment}
 use Rattle.h26x_payload_units.specs.FragmentRuns.{FragmentView, WritesComplete}
-use Rattle.h26x_payload_h264.specs.H264Headers.{begun_header, has_end, has_start, kind_of}
+use Rattle.h26x_payload_h264.specs.H264Headers.{begun_header, kind_of}
+use Rattle.h26x_payload_units.specs.Headers.{has_end, has_start}
 use Rattle.h26x_payload_h264.specs.H264Reading.{h264_format}
 
 abbrev pub is_fragment_kind : PacketKind → Bool

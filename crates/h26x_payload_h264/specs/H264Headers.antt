@@ -1,8 +1,8 @@
 -- The first bytes of H.264 packets: the NAL unit header, which is F, NRI in two bits and the type in five, and the FU
--- header, which is S, E, R and the type (RFC 6184 1.3, 5.2 and 5.8).
-use Rattle.std.specs.Prelude.{ℕ, ◌+◌, ◌*◌, ◌/◌, ◌%◌, ◌==◌, ◌&&◌, Bool, nat_le, if◌then◌else◌}
-use Rattle.h26x_payload_h264.specs.declared.headers.PacketKind.{PacketKind}
-use Rattle.h26x_payload_h264.specs.declared.headers.PacketKind.TheVariants.{Single, Aggregate, Fragment, Unhandled}
+-- header, which is S, E, R and the type (RFC 6184 1.3, 5.2 and 5.8). S and E are those of all three codecs.
+use Rattle.std.specs.Prelude.{ℕ, ◌+◌, ◌*◌, ◌/◌, ◌%◌, ◌==◌, ◌&&◌, nat_le, if◌then◌else◌}
+use Rattle.h26x_payload_units.specs.declared.layout.PacketKind.{PacketKind}
+use Rattle.h26x_payload_units.specs.declared.layout.PacketKind.TheVariants.{Single, Aggregate, Fragment, Unhandled}
 
 abbrev pub type_of : ℕ → ℕ
 type_of header = header % 32
@@ -14,12 +14,6 @@ kind_of header =
     else (if type_of header == 28 then Fragment
     else (if nat_le 1 (type_of header) && nat_le (type_of header) 23 then Single
     else Unhandled))
-
-abbrev pub has_start : ℕ → Bool
-has_start fu = fu / 128 % 2 == 1
-
-abbrev pub has_end : ℕ → Bool
-has_end fu = fu / 64 % 2 == 1
 
 -- The header of the unit that begins in an FU-A: F and NRI of the packet's first byte, and the type of the FU header.
 abbrev pub begun_header : ℕ → ℕ → ℕ

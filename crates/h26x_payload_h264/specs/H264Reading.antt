@@ -7,12 +7,13 @@ use Rattle.payload_core_base.specs.declared.error.PacketError.{PacketError}
 use Rattle.payload_core_base.specs.declared.error.PacketError.TheVariants.{ErrShortPacket, NaluTypeIsNotHandled}
 use Rattle.payload_core_base.specs.declared.extra.CodecExtra.{CodecExtra}
 use Rattle.payload_core_base.specs.declared.extra.CodecExtra.TheVariants.{H264}
-use Rattle.h26x_payload_h264.specs.declared.headers.PacketKind.{PacketKind}
-use Rattle.h26x_payload_h264.specs.declared.headers.PacketKind.TheVariants.{Single, Aggregate}
-use Rattle.h26x_payload_h264.specs.declared.headers.PacketKind.TheVariants.{Fragment as FragmentKind, Unhandled}
+use Rattle.h26x_payload_units.specs.declared.layout.PacketKind.{PacketKind}
+use Rattle.h26x_payload_units.specs.declared.layout.PacketKind.TheVariants.{Single, Aggregate}
+use Rattle.h26x_payload_units.specs.declared.layout.PacketKind.TheVariants.{Fragment as FragmentKind, Unhandled}
 use Rattle.h26x_payload_units.specs.Aggregates.{aggregated}
 use Rattle.h26x_payload_units.specs.Fragments.{behind_code, open_after, put_behind, written_at}
-use Rattle.h26x_payload_h264.specs.H264Headers.{begun_header, has_end, has_start, kind_of, type_of}
+use Rattle.h26x_payload_h264.specs.H264Headers.{begun_header, kind_of, type_of}
+use Rattle.h26x_payload_units.specs.Headers.{has_end, has_start}
 use Rattle.h26x_payload_h264.specs.StapA.{stap_a_fault}
 
 -- A unit of this type.

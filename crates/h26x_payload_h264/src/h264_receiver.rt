@@ -8,9 +8,10 @@ ghost use Rattle.std.specs.List.{flat_map, list_any};
 ghost use Rattle.std.specs.Prelude.{◌≡◌, ◌≢◌, Err, IfErr, None, OnErr, OnOk, length};
 
 use crate::constants::{IDR_NALU_TYPE, STAPA_NALU_LENGTH_SIZE};
-use crate::headers::{PacketKind, begun_header, has_end, has_start, kind_of, type_of};
+use crate::headers::{begun_header, kind_of, type_of};
 use h26x_payload_units::{
-    AggregateFault, OpenUnit, aggregate_fault, aggregated_units, first_aggregated, push_unit,
+    AggregateFault, OpenUnit, PacketKind, aggregate_fault, aggregated_units, first_aggregated,
+    has_end, has_start, push_unit,
 };
 use payload_core_base::{CodecExtra, Depacketizer, H264CodecExtra, PacketError};
 use std::alloc::Global;

@@ -1,22 +1,10 @@
 //! The first bytes of H.264 packets (RFC 6184 1.3, 5.2 and 5.8).
 
-ghost use Rattle.h26x_payload_h264.specs.H264Headers.{begun_header, has_end, has_start, kind_of, type_of};
+ghost use Rattle.h26x_payload_h264.specs.H264Headers.{begun_header, kind_of, type_of};
 ghost use Rattle.std.specs.Prelude.{◌≡◌};
 
 use crate::constants::{FUA_NALU_TYPE, STAPA_NALU_TYPE};
-
-/// What a packet is by its first byte (RFC 6184 5.2).
-#[derive(Clone, Copy, Drop)]
-pub enum PacketKind {
-    /// A unit alone.
-    Single,
-    /// Units behind their sizes, STAP-A.
-    Aggregate,
-    /// A part of a unit, FU-A.
-    Fragment,
-    /// A type that isn't read.
-    Unhandled,
-}
+use h26x_payload_units::PacketKind;
 
 /// The type in the header of a unit, or in an FU header.
 pub fn type_of(header: u8) -> u8
@@ -35,20 +23,6 @@ pub fn kind_of(header: u8) -> PacketKind
         1..=23 => PacketKind::Single,
         _ => PacketKind::Unhandled,
     }
-}
-
-/// S of an FU header.
-pub fn has_start(fu: u8) -> bool
-    ensures { result ≡ has_start fu }
-{
-    fu / 128 % 2 == 1
-}
-
-/// E of an FU header.
-pub fn has_end(fu: u8) -> bool
-    ensures { result ≡ has_end fu }
-{
-    fu / 64 % 2 == 1
 }
 
 /// The header of the unit that begins in an FU-A, from the packet's first byte and its FU header.

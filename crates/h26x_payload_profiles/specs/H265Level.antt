@@ -24,3 +24,7 @@ level_id Level5_2 = 156
 level_id Level6 = 180
 level_id Level6_1 = 183
 level_id Level6_2 = 186
+
+-- What stands where nothing is said.
+abbrev pub fallback_level : H265Level
+fallback_level = Level3_1

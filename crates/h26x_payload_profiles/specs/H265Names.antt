@@ -1,9 +1,7 @@
--- The names of the profiles, tiers and levels of H.265: those of their variants, which serde's derive would give.
+-- The names of the profiles and levels of H.265: those of their variants, which serde's derive would give.
 use Rattle.std.specs.Prelude.{ℕ, List, codes}
 use Rattle.h26x_payload_profiles.specs.declared.h265.H265Profile.{H265Profile}
 use Rattle.h26x_payload_profiles.specs.declared.h265.H265Profile.TheVariants as profile
-use Rattle.h26x_payload_profiles.specs.declared.h265.H265Tier.{H265Tier}
-use Rattle.h26x_payload_profiles.specs.declared.h265.H265Tier.TheVariants as tier
 use Rattle.h26x_payload_profiles.specs.declared.h265.H265Level.{H265Level}
 use Rattle.h26x_payload_profiles.specs.declared.h265.H265Level.TheVariants as level
 
@@ -19,10 +17,6 @@ profile_name profile.ThreeDMain = codes "ThreeDMain"
 profile_name profile.ScreenContentCoding = codes "ScreenContentCoding"
 profile_name profile.ScreenContentCodingExtensions = codes "ScreenContentCodingExtensions"
 profile_name profile.HighThroughputScreenContentCoding = codes "HighThroughputScreenContentCoding"
-
-abbrev pub tier_name : H265Tier → List ℕ
-tier_name tier.Main = codes "Main"
-tier_name tier.High = codes "High"
 
 abbrev pub level_name : H265Level → List ℕ
 level_name level.Level1 = codes "Level1"

@@ -24,3 +24,7 @@ profile_id ThreeDMain = 8
 profile_id ScreenContentCoding = 9
 profile_id ScreenContentCodingExtensions = 10
 profile_id HighThroughputScreenContentCoding = 11
+
+-- What stands where nothing is said.
+abbrev pub fallback_profile : H265Profile
+fallback_profile = Main

@@ -1,51 +1,39 @@
--- A profile, a tier and a level of H.265, and the three numbers that session texts have for them (RFC 7798 7.1).
-use Rattle.std.specs.Prelude.{◌≡◌, ℕ, List, Option, Some, None, unwrap_or}
+-- What three numbers mean as a profile, a tier and a level of H.265 (RFC 7798 7.1).
+use Rattle.std.specs.Prelude.{ℕ, List, Option}
 use Rattle.payload_core_tables.specs.Tables.{with_number}
-use Rattle.h26x_payload_profiles.specs.Values.{given_or}
-use Rattle.h26x_payload_profiles.specs.H265Level.{level_id, levels}
-use Rattle.h26x_payload_profiles.specs.H265Profile.{profile_id, profiles}
-use Rattle.h26x_payload_profiles.specs.H265Tier.{tier_flag, tiers}
+use Rattle.h26x_payload_profiles.specs.H265Level.{fallback_level, level_id, levels}
+use Rattle.h26x_payload_profiles.specs.H265Profile.{fallback_profile, profile_id, profiles}
+use Rattle.h26x_payload_profiles.specs.ProfileTierLevel as ptl
 use Rattle.h26x_payload_profiles.specs.declared.h265.H265Level.{H265Level}
-use Rattle.h26x_payload_profiles.specs.declared.h265.H265Level.TheVariants.{Level3_1}
 use Rattle.h26x_payload_profiles.specs.declared.h265.H265Profile.{H265Profile}
-use Rattle.h26x_payload_profiles.specs.declared.h265.H265Profile.TheVariants as profile
-use Rattle.h26x_payload_profiles.specs.declared.h265.H265Tier.{H265Tier}
-use Rattle.h26x_payload_profiles.specs.declared.h265.H265Tier.TheVariants as tier
-use Rattle.h26x_payload_profiles.specs.declared.h265.H265ProfileTierLevel.{H265ProfileTierLevel}
+use Rattle.h26x_payload_profiles.specs.declared.profile_tier_level.ProfileTierLevel.{ProfileTierLevel}
 
--- The three together, where each is known.
-abbrev pub together : Option H265Profile → Option H265Tier → Option H265Level → Option H265ProfileTierLevel
-together (Some profile) (Some tier) (Some level) = Some (record { profile = profile; tier = tier; level = level })
-together _ _ _ = None
+abbrev pub H265ProfileTierLevel : Type 0
+H265ProfileTierLevel = ProfileTierLevel H265Profile H265Level
+
+abbrev pub profile_of : ℕ → Option H265Profile
+profile_of id = with_number profile_id profiles id
+
+abbrev pub level_of : ℕ → Option H265Level
+level_of id = with_number level_id levels id
 
 -- What three numbers mean, where each is in its table.
 abbrev pub known : ℕ → ℕ → ℕ → Option H265ProfileTierLevel
-known id flag level = together (with_number profile_id profiles id) (with_number tier_flag tiers flag)
-    (with_number level_id levels level)
+known id flag level = ptl.known profile_of level_of id flag level
 
 -- What stands where nothing is said: the numbers 1, 0 and 93.
 abbrev pub fallback : H265ProfileTierLevel
-fallback = record { profile = profile.Main; tier = tier.Main; level = Level3_1 }
+fallback = ptl.fallback fallback_profile fallback_level
 
 -- What three numbers mean, else what stands where nothing is said.
 abbrev pub known_or_fallback : ℕ × ℕ × ℕ → H265ProfileTierLevel
-known_or_fallback numbers = unwrap_or (known numbers.0 numbers.1 numbers.2) fallback
+known_or_fallback numbers = ptl.known_or_fallback profile_of level_of fallback_profile fallback_level numbers
 
--- What three values that could be read mean.
-abbrev pub known_values : Option ℕ → Option ℕ → Option ℕ → Option H265ProfileTierLevel
-known_values (Some id) (Some flag) (Some level) = known id flag level
-known_values _ _ _ = None
-
--- What three given values mean, each a number of 8 bits; one that isn't given is the fallback's.
+-- What three given values mean, each a number of 8 bits; one that isn't given is 1, 0 or 93.
 abbrev pub given : Option (List ℕ) → Option (List ℕ) → Option (List ℕ) → Option H265ProfileTierLevel
-given id flag level = known_values (given_or (profile_id fallback.profile) id)
-    (given_or (tier_flag fallback.tier) flag) (given_or (level_id fallback.level) level)
-
--- The same with another level.
-abbrev pub at_level : H265ProfileTierLevel → H265Level → H265ProfileTierLevel
-at_level ptl level = record ptl { level = level }
+given id flag level = ptl.given profile_of level_of (profile_id fallback_profile) (level_id fallback_level) id
+    flag level
 
 -- The three numbers of a value mean that value.
 abbrev pub ComesBack : Type 0
-ComesBack = (ptl : H265ProfileTierLevel) → known (profile_id ptl.profile) (tier_flag ptl.tier) (level_id ptl.level)
-    ≡ Some ptl
+ComesBack = ptl.ComesBack profile_id profile_of level_id level_of

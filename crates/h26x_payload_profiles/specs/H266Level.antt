@@ -1,4 +1,4 @@
--- The levels of H.266 in rising order, and the numbers that session texts have for them (RFC 9328 7.1).
+-- The levels of H.266 in rising order, and the numbers that session texts have for them (RFC 9328 7.2).
 use Rattle.std.specs.Prelude.{ℕ, List, [], ◌∷◌}
 use Rattle.h26x_payload_profiles.specs.declared.h266.H266Level.{H266Level}
 use Rattle.h26x_payload_profiles.specs.declared.h266.H266Level.TheVariants.{Level1, Level2, Level2_1, Level3}
@@ -26,3 +26,7 @@ level_id Level6_1 = 99
 level_id Level6_2 = 102
 level_id Level6_3 = 105
 level_id Level15_5 = 255
+
+-- What stands where nothing is said.
+abbrev pub fallback_level : H266Level
+fallback_level = Level3_1

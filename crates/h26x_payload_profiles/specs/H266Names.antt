@@ -1,19 +1,13 @@
--- The names of the profiles, tiers and levels of H.266: those of their variants, which serde's derive would give.
+-- The names of the profiles and levels of H.266: those of their variants, which serde's derive would give.
 use Rattle.std.specs.Prelude.{ℕ, List, codes}
 use Rattle.h26x_payload_profiles.specs.declared.h266.H266Profile.{H266Profile}
 use Rattle.h26x_payload_profiles.specs.declared.h266.H266Profile.TheVariants as profile
-use Rattle.h26x_payload_profiles.specs.declared.h266.H266Tier.{H266Tier}
-use Rattle.h26x_payload_profiles.specs.declared.h266.H266Tier.TheVariants as tier
 use Rattle.h26x_payload_profiles.specs.declared.h266.H266Level.{H266Level}
 use Rattle.h26x_payload_profiles.specs.declared.h266.H266Level.TheVariants as level
 
 abbrev pub profile_name : H266Profile → List ℕ
 profile_name profile.Main10 = codes "Main10"
 profile_name profile.Main10_444 = codes "Main10_444"
-
-abbrev pub tier_name : H266Tier → List ℕ
-tier_name tier.Main = codes "Main"
-tier_name tier.High = codes "High"
 
 abbrev pub level_name : H266Level → List ℕ
 level_name level.Level1 = codes "Level1"

@@ -1,4 +1,4 @@
--- The profiles of H.266, and the numbers that session texts have for them (RFC 9328 7.1).
+-- The profiles of H.266, and the numbers that session texts have for them (RFC 9328 7.2).
 use Rattle.std.specs.Prelude.{ℕ, List, [], ◌∷◌}
 use Rattle.h26x_payload_profiles.specs.declared.h266.H266Profile.{H266Profile}
 use Rattle.h26x_payload_profiles.specs.declared.h266.H266Profile.TheVariants.{Main10, Main10_444}
@@ -9,3 +9,7 @@ profiles = Main10 ∷ Main10_444 ∷ []
 abbrev pub profile_id : H266Profile → ℕ
 profile_id Main10 = 1
 profile_id Main10_444 = 33
+
+-- What stands where nothing is said.
+abbrev pub fallback_profile : H266Profile
+fallback_profile = Main10

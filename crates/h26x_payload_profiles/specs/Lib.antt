@@ -1,14 +1,13 @@
-pub mod H265Fields
+pub mod Fields
 pub mod H265Level
 pub mod H265Names
 pub mod H265Profile
 pub mod H265ProfileTierLevel
-pub mod H265Tier
-pub mod H266Fields
 pub mod H266Level
 pub mod H266Names
 pub mod H266Profile
 pub mod H266ProfileTierLevel
-pub mod H266Tier
 pub mod LevelsApart
+pub mod ProfileTierLevel
+pub mod Tier
 pub mod Values

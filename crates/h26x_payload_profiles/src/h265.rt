@@ -1,17 +1,16 @@
 //! Profiles, tiers and levels of H.265 (RFC 7798 7.1).
 
-ghost use Rattle.std.specs.Prelude.{◌≡◌, Option, option_map};
+ghost use Rattle.std.specs.Prelude.{◌≡◌};
 ghost use Rattle.payload_core_tables.specs.Names.{HasOwnNames};
 ghost use Rattle.payload_core_tables.specs.Tables.{IsRising, IsTable, place_of, with_number};
-ghost use Rattle.h26x_payload_profiles.specs.H265Level.{level_id, levels};
-ghost use Rattle.h26x_payload_profiles.specs.H265Profile.{profile_id, profiles};
-ghost use Rattle.h26x_payload_profiles.specs.H265Tier.{tier_flag, tiers};
-ghost use Rattle.h26x_payload_profiles.specs.H265ProfileTierLevel.{ComesBack, at_level, fallback, given, known};
-ghost use Rattle.h26x_payload_profiles.specs.H265ProfileTierLevel.{known_or_fallback};
-ghost use Rattle.h26x_payload_profiles.specs.H265Names.{profile_name, tier_name, level_name};
+ghost use Rattle.h26x_payload_profiles.specs.H265Level.{fallback_level, level_id, levels};
+ghost use Rattle.h26x_payload_profiles.specs.H265Names.{level_name, profile_name};
+ghost use Rattle.h26x_payload_profiles.specs.H265Profile.{fallback_profile, profile_id, profiles};
+ghost use Rattle.h26x_payload_profiles.specs.H265ProfileTierLevel.{ComesBack, fallback};
 
 use crate::h265_names::{H265_LEVELS, H265_PROFILES};
-use crate::values::given_or;
+use crate::profile_tier_level::{InTable, Level, ProfileTierLevel};
+use crate::tier::Tier;
 use payload_core_tables::{Numbered, find_number};
 
 /// A profile of H.265.
@@ -77,35 +76,15 @@ impl Numbered for H265Profile {
     }
 }
 
-/// A tier of H.265.
-#[derive(Clone, Copy, Debug, PartialEq, Eq, Drop)]
-pub enum H265Tier {
-    /// The main tier, flag 0.
-    Main,
-    /// The high tier, flag 1.
-    High,
-}
+impl InTable for H265Profile {
+    ghost all = { profiles };
 
-impl H265Tier {
-    /// The tier of a `tier-flag`; None for one above 1.
-    pub fn from_flag(flag: u8) -> Option<Self>
-        ensures { result ≡ with_number tier_flag tiers flag }
-    {
-        match flag {
-            0 => Some(H265Tier::Main),
-            1 => Some(H265Tier::High),
-            _ => None,
-        }
-    }
+    ghost FALLBACK = { fallback_profile };
 
-    /// Its `tier-flag`.
-    pub fn to_flag(self) -> u8
-        ensures { result ≡ tier_flag self }
-    {
-        match self {
-            H265Tier::Main => 0,
-            H265Tier::High => 1,
-        }
+    const FALLBACK: Self = H265Profile::Main;
+
+    fn all() -> &'static [Self] {
+        &H265_PROFILES
     }
 }
 
@@ -185,129 +164,50 @@ impl Numbered for H265Level {
     }
 }
 
-/// A profile, a tier and a level of H.265.
-#[derive(Clone, Copy, Debug, PartialEq, Eq, Drop)]
-pub struct H265ProfileTierLevel {
-    pub(crate) profile: H265Profile,
-    pub(crate) tier: H265Tier,
-    pub(crate) level: H265Level,
+impl InTable for H265Level {
+    ghost all = { levels };
+
+    ghost FALLBACK = { fallback_level };
+
+    const FALLBACK: Self = H265Level::Level3_1;
+
+    fn all() -> &'static [Self] {
+        &H265_LEVELS
+    }
 }
 
-impl H265ProfileTierLevel {
+impl Level for H265Level {
+    fn place(self) -> usize {
+        self.ordinal()
+    }
+}
+
+/// A tier of H.265.
+pub type H265Tier = Tier;
+
+/// A profile, a tier and a level of H.265 (RFC 7798 7.1).
+pub type H265ProfileTierLevel = ProfileTierLevel<H265Profile, H265Level>;
+
+const H265_FALLBACK: H265ProfileTierLevel = ProfileTierLevel {
+    profile: H265Profile::Main,
+    tier: Tier::Main,
+    level: H265Level::Level3_1,
+};
+
+impl ProfileTierLevel<H265Profile, H265Level> {
     /// What stands where a session text says nothing: the numbers 1, 0 and 93.
-    pub const FALLBACK: Self = H265ProfileTierLevel {
-        profile: H265Profile::Main,
-        tier: H265Tier::Main,
-        level: H265Level::Level3_1,
-    };
-
-    /// What a `profile-id`, a `tier-flag` and a `level-id` mean; None where one is off its table.
-    pub fn new(profile_id: u8, tier_flag: u8, level_id: u8) -> Option<Self>
-        ensures { result ≡ known profile_id tier_flag level_id }
-    {
-        let profile = H265Profile::from_id(profile_id)?;
-        let tier = H265Tier::from_flag(tier_flag)?;
-        let level = H265Level::from_id(level_id)?;
-        Some(H265ProfileTierLevel {
-            profile,
-            tier,
-            level,
-        })
-    }
-
-    /// What the values of the keys `profile-id`, `tier-flag` and `level-id` mean (RFC 7798 7.1). A value that isn't
-    /// given is that of `FALLBACK`; None where a given one is no number of its table.
-    pub fn from_fmtp(
-        profile_id: Option<&str>,
-        tier_flag: Option<&str>,
-        level_id: Option<&str>,
-    ) -> Option<Self>
-        ensures { result ≡ given (option_map (λ t. t.now) profile_id.entry) (option_map (λ t. t.now) tier_flag.entry)
-            (option_map (λ t. t.now) level_id.entry) }
-    {
-        let fallback = Self::FALLBACK;
-        Self::new(
-            given_or(fallback.profile_id(), profile_id)?,
-            given_or(fallback.tier_flag(), tier_flag)?,
-            given_or(fallback.level_id(), level_id)?,
-        )
-    }
-
-    /// The profile.
-    pub fn profile(&self) -> H265Profile
-        ensures { result ≡ self.now.profile }
-    {
-        self.profile
-    }
-
-    /// The tier.
-    pub fn tier(&self) -> H265Tier
-        ensures { result ≡ self.now.tier }
-    {
-        self.tier
-    }
-
-    /// The level.
-    pub fn level(&self) -> H265Level
-        ensures { result ≡ self.now.level }
-    {
-        self.level
-    }
-
-    /// The same profile and tier at another level.
-    pub fn with_level(self, level: H265Level) -> Self
-        ensures { result ≡ at_level self level }
-    {
-        H265ProfileTierLevel {
-            profile: self.profile,
-            tier: self.tier,
-            level,
-        }
-    }
-
-    /// The `profile-id`.
-    pub fn profile_id(&self) -> u8
-        ensures { result ≡ profile_id self.now.profile }
-    {
-        self.profile.to_id()
-    }
-
-    /// The `tier-flag`.
-    pub fn tier_flag(&self) -> u8
-        ensures { result ≡ tier_flag self.now.tier }
-    {
-        self.tier.to_flag()
-    }
-
-    /// The `level-id`.
-    pub fn level_id(&self) -> u8
-        ensures { result ≡ level_id self.now.level }
-    {
-        self.level.to_id()
-    }
+    pub const FALLBACK: Self = H265_FALLBACK;
 }
 
-/// What a `profile-id`, a `tier-flag` and a `level-id` mean; `FALLBACK` where one is off its table.
-impl From<(u8, u8, u8)> for H265ProfileTierLevel {
-    ghost from_gives = { λ numbers ptl. ptl ≡ known_or_fallback numbers };
-
-    fn from(numbers: (u8, u8, u8)) -> Self {
-        let (profile_id, tier_flag, level_id) = numbers;
-        Self::new(profile_id, tier_flag, level_id).unwrap_or(Self::FALLBACK)
-    }
-}
-
-/// What the tables of H.265 are: a number finds the profile, tier or level whose own it is, and no other; the
+/// What the tables of H.265 are: a number finds the profile or level whose own it is, and no other; the
 /// levels are ordered by their places, which is by their numbers; each is found by its name; and three numbers come
 /// back.
 pub fn h265_tables_law()
     ensures profiles { IsTable profile_id profiles }
-    ensures tiers { IsTable tier_flag tiers }
     ensures levels { IsTable level_id levels }
     ensures rising { IsRising level_id levels ⟦<H265Level as Ord>⟧.cmp }
     ensures comes_back { ComesBack }
-    ensures fallback { H265ProfileTierLevel.FALLBACK ≡ fallback }
+    ensures fallback { H265_FALLBACK ≡ fallback }
     ensures profile_names { HasOwnNames profile_name profiles }
-    ensures tier_names { HasOwnNames tier_name tiers }
     ensures level_names { HasOwnNames level_name levels }
 {}

@@ -1,17 +1,15 @@
-//! The profiles, tiers and levels of H.265 by the names of their variants.
+//! The profiles and levels of H.265 by the names of their variants.
 
 ghost use Rattle.std.specs.Prelude.{◌≡◌, IfOk};
 ghost use Rattle.serde.specs.Event.{Sends};
 ghost use Rattle.serde.specs.Steps.{Gives};
 ghost use Rattle.payload_core_tables.specs.Names.{ReadsName, name_event};
-ghost use Rattle.h26x_payload_profiles.specs.H265Fields.{WritesProfileTierLevel};
-ghost use Rattle.h26x_payload_profiles.specs.H265Names.{profile_name, tier_name, level_name};
+ghost use Rattle.h26x_payload_profiles.specs.H265Names.{level_name, profile_name};
 ghost use Rattle.h26x_payload_profiles.specs.H265Profile.{profiles};
-ghost use Rattle.h26x_payload_profiles.specs.H265Tier.{tiers};
 ghost use Rattle.h26x_payload_profiles.specs.H265Level.{levels};
 
-use crate::h265::{H265Level, H265Profile, H265ProfileTierLevel, H265Tier};
-use payload_core_tables::{Named, read_name, write_field, write_name};
+use crate::h265::{H265Level, H265Profile};
+use payload_core_tables::{Named, read_name, write_name};
 use serde::de::DeserializeOwned;
 use serde::{Described, Deserialize, Deserializer, Format, Serialize, Serializer};
 use std::alloc::Global;
@@ -30,9 +28,6 @@ pub const H265_PROFILES: [H265Profile; 11] = [
     H265Profile::ScreenContentCodingExtensions,
     H265Profile::HighThroughputScreenContentCoding,
 ];
-
-/// Both tiers.
-pub const H265_TIERS: [H265Tier; 2] = [H265Tier::Main, H265Tier::High];
 
 /// Every level, in rising order.
 pub const H265_LEVELS: [H265Level; 13] = [
@@ -67,17 +62,6 @@ impl Named for H265Profile {
             H265Profile::ScreenContentCoding => "ScreenContentCoding",
             H265Profile::ScreenContentCodingExtensions => "ScreenContentCodingExtensions",
             H265Profile::HighThroughputScreenContentCoding => "HighThroughputScreenContentCoding",
-        }
-    }
-}
-
-impl Named for H265Tier {
-    ghost name = { tier_name };
-
-    fn name(self) -> &'static str {
-        match self {
-            H265Tier::Main => "Main",
-            H265Tier::High => "High",
         }
     }
 }
@@ -138,40 +122,6 @@ impl DeserializeOwned for H265Profile {
     }
 }
 
-impl Described for H265Tier {
-    ghost writes = { λ tier. Sends (name_event (tier_name tier)) };
-}
-
-/// The name of its variant is written.
-impl Serialize for H265Tier {
-    fn serialize<S: Serializer>(&self, out: &mut S) -> Result<(), S::Error> {
-        write_name(*self, out)
-    }
-}
-
-/// The name of a variant is read.
-impl<'de> Deserialize<'de> for H265Tier {
-    fn deserialize<F: Format>(
-        alloc: Global,
-        from: &mut Deserializer<'de, '_, F>,
-    ) -> Result<Self, F::Error>
-        ensures { IfOk result (ReadsName (λ e. Gives F.gives from.old e from.new) tier_name tiers) }
-    {
-        read_name(alloc, from, &H265_TIERS)
-    }
-}
-
-impl DeserializeOwned for H265Tier {
-    fn deserialize_owned<F: Format>(
-        alloc: Global,
-        from: &mut Deserializer<'_, '_, F>,
-    ) -> Result<Self, F::Error>
-        ensures { IfOk result (ReadsName (λ e. Gives F.gives from.old e from.new) tier_name tiers) }
-    {
-        read_name(alloc, from, &H265_TIERS)
-    }
-}
-
 impl Described for H265Level {
     ghost writes = { λ level. Sends (name_event (level_name level)) };
 }
@@ -203,20 +153,5 @@ impl DeserializeOwned for H265Level {
         ensures { IfOk result (ReadsName (λ e. Gives F.gives from.old e from.new) level_name levels) }
     {
         read_name(alloc, from, &H265_LEVELS)
-    }
-}
-
-impl Described for H265ProfileTierLevel {
-    ghost writes = { WritesProfileTierLevel };
-}
-
-/// Its fields are written by their names.
-impl Serialize for H265ProfileTierLevel {
-    fn serialize<S: Serializer>(&self, out: &mut S) -> Result<(), S::Error> {
-        out.begin_map(Some(3))?;
-        write_field("profile", &self.profile(), out)?;
-        write_field("tier", &self.tier(), out)?;
-        write_field("level", &self.level(), out)?;
-        out.end_map()
     }
 }

@@ -1,18 +1,17 @@
-//! Profiles, tiers and levels of H.266 (RFC 9328 7.1).
+//! Profiles, tiers and levels of H.266 (RFC 9328 7.2).
 
-ghost use Rattle.std.specs.Prelude.{◌≡◌, Option, option_map};
+ghost use Rattle.std.specs.Prelude.{◌≡◌};
 ghost use Rattle.payload_core_tables.specs.Names.{HasOwnNames};
 ghost use Rattle.payload_core_tables.specs.Tables.{IsRising, IsTable, place_of, with_number};
-ghost use Rattle.h26x_payload_profiles.specs.H266Level.{level_id, levels};
-ghost use Rattle.h26x_payload_profiles.specs.H266Profile.{profile_id, profiles};
-ghost use Rattle.h26x_payload_profiles.specs.H266Tier.{tier_flag, tiers};
-ghost use Rattle.h26x_payload_profiles.specs.H266ProfileTierLevel.{ComesBack, at_level, fallback, given, known};
-ghost use Rattle.h26x_payload_profiles.specs.H266ProfileTierLevel.{known_or_fallback};
+ghost use Rattle.h26x_payload_profiles.specs.H266Level.{fallback_level, level_id, levels};
+ghost use Rattle.h26x_payload_profiles.specs.H266Names.{level_name, profile_name};
+ghost use Rattle.h26x_payload_profiles.specs.H266Profile.{fallback_profile, profile_id, profiles};
+ghost use Rattle.h26x_payload_profiles.specs.H266ProfileTierLevel.{ComesBack, fallback};
 ghost use Rattle.h26x_payload_profiles.specs.LevelsApart.{LevelsApart};
-ghost use Rattle.h26x_payload_profiles.specs.H266Names.{profile_name, tier_name, level_name};
 
-use crate::h266_names::H266_LEVELS;
-use crate::values::given_or;
+use crate::h266_names::{H266_LEVELS, H266_PROFILES};
+use crate::profile_tier_level::{InTable, Level, ProfileTierLevel};
+use crate::tier::Tier;
 use payload_core_tables::{Numbered, find_number};
 
 /// A profile of H.266.
@@ -29,11 +28,7 @@ impl H266Profile {
     pub fn from_id(id: u8) -> Option<Self>
         ensures { result ≡ with_number profile_id profiles id }
     {
-        match id {
-            1 => Some(H266Profile::Main10),
-            33 => Some(H266Profile::Main10_444),
-            _ => None,
-        }
+        find_number(&H266_PROFILES, id)
     }
 
     /// Its `profile-id`.
@@ -47,35 +42,23 @@ impl H266Profile {
     }
 }
 
-/// A tier of H.266.
-#[derive(Clone, Copy, Debug, PartialEq, Eq, Drop)]
-pub enum H266Tier {
-    /// The main tier, flag 0.
-    Main,
-    /// The high tier, flag 1.
-    High,
+impl Numbered for H266Profile {
+    ghost number = { profile_id };
+
+    fn number(self) -> u8 {
+        self.to_id()
+    }
 }
 
-impl H266Tier {
-    /// The tier of a `tier-flag`; None for one above 1.
-    pub fn from_flag(flag: u8) -> Option<Self>
-        ensures { result ≡ with_number tier_flag tiers flag }
-    {
-        match flag {
-            0 => Some(H266Tier::Main),
-            1 => Some(H266Tier::High),
-            _ => None,
-        }
-    }
+impl InTable for H266Profile {
+    ghost all = { profiles };
 
-    /// Its `tier-flag`.
-    pub fn to_flag(self) -> u8
-        ensures { result ≡ tier_flag self }
-    {
-        match self {
-            H266Tier::Main => 0,
-            H266Tier::High => 1,
-        }
+    ghost FALLBACK = { fallback_profile };
+
+    const FALLBACK: Self = H266Profile::Main10;
+
+    fn all() -> &'static [Self] {
+        &H266_PROFILES
     }
 }
 
@@ -161,130 +144,51 @@ impl Numbered for H266Level {
     }
 }
 
-/// A profile, a tier and a level of H.266.
-#[derive(Clone, Copy, Debug, PartialEq, Eq, Drop)]
-pub struct H266ProfileTierLevel {
-    pub(crate) profile: H266Profile,
-    pub(crate) tier: H266Tier,
-    pub(crate) level: H266Level,
+impl InTable for H266Level {
+    ghost all = { levels };
+
+    ghost FALLBACK = { fallback_level };
+
+    const FALLBACK: Self = H266Level::Level3_1;
+
+    fn all() -> &'static [Self] {
+        &H266_LEVELS
+    }
 }
 
-impl H266ProfileTierLevel {
+impl Level for H266Level {
+    fn place(self) -> usize {
+        self.ordinal()
+    }
+}
+
+/// A tier of H.266.
+pub type H266Tier = Tier;
+
+/// A profile, a tier and a level of H.266 (RFC 9328 7.2).
+pub type H266ProfileTierLevel = ProfileTierLevel<H266Profile, H266Level>;
+
+const H266_FALLBACK: H266ProfileTierLevel = ProfileTierLevel {
+    profile: H266Profile::Main10,
+    tier: Tier::Main,
+    level: H266Level::Level3_1,
+};
+
+impl ProfileTierLevel<H266Profile, H266Level> {
     /// What stands where a session text says nothing: the numbers 1, 0 and 51.
-    pub const FALLBACK: Self = H266ProfileTierLevel {
-        profile: H266Profile::Main10,
-        tier: H266Tier::Main,
-        level: H266Level::Level3_1,
-    };
-
-    /// What a `profile-id`, a `tier-flag` and a `level-id` mean; None where one is off its table.
-    pub fn new(profile_id: u8, tier_flag: u8, level_id: u8) -> Option<Self>
-        ensures { result ≡ known profile_id tier_flag level_id }
-    {
-        let profile = H266Profile::from_id(profile_id)?;
-        let tier = H266Tier::from_flag(tier_flag)?;
-        let level = H266Level::from_id(level_id)?;
-        Some(H266ProfileTierLevel {
-            profile,
-            tier,
-            level,
-        })
-    }
-
-    /// What the values of the keys `profile-id`, `tier-flag` and `level-id` mean (RFC 9328 7.1). A value that isn't
-    /// given is that of `FALLBACK`; None where a given one is no number of its table.
-    pub fn from_fmtp(
-        profile_id: Option<&str>,
-        tier_flag: Option<&str>,
-        level_id: Option<&str>,
-    ) -> Option<Self>
-        ensures { result ≡ given (option_map (λ t. t.now) profile_id.entry) (option_map (λ t. t.now) tier_flag.entry)
-            (option_map (λ t. t.now) level_id.entry) }
-    {
-        let fallback = Self::FALLBACK;
-        Self::new(
-            given_or(fallback.profile_id(), profile_id)?,
-            given_or(fallback.tier_flag(), tier_flag)?,
-            given_or(fallback.level_id(), level_id)?,
-        )
-    }
-
-    /// The profile.
-    pub fn profile(&self) -> H266Profile
-        ensures { result ≡ self.now.profile }
-    {
-        self.profile
-    }
-
-    /// The tier.
-    pub fn tier(&self) -> H266Tier
-        ensures { result ≡ self.now.tier }
-    {
-        self.tier
-    }
-
-    /// The level.
-    pub fn level(&self) -> H266Level
-        ensures { result ≡ self.now.level }
-    {
-        self.level
-    }
-
-    /// The same profile and tier at another level.
-    pub fn with_level(self, level: H266Level) -> Self
-        ensures { result ≡ at_level self level }
-    {
-        H266ProfileTierLevel {
-            profile: self.profile,
-            tier: self.tier,
-            level,
-        }
-    }
-
-    /// The `profile-id`.
-    pub fn profile_id(&self) -> u8
-        ensures { result ≡ profile_id self.now.profile }
-    {
-        self.profile.to_id()
-    }
-
-    /// The `tier-flag`.
-    pub fn tier_flag(&self) -> u8
-        ensures { result ≡ tier_flag self.now.tier }
-    {
-        self.tier.to_flag()
-    }
-
-    /// The `level-id`.
-    pub fn level_id(&self) -> u8
-        ensures { result ≡ level_id self.now.level }
-    {
-        self.level.to_id()
-    }
+    pub const FALLBACK: Self = H266_FALLBACK;
 }
 
-/// What a `profile-id`, a `tier-flag` and a `level-id` mean; `FALLBACK` where one is off its table.
-impl From<(u8, u8, u8)> for H266ProfileTierLevel {
-    ghost from_gives = { λ numbers ptl. ptl ≡ known_or_fallback numbers };
-
-    fn from(numbers: (u8, u8, u8)) -> Self {
-        let (profile_id, tier_flag, level_id) = numbers;
-        Self::new(profile_id, tier_flag, level_id).unwrap_or(Self::FALLBACK)
-    }
-}
-
-/// What the tables of H.266 are: a number finds the profile, tier or level whose own it is, and no other; the
+/// What the tables of H.266 are: a number finds the profile or level whose own it is, and no other; the
 /// levels are ordered by their places, which is by their numbers; each is found by its name; three numbers come back;
 /// and no `level-id` belongs to H.265 also, so that it tells the two apart.
 pub fn h266_tables_law()
     ensures profiles { IsTable profile_id profiles }
-    ensures tiers { IsTable tier_flag tiers }
     ensures levels { IsTable level_id levels }
     ensures rising { IsRising level_id levels ⟦<H266Level as Ord>⟧.cmp }
     ensures comes_back { ComesBack }
-    ensures fallback { H266ProfileTierLevel.FALLBACK ≡ fallback }
+    ensures fallback { H266_FALLBACK ≡ fallback }
     ensures profile_names { HasOwnNames profile_name profiles }
-    ensures tier_names { HasOwnNames tier_name tiers }
     ensures level_names { HasOwnNames level_name levels }
     ensures apart { LevelsApart }
 {}

@@ -5,13 +5,17 @@ mod h265;
 mod h265_names;
 mod h266;
 mod h266_names;
+mod profile_tier_level;
 mod reading;
+mod tier;
 mod values;
 
 pub use h26x_payload_h264_profiles::{
     H264LevelIdc, H264Profile, H264ProfileError, H264ProfileIdc, H264ProfileLevel, h264_tables_law,
 };
 pub use h265::{H265Level, H265Profile, H265ProfileTierLevel, H265Tier, h265_tables_law};
-pub use h265_names::{H265_LEVELS, H265_PROFILES, H265_TIERS};
+pub use h265_names::{H265_LEVELS, H265_PROFILES};
 pub use h266::{H266Level, H266Profile, H266ProfileTierLevel, H266Tier, h266_tables_law};
-pub use h266_names::{H266_LEVELS, H266_PROFILES, H266_TIERS};
+pub use h266_names::{H266_LEVELS, H266_PROFILES};
+pub use profile_tier_level::{InTable, Level, ProfileTierLevel};
+pub use tier::{TIERS, Tier, tiers_law};

@@ -1,15 +1,14 @@
-//! Profiles, tiers and levels as serde reads them: by the names of their fields.
+//! Profiles, tiers and levels as serde writes and reads them: by the names of their fields.
 
 ghost use Rattle.std.specs.Prelude.{IfOk, OnOk};
 ghost use Rattle.serde.specs.Steps.{Gives};
-ghost use Rattle.h26x_payload_profiles.specs.H265Fields.{ReadsH265, ReadsH265Field};
-ghost use Rattle.h26x_payload_profiles.specs.H266Fields.{ReadsH266, ReadsH266Field};
+ghost use Rattle.h26x_payload_profiles.specs.Fields.{Reads, ReadsField, Writes};
 
-use crate::h265::{H265Level, H265Profile, H265ProfileTierLevel, H265Tier};
-use crate::h266::{H266Level, H266Profile, H266ProfileTierLevel, H266Tier};
-use payload_core_tables::{FIELD, ReadFields, read_fields};
+use crate::profile_tier_level::{InTable, ProfileTierLevel};
+use crate::tier::Tier;
+use payload_core_tables::{FIELD, ReadFields, read_fields, read_name, write_field};
 use serde::de::DeserializeOwned;
-use serde::{Deserialize, Deserializer, Format, Name};
+use serde::{Described, Deserialize, Deserializer, Format, Name, Serialize, Serializer};
 use std::alloc::Global;
 
 // The names of the fields, in their order.
@@ -28,37 +27,46 @@ const NAMES: [Name<'static>; 3] = [
     },
 ];
 
+impl<P: Described, L: Described> Described for ProfileTierLevel<P, L> {
+    ghost writes = { Writes P.writes L.writes };
+}
+
+/// Its fields are written by their names.
+impl<P: InTable + Serialize, L: InTable + Serialize> Serialize for ProfileTierLevel<P, L> {
+    fn serialize<S: Serializer>(&self, out: &mut S) -> Result<(), S::Error> {
+        out.begin_map(Some(3))?;
+        write_field("profile", &self.profile, out)?;
+        write_field("tier", &self.tier, out)?;
+        write_field("level", &self.level, out)?;
+        out.end_map()
+    }
+}
+
 /// The fields are read in any order.
-impl<'de> Deserialize<'de> for H265ProfileTierLevel {
+impl<'de, P: InTable, L: InTable> Deserialize<'de> for ProfileTierLevel<P, L> {
     fn deserialize<F: Format>(
         alloc: Global,
         from: &mut Deserializer<'de, '_, F>,
     ) -> Result<Self, F::Error>
-        ensures { IfOk result (ReadsH265 F.gives F.picks F.stays from.old from.new) }
+        ensures { IfOk result (Reads P.name P.all L.name L.all F.gives F.picks F.stays from.old from.new) }
     {
-        read_fields(
-            H265ProfileTierLevel::FALLBACK,
-            &NAMES,
-            &[0, 1, 2],
-            alloc,
-            from,
-        )
+        read_fields(Self::absent(), &NAMES, &[0, 1, 2], alloc, from)
     }
 }
 
-impl DeserializeOwned for H265ProfileTierLevel {
+impl<P: InTable, L: InTable> DeserializeOwned for ProfileTierLevel<P, L> {
     fn deserialize_owned<F: Format>(
         alloc: Global,
         from: &mut Deserializer<'_, '_, F>,
     ) -> Result<Self, F::Error>
-        ensures { IfOk result (ReadsH265 F.gives F.picks F.stays from.old from.new) }
+        ensures { IfOk result (Reads P.name P.all L.name L.all F.gives F.picks F.stays from.old from.new) }
     {
-        H265ProfileTierLevel::deserialize(alloc, from)
+        ProfileTierLevel::deserialize(alloc, from)
     }
 }
 
-impl ReadFields for H265ProfileTierLevel {
-    ghost reads = { ReadsH265Field };
+impl<P: InTable, L: InTable> ReadFields for ProfileTierLevel<P, L> {
+    ghost reads = { ReadsField P.name P.all L.name L.all };
 
     fn read_at<F: Format>(
         &mut self,
@@ -66,61 +74,13 @@ impl ReadFields for H265ProfileTierLevel {
         alloc: Global,
         from: &mut Deserializer<'_, '_, F>,
     ) -> Result<(), F::Error>
-        ensures { OnOk result (ReadsH265Field place (λ e. Gives F.gives from.old e from.new) self.old self.new) }
+        ensures { OnOk result (ReadsField P.name P.all L.name L.all place
+            (λ e. Gives F.gives from.old e from.new) self.old self.new) }
     {
         match place {
-            0 => self.profile = H265Profile::deserialize(alloc, from)?,
-            1 => self.tier = H265Tier::deserialize(alloc, from)?,
-            _ => self.level = H265Level::deserialize(alloc, from)?,
-        }
-        Ok(())
-    }
-}
-
-/// The fields are read in any order.
-impl<'de> Deserialize<'de> for H266ProfileTierLevel {
-    fn deserialize<F: Format>(
-        alloc: Global,
-        from: &mut Deserializer<'de, '_, F>,
-    ) -> Result<Self, F::Error>
-        ensures { IfOk result (ReadsH266 F.gives F.picks F.stays from.old from.new) }
-    {
-        read_fields(
-            H266ProfileTierLevel::FALLBACK,
-            &NAMES,
-            &[0, 1, 2],
-            alloc,
-            from,
-        )
-    }
-}
-
-impl DeserializeOwned for H266ProfileTierLevel {
-    fn deserialize_owned<F: Format>(
-        alloc: Global,
-        from: &mut Deserializer<'_, '_, F>,
-    ) -> Result<Self, F::Error>
-        ensures { IfOk result (ReadsH266 F.gives F.picks F.stays from.old from.new) }
-    {
-        H266ProfileTierLevel::deserialize(alloc, from)
-    }
-}
-
-impl ReadFields for H266ProfileTierLevel {
-    ghost reads = { ReadsH266Field };
-
-    fn read_at<F: Format>(
-        &mut self,
-        place: usize,
-        alloc: Global,
-        from: &mut Deserializer<'_, '_, F>,
-    ) -> Result<(), F::Error>
-        ensures { OnOk result (ReadsH266Field place (λ e. Gives F.gives from.old e from.new) self.old self.new) }
-    {
-        match place {
-            0 => self.profile = H266Profile::deserialize(alloc, from)?,
-            1 => self.tier = H266Tier::deserialize(alloc, from)?,
-            _ => self.level = H266Level::deserialize(alloc, from)?,
+            0 => self.profile = read_name(alloc, from, P::all())?,
+            1 => self.tier = Tier::deserialize(alloc, from)?,
+            _ => self.level = read_name(alloc, from, L::all())?,
         }
         Ok(())
     }

@@ -15,7 +15,7 @@ pub enum Layout {
     H266,
 }
 
-/// What a packet is by its type (RFC 7798 4.2, RFC 9328 4.3).
+/// What a packet is by its type (RFC 6184 5.2, RFC 7798 4.2, RFC 9328 4.3).
 #[derive(Clone, Copy, Drop)]
 pub enum PacketKind {
     /// A unit alone.

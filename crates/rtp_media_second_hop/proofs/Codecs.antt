@@ -9,7 +9,7 @@ use Rattle.rtp_media_second_hop.specs.Codecs.{AllGiveAgain, FirstFollow}
 use Rattle.rtp_media_second_hop.proofs.Audio.{noise-again, pieces-again, telephone-again}
 use Rattle.rtp_media_second_hop.proofs.Frames.{vp8-again, vp9-again}
 use Rattle.h26x_payload_units.specs.declared.layout.Layout.TheVariants as layouts
-use Rattle.rtp_media_second_hop.proofs.H26x.{h264-again, layered-again}
+use Rattle.rtp_media_second_hop.proofs.H26x.{h264-again, h265_h266-again}
 use Rattle.rtp_media_second_hop.proofs.Obus.{av1-again}
 use Rattle.rtp_media_second_hop.proofs.Speech.{amr_wb-again}
 
@@ -21,8 +21,8 @@ all-give-again units back obus once f s has_id G722 = pieces-again
 all-give-again units back obus once f s has_id CN = noise-again
 all-give-again units back obus once f s has_id AmrWb = amr_wb-again s.octet_align
 all-give-again units back obus once f s has_id H264 = h264-again units back
-all-give-again units back obus once f s has_id H265 = layered-again units back layouts.H265 s.donl
-all-give-again units back obus once f s has_id H266 = layered-again units back layouts.H266 s.donl
+all-give-again units back obus once f s has_id H265 = h265_h266-again units back layouts.H265 s.donl
+all-give-again units back obus once f s has_id H266 = h265_h266-again units back layouts.H266 s.donl
 all-give-again units back obus once f s has_id Vp8 = vp8-again has_id f.zero_id
 all-give-again units back obus once f s has_id Vp9 = vp9-again f.prediction
 all-give-again units back obus once f s has_id Av1 = av1-again obus once

@@ -7,8 +7,8 @@ use Rattle.h26x_payload_h264.specs.H264Coding as h264
 use Rattle.h26x_payload_h264.specs.H264Packing.{h264_rules}
 use Rattle.h26x_payload_units.specs.declared.layout.Layout.{Layout}
 use Rattle.h26x_payload_units.specs.Headers.{needs_vps}
-use Rattle.h26x_payload_layered.specs.Coding as layered
-use Rattle.h26x_payload_layered.specs.Packing.{layered_rules, least_limit}
+use Rattle.h26x_payload_h265_h266.specs.Coding as h265_h266
+use Rattle.h26x_payload_h265_h266.specs.Packing.{h265_h266_rules, least_limit}
 use Rattle.rtp_media_second_hop.specs.Again.{GivesAgain}
 use Rattle.rtp_media_second_hop.specs.Kept.{AreKept, HasNone}
 use Rattle.rtp_media_second_hop.proofs.AnnexB.{IsByRules, comes-again, joined-codes, texts}
@@ -38,9 +38,9 @@ h264-again units back s t limit x follows good kept =
     kept
 
 -- H.265 and H.266, whichever sets they need
-layered-texts : (us : List (List ℕ)) → map joined (layered.unit_of us) ≡ texts us
-layered-texts [] = refl
-layered-texts (u ∷ us) = ap (λ t. t ∷ []) (joined-codes (u ∷ us))
+h265_h266-texts : (us : List (List ℕ)) → map joined (h265_h266.unit_of us) ≡ texts us
+h265_h266-texts [] = refl
+h265_h266-texts (u ∷ us) = ap (λ t. t ∷ []) (joined-codes (u ∷ us))
 
 none-ready : (vps : Bool) (ws : Waiting) → are_ready (vps ∷ true ∷ true ∷ []) (emptied ws) ≡ false
 none-ready vps [] = refl
@@ -48,10 +48,10 @@ none-ready true (v ∷ ws) = refl
 none-ready false (v ∷ []) = refl
 none-ready false (v ∷ w ∷ ws) = refl
 
-layered-by-rules : (layout : Layout) (donl : Bool) → IsByRules (layered.layered_coding layout donl)
-    (layered_rules layout donl) (layered.IsSendable layout) least_limit
-layered-by-rules layout donl = record {
-  bytes = λ s limit x. layered-texts (units_sent (layered_rules layout donl) (least_limit limit) s.waiting
+h265_h266-by-rules : (layout : Layout) (donl : Bool) → IsByRules (h265_h266.h265_h266_coding layout donl)
+    (h265_h266_rules layout donl) (h265_h266.IsSendable layout) least_limit
+h265_h266-by-rules layout donl = record {
+  bytes = λ s limit x. h265_h266-texts (units_sent (h265_h266_rules layout donl) (least_limit limit) s.waiting
       (units_of x));
   waits = λ s limit x. refl;
   sendable = λ limit x is. is;
@@ -59,9 +59,11 @@ layered-by-rules layout donl = record {
   none_ready = none-ready (needs_vps layout);
 }
 
-pub layered-again : UnitsLaw → ComesBack → (layout : Layout) (donl : Bool)
-    → GivesAgain (layered.layered_coding layout donl) (HasNone (layered_rules layout donl) (layered.IsSendable layout))
-    (λ limit x. AreKept (layered_rules layout donl) (least_limit limit) (units_of x))
-layered-again units back layout donl s t limit x follows good kept =
-    comes-again units back (layered.layered_coding layout donl) (layered_rules layout donl) (layered.IsSendable layout)
-    least_limit (layered-by-rules layout donl) s t limit x follows good kept
+pub h265_h266-again : UnitsLaw → ComesBack → (layout : Layout) (donl : Bool)
+    → GivesAgain (h265_h266.h265_h266_coding layout donl)
+    (HasNone (h265_h266_rules layout donl) (h265_h266.IsSendable layout))
+    (λ limit x. AreKept (h265_h266_rules layout donl) (least_limit limit) (units_of x))
+h265_h266-again units back layout donl s t limit x follows good kept =
+    comes-again units back (h265_h266.h265_h266_coding layout donl) (h265_h266_rules layout donl)
+    (h265_h266.IsSendable layout)
+    least_limit (h265_h266-by-rules layout donl) s t limit x follows good kept

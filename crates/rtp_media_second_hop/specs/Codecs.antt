@@ -5,8 +5,8 @@ use Rattle.h26x_payload_units.specs.Units.{units_of}
 use Rattle.h26x_payload_h264.specs.H264Coding as h264
 use Rattle.h26x_payload_h264.specs.H264Packing.{h264_rules}
 use Rattle.h26x_payload_units.specs.declared.layout.Layout.TheVariants as layouts
-use Rattle.h26x_payload_layered.specs.Coding as layered
-use Rattle.h26x_payload_layered.specs.Packing.{layered_rules, least_limit}
+use Rattle.h26x_payload_h265_h266.specs.Coding as h265_h266
+use Rattle.h26x_payload_h265_h266.specs.Packing.{h265_h266_rules, least_limit}
 use Rattle.payload_core_base.specs.declared.codec.Codec.{Codec}
 use Rattle.payload_core_base.specs.declared.codec.Codec.TheVariants.{H264, H265, H266}
 use Rattle.rtp_media_second_hop.specs.Again.{AnySample, GivesAgain, IsKeptBy, IsSame, Relation}
@@ -16,16 +16,16 @@ use Rattle.rtp_media_second_hop.specs.Kept.{AreKept, HasNone}
 -- set.
 abbrev pub follows_in : Settings → Codec → Relation
 follows_in s H264 = HasNone h264_rules h264.IsSendable
-follows_in s H265 = HasNone (layered_rules layouts.H265 s.donl) (layered.IsSendable layouts.H265)
-follows_in s H266 = HasNone (layered_rules layouts.H266 s.donl) (layered.IsSendable layouts.H266)
+follows_in s H265 = HasNone (h265_h266_rules layouts.H265 s.donl) (h265_h266.IsSendable layouts.H265)
+follows_in s H266 = HasNone (h265_h266_rules layouts.H266 s.donl) (h265_h266.IsSendable layouts.H266)
 follows_in s _ = IsSame
 
 -- Samples whose units come through two hops: all; of H.264, H.265 and H.266 those of which no unit is dropped for its
 -- size or ends in a zero.
 abbrev pub is_kept_in : Settings → Codec → IsKeptBy
 is_kept_in s H264 = λ limit sample. AreKept h264_rules limit (units_of sample)
-is_kept_in s H265 = λ limit sample. AreKept (layered_rules layouts.H265 s.donl) (least_limit limit) (units_of sample)
-is_kept_in s H266 = λ limit sample. AreKept (layered_rules layouts.H266 s.donl) (least_limit limit) (units_of sample)
+is_kept_in s H265 = λ limit sample. AreKept (h265_h266_rules layouts.H265 s.donl) (least_limit limit) (units_of sample)
+is_kept_in s H266 = λ limit sample. AreKept (h265_h266_rules layouts.H266 s.donl) (least_limit limit) (units_of sample)
 is_kept_in s _ = AnySample
 
 -- In every form, and under any settings, the units of each codec are sent again as themselves.

@@ -3,19 +3,7 @@
 ghost use Rattle.std.specs.Prelude.{◌≡◌, ◌↔◌, IsTrue};
 
 use crate::same::Same;
-use sdp_formats_types::{FormatParam as Param, H265ProfileTierLevel, H266ProfileTierLevel};
-
-impl Same for H265ProfileTierLevel {
-    fn is_same(&self, other: &H265ProfileTierLevel) -> bool {
-        self == other
-    }
-}
-
-impl Same for H266ProfileTierLevel {
-    fn is_same(&self, other: &H266ProfileTierLevel) -> bool {
-        self == other
-    }
-}
+use sdp_formats_types::FormatParam as Param;
 
 impl Same for Param {
     fn is_same(&self, other: &Param) -> bool {
@@ -32,8 +20,8 @@ impl Same for Param {
             (Param::Profile(a), Param::Profile(b)) => a == b,
             (Param::LevelIdx(a), Param::LevelIdx(b)) => a == b,
             (Param::Tier(a), Param::Tier(b)) => a == b,
-            (Param::H265ProfileTierLevel(a), Param::H265ProfileTierLevel(b)) => a.is_same(b),
-            (Param::H266ProfileTierLevel(a), Param::H266ProfileTierLevel(b)) => a.is_same(b),
+            (Param::H265ProfileTierLevel(a), Param::H265ProfileTierLevel(b)) => a == b,
+            (Param::H266ProfileTierLevel(a), Param::H266ProfileTierLevel(b)) => a == b,
             (Param::SpropMaxDonDiff(a), Param::SpropMaxDonDiff(b)) => a == b,
             (Param::TelephoneEvents(a), Param::TelephoneEvents(b)) => a == b,
             (Param::BareRange(a), Param::BareRange(b)) => a == b,

@@ -2,8 +2,8 @@
 use Rattle.std.specs.Prelude.{ℕ, Bool, codes}
 use Rattle.serde.specs.Event.{Log, Sends, Then, WritesOption, boolean, unsigned}
 use Rattle.payload_core_tables.specs.Fields.{InMap, WritesField}
-use Rattle.h26x_payload_profiles.specs.H265Fields.{WritesProfileTierLevel as Writes265}
-use Rattle.h26x_payload_profiles.specs.H266Fields.{WritesProfileTierLevel as Writes266}
+use Rattle.h26x_payload_profiles.specs.Fields.{WritesH265 as Writes265}
+use Rattle.h26x_payload_profiles.specs.Fields.{WritesH266 as Writes266}
 use Rattle.sdp_formats_format.specs.declared.format.FormatParams.{FormatParams}
 
 abbrev pub WritesNumber : ℕ → Log → Log → Type 0

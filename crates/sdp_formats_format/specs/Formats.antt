@@ -4,8 +4,8 @@ use Rattle.std.specs.List.{list_any}
 use Rattle.std.specs.Str.{bytes_eq, trim}
 use Rattle.h26x_payload_profiles.specs.H265ProfileTierLevel.{given as given_265}
 use Rattle.h26x_payload_profiles.specs.H266ProfileTierLevel.{given as given_266}
-use Rattle.h26x_payload_profiles.specs.declared.h265.H265ProfileTierLevel.{H265ProfileTierLevel as Level265}
-use Rattle.h26x_payload_profiles.specs.declared.h266.H266ProfileTierLevel.{H266ProfileTierLevel as Level266}
+use Rattle.h26x_payload_profiles.specs.H265ProfileTierLevel.{H265ProfileTierLevel as Level265}
+use Rattle.h26x_payload_profiles.specs.H266ProfileTierLevel.{H266ProfileTierLevel as Level266}
 use Rattle.sdp_formats_format.specs.declared.format.FormatParams.{FormatParams}
 use Rattle.sdp_formats_params.specs.declared.key.Key.{Key}
 use Rattle.sdp_formats_params.specs.declared.key.Key.TheVariants.{MinPTime, Stereo, SpropStereo, UseInbandFec, UseDtx}

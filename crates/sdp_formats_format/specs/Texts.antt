@@ -5,12 +5,12 @@ use Rattle.std.specs.Fmt.{digits, padded_integral, format_spec}
 use Rattle.std.specs.Option.{option_map}
 use Rattle.h26x_payload_profiles.specs.H265Level.{level_id as level_id_265}
 use Rattle.h26x_payload_profiles.specs.H265Profile.{profile_id as profile_id_265}
-use Rattle.h26x_payload_profiles.specs.H265Tier.{tier_flag as tier_flag_265}
+use Rattle.h26x_payload_profiles.specs.Tier.{tier_flag}
 use Rattle.h26x_payload_profiles.specs.H266Level.{level_id as level_id_266}
 use Rattle.h26x_payload_profiles.specs.H266Profile.{profile_id as profile_id_266}
-use Rattle.h26x_payload_profiles.specs.H266Tier.{tier_flag as tier_flag_266}
-use Rattle.h26x_payload_profiles.specs.declared.h265.H265ProfileTierLevel.{H265ProfileTierLevel as Level265}
-use Rattle.h26x_payload_profiles.specs.declared.h266.H266ProfileTierLevel.{H266ProfileTierLevel as Level266}
+use Rattle.h26x_payload_profiles.specs.declared.profile_tier_level.ProfileTierLevel.{ProfileTierLevel}
+use Rattle.h26x_payload_profiles.specs.H265ProfileTierLevel.{H265ProfileTierLevel as Level265}
+use Rattle.h26x_payload_profiles.specs.H266ProfileTierLevel.{H266ProfileTierLevel as Level266}
 use Rattle.sdp_formats_format.specs.declared.format.FormatParams.{FormatParams}
 use Rattle.sdp_formats_params.specs.declared.key.Key.{Key}
 use Rattle.sdp_formats_params.specs.declared.key.Key.TheVariants.{MinPTime, Stereo, SpropStereo, UseInbandFec, UseDtx}
@@ -64,11 +64,14 @@ abbrev pub modes_text : ℕ → List ℕ
 modes_text modes = pair_text ModeSet (listed (set_modes modes))
 
 -- The three numbers of a profile, tier and level, and their text (RFC 7798 7.1, RFC 9328 7.2).
+abbrev pub numbers_of : {P L : Type 0} → (P → ℕ) → (L → ℕ) → ProfileTierLevel P L → ℕ × ℕ × ℕ
+numbers_of profile_id level_id ptl = (profile_id ptl.profile, tier_flag ptl.tier, level_id ptl.level)
+
 abbrev pub numbers_265 : Level265 → ℕ × ℕ × ℕ
-numbers_265 ptl = (profile_id_265 ptl.profile, tier_flag_265 ptl.tier, level_id_265 ptl.level)
+numbers_265 ptl = numbers_of profile_id_265 level_id_265 ptl
 
 abbrev pub numbers_266 : Level266 → ℕ × ℕ × ℕ
-numbers_266 ptl = (profile_id_266 ptl.profile, tier_flag_266 ptl.tier, level_id_266 ptl.level)
+numbers_266 ptl = numbers_of profile_id_266 level_id_266 ptl
 
 abbrev pub level_text : ℕ × ℕ × ℕ → List ℕ
 level_text numbers =

@@ -9,4 +9,4 @@ mod reading;
 mod values;
 
 pub use format::FormatParams;
-pub use printing::{numbers_265, numbers_266};
+pub use printing::numbers_of;

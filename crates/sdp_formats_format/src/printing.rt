@@ -6,10 +6,11 @@ ghost use Rattle.std.specs.Option.{option_map};
 ghost use Rattle.sdp_formats_format.specs.Texts.{number_text, flag_number, flag_text, profile_level_text, range_text};
 ghost use Rattle.sdp_formats_format.specs.Texts.{has_mode, set_modes, behind_commas, listed, modes_text, opus_pieces};
 ghost use Rattle.sdp_formats_format.specs.Texts.{h264_pieces, video_pieces, other_pieces, separated, with_piece};
-ghost use Rattle.sdp_formats_format.specs.Texts.{with_pieces, format_text, level_text, numbers_265, numbers_266};
+ghost use Rattle.sdp_formats_format.specs.Texts.{with_pieces, format_text, level_text, numbers_of};
 
 use crate::format::FormatParams;
-use sdp_formats_params::{H265ProfileTierLevel, H266ProfileTierLevel, Key, bit_of};
+use h26x_payload_profiles::{InTable, ProfileTierLevel};
+use sdp_formats_params::{Key, bit_of};
 use std::alloc::{AllocError, Global};
 
 /// Adds a semicolon where something stands before it.
@@ -193,19 +194,11 @@ fn push_level(text: &mut String, numbers: Option<(u8, u8, u8)>) -> Result<(), Al
     }
 }
 
-/// The three numbers of an H.265 profile, tier and level (RFC 7798 7.1).
-pub fn numbers_265(level: Option<H265ProfileTierLevel>) -> Option<(u8, u8, u8)>
-    ensures { result ≡ option_map numbers_265 level }
-{
-    match level {
-        Some(ptl) => Some((ptl.profile_id(), ptl.tier_flag(), ptl.level_id())),
-        None => None,
-    }
-}
-
-/// The three numbers of an H.266 profile, tier and level (RFC 9328 7.2).
-pub fn numbers_266(level: Option<H266ProfileTierLevel>) -> Option<(u8, u8, u8)>
-    ensures { result ≡ option_map numbers_266 level }
+/// The three numbers of a profile, tier and level (RFC 7798 7.1, RFC 9328 7.2).
+pub fn numbers_of<P: InTable, L: InTable>(
+    level: Option<ProfileTierLevel<P, L>>,
+) -> Option<(u8, u8, u8)>
+    ensures { result ≡ option_map (numbers_of P.number L.number) level }
 {
     match level {
         Some(ptl) => Some((ptl.profile_id(), ptl.tier_flag(), ptl.level_id())),
@@ -241,8 +234,8 @@ fn push_video(text: &mut String, f: &FormatParams) -> Result<(), AllocError>
     push_byte(text, Key::Profile, f.profile)?;
     push_byte(text, Key::LevelIdx, f.level_idx)?;
     push_byte(text, Key::Tier, f.tier)?;
-    push_level(text, numbers_265(f.h265_profile_tier_level))?;
-    push_level(text, numbers_266(f.h266_profile_tier_level))?;
+    push_level(text, numbers_of(f.h265_profile_tier_level))?;
+    push_level(text, numbers_of(f.h266_profile_tier_level))?;
     push_half_word(text, Key::SpropMaxDonDiff, f.sprop_max_don_diff)
 }
 

@@ -8,8 +8,8 @@ use Rattle.std.specs.Str.{trim}
 use Rattle.std.specs.Str.Parse.{without_leading_plus, digits_value}
 use Rattle.std.proofs.lemmas.Bool.Decides.{nat_tests}
 use Rattle.std.proofs.lemmas.Nat.{or_lt, le_or_r, pow_below, pow_pos}
-use Rattle.h26x_payload_profiles.specs.declared.h265.H265ProfileTierLevel.{H265ProfileTierLevel as Level265}
-use Rattle.h26x_payload_profiles.specs.declared.h266.H266ProfileTierLevel.{H266ProfileTierLevel as Level266}
+use Rattle.h26x_payload_profiles.specs.H265ProfileTierLevel.{H265ProfileTierLevel as Level265}
+use Rattle.h26x_payload_profiles.specs.H266ProfileTierLevel.{H266ProfileTierLevel as Level266}
 use Rattle.h26x_payload_profiles.specs.H265ProfileTierLevel.{given as given_265}
 use Rattle.h26x_payload_profiles.specs.H266ProfileTierLevel.{given as given_266}
 use Rattle.sdp_formats_params.specs.Keys.{key_named}

@@ -9,12 +9,11 @@ use Rattle.h26x_payload_profiles.specs.H265ProfileTierLevel.{ComesBack as ComesB
 use Rattle.h26x_payload_profiles.specs.H266ProfileTierLevel.{ComesBack as ComesBack266}
 use Rattle.h26x_payload_profiles.specs.H265Level.{level_id as level_265}
 use Rattle.h26x_payload_profiles.specs.H265Profile.{profile_id as profile_265}
-use Rattle.h26x_payload_profiles.specs.H265Tier.{tier_flag as tier_265}
+use Rattle.h26x_payload_profiles.specs.Tier.{tier_flag}
 use Rattle.h26x_payload_profiles.specs.H266Level.{level_id as level_266}
 use Rattle.h26x_payload_profiles.specs.H266Profile.{profile_id as profile_266}
-use Rattle.h26x_payload_profiles.specs.H266Tier.{tier_flag as tier_266}
-use Rattle.h26x_payload_profiles.specs.declared.h265.H265ProfileTierLevel.{H265ProfileTierLevel as Level265}
-use Rattle.h26x_payload_profiles.specs.declared.h266.H266ProfileTierLevel.{H266ProfileTierLevel as Level266}
+use Rattle.h26x_payload_profiles.specs.H265ProfileTierLevel.{H265ProfileTierLevel as Level265}
+use Rattle.h26x_payload_profiles.specs.H266ProfileTierLevel.{H266ProfileTierLevel as Level266}
 use Rattle.sdp_formats_streams.specs.PrintedPairs.{PairsComeBack}
 use Rattle.sdp_formats_params.specs.declared.param.FormatParam.{FormatParam}
 use Rattle.sdp_formats_params.specs.declared.param.FormatParam.TheVariants as param
@@ -23,7 +22,7 @@ use Rattle.sdp_formats_row_attributes.specs.Attributes.{all_params, given_param,
 use Rattle.sdp_formats_format_laws.proofs.KeyedLists.{keyed_on_line, keyed_read}
 use Rattle.sdp_formats_format_laws.proofs.LevelLists.{IsRising, level_back, weaker}
 use Rattle.sdp_formats_format_laws.proofs.KeyRanks.{rank_of}
-use Rattle.sdp_formats_format_laws.proofs.LevelNumbers.{level_of_265, level_of_266}
+use Rattle.sdp_formats_format_laws.proofs.LevelNumbers.{reads_265, reads_266}
 use Rattle.sdp_formats_format_laws.specs.Keyed.{AreKeyed, IsKeyed, IsOrdinary}
 use Rattle.sdp_formats_format_laws.specs.Laws.{IsReadBack}
 use Rattle.sdp_formats_format_laws.specs.Ranges.{AtMostOne, IsInRange, IsModes}
@@ -183,12 +182,12 @@ with_levels pairs one other f None None five six h id apart none =
 with_levels pairs one other f (Some v) None five six h id apart none =
     subst IsReadBack (sym (by_levels f (Some v) None five six))
     (level_back pairs (given f 0 12) (given f 14 4) (param.H265ProfileTierLevel v)
-    (profile_265 v.profile) (tier_265 v.tier) (level_265 v.level) (level_of_265 one v) (front_rising f h id)
+    (profile_265 v.profile) (tier_flag v.tier) (level_265 v.level) (reads_265 one v) (front_rising f h id)
     (back_rising f h none))
 with_levels pairs one other f None (Some v) five six h id apart none =
     subst IsReadBack (sym (by_levels f None (Some v) five six))
     (level_back pairs (given f 0 12) (given f 14 4) (param.H266ProfileTierLevel v)
-    (profile_266 v.profile) (tier_266 v.tier) (level_266 v.level) (level_of_266 other v) (front_rising f h id)
+    (profile_266 v.profile) (tier_flag v.tier) (level_266 v.level) (reads_266 other v) (front_rising f h id)
     (back_rising f h none))
 with_levels pairs one other f (Some v) (Some w) five six h id apart none = absurd apart
 

@@ -1,19 +1,18 @@
 -- Rows, and all that they hold, come back.
-use Rattle.std.proofs.Common.{◌≡◌, [], ◌∷◌, refl}
+use Rattle.std.proofs.Common.{◌≡◌, ℕ, List, [], ◌∷◌, refl}
 use Rattle.serde_json.specs.Data.{object, no_members}
-use Rattle.h26x_payload_profiles.specs.H265ProfileTierLevel.{fallback}
-use Rattle.h26x_payload_profiles.specs.H266ProfileTierLevel.{fallback as h266_fallback}
-use Rattle.h26x_payload_profiles.specs.declared.h265.H265ProfileTierLevel.{H265ProfileTierLevel}
-use Rattle.h26x_payload_profiles.specs.declared.h266.H266ProfileTierLevel.{H266ProfileTierLevel}
+use Rattle.h26x_payload_profiles.specs.ProfileTierLevel.{fallback}
+use Rattle.h26x_payload_profiles.specs.declared.profile_tier_level.ProfileTierLevel.{ProfileTierLevel}
+use Rattle.payload_core_tables.specs.Names.{HasOwnNames}
 use Rattle.sdp_formats_format.specs.declared.format.FormatParams.{FormatParams}
 use Rattle.sdp_formats_rows.specs.declared.spec.CodecSpec.{CodecSpec}
 use Rattle.sdp_formats_rows.specs.Rows.{Row}
 use Rattle.sdp_formats_format.specs.Formats.{no_format}
 use Rattle.sdp_formats_json.specs.Names.{field_name}
 use Rattle.sdp_formats_json.specs.Entries.{entry, optional, put_all, put_groups}
-use Rattle.sdp_formats_json.specs.NamedLaws.{codec_known, h265_profile_known, h265_tier_known, h265_level_known}
-use Rattle.sdp_formats_json.specs.NamedLaws.{h266_profile_known, h266_tier_known, h266_level_known}
-use Rattle.sdp_formats_json.specs.Levels.{h265, h265_entries, h266, h266_entries}
+use Rattle.sdp_formats_json.specs.NamedLaws.{codec_known, h265_profile_known, h265_level_known}
+use Rattle.sdp_formats_json.specs.NamedLaws.{h266_profile_known, h266_level_known, tier_known}
+use Rattle.sdp_formats_json.specs.Levels.{h265, h266, level_entries, level_of}
 use Rattle.sdp_formats_json.specs.Formats.{format, opus_entries, video_entries, other_entries}
 use Rattle.sdp_formats_json.specs.Rows.{spec, spec_entries, blank_spec, row_shape, row_entries, blank_row}
 use Rattle.sdp_formats_json.specs.Rows.{codec_entries, feedback_entries, lock_entries}
@@ -22,49 +21,43 @@ use Rattle.sdp_formats_json.proofs.Sound.{byte-sound, half_word-sound, word-soun
 use Rattle.sdp_formats_json.proofs.Sound.{flag-sound, word_of-sound, entry-sound, optional-sound, object-sound}
 use Rattle.sdp_formats_json.proofs.Sound.{groups-sound}
 
-h265-sounds : AllSound h265_entries 0
-h265-sounds = (
-  entry-sound _ _ _ _ 0 (word_of-sound _ _ 0 h265_profile_known),
+level-sounds : {P L : Type 0} (profile_name : P → List ℕ) (profiles : List P) (level_name : L → List ℕ)
+    (levels : List L) → HasOwnNames profile_name profiles → HasOwnNames level_name levels
+    → AllSound (level_entries profile_name profiles level_name levels) 0
+level-sounds profile_name profiles level_name levels profile_known level_known = (
+  entry-sound _ _ _ _ 0 (word_of-sound _ _ 0 profile_known),
   (
-    entry-sound _ _ _ _ 0 (word_of-sound _ _ 0
-        h265_tier_known),
-    (entry-sound _ _ _ _ 0 (word_of-sound _ _ 0 h265_level_known), tt),
+    entry-sound _ _ _ _ 0 (word_of-sound _ _ 0 tier_known),
+    (entry-sound _ _ _ _ 0 (word_of-sound _ _ 0 level_known), tt),
   ),
 )
 
-h265-found : (r : H265ProfileTierLevel) → AllFound h265_entries (object (put_all h265_entries r no_members)) r
+level-found : {P L : Type 0} (profile_name : P → List ℕ) (profiles : List P) (level_name : L → List ℕ) (levels : List L)
+    (r : ProfileTierLevel P L) → AllFound (level_entries profile_name profiles level_name levels)
+    (object (put_all (level_entries profile_name profiles level_name levels) r no_members)) r
 unfolding entry field_name
-h265-found r = (refl, (refl, (refl, tt)))
+level-found profile_name profiles level_name levels r = (refl, (refl, (refl, tt)))
 
-h265-moved : (r : H265ProfileTierLevel) → moved h265_entries r fallback ≡ r
+level-moved : {P L : Type 0} (profile_name : P → List ℕ) (profiles : List P) (level_name : L → List ℕ) (levels : List L)
+    (start r : ProfileTierLevel P L) → moved (level_entries profile_name profiles level_name levels) r start ≡ r
 unfolding entry
-h265-moved r = refl
+level-moved profile_name profiles level_name levels start r = refl
+
+level-sound : {P L : Type 0} (profile_name : P → List ℕ) (profiles : List P) (profile : P)
+    (level_name : L → List ℕ) (levels : List L) (level : L) → HasOwnNames profile_name profiles
+    → HasOwnNames level_name levels → Sound (level_of profile_name profiles profile level_name levels level) 1
+unfolding level_of
+level-sound profile_name profiles profile level_name levels level profile_known level_known =
+    object-sound (level_entries profile_name profiles level_name levels) (fallback profile level) 0
+    (level-sounds profile_name profiles level_name levels profile_known level_known)
+    (level-found profile_name profiles level_name levels)
+    (level-moved profile_name profiles level_name levels (fallback profile level))
 
 h265-sound : Sound h265 1
-unfolding h265
-h265-sound = object-sound h265_entries fallback 0 h265-sounds h265-found h265-moved
-
-h266-sounds : AllSound h266_entries 0
-h266-sounds = (
-  entry-sound _ _ _ _ 0 (word_of-sound _ _ 0 h266_profile_known),
-  (
-    entry-sound _ _ _ _ 0 (word_of-sound _ _ 0
-        h266_tier_known),
-    (entry-sound _ _ _ _ 0 (word_of-sound _ _ 0 h266_level_known), tt),
-  ),
-)
-
-h266-found : (r : H266ProfileTierLevel) → AllFound h266_entries (object (put_all h266_entries r no_members)) r
-unfolding entry field_name
-h266-found r = (refl, (refl, (refl, tt)))
-
-h266-moved : (r : H266ProfileTierLevel) → moved h266_entries r h266_fallback ≡ r
-unfolding entry
-h266-moved r = refl
+h265-sound = level-sound _ _ _ _ _ _ h265_profile_known h265_level_known
 
 h266-sound : Sound h266 1
-unfolding h266
-h266-sound = object-sound h266_entries h266_fallback 0 h266-sounds h266-found h266-moved
+h266-sound = level-sound _ _ _ _ _ _ h266_profile_known h266_level_known
 
 opus-sounds : AllSound opus_entries 1
 unfolding opus_entries

@@ -3,28 +3,25 @@ use Rattle.std.specs.Prelude.{◌≡◌, Some, refl}
 use Rattle.payload_core_tables.specs.Names.{with_name}
 use Rattle.payload_core_base.specs.CodecNames.{variant_name as codec_name}
 use Rattle.payload_core_base.specs.Codecs.{codecs}
-use Rattle.h26x_payload_profiles.specs.H265Names.{profile_name as h265_profile_name, tier_name as h265_tier_name}
+use Rattle.h26x_payload_profiles.specs.H265Names.{profile_name as h265_profile_name}
 use Rattle.h26x_payload_profiles.specs.H265Names.{level_name as h265_level_name}
 use Rattle.h26x_payload_profiles.specs.H265Profile.{profiles as h265_profiles}
-use Rattle.h26x_payload_profiles.specs.H265Tier.{tiers as h265_tiers}
+use Rattle.h26x_payload_profiles.specs.Tier.{tier_name, tiers}
 use Rattle.h26x_payload_profiles.specs.H265Level.{levels as h265_levels}
-use Rattle.h26x_payload_profiles.specs.H266Names.{profile_name as h266_profile_name, tier_name as h266_tier_name}
+use Rattle.h26x_payload_profiles.specs.H266Names.{profile_name as h266_profile_name}
 use Rattle.h26x_payload_profiles.specs.H266Names.{level_name as h266_level_name}
 use Rattle.h26x_payload_profiles.specs.H266Profile.{profiles as h266_profiles}
-use Rattle.h26x_payload_profiles.specs.H266Tier.{tiers as h266_tiers}
 use Rattle.h26x_payload_profiles.specs.H266Level.{levels as h266_levels}
 use Rattle.payload_core_base.specs.declared.codec.Codec.{Codec}
 use Rattle.payload_core_base.specs.declared.codec.Codec.TheVariants as codec
 use Rattle.h26x_payload_profiles.specs.declared.h265.H265Profile.{H265Profile}
 use Rattle.h26x_payload_profiles.specs.declared.h265.H265Profile.TheVariants as h265_profile
-use Rattle.h26x_payload_profiles.specs.declared.h265.H265Tier.{H265Tier}
-use Rattle.h26x_payload_profiles.specs.declared.h265.H265Tier.TheVariants as h265_tier
+use Rattle.h26x_payload_profiles.specs.declared.tier.Tier.{Tier}
+use Rattle.h26x_payload_profiles.specs.declared.tier.Tier.TheVariants as tier
 use Rattle.h26x_payload_profiles.specs.declared.h265.H265Level.{H265Level}
 use Rattle.h26x_payload_profiles.specs.declared.h265.H265Level.TheVariants as h265_level
 use Rattle.h26x_payload_profiles.specs.declared.h266.H266Profile.{H266Profile}
 use Rattle.h26x_payload_profiles.specs.declared.h266.H266Profile.TheVariants as h266_profile
-use Rattle.h26x_payload_profiles.specs.declared.h266.H266Tier.{H266Tier}
-use Rattle.h26x_payload_profiles.specs.declared.h266.H266Tier.TheVariants as h266_tier
 use Rattle.h26x_payload_profiles.specs.declared.h266.H266Level.{H266Level}
 use Rattle.h26x_payload_profiles.specs.declared.h266.H266Level.TheVariants as h266_level
 
@@ -36,9 +33,9 @@ pub h265_profile_known : (x : H265Profile) → with_name h265_profile_name h265_
 h265_profile_known h265_profile.Main = refl
 h265_profile_known _ = refl
 
-pub h265_tier_known : (x : H265Tier) → with_name h265_tier_name h265_tiers (h265_tier_name x) ≡ Some x
-h265_tier_known h265_tier.Main = refl
-h265_tier_known _ = refl
+pub tier_known : (x : Tier) → with_name tier_name tiers (tier_name x) ≡ Some x
+tier_known tier.Main = refl
+tier_known _ = refl
 
 pub h265_level_known : (x : H265Level) → with_name h265_level_name h265_levels (h265_level_name x) ≡ Some x
 h265_level_known h265_level.Level1 = refl
@@ -47,10 +44,6 @@ h265_level_known _ = refl
 pub h266_profile_known : (x : H266Profile) → with_name h266_profile_name h266_profiles (h266_profile_name x) ≡ Some x
 h266_profile_known h266_profile.Main10 = refl
 h266_profile_known _ = refl
-
-pub h266_tier_known : (x : H266Tier) → with_name h266_tier_name h266_tiers (h266_tier_name x) ≡ Some x
-h266_tier_known h266_tier.Main = refl
-h266_tier_known _ = refl
 
 pub h266_level_known : (x : H266Level) → with_name h266_level_name h266_levels (h266_level_name x) ≡ Some x
 h266_level_known h266_level.Level1 = refl

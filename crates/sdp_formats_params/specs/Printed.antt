@@ -5,10 +5,9 @@ use Rattle.std.specs.Prelude.{codes}
 use Rattle.std.specs.Fmt.{decimal, digits, padded_integral, format_spec}
 use Rattle.sdp_formats_forms.specs.Joined.{spelled, joined, each_behind}
 use Rattle.h26x_payload_profiles.specs.H265Profile.{profile_id as profile_265}
-use Rattle.h26x_payload_profiles.specs.H265Tier.{tier_flag as tier_265}
+use Rattle.h26x_payload_profiles.specs.Tier.{tier_flag}
 use Rattle.h26x_payload_profiles.specs.H265Level.{level_id as level_265}
 use Rattle.h26x_payload_profiles.specs.H266Profile.{profile_id as profile_266}
-use Rattle.h26x_payload_profiles.specs.H266Tier.{tier_flag as tier_266}
 use Rattle.h26x_payload_profiles.specs.H266Level.{level_id as level_266}
 use Rattle.sdp_formats_params.specs.declared.pairs.Pair.{Pair}
 use Rattle.sdp_formats_params.specs.declared.param.FormatParam.{FormatParam}
@@ -70,8 +69,8 @@ param_text (ProfileId v) = codes "profile-id=" ++ decimal v
 param_text (Profile v) = codes "profile=" ++ decimal v
 param_text (LevelIdx v) = codes "level-idx=" ++ decimal v
 param_text (Tier v) = codes "tier=" ++ decimal v
-param_text (H265ProfileTierLevel v) = levels_text (profile_265 v.profile) (tier_265 v.tier) (level_265 v.level)
-param_text (H266ProfileTierLevel v) = levels_text (profile_266 v.profile) (tier_266 v.tier) (level_266 v.level)
+param_text (H265ProfileTierLevel v) = levels_text (profile_265 v.profile) (tier_flag v.tier) (level_265 v.level)
+param_text (H266ProfileTierLevel v) = levels_text (profile_266 v.profile) (tier_flag v.tier) (level_266 v.level)
 param_text (SpropMaxDonDiff v) = codes "sprop-max-don-diff=" ++ decimal v
 param_text (TelephoneEvents v) = codes "0-" ++ decimal v
 param_text (BareRange v) = codes "0-" ++ decimal v

@@ -1,4 +1,3 @@
-pub mod Points
 pub mod H264Score
-pub mod H265Score
-pub mod H266Score
+pub mod LevelScore
+pub mod Points

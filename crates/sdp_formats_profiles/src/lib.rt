@@ -2,11 +2,9 @@
 #![tactic(auto)]
 
 mod h264;
-mod h265;
-mod h266;
+mod levels;
 mod points;
 
 pub use h26x_payload_profiles::{H264ProfileLevel, H265ProfileTierLevel, H266ProfileTierLevel};
 pub use h264::{GivenH264, h264_score};
-pub use h265::{GivenH265, h265_agreed, h265_score};
-pub use h266::{GivenH266, h266_agreed, h266_score};
+pub use levels::{GivenH265, GivenH266, GivenLevel, level_agreed, level_score};

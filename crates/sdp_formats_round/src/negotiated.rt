@@ -5,7 +5,7 @@ ghost use Rattle.payload_core_base.specs.declared.codec.Codec.TheVariants.{AmrWb
 ghost use Rattle.sdp_formats_round.specs.Negotiated.{negotiated, negotiated_channels, negotiated_format, with_h265};
 ghost use Rattle.sdp_formats_round.specs.Negotiated.{with_h266};
 
-use sdp_formats_profiles::{GivenH265, GivenH266, h265_agreed, h266_agreed};
+use sdp_formats_profiles::{GivenH265, GivenH266, level_agreed};
 use sdp_formats_rows::{Codec, CodecSpec, FormatParams};
 
 fn with_events(ours: FormatParams, theirs: &FormatParams) -> FormatParams
@@ -52,7 +52,7 @@ fn negotiated_h265(ours: FormatParams, theirs: &FormatParams) -> FormatParams
         level: theirs.h265_profile_tier_level,
         profile_id: theirs.profile_id,
     };
-    with_h265(ours, theirs, h265_agreed(&own, &given))
+    with_h265(ours, theirs, level_agreed(&own, &given))
 }
 
 fn negotiated_h266(ours: FormatParams, theirs: &FormatParams) -> FormatParams
@@ -66,7 +66,7 @@ fn negotiated_h266(ours: FormatParams, theirs: &FormatParams) -> FormatParams
         level: theirs.h266_profile_tier_level,
         profile_id: theirs.profile_id,
     };
-    with_h266(ours, theirs, h266_agreed(&own, &given))
+    with_h266(ours, theirs, level_agreed(&own, &given))
 }
 
 fn negotiated_speech(ours: FormatParams, theirs: &FormatParams) -> FormatParams

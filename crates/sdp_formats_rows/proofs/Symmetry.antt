@@ -5,19 +5,16 @@ use Rattle.std.specs.Prelude.{unwrap_or}
 use Rattle.std.specs.Option.{option_map}
 use Rattle.std.proofs.lemmas.Grind.{common_steps}
 use Rattle.h26x_payload_profiles.specs.H265Profile as profile_265
-use Rattle.h26x_payload_profiles.specs.H265Tier as tier_265
+use Rattle.h26x_payload_profiles.specs.Tier.{tier_flag}
 use Rattle.h26x_payload_profiles.specs.H266Profile as profile_266
-use Rattle.h26x_payload_profiles.specs.H266Tier as tier_266
 use Rattle.h26x_payload_h264_profiles.specs.declared.h264.H264ProfileLevel.{H264ProfileLevel}
-use Rattle.h26x_payload_profiles.specs.declared.h265.H265ProfileTierLevel.{H265ProfileTierLevel}
-use Rattle.h26x_payload_profiles.specs.declared.h266.H266ProfileTierLevel.{H266ProfileTierLevel}
+use Rattle.h26x_payload_profiles.specs.declared.profile_tier_level.ProfileTierLevel.{ProfileTierLevel}
 use Rattle.payload_core_base.specs.declared.codec.Codec.{Codec}
 use Rattle.payload_core_base.specs.declared.codec.Codec.TheVariants.{Opus, AmrWb, H264, H265}
 use Rattle.payload_core_base.specs.declared.codec.Codec.TheVariants.{H266, Vp9, Av1, Tele}
 use Rattle.sdp_formats_profiles.specs.Points.{points_if, distance, level_points}
 use Rattle.sdp_formats_profiles.specs.H264Score as h264
-use Rattle.sdp_formats_profiles.specs.H265Score as h265
-use Rattle.sdp_formats_profiles.specs.H266Score as h266
+use Rattle.sdp_formats_profiles.specs.LevelScore as levels
 use Rattle.sdp_formats_format.specs.declared.format.FormatParams.{FormatParams}
 use Rattle.sdp_formats_rows.specs.declared.spec.CodecSpec.{CodecSpec}
 use Rattle.sdp_formats_rows.specs.Codecs.{codec_number, is_codec}
@@ -144,37 +141,26 @@ h264_sym a b =
     choose _ _ _ _ None (eq_sym (unwrap_or a.packetization_mode 0) (unwrap_or b.packetization_mode 0))
     (profiles_264_sym (h264.level_given a.profile_level_id) (h264.level_given b.profile_level_id))
 
-known_265_sym : (a b : H265ProfileTierLevel) → h265.known_score a b ≡ h265.known_score b a
-known_265_sym a b =
+known_sym : {P L : Type 0} (id : P → ℕ) (place : L → ℕ) (a b : ProfileTierLevel P L)
+    → levels.known_score id place a b ≡ levels.known_score id place b a
+known_sym id place a b =
     points_sym _ _ _ _
-    (both (eq_sym (profile_265.profile_id a.profile) (profile_265.profile_id b.profile))
-    (eq_sym (tier_265.tier_flag a.tier) (tier_265.tier_flag b.tier)))
-    (level_sym (h265.place a.level) (h265.place b.level))
+    (both (eq_sym (id a.profile) (id b.profile)) (eq_sym (tier_flag a.tier) (tier_flag b.tier)))
+    (level_sym (place a.level) (place b.level))
 
-levels_265_sym : (a : Option H265ProfileTierLevel) (p : Option ℕ) (b : Option H265ProfileTierLevel) (q : Option ℕ)
-    → h265.levels_score a p b q ≡ h265.levels_score b q a p
-levels_265_sym (Some a) p (Some b) q = known_265_sym a b
-levels_265_sym None p None q = ap (λ t. points_if t 90) (eq_sym (h265.profile_alone None p) (h265.profile_alone None q))
-levels_265_sym None p (Some b) q =
-    ap (λ t. points_if t 90) (eq_sym (h265.profile_alone None p) (h265.profile_alone (Some b) q))
-levels_265_sym (Some a) p None q =
-    ap (λ t. points_if t 90) (eq_sym (h265.profile_alone (Some a) p) (h265.profile_alone None q))
-
-known_266_sym : (a b : H266ProfileTierLevel) → h266.known_score a b ≡ h266.known_score b a
-known_266_sym a b =
-    points_sym _ _ _ _
-    (both (eq_sym (profile_266.profile_id a.profile) (profile_266.profile_id b.profile))
-    (eq_sym (tier_266.tier_flag a.tier) (tier_266.tier_flag b.tier)))
-    (level_sym (h266.place a.level) (h266.place b.level))
-
-levels_266_sym : (a : Option H266ProfileTierLevel) (p : Option ℕ) (b : Option H266ProfileTierLevel) (q : Option ℕ)
-    → h266.levels_score a p b q ≡ h266.levels_score b q a p
-levels_266_sym (Some a) p (Some b) q = known_266_sym a b
-levels_266_sym None p None q = ap (λ t. points_if t 90) (eq_sym (h266.profile_alone None p) (h266.profile_alone None q))
-levels_266_sym None p (Some b) q =
-    ap (λ t. points_if t 90) (eq_sym (h266.profile_alone None p) (h266.profile_alone (Some b) q))
-levels_266_sym (Some a) p None q =
-    ap (λ t. points_if t 90) (eq_sym (h266.profile_alone (Some a) p) (h266.profile_alone None q))
+levels_sym : {P L : Type 0} (id : P → ℕ) (absent : P) (place : L → ℕ) (a : Option (ProfileTierLevel P L)) (p : Option ℕ)
+    (b : Option (ProfileTierLevel P L)) (q : Option ℕ)
+    → levels.levels_score id absent place a p b q ≡ levels.levels_score id absent place b q a p
+levels_sym id absent place (Some a) p (Some b) q = known_sym id place a b
+levels_sym {P} {L} id absent place None p None q =
+    ap (λ t. points_if t 90)
+    (eq_sym (levels.profile_alone {L = L} id absent None p) (levels.profile_alone {L = L} id absent None q))
+levels_sym {P} {L} id absent place None p (Some b) q =
+    ap (λ t. points_if t 90)
+    (eq_sym (levels.profile_alone {L = L} id absent None p) (levels.profile_alone id absent (Some b) q))
+levels_sym {P} {L} id absent place (Some a) p None q =
+    ap (λ t. points_if t 90)
+    (eq_sym (levels.profile_alone id absent (Some a) p) (levels.profile_alone {L = L} id absent None q))
 
 vp9_sym : (a b : FormatParams) → vp9_score a b ≡ vp9_score b a
 vp9_sym a b = ap (λ t. points_if t 100) (eq_sym (unwrap_or a.profile_id 0) (unwrap_or b.profile_id 0))
@@ -189,9 +175,11 @@ format_score_sym : (c : Codec) (a b : FormatParams) → format_score c a b ≡ f
 format_score_sym Opus a b = ap (λ n. Some n) (opus_sym a b)
 format_score_sym H264 a b = h264_sym a b
 format_score_sym H265 a b =
-    levels_265_sym a.h265_profile_tier_level a.profile_id b.h265_profile_tier_level b.profile_id
+    levels_sym profile_265.profile_id profile_265.fallback_profile levels.place_265
+    a.h265_profile_tier_level a.profile_id b.h265_profile_tier_level b.profile_id
 format_score_sym H266 a b =
-    levels_266_sym a.h266_profile_tier_level a.profile_id b.h266_profile_tier_level b.profile_id
+    levels_sym profile_266.profile_id profile_266.fallback_profile levels.place_266
+    a.h266_profile_tier_level a.profile_id b.h266_profile_tier_level b.profile_id
 format_score_sym Vp9 a b = vp9_sym a b
 format_score_sym Av1 a b = av1_sym a b
 format_score_sym other a b = refl

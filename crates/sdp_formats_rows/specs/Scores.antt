@@ -5,11 +5,8 @@ use Rattle.payload_core_base.specs.declared.codec.Codec.TheVariants.{Opus, AmrWb
 use Rattle.payload_core_base.specs.declared.codec.Codec.TheVariants.{H266, Vp9, Av1, Tele}
 use Rattle.sdp_formats_profiles.specs.Points.{points_if}
 use Rattle.sdp_formats_profiles.specs.H264Score.{h264_score}
-use Rattle.sdp_formats_profiles.specs.H265Score.{h265_score}
-use Rattle.sdp_formats_profiles.specs.H266Score.{h266_score}
+use Rattle.sdp_formats_profiles.specs.LevelScore.{GivenH265, GivenH266, h265_score, h266_score}
 use Rattle.sdp_formats_profiles.specs.declared.h264.GivenH264.{GivenH264}
-use Rattle.sdp_formats_profiles.specs.declared.h265.GivenH265.{GivenH265}
-use Rattle.sdp_formats_profiles.specs.declared.h266.GivenH266.{GivenH266}
 use Rattle.sdp_formats_format.specs.declared.format.FormatParams.{FormatParams}
 use Rattle.sdp_formats_rows.specs.declared.spec.CodecSpec.{CodecSpec}
 use Rattle.sdp_formats_rows.specs.Codecs.{is_codec}

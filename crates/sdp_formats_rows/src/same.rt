@@ -5,7 +5,7 @@ ghost use Rattle.std.specs.Option.{option_map};
 ghost use Rattle.sdp_formats_rows.specs.Same.{alike, same, same_flag, same_format, same_h264, same_levels};
 ghost use Rattle.sdp_formats_rows.specs.Same.{same_numbers, same_opus, same_speech, same_video};
 
-use sdp_formats_format::{FormatParams, numbers_265, numbers_266};
+use sdp_formats_format::{FormatParams, numbers_of};
 
 /// Is it the same byte, or none at both?
 pub(crate) fn same_byte(a: Option<u8>, b: Option<u8>) -> bool
@@ -98,11 +98,11 @@ fn same_levels(a: &FormatParams, b: &FormatParams) -> bool
     ensures { result ≡ same_levels a.now b.now }
 {
     same_numbers(
-        numbers_265(a.h265_profile_tier_level),
-        numbers_265(b.h265_profile_tier_level),
+        numbers_of(a.h265_profile_tier_level),
+        numbers_of(b.h265_profile_tier_level),
     ) && same_numbers(
-        numbers_266(a.h266_profile_tier_level),
-        numbers_266(b.h266_profile_tier_level),
+        numbers_of(a.h266_profile_tier_level),
+        numbers_of(b.h266_profile_tier_level),
     )
 }
 

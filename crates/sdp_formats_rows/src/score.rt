@@ -12,7 +12,7 @@ use crate::same::{alike, same_byte, same_flag, same_format};
 use crate::spec::CodecSpec;
 use payload_core_base::Codec;
 use sdp_formats_format::FormatParams;
-use sdp_formats_profiles::{GivenH264, GivenH265, GivenH266, h264_score, h265_score, h266_score};
+use sdp_formats_profiles::{GivenH264, GivenH265, GivenH266, h264_score, level_score};
 
 /// What is taken off where values aren't the same.
 fn penalty(is_same: bool, points: usize) -> usize
@@ -121,8 +121,8 @@ fn format_score(codec: Codec, a: &FormatParams, b: &FormatParams) -> Option<usiz
     match codec {
         Codec::Opus => Some(opus_score(a, b)),
         Codec::H264 => h264_score(&given_264(a), &given_264(b)),
-        Codec::H265 => h265_score(&given_265(a), &given_265(b)),
-        Codec::H266 => h266_score(&given_266(a), &given_266(b)),
+        Codec::H265 => level_score(&given_265(a), &given_265(b)),
+        Codec::H266 => level_score(&given_266(a), &given_266(b)),
         Codec::Vp9 => vp9_score(a, b),
         Codec::Av1 => av1_score(a, b),
         _ => None,

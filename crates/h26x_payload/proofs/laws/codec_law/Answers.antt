@@ -11,7 +11,7 @@ returns-clause-codec c = keep_codec_law (record {
   vp9 = c.vp9_law.ensures.codec;
   av1 = c.av1_law.ensures.codec;
   h264 = c.h264_law.ensures.codec;
-  layered = c.layered_law.ensures.codec;
+  h265_h266 = c.h265_h266_law.ensures.codec;
 })
 
 pub returns-clause-codec_in_forms : goal.returns-clause-codec_in_forms
@@ -24,7 +24,7 @@ returns-clause-codec_in_forms c = keep_codec_law_in (record {
   vp9 = c.vp9_law.ensures.codec;
   av1 = c.av1_law.ensures.codec;
   h264 = c.h264_law.ensures.codec;
-  layered = c.layered_law.ensures.codec;
+  h265_h266 = c.h265_h266_law.ensures.codec;
 })
 
 pub returns-clause-units_in_forms : goal.returns-clause-units_in_forms
