@@ -1,8 +1,13 @@
 //! What printed parameters are read as.
 
+ghost use Rattle.std.specs.Prelude.{◌≡◌};
+ghost use Rattle.h26x_payload_profiles.specs.H265ProfileTierLevel.{fallback as h265_fallback};
+ghost use Rattle.h26x_payload_profiles.specs.H266ProfileTierLevel.{fallback as h266_fallback};
 ghost use Rattle.sdp_formats_format_laws.specs.Laws.{LinksComeBack, PlainParametersComeBack};
 
-use h26x_payload_profiles::{h265_tables_law, h266_tables_law};
+use h26x_payload_profiles::{
+    H265ProfileTierLevel, H266ProfileTierLevel, h265_tables_law, h266_tables_law,
+};
 use sdp_formats_streams::{pairs_law, printed_pairs_law};
 
 /// The parameters of a plain row, as its section lists them, are read as they are printed (RFC 8866 6.15): the same
@@ -23,4 +28,16 @@ pub fn links_law()
 {
     pairs_law();
     printed_pairs_law();
+}
+
+/// The constants `FALLBACK`, which stand where a session text says nothing: the numbers 1, 0 and 93 of H.265 (RFC 7798
+/// 7.1), and 1, 0 and 51 of H.266 (RFC 9328 7.2).
+pub fn fallbacks_law() -> (H265ProfileTierLevel, H266ProfileTierLevel)
+    ensures h265 { result.0 ≡ h265_fallback }
+    ensures h266 { result.1 ≡ h266_fallback }
+{
+    (
+        H265ProfileTierLevel::FALLBACK,
+        H266ProfileTierLevel::FALLBACK,
+    )
 }

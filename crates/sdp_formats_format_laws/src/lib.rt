@@ -3,4 +3,4 @@
 
 mod laws;
 
-pub use laws::{links_law, plain_parameters_law};
+pub use laws::{fallbacks_law, links_law, plain_parameters_law};
