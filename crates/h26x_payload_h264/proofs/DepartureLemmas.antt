@@ -10,6 +10,7 @@ use Rattle.h26x_payload_units.specs.Departures.Departure.{Together, Alone}
 use Rattle.h26x_payload_units.proofs.DepartureLemmas.{Each, departures-each}
 use Rattle.h26x_payload_h264.specs.H264Coding.{AreSendable, IsSendable}
 use Rattle.h26x_payload_h264.specs.H264Packing.{can_join, can_leave, h264_rules, stap_a}
+use Rattle.h26x_payload_units.proofs.ReadingLemmas.{HasByte}
 
 -- what leaves at a limit
 abbrev pub IsFitting : ℕ → Departure → Type 0
@@ -20,9 +21,6 @@ IsFitting limit (Alone unit) = (0 < length unit) × (can_leave limit unit ≡ tr
 abbrev pub IsGood : Departure → Type 0
 IsGood (Together sets) = Unit {0}
 IsGood (Alone unit) = IsSendable unit
-
-abbrev pub HasByte : List ℕ → Type 0
-HasByte u = 0 < length u
 
 both : (x y : Bool) → (x && y) ≡ true → (x ≡ true) × (y ≡ true)
 both true true e = (refl, refl)

@@ -3,7 +3,6 @@ use Rattle.std.proofs.Common.{◌≡◌, ℕ, Bool, true, false, List, [], ◌�
 use Rattle.std.proofs.Common.{refl, sym, ap, subst, ◌∙◌}
 use Rattle.std.specs.Prelude.{◌||◌}
 use mathlib.Core.Bool.{false≢true}
-use Rattle.std.proofs.lemmas.List.{append-nil}
 use Rattle.payload_core_base.specs.Format.{Fragment, Reading, Run, read_all, run_after}
 use Rattle.payload_core_base.specs.declared.error.PacketError.{PacketError}
 use Rattle.payload_core_base.specs.declared.extra.CodecExtra.{CodecExtra}
@@ -12,40 +11,20 @@ use Rattle.h26x_payload_units.specs.declared.layout.PacketKind.{PacketKind}
 use Rattle.h26x_payload_units.specs.declared.layout.PacketKind.TheVariants.{Single, Aggregate}
 use Rattle.h26x_payload_units.specs.declared.layout.PacketKind.TheVariants.{Fragment as FragmentKind, Unhandled}
 use Rattle.h26x_payload_units.specs.Aggregates.{aggregated}
-use Rattle.h26x_payload_units.specs.Fragments.{continued, open_after, put_behind, written_at}
-use Rattle.h26x_payload_h264.specs.H264Fragments.{FragmentLaw, ends_by, h264_view, header_by, is_fragment_kind}
-use Rattle.h26x_payload_h264.specs.H264Fragments.{is_fu_a, part_by, run_of, starts_by}
+use Rattle.h26x_payload_units.specs.Fragments.{open_after, put_behind, written_at}
+use Rattle.h26x_payload_h264.specs.H264Fragments.{FragmentLaw, h264_view, header_by}
+use Rattle.h26x_payload_h264.specs.H264Fragments.{is_fu_a, part_by, run_of}
 use Rattle.h26x_payload_h264.specs.H264Headers.{kind_of}
 use Rattle.h26x_payload_h264.specs.StapA.{stap_a_fault}
-use Rattle.h26x_payload_h264.specs.H264Reading.{Given, given, given_by, given_units, h264_format, shows_type}
+use Rattle.h26x_payload_h264.specs.H264Reading.{given, given_by, given_units, h264_format, shows_type}
 use Rattle.h26x_payload_h264.specs.H264Reading.{extra_after, was_keyframe}
 use Rattle.h26x_payload_units.specs.FragmentRuns.{WritesComplete, open_behind, open_behind_all, written_by}
 use Rattle.h26x_payload_units.proofs.FragmentRunLemmas.{fragments_law}
-
--- what is open after an accepted packet, and what it wrote
-open_of : Result Given PacketError → Fragment
-open_of (Ok g) = g.fragment
-open_of (Err e) = None
-
-written_of : Result Given PacketError → List ℕ
-written_of (Ok g) = g.written
-written_of (Err e) = []
-
-is_ok : Result Given PacketError → Bool
-is_ok (Ok g) = true
-is_ok (Err e) = false
-
-refused_not : {A : Type 0} (e : PacketError) (g : Given) → Err e ≡ Ok g → A
-unfolding is_ok
-refused_not e g is = absurd (false≢true (ap is_ok is))
-
-nothing_goes_on : (f : Fragment) → f ≡ continued f []
-nothing_goes_on None = refl
-nothing_goes_on (Some w) = ap Some (sym (append-nil w))
+use Rattle.h26x_payload_units.specs.Reading.{Given, ends_by, is_fragment_kind, starts_by}
+use Rattle.h26x_payload_units.proofs.ReadingLemmas.{nothing_goes_on, open_of, refused_not, written_of}
 
 units_open : (f : Fragment) (units : List (List ℕ)) (fault : Option PacketError) (g : Given)
     → given_units f units fault ≡ Ok g → g.fragment ≡ f
-unfolding open_of
 units_open f units None g is = sym (ap open_of is)
 units_open f units (Some e) g is = refused_not e g is
 
@@ -53,7 +32,6 @@ units_open f units (Some e) g is = refused_not e g is
 open_by : (kind : PacketKind) (f : Fragment) (first : ℕ) (body : List ℕ) (g : Given) → given_by kind f first body ≡ Ok g
     → g.fragment ≡ open_after (ends_by kind body)
     (put_behind (starts_by kind body) (header_by kind first body) (part_by kind body) f)
-unfolding open_of
 open_by Single f first body g is = sym (ap open_of is) ∙ nothing_goes_on f
 open_by Aggregate f first body g is = units_open f (aggregated 0 0 body).units (stap_a_fault body) g is
     ∙ nothing_goes_on f
@@ -65,7 +43,6 @@ written_in : (kind : PacketKind) (f : Fragment) (first : ℕ) (body : List ℕ) 
     ≡ true → given_by kind f first body ≡ Ok g
     → g.written ≡ written_at (ends_by kind body)
     (put_behind (starts_by kind body) (header_by kind first body) (part_by kind body) f)
-unfolding written_of
 written_in Single f first body g fragment is = absurd (false≢true fragment)
 written_in Aggregate f first body g fragment is = absurd (false≢true fragment)
 written_in FragmentKind f first [] g fragment is = refused_not _ g is

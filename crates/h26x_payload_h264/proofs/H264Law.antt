@@ -6,7 +6,6 @@ use Rattle.std.specs.List.{All, flat_map}
 use Rattle.std.proofs.lemmas.Bool.Decides.{nat_tests}
 use Rattle.std.proofs.lemmas.List.{append-nil, drop_all, length-append, map-append, take_all}
 use Rattle.std.proofs.lemmas.List.Elements.{All-append, All-cons, All-head, All-nil, All-tail}
-use Rattle.h26x_payload_units.specs.Cut.{AreUnits}
 use Rattle.h26x_payload_units.specs.Units.{units_of}
 use Rattle.h26x_payload_units.proofs.UnitLemmas.{units_law}
 use Rattle.payload_core_base.specs.Format.{Fragment, Run, read_all, run_behind}
@@ -15,7 +14,7 @@ use Rattle.payload_core_base.specs.Packing.{MarkedPacket, Sender, is_none_left, 
 use Rattle.payload_core_base.specs.Pieces.{pieces}
 use Rattle.payload_core_base.proofs.PieceLemmas.{joined-pieces, pieces-full, pieces-step, pieces-within}
 use Rattle.h26x_payload_units.specs.Aggregates.{Aggregated, sized}
-use Rattle.h26x_payload_units.specs.Departures.{Departure, EachUnit, departures, units_in}
+use Rattle.h26x_payload_units.specs.Departures.{Departure, departures, units_in}
 use Rattle.h26x_payload_units.specs.Departures.Departure.{Together, Alone}
 use Rattle.h26x_payload_units.specs.Fragments.{behind_code, in_fragments}
 use Rattle.h26x_payload_h264.specs.H264Coding.{AreSendable, FullLaw, GivesUnits, IsSendable, UnitsLaw, WithinLaw}
@@ -24,17 +23,15 @@ use Rattle.h26x_payload_h264.specs.H264Headers.{kind_of}
 use Rattle.h26x_payload_h264.specs.H264Packing.{can_leave, fragments_of, fu_a, h264_packing, h264_rules, packets_of}
 use Rattle.h26x_payload_h264.specs.H264Packing.{stap_a}
 use Rattle.h26x_payload_h264.specs.StapA.{refusal_of}
-use Rattle.h26x_payload_h264.specs.H264Reading.{begins_by, given, given_units, gives, h264_format}
+use Rattle.h26x_payload_h264.specs.H264Reading.{given, given_units, h264_format}
 use Rattle.h26x_payload_h264.proofs.StapALemmas.{all_sized}
 use Rattle.h26x_payload_units.proofs.BundleLemmas.{AreBundles, GivesParts, IsBundle, bundled-frame, bundles-give}
 use Rattle.h26x_payload_units.proofs.DepartureLemmas.{Each}
-use Rattle.h26x_payload_h264.proofs.DepartureLemmas.{HasByte, IsFitting, IsGood, departures-fit, departures-good}
+use Rattle.h26x_payload_h264.proofs.DepartureLemmas.{IsFitting, IsGood, departures-fit, departures-good}
 use Rattle.h26x_payload_h264.proofs.H264RunLaw.{fragments_bundle, given-run, kind_is, single_kind}
 use Rattle.h26x_payload_units.specs.declared.layout.PacketKind.TheVariants.{Single}
-
-joined_codes : (us : List (List ℕ)) → joined (map behind_code us) ≡ flat_map behind_code us
-joined_codes [] = refl
-joined_codes (u ∷ us) = ap (λ t. behind_code u ++ t) (joined_codes us)
+use Rattle.h26x_payload_units.specs.Reading.{begins_by, gives}
+use Rattle.h26x_payload_units.proofs.ReadingLemmas.{IsWithin, have_bytes, joined_codes, some_parts}
 
 stap_given : (fragment : Fragment) (sets : List (List ℕ)) → given fragment (stap_a sets)
     ≡ gives (flat_map behind_code sets) fragment
@@ -42,10 +39,6 @@ stap_given fragment sets =
     let body : List ℕ = flat_map sized sets in
     ap (λ (a : Aggregated). given_units fragment a.units
     (option_map (λ fault. refusal_of fault (drop (length (flat_map sized a.units)) body)) a.fault)) (all_sized sets)
-
-some_parts : (us : List (List ℕ)) → 0 < length us → 0 < length (map behind_code us)
-some_parts [] some = absurd (omega arith)
-some_parts (u ∷ us) some = omega arith
 
 abbrev parts_in : Departure → List (List ℕ)
 parts_in d = map behind_code (units_in d)
@@ -108,16 +101,6 @@ all_parts : (ds : List Departure) → flat_map parts_in ds ≡ map behind_code (
 all_parts [] = refl
 all_parts (d ∷ ds) = ap (λ t. parts_in d ++ t) (all_parts ds)
     ∙ sym (map-append behind_code (units_in d) (flat_map units_in ds))
-
--- the units of a text have bytes
-have_bytes : (us : List (List ℕ)) → AreUnits us → EachUnit HasByte us
-have_bytes [] are = tt
-have_bytes (u ∷ []) are = (are.is_nonempty, tt)
-have_bytes (u ∷ v ∷ us) are = (are.0.0.is_nonempty, have_bytes (v ∷ us) are.1)
-
--- each packet has a byte and is within the limit
-abbrev IsWithin : ℕ → List ℕ → Type 0
-IsWithin limit p = (0 < length p) × (length p ≤ limit)
 
 fragments_within : (header : ℕ) (first : Bool) (limit : ℕ) (ps : List (List ℕ)) → 3 ≤ limit
     → All (IsWithin (limit - 2)) ps → AreWithin limit (in_fragments (fu_a header) first ps)

@@ -17,9 +17,10 @@ use Rattle.h26x_payload_units.specs.Fragments.{behind_code, in_fragments, open_a
 use Rattle.h26x_payload_h264.specs.H264Headers.{begun_header, kind_of, type_of}
 use Rattle.h26x_payload_units.specs.Headers.{has_end, has_start}
 use Rattle.h26x_payload_h264.specs.H264Packing.{fu_a}
-use Rattle.h26x_payload_h264.specs.H264Reading.{Given, given, given_by, begins_by, gives, h264_format, shows_type}
+use Rattle.h26x_payload_h264.specs.H264Reading.{given, given_by, h264_format, shows_type}
 use Rattle.h26x_payload_h264.specs.H264Reading.{extra_after, was_keyframe}
 use Rattle.h26x_payload_units.proofs.BundleLemmas.{GivesParts, IsBundle, NoHeads}
+use Rattle.h26x_payload_units.specs.Reading.{Given, begins_by, gives}
 
 -- what a packet that gives this does to a run
 pub given-run : (fragment after : Fragment) (extra : CodecExtra) (p written : List ℕ) (qs : List (List ℕ))

@@ -6,24 +6,12 @@ use Rattle.h26x_payload_units.specs.declared.layout.PacketKind.{PacketKind}
 use Rattle.h26x_payload_units.specs.declared.layout.PacketKind.TheVariants.{Fragment}
 use Rattle.h26x_payload_units.specs.FragmentRuns.{FragmentView, WritesComplete}
 use Rattle.h26x_payload_h264.specs.H264Headers.{begun_header, kind_of}
-use Rattle.h26x_payload_units.specs.Headers.{has_end, has_start}
 use Rattle.h26x_payload_h264.specs.H264Reading.{h264_format}
-
-abbrev pub is_fragment_kind : PacketKind → Bool
-is_fragment_kind Fragment = true
-is_fragment_kind _ = false
+use Rattle.h26x_payload_units.specs.Reading.{ends_by, is_fragment_kind, starts_by}
 
 abbrev pub is_fu_a : List ℕ → Bool
 is_fu_a [] = false
 is_fu_a (first ∷ body) = is_fragment_kind (kind_of first)
-
-abbrev pub starts_by : PacketKind → List ℕ → Bool
-starts_by Fragment (fu ∷ part) = has_start fu
-starts_by _ body = false
-
-abbrev pub ends_by : PacketKind → List ℕ → Bool
-ends_by Fragment (fu ∷ part) = has_end fu
-ends_by _ body = false
 
 abbrev pub header_by : PacketKind → ℕ → List ℕ → List ℕ
 header_by Fragment first (fu ∷ part) = begun_header first fu ∷ []

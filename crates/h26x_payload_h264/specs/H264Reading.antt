@@ -1,5 +1,5 @@
 -- H.264 packets as they are read (RFC 6184 5.6, 5.7.1 and 5.8).
-use Rattle.std.specs.Prelude.{◌≡◌, ℕ, ◌==◌, ◌&&◌, ◌||◌, Bool, true, false, List, [], ◌∷◌, ◌++◌, Option, Some, None}
+use Rattle.std.specs.Prelude.{ℕ, ◌==◌, ◌&&◌, ◌||◌, Bool, true, false, List, [], ◌∷◌, Option, Some, None}
 use Rattle.std.specs.Prelude.{Result, Ok, Err}
 use Rattle.std.specs.List.{flat_map, list_any}
 use Rattle.payload_core_base.specs.Format.{Format, Fragment, Reading}
@@ -15,6 +15,7 @@ use Rattle.h26x_payload_units.specs.Fragments.{behind_code, open_after, put_behi
 use Rattle.h26x_payload_h264.specs.H264Headers.{begun_header, kind_of, type_of}
 use Rattle.h26x_payload_units.specs.Headers.{has_end, has_start}
 use Rattle.h26x_payload_h264.specs.StapA.{stap_a_fault}
+use Rattle.h26x_payload_units.specs.Reading.{Given, begins_by, gives}
 
 -- A unit of this type.
 abbrev pub is_of_type : ℕ → List ℕ → Bool
@@ -36,14 +37,6 @@ shows_by Unhandled type first body = false
 abbrev pub shows_type : ℕ → List ℕ → Bool
 shows_type type [] = false
 shows_type type (first ∷ body) = shows_by (kind_of first) type first body
-
--- What an accepted packet gives: the bytes written, and the open unit after it.
-pub record Given : Type 0 where
-  pub written : List ℕ
-  pub fragment : Fragment
-
-abbrev pub gives : List ℕ → Fragment → Result Given PacketError
-gives written fragment = Ok (record { written = written; fragment = fragment })
 
 -- An aggregate without a fault gives its units, each behind a start code.
 abbrev pub given_units : Fragment → List (List ℕ) → Option PacketError → Result Given PacketError
@@ -80,20 +73,9 @@ extra_after keyframe (Ok g) = Ok (record
 abbrev pub read_h264 : Fragment → CodecExtra → List ℕ → Result Reading PacketError
 read_h264 fragment extra packet = extra_after (was_keyframe extra || shows_type 5 packet) (given fragment packet)
 
--- A fragment is a head if it has S, and every other packet is one.
-abbrev pub begins_by : PacketKind → List ℕ → Bool
-begins_by FragmentKind [] = false
-begins_by FragmentKind (fu ∷ body) = has_start fu
-begins_by _ body = true
-
 abbrev pub is_h264_head : List ℕ → Bool
 is_h264_head [] = true
 is_h264_head (first ∷ body) = begins_by (kind_of first) body
 
 abbrev pub h264_format : Format
 h264_format = record { head = is_h264_head; tail = λ marker packet. marker; read = read_h264 }
-
--- The packet's bytes stand behind those of the old output, and this is the open unit.
-abbrev pub Adds : Result Given PacketError → List ℕ → List ℕ → Fragment → Type 0
-Adds (Err e) old new fragment = ⊥
-Adds (Ok g) old new fragment = (new ≡ old ++ g.written) × (fragment ≡ g.fragment)

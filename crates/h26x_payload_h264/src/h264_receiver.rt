@@ -1,6 +1,7 @@
 //! Reading H.264 payloads (RFC 6184 5.6, 5.7.1 and 5.8).
 
-ghost use Rattle.h26x_payload_h264.specs.H264Reading.{Adds, given, given_by, given_fragment, h264_format, is_of_type};
+ghost use Rattle.h26x_payload_units.specs.Reading.{Adds};
+ghost use Rattle.h26x_payload_h264.specs.H264Reading.{given, given_by, given_fragment, h264_format, is_of_type};
 ghost use Rattle.h26x_payload_h264.specs.H264Reading.{shows_type, starts_type, was_keyframe};
 ghost use Rattle.h26x_payload_h264.specs.StapA.{refusal_of, stap_a_fault};
 ghost use Rattle.h26x_payload_units.specs.Aggregates.{aggregated, sized};
@@ -229,13 +230,7 @@ impl Depacketizer for H264Depacketizer {
         let Some((first, body)) = packet.split_first() else {
             return true;
         };
-        match kind_of(*first) {
-            PacketKind::Fragment => match body.first() {
-                Some(fu) => has_start(*fu),
-                None => false,
-            },
-            _ => true,
-        }
+        kind_of(*first).is_head(body)
     }
 
     fn is_partition_tail(&self, marker: bool, _packet: &[u8]) -> bool {

@@ -1,7 +1,6 @@
 //! Sending H.264 payloads (RFC 6184 5.6, 5.7.1 and 5.8).
 
 ghost use Rattle.h26x_payload_units.specs.Units.{units_of};
-ghost use Rattle.h26x_payload_units.specs.Aggregates.{sized};
 ghost use Rattle.h26x_payload_units.specs.Departures.{alone, departing, departures, together, waiting_after};
 ghost use Rattle.h26x_payload_units.specs.Departures.{waiting_behind};
 ghost use Rattle.h26x_payload_units.specs.Departures.Role.{Leaves};
@@ -17,7 +16,7 @@ use crate::constants::{
     PPS_NALU_TYPE, SPS_NALU_TYPE, STAPA_HEADER_SIZE, STAPA_NALU_LENGTH_SIZE,
 };
 use crate::headers::type_of;
-use h26x_payload_units::nal_units;
+use h26x_payload_units::{copy_of_set, nal_units, push_sized, set_of};
 use payload_core_base::{PacketError, Packetizer};
 use std::alloc::Global;
 
@@ -52,18 +51,6 @@ fn unit_type(unit: &[u8]) -> u8
         Some(header) => type_of(*header),
         None => 0,
     }
-}
-
-/// Writes a unit behind its size.
-fn push_sized(unit: &[u8], out: &mut Vec<u8>) -> Result<(), PacketError>
-    requires { length unit.now ≤ 65535 }
-    ensures written { OnOk result (out.new.items ≡ out.old.items ++ sized unit.now) }
-    ensures memory { IfErr result (λ e. e ≡ PacketError.Memory) }
-{
-    out.push((unit.len() / 256) as u8)?;
-    out.push((unit.len() % 256) as u8)?;
-    out.extend_from_slice(unit)?;
-    Ok(())
 }
 
 /// The STAP-A of two parameter sets.
@@ -249,27 +236,6 @@ fn push_units<'a>(
     Ok(waiting)
 }
 
-/// A waiting set as a slice.
-fn slice_of(set: &Option<Vec<u8>>) -> Option<&[u8]>
-    ensures { option_map (λ s. s.now) result ≡ option_map (λ v. v.items) set.now }
-{
-    match set {
-        Some(set) => Some(set.as_slice()),
-        None => None,
-    }
-}
-
-/// A copy of a waiting set.
-fn copy_of(alloc: Global, set: Option<&[u8]>) -> Result<Option<Vec<u8>>, PacketError>
-    ensures copy { IfOk result (λ copy. option_map (λ v. v.items) copy ≡ option_map (λ s. s.now) set.entry) }
-    ensures memory { IfErr result (λ e. e ≡ PacketError.Memory) }
-{
-    match set {
-        Some(set) => Ok(Some(Vec::from_slice(alloc, set)?)),
-        None => Ok(None),
-    }
-}
-
 impl H264Packetizer {
     /// A packetizer without a waiting parameter set.
     pub fn new() -> Self
@@ -300,12 +266,12 @@ impl Packetizer for H264Packetizer {
     ) -> Result<Vec<Vec<u8>>, PacketError> {
         let mut packets = Vec::new(alloc);
         let waiting = WaitingSets {
-            sps: slice_of(&self.sps),
-            pps: slice_of(&self.pps),
+            sps: set_of(&self.sps),
+            pps: set_of(&self.pps),
         };
         let waiting = push_units(alloc, mtu, bytes, waiting, &mut packets)?;
-        let sps = copy_of(alloc, waiting.sps)?;
-        let pps = copy_of(alloc, waiting.pps)?;
+        let sps = copy_of_set(alloc, waiting.sps)?;
+        let pps = copy_of_set(alloc, waiting.pps)?;
         self.sps = sps;
         self.pps = pps;
         Ok(packets)

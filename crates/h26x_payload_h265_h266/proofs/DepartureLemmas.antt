@@ -12,6 +12,7 @@ use Rattle.h26x_payload_units.specs.declared.layout.Layout.{Layout}
 use Rattle.h26x_payload_units.specs.Headers.{needs_vps}
 use Rattle.h26x_payload_h265_h266.specs.Coding.{AreSendable, IsSendable}
 use Rattle.h26x_payload_h265_h266.specs.Packing.{aggregate, can_join, can_leave, h265_h266_rules}
+use Rattle.h26x_payload_units.proofs.ReadingLemmas.{HasByte}
 
 -- what leaves at a limit
 abbrev pub IsFitting : Layout → Bool → ℕ → Departure → Type 0
@@ -22,9 +23,6 @@ IsFitting l donl limit (Alone unit) = (0 < length unit) × (can_leave donl limit
 abbrev pub IsGood : Layout → Departure → Type 0
 IsGood l (Together sets) = Unit {0}
 IsGood l (Alone unit) = IsSendable l unit
-
-abbrev pub HasByte : List ℕ → Type 0
-HasByte u = 0 < length u
 
 both : (x y : Bool) → (x && y) ≡ true → (x ≡ true) × (y ≡ true)
 both true true e = (refl, refl)

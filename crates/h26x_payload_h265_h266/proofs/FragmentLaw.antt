@@ -3,7 +3,6 @@ use Rattle.std.proofs.Common.{◌≡◌, ℕ, Bool, true, false, List, [], ◌�
 use Rattle.std.proofs.Common.{if◌then◌else◌, refl, sym, ap, subst, ◌∙◌}
 use Rattle.std.specs.Prelude.{◌||◌}
 use mathlib.Core.Bool.{false≢true}
-use Rattle.std.proofs.lemmas.List.{append-nil}
 use Rattle.payload_core_base.specs.Format.{Fragment, Reading, Run, read_all, run_after}
 use Rattle.payload_core_base.specs.declared.error.PacketError.{PacketError}
 use Rattle.payload_core_base.specs.declared.extra.CodecExtra.{CodecExtra}
@@ -12,32 +11,17 @@ use Rattle.h26x_payload_units.specs.declared.layout.PacketKind.{PacketKind}
 use Rattle.h26x_payload_units.specs.declared.layout.PacketKind.TheVariants.{Single, Aggregate}
 use Rattle.h26x_payload_units.specs.declared.layout.PacketKind.TheVariants.{Fragment as FragmentKind, Unhandled}
 use Rattle.h26x_payload_units.specs.declared.aggregates.AggregateFault.{AggregateFault}
-use Rattle.h26x_payload_units.specs.Fragments.{continued, open_after, put_behind, written_at}
-use Rattle.h26x_payload_h265_h266.specs.Fragments.{FragmentLaw, ends_by, h265_h266_view, header_by, is_fragment}
-use Rattle.h26x_payload_h265_h266.specs.Fragments.{is_fragment_kind, part_by, run_of, starts_by}
+use Rattle.h26x_payload_units.specs.Fragments.{open_after, put_behind, written_at}
+use Rattle.h26x_payload_h265_h266.specs.Fragments.{FragmentLaw, h265_h266_view, header_by, is_fragment}
+use Rattle.h26x_payload_h265_h266.specs.Fragments.{part_by, run_of}
 use Rattle.h26x_payload_units.specs.Headers.{has_f, kind_of}
-use Rattle.h26x_payload_h265_h266.specs.Reading.{Given, aggregated_in, given, given_by, given_from, given_units}
+use Rattle.h26x_payload_h265_h266.specs.Reading.{aggregated_in, given, given_by, given_from, given_units}
 use Rattle.h26x_payload_h265_h266.specs.Reading.{h265_h266_format, is_cut_short, shows_irap, extra_after}
 use Rattle.h26x_payload_h265_h266.specs.Reading.{extra_of, was_keyframe}
 use Rattle.h26x_payload_units.specs.FragmentRuns.{WritesComplete, open_behind, open_behind_all, written_by}
 use Rattle.h26x_payload_units.proofs.FragmentRunLemmas.{fragments_law}
-
--- what is open after an accepted packet, and what it wrote
-open_of : Result Given PacketError → Fragment
-open_of (Ok g) = g.fragment
-open_of (Err e) = None
-
-written_of : Result Given PacketError → List ℕ
-written_of (Ok g) = g.written
-written_of (Err e) = []
-
-is_ok : Result Given PacketError → Bool
-is_ok (Ok g) = true
-is_ok (Err e) = false
-
-refused_not : {A : Type 0} (e : PacketError) (g : Given) → Err e ≡ Ok g → A
-unfolding is_ok
-refused_not e g is = absurd (false≢true (ap is_ok is))
+use Rattle.h26x_payload_units.specs.Reading.{Given, ends_by, is_fragment_kind, starts_by}
+use Rattle.h26x_payload_units.proofs.ReadingLemmas.{nothing_goes_on, open_of, refused_not, written_of}
 
 -- an accepted packet was not refused for its length or for F
 accepted : (short forbidden : Bool) (e d : PacketError) (r : Result Given PacketError) (g : Given)
@@ -46,13 +30,8 @@ accepted true forbidden e d r g is = refused_not e g is
 accepted false true e d r g is = refused_not d g is
 accepted false false e d r g is = is
 
-nothing_goes_on : (f : Fragment) → f ≡ continued f []
-nothing_goes_on None = refl
-nothing_goes_on (Some w) = ap Some (sym (append-nil w))
-
 units_open : (l : Layout) (f : Fragment) (units : List (List ℕ)) (fault : Option AggregateFault) (g : Given)
     → given_units l f units fault ≡ Ok g → g.fragment ≡ f
-unfolding open_of
 units_open l f units None g is = sym (ap open_of is)
 units_open l f units (Some e) g is = refused_not _ g is
 
@@ -61,7 +40,6 @@ open_by : (l : Layout) (donl : Bool) (kind : PacketKind) (f : Fragment) (high lo
     → given_by l donl kind f high low body ≡ Ok g
     → g.fragment ≡ open_after (ends_by kind body)
     (put_behind (starts_by kind body) (header_by l kind high low body) (part_by donl kind body) f)
-unfolding open_of
 open_by l donl Single f high low body g is = sym (ap open_of is) ∙ nothing_goes_on f
 open_by l donl Aggregate f high low body g is =
     units_open l f (aggregated_in l donl body).units (aggregated_in l donl body).fault g is ∙ nothing_goes_on f
@@ -73,7 +51,6 @@ written_in : (l : Layout) (donl : Bool) (kind : PacketKind) (f : Fragment) (high
     → is_fragment_kind kind ≡ true → given_by l donl kind f high low body ≡ Ok g
     → g.written ≡ written_at (ends_by kind body)
     (put_behind (starts_by kind body) (header_by l kind high low body) (part_by donl kind body) f)
-unfolding written_of
 written_in l donl Single f high low body g fragment is = absurd (false≢true fragment)
 written_in l donl Aggregate f high low body g fragment is = absurd (false≢true fragment)
 written_in l donl FragmentKind f high low [] g fragment is = refused_not _ g is

@@ -7,7 +7,6 @@ use Rattle.std.proofs.lemmas.Bool.Decides.{nat_tests}
 use Rattle.std.proofs.lemmas.List.{append-nil, drop_all, length-append, length-drop, length-take, map-append}
 use Rattle.std.proofs.lemmas.List.{take-append-drop, take_all}
 use Rattle.std.proofs.lemmas.List.Elements.{All-append, All-cons, All-head, All-nil, All-tail, All-weaker}
-use Rattle.h26x_payload_units.specs.Cut.{AreUnits}
 use Rattle.h26x_payload_units.specs.Units.{units_of}
 use Rattle.h26x_payload_units.proofs.UnitLemmas.{units_law}
 use Rattle.payload_core_base.specs.Format.{Run, read_all, run_behind}
@@ -16,7 +15,7 @@ use Rattle.payload_core_base.specs.Packing.{MarkedPacket, Sender, is_none_left, 
 use Rattle.payload_core_base.specs.Pieces.{pieces}
 use Rattle.payload_core_base.proofs.PieceLemmas.{joined-pieces, pieces-empty, pieces-full, pieces-within}
 use Rattle.h26x_payload_units.specs.Aggregates.{in_aggregate, sized}
-use Rattle.h26x_payload_units.specs.Departures.{Departure, EachUnit, units_in}
+use Rattle.h26x_payload_units.specs.Departures.{Departure, units_in}
 use Rattle.h26x_payload_units.specs.Departures.Departure.{Together, Alone}
 use Rattle.h26x_payload_units.specs.Fragments.{behind_code, in_fragments}
 use Rattle.h26x_payload_units.specs.Numbers.{Numbered, number_behind, numbered}
@@ -29,18 +28,12 @@ use Rattle.h26x_payload_units.specs.Numbers.{dond_bytes, donl_bytes, donl_size}
 use Rattle.h26x_payload_h265_h266.specs.Packing.{aggregate, can_leave, departure_packets, fragment, fragments_of}
 use Rattle.h26x_payload_h265_h266.specs.Packing.{h265_h266_packing, least_limit, leaving, packets_of, packets_sent}
 use Rattle.h26x_payload_h265_h266.specs.Packing.{parts_of, single}
-use Rattle.h26x_payload_h265_h266.specs.Reading.{begins_by, h265_h266_format}
-use Rattle.h26x_payload_h265_h266.proofs.DepartureLemmas.{HasByte, IsFitting, IsGood, departures-fit, departures-good}
+use Rattle.h26x_payload_h265_h266.specs.Reading.{h265_h266_format}
+use Rattle.h26x_payload_h265_h266.proofs.DepartureLemmas.{IsFitting, IsGood, departures-fit, departures-good}
 use Rattle.h26x_payload_h265_h266.proofs.RunLaw.{aggregate_given, aggregate_head, fragments_bundle, given-run}
 use Rattle.h26x_payload_h265_h266.proofs.RunLaw.{number_size, single_given, single_kind}
-
-joined_codes : (us : List (List ℕ)) → joined (map behind_code us) ≡ flat_map behind_code us
-joined_codes [] = refl
-joined_codes (u ∷ us) = ap (λ t. behind_code u ++ t) (joined_codes us)
-
-some_parts : (us : List (List ℕ)) → 0 < length us → 0 < length (map behind_code us)
-some_parts [] some = absurd (omega arith)
-some_parts (u ∷ us) some = omega arith
+use Rattle.h26x_payload_units.specs.Reading.{begins_by}
+use Rattle.h26x_payload_units.proofs.ReadingLemmas.{IsWithin, have_bytes, joined_codes, some_parts}
 
 abbrev parts_in : Numbered → List (List ℕ)
 parts_in n = map behind_code (units_in n.departure)
@@ -151,16 +144,6 @@ all_parts : (n : ℕ) (ds : List Departure) → flat_map parts_in (numbered n ds
 all_parts n [] = refl
 all_parts n (d ∷ ds) = ap (λ t. map behind_code (units_in d) ++ t) (all_parts (number_behind n d) ds)
     ∙ sym (map-append behind_code (units_in d) (flat_map units_in ds))
-
--- the units of a text have bytes
-have_bytes : (us : List (List ℕ)) → AreUnits us → EachUnit HasByte us
-have_bytes [] are = tt
-have_bytes (u ∷ []) are = (are.is_nonempty, tt)
-have_bytes (u ∷ v ∷ us) are = (are.0.0.is_nonempty, have_bytes (v ∷ us) are.1)
-
--- each packet has a byte and is within the limit
-abbrev IsWithin : ℕ → List ℕ → Type 0
-IsWithin limit p = (0 < length p) × (length p ≤ limit)
 
 abbrev IsPart : ℕ → List ℕ → Type 0
 IsPart size p = length p ≤ size

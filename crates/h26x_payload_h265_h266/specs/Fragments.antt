@@ -6,25 +6,14 @@ use Rattle.h26x_payload_units.specs.declared.layout.Layout.{Layout}
 use Rattle.h26x_payload_units.specs.declared.layout.PacketKind.{PacketKind}
 use Rattle.h26x_payload_units.specs.declared.layout.PacketKind.TheVariants.{Fragment}
 use Rattle.h26x_payload_units.specs.FragmentRuns.{FragmentView, WritesComplete}
-use Rattle.h26x_payload_units.specs.Headers.{has_end, has_start, kind_of}
+use Rattle.h26x_payload_units.specs.Headers.{kind_of}
 use Rattle.h26x_payload_h265_h266.specs.Reading.{begun_by, h265_h266_format, part_in}
-
-abbrev pub is_fragment_kind : PacketKind → Bool
-is_fragment_kind Fragment = true
-is_fragment_kind _ = false
+use Rattle.h26x_payload_units.specs.Reading.{ends_by, is_fragment_kind, starts_by}
 
 abbrev pub is_fragment : Layout → List ℕ → Bool
 is_fragment l [] = false
 is_fragment l (high ∷ []) = is_fragment_kind (kind_of l high 0)
 is_fragment l (high ∷ low ∷ body) = is_fragment_kind (kind_of l high low)
-
-abbrev pub starts_by : PacketKind → List ℕ → Bool
-starts_by Fragment (fu ∷ part) = has_start fu
-starts_by _ body = false
-
-abbrev pub ends_by : PacketKind → List ℕ → Bool
-ends_by Fragment (fu ∷ part) = has_end fu
-ends_by _ body = false
 
 abbrev pub header_by : Layout → PacketKind → ℕ → ℕ → List ℕ → List ℕ
 header_by l Fragment high low (fu ∷ part) = begun_by l high low fu

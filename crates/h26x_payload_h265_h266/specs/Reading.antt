@@ -1,5 +1,5 @@
 -- H.265 and H.266 packets as they are read (RFC 7798 4.4, RFC 9328 4.3).
-use Rattle.std.specs.Prelude.{◌≡◌, ℕ, ◌&&◌, ◌||◌, Bool, true, false, List, [], ◌∷◌, ◌++◌, length, drop, nat_le}
+use Rattle.std.specs.Prelude.{ℕ, ◌&&◌, ◌||◌, Bool, true, false, List, [], ◌∷◌, length, drop, nat_le}
 use Rattle.std.specs.Prelude.{nat_lt, Option, Some, None, Result, Ok, Err, if◌then◌else◌}
 use Rattle.std.specs.List.{flat_map, list_any}
 use Rattle.payload_core_base.specs.Format.{Format, Fragment, Reading}
@@ -20,6 +20,7 @@ use Rattle.h26x_payload_units.specs.declared.layout.PacketKind.TheVariants.{Frag
 use Rattle.h26x_payload_units.specs.Headers.{fu_type, has_end, has_f, has_start, high_with, is_irap, kind_of}
 use Rattle.h26x_payload_units.specs.Headers.{low_with, type_of, unit_type}
 use Rattle.h26x_payload_units.specs.Numbers.{dond_size, donl_size}
+use Rattle.h26x_payload_units.specs.Reading.{Given, begins_by, gives}
 
 -- The units that stand in an aggregate behind its header.
 abbrev pub aggregated_in : Layout → Bool → List ℕ → Aggregated
@@ -50,14 +51,6 @@ shows_irap l donl (high ∷ low ∷ body) = shows_by l donl (kind_of l high low)
 abbrev pub corrupted : Layout → PacketError
 corrupted H265 = ErrH265CorruptedPacket
 corrupted H266 = ErrH266CorruptedPacket
-
--- What an accepted packet gives: the bytes written, and the open unit after it.
-pub record Given : Type 0 where
-  pub written : List ℕ
-  pub fragment : Fragment
-
-abbrev pub gives : List ℕ → Fragment → Result Given PacketError
-gives written fragment = Ok (record { written = written; fragment = fragment })
 
 -- Whether what stands in an aggregate ends before a size does.
 abbrev pub ends_short : Option AggregateFault → Bool
@@ -135,12 +128,7 @@ abbrev pub read_h265_h266 : Layout → Bool → Fragment → CodecExtra → List
 read_h265_h266 l donl fragment extra packet = extra_after l (was_keyframe l extra || shows_irap l donl packet)
     (given l donl fragment packet)
 
--- A fragment is a head if it has S, and every other packet is one. A second byte that isn't there counts as 0.
-abbrev pub begins_by : PacketKind → List ℕ → Bool
-begins_by FragmentKind [] = false
-begins_by FragmentKind (fu ∷ part) = has_start fu
-begins_by _ body = true
-
+-- A second byte that isn't there counts as 0.
 abbrev pub is_h265_h266_head : Layout → List ℕ → Bool
 is_h265_h266_head l [] = true
 is_h265_h266_head l (high ∷ []) = begins_by (kind_of l high 0) []
@@ -149,8 +137,3 @@ is_h265_h266_head l (high ∷ low ∷ body) = begins_by (kind_of l high low) bod
 abbrev pub h265_h266_format : Layout → Bool → Format
 h265_h266_format l donl =
     record { head = is_h265_h266_head l; tail = λ marker packet. marker; read = read_h265_h266 l donl }
-
--- The packet's bytes stand behind those of the old output, and this is the open unit.
-abbrev pub Adds : Result Given PacketError → List ℕ → List ℕ → Fragment → Type 0
-Adds (Err e) old new fragment = ⊥
-Adds (Ok g) old new fragment = (new ≡ old ++ g.written) × (fragment ≡ g.fragment)

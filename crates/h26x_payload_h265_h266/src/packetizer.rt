@@ -7,6 +7,7 @@ use crate::codecs::H265OrH266;
 use crate::constants::MAX_PACKET_SIZE;
 use crate::packets::Form;
 use crate::sender::{Kept, push_units};
+use h26x_payload_units::{copy_of_set, set_of};
 use payload_core_base::{PacketError, Packetizer};
 use std::alloc::Global;
 
@@ -27,27 +28,6 @@ pub struct H265OrH266Packetizer<L: H265OrH266> {
     vps: Option<Vec<u8>>,
     sps: Option<Vec<u8>>,
     pps: Option<Vec<u8>>,
-}
-
-/// A waiting set as a slice.
-fn slice_of(set: &Option<Vec<u8>>) -> Option<&[u8]>
-    ensures { option_map (λ s. s.now) result ≡ option_map (λ v. v.items) set.now }
-{
-    match set {
-        Some(set) => Some(set.as_slice()),
-        None => None,
-    }
-}
-
-/// A copy of a waiting set.
-fn copy_of(alloc: Global, set: Option<&[u8]>) -> Result<Option<Vec<u8>>, PacketError>
-    ensures copy { IfOk result (λ copy. option_map (λ v. v.items) copy ≡ option_map (λ s. s.now) set.entry) }
-    ensures memory { IfErr result (λ e. e ≡ PacketError.Memory) }
-{
-    match set {
-        Some(set) => Ok(Some(Vec::from_slice(alloc, set)?)),
-        None => Ok(None),
-    }
 }
 
 impl<L: H265OrH266> H265OrH266Packetizer<L> {
@@ -106,16 +86,16 @@ impl<L: H265OrH266> Packetizer for H265OrH266Packetizer<L> {
         };
         let kept = Kept {
             number: self.number,
-            vps: slice_of(&self.vps),
-            sps: slice_of(&self.sps),
-            pps: slice_of(&self.pps),
+            vps: set_of(&self.vps),
+            sps: set_of(&self.sps),
+            pps: set_of(&self.pps),
         };
         let mut packets = Vec::new(alloc);
         let kept = push_units(form, bytes, kept, &mut packets)?;
         let number = kept.number;
-        let vps = copy_of(alloc, kept.vps)?;
-        let sps = copy_of(alloc, kept.sps)?;
-        let pps = copy_of(alloc, kept.pps)?;
+        let vps = copy_of_set(alloc, kept.vps)?;
+        let sps = copy_of_set(alloc, kept.sps)?;
+        let pps = copy_of_set(alloc, kept.pps)?;
         self.number = number;
         self.vps = vps;
         self.sps = sps;

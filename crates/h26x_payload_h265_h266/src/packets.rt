@@ -4,11 +4,10 @@ ghost use Rattle.h26x_payload_units.specs.Headers.{layer_of, tid_of};
 ghost use Rattle.h26x_payload_units.specs.Numbers.{dond_bytes, donl_bytes};
 ghost use Rattle.h26x_payload_h265_h266.specs.Packing.{aggregate, fragment, least, single};
 ghost use Rattle.h26x_payload_h265_h266.specs.Waiting.{joining, sized_before};
-ghost use Rattle.h26x_payload_units.specs.Aggregates.{sized};
 ghost use Rattle.std.specs.Prelude.{◌≡◌, ◌++◌, ◌≤◌, IfErr, IfOk, IfSome, OnOk, length, option_map};
 
 use crate::constants::NALU_HEADER_SIZE;
-use h26x_payload_units::{Layout, donl_size};
+use h26x_payload_units::{Layout, donl_size, push_sized};
 use payload_core_base::PacketError;
 use std::alloc::Global;
 
@@ -73,18 +72,6 @@ fn push_donl(donl: bool, number: u16, out: &mut Vec<u8>) -> Result<(), PacketErr
         out.push((number / 256) as u8)?;
         out.push((number % 256) as u8)?;
     }
-    Ok(())
-}
-
-/// Writes a unit behind its size.
-fn push_sized(unit: &[u8], out: &mut Vec<u8>) -> Result<(), PacketError>
-    requires { length unit.now ≤ 65535 }
-    ensures written { OnOk result (out.new.items ≡ out.old.items ++ sized unit.now) }
-    ensures memory { IfErr result (λ e. e ≡ PacketError.Memory) }
-{
-    out.push((unit.len() / 256) as u8)?;
-    out.push((unit.len() % 256) as u8)?;
-    out.extend_from_slice(unit)?;
     Ok(())
 }
 

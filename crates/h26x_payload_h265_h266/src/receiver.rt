@@ -1,6 +1,7 @@
 //! Reading H.265 and H.266 payloads (RFC 7798 4.4, RFC 9328 4.3).
 
-ghost use Rattle.h26x_payload_h265_h266.specs.Reading.{Adds, aggregated_in, begins_by, corrupted, extra_of, given};
+ghost use Rattle.h26x_payload_units.specs.Reading.{Adds, begins_by};
+ghost use Rattle.h26x_payload_h265_h266.specs.Reading.{aggregated_in, corrupted, extra_of, given};
 ghost use Rattle.h26x_payload_h265_h266.specs.Reading.{given_by, given_fragment, is_cut_short, h265_h266_format};
 ghost use Rattle.h26x_payload_h265_h266.specs.Reading.{shows_irap, was_keyframe};
 ghost use Rattle.std.specs.Prelude.{◌≡◌, ◌≢◌, Err, IfErr, None, OnErr, OnOk, false};
@@ -238,13 +239,7 @@ impl<L: H265OrH266> Depacketizer for H265OrH266Depacketizer<L> {
             Some((low, body)) => (*low, body),
             None => (0, rest),
         };
-        match self.codec.layout().kind_of(*high, low) {
-            PacketKind::Fragment => match body.first() {
-                Some(fu) => has_start(*fu),
-                None => false,
-            },
-            _ => true,
-        }
+        self.codec.layout().kind_of(*high, low).is_head(body)
     }
 
     fn is_partition_tail(&self, marker: bool, _packet: &[u8]) -> bool {

@@ -177,8 +177,8 @@ impl InTable for H265Level {
 }
 
 impl Level for H265Level {
-    fn place(self) -> usize {
-        self.ordinal()
+    fn ordinal(self) -> usize {
+        H265Level::ordinal(self)
     }
 }
 

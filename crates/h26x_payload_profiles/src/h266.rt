@@ -157,8 +157,8 @@ impl InTable for H266Level {
 }
 
 impl Level for H266Level {
-    fn place(self) -> usize {
-        self.ordinal()
+    fn ordinal(self) -> usize {
+        H266Level::ordinal(self)
     }
 }
 

@@ -18,7 +18,7 @@ pub trait InTable: Numbered + Named + 'static {
     /// The one that stands where a session text says nothing.
     const FALLBACK: Self;
 
-    /// All of them, in rising order.
+    /// All of them, in the order of their table.
     fn all() -> &'static [Self]
         ensures { result.now ≡ all };
 }
@@ -26,7 +26,7 @@ pub trait InTable: Numbered + Named + 'static {
 /// The levels of a codec.
 pub trait Level: InTable {
     /// Its place among the levels, from 0 on.
-    fn place(self) -> usize
+    fn ordinal(self) -> usize
         ensures { result ≡ place_of Self.number Self.all self };
 }
 

@@ -10,3 +10,4 @@ pub mod DepartureLemmas
 pub mod FragmentLemmas
 pub mod FragmentRunLemmas
 pub mod NumberLemmas
+pub mod ReadingLemmas

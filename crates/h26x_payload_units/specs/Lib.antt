@@ -9,5 +9,6 @@ pub mod FragmentRuns
 pub mod Fragments
 pub mod Numbers
 pub mod Headers
+pub mod Reading
 pub mod H265Headers
 pub mod H266Headers

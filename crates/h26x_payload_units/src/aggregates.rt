@@ -1,9 +1,9 @@
 //! Units that stand in an aggregate, each behind its size (RFC 7798 4.4.2, RFC 9328 4.3.2).
 
-ghost use Rattle.h26x_payload_units.specs.Aggregates.{aggregated, only_fault, with_first};
+ghost use Rattle.h26x_payload_units.specs.Aggregates.{aggregated, only_fault, sized, with_first};
 ghost use Rattle.h26x_payload_units.specs.Fragments.{behind_code};
 ghost use Rattle.std.specs.List.{flat_map};
-ghost use Rattle.std.specs.Prelude.{ℕ, ◌≡◌, ◌<◌, IfErr, IfOk, Some, length};
+ghost use Rattle.std.specs.Prelude.{ℕ, ◌≡◌, ◌<◌, ◌≤◌, ◌++◌, IfErr, IfOk, OnOk, Some, length};
 
 use crate::open_unit::push_unit;
 use payload_core_base::PacketError;
@@ -85,4 +85,20 @@ pub fn aggregated_units(
         rest = behind;
     }
     Ok(written)
+}
+
+/// Writes a unit behind its size.
+///
+/// # Conditions
+///
+/// The unit has at most 65,535 bytes.
+pub fn push_sized(unit: &[u8], out: &mut Vec<u8>) -> Result<(), PacketError>
+    requires { length unit.now ≤ 65535 }
+    ensures written { OnOk result (out.new.items ≡ out.old.items ++ sized unit.now) }
+    ensures memory { IfErr result (λ e. e ≡ PacketError.Memory) }
+{
+    out.push((unit.len() / 256) as u8)?;
+    out.push((unit.len() % 256) as u8)?;
+    out.extend_from_slice(unit)?;
+    Ok(())
 }

@@ -4,6 +4,7 @@ ghost use Rattle.h26x_payload_units.specs.Headers.{aggregate_high, aggregate_low
 ghost use Rattle.h26x_payload_units.specs.Headers.{has_end, has_f, has_start, high_with, is_irap, kind_of, layer_in};
 ghost use Rattle.h26x_payload_units.specs.Headers.{low_with, needs_vps, type_of, unit_kind, unit_type};
 ghost use Rattle.h26x_payload_units.specs.Numbers.{dond_size, donl_size};
+ghost use Rattle.h26x_payload_units.specs.Reading.{begins_by};
 ghost use Rattle.std.specs.Prelude.{◌≡◌};
 
 /// Whose units a packet carries. Both codecs' headers have two bytes, with a layer and a TID in them.
@@ -41,6 +42,22 @@ pub enum UnitKind {
     Pps,
     /// Any other unit.
     Other,
+}
+
+impl PacketKind {
+    /// Whether a packet of this kind is the head of a frame, by what stands behind its header: a fragment where its
+    /// first byte has S, and every other packet.
+    pub fn is_head(self, body: &[u8]) -> bool
+        ensures { result ≡ begins_by self body.now }
+    {
+        match self {
+            PacketKind::Fragment => match body.first() {
+                Some(fu) => has_start(*fu),
+                None => false,
+            },
+            _ => true,
+        }
+    }
 }
 
 /// F in the first byte of a header.

@@ -11,14 +11,18 @@ mod iteration;
 mod laws;
 mod layout;
 mod open_unit;
+mod parameter_sets;
 mod places;
 mod unit_laws;
 
-pub use aggregates::{AggregateFault, aggregate_fault, aggregated_units, first_aggregated};
+pub use aggregates::{
+    AggregateFault, aggregate_fault, aggregated_units, first_aggregated, push_sized,
+};
 pub use h265_headers::{H265FragmentationUnitHeader, H265NALUHeader};
 pub use h266_headers::{H266FragmentationUnitHeader, H266NALUHeader};
 pub use iteration::{NalUnits, nal_units};
 pub use laws::{aggregates_law, fragments_law, numbers_law};
 pub use layout::{Layout, PacketKind, UnitKind, donl_size, has_end, has_f, has_start};
 pub use open_unit::{ANNEXB_NALUSTART_CODE, OpenUnit, push_unit, push_unit_of};
+pub use parameter_sets::{copy_of_set, set_of};
 pub use unit_laws::{cut_law, nal_units_law};

@@ -33,7 +33,7 @@ fn known_score<P: InTable, L: Level>(
 {
     points_if(
         a.profile_id() == b.profile_id() && a.tier_flag() == b.tier_flag(),
-        level_points(a.level().place(), b.level().place()),
+        level_points(a.level().ordinal(), b.level().ordinal()),
     )
 }
 
@@ -67,7 +67,7 @@ pub fn level_score<P: InTable, L: Level>(
 fn lower_level<L: Level>(a: L, b: L) -> L
     ensures { result ≡ lower_level (place_of L.number L.all) a b }
 {
-    if a.place() <= b.place() { a } else { b }
+    if a.ordinal() <= b.ordinal() { a } else { b }
 }
 
 fn lowered<P: InTable, L: Level>(
