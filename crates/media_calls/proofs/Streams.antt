@@ -1,5 +1,5 @@
 -- The streams of an exchange of a codec whose packets are pieces of samples, and samples that they take.
-use Rattle.std.proofs.Common.{◌≡◌, ℕ, ◌<◌, ◌≤◌, zero, suc, refl, sym, ◌∙◌, ap, subst, arith, Bool, true, false}
+use Rattle.std.proofs.Common.{◌≡◌, ℕ, ◌<◌, ◌≤◌, zero, suc, refl, sym, ◌∙◌, ap, subst, arith, Bool, true}
 use Rattle.std.proofs.Common.{List, [], ◌∷◌, length, Option, Some, None}
 use Rattle.std.specs.Prelude.{All, IfSome}
 use Rattle.payload_core_base.specs.declared.codec.Codec.{Codec}

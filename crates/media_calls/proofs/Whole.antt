@@ -3,7 +3,7 @@ use Rattle.std.proofs.Common.{◌≡◌, ℕ, ◌<◌, ◌≤◌, refl, sym, ◌
 use Rattle.std.proofs.Common.{length, map, true≢false}
 use Rattle.std.proofs.lemmas.List.{take_all, drop_all}
 use Rattle.payload_core_base.specs.Packing as packing
-use Rattle.payload_core_base.specs.Packing.{MarkedPacket, marked}
+use Rattle.payload_core_base.specs.Packing.{marked}
 use Rattle.payload_core_base.specs.Pieces.{pieces}
 use Rattle.payload_core_base.specs.declared.codec.Codec.{Codec}
 use Rattle.payload_core_base.specs.declared.codec.Codec.TheVariants.{Opus, PCMU, PCMA, G722, CN, AmrWb, H264, H265}

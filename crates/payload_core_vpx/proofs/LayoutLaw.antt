@@ -1,14 +1,11 @@
 -- Payloads that are laid out as a descriptor and a part of a frame are those that are read.
-use Rattle.std.proofs.Common.{◌≡◌, ℕ, zero, suc, ◌+◌, ◌-◌, ◌*◌, ◌/◌, ◌%◌, ◌<◌, Bool, true, false, List, [], ◌∷◌, ◌++◌}
+use Rattle.std.proofs.Common.{◌≡◌, ℕ, ◌+◌, ◌-◌, ◌*◌, ◌%◌, ◌<◌, Bool, true, false, List, [], ◌∷◌, ◌++◌}
 use Rattle.std.proofs.Common.{drop, take, length, None, Some, Ok, Err, Option, Result, if◌then◌else◌, refl, sym, ap}
 use Rattle.std.proofs.Common.{◌∙◌, subst, arith}
 use Rattle.std.specs.Prelude.{◌&&◌, ◌||◌, slice_index}
 use Rattle.std.proofs.lemmas.List.{drop-drop, drop_at, get_or-drop, length-drop, take-append-drop}
-use Rattle.payload_core_base.specs.Format.{Fragment, Reading}
-use Rattle.payload_core_base.specs.declared.error.PacketError.{PacketError}
-use Rattle.payload_core_base.specs.declared.extra.CodecExtra.{CodecExtra}
 use Rattle.payload_core_base.specs.declared.extra.CodecExtra.TheVariants.{Vp8}
-use Rattle.payload_core_vpx.specs.Vp8.{read_vp8, reading_of, was_keyframe}
+use Rattle.payload_core_vpx.specs.Vp8.{reading_of, was_keyframe}
 use Rattle.payload_core_vpx.specs.Vp8Descriptor.{begins_frame, begins_keyframe, described_in, has_bit, key_idx_in}
 use Rattle.payload_core_vpx.specs.Vp8Descriptor.{layout_size, parsed, picture_id_in, shape_of, shape_with}
 use Rattle.payload_core_vpx.specs.Vp8Descriptor.{tl0_pic_idx_in, with_frame}

@@ -1,5 +1,5 @@
 -- Payloads of VP8 as the fields of their descriptor, one behind the other, and bytes of a frame (RFC 7741 4.2).
-use Rattle.std.specs.Prelude.{◌≡◌, ℕ, ◌+◌, ◌*◌, ◌/◌, ◌%◌, ◌<◌, ◌&&◌, ◌||◌, Bool, true, false, List, [], ◌∷◌, ◌++◌, drop}
+use Rattle.std.specs.Prelude.{◌≡◌, ℕ, ◌+◌, ◌*◌, ◌%◌, ◌<◌, ◌&&◌, ◌||◌, Bool, true, false, List, [], ◌∷◌, ◌++◌, drop}
 use Rattle.std.specs.Prelude.{length, Option, Some, None, Ok, if◌then◌else◌}
 use Rattle.payload_core_base.specs.Format.{Fragment, Reading}
 use Rattle.payload_core_base.specs.declared.extra.CodecExtra.{CodecExtra}

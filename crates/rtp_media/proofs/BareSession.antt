@@ -1,5 +1,5 @@
 -- A session with neither attributes nor bandwidth can be written, so that it is no reason to refuse an end.
-use Rattle.std.proofs.Common.{◌≡◌, ℕ, List, [], Some, inl, inr, arith}
+use Rattle.std.proofs.Common.{◌≡◌, ℕ, List, Some, inl, inr, arith}
 use Rattle.rtp_media_negotiation.specs.Exchanges.{bare_session}
 use Rattle.rtp_media_negotiation.specs.Refusals.{RefusesNew, refusal_of_new}
 use Rattle.rtp_media_negotiation.specs.declared.errors.EndError.{EndError}

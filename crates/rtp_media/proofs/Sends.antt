@@ -3,7 +3,6 @@ use Rattle.std.proofs.Common.{◌≡◌, ℕ, sym, ◌∙◌, ap, Bool, true, Li
 use Rattle.std.specs.Prelude.{Option, if◌then◌else◌}
 use Rattle.rtp_wire.specs.Name.{name_of}
 use Rattle.rtp_media_ends.specs.Ends.{EndState, after_open_sender, refusal_of_open_sender}
-use Rattle.rtp_media_ends.specs.declared.errors.OpenError.{OpenError}
 use Rattle.rtp_media_lines.specs.declared.line.Command.TheVariants.{Send}
 use Rattle.rtp_media_lines.specs.declared.line.SendCommand.{SendCommand}
 use Rattle.rtp_media_lines.specs.declared.reply.Reply.{Reply}

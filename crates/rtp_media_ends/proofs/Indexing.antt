@@ -1,5 +1,5 @@
 -- Streams that stand in an index, found by it, and kept in it.
-use Rattle.std.proofs.Common.{◌≡◌, ◌≢◌, ℕ, ◌+◌, ◌<◌, refl, sym, ◌∙◌, ap, ap₂, subst, arith, Bool, true, false, ◌&&◌}
+use Rattle.std.proofs.Common.{◌≡◌, ◌≢◌, ℕ, ◌+◌, ◌<◌, refl, sym, ◌∙◌, ap, ap₂, arith, Bool, true, false, ◌&&◌}
 use Rattle.std.proofs.Common.{◌||◌, List, [], ◌∷◌, ◌++◌, length, length-append, true≢false}
 use Rattle.std.proofs.lemmas.Bool.Decides.{nat_tests}
 use Rattle.std.proofs.lemmas.List.{get_or-set_same, get_or-set_other, length-set, get_or_push}
@@ -10,9 +10,9 @@ use Rattle.std.specs.List.{list_any}
 use Rattle.rtp_media_streams.specs.Polls.{Answers}
 use Rattle.rtp_media_streams.specs.Receiving.{Receiving, with_stream}
 use Rattle.rtp_media_streams.specs.Sending.{Sending}
-use Rattle.rtp_media_streams.specs.Types.{has_red_type, has_type, share_type}
+use Rattle.rtp_media_streams.specs.Types.{has_type, share_type}
 use Rattle.rtp_media_streams.specs.declared.types.PayloadTypes.{PayloadTypes}
-use Rattle.rtp_media_ends.specs.Arrivals.{stream_for, takes}
+use Rattle.rtp_media_ends.specs.Arrivals.{takes}
 use Rattle.rtp_media_ends.specs.declared.open_stream.OpenStream.{OpenStream}
 use Rattle.rtp_media_ends.specs.declared.open_stream.OpenStream.TheVariants.{Sender, Receiver}
 use Rattle.rtp_media_ends.specs.declared.stream_index.StreamIndex.{StreamIndex}

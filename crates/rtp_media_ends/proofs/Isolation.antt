@@ -2,7 +2,7 @@
 use Rattle.std.proofs.Common.{◌≡◌, ◌≢◌, ℕ, ◌<◌, refl, sym, ◌∙◌, ap, ap₂, subst, arith, Bool, true, false, ◌&&◌, List}
 use Rattle.std.proofs.Common.{[], ◌∷◌, length, true≢false}
 use Rattle.std.proofs.lemmas.Bool.Decides.{nat_tests}
-use Rattle.std.specs.Prelude.{◌||◌, nat_lt, Option, Some, None, if◌then◌else◌, ◌==◌, slice_set, slice_index_or}
+use Rattle.std.specs.Prelude.{◌||◌, nat_lt, Option, Some, None, if◌then◌else◌, ◌==◌, slice_set}
 use Rattle.std.specs.List.{cons_option}
 use Rattle.std.proofs.lemmas.List.{get_or-set_same, get_or-set_other, length-set}
 use Rattle.std.proofs.lemmas.List.Quantifiers.{position-Some}
@@ -18,7 +18,7 @@ use Rattle.rtp_media_streams.specs.Rows.{format_of}
 use Rattle.rtp_media_streams.specs.Types.{is_type}
 use Rattle.rtp_media_ends.specs.declared.open_stream.OpenStream.{OpenStream}
 use Rattle.rtp_media_ends.specs.declared.open_stream.OpenStream.TheVariants.{Sender, Receiver}
-use Rattle.rtp_media_ends.specs.Ends.{EndState, is_receiver_at, is_sending, no_receiver, nth_receiver, nth_stream}
+use Rattle.rtp_media_ends.specs.Ends.{EndState, is_sending, no_receiver, nth_receiver, nth_stream}
 use Rattle.rtp_media_ends.specs.Ends.{receiver_at, receiving_of}
 use Rattle.rtp_media_ends.specs.Arrivals.{own_of, arrival_for, arrival_by, stream_for, after_arrival, after_datagram}
 use Rattle.rtp_media_ends.specs.Arrivals.{takes}

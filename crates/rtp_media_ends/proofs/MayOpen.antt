@@ -1,5 +1,5 @@
 -- An opening is refused nothing exactly where an end may open a stream.
-use Rattle.std.proofs.Common.{◌≡◌, ℕ, refl, sym, ◌∙◌, ap, Bool, true, false, List, true≢false}
+use Rattle.std.proofs.Common.{◌≡◌, ℕ, refl, sym, ◌∙◌, ap, Bool, true, false, List}
 use Rattle.std.specs.Prelude.{Option, Some, None, if◌then◌else◌}
 use Rattle.std.specs.List.{list_any}
 use Rattle.rtp_media_sections.specs.Agreement.{Agreed, is_named, own_row_agrees, row_in, section_of}

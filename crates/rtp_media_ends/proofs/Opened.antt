@@ -1,12 +1,11 @@
 -- Streams as an end opens them.
-use Rattle.std.proofs.Common.{◌≡◌, ◌≢◌, ℕ, ◌<◌, ◌≤◌, ◌^◌, Bool, true, false, List, refl, sym, ◌∙◌, ap, arith, ◌&&◌}
-use Rattle.std.proofs.Common.{[], ◌∷◌, true≢false}
+use Rattle.std.proofs.Common.{◌≡◌, ◌≢◌, ℕ, ◌<◌, ◌≤◌, ◌^◌, Bool, true, false, List, refl, sym, arith, ◌&&◌}
+use Rattle.std.proofs.Common.{true≢false}
 use Rattle.std.proofs.lemmas.Bool.Decides.{nat_tests}
 use Rattle.std.specs.Option.{ForSome}
-use Rattle.std.specs.Prelude.{Option, Some, None, is_some, unwrap_or, if◌then◌else◌, ◌==◌, nat_le, not, IfSome}
+use Rattle.std.specs.Prelude.{Option, Some, None, is_some, unwrap_or, ◌==◌, nat_le, not, IfSome}
 use Rattle.h26x_payload.specs.Codings.{first_sender, has_format}
 use Rattle.h26x_payload.specs.Dispatch.{FirstIsReached}
-use Rattle.rtp_media_sections.specs.Agreement.{Agreed, row_in, row_of_section}
 use Rattle.rtp_wire.specs.Values.{Numbering}
 use Rattle.sdp_formats_rows.specs.Rows.{Row}
 use Rattle.rtp_media_streams.specs.Rows.{coding_in, first_state, forms_for, settings_in}

@@ -1,5 +1,5 @@
 -- After an exchange and two openings, the new receiving stream hears the new sending one.
-use Rattle.std.proofs.Common.{◌≡◌, ℕ, ◌+◌, ◌<◌, ◌≤◌, ◌^◌, refl, sym, ◌∙◌, ap, ap₂, subst, arith, Bool, true, false}
+use Rattle.std.proofs.Common.{◌≡◌, ℕ, ◌+◌, ◌<◌, ◌≤◌, ◌^◌, refl, sym, ◌∙◌, ap, ap₂, subst, Bool}
 use Rattle.std.proofs.Common.{List, [], ◌∷◌, length, map, Option, Some, None}
 use Rattle.std.specs.Prelude.{unwrap_or, is_some}
 use Rattle.h26x_payload.specs.Dispatch.{FirstIsReached, KeepCodecLawInForms}

@@ -10,7 +10,7 @@ use Rattle.rtp_wire.specs.declared.ExtensionValues.{ExtensionValues}
 use Rattle.rtp_wire.specs.declared.header.RtpHeader.{RtpHeader}
 use Rattle.payload_core_base.specs.Format.{Format}
 use Rattle.rtp_media_schedules.specs.Hearing as hearing
-use Rattle.rtp_media_schedules.specs.Hearing.{Answer, Comes, Content, Stream, after_events, heard, polled}
+use Rattle.rtp_media_schedules.specs.Hearing.{Answer, Comes, Content, Stream, heard, polled}
 use Rattle.rtp_media_streams.specs.Receiving.{Receiving, is_own, media_payload, polled_receiver, values_read}
 use Rattle.rtp_media_streams.specs.Receiving.{with_stream}
 use Rattle.rtp_media_streams.specs.Rows.{format_of}

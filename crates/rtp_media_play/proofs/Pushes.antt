@@ -1,5 +1,5 @@
 -- Samples that are pushed one after the other.
-use Rattle.std.proofs.Common.{Bool, true, false, true≢false, ◌&&◌, ◌≡◌, ℕ, zero, suc, ◌+◌, ◌<◌, ◌≤◌, refl, sym, ◌∙◌}
+use Rattle.std.proofs.Common.{true, false, true≢false, ◌≡◌, ℕ, zero, suc, ◌+◌, ◌<◌, ◌≤◌, refl, sym, ◌∙◌}
 use Rattle.std.proofs.Common.{ap, ap₂, subst, subst₂, arith, inl, inr}
 use Rattle.std.proofs.Common.{List, [], ◌∷◌, ◌++◌, length, length-set, take, append_assoc, append-nil, add-one}
 use Rattle.std.proofs.lemmas.List.{get_or-set_same, set-get_or, set-set}

@@ -8,7 +8,7 @@ use Rattle.std.proofs.lemmas.Bool.{cases_lt}
 use Rattle.std.proofs.lemmas.List.{get_or-map, length-map, length-take-le}
 use Rattle.payload_core_base.specs.Format.{Format, Run, read_all}
 use Rattle.payload_core_base.specs.Law as law
-use Rattle.payload_core_base.specs.Law.{IsFrameOf, GivesFrom, joined}
+use Rattle.payload_core_base.specs.Law.{IsFrameOf, GivesFrom}
 use Rattle.payload_core_base.specs.Packing.{MarkedPacket}
 use Rattle.payload_core_base.specs.declared.error.PacketError.{PacketError}
 use Rattle.payload_core_buffer.specs.Frames.{IsFrame, no_packet, packet_at, packets_between, is_tail_at, number_at}

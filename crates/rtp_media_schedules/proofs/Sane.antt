@@ -21,7 +21,7 @@ use Rattle.rtp_wire.specs.Replay.{Window, accepts, is_accepted, recorded_in, gre
 use Rattle.rtp_wire.specs.Widening.{widened}
 use Rattle.rtp_wire.proofs.WideningLaws.{widened-near}
 use Rattle.rtp_media_schedules.specs.Hearing as hearing
-use Rattle.rtp_media_schedules.specs.Hearing.{Stream, Answer, answer_among, answer_of, due, fresh, heard, poll_answer}
+use Rattle.rtp_media_schedules.specs.Hearing.{Stream, answer_among, due, fresh, heard, poll_answer}
 use Rattle.rtp_media_schedules.specs.Hearing.{polled, run_among, stream_behind, taken_by}
 use Rattle.rtp_media_schedules.specs.Legal.{IsFinalRunOf, IsLegal, Ended, Silent}
 use Rattle.rtp_media_schedules.specs.Orders.{IsSane, IsSaneArrival}

@@ -16,11 +16,11 @@ use Rattle.h26x_payload.specs.Codings as codings
 use Rattle.h26x_payload.specs.Dispatch.{FirstIsReached, KeepCodecLawInForms}
 use Rattle.rtp_wire.specs.Carried.{AreValues}
 use Rattle.rtp_media_schedules.specs.Hearing as hearing
-use Rattle.rtp_media_schedules.specs.Hearing.{EndsSilent, Stream, fresh, heard, number_at, taken_by}
+use Rattle.rtp_media_schedules.specs.Hearing.{EndsSilent, fresh, heard, number_at, taken_by}
 use Rattle.rtp_media_schedules.specs.Orders.{IsGoodPoll, IsTame, first_size}
 use Rattle.rtp_media_schedules.specs.Samples.{SentSample, frame_sizes, packets_of, sent_by}
 use Rattle.rtp_media_schedules.specs.Turns as turns
-use Rattle.rtp_media_schedules.specs.Turns.{AllCame, Ask, IsGoodArrival}
+use Rattle.rtp_media_schedules.specs.Turns.{AllCame, Ask}
 use Rattle.rtp_media_schedules.proofs.Polls.{polls-end}
 use Rattle.rtp_media_streams.specs.Rows.{format_of, forms_for, settings_in}
 use Rattle.rtp_media_streams.specs.Sending.{Sample, Sending, carried, datagrams_of, opened_sender, packet_limit}
@@ -34,7 +34,7 @@ use Rattle.rtp_media_play.specs.Schedules.{turns_of}
 use Rattle.rtp_media_play.specs.declared.schedule.Event.TheVariants.{Arrive, Poll}
 use Rattle.rtp_media_play.proofs.Exchanged.{IsPlain, alone, plain}
 use Rattle.rtp_media_second_hop.specs.Hops as hops
-use Rattle.rtp_media_second_hop.specs.Hops.{AreKept, Carries, Hop, answers_over, limit_over, row_over, sender_over}
+use Rattle.rtp_media_second_hop.specs.Hops.{Carries, Hop, answers_over, limit_over, row_over, sender_over}
 use Rattle.rtp_media_second_hop.specs.OpusHops.{CarriesOpus, FitsPacket, one_arrival}
 
 pub one-piece : (limit : ℕ) (bytes : List ℕ) → 0 < length bytes → length bytes ≤ limit → pieces limit bytes ≡ bytes ∷ []

@@ -9,7 +9,7 @@ use Rattle.payload_core_base.specs.Packing.{Sender}
 use Rattle.h26x_payload.specs.Dispatch.{FirstIsReached, KeepCodecLawInForms}
 use Rattle.rtp_wire.specs.Values.{Numbering}
 use Rattle.rtp_media_schedules.specs.Hearing as hearing
-use Rattle.rtp_media_schedules.specs.Hearing.{Answer, heard}
+use Rattle.rtp_media_schedules.specs.Hearing.{heard}
 use Rattle.rtp_media_schedules.specs.SentSamples.{Timed}
 use Rattle.rtp_media_schedules.specs.Samples.{AreWellFormed, SentSample, packets_of, sent_by}
 use Rattle.rtp_media_streams.specs.Receiving.{Receiving, opened_receiver, with_stream}

@@ -1,5 +1,5 @@
 -- Under a map without extensions a header has no values.
-use Rattle.std.proofs.Common.{◌≡◌, ℕ, zero, suc, Bool, true, false, List, refl, ap, ◌∙◌, replicate}
+use Rattle.std.proofs.Common.{◌≡◌, ℕ, zero, suc, Bool, List, refl, ap, ◌∙◌, replicate}
 use Rattle.std.specs.Prelude.{Option, Some, None, slice_index_or}
 use Rattle.rtp_wire_extensions.specs.Elements.{Step, lookup, on_step, step, values_from, with_element}
 use Rattle.rtp_wire_extensions.specs.Maps.{empty_map}

@@ -1,10 +1,10 @@
 -- Padding that is taken off is what stood behind the payload.
 use Rattle.std.proofs.Common.{◌≡◌, ℕ, ◌+◌, ◌-◌, ◌<◌, ◌≤◌, Bool, true, false, ◌==◌, ◌||◌, refl, sym, ap, ◌∙◌, arith}
-use Rattle.std.proofs.Common.{List, ◌++◌, length, take, drop, length-append, length-drop, Some, None, Option}
+use Rattle.std.proofs.Common.{List, ◌++◌, length, take, drop, length-append, length-drop, Some, None}
 use Rattle.std.specs.Prelude.{if◌then◌else◌, nat_lt, slice_index}
 use Rattle.std.proofs.lemmas.Bool.Decides.{nat_tests}
 use Rattle.std.proofs.lemmas.List.{take-append-drop, take_at, get_or-append_right}
-use Rattle.rtp_wire.specs.Padding.{IsPadded, IsPadding, unpadded, without}
+use Rattle.rtp_wire.specs.Padding.{IsPadded, unpadded, without}
 
 last-of : (body padding : List ℕ) → 0 < length padding →
     slice_index (body ++ padding) (length (body ++ padding) - 1) ≡ slice_index padding (length padding - 1)

@@ -4,7 +4,7 @@ use Rattle.std.proofs.Common.{length, drop, replicate, length-append, append_ass
 use Rattle.std.proofs.Common.{set as set_at}
 use Rattle.std.specs.Int.{w32, from_be_bytes}
 use Rattle.std.proofs.lemmas.List as lists
-use Rattle.std.proofs.lemmas.List.{drop-drop, length-drop, append-nil}
+use Rattle.std.proofs.lemmas.List.{drop-drop}
 use Rattle.rtp_wire.specs.Header.{u32_at, words_in, slots}
 
 pub length-words_in : (n : ℕ) (bytes : List ℕ) → length (words_in n bytes) ≡ n

@@ -4,8 +4,8 @@ use Rattle.std.proofs.Common.{length, take, map, replicate, get_or, length-appen
 use Rattle.std.proofs.Common.{set as set_at}
 use Rattle.std.specs.Str.{IsUtf8}
 use Rattle.std.proofs.lemmas.Bool.Decides.{nat_tests}
-use Rattle.std.proofs.lemmas.List.{length-map, length-replicate, length-take, take-map, take-take, take_all, take_at}
-use Rattle.std.proofs.lemmas.List.{map_more, set-append_right, get_or_past}
+use Rattle.std.proofs.lemmas.List.{length-map, length-take, take-map, take-take, take_at}
+use Rattle.std.proofs.lemmas.List.{map_more}
 use Rattle.std.proofs.lemmas.Str.{IsUtf8-from_ascii}
 use Rattle.std.proofs.lemmas.List as lists
 use Rattle.rtp_wire_ids.specs.Name.{name_byte, name_of, IsName, filled, IsKept}

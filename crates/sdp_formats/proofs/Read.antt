@@ -1,11 +1,10 @@
 -- What the reader below answers, told as this one's answer.
-use Rattle.std.proofs.Common.{◌≡◌, ℕ, List, Result, Ok, Err, Bor}
-use Rattle.sdp_formats_forms.specs.declared.refusal.Refusal.TheVariants.{Unfit, Memory}
+use Rattle.std.proofs.Common.{ℕ, List, Ok, Err, Bor}
+use Rattle.sdp_formats_forms.specs.declared.refusal.Refusal.TheVariants.{Unfit}
 use Rattle.sdp_formats_reader.specs.Grammar.{ReadsSdp, ReadsSession, SessionSays}
 use Rattle.sdp_formats_types.specs.declared.session.Sdp.{Sdp}
 use Rattle.sdp_formats_types.specs.declared.session.Session.{Session}
-use Rattle.sdp_formats.specs.Texts.{ParsesSdp, ParsesSession, SaysNothing, ReadsText}
-use Rattle.sdp_formats.specs.declared.error.SdpError.{SdpError}
+use Rattle.sdp_formats.specs.Texts.{ParsesSdp, ParsesSession, SaysNothing}
 use Rattle.sdp_formats.specs.declared.error.SdpError.TheVariants as error
 
 pub read : (t : List ℕ) (r : Sdp × Bor (List ℕ)) → ReadsSdp t (Ok r) → ParsesSdp t (Ok r)

@@ -4,3 +4,8 @@ pub mod PrintableTexts
 pub mod AsReadLemmas
 pub mod ReadTexts
 pub mod LineEnds
+pub mod Ranges
+pub mod Keyed
+pub mod Parameters
+pub mod RowsBack
+pub mod Rows

@@ -1,8 +1,15 @@
-//! What holds of session texts above their grammar: what is printed is read as what it was printed of.
+//! What holds of session texts above their grammar: what is printed is read as what it was printed of, and plain rows
+//! that a section lists come back from the section and from the printed text.
 #![tactic(auto)]
 
 mod lines;
+mod parameters;
+mod rows;
+mod rows_back;
 mod texts;
 
 pub use lines::printed_lines_law;
+pub use parameters::{fallbacks_law, links_law, plain_parameters_law};
+pub use rows::{read_rows_law, read_sections_law, row_lines_law, row_texts_law};
+pub use rows_back::plain_rows_come_back;
 pub use texts::{line_ends_law, more_behind_law, printed_texts_law};

@@ -1,6 +1,6 @@
 -- The kinds are read exactly where they say a value.
-use Rattle.std.proofs.Common.{ℕ, ◌^◌, nat_le, nat_lt, codes}
-use Rattle.sdp_formats_forms.specs.Form.{Form, IsExact, some_text, told, any_text, number, made, after, either, cut}
+use Rattle.std.proofs.Common.{ℕ, ◌^◌, codes}
+use Rattle.sdp_formats_forms.specs.Form.{IsExact, some_text, told, any_text, number, made, after, either, cut}
 use Rattle.sdp_formats_forms.specs.Form.{cut_maybe, only, separated}
 use Rattle.sdp_formats_forms.specs.Numbers.{number_below}
 use Rattle.sdp_formats_forms.specs.Exact.{told-exact, made-exact, after-exact, cut-exact, cut_maybe-exact}
@@ -11,9 +11,8 @@ use Rattle.sdp_formats_media_lines.specs.Kinds.{ice_ufrag_line, ice_pwd_line, ic
 use Rattle.sdp_formats_media_lines.specs.Kinds.{setup_line, mid_line, sctp_port_line, max_message_size_line}
 use Rattle.sdp_formats_media_lines.specs.Kinds.{sctp_init_line, extmap_line, msid_line, rtcp_line, candidate_line}
 use Rattle.sdp_formats_media_lines.specs.Kinds.{rtpmap_line, rtcp_fb_line, fmtp_line, rid_line, simulcast_line}
-use Rattle.sdp_formats_media_lines.specs.Kinds.{ssrc_group_line, ssrc_line, direction_word, mux_word, end_word}
+use Rattle.sdp_formats_media_lines.specs.Kinds.{ssrc_group_line, ssrc_line}
 use Rattle.sdp_formats_media_lines.specs.Choice.{media_attribute, second_attribute, third_attribute, last_attribute}
-use Rattle.sdp_formats_media_lines.specs.Choice.{attribute_line}
 
 text-exact : IsExact any_text
 text-exact = told-exact some_text

@@ -1,5 +1,5 @@
 -- What a session text says (RFC 8866 5).
-use Rattle.std.specs.Prelude.{◌≡◌, ℕ, Bool, IsTrue, List, Option, Result, Ok, Err}
+use Rattle.std.specs.Prelude.{◌≡◌, ℕ, IsTrue, List, Option, Result, Ok, Err}
 use Rattle.std.specs.Borrow.{Bor}
 use Rattle.std.specs.List.{list_all}
 use Rattle.sdp_formats_forms.specs.declared.refusal.Refusal.{Refusal}
@@ -11,7 +11,7 @@ use Rattle.sdp_formats_session_lines.specs.declared.passed.Passed.{Passed}
 use Rattle.sdp_formats_media_lines.specs.Choice.{attribute_line as media_line}
 use Rattle.sdp_formats_session_lines.specs.Choice.{attribute_line as session_line}
 use Rattle.sdp_formats_forms.specs.Line.{LineOf}
-use Rattle.sdp_formats_forms.specs.Step.{Stops, Many, Perhaps}
+use Rattle.sdp_formats_forms.specs.Step.{Many, Perhaps}
 use Rattle.sdp_formats_consistency.specs.Consistency.{is_consistent}
 use Rattle.sdp_formats_types.specs.declared.media.MediaLine.{MediaLine}
 use Rattle.sdp_formats_types.specs.declared.session.Sdp.{Sdp}

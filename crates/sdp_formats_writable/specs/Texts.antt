@@ -1,5 +1,5 @@
 -- Whole texts of a session with one attribute more.
-use Rattle.std.specs.Prelude.{ℕ, List, ◌∷◌}
+use Rattle.std.specs.Prelude.{◌∷◌}
 use Rattle.sdp_formats_types.specs.declared.session.Session.{Session}
 use Rattle.sdp_formats_types.specs.declared.session.SessionAttribute.{SessionAttribute}
 

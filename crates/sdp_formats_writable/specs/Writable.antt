@@ -1,5 +1,5 @@
 -- Sessions that can be written (RFC 8866 5).
-use Rattle.std.specs.Prelude.{◌≡◌, ◌⊎◌, ℕ, Bool, true, false, List, All, Option, IfSome}
+use Rattle.std.specs.Prelude.{◌≡◌, ◌⊎◌, Bool, true, false, All, IfSome}
 use Rattle.sdp_formats_session_lines.specs.Lines.{bandwidth_line}
 use Rattle.sdp_formats_session_lines.specs.Choice.{attribute_line}
 use Rattle.sdp_formats_types.specs.PrintedMedia.{bandwidth_text}

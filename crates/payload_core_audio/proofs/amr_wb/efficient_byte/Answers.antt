@@ -1,4 +1,4 @@
-use Rattle.std.proofs.Common.{◌≡◌, ◌+◌, ◌-◌, ◌*◌, ◌/◌, ◌%◌, ℕ, get_or, ap, sym, ◌∙◌, arith}
+use Rattle.std.proofs.Common.{◌≡◌, ◌+◌, ◌-◌, ◌*◌, ◌/◌, ◌%◌, get_or, ap, sym, ◌∙◌, arith}
 use Rattle.payload_core_audio.specs.AmrWb.{byte_from, efficient_bit}
 use Rattle.payload_core_audio.specs.BitBytes.{bits_from, endless_bit, front_of}
 use Rattle.payload_core_audio.proofs.BitLemmas.{efficient-byte, efficient-first, endless-later, endless-second}

@@ -1,5 +1,5 @@
 use Rattle.std.proofs.Common.{◌≡◌, ◌+◌, ◌-◌, ◌*◌, ◌/◌, ◌%◌, ◌++◌, ◌∷◌, [], ap, sym, ◌∙◌, append_assoc, arith}
-use Rattle.payload_core_audio.specs.AmrWb.{byte_from, bytes_from, field_of}
+use Rattle.payload_core_audio.specs.AmrWb.{byte_from, bytes_from}
 use Rattle.payload_core_audio.specs.BitBytes.{bits_from, front_of}
 use Rattle.payload_core_audio.specs.BitPlaces.{place_of}
 use Rattle.payload_core_audio.proofs.BitLemmas.{field-byte, speech-filled, speech-whole}

@@ -1,4 +1,4 @@
-use Rattle.std.proofs.Common.{◌≡◌, ◌∙◌, sym}
+use Rattle.std.proofs.Common.{◌∙◌, sym}
 use Rattle.rtp_media_ends.specs.Arrivals.{takes}
 use Rattle.rtp_media_ends.proofs.Indexing.{any-at, not-any}
 use Rattle.rtp_media_ends.proofs.finding.is_taken.Goals as goal

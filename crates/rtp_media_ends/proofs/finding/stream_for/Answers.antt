@@ -1,4 +1,4 @@
-use Rattle.std.proofs.Common.{◌≡◌, ◌∙◌, sym, true, false}
+use Rattle.std.proofs.Common.{◌∙◌, sym, true, false}
 use Rattle.rtp_media_ends.specs.Arrivals.{takes}
 use Rattle.rtp_media_ends.proofs.Indexing.{found-at, none-at}
 use Rattle.rtp_media_ends.proofs.finding.stream_for.Goals as goal

@@ -1,5 +1,5 @@
-use Rattle.std.proofs.Common.{◌≡◌, ℕ, refl, sym, ◌∙◌, ap, None, Some, Ok}
-use Rattle.rtp_media_schedules.specs.Hearing.{MediaUnit, Stream}
+use Rattle.std.proofs.Common.{refl, sym, ◌∙◌, ap, None, Some, Ok}
+use Rattle.rtp_media_schedules.specs.Hearing.{MediaUnit}
 use Rattle.rtp_media_streams.specs.Drains.{holding}
 use Rattle.rtp_media_streams.specs.Polls.{PollResult, given}
 use Rattle.rtp_media_streams.specs.Receiving.{stream_of}

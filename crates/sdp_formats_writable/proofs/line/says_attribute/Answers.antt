@@ -1,4 +1,4 @@
-use Rattle.std.proofs.Common.{◌≡◌, ◌↔◌, Bool, IsTrue, subst, sym}
+use Rattle.std.proofs.Common.{◌↔◌, Bool, IsTrue, subst, sym}
 use Rattle.sdp_formats_session_lines.specs.Choice.{attribute_line}
 use Rattle.sdp_formats_writable.specs.Writable.{ComesBack}
 use Rattle.sdp_formats_writable.specs.Lines.{IsLineOf}

@@ -1,4 +1,4 @@
-use Rattle.std.proofs.Common.{◌≡◌, ◌<◌, ◌+◌, ◌*◌, ◌/◌, ◌^◌, ◌-◌, ◌%◌, ℕ, get_or, refl, ap, sym, ◌∙◌, arith}
+use Rattle.std.proofs.Common.{◌+◌, ◌*◌, ◌/◌, ◌^◌, ◌-◌, ◌%◌, get_or, refl, ap, sym, ◌∙◌}
 use Rattle.payload_core_audio.specs.BitPlaces.{place_of}
 use Rattle.payload_core_audio.proofs.BitLemmas.{byte-here, octet-small}
 use Rattle.payload_core_audio.proofs.bits.BitPlace.byte.Goals as goal

@@ -1,4 +1,4 @@
-use Rattle.std.proofs.Common.{◌<◌, ◌≡◌, ℕ, List, Some, option_map, length, map, Bor, arith}
+use Rattle.std.proofs.Common.{◌<◌, ℕ, List, length, map, Bor, arith}
 use Rattle.std.proofs.lemmas.List.{length-map}
 use Rattle.payload_core_av1.proofs.ReaderLemmas.{joined-both, joined-none}
 use Rattle.payload_core_av1.proofs.av1_receiver.Av1Depacketizer.take_joined.Goals as goal

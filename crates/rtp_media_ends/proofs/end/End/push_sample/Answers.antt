@@ -6,7 +6,6 @@ use Rattle.rtp_media_streams.specs.Sending.{HasFailed, Sending, after_sample}
 use Rattle.rtp_media_streams.specs.declared.errors.SampleError.{SampleError}
 use Rattle.rtp_media_streams.specs.declared.errors.SampleError.TheVariants.{StreamFailed, TimeTooLarge, LimitTooSmall}
 use Rattle.rtp_media_streams.specs.declared.errors.SampleError.TheVariants.{Payload, Memory}
-use Rattle.rtp_media_streams.specs.declared.types.PayloadTypes.{PayloadTypes}
 use Rattle.rtp_media_ends.specs.declared.open_stream.OpenStream.TheVariants.{Sender}
 use Rattle.rtp_media_ends.specs.Ends.{nth_stream}
 use Rattle.rtp_media_ends.proofs.Indexing.{kept-sender}

@@ -1,4 +1,3 @@
-use Rattle.std.proofs.Common.{◌≡◌}
 use Rattle.rtp_media_ends.proofs.StreamKeys.{other-key}
 use Rattle.rtp_media_ends.proofs.stream_index.StreamIndex.set.Goals as goal
 

@@ -1,0 +1,200 @@
+-- The parameters of a format are read as they are printed.
+use Rattle.std.proofs.Common.{◌≡◌, ◌<◌, ◌≤◌, ◌^◌, ◌+◌, ◌⊎◌, ℕ, Bool, List, [], ◌∷◌, ◌++◌, Option, Some, None, IfSome}
+use Rattle.std.proofs.Common.{refl, sym, ◌∙◌}
+use Rattle.std.proofs.Common.{subst, arith, ⊎_elim, lit≤, take, drop}
+use Rattle.std.specs.List.{flat_map}
+use Rattle.std.specs.Option.{option_map}
+use Rattle.std.proofs.lemmas.Grind.{flat_map-append}
+use Rattle.h26x_payload_profiles.specs.H265ProfileTierLevel.{ComesBack as ComesBack265}
+use Rattle.h26x_payload_profiles.specs.H266ProfileTierLevel.{ComesBack as ComesBack266}
+use Rattle.h26x_payload_profiles.specs.H265Level.{level_id as level_265}
+use Rattle.h26x_payload_profiles.specs.H265Profile.{profile_id as profile_265}
+use Rattle.h26x_payload_profiles.specs.Tier.{tier_flag}
+use Rattle.h26x_payload_profiles.specs.H266Level.{level_id as level_266}
+use Rattle.h26x_payload_profiles.specs.H266Profile.{profile_id as profile_266}
+use Rattle.h26x_payload_profiles.specs.H265ProfileTierLevel.{H265ProfileTierLevel as Level265}
+use Rattle.h26x_payload_profiles.specs.H266ProfileTierLevel.{H266ProfileTierLevel as Level266}
+use Rattle.sdp_formats_streams.specs.PrintedPairs.{PairsComeBack}
+use Rattle.sdp_formats_params.specs.declared.param.FormatParam.{FormatParam}
+use Rattle.sdp_formats_params.specs.declared.param.FormatParam.TheVariants as param
+use Rattle.sdp_formats_format.specs.declared.format.FormatParams.{FormatParams}
+use Rattle.sdp_formats_row_attributes.specs.Attributes.{all_params, given_param, listed_param, params_of}
+use Rattle.sdp_formats_laws.proofs.KeyedLists.{keyed_on_line, keyed_read}
+use Rattle.sdp_formats_laws.proofs.LevelLists.{IsRising, level_back, weaker}
+use Rattle.sdp_formats_laws.proofs.KeyRanks.{rank_of}
+use Rattle.sdp_formats_laws.proofs.LevelNumbers.{reads_265, reads_266}
+use Rattle.sdp_formats_laws.specs.Keyed.{AreKeyed, IsKeyed, IsOrdinary}
+use Rattle.sdp_formats_laws.specs.Parameters.{IsReadBack}
+use Rattle.sdp_formats_laws.specs.Ranges.{AtMostOne, IsInRange, IsModes}
+
+-- a profile, tier and level, and no `profile-id` beside it
+abbrev pub OneLevel : FormatParams → Type 0
+OneLevel f = ((f.h265_profile_tier_level ≡ None) × (f.h266_profile_tier_level ≡ None))
+    ⊎ ((f.profile_id ≡ None) × AtMostOne f.h265_profile_tier_level f.h266_profile_tier_level)
+
+-- what isn't given
+absent : {V : Type 0} (o : Option V) → o ≡ None → IfSome o (λ v. ⊥)
+absent o e = subst (λ x. IfSome x (λ v. ⊥)) (sym e) tt
+
+any_flag : (o : Option Bool) → IfSome o (λ v. Unit {0})
+any_flag None = tt
+any_flag (Some v) = tt
+
+-- one parameter more, given or not
+keyed_more : {V : Type 0} (c : V → FormatParam) (P : V → Type 0) → ((v : V) → P v → IsKeyed (c v)) → (o : Option V)
+    (rest : List FormatParam) → IfSome o P → AreKeyed rest → AreKeyed (listed_param (option_map c o) ++ rest)
+keyed_more c P h None rest k r = r
+keyed_more c P h (Some v) rest k r = (h v k, r)
+
+rising_more : {V : Type 0} (low more high : ℕ) (c : V → FormatParam) (P : V → Type 0)
+    → ((v : V) → P v → IsOrdinary (c v)) → ((v : V) → P v → rank_of (c v) ≡ more) → low ≤ more → (o : Option V)
+    (rest : List FormatParam) → IfSome o P → IsRising (more + 1) high rest
+    → IsRising low high (listed_param (option_map c o) ++ rest)
+rising_more low more high c P h r l None rest k up = weaker low (more + 1) high rest (omega (l, arith)) up
+rising_more low more high c P h r l (Some v) rest k up = (
+  h v k,
+  omega (l, r v k, arith),
+  subst (λ n. IsRising (n + 1) high rest) (sym (r v k)) up,
+)
+
+-- the parameters from a place on, so many
+abbrev pub given : FormatParams → ℕ → ℕ → List FormatParam
+given f i n = flat_map (given_param f) (take n (drop i all_params))
+
+all_keyed : (f : FormatParams) → IsInRange f → f.h265_profile_tier_level ≡ None → f.h266_profile_tier_level ≡ None
+    → f.telephone_event_max ≡ None → AreKeyed (params_of f)
+unfolding given_param
+all_keyed f h five six none =
+    let k17 : AreKeyed (given f 17 1) =
+    keyed_more param.ModeSet IsModes (λ v k. k) f.mode_set (given f 18 0) h.9 tt in
+    let k16 : AreKeyed (given f 16 2) =
+    keyed_more param.OctetAlign (λ v. Unit {0}) (λ v k. tt) f.octet_align (given f 17 1) (any_flag f.octet_align) k17 in
+    let k15 : AreKeyed (given f 15 3) =
+    keyed_more param.TelephoneEvents (λ v. ⊥) (λ v k. absurd k) f.telephone_event_max (given f 16 2)
+    (absent f.telephone_event_max none) k16 in
+    let k14 : AreKeyed (given f 14 4) =
+    keyed_more param.SpropMaxDonDiff (λ v. v ≤ 32767) (λ v k. k) f.sprop_max_don_diff (given f 15 3) h.7 k15 in
+    let k13 : AreKeyed (given f 13 5) =
+    keyed_more param.H266ProfileTierLevel (λ v. ⊥) (λ v k. absurd k) f.h266_profile_tier_level (given f 14 4)
+    (absent f.h266_profile_tier_level six) k14 in
+    let k12 : AreKeyed (given f 12 6) =
+    keyed_more param.H265ProfileTierLevel (λ v. ⊥) (λ v k. absurd k) f.h265_profile_tier_level (given f 13 5)
+    (absent f.h265_profile_tier_level five) k13 in
+    let k11 : AreKeyed (given f 11 7) =
+    keyed_more param.Tier (λ v. v < 2 ^ 8) (λ v k. k) f.tier (given f 12 6) h.6 k12 in
+    let k10 : AreKeyed (given f 10 8) =
+    keyed_more param.LevelIdx (λ v. v < 2 ^ 8) (λ v k. k) f.level_idx (given f 11 7) h.5 k11 in
+    let k9 : AreKeyed (given f 9 9) =
+    keyed_more param.Profile (λ v. v < 2 ^ 8) (λ v k. k) f.profile (given f 10 8) h.4 k10 in
+    let k8 : AreKeyed (given f 8 10) =
+    keyed_more param.ProfileId (λ v. v < 2 ^ 32) (λ v k. k) f.profile_id (given f 9 9) h.3 k9 in
+    let k7 : AreKeyed (given f 7 11) =
+    keyed_more param.ProfileLevelId (λ v. v < 2 ^ 32) (λ v k. k) f.profile_level_id (given f 8 10) h.2 k8 in
+    let k6 : AreKeyed (given f 6 12) =
+    keyed_more param.PacketizationMode (λ v. v < 2 ^ 8) (λ v k. k) f.packetization_mode (given f 7 11) h.1 k7 in
+    let k5 : AreKeyed (given f 5 13) =
+    keyed_more param.LevelAsymmetryAllowed (λ v. Unit {0}) (λ v k. tt) f.level_asymmetry_allowed (given f 6 12)
+    (any_flag f.level_asymmetry_allowed) k6 in
+    let k4 : AreKeyed (given f 4 14) =
+    keyed_more param.UseDtx (λ v. Unit {0}) (λ v k. tt) f.use_dtx (given f 5 13) (any_flag f.use_dtx) k5 in
+    let k3 : AreKeyed (given f 3 15) =
+    keyed_more param.UseInbandFec (λ v. Unit {0}) (λ v k. tt) f.use_inband_fec (given f 4 14)
+    (any_flag f.use_inband_fec) k4 in
+    let k2 : AreKeyed (given f 2 16) =
+    keyed_more param.SpropStereo (λ v. Unit {0}) (λ v k. tt) f.sprop_stereo (given f 3 15)
+    (any_flag f.sprop_stereo) k3 in
+    let k1 : AreKeyed (given f 1 17) =
+    keyed_more param.Stereo (λ v. Unit {0}) (λ v k. tt) f.stereo (given f 2 16) (any_flag f.stereo) k2 in
+    keyed_more param.MinPTime (λ v. v < 2 ^ 8) (λ v k. k) f.min_p_time (given f 1 17) h.0 k1
+
+front_rising : (f : FormatParams) → IsInRange f → f.profile_id ≡ None → IsRising 1 13 (given f 0 12)
+unfolding given_param
+front_rising f h none =
+    let r11 : IsRising 12 13 (given f 11 1) =
+    rising_more 12 12 13 param.Tier (λ v. v < 2 ^ 8) (λ v k. k) (λ v k. refl) (lit≤ tt) f.tier (given f 18 0) h.6
+    (lit≤ tt) in
+    let r10 : IsRising 11 13 (given f 10 2) =
+    rising_more 11 11 13 param.LevelIdx (λ v. v < 2 ^ 8) (λ v k. k) (λ v k. refl) (lit≤ tt) f.level_idx
+    (given f 11 1) h.5 r11 in
+    let r9 : IsRising 10 13 (given f 9 3) =
+    rising_more 10 10 13 param.Profile (λ v. v < 2 ^ 8) (λ v k. k) (λ v k. refl) (lit≤ tt) f.profile
+    (given f 10 2) h.4 r10 in
+    let r8 : IsRising 9 13 (given f 8 4) =
+    rising_more 9 9 13 param.ProfileId (λ v. ⊥) (λ v k. absurd k) (λ v k. absurd k) (lit≤ tt) f.profile_id
+    (given f 9 3) (absent f.profile_id none) r9 in
+    let r7 : IsRising 8 13 (given f 7 5) =
+    rising_more 8 8 13 param.ProfileLevelId (λ v. v < 2 ^ 32) (λ v k. k) (λ v k. refl) (lit≤ tt) f.profile_level_id
+    (given f 8 4) h.2 r8 in
+    let r6 : IsRising 7 13 (given f 6 6) =
+    rising_more 7 7 13 param.PacketizationMode (λ v. v < 2 ^ 8) (λ v k. k) (λ v k. refl)
+    (lit≤ tt) f.packetization_mode (given f 7 5) h.1 r7 in
+    let r5 : IsRising 6 13 (given f 5 7) =
+    rising_more 6 6 13 param.LevelAsymmetryAllowed (λ v. Unit {0}) (λ v k. tt) (λ v k. refl)
+    (lit≤ tt) f.level_asymmetry_allowed (given f 6 6) (any_flag f.level_asymmetry_allowed) r6 in
+    let r4 : IsRising 5 13 (given f 4 8) =
+    rising_more 5 5 13 param.UseDtx (λ v. Unit {0}) (λ v k. tt) (λ v k. refl) (lit≤ tt) f.use_dtx (given f 5 7)
+    (any_flag f.use_dtx) r5 in
+    let r3 : IsRising 4 13 (given f 3 9) =
+    rising_more 4 4 13 param.UseInbandFec (λ v. Unit {0}) (λ v k. tt) (λ v k. refl) (lit≤ tt) f.use_inband_fec
+    (given f 4 8) (any_flag f.use_inband_fec) r4 in
+    let r2 : IsRising 3 13 (given f 2 10) =
+    rising_more 3 3 13 param.SpropStereo (λ v. Unit {0}) (λ v k. tt) (λ v k. refl) (lit≤ tt) f.sprop_stereo
+    (given f 3 9) (any_flag f.sprop_stereo) r3 in
+    let r1 : IsRising 2 13 (given f 1 11) =
+    rising_more 2 2 13 param.Stereo (λ v. Unit {0}) (λ v k. tt) (λ v k. refl) (lit≤ tt) f.stereo (given f 2 10)
+    (any_flag f.stereo) r2 in
+    rising_more 1 1 13 param.MinPTime (λ v. v < 2 ^ 8) (λ v k. k) (λ v k. refl) (lit≤ tt) f.min_p_time
+    (given f 1 11) h.0 r1
+
+back_rising : (f : FormatParams) → IsInRange f → f.telephone_event_max ≡ None → IsRising 16 20 (given f 14 4)
+unfolding given_param
+back_rising f h none =
+    let r3 : IsRising 19 20 (given f 17 1) =
+    rising_more 19 19 20 param.ModeSet IsModes (λ v k. k) (λ v k. refl) (lit≤ tt) f.mode_set (given f 18 0) h.9
+    (lit≤ tt) in
+    let r2 : IsRising 18 20 (given f 16 2) =
+    rising_more 18 18 20 param.OctetAlign (λ v. Unit {0}) (λ v k. tt) (λ v k. refl) (lit≤ tt) f.octet_align
+    (given f 17 1) (any_flag f.octet_align) r3 in
+    let r1 : IsRising 17 20 (given f 15 3) =
+    rising_more 17 17 20 param.TelephoneEvents (λ v. ⊥) (λ v k. absurd k) (λ v k. absurd k)
+    (lit≤ tt) f.telephone_event_max (given f 16 2) (absent f.telephone_event_max none) r2 in
+    rising_more 16 16 20 param.SpropMaxDonDiff (λ v. v ≤ 32767) (λ v k. k) (λ v k. refl)
+    (lit≤ tt) f.sprop_max_don_diff (given f 15 3) h.7 r1
+
+keyed_back : PairsComeBack → (ps : List FormatParam) → AreKeyed ps → IsReadBack ps
+keyed_back back [] h = tt
+keyed_back back (p ∷ ps) h = (keyed_on_line p ps h, keyed_read back p ps h)
+
+by_levels : (f : FormatParams) (a : Option Level265) (b : Option Level266) → f.h265_profile_tier_level ≡ a
+    → f.h266_profile_tier_level ≡ b → params_of f ≡ given f 0 12
+    ++ (listed_param (option_map param.H265ProfileTierLevel a)
+    ++ (listed_param (option_map param.H266ProfileTierLevel b) ++ given f 14 4))
+unfolding given_param
+by_levels f a b five six = flat_map-append (given_param f) (take 12 all_params) (drop 12 all_params)
+    ∙ (λ i. given f 0 12 ++ (listed_param (option_map param.H265ProfileTierLevel (five i))
+    ++ (listed_param (option_map param.H266ProfileTierLevel (six i)) ++ given f 14 4)))
+
+with_levels : PairsComeBack → ComesBack265 → ComesBack266 → (f : FormatParams) (a : Option Level265)
+    (b : Option Level266) → f.h265_profile_tier_level ≡ a → f.h266_profile_tier_level ≡ b → IsInRange f
+    → f.profile_id ≡ None → AtMostOne a b → f.telephone_event_max ≡ None → IsReadBack (params_of f)
+with_levels pairs one other f None None five six h id apart none =
+    keyed_back pairs (params_of f) (all_keyed f h five six none)
+with_levels pairs one other f (Some v) None five six h id apart none =
+    subst IsReadBack (sym (by_levels f (Some v) None five six))
+    (level_back pairs (given f 0 12) (given f 14 4) (param.H265ProfileTierLevel v)
+    (profile_265 v.profile) (tier_flag v.tier) (level_265 v.level) (reads_265 one v) (front_rising f h id)
+    (back_rising f h none))
+with_levels pairs one other f None (Some v) five six h id apart none =
+    subst IsReadBack (sym (by_levels f None (Some v) five six))
+    (level_back pairs (given f 0 12) (given f 14 4) (param.H266ProfileTierLevel v)
+    (profile_266 v.profile) (tier_flag v.tier) (level_266 v.level) (reads_266 other v) (front_rising f h id)
+    (back_rising f h none))
+with_levels pairs one other f (Some v) (Some w) five six h id apart none = absurd apart
+
+pub format_back : PairsComeBack → ComesBack265 → ComesBack266 → (f : FormatParams) → IsInRange f → OneLevel f
+    → f.telephone_event_max ≡ None → IsReadBack (params_of f)
+format_back pairs one other f h levels none = ⊎_elim
+    (λ (k : (f.h265_profile_tier_level ≡ None) × (f.h266_profile_tier_level ≡ None)).
+    keyed_back pairs (params_of f) (all_keyed f h k.0 k.1 none))
+    (λ k. with_levels pairs one other f f.h265_profile_tier_level f.h266_profile_tier_level refl refl h k.0 k.1 none)
+    levels

@@ -1,0 +1,91 @@
+-- What holds of whole texts whose sections list plain rows.
+use Rattle.std.specs.Prelude.{◌≡◌, ◌≢◌, ◌<◌, ◌^◌, Bool, true, false, IsTrue, List, [], ◌∷◌, ◌++◌, map, filter, IfSome}
+use Rattle.std.specs.List.{flat_map, list_all, list_any}
+use Rattle.sdp_formats_laws.specs.Printable.{IsPrintable}
+use Rattle.sdp_formats_laws.specs.PrintableTexts.{IsEach, IsPrintableBandwidth, IsPrintableSection, IsPrintableSession}
+use Rattle.sdp_formats_laws.specs.ReadTexts.{section_as_read, text_as_read}
+use Rattle.sdp_formats_lookups.specs.Sections.{extmap_in}
+use Rattle.sdp_formats_reader.specs.Grammar.{SdpSays}
+use Rattle.sdp_formats_round.specs.Laws.{is_distinct}
+use Rattle.sdp_formats_laws.specs.RowsBack.{attributes_in, names_type, types_in, unlocked}
+use Rattle.sdp_formats_rows.specs.Plain.{is_plain}
+use Rattle.sdp_formats_rows.specs.Rows.{Row}
+use Rattle.sdp_formats_section_rows.specs.SectionRows.{rows_of}
+use Rattle.sdp_formats_consistency.specs.Consistency.{is_consistent}
+use Rattle.sdp_formats_types.specs.Lookups.{direction_of, first_of, mid_in, msid_in, setup_in}
+use Rattle.sdp_formats_types.specs.PrintedSession.{sdp_text}
+use Rattle.sdp_formats_types.specs.declared.media.MediaAttribute.{MediaAttribute}
+use Rattle.sdp_formats_types.specs.declared.media.MediaAttribute.TheVariants.{Fmtp}
+use Rattle.sdp_formats_types.specs.declared.media.MediaLine.{MediaLine}
+use Rattle.sdp_formats_types.specs.declared.media.MediaType.{MediaType}
+use Rattle.sdp_formats_types.specs.declared.media.MediaType.TheVariants.{Audio, Video}
+use Rattle.sdp_formats_types.specs.declared.session.Sdp.{Sdp}
+
+-- A clock rate of 32 bits above 0 and channels of 8 bits, as every row of the program has.
+abbrev pub IsSized : Row → Type 0
+IsSized row = (0 < row.spec.clock_rate) × (row.spec.clock_rate < 2 ^ 32) × IfSome row.spec.channels (λ n. n < 2 ^ 8)
+
+abbrev pub IsMedia : MediaType → Type 0
+IsMedia Audio = Unit {0}
+IsMedia Video = Unit {0}
+IsMedia _ = ⊥
+
+-- A section of audio or video that lists rows: plain ones of distinct types, their types in the line `m=`, their
+-- attributes among others that name no type and can stand on their lines.
+pub record ListsRows (m : MediaLine) (rows : List Row) : Type 0 where
+  pub media : IsMedia m.typ
+  pub bandwidth : IsPrintableBandwidth m.bw
+  pub some : rows ≢ []
+  pub plain : list_all is_plain rows ≡ true
+  pub sized : IsEach IsSized rows
+  pub distinct : is_distinct (types_in rows) ≡ true
+  pub types : m.pts ≡ types_in rows
+  pub others : List MediaAttribute
+  pub behind : List MediaAttribute
+  pub attributes : m.attrs ≡ others ++ (attributes_in rows ++ behind)
+  pub others_printable : IsEach IsPrintable others
+  pub behind_printable : IsEach IsPrintable behind
+  pub others_silent : list_any names_type others ≡ false
+  pub behind_silent : list_any names_type behind ≡ false
+
+-- Such a section can be printed: each attribute that lists a plain row is a printable one.
+abbrev pub RowsArePrintable : Type 0
+RowsArePrintable = (m : MediaLine) (rows : List Row) → ListsRows m rows → IsPrintableSection m
+
+-- The rows that a section names.
+abbrev pub section_rows : MediaLine → List Row
+section_rows m = rows_of m.pts m.attrs
+
+-- What a printed section is read as names the rows that the section names.
+abbrev pub ReadRowsAreRows : Type 0
+ReadRowsAreRows = (m : MediaLine) → section_rows (section_as_read m) ≡ section_rows m
+
+abbrev pub EachListsRows : List MediaLine → List (List Row) → Type 0
+EachListsRows [] [] = Unit {0}
+EachListsRows (m ∷ ms) (rows ∷ more) = ListsRows m rows × EachListsRows ms more
+EachListsRows [] (rows ∷ more) = ⊥
+EachListsRows (m ∷ ms) [] = ⊥
+
+-- A text whose sections list plain rows and have no fault, in a printable session, is read whole; and the rows that
+-- are read of it are those rows, section by section and in their order, not locked.
+abbrev pub RowTextsComeBack : Type 0
+RowTextsComeBack = (sdp : Sdp) (rows : List (List Row)) → IsPrintableSession sdp.session
+    → EachListsRows sdp.media_lines rows → IsTrue (list_all is_consistent sdp.media_lines)
+    → SdpSays (sdp_text sdp) (text_as_read sdp) []
+    × (map section_rows (text_as_read sdp).media_lines ≡ map (map unlocked) rows)
+
+-- A line of another kind than `a=fmtp`.
+abbrev pub is_other_line : MediaAttribute → Bool
+is_other_line (Fmtp pt values) = false
+is_other_line _ = true
+
+-- What a printed section is read as says the same by each of its other lines, in their order: the name, the direction,
+-- the names of streams, the setup and the header extensions among them.
+abbrev pub ReadSectionsSayTheSame : Type 0
+ReadSectionsSayTheSame = (m : MediaLine)
+    → (filter is_other_line (section_as_read m).attrs ≡ filter is_other_line m.attrs)
+    × (first_of mid_in (section_as_read m).attrs ≡ first_of mid_in m.attrs)
+    × (direction_of (section_as_read m).attrs ≡ direction_of m.attrs)
+    × (first_of msid_in (section_as_read m).attrs ≡ first_of msid_in m.attrs)
+    × (first_of setup_in (section_as_read m).attrs ≡ first_of setup_in m.attrs)
+    × (flat_map extmap_in (section_as_read m).attrs ≡ flat_map extmap_in m.attrs)

@@ -1,0 +1,43 @@
+//! What printed parameters are read as.
+
+ghost use Rattle.std.specs.Prelude.{◌≡◌};
+ghost use Rattle.h26x_payload_profiles.specs.H265ProfileTierLevel.{fallback as h265_fallback};
+ghost use Rattle.h26x_payload_profiles.specs.H266ProfileTierLevel.{fallback as h266_fallback};
+ghost use Rattle.sdp_formats_laws.specs.Parameters.{LinksComeBack, PlainParametersComeBack};
+
+use h26x_payload_profiles::{
+    H265ProfileTierLevel, H266ProfileTierLevel, h265_tables_law, h266_tables_law,
+};
+use sdp_formats_streams::{pairs_law, printed_pairs_law};
+
+/// The parameters of a plain row, as its section lists them, are read as they are printed (RFC 8866 6.15): the same
+/// parameters, a profile, tier and level in front of the others.
+pub fn plain_parameters_law()
+    ensures { PlainParametersComeBack }
+{
+    pairs_law();
+    printed_pairs_law();
+    h265_tables_law();
+    h266_tables_law();
+}
+
+/// The parameter of a type of retransmissions (RFC 4588 8.6) and that of a type of redundant audio (RFC 2198 5) are
+/// read as they are printed.
+pub fn links_law()
+    ensures { LinksComeBack }
+{
+    pairs_law();
+    printed_pairs_law();
+}
+
+/// The constants `FALLBACK`, which stand where a session text says nothing: the numbers 1, 0 and 93 of H.265 (RFC 7798
+/// 7.1), and 1, 0 and 51 of H.266 (RFC 9328 7.2).
+pub fn fallbacks_law() -> (H265ProfileTierLevel, H266ProfileTierLevel)
+    ensures h265 { result.0 ≡ h265_fallback }
+    ensures h266 { result.1 ≡ h266_fallback }
+{
+    (
+        H265ProfileTierLevel::FALLBACK,
+        H266ProfileTierLevel::FALLBACK,
+    )
+}

@@ -1,0 +1,38 @@
+//! Rows that are printed in a text and read of it.
+
+ghost use Rattle.sdp_formats_laws.specs.Rows.{ReadRowsAreRows, ReadSectionsSayTheSame, RowTextsComeBack};
+ghost use Rattle.sdp_formats_laws.specs.Rows.{RowsArePrintable};
+
+use crate::parameters::{links_law, plain_parameters_law};
+use crate::rows_back::plain_rows_come_back;
+use crate::texts::printed_texts_law;
+
+/// A section that lists plain rows, as `as_media_attrs` gives their attributes, can be printed: each of its lines is
+/// read as what it was printed of.
+pub fn row_lines_law()
+    ensures { RowsArePrintable }
+{
+    plain_parameters_law();
+    links_law();
+}
+
+/// The rows that a printed section is read to name are those that the section names, by any parameters.
+pub fn read_rows_law()
+    ensures { ReadRowsAreRows }
+{}
+
+/// What a printed section is read to say by lines other than `a=fmtp` is what the section says by them.
+pub fn read_sections_law()
+    ensures { ReadSectionsSayTheSame }
+{}
+
+/// Plain rows of distinct types, printed in sections of a printable session, are read whole, and `rtp_params` answers
+/// them equal and in order (RFC 8866 6.6 and 6.15, RFC 4585 4.2, RFC 4588 8.6, RFC 2198 5).
+pub fn row_texts_law()
+    ensures { RowTextsComeBack }
+{
+    printed_texts_law();
+    plain_rows_come_back();
+    row_lines_law();
+    read_rows_law();
+}

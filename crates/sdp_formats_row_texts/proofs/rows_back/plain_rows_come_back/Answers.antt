@@ -1,5 +1,0 @@
-use Rattle.sdp_formats_row_texts.proofs.Whole.{plain_rows_come_back}
-use Rattle.sdp_formats_row_texts.proofs.rows_back.plain_rows_come_back.Goals as goal
-
-pub returns : goal.returns
-returns c = plain_rows_come_back

@@ -1,2 +1,0 @@
-pub mod RowsBack
-pub mod Laws
