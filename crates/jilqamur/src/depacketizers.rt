@@ -8,6 +8,7 @@ ghost use Rattle.jilqamur_payloads.specs.Formats.{format_outcome};
 ghost use Rattle.jilqamur_payloads.specs.PacketInboxes.{new_packet_inbox, behind_push, PopsAt, bytes_of, IsToldOf};
 
 use jilqamur_payloads::{DepacketizerHandle, WireFormat, WireUnit};
+use jilqamur_wire::codes;
 use std::alloc::Global;
 
 /// Opens a depacketizer by codec.
@@ -58,7 +59,12 @@ pub extern "C" fn jilqamur_depacketizer_push(
         (λ p after. result ≡ ok → after ≡ behind_push p number time marker payload.now) }
     ensures kept { result ≢ ok → depacketizer.new.place.object ≡ depacketizer.old.place.object }
 {
-    depacketizer.push(alloc, number, time, marker, payload)
+    let Some(mut inbox) = depacketizer.take(alloc) else {
+        return codes::CLOSED;
+    };
+    let code = inbox.push(number, time, marker, payload);
+    depacketizer.put(inbox);
+    code
 }
 
 /// Pops a unit that is due.
@@ -72,7 +78,12 @@ pub extern "C" fn jilqamur_depacketizer_pop(
     ensures kept { AtObject depacketizer.old.place.object depacketizer.new.place.object result
         (λ p after. result ≢ ok → after.unit ≡ p.unit) }
 {
-    depacketizer.pop(alloc)
+    let Some(mut inbox) = depacketizer.take(alloc) else {
+        return codes::CLOSED;
+    };
+    let code = inbox.pop();
+    depacketizer.put(inbox);
+    code
 }
 
 /// Pops the lowest complete unit, whatever is missing before it.
@@ -86,7 +97,12 @@ pub extern "C" fn jilqamur_depacketizer_drain(
     ensures kept { AtObject depacketizer.old.place.object depacketizer.new.place.object result
         (λ p after. result ≢ ok → after.unit ≡ p.unit) }
 {
-    depacketizer.drain(alloc)
+    let Some(mut inbox) = depacketizer.take(alloc) else {
+        return codes::CLOSED;
+    };
+    let code = inbox.drain();
+    depacketizer.put(inbox);
+    code
 }
 
 /// Copies the unit that is left.
@@ -107,5 +123,10 @@ pub extern "C" fn jilqamur_depacketizer_unit(
     ensures nothing { result ≡ nothing → (needed.new ≡ needed.old) × (told.new ≡ told.old) }
     ensures unchanged { depacketizer.new.place.object ≡ depacketizer.old.place.object }
 {
-    depacketizer.unit(alloc, buffer, needed, told)
+    let Some(mut inbox) = depacketizer.take(alloc) else {
+        return codes::CLOSED;
+    };
+    let code = inbox.unit(buffer, needed, told);
+    depacketizer.put(inbox);
+    code
 }

@@ -23,7 +23,7 @@ mod senders;
 mod setup;
 mod streams;
 
-use jilqamur_wire::{WindowHandle, WireHeader, codes, read_header, write_header};
+use jilqamur_wire::{WindowHandle, WireHeader, codes, read_header, reception_code, write_header};
 use rtp_wire::{extend_u16, unpad_payload};
 use std::alloc::Global;
 
@@ -110,7 +110,12 @@ pub extern "C" fn jilqamur_window_receive(
         (reception_of r.window (header_in empty_map datagram.now)) result number.old number.new) }
     ensures after { window.new.place.object ≡ option_map (behind datagram.now) window.old.place.object }
 {
-    window.receive(alloc, datagram, number)
+    let Some(mut replay) = window.take(alloc) else {
+        return codes::CLOSED;
+    };
+    let reception = replay.receive(datagram);
+    window.put(replay);
+    reception_code(reception, number)
 }
 
 /// Frees the window of a handle.
@@ -119,9 +124,5 @@ pub extern "C" fn jilqamur_window_close(alloc: Global, window: &mut WindowHandle
     ensures held { result ≡ answer_of window.old.place.object }
     ensures empty { window.new.place.object ≡ None }
 {
-    if window.close(alloc) {
-        codes::OK
-    } else {
-        codes::CLOSED
-    }
+    window.close(alloc)
 }

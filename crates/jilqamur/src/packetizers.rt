@@ -9,6 +9,7 @@ ghost use Rattle.jilqamur_payloads.specs.PacketOutboxes.{new_packet_outbox, pack
 ghost use Rattle.jilqamur_payloads.specs.PacketOutboxes.{after_cut, packing_in};
 
 use jilqamur_payloads::{PacketizerHandle, WireFormat, WirePacketizer};
+use jilqamur_wire::codes;
 use std::alloc::Global;
 
 /// Opens a packetizer by codec.
@@ -59,7 +60,12 @@ pub extern "C" fn jilqamur_packetizer_packetize(
     ensures kept { result ≢ ok → packetizer.new.place.object ≡ packetizer.old.place.object }
     ensures closed { result ≡ closed → count.new ≡ count.old }
 {
-    packetizer.packetize(alloc, mtu, sample, count)
+    let Some(mut outbox) = packetizer.take(alloc) else {
+        return codes::CLOSED;
+    };
+    let code = outbox.packetize(mtu, sample, count);
+    packetizer.put(outbox);
+    code
 }
 
 /// Copies a packet that is left, with its marker.
@@ -82,5 +88,10 @@ pub extern "C" fn jilqamur_packetizer_packet(
     ensures nothing { result ≡ nothing → needed.new ≡ needed.old }
     ensures unchanged { packetizer.new.place.object ≡ packetizer.old.place.object }
 {
-    packetizer.packet(alloc, index, buffer, needed, marker)
+    let Some(mut outbox) = packetizer.take(alloc) else {
+        return codes::CLOSED;
+    };
+    let code = outbox.packet(index, buffer, needed, marker);
+    packetizer.put(outbox);
+    code
 }

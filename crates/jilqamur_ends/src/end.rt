@@ -20,8 +20,7 @@ impl EndHandle {
         ensures refusal { result ≢ ok → result ≢ memory → result ≡ in_use }
         ensures unchanged { result ≢ ok → self.new.place.object ≡ self.old.place.object }
     {
-        if let Some(held) = self.take(alloc) {
-            self.put(held);
+        if self.is_open() {
             return codes::IN_USE;
         }
         match Box::new(alloc, Peer::empty(alloc)) {

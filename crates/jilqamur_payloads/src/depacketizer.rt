@@ -1,16 +1,14 @@
-//! Calls of a depacketizer that a C program holds.
+//! Handles of depacketizers, opened and closed.
 
 ghost use Rattle.std.specs.Prelude.{◌≡◌, ◌≢◌, None, Some, IsSome};
-ghost use Rattle.jilqamur_wire.specs.Codes.{ok, memory, nothing, closed, in_use};
-ghost use Rattle.jilqamur_wire.specs.Copies.{IsFetched};
-ghost use Rattle.jilqamur_wire.specs.Handles.{AtObject, answer_of};
+ghost use Rattle.jilqamur_wire.specs.Codes.{ok, memory, in_use};
+ghost use Rattle.jilqamur_wire.specs.Handles.{answer_of};
 ghost use Rattle.jilqamur_payloads.specs.Formats.{format_outcome};
-ghost use Rattle.jilqamur_payloads.specs.PacketInboxes.{new_packet_inbox, behind_push, PopsAt, bytes_of, IsToldOf};
+ghost use Rattle.jilqamur_payloads.specs.PacketInboxes.{new_packet_inbox};
 
 use crate::depacketizer_place::DepacketizerHandle;
 use crate::format::WireFormat;
 use crate::packet_inbox::PacketInbox;
-use crate::payload_unit::WireUnit;
 use jilqamur_wire::codes;
 use std::alloc::Global;
 
@@ -32,8 +30,7 @@ impl DepacketizerHandle {
             → result ≡ format_outcome format.now codec.now }
         ensures unchanged { result ≢ ok → self.new.place.object ≡ self.old.place.object }
     {
-        if let Some(held) = self.take(alloc) {
-            self.put(held);
+        if self.is_open() {
             return codes::IN_USE;
         }
         let opened = match PacketInbox::new(alloc, format, codec, hold_back) {
@@ -47,84 +44,6 @@ impl DepacketizerHandle {
             }
             Err(_) => codes::MEMORY,
         }
-    }
-
-    /// Takes a packet in at the depacketizer that it holds; `CLOSED` where it holds none.
-    pub fn push(
-        &mut self,
-        alloc: Global,
-        number: u64,
-        time: u32,
-        marker: bool,
-        payload: &[u8],
-    ) -> u32
-        ensures outcome { AtObject self.old.place.object self.new.place.object result
-            (λ p after. result ≢ memory → result ≡ ok) }
-        ensures taken { AtObject self.old.place.object self.new.place.object result
-            (λ p after. result ≡ ok → after ≡ behind_push p number time marker payload.now) }
-        ensures kept { result ≢ ok → self.new.place.object ≡ self.old.place.object }
-    {
-        let Some(mut inbox) = self.take(alloc) else {
-            return codes::CLOSED;
-        };
-        let code = inbox.push(number, time, marker, payload);
-        self.put(inbox);
-        code
-    }
-
-    /// Pops a unit of the depacketizer that it holds; `CLOSED` where it holds none.
-    pub fn pop(&mut self, alloc: Global) -> u32
-        ensures answer { AtObject self.old.place.object self.new.place.object result
-            (λ p after. PopsAt p.hold_back p result after) }
-        ensures kept { AtObject self.old.place.object self.new.place.object result
-            (λ p after. result ≢ ok → after.unit ≡ p.unit) }
-    {
-        let Some(mut inbox) = self.take(alloc) else {
-            return codes::CLOSED;
-        };
-        let code = inbox.pop();
-        self.put(inbox);
-        code
-    }
-
-    /// The same, whether or not a packet before the lowest complete frame is missing.
-    pub fn drain(&mut self, alloc: Global) -> u32
-        ensures answer { AtObject self.old.place.object self.new.place.object result
-            (λ p after. PopsAt 0 p result after) }
-        ensures kept { AtObject self.old.place.object self.new.place.object result
-            (λ p after. result ≢ ok → after.unit ≡ p.unit) }
-    {
-        let Some(mut inbox) = self.take(alloc) else {
-            return codes::CLOSED;
-        };
-        let code = inbox.drain();
-        self.put(inbox);
-        code
-    }
-
-    /// Copies the unit that was popped last, and tells of it; `CLOSED` where it holds no depacketizer.
-    pub fn unit(
-        &mut self,
-        alloc: Global,
-        buffer: &mut [u8],
-        needed: &mut usize,
-        told: &mut WireUnit,
-    ) -> u32
-        ensures bytes { AtObject self.old.place.object self.new.place.object result
-            (λ p after. IsFetched (bytes_of p.unit) buffer.old result needed.new buffer.new) }
-        ensures told { AtObject self.old.place.object self.new.place.object result
-            (λ p after. IsToldOf p.unit told.new) }
-        ensures closed { result ≡ closed
-            → (buffer.new ≡ buffer.old) × (needed.new ≡ needed.old) × (told.new ≡ told.old) }
-        ensures nothing { result ≡ nothing → (needed.new ≡ needed.old) × (told.new ≡ told.old) }
-        ensures unchanged { self.new.place.object ≡ self.old.place.object }
-    {
-        let Some(mut inbox) = self.take(alloc) else {
-            return codes::CLOSED;
-        };
-        let code = inbox.unit(buffer, needed, told);
-        self.put(inbox);
-        code
     }
 
     /// Frees the depacketizer, and answers `OK`, or `CLOSED` where it holds none; it holds nothing from now on.

@@ -63,8 +63,15 @@ pub struct DepacketizerHandle {
 }
 
 impl DepacketizerHandle {
+    /// Whether it holds something.
+    pub(crate) fn is_open(&self) -> bool
+        ensures { result ≡ is_some self.now.place.object }
+    {
+        self.full
+    }
+
     /// What it holds, which is taken out.
-    pub(crate) fn take(&mut self, alloc: Global) -> Option<Box<PacketInbox>>
+    pub fn take(&mut self, alloc: Global) -> Option<Box<PacketInbox>>
         ensures taken { option_map (λ b. b.value) result ≡ self.old.place.object }
         ensures empty { self.new.place.object ≡ None }
     {
@@ -85,7 +92,7 @@ impl DepacketizerHandle {
     ///
     /// # Conditions
     /// It holds nothing.
-    pub(crate) fn put(&mut self, value: Box<PacketInbox>)
+    pub fn put(&mut self, value: Box<PacketInbox>)
         requires { self.old.place.object ≡ None }
         ensures { self.new.place.object ≡ Some value.value }
     {

@@ -1,12 +1,9 @@
-//! Calls of a packetizer that a C program holds.
+//! Handles of packetizers, opened and closed.
 
-ghost use Rattle.std.specs.Prelude.{◌≡◌, ◌≢◌, ◌+◌, ◌==◌, length, None, Some, IsSome, MatchOption};
-ghost use Rattle.std.specs.List.{slice_get};
-ghost use Rattle.jilqamur_wire.specs.Codes.{ok, memory, nothing, closed, in_use};
-ghost use Rattle.jilqamur_wire.specs.Copies.{IsFetched};
-ghost use Rattle.jilqamur_wire.specs.Handles.{AtObject, answer_of};
-ghost use Rattle.jilqamur_payloads.specs.PacketOutboxes.{new_packet_outbox, packetizer_outcome, cut, cut_outcome};
-ghost use Rattle.jilqamur_payloads.specs.PacketOutboxes.{after_cut, packing_in};
+ghost use Rattle.std.specs.Prelude.{◌≡◌, ◌≢◌, None, Some, IsSome};
+ghost use Rattle.jilqamur_wire.specs.Codes.{ok, memory, in_use};
+ghost use Rattle.jilqamur_wire.specs.Handles.{answer_of};
+ghost use Rattle.jilqamur_payloads.specs.PacketOutboxes.{new_packet_outbox, packetizer_outcome};
 
 use crate::format::WireFormat;
 use crate::packet_outbox::{PacketOutbox, WirePacketizer};
@@ -33,8 +30,7 @@ impl PacketizerHandle {
             → result ≡ packetizer_outcome params.now format.now codec.now }
         ensures unchanged { result ≢ ok → self.new.place.object ≡ self.old.place.object }
     {
-        if let Some(held) = self.take(alloc) {
-            self.put(held);
+        if self.is_open() {
             return codes::IN_USE;
         }
         let opened = match PacketOutbox::new(alloc, params, format, codec) {
@@ -48,52 +44,6 @@ impl PacketizerHandle {
             }
             Err(_) => codes::MEMORY,
         }
-    }
-
-    /// Cuts a sample at the packetizer that it holds; `CLOSED` where it holds none.
-    pub fn packetize(&mut self, alloc: Global, mtu: usize, sample: &[u8], count: &mut usize) -> u32
-        ensures outcome { AtObject self.old.place.object self.new.place.object result
-            (λ p after. result ≢ memory → result ≡ cut_outcome (cut p mtu sample.now)) }
-        ensures after { AtObject self.old.place.object self.new.place.object result
-            (λ p after. result ≢ memory → after ≡ after_cut p (cut p mtu sample.now)) }
-        ensures count { AtObject self.old.place.object self.new.place.object result
-            (λ p after. count.new ≡ length after.packets) }
-        ensures kept { result ≢ ok → self.new.place.object ≡ self.old.place.object }
-        ensures closed { result ≡ closed → count.new ≡ count.old }
-    {
-        let Some(mut outbox) = self.take(alloc) else {
-            return codes::CLOSED;
-        };
-        let code = outbox.packetize(mtu, sample, count);
-        self.put(outbox);
-        code
-    }
-
-    /// Copies the packet of a place that the last sample left; `CLOSED` where it holds no packetizer.
-    pub fn packet(
-        &mut self,
-        alloc: Global,
-        index: usize,
-        buffer: &mut [u8],
-        needed: &mut usize,
-        marker: &mut bool,
-    ) -> u32
-        ensures bytes { AtObject self.old.place.object self.new.place.object result
-            (λ p after. IsFetched (slice_get p.packets index) buffer.old result needed.new buffer.new) }
-        ensures marker { AtObject self.old.place.object self.new.place.object result
-            (λ p after. MatchOption (slice_get p.packets index) (marker.new ≡ marker.old)
-            (λ packet. marker.new ≡ (packing_in p).marks packet (index + 1 == length p.packets))) }
-        ensures closed { result ≡ closed
-            → (buffer.new ≡ buffer.old) × (needed.new ≡ needed.old) × (marker.new ≡ marker.old) }
-        ensures nothing { result ≡ nothing → needed.new ≡ needed.old }
-        ensures unchanged { self.new.place.object ≡ self.old.place.object }
-    {
-        let Some(mut outbox) = self.take(alloc) else {
-            return codes::CLOSED;
-        };
-        let code = outbox.packet(index, buffer, needed, marker);
-        self.put(outbox);
-        code
     }
 
     /// Frees the packetizer, and answers `OK`, or `CLOSED` where it holds none; it holds nothing from now on.

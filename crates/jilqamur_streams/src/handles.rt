@@ -33,8 +33,7 @@ impl SenderHandle {
             → result ≡ sender_outcome params.now format.now codec.now }
         ensures unchanged { result ≢ ok → self.new.place.object ≡ self.old.place.object }
     {
-        if let Some(held) = self.take(alloc) {
-            self.put(held);
+        if self.is_open() {
             return codes::IN_USE;
         }
         let opened = match Outbox::new(alloc, params, format, codec) {
@@ -80,8 +79,7 @@ impl ReceiverHandle {
             → result ≡ format_outcome format.now codec.now }
         ensures unchanged { result ≢ ok → self.new.place.object ≡ self.old.place.object }
     {
-        if let Some(held) = self.take(alloc) {
-            self.put(held);
+        if self.is_open() {
             return codes::IN_USE;
         }
         let opened = match Inbox::new(alloc, format, codec, hold_back) {

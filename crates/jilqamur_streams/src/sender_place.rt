@@ -63,6 +63,13 @@ pub struct SenderHandle {
 }
 
 impl SenderHandle {
+    /// Whether it holds something.
+    pub(crate) fn is_open(&self) -> bool
+        ensures { result ≡ is_some self.now.place.object }
+    {
+        self.full
+    }
+
     /// What it holds, which is taken out.
     pub fn take(&mut self, alloc: Global) -> Option<Box<Outbox>>
         ensures taken { option_map (λ b. b.value) result ≡ self.old.place.object }

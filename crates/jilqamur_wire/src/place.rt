@@ -1,19 +1,16 @@
-//! A window that a C program holds.
+//! A place for a window that a C program holds.
 
-ghost use Rattle.std.specs.Prelude.{◌≡◌, ◌≢◌, Option, Some, None, IsSome, is_some, MatchOption};
+ghost use Rattle.std.specs.Prelude.{◌≡◌, ◌≢◌, Option, Some, None, IsSome, is_some};
 ghost use Rattle.std.specs.Option.{option_map};
-ghost use Rattle.rtp_wire.specs.Header.{header_in};
-ghost use Rattle.rtp_wire.specs.Run.{reception_of};
-ghost use Rattle.rtp_wire_extensions.specs.Maps.{empty_map};
-ghost use Rattle.jilqamur_wire.specs.Codes.{ok, memory, in_use, closed};
+ghost use Rattle.jilqamur_wire.specs.Codes.{ok, memory, in_use};
+ghost use Rattle.jilqamur_wire.specs.Handles.{answer_of};
 ghost use Rattle.jilqamur_wire.specs.Owned.{owned, object_coded};
-ghost use Rattle.jilqamur_wire.specs.Windows.{ReceivedAs, behind, fresh};
+ghost use Rattle.jilqamur_wire.specs.Windows.{fresh};
 ghost use Rattle.jilqamur_wire.specs.declared.replay.Replay.{Replay};
 
 use crate::codes;
 use crate::parts::Parts;
 use crate::replay::Replay;
-use rtp_wire::Reception;
 use std::alloc::Global;
 use std::marker::Model;
 use std::{mem, ptr};
@@ -70,8 +67,15 @@ pub struct WindowHandle {
 }
 
 impl WindowHandle {
-    /// The window that it holds, which is taken out.
-    fn take(&mut self, alloc: Global) -> Option<Box<Replay>>
+    /// Whether it holds something.
+    pub(crate) fn is_open(&self) -> bool
+        ensures { result ≡ is_some self.now.place.object }
+    {
+        self.full
+    }
+
+    /// What it holds, which is taken out.
+    pub fn take(&mut self, alloc: Global) -> Option<Box<Replay>>
         ensures taken { option_map (λ b. b.value) result ≡ self.old.place.object }
         ensures empty { self.new.place.object ≡ None }
     {
@@ -85,8 +89,11 @@ impl WindowHandle {
         }
     }
 
-    /// Holds this window from now on.
-    fn put(&mut self, value: Box<Replay>)
+    /// Holds this from now on.
+    ///
+    /// # Conditions
+    /// It holds nothing.
+    pub fn put(&mut self, value: Box<Replay>)
         requires { self.old.place.object ≡ None }
         ensures { self.new.place.object ≡ Some value.value }
     {
@@ -102,8 +109,7 @@ impl WindowHandle {
         ensures refusal { result ≢ ok → result ≢ memory → result ≡ in_use }
         ensures unchanged { result ≢ ok → self.new.place.object ≡ self.old.place.object }
     {
-        if let Some(held) = self.take(alloc) {
-            self.put(held);
+        if self.is_open() {
             return codes::IN_USE;
         }
         match Box::new(alloc, Replay { window: None }) {
@@ -115,42 +121,14 @@ impl WindowHandle {
         }
     }
 
-    /// Takes a datagram in at the window that it holds: `CLOSED` where it holds none, `UNREADABLE` where the datagram
-    /// begins with no header, `REFUSED` where its number came before or is too late, else `OK`, and `number` is
-    /// the widened number, which is recorded. The payload is not looked at.
-    pub fn receive(&mut self, alloc: Global, datagram: &[u8], number: &mut u64) -> u32
-        ensures closed { self.old.place.object ≡ None → (result ≡ closed) × (number.new ≡ number.old) }
-        ensures answer { MatchOption self.old.place.object (result ≡ closed) (λ r. ReceivedAs
-            (reception_of r.window (header_in empty_map datagram.now)) result number.old number.new) }
-        ensures after { self.new.place.object ≡ option_map (behind datagram.now) self.old.place.object }
-    {
-        let Some(mut replay) = self.take(alloc) else {
-            return codes::CLOSED;
-        };
-        let reception = replay.receive(datagram);
-        self.put(replay);
-        code_of(reception, number)
-    }
-
-    /// Whether it held a window, which is freed; it holds nothing from now on.
-    pub fn close(&mut self, alloc: Global) -> bool
-        ensures held { result ≡ is_some self.old.place.object }
+    /// Frees the window, and answers `OK`, or `CLOSED` where it holds none; it holds nothing from now on.
+    pub fn close(&mut self, alloc: Global) -> u32
+        ensures held { result ≡ answer_of self.old.place.object }
         ensures empty { self.new.place.object ≡ None }
     {
-        self.take(alloc).is_some()
-    }
-}
-
-/// The number of a reception, and the sequence number that it took.
-fn code_of(reception: Reception, number: &mut u64) -> u32
-    ensures { ReceivedAs reception result number.old number.new }
-{
-    match reception {
-        Reception::Unreadable => codes::UNREADABLE,
-        Reception::Refused => codes::REFUSED,
-        Reception::Taken(taken) => {
-            *number = taken.get();
-            codes::OK
+        match self.take(alloc) {
+            Some(_) => codes::OK,
+            None => codes::CLOSED,
         }
     }
 }

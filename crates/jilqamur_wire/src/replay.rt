@@ -4,8 +4,9 @@ ghost use Rattle.std.specs.Prelude.{◌≡◌};
 ghost use Rattle.rtp_wire.specs.Header.{header_in};
 ghost use Rattle.rtp_wire.specs.Run.{reception_of};
 ghost use Rattle.rtp_wire_extensions.specs.Maps.{empty_map};
-ghost use Rattle.jilqamur_wire.specs.Windows.{behind};
+ghost use Rattle.jilqamur_wire.specs.Windows.{ReceivedAs, behind};
 
+use crate::codes;
 use rtp_wire::{ExtensionMap, Reception, SeqNoWindow, receive_one};
 
 /// The replay window of one stream.
@@ -23,5 +24,20 @@ impl Replay {
     {
         let exts = ExtensionMap::empty();
         receive_one(&mut self.window, datagram, &exts)
+    }
+}
+
+/// What a reception is as a code: `OK`, and `number` is the sequence number that was taken; or `UNREADABLE` or
+/// `REFUSED`.
+pub fn reception_code(reception: Reception, number: &mut u64) -> u32
+    ensures { ReceivedAs reception result number.old number.new }
+{
+    match reception {
+        Reception::Unreadable => codes::UNREADABLE,
+        Reception::Refused => codes::REFUSED,
+        Reception::Taken(taken) => {
+            *number = taken.get();
+            codes::OK
+        }
     }
 }
