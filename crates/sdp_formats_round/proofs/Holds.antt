@@ -1,7 +1,7 @@
 -- The laws of rounds.
 use Rattle.std.proofs.Common.{◌≡◌, ◌≢◌, Bool, true, false, not, ◌&&◌, List, [], ◌∷◌, ◌++◌, refl, sym, ◌∙◌, ap, Option}
-use Rattle.std.proofs.Common.{Some, None, Ok, if◌then◌else◌}
-use Rattle.std.specs.Prelude.{filter}
+use Rattle.std.proofs.Common.{Some, None, Ok, if◌then◌else◌, subst}
+use Rattle.std.specs.Prelude.{filter, is_none}
 use Rattle.sdp_formats_rows.specs.Rows.{Row}
 use Rattle.payload_core_base.specs.declared.codec.Codec.TheVariants.{AmrWb}
 use Rattle.sdp_formats_rows.specs.Codecs.{is_codec}
@@ -12,12 +12,12 @@ use Rattle.sdp_formats_round.specs.Turns.{and_then}
 use Rattle.sdp_formats_round.specs.Rounds.{standing_rows, agreed_row, agreed_rows, settled_rows, restated, open_best}
 use Rattle.sdp_formats_round.specs.Rounds.{best_open, first_above, unless_above, round}
 use Rattle.sdp_formats_round.specs.Laws.{is_distinct, Along, Becomes, LockedTypesDistinct, RowsBecome, rounds, Keeps}
-use Rattle.sdp_formats_round.specs.Laws.{LockedRowsKeepTypes}
+use Rattle.sdp_formats_round.specs.Laws.{KeepsFeedback, LockedRowsKeepTypes}
 use Rattle.sdp_formats_round.proofs.Split.{split_ok, ok_same, turns_along, along_join}
 use Rattle.sdp_formats_round.proofs.Bests.{best_matches, fewer_none}
 use Rattle.sdp_formats_round.proofs.Locks.{standing_distinct, standing_same}
 use Rattle.sdp_formats_round.proofs.Matches.{Way, stood, matched, left, way_of, agreed_distinct}
-use Rattle.sdp_formats_round.proofs.Settles.{Moves, moves_types, settled_along}
+use Rattle.sdp_formats_round.proofs.Settles.{Moves, moves_types, same_feedback, settled_along}
 
 pub locked_types_distinct : LockedTypesDistinct
 unfolding round
@@ -58,6 +58,19 @@ open_is_best : (dictated : Bool) (remote now : List Row) (row best : Row)
     → best_row row.spec remote ≡ Some best
 open_is_best dictated remote now row best e all = ok_same (best_row row.spec remote) (Some best) (rw all at e)
 
+restated_feedback : (row : Row) (o : Option Row) → KeepsFeedback row (restated row o)
+restated_feedback row None = (refl, refl, refl, refl)
+restated_feedback row (Some best) = (refl, refl, refl, refl)
+
+kept_on : (row mid new : Row) → KeepsFeedback row mid → KeepsFeedback mid new → KeepsFeedback row new
+kept_on row mid new a b = (b.0 ∙ a.0, b.1 ∙ a.1, b.2 ∙ a.2, b.3 ∙ a.3)
+
+-- where none are left aside one that matches is found
+open_is_found : (dictated : Bool) (remote now : List Row) (row best : Row) → open_best dictated remote now row ≡ Ok None
+    → (dictated && is_codec row.spec.codec AmrWb) ≡ false → best_row row.spec remote ≡ Some best → ⊥
+open_is_found dictated remote now row best e all is =
+    let none : best_row row.spec remote ≡ None = ok_same (best_row row.spec remote) None (rw all at e) in cc
+
 restated_locked : (row : Row) (o : Option Row) → (restated row o).locked ≡ row.locked
 restated_locked row None = refl
 restated_locked row (Some best) = refl
@@ -77,6 +90,9 @@ becomes dictated remote now row mid new (stood is same) m =
         ap (λ
             (x : Row). x.locked) w,
       );
+      meets = λ best _ _. ap (λ (x : Row). x.locked) (m.kept locked) ∙ locked;
+      feedback = kept_on row mid new (let P : Row → Type 0 = KeepsFeedback row in
+          subst P (sym same) (restated_feedback row (best_row row.spec remote))) m.feedback;
     }
 becomes dictated remote now row mid new (matched is best b made) m =
     let same : new ≡ mid = m.kept made.locked in
@@ -90,9 +106,13 @@ becomes dictated remote now row mid new (matched is best b made) m =
         settings = ap (λ (x : Row). x.spec) same ∙ made.settings;
         feedback = ap (λ (x : Row). x.transport_cc) same ∙ made.feedback;
         types = λ d. let t = made.types d in (ap (λ (x : Row). x.pt) same ∙ t.0, ap (λ (x : Row). x.resend) same ∙ t.1);
+        resend = ap (λ (x : Row). is_none x.resend) same ∙ made.resend;
+        red = λ t is. made.red t (sym (ap (λ (x : Row). x.red) same) ∙ is);
       };
       stays = λ no. absurd (let t : new.locked ≡ true = ap (λ (x : Row). x.locked) same ∙ made.locked in cc);
       unmatched = λ none. absurd (found.1 none);
+      meets = λ _ _ _. ap (λ (x : Row). x.locked) same ∙ made.locked;
+      feedback = kept_on row mid new made.others m.feedback;
     }
 becomes dictated remote now row mid new (left is b same) m =
     let no : mid.locked ≡ false = ap (λ (x : Row). x.locked) same ∙ is in
@@ -102,6 +122,8 @@ becomes dictated remote now row mid new (left is b same) m =
       locks = λ _ yes. absurd (let f : new.locked ≡ false = u.0 in cc);
       stays = λ _. (u.1 ∙ ap (λ (x : Row). x.spec) same, u.2 ∙ ap (λ (x : Row). x.transport_cc) same, is);
       unmatched = λ _. (u.1 ∙ ap (λ (x : Row). x.spec) same, u.0 ∙ sym is);
+      meets = λ best found all. absurd (open_is_found dictated remote now row best b all found);
+      feedback = kept_on row mid new (same_feedback row mid same) m.feedback;
     }
 
 -- some rows by then

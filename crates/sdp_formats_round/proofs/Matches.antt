@@ -1,16 +1,18 @@
 -- What a match makes of a row.
-use Rattle.std.proofs.Common.{◌≡◌, ℕ, Bool, true, false, ◌&&◌, List, [], ◌∷◌, ◌++◌, refl, sym, ◌∙◌, ap, Option, Some}
+use Rattle.std.proofs.Common.{◌≡◌, ◌≢◌, ℕ, Bool, true, false, ◌&&◌, List, [], ◌∷◌, ◌++◌, refl, sym, ◌∙◌, ap, Option, Some}
 use Rattle.std.proofs.Common.{None, Ok, if◌then◌else◌}
+use Rattle.std.specs.Prelude.{is_none}
 use Rattle.payload_core_base.specs.Codecs.{is_audio_codec}
 use Rattle.sdp_formats_rows.specs.Rows.{Row}
-use Rattle.sdp_formats_round.specs.declared.claims.Role.TheVariants.{Main}
+use Rattle.sdp_formats_round.specs.declared.claims.Own.{Own}
+use Rattle.sdp_formats_round.specs.declared.claims.Role.TheVariants.{Main, Resend}
 use Rattle.sdp_formats_round.specs.Best.{best_row}
 use Rattle.sdp_formats_round.specs.Negotiated.{negotiated}
 use Rattle.sdp_formats_round.specs.Types.{locked_types}
 use Rattle.sdp_formats_round.specs.Turns.{and_then}
 use Rattle.sdp_formats_round.specs.Rounds.{none_given, given, agreed_type, agreed_resend, agreed_red, locked_as}
 use Rattle.sdp_formats_round.specs.Rounds.{matched_row, matched_if, open_best, restated, agreed_row, agreed_rows}
-use Rattle.sdp_formats_round.specs.Laws.{is_distinct}
+use Rattle.sdp_formats_round.specs.Laws.{KeepsFeedback, is_distinct}
 use Rattle.sdp_formats_round.proofs.Split.{split_ok, ok_same, turns_keep}
 use Rattle.sdp_formats_round.proofs.Fresh.{agreed_unclaimed, resend_unclaimed, red_unclaimed, dictated_same}
 use Rattle.sdp_formats_round.proofs.Fresh.{dictated_resend}
@@ -24,6 +26,26 @@ pub record Made (dictated : Bool) (now : List Row) (row best new : Row) : Type 0
   pub settings : new.spec ≡ negotiated row.spec best.spec
   pub feedback : new.transport_cc ≡ (row.transport_cc && best.transport_cc)
   pub types : dictated ≡ true → (new.pt ≡ best.pt) × (new.resend ≡ best.resend)
+  pub resend : is_none new.resend ≡ is_none best.resend
+  pub red : (t : ℕ) → new.red ≡ Some t → (is_audio_codec row.spec.codec ≡ true) × (row.red ≢ None) × (best.red ≢ None)
+  pub others : KeepsFeedback row new
+
+-- an RTX type just where the other end has one
+resend_with : (dictated : Bool) (before now : List Row) (own : Own) (ours theirs resend : Option ℕ)
+    → agreed_resend dictated before now own ours theirs ≡ Ok resend → is_none resend ≡ is_none theirs
+resend_with dictated before now own ours None resend e = ap is_none (sym (ok_same None resend e))
+resend_with dictated before now own ours (Some u) resend e =
+    let s = split_ok (agreed_type Resend dictated before now own ours u) (λ t. Ok (Some t)) resend e in
+    ap is_none (sym (ok_same (Some s.0) resend s.2))
+
+-- a RED type only where both have one and the codec is audio
+red_both : (dictated : Bool) (before now : List Row) (own : Own) (audio : Bool) (ours theirs red : Option ℕ) (t : ℕ)
+    → agreed_red dictated before now own audio ours theirs ≡ Ok red → red ≡ Some t
+    → (audio ≡ true) × (ours ≢ None) × (theirs ≢ None)
+red_both dictated before now own true (Some o) (Some u) red t e is = (refl, (λ n. cc), (λ n. cc))
+red_both dictated before now own false o u red t e is = cc
+red_both dictated before now own true None u red t e is = cc
+red_both dictated before now own true (Some o) None red t e is = cc
 
 made_of : (dictated : Bool) (before now : List Row) (row best : Row) (pt : ℕ) (resend red : Option ℕ)
     → agreed_type Main dictated before now none_given (Some row.pt) best.pt ≡ Ok pt
@@ -46,6 +68,10 @@ made_of dictated before now row best pt resend red a b c = record {
         (rw d at a),
     dictated_resend before now (given pt None) row.resend best.resend resend (rw d at b),
   );
+  resend = resend_with dictated before now (given pt None) row.resend best.resend resend b;
+  red = λ t is. red_both dictated before now (given pt resend) (is_audio_codec row.spec.codec) row.red best.red red t c
+      is;
+  others = (refl, refl, refl, refl);
 }
 
 pub matched_made : (dictated : Bool) (before now : List Row) (row best new : Row)

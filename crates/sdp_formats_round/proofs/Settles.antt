@@ -6,7 +6,7 @@ use Rattle.sdp_formats_round.specs.Types.{locked_types}
 use Rattle.sdp_formats_round.specs.Turns.{and_then}
 use Rattle.sdp_formats_round.specs.Rounds.{none_given, given, moved_type, moved_red, moved_resend, moved_row}
 use Rattle.sdp_formats_round.specs.Rounds.{settled_row, settled_rows}
-use Rattle.sdp_formats_round.specs.Laws.{Along}
+use Rattle.sdp_formats_round.specs.Laws.{Along, KeepsFeedback}
 use Rattle.sdp_formats_round.proofs.Split.{split_ok, ok_same, turns_along}
 use Rattle.sdp_formats_round.proofs.Locked.{locked_one, unlocked_one}
 
@@ -14,9 +14,20 @@ pub record Moves (row new : Row) : Type 0 where
   pub kept : row.locked ≡ true → new ≡ row
   pub unlocked : row.locked ≡ false → (new.locked ≡ false) × (new.spec ≡ row.spec) × (new.transport_cc
       ≡ row.transport_cc)
+  pub feedback : KeepsFeedback row new
+
+-- a row that is the same keeps its feedback
+pub same_feedback : (row new : Row) → new ≡ row → KeepsFeedback row new
+same_feedback row new same = (
+  ap (λ (x : Row). x.nack) same,
+  ap (λ (x : Row). x.pli) same,
+  ap (λ (x : Row). x.fir) same,
+  ap (λ (x : Row). x.remb)
+      same,
+)
 
 moved_parts : (before now : List Row) (row new : Row) → moved_row before now row ≡ Ok new
-    → (new.locked ≡ row.locked) × (new.spec ≡ row.spec) × (new.transport_cc ≡ row.transport_cc)
+    → (new.locked ≡ row.locked) × (new.spec ≡ row.spec) × (new.transport_cc ≡ row.transport_cc) × KeepsFeedback row new
 moved_parts before now row new e =
     let s = split_ok (moved_type Main before now none_given row.pt)
     (λ pt. and_then (moved_red before now (given pt None) row.red)
@@ -31,19 +42,24 @@ moved_parts before now row new e =
     let same = ok_same m new d.2 in (
       sym (ap (λ (x : Row). x.locked) same),
       sym (ap (λ (x : Row). x.spec) same),
-      sym (ap (λ
-          (x : Row). x.transport_cc) same),
+      sym (ap (λ (x : Row). x.transport_cc) same),
+      same_feedback m new (sym same),
     )
 
 pub moves_of : (before now : List Row) (row new : Row) → settled_row before now row ≡ Ok new → Moves row new
 moves_of before now row new e = at row.locked refl e
   where
     at : (b : Bool) → row.locked ≡ b → (if b then Ok row else moved_row before now row) ≡ Ok new → Moves row new
-    at true is f = record { kept = λ _. sym (ok_same row new f); unlocked = λ no. absurd (cc) }
+    at true is f = record {
+      kept = λ _. sym (ok_same row new f);
+      unlocked = λ no. absurd (cc);
+      feedback = same_feedback row new (sym (ok_same row new f));
+    }
     at false is f = let p = moved_parts before now row new f in record {
       kept = λ yes. absurd (cc);
       unlocked = λ _.
           (p.0 ∙ is, p.1, p.2);
+      feedback = p.3;
     }
 
 pub moves_types : (xs ys : List Row) → Along Moves xs ys → locked_types ys ≡ locked_types xs

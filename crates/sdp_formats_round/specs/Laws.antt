@@ -1,7 +1,8 @@
 -- What holds of rounds.
 use Rattle.std.specs.Prelude.{◌≡◌, ◌≢◌, ◌⊎◌, ◌==◌, ℕ, Bool, true, false, not, ◌&&◌, List, [], ◌∷◌, Some, None, Result}
-use Rattle.std.specs.Prelude.{Ok, ⊤}
+use Rattle.std.specs.Prelude.{Ok, ⊤, is_none}
 use Rattle.std.specs.List.{list_any}
+use Rattle.payload_core_base.specs.Codecs.{is_audio_codec}
 use Rattle.payload_core_base.specs.declared.codec.Codec.TheVariants.{AmrWb}
 use Rattle.sdp_formats_rows.specs.Codecs.{is_codec}
 use Rattle.sdp_formats_rows.specs.Rows.{Row}
@@ -28,8 +29,14 @@ Along R (x ∷ xs) (y ∷ ys) = R x y × Along R xs ys
 Along R [] (y ∷ ys) = ⊥
 Along R (x ∷ xs) [] = ⊥
 
+-- All feedback but transport-wide feedback is as it was.
+abbrev pub KeepsFeedback : Row → Row → Type 0
+KeepsFeedback row new =
+    (new.nack ≡ row.nack) × (new.pli ≡ row.pli) × (new.fir ≡ row.fir) × (new.remb ≡ row.remb)
+
 -- The row has what a match with one of the remote rows leaves of its settings, and where types are dictated that
--- row's type and RTX type.
+-- row's type and RTX type. It has an RTX type just where that row has one, and a RED type only where both rows of
+-- audio have one.
 pub record IsTakenFrom (dictated : Bool) (remote : List Row) (row new : Row) : Type 0 where
   pub best : Row
   pub matches : score row.spec best.spec ≢ None
@@ -37,18 +44,25 @@ pub record IsTakenFrom (dictated : Bool) (remote : List Row) (row new : Row) : T
   pub settings : new.spec ≡ negotiated row.spec best.spec
   pub feedback : new.transport_cc ≡ (row.transport_cc && best.transport_cc)
   pub types : dictated ≡ true → (new.pt ≡ best.pt) × (new.resend ≡ best.resend)
+  pub resend : is_none new.resend ≡ is_none best.resend
+  pub red : (t : ℕ) → new.red ≡ Some t → (is_audio_codec row.spec.codec ≡ true) × (row.red ≢ None) × (best.red ≢ None)
 
 -- What a round makes of a row.
 -- A locked row keeps all but what a match leaves of its settings.
 -- Another row that is locked by it has the settings that the match with a remote row leaves, and where types are
 -- dictated that row's type and RTX type.
 -- A row that isn't locked by it keeps its settings and its feedback.
--- A row that no remote row matches keeps its settings and stays locked or unlocked.
+-- A row that no remote row matches keeps its settings and stays locked or unlocked. One that a remote row matches is
+-- locked, but for AMR-WB where types are dictated, whose best row may be under a type that is claimed.
+-- No row's feedback changes but transport-wide feedback.
 pub record Becomes (dictated : Bool) (remote : List Row) (row new : Row) : Type 0 where
   pub stands : row.locked ≡ true → new ≡ restated row (best_row row.spec remote)
   pub locks : row.locked ≡ false → new.locked ≡ true → IsTakenFrom dictated remote row new
   pub stays : new.locked ≡ false → (new.spec ≡ row.spec) × (new.transport_cc ≡ row.transport_cc) × (row.locked ≡ false)
   pub unmatched : best_row row.spec remote ≡ None → (new.spec ≡ row.spec) × (new.locked ≡ row.locked)
+  pub meets : (best : Row) → best_row row.spec remote ≡ Some best
+      → (dictated && is_codec row.spec.codec AmrWb) ≡ false → new.locked ≡ true
+  pub feedback : KeepsFeedback row new
 
 -- After an answered round the types of the locked rows are distinct.
 abbrev pub LockedTypesDistinct : Type 0

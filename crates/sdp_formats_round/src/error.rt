@@ -7,7 +7,8 @@ use thiserror::Error;
 /// Why a round is refused.
 #[derive(Clone, Copy, Debug, PartialEq, Eq, Drop, Error)]
 pub enum RoundError {
-    /// A payload type or a RED type is above 127, or it is claimed already.
+    /// A payload type is above 127, or it is claimed already. A RED type is above 127, or it is claimed already and
+    /// its row was locked before the round: another row gives a claimed one up, or takes a free one.
     #[error("payload type {0} is taken")]
     TypeTaken(Pt),
     /// A type of retransmissions is above 127, or it is claimed already.

@@ -14,7 +14,8 @@ mod standing;
 pub use best::best_row;
 pub use error::RoundError;
 pub use laws::{
-    best_is_best, locked_rows_keep_types, locked_types_distinct, rows_become, unlocked_rows_apart,
+    best_is_best, locked_rows_keep_types, locked_types_distinct, rows_become,
+    suggested_types_taken, unlocked_rows_apart,
 };
 pub use rounds::round;
 pub use sdp_formats_rows::{CodecSpec, PayloadParams, Pt};

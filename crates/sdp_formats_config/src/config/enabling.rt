@@ -51,18 +51,13 @@ impl CodecConfig {
     ///
     /// # Errors
     ///
-    /// `AllocError` where memory runs out; the config is then as before.
+    /// `AllocError` where memory runs out, never to disable; the config is then as before.
     pub fn enable_opus(&mut self, enabled: bool, use_red: bool) -> Result<(), AllocError>
-        ensures off { enabled ≡ false → self.new ≡ with_rows Opus [] self.old }
-        ensures never_refused { enabled ≡ false → IsOk result }
-        ensures on { enabled ≡ true → OnOk result (self.new ≡ with_rows Opus (opus_row use_red ∷ []) self.old) }
+        ensures ok { OnOk result (self.new ≡ with_rows Opus (rows_if enabled (opus_row use_red ∷ [])) self.old) }
         ensures err { OnErr result (self.new ≡ self.old) }
+        ensures off { enabled ≡ false → IsOk result }
     {
-        if !enabled {
-            drop_rows(&mut self.params, Codec::Opus);
-            return Ok(());
-        }
-        put_rows(&mut self.params, Codec::Opus, &[rows::opus(use_red)])
+        self.enable(enabled, Codec::Opus, &[rows::opus(use_red)])
     }
 
     fn enable(

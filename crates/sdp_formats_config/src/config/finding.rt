@@ -24,7 +24,7 @@ fn find<F: FnMut(&PayloadParams) -> bool>(
 
 impl CodecConfig {
     /// The first row, in order of preference, that a test accepts; None where it accepts none. The test is called on
-    /// one row after the other, up to the first that it accepts.
+    /// one row after the other.
     ///
     /// # Conditions
     ///
