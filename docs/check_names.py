@@ -4,8 +4,8 @@ what the crates have.
 
 A definition is written `crate` `File.name`, `name`, ..: each name has to be declared in the crate's
 specs/File.antt. On the page of promises each name in the column of calls is a public function, and a
-name in parentheses is a clause of one. On any page a block of text behind a line `<!-- FILE -->` stands word for
-word in that file, at one depth of indentation. Each wrong body in wrong_bodies/ changes text that its file has once.
+name in parentheses is a clause of one. On any page a name with an underscore stands somewhere in the tree, and
+a block of text behind a line `<!-- FILE -->` word for word in that file, at one depth of indentation. Each wrong body in wrong_bodies/ changes text that its file has once.
 Prints what is missing, and ends with status 1 then.
 """
 import re
@@ -128,6 +128,23 @@ def differing_files():
         yield "docs/run.svg isn't crates/rtpgraph/stdout"
 
 
+def stray_names():
+    """Names with an underscore that stand on a page, and nowhere in the tree but on pages."""
+    known = set()
+    for path in ROOT.rglob("*"):
+        if {".git", "out"} & set(path.relative_to(ROOT).parts):
+            continue
+        known.update(re.findall(r"\w+", path.as_posix()))
+        if path.suffix in (".rt", ".antt", ".h", ".rs", ".c", ".py"):
+            known.update(re.findall(r"\w+", path.read_text(encoding="utf-8")))
+    for page in [ROOT / "README.md", ROOT / "CONTRIBUTING.md", *sorted((ROOT / "docs").glob("*.md"))]:
+        for number, line in enumerate(page.read_text(encoding="utf-8").split("\n"), 1):
+            for token in re.findall(r"`([^`]+)`", line):
+                for name in re.findall(r"\b[a-z][a-z0-9]*(?:_[a-z0-9]+)+\b", token):
+                    if name not in known:
+                        yield f"{page.relative_to(ROOT)}:{number}: {name} stands nowhere in the tree"
+
+
 def stale_wrong_bodies():
     for edit in sorted(ROOT.glob("wrong_bodies/*/*.edit")):
         file = None
@@ -145,6 +162,7 @@ found = [
     *missing_promises(),
     *differing_blocks(),
     *differing_files(),
+    *stray_names(),
     *stale_wrong_bodies(),
 ]
 for line in found:
