@@ -25,6 +25,7 @@ pub extern "C" fn jilqamur_depacketizer_open(
     ensures held_none { result ≡ ok → depacketizer.old.place.object ≡ None }
     ensures accepted { result ≡ ok → format_outcome format.now codec.now ≡ ok }
     ensures in_use { IsSome depacketizer.old.place.object → result ≡ in_use }
+    ensures only_in_use { result ≡ in_use → IsSome depacketizer.old.place.object }
     ensures refusal { result ≢ ok → result ≢ memory → result ≢ in_use → result ≡ format_outcome format.now codec.now }
     ensures unchanged { result ≢ ok → depacketizer.new.place.object ≡ depacketizer.old.place.object }
 {

@@ -91,6 +91,7 @@ pub extern "C" fn jilqamur_window_open(alloc: Global, window: &mut WindowHandle)
     ensures opened { result ≡ ok → window.new.place.object ≡ Some fresh }
     ensures held_none { result ≡ ok → window.old.place.object ≡ None }
     ensures in_use { IsSome window.old.place.object → result ≡ in_use }
+    ensures only_in_use { result ≡ in_use → IsSome window.old.place.object }
     ensures refusal { result ≢ ok → result ≢ memory → result ≡ in_use }
     ensures unchanged { result ≢ ok → window.new.place.object ≡ window.old.place.object }
 {

@@ -26,6 +26,7 @@ pub extern "C" fn jilqamur_packetizer_open(
     ensures held_none { result ≡ ok → packetizer.old.place.object ≡ None }
     ensures accepted { result ≡ ok → packetizer_outcome params.now format.now codec.now ≡ ok }
     ensures in_use { IsSome packetizer.old.place.object → result ≡ in_use }
+    ensures only_in_use { result ≡ in_use → IsSome packetizer.old.place.object }
     ensures refusal { result ≢ ok → result ≢ memory → result ≢ in_use
         → result ≡ packetizer_outcome params.now format.now codec.now }
     ensures unchanged { result ≢ ok → packetizer.new.place.object ≡ packetizer.old.place.object }

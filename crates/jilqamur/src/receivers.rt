@@ -26,6 +26,7 @@ pub extern "C" fn jilqamur_receiver_open(
     ensures held_none { result ≡ ok → receiver.old.place.object ≡ None }
     ensures accepted { result ≡ ok → format_outcome format.now codec.now ≡ ok }
     ensures in_use { IsSome receiver.old.place.object → result ≡ in_use }
+    ensures only_in_use { result ≡ in_use → IsSome receiver.old.place.object }
     ensures refusal { result ≢ ok → result ≢ memory → result ≢ in_use → result ≡ format_outcome format.now codec.now }
     ensures unchanged { result ≢ ok → receiver.new.place.object ≡ receiver.old.place.object }
 {

@@ -25,6 +25,7 @@ pub extern "C" fn jilqamur_sender_open(
     ensures held_none { result ≡ ok → sender.old.place.object ≡ None }
     ensures accepted { result ≡ ok → sender_outcome params.now format.now codec.now ≡ ok }
     ensures in_use { IsSome sender.old.place.object → result ≡ in_use }
+    ensures only_in_use { result ≡ in_use → IsSome sender.old.place.object }
     ensures refusal { result ≢ ok → result ≢ memory → result ≢ in_use
         → result ≡ sender_outcome params.now format.now codec.now }
     ensures unchanged { result ≢ ok → sender.new.place.object ≡ sender.old.place.object }

@@ -18,6 +18,7 @@ pub extern "C" fn jilqamur_end_open(alloc: Global, end: &mut EndHandle) -> u32
     ensures opened { result ≡ ok → end.new.place.object ≡ Some empty_peer }
     ensures held_none { result ≡ ok → end.old.place.object ≡ None }
     ensures in_use { IsSome end.old.place.object → result ≡ in_use }
+    ensures only_in_use { result ≡ in_use → IsSome end.old.place.object }
     ensures refusal { result ≢ ok → result ≢ memory → result ≡ in_use }
     ensures unchanged { result ≢ ok → end.new.place.object ≡ end.old.place.object }
 {

@@ -17,6 +17,7 @@ impl EndHandle {
         ensures opened { result ≡ ok → self.new.place.object ≡ Some empty_peer }
         ensures held_none { result ≡ ok → self.old.place.object ≡ None }
         ensures in_use { IsSome self.old.place.object → result ≡ in_use }
+        ensures only_in_use { result ≡ in_use → IsSome self.old.place.object }
         ensures refusal { result ≢ ok → result ≢ memory → result ≡ in_use }
         ensures unchanged { result ≢ ok → self.new.place.object ≡ self.old.place.object }
     {

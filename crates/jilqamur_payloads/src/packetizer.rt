@@ -26,6 +26,7 @@ impl PacketizerHandle {
         ensures held_none { result ≡ ok → self.old.place.object ≡ None }
         ensures accepted { result ≡ ok → packetizer_outcome params.now format.now codec.now ≡ ok }
         ensures in_use { IsSome self.old.place.object → result ≡ in_use }
+        ensures only_in_use { result ≡ in_use → IsSome self.old.place.object }
         ensures refusal { result ≢ ok → result ≢ memory → result ≢ in_use
             → result ≡ packetizer_outcome params.now format.now codec.now }
         ensures unchanged { result ≢ ok → self.new.place.object ≡ self.old.place.object }

@@ -29,6 +29,7 @@ impl SenderHandle {
         ensures held_none { result ≡ ok → self.old.place.object ≡ None }
         ensures accepted { result ≡ ok → sender_outcome params.now format.now codec.now ≡ ok }
         ensures in_use { IsSome self.old.place.object → result ≡ in_use }
+        ensures only_in_use { result ≡ in_use → IsSome self.old.place.object }
         ensures refusal { result ≢ ok → result ≢ memory → result ≢ in_use
             → result ≡ sender_outcome params.now format.now codec.now }
         ensures unchanged { result ≢ ok → self.new.place.object ≡ self.old.place.object }
@@ -75,6 +76,7 @@ impl ReceiverHandle {
         ensures held_none { result ≡ ok → self.old.place.object ≡ None }
         ensures accepted { result ≡ ok → format_outcome format.now codec.now ≡ ok }
         ensures in_use { IsSome self.old.place.object → result ≡ in_use }
+        ensures only_in_use { result ≡ in_use → IsSome self.old.place.object }
         ensures refusal { result ≢ ok → result ≢ memory → result ≢ in_use
             → result ≡ format_outcome format.now codec.now }
         ensures unchanged { result ≢ ok → self.new.place.object ≡ self.old.place.object }

@@ -91,6 +91,18 @@ refusal-at (x ∷ xs) s (suc i) d e lt before here =
     first-none (refusal_for s x) (refusal_of_samples (stepped s x) (take i xs)) before in
     ap₂ first_refusal parts.0 (refusal-at xs (stepped s x) i d e (omega arith) parts.1 here)
 
+-- it is refused as the last of so many
+refusal-here : (xs : List Sample) (s : Sending) (i : ℕ) (d : Sample) (e : SampleError) → i < length xs
+    → refusal_of_samples s (take i xs) ≡ None →
+    refusal_for (after_samples s (take i xs)) (slice_index_or xs i d) ≡ Some e
+    → refusal_of_samples s (take (suc i) xs) ≡ Some e
+refusal-here [] s i d e lt before here = absurd (omega arith)
+refusal-here (x ∷ xs) s zero d e lt before here = ap (λ (o : Option SampleError). first_refusal o None) here
+refusal-here (x ∷ xs) s (suc i) d e lt before here =
+    let parts : (refusal_for s x ≡ None) × (refusal_of_samples (stepped s x) (take i xs) ≡ None) =
+    first-none (refusal_for s x) (refusal_of_samples (stepped s x) (take i xs)) before in
+    ap₂ first_refusal parts.0 (refusal-here xs (stepped s x) i d e (omega arith) parts.1 here)
+
 -- Some first samples were accepted and pushed.
 pub record IsPushed (before : EndState) (tx : ℕ) (samples : List Sample) (count : ℕ) (now : EndState)
     (datagrams : List (List ℕ)) : Type 0 where
@@ -178,6 +190,8 @@ refused-at before now next tx i samples datagrams x e is lt at refused same =
       place = is.place;
       accepted = is.accepted;
       after_is = same ∙ is.after;
+      here = refusal-here samples first i x e lt is.accepted
+          (subst₂ (λ (s : Sending) (y : Sample). refusal_for s y ≡ Some e) stream at refused);
       refused = refusal-at samples first i x e lt is.accepted
           (subst₂ (λ (s : Sending) (y : Sample). refusal_for s y ≡ Some e) stream at refused);
     }

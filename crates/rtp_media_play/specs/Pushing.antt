@@ -1,5 +1,5 @@
 -- Samples that are pushed one after the other, and runs that stop.
-use Rattle.std.specs.Prelude.{ℕ, ◌≡◌, ◌≤◌, ◌⊎◌, List, [], ◌∷◌, length, take, Option, Some, None}
+use Rattle.std.specs.Prelude.{ℕ, suc, ◌≡◌, ◌≤◌, ◌⊎◌, List, [], ◌∷◌, length, take, Option, Some, None}
 use Rattle.rtp_media_streams.specs.Polls.{IsInterrupted}
 use Rattle.rtp_media_streams.specs.Receiving.{with_stream}
 use Rattle.rtp_media_streams.specs.Rows.{format_of}
@@ -20,13 +20,14 @@ refusal_of_samples s (x ∷ xs) = first_refusal (refusal_of_sample s x.time x.va
 abbrev pub after_pushes : EndState → ℕ → List Sample → EndState
 after_pushes e tx samples = with_sender e tx (after_samples (sender_at e tx) samples)
 
--- The first refused sample is the one at this place, for this reason; those before it were pushed.
+-- The first refused sample is the one behind so many, for this reason; those before it were pushed.
 pub record IsRefusedAt (e : EndState) (tx : ℕ) (samples : List Sample) (error : SampleError) (after : EndState)
     : Type 0 where
   pub count : ℕ
   pub place : count ≤ length samples
   pub accepted : refusal_of_samples (sender_at e tx) (take count samples) ≡ None
   pub after_is : after ≡ after_pushes e tx (take count samples)
+  pub here : refusal_of_samples (sender_at e tx) (take (suc count) samples) ≡ Some error
   pub refused : refusal_of_samples (sender_at e tx) samples ≡ Some error
 
 -- Some first samples were pushed, and then memory ran out: the stream has failed, or is as they left it.

@@ -13,6 +13,7 @@ use Rattle.sdp_formats_round.specs.Types.{types_of}
 use Rattle.sdp_formats_rows.specs.Rows.{Row}
 use Rattle.sdp_formats_row_attributes.specs.Attributes.{attributes_of}
 use Rattle.sdp_formats_section_rows.specs.SectionRows.{rows_of}
+use Rattle.sdp_formats_ssrcs.specs.Sources.{sources_of}
 use Rattle.sdp_formats_types.specs.Media.{is_rtp}
 use Rattle.sdp_formats_types.specs.Lookups.{direction_of, first_of, mid_in}
 use Rattle.sdp_formats_types.specs.Media.{direction_attribute, is_media}
@@ -77,10 +78,6 @@ is_media_line m = is_media m.typ && (is_rtp m.proto && not m.disabled)
 unfoldable pub remote_of : MediaLine → Section
 remote_of m = record { rows = rows_of m.pts m.attrs; dictated = receives (direction_of m.attrs) }
 
--- The SSRCs that a section names.
-unfoldable pub ssrc_in : MediaAttribute → List ℕ
-ssrc_in (line.Ssrc ssrc attr value) = ssrc ∷ []
-ssrc_in _ = []
-
+-- The SSRCs that a section names: of its sources, those of lines and those that repair others (RFC 5576).
 abbrev pub ssrcs_of : MediaLine → List ℕ
-ssrcs_of m = flat_map ssrc_in m.attrs
+ssrcs_of m = sources_of m.attrs

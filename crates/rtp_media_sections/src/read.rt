@@ -1,17 +1,16 @@
 //! What the sections of a text say to an exchange.
 
-ghost use Rattle.std.specs.Prelude.{◌≡◌, ◌++◌, IfOk, OnOk};
-ghost use Rattle.std.specs.List.{flat_map};
+ghost use Rattle.std.specs.Prelude.{◌≡◌, IfOk};
 ghost use Rattle.sdp_formats_config.specs.Sections.{section_of};
-ghost use Rattle.rtp_media_sections.specs.Lines.{is_media_line, kind_of, mid_of, remote_of, shape_of_line, ssrc_in};
-ghost use Rattle.rtp_media_sections.specs.Lines.{ssrcs_of};
+ghost use Rattle.rtp_media_sections.specs.Lines.{is_media_line, kind_of, mid_of, remote_of, shape_of_line, ssrcs_of};
 
 use crate::section::Shape;
 use payload_core_base::MediaKind;
 use rtp_wire::{Mid, Ssrc};
 use sdp_formats_config::RemoteSection;
 use sdp_formats_section_rows::rtp_params;
-use sdp_formats_types::{MediaAttribute, MediaLine, MediaType, Proto};
+use sdp_formats_ssrcs::sources_of;
+use sdp_formats_types::{MediaLine, MediaType, Proto};
 use std::alloc::{AllocError, Global};
 
 /// The name of a section that was read; each has one.
@@ -63,29 +62,10 @@ pub fn remote_of(alloc: Global, line: &MediaLine) -> Result<RemoteSection, Alloc
     })
 }
 
-#[tactic(auto, unfolding(crate::specs::Lines::ssrc_in))]
-fn push_ssrc(ssrcs: &mut Vec<Ssrc>, line: &MediaAttribute) -> Result<(), AllocError>
-    ensures { OnOk result (ssrcs.new.items ≡ ssrcs.old.items ++ ssrc_in line.now) }
-{
-    if let MediaAttribute::Ssrc { ssrc, .. } = line {
-        ssrcs.push(*ssrc)?;
-    }
-    Ok(())
-}
-
-fn ssrcs_in(alloc: Global, attributes: &[MediaAttribute]) -> Result<Vec<Ssrc>, AllocError>
-    ensures { IfOk result (λ ssrcs. ssrcs.items ≡ flat_map ssrc_in attributes.now) }
-{
-    let mut ssrcs = Vec::new(alloc);
-    for attribute in attributes {
-        push_ssrc(&mut ssrcs, attribute)?;
-    }
-    Ok(ssrcs)
-}
-
-/// The SSRCs that a section names (RFC 5576 4.1).
+/// The SSRCs that a section names: those of its `a=ssrc` lines, and those that its groups of retransmission let repair
+/// others (RFC 5576 4.1, RFC 4588 8.3).
 pub(crate) fn ssrcs_of(alloc: Global, line: &MediaLine) -> Result<Vec<Ssrc>, AllocError>
     ensures { IfOk result (λ ssrcs. ssrcs.items ≡ ssrcs_of line.now) }
 {
-    ssrcs_in(alloc, line.attrs.as_slice())
+    sources_of(alloc, line.attrs.as_slice())
 }

@@ -8,3 +8,4 @@ mod sources;
 
 pub use infos::{no_info, ssrc_info};
 pub use said::is_no_stream;
+pub use sources::sources_of;

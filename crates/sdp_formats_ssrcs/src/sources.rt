@@ -79,8 +79,13 @@ fn push_repairing(
     Ok(())
 }
 
-/// The sources that attributes name.
-pub(crate) fn sources_of(
+/// The sources that attributes name: first those of `a=ssrc` lines, then those that groups of retransmission let repair
+/// others (RFC 5576 4.1, RFC 4588 8.3), each once, in the order in which they are first named.
+///
+/// # Errors
+///
+/// `AllocError` where memory runs out.
+pub fn sources_of(
     alloc: Global,
     attributes: &[MediaAttribute],
 ) -> Result<Vec<Ssrc>, AllocError>
