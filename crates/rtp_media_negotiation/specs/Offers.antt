@@ -1,5 +1,5 @@
 -- What offers and answers say.
-use Rattle.std.specs.Prelude.{◌≡◌, ℕ, List, ◌∷◌, map, zip, codes, Some, Ok}
+use Rattle.std.specs.Prelude.{◌≡◌, ℕ, IsTrue, List, ◌∷◌, map, zip, codes, Some, Ok}
 use Rattle.sdp_formats_round.specs.Laws.{rounds}
 use Rattle.sdp_formats_rows.specs.Rows.{Row}
 use Rattle.sdp_formats_types.specs.PrintedSession.{sdp_text}
@@ -11,8 +11,8 @@ use Rattle.sdp_formats_types.specs.declared.session.SessionAttribute.TheVariants
 use Rattle.rtp_media_negotiation.specs.Exchanges.{Exchanged, accepted_agreement, answered_agreement, with_agreement}
 use Rattle.rtp_media_negotiation.specs.Says.{SaysOnly}
 use Rattle.rtp_media_sections.specs.Answered.{answered_section}
-use Rattle.rtp_media_sections.specs.Lines.{offered_section, remote_of}
-use Rattle.rtp_media_sections.specs.Sections.{Wanted}
+use Rattle.rtp_media_sections.specs.Lines.{offered_section, remote_of, shape_of_line}
+use Rattle.rtp_media_sections.specs.Sections.{Wanted, correspond, shape_of}
 
 -- These sections are one bundle (RFC 9143 7.2).
 abbrev pub bundle_of : List Wanted → SessionAttribute
@@ -36,8 +36,8 @@ answer_of x rows wanted offer = record {
   media_lines = map (λ s. answered_section x.wanted rows s.0 s.1) (zip wanted offer);
 }
 
--- The offer of a text was answered: the rounds ran, the answer says each section, and what was agreed is what its text
--- says.
+-- The offer of a text was answered: the rounds ran, the answer says each section, its text is read as sections of the
+-- wanted names and kinds, and what was agreed is what that text says.
 pub record Answers (x : Exchanged) (text : List ℕ) (wanted : List Wanted) (answer : List ℕ) (after : Exchanged)
     : Type 0 where
   pub offer : List MediaLine
@@ -47,6 +47,7 @@ pub record Answers (x : Exchanged) (text : List ℕ) (wanted : List Wanted) (ans
   pub text_is : answer ≡ sdp_text (answer_of x rows wanted offer)
   pub said : List MediaLine
   pub said_is : SaysOnly answer said
+  pub said_corresponds : IsTrue (correspond (map shape_of_line said) (map shape_of wanted))
   pub after_is : after ≡ with_agreement x rows (answered_agreement wanted offer said)
 
 -- The answer of a text was accepted for the pending offer.

@@ -47,6 +47,8 @@ fn said_again(
 ) -> Result<Vec<MediaLine>, ExchangeError>
     ensures says { IfOk result (λ lines. SaysOnly text.now lines.items) }
     ensures length { IfOk result (λ lines. length sections.now ≡ length lines.items) }
+    ensures same { IfOk result (λ lines. IsTrue (correspond (map shape_of_line lines.items)
+        (map shape_of sections.now))) }
     ensures refused { IfErr result (λ e. e ≢ ExchangeError.Memory → (e ≡ ExchangeError.NotWritable)
         × IsUnwritable text.now sections.now) }
 {

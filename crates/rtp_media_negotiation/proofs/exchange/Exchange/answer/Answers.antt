@@ -1,9 +1,10 @@
 use Rattle.std.proofs.Common.{◌≡◌, None, Ok, map, subst, arith}
 use Rattle.std.proofs.lemmas.Grind.{common_steps}
-use Rattle.std.specs.Prelude.{string_bytes}
+use Rattle.std.specs.Prelude.{IsTrue, string_bytes}
 use Rattle.sdp_formats_round.specs.Laws.{rounds}
 use Rattle.sdp_formats_types.specs.PrintedSession.{sdp_text}
-use Rattle.rtp_media_sections.specs.Lines.{remote_of}
+use Rattle.rtp_media_sections.specs.Lines.{remote_of, shape_of_line}
+use Rattle.rtp_media_sections.specs.Sections.{correspond, shape_of}
 use Rattle.rtp_media_negotiation.specs.Offers.{answer_of}
 use Rattle.rtp_media_negotiation.specs.Refusals.{IsUnwritable, refusal_of_answer}
 use Rattle.rtp_media_negotiation.specs.Says.{SaysOnly}
@@ -46,6 +47,7 @@ returns-clause-text c =
     ≡ Ok c.in_ok-config.config.rows = grind (arith, common_steps) in
     let text_is : string_bytes c.in_ok-answer.answer ≡ sdp_text (answer_of c.args.self.now c.in_ok-config.config.rows
     c.args.sections.items c.in_ok-offer.offer.items) = grind (arith, common_steps) in
+    let sections : c.as_slice-5.result.now ≡ c.args.sections.items = grind (arith, common_steps) in
     record {
       offer = c.in_ok-offer.offer.items;
       offer_is = c.in_ok-offer.ensures.says;
@@ -54,5 +56,7 @@ returns-clause-text c =
       text_is = text_is;
       said = c.in-Ok.said.items;
       said_is = subst (λ text. SaysOnly text c.in-Ok.said.items) c.as_str.ensures.value c.in-Ok.ensures.says;
+      said_corresponds = subst (λ wanted. IsTrue (correspond (map shape_of_line c.in-Ok.said.items)
+          (map shape_of wanted))) sections c.in-Ok.ensures.same;
       after_is = grind (arith, common_steps);
     }
