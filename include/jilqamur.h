@@ -33,19 +33,19 @@ enum {
     JILQAMUR_IN_USE = 2,     /* the handle holds an object already */
     JILQAMUR_CLOSED = 3,     /* the handle holds no object */
     JILQAMUR_UNREADABLE = 4, /* no RTP header stands in front of the bytes */
-    JILQAMUR_DAMAGED = 5,    /* the padding does not fit */
+    JILQAMUR_DAMAGED = 5,    /* the padding does not fit, or an end finds no payload in the datagram */
     JILQAMUR_REFUSED = 6,    /* the number came before, or is 128 or more below the greatest */
     JILQAMUR_UNWRITABLE = 7, /* a payload type above 127, or more than 15 contributing sources */
     JILQAMUR_TOO_SMALL = 8,  /* the buffer is too small */
     JILQAMUR_NOT_TEXT = 9,            /* the bytes are no UTF-8 */
-    JILQAMUR_OUT_OF_RANGE = 10,       /* a number is off the range that is written at it */
+    JILQAMUR_OUT_OF_RANGE = 10,       /* a number is off the range that is written at it, or a codec has no format */
     JILQAMUR_NOT_MADE = 11,           /* the end was not made yet */
     JILQAMUR_NOTHING = 12,            /* there is nothing of that kind */
     JILQAMUR_FOREIGN = 13,            /* no receiving stream has the SSRC and payload type */
     JILQAMUR_NO_STREAM = 14,          /* no stream of that direction has this number */
     JILQAMUR_ROW_NOT_PLAIN = 15,      /* a row is of a kind that an end can't agree on */
     JILQAMUR_TYPES_NOT_DISTINCT = 16, /* a payload type stands for two things */
-    JILQAMUR_NOT_WRITABLE = 17,       /* the session or the text can't be written */
+    JILQAMUR_NOT_WRITABLE = 17,       /* an answer's text or a header extension's URI can't be written */
     JILQAMUR_TEXT_UNREADABLE = 18,    /* the text isn't that of an offer or an answer */
     JILQAMUR_OUT_OF_TURN = 19,        /* an offer is pending, or none is */
     JILQAMUR_NOT_MEDIA = 20,          /* a section of the text is no media */
@@ -69,7 +69,7 @@ enum {
     JILQAMUR_H265_CORRUPTED = 37,         /* an H.265 packet breaks its format (RFC 7798 4.4) */
     JILQAMUR_H266_CORRUPTED = 38,         /* an H.266 packet breaks its format (RFC 9328 4.3) */
     JILQAMUR_AGGREGATE_CUT_SHORT = 39,    /* an aggregated unit passes the end of its packet (RFC 6184 5.7.1) */
-    JILQAMUR_UNIT_TYPE_NOT_HANDLED = 40,  /* no packet of this unit type is read (RFC 6184 5.2) */
+    JILQAMUR_UNIT_TYPE_NOT_HANDLED = 40,  /* no packet of this unit type is read (RFC 6184, 7798, 9328) */
     JILQAMUR_VP8_CORRUPTED = 41,          /* a VP8 descriptor breaks its format (RFC 7741 4.2) */
     JILQAMUR_VP9_CORRUPTED = 42,          /* a VP9 descriptor breaks its format (RFC 9628 4.2) */
     JILQAMUR_AV1_CORRUPTED = 43,          /* an AV1 packet breaks its format */
@@ -197,7 +197,7 @@ typedef struct jilqamur_format {
 typedef struct jilqamur_unit {
     uint64_t first;          /* the widened sequence number of its first packet */
     uint64_t last;           /* that of its last packet */
-    uint32_t time;           /* the RTP timestamp, in ticks of the clock rate */
+    uint32_t time;           /* the RTP timestamp, in ticks of the clock rate, of G.722 at 8,000 Hz */
     bool is_keyframe;        /* whether the codec says that it is a keyframe; VP9 and audio never do */
     bool has_picture_id;     /* whether VP8 or VP9 gives a picture id */
     uint16_t picture_id;     /* it, of 7 or 15 bits (RFC 7741 4.2, RFC 9628 4.2); 0 where none is given */
@@ -272,8 +272,8 @@ uint32_t jilqamur_depacketizer_close(jilqamur_depacketizer *depacketizer);
 
 /* Takes a packet in, by its widened sequence number (jilqamur_number_widen, jilqamur_window_receive), its RTP
  * timestamp, its marker and its payload of len bytes without padding: JILQAMUR_OK, or JILQAMUR_MEMORY, and nothing has
- * changed. A packet whose number is held, or at or below that of the last unit, is passed over; of more than 4,096 the
- * one of the lowest number goes. */
+ * changed. A packet whose number is held, or at or below that of the last frame that was handed out or refused, is
+ * passed over; of more than 4,096 the one of the lowest number goes. */
 uint32_t jilqamur_depacketizer_push(jilqamur_depacketizer *depacketizer, uint64_t number, uint32_t timestamp,
                                     bool marker, const uint8_t *payload, size_t len);
 
@@ -293,8 +293,8 @@ uint32_t jilqamur_depacketizer_unit(jilqamur_depacketizer *depacketizer, uint8_t
 
 /* A handle of an end: what it offers, what it agreed on with the other end, its streams, and what calls left to be
  * fetched. One whose bytes are all 0 is closed; write no field of it after that. A copy of an open handle must not be
- * used. What is opened must be closed, or its memory is never freed. At a closed handle each call below answers
- * JILQAMUR_CLOSED, and changes nothing. */
+ * used. What is opened must be closed, or its memory is never freed. At a closed handle each call below but
+ * jilqamur_end_open answers JILQAMUR_CLOSED, and changes nothing. */
 typedef struct jilqamur_end {
     bool full;
     void *place;
@@ -377,8 +377,8 @@ typedef struct jilqamur_stream {
     size_t mtu;          /* the most bytes of a payload, at least 1, and at least 2 with redundancy */
     size_t limit;        /* the most bytes of a datagram */
     bool has_red;        /* whether it sends redundancy (RFC 2198), for a row with a RED type alone */
-    bool has_picture_id; /* whether the stream of a video row counts pictures */
-    uint16_t picture_id; /* the first picture id, at most 32,767; not looked at without it */
+    bool has_picture_id; /* whether VP8's frames have picture ids; VP9's always do */
+    uint16_t picture_id; /* the first picture id, at most 32,767; without has_picture_id VP9 begins at 0 */
     bool for_browsers;   /* whether the payloads have the forms that browsers want */
 } jilqamur_stream;
 
@@ -465,11 +465,11 @@ uint32_t jilqamur_end_values(jilqamur_end *end, jilqamur_values *values);
 typedef struct jilqamur_sender_params {
     uint32_t ssrc;        /* the stream's source */
     uint8_t payload_type; /* 0 to 127 */
-    uint64_t first;       /* the first sequence number */
+    uint64_t first;       /* the first sequence number; from 2^62 on the stream sends no more */
     size_t mtu;           /* the most bytes of a payload, at least 1 */
     size_t limit;         /* the most bytes of a datagram */
-    bool has_picture_id;  /* whether the stream of a video codec counts pictures */
-    uint16_t picture_id;  /* the first picture id, at most 32,767 */
+    bool has_picture_id;  /* whether VP8's frames have picture ids; VP9's always do */
+    uint16_t picture_id;  /* the first picture id, at most 32,767; without has_picture_id VP9 begins at 0 */
     bool for_browsers;    /* whether the payloads have the forms that browsers want */
 } jilqamur_sender_params;
 
