@@ -63,6 +63,10 @@ pub record Forms : Type 0 where
   pub zero_id : Bool
   pub prediction : Bool
 
+-- The forms that a stream sends: for browsers VP8's picture id 0 is written, and VP9 tells which frames are predicted.
+abbrev pub forms_for : Bool → Forms
+forms_for for_browsers = record { zero_id = for_browsers; prediction = for_browsers }
+
 abbrev pub plain_forms : Forms
 plain_forms = record { zero_id = false; prediction = false }
 

@@ -5,11 +5,13 @@
 
 mod codec_depacketizer;
 mod codec_packetizer;
+mod formats;
 mod laws;
 mod not_boxed;
 
 pub use codec_depacketizer::CodecDepacketizer;
 pub use codec_packetizer::CodecPacketizer;
+pub use formats::has_format;
 pub use h26x_payload_h264::ANNEXB_NALUSTART_CODE;
 pub use h26x_payload_h264::AUD_NALU_TYPE;
 pub use h26x_payload_h264::FILLER_NALU_TYPE;

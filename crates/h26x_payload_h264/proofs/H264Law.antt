@@ -17,8 +17,9 @@ use Rattle.h26x_payload_units.specs.Aggregates.{Aggregated, sized}
 use Rattle.h26x_payload_units.specs.Departures.{Departure, departures, units_in}
 use Rattle.h26x_payload_units.specs.Departures.Departure.{Together, Alone}
 use Rattle.h26x_payload_units.specs.Fragments.{behind_code, in_fragments}
-use Rattle.h26x_payload_h264.specs.H264Coding.{AreSendable, FullLaw, GivesUnits, IsSendable, UnitsLaw, WithinLaw}
-use Rattle.h26x_payload_h264.specs.H264Coding.{h264_coding, h264_units_sent, unit_of}
+use Rattle.h26x_payload_units.specs.Given.{GivesUnits, unit_of}
+use Rattle.h26x_payload_h264.specs.H264Coding.{AreSendable, FullLaw, IsSendable, UnitsLaw, WithinLaw}
+use Rattle.h26x_payload_h264.specs.H264Coding.{h264_coding, h264_units_sent}
 use Rattle.h26x_payload_h264.specs.H264Headers.{kind_of}
 use Rattle.h26x_payload_h264.specs.H264Packing.{can_leave, fragments_of, fu_a, h264_packing, h264_rules, packets_of}
 use Rattle.h26x_payload_h264.specs.H264Packing.{stap_a}

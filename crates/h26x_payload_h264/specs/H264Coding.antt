@@ -1,13 +1,13 @@
 -- What H.264 packets of a sample are to a receiver.
-use Rattle.std.specs.Prelude.{◌≡◌, ℕ, ◌<◌, ◌≤◌, List, [], ◌∷◌, map, None}
+use Rattle.std.specs.Prelude.{ℕ, ◌<◌, ◌≤◌, List, [], ◌∷◌, None}
 use Rattle.std.specs.List.{flat_map}
 use Rattle.h26x_payload_units.specs.Units.{units_of}
-use Rattle.payload_core_base.specs.Format.{Run, read_all}
+use Rattle.payload_core_base.specs.Format.{read_all}
 use Rattle.payload_core_base.specs.Law.{AreFull, AreWithin, Coding}
 use Rattle.payload_core_base.specs.Packing.{Sender}
 use Rattle.payload_core_base.specs.declared.extra.CodecExtra.{CodecExtra}
 use Rattle.h26x_payload_units.specs.Departures.{EachUnit, departures, units_sent}
-use Rattle.h26x_payload_units.specs.Fragments.{behind_code}
+use Rattle.h26x_payload_units.specs.Given.{GivesUnits, unit_of}
 use Rattle.h26x_payload_h264.specs.H264Headers.{type_of}
 use Rattle.h26x_payload_h264.specs.H264Packing.{fragments_of, h264_after, h264_packing, h264_rules, packets_of}
 use Rattle.h26x_payload_h264.specs.H264Reading.{h264_format}
@@ -27,11 +27,6 @@ packets_sent s limit sample = flat_map (packets_of limit) (departures h264_rules
 abbrev pub h264_units_sent : Sender → ℕ → List ℕ → List (List ℕ)
 h264_units_sent s limit sample = units_sent h264_rules limit s.waiting (units_of sample)
 
--- The units that are sent, each behind a start code, are the parts of one unit, unless there are none.
-abbrev pub unit_of : List (List ℕ) → List (List (List ℕ))
-unit_of [] = []
-unit_of (u ∷ us) = map behind_code (u ∷ us) ∷ []
-
 abbrev pub h264_coding : Coding
 h264_coding = record {
   packing = h264_packing;
@@ -41,12 +36,6 @@ h264_coding = record {
   units = λ sender limit sample. unit_of (h264_units_sent sender limit sample);
   after = h264_after;
 }
-
--- The run had no fault, gave these units, each behind a start code, and left no fragment open.
-pub record GivesUnits (run : Run) (units : List (List ℕ)) : Type 0 where
-  pub no_fault : run.fault ≡ None
-  pub written : run.written ≡ flat_map behind_code units
-  pub closed : run.fragment ≡ None
 
 -- A well-formed sample's packets give just the units that are sent of it.
 abbrev pub UnitsLaw : Type 0

@@ -22,8 +22,9 @@ use Rattle.h26x_payload_units.specs.Numbers.{Numbered, number_behind, numbered}
 use Rattle.h26x_payload_units.proofs.BundleLemmas.{AreBundles, GivesParts, IsBundle, bundled-frame, bundles-give}
 use Rattle.h26x_payload_units.proofs.DepartureLemmas.{Each}
 use Rattle.h26x_payload_units.specs.declared.layout.Layout.{Layout}
-use Rattle.h26x_payload_h265_h266.specs.Coding.{AreSendable, FullLaw, GivesUnits, IsSendable, KeepsCodecLaw, UnitsLaw}
-use Rattle.h26x_payload_h265_h266.specs.Coding.{WithinLaw, h265_h266_units_sent, unit_of}
+use Rattle.h26x_payload_units.specs.Given.{GivesUnits, unit_of}
+use Rattle.h26x_payload_h265_h266.specs.Coding.{AreSendable, FullLaw, IsSendable, KeepsCodecLaw, UnitsLaw}
+use Rattle.h26x_payload_h265_h266.specs.Coding.{WithinLaw, h265_h266_units_sent}
 use Rattle.h26x_payload_units.specs.Numbers.{dond_bytes, donl_bytes, donl_size}
 use Rattle.h26x_payload_h265_h266.specs.Packing.{aggregate, can_leave, departure_packets, fragment, fragments_of}
 use Rattle.h26x_payload_h265_h266.specs.Packing.{h265_h266_packing, least_limit, leaving, packets_of, packets_sent}

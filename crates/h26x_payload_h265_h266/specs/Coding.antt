@@ -1,13 +1,12 @@
 -- What H.265 and H.266 packets of a sample are to a receiver.
-use Rattle.std.specs.Prelude.{◌≡◌, ℕ, ◌+◌, ◌<◌, ◌≤◌, Bool, List, [], ◌∷◌, length, map, None}
-use Rattle.std.specs.List.{flat_map}
+use Rattle.std.specs.Prelude.{ℕ, ◌+◌, ◌<◌, ◌≤◌, Bool, List, [], ◌∷◌, length, None}
 use Rattle.h26x_payload_units.specs.Units.{units_of}
-use Rattle.payload_core_base.specs.Format.{Run, read_all}
+use Rattle.payload_core_base.specs.Format.{read_all}
 use Rattle.payload_core_base.specs.Law.{AreFull, AreWithin, CodecLaw, Coding}
 use Rattle.payload_core_base.specs.Packing.{Sender}
 use Rattle.payload_core_base.specs.declared.extra.CodecExtra.{CodecExtra}
 use Rattle.h26x_payload_units.specs.Departures.{EachUnit, units_sent}
-use Rattle.h26x_payload_units.specs.Fragments.{behind_code}
+use Rattle.h26x_payload_units.specs.Given.{GivesUnits, unit_of}
 use Rattle.h26x_payload_units.specs.declared.layout.Layout.{Layout}
 use Rattle.h26x_payload_units.specs.Headers.{last_alone, type_of}
 use Rattle.h26x_payload_units.specs.Numbers.{donl_size}
@@ -30,11 +29,6 @@ abbrev pub h265_h266_units_sent : Layout → Bool → Sender → ℕ → List �
 h265_h266_units_sent l donl s mtu sample =
     units_sent (h265_h266_rules l donl) (least_limit mtu) s.waiting (units_of sample)
 
--- The units that are sent, each behind a start code, are the parts of one unit, unless there are none.
-abbrev pub unit_of : List (List ℕ) → List (List (List ℕ))
-unit_of [] = []
-unit_of (u ∷ us) = map behind_code (u ∷ us) ∷ []
-
 abbrev pub h265_h266_coding : Layout → Bool → Coding
 h265_h266_coding l donl = record {
   packing = h265_h266_packing l donl;
@@ -44,12 +38,6 @@ h265_h266_coding l donl = record {
   units = λ sender limit sample. unit_of (h265_h266_units_sent l donl sender limit sample);
   after = h265_h266_after l donl;
 }
-
--- The run had no fault, gave these units, each behind a start code, and left no fragment open.
-pub record GivesUnits (run : Run) (units : List (List ℕ)) : Type 0 where
-  pub no_fault : run.fault ≡ None
-  pub written : run.written ≡ flat_map behind_code units
-  pub closed : run.fragment ≡ None
 
 -- With decoding order numbers or without, both codecs keep the codec law.
 abbrev pub KeepsCodecLaw : Type 0

@@ -9,6 +9,7 @@ pub mod FragmentRuns
 pub mod Fragments
 pub mod Numbers
 pub mod Headers
+pub mod Given
 pub mod Reading
 pub mod H265Headers
 pub mod H266Headers

@@ -5,12 +5,11 @@ use Rattle.std.specs.Str.{is_utf8}
 use Rattle.payload_core_base.specs.Codecs.{codec_named}
 use Rattle.payload_core_base.specs.declared.codec.MediaKind.{MediaKind}
 use Rattle.payload_core_base.specs.declared.codec.MediaKind.TheVariants.{Audio, Video}
-use Rattle.rtp_wire_ids.specs.declared.direction.Direction.{Direction}
-use Rattle.rtp_wire_ids.specs.declared.direction.Direction.TheVariants.{SendOnly, RecvOnly, SendRecv, Inactive}
 use Rattle.rtp_wire.specs.Maps.{empty_map}
 use Rattle.rtp_wire.specs.Name.{name_of}
 use Rattle.sdp_formats_format.specs.Formats.{format_of}
 use Rattle.sdp_formats_rows.specs.Rows.{Row, new_row}
+use Rattle.rtp_media_sections.specs.Answered.{flow}
 use Rattle.rtp_media_sections.specs.Sections.{Wanted}
 use Rattle.rtp_media_negotiation.specs.declared.errors.EndError.{EndError}
 use Rattle.rtp_media_negotiation.specs.declared.errors.EndError.TheVariants as end_error
@@ -44,20 +43,14 @@ row_outcome r codec format =
     else if is_utf8 codec && is_utf8 format then ok
     else not_text
 
--- Kind and direction of a section by what it carries.
+-- The kind of a section by what it carries.
 abbrev pub kind_of : Bool → MediaKind
 kind_of false = Audio
 kind_of true = Video
 
-abbrev pub direction_of : Bool → Bool → Direction
-direction_of true true = SendRecv
-direction_of true false = SendOnly
-direction_of false true = RecvOnly
-direction_of false false = Inactive
-
 abbrev pub section_of : List ℕ → Bool → Bool → Bool → List ℕ → Wanted
 section_of mid is_video sends receives ssrcs =
-    record { mid = name_of 16 mid; kind = kind_of is_video; dir = direction_of sends receives; ssrcs = ssrcs }
+    record { mid = name_of 16 mid; kind = kind_of is_video; dir = flow sends receives; ssrcs = ssrcs }
 
 abbrev pub section_outcome : List ℕ → ℕ
 section_outcome mid = if is_utf8 mid then ok else not_text

@@ -1,5 +1,5 @@
 -- What calls answer that exchange texts.
-use Rattle.std.specs.Prelude.{ℕ, ◌≡◌, ◌⊎◌, Bool, true, false, List, Option, Some, None, is_some, if◌then◌else◌}
+use Rattle.std.specs.Prelude.{ℕ, ◌≡◌, ◌⊎◌, List, Option, Some, None, is_some, if◌then◌else◌}
 use Rattle.std.specs.Str.{is_utf8}
 use Rattle.sdp_formats_types.specs.PrintedSession.{sdp_text}
 use Rattle.rtp_media_negotiation.specs.declared.errors.ExchangeError.{ExchangeError}
@@ -10,6 +10,7 @@ use Rattle.rtp_media_negotiation.specs.Refusals.{MayAccept, MayAnswer, Refuses, 
 use Rattle.rtp_media_negotiation.specs.Refusals.{refusal_of_offer}
 use Rattle.rtp_media_sections.specs.Sections.{Wanted}
 use Rattle.rtp_media_ends.specs.Ends.{EndState, with_exchange}
+use Rattle.rtp_media_ends.specs.Stops.{Where}
 use Rattle.jilqamur_wire.specs.Codes.{ok, memory, not_text, text_unreadable, out_of_turn, not_media, not_corresponding}
 use Rattle.jilqamur_wire.specs.Codes.{round, no_common_row, not_writable, nothing}
 use Rattle.jilqamur_ends.specs.Answers.{AtEnd}
@@ -73,11 +74,6 @@ abbrev pub AnswersWithdraw : EndState → ℕ → EndState → Type 0
 AnswersWithdraw e result after =
     (result ≡ (if is_some e.exchange.pending then ok else nothing))
     × (after ≡ with_exchange e (with_offer e.exchange None))
-
--- One claim where a test holds, another one where it doesn't.
-abbrev pub Where : Bool → Type 0 → Type 0 → Type 0
-Where true holds fails = holds
-Where false holds fails = fails
 
 -- Bytes that are no text are refused first.
 abbrev pub WithText : List ℕ → Option EndState → Option EndState → ℕ → (EndState → EndState → Type 0) → Type 0

@@ -3,7 +3,7 @@ use Rattle.std.specs.Prelude.{ℕ, ◌≡◌, ◌≢◌, List, length, Option, S
 use Rattle.rtp_wire.specs.Name.{name_of}
 use Rattle.rtp_media_schedules.specs.Hearing.{MediaUnit}
 use Rattle.rtp_media_streams.specs.Drains.{drained_receiver, holding}
-use Rattle.rtp_media_streams.specs.Polls.{IsInterrupted, PollResult}
+use Rattle.rtp_media_streams.specs.Polls.{IsInterrupted, PollResult, poll_result}
 use Rattle.rtp_media_streams.specs.Receiving.{Receiving, polled_receiver, with_stream}
 use Rattle.rtp_media_streams.specs.Rows.{format_of}
 use Rattle.rtp_media_ends.specs.Arrivals.{verdict_of, after_datagram}
@@ -13,13 +13,13 @@ use Rattle.rtp_media_ends.specs.declared.errors.OpenError.{OpenError}
 use Rattle.rtp_media_ends.specs.declared.errors.OpenError.TheVariants as open_error
 use Rattle.rtp_media_ends.specs.declared.received.Received.{Received}
 use Rattle.rtp_media_ends.specs.declared.received.Received.TheVariants as received
-use Rattle.jilqamur_streams.specs.Answers.{drain_result, poll_code, poll_result, unit_behind}
+use Rattle.jilqamur_streams.specs.Answers.{drain_result, poll_code, unit_behind}
 use Rattle.jilqamur_wire.specs.Codes.{ok, memory, nothing, unreadable, foreign, damaged, refused}
 use Rattle.jilqamur_wire.specs.Codes.{no_stream, no_section, row_not_agreed, row_differs, wrong_direction}
 use Rattle.jilqamur_wire.specs.Codes.{ssrc_not_named, already_open}
 use Rattle.jilqamur_wire.specs.Values.{values_told}
 use Rattle.jilqamur_wire.specs.declared.values.WireValues.{WireValues}
-use Rattle.jilqamur_ends.specs.Exchanges.{Where}
+use Rattle.rtp_media_ends.specs.Stops.{PollStops, Where}
 
 -- The number of a refusal to open a stream.
 abbrev pub open_code : OpenError → ℕ
@@ -73,12 +73,7 @@ pub record AnswersPoll (e : EndState) (n : ℕ) (answer : PollResult) (behind : 
   pub keeps : result ≡ memory → unit ≡ before
   pub stops : result ≡ memory → Stops after
 
--- Memory runs out for a unit that is ready: its frame stays.
-abbrev pub PollStops : EndState → ℕ → EndState → Type 0
-PollStops e n after =
-    IsInterrupted (format_of (receiver_at e n).row) (receiver_at e n).stream (receiver_at after n).stream
-    × (after ≡ with_receiver e n (with_stream (receiver_at e n) (receiver_at after n).stream))
-
+-- A drain ran out of memory for a unit that is ready: its frame stays.
 abbrev pub DrainStops : EndState → ℕ → EndState → Type 0
 DrainStops e n after =
     IsInterrupted (format_of (receiver_at e n).row) (holding 0 (receiver_at e n).stream)

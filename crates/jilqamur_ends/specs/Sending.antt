@@ -3,7 +3,7 @@ use Rattle.std.specs.Prelude.{ℕ, ◌≡◌, ◌≢◌, ◌==◌, Bool, true, f
 use Rattle.rtp_wire.specs.Name.{name_of}
 use Rattle.rtp_wire.specs.Time.{Time}
 use Rattle.rtp_wire.specs.declared.ExtensionValues.{ExtensionValues}
-use Rattle.rtp_media_streams.specs.Sending.{HasFailed, sent_datagrams, after_sample, refusal_of_sample}
+use Rattle.rtp_media_streams.specs.Sending.{sent_datagrams, after_sample, refusal_of_sample}
 use Rattle.rtp_media_ends.specs.Ends.{EndState, agreed_red, after_open_sender, refusal_of_open_sender}
 use Rattle.rtp_media_ends.specs.Ends.{is_sender_at, sender_at, with_sender}
 use Rattle.rtp_media_ends.specs.Params.{is_sound_params}
@@ -11,19 +11,16 @@ use Rattle.rtp_media_ends.specs.declared.params.StreamParams.{StreamParams}
 use Rattle.jilqamur_wire.specs.Codes.{ok, memory, out_of_range, no_stream}
 use Rattle.jilqamur_wire.specs.Values.{values_given}
 use Rattle.jilqamur_wire.specs.declared.values.WireValues.{WireValues}
+use Rattle.jilqamur_payloads.specs.Formats.{number_given}
 use Rattle.jilqamur_streams.specs.Answers.{sample_outcome}
 use Rattle.jilqamur_ends.specs.declared.sending.WireStream.{WireStream}
-use Rattle.jilqamur_ends.specs.Exchanges.{Where}
+use Rattle.rtp_media_ends.specs.Stops.{SenderFails, Where}
 use Rattle.jilqamur_ends.specs.Receiving.{open_outcome}
 
 -- Distances that are given, or no redundancy.
 abbrev pub distances_of : Bool → List ℕ → Option (List ℕ)
 distances_of false distances = None
 distances_of true distances = Some distances
-
-abbrev pub id_of : Bool → ℕ → Option ℕ
-id_of false id = None
-id_of true id = Some id
 
 -- The parameters of a sending stream.
 abbrev pub params_of : WireStream → List ℕ → StreamParams
@@ -32,7 +29,7 @@ params_of w distances = record {
   mtu = w.mtu;
   limit = w.limit;
   red = distances_of w.has_red distances;
-  picture_id = id_of w.has_picture_id w.picture_id;
+  picture_id = number_given w.has_picture_id w.picture_id;
   for_browsers = w.for_browsers;
 }
 
@@ -66,10 +63,6 @@ mid_of text = if length text == 0 then None else Some (name_of 16 text)
 
 abbrev pub values_of : WireValues → List ℕ → ExtensionValues
 values_of w mid = values_given w (mid_of mid)
-
--- A sending stream ran out of memory: it is marked as failed, and the others stay.
-abbrev pub SenderFails : EndState → ℕ → EndState → Type 0
-SenderFails e n after = HasFailed (sender_at e n) (sender_at after n) × (after ≡ with_sender e n (sender_at after n))
 
 pub record Sends (e : EndState) (n : ℕ) (time : Time) (values : ExtensionValues) (sample : List ℕ) (result : ℕ)
     (datagrams : List (List ℕ)) (after : EndState) : Type 0 where

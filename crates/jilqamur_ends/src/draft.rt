@@ -4,7 +4,7 @@ ghost use Rattle.std.specs.Prelude.{◌≡◌, ◌≢◌, IfOk};
 ghost use Rattle.sdp_formats_config.specs.Configs.{default_rows};
 ghost use Rattle.jilqamur_wire.specs.Codes.{ok, memory};
 ghost use Rattle.jilqamur_ends.specs.Peers.{with_row, with_rows, with_section, with_extension};
-ghost use Rattle.jilqamur_ends.specs.Drafts.{given, row_of, row_outcome, kind_of, direction_of, section_of};
+ghost use Rattle.jilqamur_ends.specs.Drafts.{given, row_of, row_outcome, kind_of, section_of};
 ghost use Rattle.jilqamur_ends.specs.Drafts.{section_outcome, extension_outcome, end_code, make_outcome};
 ghost use Rattle.jilqamur_ends.specs.Drafts.{made, without_draft};
 
@@ -14,7 +14,8 @@ use rtp_media_ends::{
     Codec, CodecConfig, CodecSpec, End, EndError, FormatParams, MediaKind, PayloadParams,
     SectionSpec, Session,
 };
-use rtp_wire::{Direction, Extension, ExtensionMap, Frequency, Mid, Pt, SessionId, Ssrc};
+use rtp_media_sections::flow;
+use rtp_wire::{Extension, ExtensionMap, Frequency, Mid, Pt, SessionId, Ssrc};
 use std::alloc::{AllocError, Global};
 use std::mem;
 
@@ -71,17 +72,6 @@ fn kind_of(is_video: bool) -> MediaKind
         MediaKind::Video
     } else {
         MediaKind::Audio
-    }
-}
-
-fn direction_of(sends: bool, receives: bool) -> Direction
-    ensures { result ≡ direction_of sends receives }
-{
-    match (sends, receives) {
-        (true, true) => Direction::SendRecv,
-        (true, false) => Direction::SendOnly,
-        (false, true) => Direction::RecvOnly,
-        (false, false) => Direction::Inactive,
     }
 }
 
@@ -211,7 +201,7 @@ impl Peer {
         let section = SectionSpec {
             mid: Mid::from(mid),
             kind: kind_of(is_video),
-            dir: direction_of(sends, receives),
+            dir: flow(sends, receives),
             ssrcs,
         };
         match self.sections.push(section) {

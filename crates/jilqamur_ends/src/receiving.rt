@@ -10,9 +10,11 @@ ghost use Rattle.rtp_media_ends.specs.Ends.{refusal_of_open_receiver};
 ghost use Rattle.jilqamur_wire.specs.Codes.{ok, memory};
 ghost use Rattle.jilqamur_ends.specs.Answers.{AtEnd};
 ghost use Rattle.jilqamur_ends.specs.Exchanges.{WithText};
+ghost use Rattle.rtp_media_ends.specs.Stops.{PollStops};
 ghost use Rattle.jilqamur_ends.specs.Receiving.{OpensReceiver, Receives, Polls, Drains, IsTakenAs, open_code};
-ghost use Rattle.jilqamur_ends.specs.Receiving.{open_outcome, verdict_code, PollStops, DrainStops};
-ghost use Rattle.jilqamur_streams.specs.Answers.{poll_code, unit_behind, poll_result, drain_result};
+ghost use Rattle.jilqamur_ends.specs.Receiving.{open_outcome, verdict_code, DrainStops};
+ghost use Rattle.rtp_media_streams.specs.Polls.{poll_result};
+ghost use Rattle.jilqamur_streams.specs.Answers.{poll_code, unit_behind, drain_result};
 
 use crate::peer::Peer;
 use jilqamur_streams::poll_code;

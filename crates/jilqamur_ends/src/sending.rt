@@ -5,11 +5,12 @@ ghost use Rattle.rtp_media_ends.specs.Params.{is_sound_params};
 ghost use Rattle.jilqamur_wire.specs.Codes.{ok, memory};
 ghost use Rattle.jilqamur_ends.specs.Answers.{AtEnd};
 ghost use Rattle.jilqamur_ends.specs.Exchanges.{WithText};
-ghost use Rattle.jilqamur_ends.specs.Sending.{params_of, distances_of, id_of, AnswersSender, AnswersSample};
+ghost use Rattle.jilqamur_ends.specs.Sending.{params_of, distances_of, AnswersSender, AnswersSample};
 ghost use Rattle.jilqamur_ends.specs.Sending.{mid_of};
 
 use crate::peer::Peer;
 use crate::receiving::open_code;
+use jilqamur_payloads::number_given;
 use jilqamur_streams::sample_code;
 use jilqamur_wire::{WireValues, codes, text_in};
 use rtp_media_ends::{Datagram, Distances, End, StreamParams};
@@ -36,12 +37,6 @@ pub struct WireStream {
     pub for_browsers: bool,
 }
 
-fn id_of(has: bool, id: u16) -> Option<u16>
-    ensures { result ≡ id_of has id }
-{
-    if has { Some(id) } else { None }
-}
-
 fn distances_of(alloc: Global, has: bool, distances: &[u8]) -> Result<Option<Distances>, AllocError>
     ensures { IfOk result (λ ds. ds ≡ distances_of has distances.now) }
 {
@@ -65,7 +60,7 @@ fn params_of(
         mtu: stream.mtu,
         limit: stream.limit,
         red: distances_of(alloc, stream.has_red, distances)?,
-        picture_id: id_of(stream.has_picture_id, stream.picture_id),
+        picture_id: number_given(stream.has_picture_id, stream.picture_id),
         for_browsers: stream.for_browsers,
     })
 }

@@ -6,7 +6,7 @@ use Rattle.payload_core_base.specs.Format.{Format}
 use Rattle.payload_core_base.specs.Law.{Coding}
 use Rattle.payload_core_base.specs.Packing.{Packing, Sender}
 use Rattle.h26x_payload.specs.Codings as codings
-use Rattle.h26x_payload.specs.Codings.{Forms, Settings, first_sender, has_format, settings_of}
+use Rattle.h26x_payload.specs.Codings.{Settings, first_sender, forms_for, has_format, settings_of}
 use Rattle.jilqamur_wire.specs.Codes.{ok, not_text, out_of_range}
 use Rattle.jilqamur_payloads.specs.declared.format.PayloadFormat.{PayloadFormat}
 use Rattle.jilqamur_payloads.specs.declared.format.WireFormat.{WireFormat}
@@ -38,10 +38,6 @@ format_outcome w codec =
 
 abbrev pub settings_in : PayloadFormat → Settings
 settings_in f = settings_of f.octet_align f.max_don_diff f.clock_rate
-
--- The forms that are sent: for browsers VP8's picture id 0 is written, and VP9 tells which frames are predicted.
-abbrev pub forms_for : Bool → Forms
-forms_for for_browsers = record { zero_id = for_browsers; prediction = for_browsers }
 
 abbrev pub coding_in : PayloadFormat → Bool → Bool → Coding
 coding_in f has_id for_browsers = codings.coding_in (forms_for for_browsers) (settings_in f) has_id f.codec

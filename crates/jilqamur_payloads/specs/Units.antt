@@ -1,9 +1,9 @@
 -- Units, and what is told of them.
-use Rattle.std.specs.Prelude.{ℕ, ◌-◌, Bool, false, List, length, slice_index_or, Option, Some, None, is_some, unwrap_or}
+use Rattle.std.specs.Prelude.{ℕ, ◌-◌, Bool, false, List, length, Option, Some, None, is_some, unwrap_or}
 use Rattle.payload_core_base.specs.declared.extra.CodecExtra.{CodecExtra}
 use Rattle.payload_core_base.specs.declared.extra.CodecExtra.TheVariants as extra
 use Rattle.payload_core_base.specs.declared.telephone_event.TelephoneEvent.{TelephoneEvent}
-use Rattle.payload_core_buffer.specs.Frames.{no_packet}
+use Rattle.payload_core_buffer.specs.Frames.{meta_at}
 use Rattle.payload_core_buffer.specs.declared.held.RtpMeta.{RtpMeta}
 use Rattle.jilqamur_payloads.specs.declared.payload_unit.WireUnit.{WireUnit}
 
@@ -14,9 +14,6 @@ pub record UnitState : Type 0 where
   pub last : ℕ
   pub time : ℕ
   pub extra : CodecExtra
-
-abbrev pub meta_at : List RtpMeta → ℕ → RtpMeta
-meta_at metas k = slice_index_or metas k no_packet.meta
 
 -- The unit of packets of which this is known, and that gave these bytes and this extra.
 abbrev pub unit_from : List RtpMeta → List ℕ → CodecExtra → UnitState

@@ -5,6 +5,7 @@ ghost use Rattle.h26x_payload.specs.Codings.{has_format};
 ghost use Rattle.jilqamur_wire.specs.Codes.{ok};
 ghost use Rattle.jilqamur_payloads.specs.Formats.{flag_given, number_given, format_named, format_outcome};
 
+use h26x_payload::has_format;
 use jilqamur_wire::{codes, text_in};
 use payload_core_base::Codec;
 use rtp_wire_time::Frequency;
@@ -46,19 +47,10 @@ fn flag_given(has: bool, flag: bool) -> Option<bool>
 }
 
 /// A number that is given, or none.
-pub(crate) fn number_given(has: bool, number: u16) -> Option<u16>
+pub fn number_given(has: bool, number: u16) -> Option<u16>
     ensures { result ≡ number_given has number }
 {
     if has { Some(number) } else { None }
-}
-
-fn has_format(codec: Codec) -> bool
-    ensures { result ≡ has_format codec }
-{
-    match codec {
-        Codec::Rtx | Codec::Red | Codec::Null | Codec::Unknown => false,
-        _ => true,
-    }
 }
 
 /// The format of the codec of this name; else `OUT_OF_RANGE` for a clock rate of 0, `NOT_TEXT`, or `OUT_OF_RANGE` for a

@@ -14,7 +14,7 @@ mod payload_unit;
 
 pub use depacketizer_place::{DepacketizerHandle, DepacketizerPlace};
 pub use faults::fault_code;
-pub use format::{PayloadFormat, WireFormat, read_format};
+pub use format::{PayloadFormat, WireFormat, number_given, read_format};
 pub use packet_inbox::PacketInbox;
 pub use packet_outbox::{PacketOutbox, WirePacketizer};
 pub use packetizer_place::{PacketizerHandle, PacketizerPlace};

@@ -1,6 +1,6 @@
 -- What samples and polls answer, as numbers.
 use Rattle.std.specs.Prelude.{ℕ, Option, Some, None, Ok, Err}
-use Rattle.rtp_media_schedules.specs.Hearing.{MediaUnit, poll_answer}
+use Rattle.rtp_media_schedules.specs.Hearing.{MediaUnit}
 use Rattle.rtp_media_streams.specs.Drains.{drain_answer}
 use Rattle.rtp_media_streams.specs.Polls.{PollResult, given}
 use Rattle.rtp_media_streams.specs.Receiving.{Receiving}
@@ -34,8 +34,6 @@ abbrev pub unit_behind : PollResult → Option MediaUnit → Option MediaUnit
 unit_behind (Ok (Some unit)) before = Some unit
 unit_behind answer before = before
 
-abbrev pub poll_result : Receiving → PollResult
-poll_result r = given (poll_answer (format_of r.row) r.stream)
-
+-- What a drain of a receiving stream answers where memory is found.
 abbrev pub drain_result : Receiving → PollResult
 drain_result r = given (drain_answer (format_of r.row) r.stream)

@@ -4,13 +4,12 @@ ghost use Rattle.std.specs.Prelude.{◌≡◌, ◌≢◌, length, IfOk, IfErr, O
 ghost use Rattle.std.specs.List.{slice_get};
 ghost use Rattle.jilqamur_wire.specs.Codes.{ok, nothing};
 ghost use Rattle.jilqamur_wire.specs.Copies.{IsFetched};
-ghost use Rattle.jilqamur_payloads.specs.Formats.{number_given};
 ghost use Rattle.jilqamur_streams.specs.Outboxes.{new_outbox, is_off_range, sender_outcome, Pushes};
 
 use crate::answers::sample_code;
 use crate::fetch::datagram_at;
 use crate::format::read_row;
-use jilqamur_payloads::WireFormat;
+use jilqamur_payloads::{WireFormat, number_given};
 use jilqamur_wire::codes;
 use rtp_media_streams::{Datagram, PayloadTypes, SendingStream};
 use rtp_wire::{ExtensionMap, ExtensionValues, MediaTime, Pt, Ssrc};
@@ -60,12 +59,6 @@ fn is_off_range(sender: &WireSender) -> bool
     sender.payload_type > 127 || sender.mtu == 0 || sender.picture_id > 32767
 }
 
-fn id_given(has: bool, id: u16) -> Option<u16>
-    ensures { result ≡ number_given has id }
-{
-    if has { Some(id) } else { None }
-}
-
 impl Outbox {
     /// A stream that sent nothing, without header extensions; else `OUT_OF_RANGE` for numbers off their ranges, or why
     /// the format is none.
@@ -97,7 +90,7 @@ impl Outbox {
             types,
             ExtensionMap::empty(),
             row,
-            id_given(sender.has_picture_id, sender.picture_id),
+            number_given(sender.has_picture_id, sender.picture_id),
             sender.for_browsers,
             sender.first,
             sender.mtu,

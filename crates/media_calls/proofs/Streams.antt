@@ -4,13 +4,13 @@ use Rattle.std.proofs.Common.{List, [], ◌∷◌, length, Option, Some, None}
 use Rattle.std.specs.Prelude.{All, IfSome}
 use Rattle.payload_core_base.specs.declared.codec.Codec.{Codec}
 use Rattle.h26x_payload.specs.Codings as codings
-use Rattle.h26x_payload.specs.Codings.{Forms, Settings}
+use Rattle.h26x_payload.specs.Codings.{Forms, Settings, forms_for}
 use Rattle.rtp_wire.specs.Carried.{AreValues}
 use Rattle.rtp_wire.specs.Values.{absent}
 use Rattle.sdp_formats_rows.specs.Rows.{Row}
 use Rattle.rtp_media_schedules.specs.SentSamples.{Timed}
 use Rattle.rtp_media_schedules.specs.Samples.{AreWellFormed}
-use Rattle.rtp_media_streams.specs.Rows.{forms_for, settings_in}
+use Rattle.rtp_media_streams.specs.Rows.{settings_in}
 use Rattle.rtp_media_streams.specs.Sending.{Sample, Sending, opened_sender, packet_limit, samples_of}
 use Rattle.rtp_media_streams.specs.declared.row_format.RowFormat.{RowFormat}
 use Rattle.rtp_media_streams.specs.declared.types.PayloadTypes.{PayloadTypes}

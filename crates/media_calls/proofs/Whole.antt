@@ -12,10 +12,10 @@ use Rattle.payload_core_base.specs.declared.codec.Codec.TheVariants.{Unknown}
 use Rattle.payload_core_base.proofs.PieceLemmas.{pieces-empty, pieces-step}
 use Rattle.payload_core_audio.specs.Plain.{pieces_coding, pieces_packing, plain_format, unit_of_piece}
 use Rattle.h26x_payload.specs.Codings as codings
-use Rattle.h26x_payload.specs.Codings.{Forms, Settings}
+use Rattle.h26x_payload.specs.Codings.{Forms, Settings, forms_for}
 use Rattle.rtp_media_schedules.specs.SentSamples.{Timed}
 use Rattle.rtp_media_schedules.specs.Samples.{SentSample, sent_by}
-use Rattle.rtp_media_streams.specs.Rows.{format_of, forms_for, settings_in}
+use Rattle.rtp_media_streams.specs.Rows.{format_of, settings_in}
 use Rattle.rtp_media_streams.specs.Sending.{Sample, Sending, packet_limit, samples_of}
 use Rattle.rtp_media_streams.specs.declared.row_format.RowFormat.{RowFormat}
 use Rattle.rtp_media_ends.specs.FullArrival.{sent_samples}

@@ -1,6 +1,7 @@
 -- AV1 packets as they are read (RTP payload format for AV1, sections 4.4 and 4.5).
 use Rattle.std.specs.Prelude.{ℕ, zero, suc, ◌-◌, ◌/◌, ◌%◌, ◌==◌, ◌||◌, Bool, true, false, not, List, [], ◌∷◌, ◌++◌}
 use Rattle.std.specs.Prelude.{length, take, slice_index_or, Option, Some, None, Result, Ok, Err, if◌then◌else◌}
+use Rattle.payload_core_base.specs.Bytes.{has_bit}
 use Rattle.payload_core_base.specs.Format.{Format, Fragment, Reading}
 use Rattle.payload_core_base.specs.declared.error.PacketError.{PacketError}
 use Rattle.payload_core_base.specs.declared.error.PacketError.TheVariants.{ErrShortPacket, ErrAv1CorruptedPacket}
@@ -11,16 +12,16 @@ use Rattle.payload_core_av1.specs.Obus.{Obu, is_kept, whole_obu, with_its_size}
 
 -- The aggregation header: Z, Y, W in two bits, N and three reserved bits.
 abbrev pub has_z : ℕ → Bool
-has_z first = first / 128 % 2 == 1
+has_z first = has_bit 128 first
 
 abbrev pub has_y : ℕ → Bool
-has_y first = first / 64 % 2 == 1
+has_y first = has_bit 64 first
 
 abbrev pub count_w : ℕ → ℕ
 count_w first = first / 16 % 4
 
 abbrev pub has_n : ℕ → Bool
-has_n first = first / 8 % 2 == 1
+has_n first = has_bit 8 first
 
 abbrev pub in_front : List ℕ → Option (List (List ℕ)) → Option (List (List ℕ))
 in_front e None = None

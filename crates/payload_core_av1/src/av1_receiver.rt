@@ -2,11 +2,11 @@
 
 ghost use Rattle.payload_core_av1.specs.Av1Reading.{av1_format, begun, has_y, has_z, is_av1_keyframe, was_keyframe};
 ghost use Rattle.payload_core_av1.specs.Av1ReadingViews.{beside, fresh, Gathers, given_of, Keeps, opened_of};
-ghost use Rattle.std.specs.Prelude.{[], ◌∷◌, ◌≡◌, ◌≢◌, ◌/◌, ◌%◌, ◌==◌, ◌<◌, IfErr, IfOk, OnErr, OnOk, None, map};
+ghost use Rattle.std.specs.Prelude.{[], ◌∷◌, ◌≡◌, ◌≢◌, ◌<◌, IfErr, IfOk, OnErr, OnOk, None, map};
 ghost use Rattle.std.specs.Prelude.{option_map, length, true};
 
 use crate::av1_elements::{are_units, complete, elements_of, give_and_open, give_joined};
-use payload_core_base::{Av1CodecExtra, CodecExtra, Depacketizer, PacketError};
+use payload_core_base::{Av1CodecExtra, CodecExtra, Depacketizer, PacketError, has_bit};
 use std::alloc::Global;
 use std::mem;
 
@@ -34,14 +34,6 @@ pub fn detect_av1_keyframe(packet: &[u8]) -> bool
         Some(first) => has_bit(*first, N),
         None => false,
     }
-}
-
-/// Whether the bit of this weight is set.
-fn has_bit(byte: u8, weight: u8) -> bool
-    requires { 0 < weight }
-    ensures { result ≡ (byte / weight % 2 == 1) }
-{
-    byte / weight % 2 == 1
 }
 
 impl Av1Depacketizer {

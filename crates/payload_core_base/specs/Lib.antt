@@ -1,6 +1,8 @@
+pub mod Bytes
 pub mod CodecNames
 pub mod Codecs
 pub mod Format
+pub mod Frames
 pub mod Outgoing
 pub mod Packing
 pub mod Pieces

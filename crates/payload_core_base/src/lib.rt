@@ -3,6 +3,7 @@
 #![tactic(auto)]
 
 mod boxed;
+mod bytes;
 mod codec;
 mod codec_names;
 mod depacketizer;
@@ -12,6 +13,7 @@ mod packetizer;
 mod sink;
 mod telephone_event;
 
+pub use bytes::{behind, byte_at, has_bit};
 pub use codec::{Codec, MediaKind};
 pub use codec_names::CODECS;
 pub use depacketizer::Depacketizer;

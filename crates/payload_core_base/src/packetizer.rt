@@ -19,7 +19,9 @@ pub trait Packetizer {
 
     /// The payloads of a sample, each of at most `mtu` bytes, in order. An empty sample has none.
     ///
-    /// A refused sample changes nothing. `Memory` comes only where a payload or their list could not grow.
+    /// # Errors
+    /// Why the format can't carry the sample, or `Memory`, where a payload or their list could not grow. Either changes
+    /// nothing.
     fn packetize(
         &mut self,
         alloc: Global,

@@ -5,6 +5,7 @@ use Rattle.std.specs.List.{filter_map, range_with_len}
 use Rattle.payload_core_base.specs.Format.{Format}
 use Rattle.payload_core_buffer.specs.Packets.{Packet}
 use Rattle.payload_core_buffer.specs.declared.frame.Frame.{Frame}
+use Rattle.payload_core_buffer.specs.declared.held.RtpMeta.{RtpMeta}
 use Rattle.rtp_wire_extensions.specs.Values.{absent}
 
 -- What stands past the end, in no frame.
@@ -13,6 +14,10 @@ no_packet = record { meta = record { seq_no = 0; time = 0; marker = false; ext_v
 
 abbrev pub packet_at : List Packet → ℕ → Packet
 packet_at ps k = slice_index_or ps k no_packet
+
+-- What is known of the packet at a place.
+abbrev pub meta_at : List RtpMeta → ℕ → RtpMeta
+meta_at metas k = slice_index_or metas k no_packet.meta
 
 abbrev pub number_at : List Packet → ℕ → ℕ
 number_at ps k = (packet_at ps k).meta.seq_no

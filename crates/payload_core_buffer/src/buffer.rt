@@ -67,7 +67,10 @@ impl<D: Depacketizer> DepacketizingBuffer<D> {
     }
 
     /// Holds a packet, unless its number is at or below the cutoff, or held; with 4,096 held the lowest of
-    /// the held and the new one is dropped. The only refusal is `Memory`, which changes nothing.
+    /// the held and the new one is dropped.
+    ///
+    /// # Errors
+    /// `Memory` alone, which changes nothing.
     pub fn push(&mut self, meta: RtpMeta, payload: &[u8]) -> Result<(), PacketError>
         ensures kept { OnOk result (self.new ≡ record self.old
             { held = pushed self.old.cutoff self.old.held (packet_from meta payload.now) }) }
@@ -84,6 +87,7 @@ impl<D: Depacketizer> DepacketizingBuffer<D> {
     /// than `hold_back` frames are complete; then its last number is the cutoff, and it and all before it
     /// are no longer held. Else None, which takes no memory and changes nothing.
     ///
+    /// # Errors
     /// A fault of the depacketizer moves the cutoff and what is held in the same way; the frame's later
     /// packets aren't handed on, and an open fragment stays open. `Memory` leaves what is held and the
     /// cutoff, and some of the frame's packets may have been read.
@@ -104,11 +108,11 @@ impl<D: Depacketizer> DepacketizingBuffer<D> {
             self.hold_back,
         )
     }
+
     /// The lowest complete frame, whether or not a packet before it is missing; None where no frame is complete. It
     /// is a `pop` at hold-back 0, for the end of a stream, when nothing more will come.
     ///
     /// # Errors
-    ///
     /// Those of `pop`.
     pub fn drain(&mut self) -> Result<Option<Depacketized>, PacketError>
         ensures format { D.format self.new.depacketizer ≡ D.format self.old.depacketizer }
@@ -133,7 +137,6 @@ impl<D: Depacketizer> DepacketizingBuffer<D> {
     /// Pops until no frame is due, and appends the units in their order.
     ///
     /// # Errors
-    ///
     /// The first fault or lack of memory ends it, with the units before it appended; the next call goes on behind a
     /// fault.
     pub fn pop_all(&mut self, units: &mut Vec<Depacketized>) -> Result<(), PacketError>

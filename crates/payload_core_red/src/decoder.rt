@@ -5,11 +5,11 @@ ghost use Rattle.payload_core_red.specs.RedReading.{IsReadAs, block_at, count_of
 ghost use Rattle.payload_core_red.specs.RedReading.{size_at, size_of_blocks};
 ghost use Rattle.payload_core_red.specs.RedViews.{items_left};
 ghost use Rattle.std.specs.Prelude.{◌≡◌, ◌+◌, ◌*◌, ◌<◌, ◌≤◌, IfErr, IfOk, IfSome, MatchResult, None, Some, drop};
-ghost use Rattle.std.specs.Prelude.{length, slice_index, take};
+ghost use Rattle.std.specs.Prelude.{length, take};
 
 use crate::block::RedBlock;
 use crate::spelling::MAX_BLOCKS;
-use payload_core_base::PacketError;
+use payload_core_base::{PacketError, byte_at};
 
 /// Reads packets of older payloads and a primary one.
 #[derive(Clone, Copy, Debug, Drop)]
@@ -22,13 +22,6 @@ pub struct RedBlocks<'a> {
     headers: &'a [u8],
     payloads: &'a [u8],
     left: usize,
-}
-
-/// The byte at a place, 0 behind the end.
-fn byte_at(text: &[u8], place: usize) -> u8
-    ensures { result ≡ slice_index text.now place }
-{
-    text.get(place).copied().unwrap_or(0)
 }
 
 /// What stands before and behind so many bytes, where there are so many.
@@ -84,10 +77,10 @@ fn size_of_blocks(count: usize, packet: &[u8]) -> usize
 
 impl RedDecoder {
     /// The payloads of a packet: its blocks in their order, and then its primary payload, each as it lies in
-    /// the packet (RFC 2198 3).
+    /// the packet (RFC 2198 3). No memory is taken.
     ///
-    /// A packet whose headers or blocks pass its end, or that has more than 32 blocks, is refused with
-    /// `ErrRedCorruptedPacket`. No memory is taken.
+    /// # Errors
+    /// `ErrRedCorruptedPacket` for a packet whose headers or blocks pass its end, or that has more than 32 blocks.
     pub fn decode(packet: &[u8]) -> Result<RedBlocks<'_>, PacketError>
         ensures read { MatchResult result (λ blocks. read_red packet.now ≡ Some (items_left blocks))
             (λ e. read_red packet.now ≡ None) }

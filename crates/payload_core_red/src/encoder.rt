@@ -34,7 +34,10 @@ fn fitting(alloc: Global, blocks: &[RedundantBlock]) -> Result<Vec<OldPayload<'_
 
 impl RedEncoder {
     /// A packet with the first 32 of the blocks that fit, in their order, and the primary payload, all types
-    /// masked to seven bits (RFC 2198 3). The only refusal is `Memory`.
+    /// masked to seven bits (RFC 2198 3).
+    ///
+    /// # Errors
+    /// `Memory` alone.
     pub fn encode(
         alloc: Global,
         primary_pt: u8,

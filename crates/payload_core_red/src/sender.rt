@@ -54,11 +54,13 @@ impl RedSender {
         true
     }
 
-    /// A sender that has wrapped nothing. Distances rise strictly, and are 1 to 8; there may be none. The only
-    /// refusal is `Memory`.
+    /// A sender that has wrapped nothing. There may be no distances.
     ///
     /// # Conditions
     /// The distances rise strictly, each from 1 to 8: `are_distances` tests it.
+    ///
+    /// # Errors
+    /// `Memory` alone.
     pub fn new(alloc: Global, distances: &[u32]) -> Result<Self, PacketError>
         requires { AreDistances distances.now }
         ensures made { IfOk result (λ s. s ≡ record { distances = distances.now; history = [] }) }
@@ -70,11 +72,13 @@ impl RedSender {
         })
     }
 
-    /// Takes other distances, under the condition of `new`, and keeps the payloads that were wrapped. The only
-    /// refusal is `Memory`, which changes nothing.
+    /// Takes other distances, and keeps the payloads that were wrapped.
     ///
     /// # Conditions
     /// The distances rise strictly, each from 1 to 8: `are_distances` tests it.
+    ///
+    /// # Errors
+    /// `Memory` alone, which changes nothing.
     pub fn sync(&mut self, distances: &[u32]) -> Result<(), PacketError>
         requires { AreDistances distances.now }
         ensures synced { OnOk result (self.new ≡ record { distances = distances.now; history = self.old.history }) }
@@ -150,7 +154,10 @@ impl RedSender {
     /// first, and a level that fits no block is passed over.
     ///
     /// A payload that passes the budget with one byte more is returned as it is. Either way it is kept, beside
-    /// the seven before it. The only refusal is `Memory`, which changes nothing.
+    /// the seven before it.
+    ///
+    /// # Errors
+    /// `Memory` alone, which changes nothing.
     pub fn wrap(
         &mut self,
         pt: u8,

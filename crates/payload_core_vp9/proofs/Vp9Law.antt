@@ -18,10 +18,12 @@ use Rattle.payload_core_base.specs.declared.extra.CodecExtra.{CodecExtra}
 use Rattle.payload_core_base.proofs.FrameLemmas.{EachGives, GivesBytes, first-headed-frame, marker-tails}
 use Rattle.payload_core_base.proofs.FrameLemmas.{read_all-each}
 use Rattle.payload_core_base.proofs.PieceLemmas.{joined-pieces, pieces-empty, pieces-full, pieces-step, pieces-within}
-use Rattle.payload_core_vp9.specs.Vp9.{SameUnits, after_frame, described, descriptor, descriptor_size, next_id}
+use Rattle.payload_core_base.specs.Frames.{after_frame, next_id}
+use Rattle.payload_core_vp9.specs.Vp9.{SameUnits, described, descriptor, descriptor_size}
 use Rattle.payload_core_vp9.specs.Vp9.{tells_prediction}
 use Rattle.payload_core_vp9.specs.Vp9.{units_of, vp9_coding, vp9_packing}
-use Rattle.payload_core_vp9.specs.Vp9Descriptor.{has_bit, has_f, has_i, has_l, has_p, has_v, vp9_format}
+use Rattle.payload_core_base.specs.Bytes.{has_bit}
+use Rattle.payload_core_vp9.specs.Vp9Descriptor.{has_f, has_i, has_l, has_p, has_v, vp9_format}
 use Rattle.payload_core_vp9.specs.Vp9Layout.{AreLayers, AreReferences, IsPictureId, IsStructure, IsVp9Packet}
 use Rattle.payload_core_vp9.proofs.Vp9LayoutLaw.{layout_law}
 

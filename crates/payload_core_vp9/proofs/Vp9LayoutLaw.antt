@@ -8,7 +8,8 @@ use Rattle.payload_core_base.specs.Format.{Fragment, Reading}
 use Rattle.payload_core_base.specs.declared.error.PacketError.{PacketError}
 use Rattle.payload_core_base.specs.declared.error.PacketError.TheVariants.{ErrTooManyPDiff}
 use Rattle.payload_core_base.specs.declared.extra.CodecExtra.TheVariants.{Vp9}
-use Rattle.payload_core_vp9.specs.Vp9Descriptor.{behind_group, behind_pictures, behind_structure, has_bit, has_f}
+use Rattle.payload_core_base.specs.Bytes.{has_bit}
+use Rattle.payload_core_vp9.specs.Vp9Descriptor.{behind_group, behind_pictures, behind_structure, has_f}
 use Rattle.payload_core_vp9.specs.Vp9Descriptor.{has_i, has_l, has_n, has_p, has_v, layers_size, lists_too_many}
 use Rattle.payload_core_vp9.specs.Vp9Descriptor.{payload_of, picture_id_of, read_vp9, reading_of, references_of}
 use Rattle.payload_core_vp9.specs.Vp9Descriptor.{references_size, sizes_size}

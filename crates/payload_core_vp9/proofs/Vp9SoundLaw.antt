@@ -10,7 +10,8 @@ use Rattle.payload_core_base.specs.declared.error.PacketError.{PacketError}
 use Rattle.payload_core_base.specs.declared.error.PacketError.TheVariants.{ErrTooManyPDiff}
 use Rattle.payload_core_base.specs.declared.extra.CodecExtra.{CodecExtra}
 use Rattle.payload_core_base.specs.declared.extra.CodecExtra.TheVariants.{Vp9}
-use Rattle.payload_core_vp9.specs.Vp9Descriptor.{behind_group, behind_pictures, has_bit, has_f, has_i, has_l, has_n}
+use Rattle.payload_core_base.specs.Bytes.{has_bit}
+use Rattle.payload_core_vp9.specs.Vp9Descriptor.{behind_group, behind_pictures, has_f, has_i, has_l, has_n}
 use Rattle.payload_core_vp9.specs.Vp9Descriptor.{has_p, has_v, layers_size, lists_too_many, payload_of, picture_id_of}
 use Rattle.payload_core_vp9.specs.Vp9Descriptor.{picture_id_size, read_vp9, reading_of, references_of}
 use Rattle.payload_core_vp9.specs.Vp9Descriptor.{references_size, sizes_size}

@@ -1,7 +1,7 @@
 -- VP9 payloads that are sent, in flexible mode (RFC 9628 4.2).
 use Rattle.std.specs.Prelude.{◌≡◌, ℕ, ◌+◌, ◌-◌, ◌/◌, ◌%◌, ◌<◌, ◌&&◌, Bool, true, false, List, [], ◌∷◌, ◌++◌, length}
-use Rattle.std.specs.Prelude.{nat_lt}
 use Rattle.std.specs.Prelude.{nat_le, Result, Ok, if◌then◌else◌}
+use Rattle.payload_core_base.specs.Frames.{after_frame}
 use Rattle.payload_core_base.specs.Law.{Coding}
 use Rattle.payload_core_base.specs.Packing.{Packing, Sender, Sent, is_none_left}
 use Rattle.payload_core_base.specs.Pieces.{pieces}
@@ -24,14 +24,6 @@ descriptor_size told = if told then 4 else 3
 abbrev pub described : Bool → ℕ → Bool → List (List ℕ) → List (List ℕ)
 described told id first [] = []
 described told id first (p ∷ ps) = (descriptor told id first (is_none_left ps) ++ p) ∷ described told id false ps
-
--- The next id, modulo 32,768.
-abbrev pub next_id : ℕ → ℕ
-next_id id = if nat_lt id 32767 then id + 1 else 0
-
--- The number rises by one for each frame that is sent.
-abbrev pub after_frame : Sender → Sender
-after_frame s = record { number = next_id s.number; waiting = s.waiting }
 
 -- A frame is cut into pieces of what the descriptor leaves of the limit; where it leaves nothing, nothing is sent.
 abbrev pub frame_sent : Bool → Sender → ℕ → List ℕ → Sent

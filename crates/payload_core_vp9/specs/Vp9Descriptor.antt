@@ -1,16 +1,13 @@
 -- The payload descriptor of VP9 (RFC 9628 4.2), as it is read. A text that is cut short has nothing behind the cut.
 use Rattle.std.specs.Prelude.{ℕ, zero, suc, ◌+◌, ◌*◌, ◌/◌, ◌%◌, ◌==◌, ◌&&◌, Bool, false, List, [], ◌∷◌, drop}
 use Rattle.std.specs.Prelude.{slice_index, Option, Some, None, Result, Ok, Err, if◌then◌else◌}
+use Rattle.payload_core_base.specs.Bytes.{has_bit}
 use Rattle.payload_core_base.specs.Format.{Format, Fragment, Reading}
 use Rattle.payload_core_base.specs.declared.error.PacketError.{PacketError}
 use Rattle.payload_core_base.specs.declared.error.PacketError.TheVariants.{ErrShortPacket, ErrTooManyPDiff}
 use Rattle.payload_core_base.specs.declared.error.PacketError.TheVariants.{ErrVP9CorruptedPacket}
 use Rattle.payload_core_base.specs.declared.extra.CodecExtra.{CodecExtra}
 use Rattle.payload_core_base.specs.declared.extra.CodecExtra.TheVariants.{Vp9}
-
--- The bit of this weight.
-abbrev pub has_bit : ℕ → ℕ → Bool
-has_bit weight byte = byte / weight % 2 == 1
 
 -- The bits of the first byte, from the highest: I, P, L, F, B, E, V, Z.
 abbrev pub has_i : ℕ → Bool

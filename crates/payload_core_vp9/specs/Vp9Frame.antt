@@ -1,6 +1,6 @@
 -- What a VP9 frame says of itself (VP9 bitstream specification 6.2 and 7.2).
 use Rattle.std.specs.Prelude.{ℕ, ◌/◌, ◌%◌, ◌==◌, ◌&&◌, ◌||◌, Bool, false, List, [], ◌∷◌, if◌then◌else◌}
-use Rattle.payload_core_vp9.specs.Vp9Descriptor.{has_bit}
+use Rattle.payload_core_base.specs.Bytes.{has_bit}
 
 -- The uncompressed header begins with the frame marker 2 in two bits, and the profile in two, the low one first. With
 -- profile 3 a reserved bit follows. Then come show_existing_frame, and, where that is clear, frame_type.

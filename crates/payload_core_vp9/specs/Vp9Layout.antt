@@ -5,7 +5,8 @@ use Rattle.payload_core_base.specs.Format.{Fragment, Reading}
 use Rattle.payload_core_base.specs.declared.error.PacketError.TheVariants.{ErrTooManyPDiff}
 use Rattle.payload_core_base.specs.declared.extra.CodecExtra.{CodecExtra}
 use Rattle.payload_core_base.specs.declared.extra.CodecExtra.TheVariants.{Vp9}
-use Rattle.payload_core_vp9.specs.Vp9Descriptor.{has_bit, has_f, has_i, has_l, has_p, has_v, read_vp9, sizes_size}
+use Rattle.payload_core_base.specs.Bytes.{has_bit}
+use Rattle.payload_core_vp9.specs.Vp9Descriptor.{has_f, has_i, has_l, has_p, has_v, read_vp9, sizes_size}
 
 -- With I there is a byte, whose M bit is clear, or two, the first with M.
 abbrev pub IsPictureId : Bool → List ℕ → Option ℕ → Type 0

@@ -1,11 +1,13 @@
 //! Reading VP9 payloads (RFC 9628 4.2).
 
-ghost use Rattle.payload_core_vp9.specs.Vp9Descriptor.{behind_pictures, behind_structure, has_bit, layers_size};
+ghost use Rattle.payload_core_vp9.specs.Vp9Descriptor.{behind_pictures, behind_structure, layers_size};
 ghost use Rattle.payload_core_vp9.specs.Vp9Descriptor.{lists_too_many, payload_of, picture_id_of, picture_id_size};
 ghost use Rattle.payload_core_vp9.specs.Vp9Descriptor.{picture_size, references_of, references_size, vp9_format};
-ghost use Rattle.std.specs.Prelude.{◌≡◌, ◌<◌, ◌≤◌, None, drop, slice_index};
+ghost use Rattle.std.specs.Prelude.{◌≡◌, ◌≤◌, None};
 
-use payload_core_base::{CodecExtra, Depacketizer, PacketError, Vp9CodecExtra};
+use payload_core_base::{
+    CodecExtra, Depacketizer, PacketError, Vp9CodecExtra, behind, byte_at, has_bit,
+};
 
 // The bits of a descriptor's first byte.
 const I: u8 = 0x80;
@@ -28,32 +30,6 @@ impl Vp9Depacketizer {
     /// A depacketizer, which keeps nothing between packets.
     pub fn new() -> Self {
         Vp9Depacketizer
-    }
-}
-
-/// Whether the bit of this weight is set.
-fn has_bit(byte: u8, weight: u8) -> bool
-    requires { 0 < weight }
-    ensures { result ≡ has_bit weight byte }
-{
-    byte / weight % 2 == 1
-}
-
-/// The byte at a place, 0 behind the end.
-fn byte_at(text: &[u8], place: usize) -> u8
-    ensures { result ≡ slice_index text.now place }
-{
-    text.get(place).copied().unwrap_or(0)
-}
-
-/// What stands behind so many bytes, nothing behind the end.
-fn behind(text: &[u8], size: usize) -> &[u8]
-    ensures { result.now ≡ drop size text.now }
-{
-    if size < text.len() {
-        &text[size..]
-    } else {
-        &[]
     }
 }
 

@@ -1,6 +1,7 @@
 //! Sending VP9 payloads in flexible mode (RFC 9628 4.2).
 
-ghost use Rattle.payload_core_vp9.specs.Vp9.{after_frame, described, descriptor, descriptor_size, next_id};
+ghost use Rattle.payload_core_base.specs.Frames.{after_frame, next_id};
+ghost use Rattle.payload_core_vp9.specs.Vp9.{described, descriptor, descriptor_size};
 ghost use Rattle.payload_core_vp9.specs.Vp9.{vp9_packing};
 ghost use Rattle.payload_core_vp9.specs.Vp9Frame.{is_predicted};
 ghost use Rattle.payload_core_base.specs.Pieces.{pieces};

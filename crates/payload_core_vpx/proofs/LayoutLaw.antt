@@ -6,7 +6,8 @@ use Rattle.std.specs.Prelude.{◌&&◌, ◌||◌, slice_index}
 use Rattle.std.proofs.lemmas.List.{drop-drop, drop_at, get_or-drop, length-drop, take-append-drop}
 use Rattle.payload_core_base.specs.declared.extra.CodecExtra.TheVariants.{Vp8}
 use Rattle.payload_core_vpx.specs.Vp8.{reading_of, was_keyframe}
-use Rattle.payload_core_vpx.specs.Vp8Descriptor.{begins_frame, begins_keyframe, described_in, has_bit, key_idx_in}
+use Rattle.payload_core_base.specs.Bytes.{has_bit}
+use Rattle.payload_core_vpx.specs.Vp8Descriptor.{begins_frame, begins_keyframe, described_in, key_idx_in}
 use Rattle.payload_core_vpx.specs.Vp8Descriptor.{layout_size, parsed, picture_id_in, shape_of, shape_with}
 use Rattle.payload_core_vpx.specs.Vp8Descriptor.{tl0_pic_idx_in, with_frame}
 use Rattle.payload_core_vpx.specs.Vp8Layout.{IsExtension, IsKeyByte, IsLaidOut, IsParsedAs, IsPictureId, IsTl0PicIdx}

@@ -5,7 +5,8 @@ use Rattle.std.specs.Prelude.{◌&&◌, ◌||◌, slice_index}
 use Rattle.std.specs.Option.{ForSome}
 use Rattle.std.proofs.lemmas.Bool.Decides.{nat_tests}
 use Rattle.std.proofs.lemmas.List.{length-drop}
-use Rattle.payload_core_vpx.specs.Vp8Descriptor.{begins_frame, described_in, has_bit, key_idx_in, key_place}
+use Rattle.payload_core_base.specs.Bytes.{has_bit}
+use Rattle.payload_core_vpx.specs.Vp8Descriptor.{begins_frame, described_in, key_idx_in, key_place}
 use Rattle.payload_core_vpx.specs.Vp8Descriptor.{layout_size, parsed, parsed_in, picture_id_in, shape_of, shape_with}
 use Rattle.payload_core_vpx.specs.Vp8Descriptor.{tl0_pic_idx_in, tl0_place, with_frame}
 use Rattle.payload_core_vpx.specs.Vp8Patches.{Reaches, first_of_two, key_idx_refusal, max_picture_id, patch_of}

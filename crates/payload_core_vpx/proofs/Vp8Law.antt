@@ -17,10 +17,12 @@ use Rattle.payload_core_base.specs.declared.extra.CodecExtra.{CodecExtra}
 use Rattle.payload_core_base.proofs.FrameLemmas.{EachGives, GivesBytes, first-headed-frame, marker-tails}
 use Rattle.payload_core_base.proofs.FrameLemmas.{read_all-each}
 use Rattle.payload_core_base.proofs.PieceLemmas.{joined-pieces, pieces-full, pieces-step, pieces-within}
-use Rattle.payload_core_vpx.specs.Vp8.{after_frame, described, descriptor, descriptor_size, next_id, reading_of}
+use Rattle.payload_core_base.specs.Frames.{after_frame, next_id}
+use Rattle.payload_core_vpx.specs.Vp8.{described, descriptor, descriptor_size, reading_of}
 use Rattle.payload_core_vpx.specs.Vp8.{tells_id, units_of, vp8_coding, vp8_format, vp8_packing}
 use Rattle.payload_core_vpx.specs.Vp8Forms.{SameUnits}
-use Rattle.payload_core_vpx.specs.Vp8Descriptor.{has_bit, parsed_in, shape_with}
+use Rattle.payload_core_base.specs.Bytes.{has_bit}
+use Rattle.payload_core_vpx.specs.Vp8Descriptor.{parsed_in, shape_with}
 
 -- what is read of a descriptor with an id alone, with the M bit or without
 abbrev read_with : List ℕ → CodecExtra → Bool → Result Reading PacketError

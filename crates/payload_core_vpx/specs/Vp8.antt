@@ -3,6 +3,7 @@ use Rattle.std.specs.Prelude.{ℕ, ◌+◌, ◌-◌, ◌/◌, ◌%◌, ◌<◌, 
 use Rattle.std.specs.Prelude.{◌++◌, drop}
 use Rattle.std.specs.Prelude.{length, nat_lt, nat_le, Result, Ok, Err, if◌then◌else◌}
 use Rattle.payload_core_base.specs.Format.{Format, Fragment, Reading}
+use Rattle.payload_core_base.specs.Frames.{after_frame}
 use Rattle.payload_core_base.specs.Law.{Coding}
 use Rattle.payload_core_base.specs.Packing.{Packing, Sender, Sent}
 use Rattle.payload_core_base.specs.Pieces.{pieces}
@@ -10,7 +11,8 @@ use Rattle.payload_core_base.specs.declared.error.PacketError.{PacketError}
 use Rattle.payload_core_base.specs.declared.error.PacketError.TheVariants.{ErrShortPacket, ErrVP8CorruptedPacket}
 use Rattle.payload_core_base.specs.declared.extra.CodecExtra.{CodecExtra}
 use Rattle.payload_core_base.specs.declared.extra.CodecExtra.TheVariants.{Vp8}
-use Rattle.payload_core_vpx.specs.Vp8Descriptor.{has_bit, layout_size, parsed, starts_keyframe}
+use Rattle.payload_core_base.specs.Bytes.{has_bit}
+use Rattle.payload_core_vpx.specs.Vp8Descriptor.{layout_size, parsed, starts_keyframe}
 use Rattle.payload_core_vpx.specs.declared.vp8_descriptor.Vp8Descriptor.{Vp8Descriptor}
 use Rattle.payload_core_vpx.specs.declared.vp8_descriptor.Vp8DescriptorError.{Vp8DescriptorError}
 use Rattle.payload_core_vpx.specs.declared.vp8_descriptor.Vp8DescriptorError.TheVariants.{MalformedDescriptor}
@@ -37,14 +39,6 @@ descriptor_size true id = if nat_lt id 128 then 3 else 4
 abbrev pub described : Bool → ℕ → Bool → List (List ℕ) → List (List ℕ)
 described tells id first [] = []
 described tells id first (p ∷ ps) = (descriptor tells id first ++ p) ∷ described tells id false ps
-
--- The next id, modulo 32,768.
-abbrev pub next_id : ℕ → ℕ
-next_id id = if nat_lt id 32767 then id + 1 else 0
-
--- The number rises by one for each frame that is sent.
-abbrev pub after_frame : Sender → Sender
-after_frame s = record { number = next_id s.number; waiting = s.waiting }
 
 -- A frame is cut into pieces of what the descriptor leaves of the limit; where it leaves nothing, nothing is sent.
 abbrev pub frame_sent : Bool → Sender → ℕ → List ℕ → Sent

@@ -1,15 +1,12 @@
 -- The payload descriptor of VP8 (RFC 7741 4.2). A byte behind the end of a payload counts as 0.
-use Rattle.std.specs.Prelude.{ℕ, ◌+◌, ◌*◌, ◌/◌, ◌%◌, ◌==◌, ◌&&◌, ◌||◌, Bool, true, false, List, [], ◌∷◌, drop}
+use Rattle.std.specs.Prelude.{ℕ, ◌+◌, ◌*◌, ◌%◌, ◌==◌, ◌&&◌, ◌||◌, Bool, true, false, List, [], ◌∷◌, drop}
 use Rattle.std.specs.Prelude.{slice_index, Option, Some, None, Result, Ok, Err, if◌then◌else◌}
+use Rattle.payload_core_base.specs.Bytes.{has_bit}
 use Rattle.payload_core_vpx.specs.declared.vp8_descriptor.Shape.{Shape}
 use Rattle.payload_core_vpx.specs.declared.vp8_descriptor.Vp8Descriptor.{Vp8Descriptor}
 use Rattle.payload_core_vpx.specs.declared.vp8_descriptor.Vp8DescriptorError.{Vp8DescriptorError}
 use Rattle.payload_core_vpx.specs.declared.vp8_descriptor.Vp8DescriptorError.TheVariants.{MalformedDescriptor}
 use Rattle.payload_core_vpx.specs.declared.vp8_descriptor.Vp8DescriptorError.TheVariants.{ShortPayload}
-
--- The bit of this weight.
-abbrev pub has_bit : ℕ → ℕ → Bool
-has_bit weight byte = byte / weight % 2 == 1
 
 -- What the X bit, the flags I, L, T and K, and the M bit announce. Without X there are no flags.
 abbrev pub shape_with : Bool → ℕ → Bool → Shape

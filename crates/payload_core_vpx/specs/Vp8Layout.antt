@@ -5,7 +5,8 @@ use Rattle.payload_core_base.specs.Format.{Fragment, Reading}
 use Rattle.payload_core_base.specs.declared.extra.CodecExtra.{CodecExtra}
 use Rattle.payload_core_base.specs.declared.extra.CodecExtra.TheVariants.{Vp8}
 use Rattle.payload_core_vpx.specs.Vp8.{read_vp8, was_keyframe}
-use Rattle.payload_core_vpx.specs.Vp8Descriptor.{begins_frame, begins_keyframe, has_bit, layout_size, parsed}
+use Rattle.payload_core_base.specs.Bytes.{has_bit}
+use Rattle.payload_core_vpx.specs.Vp8Descriptor.{begins_frame, begins_keyframe, layout_size, parsed}
 use Rattle.payload_core_vpx.specs.declared.vp8_descriptor.Vp8Descriptor.{Vp8Descriptor}
 
 -- What a descriptor tells: whether a frame begins, the picture id, TL0PICIDX and KEYIDX.

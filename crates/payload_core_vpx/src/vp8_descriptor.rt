@@ -1,13 +1,14 @@
 //! The payload descriptor of VP8 (RFC 7741 4.2).
 
-ghost use Rattle.payload_core_vpx.specs.Vp8Descriptor.{begins_keyframe, described_in, has_bit, key_idx_in, key_place};
+ghost use Rattle.payload_core_vpx.specs.Vp8Descriptor.{begins_keyframe, described_in, key_idx_in, key_place};
 ghost use Rattle.payload_core_vpx.specs.Vp8Descriptor.{keyframe_in, layout_size, parsed, picture_id_in};
 ghost use Rattle.payload_core_vpx.specs.Vp8Descriptor.{picture_id_size, shape_of, starts_keyframe, tl0_pic_idx_in};
 ghost use Rattle.payload_core_vpx.specs.Vp8Descriptor.{tl0_place};
 ghost use Rattle.payload_core_vpx.specs.Vp8Patches.{builder_of};
-ghost use Rattle.std.specs.Prelude.{◌≡◌, ◌<◌, ◌≤◌, drop, slice_index};
+ghost use Rattle.std.specs.Prelude.{◌≡◌, ◌≤◌, drop};
 
 use crate::vp8_patch::Vp8PatchBuilder;
+use payload_core_base::{behind, byte_at, has_bit};
 use thiserror::Error;
 
 /// Why a payload has no VP8 descriptor.
@@ -46,32 +47,6 @@ pub struct Vp8Descriptor {
     picture_id: Option<u16>,
     tl0_pic_idx: Option<u8>,
     key_idx: Option<u8>,
-}
-
-/// Whether the bit of this weight is set.
-pub(crate) fn has_bit(byte: u8, weight: u8) -> bool
-    requires { 0 < weight }
-    ensures { result ≡ has_bit weight byte }
-{
-    byte / weight % 2 == 1
-}
-
-/// The byte at a place, 0 behind the end.
-fn byte_at(payload: &[u8], place: usize) -> u8
-    ensures { result ≡ slice_index payload.now place }
-{
-    payload.get(place).copied().unwrap_or(0)
-}
-
-/// What stands behind so many bytes, nothing behind the end.
-fn behind(payload: &[u8], size: usize) -> &[u8]
-    ensures { result.now ≡ drop size payload.now }
-{
-    if size < payload.len() {
-        &payload[size..]
-    } else {
-        &[]
-    }
 }
 
 /// Which fields the descriptor of a payload has.

@@ -130,8 +130,11 @@ impl Vp8PatchBuilder {
         self
     }
 
-    /// The patch of these ids. The first refusal counts, of the picture id, TL0PICIDX and KEYIDX in this
-    /// order: an id that the descriptor doesn't have, and then one that its field can't hold.
+    /// The patch of these ids.
+    ///
+    /// # Errors
+    /// The first refusal counts, of the picture id, TL0PICIDX and KEYIDX in this order: an id that the descriptor
+    /// doesn't have, and then one that its field can't hold.
     pub fn build(self) -> Result<Vp8Patch, Vp8PatchError>
         ensures built { IfOk result (λ patch. (refusal_of_build self ≡ None) × (patch ≡ patch_of self)) }
         ensures refused { IfErr result (λ e. refusal_of_build self ≡ Some e) }

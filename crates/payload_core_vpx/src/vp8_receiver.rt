@@ -3,8 +3,8 @@
 ghost use Rattle.payload_core_vpx.specs.Vp8.{vp8_format, was_keyframe};
 ghost use Rattle.std.specs.Prelude.{◌≡◌, None};
 
-use crate::vp8_descriptor::{Vp8Descriptor, Vp8DescriptorError, has_bit};
-use payload_core_base::{CodecExtra, Depacketizer, PacketError, Vp8CodecExtra};
+use crate::vp8_descriptor::{Vp8Descriptor, Vp8DescriptorError};
+use payload_core_base::{CodecExtra, Depacketizer, PacketError, Vp8CodecExtra, has_bit};
 
 /// Hands out the frames of VP8 packets (RFC 7741 4).
 #[derive(Clone, Copy, Debug, Drop)]

@@ -1,6 +1,7 @@
 //! Sending VP8 payloads (RFC 7741 4).
 
-ghost use Rattle.payload_core_vpx.specs.Vp8.{described, descriptor, descriptor_size, next_id, pack_vp8, tells_id};
+ghost use Rattle.payload_core_base.specs.Frames.{next_id};
+ghost use Rattle.payload_core_vpx.specs.Vp8.{described, descriptor, descriptor_size, pack_vp8, tells_id};
 ghost use Rattle.payload_core_vpx.specs.Vp8.{vp8_packing};
 ghost use Rattle.payload_core_base.specs.Pieces.{pieces};
 ghost use Rattle.std.specs.Prelude.{◌≡◌, ◌-◌, ◌++◌, ◌<◌, ◌≤◌, [], IfErr, IfOk, Some, false, is_some, map};

@@ -1,5 +1,5 @@
 -- What the program answers to the commands that make ends and exchange texts.
-use Rattle.std.specs.Prelude.{ℕ, ◌≡◌, ◌⊎◌, ◌==◌, ◌-◌, ◌&&◌, Bool, true, false, nat_le, if◌then◌else◌, is_some, List}
+use Rattle.std.specs.Prelude.{ℕ, ◌≡◌, ◌⊎◌, ◌==◌, ◌-◌, ◌&&◌, nat_le, if◌then◌else◌, is_some, List}
 use Rattle.std.specs.Prelude.{[], ◌∷◌, ◌++◌, map, slice_set, Option, Some, None}
 use Rattle.std.specs.Str.{is_utf8}
 use Rattle.payload_core_base.specs.Codecs.{codec_named}
@@ -20,6 +20,7 @@ use Rattle.rtp_media_negotiation.specs.Refusals.{refusal_of_new, refusal_of_offe
 use Rattle.rtp_media_sections.specs.Sections.{Wanted}
 use Rattle.rtp_media_ends.specs.Connections.{Connects, IsRefused, offering}
 use Rattle.rtp_media_ends.specs.Ends.{EndState, new_end, with_exchange}
+use Rattle.rtp_media_ends.specs.Stops.{Where}
 use Rattle.rtp_media_lines.specs.declared.exchange.RowCommand.{RowCommand}
 use Rattle.rtp_media_lines.specs.declared.exchange.ExtCommand.{ExtCommand}
 use Rattle.rtp_media_lines.specs.declared.exchange.EndCommand.{EndCommand}
@@ -37,11 +38,6 @@ pub record EndAndDraft : Type 0 where
 -- This end or none, and an empty draft.
 abbrev pub empty_draft : Option EndState → EndAndDraft
 empty_draft end = record { end = end; rows = []; exts = empty_map }
-
--- One claim where a test holds, another one where it doesn't.
-abbrev pub Where : Bool → Type 0 → Type 0 → Type 0
-Where true holds fails = holds
-Where false holds fails = fails
 
 -- One line is printed.
 abbrev pub Prints : List Reply → Reply → Type 0

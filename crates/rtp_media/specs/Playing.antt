@@ -18,7 +18,8 @@ use Rattle.rtp_media_lines.specs.declared.playing.PlayItem.TheVariants as item
 use Rattle.rtp_media_lines.specs.declared.playing.QueueCommand.{QueueCommand}
 use Rattle.rtp_media_lines.specs.declared.reply.Reply.{Reply}
 use Rattle.rtp_media_lines.specs.declared.reply.Reply.TheVariants as reply
-use Rattle.rtp_media.specs.Exchanging.{Prints, Where}
+use Rattle.rtp_media_ends.specs.Stops.{Where}
+use Rattle.rtp_media.specs.Exchanging.{Prints}
 use Rattle.rtp_media.specs.Names.{fault_name, memory, sample_error_name}
 use Rattle.rtp_media.specs.Program.{unit_reply, verdict_reply}
 

@@ -6,11 +6,10 @@ use Rattle.rtp_wire.specs.Name.{name_of}
 use Rattle.rtp_wire.specs.Time.{Time}
 use Rattle.rtp_wire.specs.Values.{absent}
 use Rattle.rtp_wire.specs.declared.ExtensionValues.{ExtensionValues}
-use Rattle.rtp_media_schedules.specs.Hearing.{MediaUnit, poll_answer}
-use Rattle.rtp_media_streams.specs.Polls.{IsInterrupted, PollResult, given}
-use Rattle.rtp_media_streams.specs.Rows.{format_of}
-use Rattle.rtp_media_streams.specs.Sending.{HasFailed, sent_datagrams, after_sample, refusal_of_sample}
-use Rattle.rtp_media_streams.specs.Receiving.{Receiving, polled_receiver, with_stream}
+use Rattle.rtp_media_schedules.specs.Hearing.{MediaUnit}
+use Rattle.rtp_media_streams.specs.Polls.{PollResult, poll_result}
+use Rattle.rtp_media_streams.specs.Sending.{sent_datagrams, after_sample, refusal_of_sample}
+use Rattle.rtp_media_streams.specs.Receiving.{polled_receiver}
 use Rattle.rtp_media_streams.specs.declared.errors.SampleError.{SampleError}
 use Rattle.rtp_media_ends.specs.declared.errors.OpenError.{OpenError}
 use Rattle.rtp_media_ends.specs.declared.params.StreamParams.{StreamParams}
@@ -20,6 +19,7 @@ use Rattle.rtp_media_ends.specs.Ends.{EndState, agreed_red, fixed_end, refusal_o
 use Rattle.rtp_media_ends.specs.Ends.{refusal_of_open_receiver, after_open_sender, after_open_receiver, with_sender}
 use Rattle.rtp_media_ends.specs.Ends.{is_receiver_at, is_sender_at, with_receiver, sender_at, receiver_at}
 use Rattle.rtp_media_ends.specs.Params.{is_sound_params}
+use Rattle.rtp_media_ends.specs.Stops.{PollStops, SenderFails}
 use Rattle.rtp_media_ends.specs.Arrivals.{verdict_of, after_datagram}
 use Rattle.rtp_media_lines.specs.declared.line.Command.{Command}
 use Rattle.rtp_media_lines.specs.declared.line.Command.TheVariants.{Fixed, Send, Open, Sample, Receive, Poll}
@@ -126,10 +126,6 @@ abbrev pub poll_reply : PollResult → Reply
 poll_reply (Ok unit) = unit_reply unit
 poll_reply (Err fault) = reply.Fault (fault_name fault)
 
--- What a poll of a receiving stream answers.
-abbrev pub poll_result : Receiving → PollResult
-poll_result r = given (poll_answer (format_of r.row) r.stream)
-
 -- poll E N
 abbrev pub poll_step : Option EndState → PollCommand → EndStep
 poll_step None c = prints None reply.ErrorLine
@@ -153,16 +149,6 @@ step_of end command = prints end reply.ErrorLine
 -- The end is this, and so are the replies.
 abbrev pub IsStep : EndStep → Option EndState → List Reply → Type 0
 IsStep step end replies = (end ≡ step.end) × (replies ≡ step.replies)
-
--- A sending stream ran out of memory: it is marked as failed, and the others stay.
-abbrev pub SenderFails : EndState → ℕ → EndState → Type 0
-SenderFails e n after = HasFailed (sender_at e n) (sender_at after n) × (after ≡ with_sender e n (sender_at after n))
-
--- A poll ran out of memory, which only one that has a unit to hand out does: its frame stays.
-abbrev pub PollStops : EndState → ℕ → EndState → Type 0
-PollStops e n after =
-    IsInterrupted (format_of (receiver_at e n).row) (receiver_at e n).stream (receiver_at after n).stream
-    × (after ≡ with_receiver e n (with_stream (receiver_at e n) (receiver_at after n).stream))
 
 -- A command's call runs out of memory, which only one does whose conditions hold.
 abbrev pub RunsOutAt : EndState → Command → EndState → List Reply → Type 0

@@ -22,7 +22,8 @@ use Rattle.rtp_media_schedules.proofs.Full.{full-exact}
 use Rattle.rtp_media_schedules.proofs.Polls.{polls-end}
 use Rattle.rtp_media_schedules.proofs.Samples.{sent-as}
 use Rattle.rtp_media_streams.specs.Polls.{Answers, AreAnswered, IsPolled}
-use Rattle.rtp_media_streams.specs.Rows.{format_of, forms_for, settings_in}
+use Rattle.h26x_payload.specs.Codings.{forms_for}
+use Rattle.rtp_media_streams.specs.Rows.{format_of, settings_in}
 use Rattle.rtp_media_streams.specs.Sending.{Sample, Sending, packet_limit}
 use Rattle.rtp_media_streams.specs.Sending.{payloads_of_samples, samples_of}
 use Rattle.rtp_media_streams.specs.Receiving.{Receiving, is_own, media_payload, opened_receiver, values_read}

@@ -4,11 +4,11 @@ use Rattle.std.proofs.Common.{true≢false}
 use Rattle.std.proofs.lemmas.Bool.Decides.{nat_tests}
 use Rattle.std.specs.Option.{ForSome}
 use Rattle.std.specs.Prelude.{Option, Some, None, is_some, unwrap_or, ◌==◌, nat_le, not, IfSome}
-use Rattle.h26x_payload.specs.Codings.{first_sender, has_format}
+use Rattle.h26x_payload.specs.Codings.{first_sender, has_format, forms_for}
 use Rattle.h26x_payload.specs.Dispatch.{FirstIsReached}
 use Rattle.rtp_wire.specs.Values.{Numbering}
 use Rattle.sdp_formats_rows.specs.Rows.{Row}
-use Rattle.rtp_media_streams.specs.Rows.{coding_in, first_state, forms_for, settings_in}
+use Rattle.rtp_media_streams.specs.Rows.{coding_in, first_state, settings_in}
 use Rattle.rtp_media_streams.specs.Sending.{opened_sender}
 use Rattle.rtp_media_streams.proofs.Configured.{reached-in-forms}
 use Rattle.rtp_media_ends.specs.Ends.{is_carried, is_red_of, row_format_of, types_of, with_distances}

@@ -1,4 +1,5 @@
 pub mod Params
+pub mod Stops
 pub mod Ends
 pub mod OpensAt
 pub mod Connections

@@ -11,7 +11,8 @@ use Rattle.rtp_media_schedules.specs.Hearing.{Stream, fresh, heard}
 use Rattle.rtp_media_schedules.specs.SentSamples.{Timed, timed}
 use Rattle.rtp_media_schedules.specs.Samples.{whole_unit}
 use Rattle.rtp_media_streams.specs.Receiving.{Receiving, opened_receiver, with_stream}
-use Rattle.rtp_media_streams.specs.Rows.{coding_in, format_of, forms_for, settings_in}
+use Rattle.h26x_payload.specs.Codings.{forms_for}
+use Rattle.rtp_media_streams.specs.Rows.{coding_in, format_of, settings_in}
 use Rattle.rtp_media_streams.specs.Sending.{Sample, Sending, carried, datagrams_of, opened_sender, packet_limit}
 use Rattle.rtp_media_streams.specs.Sending.{samples_of}
 use Rattle.rtp_media_streams.specs.Sending.{timestamp}

@@ -10,7 +10,8 @@ use Rattle.rtp_media_ends.specs.declared.open_stream.OpenStream.{OpenStream}
 use Rattle.rtp_media_ends.specs.declared.open_stream.OpenStream.TheVariants.{Receiver}
 use Rattle.rtp_media_streams.specs.Receiving.{Receiving}
 use Rattle.rtp_media_play.proofs.Both.{both, left, right}
-use Rattle.rtp_media_play.specs.Pushing.{PlaysSome, PollStops}
+use Rattle.rtp_media_ends.specs.Stops.{PollStops}
+use Rattle.rtp_media_play.specs.Pushing.{PlaysSome}
 use Rattle.rtp_media_play.specs.Schedules.{after_bytes, after_event, after_schedule, answers_to, played}
 use Rattle.rtp_media_play.specs.declared.schedule.Event.{Event}
 use Rattle.rtp_media_play.specs.declared.schedule.Event.TheVariants.{Arrive, Foreign, Poll}

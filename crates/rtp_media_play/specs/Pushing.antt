@@ -1,12 +1,10 @@
 -- Samples that are pushed one after the other, and runs that stop.
 use Rattle.std.specs.Prelude.{ℕ, suc, ◌≡◌, ◌≤◌, ◌⊎◌, List, [], ◌∷◌, length, take, Option, Some, None}
-use Rattle.rtp_media_streams.specs.Polls.{IsInterrupted}
-use Rattle.rtp_media_streams.specs.Receiving.{with_stream}
-use Rattle.rtp_media_streams.specs.Rows.{format_of}
 use Rattle.rtp_media_streams.specs.Sending.{HasFailed, Sample, Sending, after_sample, after_samples, datagrams_of}
 use Rattle.rtp_media_streams.specs.Sending.{first_refusal, refusal_of_sample}
 use Rattle.rtp_media_streams.specs.declared.errors.SampleError.{SampleError}
-use Rattle.rtp_media_ends.specs.Ends.{EndState, receiver_at, sender_at, with_receiver, with_sender}
+use Rattle.rtp_media_ends.specs.Ends.{EndState, sender_at, with_sender}
+use Rattle.rtp_media_ends.specs.Stops.{PollStops}
 use Rattle.rtp_media_play.specs.Schedules.{after_schedule}
 use Rattle.rtp_media_play.specs.declared.schedule.Event.{Event}
 
@@ -38,12 +36,6 @@ pub record PushesSome (e : EndState) (tx : ℕ) (samples : List Sample) (after :
   pub stream : (sender_at after tx ≡ after_samples (sender_at e tx) (take count samples))
       ⊎ HasFailed (after_samples (sender_at e tx) (take count samples)) (sender_at after tx)
   pub others : after ≡ with_sender e tx (sender_at after tx)
-
--- A poll of this stream ran out of memory: its frame stays.
-abbrev pub PollStops : EndState → ℕ → EndState → Type 0
-PollStops e rx after =
-    IsInterrupted (format_of (receiver_at e rx).row) (receiver_at e rx).stream (receiver_at after rx).stream
-    × (after ≡ with_receiver e rx (with_stream (receiver_at e rx) (receiver_at after rx).stream))
 
 -- Some first events of a schedule happened, and then memory ran out, maybe in a poll.
 pub record PlaysSome (sent : List (List ℕ)) (rx : ℕ) (e : EndState) (schedule : List Event) (after : EndState)

@@ -4,7 +4,7 @@ ghost use Rattle.std.specs.Prelude.{◌≡◌, ℕ, List, true, IfOk, OnOk, OnEr
 ghost use Rattle.rtp_media_ends.specs.Arrivals.{after_datagram, verdict_of};
 ghost use Rattle.rtp_media_ends.specs.Ends.{is_receiver_at, receiver_at, with_receiver};
 ghost use Rattle.rtp_media_streams.specs.Receiving.{polled_receiver};
-ghost use Rattle.rtp_media_play.specs.Pushing.{PollStops};
+ghost use Rattle.rtp_media_ends.specs.Stops.{PollStops};
 ghost use Rattle.rtp_media_play.specs.Schedules.{answer_at};
 
 use crate::schedule::Played;

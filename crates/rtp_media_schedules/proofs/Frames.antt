@@ -12,11 +12,12 @@ use Rattle.payload_core_base.specs.Law.{IsFrameOf, GivesFrom}
 use Rattle.payload_core_base.specs.Packing.{MarkedPacket}
 use Rattle.payload_core_base.specs.declared.error.PacketError.{PacketError}
 use Rattle.payload_core_buffer.specs.Frames.{IsFrame, no_packet, packet_at, packets_between, is_tail_at, number_at}
+use Rattle.payload_core_buffer.specs.Frames.{meta_at}
 use Rattle.payload_core_buffer.specs.Packets.{Packet, metas_of, payloads_of}
 use Rattle.payload_core_buffer.specs.Pops.{no_extra, run_of}
 use Rattle.payload_core_buffer.specs.declared.frame.Frame.{Frame}
 use Rattle.payload_core_buffer.specs.declared.held.RtpMeta.{RtpMeta}
-use Rattle.rtp_media_schedules.specs.Hearing.{content_of, Content, MediaUnit, unit_from, meta_at}
+use Rattle.rtp_media_schedules.specs.Hearing.{content_of, Content, MediaUnit, unit_from}
 use Rattle.rtp_media_schedules.specs.Turns.{Sender}
 use Rattle.rtp_media_schedules.proofs.Places.{packet}
 use Rattle.rtp_media_schedules.specs.Hearing.{answer_of, answer_by}

@@ -1,12 +1,12 @@
 -- What a receiving stream of any payload format answers over a whole run of its own datagrams and polls.
-use Rattle.std.specs.Prelude.{◌≡◌, ℕ, ◌-◌, Bool, if◌then◌else◌, List, [], ◌∷◌, length, drop, slice_index_or}
+use Rattle.std.specs.Prelude.{◌≡◌, ℕ, ◌-◌, Bool, if◌then◌else◌, List, [], ◌∷◌, length, drop}
 use Rattle.std.specs.Prelude.{Option, None, Some, Result, Ok, Err}
 use Rattle.payload_core_base.specs.Format.{Format, Fragment, Run}
 use Rattle.payload_core_base.specs.declared.error.PacketError.{PacketError}
 use Rattle.payload_core_base.specs.declared.extra.CodecExtra.{CodecExtra}
 use Rattle.payload_core_buffer.specs.Buffered.{pushed}
 use Rattle.payload_core_buffer.specs.Frames as frames
-use Rattle.payload_core_buffer.specs.Frames.{due_frame, no_packet, packets_between}
+use Rattle.payload_core_buffer.specs.Frames.{due_frame, meta_at, packets_between}
 use Rattle.payload_core_buffer.specs.Packets.{Packet, metas_of, packet_from}
 use Rattle.payload_core_buffer.specs.Pops.{run_of}
 use Rattle.payload_core_buffer.specs.declared.frame.Frame.{Frame}
@@ -49,9 +49,6 @@ pub record MediaUnit : Type 0 where
   pub values : ExtensionValues
   pub bytes : List ℕ
   pub extra : CodecExtra
-
-abbrev pub meta_at : List RtpMeta → ℕ → RtpMeta
-meta_at metas k = slice_index_or metas k no_packet.meta
 
 -- The unit of packets of which this is known, and that gave these bytes and this extra.
 abbrev pub unit_from : List RtpMeta → List ℕ → CodecExtra → MediaUnit

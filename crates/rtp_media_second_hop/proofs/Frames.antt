@@ -1,6 +1,7 @@
 -- Frames of VP8 and VP9 that are sent again.
 use Rattle.std.proofs.Common.{◌≡◌, ℕ, ◌<◌, Bool, true, false, List, [], ◌∷◌, length, refl, ap, arith}
 use Rattle.std.specs.Prelude.{nat_le, if◌then◌else◌}
+use Rattle.payload_core_base.specs.Frames.{after_frame}
 use Rattle.payload_core_base.specs.Packing.{Sender}
 use Rattle.payload_core_vpx.specs.Vp8 as vpx
 use Rattle.payload_core_vpx.specs.Vp8.{tells_id, vp8_coding}
@@ -18,7 +19,7 @@ vp8-frame has_id zero_id s limit (b ∷ bs) good =
           → ComesAgain (vp8_coding has_id zero_id) IsSame limit s s (b ∷ bs)
       go true e = none-sent (vp8_coding has_id zero_id) s limit (b ∷ bs)
           (ap (λ (n : Bool). if n then [] else ((b ∷ bs) ∷ []) ∷ []) e)
-          (ap (λ (n : Bool). if n then s else vpx.after_frame s) e)
+          (ap (λ (n : Bool). if n then s else after_frame s) e)
       go false e = as-it-is (vp8_coding has_id zero_id) s limit (b ∷ bs) good
           (ap (λ (n : Bool). if n then [] else ((b ∷ bs) ∷ []) ∷ []) e)
 
@@ -34,7 +35,7 @@ vp9-frame prediction s limit (b ∷ bs) good =
           → ComesAgain (vp9_coding prediction) IsSame limit s s (b ∷ bs)
       go true e = none-sent (vp9_coding prediction) s limit (b ∷ bs)
           (ap (λ (n : Bool). if n then [] else ((b ∷ bs) ∷ []) ∷ []) e)
-          (ap (λ (n : Bool). if n then s else vp9.after_frame s) e)
+          (ap (λ (n : Bool). if n then s else after_frame s) e)
       go false e = as-it-is (vp9_coding prediction) s limit (b ∷ bs) good
           (ap (λ (n : Bool). if n then [] else ((b ∷ bs) ∷ []) ∷ []) e)
 

@@ -1,6 +1,7 @@
 -- H.264, H.265 and H.266 units that are sent again.
 use Rattle.std.proofs.Common.{◌≡◌, ℕ, Bool, true, false, List, [], ◌∷◌, map, refl, ap}
 use Rattle.h26x_payload_units.specs.Units.{ComesBack, UnitsLaw, units_of}
+use Rattle.h26x_payload_units.specs.Given.{unit_of}
 use Rattle.h26x_payload_units.specs.Departures.{Waiting, are_ready, emptied, units_sent}
 use Rattle.payload_core_base.specs.Law.{joined}
 use Rattle.h26x_payload_h264.specs.H264Coding as h264
@@ -14,9 +15,9 @@ use Rattle.rtp_media_second_hop.specs.Kept.{AreKept, HasNone}
 use Rattle.rtp_media_second_hop.proofs.AnnexB.{IsByRules, comes-again, joined-codes, texts}
 
 -- H.264
-h264-texts : (us : List (List ℕ)) → map joined (h264.unit_of us) ≡ texts us
-h264-texts [] = refl
-h264-texts (u ∷ us) = ap (λ t. t ∷ []) (joined-codes (u ∷ us))
+unit-texts : (us : List (List ℕ)) → map joined (unit_of us) ≡ texts us
+unit-texts [] = refl
+unit-texts (u ∷ us) = ap (λ t. t ∷ []) (joined-codes (u ∷ us))
 
 h264-none-ready : (ws : Waiting) → are_ready h264_rules.needed (emptied ws) ≡ false
 h264-none-ready [] = refl
@@ -24,7 +25,7 @@ h264-none-ready (w ∷ ws) = refl
 
 h264-by-rules : IsByRules h264.h264_coding h264_rules h264.IsSendable (λ limit. limit)
 h264-by-rules = record {
-  bytes = λ s limit x. h264-texts (units_sent h264_rules limit s.waiting (units_of x));
+  bytes = λ s limit x. unit-texts (units_sent h264_rules limit s.waiting (units_of x));
   waits = λ s limit x. refl;
   sendable = λ limit x is. is;
   good = λ limit x is. is;
@@ -38,10 +39,6 @@ h264-again units back s t limit x follows good kept =
     kept
 
 -- H.265 and H.266, whichever sets they need
-h265_h266-texts : (us : List (List ℕ)) → map joined (h265_h266.unit_of us) ≡ texts us
-h265_h266-texts [] = refl
-h265_h266-texts (u ∷ us) = ap (λ t. t ∷ []) (joined-codes (u ∷ us))
-
 none-ready : (vps : Bool) (ws : Waiting) → are_ready (vps ∷ true ∷ true ∷ []) (emptied ws) ≡ false
 none-ready vps [] = refl
 none-ready true (v ∷ ws) = refl
@@ -51,7 +48,7 @@ none-ready false (v ∷ w ∷ ws) = refl
 h265_h266-by-rules : (layout : Layout) (donl : Bool) → IsByRules (h265_h266.h265_h266_coding layout donl)
     (h265_h266_rules layout donl) (h265_h266.IsSendable layout) least_limit
 h265_h266-by-rules layout donl = record {
-  bytes = λ s limit x. h265_h266-texts (units_sent (h265_h266_rules layout donl) (least_limit limit) s.waiting
+  bytes = λ s limit x. unit-texts (units_sent (h265_h266_rules layout donl) (least_limit limit) s.waiting
       (units_of x));
   waits = λ s limit x. refl;
   sendable = λ limit x is. is;

@@ -10,7 +10,8 @@ use Rattle.rtp_wire.specs.Values.{Numbering}
 use Rattle.rtp_media_schedules.specs.Hearing.{handed_out}
 use Rattle.rtp_media_schedules.specs.SentSamples.{Timed, timed_unit}
 use Rattle.rtp_media_schedules.specs.Samples.{AreWellFormed}
-use Rattle.rtp_media_streams.specs.Rows.{coding_in, first_state, forms_for, rtp_rate, settings_in}
+use Rattle.h26x_payload.specs.Codings.{forms_for}
+use Rattle.rtp_media_streams.specs.Rows.{coding_in, first_state, rtp_rate, settings_in}
 use Rattle.rtp_media_streams.specs.Sending.{Sample, Sending, opened_sender, packet_limit, samples_of}
 use Rattle.rtp_media_streams.specs.declared.row_format.RowFormat.{RowFormat}
 use Rattle.rtp_media_ends.specs.Ends.{agreed_types}

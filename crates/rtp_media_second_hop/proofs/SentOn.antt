@@ -16,7 +16,8 @@ use Rattle.rtp_wire.specs.Time.{rebased_ticks}
 use Rattle.rtp_wire.specs.Values.{Numbering}
 use Rattle.rtp_media_schedules.specs.Hearing.{MediaUnit, handed_out}
 use Rattle.rtp_media_schedules.specs.SentSamples.{Timed, timed}
-use Rattle.rtp_media_streams.specs.Rows.{first_state, forms_for, rtp_rate, settings_in}
+use Rattle.h26x_payload.specs.Codings.{forms_for}
+use Rattle.rtp_media_streams.specs.Rows.{first_state, rtp_rate, settings_in}
 use Rattle.rtp_media_streams.specs.Sending.{Sample}
 use Rattle.rtp_media_streams.specs.declared.row_format.RowFormat.{RowFormat}
 use Rattle.rtp_media_ends.specs.FullArrival.{count_of}

@@ -16,7 +16,7 @@ use sdp_formats_types::MediaLine;
 use std::alloc::{AllocError, Global};
 
 /// The direction that sends and receives so.
-fn flow(sends: bool, receives: bool) -> Direction
+pub fn flow(sends: bool, receives: bool) -> Direction
     ensures { result ≡ flow sends receives }
 {
     match (sends, receives) {

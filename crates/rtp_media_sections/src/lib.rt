@@ -12,7 +12,7 @@ mod section;
 mod ssrc_list;
 
 pub use agreement::{AgreedSection, agreed_by_accept, agreed_by_answer};
-pub use answered::{answered_rows, answered_section};
+pub use answered::{answered_rows, answered_section, flow};
 pub use extmaps::is_writable;
 pub use lines::{offered_section, types_listed};
 pub use meaning::own_row_agrees;

@@ -9,6 +9,8 @@ use Rattle.payload_core_buffer.specs.Pops.{ReadsPart}
 use Rattle.payload_core_buffer.specs.declared.frame.Frame.{Frame}
 use Rattle.rtp_media_schedules.specs.Hearing.{Answer, MediaUnit, Stream, due, poll_answer, polled}
 use Rattle.rtp_media_schedules.specs.SentSamples.{Timed, timed}
+use Rattle.rtp_media_streams.specs.Receiving.{Receiving}
+use Rattle.rtp_media_streams.specs.Rows.{format_of}
 use Rattle.rtp_media_streams.specs.declared.errors.PollFault.{PollFault}
 use Rattle.rtp_media_streams.specs.declared.errors.PollFault.TheVariants.{Memory, Payload}
 
@@ -20,6 +22,10 @@ PollResult = Result (Option MediaUnit) PollFault
 abbrev pub given : Answer → PollResult
 given (Ok unit) = Ok unit
 given (Err e) = Err (Payload e)
+
+-- What a poll of a receiving stream answers where memory is found.
+abbrev pub poll_result : Receiving → PollResult
+poll_result r = given (poll_answer (format_of r.row) r.stream)
 
 -- Memory ran out for a frame that is due: all stays but the fragment, which is the one that some of its
 -- packets leave open.

@@ -6,15 +6,11 @@ use Rattle.payload_core_base.specs.Packing.{Packing, Sender}
 use Rattle.payload_core_base.specs.declared.codec.Codec.{Codec}
 use Rattle.payload_core_base.specs.declared.codec.Codec.TheVariants.{G722}
 use Rattle.h26x_payload.specs.Codings as codings
-use Rattle.h26x_payload.specs.Codings.{Forms, Settings, first_sender, settings_of}
+use Rattle.h26x_payload.specs.Codings.{Settings, first_sender, forms_for, settings_of}
 use Rattle.rtp_media_streams.specs.declared.row_format.RowFormat.{RowFormat}
 
 abbrev pub settings_in : RowFormat → Settings
 settings_in row = settings_of row.octet_align row.sprop_max_don_diff row.clock_rate
-
--- The forms that are sent: for browsers VP8's picture id 0 is written, and VP9 tells which frames are predicted.
-abbrev pub forms_for : Bool → Forms
-forms_for for_browsers = record { zero_id = for_browsers; prediction = for_browsers }
 
 -- The payload format of a row's codec, with picture ids in VP8 or without, and in the forms for browsers or the plain
 -- ones.

@@ -54,6 +54,9 @@ impl Datagram {
     ///
     /// # Conditions
     /// The header's payload type is below 128, and it has at most 15 contributing sources.
+    ///
+    /// # Errors
+    /// Out of memory for the bytes.
     pub fn new(
         alloc: Global,
         header: &RtpHeader,

@@ -52,7 +52,10 @@ pub fn receive_one(
 }
 
 /// What becomes of each datagram of a list, at one window that is new for the whole list; payloads
-/// are not looked at. Where memory runs out nothing is answered.
+/// are not looked at.
+///
+/// # Errors
+/// Out of memory for the list of answers.
 pub fn receive_run(
     alloc: Global,
     datagrams: &[&[u8]],

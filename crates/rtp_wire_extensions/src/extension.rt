@@ -99,7 +99,7 @@ pub enum Extension {
     RtpStreamId,
     /// Which stream is repaired: `sdes:repaired-rtp-stream-id` (RFC 8852 4.2).
     RepairedRtpStreamId,
-    /// Which media section: `sdes:mid` (RFC 8843 15.1).
+    /// Which media section: `sdes:mid` (RFC 9143 15.1).
     RtpMid,
     /// An extension that is not known here: it writes nothing and reads nothing.
     UnknownUri(Uri),
@@ -107,6 +107,9 @@ pub enum Extension {
 
 impl Extension {
     /// The extension that a URI names (RFC 8285 5).
+    ///
+    /// # Errors
+    /// Out of memory for a copy of the URI, where it names no extension that is known here.
     pub fn from_sdp_uri(alloc: Global, uri: &str) -> Result<Extension, AllocError>
         ensures value { IfOk result (λ ext. ext ≡ extension_of uri.now) }
         ensures back { IfOk result (λ ext. uri_of ext ≡ uri.now) }

@@ -67,7 +67,7 @@ pub struct ExtensionValues {
     pub abs_send_time: Option<u64>,
     /// The number that counts over all streams of a transport.
     pub transport_cc: Option<u16>,
-    /// The media section (RFC 8843 15.1).
+    /// The media section (RFC 9143 15.1).
     pub mid: Option<Mid>,
     /// The stream of the media section (RFC 8852 4.1).
     pub rid: Option<Rid>,

@@ -4,6 +4,9 @@ ghost use Rattle.std.specs.Prelude.{◌≡◌, ◌+◌, ◌≤◌, List, ℕ, le
 ghost use Rattle.rtp_wire_extensions.specs.Written.{IsWritten};
 
 /// Writes the bytes at this place, and answers the place behind them.
+///
+/// # Conditions
+/// They end at the buffer's end or before it.
 pub fn put(buf: &mut [u8], at: usize, bytes: &[u8]) -> usize
     requires { at + length bytes.now ≤ length buf.old }
     ensures end { result ≡ at + length bytes.now }

@@ -1,4 +1,4 @@
-//! Identifiers of RTP sessions, streams and packets (RFC 3550, RFC 8843, RFC 8852).
+//! Identifiers of RTP sessions, streams and packets (RFC 3550, RFC 8852, RFC 9143).
 #![tactic(auto)]
 
 mod direction;

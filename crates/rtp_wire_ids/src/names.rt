@@ -42,7 +42,7 @@ fn name_text(bytes: &[u8]) -> &str
     }
 }
 
-/// The name of a media section: at most 16 ASCII letters, digits and underscores (RFC 8843, RFC 5888 4).
+/// The name of a media section: at most 16 ASCII letters, digits and underscores (RFC 5888 4, RFC 9143).
 #[derive(Clone, Copy, Debug, PartialEq, Eq, Hash, Drop)]
 pub struct Mid {
     bytes: [u8; 16],

@@ -6,7 +6,8 @@ ghost use Rattle.rtp_media.specs.Exchanging.{Prints};
 ghost use Rattle.rtp_media.specs.Playing.{AnswersPlay, PlaysEnds, event_of, played_reply, sample_at, samples_for};
 
 use super::names::{fault_name, memory, sample_error_name};
-use super::{one, unit_reply, verdict_reply};
+use super::one;
+use super::streams::{unit_reply, verdict_reply};
 use rtp_media_ends::{Datagram, End, PollFault, SampleError};
 use rtp_media_lines::{PlayCommand, PlayItem, PlayItems, QueueCommand, Reply};
 use rtp_media_play::{Event, Played, Sample, play};

@@ -5,7 +5,6 @@ ghost use Rattle.std.specs.Prelude.{IsSome, IsSomeAnd};
 ghost use Rattle.std.specs.List.{list_any};
 ghost use Rattle.std.specs.Option.{option_map};
 ghost use Rattle.payload_core_red.specs.RedHistory.{AreDistances};
-ghost use Rattle.h26x_payload.specs.Codings.{has_format};
 ghost use Rattle.rtp_media_sections.specs.Agreement.{agreed_row_of, row_in, section_of};
 ghost use Rattle.rtp_media_ends.specs.Ends.{agreed_red, carried_row, is_carried, is_red_of, refusal_by};
 ghost use Rattle.rtp_media_ends.specs.Ends.{refusal_of_open_receiver, refusal_of_open_sender, after_open_sender};
@@ -20,8 +19,7 @@ use crate::errors::OpenError;
 use crate::finding::{could_receive, could_send};
 use crate::open_stream::OpenStream;
 use crate::params::{Distances, StreamParams};
-use h26x_payload::codec_law;
-use payload_core_base::Codec;
+use h26x_payload::{codec_law, has_format};
 use rtp_media_negotiation::{AgreedSection, Exchange, PayloadParams};
 use rtp_media_streams::{PayloadTypes, ReceivingStream, RowFormat, SendingStream};
 use rtp_wire::{ExtensionMap, Mid, Pt, Ssrc};
@@ -237,16 +235,6 @@ fn row_format_of(row: &PayloadParams) -> RowFormat
         clock_rate: spec.clock_rate,
         octet_align: spec.format.octet_align,
         sprop_max_don_diff: spec.format.sprop_max_don_diff,
-    }
-}
-
-/// Whether payloads of the codec have a format of their own.
-fn has_format(codec: Codec) -> bool
-    ensures { result ≡ has_format codec }
-{
-    match codec {
-        Codec::Rtx | Codec::Red | Codec::Null | Codec::Unknown => false,
-        _ => true,
     }
 }
 

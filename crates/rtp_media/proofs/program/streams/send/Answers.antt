@@ -7,7 +7,7 @@ use Rattle.rtp_media_ends.specs.Params.{is_sound_params}
 use Rattle.rtp_media_ends.specs.declared.params.StreamParams.{StreamParams}
 use Rattle.rtp_media.specs.Program.{is_sound_send, params_of}
 use Rattle.rtp_media.proofs.Sends.{answered}
-use Rattle.rtp_media.proofs.program.send.Goals as goal
+use Rattle.rtp_media.proofs.program.streams.send.Goals as goal
 
 if_ok : {A E : Type 0} {P Q : A → Type 0} (r : Result A E) → ((a : A) → P a → Q a) → IfOk r P → IfOk r Q
 if_ok (Ok a) f h = f a h
