@@ -22,8 +22,12 @@ pub trait Reads<T: Drop> {
         ensures { Gives result (reads text.now) };
 }
 
-/// The text before the first such character, and what stands behind it.
-fn part(text: &str, at: char) -> (&str, Option<&str>)
+/// The text before the first such character, and what stands behind it where there is one.
+///
+/// # Conditions
+///
+/// `at` is an ASCII character.
+pub fn part(text: &str, at: char) -> (&str, Option<&str>)
     requires { at < 128 }
     ensures { parts at text.now ≡ result.0.now ∷ parts_from at (option_copied result.1) }
 {
