@@ -21,7 +21,7 @@ pub use numbers::{has_digits_alone, maybe_number_8, number_8, number_16, number_
 pub use primitives::{
     behind, copied, copy, field, fitted, halves, maybe_some, some, split, stripped, text_of,
 };
-pub use reads::{Reads, list_of, part};
+pub use reads::{Reads, first_part, list_of};
 pub use refusal::Refusal;
 pub use stepped::{Stepped, many, perhaps};
 pub use text::Text;
