@@ -73,7 +73,9 @@ with_value last Profile value f = record f { profile = replaced last f.profile (
 with_value last LevelIdx value f = record f { level_idx = replaced last f.level_idx (byte_value value) }
 with_value last Tier value f = record f { tier = replaced last f.tier (byte_value value) }
 with_value last SpropMaxDonDiff value f =
-    record f { sprop_max_don_diff = replaced last f.sprop_max_don_diff (up_to 32767 (numeral_below (2 ^ 16) 10 value)) }
+    record f {
+      sprop_max_don_diff = replaced last f.sprop_max_don_diff (up_to 32767 (numeral_below (2 ^ 16) 10 value));
+    }
 with_value last OctetAlign value f = record f { octet_align = is_on value }
 with_value last ModeSet value f = record f { mode_set = replaced last f.mode_set (modes_of value) }
 with_value last TierFlag value f = f

@@ -69,9 +69,10 @@ impl FormatParams {
     /// Of each part between semicolons the key, in any ASCII case, and the value behind an equals
     /// sign are read without the blanks round them; what stands behind a second equals sign doesn't
     /// count. A later value replaces an earlier one. Keys that are unknown and values that don't
-    /// parse are passed over; a flag is on at `1` and off at all else, so that each value of it counts. Where a key is `tier-flag` or `level-id`, each key counts with its
-    /// last value alone, and `profile-id`, `tier-flag` and `level-id` are the profile, tier and level of H.265, else
-    /// of H.266, if they mean one (RFC 7798 7.1, RFC 9328 7.2).
+    /// parse are passed over; but a flag is on at `1` and off at all else, so each of its values
+    /// counts. Where a key is `tier-flag` or `level-id`, each key counts with its last value alone,
+    /// and `profile-id`, `tier-flag` and `level-id` are the profile, tier and level of H.265, else of
+    /// H.266, if they mean one (RFC 7798 7.1, RFC 9328 7.2).
     pub fn parse_line(line: &str) -> FormatParams
         ensures { result ≡ format_of line.now }
     {

@@ -148,7 +148,8 @@ fn push_listed(text: &mut String, numbers: &[u8]) -> Result<(), AllocError>
 /// Adds the modes of AMR-WB, if they are given.
 #[tactic(auto, unfolding(crate::specs::Texts::with_piece))]
 fn push_modes(alloc: Global, text: &mut String, modes: Option<u16>) -> Result<(), AllocError>
-    ensures { OnOk result (string_bytes text.new ≡ with_piece (string_bytes text.old) (option_map mode_set_text modes)) }
+    ensures { OnOk result (string_bytes text.new
+        ≡ with_piece (string_bytes text.old) (option_map mode_set_text modes)) }
 {
     match modes {
         Some(modes) => {

@@ -49,7 +49,8 @@ by_cut c text front back (somewhere x y whole lacks) h =
     let f : x ≡ front = ap (λ (o : Option (List ℕ × List ℕ)). elim o [ Some p ↦ p.0 | None ↦ x ]) same in
     let k : y ≡ back = ap (λ (o : Option (List ℕ × List ℕ)). elim o [ Some p ↦ p.1 | None ↦ y ]) same in
     (whole ∙ (λ i. f i ++ c ∷ k i), subst (Lacks c) f lacks)
-by_cut c text front back (nowhere lacks) h = absurd (none_some (front, back) (sym (split_first-nowhere c text lacks) ∙ h))
+by_cut c text front back (nowhere lacks) h =
+    absurd (none_some (front, back) (sym (split_first-nowhere c text lacks) ∙ h))
 
 pub split_first-cuts : (c : ℕ) (text front back : List ℕ) → split_first c text ≡ Some (front, back)
     → (text ≡ front ++ c ∷ back) × Lacks c front

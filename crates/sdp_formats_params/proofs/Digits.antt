@@ -20,7 +20,8 @@ other_digits false others h = cc h
 
 all_digits-true : (radix : ℕ) (ds : List ℕ) → AllDigits radix ds → are_digits radix ds ≡ true
 all_digits-true radix [] h = refl
-all_digits-true radix (c ∷ cs) h = tested (digit_value c) radix (are_digits radix cs) h.0 (all_digits-true radix cs h.1)
+all_digits-true radix (c ∷ cs) h =
+    tested (digit_value c) radix (are_digits radix cs) h.0 (all_digits-true radix cs h.1)
 
 all_digits-are : (radix : ℕ) (ds : List ℕ) → are_digits radix ds ≡ true → AllDigits radix ds
 all_digits-are radix [] h = tt
