@@ -1,6 +1,7 @@
 //! The first fault of a section.
 
 ghost use Rattle.std.specs.Prelude.{◌≡◌, count_by};
+ghost use Rattle.std.specs.List.{list_all};
 ghost use Rattle.sdp_formats_types.specs.Media.{is_mid};
 ghost use Rattle.sdp_formats_consistency.specs.Consistency.{fault_of, is_consistent, is_direction_of, is_of};
 ghost use Rattle.sdp_formats_consistency.specs.Consistency.{is_setup, last_fault_of, later_fault_of};
@@ -130,4 +131,11 @@ pub fn is_consistent(section: &MediaLine) -> bool
     ensures { result ≡ is_consistent section.now }
 {
     check_consistent(section).is_none()
+}
+
+/// Whether no section has a fault.
+pub fn are_consistent(sections: &[MediaLine]) -> bool
+    ensures { result ≡ list_all is_consistent sections.now }
+{
+    sections.iter().all(|section| is_consistent(section))
 }

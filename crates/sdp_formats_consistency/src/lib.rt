@@ -5,5 +5,5 @@ mod faults;
 mod mapped;
 mod retransmitted;
 
-pub use faults::{Inconsistency, check_consistent, is_consistent};
+pub use faults::{Inconsistency, are_consistent, check_consistent, is_consistent};
 pub use sdp_formats_types::MediaLine;

@@ -14,8 +14,9 @@ use Rattle.sdp_formats_params.specs.declared.key.Key.TheVariants.{ProfileLevelId
 use Rattle.sdp_formats_params.specs.declared.key.Key.TheVariants.{SpropMaxDonDiff, OctetAlign, ModeSet, TierFlag}
 use Rattle.sdp_formats_params.specs.declared.key.Key.TheVariants.{LevelId}
 use Rattle.sdp_formats_params.specs.Keys.{key_name, key_named, is_level_key}
-use Rattle.sdp_formats_params.specs.Numbers.{number_below, profile_level, up_to, modes_of, range_of}
-use Rattle.sdp_formats_params.specs.Parts.{parts}
+use Rattle.sdp_formats_params.specs.Numbers.{numeral_below, profile_level, up_to, modes_of, range_of}
+use Rattle.sdp_formats_params.specs.Params.{byte_value}
+use Rattle.sdp_formats_forms.specs.Split.{parts}
 
 -- No parameter given.
 abbrev pub no_format : FormatParams
@@ -50,12 +51,9 @@ replaced last_alone earlier None = if last_alone then None else earlier
 abbrev pub is_on : List ℕ → Option Bool
 is_on value = Some (bytes_eq value (codes "1"))
 
--- A number of 8 and of 32 bits.
-abbrev pub byte_value : List ℕ → Option ℕ
-byte_value value = number_below (2 ^ 8) 10 value
-
+-- A number of 32 bits.
 abbrev pub word_value : List ℕ → Option ℕ
-word_value value = number_below (2 ^ 32) 10 value
+word_value value = numeral_below (2 ^ 32) 10 value
 
 -- The parameters with one more value.
 abbrev pub with_value : Bool → Key → List ℕ → FormatParams → FormatParams
@@ -75,7 +73,9 @@ with_value last Profile value f = record f { profile = replaced last f.profile (
 with_value last LevelIdx value f = record f { level_idx = replaced last f.level_idx (byte_value value) }
 with_value last Tier value f = record f { tier = replaced last f.tier (byte_value value) }
 with_value last SpropMaxDonDiff value f =
-    record f { sprop_max_don_diff = replaced last f.sprop_max_don_diff (up_to 32767 (number_below (2 ^ 16) 10 value)) }
+    record f {
+      sprop_max_don_diff = replaced last f.sprop_max_don_diff (up_to 32767 (numeral_below (2 ^ 16) 10 value));
+    }
 with_value last OctetAlign value f = record f { octet_align = is_on value }
 with_value last ModeSet value f = record f { mode_set = replaced last f.mode_set (modes_of value) }
 with_value last TierFlag value f = f

@@ -1,5 +1,5 @@
 -- The text of format parameters.
-use Rattle.std.specs.Prelude.{ℕ, ◌==◌, ◌&&◌, nat_le, ◌^◌, ◌-◌, ◌/◌, ◌%◌, Bool, true, false, List, [], ◌∷◌, ◌++◌}
+use Rattle.std.specs.Prelude.{ℕ, ◌==◌, ◌^◌, ◌-◌, Bool, true, false, List, [], ◌∷◌, ◌++◌}
 use Rattle.std.specs.Prelude.{length, filter, codes, decimal, Option, Some, None, if◌then◌else◌}
 use Rattle.std.specs.Fmt.{digits, padded_integral, format_spec}
 use Rattle.std.specs.Option.{option_map}
@@ -19,6 +19,7 @@ use Rattle.sdp_formats_params.specs.declared.key.Key.TheVariants.{ProfileLevelId
 use Rattle.sdp_formats_params.specs.declared.key.Key.TheVariants.{SpropMaxDonDiff, OctetAlign, ModeSet, TierFlag}
 use Rattle.sdp_formats_params.specs.declared.key.Key.TheVariants.{LevelId}
 use Rattle.sdp_formats_params.specs.Keys.{key_name}
+use Rattle.sdp_formats_params.specs.Printed.{has_mode}
 
 -- A parameter with its value, `key=value`.
 abbrev pub pair_text : Key → List ℕ → List ℕ
@@ -45,9 +46,6 @@ abbrev pub range_text : ℕ → List ℕ
 range_text event = codes "0-" ++ decimal event
 
 -- The modes, 0 to 8, whose bits are set.
-abbrev pub has_mode : ℕ → ℕ → Bool
-has_mode modes mode = nat_le mode 8 && (modes / 2 ^ mode % 2 == 1)
-
 abbrev pub set_modes : ℕ → List ℕ
 set_modes modes = filter (has_mode modes) (0 ∷ 1 ∷ 2 ∷ 3 ∷ 4 ∷ 5 ∷ 6 ∷ 7 ∷ 8 ∷ [])
 
@@ -60,8 +58,8 @@ abbrev pub listed : List ℕ → List ℕ
 listed [] = []
 listed (number ∷ numbers) = decimal number ++ behind_commas numbers
 
-abbrev pub modes_text : ℕ → List ℕ
-modes_text modes = pair_text ModeSet (listed (set_modes modes))
+abbrev pub mode_set_text : ℕ → List ℕ
+mode_set_text modes = pair_text ModeSet (listed (set_modes modes))
 
 -- The three numbers of a profile, tier and level, and their text (RFC 7798 7.1, RFC 9328 7.2).
 abbrev pub numbers_of : {P L : Type 0} → (P → ℕ) → (L → ℕ) → ProfileTierLevel P L → ℕ × ℕ × ℕ
@@ -109,7 +107,7 @@ abbrev pub other_pieces : FormatParams → List (Option (List ℕ))
 other_pieces f =
     option_map range_text f.telephone_event_max
     ∷ option_map (flag_text OctetAlign) f.octet_align
-    ∷ option_map modes_text f.mode_set
+    ∷ option_map mode_set_text f.mode_set
     ∷ []
 
 -- A text with one more piece, behind a semicolon where something stands before it.

@@ -5,7 +5,8 @@ ghost use Rattle.sdp_formats_format.specs.Formats.{no_format, format_of};
 
 use crate::levels::{gives_level, level_format};
 use crate::values::with_part;
-use sdp_formats_params::{H265ProfileTierLevel, H266ProfileTierLevel, split_semicolon};
+use sdp_formats_forms::first_part;
+use sdp_formats_params::{H265ProfileTierLevel, H266ProfileTierLevel};
 
 /// Format parameters of a codec, as `a=fmtp` gives them (RFC 8866 6.15); None is not given.
 #[derive(Clone, Copy, Debug, PartialEq, Eq, Default, Drop)]
@@ -68,9 +69,10 @@ impl FormatParams {
     /// Of each part between semicolons the key, in any ASCII case, and the value behind an equals
     /// sign are read without the blanks round them; what stands behind a second equals sign doesn't
     /// count. A later value replaces an earlier one. Keys that are unknown and values that don't
-    /// parse are passed over. Where a key is `tier-flag` or `level-id`, each key counts with its
-    /// last value alone, and `profile-id`, `tier-flag` and `level-id` are the profile, tier and level of H.265, else
-    /// of H.266, if they mean one (RFC 7798 7.1, RFC 9328 7.2).
+    /// parse are passed over; but a flag is on at `1` and off at all else, so each of its values
+    /// counts. Where a key is `tier-flag` or `level-id`, each key counts with its last value alone,
+    /// and `profile-id`, `tier-flag` and `level-id` are the profile, tier and level of H.265, else of
+    /// H.266, if they mean one (RFC 7798 7.1, RFC 9328 7.2).
     pub fn parse_line(line: &str) -> FormatParams
         ensures { result ≡ format_of line.now }
     {
@@ -78,7 +80,7 @@ impl FormatParams {
         let mut format = level_format(line);
         let mut rest = Some(line);
         while let Some(text) = rest {
-            let (part, after) = split_semicolon(text);
+            let (part, after) = first_part(text, ';');
             format = with_part(format, part, last_alone);
             rest = after;
         }

@@ -5,12 +5,11 @@ ghost use Rattle.std.specs.List.{list_any};
 ghost use Rattle.std.specs.Option.{option_copied};
 ghost use Rattle.sdp_formats_format.specs.Formats.{has_level, gives_level, is_key, field_value, last_value};
 ghost use Rattle.sdp_formats_format.specs.Formats.{with_values, level_format};
-ghost use Rattle.sdp_formats_params.specs.Parts.{parts};
+ghost use Rattle.sdp_formats_forms.specs.Split.{parts};
 
 use crate::format::{FormatParams, no_format};
-use sdp_formats_params::{
-    H265ProfileTierLevel, H266ProfileTierLevel, Key, split_equals, split_semicolon,
-};
+use sdp_formats_forms::first_part;
+use sdp_formats_params::{H265ProfileTierLevel, H266ProfileTierLevel, Key};
 
 /// Does a part of the line give a tier or level?
 pub(crate) fn gives_level(line: &str) -> bool
@@ -18,7 +17,7 @@ pub(crate) fn gives_level(line: &str) -> bool
 {
     let mut rest = Some(line);
     while let Some(text) = rest {
-        let (part, after) = split_semicolon(text);
+        let (part, after) = first_part(text, ';');
         if part_gives_level(part) {
             return true;
         }
@@ -31,10 +30,10 @@ pub(crate) fn gives_level(line: &str) -> bool
 fn part_gives_level(part: &str) -> bool
     ensures { result ≡ gives_level part.now }
 {
-    let (key, rest) = split_equals(part);
+    let (key, rest) = first_part(part, '=');
     match rest {
         Some(rest) => {
-            let _ = split_equals(rest);
+            let _ = first_part(rest, '=');
             has_level(Key::named(key.trim()))
         }
         None => false,
@@ -65,10 +64,10 @@ fn is_key(key: Key, other: Option<Key>) -> bool
 fn field_value<'a>(part: &'a str, key: Key, before: Option<&'a str>) -> Option<&'a str>
     ensures { option_copied result ≡ field_value key (parts 61 part.now) (option_copied before.entry) }
 {
-    let (name, rest) = split_equals(part);
+    let (name, rest) = first_part(part, '=');
     match rest {
         Some(rest) => {
-            let (value, _) = split_equals(rest);
+            let (value, _) = first_part(rest, '=');
             if is_key(key, Key::named(name.trim())) {
                 return Some(value.trim());
             }
@@ -85,7 +84,7 @@ fn last_value<'a>(line: &'a str, key: Key) -> Option<&'a str>
     let mut found = None;
     let mut rest = Some(line);
     while let Some(text) = rest {
-        let (part, after) = split_semicolon(text);
+        let (part, after) = first_part(text, ';');
         found = field_value(part, key, found);
         rest = after;
     }

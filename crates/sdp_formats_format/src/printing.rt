@@ -4,13 +4,13 @@ ghost use Rattle.std.specs.Prelude.{◌≡◌, ◌≤◌, ◌++◌, ◌∷◌, [
 ghost use Rattle.std.specs.String.{string_bytes};
 ghost use Rattle.std.specs.Option.{option_map};
 ghost use Rattle.sdp_formats_format.specs.Texts.{number_text, flag_number, flag_text, profile_level_text, range_text};
-ghost use Rattle.sdp_formats_format.specs.Texts.{has_mode, set_modes, behind_commas, listed, modes_text, opus_pieces};
+ghost use Rattle.sdp_formats_format.specs.Texts.{set_modes, behind_commas, listed, mode_set_text, opus_pieces};
 ghost use Rattle.sdp_formats_format.specs.Texts.{h264_pieces, video_pieces, other_pieces, separated, with_piece};
 ghost use Rattle.sdp_formats_format.specs.Texts.{with_pieces, format_text, level_text, numbers_of};
 
 use crate::format::FormatParams;
 use h26x_payload_profiles::{InTable, ProfileTierLevel};
-use sdp_formats_params::{Key, bit_of};
+use sdp_formats_params::{Key, has_mode};
 use std::alloc::{AllocError, Global};
 
 /// Adds a semicolon where something stands before it.
@@ -109,16 +109,6 @@ fn push_range(text: &mut String, event: Option<u8>) -> Result<(), AllocError>
     }
 }
 
-/// Is the bit of the mode set?
-fn has_mode(modes: u16, mode: u8) -> bool
-    ensures { result ≡ has_mode modes mode }
-{
-    if mode > 8 {
-        return false;
-    }
-    modes / bit_of(mode) % 2 == 1
-}
-
 /// The modes whose bits are set.
 fn set_modes(alloc: Global, modes: u16) -> Result<Vec<u8>, AllocError>
     ensures { IfOk result (λ v. v.items ≡ set_modes modes) }
@@ -158,7 +148,8 @@ fn push_listed(text: &mut String, numbers: &[u8]) -> Result<(), AllocError>
 /// Adds the modes of AMR-WB, if they are given.
 #[tactic(auto, unfolding(crate::specs::Texts::with_piece))]
 fn push_modes(alloc: Global, text: &mut String, modes: Option<u16>) -> Result<(), AllocError>
-    ensures { OnOk result (string_bytes text.new ≡ with_piece (string_bytes text.old) (option_map modes_text modes)) }
+    ensures { OnOk result (string_bytes text.new
+        ≡ with_piece (string_bytes text.old) (option_map mode_set_text modes)) }
 {
     match modes {
         Some(modes) => {

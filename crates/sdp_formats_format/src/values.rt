@@ -2,21 +2,22 @@
 
 ghost use Rattle.std.specs.Prelude.{◌≡◌};
 ghost use Rattle.sdp_formats_format.specs.Formats.{replaced, is_on, with_value, with_key, with_range, with_fields};
-ghost use Rattle.sdp_formats_params.specs.Parts.{parts};
+ghost use Rattle.sdp_formats_forms.specs.Split.{parts};
 
 use crate::format::FormatParams;
+use sdp_formats_forms::first_part;
 use sdp_formats_params::{
-    Key, byte_of, don_diff_of, modes_of, profile_level_of, range_of, split_equals, word_of,
+    Key, byte_of, don_diff_of, modes_of, profile_level_of, range_of, word_of,
 };
 
 /// The parameters with one more part: a key and its value, or a bare range of telephone events.
 pub(crate) fn with_part(format: FormatParams, part: &str, last_alone: bool) -> FormatParams
     ensures { result ≡ with_fields last_alone (parts 61 part.now) format }
 {
-    let (key, rest) = split_equals(part);
+    let (key, rest) = first_part(part, '=');
     match rest {
         Some(rest) => {
-            let (value, _) = split_equals(rest);
+            let (value, _) = first_part(rest, '=');
             with_key(format, Key::named(key.trim()), value.trim(), last_alone)
         }
         None => with_range(format, range_of(key.trim())),

@@ -1,7 +1,7 @@
 -- The next line, and one value after the other.
 use Rattle.std.proofs.Common.{◌≡◌, ℕ, List, Option, Some, None, Bor, Result, Ok, Err, sym, ◌∙◌}
 use Rattle.std.proofs.Common.{subst}
-use Rattle.sdp_formats_forms.specs.Refusals.{fitted_of}
+use Rattle.sdp_formats_forms.specs.Refusals.{fitted_of, parted}
 use Rattle.sdp_formats_forms.specs.declared.refusal.Refusal.{Refusal}
 use Rattle.sdp_formats_forms.specs.declared.refusal.Refusal.TheVariants.{Unfit, Memory}
 use Rattle.sdp_formats_forms.specs.Step.{Step, Steps, Stops}
@@ -9,10 +9,10 @@ use Rattle.std.specs.Option.{option_map}
 use Rattle.sdp_formats_forms.specs.Steps.{none_some}
 use Rattle.sdp_formats_forms.specs.Form.{Form, IsExact}
 use Rattle.sdp_formats_forms.specs.Refusals.{Gives}
-use Rattle.sdp_formats_forms.specs.Line.{IsLine, LineOf, next_line, two_texts, TakesLine}
+use Rattle.sdp_formats_forms.specs.Line.{IsLine, LineOf, next_line, TakesLine}
 use Rattle.sdp_formats_forms.specs.LineLemmas.{next-sound, next-complete, line-same}
 
-pub takes-line : (t : List ℕ) (r : Option (Bor (List ℕ) × Bor (List ℕ))) → option_map two_texts r ≡ next_line t
+pub takes-line : (t : List ℕ) (r : Option (Bor (List ℕ) × Bor (List ℕ))) → option_map parted r ≡ next_line t
     → TakesLine t r
 takes-line t None h = λ content rest l. none_some (content, rest) (h ∙ next-complete t content rest l)
 takes-line t (Some x) h = next-sound t x.0.now x.1.now (sym h)

@@ -4,6 +4,7 @@ use Rattle.std.proofs.Common.{length, get_or, Option, None, Some, refl, sym, ◌
 use Rattle.std.specs.Option.{option_map}
 use Rattle.std.proofs.lemmas.Bool.{cases_Bool}
 use Rattle.std.proofs.lemmas.Bool.Decides.{nat_tests, Decides-eqb}
+use Rattle.sdp_formats_forms.specs.Steps.{none_some}
 use Rattle.sdp_formats_forms.specs.Split.{Lacks, onto, split_first, parts, onto_first}
 
 pub same_byte : {A : Type 0} (b c : ℕ) (x y : A) → b ≡ c → cond (b == c) x y ≡ x
@@ -40,9 +41,6 @@ cut_of c [] = nowhere tt
 cut_of c (b ∷ text) = ⊎_elim (λ (e : b ≡ c). somewhere [] text (ap (λ x. x ∷ text) e) tt)
     (λ h. later b c text h (cut_of c text)) (same_or_not b c)
 
-never : {A : Type 0} (x : A) → None ≡ Some x → ⊥
-never x h = cc
-
 by_cut : (c : ℕ) (text front back : List ℕ) → IsCut c text → split_first c text ≡ Some (front, back)
     → (text ≡ front ++ c ∷ back) × Lacks c front
 by_cut c text front back (somewhere x y whole lacks) h =
@@ -51,7 +49,8 @@ by_cut c text front back (somewhere x y whole lacks) h =
     let f : x ≡ front = ap (λ (o : Option (List ℕ × List ℕ)). elim o [ Some p ↦ p.0 | None ↦ x ]) same in
     let k : y ≡ back = ap (λ (o : Option (List ℕ × List ℕ)). elim o [ Some p ↦ p.1 | None ↦ y ]) same in
     (whole ∙ (λ i. f i ++ c ∷ k i), subst (Lacks c) f lacks)
-by_cut c text front back (nowhere lacks) h = absurd (never (front, back) (sym (split_first-nowhere c text lacks) ∙ h))
+by_cut c text front back (nowhere lacks) h =
+    absurd (none_some (front, back) (sym (split_first-nowhere c text lacks) ∙ h))
 
 pub split_first-cuts : (c : ℕ) (text front back : List ℕ) → split_first c text ≡ Some (front, back)
     → (text ≡ front ++ c ∷ back) × Lacks c front

@@ -41,9 +41,6 @@ line_in (piece, Some rest) = passed_line (without_return piece) rest
 abbrev pub next_line : List ℕ → Option (List ℕ × List ℕ)
 next_line t = line_in (halves 10 t)
 
-abbrev pub two_texts : Bor (List ℕ) × Bor (List ℕ) → List ℕ × List ℕ
-two_texts p = (p.0.now, p.1.now)
-
 -- A reader of the next line answers its content and the rest, or none where the text begins with no line.
 abbrev pub TakesLine : List ℕ → Option (Bor (List ℕ) × Bor (List ℕ)) → Type 0
 TakesLine t (Some x) = IsLine t x.0.now x.1.now

@@ -2,8 +2,9 @@
 
 ghost use Rattle.std.specs.Prelude.{◌≡◌};
 ghost use Rattle.std.specs.Option.{option_map};
-ghost use Rattle.sdp_formats_forms.specs.Line.{has_return, without_return, next_line, passed_line, two_texts};
+ghost use Rattle.sdp_formats_forms.specs.Line.{has_return, without_return, next_line, passed_line};
 ghost use Rattle.sdp_formats_forms.specs.Line.{TakesLine};
+ghost use Rattle.sdp_formats_forms.specs.Refusals.{parted};
 
 use crate::halves;
 
@@ -24,7 +25,7 @@ fn without_return(piece: &str) -> &str
 }
 
 fn passed_line<'a>(content: &'a str, rest: &'a str) -> Option<(&'a str, &'a str)>
-    ensures { option_map two_texts result ≡ passed_line content.now rest.now }
+    ensures { option_map parted result ≡ passed_line content.now rest.now }
 {
     if content.is_empty() || has_return(content) {
         return None;
@@ -33,7 +34,7 @@ fn passed_line<'a>(content: &'a str, rest: &'a str) -> Option<(&'a str, &'a str)
 }
 
 fn next_line(text: &str) -> Option<(&str, &str)>
-    ensures { option_map two_texts result ≡ next_line text.now }
+    ensures { option_map parted result ≡ next_line text.now }
 {
     match halves(text, '\n') {
         (piece, Some(rest)) => passed_line(without_return(piece), rest),

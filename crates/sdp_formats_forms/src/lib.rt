@@ -17,11 +17,11 @@ pub use cutting::line;
 pub use joined::{FingerprintFmt, Joined, Maybe};
 pub use lined::{Lined, line_of};
 pub use listed::Listed;
-pub use numbers::{maybe_number_8, number_8, number_16, number_32, number_64};
+pub use numbers::{has_digits_alone, maybe_number_8, number_8, number_16, number_32, number_64};
 pub use primitives::{
     behind, copied, copy, field, fitted, halves, maybe_some, some, split, stripped, text_of,
 };
-pub use reads::{Reads, list_of};
+pub use reads::{Reads, first_part, list_of};
 pub use refusal::Refusal;
 pub use stepped::{Stepped, many, perhaps};
 pub use text::Text;

@@ -1,6 +1,6 @@
 //! Pieces of a line.
 
-ghost use Rattle.std.specs.Prelude.{◌≡◌, ◌<◌, ◌≤◌, Some};
+ghost use Rattle.std.specs.Prelude.{◌≡◌, ◌≢◌, ◌<◌, ◌≤◌, Some, IfErr};
 ghost use Rattle.std.specs.Option.{option_copied};
 ghost use Rattle.sdp_formats_forms.specs.Refusals.{Gives, GivesBy, parted, halved, fielded, fitted_of};
 ghost use Rattle.sdp_formats_forms.specs.Split.{split_first, behind, halves};
@@ -21,7 +21,8 @@ use std::alloc::Global;
 /// `Unfit` where there is no such character.
 pub fn split(text: &str, at: char) -> Result<(&str, &str), Refusal>
     requires { at < 128 }
-    ensures { GivesBy parted result (split_first at text.now) }
+    ensures gives { GivesBy parted result (split_first at text.now) }
+    ensures never_memory { IfErr result (λ e. e ≢ Refusal.Memory) }
 {
     text.split_once(at).ok_or(Refusal::Unfit)
 }
@@ -57,7 +58,8 @@ pub fn field<'a>(
     text: Option<&'a str>,
     name: &str,
 ) -> Result<(Option<&'a str>, Option<&'a str>), Refusal>
-    ensures { GivesBy fielded result (field name.now (option_copied text.entry)) }
+    ensures gives { GivesBy fielded result (field name.now (option_copied text.entry)) }
+    ensures never_memory { IfErr result (λ e. e ≢ Refusal.Memory) }
 {
     let Some(text) = text else {
         return Ok((None, None));
@@ -115,7 +117,8 @@ pub fn copied(alloc: Global, text: Option<&str>) -> Result<Option<Text>, Refusal
 ///
 /// `Unfit` where it doesn't begin with them.
 pub fn behind<'a>(text: &'a str, words: &str) -> Result<&'a str, Refusal>
-    ensures { GivesBy (λ x. x.now) result (behind words.now text.now) }
+    ensures gives { GivesBy (λ x. x.now) result (behind words.now text.now) }
+    ensures never_memory { IfErr result (λ e. e ≢ Refusal.Memory) }
 {
     text.strip_prefix(words).ok_or(Refusal::Unfit)
 }
@@ -126,7 +129,8 @@ pub fn behind<'a>(text: &'a str, words: &str) -> Result<&'a str, Refusal>
 ///
 /// `Unfit` where it is there and empty.
 pub fn maybe_some<'a>(text: Option<&'a str>) -> Result<Option<&'a str>, Refusal>
-    ensures { GivesBy option_copied result (maybe some_text (option_copied text.entry)) }
+    ensures gives { GivesBy option_copied result (maybe some_text (option_copied text.entry)) }
+    ensures never_memory { IfErr result (λ e. e ≢ Refusal.Memory) }
 {
     match text {
         Some(text) => Ok(Some(some(text)?)),
@@ -140,7 +144,8 @@ pub fn maybe_some<'a>(text: Option<&'a str>) -> Result<Option<&'a str>, Refusal>
 ///
 /// `Unfit` where it is empty.
 pub fn some(text: &str) -> Result<&str, Refusal>
-    ensures { GivesBy (λ x. x.now) result (some_text text.now) }
+    ensures gives { GivesBy (λ x. x.now) result (some_text text.now) }
+    ensures never_memory { IfErr result (λ e. e ≢ Refusal.Memory) }
 {
     if text.is_empty() {
         return Err(Refusal::Unfit);

@@ -22,8 +22,12 @@ pub trait Reads<T: Drop> {
         ensures { Gives result (reads text.now) };
 }
 
-/// The text before the first such character, and what stands behind it.
-fn part(text: &str, at: char) -> (&str, Option<&str>)
+/// The text before the first such character, and what stands behind it where there is one.
+///
+/// # Conditions
+///
+/// `at` is an ASCII character.
+pub fn first_part(text: &str, at: char) -> (&str, Option<&str>)
     requires { at < 128 }
     ensures { parts at text.now ≡ result.0.now ∷ parts_from at (option_copied result.1) }
 {
@@ -53,7 +57,7 @@ pub fn list_of<T: Drop, R: Reads<T>>(
     let mut items = Vec::new(alloc);
     let mut rest = Some(text);
     while let Some(left) = rest {
-        let (piece, after) = part(left, at);
+        let (piece, after) = first_part(left, at);
         items.push(R::read(alloc, piece)?)?;
         rest = after;
     }

@@ -27,12 +27,12 @@ pub fn row_to_json(alloc: Global, row: &PayloadParams) -> Result<String, AllocEr
 }
 
 /// The row that a JSON text says: an object of its fields, in any order; those that may be missing are None where they
-/// are missing or null, and members of other names are passed over.
+/// are missing or null, and members of other names are passed over. Of a member that comes twice the last counts.
 ///
 /// # Errors
 ///
-/// `NotJson` for a text that is no JSON, `NotObject` for one that is no object; then of the fields the first in their
-/// order that is `Missing`, `Unfit` or `Unknown`; `Memory` where memory runs out.
+/// `NotJson` for a text that is no JSON, `NotObject` for one that is no object, an array too; then of the fields the
+/// first in their order that is `Missing`, `Unfit` or `Unknown`; `Memory` where memory runs out.
 #[tactic(auto, unfolding(crate::specs::Rows::row_of_text))]
 pub fn row_from_json(alloc: Global, text: &str) -> Result<PayloadParams, JsonError>
     ensures { Answers result (row_of_text text.now) }

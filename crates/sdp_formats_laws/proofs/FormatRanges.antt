@@ -2,7 +2,7 @@
 use Rattle.std.proofs.Common.{◌≡◌, ◌<◌, ◌≤◌, ◌^◌, ℕ, Bool, true, false, ◌&&◌, ◌==◌, cond, nat_lt, nat_le, List, [], ◌∷◌}
 use Rattle.std.proofs.Common.{Option, Some, None, IfSome, refl, arith, lit<, option_and_then}
 use Rattle.std.specs.Char.{is_ascii_digit}
-use Rattle.std.specs.List.{list_all, list_any, onto_first}
+use Rattle.std.specs.List.{list_all, list_any}
 use Rattle.std.specs.Prelude.{bit_or, length}
 use Rattle.std.specs.Str.{trim}
 use Rattle.std.specs.Str.Parse.{without_leading_plus, digits_value}
@@ -12,10 +12,10 @@ use Rattle.h26x_payload_profiles.specs.H265ProfileTierLevel.{H265ProfileTierLeve
 use Rattle.h26x_payload_profiles.specs.H266ProfileTierLevel.{H266ProfileTierLevel as Level266}
 use Rattle.h26x_payload_profiles.specs.H265ProfileTierLevel.{given as given_265}
 use Rattle.h26x_payload_profiles.specs.H266ProfileTierLevel.{given as given_266}
+use Rattle.sdp_formats_forms.specs.Split.{parts, onto_first}
 use Rattle.sdp_formats_params.specs.Keys.{key_named}
-use Rattle.sdp_formats_params.specs.Numbers.{all_digits, number_below, or_else, up_to, with_mode, with_modes}
+use Rattle.sdp_formats_params.specs.Numbers.{are_digits, numeral_below, or_else, up_to, with_mode, with_modes}
 use Rattle.sdp_formats_params.specs.Numbers.{modes_of, behind, range_end, range_of}
-use Rattle.sdp_formats_params.specs.Parts.{parts}
 use Rattle.sdp_formats_params.specs.declared.key.Key.{Key}
 use Rattle.sdp_formats_params.specs.declared.key.Key.TheVariants as key
 use Rattle.sdp_formats_format.specs.Formats.{no_format, replaced, with_value, with_key, with_range, with_fields}
@@ -33,9 +33,9 @@ cond_in : (b : Bool) (n limit : ℕ) → IfSome (cond (b && nat_lt n limit) (Som
 cond_in true n limit = by_test n limit (nat_lt n limit) refl
 cond_in false n limit = tt
 
-number_in : (limit radix : ℕ) (text : List ℕ) → IfSome (number_below limit radix text) (λ m. m < limit)
+number_in : (limit radix : ℕ) (text : List ℕ) → IfSome (numeral_below limit radix text) (λ m. m < limit)
 number_in limit radix text =
-    cond_in (nat_lt 0 (length (without_leading_plus text)) && all_digits radix (without_leading_plus text))
+    cond_in (nat_lt 0 (length (without_leading_plus text)) && are_digits radix (without_leading_plus text))
     (digits_value radix (without_leading_plus text)) limit
 
 level_in : (a b : Option ℕ) → IfSome a (λ m. m < 2 ^ 32) → IfSome b (λ m. m < 2 ^ 32)
@@ -77,13 +77,13 @@ more_in [] None h = tt
 more_in [] (Some m) h = h
 more_in (text ∷ texts) None h = tt
 more_in (text ∷ texts) (Some m) h =
-    more_in texts (with_mode (number_below (2 ^ 8) 10 (trim text)) m) (mode_in (number_below (2 ^ 8) 10
+    more_in texts (with_mode (numeral_below (2 ^ 8) 10 (trim text)) m) (mode_in (numeral_below (2 ^ 8) 10
     (trim text)) m h.1)
 
 first_in : (texts : List (List ℕ)) → (texts ≡ [] → ⊥) → IfSome (with_modes texts (Some 0)) IsModes
 first_in [] h = absurd (h refl)
 first_in (text ∷ texts) h =
-    more_in texts (with_mode (number_below (2 ^ 8) 10 (trim text)) 0) (mode_in (number_below (2 ^ 8) 10
+    more_in texts (with_mode (numeral_below (2 ^ 8) 10 (trim text)) 0) (mode_in (numeral_below (2 ^ 8) 10
     (trim text)) 0 (lit< tt))
 
 split_some : (c : ℕ) (text : List ℕ) → parts c text ≡ [] → ⊥
@@ -109,7 +109,7 @@ range_in : (o : Option (List ℕ)) → IfSome (range_end o) (λ m. m < 2 ^ 8)
 range_in None = tt
 range_in (Some digits) = by_digits (list_all is_ascii_digit digits)
   where
-    by_digits : (b : Bool) → IfSome (cond b (number_below (2 ^ 8) 10 digits) None) (λ m. m < 2 ^ 8)
+    by_digits : (b : Bool) → IfSome (cond b (numeral_below (2 ^ 8) 10 digits) None) (λ m. m < 2 ^ 8)
     by_digits true = number_in (2 ^ 8) 10 digits
     by_digits false = tt
 
@@ -229,7 +229,7 @@ value_held true key.SpropMaxDonDiff value f h = (
     h.0.4,
     h.0.5,
     h.0.6,
-    replaced_in (λ m. m ≤ 32767) true f.sprop_max_don_diff _ h.0.7 (up_in 32767 (number_below (2 ^ 16) 10 value)),
+    replaced_in (λ m. m ≤ 32767) true f.sprop_max_don_diff _ h.0.7 (up_in 32767 (numeral_below (2 ^ 16) 10 value)),
     h.0.8,
     h.0.9,
   ),
@@ -373,7 +373,7 @@ value_held false key.SpropMaxDonDiff value f h = (
     h.0.4,
     h.0.5,
     h.0.6,
-    replaced_in (λ m. m ≤ 32767) false f.sprop_max_don_diff _ h.0.7 (up_in 32767 (number_below (2 ^ 16) 10 value)),
+    replaced_in (λ m. m ≤ 32767) false f.sprop_max_don_diff _ h.0.7 (up_in 32767 (numeral_below (2 ^ 16) 10 value)),
     h.0.8,
     h.0.9,
   ),

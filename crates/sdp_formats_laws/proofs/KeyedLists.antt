@@ -15,7 +15,7 @@ use Rattle.sdp_formats_streams.specs.AsRead.{is_level, is_other, params_as_read,
 use Rattle.sdp_formats_streams.specs.Parameters.{parameters}
 use Rattle.sdp_formats_types.specs.Printed.{params_text}
 use Rattle.sdp_formats_laws.proofs.KeyedParams.{key_is, no_level, param_back, text_is, value_is}
-use Rattle.sdp_formats_laws.specs.Parameters.{OnLine}
+use Rattle.sdp_formats_laws.specs.Printable.{IsText}
 use Rattle.sdp_formats_laws.specs.Keyed.{AreKeyed, IsKeyed, pair_of}
 
 pub texts_are : (ps : List FormatParam) → AreKeyed ps → map param_text ps ≡ map pair_text (map pair_of ps)
@@ -67,7 +67,7 @@ pub pairs_there : (q : Pair) (qs : List Pair) → pairs_text (q ∷ qs) ≢ []
 pairs_there q qs = key_there q.key q.value (each_behind (codes ";") (map pair_text qs))
 
 pub pairs_on_line : (q : Pair) (qs : List Pair) → AllLack 10 (q ∷ qs) → AllLack 13 (q ∷ qs)
-    → OnLine (pairs_text (q ∷ qs))
+    → IsText (pairs_text (q ∷ qs))
 pairs_on_line q qs h k =
     (pairs_there q qs, pairs_lack 10 q qs (λ e. cc) (λ e. cc) h, pairs_lack 13 q qs (λ e. cc) (λ e. cc) k)
 
@@ -164,6 +164,6 @@ keyed_read back p ps h =
     (none_level (p ∷ ps) h)
     ∙ ap Some (params_back (p ∷ ps) h ∙ sym (as_they_are (p ∷ ps) h))
 
-pub keyed_on_line : (p : FormatParam) (ps : List FormatParam) → AreKeyed (p ∷ ps) → OnLine (params_text (p ∷ ps))
-keyed_on_line p ps h = subst OnLine (sym (text_of p ps h))
+pub keyed_on_line : (p : FormatParam) (ps : List FormatParam) → AreKeyed (p ∷ ps) → IsText (params_text (p ∷ ps))
+keyed_on_line p ps h = subst IsText (sym (text_of p ps h))
     (pairs_on_line (pair_of p) (map pair_of ps) (lack_feed (p ∷ ps) h) (lack_return (p ∷ ps) h))

@@ -8,7 +8,7 @@ use Rattle.sdp_formats_forms.specs.Split.{Lacks}
 use Rattle.sdp_formats_streams.specs.PairLemmas.{lacks-word}
 use Rattle.sdp_formats_streams.specs.PairsSay.{IsWord}
 use Rattle.sdp_formats_params.specs.Keys.{key_named, is_name_of}
-use Rattle.sdp_formats_params.specs.Numbers.{number_below, or_else, profile_level, up_to}
+use Rattle.sdp_formats_params.specs.Numbers.{numeral_below, or_else, profile_level, up_to}
 use Rattle.sdp_formats_params.specs.Params.{byte_param, flag, gives_level, pair_param, word_param}
 use Rattle.sdp_formats_params.specs.Printed.{flag_digit, pair_text, param_text, six_digits}
 use Rattle.sdp_formats_params.specs.declared.key.Key.TheVariants as key
@@ -51,18 +51,18 @@ unfolding digits
 flag_back true = refl
 flag_back false = refl
 
-byte_back : (v : ℕ) → v < 2 ^ 8 → number_below (2 ^ 8) 10 (decimal v) ≡ Some v
+byte_back : (v : ℕ) → v < 2 ^ 8 → numeral_below (2 ^ 8) 10 (decimal v) ≡ Some v
 byte_back v h = decimal_read (2 ^ 8) v h (lit≤ tt)
 
 within : (n most : ℕ) → n ≤ most → cond (nat_le n most) (Some n) None ≡ Some n
 within n most h = grind (arith, nat_tests)
 
-don_back : (v : ℕ) → v ≤ 32767 → up_to 32767 (number_below (2 ^ 16) 10 (decimal v)) ≡ Some v
+don_back : (v : ℕ) → v ≤ 32767 → up_to 32767 (numeral_below (2 ^ 16) 10 (decimal v)) ≡ Some v
 don_back v h =
     ap (up_to 32767) (decimal_read (2 ^ 16) v (omega (h, arith)) (lit≤ tt)) ∙ within v 32767 h
 
 level_back : (v : ℕ) → v < 2 ^ 32 → profile_level (six_digits v) ≡ Some v
-level_back v h = ap (λ o. or_else o (number_below (2 ^ 32) 10 (six_digits v))) (six_read v h)
+level_back v h = ap (λ o. or_else o (numeral_below (2 ^ 32) 10 (six_digits v))) (six_read v h)
 
 pub param_back : (p : FormatParam) → IsKeyed p → pair_param (pair_of p) ≡ p
 unfolding key_named is_name_of

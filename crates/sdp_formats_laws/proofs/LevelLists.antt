@@ -26,7 +26,8 @@ use Rattle.sdp_formats_laws.proofs.KeyedLists.{pairs_read}
 use Rattle.sdp_formats_laws.proofs.KeyedLists.{texts_are}
 use Rattle.sdp_formats_laws.proofs.KeyedParams.{key_of, no_level, param_back}
 use Rattle.sdp_formats_laws.proofs.Numerals.{decimal_value}
-use Rattle.sdp_formats_laws.specs.Parameters.{OnLine, IsReadBack}
+use Rattle.sdp_formats_laws.specs.Parameters.{IsReadBack}
+use Rattle.sdp_formats_laws.specs.Printable.{IsText}
 use Rattle.sdp_formats_laws.specs.Keyed.{AreKeyed, IsOrdinary, pair, pair_of}
 use Rattle.sdp_formats_laws.proofs.KeyRanks.{lower, no_level_id, no_name, no_profile, no_tier, ordinary, rank}
 use Rattle.sdp_formats_laws.proofs.KeyRanks.{rank_of, ranked, same_lower}
@@ -300,7 +301,7 @@ level_return id tier level i t l = (
 
 -- what is read of some pairs, at least one
 some_pairs : PairsComeBack → (qs : List Pair) (q : Pair) (rest : List Pair) → qs ≡ q ∷ rest → ArePairs qs
-    → AllLack 10 qs → AllLack 13 qs → (parameters.reads (pairs_text qs) ≡ Some (params_of qs)) × OnLine (pairs_text qs)
+    → AllLack 10 qs → AllLack 13 qs → (parameters.reads (pairs_text qs) ≡ Some (params_of qs)) × IsText (pairs_text qs)
 some_pairs back [] q rest e h k l = absurd (cc)
 some_pairs back (p ∷ ps) q rest e h k l = (pairs_read back p ps h, pairs_on_line p ps k l)
 
@@ -309,7 +310,7 @@ there_are : (front : List FormatParam) (id tier level : ℕ) (back : List Format
 there_are [] id tier level back = (_, _, refl)
 there_are (p ∷ front) id tier level back = (_, _, refl)
 
-as_cons : (front back : List FormatParam) (l : FormatParam) → OnLine (params_text (front ++ l ∷ back))
+as_cons : (front back : List FormatParam) (l : FormatParam) → IsText (params_text (front ++ l ∷ back))
     → parameters.reads (params_text (front ++ l ∷ back)) ≡ Some (params_as_read (front ++ l ∷ back))
     → IsReadBack (front ++ l ∷ back)
 as_cons [] back l h k = (h, k)
@@ -333,6 +334,6 @@ level_back come front back l id tier level is f b =
     (lack_both 13 (level_pairs id tier level) (map pair_of back)
     (level_return id tier level is.id_small is.tier_small is.level_small) (lack_return back bk)) in
     let all = some_pairs come qs some.0 some.1 some.2 words feed return in
-    as_cons front back l (subst OnLine (sym text) all.1)
+    as_cons front back l (subst IsText (sym text) all.1)
     (ap parameters.reads text ∙ all.0 ∙ ap Some (level_read front back id tier level f b
     ∙ ap (λ t. t ++ (front ++ back)) is.reads ∙ sym (level_first front back l id tier level is fk bk)))

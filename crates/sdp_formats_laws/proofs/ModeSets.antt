@@ -12,10 +12,9 @@ use Rattle.std.proofs.lemmas.Nat.{or_comm, or_shifted, mod-pow-add, mod_below, p
 use Rattle.std.proofs.Math.Nat.{mod-eq_of_lt}
 use Rattle.sdp_formats_forms.specs.Cuts.{other_byte}
 use Rattle.sdp_formats_forms.specs.Joined.{joined, each_behind}
-use Rattle.sdp_formats_forms.specs.Split.{Lacks}
+use Rattle.sdp_formats_forms.specs.Split.{Lacks, parts}
 use Rattle.sdp_formats_streams.specs.PairLemmas.{lacks-word}
-use Rattle.sdp_formats_params.specs.Numbers.{modes_of, number_below, with_mode, with_modes}
-use Rattle.sdp_formats_params.specs.Parts.{parts}
+use Rattle.sdp_formats_params.specs.Numbers.{modes_of, numeral_below, with_mode, with_modes}
 use Rattle.sdp_formats_params.specs.Printed.{has_mode, modes_text}
 use Rattle.sdp_formats_laws.proofs.Numerals.{IsValue, decimal_read, lacks_digits}
 use Rattle.sdp_formats_laws.specs.Ranges.{IsModes}
@@ -46,9 +45,9 @@ trimmed (suc (suc (suc (suc (suc (suc (suc zero))))))) h = refl
 trimmed (suc (suc (suc (suc (suc (suc (suc (suc zero)))))))) h = refl
 trimmed (suc (suc (suc (suc (suc (suc (suc (suc (suc x))))))))) h = absurd (omega (h, arith))
 
-digit : (x : ℕ) → x ≤ 8 → number_below (2 ^ 8) 10 (trim ((48 + x) ∷ [])) ≡ Some x
+digit : (x : ℕ) → x ≤ 8 → numeral_below (2 ^ 8) 10 (trim ((48 + x) ∷ [])) ≡ Some x
 digit x h =
-    ap (number_below (2 ^ 8) 10) (trimmed x h ∙ sym (decimal_digit x (omega (h, arith))))
+    ap (numeral_below (2 ^ 8) 10) (trimmed x h ∙ sym (decimal_digit x (omega (h, arith))))
     ∙ decimal_read (2 ^ 8) x (omega (h, arith)) (lit≤ tt)
 
 taken : (x modes : ℕ) (b : Bool) → nat_le x 8 ≡ b → x ≤ 8
@@ -67,7 +66,7 @@ no_comma : (x : ℕ) → 48 + x ≢ 44
 no_comma x = λ e. omega (e, arith)
 
 with_digit : (x modes : ℕ) → x ≤ 8
-    → with_mode (number_below (2 ^ 8) 10 (trim ((48 + x) ∷ []))) modes ≡ Some (bit_or modes (2 ^ x))
+    → with_mode (numeral_below (2 ^ 8) 10 (trim ((48 + x) ∷ []))) modes ≡ Some (bit_or modes (2 ^ x))
 with_digit x modes h = ap (λ o. with_mode o modes) (digit x h) ∙ taken x modes (nat_le x 8) refl h
 
 list_read : (x : ℕ) (xs : List ℕ) (modes : ℕ) → AreLow (x ∷ xs)

@@ -1,4 +1,4 @@
--- A text with lines behind it that fit nowhere is read as the text.
+-- A text is read the same with a text behind it that begins with no letter of a kind of line.
 use Rattle.std.proofs.Common.{◌≡◌, ◌≢◌, ℕ, true, List, [], ◌∷◌, ◌++◌, Some, None, codes, refl, sym}
 use Rattle.std.proofs.Common.{◌∙◌, ap, subst, inl, inr, ⊎_elim, append_assoc}
 use Rattle.std.proofs.lemmas.Bool.Decides.{Decides-eqb}

@@ -11,15 +11,15 @@ use Rattle.sdp_formats_forms.specs.Cuts.{other_byte}
 use Rattle.sdp_formats_forms.specs.Split.{Lacks}
 use Rattle.sdp_formats_streams.specs.PairLemmas.{lacks-word}
 use Rattle.sdp_formats_streams.specs.PairsSay.{IsWord}
-use Rattle.sdp_formats_params.specs.Numbers.{all_digits, number_below}
+use Rattle.sdp_formats_params.specs.Numbers.{are_digits, numeral_below}
 use Rattle.sdp_formats_params.specs.Printed.{six_digits}
 
 pub tested : (digit radix : ℕ) (others : Bool) → digit < radix → others ≡ true → (nat_lt digit radix && others) ≡ true
 tested digit radix others d o = grind (arith, nat_tests)
 
-all_true : (radix : ℕ) (ds : List ℕ) → AllDigits radix ds → all_digits radix ds ≡ true
+all_true : (radix : ℕ) (ds : List ℕ) → AllDigits radix ds → are_digits radix ds ≡ true
 all_true radix [] h = refl
-all_true radix (c ∷ cs) h = tested (digit_value c) radix (all_digits radix cs) h.0 (all_true radix cs h.1)
+all_true radix (c ∷ cs) h = tested (digit_value c) radix (are_digits radix cs) h.0 (all_true radix cs h.1)
 
 pub accepted : (all : Bool) (len value limit : ℕ) → all ≡ true → 0 < len → value < limit
     → cond (nat_lt 0 len && all && nat_lt value limit) (Some value) None ≡ Some value
@@ -32,17 +32,17 @@ no_plus radix (c ∷ cs) low h = ap (λ n. drop n (c ∷ cs))
 
 read_of : ℕ → ℕ → List ℕ → Option ℕ
 read_of limit radix ds =
-    cond (nat_lt 0 (length ds) && all_digits radix ds && nat_lt (digits_value radix ds) limit)
+    cond (nat_lt 0 (length ds) && are_digits radix ds && nat_lt (digits_value radix ds) limit)
     (Some (digits_value radix ds)) None
 
 pub number_read : (limit radix : ℕ) (ds : List ℕ) → radix ≤ 16 → IsNumeral radix ds → digits_value radix ds < limit
-    → number_below limit radix ds ≡ Some (digits_value radix ds)
+    → numeral_below limit radix ds ≡ Some (digits_value radix ds)
 unfolding read_of
 number_read limit radix ds low h small =
     ap (read_of limit radix) (no_plus radix ds low h.1)
     ∙ accepted _ _ _ limit (all_true radix ds h.1) h.0 small
 
-pub decimal_read : (limit n : ℕ) → n < limit → limit ≤ 2 ^ 64 → number_below limit 10 (decimal n) ≡ Some n
+pub decimal_read : (limit n : ℕ) → n < limit → limit ≤ 2 ^ 64 → numeral_below limit 10 (decimal n) ≡ Some n
 decimal_read limit n small wide =
     let numeral = decimal_is_IsNumeral n (omega arith) in
     number_read limit 10 (decimal n) (lit≤ tt) numeral.0 (rw numeral.1 small) ∙ ap Some numeral.1
@@ -120,7 +120,7 @@ six_numeral v small =
       zeros_value (6 - length ds) ds ∙ numeral.1,
     )
 
-pub six_read : (v : ℕ) → v < 2 ^ 32 → number_below (2 ^ 32) 16 (six_digits v) ≡ Some v
+pub six_read : (v : ℕ) → v < 2 ^ 32 → numeral_below (2 ^ 32) 16 (six_digits v) ≡ Some v
 six_read v small =
     let numeral = six_numeral v small in
     number_read (2 ^ 32) 16 (six_digits v) (lit≤ tt) numeral.0 (rw numeral.1 small) ∙ ap Some numeral.1

@@ -29,7 +29,8 @@ use Rattle.sdp_formats_laws.proofs.KeyedParams.{key_of}
 use Rattle.sdp_formats_laws.proofs.Numerals.{accepted, decimal_read, decimal_value, lacks_digits, no_plus}
 use Rattle.sdp_formats_laws.proofs.Numerals.{tested}
 use Rattle.sdp_formats_laws.specs.Keyed.{pair}
-use Rattle.sdp_formats_laws.specs.Parameters.{IsReadBack, OnLine}
+use Rattle.sdp_formats_laws.specs.Parameters.{IsReadBack}
+use Rattle.sdp_formats_laws.specs.Printable.{IsText}
 
 -- a number as it is read in a list
 all_true : (ds : List ℕ) → AllDigits 10 ds → all_digits ds ≡ true
@@ -103,7 +104,7 @@ range_read exact n small =
 pub events_back : IsExact pair_list → (n : ℕ) → n < 2 ^ 8 → IsReadBack (param.TelephoneEvents n ∷ [])
 unfolding param_text
 events_back exact n small = (
-  subst OnLine (sym (append-nil (codes "0-" ++ decimal n))) (
+  subst IsText (sym (append-nil (codes "0-" ++ decimal n))) (
     (λ e. cc),
     ((λ e. cc), ((λ e. cc), lacks_of 10 n (lit≤ tt) small)),
     ((λ e. cc), ((λ e. cc), lacks_of 13 n (lit≤ tt) small)),
@@ -157,7 +158,7 @@ number_there n more small = some_front (decimal n) more (decimal_value n (omega 
 pub red_back : IsExact pair_list → (n : ℕ) → n < 2 ^ 8 → IsReadBack (param.Red n ∷ [])
 unfolding param_text
 red_back exact n small = (
-  subst OnLine (sym (append-nil (decimal n ++ 47 ∷ decimal n))) (
+  subst IsText (sym (append-nil (decimal n ++ 47 ∷ decimal n))) (
     number_there n (47 ∷ decimal n) small,
     lacks_both 10 (decimal n) (47 ∷ decimal n) (lacks_of 10 n (lit≤ tt) small) (
       (λ e. cc),

@@ -28,7 +28,7 @@ use Rattle.sdp_formats_types.specs.declared.media.MediaAttribute.TheVariants.{Rt
 use Rattle.sdp_formats_types.specs.declared.media.MediaAttribute.TheVariants.{RtcpFb, Fmtp, SsrcGroup}
 use Rattle.sdp_formats_types.specs.declared.media.MediaAttribute.TheVariants.{Ssrc, Unused}
 use Rattle.sdp_formats_laws.proofs.Decimals.{number_below-decimal, Lacks-decimal}
-use Rattle.sdp_formats_session_lines.specs.Digest.{make_fingerprint}
+use Rattle.sdp_formats_values.specs.Fingerprints.{make_fingerprint}
 use Rattle.sdp_formats_values.specs.declared.fingerprint.Fingerprint as print_of
 use Rattle.sdp_formats_types.specs.declared.media.MediaAttribute.TheVariants.{Fingerprint}
 use Rattle.sdp_formats_laws.proofs.Fingerprints.{digest_text, lacks_digest, fingerprint_reads}

@@ -21,7 +21,7 @@ use Rattle.sdp_formats_types.specs.declared.session.SessionAttribute.TheVariants
 use Rattle.sdp_formats_types.specs.declared.session.SessionAttribute.TheVariants.{IceUfrag}
 use Rattle.sdp_formats_types.specs.declared.session.SessionAttribute.TheVariants.{IcePwd, IceOptions, Setup}
 use Rattle.sdp_formats_types.specs.declared.session.SessionAttribute.TheVariants.{EndOfCandidates, Unused}
-use Rattle.sdp_formats_session_lines.specs.Digest.{make_fingerprint}
+use Rattle.sdp_formats_values.specs.Fingerprints.{make_fingerprint}
 use Rattle.sdp_formats_values.specs.declared.fingerprint.Fingerprint as print_of
 use Rattle.sdp_formats_types.specs.declared.session.SessionAttribute.TheVariants.{Fingerprint}
 use Rattle.sdp_formats_laws.proofs.Fingerprints.{digest_text, lacks_digest, fingerprint_reads}

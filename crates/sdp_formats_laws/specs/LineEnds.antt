@@ -28,7 +28,8 @@ abbrev pub FitsNowhere : List ℕ → Type 0
 FitsNowhere [] = Unit {0}
 FitsNowhere (b ∷ t) = Lacks b (codes "vosiuepczkbtrma")
 
--- What is read of a text doesn't change when lines that fit nowhere are put behind its last line, but for the rest.
+-- What is read of a text doesn't change, but for the rest, when a text that begins with no letter of a kind of line is
+-- put behind its last line.
 abbrev pub ReadsWithMoreBehind : Type 0
 ReadsWithMoreBehind = (text more rest : List ℕ) (sdp : Sdp) → is_ended text ≡ true → FitsNowhere more
     → SdpSays text sdp rest → SdpSays (text ++ more) sdp (rest ++ more)

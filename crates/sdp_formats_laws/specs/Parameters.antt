@@ -1,6 +1,5 @@
 -- What holds of the parameters of rows.
-use Rattle.std.specs.Prelude.{◌≡◌, ◌≢◌, ◌≤◌, ℕ, List, [], ◌∷◌, true, Some}
-use Rattle.sdp_formats_forms.specs.Split.{Lacks}
+use Rattle.std.specs.Prelude.{◌≡◌, ◌≤◌, ℕ, List, [], ◌∷◌, true, Some}
 use Rattle.sdp_formats_params.specs.declared.param.FormatParam.{FormatParam}
 use Rattle.sdp_formats_params.specs.declared.param.FormatParam.TheVariants.{Apt, Red}
 use Rattle.sdp_formats_streams.specs.AsRead.{params_as_read}
@@ -9,15 +8,12 @@ use Rattle.sdp_formats_rows.specs.Plain.{is_plain}
 use Rattle.sdp_formats_rows.specs.Rows.{Row}
 use Rattle.sdp_formats_row_attributes.specs.Attributes.{params_in}
 use Rattle.sdp_formats_types.specs.Printed.{params_text}
-
--- A text that can stand on a line.
-abbrev pub OnLine : List ℕ → Type 0
-OnLine t = (t ≢ []) × Lacks 10 t × Lacks 13 t
+use Rattle.sdp_formats_laws.specs.Printable.{IsText}
 
 -- Printed parameters can stand on a line and are read as themselves, or there are none.
 abbrev pub IsReadBack : List FormatParam → Type 0
 IsReadBack [] = Unit {0}
-IsReadBack (p ∷ ps) = OnLine (params_text (p ∷ ps))
+IsReadBack (p ∷ ps) = IsText (params_text (p ∷ ps))
     × (parameters.reads (params_text (p ∷ ps)) ≡ Some (params_as_read (p ∷ ps)))
 
 -- The parameters of a plain row are read as they are printed.

@@ -29,8 +29,8 @@ pub fn line_ends_law()
     ensures { ReadsByAnyEnd }
 {}
 
-/// What is read of a text, the last line of which is ended, doesn't change when lines that fit nowhere are put behind
-/// it, but for the rest.
+/// What is read of a text, the last line of which is ended, doesn't change, but for the rest, when a text is put
+/// behind it whose first byte is no letter that a kind of line begins with.
 pub fn more_behind_law()
     ensures { ReadsWithMoreBehind }
 {}

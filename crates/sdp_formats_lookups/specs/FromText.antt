@@ -6,6 +6,7 @@ use Rattle.std.specs.Str.Parse.{without_leading_plus, digits_value}
 use Rattle.sdp_formats_forms.specs.Form.{Form, told, made, cut, separated}
 use Rattle.sdp_formats_lookups.specs.declared.from_text.FingerprintError.{FingerprintError}
 use Rattle.sdp_formats_lookups.specs.declared.from_text.FingerprintError.TheVariants.{Malformed, Memory}
+use Rattle.sdp_formats_values.specs.Fingerprints.{make_fingerprint}
 use Rattle.sdp_formats_values.specs.declared.fingerprint.Fingerprint.{Fingerprint}
 
 -- Whether each byte is a hexadecimal digit.
@@ -21,12 +22,9 @@ hex_number text =
     then Some (digits_value 16 (without_leading_plus text))
     else None
 
-abbrev pub make_print : List ℕ × List ℕ → Fingerprint
-make_print x = record { hash_func = x.0; bytes = x.1 }
-
 -- A name, which may be empty, up to the first blank, and numbers with colons between.
 abbrev pub print_in_text : Form Fingerprint
-print_in_text = made make_print (cut 32 (told Some) (separated 58 (told hex_number)))
+print_in_text = made make_fingerprint (cut 32 (told Some) (separated 58 (told hex_number)))
 
 -- A text gives what it says, and is malformed exactly where it says nothing.
 abbrev pub IsFromText : Result Fingerprint FingerprintError → Option Fingerprint → Type 0

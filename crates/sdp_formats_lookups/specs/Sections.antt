@@ -3,6 +3,7 @@ use Rattle.std.specs.Prelude.{ℕ, Bool, true, false, List, [], ◌∷◌, map, 
 use Rattle.std.specs.Borrow.{Bor}
 use Rattle.rtp_wire.specs.Name.{name_of}
 use Rattle.rtp_wire.specs.declared.Extension.{Extension}
+use Rattle.sdp_formats_lookups.specs.Creds.{with_name}
 use Rattle.sdp_formats_types.specs.Lookups.{first_of}
 use Rattle.sdp_formats_types.specs.declared.MediaAttribute.{MediaAttribute}
 use Rattle.sdp_formats_types.specs.declared.MediaAttribute.TheVariants as a
@@ -36,15 +37,6 @@ max_message_size_in _ = None
 unfoldable pub ends_candidates : MediaAttribute → Bool
 ends_candidates a.EndOfCandidates = true
 ends_candidates _ = false
-
--- The name and the password of the credentials, where both are given.
-abbrev pub with_pass : List ℕ → Option (List ℕ) → Option (List ℕ × List ℕ)
-with_pass name None = None
-with_pass name (Some pass) = Some (name, pass)
-
-abbrev pub with_name : Option (List ℕ) → Option (List ℕ) → Option (List ℕ × List ℕ)
-with_name None pass = None
-with_name (Some name) pass = with_pass name pass
 
 abbrev pub creds_of : List MediaAttribute → Option (List ℕ × List ℕ)
 creds_of attrs = with_name (first_of ice_ufrag_in attrs) (first_of ice_pwd_in attrs)

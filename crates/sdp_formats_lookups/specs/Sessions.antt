@@ -1,5 +1,6 @@
 -- What the attributes of a session say.
 use Rattle.std.specs.Prelude.{ℕ, Bool, true, false, List, Option, Some, None}
+use Rattle.sdp_formats_lookups.specs.Creds.{with_name}
 use Rattle.sdp_formats_types.specs.Lookups.{first_of}
 use Rattle.sdp_formats_types.specs.declared.SessionAttribute.{SessionAttribute}
 use Rattle.sdp_formats_types.specs.declared.SessionAttribute.TheVariants as a
@@ -29,15 +30,6 @@ ends_candidates _ = false
 unfoldable pub is_lite : SessionAttribute → Bool
 is_lite a.IceLite = true
 is_lite _ = false
-
--- The name and the password of the credentials, where both are given.
-abbrev pub with_pass : List ℕ → Option (List ℕ) → Option (List ℕ × List ℕ)
-with_pass name None = None
-with_pass name (Some pass) = Some (name, pass)
-
-abbrev pub with_name : Option (List ℕ) → Option (List ℕ) → Option (List ℕ × List ℕ)
-with_name None pass = None
-with_name (Some name) pass = with_pass name pass
 
 abbrev pub creds_of : List SessionAttribute → Option (List ℕ × List ℕ)
 creds_of attrs = with_name (first_of ice_ufrag_in attrs) (first_of ice_pwd_in attrs)

@@ -1,3 +1,2 @@
-pub mod Splits
 pub mod Digits
 pub mod Modes

@@ -1,4 +1,3 @@
-pub mod Parts
 pub mod Numbers
 pub mod Keys
 pub mod Params

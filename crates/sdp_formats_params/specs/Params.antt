@@ -23,7 +23,7 @@ use Rattle.sdp_formats_params.specs.declared.param.FormatParam.TheVariants.{H266
 use Rattle.sdp_formats_params.specs.declared.param.FormatParam.TheVariants.{TelephoneEvents, OctetAlign, ModeSet}
 use Rattle.sdp_formats_params.specs.declared.param.FormatParam.TheVariants.{AmrWbUnsupported, Apt, Unknown}
 use Rattle.sdp_formats_params.specs.Keys.{key_named, is_level_key}
-use Rattle.sdp_formats_params.specs.Numbers.{number_below, profile_level, up_to, modes_of, range_of}
+use Rattle.sdp_formats_params.specs.Numbers.{numeral_below, profile_level, up_to, modes_of, range_of}
 
 -- A flag is on where its value is 1.
 abbrev pub flag : List ℕ → Bool
@@ -45,7 +45,7 @@ byte_param key.Tier (Some n) = Tier n
 byte_param _ (Some n) = Unknown
 
 abbrev pub byte_value : List ℕ → Option ℕ
-byte_value value = number_below (2 ^ 8) 10 value
+byte_value value = numeral_below (2 ^ 8) 10 value
 
 -- The parameter of a known key.
 abbrev pub value_param : Key → List ℕ → FormatParam
@@ -57,11 +57,11 @@ value_param key.UseDtx v = UseDtx (flag v)
 value_param key.LevelAsymmetryAllowed v = LevelAsymmetryAllowed (flag v)
 value_param key.PacketizationMode v = byte_param key.PacketizationMode (byte_value v)
 value_param key.ProfileLevelId v = word_param ProfileLevelId (profile_level v)
-value_param key.ProfileId v = word_param ProfileId (number_below (2 ^ 32) 10 v)
+value_param key.ProfileId v = word_param ProfileId (numeral_below (2 ^ 32) 10 v)
 value_param key.Profile v = byte_param key.Profile (byte_value v)
 value_param key.LevelIdx v = byte_param key.LevelIdx (byte_value v)
 value_param key.Tier v = byte_param key.Tier (byte_value v)
-value_param key.SpropMaxDonDiff v = word_param SpropMaxDonDiff (up_to 32767 (number_below (2 ^ 16) 10 v))
+value_param key.SpropMaxDonDiff v = word_param SpropMaxDonDiff (up_to 32767 (numeral_below (2 ^ 16) 10 v))
 value_param key.OctetAlign v = OctetAlign (flag v)
 value_param key.ModeSet v = word_param ModeSet (modes_of v)
 value_param key.TierFlag v = Unknown

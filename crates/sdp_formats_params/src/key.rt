@@ -9,22 +9,39 @@ use std::array;
 /// A known format parameter.
 #[derive(Clone, Copy, Debug, Drop)]
 pub enum Key {
+    /// Opus `minptime` (RFC 7587 6.1).
     MinPTime,
+    /// Opus `stereo` (RFC 7587 6.1).
     Stereo,
+    /// Opus `sprop-stereo` (RFC 7587 6.1).
     SpropStereo,
+    /// Opus `useinbandfec` (RFC 7587 6.1).
     UseInbandFec,
+    /// Opus `usedtx` (RFC 7587 6.1).
     UseDtx,
+    /// H.264 `level-asymmetry-allowed` (RFC 6184 8.1).
     LevelAsymmetryAllowed,
+    /// H.264 `packetization-mode` (RFC 6184 8.1).
     PacketizationMode,
+    /// H.264 `profile-level-id` (RFC 6184 8.1).
     ProfileLevelId,
+    /// VP9 `profile-id` (RFC 9628 6.1), and that of H.265 and H.266 (RFC 7798 7.1, RFC 9328 7.2).
     ProfileId,
+    /// AV1 `profile`.
     Profile,
+    /// AV1 `level-idx`.
     LevelIdx,
+    /// AV1 `tier`.
     Tier,
+    /// H.265 and H.266 `sprop-max-don-diff` (RFC 7798 7.1, RFC 9328 7.2).
     SpropMaxDonDiff,
+    /// AMR-WB `octet-align` (RFC 4867 8.2).
     OctetAlign,
+    /// AMR-WB `mode-set` (RFC 4867 8.2).
     ModeSet,
+    /// H.265 and H.266 `tier-flag` (RFC 7798 7.1, RFC 9328 7.2).
     TierFlag,
+    /// H.265 and H.266 `level-id` (RFC 7798 7.1, RFC 9328 7.2).
     LevelId,
 }
 

@@ -5,7 +5,6 @@ mod key;
 mod numbers;
 mod pairs;
 mod param;
-mod parts;
 mod printed;
 mod several;
 
@@ -14,4 +13,4 @@ pub use key::Key;
 pub use numbers::{bit_of, byte_of, don_diff_of, modes_of, profile_level_of, range_of, word_of};
 pub use pairs::Pair;
 pub use param::FormatParam;
-pub use parts::{split_equals, split_semicolon};
+pub use printed::has_mode;

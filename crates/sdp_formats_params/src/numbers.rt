@@ -1,36 +1,34 @@
 //! Numbers and modes in a format text.
 
 ghost use Rattle.std.specs.Prelude.{◌≡◌, ◌^◌, ◌≤◌};
-ghost use Rattle.std.specs.Char.{is_ascii_digit};
-ghost use Rattle.std.specs.List.{list_all};
 ghost use Rattle.std.specs.Option.{option_copied};
-ghost use Rattle.sdp_formats_params.specs.Numbers.{number_below, profile_level, up_to, modes_of, with_mode, behind};
+ghost use Rattle.sdp_formats_params.specs.Numbers.{numeral_below, profile_level, up_to, modes_of, with_mode, behind};
 ghost use Rattle.sdp_formats_params.specs.Numbers.{range_end, range_of};
 
-use crate::parts::split_comma;
+use sdp_formats_forms::{first_part, has_digits_alone};
 
 /// The number of eight bits that a text writes.
 pub fn byte_of(text: &str) -> Option<u8>
-    ensures { result ≡ number_below (2 ^ 8) 10 text.now }
+    ensures { result ≡ numeral_below (2 ^ 8) 10 text.now }
 {
     text.parse::<u8>().ok()
 }
 
 fn half_word_of(text: &str) -> Option<u16>
-    ensures { result ≡ number_below (2 ^ 16) 10 text.now }
+    ensures { result ≡ numeral_below (2 ^ 16) 10 text.now }
 {
     text.parse::<u16>().ok()
 }
 
 /// The number of 32 bits that a text writes.
 pub fn word_of(text: &str) -> Option<u32>
-    ensures { result ≡ number_below (2 ^ 32) 10 text.now }
+    ensures { result ≡ numeral_below (2 ^ 32) 10 text.now }
 {
     text.parse::<u32>().ok()
 }
 
 fn hexadecimal_of(text: &str) -> Option<u32>
-    ensures { result ≡ number_below (2 ^ 32) 16 text.now }
+    ensures { result ≡ numeral_below (2 ^ 32) 16 text.now }
 {
     u32::from_str_radix(text, 16).ok()
 }
@@ -47,7 +45,7 @@ pub fn profile_level_of(text: &str) -> Option<u32>
 
 /// The greatest difference of decoding order numbers that a text writes, up to 32,767.
 pub fn don_diff_of(text: &str) -> Option<u16>
-    ensures { result ≡ up_to 32767 (number_below (2 ^ 16) 10 text.now) }
+    ensures { result ≡ up_to 32767 (numeral_below (2 ^ 16) 10 text.now) }
 {
     match half_word_of(text) {
         Some(number) => {
@@ -60,7 +58,11 @@ pub fn don_diff_of(text: &str) -> Option<u16>
     }
 }
 
-/// The bit of a mode of AMR-WB, 0 to 8 (RFC 4867 8.1).
+/// The bit of a mode of AMR-WB in a set of modes (RFC 4867 8.1).
+///
+/// # Conditions
+///
+/// `mode` is at most 8.
 pub fn bit_of(mode: u8) -> u16
     requires { mode ≤ 8 }
     ensures { result ≡ 2 ^ mode }
@@ -89,7 +91,7 @@ pub fn modes_of(text: &str) -> Option<u16>
     let mut modes = 0;
     let mut rest = Some(text);
     while let Some(left) = rest {
-        let (mode, after) = split_comma(left);
+        let (mode, after) = first_part(left, ',');
         modes = with_mode(byte_of(mode.trim()), modes)?;
         rest = after;
     }
@@ -106,12 +108,6 @@ fn behind_dash(text: &str) -> Option<&str>
     ensures { option_copied result ≡ behind 45 text.now }
 {
     text.strip_prefix('-')
-}
-
-fn has_digits_alone(text: &str) -> bool
-    ensures { result ≡ list_all is_ascii_digit text.now }
-{
-    text.bytes().all(|byte| byte.is_ascii_digit())
 }
 
 fn plain_byte_of(digits: &str) -> Option<u8>

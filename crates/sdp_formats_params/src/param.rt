@@ -149,8 +149,14 @@ fn other_param(key: &str, value: &str) -> FormatParam
 }
 
 impl FormatParam {
-    /// The parameter of a key, in any ASCII case (RFC 4855 3), and its value; `Unknown` for another key and for a
-    /// value that the key can't have.
+    /// The parameter of a key, in any ASCII case (RFC 4855 3), and its value.
+    ///
+    /// A flag (`stereo`, `sprop-stereo`, `useinbandfec`, `usedtx`, `level-asymmetry-allowed`, `octet-align`) is on
+    /// where the value is `1`, and off at all else. `AmrWbUnsupported` comes of `crc=1`, `robust-sorting=1`,
+    /// `mode-change-period=2`, and `interleaving` with any value (RFC 4867 8.2).
+    ///
+    /// `Unknown` is another key, a value that the key can't have, and any value of `tier-flag` or `level-id`, which
+    /// mean something together alone: `parse_pairs` reads them.
     pub fn parse(k: &str, v: &str) -> FormatParam
         ensures { result ≡ param_of k.now v.now }
     {

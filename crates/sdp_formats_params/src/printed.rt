@@ -13,7 +13,8 @@ fn digit(flag: bool) -> u8
     if flag { 1 } else { 0 }
 }
 
-fn has_mode(modes: u16, mode: u8) -> bool
+/// Is the bit of the mode set, and the mode one of 0 to 8 (RFC 4867 8.2)?
+pub fn has_mode(modes: u16, mode: u8) -> bool
     ensures { result ≡ has_mode modes mode }
 {
     mode <= 8 && modes / bit_of(mode) % 2 == 1

@@ -8,3 +8,4 @@ mod points;
 pub use h26x_payload_profiles::{H264ProfileLevel, H265ProfileTierLevel, H266ProfileTierLevel};
 pub use h264::{GivenH264, h264_score};
 pub use levels::{GivenH265, GivenH266, GivenLevel, level_agreed, level_score};
+pub use points::points_if;

@@ -9,8 +9,8 @@ pub(crate) fn distance(place: usize, other: usize) -> usize
     place.abs_diff(other)
 }
 
-/// Points where a test holds.
-pub(crate) fn points_if(holds: bool, points: usize) -> Option<usize>
+/// These points where a test holds, else no match.
+pub fn points_if(holds: bool, points: usize) -> Option<usize>
     ensures { result ≡ points_if holds points }
 {
     if holds { Some(points) } else { None }

@@ -40,7 +40,7 @@ fn is_codec(codec: Codec, other: Codec) -> bool
 }
 
 /// Is it audio, video or telephone events?
-fn is_media_codec(codec: Codec) -> bool
+pub fn is_media_codec(codec: Codec) -> bool
     ensures { result ≡ is_media_codec codec }
 {
     codec.is_audio() || codec.is_video() || codec.is_tele()

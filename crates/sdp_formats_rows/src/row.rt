@@ -110,25 +110,6 @@ impl PayloadParams {
         }
     }
 
-    /// The same row without a RED type.
-    pub fn without_red(self) -> Self
-        ensures { result ≡ record self { red = None } }
-    {
-        let mut row = self;
-        row.types.red = None;
-        row
-    }
-
-    /// The same row under another payload type.
-    pub fn with_pt(self, pt: Pt) -> Self
-        ensures { result ≡ record self { pt = pt } }
-    {
-        PayloadParams {
-            types: Types { pt, ..self.types },
-            ..self
-        }
-    }
-
     /// The same row under these types: its payload type, that of its retransmissions and its RED type.
     pub fn with_types(self, pt: Pt, resend: Option<Pt>, red: Option<Pt>) -> Self
         ensures { result ≡ record self { pt = pt; resend = resend; red = red } }
@@ -149,11 +130,17 @@ impl PayloadParams {
     /// How well the row matches another one, by codec, clock rate, channels and format: by 1 to 100 points, or not at
     /// all. Payload types, feedback and locks don't count, nor does the side.
     ///
-    /// 100 is an exact match. Formats of one codec that differ match by the table of their codec: Opus loses points
-    /// for each parameter (RFC 7587 6.1); H.264, H.265 and H.266 need one profile and lose the distance of their levels
-    /// (RFC 6184 8.2.2, RFC 7798 7.1, RFC 9328 7.2); VP9 and AV1 need what isn't given at its default; AMR-WB needs
-    /// mono, one layout, and one set of modes or none at a side (RFC 4867 8.3.1). Telephone events match whatever
-    /// their channels and range.
+    /// Telephone events match by 100 whatever their channels and range. AMR-WB needs mono and one layout at both
+    /// sides (RFC 4867 8.3.1): it gets 100 where neither side gives a set of modes, and 99 where both give the same
+    /// set or one side alone gives one. All other codecs need the same channels; they get 100 for the same format,
+    /// and for formats that differ the points of their codec's table:
+    ///
+    /// - Opus loses points of 100 for each parameter that differs (RFC 7587 6.1);
+    /// - H.264 needs one packetization mode and one profile, and loses the distance of the levels (RFC 6184 8.2.2);
+    /// - H.265 and H.266 need one profile and one tier, and lose the distance of the levels; where a side gives no
+    ///   level, one profile gets 90 (RFC 7798 7.1, RFC 9328 7.2);
+    /// - VP9 gets 100 for one profile, AV1 for one profile, level and tier, each at its default where it isn't given;
+    /// - others don't match.
     pub fn match_score(&self, other: &PayloadParams) -> Option<usize>
         ensures { result ≡ score self.now.spec other.now.spec }
     {

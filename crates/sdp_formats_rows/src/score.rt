@@ -1,9 +1,8 @@
 //! How well two codecs with their settings match.
 
 ghost use Rattle.std.specs.Prelude.{◌≡◌};
-ghost use Rattle.sdp_formats_profiles.specs.Points.{points_if};
 ghost use Rattle.sdp_formats_rows.specs.Codecs.{is_codec};
-ghost use Rattle.sdp_formats_rows.specs.Laws.{ScoreSymmetric};
+ghost use Rattle.sdp_formats_rows.specs.Laws.{ScoreSymmetric, ScoresInRange};
 ghost use Rattle.sdp_formats_rows.specs.Scores.{amr_wb_score, av1_score, codec_score, format_score, given_264};
 ghost use Rattle.sdp_formats_rows.specs.Scores.{given_265, given_266, is_mono, modes_score, opus_score, penalty};
 ghost use Rattle.sdp_formats_rows.specs.Scores.{score, settings_score, vp9_score};
@@ -12,20 +11,13 @@ use crate::same::{alike, same_byte, same_flag, same_format};
 use crate::spec::CodecSpec;
 use payload_core_base::Codec;
 use sdp_formats_format::FormatParams;
-use sdp_formats_profiles::{GivenH264, GivenH265, GivenH266, h264_score, level_score};
+use sdp_formats_profiles::{GivenH264, GivenH265, GivenH266, h264_score, level_score, points_if};
 
 /// What is taken off where values aren't the same.
 fn penalty(is_same: bool, points: usize) -> usize
     ensures { result ≡ penalty is_same points }
 {
     if is_same { 0 } else { points }
-}
-
-/// These points where it holds, else no match.
-fn points_if(holds: bool, points: usize) -> Option<usize>
-    ensures { result ≡ points_if holds points }
-{
-    if holds { Some(points) } else { None }
 }
 
 /// The points of two formats of Opus: each parameter that differs takes off its own (RFC 7587 6.1).
@@ -174,4 +166,9 @@ pub(crate) fn score(a: &CodecSpec, b: &CodecSpec) -> Option<usize>
 /// Scores are symmetric: how well a row matches another one is how well that one matches it.
 pub fn scores_symmetric()
     ensures { ScoreSymmetric }
+{}
+
+/// Scores are in their range: rows that match do so by 1 to 100 points.
+pub fn scores_in_range()
+    ensures { ScoresInRange }
 {}

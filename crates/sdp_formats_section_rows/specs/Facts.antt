@@ -84,9 +84,6 @@ row_with m facts format = record {
   locked = false;
 }
 
-abbrev pub may_have_row : Codec → Bool
-may_have_row codec = is_audio_codec codec || is_video_codec codec || is_tele_codec codec
-
 abbrev pub has_row_by : Codec → TypeFacts → Bool
 has_row_by codec facts = is_audio_codec codec || is_video_codec codec || (is_tele_codec codec && facts.is_listed)
 

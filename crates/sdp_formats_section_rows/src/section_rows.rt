@@ -4,7 +4,7 @@ ghost use Rattle.std.specs.Prelude.{◌≡◌, ◌++◌, None, IfOk, OnOk};
 ghost use Rattle.std.specs.List.{flat_map};
 ghost use Rattle.std.specs.Prelude.{if◌then◌else◌};
 ghost use Rattle.payload_core_base.specs.Codecs.{is_audio_codec};
-ghost use Rattle.sdp_formats_section_rows.specs.Facts.{AreKept, facts_of, format_by, has_row_by, may_have_row};
+ghost use Rattle.sdp_formats_section_rows.specs.Facts.{AreKept, facts_of, format_by, has_row_by};
 ghost use Rattle.sdp_formats_section_rows.specs.Facts.{row_by, row_with, rows_by};
 ghost use Rattle.sdp_formats_section_rows.specs.SectionRows.{listed, rows_given, rows_of};
 
@@ -14,7 +14,7 @@ use crate::mapped::{Mapping, mappings};
 use crate::type_lists::types_mapped_to;
 use rtp_wire::Pt;
 use sdp_formats_row_attributes::spec_of_map;
-use sdp_formats_rows::{Codec, FormatParams, PayloadParams};
+use sdp_formats_rows::{Codec, FormatParams, PayloadParams, is_media_codec};
 use sdp_formats_types::MediaLine;
 use std::alloc::{AllocError, Global};
 
@@ -54,12 +54,6 @@ fn row_with(mapping: &Mapping, facts: &TypeFacts, format: FormatParams) -> Paylo
     row.set_fb_fir(is_video || facts.feedback.fir);
     row.set_fb_remb(is_video || facts.feedback.remb);
     row
-}
-
-fn may_have_row(codec: Codec) -> bool
-    ensures { result ≡ may_have_row codec }
-{
-    codec.is_audio() || codec.is_video() || codec.is_tele()
 }
 
 fn has_row(codec: Codec, facts: &TypeFacts) -> bool
@@ -131,7 +125,7 @@ fn push_row(
     ensures kept { OnOk result
         (AreKept (facts_of section.now.pts section.now.attrs resend_types.now red_types.now) kept.new.items) }
 {
-    if !may_have_row(mapping.map.codec) {
+    if !is_media_codec(mapping.map.codec) {
         return Ok(());
     }
     let row = row_kept(kept, section, resend_types, red_types, mapping)?;

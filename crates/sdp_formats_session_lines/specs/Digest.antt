@@ -2,6 +2,7 @@
 use Rattle.std.specs.Prelude.{ℕ, ◌+◌, ◌-◌, ◌*◌, ◌&&◌, List, [], ◌∷◌, Option, Some, None, nat_le, if◌then◌else◌}
 use Rattle.sdp_formats_forms.specs.Bind.{◌>>=◌}
 use Rattle.sdp_formats_forms.specs.Form.{Form, told, any_text, made, cut, separated}
+use Rattle.sdp_formats_values.specs.Fingerprints.{make_fingerprint}
 use Rattle.sdp_formats_values.specs.declared.fingerprint.Fingerprint.{Fingerprint}
 
 -- A hexadecimal digit in either case.
@@ -18,9 +19,6 @@ hex_byte [] = None
 hex_byte (a ∷ []) = None
 hex_byte (a ∷ b ∷ []) = hex_digit a >>= λ high. hex_digit b >>= λ low. Some (high * 16 + low)
 hex_byte (a ∷ b ∷ c ∷ more) = None
-
-abbrev pub make_fingerprint : List ℕ × List ℕ → Fingerprint
-make_fingerprint x = record { hash_func = x.0; bytes = x.1 }
 
 -- `FUNCTION XX:XX:..` (RFC 8122 5)
 abbrev pub fingerprint : Form Fingerprint

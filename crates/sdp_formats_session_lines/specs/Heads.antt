@@ -1,12 +1,10 @@
 -- The lines `o=` and `m=` (RFC 8866 5.2 and 5.14).
 use Rattle.std.specs.Prelude.{ℕ, ◌^◌, ◌==◌, Bool, ◌||◌, List, [], Option, Some, None, length, is_some, unwrap_or}
 use Rattle.std.specs.Prelude.{codes, if◌then◌else◌}
-use Rattle.std.specs.Char.{is_ascii_digit}
-use Rattle.std.specs.List.{list_all}
 use Rattle.std.specs.Option.{option_map}
 use Rattle.std.specs.Str.{bytes_eq}
 use Rattle.sdp_formats_forms.specs.Form.{Form, told, any_text, some_text, made, cut, each}
-use Rattle.sdp_formats_forms.specs.Numbers.{number_below}
+use Rattle.sdp_formats_forms.specs.Numbers.{has_digits_alone, number_below}
 use Rattle.sdp_formats_forms.specs.Split.{behind, parts}
 use Rattle.sdp_formats_session_lines.specs.declared.media.MediaHead.{MediaHead}
 use Rattle.sdp_formats_types.specs.declared.media.MediaType.{MediaType}
@@ -16,7 +14,7 @@ use Rattle.sdp_formats_types.specs.declared.media.Proto.TheVariants.{Srtp, Sctp}
 
 -- Digits alone, no plus.
 abbrev pub session_number : List ℕ → Option ℕ
-session_number t = if list_all is_ascii_digit t then number_below (2 ^ 64) t else None
+session_number t = if has_digits_alone t then number_below (2 ^ 64) t else None
 
 -- `USER NUMBER TEXT` (RFC 8866 5.2)
 abbrev pub origin : Form ℕ

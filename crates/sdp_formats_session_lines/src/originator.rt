@@ -1,18 +1,9 @@
 //! The number of a session (RFC 8866 5.2).
 
-ghost use Rattle.std.specs.Prelude.{◌≡◌};
-ghost use Rattle.std.specs.Char.{is_ascii_digit};
-ghost use Rattle.std.specs.List.{list_all};
 ghost use Rattle.sdp_formats_forms.specs.Refusals.{Gives, GivesBy};
 ghost use Rattle.sdp_formats_session_lines.specs.Heads.{origin, session_number};
 
-use sdp_formats_forms::{Refusal, number_64, some, split};
-
-fn has_digits_alone(text: &str) -> bool
-    ensures { result ≡ list_all is_ascii_digit text.now }
-{
-    text.bytes().all(|byte| byte.is_ascii_digit())
-}
+use sdp_formats_forms::{Refusal, has_digits_alone, number_64, some, split};
 
 fn session_number(text: &str) -> Result<u64, Refusal>
     ensures { Gives result (session_number text.now) }

@@ -1,6 +1,6 @@
 //! Words that stand for a choice.
 
-ghost use Rattle.std.specs.Prelude.{◌≡◌, codes};
+ghost use Rattle.std.specs.Prelude.{◌≡◌, ◌≢◌, codes, IfErr};
 ghost use Rattle.std.specs.Str.{str_eq_ignore_ascii_case};
 ghost use Rattle.sdp_formats_forms.specs.Refusals.{Gives};
 ghost use Rattle.sdp_formats_session_lines.specs.Words.{setup_word, protocol_word, kind_word, tcptype_word};
@@ -14,7 +14,8 @@ use sdp_formats_types::{CandidateKind, Protocol, Setup, TcpType};
 ///
 /// `Unfit` where it is none of the three words.
 pub fn setup_of(word: &str) -> Result<Setup, Refusal>
-    ensures { Gives result (setup_word word.now) }
+    ensures gives { Gives result (setup_word word.now) }
+    ensures never_memory { IfErr result (λ e. e ≢ Refusal.Memory) }
 {
     match word {
         "actpass" => Ok(Setup::ActPass),

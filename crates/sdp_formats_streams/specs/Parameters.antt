@@ -1,9 +1,7 @@
 -- Format parameters (RFC 8866 6.15): the first form that fits.
 use Rattle.std.specs.Prelude.{ℕ, ◌^◌, List, [], ◌∷◌, Option, Some, None, codes, if◌then◌else◌}
-use Rattle.std.specs.Char.{is_ascii_digit}
-use Rattle.std.specs.List.{list_all}
 use Rattle.sdp_formats_forms.specs.Form.{Form, told, number, made, after, cut, separated, either}
-use Rattle.sdp_formats_forms.specs.Numbers.{number_below}
+use Rattle.sdp_formats_forms.specs.Numbers.{has_digits_alone, number_below}
 use Rattle.sdp_formats_streams.specs.PairsSay.{pair_list}
 use Rattle.sdp_formats_params.specs.Params.{params_of}
 use Rattle.sdp_formats_params.specs.declared.param.FormatParam.{FormatParam}
@@ -22,7 +20,7 @@ slash_list = made (λ x. BarePtList x.0 ∷ []) (cut 47 (number (2 ^ 8)) (separa
 
 -- `0-NUMBER`, digits alone
 abbrev pub plain_byte : List ℕ → Option ℕ
-plain_byte t = if list_all is_ascii_digit t then number_below (2 ^ 8) t else None
+plain_byte t = if has_digits_alone t then number_below (2 ^ 8) t else None
 
 abbrev pub range : Form (List FormatParam)
 range = made (λ n. BareRange n ∷ []) (after (codes "0-") (told plain_byte))

@@ -133,6 +133,10 @@ fn whole(pairs: Listed<Pair>, rest: &str) -> Result<Listed<Pair>, Refusal>
 }
 
 /// The pairs of a text, with blanks and tabs round each `;`, and a `;` at the end or none.
+///
+/// # Errors
+///
+/// `Unfit` where it has no pair, or something else stands behind the last one, `Memory` where memory runs out.
 pub fn pairs(alloc: Global, text: &str) -> Result<Listed<Pair>, Refusal>
     ensures { Gives result (pairs_of text.now) }
 {

@@ -1,6 +1,6 @@
 //! Payload types, their codecs and their feedback.
 
-ghost use Rattle.std.specs.Prelude.{◌≡◌, ◌≤◌, ◌<◌};
+ghost use Rattle.std.specs.Prelude.{◌≡◌, ◌≢◌, ◌≤◌, ◌<◌, IfErr};
 ghost use Rattle.sdp_formats_forms.specs.Refusals.{Gives, GivesBy};
 ghost use Rattle.sdp_formats_streams.specs.Maps.{payload_type, clock_rate, rtcp_fb, rtpmap};
 
@@ -18,7 +18,8 @@ use std::alloc::Global;
 ///
 /// `Unfit` where the text writes no such number.
 pub fn payload_type(text: &str) -> Result<Pt, Refusal>
-    ensures { Gives result (payload_type.reads text.now) }
+    ensures gives { Gives result (payload_type.reads text.now) }
+    ensures never_memory { IfErr result (λ e. e ≢ Refusal.Memory) }
 {
     let number = number_8(text)?;
     if number <= 127 {
@@ -29,7 +30,8 @@ pub fn payload_type(text: &str) -> Result<Pt, Refusal>
 }
 
 fn clock_rate(text: &str) -> Result<Frequency, Refusal>
-    ensures { Gives result (clock_rate.reads text.now) }
+    ensures gives { Gives result (clock_rate.reads text.now) }
+    ensures never_memory { IfErr result (λ e. e ≢ Refusal.Memory) }
 {
     let ticks = number_32(text)?;
     match Frequency::new(ticks) {
@@ -59,7 +61,8 @@ pub fn rtcp_fb(alloc: Global, value: &str) -> Result<MediaAttribute, Refusal>
 ///
 /// `Unfit` where it is no such value.
 pub fn rtpmap(value: &str) -> Result<MediaAttribute, Refusal>
-    ensures { Gives result (rtpmap.reads value.now) }
+    ensures gives { Gives result (rtpmap.reads value.now) }
+    ensures never_memory { IfErr result (λ e. e ≢ Refusal.Memory) }
 {
     let (pt, map) = split(value, ' ')?;
     let pt = payload_type(pt)?;

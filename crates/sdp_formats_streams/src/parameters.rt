@@ -1,8 +1,6 @@
 //! Format parameters (RFC 8866 6.15).
 
 ghost use Rattle.std.specs.Prelude.{◌≡◌, ◌^◌, ◌∷◌, [], Some};
-ghost use Rattle.std.specs.Char.{is_ascii_digit};
-ghost use Rattle.std.specs.List.{list_all};
 ghost use Rattle.sdp_formats_forms.specs.Refusals.{Gives, GivesBy};
 ghost use Rattle.sdp_formats_streams.specs.Parameters.{key_values, slash_list, range, parameters, listed_fmtp};
 ghost use Rattle.sdp_formats_streams.specs.Parameters.{bare_fmtp, fmtp};
@@ -10,7 +8,9 @@ ghost use Rattle.sdp_formats_streams.specs.Parameters.{bare_fmtp, fmtp};
 use crate::maps::payload_type;
 use crate::pairs;
 use rtp_wire::Pt;
-use sdp_formats_forms::{Listed, Reads, Refusal, behind, fitted, list_of, number_8, split};
+use sdp_formats_forms::{
+    Listed, Reads, Refusal, behind, fitted, has_digits_alone, list_of, number_8, split,
+};
 use sdp_formats_params::FormatParam;
 use sdp_formats_types::MediaAttribute;
 use std::alloc::Global;
@@ -51,12 +51,6 @@ fn slash_list(alloc: Global, text: &str) -> Result<Listed<FormatParam>, Refusal>
     let first = number_8(first)?;
     let _ = list_of::<u8, ByteNumber>(alloc, more, '/')?;
     one(alloc, FormatParam::BarePtList(Pt::from(first)))
-}
-
-fn has_digits_alone(text: &str) -> bool
-    ensures { result ≡ list_all is_ascii_digit text.now }
-{
-    text.bytes().all(|byte| byte.is_ascii_digit())
 }
 
 fn range(alloc: Global, text: &str) -> Result<Listed<FormatParam>, Refusal>

@@ -32,6 +32,7 @@ unfoldable pub setup_in : MediaAttribute → Option setup.Setup
 setup_in (a.Setup setup) = Some setup
 setup_in _ = None
 
--- The first direction that an attribute gives; inactive where none does (RFC 8866 6.7).
+-- The first direction that an attribute gives; inactive where none does, where RFC 8866 6.7 has a reader assume
+-- `sendrecv`.
 abbrev pub direction_of : List MediaAttribute → Direction
 direction_of attributes = unwrap_or (first_of direction_in attributes) way.Inactive

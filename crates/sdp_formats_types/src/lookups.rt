@@ -112,7 +112,8 @@ impl MediaLine {
         first_mid(self.attrs.as_slice())
     }
 
-    /// The direction, of the first attribute that gives one; `Inactive` where none does (RFC 8866 6.7).
+    /// The direction, of the first attribute that gives one; `Inactive` where none does, unlike RFC 8866 6.7, which
+    /// has a reader assume `sendrecv` there.
     pub fn direction(&self) -> Direction
         ensures { result ≡ direction_of self.now.attrs }
     {

@@ -7,9 +7,9 @@ use std::fmt;
 
 /// A line with a value behind its name: the name, and the value.
 #[derive(Drop)]
-pub struct Named<'a, T>(pub &'a str, pub &'a T);
+pub struct ValueLine<'a, T>(pub &'a str, pub &'a T);
 
-impl<'a, T: fmt::Display> fmt::Display for Named<'a, T> {
+impl<'a, T: fmt::Display> fmt::Display for ValueLine<'a, T> {
     ghost use Rattle.sdp_formats_types.specs.PrintedMedia.{named_output};
 
     ghost output = { λ n. named_output n.0.now (T.Display.output n.1.now) };

@@ -4,7 +4,7 @@ ghost use Rattle.std.specs.Prelude.{◌≡◌};
 ghost use Rattle.sdp_formats_types.specs.PrintedMedia.{flag_text, port_of};
 
 use crate::media::{MediaAttribute, MediaLine};
-use crate::printed::{Named, Params, RidRestrictions, RidTypes, Sources, Types};
+use crate::printed::{Params, RidRestrictions, RidTypes, Sources, Types, ValueLine};
 use sdp_formats_forms::{Joined, Maybe};
 use std::fmt;
 use std::fmt::Display;
@@ -20,19 +20,19 @@ impl fmt::Display for MediaAttribute {
     #[tactic(auto, unfolding(crate::specs::PrintedMedia::attribute_text))]
     fn fmt<W: fmt::Write>(&self, f: &mut fmt::Formatter<W>) -> fmt::Result {
         match self {
-            MediaAttribute::Rtcp(value) => Named("a=rtcp:", value).fmt(f),
-            MediaAttribute::IceUfrag(value) => Named("a=ice-ufrag:", value).fmt(f),
-            MediaAttribute::IcePwd(value) => Named("a=ice-pwd:", value).fmt(f),
-            MediaAttribute::IceOptions(value) => Named("a=ice-options:", value).fmt(f),
-            MediaAttribute::Fingerprint(value) => Named("a=fingerprint:", value).fmt(f),
-            MediaAttribute::Setup(value) => Named("a=setup:", value).fmt(f),
-            MediaAttribute::Mid(value) => Named("a=mid:", value).fmt(f),
-            MediaAttribute::SctpPort(port) => Named("a=sctp-port:", port).fmt(f),
-            MediaAttribute::MaxMessageSize(size) => Named("a=max-message-size:", size).fmt(f),
-            MediaAttribute::SctpInit(value) => Named("a=sctp-init:", value).fmt(f),
-            MediaAttribute::Msid(value) => Named("a=msid:", value).fmt(f),
-            MediaAttribute::Candidate(value) => Named("a=", value).fmt(f),
-            MediaAttribute::Unused(value) => Named("a=", value).fmt(f),
+            MediaAttribute::Rtcp(value) => ValueLine("a=rtcp:", value).fmt(f),
+            MediaAttribute::IceUfrag(value) => ValueLine("a=ice-ufrag:", value).fmt(f),
+            MediaAttribute::IcePwd(value) => ValueLine("a=ice-pwd:", value).fmt(f),
+            MediaAttribute::IceOptions(value) => ValueLine("a=ice-options:", value).fmt(f),
+            MediaAttribute::Fingerprint(value) => ValueLine("a=fingerprint:", value).fmt(f),
+            MediaAttribute::Setup(value) => ValueLine("a=setup:", value).fmt(f),
+            MediaAttribute::Mid(value) => ValueLine("a=mid:", value).fmt(f),
+            MediaAttribute::SctpPort(port) => ValueLine("a=sctp-port:", port).fmt(f),
+            MediaAttribute::MaxMessageSize(size) => ValueLine("a=max-message-size:", size).fmt(f),
+            MediaAttribute::SctpInit(value) => ValueLine("a=sctp-init:", value).fmt(f),
+            MediaAttribute::Msid(value) => ValueLine("a=msid:", value).fmt(f),
+            MediaAttribute::Candidate(value) => ValueLine("a=", value).fmt(f),
+            MediaAttribute::Unused(value) => ValueLine("a=", value).fmt(f),
             MediaAttribute::RecvOnly
             | MediaAttribute::SendRecv
             | MediaAttribute::SendOnly

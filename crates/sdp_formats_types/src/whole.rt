@@ -5,7 +5,7 @@ ghost use Rattle.std.specs.String.{string_bytes};
 ghost use Rattle.sdp_formats_types.specs.PrintedSession.{sdp_text};
 
 use crate::media::MediaLine;
-use crate::printed::{Mids, Named, Words};
+use crate::printed::{Mids, ValueLine, Words};
 use crate::session::{Sdp, Session, SessionAttribute};
 use rtp_wire::Mid;
 use sdp_formats_forms::{Joined, Maybe, Text};
@@ -33,14 +33,14 @@ impl fmt::Display for SessionAttribute {
             }
             SessionAttribute::AllowMixedExts => f.write_str("a=extmap-allow-mixed\r\n"),
             SessionAttribute::IceLite => f.write_str("a=ice-lite\r\n"),
-            SessionAttribute::IceUfrag(value) => Named("a=ice-ufrag:", value).fmt(f),
-            SessionAttribute::IcePwd(value) => Named("a=ice-pwd:", value).fmt(f),
-            SessionAttribute::IceOptions(value) => Named("a=ice-options:", value).fmt(f),
-            SessionAttribute::Fingerprint(value) => Named("a=fingerprint:", value).fmt(f),
-            SessionAttribute::Setup(value) => Named("a=setup:", value).fmt(f),
-            SessionAttribute::Candidate(value) => Named("a=", value).fmt(f),
+            SessionAttribute::IceUfrag(value) => ValueLine("a=ice-ufrag:", value).fmt(f),
+            SessionAttribute::IcePwd(value) => ValueLine("a=ice-pwd:", value).fmt(f),
+            SessionAttribute::IceOptions(value) => ValueLine("a=ice-options:", value).fmt(f),
+            SessionAttribute::Fingerprint(value) => ValueLine("a=fingerprint:", value).fmt(f),
+            SessionAttribute::Setup(value) => ValueLine("a=setup:", value).fmt(f),
+            SessionAttribute::Candidate(value) => ValueLine("a=", value).fmt(f),
             SessionAttribute::EndOfCandidates => f.write_str("a=end-of-candidates\r\n"),
-            SessionAttribute::Unused(value) => Named("a=", value).fmt(f),
+            SessionAttribute::Unused(value) => ValueLine("a=", value).fmt(f),
         }
     }
 }

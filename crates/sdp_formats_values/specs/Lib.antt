@@ -1,3 +1,4 @@
+pub mod Fingerprints
 pub mod Setup
 pub mod Streams
 pub mod PrintedCandidates

@@ -1,9 +1,8 @@
 //! Whether the parts of a whole text go together.
 
 ghost use Rattle.std.specs.Prelude.{◌≡◌, ◌↔◌, IfOk, IsTrue, OnOk};
-ghost use Rattle.std.specs.List.{filter_map, list_all};
+ghost use Rattle.std.specs.List.{filter_map};
 ghost use Rattle.std.specs.Option.{option_copied};
-ghost use Rattle.sdp_formats_consistency.specs.Consistency.{is_consistent};
 ghost use Rattle.sdp_formats_types.specs.Lookups.{first_of};
 ghost use Rattle.sdp_formats_wholes.specs.Consistency.{AssertsWhole, IsWhole, are_apart, belongs, group_in};
 ghost use Rattle.sdp_formats_wholes.specs.Consistency.{grouped_mid, lists, mid_of};
@@ -11,16 +10,10 @@ ghost use Rattle.sdp_formats_wholes.specs.Consistency.{grouped_mid, lists, mid_o
 use crate::name_set::NameSet;
 use rtp_wire::Mid;
 use sdp_formats::SdpError;
-use sdp_formats_consistency::is_consistent;
+use sdp_formats_consistency::are_consistent;
 use sdp_formats_equality::same::Same;
 use sdp_formats_types::{Listed, MediaLine, Sdp, SessionAttribute};
 use std::alloc::{AllocError, Global};
-
-fn are_consistent(sections: &[MediaLine]) -> bool
-    ensures { result ≡ list_all is_consistent sections.now }
-{
-    sections.iter().all(|section| is_consistent(section))
-}
 
 fn are_apart(alloc: Global, names: &[Mid]) -> Result<bool, AllocError>
     ensures { IfOk result (λ r. r ≡ are_apart names.now) }

@@ -1,5 +1,6 @@
 use Rattle.sdp_formats_forms.proofs.Numerals.{number-gives}
 use Rattle.sdp_formats_forms.proofs.numbers.number_32.Goals as goal
 
-pub returns : goal.returns
-returns c = rw (c.ok_or.ensures.value, c.ok.ensures.value) (number-gives 32 c.args.text.now _ c.parse.ensures.value.0)
+pub returns-clause-gives : goal.returns-clause-gives
+returns-clause-gives c =
+    rw (c.ok_or.ensures.value, c.ok.ensures.value) (number-gives 32 c.args.text.now _ c.parse.ensures.value.0)

@@ -1,5 +1,6 @@
 use Rattle.sdp_formats_forms.proofs.Gives.{behind-gives}
 use Rattle.sdp_formats_forms.proofs.primitives.behind.Goals as goal
 
-pub returns : goal.returns
-returns c = rw c.ok_or.ensures.value (behind-gives c.args.words.now c.args.text.now _ c.strip_prefix.ensures.cases)
+pub returns-clause-gives : goal.returns-clause-gives
+returns-clause-gives c =
+    rw c.ok_or.ensures.value (behind-gives c.args.words.now c.args.text.now _ c.strip_prefix.ensures.cases)

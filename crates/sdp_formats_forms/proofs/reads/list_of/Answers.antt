@@ -14,19 +14,19 @@ returns-in_err-read g c =
     let items = c.loop-rest.items.items in
     let inv = rw c.in-Some.is at c.loop-rest.invariant in
     let p = err_from_is_err_and c.from_residual.result c.from_residual.ensures.1 in
-    rw (p.1, p.2) (round-err f items c.part.result.0.now _ _ _ c.in_err-read.ensures
-    (ap (λ (ps : List (List ℕ)). with_front items (each f ps)) (sym c.part.ensures) ∙ inv))
+    rw (p.1, p.2) (round-err f items c.first_part.result.0.now _ _ _ c.in_err-read.ensures
+    (ap (λ (ps : List (List ℕ)). with_front items (each f ps)) (sym c.first_part.ensures) ∙ inv))
 
 pub loop-rest-smaller : goal.loop-rest-smaller
-loop-rest-smaller g c = rw c.in-Some.is (omega (arith, ap length c.part.ensures))
+loop-rest-smaller g c = rw c.in-Some.is (omega (arith, ap length c.first_part.ensures))
 
 pub loop-rest-preserved : goal.loop-rest-preserved
 loop-rest-preserved g c =
     let f = g.R.Reads.reads in
     let items = c.loop-rest.items.items in
     let inv = rw c.in-Some.is at c.loop-rest.invariant in
-    rw c.in_ok-push.ensures.items (round-reads f items c.part.result.0.now _ _ _ c.in_ok-read.ensures
-    (ap (λ (ps : List (List ℕ)). with_front items (each f ps)) (sym c.part.ensures) ∙ inv))
+    rw c.in_ok-push.ensures.items (round-reads f items c.first_part.result.0.now _ _ _ c.in_ok-read.ensures
+    (ap (λ (ps : List (List ℕ)). with_front items (each f ps)) (sym c.first_part.ensures) ∙ inv))
 
 pub returns : goal.returns
 returns g c =

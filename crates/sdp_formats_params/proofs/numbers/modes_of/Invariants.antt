@@ -1,12 +1,12 @@
 use Rattle.std.proofs.Common.{◌≡◌, Some, length}
 use Rattle.std.specs.Option.{option_copied}
-use Rattle.sdp_formats_params.specs.Parts.{parts_in}
+use Rattle.sdp_formats_forms.specs.Pieces.{parts_from}
 use Rattle.sdp_formats_params.specs.Numbers.{modes_of, with_modes}
 use Rattle.sdp_formats_params.proofs.numbers.modes_of.Given as goal
 
 -- the modes so far with those that are left
 abbrev pub invariant-loop-rest : goal.invariant-loop-rest
-invariant-loop-rest l = with_modes (parts_in 44 (option_copied l.rest)) (Some l.modes) ≡ modes_of l.fn.text
+invariant-loop-rest l = with_modes (parts_from 44 (option_copied l.rest)) (Some l.modes) ≡ modes_of l.fn.text
 
 abbrev pub decreases-loop-rest : goal.decreases-loop-rest
-decreases-loop-rest l = length (parts_in 44 (option_copied l.rest))
+decreases-loop-rest l = length (parts_from 44 (option_copied l.rest))
