@@ -29,9 +29,9 @@ pub struct WireStream {
     pub limit: usize,
     /// Whether it sends redundancy (RFC 2198), for a row with a RED type alone.
     pub has_red: bool,
-    /// Whether the stream of a video row counts pictures.
+    /// Whether VP8's frames have picture ids (RFC 7741 4.2); VP9's always do.
     pub has_picture_id: bool,
-    /// The first picture id, at most 32,767; not looked at without it.
+    /// The first picture id, at most 32,767; without `has_picture_id` VP9 begins at 0.
     pub picture_id: u16,
     /// Whether the payloads have the forms that browsers want.
     pub for_browsers: bool,

@@ -18,7 +18,7 @@ pub struct WireUnit {
     pub first: u64,
     /// That of its last packet.
     pub last: u64,
-    /// The RTP timestamp, in ticks of the clock rate.
+    /// The RTP timestamp, in ticks of the clock rate, of G.722 at 8,000 Hz (RFC 3551 4.5.2).
     pub time: u32,
     /// Whether the codec says that it is a keyframe; VP9 and audio never do.
     pub is_keyframe: bool,

@@ -30,9 +30,9 @@ pub struct WireSender {
     pub mtu: usize,
     /// The most bytes of a datagram.
     pub limit: usize,
-    /// Whether the stream of a video codec counts pictures.
+    /// Whether VP8's frames have picture ids (RFC 7741 4.2); VP9's always do.
     pub has_picture_id: bool,
-    /// The first picture id, at most 32,767.
+    /// The first picture id, at most 32,767; without `has_picture_id` VP9 begins at 0.
     pub picture_id: u16,
     /// Whether the payloads have the forms that browsers want.
     pub for_browsers: bool,

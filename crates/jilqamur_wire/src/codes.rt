@@ -10,7 +10,7 @@ pub const IN_USE: u32 = 2;
 pub const CLOSED: u32 = 3;
 /// No RTP header stands in front of the bytes (RFC 3550 5.1).
 pub const UNREADABLE: u32 = 4;
-/// The padding does not fit (RFC 3550 5.1).
+/// The padding does not fit, or an end finds no payload in the datagram (RFC 3550 5.1, RFC 2198 3).
 pub const DAMAGED: u32 = 5;
 /// The number came before, or is 128 or more below the greatest.
 pub const REFUSED: u32 = 6;
@@ -20,7 +20,7 @@ pub const UNWRITABLE: u32 = 7;
 pub const TOO_SMALL: u32 = 8;
 /// The bytes are no UTF-8.
 pub const NOT_TEXT: u32 = 9;
-/// A number is off the range that is written at it.
+/// A number is off the range that is written at it, or a codec has no payload format.
 pub const OUT_OF_RANGE: u32 = 10;
 /// The end was not made yet.
 pub const NOT_MADE: u32 = 11;
@@ -34,7 +34,7 @@ pub const NO_STREAM: u32 = 14;
 pub const ROW_NOT_PLAIN: u32 = 15;
 /// A payload type stands for two things.
 pub const TYPES_NOT_DISTINCT: u32 = 16;
-/// The session or the text can't be written.
+/// The text of an answer, or the URI of a header extension, can't be written.
 pub const NOT_WRITABLE: u32 = 17;
 /// The text isn't that of an offer or an answer.
 pub const TEXT_UNREADABLE: u32 = 18;

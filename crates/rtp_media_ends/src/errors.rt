@@ -9,7 +9,8 @@ pub enum OpenError {
     /// No section of this name is agreed.
     #[error("no such section is agreed")]
     NoSection,
-    /// The answer's section has no row of this type.
+    /// The answer's section has no row of this type, or one that no stream can carry: of a codec without a payload
+    /// format, or whose RED type is its own type.
     #[error("no row of this type is agreed")]
     RowNotAgreed,
     /// The end's own row of this type is missing or means something else.
@@ -21,7 +22,7 @@ pub enum OpenError {
     /// The sender's section does not name this SSRC.
     #[error("the sender's section does not name this SSRC")]
     SsrcNotNamed,
-    /// A stream of this direction has this SSRC and type.
+    /// A stream of this direction has this SSRC and a type in common with this one, its RED type counted.
     #[error("such a stream is open already")]
     AlreadyOpen,
     /// Out of memory.

@@ -9,7 +9,8 @@ pub enum Received {
     Unreadable,
     /// No receiving stream has its SSRC and payload type.
     Foreign,
-    /// Its padding does not fit, or it has no payload (RFC 3550 5.1).
+    /// Its padding does not fit, or it has no payload (RFC 3550 5.1); or under the RED type its list of blocks can't be
+    /// read, or its primary payload is of another type or has no byte (RFC 2198 3).
     Damaged,
     /// Its number was taken before, or is 128 or more below the greatest one taken.
     Refused,

@@ -35,7 +35,7 @@ pub struct SendCommand {
     pub mtu: usize,
     /// The most bytes of a datagram.
     pub limit: usize,
-    /// How many samples back each redundant block lies (RFC 2198), or none at a dash.
+    /// How many payloads back each redundant block lies (RFC 2198), or none at a dash.
     pub distances: Option<Bytes>,
     /// The first picture id (RFC 7741 4.2), or none at a dash.
     pub picture_id: Option<u16>,

@@ -117,7 +117,7 @@ pub fn answered_rows(
     rows_answering(alloc, config, offer.direction(), offered.as_slice())
 }
 
-/// The section that answers an offered one, with these rows.
+/// The section that answers an offered one: with the rows that answer the offered ones, after the round.
 #[tactic(auto, unfolding(crate::specs::Answered::answered_section))]
 pub fn answered_section(
     alloc: Global,

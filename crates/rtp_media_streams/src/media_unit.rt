@@ -75,7 +75,7 @@ impl Unit {
         self.bytes.as_slice()
     }
 
-    /// The RTP timestamp, in ticks of the row's clock.
+    /// The RTP timestamp, in ticks of the row's clock, of G.722 at 8,000 Hz (RFC 3551 4.5.2).
     pub fn time(&self) -> u32
         ensures { result ≡ self.now.time }
     {

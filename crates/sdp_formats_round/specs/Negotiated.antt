@@ -8,7 +8,7 @@ use Rattle.sdp_formats_format.specs.declared.format.FormatParams.{FormatParams}
 use Rattle.sdp_formats_rows.specs.declared.spec.CodecSpec.{CodecSpec}
 use Rattle.sdp_formats_rows.specs.Scores.{given_265, given_266}
 
--- Telephone events: the lower of both ranges, up to 16 where none is given. RFC 4733 2.4.1 would have 15.
+-- Telephone events: the lower of both ranges, up to 16 where none is given (RFC 4733 2.4.1 has 15).
 abbrev pub events_of : FormatParams → ℕ
 events_of f = unwrap_or f.telephone_event_max 16
 

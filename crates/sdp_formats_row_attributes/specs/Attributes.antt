@@ -58,7 +58,7 @@ given_param f p = listed_param (param_in f p)
 abbrev pub params_of : FormatParams → List FormatParam
 params_of f = flat_map (given_param f) all_params
 
--- Telephone events: their range alone, up to 16 where none is given (RFC 4733 2.4.1).
+-- Telephone events: their range alone, up to 16 where none is given (RFC 4733 2.4.1 has 15).
 abbrev pub params_in : CodecSpec → List FormatParam
 params_in spec =
     if is_tele_codec spec.codec then param.TelephoneEvents (unwrap_or spec.format.telephone_event_max 16) ∷ []

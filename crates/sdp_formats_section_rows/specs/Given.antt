@@ -60,7 +60,7 @@ is_unsupported _ = false
 unfoldable pub is_declined : ℕ → MediaAttribute → Bool
 is_declined pt a = list_any is_unsupported (values_for pt a)
 
--- Telephone events: one line of a bare range `0-X`, or none, which is up to 16 (RFC 4733 2.4.1).
+-- Telephone events: one line of a bare range `0-X`, or none, which is up to 16 (RFC 4733 2.4.1 has 15).
 abbrev pub events_in : List FormatParam → Option ℕ
 events_in (BareRange most ∷ []) = Some most
 events_in (TelephoneEvents most ∷ []) = Some most

@@ -107,8 +107,8 @@ impl CodecConfig {
         rows_of_kind(alloc, kind, for_new_offer, self.params.as_slice())
     }
 
-    /// The highest telephone event of the first row of this type that is of telephone events, 16 where it gives none;
-    /// RFC 4733 2.4.1 would have 15.
+    /// The highest telephone event of the first row of this type that is of telephone events, 16 where it gives none
+    /// (RFC 4733 2.4.1 has 15).
     pub fn tele_event_max(&self, pt: Pt) -> Option<u8>
         ensures { result ≡ option_map (λ row. events_of row.spec.format)
             (find (λ row. row.pt == pt && is_tele_codec row.spec.codec) self.now.rows) }
