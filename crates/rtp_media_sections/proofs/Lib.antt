@@ -1,1 +1,2 @@
+mod ExtmapLemmas
 mod Named

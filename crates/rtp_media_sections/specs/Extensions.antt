@@ -1,7 +1,7 @@
 -- The header extensions that sections list (RFC 8285 5 and 8).
-use Rattle.std.specs.Prelude.{ℕ, ◌-◌, ◌&&◌, ◌==◌, nat_le, Bool, false, not, List, map, filter, fold, slice_set, is_some}
+use Rattle.std.specs.Prelude.{ℕ, ◌-◌, ◌≡◌, ◌≤◌, Option, None, slice_index_or, ◌&&◌, ◌==◌, nat_le, Bool, false, not, List, map, filter, fold, slice_set, is_some}
 use Rattle.std.specs.Prelude.{Some, length, if◌then◌else◌}
-use Rattle.std.specs.List.{list_all}
+use Rattle.std.specs.List.{filter_map, last_or, list_all}
 use Rattle.rtp_wire.specs.declared.Extension.{Extension}
 use Rattle.rtp_wire.specs.Iteration.{numbered}
 use Rattle.rtp_wire.specs.Kinds.{uri_of}
@@ -50,3 +50,13 @@ with_line_of exts _ = exts
 -- The map that a section's lines say: of several lines of one number the last counts.
 abbrev pub map_of_lines : List MediaAttribute → Numbering
 map_of_lines attrs = fold with_line_of empty_map attrs
+
+-- The extension that a line gives a number.
+abbrev pub given_to : ℕ → MediaAttribute → Option Extension
+given_to n (ExtMap id ext) = if id == n then Some ext else None
+given_to n _ = None
+
+-- A number from 1 to 16 has the extension of its last line, and none without one.
+abbrev pub LastLinesCount : Type 0
+LastLinesCount = (attrs : List MediaAttribute) (n : ℕ) → 1 ≤ n → n ≤ 16
+    → slice_index_or (map_of_lines attrs) (n - 1) None ≡ last_or None (filter_map (given_to n) attrs)
