@@ -63,8 +63,8 @@ impl Inbox {
         Ok(Inbox { stream, unit: None })
     }
 
-    /// Takes a packet in, by the low 16 bits of its number, its time, marker and payload, and answers `OK`: `number`
-    /// is its widened number, which is recorded. `REFUSED` where that came before, or is 128 or more below the
+    /// Takes a packet in, by the low 16 bits of its number, its time, marker and payload, which may be empty, and
+    /// answers `OK`: `number` is its widened number, which is recorded. `REFUSED` where that came before, or is 128 or more below the
     /// greatest, or `MEMORY`, and nothing has changed.
     pub fn push(
         &mut self,

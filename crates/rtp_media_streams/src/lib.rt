@@ -7,6 +7,7 @@ mod errors;
 mod laws;
 mod media_unit;
 mod payload;
+mod popping;
 mod receiver;
 mod row_format;
 mod sender;

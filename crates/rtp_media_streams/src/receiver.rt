@@ -1,31 +1,30 @@
 //! Receiving streams.
 
-ghost use Rattle.std.specs.Prelude.{◌≡◌, ◌≢◌, ◌<◌, ◌≤◌, IfErr, IfOk, IsOk, MatchOption, None, OnErr, OnOk, OnSome};
-ghost use Rattle.std.specs.Prelude.{Option, Some, true, length};
-ghost use Rattle.std.specs.Prelude.{Ok, Err, [], IfNone};
+ghost use Rattle.std.specs.Prelude.{◌≡◌, ◌≢◌, ◌<◌, ◌≤◌, IfErr, IfNone, IfOk, MatchOption, OnErr, OnOk, OnSome};
+ghost use Rattle.std.specs.Prelude.{[], Err, None, Ok, Some, length, true};
 ghost use Rattle.h26x_payload.specs.Codings.{has_format};
-ghost use Rattle.rtp_wire.specs.Replay.{Window, greatest_in, is_accepted, recorded_in};
+ghost use Rattle.rtp_wire.specs.Replay.{greatest_in, is_accepted, recorded_in};
 ghost use Rattle.rtp_wire.specs.Widening.{widened};
-ghost use Rattle.payload_core_base.specs.Format.{Format};
 ghost use Rattle.payload_core_buffer.specs.Buffered.{pushed};
-ghost use Rattle.payload_core_buffer.specs.Packets.{packet_from};
-ghost use Rattle.rtp_media_schedules.specs.Hearing.{poll_answer, polled};
 ghost use Rattle.payload_core_buffer.specs.Frames.{complete_frames};
-ghost use Rattle.rtp_media_streams.specs.Drains.{drain_answer, drained, drained_receiver, holding};
+ghost use Rattle.payload_core_buffer.specs.Packets.{packet_from};
+ghost use Rattle.rtp_media_schedules.specs.Hearing.{poll_answer};
+ghost use Rattle.rtp_media_streams.specs.Drains.{drain_answer, drained_receiver, holding};
 ghost use Rattle.rtp_media_streams.specs.Polls.{IsInterrupted, IsPolled, IsPolledSome, given};
-ghost use Rattle.rtp_media_streams.specs.Receiving.{opened_receiver, stream_of, with_stream, is_own, conflicts_with};
-ghost use Rattle.rtp_media_streams.specs.Receiving.{media_payload, taken_number, arrived, values_read};
-ghost use Rattle.rtp_media_streams.specs.Receiving.{polled_receiver};
+ghost use Rattle.rtp_media_streams.specs.Receiving.{arrived, conflicts_with, is_own, media_payload, opened_receiver};
+ghost use Rattle.rtp_media_streams.specs.Receiving.{polled_receiver, stream_of, taken_number, values_read};
+ghost use Rattle.rtp_media_streams.specs.Receiving.{with_stream};
 ghost use Rattle.rtp_media_streams.specs.Rows.{format_of};
 
 use crate::codecs::depacketizer_for;
 use crate::errors::PollFault;
 use crate::media_unit::Unit;
 use crate::payload::media_payload;
+use crate::popping::{drain, pop};
 use crate::row_format::RowFormat;
 use crate::types::PayloadTypes;
 use h26x_payload::{CodecDepacketizer, NotBoxed};
-use payload_core_base::{Depacketizer, PacketError};
+use payload_core_base::Depacketizer;
 use payload_core_buffer::{DepacketizingBuffer, RtpMeta};
 use rtp_wire::{
     ExtensionMap, ExtensionValues, Pt, RtpHeader, SeqNo, SeqNoWindow, Ssrc, extend_u16,
@@ -126,111 +125,6 @@ fn hold(
     buffer.push(meta, payload).map_err(|_| AllocError)
 }
 
-/// Hands out the next frame as a unit.
-fn pop(
-    buffer: &mut DepacketizingBuffer<CodecDepacketizer<NotBoxed>>,
-) -> Result<Option<Unit>, PollFault>
-    ensures format { ⟦<CodecDepacketizer<NotBoxed> as Depacketizer>⟧.format buffer.new.depacketizer
-        ≡ ⟦<CodecDepacketizer<NotBoxed> as Depacketizer>⟧.format buffer.old.depacketizer }
-    ensures answer { (window : Option Window) →
-        let old = stream_of window buffer.old
-        (⟦<CodecDepacketizer<NotBoxed> as Depacketizer>⟧.fragment buffer.old.depacketizer) in
-        let format = ⟦<CodecDepacketizer<NotBoxed> as Depacketizer>⟧.format buffer.old.depacketizer in
-        IfOk result (λ unit. given (poll_answer format old) ≡ Ok unit) }
-    ensures after { (window : Option Window) →
-        let old = stream_of window buffer.old
-        (⟦<CodecDepacketizer<NotBoxed> as Depacketizer>⟧.fragment buffer.old.depacketizer) in
-        let new = stream_of window buffer.new
-        (⟦<CodecDepacketizer<NotBoxed> as Depacketizer>⟧.fragment buffer.new.depacketizer) in
-        let format = ⟦<CodecDepacketizer<NotBoxed> as Depacketizer>⟧.format buffer.old.depacketizer in
-        OnOk result (new ≡ polled format old) }
-    ensures fault { (window : Option Window) →
-        let old = stream_of window buffer.old
-        (⟦<CodecDepacketizer<NotBoxed> as Depacketizer>⟧.fragment buffer.old.depacketizer) in
-        let format = ⟦<CodecDepacketizer<NotBoxed> as Depacketizer>⟧.format buffer.old.depacketizer in
-        IfErr result (λ fault. fault ≢ PollFault.Memory → given (poll_answer format old) ≡ Err fault) }
-    ensures behind { (window : Option Window) →
-        let old = stream_of window buffer.old
-        (⟦<CodecDepacketizer<NotBoxed> as Depacketizer>⟧.fragment buffer.old.depacketizer) in
-        let new = stream_of window buffer.new
-        (⟦<CodecDepacketizer<NotBoxed> as Depacketizer>⟧.fragment buffer.new.depacketizer) in
-        let format = ⟦<CodecDepacketizer<NotBoxed> as Depacketizer>⟧.format buffer.old.depacketizer in
-        IfErr result (λ fault. fault ≢ PollFault.Memory → new ≡ polled format old) }
-    ensures memory { (window : Option Window) →
-        let old = stream_of window buffer.old
-        (⟦<CodecDepacketizer<NotBoxed> as Depacketizer>⟧.fragment buffer.old.depacketizer) in
-        let new = stream_of window buffer.new
-        (⟦<CodecDepacketizer<NotBoxed> as Depacketizer>⟧.fragment buffer.new.depacketizer) in
-        let format = ⟦<CodecDepacketizer<NotBoxed> as Depacketizer>⟧.format buffer.old.depacketizer in
-        IfErr result (λ fault. fault ≡ PollFault.Memory → IsInterrupted format old new) }
-    ensures fewer { IfOk result (λ unit. OnSome unit (length buffer.new.held < length buffer.old.held)) }
-    ensures fewer_at_faults { IfErr result (λ fault. fault ≢ PollFault.Memory
-        → length buffer.new.held < length buffer.old.held) }
-{
-    match buffer.pop() {
-        Ok(Some(frame)) => Ok(Some(Unit::from_frame(frame))),
-        Ok(None) => Ok(None),
-        Err(e) => match e {
-            PacketError::Memory => Err(PollFault::Memory),
-            fault => Err(PollFault::Payload(fault)),
-        },
-    }
-}
-
-/// Hands out the lowest complete frame as a unit, whatever is missing before it.
-fn drain(
-    buffer: &mut DepacketizingBuffer<CodecDepacketizer<NotBoxed>>,
-) -> Result<Option<Unit>, PollFault>
-    ensures format { ⟦<CodecDepacketizer<NotBoxed> as Depacketizer>⟧.format buffer.new.depacketizer
-        ≡ ⟦<CodecDepacketizer<NotBoxed> as Depacketizer>⟧.format buffer.old.depacketizer }
-    ensures hold_back { buffer.new.hold_back ≡ buffer.old.hold_back }
-    ensures answer { (window : Option Window) →
-        let old = stream_of window buffer.old
-        (⟦<CodecDepacketizer<NotBoxed> as Depacketizer>⟧.fragment buffer.old.depacketizer) in
-        let format = ⟦<CodecDepacketizer<NotBoxed> as Depacketizer>⟧.format buffer.old.depacketizer in
-        IfOk result (λ unit. given (drain_answer format old) ≡ Ok unit) }
-    ensures after { (window : Option Window) →
-        let old = stream_of window buffer.old
-        (⟦<CodecDepacketizer<NotBoxed> as Depacketizer>⟧.fragment buffer.old.depacketizer) in
-        let new = stream_of window buffer.new
-        (⟦<CodecDepacketizer<NotBoxed> as Depacketizer>⟧.fragment buffer.new.depacketizer) in
-        let format = ⟦<CodecDepacketizer<NotBoxed> as Depacketizer>⟧.format buffer.old.depacketizer in
-        OnOk result (new ≡ drained format old) }
-    ensures none { let format = ⟦<CodecDepacketizer<NotBoxed> as Depacketizer>⟧.format buffer.old.depacketizer in
-        IfOk result (λ unit. IfNone unit (complete_frames format buffer.old.held ≡ [])) }
-    ensures fault { (window : Option Window) →
-        let old = stream_of window buffer.old
-        (⟦<CodecDepacketizer<NotBoxed> as Depacketizer>⟧.fragment buffer.old.depacketizer) in
-        let format = ⟦<CodecDepacketizer<NotBoxed> as Depacketizer>⟧.format buffer.old.depacketizer in
-        IfErr result (λ fault. fault ≢ PollFault.Memory → given (drain_answer format old) ≡ Err fault) }
-    ensures behind { (window : Option Window) →
-        let old = stream_of window buffer.old
-        (⟦<CodecDepacketizer<NotBoxed> as Depacketizer>⟧.fragment buffer.old.depacketizer) in
-        let new = stream_of window buffer.new
-        (⟦<CodecDepacketizer<NotBoxed> as Depacketizer>⟧.fragment buffer.new.depacketizer) in
-        let format = ⟦<CodecDepacketizer<NotBoxed> as Depacketizer>⟧.format buffer.old.depacketizer in
-        IfErr result (λ fault. fault ≢ PollFault.Memory → new ≡ drained format old) }
-    ensures memory { (window : Option Window) →
-        let old = stream_of window buffer.old
-        (⟦<CodecDepacketizer<NotBoxed> as Depacketizer>⟧.fragment buffer.old.depacketizer) in
-        let new = stream_of window buffer.new
-        (⟦<CodecDepacketizer<NotBoxed> as Depacketizer>⟧.fragment buffer.new.depacketizer) in
-        let format = ⟦<CodecDepacketizer<NotBoxed> as Depacketizer>⟧.format buffer.old.depacketizer in
-        IfErr result (λ fault. fault ≡ PollFault.Memory → IsInterrupted format (holding 0 old) (holding 0 new)) }
-    ensures fewer { IfOk result (λ unit. OnSome unit (length buffer.new.held < length buffer.old.held)) }
-    ensures fewer_at_faults { IfErr result (λ fault. fault ≢ PollFault.Memory
-        → length buffer.new.held < length buffer.old.held) }
-{
-    match buffer.drain() {
-        Ok(Some(lowest)) => Ok(Some(Unit::from_frame(lowest))),
-        Ok(None) => Ok(None),
-        Err(e) => match e {
-            PacketError::Memory => Err(PollFault::Memory),
-            fault => Err(PollFault::Payload(fault)),
-        },
-    }
-}
-
 impl ReceivingStream {
     /// A stream of this SSRC, these payload types, this map of header extensions and this row that heard
     /// nothing. Past a missing packet a frame is handed out only once more than `hold_back` frames are
@@ -278,6 +172,9 @@ impl ReceivingStream {
     /// What a datagram of its own brings it: the payload without padding (RFC 3550 5.1) and, under the
     /// RED type, without redundancy (RFC 2198). None where the padding doesn't fit, redundancy can't be
     /// read, or its primary payload has another type.
+    ///
+    /// # Conditions
+    /// The header ends at the datagram's end or before it.
     pub fn media_payload<'a>(&self, header: &RtpHeader, datagram: &'a [u8]) -> Option<&'a [u8]>
         requires { header.now.header_len ≤ length datagram.now }
         ensures { MatchOption result (media_payload self.now.types header.now datagram.now ≡ None)
@@ -299,7 +196,11 @@ impl ReceivingStream {
 
     /// Takes one datagram of its own in, by the 16 bits of its sequence number, its timestamp, its marker,
     /// the values of its header extensions and its payload, and answers its widened
-    /// number; None where that is refused.
+    /// number; None where that is refused. The payload may be empty: it is then held as any other, and its format
+    /// says at a poll what it makes of it.
+    ///
+    /// # Errors
+    /// Out of memory for the packet, which changes nothing.
     pub fn receive(
         &mut self,
         low: u16,
@@ -374,7 +275,10 @@ impl ReceivingStream {
     }
 
     /// Polls until no unit is ready or memory for one runs out, and answers what the polls answered, in
-    /// order. Where memory for that list runs out, what was polled is lost, and nothing else changes.
+    /// order.
+    ///
+    /// # Errors
+    /// Out of memory for that list: what was polled is lost, and nothing else changes.
     pub fn poll_all(&mut self) -> Result<Vec<Result<Unit, PollFault>>, AllocError>
         ensures polled { IfOk result (λ answers. IsPolled (format_of self.old.row) self.old.stream answers.items
             self.new.stream) }
@@ -386,13 +290,11 @@ impl ReceivingStream {
             match self.poll() {
                 Ok(None) => return Ok(answers),
                 Ok(Some(unit)) => answers.push(Ok(unit))?,
-                Err(fault) => match fault {
-                    PollFault::Memory => {
-                        answers.push(Err(PollFault::Memory))?;
-                        return Ok(answers);
-                    }
-                    fault => answers.push(Err(fault))?,
-                },
+                Err(PollFault::Payload(error)) => answers.push(Err(PollFault::Payload(error)))?,
+                Err(PollFault::Memory) => {
+                    answers.push(Err(PollFault::Memory))?;
+                    return Ok(answers);
+                }
             }
         }
     }

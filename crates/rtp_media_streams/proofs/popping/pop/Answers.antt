@@ -4,7 +4,7 @@ use Rattle.rtp_media_streams.specs.Polls.{PollResult, given}
 use Rattle.rtp_media_streams.specs.Receiving.{stream_of}
 use Rattle.rtp_media_streams.proofs.Polling.{fault_answer, fault_fewer, fault_stream, handed_answer, handed_stream}
 use Rattle.rtp_media_streams.proofs.Polling.{interrupted, poll_none, polled_none}
-use Rattle.rtp_media_streams.proofs.receiver.pop.Goals as goal
+use Rattle.rtp_media_streams.proofs.popping.pop.Goals as goal
 
 pub returns-in-Ok-Some-clause-answer : goal.returns-in-Ok-Some-clause-answer
 returns-in-Ok-Some-clause-answer c = λ window.
