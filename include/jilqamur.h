@@ -521,9 +521,9 @@ uint32_t jilqamur_receiver_open(jilqamur_receiver *receiver, const jilqamur_form
 /* Frees the stream: JILQAMUR_OK, or JILQAMUR_CLOSED where the handle is closed. It is closed afterwards. */
 uint32_t jilqamur_receiver_close(jilqamur_receiver *receiver);
 
-/* Takes a packet in, by what jilqamur_header_read says of its datagram, and its payload of len bytes without padding,
- * which is not to be empty: JILQAMUR_OK, and number is its widened sequence number. JILQAMUR_REFUSED where that came
- * before, or is 128 or more below the greatest, or JILQAMUR_MEMORY, and the stream is unchanged. */
+/* Takes a packet in, by what jilqamur_header_read says of its datagram, and its payload of len bytes without padding:
+ * JILQAMUR_OK, and number is its widened sequence number. JILQAMUR_REFUSED where that came before, or is 128 or more
+ * below the greatest, or JILQAMUR_MEMORY, and the stream is unchanged. */
 uint32_t jilqamur_receiver_push(jilqamur_receiver *receiver, uint16_t sequence_number, uint32_t timestamp, bool marker,
                                 const uint8_t *payload, size_t len, uint64_t *number);
 
