@@ -1,10 +1,9 @@
 -- Faults of a section.
-use Rattle.std.specs.Prelude.{ℕ, ◌==◌, Bool, true, false, not, ◌&&◌, ◌||◌, List, Option, Some, None, is_none, is_some}
+use Rattle.std.specs.Prelude.{ℕ, ◌==◌, Bool, true, false, not, ◌&&◌, ◌||◌, List, Option, Some, None, is_none}
 use Rattle.std.specs.Prelude.{count_by, nat_lt, length, if◌then◌else◌}
 use Rattle.std.specs.List.{list_all, list_any}
 use Rattle.sdp_formats_params.specs.declared.FormatParam.{FormatParam}
 use Rattle.sdp_formats_params.specs.declared.FormatParam.TheVariants.{Apt}
-use Rattle.sdp_formats_rows.specs.Codecs.{static_spec}
 use Rattle.sdp_formats_types.specs.Media.{is_direction, is_mid, is_rtp}
 use Rattle.sdp_formats_consistency.specs.declared.faults.Counted.{Counted}
 use Rattle.sdp_formats_consistency.specs.declared.faults.Counted.TheVariants as counted
@@ -37,7 +36,7 @@ maps_type pt _ = false
 
 -- A payload type with a meaning of its own: G.711, G.722 and comfort noise (RFC 3551 6).
 abbrev pub is_static : ℕ → Bool
-is_static pt = is_some (static_spec pt)
+is_static pt = (pt == 0) || ((pt == 8) || ((pt == 9) || (pt == 13)))
 
 -- Mapped once, or not at all where it has a meaning of its own.
 abbrev pub is_mapped : List MediaAttribute → ℕ → Bool

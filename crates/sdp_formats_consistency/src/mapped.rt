@@ -5,7 +5,6 @@ ghost use Rattle.sdp_formats_consistency.specs.Consistency.{are_mapped, is_mappe
 ghost use Rattle.sdp_formats_consistency.specs.Known.{KnowsMapped};
 
 use rtp_wire::Pt;
-use sdp_formats_rows::CodecSpec;
 use sdp_formats_types::MediaAttribute;
 
 /// Does it map this payload type?
@@ -22,7 +21,8 @@ fn maps_type(pt: Pt, attribute: &MediaAttribute) -> bool
 fn is_static(pt: Pt) -> bool
     ensures { result ≡ is_static pt }
 {
-    CodecSpec::from_static_pt(pt).is_some()
+    let number = pt.get();
+    number == 0 || number == 8 || number == 9 || number == 13
 }
 
 /// How many lines map this payload type.

@@ -43,3 +43,4 @@ pub mod RowsSame
 pub mod RowLines
 pub mod RowTexts
 pub mod SaysSame
+pub mod StaticTypes

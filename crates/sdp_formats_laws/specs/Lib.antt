@@ -9,3 +9,4 @@ pub mod Keyed
 pub mod Parameters
 pub mod RowsBack
 pub mod Rows
+pub mod StaticTypes

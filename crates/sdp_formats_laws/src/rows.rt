@@ -2,6 +2,7 @@
 
 ghost use Rattle.sdp_formats_laws.specs.Rows.{ReadRowsAreRows, ReadSectionsSayTheSame, RowTextsComeBack};
 ghost use Rattle.sdp_formats_laws.specs.Rows.{RowsArePrintable};
+ghost use Rattle.sdp_formats_laws.specs.StaticTypes.{StaticTypesAgree};
 
 use crate::parameters::{links_law, plain_parameters_law};
 use crate::rows_back::plain_rows_come_back;
@@ -36,3 +37,9 @@ pub fn row_texts_law()
     row_lines_law();
     read_rows_law();
 }
+
+/// The payload types that a section may list without a line `a=rtpmap` are those that have a codec of their own (RFC 3551
+/// 6).
+pub fn static_types_law()
+    ensures { StaticTypesAgree }
+{}
