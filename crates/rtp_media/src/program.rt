@@ -1,8 +1,10 @@
 //! The program of lines over two ends.
 
-ghost use Rattle.std.specs.Prelude.{◌≡◌, ℕ, List, [], ◌∷◌, IfOk, OnOk, None};
+ghost use Rattle.std.specs.Prelude.{◌≡◌, ℕ, List, [], ◌∷◌, IfOk, IfSome, OnErr, OnOk, None};
 ghost use Rattle.std.specs.Io.KnownBytes.{Appends, Consumes, IsAtEnd};
+ghost use Rattle.rtp_media_input.specs.Input.{lines_of};
 ghost use Rattle.rtp_media_input.specs.Runs.{Printed, ReadsAll};
+ghost use Rattle.rtp_media_input.specs.Stops.{WritesFront};
 ghost use Rattle.rtp_media_lines.specs.declared.line.Command.{Command};
 ghost use Rattle.rtp_media.specs.Exchanging.{empty_draft};
 ghost use Rattle.rtp_media.specs.Playing.{PlaysEnds};
@@ -206,7 +208,7 @@ fn fix(alloc: Global, end: &mut Option<End>, _letter: Letter) -> Result<Vec<Repl
 ///
 /// # Errors
 /// At the first read or write that fails, where the input doesn't end within 16,777,216 reads, and
-/// where memory for a line or its replies runs out.
+/// where memory for a line or its replies runs out. What is written then is a front of the replies to the first lines.
 pub fn run<R: Read, W: Write>(
     alloc: Global,
     reader: &mut R,
@@ -215,6 +217,8 @@ pub fn run<R: Read, W: Write>(
     ensures read { IfOk result (λ status. (input : List ℕ) × (ends : Rattle.rtp_media.specs.ProgramState.ProgramState) ×
         ReadsAll (R.remaining reader.old) (R.remaining reader.new) input
         × Printed AnswersCommand initial_state ends (W.contents writer.old) (W.contents writer.new) input status) }
+    ensures stopped { OnErr result (IfSome (R.remaining reader.old) (λ input. WritesFront AnswersCommand initial_state
+        (W.contents writer.old) (W.contents writer.new) (lines_of input))) }
 {
     let mut program = Program {
         a: EndAndDraft::clear(alloc),

@@ -42,7 +42,7 @@ status_of-append first others =
 
 -- ---- replies
 
-texts-append : (first others : List Reply) → flat_map reply_text first ++ flat_map reply_text others
+pub texts-append : (first others : List Reply) → flat_map reply_text first ++ flat_map reply_text others
     ≡ flat_map reply_text (first ++ others)
 texts-append first others = sym (flat_map-append reply_text first others)
 
@@ -127,7 +127,7 @@ module _ {S : Type 0} (gives : S → Command → S → List Reply → Type 0) wh
   }
 
   -- the lines of all that was seen
-  whole : {start state : S} {before after held : Option (List ℕ)} {seen : List ℕ} {status : Status}
+  pub whole : {start state : S} {before after held : Option (List ℕ)} {seen : List ℕ} {status : Status}
       (p : Progress gives start before seen state after held status)
       → lines_of seen ≡ p.ended ++ lines_of p.tail
   whole {seen = seen} p =

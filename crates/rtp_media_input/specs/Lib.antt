@@ -2,4 +2,5 @@ pub mod Input
 pub mod Progress
 pub mod Runs
 pub mod Statuses
+pub mod Stops
 pub mod Writes

@@ -1,11 +1,13 @@
 //! Runs of the program: lines in, replies out.
 
-ghost use Rattle.std.specs.Prelude.{◌≡◌, ℕ, List, [], ◌∷◌, IfOk, IfSome};
+ghost use Rattle.std.specs.Prelude.{◌≡◌, ℕ, List, [], ◌∷◌, IfOk, IfSome, OnErr};
 ghost use Rattle.std.specs.List.{list_any};
 ghost use Rattle.std.specs.Option.{option_copied};
 ghost use Rattle.rtp_media_input.specs.Runs.{Answers, Printed, ReadsAll, status_of};
 ghost use Rattle.rtp_media_lines.specs.Replies.{is_error_line};
+ghost use Rattle.rtp_media_input.specs.Input.{lines_of};
 ghost use Rattle.rtp_media_input.specs.Progress.{PrintedOne, GoesOn, Ends};
+ghost use Rattle.rtp_media_input.specs.Stops.{StoppedOne, StopsAtEnd, StopsIn, WritesFront};
 
 use crate::line_buffer::LineBuffer;
 use crate::respond::Respond;
@@ -71,7 +73,9 @@ fn answer_line<W: Write, A: Respond>(
     responder: &mut A,
     writer: &mut W,
 ) -> Result<Status, RunFault>
-    ensures { IfOk result (PrintedOne A.gives responder.old (option_copied line.entry) responder.new
+    ensures printed { IfOk result (PrintedOne A.gives responder.old (option_copied line.entry) responder.new
+        (W.contents writer.old) (W.contents writer.new)) }
+    ensures stopped { OnErr result (StoppedOne A.gives responder.old (option_copied line.entry)
         (W.contents writer.old) (W.contents writer.new)) }
 {
     let replies = replies_to(alloc, line, responder)?;
@@ -89,8 +93,10 @@ fn take_byte<W: Write, A: Respond>(
     responder: &mut A,
     writer: &mut W,
 ) -> Result<Status, RunFault>
-    ensures { IfOk result (λ later. GoesOn A.gives (byte ∷ []) responder.old (W.contents writer.old) line.old status
-        responder.new (W.contents writer.new) line.new later) }
+    ensures goes_on { IfOk result (λ later. GoesOn A.gives (byte ∷ []) responder.old (W.contents writer.old) line.old
+        status responder.new (W.contents writer.new) line.new later) }
+    ensures stopped { OnErr result (StopsIn A.gives (byte ∷ []) responder.old (W.contents writer.old) line.old
+        status (W.contents writer.new)) }
 {
     if byte != b'\n' {
         line.push(byte)?;
@@ -110,8 +116,10 @@ fn take_piece<W: Write, A: Respond>(
     responder: &mut A,
     writer: &mut W,
 ) -> Result<Status, RunFault>
-    ensures { IfOk result (λ later. GoesOn A.gives piece.now responder.old (W.contents writer.old) line.old status
-        responder.new (W.contents writer.new) line.new later) }
+    ensures goes_on { IfOk result (λ later. GoesOn A.gives piece.now responder.old (W.contents writer.old) line.old
+        status responder.new (W.contents writer.new) line.new later) }
+    ensures stopped { OnErr result (StopsIn A.gives piece.now responder.old (W.contents writer.old) line.old
+        status (W.contents writer.new)) }
 {
     let mut status = status;
     for byte in piece {
@@ -128,8 +136,10 @@ fn take_end<W: Write, A: Respond>(
     responder: &mut A,
     writer: &mut W,
 ) -> Result<Status, RunFault>
-    ensures { IfOk result (λ later. Ends A.gives responder.old (W.contents writer.old) line.now status responder.new
-        (W.contents writer.new) later) }
+    ensures ends { IfOk result (λ later. Ends A.gives responder.old (W.contents writer.old) line.now status
+        responder.new (W.contents writer.new) later) }
+    ensures stopped { OnErr result (StopsAtEnd A.gives responder.old (W.contents writer.old) line.now status
+        (W.contents writer.new)) }
 {
     if line.is_empty() {
         return Ok(status);
@@ -145,7 +155,7 @@ fn take_end<W: Write, A: Respond>(
 ///
 /// # Errors
 /// At the first read or write that fails, where the input doesn't end within [`MAX_READS`]
-/// reads, and where memory runs out.
+/// reads, and where memory runs out. What is written then is a front of the replies to the first lines.
 pub fn run_lines<R: Read, W: Write, A: Respond>(
     alloc: Global,
     reader: &mut R,
@@ -157,6 +167,8 @@ pub fn run_lines<R: Read, W: Write, A: Respond>(
         × Printed A.gives responder.old responder.new (W.contents writer.old) (W.contents writer.new) input status) }
     ensures known { IfOk result (λ status. IfSome (R.remaining reader.old) (λ input.
         Printed A.gives responder.old responder.new (W.contents writer.old) (W.contents writer.new) input status)) }
+    ensures stopped { OnErr result (IfSome (R.remaining reader.old) (λ input.
+        WritesFront A.gives responder.old (W.contents writer.old) (W.contents writer.new) (lines_of input))) }
 {
     run_within(alloc, MAX_READS, reader, writer, responder)
 }
@@ -172,8 +184,11 @@ pub fn run_within<R: Read, W: Write, A: Respond>(
     writer: &mut W,
     responder: &mut A,
 ) -> Result<Status, RunFault>
-    ensures { IfOk result (λ status. (input : List ℕ) × ReadsAll (R.remaining reader.old) (R.remaining reader.new) input
+    ensures read { IfOk result (λ status. (input : List ℕ)
+        × ReadsAll (R.remaining reader.old) (R.remaining reader.new) input
         × Printed A.gives responder.old responder.new (W.contents writer.old) (W.contents writer.new) input status) }
+    ensures stopped { OnErr result (IfSome (R.remaining reader.old) (λ input.
+        WritesFront A.gives responder.old (W.contents writer.old) (W.contents writer.new) (lines_of input))) }
 {
     let mut piece = [0u8; PIECE_LENGTH];
     let mut line = LineBuffer::new(alloc);
