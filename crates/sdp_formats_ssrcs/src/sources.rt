@@ -85,10 +85,7 @@ fn push_repairing(
 /// # Errors
 ///
 /// `AllocError` where memory runs out.
-pub fn sources_of(
-    alloc: Global,
-    attributes: &[MediaAttribute],
-) -> Result<Vec<Ssrc>, AllocError>
+pub fn sources_of(alloc: Global, attributes: &[MediaAttribute]) -> Result<Vec<Ssrc>, AllocError>
     ensures { IfOk result (λ sources. sources.items ≡ sources_of attributes.now) }
 {
     let mut sources = Vec::new(alloc);
