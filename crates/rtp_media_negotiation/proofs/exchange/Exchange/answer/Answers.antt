@@ -1,10 +1,15 @@
-use Rattle.std.proofs.Common.{◌≡◌, None, Ok, map, subst, arith}
+use Rattle.std.proofs.Common.{◌≡◌, ◌∙◌, ℕ, List, None, Ok, map, ap, subst, arith}
 use Rattle.std.proofs.lemmas.Grind.{common_steps}
 use Rattle.std.specs.Prelude.{IsTrue, string_bytes}
+use Rattle.rtp_wire.specs.Values.{Numbering}
 use Rattle.sdp_formats_round.specs.Laws.{rounds}
+use Rattle.sdp_formats_rows.specs.Rows.{Row}
 use Rattle.sdp_formats_types.specs.PrintedSession.{sdp_text}
+use Rattle.sdp_formats_types.specs.declared.media.MediaLine.{MediaLine}
+use Rattle.sdp_formats_types.specs.declared.session.Session.{Session}
 use Rattle.rtp_media_sections.specs.Lines.{remote_of, shape_of_line}
-use Rattle.rtp_media_sections.specs.Sections.{correspond, shape_of}
+use Rattle.rtp_media_sections.specs.Sections.{Wanted, correspond, shape_of}
+use Rattle.rtp_media_negotiation.specs.Exchanges.{Exchanged}
 use Rattle.rtp_media_negotiation.specs.Offers.{answer_of}
 use Rattle.rtp_media_negotiation.specs.Refusals.{IsUnwritable, refusal_of_answer}
 use Rattle.rtp_media_negotiation.specs.Says.{SaysOnly}
@@ -40,13 +45,29 @@ returns-in-Err-clause-refused c =
       },
     ))
 
+abbrev said : Exchanged → List Row → Session → Numbering → List Wanted → List MediaLine → List ℕ
+said x rows s e w o = sdp_text (answer_of (record x { session = s; wanted = e }) rows w o)
+
+-- what an answer says hangs on session, header extensions, rows, sections and offer alone
+same_answer : (x : Exchanged) (rows : List Row) (s t : Session) (e f : Numbering) (w v : List Wanted)
+    (o p : List MediaLine) → s ≡ t → e ≡ f → w ≡ v → o ≡ p → said x rows s e w o ≡ said x rows t f v p
+same_answer x rows s t e f w v o p same_s same_e same_w same_o = ap (λ s. said x rows s e w o) same_s
+    ∙ (ap (λ e. said x rows t e w o) same_e ∙ (ap (λ w. said x rows t f w o) same_w
+    ∙ ap (λ o. said x rows t f v o) same_o))
+
 pub returns-clause-text : goal.returns-clause-text
 unfolding answer_of
 returns-clause-text c =
     let rounds_are : rounds (map remote_of c.in_ok-offer.offer.items) c.args.self.now.config.rows
     ≡ Ok c.in_ok-config.config.rows = grind (arith, common_steps) in
+    let session_is : c.self.inside.session ≡ c.args.self.now.session = grind (arith, common_steps) in
+    let exts_are : c.self.inside.exts ≡ c.args.self.now.wanted = grind (arith, common_steps) in
+    let wanted_are : c.as_slice-3.result.now ≡ c.args.sections.items = grind (arith, common_steps) in
+    let offer_is : c.as_slice-4.result.now ≡ c.in_ok-offer.offer.items = grind (arith, common_steps) in
     let text_is : string_bytes c.in_ok-answer.answer ≡ sdp_text (answer_of c.args.self.now c.in_ok-config.config.rows
-    c.args.sections.items c.in_ok-offer.offer.items) = grind (arith, common_steps) in
+    c.args.sections.items c.in_ok-offer.offer.items) = c.in_ok-answer.ensures
+    ∙ same_answer c.args.self.now c.in_ok-config.config.rows _ _ _ _ _ _ _ _ session_is exts_are wanted_are
+    offer_is in
     let sections : c.as_slice-5.result.now ≡ c.args.sections.items = grind (arith, common_steps) in
     record {
       offer = c.in_ok-offer.offer.items;
