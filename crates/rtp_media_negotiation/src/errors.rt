@@ -15,8 +15,8 @@ pub enum EndError {
     /// A payload type stands for two things: it stood before as a type, a type of retransmissions or a RED type.
     #[error("payload type {0} stands for two things")]
     TypesNotDistinct(Pt),
-    /// The URI of a header extension is empty or has a blank or a line end; or the session can't be written: the line of
-    /// its bandwidth isn't read as that bandwidth, or an attribute is a group, or its line is read neither as that
+    /// The URI of a header extension is empty or has a blank or a line end; or the session can't be written: the line
+    /// of its bandwidth isn't read as that bandwidth, or an attribute is a group, or its line is read neither as that
     /// attribute nor as one of no known kind.
     #[error("the session can't be written")]
     NotWritable,

@@ -1,5 +1,6 @@
 -- The header extensions that sections list (RFC 8285 5 and 8).
-use Rattle.std.specs.Prelude.{ℕ, ◌-◌, ◌≡◌, ◌≤◌, Option, None, slice_index_or, ◌&&◌, ◌==◌, nat_le, Bool, false, not, List, map, filter, fold, slice_set, is_some}
+use Rattle.std.specs.Prelude.{ℕ, ◌-◌, ◌≡◌, ◌≤◌, Option, None, slice_index_or, ◌&&◌, ◌==◌}
+use Rattle.std.specs.Prelude.{nat_le, Bool, false, not, List, map, filter, fold, slice_set, is_some}
 use Rattle.std.specs.Prelude.{Some, length, if◌then◌else◌}
 use Rattle.std.specs.List.{filter_map, last_or, list_all}
 use Rattle.rtp_wire.specs.declared.Extension.{Extension}

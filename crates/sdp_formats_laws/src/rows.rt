@@ -38,8 +38,8 @@ pub fn row_texts_law()
     read_rows_law();
 }
 
-/// The payload types that a section may list without a line `a=rtpmap` are those that have a codec of their own (RFC 3551
-/// 6).
+/// The payload types that a section may list without a line `a=rtpmap` are those that have a codec of their own
+/// (RFC 3551 6).
 pub fn static_types_law()
     ensures { StaticTypesAgree }
 {}

@@ -37,7 +37,8 @@ impl CodecConfig {
     /// Each row meets the row of the other end that matches it best, the last of the greatest score. A locked row keeps
     /// its types and takes what the match leaves of its settings. Another one takes over the other end's type and that
     /// of its retransmissions, and its RED type if it has one itself; where the other end doesn't receive, an own or a
-    /// free type replaces one that is claimed. Rows that no row matches stay, and move away from the types of locked rows.
+    /// free type replaces one that is claimed. Rows that no row matches stay, and move away from the types of
+    /// locked rows.
     ///
     /// # Errors
     ///
