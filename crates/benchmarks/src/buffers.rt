@@ -8,7 +8,7 @@ use std::alloc::Global;
 /// Pushes the packets of a sample into a buffer so often, the last with the marker, and pops its unit each time;
 /// answers
 /// how many units came, and their bytes.
-pub fn through<D: Depacketizer + Drop>(
+pub(crate) fn through<D: Depacketizer + Drop>(
     alloc: Global,
     depacketizer: D,
     packets: &[Vec<u8>],
@@ -51,7 +51,7 @@ fn push(
 
 /// A buffer that has handed out number 0 and holds the next `waiting` even numbers, which wait for the odd
 /// ones between them.
-pub fn filled(
+pub(crate) fn filled(
     alloc: Global,
     waiting: u32,
 ) -> Result<DepacketizingBuffer<OpusDepacketizer>, PacketError> {
@@ -65,7 +65,7 @@ pub fn filled(
 }
 
 /// Pushes the even numbers above those, and pops after each; answers how many units came.
-pub fn turn(
+pub(crate) fn turn(
     buffer: &mut DepacketizingBuffer<OpusDepacketizer>,
     waiting: u32,
     rounds: u32,

@@ -8,10 +8,10 @@ use rtp_wire::ExtensionValues;
 use std::alloc::{AllocError, Global};
 
 /// The limit of a payload in bytes.
-pub const LIMIT: usize = 1200;
+pub(crate) const LIMIT: usize = 1200;
 
 /// Sends a sample so often.
-pub fn send<P: Packetizer + Drop, S: PacketSink>(
+pub(crate) fn send<P: Packetizer + Drop, S: PacketSink>(
     alloc: Global,
     packetizer: P,
     sink: &mut S,
@@ -27,7 +27,7 @@ pub fn send<P: Packetizer + Drop, S: PacketSink>(
 }
 
 /// Reads the packets of a sample so often; answers how many were read, and what they gave.
-pub fn receive<D: Depacketizer>(
+pub(crate) fn receive<D: Depacketizer>(
     alloc: Global,
     depacketizer: &mut D,
     packets: &[Vec<u8>],
@@ -48,7 +48,11 @@ pub fn receive<D: Depacketizer>(
 
 /// The simplest reader, beside which others are measured: what the packets hold is put into one fragment, and that into
 /// what is handed out, so often; answers how many were read, and what they gave.
-pub fn copy_twice(alloc: Global, packets: &[Vec<u8>], rounds: u32) -> Result<Tally, AllocError> {
+pub(crate) fn copy_twice(
+    alloc: Global,
+    packets: &[Vec<u8>],
+    rounds: u32,
+) -> Result<Tally, AllocError> {
     let mut tally = Tally::new();
     let mut fragment = Vec::new(alloc);
     let mut out = Vec::new(alloc);
@@ -65,7 +69,7 @@ pub fn copy_twice(alloc: Global, packets: &[Vec<u8>], rounds: u32) -> Result<Tal
 }
 
 /// Reads a packet of redundant payloads so often; answers how many payloads it gave, and their bytes.
-pub fn receive_redundant(packet: &[u8], rounds: u32) -> Result<Tally, PacketError> {
+pub(crate) fn receive_redundant(packet: &[u8], rounds: u32) -> Result<Tally, PacketError> {
     let mut tally = Tally::new();
     for _ in 0..rounds {
         for block in RedDecoder::decode(packet)? {

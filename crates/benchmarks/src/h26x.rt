@@ -70,7 +70,7 @@ fn cut(rt: &HostRuntime) -> anyhow::Result<()> {
 }
 
 /// Each format, with decoding order numbers too, and cutting.
-pub fn measure(rt: &HostRuntime) -> anyhow::Result<()> {
+pub(crate) fn measure(rt: &HostRuntime) -> anyhow::Result<()> {
     h264(rt)?;
     h265(rt, "H.265", false)?;
     h265(rt, "H.265 with DONL", true)?;

@@ -126,7 +126,7 @@ fn both_ways(
 }
 
 /// Copies, headers without extensions and with four, and a window.
-pub fn measure(rt: &HostRuntime) -> io::Result<()> {
+pub(crate) fn measure(rt: &HostRuntime) -> io::Result<()> {
     let start = Instant::now(rt)?;
     let (count, bytes) = copied(&[255; 64], 32);
     let time = start.elapsed(rt)?;

@@ -8,15 +8,15 @@ use rtp_wire::ExtensionValues;
 /// A place for one payload, into which each is copied, and how many there were. It sums one byte of each, another one
 /// each time, so that no copy can be left out.
 #[derive(Drop)]
-pub struct Line {
+pub(crate) struct Line {
     place: [u8; LIMIT],
-    pub sum: u64,
-    pub tally: Tally,
+    pub(crate) sum: u64,
+    pub(crate) tally: Tally,
 }
 
 impl Line {
     /// Nothing was taken.
-    pub fn new() -> Self {
+    pub(crate) fn new() -> Self {
         Line {
             place: [0; LIMIT],
             sum: 0,

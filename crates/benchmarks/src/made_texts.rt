@@ -48,7 +48,7 @@ fn measure_one(rt: &HostRuntime, what: &str, text: &str) -> anyhow::Result<()> {
 }
 
 /// Each kind of text, read with its rows.
-pub fn measure(rt: &HostRuntime) -> anyhow::Result<()> {
+pub(crate) fn measure(rt: &HostRuntime) -> anyhow::Result<()> {
     let alloc = rt.alloc();
     let text = made(alloc, 50_000, "a=x\r\n", 20_000)?;
     measure_one(rt, "one type listed again", text.as_str())?;

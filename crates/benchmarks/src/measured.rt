@@ -9,7 +9,7 @@ use std::io;
 use std::time::{Duration, Instant};
 
 /// Prints how many packets of a format were sent or read, and the time that it took.
-pub fn report(
+pub(crate) fn report(
     rt: &HostRuntime,
     format: &str,
     way: &str,
@@ -29,7 +29,7 @@ pub fn report(
 }
 
 /// Sends a sample of a format, reads its packets, and has them go through a buffer, so often.
-pub fn both_ways<P: Packetizer + Drop, D: Depacketizer + Drop>(
+pub(crate) fn both_ways<P: Packetizer + Drop, D: Depacketizer + Drop>(
     rt: &HostRuntime,
     format: &str,
     sample: &[u8],

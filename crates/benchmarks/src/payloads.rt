@@ -138,7 +138,7 @@ fn buffer(rt: &HostRuntime, waiting: u32) -> anyhow::Result<()> {
 }
 
 /// Every payload format but H.26x, and the buffer.
-pub fn measure(rt: &HostRuntime) -> anyhow::Result<()> {
+pub(crate) fn measure(rt: &HostRuntime) -> anyhow::Result<()> {
     audio(rt)?;
     speech(rt, "AMR-WB octet-aligned", true)?;
     speech(rt, "AMR-WB bandwidth-efficient", false)?;

@@ -19,7 +19,11 @@ fn push_unit(text: &mut Vec<u8>, header: &[u8], size: u32) -> Result<(), AllocEr
 }
 
 /// An access unit of parameter sets of these headers and four slices of this one, some 12,000 bytes.
-pub fn access_unit(alloc: Global, sets: &[&[u8]], slice: &[u8]) -> Result<Vec<u8>, AllocError> {
+pub(crate) fn access_unit(
+    alloc: Global,
+    sets: &[&[u8]],
+    slice: &[u8],
+) -> Result<Vec<u8>, AllocError> {
     let mut text = Vec::new(alloc);
     for header in sets {
         push_unit(&mut text, header, SET)?;

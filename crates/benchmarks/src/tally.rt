@@ -7,14 +7,14 @@ use rtp_wire::ExtensionValues;
 
 /// How many payloads there were, and how many bytes; both wrap at 64 bits.
 #[derive(Clone, Copy, Debug, Drop)]
-pub struct Tally {
-    pub packets: u64,
-    pub bytes: u64,
+pub(crate) struct Tally {
+    pub(crate) packets: u64,
+    pub(crate) bytes: u64,
 }
 
 impl Tally {
     /// Nothing was counted.
-    pub fn new() -> Self
+    pub(crate) fn new() -> Self
         ensures packets { result.packets ≡ 0 }
         ensures bytes { result.bytes ≡ 0 }
     {
@@ -25,7 +25,7 @@ impl Tally {
     }
 
     /// Counts so many payloads, which have so many bytes together.
-    pub fn add(&mut self, packets: usize, bytes: usize)
+    pub(crate) fn add(&mut self, packets: usize, bytes: usize)
         ensures packets { self.new.packets ≡ (self.old.packets + packets) % 2 ^ 64 }
         ensures bytes { self.new.bytes ≡ (self.old.bytes + bytes) % 2 ^ 64 }
     {

@@ -29,7 +29,7 @@ fn printed(alloc: Global, sdp: &Sdp) -> Result<usize, AllocError> {
 }
 
 /// Prints how many bytes went through in this time.
-pub fn report(rt: &HostRuntime, what: &str, bytes: usize, time: Duration) -> io::Result<()> {
+pub(crate) fn report(rt: &HostRuntime, what: &str, bytes: usize, time: Duration) -> io::Result<()> {
     println!(*rt; "{what}: {bytes} bytes")?;
     let micros = time.as_micros().max(1);
     let rate = bytes as u128 / micros;
@@ -37,7 +37,7 @@ pub fn report(rt: &HostRuntime, what: &str, bytes: usize, time: Duration) -> io:
 }
 
 /// A session text, read and printed.
-pub fn measure(rt: &HostRuntime, text: &str) -> anyhow::Result<()> {
+pub(crate) fn measure(rt: &HostRuntime, text: &str) -> anyhow::Result<()> {
     let alloc = rt.alloc();
     let start = Instant::now(rt)?;
     let sections = match read(alloc, text) {

@@ -7,14 +7,14 @@ use std::str::SplitWhitespace;
 
 /// The codec and payload type of a capture's streams, and the type of their redundant payloads.
 #[derive(Clone, Copy, Drop)]
-pub struct Capture {
-    pub codec: Codec,
-    pub pt: u8,
-    pub red: Option<u8>,
+pub(crate) struct Capture {
+    pub(crate) codec: Codec,
+    pub(crate) pt: u8,
+    pub(crate) red: Option<u8>,
 }
 
 /// The next word of a line, which has one.
-pub fn next_word<'a>(words: &mut SplitWhitespace<'a>) -> anyhow::Result<&'a str> {
+pub(crate) fn next_word<'a>(words: &mut SplitWhitespace<'a>) -> anyhow::Result<&'a str> {
     match words.next() {
         Some(word) => Ok(word),
         None => Err(anyhow!("a word is missing")),
@@ -23,7 +23,7 @@ pub fn next_word<'a>(words: &mut SplitWhitespace<'a>) -> anyhow::Result<&'a str>
 
 impl Capture {
     /// What words say: `CODEC TYPE [REDTYPE]`.
-    pub fn of(words: &mut SplitWhitespace<'_>) -> anyhow::Result<Capture> {
+    pub(crate) fn of(words: &mut SplitWhitespace<'_>) -> anyhow::Result<Capture> {
         let codec = Codec::from(next_word(words)?);
         let pt = next_word(words)?.parse::<u8>()?;
         let red = match words.next() {
@@ -34,12 +34,15 @@ impl Capture {
     }
 
     /// Whether datagrams of this type are the stream's.
-    pub fn has_type(&self, pt: u8) -> bool {
+    pub(crate) fn has_type(&self, pt: u8) -> bool {
         self.pt == pt || self.red == Some(pt)
     }
 
     /// A depacketizer of the codec, with telephone events at 48 kHz.
-    pub fn depacketizer(&self, alloc: Global) -> anyhow::Result<CodecDepacketizer<NotBoxed>> {
+    pub(crate) fn depacketizer(
+        &self,
+        alloc: Global,
+    ) -> anyhow::Result<CodecDepacketizer<NotBoxed>> {
         let codec = self.codec;
         let Some(mut depacketizer) = CodecDepacketizer::<NotBoxed>::new(alloc, codec) else {
             return Err(anyhow!("no payload format of {codec}"));

@@ -65,7 +65,7 @@ fn received(alloc: Global, capture: &Capture, text: &str) -> anyhow::Result<Vec<
 }
 
 /// Prints what came of the streams of the capture that a line names.
-pub fn report(rt: &HostRuntime, line: &str) -> anyhow::Result<()> {
+pub(crate) fn report(rt: &HostRuntime, line: &str) -> anyhow::Result<()> {
     let mut words = line.split_whitespace();
     let text = fs::read_to_string(rt, next_word(&mut words)?)?;
     let capture = Capture::of(&mut words)?;

@@ -15,7 +15,7 @@ const FRAMES: u8 = 12;
 const HOLD_BACK: usize = 2;
 
 /// Prints which packets are lost, and which frames come out.
-pub fn lossy_link(rt: &HostRuntime) -> anyhow::Result<()> {
+pub(crate) fn lossy_link(rt: &HostRuntime) -> anyhow::Result<()> {
     let alloc = rt.alloc();
     let mut buffer = DepacketizingBuffer::new(alloc, Vp8Depacketizer::new(), HOLD_BACK);
     for (number, packet) in (0u64..).zip(packets(alloc)?) {

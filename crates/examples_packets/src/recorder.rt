@@ -13,7 +13,7 @@ const HOLD_BACK: usize = 2;
 
 /// The VP8 frames of one SSRC and payload type, out of whatever datagrams come.
 #[derive(Drop)]
-pub struct Recorder {
+pub(crate) struct Recorder {
     ssrc: Ssrc,
     pt: Pt,
     window: Option<SeqNoWindow>,
@@ -22,7 +22,7 @@ pub struct Recorder {
 
 impl Recorder {
     /// A recorder to which nothing came.
-    pub fn new(alloc: Global, ssrc: Ssrc, pt: Pt) -> Recorder {
+    pub(crate) fn new(alloc: Global, ssrc: Ssrc, pt: Pt) -> Recorder {
         Recorder {
             ssrc,
             pt,
@@ -36,7 +36,7 @@ impl Recorder {
     ///
     /// # Errors
     /// `PacketError::Memory`.
-    pub fn receive(&mut self, datagram: &[u8]) -> Result<bool, PacketError> {
+    pub(crate) fn receive(&mut self, datagram: &[u8]) -> Result<bool, PacketError> {
         let exts = ExtensionMap::empty();
         let Some(header) = RtpHeader::parse(datagram, &exts) else {
             return Ok(false);
@@ -66,7 +66,7 @@ impl Recorder {
     ///
     /// # Errors
     /// Where a packet of a frame is refused, which is done with then, or memory runs out.
-    pub fn frames(&mut self, frames: &mut Vec<Depacketized>) -> Result<(), PacketError> {
+    pub(crate) fn frames(&mut self, frames: &mut Vec<Depacketized>) -> Result<(), PacketError> {
         self.buffer.pop_all(frames)
     }
 
@@ -74,7 +74,10 @@ impl Recorder {
     ///
     /// # Errors
     /// As `frames`.
-    pub fn last_frames(&mut self, frames: &mut Vec<Depacketized>) -> Result<(), PacketError> {
+    pub(crate) fn last_frames(
+        &mut self,
+        frames: &mut Vec<Depacketized>,
+    ) -> Result<(), PacketError> {
         for _ in 0..MAX_HELD {
             match self.buffer.drain()? {
                 Some(frame) => frames.push(frame)?,

@@ -14,32 +14,32 @@ const HOLD_BACK: usize = 127;
 
 /// What came of a stream's datagrams.
 #[derive(Clone, Copy, Drop)]
-pub struct Counts {
+pub(crate) struct Counts {
     /// Datagrams that were taken.
-    pub taken: u64,
+    pub(crate) taken: u64,
     /// Datagrams whose payload is padding alone.
-    pub padding: u64,
+    pub(crate) padding: u64,
     /// Datagrams that came before, or too late.
-    pub refused: u64,
+    pub(crate) refused: u64,
     /// Units that were handed out.
-    pub units: u64,
+    pub(crate) units: u64,
     /// Their bytes.
-    pub bytes: u64,
+    pub(crate) bytes: u64,
     /// Units of which a keyframe is told.
-    pub keyframes: u64,
+    pub(crate) keyframes: u64,
     /// Whether the first unit is one.
-    pub begins_with_keyframe: bool,
+    pub(crate) begins_with_keyframe: bool,
     /// Units that were handed out at the end alone, since a packet before them is missing.
-    pub drained: u64,
+    pub(crate) drained: u64,
     /// Frames that could not be read.
-    pub faults: u64,
+    pub(crate) faults: u64,
 }
 
 /// A stream: its SSRC, its replay window and its buffer.
 #[derive(Drop)]
-pub struct Stream {
-    pub ssrc: Ssrc,
-    pub counts: Counts,
+pub(crate) struct Stream {
+    pub(crate) ssrc: Ssrc,
+    pub(crate) counts: Counts,
     window: Option<SeqNoWindow>,
     buffer: DepacketizingBuffer<CodecDepacketizer<NotBoxed>>,
 }
@@ -94,7 +94,7 @@ impl Counts {
 
 impl Stream {
     /// A stream that received nothing.
-    pub fn new(alloc: Global, capture: &Capture, ssrc: Ssrc) -> anyhow::Result<Stream> {
+    pub(crate) fn new(alloc: Global, capture: &Capture, ssrc: Ssrc) -> anyhow::Result<Stream> {
         let counts = Counts {
             taken: 0,
             padding: 0,
@@ -115,7 +115,7 @@ impl Stream {
     }
 
     /// Takes a datagram in, and hands out what is complete.
-    pub fn receive(
+    pub(crate) fn receive(
         &mut self,
         capture: &Capture,
         header: &RtpHeader,
@@ -160,7 +160,7 @@ impl Stream {
     }
 
     /// Hands out all that is complete, where nothing more will come; answers whether there was something.
-    pub fn drain(&mut self) -> Result<bool, PacketError> {
+    pub(crate) fn drain(&mut self) -> Result<bool, PacketError> {
         match self.buffer.drain() {
             Ok(Some(unit)) => {
                 self.counts.add(&unit);

@@ -8,7 +8,7 @@ use rtp_wire::{Direction, ExtensionMap, Frequency, Mid, Pt, SessionId, Ssrc};
 use std::alloc::{AllocError, Global};
 
 /// An end that has Opus at payload type 111.
-pub fn opus_end(alloc: Global, session: u64) -> anyhow::Result<End> {
+pub(crate) fn opus_end(alloc: Global, session: u64) -> anyhow::Result<End> {
     let opus = CodecSpec {
         codec: Codec::Opus,
         clock_rate: Frequency::FORTY_EIGHT_KHZ,
@@ -33,7 +33,7 @@ fn audio(alloc: Global, ssrc: u32) -> Result<Vec<SectionSpec>, AllocError> {
 }
 
 /// Has `a` offer and `b` answer. The two texts are all that travels.
-pub fn agree(alloc: Global, a: &mut End, b: &mut End) -> anyhow::Result<()> {
+pub(crate) fn agree(alloc: Global, a: &mut End, b: &mut End) -> anyhow::Result<()> {
     let offer = a.offer(audio(alloc, 44)?)?;
     let answer = b.answer(offer.as_str(), audio(alloc, 45)?)?;
     a.accept(answer.as_str())?;

@@ -10,7 +10,7 @@ const MOST_UNITS: usize = 4096;
 
 /// A stream of the end that receives, whose units are the samples of a stream of the end that sends.
 #[derive(Drop)]
-pub struct Forwarder {
+pub(crate) struct Forwarder {
     inward: End,
     rx: usize,
     outward: End,
@@ -20,7 +20,7 @@ pub struct Forwarder {
 impl Forwarder {
     /// A forwarder between two ends that have agreed on Opus at payload type 111 with someone each: the numbers of its
     /// datagrams begin at 500, whatever those of the received ones are.
-    pub fn new(mut inward: End, mut outward: End) -> anyhow::Result<Forwarder> {
+    pub(crate) fn new(mut inward: End, mut outward: End) -> anyhow::Result<Forwarder> {
         let (mid, ssrc, pt) = (Mid::from("0"), Ssrc::from(44), Pt::from(111));
         let params = StreamParams {
             first: 500,
@@ -45,7 +45,11 @@ impl Forwarder {
     }
 
     /// Takes a datagram in, and answers those that are to be sent on.
-    pub fn forward(&mut self, alloc: Global, datagram: &[u8]) -> anyhow::Result<Vec<Datagram>> {
+    pub(crate) fn forward(
+        &mut self,
+        alloc: Global,
+        datagram: &[u8],
+    ) -> anyhow::Result<Vec<Datagram>> {
         self.inward.receive(datagram)?;
         let mut sent = Vec::new(alloc);
         for _ in 0..MOST_UNITS {

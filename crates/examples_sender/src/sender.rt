@@ -6,7 +6,7 @@ use rtp_media::{Datagram, End, StreamParams};
 use rtp_wire::{ExtensionValues, Frequency, MediaTime, Mid, Pt, Ssrc};
 
 /// Sends three samples from one end to the other, and prints what comes of each datagram.
-pub fn send_and_hear(rt: &HostRuntime) -> anyhow::Result<()> {
+pub(crate) fn send_and_hear(rt: &HostRuntime) -> anyhow::Result<()> {
     let alloc = rt.alloc();
     let mut a = opus_end(alloc, 1)?;
     let mut b = opus_end(alloc, 2)?;

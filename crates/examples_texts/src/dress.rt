@@ -11,13 +11,13 @@ use std::mem;
 
 /// How a browser reaches an end (RFC 8839, RFC 8842).
 #[derive(Drop)]
-pub struct Transport {
+pub(crate) struct Transport {
     /// The credentials of connectivity checks.
-    pub creds: IceCreds,
+    pub(crate) creds: IceCreds,
     /// The fingerprint of the certificate.
-    pub fingerprint: Fingerprint,
+    pub(crate) fingerprint: Fingerprint,
     /// Which end opens the connection: `actpass` in an offer, `active` or `passive` in an answer (RFC 8842 5.2, 5.3).
-    pub setup: Setup,
+    pub(crate) setup: Setup,
 }
 
 /// The transport's lines behind all others.
@@ -98,7 +98,7 @@ fn dress_section(
 ///
 /// # Errors
 /// `AllocError`.
-pub fn dress(alloc: Global, sdp: Sdp, transport: &Transport) -> Result<Sdp, AllocError>
+pub(crate) fn dress(alloc: Global, sdp: Sdp, transport: &Transport) -> Result<Sdp, AllocError>
     ensures { IfOk result (λ s. s ≡ dressed transport.now sdp) }
 {
     let mut sections = Listed::new(alloc);

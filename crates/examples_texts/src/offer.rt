@@ -6,7 +6,7 @@ use sdp_formats_lookups::whole;
 use sdp_formats_section_rows::rtp_params;
 
 /// Prints each section of an offer with its rows and candidates, and the fingerprint.
-pub fn print_offer(rt: &HostRuntime, text: &str) -> anyhow::Result<()> {
+pub(crate) fn print_offer(rt: &HostRuntime, text: &str) -> anyhow::Result<()> {
     let offer = match SdpOffer::from_sdp_string(rt.alloc(), text) {
         Ok(offer) => offer,
         Err(error) => bail!("{error}"),

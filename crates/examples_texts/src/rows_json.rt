@@ -68,7 +68,7 @@ fn print_line(rt: &HostRuntime, line: &str) -> anyhow::Result<()> {
 
 /// Prints some rows as JSON and reads them back; then reads the rows whose JSON stands on lines, and prints each as
 /// JSON again, or why it is none.
-pub fn print_rows(rt: &HostRuntime, lines: &str) -> anyhow::Result<()> {
+pub(crate) fn print_rows(rt: &HostRuntime, lines: &str) -> anyhow::Result<()> {
     print_row(rt, &opus())?;
     print_row(rt, &video(96, 97, Codec::Vp8, ""))?;
     let h264 = "level-asymmetry-allowed=1;packetization-mode=1;profile-level-id=42e01f";

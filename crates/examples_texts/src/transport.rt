@@ -36,7 +36,7 @@ fn transport(rt: &HostRuntime) -> anyhow::Result<Transport> {
 }
 
 /// Prints an end's text with the transport's lines.
-pub fn print_dressed(rt: &HostRuntime, text: &str) -> anyhow::Result<()> {
+pub(crate) fn print_dressed(rt: &HostRuntime, text: &str) -> anyhow::Result<()> {
     let alloc = rt.alloc();
     let Ok((sdp, _)) = sdp_parser(alloc, text) else {
         println!(*rt; "no session text")?;

@@ -15,7 +15,7 @@ struct Track {
 }
 
 /// Prints the JSON of a track, and whether it is read back as it is.
-pub fn print_track(rt: &HostRuntime) -> anyhow::Result<()> {
+pub(crate) fn print_track(rt: &HostRuntime) -> anyhow::Result<()> {
     let track = Track {
         pt: Pt::from(102),
         clock_rate: Frequency::NINETY_KHZ,

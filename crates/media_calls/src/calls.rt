@@ -10,14 +10,14 @@ use rtp_wire::{Direction, ExtensionMap, Mid, Pt, SessionId, Ssrc};
 use std::alloc::{AllocError, Global};
 
 /// The first number of each stream.
-pub const FIRST: u64 = 32_767;
+pub(crate) const FIRST: u64 = 32_767;
 
 /// Payloads so short that pictures have several.
 const SHORT: usize = 200;
 
 /// Two ends of a codec, and the numbers of a stream that one sends and the other receives.
 #[derive(Drop)]
-pub struct Call {
+pub(crate) struct Call {
     a: End,
     b: End,
     tx: usize,
@@ -26,7 +26,7 @@ pub struct Call {
 
 impl Call {
     /// Two ends that exchanged texts, and a stream from the first to the second.
-    pub fn new(alloc: Global, case: &Case, hold_back: usize) -> Result<Self, Stopped> {
+    pub(crate) fn new(alloc: Global, case: &Case, hold_back: usize) -> Result<Self, Stopped> {
         let mut a = end(alloc, case, 1)?;
         let mut b = end(alloc, case, 2)?;
         let ssrc = Ssrc::from(44);
@@ -42,7 +42,7 @@ impl Call {
     }
 
     /// How many datagrams a sample is sent in.
-    pub fn datagrams_of(&mut self, sample: &Sample) -> Result<u64, Stopped> {
+    pub(crate) fn datagrams_of(&mut self, sample: &Sample) -> Result<u64, Stopped> {
         if !self.a.is_sender(self.tx) {
             return Err(Stopped::Refused);
         }
@@ -53,7 +53,7 @@ impl Call {
     }
 
     /// What a schedule of samples answers.
-    pub fn play(
+    pub(crate) fn play(
         &mut self,
         alloc: Global,
         samples: &[Sample],
@@ -68,14 +68,14 @@ impl Call {
 }
 
 /// An end of one row.
-pub fn end(alloc: Global, case: &Case, session: u64) -> Result<End, Stopped> {
+pub(crate) fn end(alloc: Global, case: &Case, session: u64) -> Result<End, Stopped> {
     let config = CodecConfig::new_from_payload_params(vec![in alloc; case.row()]?);
     let session = Session::new(alloc, SessionId::from(session));
     Ok(End::new(alloc, config, session, ExtensionMap::empty())?)
 }
 
 /// One section that flows both ways, of these SSRCs.
-pub fn sections(
+pub(crate) fn sections(
     alloc: Global,
     case: &Case,
     ssrcs: Vec<Ssrc>,
@@ -97,7 +97,7 @@ pub fn sections(
 }
 
 /// A sending stream of the section with payloads of at most so many bytes, and its number.
-pub fn open_sender(
+pub(crate) fn open_sender(
     alloc: Global,
     end: &mut End,
     case: &Case,

@@ -4,13 +4,13 @@ use rtp_media::{Codec, CodecSpec, FormatParams, PayloadParams};
 use rtp_wire::{Frequency, Pt};
 
 /// The payload type of each row, and its RED type where it has one.
-pub const TYPE: u8 = 111;
+pub(crate) const TYPE: u8 = 111;
 
 const RED_TYPE: u8 = 63;
 
 /// What a row has beside its codec.
 #[derive(Clone, Copy, Drop)]
-pub enum Beside {
+pub(crate) enum Beside {
     Nothing,
     Redundancy,
     OctetAlign,
@@ -19,14 +19,14 @@ pub enum Beside {
 
 /// A codec as a row of both ends.
 #[derive(Clone, Copy, Drop)]
-pub struct Case {
-    pub codec: Codec,
-    pub beside: Beside,
+pub(crate) struct Case {
+    pub(crate) codec: Codec,
+    pub(crate) beside: Beside,
 }
 
 impl Case {
     /// What it has beside its codec, in words.
-    pub fn manner(&self) -> &'static str {
+    pub(crate) fn manner(&self) -> &'static str {
         match self.beside {
             Beside::Nothing => "",
             Beside::Redundancy => " with redundancy",
@@ -36,12 +36,12 @@ impl Case {
     }
 
     /// Whether it has a RED type.
-    pub fn has_red(&self) -> bool {
+    pub(crate) fn has_red(&self) -> bool {
         matches!(self.beside, Beside::Redundancy)
     }
 
     /// The row.
-    pub fn row(&self) -> PayloadParams {
+    pub(crate) fn row(&self) -> PayloadParams {
         let spec = CodecSpec {
             codec: self.codec,
             clock_rate: self.clock_rate(),
@@ -56,7 +56,7 @@ impl Case {
     }
 
     /// The clock of the stream's timestamps, which G.722 counts at 8,000 Hz (RFC 3551 4.5.2).
-    pub fn rtp_clock(&self) -> Frequency {
+    pub(crate) fn rtp_clock(&self) -> Frequency {
         match self.codec {
             Codec::G722 => Frequency::EIGHT_KHZ,
             _ => self.clock_rate(),
@@ -107,7 +107,7 @@ fn with(codec: Codec, beside: Beside) -> Case {
 }
 
 /// Each codec that has a payload format, in each of its layouts.
-pub fn cases() -> [Case; 18] {
+pub(crate) fn cases() -> [Case; 18] {
     [
         plain(Codec::Opus),
         with(Codec::Opus, Beside::Redundancy),

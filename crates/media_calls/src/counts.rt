@@ -6,12 +6,12 @@ use rtp_media::{Played, Unit};
 /// What a receiver is to get of a sample: its unit with the sample's timestamp, the places in it at which its parts
 /// begin, and the numbers of the sample's datagrams, from the first one to the one behind the last.
 #[derive(Drop)]
-pub struct Canonical {
-    pub unit: Vec<u8>,
-    pub parts: Vec<usize>,
-    pub time: u32,
-    pub first: u64,
-    pub end: u64,
+pub(crate) struct Canonical {
+    pub(crate) unit: Vec<u8>,
+    pub(crate) parts: Vec<usize>,
+    pub(crate) time: u32,
+    pub(crate) first: u64,
+    pub(crate) end: u64,
 }
 
 impl Canonical {
@@ -38,16 +38,16 @@ impl Canonical {
 
 /// How many samples were sent, and how many of their units came out whole, in part, and not at all.
 #[derive(Clone, Copy, Debug)]
-pub struct Counts {
-    pub sent: usize,
-    pub whole: usize,
-    pub partial: usize,
-    pub lost: usize,
+pub(crate) struct Counts {
+    pub(crate) sent: usize,
+    pub(crate) whole: usize,
+    pub(crate) partial: usize,
+    pub(crate) lost: usize,
 }
 
 impl Counts {
     /// Nothing was sent.
-    pub fn none() -> Self {
+    pub(crate) fn none() -> Self {
         Counts {
             sent: 0,
             whole: 0,
@@ -57,7 +57,7 @@ impl Counts {
     }
 
     /// Both together.
-    pub fn plus(&self, other: &Counts) -> Self {
+    pub(crate) fn plus(&self, other: &Counts) -> Self {
         Counts {
             sent: self.sent.saturating_add(other.sent),
             whole: self.whole.saturating_add(other.whole),
@@ -67,7 +67,7 @@ impl Counts {
     }
 
     /// Whether each unit came out whole.
-    pub fn is_all(&self) -> bool {
+    pub(crate) fn is_all(&self) -> bool {
         self.whole == self.sent
     }
 
@@ -86,7 +86,7 @@ impl Counts {
 /// # Errors
 /// `Stopped::Fault` where a poll answered a fault, and `Stopped::WrongUnit` where one handed out what isn't a unit that
 /// was sent, or its last parts, or not behind those before.
-pub fn count_units(sent: &[Canonical], all: &[Played]) -> Result<Counts, Stopped> {
+pub(crate) fn count_units(sent: &[Canonical], all: &[Played]) -> Result<Counts, Stopped> {
     let mut counts = Counts::none();
     let mut next = 0;
     for played in all {

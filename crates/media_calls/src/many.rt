@@ -13,24 +13,24 @@ const MTU: usize = 1_200;
 
 /// How many streams two ends have, and which sample the last of them carries how often.
 #[derive(Clone, Copy, Drop)]
-pub struct Load<'a> {
-    pub streams: u32,
-    pub sample: &'a [u8],
-    pub count: u32,
+pub(crate) struct Load<'a> {
+    pub(crate) streams: u32,
+    pub(crate) sample: &'a [u8],
+    pub(crate) count: u32,
 }
 
 /// What sending the samples took, opening receiving streams for all SSRCs of the section, and receiving and polling
 /// the datagrams.
 #[derive(Clone, Copy, Drop)]
-pub struct Times {
-    pub sent: Duration,
-    pub opened: Duration,
-    pub received: Duration,
+pub(crate) struct Times {
+    pub(crate) sent: Duration,
+    pub(crate) opened: Duration,
+    pub(crate) received: Duration,
 }
 
 /// Two ends whose section names the SSRCs from 1 to the number of streams: one receives the datagrams of all, the other
 /// sends those of the last.
-pub fn carry(rt: &HostRuntime, case: &Case, load: Load<'_>) -> Result<Times, Stopped> {
+pub(crate) fn carry(rt: &HostRuntime, case: &Case, load: Load<'_>) -> Result<Times, Stopped> {
     let alloc = rt.alloc();
     let mut sender = end(alloc, case, 1)?;
     let mut receiver = end(alloc, case, 2)?;

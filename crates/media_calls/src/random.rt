@@ -6,18 +6,18 @@ use std::alloc::{AllocError, Global};
 
 /// A linear congruential generator.
 #[derive(Drop)]
-pub struct Random {
+pub(crate) struct Random {
     state: u64,
 }
 
 impl Random {
     /// The generator of a seed.
-    pub fn new(seed: u64) -> Self {
+    pub(crate) fn new(seed: u64) -> Self {
         Random { state: seed }
     }
 
     /// The next number below `n`.
-    pub fn below(&mut self, n: u64) -> u64
+    pub(crate) fn below(&mut self, n: u64) -> u64
         requires { 0 < n }
         ensures { result < n }
     {
@@ -29,19 +29,19 @@ impl Random {
     }
 
     /// Whether the next number below `n` is 0.
-    pub fn one_in(&mut self, n: u64) -> bool
+    pub(crate) fn one_in(&mut self, n: u64) -> bool
         requires { 0 < n }
     {
         self.below(n) == 0
     }
 
     /// The next byte.
-    pub fn byte(&mut self) -> u8 {
+    pub(crate) fn byte(&mut self) -> u8 {
         self.below(256) as u8
     }
 
     /// So many bytes other than 0.
-    pub fn bytes(&mut self, alloc: Global, count: u64) -> Result<Vec<u8>, AllocError> {
+    pub(crate) fn bytes(&mut self, alloc: Global, count: u64) -> Result<Vec<u8>, AllocError> {
         let mut bytes = Vec::new(alloc);
         for _ in 0..count {
             bytes.push(self.below(255) as u8 + 1)?;

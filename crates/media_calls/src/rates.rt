@@ -5,7 +5,7 @@ use rtp_media::Codec;
 use std::alloc::{AllocError, Global};
 
 /// How many bytes the samples of a codec have: 20 ms of sound, a picture of 12,000 bytes.
-pub fn usual_size(codec: Codec) -> usize {
+pub(crate) fn usual_size(codec: Codec) -> usize {
     match codec {
         Codec::Tele | Codec::CN => 4,
         Codec::AmrWb => 61,
@@ -15,7 +15,7 @@ pub fn usual_size(codec: Codec) -> usize {
 }
 
 /// A sample of a codec with so many bytes behind what it begins with.
-pub fn sized_sample(alloc: Global, case: &Case, size: usize) -> Result<Vec<u8>, AllocError> {
+pub(crate) fn sized_sample(alloc: Global, case: &Case, size: usize) -> Result<Vec<u8>, AllocError> {
     let mut sample = Vec::from_slice(alloc, head_of(case.codec, size))?;
     let mut rest = vec![in alloc; 8; size.saturating_sub(sample.len())]?;
     sample.append(&mut rest)?;

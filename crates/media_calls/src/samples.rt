@@ -13,10 +13,10 @@ use units::access_unit;
 
 /// A sample's bytes, the bytes of its unit, and where the parts of the unit begin: a unit may lack its leading parts.
 #[derive(Drop)]
-pub struct Drawn {
-    pub bytes: Vec<u8>,
-    pub unit: Vec<u8>,
-    pub parts: Vec<usize>,
+pub(crate) struct Drawn {
+    pub(crate) bytes: Vec<u8>,
+    pub(crate) unit: Vec<u8>,
+    pub(crate) parts: Vec<usize>,
 }
 
 impl Drawn {
@@ -40,7 +40,7 @@ impl Drawn {
 }
 
 /// The sample of a place; every eighth picture is a key picture.
-pub fn draw_sample(
+pub(crate) fn draw_sample(
     alloc: Global,
     random: &mut Random,
     codec: Codec,

@@ -37,7 +37,7 @@ impl Order {
 
 /// A tame schedule of so many datagrams: every one comes, none later than one numbered 128 above it, some again; behind
 /// the first block polls come at times; and at the end so many polls and one more.
-pub fn tame_schedule(
+pub(crate) fn tame_schedule(
     alloc: Global,
     random: &mut Random,
     count: usize,
@@ -60,7 +60,7 @@ pub fn tame_schedule(
 }
 
 /// A sane one: the same, but that datagrams are lost, and polls come at any time.
-pub fn sane_schedule(
+pub(crate) fn sane_schedule(
     alloc: Global,
     random: &mut Random,
     count: usize,

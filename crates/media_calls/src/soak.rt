@@ -34,7 +34,7 @@ const MANY: [u32; 5] = [1, 8, 100, 2_000, 8_000];
 /// Two lines for each codec: one of tame schedules, under which every unit is to come out, and one of sane ones, in
 /// which datagrams are lost and come late; a line for samples of real sizes of each, and one for each number of
 /// streams. Times are printed on standard error. Answers whether all were right.
-pub fn soak_all(rt: &HostRuntime) -> bool {
+pub(crate) fn soak_all(rt: &HostRuntime) -> bool {
     let mut all_are_right = true;
     for case in cases() {
         all_are_right &= report(rt, &case, true) && report(rt, &case, false);

@@ -7,7 +7,7 @@ use thiserror::Error;
 
 /// Why a call or a run did not come to its end.
 #[derive(Debug, Drop, Error)]
-pub enum Stopped {
+pub(crate) enum Stopped {
     /// An end, an exchange, an opening or a sample was refused.
     #[error("refused")]
     Refused,

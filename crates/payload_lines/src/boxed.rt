@@ -13,7 +13,7 @@ use std::str::SplitWhitespace;
 
 /// `boxed LIMIT SAMPLE`: the payloads of a sample through a boxed packetizer, and the unit that they give through a
 /// boxed depacketizer.
-pub fn carried(
+pub(crate) fn carried(
     alloc: Global,
     formats: &Formats,
     words: &mut SplitWhitespace<'_>,

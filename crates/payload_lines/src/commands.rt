@@ -17,15 +17,15 @@ use std::str::SplitWhitespace;
 
 /// What lines were about so far.
 #[derive(Drop)]
-pub struct Subjects {
+pub(crate) struct Subjects {
     /// The payload format that was taken up last.
-    pub formats: Option<Formats>,
+    pub(crate) formats: Option<Formats>,
     /// The payloads that were sent beside older ones.
-    pub sender: RedSender,
+    pub(crate) sender: RedSender,
 }
 
 /// What a line gives: `codec NAME ..` takes up a payload format, and those that name nothing else are about it.
-pub fn answer(alloc: Global, subjects: &mut Subjects, line: &str) -> anyhow::Result<String> {
+pub(crate) fn answer(alloc: Global, subjects: &mut Subjects, line: &str) -> anyhow::Result<String> {
     let mut words = line.split_whitespace();
     match words.next() {
         None => Ok(String::new(alloc)),

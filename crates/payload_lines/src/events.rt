@@ -8,7 +8,7 @@ use std::alloc::Global;
 use std::str::SplitWhitespace;
 
 /// What `read RATE PACKET` and `write RATE EVENT VOLUME NANOSECONDS [end]` give.
-pub fn answer(alloc: Global, words: &mut SplitWhitespace<'_>) -> anyhow::Result<String> {
+pub(crate) fn answer(alloc: Global, words: &mut SplitWhitespace<'_>) -> anyhow::Result<String> {
     let command = next_word(words)?;
     let Some(rate) = Frequency::new(next_number::<u32>(words)?) else {
         return Err(anyhow!("no clock rate"));

@@ -11,7 +11,7 @@ use std::str::SplitWhitespace;
 /// What is negotiated of a payload format, the first picture id, whether what browsers need is sent, and the
 /// hold-back.
 #[derive(Clone, Copy, Drop)]
-pub struct Options {
+pub(crate) struct Options {
     octet_align: Option<bool>,
     max_don_diff: Option<u16>,
     clock_rate: Frequency,
@@ -22,15 +22,15 @@ pub struct Options {
 
 /// A payload format: a payloader, and a buffer, with which samples are sent and packets arrive.
 #[derive(Drop)]
-pub struct Formats {
-    pub codec: Codec,
-    pub options: Options,
-    pub payloader: Payloader<CodecPacketizer<NotBoxed>>,
-    pub buffer: DepacketizingBuffer<CodecDepacketizer<NotBoxed>>,
+pub(crate) struct Formats {
+    pub(crate) codec: Codec,
+    pub(crate) options: Options,
+    pub(crate) payloader: Payloader<CodecPacketizer<NotBoxed>>,
+    pub(crate) buffer: DepacketizingBuffer<CodecDepacketizer<NotBoxed>>,
 }
 
 /// A depacketizer of a codec with no open fragment.
-pub fn depacketizer_of(
+pub(crate) fn depacketizer_of(
     alloc: Global,
     codec: Codec,
     options: Options,
@@ -47,7 +47,7 @@ pub fn depacketizer_of(
 }
 
 /// A packetizer of a codec that sent nothing.
-pub fn packetizer_of(
+pub(crate) fn packetizer_of(
     alloc: Global,
     codec: Codec,
     options: Options,
@@ -109,7 +109,7 @@ fn options_of(words: &mut SplitWhitespace<'_>) -> anyhow::Result<Options> {
 
 impl Formats {
     /// The payload format that words name: `NAME [aligned] [numbers=N] [id=N] [browsers] [hold=N] [16kHz]`.
-    pub fn of(alloc: Global, words: &mut SplitWhitespace<'_>) -> anyhow::Result<Formats> {
+    pub(crate) fn of(alloc: Global, words: &mut SplitWhitespace<'_>) -> anyhow::Result<Formats> {
         let codec = Codec::from(next_word(words)?);
         let options = options_of(words)?;
         let depacketizer = depacketizer_of(alloc, codec, options)?;

@@ -11,7 +11,7 @@ use std::alloc::Global;
 use std::str::SplitWhitespace;
 
 /// `units TEXT`: the units of a text (ITU-T H.264 annex B), parted by blanks; a dash stands for none.
-pub fn units(alloc: Global, words: &mut SplitWhitespace<'_>) -> anyhow::Result<String> {
+pub(crate) fn units(alloc: Global, words: &mut SplitWhitespace<'_>) -> anyhow::Result<String> {
     let text = next_bytes(alloc, words)?;
     let mut units = String::new(alloc);
     for unit in nal_units(&text) {
@@ -27,14 +27,14 @@ pub fn units(alloc: Global, words: &mut SplitWhitespace<'_>) -> anyhow::Result<S
 }
 
 /// `shows TYPE PACKET`: whether an H.264 packet shows a unit of a type.
-pub fn shows(alloc: Global, words: &mut SplitWhitespace<'_>) -> anyhow::Result<String> {
+pub(crate) fn shows(alloc: Global, words: &mut SplitWhitespace<'_>) -> anyhow::Result<String> {
     let nalu_type = next_number::<u8>(words)?;
     let packet = next_bytes(alloc, words)?;
     yes_or_no(alloc, detect_h264_nalu(&packet, nalu_type))
 }
 
 /// `header CODEC BYTES`: what a header tells, of one byte that of a fragment, of two that of a unit or a packet.
-pub fn header(alloc: Global, words: &mut SplitWhitespace<'_>) -> anyhow::Result<String> {
+pub(crate) fn header(alloc: Global, words: &mut SplitWhitespace<'_>) -> anyhow::Result<String> {
     let codec = next_word(words)?;
     let bytes = next_bytes(alloc, words)?;
     match (codec, bytes.as_slice()) {

@@ -7,7 +7,7 @@ use std::alloc::Global;
 const IN_FULL: usize = 2000;
 
 /// Bytes in hexadecimal; a dash stands for none, and of many the first three stand before their count.
-pub fn hex_of(alloc: Global, bytes: &[u8]) -> anyhow::Result<String> {
+pub(crate) fn hex_of(alloc: Global, bytes: &[u8]) -> anyhow::Result<String> {
     if bytes.is_empty() {
         return Ok(String::from_str(alloc, "-")?);
     }
@@ -19,12 +19,12 @@ pub fn hex_of(alloc: Global, bytes: &[u8]) -> anyhow::Result<String> {
 }
 
 /// Whether something is so.
-pub fn yes_or_no(alloc: Global, is_so: bool) -> anyhow::Result<String> {
+pub(crate) fn yes_or_no(alloc: Global, is_so: bool) -> anyhow::Result<String> {
     Ok(String::from_str(alloc, if is_so { "yes" } else { "no" })?)
 }
 
 /// Payloads, parted by blanks, and a star behind each that has the marker; a dash stands for none.
-pub fn payloads(alloc: Global, packets: &[SentPacket]) -> anyhow::Result<String> {
+pub(crate) fn payloads(alloc: Global, packets: &[SentPacket]) -> anyhow::Result<String> {
     let mut text = String::new(alloc);
     for sent in packets {
         if !text.is_empty() {
@@ -42,7 +42,7 @@ pub fn payloads(alloc: Global, packets: &[SentPacket]) -> anyhow::Result<String>
 }
 
 /// The numbers of a unit's first and last packet, its time, its bytes and what is told of it; or that there is none.
-pub fn unit(alloc: Global, unit: Option<Depacketized>) -> anyhow::Result<String> {
+pub(crate) fn unit(alloc: Global, unit: Option<Depacketized>) -> anyhow::Result<String> {
     let Some(unit) = unit else {
         return Ok(String::from_str(alloc, "none")?);
     };

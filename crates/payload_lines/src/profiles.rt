@@ -18,7 +18,7 @@ struct Values<'a> {
 
 /// `profile CODEC VALUE ..`: what a codec's values mean, of H.264 a profile-level-id in hexadecimal, of the others a
 /// profile-id, a tier-flag and a level-id, where a dash stands for one that isn't given.
-pub fn profile(alloc: Global, words: &mut SplitWhitespace<'_>) -> anyhow::Result<String> {
+pub(crate) fn profile(alloc: Global, words: &mut SplitWhitespace<'_>) -> anyhow::Result<String> {
     let codec = next_word(words)?;
     if codec == "H264" {
         return profile_h264(alloc, next_word(words)?);
@@ -68,13 +68,13 @@ fn profile_h266(alloc: Global, values: Values<'_>) -> anyhow::Result<String> {
 }
 
 /// `idc NUMBER`: the profile_idc of a byte of H.264.
-pub fn idc(alloc: Global, words: &mut SplitWhitespace<'_>) -> anyhow::Result<String> {
+pub(crate) fn idc(alloc: Global, words: &mut SplitWhitespace<'_>) -> anyhow::Result<String> {
     let idc = H264ProfileIdc::try_from(next_number::<u8>(words)?)?;
     Ok(format!(in alloc; "{idc:?}")?)
 }
 
 /// `level NUMBER`: the level of a level_idc of H.264, and its place among the levels.
-pub fn level(alloc: Global, words: &mut SplitWhitespace<'_>) -> anyhow::Result<String> {
+pub(crate) fn level(alloc: Global, words: &mut SplitWhitespace<'_>) -> anyhow::Result<String> {
     let level = H264LevelIdc::try_from(next_number::<u8>(words)?)?;
     Ok(format!(in alloc; "{level:?} {}", level.ordinal())?)
 }

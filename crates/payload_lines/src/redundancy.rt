@@ -8,7 +8,7 @@ use std::alloc::Global;
 use std::str::SplitWhitespace;
 
 /// What `new DISTANCES`, `sync DISTANCES`, `wrap`, `write` and `read PACKET` give.
-pub fn answer(
+pub(crate) fn answer(
     alloc: Global,
     sender: &mut RedSender,
     words: &mut SplitWhitespace<'_>,

@@ -19,7 +19,7 @@ struct Ids {
 }
 
 /// What `read PAYLOAD` and `patch PAYLOAD [id=N] [tl0=N] [key=N]` give.
-pub fn answer(alloc: Global, words: &mut SplitWhitespace<'_>) -> anyhow::Result<String> {
+pub(crate) fn answer(alloc: Global, words: &mut SplitWhitespace<'_>) -> anyhow::Result<String> {
     let command = next_word(words)?;
     let payload = next_bytes(alloc, words)?;
     if command == "read" {

@@ -5,7 +5,7 @@ use std::alloc::Global;
 use std::str::{FromStr, SplitWhitespace};
 
 /// The next word of a command, which has one.
-pub fn next_word<'a>(words: &mut SplitWhitespace<'a>) -> anyhow::Result<&'a str> {
+pub(crate) fn next_word<'a>(words: &mut SplitWhitespace<'a>) -> anyhow::Result<&'a str> {
     match words.next() {
         Some(word) => Ok(word),
         None => Err(anyhow!("a word is missing")),
@@ -13,7 +13,7 @@ pub fn next_word<'a>(words: &mut SplitWhitespace<'a>) -> anyhow::Result<&'a str>
 }
 
 /// The next word of a command, a number.
-pub fn next_number<T: FromStr + Drop>(words: &mut SplitWhitespace<'_>) -> anyhow::Result<T>
+pub(crate) fn next_number<T: FromStr + Drop>(words: &mut SplitWhitespace<'_>) -> anyhow::Result<T>
 where
     T::Err: Drop,
 {
@@ -25,12 +25,15 @@ where
 }
 
 /// The next word of a command, bytes as [`bytes_of`] reads them.
-pub fn next_bytes(alloc: Global, words: &mut SplitWhitespace<'_>) -> anyhow::Result<Vec<u8>> {
+pub(crate) fn next_bytes(
+    alloc: Global,
+    words: &mut SplitWhitespace<'_>,
+) -> anyhow::Result<Vec<u8>> {
     bytes_of(alloc, next_word(words)?)
 }
 
 /// Bytes in hexadecimal, of which `+` joins parts, and `:N` behind a part repeats it so often; a dash stands for none.
-pub fn bytes_of(alloc: Global, word: &str) -> anyhow::Result<Vec<u8>> {
+pub(crate) fn bytes_of(alloc: Global, word: &str) -> anyhow::Result<Vec<u8>> {
     let mut bytes = Vec::new(alloc);
     if word == "-" {
         return Ok(bytes);

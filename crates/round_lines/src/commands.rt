@@ -11,14 +11,14 @@ use std::str::SplitWhitespace;
 
 /// The rows that a round is run on: those of an end, and those of the other end.
 #[derive(Drop)]
-pub struct Rows {
+pub(crate) struct Rows {
     own: CodecConfig,
     remote: Vec<PayloadParams>,
 }
 
 impl Rows {
     /// No rows at either end.
-    pub fn new(alloc: Global) -> Self {
+    pub(crate) fn new(alloc: Global) -> Self {
         Rows {
             own: CodecConfig::empty(alloc),
             remote: Vec::new(alloc),
@@ -27,7 +27,7 @@ impl Rows {
 }
 
 /// What a line gives.
-pub fn answer(alloc: Global, rows: &mut Rows, line: &str) -> anyhow::Result<String> {
+pub(crate) fn answer(alloc: Global, rows: &mut Rows, line: &str) -> anyhow::Result<String> {
     let mut words = line.split_whitespace();
     match words.next() {
         None => Ok(String::new(alloc)),

@@ -8,7 +8,7 @@ use std::str::SplitWhitespace;
 
 /// `enable CODEC RED` and `disable CODEC RED`: the default rows of a codec in place of all that it has, or none; RED is
 /// the word `red` where audio is to have a RED type.
-pub fn enable(
+pub(crate) fn enable(
     config: &mut CodecConfig,
     enabled: bool,
     words: &mut SplitWhitespace<'_>,
@@ -34,7 +34,7 @@ pub fn enable(
 }
 
 /// `distances N ..`: sets the distances of redundancy, where some are given, and tells those in force.
-pub fn distances(
+pub(crate) fn distances(
     alloc: Global,
     config: &mut CodecConfig,
     words: &mut SplitWhitespace<'_>,

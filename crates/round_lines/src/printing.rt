@@ -32,7 +32,7 @@ fn row_text(alloc: Global, row: &PayloadParams) -> anyhow::Result<String> {
 }
 
 /// The rows, parted by bars.
-pub fn rows_text(alloc: Global, rows: &[PayloadParams]) -> anyhow::Result<String> {
+pub(crate) fn rows_text(alloc: Global, rows: &[PayloadParams]) -> anyhow::Result<String> {
     let mut text = String::new(alloc);
     for row in rows {
         text.push_str(" | ")?;
@@ -42,7 +42,7 @@ pub fn rows_text(alloc: Global, rows: &[PayloadParams]) -> anyhow::Result<String
 }
 
 /// A refusal.
-pub fn refusal_text(alloc: Global, refusal: RoundError) -> anyhow::Result<String> {
+pub(crate) fn refusal_text(alloc: Global, refusal: RoundError) -> anyhow::Result<String> {
     Ok(match refusal {
         RoundError::TypeTaken(pt) => format!(in alloc; "TypeTaken {pt}")?,
         RoundError::ResendTaken(pt) => format!(in alloc; "ResendTaken {pt}")?,

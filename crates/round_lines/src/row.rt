@@ -7,7 +7,7 @@ use std::alloc::Global;
 use std::str::SplitWhitespace;
 
 /// `format TEXT`: the parameters that a text gives, blanks and all, printed again.
-pub fn format_text(alloc: Global, line: &str) -> anyhow::Result<String> {
+pub(crate) fn format_text(alloc: Global, line: &str) -> anyhow::Result<String> {
     let text = match line.split_once(' ') {
         Some((_, text)) => text,
         None => "",
@@ -16,7 +16,7 @@ pub fn format_text(alloc: Global, line: &str) -> anyhow::Result<String> {
 }
 
 /// `feedback FLAG SPEC`: the feedback of a new row, once one flag is off, or none at a dash.
-pub fn feedback(alloc: Global, words: &mut SplitWhitespace<'_>) -> anyhow::Result<String> {
+pub(crate) fn feedback(alloc: Global, words: &mut SplitWhitespace<'_>) -> anyhow::Result<String> {
     let flag = next_word(words)?;
     let mut row = PayloadParams::new(Pt::new_with_value(96), None, next_spec(words)?);
     put_off(&mut row, flag)?;
@@ -47,7 +47,7 @@ fn told(name: &'static str, is_on: bool) -> &'static str {
 }
 
 /// `equal LOCK ROW LOCK ROW`: whether two rows are equal, where LOCK is `locked` or `open`.
-pub fn equal(alloc: Global, words: &mut SplitWhitespace<'_>) -> anyhow::Result<String> {
+pub(crate) fn equal(alloc: Global, words: &mut SplitWhitespace<'_>) -> anyhow::Result<String> {
     let one = next_lock_and_row(words)?;
     let other = next_lock_and_row(words)?;
     let answer = if one == other { "equal" } else { "unequal" };

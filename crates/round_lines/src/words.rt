@@ -5,7 +5,7 @@ use sdp_formats_config::{Codec, CodecSpec, FormatParams, Frequency, PayloadParam
 use std::str::SplitWhitespace;
 
 /// The next word of a command, which has one.
-pub fn next_word<'a>(words: &mut SplitWhitespace<'a>) -> anyhow::Result<&'a str> {
+pub(crate) fn next_word<'a>(words: &mut SplitWhitespace<'a>) -> anyhow::Result<&'a str> {
     match words.next() {
         Some(word) => Ok(word),
         None => Err(anyhow!("a word is missing")),
@@ -13,7 +13,7 @@ pub fn next_word<'a>(words: &mut SplitWhitespace<'a>) -> anyhow::Result<&'a str>
 }
 
 /// The next word, a number of 8 bits.
-pub fn next_number(words: &mut SplitWhitespace<'_>) -> anyhow::Result<u8> {
+pub(crate) fn next_number(words: &mut SplitWhitespace<'_>) -> anyhow::Result<u8> {
     Ok(next_word(words)?.parse::<u8>()?)
 }
 
@@ -42,7 +42,7 @@ fn next_format(words: &mut SplitWhitespace<'_>) -> anyhow::Result<FormatParams> 
 }
 
 /// A codec: its name, clock rate, channels and format.
-pub fn next_spec(words: &mut SplitWhitespace<'_>) -> anyhow::Result<CodecSpec> {
+pub(crate) fn next_spec(words: &mut SplitWhitespace<'_>) -> anyhow::Result<CodecSpec> {
     let codec = Codec::from(next_word(words)?);
     let Some(clock_rate) = Frequency::new(next_word(words)?.parse::<u32>()?) else {
         return Err(anyhow!("a clock rate is 1 or more"));
@@ -58,7 +58,7 @@ pub fn next_spec(words: &mut SplitWhitespace<'_>) -> anyhow::Result<CodecSpec> {
 }
 
 /// A row: its types, whether it uses transport-wide feedback, and its codec.
-pub fn next_row(words: &mut SplitWhitespace<'_>) -> anyhow::Result<PayloadParams> {
+pub(crate) fn next_row(words: &mut SplitWhitespace<'_>) -> anyhow::Result<PayloadParams> {
     let pt = Pt::new_with_value(next_number(words)?);
     let resend = type_of(maybe_number(words)?);
     let red = type_of(maybe_number(words)?);

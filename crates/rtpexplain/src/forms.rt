@@ -4,7 +4,7 @@ use crate::lines::{number_of, verb_of};
 use std::alloc::{AllocError, Global};
 
 /// The forms of all lines, as a user may ask for them.
-pub const FORMS: [&str; 18] = [
+pub(crate) const FORMS: [&str; 18] = [
     "fixed E",
     "row E PT RTX RED CODEC CLOCK CHANNELS FMTP",
     "ext E ID URI",
@@ -26,7 +26,7 @@ pub const FORMS: [&str; 18] = [
 ];
 
 /// The form of the lines that begin with a word.
-pub fn form_of(verb: &str) -> Option<&'static str> {
+pub(crate) fn form_of(verb: &str) -> Option<&'static str> {
     for form in FORMS {
         if verb_of(form) == Some(verb) {
             return Some(form);
@@ -36,7 +36,7 @@ pub fn form_of(verb: &str) -> Option<&'static str> {
 }
 
 /// What is wrong with a word that stands for a name of a form.
-pub fn misfit(alloc: Global, name: &str, word: &str) -> Result<Option<String>, AllocError> {
+pub(crate) fn misfit(alloc: Global, name: &str, word: &str) -> Result<Option<String>, AllocError> {
     if fits(alloc, name, word) {
         return Ok(None);
     }

@@ -8,19 +8,19 @@ use std::collections::BTreeMap;
 
 /// What is known of an end, and of its streams by their numbers.
 #[derive(Drop)]
-pub struct KnownEnd {
-    pub is_made: bool,
-    pub senders: BTreeMap<u64, Sender>,
-    pub receivers: BTreeMap<u64, Receiver>,
-    pub foreign: u64,
-    pub unreadable: u64,
+pub(crate) struct KnownEnd {
+    pub(crate) is_made: bool,
+    pub(crate) senders: BTreeMap<u64, Sender>,
+    pub(crate) receivers: BTreeMap<u64, Receiver>,
+    pub(crate) foreign: u64,
+    pub(crate) unreadable: u64,
 }
 
 /// What is known of both ends.
 #[derive(Drop)]
-pub struct Known {
-    pub a: KnownEnd,
-    pub b: KnownEnd,
+pub(crate) struct Known {
+    pub(crate) a: KnownEnd,
+    pub(crate) b: KnownEnd,
 }
 
 impl KnownEnd {
@@ -185,7 +185,7 @@ fn source_of(line: &str) -> (u64, u64) {
 
 impl Known {
     /// Nothing was made yet.
-    pub fn new(alloc: Global) -> Known {
+    pub(crate) fn new(alloc: Global) -> Known {
         Known {
             a: KnownEnd::new(alloc, false),
             b: KnownEnd::new(alloc, false),
@@ -193,12 +193,17 @@ impl Known {
     }
 
     /// What is known of the end of a letter.
-    pub fn end(&self, letter: &str) -> &KnownEnd {
+    pub(crate) fn end(&self, letter: &str) -> &KnownEnd {
         if letter == "a" { &self.a } else { &self.b }
     }
 
     /// Notes the replies to a line.
-    pub fn note(&mut self, alloc: Global, line: &str, replies: &[&str]) -> anyhow::Result<()> {
+    pub(crate) fn note(
+        &mut self,
+        alloc: Global,
+        line: &str,
+        replies: &[&str],
+    ) -> anyhow::Result<()> {
         if replies.first().is_none_or(|reply| *reply == "error line") {
             return Ok(());
         }

@@ -4,12 +4,12 @@ use std::alloc::{AllocError, Global};
 use std::str::Lines;
 
 /// Whether a line isn't for the program: `help`, or one that begins with `#`.
-pub fn is_comment(line: &[u8]) -> bool {
+pub(crate) fn is_comment(line: &[u8]) -> bool {
     line == b"help".as_slice() || line.starts_with(b"#")
 }
 
 /// A line as it is shown.
-pub fn text_of(line: &[u8]) -> &str {
+pub(crate) fn text_of(line: &[u8]) -> &str {
     match str::from_utf8(line) {
         Ok(text) => text,
         Err(_) => "(a line that isn't UTF-8)",
@@ -18,7 +18,7 @@ pub fn text_of(line: &[u8]) -> &str {
 
 /// The lines that the program is given: an empty one for each comment. A run without items, which may print nothing,
 /// gets the arrival of no bytes, so that each line but an empty one is replied to.
-pub fn program_of(alloc: Global, input: &[u8]) -> Result<Vec<u8>, AllocError> {
+pub(crate) fn program_of(alloc: Global, input: &[u8]) -> Result<Vec<u8>, AllocError> {
     let mut program = Vec::new(alloc);
     for line in input.split(|b| *b == b'\n') {
         if !is_comment(line) {
@@ -33,12 +33,12 @@ pub fn program_of(alloc: Global, input: &[u8]) -> Result<Vec<u8>, AllocError> {
 }
 
 /// Whether a line is `play TX RX` and no more.
-pub fn is_run_without_items(line: &[u8]) -> bool {
+pub(crate) fn is_run_without_items(line: &[u8]) -> bool {
     line.starts_with(b"play ") && line.split(|b| *b == b' ').count() == 3
 }
 
 /// The replies to a line, which the next of all replies begin with.
-pub fn replies_to<'a>(
+pub(crate) fn replies_to<'a>(
     alloc: Global,
     line: &str,
     all: &mut Lines<'a>,
@@ -73,12 +73,12 @@ fn is_last(line: &str, reply: &str, count: usize) -> bool {
 }
 
 /// The first word of a line.
-pub fn verb_of(line: &str) -> Option<&str> {
+pub(crate) fn verb_of(line: &str) -> Option<&str> {
     line.split(' ').next()
 }
 
 /// The word of this place in a line, counted from 0; an empty one where there is none.
-pub fn word_at(line: &str, place: usize) -> &str {
+pub(crate) fn word_at(line: &str, place: usize) -> &str {
     for (k, word) in line.split(' ').enumerate() {
         if k == place {
             return word;
@@ -88,7 +88,7 @@ pub fn word_at(line: &str, place: usize) -> &str {
 }
 
 /// The number that decimal digits write.
-pub fn number_of(word: &str) -> Option<u64> {
+pub(crate) fn number_of(word: &str) -> Option<u64> {
     if word.bytes().all(|b| b.is_ascii_digit()) {
         word.parse::<u64>().ok()
     } else {
@@ -97,6 +97,6 @@ pub fn number_of(word: &str) -> Option<u64> {
 }
 
 /// The number of this place in a line, where there is one.
-pub fn number_at(line: &str, place: usize) -> Option<u64> {
+pub(crate) fn number_at(line: &str, place: usize) -> Option<u64> {
     number_of(word_at(line, place))
 }

@@ -8,7 +8,7 @@ use rtp_media_input::MAX_LINE_LENGTH;
 use std::alloc::{AllocError, Global};
 
 /// Why the program gave a line this reply, where it says no.
-pub fn reason_of(
+pub(crate) fn reason_of(
     alloc: Global,
     known: &Known,
     line: &[u8],

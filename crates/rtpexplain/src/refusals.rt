@@ -1,7 +1,7 @@
 //! Refusals in words.
 
 /// Why a call was refused, by the name that the program prints.
-pub fn refusal_of(name: &str) -> &'static str {
+pub(crate) fn refusal_of(name: &str) -> &'static str {
     match name {
         "RowNotPlain" => "a row of the draft is of a kind that an end can't agree on",
         "TypesNotDistinct" => "a payload type stands for two things in the draft's rows",
@@ -28,7 +28,7 @@ pub fn refusal_of(name: &str) -> &'static str {
 }
 
 /// Why a datagram wasn't taken, where this is what was said of it.
-pub fn verdict_of(reply: &str) -> Option<&'static str> {
+pub(crate) fn verdict_of(reply: &str) -> Option<&'static str> {
     match reply {
         "unreadable" => Some("no RTP header stands in front"),
         "foreign" => Some("no receiving stream has this SSRC and payload type"),
@@ -39,7 +39,7 @@ pub fn verdict_of(reply: &str) -> Option<&'static str> {
 }
 
 /// Why a poll handed nothing out, though a unit was due.
-pub fn fault_of(name: &str) -> &'static str {
+pub(crate) fn fault_of(name: &str) -> &'static str {
     if name == "Memory" {
         "memory runs out; the unit stays"
     } else {

@@ -10,7 +10,7 @@ use std::alloc::Global;
 ///
 /// # Errors
 /// Where memory runs out, or the lines are more than the program reads.
-pub fn replies(alloc: Global, lines: &[u8]) -> Result<(Vec<u8>, Status), RunFault>
+pub(crate) fn replies(alloc: Global, lines: &[u8]) -> Result<(Vec<u8>, Status), RunFault>
     ensures { IfOk result (λ r. AreReplies lines.now r.0.items r.1) }
 {
     let mut reader = lines;

@@ -8,10 +8,10 @@ const MAX_HELD: usize = 4096;
 
 /// A sending stream.
 #[derive(Drop)]
-pub struct Sender {
-    pub ssrc: u64,
-    pub pt: u64,
-    pub datagrams: u64,
+pub(crate) struct Sender {
+    pub(crate) ssrc: u64,
+    pub(crate) pt: u64,
+    pub(crate) datagrams: u64,
 }
 
 impl fmt::Display for Sender {
@@ -23,9 +23,9 @@ impl fmt::Display for Sender {
 
 /// A receiving stream.
 #[derive(Drop)]
-pub struct Receiver {
-    pub ssrc: u64,
-    pub pt: u64,
+pub(crate) struct Receiver {
+    pub(crate) ssrc: u64,
+    pub(crate) pt: u64,
     /// The numbers that were taken and wait to be handed out; None where that can't be known any more.
     waiting: Option<Vec<u64>>,
     taken: u64,
@@ -38,7 +38,7 @@ pub struct Receiver {
 
 impl Receiver {
     /// A stream to which nothing came.
-    pub fn new(alloc: Global, ssrc: u64, pt: u64) -> Receiver {
+    pub(crate) fn new(alloc: Global, ssrc: u64, pt: u64) -> Receiver {
         Receiver {
             ssrc,
             pt,
@@ -53,7 +53,7 @@ impl Receiver {
     }
 
     /// A datagram of this number was taken.
-    pub fn take(&mut self, number: u64) -> anyhow::Result<()> {
+    pub(crate) fn take(&mut self, number: u64) -> anyhow::Result<()> {
         self.taken = self.taken.saturating_add(1);
         if self.cutoff.is_some_and(|cutoff| number <= cutoff) {
             return Ok(());
@@ -69,17 +69,17 @@ impl Receiver {
     }
 
     /// A datagram was refused.
-    pub fn refuse(&mut self) {
+    pub(crate) fn refuse(&mut self) {
         self.refused = self.refused.saturating_add(1);
     }
 
     /// A datagram was damaged.
-    pub fn damage(&mut self) {
+    pub(crate) fn damage(&mut self) {
         self.damaged = self.damaged.saturating_add(1);
     }
 
     /// A unit was handed out, of packets up to this number.
-    pub fn hand_out(&mut self, last: u64) {
+    pub(crate) fn hand_out(&mut self, last: u64) {
         self.units = self.units.saturating_add(1);
         self.cutoff = Some(last);
         if let Some(waiting) = &mut self.waiting {
@@ -88,7 +88,7 @@ impl Receiver {
     }
 
     /// A poll was a fault, of a frame that isn't named.
-    pub fn fail(&mut self) {
+    pub(crate) fn fail(&mut self) {
         self.faults = self.faults.saturating_add(1);
         self.waiting = None;
     }

@@ -26,7 +26,7 @@ struct Picture {
 }
 
 /// Draws the steps from left to right, and the counts below them.
-pub fn draw(rt: &HostRuntime, steps: &[Step]) -> anyhow::Result<()> {
+pub(crate) fn draw(rt: &HostRuntime, steps: &[Step]) -> anyhow::Result<()> {
     let (least, greatest) = extent(steps);
     let height = greatest.saturating_sub(least).min(MOST);
     let base = height.saturating_add(3).saturating_mul(CELL);

@@ -4,7 +4,7 @@ use std::str::SplitWhitespace;
 
 /// What a reply says of a receiving stream.
 #[derive(Clone, Copy, Drop)]
-pub enum Step {
+pub(crate) enum Step {
     /// A datagram of this number was taken.
     Taken(u64),
     /// A datagram was refused.
@@ -18,7 +18,7 @@ pub enum Step {
 }
 
 /// The step of a line; None where it says nothing of a stream.
-pub fn step_of(line: &str) -> Option<Step> {
+pub(crate) fn step_of(line: &str) -> Option<Step> {
     let mut words = line.split_whitespace();
     match words.next()? {
         "taken" => {

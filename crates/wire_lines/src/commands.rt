@@ -11,14 +11,14 @@ use std::str::SplitWhitespace;
 
 /// What lines leave for the lines behind them: which number each header extension has, and a window.
 #[derive(Drop)]
-pub struct State {
+pub(crate) struct State {
     map: ExtensionMap,
     window: SeqNoWindow,
 }
 
 impl State {
     /// No header extension, and a window behind the number 0.
-    pub fn new() -> Self {
+    pub(crate) fn new() -> Self {
         State {
             map: ExtensionMap::empty(),
             window: SeqNoWindow::new_after(SeqNo::from(0)),
@@ -27,7 +27,7 @@ impl State {
 }
 
 /// What a line gives, or why it is at fault.
-pub fn reply(alloc: Global, state: &mut State, line: &str) -> anyhow::Result<String> {
+pub(crate) fn reply(alloc: Global, state: &mut State, line: &str) -> anyhow::Result<String> {
     match answer(alloc, state, line) {
         Ok(text) => Ok(text),
         Err(fault) => Ok(format!(in alloc; "fault {fault}")?),

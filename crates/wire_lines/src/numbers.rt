@@ -10,7 +10,7 @@ use std::cmp::Ordering;
 use std::str::SplitWhitespace;
 
 /// `extend BITS PREVIOUS LOW`: a number of few bits, widened by the one before it, or by none where a dash stands.
-pub fn extended(alloc: Global, words: &mut SplitWhitespace<'_>) -> anyhow::Result<String> {
+pub(crate) fn extended(alloc: Global, words: &mut SplitWhitespace<'_>) -> anyhow::Result<String> {
     let bits = next_word(words)?;
     let previous = previous_of(next_word(words)?)?;
     let low = value_of::<u32>(next_word(words)?)?;
@@ -40,7 +40,7 @@ fn widened(bits: &str, previous: Option<u64>, low: u32) -> Option<u64> {
 
 /// `window N` is a window that recorded N alone, `window-after N` one that recorded all up to N, and `update N` records
 /// N at the window: each gives the greatest number. `accepts N` gives whether the window accepts N.
-pub fn of_window(
+pub(crate) fn of_window(
     alloc: Global,
     window: &mut SeqNoWindow,
     command: &str,
@@ -60,7 +60,7 @@ pub fn of_window(
 }
 
 /// `micros TIME`: its whole microseconds.
-pub fn micros(alloc: Global, words: &mut SplitWhitespace<'_>) -> anyhow::Result<String> {
+pub(crate) fn micros(alloc: Global, words: &mut SplitWhitespace<'_>) -> anyhow::Result<String> {
     let time = next_time(words)?;
     if time.checked_rebase(Frequency::MICROS).is_none() {
         return Err(anyhow!("more than 64 bits of microseconds"));
@@ -69,7 +69,7 @@ pub fn micros(alloc: Global, words: &mut SplitWhitespace<'_>) -> anyhow::Result<
 }
 
 /// `compare TIME TIME`: how the first stands to the second.
-pub fn comparison(alloc: Global, words: &mut SplitWhitespace<'_>) -> anyhow::Result<String> {
+pub(crate) fn comparison(alloc: Global, words: &mut SplitWhitespace<'_>) -> anyhow::Result<String> {
     let first = next_time(words)?;
     let answer = match first.cmp(&next_time(words)?) {
         Ordering::Less => "less",
@@ -80,7 +80,7 @@ pub fn comparison(alloc: Global, words: &mut SplitWhitespace<'_>) -> anyhow::Res
 }
 
 /// `minus TIME TIME`: the difference, where there is one.
-pub fn difference(alloc: Global, words: &mut SplitWhitespace<'_>) -> anyhow::Result<String> {
+pub(crate) fn difference(alloc: Global, words: &mut SplitWhitespace<'_>) -> anyhow::Result<String> {
     let first = next_time(words)?;
     let Some(time) = first.checked_sub(next_time(words)?) else {
         return Ok(String::from_str(alloc, "none")?);

@@ -55,7 +55,7 @@ fn put_values(text: &mut String, values: &ExtensionValues) -> Result<(), AllocEr
 }
 
 /// `read HEX`: the header in front of a datagram, its length, and the payload behind it.
-pub fn header_text(
+pub(crate) fn header_text(
     alloc: Global,
     map: &ExtensionMap,
     words: &mut SplitWhitespace<'_>,
@@ -86,7 +86,7 @@ fn unpadded(alloc: Global, has_padding: bool, payload: &[u8]) -> Result<String, 
 }
 
 /// `padded HEX` or `unpadded HEX`: what is left of a payload without its padding.
-pub fn payload_text(
+pub(crate) fn payload_text(
     alloc: Global,
     has_padding: bool,
     words: &mut SplitWhitespace<'_>,
@@ -97,7 +97,7 @@ pub fn payload_text(
 
 /// `run HEX ..`: what becomes of each datagram of a list at a new window, the number under which it is taken, or why
 /// it isn't.
-pub fn run_text(
+pub(crate) fn run_text(
     alloc: Global,
     map: &ExtensionMap,
     words: &mut SplitWhitespace<'_>,

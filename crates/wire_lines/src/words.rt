@@ -6,7 +6,7 @@ use std::alloc::{AllocError, Global};
 use std::str::{FromStr, SplitWhitespace};
 
 /// The next word of a command, which has one.
-pub fn next_word<'a>(words: &mut SplitWhitespace<'a>) -> anyhow::Result<&'a str> {
+pub(crate) fn next_word<'a>(words: &mut SplitWhitespace<'a>) -> anyhow::Result<&'a str> {
     match words.next() {
         Some(word) => Ok(word),
         None => Err(anyhow!("a word is missing")),
@@ -14,7 +14,7 @@ pub fn next_word<'a>(words: &mut SplitWhitespace<'a>) -> anyhow::Result<&'a str>
 }
 
 /// What a word says: a number, a truth value or a clock rate.
-pub fn value_of<T: FromStr + Drop>(word: &str) -> anyhow::Result<T>
+pub(crate) fn value_of<T: FromStr + Drop>(word: &str) -> anyhow::Result<T>
 where
     T::Err: Drop,
 {
@@ -25,13 +25,16 @@ where
 }
 
 /// The next word, bytes in hexadecimal; a dash stands for none.
-pub fn next_bytes(alloc: Global, words: &mut SplitWhitespace<'_>) -> anyhow::Result<Vec<u8>> {
+pub(crate) fn next_bytes(
+    alloc: Global,
+    words: &mut SplitWhitespace<'_>,
+) -> anyhow::Result<Vec<u8>> {
     let word = next_word(words)?;
     Ok(hex::decode(alloc, if word == "-" { "" } else { word })?)
 }
 
 /// Bytes in hexadecimal, or a dash for none.
-pub fn hex_of(alloc: Global, bytes: &[u8]) -> Result<String, AllocError> {
+pub(crate) fn hex_of(alloc: Global, bytes: &[u8]) -> Result<String, AllocError> {
     if bytes.is_empty() {
         return String::from_str(alloc, "-");
     }
@@ -39,7 +42,7 @@ pub fn hex_of(alloc: Global, bytes: &[u8]) -> Result<String, AllocError> {
 }
 
 /// What stands before and behind the first such sign; all of the word and nothing where there is none.
-pub fn part(word: &str, sign: char) -> (&str, &str) {
+pub(crate) fn part(word: &str, sign: char) -> (&str, &str) {
     match word.split_once(sign) {
         Some(parts) => parts,
         None => (word, ""),
@@ -47,14 +50,14 @@ pub fn part(word: &str, sign: char) -> (&str, &str) {
 }
 
 /// The next word, a time: `TICKS/RATE`.
-pub fn next_time(words: &mut SplitWhitespace<'_>) -> anyhow::Result<MediaTime> {
+pub(crate) fn next_time(words: &mut SplitWhitespace<'_>) -> anyhow::Result<MediaTime> {
     let (ticks, rate) = part(next_word(words)?, '/');
     let ticks = value_of::<u64>(ticks)?;
     Ok(MediaTime::new(ticks, value_of::<Frequency>(rate)?))
 }
 
 /// `map NUMBER=NAME ..`: which number each header extension has from now on.
-pub fn set_map(
+pub(crate) fn set_map(
     alloc: Global,
     map: &mut ExtensionMap,
     words: &mut SplitWhitespace<'_>,

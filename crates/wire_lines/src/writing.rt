@@ -9,7 +9,7 @@ use std::alloc::Global;
 use std::str::{FromStr, SplitWhitespace};
 
 /// `header type=33 number=47000 marker ..`: the bytes of the default header with the fields that words name.
-pub fn written(
+pub(crate) fn written(
     alloc: Global,
     map: &ExtensionMap,
     words: &mut SplitWhitespace<'_>,

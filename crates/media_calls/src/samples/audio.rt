@@ -4,13 +4,13 @@ use crate::random::Random;
 use std::alloc::{AllocError, Global};
 
 /// A frame of sound that one packet has room for.
-pub fn audio_sample(alloc: Global, random: &mut Random) -> Result<Vec<u8>, AllocError> {
+pub(crate) fn audio_sample(alloc: Global, random: &mut Random) -> Result<Vec<u8>, AllocError> {
     let count = random.below(80) + 1;
     random.bytes(alloc, count)
 }
 
 /// A frame of AMR-WB: its entry, and as many speech bits as its frame type has, filled up with zeros (RFC 4867 5.3).
-pub fn amr_wb_sample(alloc: Global, random: &mut Random) -> Result<Vec<u8>, AllocError> {
+pub(crate) fn amr_wb_sample(alloc: Global, random: &mut Random) -> Result<Vec<u8>, AllocError> {
     let (frame_type, count, mask) = match random.below(4) {
         0 => (0, 17, 0xf0),
         1 => (1, 23, 0x80),
@@ -26,7 +26,7 @@ pub fn amr_wb_sample(alloc: Global, random: &mut Random) -> Result<Vec<u8>, Allo
 }
 
 /// A report of a telephone event: its number, E and the volume, and its duration (RFC 4733 2.3).
-pub fn event_sample(alloc: Global, random: &mut Random) -> Result<Vec<u8>, AllocError> {
+pub(crate) fn event_sample(alloc: Global, random: &mut Random) -> Result<Vec<u8>, AllocError> {
     let event = random.below(16) as u8;
     let end = if random.one_in(4) { 0x80 } else { 0 };
     let volume = random.below(64) as u8;
@@ -37,7 +37,11 @@ pub fn event_sample(alloc: Global, random: &mut Random) -> Result<Vec<u8>, Alloc
 }
 
 /// A frame of VP8: the tag of a key frame with its start code and size, or that of another frame (RFC 6386 9.1).
-pub fn vp8_sample(alloc: Global, random: &mut Random, is_key: bool) -> Result<Vec<u8>, AllocError> {
+pub(crate) fn vp8_sample(
+    alloc: Global,
+    random: &mut Random,
+    is_key: bool,
+) -> Result<Vec<u8>, AllocError> {
     let head: &[u8] = if is_key {
         &[0x50, 0x02, 0x00, 0x9d, 0x01, 0x2a, 0x40, 0x01, 0xf0, 0x00]
     } else {
@@ -47,7 +51,11 @@ pub fn vp8_sample(alloc: Global, random: &mut Random, is_key: bool) -> Result<Ve
 }
 
 /// A frame of VP9 in profile 0: a key frame with its sync code, or another one.
-pub fn vp9_sample(alloc: Global, random: &mut Random, is_key: bool) -> Result<Vec<u8>, AllocError> {
+pub(crate) fn vp9_sample(
+    alloc: Global,
+    random: &mut Random,
+    is_key: bool,
+) -> Result<Vec<u8>, AllocError> {
     let head: &[u8] = if is_key {
         &[0x82, 0x49, 0x83, 0x42]
     } else {

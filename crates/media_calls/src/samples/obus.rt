@@ -16,7 +16,7 @@ const METADATA: u8 = 0x2a;
 const FRAME: u8 = 0x32;
 
 /// A delimiter, which isn't sent, in a key picture a sequence header, and metadata and frames.
-pub fn temporal_unit(
+pub(crate) fn temporal_unit(
     alloc: Global,
     random: &mut Random,
     is_key: bool,

@@ -46,7 +46,7 @@ fn headers_of(codec: Codec) -> Headers {
 }
 
 /// A delimiter, which isn't sent, in a key picture the parameter sets, at times supplemental information, and slices.
-pub fn access_unit(
+pub(crate) fn access_unit(
     alloc: Global,
     random: &mut Random,
     codec: Codec,
