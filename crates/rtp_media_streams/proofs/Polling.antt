@@ -1,9 +1,10 @@
 -- What a pop of the buffer is to the stream.
-use Rattle.std.proofs.Common.{◌≡◌, ℕ, ◌-◌, ◌<◌, sym, ◌∙◌, ap, ap₂, arith, List, length, drop}
+use Rattle.std.proofs.Common.{◌≡◌, ◌≢◌, refl, ℕ, ◌-◌, ◌<◌, sym, ◌∙◌, ap, ap₂, arith, List, length, drop}
 use Rattle.std.specs.Prelude.{Option, Some, None, Result, Ok, Err, IfErr, OnOk}
 use Rattle.std.proofs.lemmas.List.{length-drop}
 use Rattle.payload_core_base.specs.Format.{Format, Fragment, Run}
 use Rattle.payload_core_base.specs.declared.error.PacketError.{PacketError}
+use Rattle.payload_core_base.specs.declared.error.PacketError.TheVariants as lacks
 use Rattle.payload_core_base.specs.declared.extra.CodecExtra.{CodecExtra}
 use Rattle.payload_core_buffer.specs.Frames.{due_frame, number_at, packets_between}
 use Rattle.payload_core_buffer.specs.Packets.{Packet, metas_of}
@@ -15,9 +16,11 @@ use Rattle.rtp_media_schedules.specs.Hearing.{Answer, Stream, answer_among, answ
 use Rattle.rtp_media_schedules.specs.Hearing.{run_among}
 use Rattle.rtp_media_schedules.specs.Hearing.{stream_behind, unit_from}
 use Rattle.rtp_media_streams.specs.Drains.{holding}
-use Rattle.rtp_media_streams.specs.Polls.{IsInterrupted}
+use Rattle.rtp_media_streams.specs.Polls.{IsFaultOf, IsInterrupted, LacksMemory, IsRefused}
 use Rattle.rtp_media_streams.specs.Receiving.{Receiving, with_stream}
 use Rattle.rtp_media_streams.specs.Rows.{format_of}
+use Rattle.rtp_media_streams.specs.declared.errors.PollFault.{PollFault}
+use Rattle.rtp_media_streams.specs.declared.errors.PollFault.TheVariants.{Memory, Payload}
 
 pub on_ok : {A E P Q : Type 0} (r : Result A E) → (P → Q) → OnOk r P → OnOk r Q
 on_ok (Ok a) f h = f h
@@ -26,6 +29,15 @@ on_ok (Err e) f h = tt
 pub if_err : {A E : Type 0} {P Q : E → Type 0} (r : Result A E) → ((e : E) → P e → Q e) → IfErr r P → IfErr r Q
 if_err (Ok a) f h = tt
 if_err (Err e) f h = f e h
+
+-- a poll's fault by that of its buffer
+pub refused : {e : PacketError} {f : PollFault} → IsFaultOf e f → f ≢ Memory → (e ≢ lacks.Memory) × (f ≡ Payload e)
+refused LacksMemory fails = absurd (fails refl)
+refused (IsRefused other) fails = (other, refl)
+
+pub lacking : {e : PacketError} {f : PollFault} → IsFaultOf e f → f ≡ Memory → e ≡ lacks.Memory
+lacking LacksMemory is = refl
+lacking (IsRefused other) is = cc
 
 -- a stream of which this is the rest, after a step
 pub after_step : {A E : Type 0} (step : Format → Stream → Stream) (res : Result A E) (f : Format) (x r : Receiving)

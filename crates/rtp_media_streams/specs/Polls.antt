@@ -1,9 +1,10 @@
 -- What polls of a receiving stream answer.
-use Rattle.std.specs.Prelude.{◌≡◌, ◌<◌, ◌⊎◌, ℕ, zero, suc, List, [], ◌∷◌, ◌++◌, Option, length, map, take, Some, None}
+use Rattle.std.specs.Prelude.{◌≡◌, ◌≢◌, ◌<◌, ◌⊎◌, ℕ, zero, suc, List, [], ◌∷◌, ◌++◌, Option, length, map, take, Some, None}
 use Rattle.std.specs.Prelude.{Result}
 use Rattle.std.specs.Prelude.{Ok, Err}
 use Rattle.payload_core_base.specs.Format.{Format}
 use Rattle.payload_core_base.specs.declared.error.PacketError.{PacketError}
+use Rattle.payload_core_base.specs.declared.error.PacketError.TheVariants as lacks
 use Rattle.payload_core_buffer.specs.Frames.{packets_between}
 use Rattle.payload_core_buffer.specs.Pops.{ReadsPart}
 use Rattle.payload_core_buffer.specs.declared.frame.Frame.{Frame}
@@ -26,6 +27,11 @@ given (Err e) = Err (Payload e)
 -- What a poll of a receiving stream answers where memory is found.
 abbrev pub poll_result : Receiving → PollResult
 poll_result r = given (poll_answer (format_of r.row) r.stream)
+
+-- The fault of a poll whose buffer met this one: want of memory, or that of the payload.
+pub data IsFaultOf : PacketError → PollFault → Type 0 where
+  LacksMemory : IsFaultOf lacks.Memory Memory
+  IsRefused : {e : PacketError} (other : e ≢ lacks.Memory) → IsFaultOf e (Payload e)
 
 -- Memory ran out for a frame that is due: all stays but the fragment, which is the one that some of its
 -- packets leave open.

@@ -45,3 +45,16 @@ pub enum PollFault {
     #[error("out of memory")]
     Memory,
 }
+
+impl From<PacketError> for PollFault {
+    ghost use Rattle.rtp_media_streams.specs.Polls.{IsFaultOf};
+
+    ghost from_gives = { λ error fault. IsFaultOf error fault };
+
+    fn from(error: PacketError) -> PollFault {
+        match error {
+            PacketError::Memory => PollFault::Memory,
+            fault => PollFault::Payload(fault),
+        }
+    }
+}

@@ -11,7 +11,7 @@ ghost use Rattle.rtp_media_streams.specs.Receiving.{stream_of};
 use crate::errors::PollFault;
 use crate::media_unit::Unit;
 use h26x_payload::{CodecDepacketizer, NotBoxed};
-use payload_core_base::{Depacketizer, PacketError};
+use payload_core_base::Depacketizer;
 use payload_core_buffer::DepacketizingBuffer;
 
 /// Hands out the next frame as a unit.
@@ -55,13 +55,9 @@ pub(crate) fn pop(
     ensures fewer_at_faults { IfErr result (λ fault. fault ≢ PollFault.Memory
         → length buffer.new.held < length buffer.old.held) }
 {
-    match buffer.pop() {
-        Ok(Some(frame)) => Ok(Some(Unit::from_frame(frame))),
-        Ok(None) => Ok(None),
-        Err(e) => match e {
-            PacketError::Memory => Err(PollFault::Memory),
-            fault => Err(PollFault::Payload(fault)),
-        },
+    match buffer.pop()? {
+        Some(frame) => Ok(Some(Unit::from_frame(frame))),
+        None => Ok(None),
     }
 }
 
@@ -109,12 +105,8 @@ pub(crate) fn drain(
     ensures fewer_at_faults { IfErr result (λ fault. fault ≢ PollFault.Memory
         → length buffer.new.held < length buffer.old.held) }
 {
-    match buffer.drain() {
-        Ok(Some(lowest)) => Ok(Some(Unit::from_frame(lowest))),
-        Ok(None) => Ok(None),
-        Err(e) => match e {
-            PacketError::Memory => Err(PollFault::Memory),
-            fault => Err(PollFault::Payload(fault)),
-        },
+    match buffer.drain()? {
+        Some(lowest) => Ok(Some(Unit::from_frame(lowest))),
+        None => Ok(None),
     }
 }
