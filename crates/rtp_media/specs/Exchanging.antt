@@ -173,7 +173,6 @@ AtEnd None (Some after) replies answers = ⊥
 AtEnd (Some e) None replies answers = ⊥
 AtEnd (Some e) (Some after) replies answers = answers e after
 
--- The same for a line with a text, which must be UTF-8.
-abbrev pub WithText : List ℕ → Option EndState → Option EndState → List Reply → (EndState → EndState → Type 0) → Type 0
-WithText text old new replies answers =
-    Where (is_utf8 text) (AtEnd old new replies answers) ((new ≡ old) × Prints replies reply.ErrorLine)
+-- A line's text must be UTF-8.
+abbrev pub WithText : List ℕ → EndState → EndState → List Reply → Type 0 → Type 0
+WithText text e after replies answers = Where (is_utf8 text) answers ((after ≡ e) × Prints replies reply.ErrorLine)

@@ -15,14 +15,14 @@ use Rattle.rtp_media_ends.specs.declared.errors.OpenError.{OpenError}
 use Rattle.rtp_media_ends.specs.declared.params.StreamParams.{StreamParams}
 use Rattle.rtp_media_ends.specs.declared.received.Received.{Received}
 use Rattle.rtp_media_ends.specs.declared.received.Received.TheVariants as received
-use Rattle.rtp_media_ends.specs.Ends.{EndState, agreed_red, fixed_end, refusal_of_open_sender}
+use Rattle.rtp_media_ends.specs.Ends.{EndState, agreed_red, refusal_of_open_sender}
 use Rattle.rtp_media_ends.specs.Ends.{refusal_of_open_receiver, after_open_sender, after_open_receiver, with_sender}
 use Rattle.rtp_media_ends.specs.Ends.{is_receiver_at, is_sender_at, with_receiver, sender_at, receiver_at}
 use Rattle.rtp_media_ends.specs.Params.{is_sound_params}
 use Rattle.rtp_media_ends.specs.Stops.{PollStops, SenderFails}
 use Rattle.rtp_media_ends.specs.Arrivals.{verdict_of, after_datagram}
 use Rattle.rtp_media_lines.specs.declared.line.Command.{Command}
-use Rattle.rtp_media_lines.specs.declared.line.Command.TheVariants.{Fixed, Send, Open, Sample, Receive, Poll}
+use Rattle.rtp_media_lines.specs.declared.line.Command.TheVariants.{Send, Open, Sample, Receive, Poll}
 use Rattle.rtp_media_lines.specs.declared.line.SendCommand.{SendCommand}
 use Rattle.rtp_media_lines.specs.declared.line.OpenCommand.{OpenCommand}
 use Rattle.rtp_media_lines.specs.declared.line.SampleCommand.{SampleCommand}
@@ -32,18 +32,14 @@ use Rattle.rtp_media_lines.specs.declared.reply.Reply.{Reply}
 use Rattle.rtp_media_lines.specs.declared.reply.Reply.TheVariants as reply
 use Rattle.rtp_media.specs.Names.{fault_name, memory, open_error_name, sample_error_name}
 
--- An end, where there is one, and what is printed.
+-- An end, and what is printed.
 pub record EndStep : Type 0 where
-  pub end : Option EndState
+  pub end : EndState
   pub replies : List Reply
 
--- One line is printed, and the end stays.
-abbrev pub prints : Option EndState → Reply → EndStep
-prints end reply = record { end = end; replies = reply ∷ [] }
-
--- One line is printed, and the end is this one.
-abbrev pub becomes : EndState → Reply → EndStep
-becomes e reply = record { end = Some e; replies = reply ∷ [] }
+-- The end is this one, and one line is printed.
+abbrev pub prints : EndState → Reply → EndStep
+prints e reply = record { end = e; replies = reply ∷ [] }
 
 -- The stream parameters that a command gives.
 abbrev pub params_of : SendCommand → StreamParams
@@ -61,26 +57,24 @@ abbrev pub is_sound_send : EndState → SendCommand → Bool
 is_sound_send e c = is_sound_params (agreed_red e (name_of 16 c.mid) c.pt) (params_of c)
 
 abbrev pub sender_step : EndState → SendCommand → Option OpenError → EndStep
-sender_step e c (Some error) = prints (Some e) (reply.Refused (open_error_name error))
-sender_step e c None = becomes (after_open_sender e (name_of 16 c.mid) c.ssrc c.pt (params_of c))
+sender_step e c (Some error) = prints e (reply.Refused (open_error_name error))
+sender_step e c None = prints (after_open_sender e (name_of 16 c.mid) c.ssrc c.pt (params_of c))
     (reply.Sender (length e.streams))
 
 -- send E MID SSRC PT FIRST MTU LIMIT DISTANCES PICTUREID
-abbrev pub send_step : Option EndState → SendCommand → EndStep
-send_step None c = prints None reply.ErrorLine
-send_step (Some e) c =
+abbrev pub send_step : EndState → SendCommand → EndStep
+send_step e c =
     if is_sound_send e c then sender_step e c (refusal_of_open_sender e (name_of 16 c.mid) c.ssrc c.pt)
-    else prints (Some e) reply.ErrorLine
+    else prints e reply.ErrorLine
 
 abbrev pub receiver_step : EndState → OpenCommand → Option OpenError → EndStep
-receiver_step e c (Some error) = prints (Some e) (reply.Refused (open_error_name error))
-receiver_step e c None = becomes (after_open_receiver e (name_of 16 c.mid) c.ssrc c.pt c.hold_back)
+receiver_step e c (Some error) = prints e (reply.Refused (open_error_name error))
+receiver_step e c None = prints (after_open_receiver e (name_of 16 c.mid) c.ssrc c.pt c.hold_back)
     (reply.Receiver (length e.streams))
 
 -- open E MID SSRC PT HOLDBACK
-abbrev pub open_step : Option EndState → OpenCommand → EndStep
-open_step None c = prints None reply.ErrorLine
-open_step (Some e) c = receiver_step e c (refusal_of_open_receiver e (name_of 16 c.mid) c.ssrc c.pt)
+abbrev pub open_step : EndState → OpenCommand → EndStep
+open_step e c = receiver_step e c (refusal_of_open_receiver e (name_of 16 c.mid) c.ssrc c.pt)
 
 -- A command's time, at the clock rate of its stream's row.
 abbrev pub time_of : EndState → SampleCommand → Time
@@ -91,20 +85,19 @@ abbrev pub values_given : Option (List ℕ) → ExtensionValues
 values_given mid = record absent { mid = option_map (name_of 16) mid }
 
 abbrev pub sent_step : EndState → SampleCommand → Option SampleError → EndStep
-sent_step e c (Some error) = prints (Some e) (reply.Refused (sample_error_name error))
+sent_step e c (Some error) = prints e (reply.Refused (sample_error_name error))
 sent_step e c None = record {
-  end = Some (with_sender e c.stream (after_sample (sender_at e c.stream) (time_of e c) (values_given c.mid) c.sample));
+  end = with_sender e c.stream (after_sample (sender_at e c.stream) (time_of e c) (values_given c.mid) c.sample);
   replies = map (λ d. reply.Datagram d) (sent_datagrams (sender_at e c.stream) (time_of e c) (values_given c.mid)
       c.sample) ++ reply.Done ∷ [];
 }
 
 -- sample E N TIME HEX [mid=TEXT]
-abbrev pub sample_step : Option EndState → SampleCommand → EndStep
-sample_step None c = prints None reply.ErrorLine
-sample_step (Some e) c =
+abbrev pub sample_step : EndState → SampleCommand → EndStep
+sample_step e c =
     if is_sender_at e c.stream then sent_step e c
     (refusal_of_sample (sender_at e c.stream) (time_of e c) (values_given c.mid) c.sample)
-    else prints (Some e) reply.ErrorLine
+    else prints e reply.ErrorLine
 
 abbrev pub verdict_reply : Received → Reply
 verdict_reply received.Unreadable = reply.Unreadable
@@ -114,9 +107,8 @@ verdict_reply received.Refused = reply.NotTaken
 verdict_reply (received.Taken stream number) = reply.Taken stream number
 
 -- receive E HEX
-abbrev pub receive_step : Option EndState → ReceiveCommand → EndStep
-receive_step None c = prints None reply.ErrorLine
-receive_step (Some e) c = becomes (after_datagram e c.datagram) (verdict_reply (verdict_of e c.datagram))
+abbrev pub receive_step : EndState → ReceiveCommand → EndStep
+receive_step e c = prints (after_datagram e c.datagram) (verdict_reply (verdict_of e c.datagram))
 
 abbrev pub unit_reply : Option MediaUnit → Reply
 unit_reply None = reply.NoUnit
@@ -127,46 +119,39 @@ poll_reply (Ok unit) = unit_reply unit
 poll_reply (Err fault) = reply.Fault (fault_name fault)
 
 -- poll E N
-abbrev pub poll_step : Option EndState → PollCommand → EndStep
-poll_step None c = prints None reply.ErrorLine
-poll_step (Some e) c =
+abbrev pub poll_step : EndState → PollCommand → EndStep
+poll_step e c =
     if is_receiver_at e c.stream then
-    becomes (with_receiver e c.stream (polled_receiver (receiver_at e c.stream)))
+    prints (with_receiver e c.stream (polled_receiver (receiver_at e c.stream)))
     (poll_reply (poll_result (receiver_at e c.stream)))
-    else prints (Some e) reply.ErrorLine
+    else prints e reply.ErrorLine
 
 -- What a command of streams does to the end that it names, and what is printed. The commands that make
 -- ends and exchange texts have definitions of their own.
-abbrev pub step_of : Option EndState → Command → EndStep
-step_of end (Fixed letter) = becomes fixed_end reply.Done
-step_of end (Send c) = send_step end c
-step_of end (Open c) = open_step end c
-step_of end (Sample c) = sample_step end c
-step_of end (Receive c) = receive_step end c
-step_of end (Poll c) = poll_step end c
-step_of end command = prints end reply.ErrorLine
+abbrev pub step_of : EndState → Command → EndStep
+step_of e (Send c) = send_step e c
+step_of e (Open c) = open_step e c
+step_of e (Sample c) = sample_step e c
+step_of e (Receive c) = receive_step e c
+step_of e (Poll c) = poll_step e c
+step_of e command = prints e reply.ErrorLine
 
 -- The end is this, and so are the replies.
-abbrev pub IsStep : EndStep → Option EndState → List Reply → Type 0
+abbrev pub IsStep : EndStep → EndState → List Reply → Type 0
 IsStep step end replies = (end ≡ step.end) × (replies ≡ step.replies)
 
 -- A command's call runs out of memory, which only one does whose conditions hold.
-abbrev pub RunsOutAt : EndState → Command → EndState → List Reply → Type 0
-RunsOutAt e (Send c) after replies =
+abbrev pub RunsOut : EndState → Command → EndState → List Reply → Type 0
+RunsOut e (Send c) after replies =
     IsTrue (is_sound_send e c) × (after ≡ e) × (replies ≡ reply.Refused memory ∷ [])
-RunsOutAt e (Open c) after replies = (after ≡ e) × (replies ≡ reply.Refused memory ∷ [])
-RunsOutAt e (Sample c) after replies =
+RunsOut e (Open c) after replies = (after ≡ e) × (replies ≡ reply.Refused memory ∷ [])
+RunsOut e (Sample c) after replies =
     IsTrue (is_sender_at e c.stream) × SenderFails e c.stream after × (replies ≡ reply.Refused memory ∷ [])
-RunsOutAt e (Receive c) after replies = (after ≡ e) × (replies ≡ reply.Refused memory ∷ [])
-RunsOutAt e (Poll c) after replies =
+RunsOut e (Receive c) after replies = (after ≡ e) × (replies ≡ reply.Refused memory ∷ [])
+RunsOut e (Poll c) after replies =
     IsTrue (is_receiver_at e c.stream) × PollStops e c.stream after × (replies ≡ reply.Fault memory ∷ [])
-RunsOutAt e command after replies = ⊥
-
-abbrev pub RunsOut : Option EndState → Command → Option EndState → List Reply → Type 0
-RunsOut old (Fixed letter) new replies = (new ≡ old) × (replies ≡ reply.Refused memory ∷ [])
-RunsOut (Some e) command (Some after) replies = RunsOutAt e command after replies
-RunsOut old command new replies = ⊥
+RunsOut e command after replies = ⊥
 
 -- A command is answered as stated, or its call runs out of memory.
-abbrev pub IsAnswered : Option EndState → Command → Option EndState → List Reply → Type 0
-IsAnswered old command new replies = IsStep (step_of old command) new replies ⊎ RunsOut old command new replies
+abbrev pub IsAnswered : EndState → Command → EndState → List Reply → Type 0
+IsAnswered e command after replies = IsStep (step_of e command) after replies ⊎ RunsOut e command after replies

@@ -1,6 +1,6 @@
 -- What the program does at each command.
 use Rattle.std.specs.Prelude.{◌≡◌, ◌⊎◌, List, [], ◌∷◌, ◌++◌, Option, Some, None}
-use Rattle.rtp_media_ends.specs.Ends.{EndState}
+use Rattle.rtp_media_ends.specs.Ends.{EndState, fixed_end}
 use Rattle.rtp_media_lines.specs.declared.words.Letter.{Letter}
 use Rattle.rtp_media_lines.specs.declared.words.Letter.TheVariants.{A, B}
 use Rattle.rtp_media_lines.specs.declared.line.Command.{Command}
@@ -49,6 +49,21 @@ letter_of (Play c) = A
 abbrev pub KeepsDraft : EndAndDraft → EndAndDraft → Type 0
 KeepsDraft old new = (new.rows ≡ old.rows) × (new.exts ≡ old.exts)
 
+-- What a command does to the end that it names.
+abbrev pub AnswersAtEnd : EndState → Command → EndState → List Reply → Type 0
+AnswersAtEnd e (Offer c) after replies = AnswersOffer e (wanted_in c.sections) after replies
+AnswersAtEnd e (Answer c) after replies =
+    WithText c.text e after replies (AnswersAnswer e c.text (wanted_in c.sections) after replies)
+AnswersAtEnd e (Accept c) after replies = WithText c.text e after replies (AnswersAccept e c.text after replies)
+AnswersAtEnd e (Withdraw letter) after replies = AnswersWithdraw e after replies
+AnswersAtEnd e command after replies = IsAnswered e command after replies
+
+-- fixed E: an end of one row, or memory ran out
+abbrev pub AnswersFixed : Option EndState → Option EndState → List Reply → Type 0
+AnswersFixed old new replies =
+    ((new ≡ Some fixed_end) × Prints replies reply.Done)
+    ⊎ ((new ≡ old) × Prints replies (reply.Refused memory))
+
 -- What a command does to what its letter stands for.
 abbrev pub AnswersAt : EndAndDraft → Command → EndAndDraft → List Reply → Type 0
 AnswersAt old (Row c) new replies = AnswersRow old c new replies
@@ -56,15 +71,9 @@ AnswersAt old (Ext c) new replies = AnswersExt old c new replies
 AnswersAt old (End c) new replies =
     AnswersEnd old c (refusal_of_draft old) new replies
     ⊎ ((new ≡ empty_draft old.end) × Prints replies (reply.Refused memory))
-AnswersAt old (Offer c) new replies = AtEnd old.end new.end replies
-    (λ e after. AnswersOffer e (wanted_in c.sections) after replies) × KeepsDraft old new
-AnswersAt old (Answer c) new replies = WithText c.text old.end new.end replies
-    (λ e after. AnswersAnswer e c.text (wanted_in c.sections) after replies) × KeepsDraft old new
-AnswersAt old (Accept c) new replies = WithText c.text old.end new.end replies
-    (λ e after. AnswersAccept e c.text after replies) × KeepsDraft old new
-AnswersAt old (Withdraw letter) new replies =
-    AtEnd old.end new.end replies (λ e after. AnswersWithdraw e after replies) × KeepsDraft old new
-AnswersAt old command new replies = IsAnswered old.end command new.end replies × KeepsDraft old new
+AnswersAt old (Fixed letter) new replies = AnswersFixed old.end new.end replies × KeepsDraft old new
+AnswersAt old command new replies =
+    AtEnd old.end new.end replies (λ e after. AnswersAtEnd e command after replies) × KeepsDraft old new
 
 -- What a command's letter stands for is answered for, and the other stays.
 abbrev pub IsAnsweredAt : Letter → ProgramState → Command → ProgramState → List Reply → Type 0

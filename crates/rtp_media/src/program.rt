@@ -6,11 +6,10 @@ ghost use Rattle.rtp_media_input.specs.Input.{lines_of};
 ghost use Rattle.rtp_media_input.specs.Runs.{Printed, ReadsAll};
 ghost use Rattle.rtp_media_input.specs.Stops.{WritesFront};
 ghost use Rattle.rtp_media_lines.specs.declared.line.Command.{Command};
-ghost use Rattle.rtp_media.specs.Exchanging.{empty_draft};
+ghost use Rattle.rtp_media.specs.Exchanging.{AtEnd, empty_draft};
 ghost use Rattle.rtp_media.specs.Playing.{PlaysEnds};
-ghost use Rattle.rtp_media.specs.Program.{IsAnswered};
-ghost use Rattle.rtp_media.specs.ProgramState.{AnswersCommand, AnswersAt, ConnectsEnds, KeepsDraft, letter_of};
-ghost use Rattle.rtp_media.specs.ProgramState.{initial_state};
+ghost use Rattle.rtp_media.specs.ProgramState.{AnswersAt, AnswersAtEnd, AnswersCommand, AnswersFixed, ConnectsEnds};
+ghost use Rattle.rtp_media.specs.ProgramState.{KeepsDraft, initial_state, letter_of};
 
 mod exchanging;
 mod names;
@@ -158,28 +157,49 @@ fn command_letter(command: &Command) -> Letter
     }
 }
 
-/// Answers a command at what its letter stands for; `connect`, `queue` and `play` have none or
-/// two, and aren't for here.
+/// Answers a command at what its letter stands for.
 fn answer(alloc: Global, kept: &mut EndAndDraft, command: Command) -> Result<Vec<Reply>, AllocError>
     ensures { IfOk result (λ replies. AnswersAt kept.old command kept.new replies.items) }
 {
     match command {
-        Command::Fixed(letter) => fix(alloc, &mut kept.end, letter),
-        Command::Send(command) => send(alloc, &mut kept.end, command),
-        Command::Open(command) => open(alloc, &mut kept.end, command),
-        Command::Sample(command) => sample(alloc, &mut kept.end, command),
-        Command::Receive(command) => receive(alloc, &mut kept.end, command),
-        Command::Poll(command) => poll(alloc, &mut kept.end, command),
         Command::Row(command) => draft_row(alloc, kept, command),
         Command::Ext(command) => draft_ext(alloc, kept, command),
         Command::End(command) => make_end(alloc, kept, command),
-        Command::Offer(command) => offer(alloc, &mut kept.end, command),
-        Command::Answer(command) => answer_offer(alloc, &mut kept.end, command),
-        Command::Accept(command) => accept(alloc, &mut kept.end, command),
-        Command::Withdraw(letter) => withdraw(alloc, &mut kept.end, letter),
-        Command::Connect(_) => one(alloc, Reply::ErrorLine),
-        Command::Queue(_) => one(alloc, Reply::ErrorLine),
-        Command::Play(_) => one(alloc, Reply::ErrorLine),
+        Command::Fixed(_) => fix(alloc, &mut kept.end),
+        command => answer_end(alloc, &mut kept.end, command),
+    }
+}
+
+/// Answers a command that needs an end: an error line, where there is none.
+fn answer_end(
+    alloc: Global,
+    end: &mut Option<End>,
+    command: Command,
+) -> Result<Vec<Reply>, AllocError>
+    ensures { IfOk result (λ replies. AtEnd end.old end.new replies.items
+        (λ e after. AnswersAtEnd e command after replies.items)) }
+{
+    match end {
+        Some(end) => answer_at(alloc, end, command),
+        None => one(alloc, Reply::ErrorLine),
+    }
+}
+
+/// Answers a command at its end; the others aren't for here.
+fn answer_at(alloc: Global, end: &mut End, command: Command) -> Result<Vec<Reply>, AllocError>
+    ensures { IfOk result (λ replies. AnswersAtEnd end.old command end.new replies.items) }
+{
+    match command {
+        Command::Send(command) => send(alloc, end, command),
+        Command::Open(command) => open(alloc, end, command),
+        Command::Sample(command) => sample(alloc, end, command),
+        Command::Receive(command) => receive(alloc, end, command),
+        Command::Poll(command) => poll(alloc, end, command),
+        Command::Offer(command) => offer(alloc, end, command),
+        Command::Answer(command) => answer_offer(alloc, end, command),
+        Command::Accept(command) => accept(alloc, end, command),
+        Command::Withdraw(_) => withdraw(alloc, end),
+        _ => one(alloc, Reply::ErrorLine),
     }
 }
 
@@ -192,8 +212,9 @@ pub(crate) fn one(alloc: Global, reply: Reply) -> Result<Vec<Reply>, AllocError>
     Ok(replies)
 }
 
-fn fix(alloc: Global, end: &mut Option<End>, _letter: Letter) -> Result<Vec<Reply>, AllocError>
-    ensures { IfOk result (λ replies. IsAnswered end.old (Command.Fixed _letter) end.new replies.items) }
+/// Makes the end of one row.
+fn fix(alloc: Global, end: &mut Option<End>) -> Result<Vec<Reply>, AllocError>
+    ensures { IfOk result (λ replies. AnswersFixed end.old end.new replies.items) }
 {
     match End::fixed(alloc) {
         Ok(fixed) => {

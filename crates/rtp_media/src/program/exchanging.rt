@@ -3,7 +3,7 @@
 ghost use Rattle.std.specs.Prelude.{◌≡◌, [], ◌∷◌, None, Some, IfOk, IfSome, IfNone, true, false};
 ghost use Rattle.std.specs.Str.{is_utf8};
 ghost use Rattle.sdp_formats_format.specs.Formats.{no_format};
-ghost use Rattle.rtp_media.specs.Exchanging.{Prints, AtEnd, WithText, wanted_of, wanted_in, drafted_row, format_for};
+ghost use Rattle.rtp_media.specs.Exchanging.{Prints, WithText, wanted_of, wanted_in, drafted_row, format_for};
 ghost use Rattle.rtp_media.specs.Exchanging.{AnswersRow, AnswersExt, AnswersEnd, AnswersOffer, AnswersAnswer};
 ghost use Rattle.rtp_media.specs.Exchanging.{AnswersAccept, AnswersWithdraw, AnswersConnect, refusal_of_draft};
 ghost use Rattle.rtp_media.specs.Exchanging.{empty_draft};
@@ -16,8 +16,8 @@ use rtp_media_ends::{
     Codec, CodecConfig, CodecSpec, End, FormatParams, PayloadParams, SectionSpec, Session, connect,
 };
 use rtp_media_lines::{
-    AcceptCommand, AnswerCommand, Bytes, ConnectCommand, EndCommand, ExtCommand, Letter,
-    OfferCommand, Reply, RowCommand, SectionWord, Text,
+    AcceptCommand, AnswerCommand, Bytes, ConnectCommand, EndCommand, ExtCommand, OfferCommand,
+    Reply, RowCommand, SectionWord, Text,
 };
 use rtp_wire::{Extension, ExtensionMap, Frequency, Mid, Pt, SessionId, Ssrc};
 use std::alloc::{AllocError, Global};
@@ -133,15 +133,11 @@ fn wanted_in(alloc: Global, sections: &[SectionWord]) -> Result<Vec<SectionSpec>
 
 pub(super) fn offer(
     alloc: Global,
-    end: &mut Option<End>,
+    end: &mut End,
     command: OfferCommand,
 ) -> Result<Vec<Reply>, AllocError>
-    ensures { IfOk result (λ replies. AtEnd end.old end.new replies.items
-        (λ e after. AnswersOffer e (wanted_in command.sections) after replies.items)) }
+    ensures { IfOk result (λ replies. AnswersOffer end.old (wanted_in command.sections) end.new replies.items) }
 {
-    let Some(end) = end else {
-        return one(alloc, Reply::ErrorLine);
-    };
     let sections = wanted_in(alloc, command.sections.as_slice())?;
     match end.offer(sections) {
         Ok(text) => one(alloc, Reply::Text(Bytes::from_vec(text.into_bytes()))),
@@ -163,11 +159,11 @@ fn text_in(bytes: &[u8]) -> Option<&str>
 
 pub(super) fn answer_offer(
     alloc: Global,
-    end: &mut Option<End>,
+    end: &mut End,
     command: AnswerCommand,
 ) -> Result<Vec<Reply>, AllocError>
     ensures { IfOk result (λ replies. WithText command.text end.old end.new replies.items
-        (λ e after. AnswersAnswer e command.text (wanted_in command.sections) after replies.items)) }
+        (AnswersAnswer end.old command.text (wanted_in command.sections) end.new replies.items)) }
 {
     match text_in(command.text.as_slice()) {
         Some(text) => answer_text(alloc, end, text, command.sections.as_slice()),
@@ -177,16 +173,12 @@ pub(super) fn answer_offer(
 
 fn answer_text(
     alloc: Global,
-    end: &mut Option<End>,
+    end: &mut End,
     text: &str,
     sections: &[SectionWord],
 ) -> Result<Vec<Reply>, AllocError>
-    ensures { IfOk result (λ replies. AtEnd end.old end.new replies.items
-        (λ e after. AnswersAnswer e text.now (wanted_in sections.now) after replies.items)) }
+    ensures { IfOk result (λ replies. AnswersAnswer end.old text.now (wanted_in sections.now) end.new replies.items) }
 {
-    let Some(end) = end else {
-        return one(alloc, Reply::ErrorLine);
-    };
     let sections = wanted_in(alloc, sections)?;
     match end.answer(text, sections) {
         Ok(text) => one(alloc, Reply::Text(Bytes::from_vec(text.into_bytes()))),
@@ -196,11 +188,11 @@ fn answer_text(
 
 pub(super) fn accept(
     alloc: Global,
-    end: &mut Option<End>,
+    end: &mut End,
     command: AcceptCommand,
 ) -> Result<Vec<Reply>, AllocError>
     ensures { IfOk result (λ replies. WithText command.text end.old end.new replies.items
-        (λ e after. AnswersAccept e command.text after replies.items)) }
+        (AnswersAccept end.old command.text end.new replies.items)) }
 {
     match text_in(command.text.as_slice()) {
         Some(text) => accept_text(alloc, end, text),
@@ -208,30 +200,18 @@ pub(super) fn accept(
     }
 }
 
-fn accept_text(alloc: Global, end: &mut Option<End>, text: &str) -> Result<Vec<Reply>, AllocError>
-    ensures { IfOk result (λ replies. AtEnd end.old end.new replies.items
-        (λ e after. AnswersAccept e text.now after replies.items)) }
+fn accept_text(alloc: Global, end: &mut End, text: &str) -> Result<Vec<Reply>, AllocError>
+    ensures { IfOk result (λ replies. AnswersAccept end.old text.now end.new replies.items) }
 {
-    let Some(end) = end else {
-        return one(alloc, Reply::ErrorLine);
-    };
     match end.accept(text) {
         Ok(()) => one(alloc, Reply::Done),
         Err(error) => one(alloc, Reply::Refused(exchange_error_name(&error))),
     }
 }
 
-pub(super) fn withdraw(
-    alloc: Global,
-    end: &mut Option<End>,
-    _letter: Letter,
-) -> Result<Vec<Reply>, AllocError>
-    ensures { IfOk result (λ replies. AtEnd end.old end.new replies.items
-        (λ e after. AnswersWithdraw e after replies.items)) }
+pub(super) fn withdraw(alloc: Global, end: &mut End) -> Result<Vec<Reply>, AllocError>
+    ensures { IfOk result (λ replies. AnswersWithdraw end.old end.new replies.items) }
 {
-    let Some(end) = end else {
-        return one(alloc, Reply::ErrorLine);
-    };
     if end.withdraw() {
         one(alloc, Reply::Done)
     } else {

@@ -47,14 +47,11 @@ fn params_of(command: SendCommand) -> StreamParams
 
 pub(super) fn send(
     alloc: Global,
-    end: &mut Option<End>,
+    end: &mut End,
     command: SendCommand,
 ) -> Result<Vec<Reply>, AllocError>
     ensures { IfOk result (λ replies. IsAnswered end.old (Command.Send command) end.new replies.items) }
 {
-    let Some(end) = end else {
-        return one(alloc, Reply::ErrorLine);
-    };
     let mid = Mid::from(command.mid.as_str());
     let pt = Pt::from(command.pt);
     let ssrc = Ssrc::from(command.ssrc);
@@ -70,14 +67,11 @@ pub(super) fn send(
 
 pub(super) fn open(
     alloc: Global,
-    end: &mut Option<End>,
+    end: &mut End,
     command: OpenCommand,
 ) -> Result<Vec<Reply>, AllocError>
     ensures { IfOk result (λ replies. IsAnswered end.old (Command.Open command) end.new replies.items) }
 {
-    let Some(end) = end else {
-        return one(alloc, Reply::ErrorLine);
-    };
     let mid = Mid::from(command.mid.as_str());
     let ssrc = Ssrc::from(command.ssrc);
     match end.open_receiver(mid, ssrc, Pt::from(command.pt), command.hold_back) {
@@ -88,14 +82,11 @@ pub(super) fn open(
 
 pub(super) fn sample(
     alloc: Global,
-    end: &mut Option<End>,
+    end: &mut End,
     command: SampleCommand,
 ) -> Result<Vec<Reply>, AllocError>
     ensures { IfOk result (λ replies. IsAnswered end.old (Command.Sample command) end.new replies.items) }
 {
-    let Some(end) = end else {
-        return one(alloc, Reply::ErrorLine);
-    };
     if !end.is_sender(command.stream) {
         return one(alloc, Reply::ErrorLine);
     }
@@ -137,14 +128,11 @@ fn datagram_replies(alloc: Global, datagrams: Vec<Datagram>) -> Result<Vec<Reply
 
 pub(super) fn receive(
     alloc: Global,
-    end: &mut Option<End>,
+    end: &mut End,
     command: ReceiveCommand,
 ) -> Result<Vec<Reply>, AllocError>
     ensures { IfOk result (λ replies. IsAnswered end.old (Command.Receive command) end.new replies.items) }
 {
-    let Some(end) = end else {
-        return one(alloc, Reply::ErrorLine);
-    };
     match end.receive(command.datagram.as_slice()) {
         Ok(received) => one(alloc, verdict_reply(received)),
         Err(_) => one(alloc, Reply::Refused(memory())),
@@ -153,14 +141,11 @@ pub(super) fn receive(
 
 pub(super) fn poll(
     alloc: Global,
-    end: &mut Option<End>,
+    end: &mut End,
     command: PollCommand,
 ) -> Result<Vec<Reply>, AllocError>
     ensures { IfOk result (λ replies. IsAnswered end.old (Command.Poll command) end.new replies.items) }
 {
-    let Some(end) = end else {
-        return one(alloc, Reply::ErrorLine);
-    };
     if !end.is_receiver(command.stream) {
         return one(alloc, Reply::ErrorLine);
     }
