@@ -1,7 +1,7 @@
 //! Ends that send samples and receive units.
 
 use crate::error::{done, EndError};
-use crate::params::{Received, Row, StreamParams, Unit};
+use crate::params::{handed_out, Received, Row, StreamParams, Unit};
 use crate::sys;
 use crate::values::Values;
 use std::ptr;
@@ -218,7 +218,7 @@ impl End {
     pub fn poll(&mut self, stream: usize) -> Result<Option<Unit>, EndError> {
         // SAFETY: the handle is open.
         let answer = unsafe { sys::jilqamur_end_poll(&mut self.0, stream) };
-        self.unit_of(answer)
+        handed_out(&mut self.0, answer, done, sys::jilqamur_end_unit)
     }
 
     /// The same, whether or not a datagram before the lowest complete unit is missing: for the end of a stream.
@@ -228,7 +228,7 @@ impl End {
     pub fn drain(&mut self, stream: usize) -> Result<Option<Unit>, EndError> {
         // SAFETY: the handle is open.
         let answer = unsafe { sys::jilqamur_end_drain(&mut self.0, stream) };
-        self.unit_of(answer)
+        handed_out(&mut self.0, answer, done, sys::jilqamur_end_unit)
     }
 
     /// All units of a receiving stream that are ready, and faults between them.
@@ -251,19 +251,6 @@ impl End {
         // SAFETY: the handle is open, and what is written is a place of its own.
         let answer = unsafe { sys::jilqamur_end_values(&mut self.0, &mut told) };
         (answer == 0).then(|| Values::of(&told))
-    }
-
-    fn unit_of(&mut self, answer: u32) -> Result<Option<Unit>, EndError> {
-        if answer == 12 {
-            return Ok(None);
-        }
-        done(answer)?;
-        let mut told = sys::Unit::default();
-        let bytes = fetched(|buffer, len, needed| {
-            // SAFETY: the handle is open, and what is written are places of their own.
-            unsafe { sys::jilqamur_end_unit(&mut self.0, buffer, len, needed, &mut told) }
-        });
-        Ok(Some(Unit::of(told, bytes)))
     }
 }
 

@@ -1,5 +1,6 @@
 //! What ends and streams are made of, and what they tell.
 
+use crate::ends::fetched;
 use crate::sys;
 use std::time::Duration;
 
@@ -191,4 +192,26 @@ impl Unit {
             bytes,
         }
     }
+}
+
+/// Copies the bytes of the unit that a handle keeps, and tells the rest of it.
+type CopyUnit = unsafe extern "C" fn(*mut sys::Handle, *mut u8, usize, *mut usize, *mut sys::Unit) -> u32;
+
+/// What a poll of an open handle handed out, by its answer: 12 is that no unit is due.
+pub(crate) fn handed_out<E>(
+    handle: &mut sys::Handle,
+    answer: u32,
+    done: fn(u32) -> Result<(), E>,
+    copy: CopyUnit,
+) -> Result<Option<Unit>, E> {
+    if answer == 12 {
+        return Ok(None);
+    }
+    done(answer)?;
+    let mut told = sys::Unit::default();
+    let bytes = fetched(|buffer, len, needed| {
+        // SAFETY: the handle is open, and what is written are places of their own.
+        unsafe { copy(handle, buffer, len, needed, &mut told) }
+    });
+    Ok(Some(Unit::of(told, bytes)))
 }

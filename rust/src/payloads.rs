@@ -1,7 +1,7 @@
 //! Packetizers and depacketizers that go by a codec's name.
 
 use crate::ends::fetched;
-use crate::params::Unit;
+use crate::params::{handed_out, Unit};
 use crate::streams::Format;
 use crate::sys;
 use std::{fmt, ptr};
@@ -214,7 +214,7 @@ impl Depacketizer {
     pub fn pop(&mut self) -> Result<Option<Unit>, Fault> {
         // SAFETY: the handle is open.
         let answer = unsafe { sys::jilqamur_depacketizer_pop(&mut self.0) };
-        self.unit_of(answer)
+        handed_out(&mut self.0, answer, done, sys::jilqamur_depacketizer_unit)
     }
 
     /// The same, whether or not a packet before the lowest complete unit is missing: for the end of a stream.
@@ -224,7 +224,7 @@ impl Depacketizer {
     pub fn drain(&mut self) -> Result<Option<Unit>, Fault> {
         // SAFETY: the handle is open.
         let answer = unsafe { sys::jilqamur_depacketizer_drain(&mut self.0) };
-        self.unit_of(answer)
+        handed_out(&mut self.0, answer, done, sys::jilqamur_depacketizer_unit)
     }
 
     /// All units that are due, and faults between them.
@@ -238,19 +238,6 @@ impl Depacketizer {
             is_over = matches!(unit, None | Some(Err(Fault::Memory)));
             unit
         })
-    }
-
-    fn unit_of(&mut self, answer: u32) -> Result<Option<Unit>, Fault> {
-        if answer == 12 {
-            return Ok(None);
-        }
-        done(answer)?;
-        let mut told = sys::Unit::default();
-        let bytes = fetched(|buffer, len, needed| {
-            // SAFETY: the handle is open, and what is written are places of their own.
-            unsafe { sys::jilqamur_depacketizer_unit(&mut self.0, buffer, len, needed, &mut told) }
-        });
-        Ok(Some(Unit::of(told, bytes)))
     }
 }
 

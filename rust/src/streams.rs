@@ -2,7 +2,7 @@
 
 use crate::ends::fetched;
 use crate::error::{done, EndError};
-use crate::params::Unit;
+use crate::params::{handed_out, Unit};
 use crate::sys;
 use std::ptr;
 
@@ -201,7 +201,7 @@ impl Receiver {
     pub fn poll(&mut self) -> Result<Option<Unit>, EndError> {
         // SAFETY: the handle is open.
         let answer = unsafe { sys::jilqamur_receiver_poll(&mut self.0) };
-        self.unit_of(answer)
+        handed_out(&mut self.0, answer, done, sys::jilqamur_receiver_unit)
     }
 
     /// The same, whether or not a packet before the lowest complete unit is missing: for the end of a stream.
@@ -211,20 +211,7 @@ impl Receiver {
     pub fn drain(&mut self) -> Result<Option<Unit>, EndError> {
         // SAFETY: the handle is open.
         let answer = unsafe { sys::jilqamur_receiver_drain(&mut self.0) };
-        self.unit_of(answer)
-    }
-
-    fn unit_of(&mut self, answer: u32) -> Result<Option<Unit>, EndError> {
-        if answer == 12 {
-            return Ok(None);
-        }
-        done(answer)?;
-        let mut told = sys::Unit::default();
-        let bytes = fetched(|buffer, len, needed| {
-            // SAFETY: the handle is open, and what is written are places of their own.
-            unsafe { sys::jilqamur_receiver_unit(&mut self.0, buffer, len, needed, &mut told) }
-        });
-        Ok(Some(Unit::of(told, bytes)))
+        handed_out(&mut self.0, answer, done, sys::jilqamur_receiver_unit)
     }
 }
 
