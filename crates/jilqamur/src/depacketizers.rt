@@ -1,14 +1,13 @@
 //! Depacketizers by codec.
 
 ghost use Rattle.std.specs.Prelude.{◌≡◌, ◌≢◌, None, Some, IsSome};
-ghost use Rattle.jilqamur_wire.specs.Codes.{ok, memory, nothing, closed, in_use};
-ghost use Rattle.jilqamur_wire.specs.Copies.{IsFetched};
-ghost use Rattle.jilqamur_wire.specs.Handles.{AtObject, answer_of};
-ghost use Rattle.jilqamur_payloads.specs.Formats.{format_outcome};
-ghost use Rattle.jilqamur_payloads.specs.PacketInboxes.{new_packet_inbox, behind_push, PopsAt, bytes_of, IsToldOf};
+ghost use Rattle.jilqamur_packets.specs.Codes.{ok, memory, nothing, closed, in_use};
+ghost use Rattle.jilqamur_packets.specs.Copies.{IsFetched};
+ghost use Rattle.jilqamur_packets.specs.Handles.{AtObject, answer_of};
+ghost use Rattle.jilqamur_packets.specs.Formats.{format_outcome};
+ghost use Rattle.jilqamur_packets.specs.PacketInboxes.{new_packet_inbox, behind_push, PopsAt, bytes_of, IsToldOf};
 
-use jilqamur_payloads::{DepacketizerHandle, WireFormat, WireUnit};
-use jilqamur_wire::codes;
+use jilqamur_packets::{DepacketizerHandle, WireFormat, WireUnit, codes};
 use std::alloc::Global;
 
 /// Opens a depacketizer by codec.

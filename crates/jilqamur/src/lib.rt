@@ -1,5 +1,5 @@
-//! Headers, replay windows, payload formats, streams and ends for C programs: exports over `jilqamur_wire`,
-//! `jilqamur_payloads`, `jilqamur_streams` and `jilqamur_ends`, as `include/jilqamur.h` declares them.
+//! Headers, replay windows, payload formats, streams and ends for C programs: exports over `jilqamur_packets`,
+//! `jilqamur_packets`, `jilqamur_streams` and `jilqamur_ends`, as `include/jilqamur.h` declares them.
 #![tactic(auto)]
 
 ghost use Rattle.std.specs.Prelude.{◌≡◌, ◌≢◌, ◌++◌, length, drop, Some, None, IsSome, MatchOption};
@@ -9,10 +9,10 @@ ghost use Rattle.rtp_wire.specs.Padding.{unpadded};
 ghost use Rattle.rtp_wire.specs.Run.{reception_of};
 ghost use Rattle.rtp_wire.specs.Widening.{widened};
 ghost use Rattle.rtp_wire_extensions.specs.Maps.{empty_map};
-ghost use Rattle.jilqamur_wire.specs.Codes.{ok, memory, in_use, closed, unreadable, damaged, unwritable};
-ghost use Rattle.jilqamur_wire.specs.Headers.{as_wire, as_header, write_outcome};
-ghost use Rattle.jilqamur_wire.specs.Windows.{ReceivedAs, behind, fresh};
-ghost use Rattle.jilqamur_wire.specs.Handles.{answer_of};
+ghost use Rattle.jilqamur_packets.specs.Codes.{ok, memory, in_use, closed, unreadable, damaged, unwritable};
+ghost use Rattle.jilqamur_packets.specs.Headers.{as_wire, as_header, write_outcome};
+ghost use Rattle.jilqamur_packets.specs.Windows.{ReceivedAs, behind, fresh};
+ghost use Rattle.jilqamur_packets.specs.Handles.{answer_of};
 
 mod depacketizers;
 mod exchanging;
@@ -23,7 +23,9 @@ mod senders;
 mod setup;
 mod streams;
 
-use jilqamur_wire::{WindowHandle, WireHeader, codes, read_header, reception_code, write_header};
+use jilqamur_packets::{
+    WindowHandle, WireHeader, codes, read_header, reception_code, write_header,
+};
 use rtp_wire::{extend_u16, unpad_payload};
 use std::alloc::Global;
 

@@ -1,16 +1,15 @@
 //! Receiving streams by codec, without an end.
 
 ghost use Rattle.std.specs.Prelude.{◌≡◌, ◌≢◌, None, Some, IsSome};
-ghost use Rattle.jilqamur_wire.specs.Codes.{ok, memory, nothing, closed, in_use};
-ghost use Rattle.jilqamur_wire.specs.Copies.{IsFetched};
-ghost use Rattle.jilqamur_wire.specs.Handles.{AtObject, answer_of};
-ghost use Rattle.jilqamur_payloads.specs.Formats.{format_outcome};
+ghost use Rattle.jilqamur_packets.specs.Codes.{ok, memory, nothing, closed, in_use};
+ghost use Rattle.jilqamur_packets.specs.Copies.{IsFetched};
+ghost use Rattle.jilqamur_packets.specs.Handles.{AtObject, answer_of};
+ghost use Rattle.jilqamur_packets.specs.Formats.{format_outcome};
 ghost use Rattle.jilqamur_streams.specs.Fetched.{IsToldOf, bytes_of};
 ghost use Rattle.jilqamur_streams.specs.Inboxes.{Polls, Drains, new_inbox, Takes};
 
-use jilqamur_payloads::{WireFormat, WireUnit};
+use jilqamur_packets::{WireFormat, WireUnit, codes};
 use jilqamur_streams::ReceiverHandle;
-use jilqamur_wire::codes;
 use std::alloc::Global;
 
 /// Opens a receiving stream by codec.

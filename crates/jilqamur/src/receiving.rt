@@ -1,17 +1,16 @@
 //! Receiving streams.
 
 ghost use Rattle.std.specs.Prelude.{◌≡◌, ◌≢◌, Some};
-ghost use Rattle.jilqamur_wire.specs.Codes.{ok, nothing, closed};
-ghost use Rattle.jilqamur_wire.specs.Handles.{AtObject};
+ghost use Rattle.jilqamur_packets.specs.Codes.{ok, nothing, closed};
+ghost use Rattle.jilqamur_packets.specs.Handles.{AtObject};
 ghost use Rattle.jilqamur_ends.specs.Answers.{AtEnd};
 ghost use Rattle.jilqamur_ends.specs.Peers.{behind_end, behind_poll};
-ghost use Rattle.jilqamur_wire.specs.Copies.{IsFetched};
+ghost use Rattle.jilqamur_packets.specs.Copies.{IsFetched};
 ghost use Rattle.jilqamur_streams.specs.Fetched.{IsToldOf, bytes_of};
 ghost use Rattle.jilqamur_ends.specs.Receiving.{Receives, Polls, Drains, TellsValues};
 
 use jilqamur_ends::EndHandle;
-use jilqamur_payloads::WireUnit;
-use jilqamur_wire::{WireValues, codes};
+use jilqamur_packets::{WireUnit, WireValues, codes};
 use std::alloc::Global;
 
 /// Takes a datagram in.

@@ -2,14 +2,13 @@
 
 ghost use Rattle.std.specs.Prelude.{◌≡◌, ◌≢◌, length, None, Some, IsSome};
 ghost use Rattle.std.specs.List.{slice_get};
-ghost use Rattle.jilqamur_wire.specs.Codes.{ok, memory, nothing, closed, in_use};
-ghost use Rattle.jilqamur_wire.specs.Copies.{IsFetched};
-ghost use Rattle.jilqamur_wire.specs.Handles.{AtObject, answer_of};
+ghost use Rattle.jilqamur_packets.specs.Codes.{ok, memory, nothing, closed, in_use};
+ghost use Rattle.jilqamur_packets.specs.Copies.{IsFetched};
+ghost use Rattle.jilqamur_packets.specs.Handles.{AtObject, answer_of};
 ghost use Rattle.jilqamur_streams.specs.Outboxes.{new_outbox, sender_outcome, Pushes};
 
-use jilqamur_payloads::WireFormat;
+use jilqamur_packets::{WireFormat, codes};
 use jilqamur_streams::{SenderHandle, WireSender};
-use jilqamur_wire::codes;
 use std::alloc::Global;
 
 /// Opens a sending stream by codec.

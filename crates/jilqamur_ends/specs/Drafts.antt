@@ -16,8 +16,8 @@ use Rattle.rtp_media_negotiation.specs.declared.errors.EndError.TheVariants as e
 use Rattle.rtp_media_negotiation.specs.Exchanges.{bare_session}
 use Rattle.rtp_media_negotiation.specs.Refusals.{refusal_of_new}
 use Rattle.rtp_media_ends.specs.Ends.{new_end}
-use Rattle.jilqamur_wire.specs.Codes.{ok, memory, not_text, out_of_range}
-use Rattle.jilqamur_wire.specs.Codes.{row_not_plain, types_not_distinct, not_writable}
+use Rattle.jilqamur_packets.specs.Codes.{ok, memory, not_text, out_of_range}
+use Rattle.jilqamur_packets.specs.Codes.{row_not_plain, types_not_distinct, not_writable}
 use Rattle.jilqamur_ends.specs.declared.draft.WireRow.{WireRow}
 use Rattle.jilqamur_ends.specs.Peers.{PeerState}
 

@@ -8,10 +8,10 @@ use Rattle.rtp_media_ends.specs.Ends.{EndState, agreed_red, after_open_sender, r
 use Rattle.rtp_media_ends.specs.Ends.{is_sender_at, sender_at, with_sender}
 use Rattle.rtp_media_ends.specs.Params.{is_sound_params}
 use Rattle.rtp_media_ends.specs.declared.params.StreamParams.{StreamParams}
-use Rattle.jilqamur_wire.specs.Codes.{ok, memory, out_of_range, no_stream}
-use Rattle.jilqamur_wire.specs.Values.{values_given}
-use Rattle.jilqamur_wire.specs.declared.values.WireValues.{WireValues}
-use Rattle.jilqamur_payloads.specs.Formats.{number_given}
+use Rattle.jilqamur_packets.specs.Codes.{ok, memory, out_of_range, no_stream}
+use Rattle.jilqamur_packets.specs.Values.{values_given}
+use Rattle.jilqamur_packets.specs.declared.values.WireValues.{WireValues}
+use Rattle.jilqamur_packets.specs.Formats.{number_given}
 use Rattle.jilqamur_streams.specs.Answers.{sample_outcome}
 use Rattle.jilqamur_ends.specs.declared.sending.WireStream.{WireStream}
 use Rattle.rtp_media_ends.specs.Stops.{SenderFails, Where}

@@ -7,7 +7,7 @@ ghost use Rattle.rtp_media_streams.specs.Receiving.{polled_receiver};
 ghost use Rattle.rtp_media_ends.specs.Arrivals.{verdict_of, after_datagram};
 ghost use Rattle.rtp_media_ends.specs.Ends.{is_receiver_at, receiver_at, with_receiver, after_open_receiver};
 ghost use Rattle.rtp_media_ends.specs.Ends.{refusal_of_open_receiver};
-ghost use Rattle.jilqamur_wire.specs.Codes.{ok, memory};
+ghost use Rattle.jilqamur_packets.specs.Codes.{ok, memory};
 ghost use Rattle.jilqamur_ends.specs.Answers.{AtEnd};
 ghost use Rattle.jilqamur_ends.specs.Exchanges.{WithText};
 ghost use Rattle.rtp_media_ends.specs.Stops.{PollStops};
@@ -17,8 +17,8 @@ ghost use Rattle.rtp_media_streams.specs.Polls.{poll_result};
 ghost use Rattle.jilqamur_streams.specs.Answers.{poll_code, unit_behind, drain_result};
 
 use crate::peer::Peer;
+use jilqamur_packets::{codes, text_in};
 use jilqamur_streams::poll_code;
-use jilqamur_wire::{codes, text_in};
 use rtp_media_ends::{End, OpenError, Received, Unit};
 use rtp_wire::{Mid, Pt, Ssrc};
 

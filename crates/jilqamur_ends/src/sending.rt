@@ -2,7 +2,7 @@
 
 ghost use Rattle.std.specs.Prelude.{◌≡◌, ◌≢◌, IfOk, true, length};
 ghost use Rattle.rtp_media_ends.specs.Params.{is_sound_params};
-ghost use Rattle.jilqamur_wire.specs.Codes.{ok, memory};
+ghost use Rattle.jilqamur_packets.specs.Codes.{ok, memory};
 ghost use Rattle.jilqamur_ends.specs.Answers.{AtEnd};
 ghost use Rattle.jilqamur_ends.specs.Exchanges.{WithText};
 ghost use Rattle.jilqamur_ends.specs.Sending.{params_of, distances_of, AnswersSender, AnswersSample};
@@ -10,9 +10,8 @@ ghost use Rattle.jilqamur_ends.specs.Sending.{mid_of};
 
 use crate::peer::Peer;
 use crate::receiving::open_code;
-use jilqamur_payloads::number_given;
+use jilqamur_packets::{WireValues, codes, number_given, text_in};
 use jilqamur_streams::sample_code;
-use jilqamur_wire::{WireValues, codes, text_in};
 use rtp_media_ends::{Datagram, Distances, End, StreamParams};
 use rtp_wire::{MediaTime, Mid, Pt, Ssrc};
 use std::alloc::{AllocError, Global};

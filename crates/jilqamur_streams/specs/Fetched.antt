@@ -1,8 +1,8 @@
 -- What is told of units.
 use Rattle.std.specs.Prelude.{ℕ, ◌≡◌, List, Option, Some, None}
 use Rattle.rtp_media_schedules.specs.Hearing.{MediaUnit}
-use Rattle.jilqamur_payloads.specs.Units.{told_by}
-use Rattle.jilqamur_payloads.specs.declared.payload_unit.WireUnit.{WireUnit}
+use Rattle.jilqamur_packets.specs.Units.{told_by}
+use Rattle.jilqamur_packets.specs.declared.payload_unit.WireUnit.{WireUnit}
 
 -- What is told of a unit beside its bytes.
 abbrev pub wire_unit : MediaUnit → WireUnit

@@ -2,8 +2,8 @@
 use Rattle.std.specs.Prelude.{ℕ, List}
 use Rattle.payload_core_base.specs.Codecs.{codec_named}
 use Rattle.rtp_media_streams.specs.declared.row_format.RowFormat.{RowFormat}
-use Rattle.jilqamur_payloads.specs.Formats.{flag_given, number_given}
-use Rattle.jilqamur_payloads.specs.declared.format.WireFormat.{WireFormat}
+use Rattle.jilqamur_packets.specs.Formats.{flag_given, number_given}
+use Rattle.jilqamur_packets.specs.declared.format.WireFormat.{WireFormat}
 
 abbrev pub row_of : WireFormat → List ℕ → RowFormat
 row_of w codec = record {

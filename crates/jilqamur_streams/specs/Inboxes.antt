@@ -8,11 +8,11 @@ use Rattle.rtp_media_streams.specs.Polls.{IsInterrupted, PollResult, poll_result
 use Rattle.rtp_media_streams.specs.Receiving.{Receiving, arrived, opened_receiver, polled_receiver, taken_number}
 use Rattle.rtp_media_streams.specs.Receiving.{with_stream}
 use Rattle.rtp_media_streams.specs.Rows.{format_of}
-use Rattle.jilqamur_wire.specs.Codes.{ok, memory, refused}
+use Rattle.jilqamur_packets.specs.Codes.{ok, memory, refused}
 use Rattle.jilqamur_streams.specs.Answers.{poll_code, unit_behind, drain_result}
 use Rattle.jilqamur_streams.specs.Formats.{row_of}
 use Rattle.jilqamur_streams.specs.Outboxes.{type_alone}
-use Rattle.jilqamur_payloads.specs.declared.format.WireFormat.{WireFormat}
+use Rattle.jilqamur_packets.specs.declared.format.WireFormat.{WireFormat}
 
 pub record InboxState : Type 0 where
   pub stream : Receiving

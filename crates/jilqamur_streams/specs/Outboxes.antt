@@ -7,11 +7,11 @@ use Rattle.rtp_wire.specs.Values.{absent}
 use Rattle.rtp_media_streams.specs.Sending.{HasFailed, Sending, opened_sender, sent_datagrams, after_sample}
 use Rattle.rtp_media_streams.specs.Sending.{refusal_of_sample}
 use Rattle.rtp_media_streams.specs.declared.types.PayloadTypes.{PayloadTypes}
-use Rattle.jilqamur_wire.specs.Codes.{ok, memory, out_of_range}
+use Rattle.jilqamur_packets.specs.Codes.{ok, memory, out_of_range}
 use Rattle.jilqamur_streams.specs.Answers.{sample_outcome}
-use Rattle.jilqamur_payloads.specs.Formats.{format_outcome, number_given}
+use Rattle.jilqamur_packets.specs.Formats.{format_outcome, number_given}
 use Rattle.jilqamur_streams.specs.Formats.{row_of}
-use Rattle.jilqamur_payloads.specs.declared.format.WireFormat.{WireFormat}
+use Rattle.jilqamur_packets.specs.declared.format.WireFormat.{WireFormat}
 use Rattle.jilqamur_streams.specs.declared.outbox.WireSender.{WireSender}
 
 pub record OutboxState : Type 0 where

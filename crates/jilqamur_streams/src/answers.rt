@@ -3,7 +3,7 @@
 ghost use Rattle.std.specs.Prelude.{◌≡◌};
 ghost use Rattle.jilqamur_streams.specs.Answers.{sample_code, poll_code, unit_behind};
 
-use jilqamur_wire::codes;
+use jilqamur_packets::codes;
 use rtp_media_streams::{PollFault, SampleError, Unit};
 
 /// The number of a refused sample.

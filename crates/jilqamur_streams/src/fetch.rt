@@ -2,12 +2,11 @@
 
 ghost use Rattle.std.specs.Prelude.{◌≡◌};
 ghost use Rattle.std.specs.List.{slice_get};
-ghost use Rattle.jilqamur_wire.specs.Codes.{nothing};
-ghost use Rattle.jilqamur_wire.specs.Copies.{IsFetched};
+ghost use Rattle.jilqamur_packets.specs.Codes.{nothing};
+ghost use Rattle.jilqamur_packets.specs.Copies.{IsFetched};
 ghost use Rattle.jilqamur_streams.specs.Fetched.{IsToldOf, bytes_of};
 
-use jilqamur_payloads::{WireUnit, wire_unit};
-use jilqamur_wire::{codes, copy_out};
+use jilqamur_packets::{WireUnit, codes, copy_out, wire_unit};
 use rtp_media_streams::{Datagram, Unit};
 
 /// Copies the bytes of a unit to the front of a buffer, and tells what is told beside; `NOTHING` where there is none.

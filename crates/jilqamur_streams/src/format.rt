@@ -2,11 +2,11 @@
 
 ghost use Rattle.std.specs.Prelude.{◌≡◌, ◌≢◌, true, IfOk, IfErr, OnOk};
 ghost use Rattle.h26x_payload.specs.Codings.{has_format};
-ghost use Rattle.jilqamur_wire.specs.Codes.{ok};
-ghost use Rattle.jilqamur_payloads.specs.Formats.{format_outcome};
+ghost use Rattle.jilqamur_packets.specs.Codes.{ok};
+ghost use Rattle.jilqamur_packets.specs.Formats.{format_outcome};
 ghost use Rattle.jilqamur_streams.specs.Formats.{row_of};
 
-use jilqamur_payloads::{WireFormat, read_format};
+use jilqamur_packets::{WireFormat, read_format};
 use rtp_media_streams::RowFormat;
 
 /// What a stream of this format and codec goes by; else `OUT_OF_RANGE` for a clock rate of 0, `NOT_TEXT`, or

@@ -1,9 +1,9 @@
 //! Handles of streams, opened and closed.
 
 ghost use Rattle.std.specs.Prelude.{◌≡◌, ◌≢◌, None, Some, IsSome};
-ghost use Rattle.jilqamur_wire.specs.Codes.{ok, memory, in_use};
-ghost use Rattle.jilqamur_wire.specs.Handles.{answer_of};
-ghost use Rattle.jilqamur_payloads.specs.Formats.{format_outcome};
+ghost use Rattle.jilqamur_packets.specs.Codes.{ok, memory, in_use};
+ghost use Rattle.jilqamur_packets.specs.Handles.{answer_of};
+ghost use Rattle.jilqamur_packets.specs.Formats.{format_outcome};
 ghost use Rattle.jilqamur_streams.specs.Inboxes.{new_inbox};
 ghost use Rattle.jilqamur_streams.specs.Outboxes.{new_outbox, sender_outcome};
 
@@ -11,8 +11,7 @@ use crate::inbox::Inbox;
 use crate::outbox::{Outbox, WireSender};
 use crate::receiver_place::ReceiverHandle;
 use crate::sender_place::SenderHandle;
-use jilqamur_payloads::WireFormat;
-use jilqamur_wire::codes;
+use jilqamur_packets::{WireFormat, codes};
 use std::alloc::Global;
 
 impl SenderHandle {

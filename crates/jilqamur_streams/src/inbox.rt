@@ -1,17 +1,16 @@
 //! A receiving stream by codec.
 
 ghost use Rattle.std.specs.Prelude.{◌≡◌, ◌≢◌, IfOk, IfErr, OnOk};
-ghost use Rattle.jilqamur_wire.specs.Codes.{ok, nothing};
-ghost use Rattle.jilqamur_wire.specs.Copies.{IsFetched};
+ghost use Rattle.jilqamur_packets.specs.Codes.{ok, nothing};
+ghost use Rattle.jilqamur_packets.specs.Copies.{IsFetched};
 ghost use Rattle.jilqamur_streams.specs.Fetched.{IsToldOf, bytes_of};
-ghost use Rattle.jilqamur_payloads.specs.Formats.{format_outcome};
+ghost use Rattle.jilqamur_packets.specs.Formats.{format_outcome};
 ghost use Rattle.jilqamur_streams.specs.Inboxes.{new_inbox, Takes, Polls, Drains};
 
 use crate::answers::poll_code;
 use crate::fetch::unit_at;
 use crate::format::read_row;
-use jilqamur_payloads::{WireFormat, WireUnit};
-use jilqamur_wire::codes;
+use jilqamur_packets::{WireFormat, WireUnit, codes};
 use rtp_media_streams::{PayloadTypes, ReceivingStream, Unit};
 use rtp_wire::{ExtensionMap, ExtensionValues, Pt, Ssrc};
 use std::alloc::Global;

@@ -2,15 +2,14 @@
 
 ghost use Rattle.std.specs.Prelude.{◌≡◌, ◌≢◌, length, IfOk, IfErr, OnOk};
 ghost use Rattle.std.specs.List.{slice_get};
-ghost use Rattle.jilqamur_wire.specs.Codes.{ok, nothing};
-ghost use Rattle.jilqamur_wire.specs.Copies.{IsFetched};
+ghost use Rattle.jilqamur_packets.specs.Codes.{ok, nothing};
+ghost use Rattle.jilqamur_packets.specs.Copies.{IsFetched};
 ghost use Rattle.jilqamur_streams.specs.Outboxes.{new_outbox, is_off_range, sender_outcome, Pushes};
 
 use crate::answers::sample_code;
 use crate::fetch::datagram_at;
 use crate::format::read_row;
-use jilqamur_payloads::{WireFormat, number_given};
-use jilqamur_wire::codes;
+use jilqamur_packets::{WireFormat, codes, number_given};
 use rtp_media_streams::{Datagram, PayloadTypes, SendingStream};
 use rtp_wire::{ExtensionMap, ExtensionValues, MediaTime, Pt, Ssrc};
 use std::alloc::Global;

@@ -1,0 +1,14 @@
+pub mod Codes
+pub mod Copies
+pub mod Handles
+pub mod Headers
+pub mod Owned
+pub mod Values
+pub mod Windows
+pub mod Faults
+pub mod Formats
+pub mod OwnedDepacketizer
+pub mod OwnedPacketizer
+pub mod PacketInboxes
+pub mod PacketOutboxes
+pub mod Units

@@ -1,4 +1,0 @@
-pub mod Configured
-pub mod Cutting
-pub mod DepacketizerBox
-pub mod PacketizerBox
