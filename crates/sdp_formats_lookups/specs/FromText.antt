@@ -1,6 +1,6 @@
 -- Fingerprints out of texts, with bytes as Rust reads numbers in base 16.
 use Rattle.std.specs.Prelude.{◌≡◌, ℕ, ◌^◌, Bool, true, ◌&&◌, List, [], ◌∷◌, length, nat_lt, Option, Some, None}
-use Rattle.std.specs.Prelude.{Result, Ok, Err, if◌then◌else◌}
+use Rattle.std.specs.Prelude.{Result, Ok, Err, if◌then◌else◌, codes}
 use Rattle.std.specs.Char.{digit_value}
 use Rattle.std.specs.Str.Parse.{without_leading_plus, digits_value}
 use Rattle.sdp_formats_forms.specs.Form.{Form, told, made, cut, separated}
@@ -31,3 +31,8 @@ abbrev pub IsFromText : Result Fingerprint FingerprintError → Option Fingerpri
 IsFromText (Ok print) said = said ≡ Some print
 IsFromText (Err Malformed) said = said ≡ None
 IsFromText (Err Memory) said = Unit {0}
+
+-- An error as it is printed.
+abbrev pub error_text : FingerprintError → List ℕ
+error_text Malformed = codes "no fingerprint"
+error_text Memory = codes "out of memory"

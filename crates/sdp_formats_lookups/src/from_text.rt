@@ -19,6 +19,11 @@ pub enum FingerprintError {
 }
 
 impl fmt::Display for FingerprintError {
+    ghost use Rattle.std.specs.Prelude.{Some};
+    ghost use Rattle.sdp_formats_lookups.specs.FromText.{error_text};
+
+    ghost output = { λ e. Some (error_text e) };
+
     fn fmt<W: fmt::Write>(&self, f: &mut fmt::Formatter<W>) -> fmt::Result {
         match self {
             FingerprintError::Malformed => f.write_str("no fingerprint"),
