@@ -5,11 +5,12 @@
 #![tactic(auto)]
 
 use sdp_formats::{MediaAttribute, MediaLine, Sdp, SdpError, SessionAttribute, sdp_parser};
-use sdp_formats_clones::TryClone;
 use sdp_formats_equality::same::Same;
 use sdp_formats_forms::Maybe;
 use sdp_formats_ssrcs::ssrc_info;
-use sdp_formats_wholes::{assert_consistency, bundle_mids, ice_candidates, parse, sctp_init};
+use sdp_formats_wholes::{
+    TryClone, assert_consistency, bundle_mids, ice_candidates, parse, sctp_init,
+};
 use std::{fs, io};
 
 fn is_unused(attribute: &MediaAttribute) -> bool {

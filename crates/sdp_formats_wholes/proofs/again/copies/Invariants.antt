@@ -1,5 +1,5 @@
 use Rattle.std.proofs.Common.{◌≡◌, ◌++◌, drop}
-use Rattle.sdp_formats_clones.proofs.again.copies.Given as goal
+use Rattle.sdp_formats_wholes.proofs.again.copies.Given as goal
 
 -- the copies so far and the values that are left
 abbrev pub invariant-loop-value : goal.invariant-loop-value
