@@ -1,10 +1,10 @@
 #!/usr/bin/env python3
-"""Writes what `crates/payload_lines` reads and must answer: samples and packets that were packed from the layouts of
-the standards alone, beside rows that were put together by hand.
+"""Writes what `crates/packet_lines` reads and must answer: samples and packets that were packed from the layouts of
+the standards alone, beside rows that were put together by hand, those of headers and numbers at the end.
 
 Run it with `python3 docs/vectors/lines.py`. A row is a line and its answer; a row without one answers itself. The
-packers are `h26x.py`, `av1.py` and `payloads.py`, headers and tables stand in `headers.py`, rows by hand in `rows.py`
-and `parts.py`, the units of encoders in `*_units.txt`.
+packers are `h26x.py`, `av1.py` and `payloads.py`, headers and tables stand in `headers.py`, rows by hand in `rows.py`,
+`parts.py` and `wire.py`, the units of encoders in `*_units.txt`.
 """
 
 from pathlib import Path
@@ -15,9 +15,10 @@ import headers
 import payloads
 from parts import PARTS
 from rows import BY_HAND, told
+from wire import WIRE
 
 HERE = Path(__file__).parent
-CRATE = HERE.parents[1] / "crates/payload_lines"
+CRATE = HERE.parents[1] / "crates/packet_lines"
 
 
 def spelled(packets, marker=True):
@@ -79,6 +80,7 @@ def rows():
     for cases in (payloads.vp8, payloads.vp9, payloads.amr_wb, payloads.telephone, payloads.plain):
         yield from of_frames(cases())
     yield from headers.rows()
+    yield from WIRE
 
 
 if __name__ == "__main__":

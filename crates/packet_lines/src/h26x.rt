@@ -1,51 +1,41 @@
 //! Units and headers of H.264, H.265 and H.266.
 
-use crate::printing::{hex_of, yes_or_no};
-use crate::words::{next_bytes, next_number, next_word};
-use anyhow::anyhow;
+use crate::line::Line;
 use h26x_payload::{
     H265FragmentationUnitHeader, H265NALUHeader, H266FragmentationUnitHeader, H266NALUHeader,
     detect_h264_nalu, nal_units,
 };
-use std::alloc::Global;
-use std::str::SplitWhitespace;
 
 /// `units TEXT`: the units of a text (ITU-T H.264 annex B), parted by blanks; a dash stands for none.
-pub(crate) fn units(alloc: Global, words: &mut SplitWhitespace<'_>) -> anyhow::Result<String> {
-    let text = next_bytes(alloc, words)?;
-    let mut units = String::new(alloc);
+pub(crate) fn units(line: &mut Line<'_>) {
+    let text = line.bytes();
     for unit in nal_units(&text) {
-        if !units.is_empty() {
-            units.push(' ')?;
-        }
-        units.push_str(hex_of(alloc, unit)?.as_str())?;
+        line.put_bytes(unit);
+        line.put(" ");
     }
-    if units.is_empty() {
-        units.push('-')?;
-    }
-    Ok(units)
+    line.put_dash_for_none();
 }
 
 /// `shows TYPE PACKET`: whether an H.264 packet shows a unit of a type.
-pub(crate) fn shows(alloc: Global, words: &mut SplitWhitespace<'_>) -> anyhow::Result<String> {
-    let nalu_type = next_number::<u8>(words)?;
-    let packet = next_bytes(alloc, words)?;
-    yes_or_no(alloc, detect_h264_nalu(&packet, nalu_type))
+pub(crate) fn shows(line: &mut Line<'_>) {
+    let nalu_type = line.number::<u8>();
+    let packet = line.bytes();
+    line.put_whether(detect_h264_nalu(&packet, nalu_type))
 }
 
 /// `header CODEC BYTES`: what a header tells, of one byte that of a fragment, of two that of a unit or a packet.
-pub(crate) fn header(alloc: Global, words: &mut SplitWhitespace<'_>) -> anyhow::Result<String> {
-    let codec = next_word(words)?;
-    let bytes = next_bytes(alloc, words)?;
+pub(crate) fn header(line: &mut Line<'_>) {
+    let codec = line.word();
+    let bytes = line.bytes();
     match (codec, bytes.as_slice()) {
-        ("H265", [byte]) => fragment_h265(alloc, H265FragmentationUnitHeader(*byte)),
-        ("H266", [byte]) => fragment_h266(alloc, H266FragmentationUnitHeader(*byte)),
+        ("H265", [byte]) => fragment_h265(line, H265FragmentationUnitHeader(*byte)),
+        ("H266", [byte]) => fragment_h266(line, H266FragmentationUnitHeader(*byte)),
         ("H265", [high, low]) => {
             let word = u16::from(*high) * 256 + u16::from(*low);
-            unit_h265(alloc, H265NALUHeader(word))
+            unit_h265(line, H265NALUHeader(word))
         }
-        ("H266", [high, low]) => unit_h266(alloc, H266NALUHeader::new(*high, *low)),
-        _ => Err(anyhow!("no header of {codec}")),
+        ("H266", [high, low]) => unit_h266(line, H266NALUHeader::new(*high, *low)),
+        _ => line.put(format_args!("fault no header of {codec}")),
     }
 }
 
@@ -69,19 +59,19 @@ fn kind_h265(header: H265NALUHeader) -> &'static str {
 }
 
 /// An H.265 header: what it is of, F, the type, the layer and TID, and the header of these three.
-fn unit_h265(alloc: Global, header: H265NALUHeader) -> anyhow::Result<String> {
+fn unit_h265(line: &mut Line<'_>, header: H265NALUHeader) {
     let kind = kind_h265(header);
     let f = if header.f() { "F " } else { "" };
     let (nalu_type, layer, tid) = (header.nalu_type(), header.layer_id(), header.tid());
     let again = H265NALUHeader::new_with_type(nalu_type, layer, tid).0;
-    Ok(format!(in alloc; "{kind} {f}{nalu_type} {layer} {tid} {again:04x}")?)
+    line.put(format_args!("{kind} {f}{nalu_type} {layer} {tid} {again:04x}"))
 }
 
 /// An H.265 fragment's header: S, E and the type, and the header of these three.
-fn fragment_h265(alloc: Global, header: H265FragmentationUnitHeader) -> anyhow::Result<String> {
+fn fragment_h265(line: &mut Line<'_>, header: H265FragmentationUnitHeader) {
     let (s, e, fu_type) = (header.s(), header.e(), header.fu_type());
     let again = H265FragmentationUnitHeader::new(s, e, fu_type).0;
-    Ok(format!(in alloc; "{s} {e} {fu_type} {again:02x}")?)
+    line.put(format_args!("{s} {e} {fu_type} {again:02x}"))
 }
 
 /// What an H.266 header is of.
@@ -108,16 +98,16 @@ fn marks_h266(header: H266NALUHeader) -> &'static str {
 }
 
 /// An H.266 header: what it is of, F and Z, the type, the layer and TID, and the header of these three.
-fn unit_h266(alloc: Global, header: H266NALUHeader) -> anyhow::Result<String> {
+fn unit_h266(line: &mut Line<'_>, header: H266NALUHeader) {
     let (kind, marks) = (kind_h266(header), marks_h266(header));
     let (nalu_type, layer, tid) = (header.nalu_type(), header.layer_id(), header.tid());
     let again = H266NALUHeader::new_with_type(nalu_type, layer, tid).0;
-    Ok(format!(in alloc; "{kind} {marks}{nalu_type} {layer} {tid} {again:04x}")?)
+    line.put(format_args!("{kind} {marks}{nalu_type} {layer} {tid} {again:04x}"))
 }
 
 /// An H.266 fragment's header: S, E, P and the type, and the header of these four.
-fn fragment_h266(alloc: Global, header: H266FragmentationUnitHeader) -> anyhow::Result<String> {
+fn fragment_h266(line: &mut Line<'_>, header: H266FragmentationUnitHeader) {
     let (s, e, p, fu_type) = (header.s(), header.e(), header.p(), header.fu_type());
     let again = H266FragmentationUnitHeader::new(s, e, p, fu_type).0;
-    Ok(format!(in alloc; "{s} {e} {p} {fu_type} {again:02x}")?)
+    line.put(format_args!("{s} {e} {p} {fu_type} {again:02x}"))
 }

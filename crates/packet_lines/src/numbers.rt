@@ -1,0 +1,73 @@
+//! Numbers, windows and times.
+
+use crate::line::Line;
+use rtp_wire::{
+    Frequency, SeqNo, SeqNoWindow, extend_u7, extend_u8, extend_u15, extend_u16, extend_u32,
+};
+use std::cmp::Ordering;
+
+/// `extend BITS PREVIOUS LOW`: a number of few bits, widened by the one before it, or by none where a dash stands.
+pub(crate) fn extended(line: &mut Line<'_>) {
+    let (bits, previous, low) = (line.word(), line.word(), line.number::<u32>());
+    let previous = match previous {
+        "-" => None,
+        word => line.value::<u64>(word),
+    };
+    match widened(bits, previous, low) {
+        Some(number) => line.put(number),
+        None => line.put(format_args!("fault no number {low} of {bits}")),
+    }
+}
+
+fn widened(bits: &str, previous: Option<u64>, low: u32) -> Option<u64> {
+    match bits {
+        "u7" if low < 128 => Some(extend_u7(previous, low as u8)),
+        "u8" if low < 256 => Some(extend_u8(previous, low as u8)),
+        "u15" if low < 32768 => Some(extend_u15(previous, low as u16)),
+        "u16" if low < 65536 => Some(extend_u16(previous, low as u16)),
+        "u32" => Some(extend_u32(previous, low)),
+        _ => None,
+    }
+}
+
+/// `window N` is a window that recorded N alone, `window-after N` one that recorded all up to N, and `update N` records
+/// N at the window: each gives the greatest number. `accepts N` gives whether the window accepts N.
+pub(crate) fn of_window(line: &mut Line<'_>, window: &mut SeqNoWindow, command: &str) {
+    let number = SeqNo::from(line.number::<u64>());
+    match command {
+        _ if line.fault.is_some() => return,
+        "window" => *window = SeqNoWindow::new(number),
+        "window-after" => *window = SeqNoWindow::new_after(number),
+        "update" => window.update(number),
+        _ => return line.put_whether(window.accepts(number)),
+    }
+    line.put(window.max_seq())
+}
+
+/// `micros TIME`: its whole microseconds.
+pub(crate) fn micros(line: &mut Line<'_>) {
+    let time = line.time();
+    match time.checked_rebase(Frequency::MICROS) {
+        Some(_) => line.put(time.as_micros()),
+        None => line.refuse("more than 64 bits of microseconds"),
+    }
+}
+
+/// `compare TIME TIME`: how the first stands to the second.
+pub(crate) fn comparison(line: &mut Line<'_>) {
+    let (first, second) = (line.time(), line.time());
+    line.put(match first.cmp(&second) {
+        Ordering::Less => "less",
+        Ordering::Equal => "equal",
+        Ordering::Greater => "greater",
+    })
+}
+
+/// `minus TIME TIME`: the difference, where there is one.
+pub(crate) fn difference(line: &mut Line<'_>) {
+    let (first, second) = (line.time(), line.time());
+    match first.checked_sub(second) {
+        Some(time) => line.put(format_args!("{}/{}", time.numer(), time.denom())),
+        None => line.put("none"),
+    }
+}

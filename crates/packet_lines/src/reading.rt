@@ -1,0 +1,104 @@
+//! What is read, as text.
+
+use crate::line::Line;
+use rtp_wire::{ExtensionMap, ExtensionValues, Reception, RtpHeader, receive_run, unpad_payload};
+use std::alloc::AllocError;
+
+/// The fields, each as the words of a header that is written say it.
+fn put_fields(line: &mut Line<'_>, header: &RtpHeader) {
+    line.put(format_args!(
+        "type={} number={} time={} ssrc={} ",
+        header.payload_type, header.sequence_number, header.timestamp, header.ssrc
+    ));
+    for source in header.csrc.iter().take(header.csrc_count) {
+        line.put(format_args!("csrc={source} "));
+    }
+    line.put(if header.marker { "marker " } else { "" });
+    line.put(if header.has_padding { "padding " } else { "" });
+    line.put(if header.has_extension { "" } else { "bare " })
+}
+
+fn put_values(line: &mut Line<'_>, values: &ExtensionValues) {
+    let orientation = match values.video_orientation {
+        Some(orientation) => Some(orientation.get()),
+        None => None,
+    };
+    let (captured, offset) = match values.abs_capture_time {
+        Some(time) => (Some(time.capture_time), time.clock_offset),
+        None => (None, None),
+    };
+    line.put_field("audio-level", values.audio_level);
+    line.put_field("voice", values.voice_activity);
+    line.put_field("send-time", values.abs_send_time);
+    line.put_field("transport", values.transport_cc);
+    line.put_field("mid", values.mid);
+    line.put_field("rid", values.rid);
+    line.put_field("repaired", values.rid_repair);
+    line.put_field("orientation", orientation);
+    line.put_field("delay-min", values.play_delay_min);
+    line.put_field("delay-max", values.play_delay_max);
+    line.put_field("content", values.video_content_type);
+    line.put_field("captured", captured);
+    line.put_field("offset", offset);
+}
+
+/// `read-header HEX`: the header in front of a datagram, its length, and the payload behind it.
+pub(crate) fn header_text(line: &mut Line<'_>, map: &ExtensionMap) {
+    let datagram = line.bytes();
+    match RtpHeader::parse(&datagram, map) {
+        Some(header) => put_header(line, &header, &datagram[header.header_len..]),
+        None => line.put("none"),
+    }
+}
+
+fn put_header(line: &mut Line<'_>, header: &RtpHeader, behind: &[u8]) {
+    put_fields(line, header);
+    put_values(line, &header.ext_vals);
+    line.put(format_args!("length={} payload=", header.header_len));
+    put_unpadded(line, header.has_padding, behind)
+}
+
+/// What is left of a payload without its padding.
+fn put_unpadded(line: &mut Line<'_>, has_padding: bool, payload: &[u8]) {
+    match unpad_payload(has_padding, payload) {
+        Some(rest) => line.put_bytes(rest),
+        None => line.put("none"),
+    }
+}
+
+/// `padded HEX` or `unpadded HEX`: what is left of a payload without its padding.
+pub(crate) fn payload_text(line: &mut Line<'_>, has_padding: bool) {
+    let payload = line.bytes();
+    put_unpadded(line, has_padding, &payload)
+}
+
+/// `run HEX ..`: what becomes of each datagram of a list at a new window, the number under which it is taken, or why
+/// it isn't.
+pub(crate) fn run_text(line: &mut Line<'_>, map: &ExtensionMap) {
+    match verdicts_of(line, map) {
+        Ok(verdicts) => put_verdicts(line, &verdicts),
+        Err(fault) => line.refuse(fault),
+    }
+}
+
+fn verdicts_of(line: &mut Line<'_>, map: &ExtensionMap) -> Result<Vec<Reception>, AllocError> {
+    let mut datagrams = Vec::new(line.alloc);
+    for word in line.rest.split_whitespace() {
+        datagrams.push(line.bytes_of(word))?;
+    }
+    let mut slices = Vec::new(line.alloc);
+    for datagram in &datagrams {
+        slices.push(datagram.as_slice())?;
+    }
+    receive_run(line.alloc, &slices, map)
+}
+
+fn put_verdicts(line: &mut Line<'_>, verdicts: &[Reception]) {
+    for verdict in verdicts {
+        match verdict {
+            Reception::Taken(number) => line.put(format_args!("{number} ")),
+            Reception::Refused => line.put("refused "),
+            Reception::Unreadable => line.put("unreadable "),
+        }
+    }
+}

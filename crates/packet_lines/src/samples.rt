@@ -1,0 +1,146 @@
+//! Samples that are packed, and packets that are read and held.
+
+use crate::formats::Formats;
+use crate::line::Line;
+use h26x_payload::{detect_h264_keyframe, detect_h265_keyframe, detect_h266_keyframe};
+use payload_core::{
+    Codec, CodecExtra, Depacketized, Depacketizer, PacketError, PacketList, RtpMeta, SentPacket,
+    detect_av1_keyframe, detect_vp8_keyframe,
+};
+use rtp_wire::{ExtensionValues, SeqNo};
+use std::alloc::Global;
+
+/// `head PACKET`: whether a packet is the head of a frame.
+pub(crate) fn head(line: &mut Line<'_>, formats: &Formats) {
+    let packet = line.bytes();
+    line.put_whether(formats.reader.is_partition_head(&packet))
+}
+
+/// `keyframe PACKET`: whether a packet shows a keyframe of a codec that has a test of that.
+pub(crate) fn keyframe(line: &mut Line<'_>, codec: Codec) {
+    let packet = line.bytes();
+    line.put_whether(match codec {
+        Codec::Vp8 => detect_vp8_keyframe(&packet),
+        Codec::Av1 => detect_av1_keyframe(&packet),
+        Codec::H264 => detect_h264_keyframe(&packet),
+        Codec::H265 => detect_h265_keyframe(&packet),
+        Codec::H266 => detect_h266_keyframe(&packet),
+        _ => false,
+    })
+}
+
+/// Payloads, parted by blanks, and a star behind each that has the marker; a dash stands for none.
+pub(crate) fn put_payloads(line: &mut Line<'_>, packets: &[SentPacket]) {
+    for sent in packets {
+        line.put_bytes(sent.payload.as_slice());
+        line.put(if sent.marker { "* " } else { " " });
+    }
+    line.put_dash_for_none()
+}
+
+/// `pack LIMIT SAMPLE`: the payloads that a sample is sent as.
+pub(crate) fn packed(line: &mut Line<'_>, formats: &mut Formats) {
+    let limit = line.number::<usize>();
+    let sample = line.bytes();
+    if line.fault.is_some() {
+        return;
+    }
+    let mut sink = PacketList::new(line.alloc);
+    let values = ExtensionValues::absent();
+    let payloader = &mut formats.payloader;
+    match payloader.push_sample(line.alloc, &mut sink, limit, 6000, &sample, &values) {
+        Ok(()) => put_payloads(line, sink.packets()),
+        Err(fault) => line.refuse(fault),
+    }
+}
+
+/// `read PACKET ..`: the bytes that packets give, one after the other from no open fragment on, and what is told then.
+pub(crate) fn read(line: &mut Line<'_>, formats: &mut Formats) {
+    let mut bytes = Vec::new(line.alloc);
+    let mut extra = CodecExtra::None;
+    formats.read_anew(line.alloc);
+    let read = read_all(line, formats, &mut bytes, &mut extra);
+    line.put_bytes(&bytes);
+    line.put(format_args!(" {extra:?}"));
+    if let Err(fault) = read {
+        line.put(format_args!(", then {fault:?}"));
+    }
+}
+
+fn read_all(
+    line: &mut Line<'_>,
+    formats: &mut Formats,
+    bytes: &mut Vec<u8>,
+    extra: &mut CodecExtra,
+) -> Result<(), PacketError> {
+    for word in line.rest.split_whitespace() {
+        formats
+            .reader
+            .depacketize(&line.bytes_of(word), bytes, extra)?;
+    }
+    Ok(())
+}
+
+/// What is held of a packet.
+pub(crate) fn meta_of(number: u64, time: u32, marker: bool) -> RtpMeta {
+    RtpMeta {
+        seq_no: SeqNo::from(number),
+        time,
+        marker,
+        ext_vals: ExtensionValues::absent(),
+    }
+}
+
+/// `push NUMBER TIME PACKET`: the packet is held, with the marker where a star stands behind it.
+pub(crate) fn pushed(line: &mut Line<'_>, formats: &mut Formats) {
+    let (number, time) = (line.number::<u64>(), line.number::<u32>());
+    let meta = meta_of(number, time, line.rest.ends_with('*'));
+    let packet = line.bytes();
+    if line.fault.is_some() {
+        return;
+    }
+    match formats.buffer.push(meta, &packet) {
+        Ok(()) => line.put("pushed"),
+        Err(fault) => line.refuse(fault),
+    }
+}
+
+/// The numbers of a unit's first and last packet, its time, its bytes and what is told of it; or that there is none.
+pub(crate) fn unit(line: &mut Line<'_>, unit: Result<Option<Depacketized>, PacketError>) {
+    match unit {
+        Ok(Some(unit)) => {
+            let range = unit.seq_range();
+            let (first, last) = (range.start().get(), range.end().get());
+            line.put(format_args!("{first}..={last} at {}: ", unit.time()));
+            line.put_bytes(unit.bytes.as_slice());
+            line.put(format_args!(" {:?}", unit.extra))
+        }
+        Ok(None) => line.put("none"),
+        Err(fault) => line.refuse(fault),
+    }
+}
+
+/// Whether a packet is read from no open fragment on.
+fn is_read(alloc: Global, formats: &mut Formats, packet: &[u8]) -> bool {
+    let mut bytes = Vec::new(alloc);
+    let mut extra = CodecExtra::None;
+    formats.read_anew(alloc);
+    formats
+        .reader
+        .depacketize(packet, &mut bytes, &mut extra)
+        .is_ok()
+}
+
+/// `short`: how many of the packets of no byte, one and two bytes are read.
+pub(crate) fn short_packets(line: &mut Line<'_>, formats: &mut Formats) {
+    let none = u32::from(is_read(line.alloc, formats, &[]));
+    let mut ones: u32 = 0;
+    let mut twos: u32 = 0;
+    for a in 0..=255u8 {
+        ones = ones.saturating_add(u32::from(is_read(line.alloc, formats, &[a])));
+        for b in 0..=255u8 {
+            twos = twos.saturating_add(u32::from(is_read(line.alloc, formats, &[a, b])));
+        }
+    }
+    line.put(format_args!("{none} of none, {ones} of one byte, {twos} of two"))
+}

@@ -1,0 +1,119 @@
+//! Headers that are written, and their extensions.
+
+use crate::line::{Fault, Line, part};
+use rtp_wire::{
+    AbsCaptureTime, Extension, ExtensionMap, ExtensionValues, Mid, Pt, Rid, RtpHeader, Ssrc,
+    VideoOrientation,
+};
+
+/// `map NUMBER=NAME ..`: which number each header extension has from now on.
+pub(crate) fn set_map(line: &mut Line<'_>, map: &mut ExtensionMap) {
+    map.clear();
+    for word in line.rest.split_whitespace() {
+        let (id, name) = part(word, '=');
+        let id = line.value::<u8>(id).unwrap_or(0);
+        match extension_of(name) {
+            _ if id < 1 || id > 16 => line.lacks(Fault::Other(
+                "numbers of header extensions are 1 to 16",
+                "",
+            )),
+            Some(extension) => map.set(id, extension),
+            None => line.lacks(Fault::Other("no header extension ", name)),
+        }
+    }
+    line.put("ok")
+}
+
+fn extension_of(name: &str) -> Option<Extension> {
+    Some(match name {
+        "audio-level" => Extension::AudioLevel,
+        "send-time" => Extension::AbsoluteSendTime,
+        "transport" => Extension::TransportSequenceNumber,
+        "mid" => Extension::RtpMid,
+        "rid" => Extension::RtpStreamId,
+        "repaired" => Extension::RepairedRtpStreamId,
+        "orientation" => Extension::VideoOrientation,
+        "delay" => Extension::PlayoutDelay,
+        "content" => Extension::VideoContentType,
+        "captured" => Extension::AbsoluteCaptureTime,
+        _ => return None,
+    })
+}
+
+/// `write-header type=33 number=47000 marker ..`: the bytes of the default header with the fields that words name.
+pub(crate) fn written(line: &mut Line<'_>, map: &ExtensionMap) {
+    let mut header = RtpHeader::default();
+    for word in line.rest.split_whitespace() {
+        let (name, value) = part(word, '=');
+        set_field(line, &mut header, name, value);
+    }
+    if header.payload_type.get() > 127 || header.csrc_count > 15 {
+        return line.refuse("a type above 127, or more than 15 sources");
+    }
+    match vec![in line.alloc; 0; header.wire_len(map)] {
+        Ok(mut bytes) => {
+            let _len = header.write_to(&mut bytes, map);
+            line.put_bytes(&bytes);
+        }
+        Err(fault) => line.refuse(fault),
+    }
+}
+
+fn set_field<'a>(line: &mut Line<'a>, header: &mut RtpHeader, name: &'a str, value: &'a str) {
+    match name {
+        "type" => header.payload_type = Pt::from(line.value::<u8>(value).unwrap_or(0)),
+        "number" => header.sequence_number = line.value::<u16>(value).unwrap_or(0),
+        "time" => header.timestamp = line.value::<u32>(value).unwrap_or(0),
+        "ssrc" => header.ssrc = Ssrc::from(line.value::<u32>(value).unwrap_or(0)),
+        "csrc" => push_source(header, line.value::<u32>(value).unwrap_or(0)),
+        "marker" => header.marker = true,
+        "padding" => header.has_padding = true,
+        "bare" => header.has_extension = false,
+        _ => set_value(line, &mut header.ext_vals, name, value),
+    }
+}
+
+/// A source that has no place is counted, so that the header isn't written.
+fn push_source(header: &mut RtpHeader, source: u32) {
+    if header.csrc_count < 15 {
+        header.csrc[header.csrc_count] = source;
+    }
+    header.csrc_count = header.csrc_count.saturating_add(1);
+}
+
+fn set_value<'a>(line: &mut Line<'a>, values: &mut ExtensionValues, name: &'a str, value: &'a str) {
+    match name {
+        "audio-level" => values.audio_level = line.value(value),
+        "voice" => values.voice_activity = line.value(value),
+        "send-time" => values.abs_send_time = line.value(value),
+        "transport" => values.transport_cc = line.value(value),
+        "delay-min" => values.play_delay_min = line.value(value),
+        "delay-max" => values.play_delay_max = line.value(value),
+        "content" => values.video_content_type = line.value(value),
+        _ => set_other(line, values, name, value),
+    }
+}
+
+/// The values that are no plain numbers.
+fn set_other<'a>(line: &mut Line<'a>, values: &mut ExtensionValues, name: &'a str, value: &'a str) {
+    match name {
+        "mid" => values.mid = Some(Mid::from(value)),
+        "rid" => values.rid = Some(Rid::from(value)),
+        "repaired" => values.rid_repair = Some(Rid::from(value)),
+        "orientation" => {
+            let orientation = line.value::<u8>(value).unwrap_or(0);
+            values.video_orientation = Some(VideoOrientation::from(orientation));
+        }
+        "captured" => {
+            values.abs_capture_time = Some(AbsCaptureTime {
+                capture_time: line.value::<u64>(value).unwrap_or(0),
+                clock_offset: None,
+            });
+        }
+        "offset" => match &mut values.abs_capture_time {
+            Some(time) => time.clock_offset = line.value::<i64>(value),
+            None => line.lacks(Fault::Other("no captured in front of offset", "")),
+        },
+        _ => line.lacks(Fault::Other("no field ", name)),
+    }
+}
