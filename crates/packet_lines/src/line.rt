@@ -151,7 +151,7 @@ impl<'a> Line<'a> {
         let shown = if is_in_full { bytes } else { &bytes[..3] };
         match hex::encode(self.alloc, shown) {
             Ok(text) => self.put(text.as_str()),
-            Err(fault) => self.put(fault),
+            Err(_) => self.lacks(Fault::Other("out of memory", "")),
         }
         if !is_in_full {
             self.put(format_args!("..({})", bytes.len()));

@@ -90,13 +90,6 @@ fn set_value<'a>(line: &mut Line<'a>, values: &mut ExtensionValues, name: &'a st
         "delay-min" => values.play_delay_min = line.value(value),
         "delay-max" => values.play_delay_max = line.value(value),
         "content" => values.video_content_type = line.value(value),
-        _ => set_other(line, values, name, value),
-    }
-}
-
-/// The values that are no plain numbers.
-fn set_other<'a>(line: &mut Line<'a>, values: &mut ExtensionValues, name: &'a str, value: &'a str) {
-    match name {
         "mid" => values.mid = Some(Mid::from(value)),
         "rid" => values.rid = Some(Rid::from(value)),
         "repaired" => values.rid_repair = Some(Rid::from(value)),
