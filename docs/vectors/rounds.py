@@ -1,6 +1,8 @@
 #!/usr/bin/env python3
-"""Writes what `crates/round_lines` reads and must answer: rounds of rows, worked out with an array of marks from the
-rules of negotiation alone, beside rounds that were put together by hand, and rows, formats and configs by hand.
+"""Writes what `crates/text_lines` reads and must answer: the commands on session texts and their replies, which are
+kept by hand in `texts.txt` beside this script and only copied, a command behind `> ` on each line that has one; behind
+them rounds of rows, worked out with an array of marks from the rules of negotiation alone, beside rounds that were put
+together by hand, and rows, formats and configs by hand.
 
 Run it with `python3 docs/vectors/rounds.py`. Random rounds come from a fixed seed.
 """
@@ -11,7 +13,8 @@ from dataclasses import dataclass, field
 from pathlib import Path
 from typing import Optional
 
-CRATE = Path(__file__).resolve().parents[2] / "crates/round_lines"
+CRATE = Path(__file__).resolve().parents[2] / "crates/text_lines"
+TEXTS = Path(__file__).with_name("texts.txt")
 
 PREFERRED = [*range(96, 128), *range(80, 96), 77, 78, *range(35, 72)]
 AUDIO = ["opus", "PCMU", "PCMA", "G722", "CN", "AMR-WB"]
@@ -551,10 +554,17 @@ def random_rounds(seed, count):
         yield from lines_of(f"Random rounds {n}", own, rounds)
 
 
+def texts():
+    """The commands and the lines of replies that are kept by hand."""
+    lines = TEXTS.read_text().splitlines()
+    return ([line[2:] for line in lines if line.startswith("> ")],
+            [line for line in lines if not line.startswith("> ")])
+
+
 def main():
     rows = [*by_hand(), *formats(), *feedback_and_equality(), *configs(), *rows_move_away(), *no_type_is_left(),
             *random_rounds(1, 300)]
-    read, told = [], []
+    read, told = texts()
     for line, answer in rows:
         read.append(line)
         told.append(line if answer is None else answer)

@@ -1,34 +1,24 @@
 //! Commands on one row: its format, its feedback, and what it equals.
 
+use crate::fault::Fault;
 use crate::words::{next_row, next_spec, next_word};
-use anyhow::anyhow;
 use sdp_formats_config::{FormatParams, PayloadParams, Pt};
-use std::alloc::Global;
+use std::alloc::{AllocError, Global};
+use std::fmt::Write;
 use std::str::SplitWhitespace;
 
 /// `format TEXT`: the parameters that a text gives, blanks and all, printed again.
-pub(crate) fn format_text(alloc: Global, line: &str) -> anyhow::Result<String> {
-    let text = match line.split_once(' ') {
-        Some((_, text)) => text,
-        None => "",
-    };
-    Ok(FormatParams::parse_line(text).to_string(alloc)?)
+pub(crate) fn put_format(alloc: Global, text: &str, reply: &mut String) -> Result<(), AllocError> {
+    reply.push_str(FormatParams::parse_line(text).to_string(alloc)?.as_str())
 }
 
 /// `feedback FLAG SPEC`: the feedback of a new row, once one flag is off, or none at a dash.
-pub(crate) fn feedback(alloc: Global, words: &mut SplitWhitespace<'_>) -> anyhow::Result<String> {
+pub(crate) fn put_feedback(
+    words: &mut SplitWhitespace<'_>,
+    reply: &mut String,
+) -> Result<(), Fault> {
     let flag = next_word(words)?;
     let mut row = PayloadParams::new(Pt::new_with_value(96), None, next_spec(words)?);
-    put_off(&mut row, flag)?;
-    let cc = told("cc", row.fb_transport_cc());
-    let nack = told("nack", row.fb_nack());
-    let pli = told("pli", row.fb_pli());
-    let fir = told("fir", row.fb_fir());
-    let remb = told("remb", row.fb_remb());
-    Ok(format!(in alloc; "{cc} {nack} {pli} {fir} {remb}")?)
-}
-
-fn put_off(row: &mut PayloadParams, flag: &str) -> anyhow::Result<()> {
     match flag {
         "cc" => row.set_fb_transport_cc(false),
         "nack" => row.set_fb_nack(false),
@@ -36,9 +26,18 @@ fn put_off(row: &mut PayloadParams, flag: &str) -> anyhow::Result<()> {
         "fir" => row.set_fb_fir(false),
         "remb" => row.set_fb_remb(false),
         "-" => {}
-        _ => return Err(anyhow!("no feedback {flag}")),
+        _ => return Err(Fault::Words),
     }
-    Ok(())
+    Ok(put_flags(&row, reply)?)
+}
+
+fn put_flags(row: &PayloadParams, reply: &mut String) -> Result<(), AllocError> {
+    let cc = told("cc", row.fb_transport_cc());
+    let nack = told("nack", row.fb_nack());
+    let pli = told("pli", row.fb_pli());
+    let fir = told("fir", row.fb_fir());
+    let remb = told("remb", row.fb_remb());
+    write!(reply, "{cc} {nack} {pli} {fir} {remb}")
 }
 
 /// The flag's name, or a dash where it is off.
@@ -47,14 +46,16 @@ fn told(name: &'static str, is_on: bool) -> &'static str {
 }
 
 /// `equal LOCK ROW LOCK ROW`: whether two rows are equal, where LOCK is `locked` or `open`.
-pub(crate) fn equal(alloc: Global, words: &mut SplitWhitespace<'_>) -> anyhow::Result<String> {
+pub(crate) fn put_equality(
+    words: &mut SplitWhitespace<'_>,
+    reply: &mut String,
+) -> Result<(), Fault> {
     let one = next_lock_and_row(words)?;
     let other = next_lock_and_row(words)?;
-    let answer = if one == other { "equal" } else { "unequal" };
-    Ok(String::from_str(alloc, answer)?)
+    Ok(reply.push_str(if one == other { "equal" } else { "unequal" })?)
 }
 
-fn next_lock_and_row(words: &mut SplitWhitespace<'_>) -> anyhow::Result<PayloadParams> {
+fn next_lock_and_row(words: &mut SplitWhitespace<'_>) -> Result<PayloadParams, Fault> {
     let is_locked = next_word(words)? == "locked";
     let mut row = next_row(words)?;
     if is_locked {

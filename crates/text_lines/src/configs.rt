@@ -1,9 +1,10 @@
 //! Commands on the config of an end: default rows of a codec, and the distances of redundancy.
 
+use crate::fault::Fault;
 use crate::words::next_word;
-use anyhow::anyhow;
 use sdp_formats_config::{Codec, CodecConfig};
 use std::alloc::Global;
+use std::fmt::Write;
 use std::str::SplitWhitespace;
 
 /// `enable CODEC RED` and `disable CODEC RED`: the default rows of a codec in place of all that it has, or none; RED is
@@ -12,33 +13,34 @@ pub(crate) fn enable(
     config: &mut CodecConfig,
     enabled: bool,
     words: &mut SplitWhitespace<'_>,
-) -> anyhow::Result<()> {
+) -> Result<(), Fault> {
     let codec = Codec::from(next_word(words)?);
     let red = next_word(words)? == "red";
-    match codec {
-        Codec::Opus => config.enable_opus(enabled, red)?,
-        Codec::PCMU => config.enable_pcmu(enabled, red)?,
-        Codec::PCMA => config.enable_pcma(enabled, red)?,
-        Codec::G722 => config.enable_g722(enabled, red)?,
-        Codec::CN => config.enable_comfort_noise(enabled)?,
-        Codec::AmrWb => config.enable_amr_wb(enabled)?,
-        Codec::Vp8 => config.enable_vp8(enabled)?,
-        Codec::Vp9 => config.enable_vp9(enabled)?,
-        Codec::Av1 => config.enable_av1(enabled)?,
-        Codec::H264 => config.enable_h264(enabled)?,
-        Codec::H265 => config.enable_h265(enabled)?,
-        Codec::H266 => config.enable_h266(enabled)?,
-        _ => return Err(anyhow!("no default rows of {codec}")),
-    }
-    Ok(())
+    let done = match codec {
+        Codec::Opus => config.enable_opus(enabled, red),
+        Codec::PCMU => config.enable_pcmu(enabled, red),
+        Codec::PCMA => config.enable_pcma(enabled, red),
+        Codec::G722 => config.enable_g722(enabled, red),
+        Codec::CN => config.enable_comfort_noise(enabled),
+        Codec::AmrWb => config.enable_amr_wb(enabled),
+        Codec::Vp8 => config.enable_vp8(enabled),
+        Codec::Vp9 => config.enable_vp9(enabled),
+        Codec::Av1 => config.enable_av1(enabled),
+        Codec::H264 => config.enable_h264(enabled),
+        Codec::H265 => config.enable_h265(enabled),
+        Codec::H266 => config.enable_h266(enabled),
+        _ => return Err(Fault::Words),
+    };
+    Ok(done?)
 }
 
 /// `distances N ..`: sets the distances of redundancy, where some are given, and tells those in force.
-pub(crate) fn distances(
+pub(crate) fn put_distances(
     alloc: Global,
     config: &mut CodecConfig,
     words: &mut SplitWhitespace<'_>,
-) -> anyhow::Result<String> {
+    reply: &mut String,
+) -> Result<(), Fault> {
     let mut given = Vec::new(alloc);
     for word in words {
         given.push(word.parse::<u32>()?)?;
@@ -47,5 +49,5 @@ pub(crate) fn distances(
         config.set_red_distances(given.as_slice())?;
     }
     let distances = config.red_distances();
-    Ok(format!(in alloc; "{distances:?}")?)
+    Ok(write!(reply, "{distances:?}")?)
 }

@@ -1,0 +1,32 @@
+//! Answers commands on session texts in files, and on rows, scores, rounds, formats, feedback and configs, a line of
+//! standard input after the other. Its transcript holds texts of browsers and in the forms of other programs, beside
+//! what is read of them, and rows and what rounds leave of them, which a model that shares no code with the project
+//! worked out.
+#![tactic(auto)]
+
+mod commands;
+mod configs;
+mod fault;
+mod printing;
+mod row;
+mod texts;
+mod words;
+
+use commands::{Rows, answer};
+use std::io;
+use std::io::{BufRead, BufReader};
+
+/// Answers each line by a line or, for a session text, by several: a comment by itself, a command by what it gives, and
+/// a line that isn't understood by the word `fault` and the reason.
+fn main(rt: HostRuntime) -> io::Result<()> {
+    let alloc = rt.alloc();
+    let mut rows = Rows::new(alloc);
+    for line in BufReader::new(alloc, rt.reader())?.lines(alloc) {
+        let mut reply = String::new(alloc);
+        match answer(&rt, &mut rows, line?.as_str(), &mut reply) {
+            Ok(()) => println!(rt; "{reply}")?,
+            Err(fault) => println!(rt; "fault {}", fault.reason())?,
+        }
+    }
+    Ok(())
+}

@@ -1,0 +1,167 @@
+//! Commands on session texts.
+
+use crate::fault::Fault;
+use sdp_formats::{MediaAttribute, MediaLine, Sdp, SdpError, SessionAttribute, sdp_parser};
+use sdp_formats_equality::same::Same;
+use sdp_formats_forms::Maybe;
+use sdp_formats_ssrcs::ssrc_info;
+use sdp_formats_wholes::{
+    TryClone, assert_consistency, bundle_mids, ice_candidates, parse, sctp_init,
+};
+use std::alloc::{AllocError, Global};
+use std::fmt::Write;
+
+fn is_unused(attribute: &MediaAttribute) -> bool {
+    matches!(attribute, MediaAttribute::Unused(_))
+}
+
+fn is_unused_in_session(attribute: &SessionAttribute) -> bool {
+    matches!(attribute, SessionAttribute::Unused(_))
+}
+
+/// `text NAME`: what a session text has: session attributes, attributes and sources of each section, lines of a form
+/// that isn't known, candidates, bytes that are left, whether another reading and a copy are the same, and whether what
+/// was read is printed as a text that is read and printed alike.
+pub(crate) fn put_text(
+    alloc: Global,
+    name: &str,
+    text: &str,
+    reply: &mut String,
+) -> Result<(), Fault> {
+    write!(reply, "{name}: ")?;
+    match sdp_parser(alloc, text) {
+        Ok((sdp, rest)) => {
+            put_session(&sdp, rest.len(), reply)?;
+            for section in sdp.media_lines.as_slice() {
+                put_section(alloc, section, reply)?;
+            }
+            put_whole(alloc, &sdp, reply)?;
+            put_again(alloc, text, &sdp, reply)?;
+            let printed = sdp.to_sdp_string(alloc)?;
+            put_printed(alloc, text, printed.as_str(), reply)
+        }
+        Err(SdpError::Memory) => Err(Fault::Memory),
+        Err(_) => Ok(reply.push_str("no session text")?),
+    }
+}
+
+fn put_session(sdp: &Sdp, left: usize, reply: &mut String) -> Result<(), AllocError> {
+    let attributes = sdp.session.attrs.as_slice();
+    let count = attributes.len();
+    let unused = attributes
+        .iter()
+        .filter(|attribute| is_unused_in_session(*attribute))
+        .count();
+    write!(
+        reply,
+        "session {}, {count} attributes, {unused} unused, {left} bytes left",
+        sdp.session.id
+    )
+}
+
+fn put_section(alloc: Global, section: &MediaLine, reply: &mut String) -> Result<(), AllocError> {
+    let attributes = section.attrs.as_slice();
+    let unused = attributes
+        .iter()
+        .filter(|attribute| is_unused(*attribute))
+        .count();
+    let count = attributes.len();
+    let types = section.pts.as_slice().len();
+    write!(
+        reply,
+        "\n  section: {types} types, {count} attributes, {unused} unused"
+    )?;
+    for source in ssrc_info(alloc, section)?.as_slice() {
+        let repairs = Maybe(" repairs ", &source.repairs);
+        let cname = Maybe(" of ", &source.cname);
+        let stream = Maybe(" in ", &source.stream_id);
+        let track = Maybe(" track ", &source.track_id);
+        write!(
+            reply,
+            "\n    source {}{repairs}{cname}{stream}{track}",
+            source.ssrc
+        )?;
+    }
+    Ok(())
+}
+
+/// What the text says as a whole.
+fn put_whole(alloc: Global, sdp: &Sdp, reply: &mut String) -> Result<(), AllocError> {
+    let candidates = ice_candidates(alloc, sdp)?.len();
+    let bundled = match bundle_mids(sdp) {
+        Some(mids) => mids.len(),
+        None => 0,
+    };
+    write!(
+        reply,
+        "\n  whole: {candidates} candidates, {bundled} bundled"
+    )?;
+    match assert_consistency(alloc, sdp) {
+        Ok(()) => Ok(()),
+        Err(SdpError::Memory) => Err(AllocError),
+        Err(_) => reply.push_str(", parts apart"),
+    }
+}
+
+/// Whether the text is read by itself as the same value, of which a copy is the same, and what its data channels have.
+fn put_again(alloc: Global, text: &str, sdp: &Sdp, reply: &mut String) -> Result<(), Fault> {
+    let same = parse(alloc, text)?.is_same(sdp);
+    let copied = sdp.try_clone(alloc)?.is_same(sdp);
+    let init = match sctp_init(sdp) {
+        Some(init) => init.as_str(),
+        None => "none",
+    };
+    Ok(write!(
+        reply,
+        "\n  again: the same {same}, a copy the same {copied}, sctp-init {init}"
+    )?)
+}
+
+/// Lines of the printed text that stand in the text that was read.
+fn kept_lines(text: &str, printed: &str) -> usize {
+    let mut kept = 0;
+    for line in printed.lines() {
+        if text.contains(line) && kept < usize::MAX {
+            kept += 1;
+        }
+    }
+    kept
+}
+
+/// How many lines are printed as they stood, and whether the printed text is read whole, and printed as it stands.
+fn put_printed(alloc: Global, text: &str, printed: &str, reply: &mut String) -> Result<(), Fault> {
+    let kept = kept_lines(text, printed);
+    let lines = printed.lines().count();
+    let (sdp, rest) = sdp_parser(alloc, printed)?;
+    let again = sdp.to_sdp_string(alloc)?;
+    let is_alike = rest.is_empty() && again.as_str() == printed;
+    let answer = if is_alike { "alike" } else { "otherwise" };
+    Ok(write!(
+        reply,
+        "\n  printed: {kept} of {lines} lines as they stood; read again {answer}"
+    )?)
+}
+
+/// `prefixes NAME`: how many prefixes of a text, by bytes, are session texts, and how many not.
+pub(crate) fn put_prefixes(
+    alloc: Global,
+    name: &str,
+    text: &str,
+    reply: &mut String,
+) -> Result<(), Fault> {
+    let (mut read, mut unread) = (0usize, 0usize);
+    for end in 0..text.len().saturating_add(1) {
+        let Some(prefix) = text.get(..end) else {
+            continue;
+        };
+        match sdp_parser(alloc, prefix) {
+            Ok(_) => read = read.saturating_add(1),
+            Err(SdpError::Memory) => return Err(Fault::Memory),
+            Err(_) => unread = unread.saturating_add(1),
+        }
+    }
+    Ok(write!(
+        reply,
+        "{name}: {read} prefixes are session texts, {unread} are none"
+    )?)
+}
