@@ -1,16 +1,18 @@
 //! The commands.
 
 use crate::configs::{enable, put_distances};
-use crate::fault::Fault;
-use crate::printing::{put_refusal, put_rows};
-use crate::row::{put_equality, put_feedback, put_format};
+use crate::printing::{put_round, put_rows};
+use crate::row::{new_row, put_equality, put_feedback};
 use crate::texts::{put_prefixes, put_text};
-use crate::words::{next_number, next_row, next_spec, next_word};
-use sdp_formats_config::{CodecConfig, Direction, PayloadParams, Pt};
+use crate::words::{next_number, next_row, next_spec};
+use sdp_formats_config::{CodecConfig, Direction, FormatParams, Pt};
 use std::alloc::{AllocError, Global};
 use std::fmt::Write;
 use std::fs;
 use std::str::SplitWhitespace;
+
+/// Whether the answer to a line, or a part of it, could be written; none where the line isn't understood.
+pub(crate) type Answer = Option<Result<(), AllocError>>;
 
 /// The rows that a round is run on: those of an end, and those of the other end.
 #[derive(Drop)]
@@ -30,24 +32,35 @@ impl Rows {
 }
 
 /// Writes what a line gives.
-pub(crate) fn answer(
-    rt: &HostRuntime,
-    rows: &mut Rows,
-    line: &str,
-    reply: &mut String,
-) -> Result<(), Fault> {
-    let alloc = rt.alloc();
+pub(crate) fn answer(rt: &HostRuntime, rows: &mut Rows, line: &str, reply: &mut String) -> Answer {
     let (command, rest) = match line.split_once(' ') {
         Some(parts) => parts,
         None => (line, ""),
     };
     match command {
-        "" | "#" => Ok(reply.push_str(line)?),
-        "format" => Ok(put_format(alloc, rest, reply)?),
-        "text" => put_text(alloc, rest, fs::read_to_string(rt, rest)?.as_str(), reply),
-        "prefixes" => put_prefixes(alloc, rest, fs::read_to_string(rt, rest)?.as_str(), reply),
-        _ => of_words(alloc, rows, command, &mut rest.split_whitespace(), reply),
+        "" | "#" => Some(reply.push_str(line)),
+        "text" | "prefixes" => put_file(rt, command, rest, reply),
+        "format" => Some(put_format(rt.alloc(), rest, reply)),
+        _ => {
+            let words = &mut rest.split_whitespace();
+            of_words(rt.alloc(), rows, command, words, reply)
+        }
     }
+}
+
+/// `text NAME` and `prefixes NAME`: what the session text in a file has, and how many of its prefixes are session texts.
+fn put_file(rt: &HostRuntime, command: &str, name: &str, reply: &mut String) -> Answer {
+    let text = fs::read_to_string(rt, name).ok()?;
+    Some(if command == "text" {
+        put_text(rt.alloc(), name, text.as_str(), reply)
+    } else {
+        put_prefixes(rt.alloc(), name, text.as_str(), reply)
+    })
+}
+
+/// `format TEXT`: the parameters that a text gives, blanks and all, printed again.
+fn put_format(alloc: Global, text: &str, reply: &mut String) -> Result<(), AllocError> {
+    reply.push_str(FormatParams::parse_line(text).to_string(alloc)?.as_str())
 }
 
 /// Writes what a command gives with the words behind it.
@@ -57,19 +70,22 @@ fn of_words(
     command: &str,
     words: &mut SplitWhitespace<'_>,
     reply: &mut String,
-) -> Result<(), Fault> {
+) -> Answer {
     match command {
         "score" => put_score(words, reply),
         "feedback" => put_feedback(words, reply),
         "equal" => put_equality(words, reply),
         "distances" => put_distances(alloc, &mut rows.own, words, reply),
         "find" => put_found(&rows.own, words, reply),
-        "rows" => Ok(put_own_rows(alloc, &rows.own, reply)?),
-        "round" => put_round(alloc, rows, words, reply),
-        _ => {
-            change(alloc, rows, command, words)?;
-            Ok(reply.push_str("ok")?)
+        "rows" => Some(put_own_rows(alloc, &rows.own, reply)),
+        "round" => {
+            let dir = Direction::from(words.next()?);
+            Some(put_round(alloc, &mut rows.own, rows.remote.params(), dir, reply))
         }
+        _ => match change(alloc, rows, command, words)? {
+            Ok(()) => Some(reply.push_str("ok")),
+            Err(fault) => Some(Err(fault)),
+        },
     }
 }
 
@@ -79,82 +95,71 @@ fn change(
     rows: &mut Rows,
     command: &str,
     words: &mut SplitWhitespace<'_>,
-) -> Result<(), Fault> {
+) -> Answer {
     match command {
+        "own" | "locked" | "remote" => return push(rows, command, words),
+        "enable" | "disable" => return enable(&mut rows.own, command == "enable", words),
+        "add" => return add(&mut rows.own, words),
+        "defaults" => match CodecConfig::new_with_defaults(alloc) {
+            Ok(config) => rows.own = config,
+            Err(fault) => return Some(Err(fault)),
+        },
         "fresh" => *rows = Rows::new(alloc),
-        "defaults" => rows.own = CodecConfig::new_with_defaults(alloc)?,
-        "enable" => enable(&mut rows.own, true, words)?,
-        "disable" => enable(&mut rows.own, false, words)?,
-        "add" => add(&mut rows.own, words)?,
         "clear" => rows.own.clear(),
         "other" => rows.remote.clear(),
-        "own" => rows.own.push(next_row(words)?)?,
-        "locked" => rows.own.push(locked(next_row(words)?))?,
-        "remote" => rows.remote.push(next_row(words)?)?,
-        _ => return Err(Fault::Words),
+        _ => return None,
     }
-    Ok(())
+    Some(Ok(()))
 }
 
-fn locked(mut row: PayloadParams) -> PayloadParams {
-    row.lock();
-    row
+/// `own ROW`, `locked ROW` and `remote ROW`: a row behind the own ones, locked or not, or behind the other end's.
+fn push(rows: &mut Rows, command: &str, words: &mut SplitWhitespace<'_>) -> Answer {
+    let mut row = next_row(words)?;
+    if command == "locked" {
+        row.lock();
+    }
+    Some(if command == "remote" {
+        rows.remote.push(row)
+    } else {
+        rows.own.push(row)
+    })
 }
 
 /// `add TYPE SPEC`: a new row of a codec behind the others.
-fn add(config: &mut CodecConfig, words: &mut SplitWhitespace<'_>) -> Result<(), Fault> {
+fn add(config: &mut CodecConfig, words: &mut SplitWhitespace<'_>) -> Answer {
     let pt = Pt::new_with_value(next_number(words)?);
     let spec = next_spec(words)?;
-    Ok(config.add_config(
+    Some(config.add_config(
         pt,
         None,
         spec.codec,
         spec.clock_rate,
         spec.channels,
         spec.format,
-    )?)
+    ))
 }
 
 /// `score SPEC SPEC`: how well two rows match.
-fn put_score(words: &mut SplitWhitespace<'_>, reply: &mut String) -> Result<(), Fault> {
-    let one = PayloadParams::new(Pt::new_with_value(96), None, next_spec(words)?);
-    let other = PayloadParams::new(Pt::new_with_value(97), None, next_spec(words)?);
-    match one.match_score(&other) {
-        Some(points) => Ok(write!(reply, "{points}")?),
-        None => Ok(reply.push_str("none")?),
-    }
+fn put_score(words: &mut SplitWhitespace<'_>, reply: &mut String) -> Answer {
+    let one = new_row(words)?;
+    let other = new_row(words)?;
+    Some(match one.match_score(&other) {
+        Some(points) => write!(reply, "{points}"),
+        None => reply.push_str("none"),
+    })
 }
 
 /// `find TYPE`: the codec of the first own row of a type.
-fn put_found(
-    config: &CodecConfig,
-    words: &mut SplitWhitespace<'_>,
-    reply: &mut String,
-) -> Result<(), Fault> {
+fn put_found(config: &CodecConfig, words: &mut SplitWhitespace<'_>, reply: &mut String) -> Answer {
     let pt = Pt::new_with_value(next_number(words)?);
-    match config.find(|row| row.pt() == pt) {
-        Some(row) => Ok(write!(reply, "{}", row.spec().codec)?),
-        None => Ok(reply.push_str("none")?),
-    }
+    Some(match config.find(|row| row.pt() == pt) {
+        Some(row) => write!(reply, "{}", row.spec().codec),
+        None => reply.push_str("none"),
+    })
 }
 
 /// `rows`: how many own rows there are, and which.
 fn put_own_rows(alloc: Global, config: &CodecConfig, reply: &mut String) -> Result<(), AllocError> {
     write!(reply, "{}", config.params().len())?;
     put_rows(alloc, config.params(), reply)
-}
-
-/// `round DIRECTION`: what a round with the other end's rows leaves.
-fn put_round(
-    alloc: Global,
-    rows: &mut Rows,
-    words: &mut SplitWhitespace<'_>,
-    reply: &mut String,
-) -> Result<(), Fault> {
-    let dir = Direction::from(next_word(words)?);
-    match rows.own.round(rows.remote.params(), dir) {
-        Ok(()) => reply.push_str("ok")?,
-        Err(refusal) => put_refusal(refusal, reply)?,
-    }
-    Ok(put_rows(alloc, rows.own.params(), reply)?)
 }

@@ -1,9 +1,8 @@
 //! Commands on the config of an end: default rows of a codec, and the distances of redundancy.
 
-use crate::fault::Fault;
-use crate::words::next_word;
+use crate::commands::Answer;
 use sdp_formats_config::{Codec, CodecConfig};
-use std::alloc::Global;
+use std::alloc::{AllocError, Global};
 use std::fmt::Write;
 use std::str::SplitWhitespace;
 
@@ -13,10 +12,10 @@ pub(crate) fn enable(
     config: &mut CodecConfig,
     enabled: bool,
     words: &mut SplitWhitespace<'_>,
-) -> Result<(), Fault> {
-    let codec = Codec::from(next_word(words)?);
-    let red = next_word(words)? == "red";
-    let done = match codec {
+) -> Answer {
+    let codec = Codec::from(words.next()?);
+    let red = words.next()? == "red";
+    Some(match codec {
         Codec::Opus => config.enable_opus(enabled, red),
         Codec::PCMU => config.enable_pcmu(enabled, red),
         Codec::PCMA => config.enable_pcma(enabled, red),
@@ -29,9 +28,8 @@ pub(crate) fn enable(
         Codec::H264 => config.enable_h264(enabled),
         Codec::H265 => config.enable_h265(enabled),
         Codec::H266 => config.enable_h266(enabled),
-        _ => return Err(Fault::Words),
-    };
-    Ok(done?)
+        _ => return None,
+    })
 }
 
 /// `distances N ..`: sets the distances of redundancy, where some are given, and tells those in force.
@@ -40,14 +38,15 @@ pub(crate) fn put_distances(
     config: &mut CodecConfig,
     words: &mut SplitWhitespace<'_>,
     reply: &mut String,
-) -> Result<(), Fault> {
+) -> Answer {
     let mut given = Vec::new(alloc);
     for word in words {
-        given.push(word.parse::<u32>()?)?;
+        if given.push(word.parse::<u32>().ok()?).is_err() {
+            return Some(Err(AllocError));
+        }
     }
-    if !given.is_empty() {
-        config.set_red_distances(given.as_slice())?;
+    if !given.is_empty() && config.set_red_distances(given.as_slice()).is_err() {
+        return Some(Err(AllocError));
     }
-    let distances = config.red_distances();
-    Ok(write!(reply, "{distances:?}")?)
+    Some(write!(reply, "{:?}", config.red_distances()))
 }

@@ -6,7 +6,6 @@
 
 mod commands;
 mod configs;
-mod fault;
 mod printing;
 mod row;
 mod texts;
@@ -14,19 +13,19 @@ mod words;
 
 use commands::{Rows, answer};
 use std::io;
-use std::io::{BufRead, BufReader};
 
 /// Answers each line by a line or, for a session text, by several: a comment by itself, a command by what it gives, and
-/// a line that isn't understood by the word `fault` and the reason.
+/// a line that isn't understood, or whose file can't be read, by the word `fault`.
 fn main(rt: HostRuntime) -> io::Result<()> {
     let alloc = rt.alloc();
     let mut rows = Rows::new(alloc);
-    for line in BufReader::new(alloc, rt.reader())?.lines(alloc) {
+    for line in rt.lines(alloc) {
         let mut reply = String::new(alloc);
         match answer(&rt, &mut rows, line?.as_str(), &mut reply) {
-            Ok(()) => println!(rt; "{reply}")?,
-            Err(fault) => println!(rt; "fault {}", fault.reason())?,
+            Some(done) => done?,
+            None => reply.push_str("fault")?,
         }
+        println!(rt; "{reply}")?;
     }
     Ok(())
 }

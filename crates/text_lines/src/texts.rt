@@ -1,6 +1,5 @@
 //! Commands on session texts.
 
-use crate::fault::Fault;
 use sdp_formats::{MediaAttribute, MediaLine, Sdp, SdpError, SessionAttribute, sdp_parser};
 use sdp_formats_equality::same::Same;
 use sdp_formats_forms::Maybe;
@@ -11,47 +10,43 @@ use sdp_formats_wholes::{
 use std::alloc::{AllocError, Global};
 use std::fmt::Write;
 
-fn is_unused(attribute: &MediaAttribute) -> bool {
-    matches!(attribute, MediaAttribute::Unused(_))
-}
-
-fn is_unused_in_session(attribute: &SessionAttribute) -> bool {
-    matches!(attribute, SessionAttribute::Unused(_))
-}
-
-/// `text NAME`: what a session text has: session attributes, attributes and sources of each section, lines of a form
-/// that isn't known, candidates, bytes that are left, whether another reading and a copy are the same, and whether what
-/// was read is printed as a text that is read and printed alike.
+/// What a session text has: session attributes, attributes and sources of each section, lines of a form that isn't
+/// known, candidates, bytes that are left, whether another reading and a copy are the same, and whether what was read is
+/// printed as a text that is read and printed alike.
 pub(crate) fn put_text(
     alloc: Global,
     name: &str,
     text: &str,
     reply: &mut String,
-) -> Result<(), Fault> {
+) -> Result<(), AllocError> {
     write!(reply, "{name}: ")?;
-    match sdp_parser(alloc, text) {
-        Ok((sdp, rest)) => {
-            put_session(&sdp, rest.len(), reply)?;
-            for section in sdp.media_lines.as_slice() {
-                put_section(alloc, section, reply)?;
-            }
-            put_whole(alloc, &sdp, reply)?;
-            put_again(alloc, text, &sdp, reply)?;
-            let printed = sdp.to_sdp_string(alloc)?;
-            put_printed(alloc, text, printed.as_str(), reply)
-        }
-        Err(SdpError::Memory) => Err(Fault::Memory),
-        Err(_) => Ok(reply.push_str("no session text")?),
+    match put_read(alloc, text, reply) {
+        Ok(()) => Ok(()),
+        Err(SdpError::Memory) => Err(AllocError),
+        Err(_) => reply.push_str("no session text"),
     }
+}
+
+fn put_read(alloc: Global, text: &str, reply: &mut String) -> Result<(), SdpError> {
+    let (sdp, rest) = sdp_parser(alloc, text)?;
+    put_session(&sdp, rest.len(), reply)?;
+    for section in sdp.media_lines.as_slice() {
+        put_section(alloc, section, reply)?;
+    }
+    put_whole(alloc, &sdp, reply)?;
+    put_again(alloc, text, &sdp, reply)?;
+    put_printed(alloc, text, sdp.to_sdp_string(alloc)?.as_str(), reply)
 }
 
 fn put_session(sdp: &Sdp, left: usize, reply: &mut String) -> Result<(), AllocError> {
     let attributes = sdp.session.attrs.as_slice();
     let count = attributes.len();
-    let unused = attributes
-        .iter()
-        .filter(|attribute| is_unused_in_session(*attribute))
-        .count();
+    let mut unused = 0usize;
+    for attribute in attributes {
+        if matches!(attribute, SessionAttribute::Unused(_)) {
+            unused = unused.saturating_add(1);
+        }
+    }
     write!(
         reply,
         "session {}, {count} attributes, {unused} unused, {left} bytes left",
@@ -61,12 +56,14 @@ fn put_session(sdp: &Sdp, left: usize, reply: &mut String) -> Result<(), AllocEr
 
 fn put_section(alloc: Global, section: &MediaLine, reply: &mut String) -> Result<(), AllocError> {
     let attributes = section.attrs.as_slice();
-    let unused = attributes
-        .iter()
-        .filter(|attribute| is_unused(*attribute))
-        .count();
     let count = attributes.len();
     let types = section.pts.as_slice().len();
+    let mut unused = 0usize;
+    for attribute in attributes {
+        if matches!(attribute, MediaAttribute::Unused(_)) {
+            unused = unused.saturating_add(1);
+        }
+    }
     write!(
         reply,
         "\n  section: {types} types, {count} attributes, {unused} unused"
@@ -104,7 +101,7 @@ fn put_whole(alloc: Global, sdp: &Sdp, reply: &mut String) -> Result<(), AllocEr
 }
 
 /// Whether the text is read by itself as the same value, of which a copy is the same, and what its data channels have.
-fn put_again(alloc: Global, text: &str, sdp: &Sdp, reply: &mut String) -> Result<(), Fault> {
+fn put_again(alloc: Global, text: &str, sdp: &Sdp, reply: &mut String) -> Result<(), SdpError> {
     let same = parse(alloc, text)?.is_same(sdp);
     let copied = sdp.try_clone(alloc)?.is_same(sdp);
     let init = match sctp_init(sdp) {
@@ -129,7 +126,12 @@ fn kept_lines(text: &str, printed: &str) -> usize {
 }
 
 /// How many lines are printed as they stood, and whether the printed text is read whole, and printed as it stands.
-fn put_printed(alloc: Global, text: &str, printed: &str, reply: &mut String) -> Result<(), Fault> {
+fn put_printed(
+    alloc: Global,
+    text: &str,
+    printed: &str,
+    reply: &mut String,
+) -> Result<(), SdpError> {
     let kept = kept_lines(text, printed);
     let lines = printed.lines().count();
     let (sdp, rest) = sdp_parser(alloc, printed)?;
@@ -142,13 +144,13 @@ fn put_printed(alloc: Global, text: &str, printed: &str, reply: &mut String) -> 
     )?)
 }
 
-/// `prefixes NAME`: how many prefixes of a text, by bytes, are session texts, and how many not.
+/// How many prefixes of a text, by bytes, are session texts, and how many not.
 pub(crate) fn put_prefixes(
     alloc: Global,
     name: &str,
     text: &str,
     reply: &mut String,
-) -> Result<(), Fault> {
+) -> Result<(), AllocError> {
     let (mut read, mut unread) = (0usize, 0usize);
     for end in 0..text.len().saturating_add(1) {
         let Some(prefix) = text.get(..end) else {
@@ -156,12 +158,12 @@ pub(crate) fn put_prefixes(
         };
         match sdp_parser(alloc, prefix) {
             Ok(_) => read = read.saturating_add(1),
-            Err(SdpError::Memory) => return Err(Fault::Memory),
+            Err(SdpError::Memory) => return Err(AllocError),
             Err(_) => unread = unread.saturating_add(1),
         }
     }
-    Ok(write!(
+    write!(
         reply,
         "{name}: {read} prefixes are session texts, {unread} are none"
-    )?)
+    )
 }
