@@ -1,8 +1,8 @@
 #!/usr/bin/env python3
-"""Writes what `crates/text_lines` reads and must answer: the commands on session texts and their replies, which are
-kept by hand in `texts.txt` beside this script and only copied, a command behind `> ` on each line that has one; behind
-them rounds of rows, worked out with an array of marks from the rules of negotiation alone, beside rounds that were put
-together by hand, and rows, formats and configs by hand.
+"""Writes what `crates/text_lines` reads and must answer. In front stand commands on session texts and their replies,
+which are kept by hand in `texts.txt` beside this script, each command behind `> ` and its reply below it, and copied.
+Behind them stand rounds of rows, worked out with an array of marks from the rules of negotiation alone, beside rounds
+that were put together by hand, and rows, formats and configs by hand.
 
 Run it with `python3 docs/vectors/rounds.py`. Random rounds come from a fixed seed.
 """

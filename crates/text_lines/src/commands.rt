@@ -5,6 +5,7 @@ use crate::printing::{put_round, put_rows};
 use crate::row::{new_row, put_equality, put_feedback};
 use crate::texts::{put_prefixes, put_text};
 use crate::words::{next_number, next_row, next_spec};
+use sdp_formats::SdpError;
 use sdp_formats_config::{CodecConfig, Direction, FormatParams, Pt};
 use std::alloc::{AllocError, Global};
 use std::fmt::Write;
@@ -51,10 +52,15 @@ pub(crate) fn answer(rt: &HostRuntime, rows: &mut Rows, line: &str, reply: &mut 
 /// `text NAME` and `prefixes NAME`: what the session text in a file has, and how many of its prefixes are session texts.
 fn put_file(rt: &HostRuntime, command: &str, name: &str, reply: &mut String) -> Answer {
     let text = fs::read_to_string(rt, name).ok()?;
-    Some(if command == "text" {
+    let done = if command == "text" {
         put_text(rt.alloc(), name, text.as_str(), reply)
     } else {
         put_prefixes(rt.alloc(), name, text.as_str(), reply)
+    };
+    Some(match done {
+        Ok(()) => Ok(()),
+        Err(SdpError::Memory) => Err(AllocError),
+        Err(_) => reply.push_str("no session text"),
     })
 }
 

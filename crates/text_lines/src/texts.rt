@@ -18,16 +18,8 @@ pub(crate) fn put_text(
     name: &str,
     text: &str,
     reply: &mut String,
-) -> Result<(), AllocError> {
+) -> Result<(), SdpError> {
     write!(reply, "{name}: ")?;
-    match put_read(alloc, text, reply) {
-        Ok(()) => Ok(()),
-        Err(SdpError::Memory) => Err(AllocError),
-        Err(_) => reply.push_str("no session text"),
-    }
-}
-
-fn put_read(alloc: Global, text: &str, reply: &mut String) -> Result<(), SdpError> {
     let (sdp, rest) = sdp_parser(alloc, text)?;
     put_session(&sdp, rest.len(), reply)?;
     for section in sdp.media_lines.as_slice() {
@@ -150,7 +142,7 @@ pub(crate) fn put_prefixes(
     name: &str,
     text: &str,
     reply: &mut String,
-) -> Result<(), AllocError> {
+) -> Result<(), SdpError> {
     let (mut read, mut unread) = (0usize, 0usize);
     for end in 0..text.len().saturating_add(1) {
         let Some(prefix) = text.get(..end) else {
@@ -158,12 +150,12 @@ pub(crate) fn put_prefixes(
         };
         match sdp_parser(alloc, prefix) {
             Ok(_) => read = read.saturating_add(1),
-            Err(SdpError::Memory) => return Err(AllocError),
+            Err(SdpError::Memory) => return Err(SdpError::Memory),
             Err(_) => unread = unread.saturating_add(1),
         }
     }
-    write!(
+    Ok(write!(
         reply,
         "{name}: {read} prefixes are session texts, {unread} are none"
-    )
+    )?)
 }
