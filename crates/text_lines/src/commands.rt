@@ -49,7 +49,7 @@ pub(crate) fn answer(rt: &HostRuntime, rows: &mut Rows, line: &str, reply: &mut 
     }
 }
 
-/// `text NAME` and `prefixes NAME`: what the session text in a file has, and how many of its prefixes are session texts.
+/// `text NAME` and `prefixes NAME`: what the session text in a file has, and how many of its prefixes are such texts.
 fn put_file(rt: &HostRuntime, command: &str, name: &str, reply: &mut String) -> Answer {
     let text = fs::read_to_string(rt, name).ok()?;
     let done = if command == "text" {

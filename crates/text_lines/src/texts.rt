@@ -11,8 +11,8 @@ use std::alloc::{AllocError, Global};
 use std::fmt::Write;
 
 /// What a session text has: session attributes, attributes and sources of each section, lines of a form that isn't
-/// known, candidates, bytes that are left, whether another reading and a copy are the same, and whether what was read is
-/// printed as a text that is read and printed alike.
+/// known, candidates, bytes that are left, whether another reading and a copy are the same, and whether what was read
+/// is printed as a text that is read and printed alike.
 pub(crate) fn put_text(
     alloc: Global,
     name: &str,
