@@ -1,28 +1,14 @@
 //! Datagrams that browsers sent, read through replay window, buffer and depacketizer.
 
-use crate::capture::{Capture, next_word};
+use crate::capture::Capture;
 use crate::stream::Stream;
-use rtp_wire::{ExtensionMap, RtpHeader, Ssrc};
+use anyhow::bail;
+use rtp_wire::{ExtensionMap, RtpHeader};
 use std::alloc::Global;
-use std::fs;
+use std::{fs, io};
 
-/// The place of the stream of an SSRC, which is made where there is none.
-fn stream_of(
-    alloc: Global,
-    capture: &Capture,
-    streams: &mut Vec<Stream>,
-    ssrc: Ssrc,
-) -> anyhow::Result<usize> {
-    for (place, stream) in streams.iter().enumerate() {
-        if stream.ssrc == ssrc {
-            return Ok(place);
-        }
-    }
-    streams.push(Stream::new(alloc, capture, ssrc)?)?;
-    Ok(streams.len().saturating_sub(1))
-}
-
-/// Takes a datagram in, if it is of the capture's payload types.
+/// Takes a datagram in, if it is of the capture's payload types, by the stream of its SSRC, which is made where there
+/// is none.
 fn receive(
     alloc: Global,
     capture: &Capture,
@@ -35,53 +21,65 @@ fn receive(
     if !capture.has_type(header.payload_type.get()) {
         return Ok(());
     }
-    let place = stream_of(alloc, capture, streams, header.ssrc)?;
-    if let Some(stream) = streams.get_mut(place) {
-        stream.receive(capture, &header, datagram)?;
+    for stream in streams.iter_mut() {
+        if stream.ssrc == header.ssrc {
+            return Ok(stream.receive(capture, &header, datagram)?);
+        }
     }
-    Ok(())
+    let Some(mut stream) = Stream::new(alloc, capture, header.ssrc) else {
+        bail!("no payload format of {}", capture.codec);
+    };
+    stream.receive(capture, &header, datagram)?;
+    Ok(streams.push(stream)?)
 }
 
 /// The streams of a capture: a line for each datagram, its time in milliseconds and its bytes in hexadecimal.
 fn received(alloc: Global, capture: &Capture, text: &str) -> anyhow::Result<Vec<Stream>> {
     let mut streams = Vec::new(alloc);
     for line in text.lines() {
-        if line.starts_with("#") {
-            continue;
+        match line.split_once(' ') {
+            Some((time, bytes)) if !time.starts_with("#") => {
+                receive(alloc, capture, &mut streams, &hex::decode(alloc, bytes)?)?;
+            }
+            _ => {}
         }
-        let Some((_, bytes)) = line.split_once(' ') else {
-            continue;
-        };
-        receive(alloc, capture, &mut streams, &hex::decode(alloc, bytes)?)?;
     }
     for stream in &mut streams {
-        for _ in 0..u32::MAX {
-            if !stream.drain()? {
-                break;
-            }
-        }
+        stream.drain()?;
     }
     Ok(streams)
 }
 
-/// Prints what came of the streams of the capture that a line names.
-pub(crate) fn report(rt: &HostRuntime, line: &str) -> anyhow::Result<()> {
+/// The streams of the capture that a line names: `FILE CODEC TYPE [REDTYPE]`.
+fn streams_of(rt: &HostRuntime, line: &str) -> anyhow::Result<Vec<Stream>> {
     let mut words = line.split_whitespace();
-    let text = fs::read_to_string(rt, next_word(&mut words)?)?;
-    let capture = Capture::of(&mut words)?;
-    println!(*rt; "{line}")?;
-    let streams = received(rt.alloc(), &capture, text.as_str())?;
-    for stream in &streams {
-        let ssrc = stream.ssrc;
-        let c = stream.counts;
-        println!(*rt;
-            "  SSRC {ssrc}: {} taken, {} of padding alone, {} refused, {} faults",
-            c.taken, c.padding, c.refused, c.faults
-        )?;
-        println!(*rt;
-            "  {} units of {} bytes, {} at the end alone; {} keyframes, the first unit {}",
-            c.units, c.bytes, c.drained, c.keyframes, c.begins_with_keyframe
-        )?;
+    let (Some(file), Some(capture)) = (words.next(), Capture::of(&mut words)) else {
+        bail!("no capture: {line}");
+    };
+    let text = fs::read_to_string(rt, file)?;
+    received(rt.alloc(), &capture, text.as_str())
+}
+
+/// Prints what came of a stream.
+fn print(rt: &HostRuntime, stream: &Stream) -> io::Result<()> {
+    let (ssrc, c) = (stream.ssrc, stream.counts);
+    println!(*rt;
+        "  SSRC {ssrc}: {} taken, {} of padding alone, {} refused, {} faults",
+        c.taken, c.padding, c.refused, c.faults
+    )?;
+    println!(*rt;
+        "  {} units of {} bytes, {} at the end alone; {} keyframes, the first unit {}",
+        c.units, c.bytes, c.drained, c.keyframes, c.begins_with_keyframe
+    )
+}
+
+/// Prints what came of the streams of the captures that lines name.
+pub(crate) fn report(rt: &HostRuntime, lines: &str) -> anyhow::Result<()> {
+    for line in lines.lines() {
+        println!(*rt; "{line}")?;
+        for stream in &streams_of(rt, line)? {
+            print(rt, stream)?;
+        }
     }
     Ok(())
 }

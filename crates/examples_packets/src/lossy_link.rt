@@ -1,9 +1,10 @@
 //! A VP8 round trip over a link that loses packets: frames are cut into packets, some don't arrive, and what comes out
 //! are whole frames, in order.
 
+use crate::recorder::last_frames;
 use payload_core::{
-    DepacketizingBuffer, MAX_HELD, PacketError, PacketList, Payloader, RtpMeta, SentPacket, SeqNo,
-    Vp8Depacketizer, Vp8Packetizer,
+    Depacketized, DepacketizingBuffer, PacketError, PacketList, Payloader, RtpMeta, SentPacket,
+    SeqNo, Vp8Depacketizer, Vp8Packetizer,
 };
 use rtp_wire::ExtensionValues;
 use std::alloc::Global;
@@ -17,28 +18,36 @@ const HOLD_BACK: usize = 2;
 /// Prints which packets are lost, and which frames come out.
 pub(crate) fn lossy_link(rt: &HostRuntime) -> anyhow::Result<()> {
     let alloc = rt.alloc();
+    let packets = packets(alloc)?;
     let mut buffer = DepacketizingBuffer::new(alloc, Vp8Depacketizer::new(), HOLD_BACK);
-    for (number, packet) in (0u64..).zip(packets(alloc)?) {
+    for (number, packet) in (0u64..).zip(&packets) {
         if is_lost(number) {
             println!(*rt; "packet {number} is lost")?;
-            continue;
-        }
-        buffer.push(meta(number, &packet), &packet.payload)?;
-        let mut frames = Vec::new(alloc);
-        buffer.pop_all(&mut frames)?;
-        for frame in &frames {
-            println!(*rt; "frame at {}, {} bytes", frame.time(), frame.bytes.len())?;
+        } else {
+            print(rt, &arrive(alloc, &mut buffer, number, packet)?, "")?;
         }
     }
-    for _ in 0..MAX_HELD {
-        let Some(frame) = buffer.drain()? else {
-            break;
-        };
-        println!(*rt;
-            "frame at {}, {} bytes, at the end",
-            frame.time(),
-            frame.bytes.len()
-        )?;
+    print(rt, &last_frames(alloc, &mut buffer)?, ", at the end")
+}
+
+/// The frames that are due once the packet of this number is there.
+fn arrive(
+    alloc: Global,
+    buffer: &mut DepacketizingBuffer<Vp8Depacketizer>,
+    number: u64,
+    packet: &SentPacket,
+) -> Result<Vec<Depacketized>, PacketError> {
+    buffer.push(meta(number, packet), &packet.payload)?;
+    let mut frames = Vec::new(alloc);
+    buffer.pop_all(&mut frames)?;
+    Ok(frames)
+}
+
+/// A line for each frame, with this behind it.
+fn print(rt: &HostRuntime, frames: &[Depacketized], behind: &str) -> anyhow::Result<()> {
+    for frame in frames {
+        let (time, len) = (frame.time(), frame.bytes.len());
+        println!(*rt; "frame at {time}, {len} bytes{behind}")?;
     }
     Ok(())
 }

@@ -18,15 +18,13 @@ use std::io;
 
 fn main(rt: HostRuntime) -> anyhow::Result<()> {
     let text = io::read_to_string(rt.alloc(), rt.reader())?;
-    let mut parts = text.as_str().split("==\n");
-    record(&rt, parts.next().unwrap_or(""))?;
+    let text = text.as_str();
+    let (datagrams, captures) = text.split_once("==\n").unwrap_or((text, ""));
+    record(&rt, datagrams)?;
     println!(rt; "over a link that loses packets:")?;
     lossy_link(&rt)?;
     println!(rt; "captures:")?;
-    for line in parts.next().unwrap_or("").lines() {
-        report(&rt, line)?;
-    }
-    Ok(())
+    report(&rt, captures)
 }
 
 /// Records the datagrams of these lines, and prints the frames in order.
@@ -36,13 +34,9 @@ fn record(rt: &HostRuntime, lines: &str) -> anyhow::Result<()> {
     for line in lines.lines() {
         let taken = recorder.receive(&hex::decode(alloc, line)?)?;
         println!(*rt; "{}", if taken { "taken" } else { "not taken" })?;
-        let mut frames = Vec::new(alloc);
-        recorder.frames(&mut frames)?;
-        print(rt, &frames)?;
+        print(rt, &recorder.frames(alloc)?)?;
     }
-    let mut frames = Vec::new(alloc);
-    recorder.last_frames(&mut frames)?;
-    print(rt, &frames)
+    print(rt, &recorder.last_frames(alloc)?)
 }
 
 /// A line for each frame.

@@ -62,28 +62,36 @@ impl Recorder {
         Ok(true)
     }
 
-    /// Appends the frames that are due.
+    /// The frames that are due.
     ///
     /// # Errors
     /// Where a packet of a frame is refused, which is done with then, or memory runs out.
-    pub(crate) fn frames(&mut self, frames: &mut Vec<Depacketized>) -> Result<(), PacketError> {
-        self.buffer.pop_all(frames)
+    pub(crate) fn frames(&mut self, alloc: Global) -> Result<Vec<Depacketized>, PacketError> {
+        let mut frames = Vec::new(alloc);
+        self.buffer.pop_all(&mut frames)?;
+        Ok(frames)
     }
 
-    /// Appends the complete frames that are left, for the end of the stream, when nothing more will come.
+    /// The complete frames that are left, for the end of the stream, when nothing more will come.
     ///
     /// # Errors
     /// As `frames`.
-    pub(crate) fn last_frames(
-        &mut self,
-        frames: &mut Vec<Depacketized>,
-    ) -> Result<(), PacketError> {
-        for _ in 0..MAX_HELD {
-            match self.buffer.drain()? {
-                Some(frame) => frames.push(frame)?,
-                None => break,
-            }
-        }
-        Ok(())
+    pub(crate) fn last_frames(&mut self, alloc: Global) -> Result<Vec<Depacketized>, PacketError> {
+        last_frames(alloc, &mut self.buffer)
     }
+}
+
+/// The complete frames that are left in a buffer.
+pub(crate) fn last_frames(
+    alloc: Global,
+    buffer: &mut DepacketizingBuffer<Vp8Depacketizer>,
+) -> Result<Vec<Depacketized>, PacketError> {
+    let mut frames = Vec::new(alloc);
+    for _ in 0..MAX_HELD {
+        match buffer.drain()? {
+            Some(frame) => frames.push(frame)?,
+            None => break,
+        }
+    }
+    Ok(frames)
 }

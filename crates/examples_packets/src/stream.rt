@@ -81,7 +81,7 @@ fn payload_of<'a>(capture: &Capture, header: &RtpHeader, datagram: &'a [u8]) -> 
 
 impl Counts {
     /// Counts a unit.
-    fn add(&mut self, unit: &Depacketized) {
+    fn add_unit(&mut self, unit: &Depacketized) {
         let is_key = is_keyframe(unit.extra);
         if self.units == 0 {
             self.begins_with_keyframe = is_key;
@@ -90,11 +90,25 @@ impl Counts {
         self.bytes = self.bytes.saturating_add(unit.bytes.len() as u64);
         self.keyframes = self.keyframes.saturating_add(u64::from(is_key));
     }
+
+    /// Counts what a buffer handed out; answers whether it was something.
+    fn add(
+        &mut self,
+        popped: Result<Option<Depacketized>, PacketError>,
+    ) -> Result<bool, PacketError> {
+        match popped {
+            Ok(Some(unit)) => self.add_unit(&unit),
+            Ok(None) => return Ok(false),
+            Err(PacketError::Memory) => return Err(PacketError::Memory),
+            Err(_) => self.faults = self.faults.saturating_add(1),
+        }
+        Ok(true)
+    }
 }
 
 impl Stream {
-    /// A stream that received nothing.
-    pub(crate) fn new(alloc: Global, capture: &Capture, ssrc: Ssrc) -> anyhow::Result<Stream> {
+    /// A stream that received nothing; None where the codec has no payload format.
+    pub(crate) fn new(alloc: Global, capture: &Capture, ssrc: Ssrc) -> Option<Stream> {
         let counts = Counts {
             taken: 0,
             padding: 0,
@@ -106,7 +120,7 @@ impl Stream {
             drained: 0,
             faults: 0,
         };
-        Ok(Stream {
+        Some(Stream {
             ssrc,
             counts,
             window: None,
@@ -145,34 +159,19 @@ impl Stream {
             ext_vals: header.ext_vals,
         };
         self.buffer.push(meta, payload)?;
-        self.pop()
-    }
-
-    /// Hands out what is due.
-    fn pop(&mut self) -> Result<(), PacketError> {
-        match self.buffer.pop() {
-            Ok(Some(unit)) => self.counts.add(&unit),
-            Ok(None) => {}
-            Err(PacketError::Memory) => return Err(PacketError::Memory),
-            Err(_) => self.counts.faults = self.counts.faults.saturating_add(1),
-        }
+        self.counts.add(self.buffer.pop())?;
         Ok(())
     }
 
-    /// Hands out all that is complete, where nothing more will come; answers whether there was something.
-    pub(crate) fn drain(&mut self) -> Result<bool, PacketError> {
-        match self.buffer.drain() {
-            Ok(Some(unit)) => {
-                self.counts.add(&unit);
-                self.counts.drained = self.counts.drained.saturating_add(1);
-                Ok(true)
-            }
-            Ok(None) => Ok(false),
-            Err(PacketError::Memory) => Err(PacketError::Memory),
-            Err(_) => {
-                self.counts.faults = self.counts.faults.saturating_add(1);
-                Ok(true)
+    /// Hands out all that is complete, where nothing more will come.
+    pub(crate) fn drain(&mut self) -> Result<(), PacketError> {
+        let units = self.counts.units;
+        for _ in 0..u32::MAX {
+            if !self.counts.add(self.buffer.drain())? {
+                break;
             }
         }
+        self.counts.drained = self.counts.units.saturating_sub(units);
+        Ok(())
     }
 }
