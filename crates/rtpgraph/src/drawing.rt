@@ -1,6 +1,7 @@
 //! The picture.
 
 use crate::steps::Step;
+use std::io;
 
 /// The width of a step and the height of a number.
 const CELL: u64 = 8;
@@ -26,17 +27,17 @@ struct Picture {
 }
 
 /// Draws the steps from left to right, and the counts below them.
-pub(crate) fn draw(rt: &HostRuntime, steps: &[Step]) -> anyhow::Result<()> {
+pub(crate) fn draw(rt: &HostRuntime, steps: &[Step]) -> io::Result<()> {
     let (least, greatest) = extent(steps);
     let height = greatest.saturating_sub(least).min(MOST);
     let base = height.saturating_add(3).saturating_mul(CELL);
     let width = (steps.len() as u64).saturating_add(30).saturating_mul(CELL);
     let bottom = base.saturating_add((BELOW + 3) * CELL);
     println!(*rt;
-        "<svg xmlns=\"http://www.w3.org/2000/svg\" width=\"{width}\" height=\"{bottom}\" font-size=\"10\">"
+        "<svg xmlns=\"http://www.w3.org/2000/svg\" width=\"{width}\" height=\"{bottom}\" font-size=\"10\">\n\
+         <rect width=\"{width}\" height=\"{bottom}\" fill=\"white\"/>\n\
+         <path d=\"M0 {base}H{width}\" stroke=\"black\"/>"
     )?;
-    println!(*rt; "<rect width=\"{width}\" height=\"{bottom}\" fill=\"white\"/>")?;
-    println!(*rt; "<path d=\"M0 {base}H{width}\" stroke=\"black\"/>")?;
     let mut picture = Picture {
         least,
         base,
@@ -51,9 +52,7 @@ pub(crate) fn draw(rt: &HostRuntime, steps: &[Step]) -> anyhow::Result<()> {
     for step in steps {
         picture.show(rt, *step)?;
     }
-    picture.sum_up(rt, bottom.saturating_sub(CELL))?;
-    println!(*rt; "</svg>")?;
-    Ok(())
+    picture.sum_up(rt, bottom.saturating_sub(CELL))
 }
 
 /// The least and the greatest number of the steps; of none 0.
@@ -75,23 +74,21 @@ fn extent(steps: &[Step]) -> (u64, u64) {
 
 impl Picture {
     /// Draws a step.
-    fn show(&mut self, rt: &HostRuntime, step: Step) -> anyhow::Result<()> {
-        let x = self.x;
+    fn show(&mut self, rt: &HostRuntime, step: Step) -> io::Result<()> {
         let below = self.base.saturating_add(2 * CELL);
-        match step {
-            Step::Taken(number) => self.take(rt, number)?,
+        let drawn = match step {
+            Step::Taken(number) => self.take(rt, number),
             Step::Refused => {
                 self.refused = self.refused.saturating_add(1);
-                println!(*rt; "<circle cx=\"{x}\" cy=\"{below}\" r=\"3\" fill=\"orange\"/>")?;
+                self.circle(rt, below, "orange")
             }
-            Step::Other => println!(*rt;
-                "<circle cx=\"{x}\" cy=\"{below}\" r=\"3\" fill=\"gray\"/>"
-            )?,
-            Step::Unit(first, last) => self.hand_out(rt, first, last)?,
-            Step::Nothing => {}
-        }
+            Step::Other => self.circle(rt, below, "gray"),
+            Step::Unit(first, last) => self.hand_out(rt, first, last),
+            Step::Nothing => Ok(()),
+        };
+        drawn?;
         self.show_held(rt)?;
-        self.x = x.saturating_add(CELL);
+        self.x = self.x.saturating_add(CELL);
         Ok(())
     }
 
@@ -105,68 +102,74 @@ impl Picture {
     }
 
     /// A number that was taken: a green circle.
-    fn take(&mut self, rt: &HostRuntime, number: u64) -> anyhow::Result<()> {
+    fn take(&mut self, rt: &HostRuntime, number: u64) -> io::Result<()> {
         self.taken = self.taken.saturating_add(1);
-        if self.last.is_none_or(|last| number > last) {
+        if self.last < Some(number) {
             self.held.push(number)?;
         }
-        let (x, y) = (self.x, self.y(number));
-        println!(*rt; "<circle cx=\"{x}\" cy=\"{y}\" r=\"3\" fill=\"green\"/>")?;
-        Ok(())
+        self.circle(rt, self.y(number), "green")
     }
 
     /// A unit: a blue bar over its numbers, and a red one over those that it passes over.
-    fn hand_out(&mut self, rt: &HostRuntime, first: u64, last: u64) -> anyhow::Result<()> {
+    fn hand_out(&mut self, rt: &HostRuntime, first: u64, last: u64) -> io::Result<()> {
         self.units = self.units.saturating_add(1);
         if let Some(before) = self.last
             && before.saturating_add(1) < first
         {
             let passed = before.saturating_add(1);
-            let came = self.held.iter().filter(|number| **number < first).count();
-            let lost = first.saturating_sub(passed).saturating_sub(came as u64);
+            let end = first.saturating_sub(1);
+            let came = self.let_go(end);
+            let lost = first.saturating_sub(passed).saturating_sub(came);
             self.lost = self.lost.saturating_add(lost);
-            self.bar(rt, passed, first.saturating_sub(1), "red")?;
+            self.bar(rt, passed, end, "red")?;
         }
-        self.bar(rt, first, last, "blue")?;
-        self.held.retain(|number| *number > last);
+        self.let_go(last);
         self.last = Some(last);
-        Ok(())
+        self.bar(rt, first, last, "blue")
+    }
+
+    /// Holds the numbers up to this one no longer; answers how many those were.
+    fn let_go(&mut self, last: u64) -> u64 {
+        let before = self.held.len();
+        self.held.retain(|number| *number > last);
+        before.saturating_sub(self.held.len()) as u64
+    }
+
+    /// A circle at this height.
+    fn circle(&self, rt: &HostRuntime, y: u64, color: &str) -> io::Result<()> {
+        let x = self.x;
+        println!(*rt; "<circle cx=\"{x}\" cy=\"{y}\" r=\"3\" fill=\"{color}\"/>")
     }
 
     /// A bar over numbers.
-    fn bar(&self, rt: &HostRuntime, first: u64, last: u64, color: &str) -> anyhow::Result<()> {
+    fn bar(&self, rt: &HostRuntime, first: u64, last: u64, color: &str) -> io::Result<()> {
         let x = self.x.saturating_sub(2);
         let y = self.y(last).saturating_sub(3);
         let height = self.y(first).saturating_add(3).saturating_sub(y);
         println!(*rt;
             "<rect x=\"{x}\" y=\"{y}\" width=\"4\" height=\"{height}\" fill=\"{color}\" fill-opacity=\"0.6\"/>"
-        )?;
-        Ok(())
+        )
     }
 
     /// How many packets are held: a bar below the numbers.
-    fn show_held(&self, rt: &HostRuntime) -> anyhow::Result<()> {
+    fn show_held(&self, rt: &HostRuntime) -> io::Result<()> {
         let height = (self.held.len() as u64).saturating_mul(4).min(6 * CELL);
         if height == 0 {
             return Ok(());
         }
         let x = self.x.saturating_sub(3);
-        let y = self
-            .base
-            .saturating_add(BELOW * CELL)
-            .saturating_sub(height);
-        println!(*rt;
-            "<rect x=\"{x}\" y=\"{y}\" width=\"6\" height=\"{height}\" fill=\"silver\"/>"
-        )?;
-        Ok(())
+        let bottom = self.base.saturating_add(BELOW * CELL);
+        let y = bottom.saturating_sub(height);
+        println!(*rt; "<rect x=\"{x}\" y=\"{y}\" width=\"6\" height=\"{height}\" fill=\"silver\"/>")
     }
 
-    /// The counts.
-    fn sum_up(&self, rt: &HostRuntime, y: u64) -> anyhow::Result<()> {
+    /// The counts, and the end.
+    fn sum_up(&self, rt: &HostRuntime, y: u64) -> io::Result<()> {
         let (taken, refused, lost) = (self.taken, self.refused, self.lost);
         let (held, units) = (self.held.len(), self.units);
-        print!(*rt; "<text x=\"{CELL}\" y=\"{y}\">{taken} taken, {refused} refused, ")?;
-        println!(*rt; "{lost} lost, {units} units, {held} held</text>")?;
-        Ok(())
+        println!(*rt;
+            "<text x=\"{CELL}\" y=\"{y}\">{taken} taken, {refused} refused, \
+             {lost} lost, {units} units, {held} held</text>\n</svg>"
+        )
     }
 }

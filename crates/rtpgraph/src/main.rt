@@ -6,14 +6,14 @@ mod drawing;
 mod steps;
 
 use drawing::draw;
-use std::io::{BufRead, BufReader};
-use steps::{Step, step_of};
+use std::io;
+use steps::step_of;
 
-fn main(rt: HostRuntime) -> anyhow::Result<()> {
-    let alloc = rt.alloc();
-    let mut steps: Vec<Step> = Vec::new(alloc);
-    for line in BufReader::new(alloc, rt.reader())?.lines(alloc) {
-        if let Some(step) = step_of(line?.as_str()) {
+fn main(rt: HostRuntime) -> io::Result<()> {
+    let text = io::read_to_string(rt.alloc(), rt.reader())?;
+    let mut steps = Vec::new(rt.alloc());
+    for line in text.as_str().lines() {
+        if let Some(step) = step_of(line) {
             steps.push(step)?;
         }
     }

@@ -20,17 +20,19 @@ pub(crate) enum Step {
 /// The step of a line; None where it says nothing of a stream.
 pub(crate) fn step_of(line: &str) -> Option<Step> {
     let mut words = line.split_whitespace();
-    match words.next()? {
-        "taken" => {
-            number(&mut words)?;
-            Some(Step::Taken(number(&mut words)?))
+    let word = words.next()?;
+    match word {
+        "taken" | "unit" => {
+            let first = number(&mut words)?;
+            let second = number(&mut words)?;
+            if word == "unit" {
+                Some(Step::Unit(first, second))
+            } else {
+                Some(Step::Taken(second))
+            }
         }
         "refused" if words.next().is_none() => Some(Step::Refused),
         "damaged" | "foreign" | "unreadable" => Some(Step::Other),
-        "unit" => {
-            let first = number(&mut words)?;
-            Some(Step::Unit(first, number(&mut words)?))
-        }
         "none" => Some(Step::Nothing),
         _ => None,
     }
