@@ -25,19 +25,27 @@ fn print_section(rt: &HostRuntime, section: &MediaLine) -> anyhow::Result<()> {
     if let Some(mid) = section.mid() {
         println!(*rt; "section {mid}: {typ} {direction}")?;
     }
+    print_rows(rt, section)?;
+    let count = candidates(section);
+    Ok(println!(*rt; "  {count} candidates")?)
+}
+
+/// Prints a line for each row.
+fn print_rows(rt: &HostRuntime, section: &MediaLine) -> anyhow::Result<()> {
     for row in &rtp_params(rt.alloc(), section)? {
         let (pt, spec) = (row.pt(), row.spec());
         println!(*rt; "  type {pt}: {} {}", spec.codec, spec.clock_rate)?;
     }
-    let count = section
-        .attrs
-        .as_slice()
-        .iter()
-        .filter(|attribute| is_candidate(*attribute))
-        .count();
-    Ok(println!(*rt; "  {count} candidates")?)
+    Ok(())
 }
 
-fn is_candidate(attribute: &MediaAttribute) -> bool {
-    matches!(attribute, MediaAttribute::Candidate(_))
+/// How many candidates a section has.
+fn candidates(section: &MediaLine) -> usize {
+    let mut count = 0usize;
+    for attribute in section.attrs.as_slice() {
+        if matches!(attribute, MediaAttribute::Candidate(_)) {
+            count = count.saturating_add(1);
+        }
+    }
+    count
 }

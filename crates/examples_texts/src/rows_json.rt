@@ -26,11 +26,10 @@ fn video(pt: u8, resend: u8, codec: Codec, format: &str) -> PayloadParams {
 
 fn print_row(rt: &HostRuntime, row: &PayloadParams) -> anyhow::Result<()> {
     let text = row_to_json(rt.alloc(), row)?;
-    println!(*rt; "{text}")?;
     let again = row_from_json(rt.alloc(), text.as_str())?;
     let same = is_same(&again, row);
     let (pt, codec) = (again.pt(), again.spec().codec);
-    println!(*rt; "  type {pt}: {codec}, read back as it is: {same}")?;
+    println!(*rt; "{text}\n  type {pt}: {codec}, read back as it is: {same}")?;
     print_by_serde(rt, row, text.as_str())
 }
 
@@ -42,21 +41,19 @@ fn is_same(one: &PayloadParams, other: &PayloadParams) -> bool {
 /// Prints the row's JSON by serde, and whether each way reads what the other wrote.
 fn print_by_serde(rt: &HostRuntime, row: &PayloadParams, text: &str) -> anyhow::Result<()> {
     let by_serde = serde_json::to_string(rt.alloc(), row)?;
-    println!(*rt; "  by serde: {by_serde}")?;
     let ours = row_from_json(rt.alloc(), by_serde.as_str())?;
     let theirs: PayloadParams = serde_json::from_str(rt.alloc(), text)?;
     let same = is_same(&ours, row) && is_same(&theirs, row);
-    Ok(println!(*rt; "  each reads what the other wrote: {same}")?)
+    Ok(println!(*rt; "  by serde: {by_serde}\n  each reads what the other wrote: {same}")?)
 }
 
 /// Prints how long the JSON of a list of rows is by serde, and whether the list is read back as it is.
-fn print_list(rt: &HostRuntime, rows: Vec<PayloadParams>) -> anyhow::Result<()> {
-    let text = serde_json::to_string(rt.alloc(), &rows)?;
+fn print_list(rt: &HostRuntime, rows: &Vec<PayloadParams>) -> anyhow::Result<()> {
+    let text = serde_json::to_string(rt.alloc(), rows)?;
     let again: Vec<PayloadParams> = serde_json::from_str(rt.alloc(), text.as_str())?;
-    let same = again.len() == rows.len()
-        && again.iter().zip(rows.iter()).all(|(a, b)| is_same(a, b));
-    println!(*rt; "list: {} rows in {} bytes", rows.len(), text.len())?;
-    Ok(println!(*rt; "  read back as it is: {same}")?)
+    let same = serde_json::to_string(rt.alloc(), &again)? == text;
+    let (count, len) = (rows.len(), text.len());
+    Ok(println!(*rt; "list: {count} rows in {len} bytes\n  read back as it is: {same}")?)
 }
 
 fn print_line(rt: &HostRuntime, line: &str) -> anyhow::Result<()> {
@@ -69,20 +66,20 @@ fn print_line(rt: &HostRuntime, line: &str) -> anyhow::Result<()> {
 /// Prints some rows as JSON and reads them back; then reads the rows whose JSON stands on lines, and prints each as
 /// JSON again, or why it is none.
 pub(crate) fn print_rows(rt: &HostRuntime, lines: &str) -> anyhow::Result<()> {
-    print_row(rt, &opus())?;
-    print_row(rt, &video(96, 97, Codec::Vp8, ""))?;
     let h264 = "level-asymmetry-allowed=1;packetization-mode=1;profile-level-id=42e01f";
-    print_row(rt, &video(102, 103, Codec::H264, h264))?;
-    let mut h265 = video(
-        104,
-        105,
-        Codec::H265,
-        "profile-id=1;tier-flag=0;level-id=93",
-    );
-    h265.lock();
-    print_row(rt, &h265)?;
+    let h265 = "profile-id=1;tier-flag=0;level-id=93";
+    let mut locked = video(104, 105, Codec::H265, h265);
+    locked.lock();
+    for row in [
+        &opus(),
+        &video(96, 97, Codec::Vp8, ""),
+        &video(102, 103, Codec::H264, h264),
+        &locked,
+    ] {
+        print_row(rt, row)?;
+    }
     for line in lines.lines() {
         print_line(rt, line)?;
     }
-    print_list(rt, vec![in rt.alloc(); opus(), h265]?)
+    print_list(rt, &vec![in rt.alloc(); opus(), locked]?)
 }
