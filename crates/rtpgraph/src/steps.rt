@@ -1,7 +1,5 @@
 //! The steps of a run.
 
-use std::str::SplitWhitespace;
-
 /// What a reply says of a receiving stream.
 #[derive(Clone, Copy, Drop)]
 pub(crate) enum Step {
@@ -20,24 +18,18 @@ pub(crate) enum Step {
 /// The step of a line; None where it says nothing of a stream.
 pub(crate) fn step_of(line: &str) -> Option<Step> {
     let mut words = line.split_whitespace();
-    let word = words.next()?;
+    let (word, first, second) = (words.next()?, words.next(), words.next());
     match word {
-        "taken" | "unit" => {
-            let first = number(&mut words)?;
-            let second = number(&mut words)?;
-            if word == "unit" {
-                Some(Step::Unit(first, second))
-            } else {
-                Some(Step::Taken(second))
-            }
-        }
-        "refused" if words.next().is_none() => Some(Step::Refused),
+        "taken" if number(first).is_some() => Some(Step::Taken(number(second)?)),
+        "unit" => Some(Step::Unit(number(first)?, number(second)?)),
+        "refused" if first.is_none() => Some(Step::Refused),
         "damaged" | "foreign" | "unreadable" => Some(Step::Other),
         "none" => Some(Step::Nothing),
         _ => None,
     }
 }
 
-fn number(words: &mut SplitWhitespace<'_>) -> Option<u64> {
-    words.next()?.parse::<u64>().ok()
+/// The number that a word is.
+fn number(word: Option<&str>) -> Option<u64> {
+    word?.parse::<u64>().ok()
 }
