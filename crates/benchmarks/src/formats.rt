@@ -1,80 +1,176 @@
 //! Samples sent, and packets read, of any payload format.
 
+use crate::buffers::Buffering;
+use crate::line::Line;
+use crate::measured::{Round, measure};
 use crate::tally::Tally;
 use payload_core::{
-    CodecExtra, Depacketizer, PacketError, PacketSink, Packetizer, Payloader, RedDecoder,
+    CodecExtra, Depacketizer, DepacketizingBuffer, PacketError, Packetizer, Payloader, RedDecoder,
+    RedSender,
 };
 use rtp_wire::ExtensionValues;
-use std::alloc::{AllocError, Global};
+use std::alloc::Global;
 
 /// The limit of a payload in bytes.
 pub(crate) const LIMIT: usize = 1200;
 
-/// Sends a sample so often.
-pub(crate) fn send<P: Packetizer + Drop, S: PacketSink>(
-    alloc: Global,
-    packetizer: P,
-    sink: &mut S,
-    sample: &[u8],
-    rounds: u32,
-) -> Result<(), PacketError> {
-    let mut payloader = Payloader::new(packetizer);
-    let values = ExtensionValues::absent();
-    for round in 0..rounds {
-        payloader.push_sample(alloc, sink, LIMIT, round, sample, &values)?;
-    }
-    Ok(())
+/// A sample that is sent.
+#[derive(Drop)]
+struct Sending<'a, P> {
+    payloader: Payloader<P>,
+    line: Line,
+    sample: &'a [u8],
+    values: ExtensionValues,
 }
 
-/// Reads the packets of a sample so often; answers how many were read, and what they gave.
-pub(crate) fn receive<D: Depacketizer>(
-    alloc: Global,
-    depacketizer: &mut D,
-    packets: &[Vec<u8>],
-    rounds: u32,
-) -> Result<Tally, PacketError> {
-    let mut tally = Tally::new();
-    let mut out = Vec::new(alloc);
-    for _ in 0..rounds {
-        out.clear();
+/// Counts what the line took.
+impl<P: Packetizer> Round for Sending<'_, P> {
+    fn round(&mut self, alloc: Global, number: u32, tally: &mut Tally) -> Result<(), PacketError> {
+        let line = &mut self.line;
+        self.payloader
+            .push_sample(alloc, line, LIMIT, number, self.sample, &self.values)?;
+        *tally = self.line.tally;
+        Ok(())
+    }
+}
+
+/// The packets of a sample, which are read.
+#[derive(Drop)]
+struct Reading<'a, D> {
+    depacketizer: D,
+    packets: &'a [Vec<u8>],
+    out: Vec<u8>,
+}
+
+/// Counts packets, and the bytes that they give.
+impl<D: Depacketizer> Round for Reading<'_, D> {
+    fn round(
+        &mut self,
+        _alloc: Global,
+        _number: u32,
+        tally: &mut Tally,
+    ) -> Result<(), PacketError> {
+        self.out.clear();
+        let packets = self.packets;
         let mut extra = CodecExtra::None;
         for packet in packets {
-            depacketizer.depacketize(packet, &mut out, &mut extra)?;
+            self.depacketizer
+                .depacketize(packet, &mut self.out, &mut extra)?;
         }
-        tally.add(packets.len(), out.len());
+        tally.add(packets.len(), self.out.len());
+        Ok(())
     }
-    Ok(tally)
 }
 
 /// The simplest reader, beside which others are measured: what the packets hold is put into one fragment, and that into
-/// what is handed out, so often; answers how many were read, and what they gave.
-pub(crate) fn copy_twice(
-    alloc: Global,
-    packets: &[Vec<u8>],
-    rounds: u32,
-) -> Result<Tally, AllocError> {
-    let mut tally = Tally::new();
-    let mut fragment = Vec::new(alloc);
-    let mut out = Vec::new(alloc);
-    for _ in 0..rounds {
-        fragment.clear();
-        out.clear();
-        for packet in packets {
-            fragment.extend_from_slice(packet)?;
-        }
-        out.extend_from_slice(&fragment)?;
-        tally.add(packets.len(), out.len());
-    }
-    Ok(tally)
+/// what is handed out.
+#[derive(Drop)]
+pub(crate) struct Copying<'a> {
+    pub(crate) packets: &'a [Vec<u8>],
+    pub(crate) fragment: Vec<u8>,
+    pub(crate) out: Vec<u8>,
 }
 
-/// Reads a packet of redundant payloads so often; answers how many payloads it gave, and their bytes.
-pub(crate) fn receive_redundant(packet: &[u8], rounds: u32) -> Result<Tally, PacketError> {
-    let mut tally = Tally::new();
-    for _ in 0..rounds {
-        for block in RedDecoder::decode(packet)? {
+/// Counts packets, and the bytes that they give.
+impl Round for Copying<'_> {
+    fn round(
+        &mut self,
+        _alloc: Global,
+        _number: u32,
+        tally: &mut Tally,
+    ) -> Result<(), PacketError> {
+        self.fragment.clear();
+        self.out.clear();
+        let packets = self.packets;
+        for packet in packets {
+            self.fragment.extend_from_slice(packet)?;
+        }
+        self.out.extend_from_slice(&self.fragment)?;
+        tally.add(packets.len(), self.out.len());
+        Ok(())
+    }
+}
+
+/// A sample of Opus that is sent with one older payload beside it.
+#[derive(Drop)]
+pub(crate) struct SendingRed {
+    pub(crate) sender: RedSender,
+}
+
+/// Counts packets, and their bytes.
+impl Round for SendingRed {
+    fn round(&mut self, _alloc: Global, time: u32, tally: &mut Tally) -> Result<(), PacketError> {
+        tally.add(1, self.sender.wrap(111, &[7; 120], time, LIMIT)?.len());
+        Ok(())
+    }
+}
+
+/// A packet of redundant payloads, which is read.
+#[derive(Drop)]
+pub(crate) struct ReadingRed<'a> {
+    pub(crate) packet: &'a [u8],
+}
+
+/// Counts payloads, and their bytes.
+impl Round for ReadingRed<'_> {
+    fn round(
+        &mut self,
+        _alloc: Global,
+        _number: u32,
+        tally: &mut Tally,
+    ) -> Result<(), PacketError> {
+        for block in RedDecoder::decode(self.packet)? {
             tally.add(1, block.payload.len());
         }
+        Ok(())
     }
-    Ok(tally)
+}
+
+/// Does it so often, and prints how many packets it were, and the time that it took; answers what did it.
+pub(crate) fn measure_packets<R: Round + Drop>(
+    rt: &HostRuntime,
+    format: &str,
+    way: &str,
+    round: R,
+    rounds: u32,
+) -> anyhow::Result<R> {
+    let (tally, round) = measure(rt, format, way, round, rounds)?;
+    let (packets, bytes) = (tally.packets, tally.bytes);
+    println!(*rt; "{format} {way}: {packets} packets or units, {bytes} bytes")?;
+    Ok(round)
+}
+
+/// Sends a sample of a format, reads its packets, and has them go through a buffer, so often.
+pub(crate) fn both_ways<P: Packetizer + Drop, D: Depacketizer + Drop>(
+    rt: &HostRuntime,
+    format: &str,
+    sample: &[u8],
+    rounds: u32,
+    mut packetizer: P,
+    depacketizer: D,
+) -> anyhow::Result<()> {
+    let packets = packetizer.packetize(rt.alloc(), LIMIT, sample)?;
+    let sending = Sending {
+        payloader: Payloader::new(packetizer),
+        line: Line::new(),
+        sample,
+        values: ExtensionValues::absent(),
+    };
+    let sum = measure_packets(rt, format, "sent", sending, rounds)?
+        .line
+        .sum;
+    eprintln!(*rt; "{format}: bytes of the payloads are {sum} together")?;
+    let reading = Reading {
+        depacketizer,
+        packets: &packets,
+        out: Vec::new(rt.alloc()),
+    };
+    let depacketizer = measure_packets(rt, format, "read", reading, rounds)?.depacketizer;
+    let buffering = Buffering {
+        buffer: DepacketizingBuffer::new(rt.alloc(), depacketizer, 0),
+        packets: &packets,
+        number: 0,
+    };
+    measure_packets(rt, format, "through the buffer", buffering, rounds)?;
+    Ok(())
 }

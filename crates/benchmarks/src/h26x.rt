@@ -1,20 +1,42 @@
 //! H.264, H.265 and H.266, and texts cut into units.
 
-use crate::measured::both_ways;
+use crate::formats::both_ways;
+use crate::measured::{Round, measure};
 use crate::samples::access_unit;
 use crate::tally::Tally;
 use h26x_payload::{
     H264Depacketizer, H264Packetizer, H265Depacketizer, H265Packetizer, H266Depacketizer,
     H266Packetizer, nal_units,
 };
-use std::time::Instant;
+use payload_core::PacketError;
+use std::alloc::{AllocError, Global};
 
 /// How often an access unit is sent, read or cut.
 const ROUNDS: u32 = 2_000;
 
-/// H.264: SPS, PPS and four slices of a keyframe.
+/// SPS, PPS and four slices of a keyframe.
+fn h264_sample(alloc: Global) -> Result<Vec<u8>, AllocError> {
+    let sets = b"\0\0\0\x01\x67parameters, 20 bytes\0\0\0\x01\x68parameters, 20 bytes";
+    access_unit(alloc, sets, b"\0\0\0\x01\x65")
+}
+
+/// VPS, SPS, PPS and four slices of a keyframe.
+fn h265_sample(alloc: Global) -> Result<Vec<u8>, AllocError> {
+    let sets = b"\0\0\0\x01\x40\x01parameters, 20 bytes\0\0\0\x01\x42\x01parameters, 20 bytes\
+        \0\0\0\x01\x44\x01parameters, 20 bytes";
+    access_unit(alloc, sets, b"\0\0\0\x01\x26\x01")
+}
+
+/// VPS, SPS, PPS and four slices of a keyframe.
+fn h266_sample(alloc: Global) -> Result<Vec<u8>, AllocError> {
+    let sets = b"\0\0\0\x01\0\x71parameters, 20 bytes\0\0\0\x01\0\x79parameters, 20 bytes\
+        \0\0\0\x01\0\x81parameters, 20 bytes";
+    access_unit(alloc, sets, b"\0\0\0\x01\0\x39")
+}
+
+/// H.264.
 fn h264(rt: &HostRuntime) -> anyhow::Result<()> {
-    let sample = access_unit(rt.alloc(), &[&[0x67], &[0x68]], &[0x65])?;
+    let sample = h264_sample(rt.alloc())?;
     let depacketizer = H264Depacketizer::new(rt.alloc());
     both_ways(
         rt,
@@ -26,10 +48,9 @@ fn h264(rt: &HostRuntime) -> anyhow::Result<()> {
     )
 }
 
-/// H.265: VPS, SPS, PPS and four slices of a keyframe, with decoding order numbers or without.
+/// H.265, with decoding order numbers or without.
 fn h265(rt: &HostRuntime, format: &str, donl: bool) -> anyhow::Result<()> {
-    let sets: [&[u8]; 3] = [&[0x40, 1], &[0x42, 1], &[0x44, 1]];
-    let sample = access_unit(rt.alloc(), &sets, &[0x26, 1])?;
+    let sample = h265_sample(rt.alloc())?;
     let mut packetizer = H265Packetizer::new();
     packetizer.with_donl(donl);
     let mut depacketizer = H265Depacketizer::new(rt.alloc());
@@ -37,10 +58,9 @@ fn h265(rt: &HostRuntime, format: &str, donl: bool) -> anyhow::Result<()> {
     both_ways(rt, format, &sample, ROUNDS, packetizer, depacketizer)
 }
 
-/// H.266: VPS, SPS, PPS and four slices of a keyframe.
+/// H.266.
 fn h266(rt: &HostRuntime) -> anyhow::Result<()> {
-    let sets: [&[u8]; 3] = [&[0, 0x71], &[0, 0x79], &[0, 0x81]];
-    let sample = access_unit(rt.alloc(), &sets, &[0, 0x39])?;
+    let sample = h266_sample(rt.alloc())?;
     let depacketizer = H266Depacketizer::new(rt.alloc());
     both_ways(
         rt,
@@ -52,25 +72,36 @@ fn h266(rt: &HostRuntime) -> anyhow::Result<()> {
     )
 }
 
-/// Cuts an access unit into its units.
-fn cut(rt: &HostRuntime) -> anyhow::Result<()> {
-    let sample = access_unit(rt.alloc(), &[&[0x67], &[0x68]], &[0x65])?;
-    let mut units = Tally::new();
-    let start = Instant::now(rt)?;
-    for _ in 0..ROUNDS {
-        for unit in nal_units(&sample) {
-            units.add(1, unit.len());
+/// An access unit that is cut into its units.
+#[derive(Drop)]
+struct Cutting<'a> {
+    sample: &'a [u8],
+}
+
+/// Counts units, and their bytes.
+impl Round for Cutting<'_> {
+    fn round(
+        &mut self,
+        _alloc: Global,
+        _number: u32,
+        tally: &mut Tally,
+    ) -> Result<(), PacketError> {
+        for unit in nal_units(self.sample) {
+            tally.add(1, unit.len());
         }
+        Ok(())
     }
-    let micros = start.elapsed(rt)?.as_micros().max(1);
-    println!(*rt; "cut: {} units, {} bytes", units.packets, units.bytes)?;
-    let rate = units.bytes as u128 / micros;
-    eprintln!(*rt; "cut: {micros} us, {rate} MB a second")?;
-    Ok(())
+}
+
+/// A text cut into its units.
+fn cut(rt: &HostRuntime) -> anyhow::Result<()> {
+    let sample = h264_sample(rt.alloc())?;
+    let (units, _) = measure(rt, "H.264", "cut", Cutting { sample: &sample }, ROUNDS)?;
+    Ok(println!(*rt; "cut: {} units, {} bytes", units.packets, units.bytes)?)
 }
 
 /// Each format, with decoding order numbers too, and cutting.
-pub(crate) fn measure(rt: &HostRuntime) -> anyhow::Result<()> {
+pub(crate) fn measure_all(rt: &HostRuntime) -> anyhow::Result<()> {
     h264(rt)?;
     h265(rt, "H.265", false)?;
     h265(rt, "H.265 with DONL", true)?;

@@ -2,14 +2,19 @@
 
 ghost use Rattle.std.specs.Prelude.{◌≤◌, ◌<◌};
 
+use crate::measured::{Round, measure};
+use crate::tally::Tally;
+use payload_core::PacketError;
 use rtp_wire::{
     Extension, ExtensionMap, ExtensionValues, Mid, RtpHeader, SeqNo, SeqNoWindow, VideoOrientation,
 };
-use std::io;
-use std::time::{Duration, Instant};
+use std::alloc::Global;
 
 /// How often each thing is done.
 const ROUNDS: u32 = 200_000;
+
+/// How many bytes are copied.
+const COPIED: usize = 32;
 
 /// A header of this number with these values.
 fn header(exts: &ExtensionMap, values: &ExtensionValues, number: u16) -> RtpHeader
@@ -24,65 +29,96 @@ fn header(exts: &ExtensionMap, values: &ExtensionValues, number: u16) -> RtpHead
     }
 }
 
-/// How many headers with these values are written, and in how many bytes.
-fn written(exts: &ExtensionMap, values: &ExtensionValues) -> (u32, usize) {
-    let mut count = 0u32;
-    let mut bytes = 0usize;
-    let mut buf = [0; 64];
-    for number in 0..ROUNDS {
-        let header = header(exts, values, (number % 65536) as u16);
+/// Headers that are written, with these values.
+#[derive(Drop)]
+struct Writing<'a> {
+    exts: &'a ExtensionMap,
+    values: &'a ExtensionValues,
+    buf: [u8; 64],
+}
+
+impl<'a> Writing<'a> {
+    /// None was written.
+    fn new(exts: &'a ExtensionMap, values: &'a ExtensionValues) -> Self {
+        Writing {
+            exts,
+            values,
+            buf: [0; 64],
+        }
+    }
+}
+
+/// Counts headers, and their bytes.
+impl Round for Writing<'_> {
+    fn round(&mut self, _alloc: Global, number: u32, tally: &mut Tally) -> Result<(), PacketError> {
+        let header = header(self.exts, self.values, (number % 65536) as u16);
+        if header.wire_len(self.exts) <= self.buf.len() {
+            tally.add(1, header.write_to(&mut self.buf, self.exts));
+        }
+        Ok(())
+    }
+}
+
+/// A header that is read.
+#[derive(Drop)]
+struct Reading<'a> {
+    exts: &'a ExtensionMap,
+    buf: [u8; 64],
+}
+
+impl<'a> Reading<'a> {
+    /// A header with these values.
+    fn new(exts: &'a ExtensionMap, values: &ExtensionValues) -> Self {
+        let mut buf = [0; 64];
+        let header = header(exts, values, 7);
         if header.wire_len(exts) <= buf.len() {
-            bytes = bytes.saturating_add(header.write_to(&mut buf, exts));
-            count = count.saturating_add(1);
+            let _len = header.write_to(&mut buf, exts);
         }
+        Reading { exts, buf }
     }
-    (count, bytes)
 }
 
-/// How many headers are read of one with these values.
-fn read(exts: &ExtensionMap, values: &ExtensionValues) -> u32 {
-    let mut buf = [0; 64];
-    let header = header(exts, values, 7);
-    if header.wire_len(exts) <= buf.len() {
-        let _len = header.write_to(&mut buf, exts);
-    }
-    let mut count = 0u32;
-    for _ in 0..ROUNDS {
-        if let Some(back) = RtpHeader::parse(&buf, exts) {
-            count = count.saturating_add((back.sequence_number / 7) as u32);
+/// Counts headers, and their bytes.
+impl Round for Reading<'_> {
+    fn round(
+        &mut self,
+        _alloc: Global,
+        _number: u32,
+        tally: &mut Tally,
+    ) -> Result<(), PacketError> {
+        if let Some(header) = RtpHeader::parse(&self.buf, self.exts) {
+            tally.add(1, header.header_len);
         }
+        Ok(())
     }
-    count
 }
 
-/// The baseline: how often so many bytes are copied, and how many those are together.
-fn copied(from: &[u8; 64], len: usize) -> (u32, usize)
-    requires { len ≤ 64 }
-{
-    let mut count = 0u32;
-    let mut bytes = 0usize;
-    let mut buf = [0; 64];
-    for number in 0..ROUNDS {
-        buf[..len].copy_from_slice(&from[..len]);
-        buf[2] = (number % 256) as u8;
-        bytes = bytes.saturating_add((buf[2] / 255) as usize);
-        count = count.saturating_add(1);
-    }
-    (count, bytes)
+/// The baseline: bytes that are copied.
+#[derive(Drop)]
+struct Copying {
+    to: [u8; 64],
 }
 
-/// Hands a window rising numbers, every third one twice; answers how many it took.
-fn updates() -> u32 {
-    let mut window = SeqNoWindow::new(SeqNo::from(0));
-    let mut taken = 0u32;
-    for round in 0..ROUNDS {
-        let number = SeqNo::from((round - round % 3 / 2) as u64);
-        if window.accepts(number) {
-            window.update(number);
-            taken = taken.saturating_add(1);
-        }
+/// Counts copies, and how many of the written bytes are the greatest.
+impl Round for Copying {
+    fn round(&mut self, _alloc: Global, number: u32, tally: &mut Tally) -> Result<(), PacketError> {
+        self.to[..COPIED].copy_from_slice(&[255; COPIED]);
+        self.to[2] = (number % 256) as u8;
+        tally.add(1, (self.to[2] / 255) as usize);
+        Ok(())
     }
-    taken
+}
+
+/// A window is handed rising numbers, every third one twice; counts those that it takes.
+impl Round for SeqNoWindow {
+    fn round(&mut self, _alloc: Global, number: u32, tally: &mut Tally) -> Result<(), PacketError> {
+        let number = SeqNo::from((number - number % 3 / 2) as u64);
+        if self.accepts(number) {
+            self.update(number);
+            tally.add(1, 0);
+        }
+        Ok(())
+    }
 }
 
 /// A map of four extensions, and a value for each.
@@ -101,42 +137,33 @@ fn four() -> (ExtensionMap, ExtensionValues) {
     (exts, values)
 }
 
-/// Prints a count, and the time that it took.
-fn report(rt: &HostRuntime, what: &str, count: u32, time: Duration) -> io::Result<()> {
-    println!(*rt; "{what}: {count}")?;
-    let nanos = time.as_nanos() / (count as u128).max(1);
-    eprintln!(*rt; "{what}: {nanos} ns each")
-}
-
-/// Headers of a map and these values, written and read.
+/// Headers with these values, written and read.
 fn both_ways(
     rt: &HostRuntime,
     what: &str,
     exts: &ExtensionMap,
     values: &ExtensionValues,
-) -> io::Result<()> {
-    let start = Instant::now(rt)?;
-    let (count, bytes) = written(exts, values);
-    let time = start.elapsed(rt)?;
-    println!(*rt; "headers {what}: {bytes} bytes")?;
-    report(rt, "written", count, time)?;
-    let start = Instant::now(rt)?;
-    let count = read(exts, values);
-    report(rt, "read", count, start.elapsed(rt)?)
+) -> anyhow::Result<()> {
+    let writing = Writing::new(exts, values);
+    let (written, _) = measure(rt, "header", "written", writing, ROUNDS)?;
+    let reading = Reading::new(exts, values);
+    let (read, _) = measure(rt, "header", "read", reading, ROUNDS)?;
+    let (bytes, written, read) = (written.bytes, written.packets, read.packets);
+    Ok(println!(*rt; "headers {what}: {bytes} bytes\nwritten: {written}\nread: {read}")?)
 }
 
 /// Copies, headers without extensions and with four, and a window.
-pub(crate) fn measure(rt: &HostRuntime) -> io::Result<()> {
-    let start = Instant::now(rt)?;
-    let (count, bytes) = copied(&[255; 64], 32);
-    let time = start.elapsed(rt)?;
-    println!(*rt; "copies of 32 bytes: {bytes}")?;
-    report(rt, "copied", count, time)?;
-    let absent = ExtensionValues::absent();
-    both_ways(rt, "without extensions", &ExtensionMap::empty(), &absent)?;
+pub(crate) fn measure_all(rt: &HostRuntime) -> anyhow::Result<()> {
+    let (copied, _) = measure(rt, "bytes", "copied", Copying { to: [0; 64] }, ROUNDS)?;
+    println!(*rt;
+        "copies of {COPIED} bytes: {}\ncopied: {}",
+        copied.bytes, copied.packets
+    )?;
+    let (exts, values) = (ExtensionMap::empty(), ExtensionValues::absent());
+    both_ways(rt, "without extensions", &exts, &values)?;
     let (exts, values) = four();
     both_ways(rt, "with four extensions", &exts, &values)?;
-    let start = Instant::now(rt)?;
-    let taken = updates();
-    report(rt, "window updates", taken, start.elapsed(rt)?)
+    let window = SeqNoWindow::new(SeqNo::from(0));
+    let (taken, _) = measure(rt, "window", "updated", window, ROUNDS)?;
+    Ok(println!(*rt; "window updates: {}", taken.packets)?)
 }

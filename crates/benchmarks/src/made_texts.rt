@@ -1,11 +1,11 @@
 //! Session texts that are made to cost time: few lines over and over, which name each other.
 
-use crate::texts::report;
-use anyhow::bail;
+use crate::measured::{Round, measure};
+use crate::tally::Tally;
+use payload_core::PacketError;
 use sdp_formats::sdp_parser;
 use sdp_formats_section_rows::rtp_params;
 use std::alloc::{AllocError, Global};
-use std::time::Instant;
 
 /// What stands before the types of the one section, of which this is the first.
 const HEAD: &str = "v=0\r\no=- 1 2 IN IP4 0.0.0.0\r\ns=-\r\nt=0 0\r\nm=audio 9 UDP/TLS/RTP/SAVPF 0";
@@ -13,48 +13,68 @@ const HEAD: &str = "v=0\r\no=- 1 2 IN IP4 0.0.0.0\r\ns=-\r\nt=0 0\r\nm=audio 9 U
 /// What stands between its types and its other lines.
 const SECTION: &str = "\r\nc=IN IP4 0.0.0.0\r\na=mid:0\r\na=sendrecv\r\n";
 
-/// A text whose section lists so many types more, all the same, and has these lines so often.
-fn made(alloc: Global, types: usize, lines: &str, times: usize) -> Result<String, AllocError> {
-    let mut text = String::from_str(alloc, HEAD)?;
-    for _ in 0..types {
-        text.push_str(" 0")?;
-    }
-    text.push_str(SECTION)?;
-    for _ in 0..times {
-        text.push_str(lines)?;
-    }
-    Ok(text)
+/// A text whose section lists such types more, and has these lines so often.
+fn made(alloc: Global, types: &str, lines: &str, times: usize) -> Result<String, AllocError> {
+    let lines = lines.repeat(alloc, times)?;
+    [HEAD, types, SECTION, lines.as_str()].concat(alloc)
 }
 
-/// How many rows the sections of a text have.
-fn rows_in(alloc: Global, text: &str) -> anyhow::Result<usize> {
-    let sdp = match sdp_parser(alloc, text) {
-        Ok((sdp, _)) => sdp,
-        Err(error) => bail!("{error}"),
-    };
-    let mut rows = 0usize;
-    for section in sdp.media_lines.as_slice() {
-        rows = rows.saturating_add(rtp_params(alloc, section)?.len());
-    }
-    Ok(rows)
+/// A session text that is read with the rows of its sections.
+#[derive(Drop)]
+struct Reading<'a> {
+    text: &'a str,
 }
 
-fn measure_one(rt: &HostRuntime, what: &str, text: &str) -> anyhow::Result<()> {
-    let start = Instant::now(rt)?;
-    let rows = rows_in(rt.alloc(), text)?;
-    let time = start.elapsed(rt)?;
-    println!(*rt; "{what}: {rows} rows")?;
-    Ok(report(rt, what, text.len(), time)?)
+/// Counts rows, and the bytes of the text with each section.
+impl Round for Reading<'_> {
+    fn round(&mut self, alloc: Global, _number: u32, tally: &mut Tally) -> Result<(), PacketError> {
+        if let Ok((sdp, _)) = sdp_parser(alloc, self.text) {
+            for section in sdp.media_lines.as_slice() {
+                tally.add(rtp_params(alloc, section)?.len(), self.text.len());
+            }
+        }
+        Ok(())
+    }
+}
+
+/// Reads a text once.
+fn read(rt: &HostRuntime, what: &str, text: &str) -> anyhow::Result<()> {
+    let (read, _) = measure(rt, what, "read", Reading { text }, 1)?;
+    Ok(println!(*rt;
+        "{what}: {} rows\n{what}: {} bytes",
+        read.packets, read.bytes
+    )?)
+}
+
+/// Reads the text with such types and lines once.
+fn read_made(
+    rt: &HostRuntime,
+    what: &str,
+    types: &str,
+    lines: &str,
+    times: usize,
+) -> anyhow::Result<()> {
+    let text = made(rt.alloc(), types, lines, times)?;
+    read(rt, what, text.as_str())
 }
 
 /// Each kind of text, read with its rows.
-pub(crate) fn measure(rt: &HostRuntime) -> anyhow::Result<()> {
-    let alloc = rt.alloc();
-    let text = made(alloc, 50_000, "a=x\r\n", 20_000)?;
-    measure_one(rt, "one type listed again", text.as_str())?;
-    let text = made(alloc, 0, "a=fmtp:97 apt=96\r\n", 10_000)?;
-    measure_one(rt, "one retransmission named again", text.as_str())?;
+pub(crate) fn measure_all(rt: &HostRuntime) -> anyhow::Result<()> {
+    let types = " 0".repeat(rt.alloc(), 50_000)?;
+    read_made(
+        rt,
+        "one type listed again",
+        types.as_str(),
+        "a=x\r\n",
+        20_000,
+    )?;
+    read_made(
+        rt,
+        "one retransmission named again",
+        "",
+        "a=fmtp:97 apt=96\r\n",
+        10_000,
+    )?;
     let lines = "a=rtpmap:1 PCMU/8000\r\na=fmtp:2 apt=1\r\n";
-    let text = made(alloc, 0, lines, 5_000)?;
-    measure_one(rt, "one type mapped again", text.as_str())
+    read_made(rt, "one type mapped again", "", lines, 5_000)
 }

@@ -18,9 +18,9 @@ use std::io;
 
 fn main(rt: HostRuntime) -> anyhow::Result<()> {
     let text = io::read_to_string(rt.alloc(), rt.reader())?;
-    headers::measure(&rt)?;
-    payloads::measure(&rt)?;
-    h26x::measure(&rt)?;
-    texts::measure(&rt, text.as_str())?;
-    made_texts::measure(&rt)
+    headers::measure_all(&rt)?;
+    payloads::measure_all(&rt)?;
+    h26x::measure_all(&rt)?;
+    texts::measure_all(&rt, text.as_str())?;
+    made_texts::measure_all(&rt)
 }

@@ -1,16 +1,15 @@
 //! Payload formats of sound and pictures, and a buffer that holds many packets.
 
-use crate::formats::LIMIT;
-use crate::measured::{both_ways, report};
-use crate::tally::Tally;
-use crate::{buffers, formats};
+use crate::buffers::Waiting;
+use crate::formats::{Copying, LIMIT, ReadingRed, SendingRed, both_ways, measure_packets};
+use crate::measured::{measure, repeat};
 use payload_core::{
-    AmrWbDepacketizer, AmrWbPacketizer, Av1Depacketizer, Av1Packetizer, Depacketizer,
-    G711Depacketizer, G711Packetizer, OpusDepacketizer, OpusPacketizer, Packetizer, RedEncoder,
-    RedSender, RedSink, RedundantBlock, Vp8Depacketizer, Vp8Packetizer, Vp9Depacketizer,
+    AmrWbDepacketizer, AmrWbPacketizer, Av1Depacketizer, Av1Packetizer, DepacketizingBuffer,
+    G711Depacketizer, G711Packetizer, OpusDepacketizer, OpusPacketizer, PacketError, Packetizer,
+    RedEncoder, RedSender, RedundantBlock, Vp8Depacketizer, Vp8Packetizer, Vp9Depacketizer,
     Vp9Packetizer,
 };
-use std::time::Instant;
+use std::alloc::Global;
 
 /// How often a sample of Opus or G.711 is sent and read.
 const AUDIO: u32 = 50_000;
@@ -41,37 +40,32 @@ fn speech(rt: &HostRuntime, format: &str, octet_align: bool) -> anyhow::Result<(
     both_ways(rt, format, &sample, SPEECH, packetizer, depacketizer)
 }
 
-/// Opus with one older payload beside each.
-fn redundant(rt: &HostRuntime) -> anyhow::Result<()> {
-    let alloc = rt.alloc();
-    let mut sink = RedSink::new(Tally::new(), RedSender::new(alloc, &[1])?, 111, LIMIT);
-    let start = Instant::now(rt)?;
-    formats::send(alloc, OpusPacketizer::new(), &mut sink, &[7; 120], AUDIO)?;
-    let time = start.elapsed(rt)?;
-    report(rt, "RED", "sent", sink.into_parts().0, time)?;
+/// A packet of Opus with one older payload.
+fn redundant_packet(alloc: Global) -> Result<Vec<u8>, PacketError> {
     let old = RedundantBlock {
         pt: 111,
         timestamp_offset: 960,
         payload: Vec::from_slice(alloc, &[7; 120])?,
     };
-    let packet = RedEncoder::encode(alloc, 111, &[7; 120], &[old])?;
-    let start = Instant::now(rt)?;
-    let read = formats::receive_redundant(&packet, AUDIO)?;
-    report(rt, "RED", "read", read, start.elapsed(rt)?)?;
+    RedEncoder::encode(alloc, 111, &[7; 120], &[old])
+}
+
+/// Opus with one older payload beside each.
+fn redundant(rt: &HostRuntime) -> anyhow::Result<()> {
+    let sender = RedSender::new(rt.alloc(), &[1])?;
+    measure_packets(rt, "RED", "sent", SendingRed { sender }, AUDIO)?;
+    let packet = redundant_packet(rt.alloc())?;
+    measure_packets(rt, "RED", "read", ReadingRed { packet: &packet }, AUDIO)?;
     Ok(())
 }
 
 /// VP8 and VP9: frames of 12,000 bytes.
 fn video(rt: &HostRuntime) -> anyhow::Result<()> {
-    let mut frame = Vec::new(rt.alloc());
-    for place in 0..12_000u32 {
-        frame.push((place % 256) as u8)?;
-    }
+    let frame = [7; 12_000];
     let packetizer = Vp8Packetizer::with_picture_id(Some(1));
     both_ways(rt, "VP8", &frame, VIDEO, packetizer, Vp8Depacketizer::new())?;
     let packetizer = Vp9Packetizer::with_picture_id(1);
-    both_ways(rt, "VP9", &frame, VIDEO, packetizer, Vp9Depacketizer::new())?;
-    Ok(())
+    both_ways(rt, "VP9", &frame, VIDEO, packetizer, Vp9Depacketizer::new())
 }
 
 /// AV1: a temporal unit of one frame of so many bytes, behind its header and its size in leb128.
@@ -79,13 +73,11 @@ fn av1(
     rt: &HostRuntime,
     format: &str,
     header: &[u8],
-    size: u32,
+    size: usize,
     rounds: u32,
 ) -> anyhow::Result<()> {
-    let mut unit = Vec::from_slice(rt.alloc(), header)?;
-    for place in 0..size {
-        unit.push((place % 256) as u8)?;
-    }
+    let frame = vec![in rt.alloc(); 7; size]?;
+    let unit = [header, &frame].concat(rt.alloc())?;
     let depacketizer = Av1Depacketizer::new(rt.alloc());
     both_ways(
         rt,
@@ -101,9 +93,12 @@ fn av1(
 /// The packets of an AV1 unit as plain bytes, copied twice, as a reader has to.
 fn baseline(rt: &HostRuntime, format: &str, unit: &[u8], rounds: u32) -> anyhow::Result<()> {
     let packets = Av1Packetizer::new().packetize(rt.alloc(), LIMIT, unit)?;
-    let start = Instant::now(rt)?;
-    let copied = formats::copy_twice(rt.alloc(), &packets, rounds)?;
-    report(rt, format, "copied twice", copied, start.elapsed(rt)?)?;
+    let copying = Copying {
+        packets: &packets,
+        fragment: Vec::new(rt.alloc()),
+        out: Vec::new(rt.alloc()),
+    };
+    measure_packets(rt, format, "copied twice", copying, rounds)?;
     Ok(())
 }
 
@@ -124,27 +119,25 @@ fn av1_sizes(rt: &HostRuntime) -> anyhow::Result<()> {
 }
 
 /// Pushes packets into a buffer in which so many wait, and pops after each.
-fn buffer(rt: &HostRuntime, waiting: u32) -> anyhow::Result<()> {
-    let mut buffer = buffers::filled(rt.alloc(), waiting)?;
-    let start = Instant::now(rt)?;
-    let units = buffers::turn(&mut buffer, waiting, TURNS)?;
-    let micros = start.elapsed(rt)?.as_micros().max(1);
-    println!(*rt; "buffer of {waiting} and one more: {TURNS} packets, {units} units")?;
-    let turns = TURNS as u128 * 1_000_000 / micros;
-    eprintln!(*rt;
-        "buffer of {waiting} and one more: {micros} us, {turns} pushes and pops a second"
-    )?;
-    Ok(())
+fn buffer(rt: &HostRuntime, what: &str, waiting: u32) -> anyhow::Result<()> {
+    let depacketizer = OpusDepacketizer::new();
+    let mut packets = Waiting {
+        buffer: DepacketizingBuffer::new(rt.alloc(), depacketizer, waiting as usize),
+        number: 0,
+    };
+    repeat(rt.alloc(), &mut packets, waiting.saturating_add(1))?;
+    let (tally, _) = measure(rt, what, "pushed and popped", packets, TURNS)?;
+    Ok(println!(*rt; "{what}: {TURNS} packets, {} units", tally.packets)?)
 }
 
 /// Every payload format but H.26x, and the buffer.
-pub(crate) fn measure(rt: &HostRuntime) -> anyhow::Result<()> {
+pub(crate) fn measure_all(rt: &HostRuntime) -> anyhow::Result<()> {
     audio(rt)?;
     speech(rt, "AMR-WB octet-aligned", true)?;
     speech(rt, "AMR-WB bandwidth-efficient", false)?;
     redundant(rt)?;
     video(rt)?;
     av1_sizes(rt)?;
-    buffer(rt, 15)?;
-    buffer(rt, 4_095)
+    buffer(rt, "buffer of 15 and one more", 15)?;
+    buffer(rt, "buffer of 4095 and one more", 4_095)
 }
