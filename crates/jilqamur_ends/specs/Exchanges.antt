@@ -11,7 +11,8 @@ use Rattle.rtp_media_negotiation.specs.Refusals.{refusal_of_offer}
 use Rattle.rtp_media_sections.specs.Sections.{Wanted}
 use Rattle.rtp_media_ends.specs.Ends.{EndState, with_exchange}
 use Rattle.rtp_media_ends.specs.Stops.{Where}
-use Rattle.jilqamur_packets.specs.Codes.{ok, memory, not_text, text_unreadable, out_of_turn, not_media, not_corresponding}
+use Rattle.jilqamur_packets.specs.Codes.{ok, memory, not_text, text_unreadable, out_of_turn, not_media}
+use Rattle.jilqamur_packets.specs.Codes.{not_corresponding}
 use Rattle.jilqamur_packets.specs.Codes.{round, no_common_row, not_writable, nothing}
 use Rattle.jilqamur_ends.specs.Answers.{AtEnd}
 
