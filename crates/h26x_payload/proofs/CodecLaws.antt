@@ -1,7 +1,7 @@
 -- The codec law of every codec, from those of the codecs.
 use Rattle.std.proofs.Common.{◌≡◌, ℕ, Bool, refl}
 use Rattle.payload_core_vpx.specs.Vp8Forms as vpx
-use Rattle.payload_core_vp9.specs.Vp9 as vp9
+use Rattle.payload_core_vpx.specs.Vp9 as vp9
 use mathlib.Core.Bool.{false≢true}
 use Rattle.payload_core_base.specs.Law.{CodecLaw}
 use Rattle.payload_core_base.specs.declared.codec.Codec.{Codec}
@@ -12,7 +12,7 @@ use Rattle.payload_core_audio.specs.AmrWb.{amr_wb_coding}
 use Rattle.payload_core_audio.specs.Plain.{noise_coding, pieces_coding}
 use Rattle.payload_core_audio.specs.Telephone.{telephone_coding}
 use Rattle.payload_core_vpx.specs.Vp8.{vp8_coding}
-use Rattle.payload_core_vp9.specs.Vp9.{vp9_coding}
+use Rattle.payload_core_vpx.specs.Vp9.{vp9_coding}
 use Rattle.payload_core_av1.specs.Av1Coding.{av1_coding}
 use Rattle.h26x_payload_h264.specs.H264Coding.{h264_coding}
 use Rattle.h26x_payload_units.specs.declared.layout.Layout.{Layout}

@@ -11,13 +11,11 @@ use payload_core_audio::{
 };
 use payload_core_av1::Av1Depacketizer;
 use payload_core_base::{Codec, CodecExtra, Depacketizer, PacketError};
-use payload_core_vp9::Vp9Depacketizer;
-use payload_core_vpx::Vp8Depacketizer;
+use payload_core_vpx::{Vp8Depacketizer, Vp9Depacketizer};
 use rtp_wire_time::Frequency;
 use std::alloc::Global;
 
 /// The depacketizer of a codec, or another one: by default one that a caller boxed.
-#[derive(Drop)]
 pub enum CodecDepacketizer<B = Box<dyn Depacketizer + Drop>> {
     /// Of PCMU and PCMA.
     G711(G711Depacketizer),
@@ -45,6 +43,27 @@ pub enum CodecDepacketizer<B = Box<dyn Depacketizer + Drop>> {
     H266(H266Depacketizer),
     /// Another one.
     Boxed(B),
+}
+
+/// Written out, so that who lets one go needs nothing of what is inside.
+impl<B: Drop> Drop for CodecDepacketizer<B> {
+    fn drop(self) {
+        match self {
+            CodecDepacketizer::G711(_inner) => {}
+            CodecDepacketizer::G722(_inner) => {}
+            CodecDepacketizer::Opus(_inner) => {}
+            CodecDepacketizer::ComfortNoise(_inner) => {}
+            CodecDepacketizer::AmrWb(_inner) => {}
+            CodecDepacketizer::Telephone(_inner) => {}
+            CodecDepacketizer::Vp8(_inner) => {}
+            CodecDepacketizer::Vp9(_inner) => {}
+            CodecDepacketizer::Av1(_inner) => {}
+            CodecDepacketizer::H264(_inner) => {}
+            CodecDepacketizer::H265(_inner) => {}
+            CodecDepacketizer::H266(_inner) => {}
+            CodecDepacketizer::Boxed(_inner) => {}
+        }
+    }
 }
 
 impl<B: Depacketizer> CodecDepacketizer<B> {

@@ -12,13 +12,11 @@ use payload_core_audio::{
 };
 use payload_core_av1::Av1Packetizer;
 use payload_core_base::{Codec, PacketError, Packetizer};
-use payload_core_vp9::Vp9Packetizer;
-use payload_core_vpx::Vp8Packetizer;
+use payload_core_vpx::{Vp8Packetizer, Vp9Packetizer};
 use rtp_wire_time::Frequency;
 use std::alloc::Global;
 
 /// The packetizer of a codec, or another one: by default one that a caller boxed.
-#[derive(Drop)]
 pub enum CodecPacketizer<B = Box<dyn Packetizer + Drop>> {
     /// Of PCMU and PCMA.
     G711(G711Packetizer),
@@ -46,6 +44,27 @@ pub enum CodecPacketizer<B = Box<dyn Packetizer + Drop>> {
     H266(H266Packetizer),
     /// Another one.
     Boxed(B),
+}
+
+/// Written out, so that who lets one go needs nothing of what is inside.
+impl<B: Drop> Drop for CodecPacketizer<B> {
+    fn drop(self) {
+        match self {
+            CodecPacketizer::G711(_inner) => {}
+            CodecPacketizer::G722(_inner) => {}
+            CodecPacketizer::Opus(_inner) => {}
+            CodecPacketizer::ComfortNoise(_inner) => {}
+            CodecPacketizer::AmrWb(_inner) => {}
+            CodecPacketizer::Telephone(_inner) => {}
+            CodecPacketizer::Vp8(_inner) => {}
+            CodecPacketizer::Vp9(_inner) => {}
+            CodecPacketizer::Av1(_inner) => {}
+            CodecPacketizer::H264(_inner) => {}
+            CodecPacketizer::H265(_inner) => {}
+            CodecPacketizer::H266(_inner) => {}
+            CodecPacketizer::Boxed(_inner) => {}
+        }
+    }
 }
 
 impl<B: Packetizer> CodecPacketizer<B> {

@@ -11,8 +11,7 @@ use h26x_payload_h265_h266::h265_h266_law;
 use payload_core_audio::{amr_wb_law, plain_laws, telephone_law};
 use payload_core_av1::av1_law;
 use payload_core_base::{Depacketizer, Packetizer};
-use payload_core_vp9::vp9_law;
-use payload_core_vpx::vp8_law;
+use payload_core_vpx::{vp8_law, vp9_law};
 
 /// Each codec that `CodecPacketizer::new` answers keeps the codec law, whatever was negotiated, and its packetizer
 /// begins in a state of which the law speaks. Each VP8 and VP9 packet but a sample's last has just the limit's bytes.

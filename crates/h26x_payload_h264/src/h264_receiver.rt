@@ -19,10 +19,19 @@ use std::alloc::Global;
 
 /// Hands out the units of H.264 packets, each behind a start code of four bytes (RFC 6184 5.6, 5.7.1
 /// and 5.8; ITU-T H.264 annex B).
-#[derive(Drop)]
 pub struct H264Depacketizer {
     alloc: Global,
     unit: OpenUnit,
+}
+
+/// Written out, so that who lets one go needs nothing of what is inside.
+impl Drop for H264Depacketizer {
+    fn drop(self) {
+        let H264Depacketizer {
+            alloc: _alloc,
+            unit: _unit,
+        } = self;
+    }
 }
 
 /// How many bytes the whole units of an aggregate take, each with its size.

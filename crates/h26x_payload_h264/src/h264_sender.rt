@@ -30,10 +30,20 @@ const MAX_AGGREGATED: usize = 65_535;
 /// other unit, and leave before it, once both are there, in one STAP-A; where that passes the limit, or one is
 /// longer than 65,535 bytes, they are dropped. A unit that passes the limit leaves in FU-A packets that fill
 /// it; below limit 3 it is dropped.
-#[derive(Debug, Drop)]
+#[derive(Debug)]
 pub struct H264Packetizer {
     sps: Option<Vec<u8>>,
     pps: Option<Vec<u8>>,
+}
+
+/// Written out, so that who lets one go needs nothing of what is inside.
+impl Drop for H264Packetizer {
+    fn drop(self) {
+        let H264Packetizer {
+            sps: _sps,
+            pps: _pps,
+        } = self;
+    }
 }
 
 // The parameter sets that wait within a sample.

@@ -19,7 +19,7 @@ use std::alloc::Global;
 /// aggregate, of H.266 with the VPS if one waits; where that passes the limit, or one is longer than 65,535 bytes,
 /// they are dropped. A unit that passes the limit leaves in fragments that fill it; below limit 4, or 6 with decoding
 /// order numbers, it is dropped. A unit of at most two bytes leaves as it is.
-#[derive(Debug, Drop)]
+#[derive(Debug)]
 pub struct H265OrH266Packetizer<L: H265OrH266> {
     codec: L,
     donl: bool,
@@ -28,6 +28,20 @@ pub struct H265OrH266Packetizer<L: H265OrH266> {
     vps: Option<Vec<u8>>,
     sps: Option<Vec<u8>>,
     pps: Option<Vec<u8>>,
+}
+
+/// Written out, so that who lets one go needs nothing of what is inside.
+impl<L: H265OrH266> Drop for H265OrH266Packetizer<L> {
+    fn drop(self) {
+        let H265OrH266Packetizer {
+            codec: _codec,
+            donl: _donl,
+            number: _number,
+            vps: _vps,
+            sps: _sps,
+            pps: _pps,
+        } = self;
+    }
 }
 
 impl<L: H265OrH266> H265OrH266Packetizer<L> {

@@ -17,12 +17,23 @@ use std::alloc::Global;
 
 /// Hands out the units of packets of H.265 and H.266, each behind a start code of four bytes (RFC 7798 4.4, RFC 9328
 /// 4.3; annex B of ITU-T H.265 and H.266).
-#[derive(Drop)]
 pub struct H265OrH266Depacketizer<L: H265OrH266> {
     codec: L,
     alloc: Global,
     donl: bool,
     unit: OpenUnit,
+}
+
+/// Written out, so that who lets one go needs nothing of what is inside.
+impl<L: H265OrH266> Drop for H265OrH266Depacketizer<L> {
+    fn drop(self) {
+        let H265OrH266Depacketizer {
+            codec: _codec,
+            alloc: _alloc,
+            donl: _donl,
+            unit: _unit,
+        } = self;
+    }
 }
 
 /// Whether a packet is cut short behind its header.

@@ -1,5 +1,6 @@
 -- What packets give as they are read, and their units in a list.
-use Rattle.std.proofs.Common.{◌≡◌, ℕ, ◌<◌, ◌≤◌, Bool, true, false, List, [], ◌∷◌, ◌++◌, map, length, None, Some, Ok, Err}
+use Rattle.std.proofs.Common.{◌≡◌, ℕ, ◌<◌, ◌≤◌, Bool, true, false, List, []}
+use Rattle.std.proofs.Common.{◌∷◌, ◌++◌, map, length, None, Some, Ok, Err}
 use Rattle.std.proofs.Common.{Result, refl, sym, ap, arith}
 use mathlib.Core.Bool.{false≢true}
 use Rattle.std.specs.List.{flat_map}

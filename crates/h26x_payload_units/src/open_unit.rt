@@ -52,11 +52,20 @@ fn begun(alloc: Global, header: &[u8], part: &[u8]) -> Result<Vec<u8>, PacketErr
 }
 
 /// A unit that has begun in a fragment and has not ended, if there is one.
-#[derive(Drop)]
 pub struct OpenUnit {
     alloc: Global,
     // The unit's bytes so far, behind its start code.
     bytes: Option<Vec<u8>>,
+}
+
+/// Written out, so that who lets one go needs nothing of what is inside.
+impl Drop for OpenUnit {
+    fn drop(self) {
+        let OpenUnit {
+            alloc: _alloc,
+            bytes: _bytes,
+        } = self;
+    }
 }
 
 impl Model for OpenUnit {

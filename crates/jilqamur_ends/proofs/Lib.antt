@@ -1,2 +1,4 @@
 pub mod AsBox
 pub mod BareSession
+pub mod ReceiverBox
+pub mod SenderBox

@@ -13,7 +13,7 @@ use Rattle.rtp_media_ends.specs.declared.errors.OpenError.{OpenError}
 use Rattle.rtp_media_ends.specs.declared.errors.OpenError.TheVariants as open_error
 use Rattle.rtp_media_ends.specs.declared.received.Received.{Received}
 use Rattle.rtp_media_ends.specs.declared.received.Received.TheVariants as received
-use Rattle.jilqamur_streams.specs.Answers.{drain_result, poll_code, unit_behind}
+use Rattle.jilqamur_ends.specs.StreamAnswers.{drain_result, poll_code, unit_behind}
 use Rattle.jilqamur_packets.specs.Codes.{ok, memory, nothing, unreadable, foreign, damaged, refused}
 use Rattle.jilqamur_packets.specs.Codes.{no_stream, no_section, row_not_agreed, row_differs, wrong_direction}
 use Rattle.jilqamur_packets.specs.Codes.{ssrc_not_named, already_open}

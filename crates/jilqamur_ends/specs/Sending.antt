@@ -12,7 +12,7 @@ use Rattle.jilqamur_packets.specs.Codes.{ok, memory, out_of_range, no_stream}
 use Rattle.jilqamur_packets.specs.Values.{values_given}
 use Rattle.jilqamur_packets.specs.declared.values.WireValues.{WireValues}
 use Rattle.jilqamur_packets.specs.Formats.{number_given}
-use Rattle.jilqamur_streams.specs.Answers.{sample_outcome}
+use Rattle.jilqamur_ends.specs.StreamAnswers.{sample_outcome}
 use Rattle.jilqamur_ends.specs.declared.sending.WireStream.{WireStream}
 use Rattle.rtp_media_ends.specs.Stops.{SenderFails, Where}
 use Rattle.jilqamur_ends.specs.Receiving.{open_outcome}

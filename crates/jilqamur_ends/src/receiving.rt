@@ -14,11 +14,11 @@ ghost use Rattle.rtp_media_ends.specs.Stops.{PollStops};
 ghost use Rattle.jilqamur_ends.specs.Receiving.{OpensReceiver, Receives, Polls, Drains, IsTakenAs, open_code};
 ghost use Rattle.jilqamur_ends.specs.Receiving.{open_outcome, verdict_code, DrainStops};
 ghost use Rattle.rtp_media_streams.specs.Polls.{poll_result};
-ghost use Rattle.jilqamur_streams.specs.Answers.{poll_code, unit_behind, drain_result};
+ghost use Rattle.jilqamur_ends.specs.StreamAnswers.{poll_code, unit_behind, drain_result};
 
 use crate::peer::Peer;
+use crate::poll_code;
 use jilqamur_packets::{codes, text_in};
-use jilqamur_streams::poll_code;
 use rtp_media_ends::{End, OpenError, Received, Unit};
 use rtp_wire::{Mid, Pt, Ssrc};
 

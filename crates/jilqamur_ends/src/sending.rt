@@ -10,8 +10,8 @@ ghost use Rattle.jilqamur_ends.specs.Sending.{mid_of};
 
 use crate::peer::Peer;
 use crate::receiving::open_code;
+use crate::sample_code;
 use jilqamur_packets::{WireValues, codes, number_given, text_in};
-use jilqamur_streams::sample_code;
 use rtp_media_ends::{Datagram, Distances, End, StreamParams};
 use rtp_wire::{MediaTime, Mid, Pt, Ssrc};
 use std::alloc::{AllocError, Global};

@@ -1,6 +1,6 @@
 //! Runs of the program's lines whose reader or writer fails, or whose input takes more reads than it may.
 
-use rtp_media_input::{Respond, RunFault, Status, run_within};
+use rtp_media::{Respond, RunFault, Status, run_within};
 use rtp_media_lines::{Command, Reply};
 use std::alloc::{AllocError, Global};
 use std::io;

@@ -18,7 +18,7 @@ mod writing;
 
 use commands::{Subjects, answer};
 use line::Line;
-use std::io::{BufRead, BufReader};
+use std::io;
 
 /// Answers a line by a line: a comment by itself, a command by what it gives, and another line, or a sample or packet
 /// that is refused, by the word `fault` and the reason.
@@ -30,9 +30,9 @@ fn answer_line(rt: &HostRuntime, subjects: &mut Subjects, whole: &str) -> anyhow
 }
 
 fn answer_lines(rt: &HostRuntime, subjects: &mut Subjects) -> anyhow::Result<()> {
-    let alloc = rt.alloc();
-    for line in BufReader::new(alloc, rt.reader())?.lines(alloc) {
-        answer_line(rt, subjects, line?.as_str())?;
+    let text = io::read_to_string(rt.alloc(), rt.reader())?;
+    for line in text.as_str().lines() {
+        answer_line(rt, subjects, line)?;
     }
     Ok(())
 }

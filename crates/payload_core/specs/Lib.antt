@@ -36,10 +36,10 @@ pub use Rattle.payload_core_red.specs.RedReading
 pub use Rattle.payload_core_red.specs.RedSending
 pub use Rattle.payload_core_red.specs.RedSinks
 pub use Rattle.payload_core_red.specs.RedWrapping
-pub use Rattle.payload_core_vp9.specs.Vp9
-pub use Rattle.payload_core_vp9.specs.Vp9Descriptor
-pub use Rattle.payload_core_vp9.specs.Vp9Frame
-pub use Rattle.payload_core_vp9.specs.Vp9Layout
+pub use Rattle.payload_core_vpx.specs.Vp9
+pub use Rattle.payload_core_vpx.specs.Vp9Descriptor
+pub use Rattle.payload_core_vpx.specs.Vp9Frame
+pub use Rattle.payload_core_vpx.specs.Vp9Layout
 pub use Rattle.payload_core_vpx.specs.Vp8
 pub use Rattle.payload_core_vpx.specs.Vp8Descriptor
 pub use Rattle.payload_core_vpx.specs.Vp8Forms

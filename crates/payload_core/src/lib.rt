@@ -25,11 +25,10 @@ pub use payload_core_red::{
     RedBlock, RedBlocks, RedDecoder, RedEncoder, RedSender, RedSink, RedundantBlock, red_law,
     red_wrap_law,
 };
-pub use payload_core_vp9::{Vp9Depacketizer, Vp9Packetizer, vp9_law, vp9_layout_law};
 pub use payload_core_vpx::{
     VP8_HEADER_SIZE, Vp8Depacketizer, Vp8Descriptor, Vp8DescriptorError, Vp8Packetizer, Vp8Patch,
-    Vp8PatchBuilder, Vp8PatchError, detect_vp8_keyframe, vp8_keyframe_law, vp8_law, vp8_layout_law,
-    vp8_patch_law,
+    Vp8PatchBuilder, Vp8PatchError, Vp9Depacketizer, Vp9Packetizer, detect_vp8_keyframe,
+    vp8_keyframe_law, vp8_law, vp8_layout_law, vp8_patch_law, vp9_law, vp9_layout_law,
 };
 pub use rtp_wire_extensions::{AbsCaptureTime, ExtensionValues, VideoOrientation};
 pub use rtp_wire_ids::{Mid, Pt, Rid, SeqNo};

@@ -18,12 +18,22 @@ const Y: u8 = 0x40;
 const N: u8 = 0x08;
 
 /// Hands out the units of AV1 packets, each with its size (RTP payload format for AV1, 4.4 and 4.5).
-#[derive(Drop)]
 pub struct Av1Depacketizer {
     alloc: Global,
     fragment: Option<Vec<u8>>,
     // The memory of a fragment that was closed, for the next one.
     spare: Vec<u8>,
+}
+
+/// Written out, so that who lets one go needs nothing of what is inside.
+impl Drop for Av1Depacketizer {
+    fn drop(self) {
+        let Av1Depacketizer {
+            alloc: _alloc,
+            fragment: _fragment,
+            spare: _spare,
+        } = self;
+    }
 }
 
 /// Whether a packet begins a coded video sequence: whether it has N.

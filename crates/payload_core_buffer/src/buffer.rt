@@ -16,13 +16,25 @@ use std::marker::Model;
 ///
 /// A complete frame ends with a tail, and begins with the least head from which the packets up to the tail
 /// are all held, consecutive and of one time, with no tail among them. At most 4,096 packets are held.
-#[derive(Drop)]
 pub struct DepacketizingBuffer<D> {
     alloc: Global,
     depacketizer: D,
     hold_back: usize,
     held: BTreeMap<u64, Held>,
     cutoff: Option<SeqNo>,
+}
+
+/// Written out, so that who lets one go needs nothing of what is inside.
+impl<D: Drop> Drop for DepacketizingBuffer<D> {
+    fn drop(self) {
+        let DepacketizingBuffer {
+            alloc: _alloc,
+            depacketizer: _depacketizer,
+            hold_back: _hold_back,
+            held: _held,
+            cutoff: _cutoff,
+        } = self;
+    }
 }
 
 impl<D> Model for DepacketizingBuffer<D> {

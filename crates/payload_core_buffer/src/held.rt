@@ -17,8 +17,17 @@ pub struct RtpMeta {
 }
 
 /// A packet that is held.
-#[derive(Drop)]
 pub struct Held {
     pub meta: RtpMeta,
     pub payload: Vec<u8>,
+}
+
+/// Written out, so that who lets one go needs nothing of what is inside.
+impl Drop for Held {
+    fn drop(self) {
+        let Held {
+            meta: _meta,
+            payload: _payload,
+        } = self;
+    }
 }

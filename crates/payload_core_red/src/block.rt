@@ -7,7 +7,7 @@ ghost use Rattle.std.specs.Prelude.{◌≡◌};
 use crate::spelling::fields_fit;
 
 /// An older payload that is to be sent once more, beside a newer one (RFC 2198 3).
-#[derive(Debug, Drop)]
+#[derive(Debug)]
 pub struct RedundantBlock {
     /// Its payload type, of which the low seven bits are sent.
     pub pt: u8,
@@ -15,6 +15,17 @@ pub struct RedundantBlock {
     pub timestamp_offset: u32,
     /// Its bytes.
     pub payload: Vec<u8>,
+}
+
+/// Written out, so that who lets one go needs nothing of what is inside.
+impl Drop for RedundantBlock {
+    fn drop(self) {
+        let RedundantBlock {
+            pt: _pt,
+            timestamp_offset: _timestamp_offset,
+            payload: _payload,
+        } = self;
+    }
 }
 
 impl RedundantBlock {

@@ -12,11 +12,21 @@ use payload_core_base::PacketError;
 use std::alloc::Global;
 
 /// A payload that was wrapped.
-#[derive(Drop)]
 pub struct KeptPayload {
     pub pt: u8,
     pub time: u32,
     pub payload: Vec<u8>,
+}
+
+/// Written out, so that who lets one go needs nothing of what is inside.
+impl Drop for KeptPayload {
+    fn drop(self) {
+        let KeptPayload {
+            pt: _pt,
+            time: _time,
+            payload: _payload,
+        } = self;
+    }
 }
 
 /// The payload that was wrapped so many calls before.

@@ -5,3 +5,7 @@ pub mod Vp8Patches
 pub mod Vp8KeyframeLaw
 pub mod Vp8Forms
 pub mod Vp8Layout
+pub mod Vp9
+pub mod Vp9Descriptor
+pub mod Vp9Layout
+pub mod Vp9Frame

@@ -5,7 +5,7 @@ use Rattle.rtp_media_negotiation.specs.Refusals.{RefusesNew, refusal_of_new}
 use Rattle.rtp_media_negotiation.specs.declared.errors.EndError.{EndError}
 use Rattle.rtp_wire.specs.Values.{Numbering}
 use Rattle.sdp_formats_rows.specs.Rows.{Row}
-use Rattle.sdp_formats_writable.specs.Writable.{IsWritableSession}
+use Rattle.sdp_formats_predicates.specs.Writable.{IsWritableSession}
 
 bare_writable : (id : ℕ) → IsWritableSession (bare_session id)
 bare_writable id = (tt, λ k d h. absurd (omega (arith, h)))

@@ -45,9 +45,15 @@ pub refused : (e : EndState) (c : SendCommand) (end : EndState) (replies : List 
     → (error ≢ open_error.Memory → refusal_of_open_sender e (name_of 16 c.mid) c.ssrc c.pt ≡ Some error) → end ≡ e
     → replies ≡ reply.Refused (open_error_name error) ∷ [] → IsAnswered e (Send c) end replies
 refused e c end replies open_error.Memory sound is same printed = inr (sound, same, printed)
-refused e c end replies open_error.NoSection sound is same printed = known e c end replies _ sound (is (λ same. cc)) same printed
-refused e c end replies open_error.RowNotAgreed sound is same printed = known e c end replies _ sound (is (λ same. cc)) same printed
-refused e c end replies open_error.RowDiffers sound is same printed = known e c end replies _ sound (is (λ same. cc)) same printed
-refused e c end replies open_error.WrongDirection sound is same printed = known e c end replies _ sound (is (λ same. cc)) same printed
-refused e c end replies open_error.SsrcNotNamed sound is same printed = known e c end replies _ sound (is (λ same. cc)) same printed
-refused e c end replies open_error.AlreadyOpen sound is same printed = known e c end replies _ sound (is (λ same. cc)) same printed
+refused e c end replies open_error.NoSection sound is same printed =
+    known e c end replies _ sound (is (λ same. cc)) same printed
+refused e c end replies open_error.RowNotAgreed sound is same printed =
+    known e c end replies _ sound (is (λ same. cc)) same printed
+refused e c end replies open_error.RowDiffers sound is same printed =
+    known e c end replies _ sound (is (λ same. cc)) same printed
+refused e c end replies open_error.WrongDirection sound is same printed =
+    known e c end replies _ sound (is (λ same. cc)) same printed
+refused e c end replies open_error.SsrcNotNamed sound is same printed =
+    known e c end replies _ sound (is (λ same. cc)) same printed
+refused e c end replies open_error.AlreadyOpen sound is same printed =
+    known e c end replies _ sound (is (λ same. cc)) same printed

@@ -14,7 +14,7 @@ use Rattle.sdp_formats_section_rows.specs.SectionRows.{rows_of}
 use Rattle.sdp_formats_types.specs.PrintedSession.{sdp_text}
 use Rattle.sdp_formats_types.specs.declared.media.MediaLine.{MediaLine}
 use Rattle.sdp_formats_types.specs.declared.session.Session.{Session}
-use Rattle.sdp_formats_writable.specs.Writable.{IsWritableSession}
+use Rattle.sdp_formats_predicates.specs.Writable.{IsWritableSession}
 use Rattle.rtp_media_negotiation.specs.Exchanges.{Exchanged}
 use Rattle.rtp_media_negotiation.specs.Offers.{answer_of}
 use Rattle.rtp_media_negotiation.specs.Reading.{IsUnread}

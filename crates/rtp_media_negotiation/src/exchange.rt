@@ -5,7 +5,7 @@ ghost use Rattle.std.specs.Option.{option_copied};
 ghost use Rattle.rtp_media_negotiation.specs.Exchanges.{fixed, fresh, with_offer};
 ghost use Rattle.rtp_media_negotiation.specs.Refusals.{RefusesNew, refusal_of_new};
 ghost use Rattle.rtp_media_sections.specs.Agreement.{own_row_agrees, section_of};
-ghost use Rattle.sdp_formats_writable.specs.Writable.{IsWritableSession};
+ghost use Rattle.sdp_formats_predicates.specs.Writable.{IsWritableSession};
 
 mod answer;
 mod offer;
@@ -16,8 +16,8 @@ use rtp_media_sections::{AgreedSection, SectionSpec, is_writable, own_row_agrees
 use rtp_wire::{ExtensionMap, Mid, SessionId};
 use sdp_formats::Session;
 use sdp_formats_config::CodecConfig;
+use sdp_formats_predicates::is_writable_session;
 use sdp_formats_rows::PayloadParams;
-use sdp_formats_writable::is_writable_session;
 use std::alloc::{AllocError, Global};
 use std::marker::Model;
 

@@ -9,8 +9,8 @@ ghost use Rattle.rtp_media_sections.specs.Lines.{offered_section};
 use rtp_media_sections::{SectionSpec, answered_section, offered_section};
 use rtp_wire::{ExtensionMap, Mid};
 use sdp_formats_config::CodecConfig;
+use sdp_formats_predicates::WholeText;
 use sdp_formats_types::{Listed, MediaLine, Session, SessionAttribute, Text};
-use sdp_formats_writable::WholeText;
 use std::alloc::{AllocError, Global};
 
 fn mids_of(alloc: Global, sections: &[SectionSpec]) -> Result<Vec<Mid>, AllocError>

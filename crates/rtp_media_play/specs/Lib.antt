@@ -3,3 +3,9 @@ pub mod Runs
 pub mod Pushing
 pub mod Units
 pub mod Headline
+pub mod Again
+pub mod Kept
+pub mod Codecs
+pub mod Hops
+pub mod Redundancy
+pub mod OpusHops

@@ -6,7 +6,9 @@ use Rattle.payload_core_base.specs.declared.error.PacketError.{PacketError}
 use Rattle.payload_core_base.specs.declared.extra.CodecExtra.{CodecExtra}
 use Rattle.payload_core_buffer.specs.declared.frame.Frame.{Frame}
 use Rattle.payload_core_buffer.specs.declared.held.RtpMeta.{RtpMeta}
-use Rattle.rtp_media_schedules.specs.Hearing.{Answer, Event, Comes, Poll, Stream, after_events, answer_among, answer_by, due, heard, heard_step, number_at, poll_answer, polled, stream_behind, taken_by}
+use Rattle.rtp_media_schedules.specs.Hearing.{Answer, Event, Comes, Poll, Stream, after_events, answer_among, answer_by}
+use Rattle.rtp_media_schedules.specs.Hearing.{due, heard, heard_step, number_at, poll_answer, polled}
+use Rattle.rtp_media_schedules.specs.Hearing.{stream_behind, taken_by}
 
 pub heard-append : (format : Format) (s : Stream) (before rest : List Event) → heard format s (before ++ rest)
     ≡ heard format s before ++ heard format (after_events format s before) rest

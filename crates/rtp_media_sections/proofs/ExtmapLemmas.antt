@@ -1,6 +1,7 @@
 -- The map that lines say.
 use Rattle.std.proofs.Common.{◌≡◌, ℕ, ◌-◌, ◌≤◌, ◌==◌, Bool, true, false, eqb, List, [], ◌∷◌, length, Option}
-use Rattle.std.proofs.Common.{None, Some, refl, ap, ◌∙◌, arith, get_or-set_same, get_or-set_other, length-set, if◌then◌else◌}
+use Rattle.std.proofs.Common.{None, Some, refl, ap, ◌∙◌}
+use Rattle.std.proofs.Common.{arith, get_or-set_same, get_or-set_other, length-set, if◌then◌else◌}
 use Rattle.std.proofs.lemmas.Bool.Decides.{nat_tests}
 use Rattle.std.proofs.lemmas.List.{get_or-replicate}
 use Rattle.std.specs.Prelude.{fold, slice_index_or, slice_set}

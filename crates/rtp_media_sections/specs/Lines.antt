@@ -11,9 +11,9 @@ use Rattle.sdp_formats_config.specs.Matching.{rows_of_kind}
 use Rattle.sdp_formats_round.specs.Laws.{Section}
 use Rattle.sdp_formats_round.specs.Types.{types_of}
 use Rattle.sdp_formats_rows.specs.Rows.{Row}
-use Rattle.sdp_formats_row_attributes.specs.Attributes.{attributes_of}
+use Rattle.sdp_formats_section_rows.specs.Attributes.{attributes_of}
 use Rattle.sdp_formats_section_rows.specs.SectionRows.{rows_of}
-use Rattle.sdp_formats_ssrcs.specs.Sources.{sources_of}
+use Rattle.sdp_formats_lookups.specs.Sources.{sources_of}
 use Rattle.sdp_formats_types.specs.Media.{is_rtp}
 use Rattle.sdp_formats_types.specs.Lookups.{direction_of, first_of, mid_in}
 use Rattle.sdp_formats_types.specs.Media.{direction_attribute, is_media}

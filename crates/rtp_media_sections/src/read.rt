@@ -8,8 +8,8 @@ use crate::section::Shape;
 use payload_core_base::MediaKind;
 use rtp_wire::{Mid, Ssrc};
 use sdp_formats_config::RemoteSection;
+use sdp_formats_lookups::sources_of;
 use sdp_formats_section_rows::rtp_params;
-use sdp_formats_ssrcs::sources_of;
 use sdp_formats_types::{MediaLine, MediaType, Proto};
 use std::alloc::{AllocError, Global};
 

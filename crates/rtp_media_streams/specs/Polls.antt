@@ -1,5 +1,6 @@
 -- What polls of a receiving stream answer.
-use Rattle.std.specs.Prelude.{◌≡◌, ◌≢◌, ◌<◌, ◌⊎◌, ℕ, zero, suc, List, [], ◌∷◌, ◌++◌, Option, length, map, take, Some, None}
+use Rattle.std.specs.Prelude.{◌≡◌, ◌≢◌, ◌<◌, ◌⊎◌, ℕ, zero, suc, List, []}
+use Rattle.std.specs.Prelude.{◌∷◌, ◌++◌, Option, length, map, take, Some, None}
 use Rattle.std.specs.Prelude.{Result}
 use Rattle.std.specs.Prelude.{Ok, Err}
 use Rattle.payload_core_base.specs.Format.{Format}

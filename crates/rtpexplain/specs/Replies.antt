@@ -1,7 +1,7 @@
 -- What the program replies to lines.
 use Rattle.std.specs.Prelude.{ℕ, List, [], Some}
-use Rattle.rtp_media_input.specs.Runs.{Printed}
-use Rattle.rtp_media_input.specs.declared.status.Status.{Status}
+use Rattle.rtp_media.specs.Runs.{Printed}
+use Rattle.rtp_media.specs.declared.status.Status.{Status}
 use Rattle.rtp_media.specs.ProgramState.{AnswersCommand, ProgramState, initial_state}
 
 -- This text has the replies to the lines, from a start without ends on, and this status follows.

@@ -4,7 +4,7 @@ use crate::forms::{form_of, misfit};
 use crate::known::{Known, KnownEnd};
 use crate::lines::{number_at, number_of, verb_of, word_at};
 use crate::refusals::{fault_of, refusal_of, verdict_of};
-use rtp_media_input::MAX_LINE_LENGTH;
+use rtp_media::MAX_LINE_LENGTH;
 use std::alloc::{AllocError, Global};
 
 /// Why the program gave a line this reply, where it says no.

@@ -1,1 +1,5 @@
 pub mod Read
+mod KeyOrder
+mod KeySets
+mod OneMore
+mod OneName

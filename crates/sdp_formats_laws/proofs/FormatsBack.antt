@@ -14,11 +14,11 @@ use Rattle.h26x_payload_profiles.specs.H266Level.{level_id as level_266}
 use Rattle.h26x_payload_profiles.specs.H266Profile.{profile_id as profile_266}
 use Rattle.h26x_payload_profiles.specs.H265ProfileTierLevel.{H265ProfileTierLevel as Level265}
 use Rattle.h26x_payload_profiles.specs.H266ProfileTierLevel.{H266ProfileTierLevel as Level266}
-use Rattle.sdp_formats_streams.specs.PrintedPairs.{PairsComeBack}
+use Rattle.sdp_formats_media_lines.specs.PrintedPairs.{PairsComeBack}
 use Rattle.sdp_formats_params.specs.declared.param.FormatParam.{FormatParam}
 use Rattle.sdp_formats_params.specs.declared.param.FormatParam.TheVariants as param
 use Rattle.sdp_formats_format.specs.declared.format.FormatParams.{FormatParams}
-use Rattle.sdp_formats_row_attributes.specs.Attributes.{all_params, given_param, listed_param, params_of}
+use Rattle.sdp_formats_section_rows.specs.Attributes.{all_params, given_param, listed_param, params_of}
 use Rattle.sdp_formats_laws.proofs.KeyedLists.{keyed_on_line, keyed_read}
 use Rattle.sdp_formats_laws.proofs.LevelLists.{IsRising, level_back, weaker}
 use Rattle.sdp_formats_laws.proofs.KeyRanks.{rank_of}

@@ -5,14 +5,14 @@ use Rattle.std.specs.List.{list_any}
 use Rattle.std.specs.Option.{option_map, option_or}
 use Rattle.sdp_formats_forms.specs.Joined.{each_behind, joined}
 use Rattle.sdp_formats_forms.specs.Split.{Lacks}
-use Rattle.sdp_formats_streams.specs.PrintedPairs.{ArePairs, PairsComeBack, pairs_text}
+use Rattle.sdp_formats_media_lines.specs.PrintedPairs.{ArePairs, PairsComeBack, pairs_text}
 use Rattle.sdp_formats_params.specs.Params.{gives_level, level_params, pair_param, params_of}
 use Rattle.sdp_formats_params.specs.Printed.{pair_text, param_text}
 use Rattle.sdp_formats_params.specs.declared.pairs.Pair.{Pair}
 use Rattle.sdp_formats_params.specs.declared.param.FormatParam.{FormatParam}
 use Rattle.sdp_formats_params.specs.declared.param.FormatParam.TheVariants as param
-use Rattle.sdp_formats_streams.specs.AsRead.{is_level, is_other, params_as_read, spelled_as}
-use Rattle.sdp_formats_streams.specs.Parameters.{parameters}
+use Rattle.sdp_formats_media_lines.specs.AsRead.{is_level, is_other, params_as_read, spelled_as}
+use Rattle.sdp_formats_media_lines.specs.Parameters.{parameters}
 use Rattle.sdp_formats_types.specs.Printed.{params_text}
 use Rattle.sdp_formats_laws.proofs.KeyedParams.{key_is, no_level, param_back, text_is, value_is}
 use Rattle.sdp_formats_laws.specs.Printable.{IsText}

@@ -9,7 +9,7 @@ use Rattle.std.specs.Str.{str_eq_ignore_ascii_case}
 use Rattle.std.proofs.lemmas.List.{map-append}
 use Rattle.indexmap.specs.IndexMap.{insert_entry}
 use Rattle.sdp_formats_forms.specs.Joined.{each_behind, joined}
-use Rattle.sdp_formats_streams.specs.PrintedPairs.{ArePairs, PairsComeBack, pairs_text}
+use Rattle.sdp_formats_media_lines.specs.PrintedPairs.{ArePairs, PairsComeBack, pairs_text}
 use Rattle.sdp_formats_params.specs.Keys.{key_named, is_name_of}
 use Rattle.sdp_formats_params.specs.Params.{Entries, gives_level, last_value, level_params, levels_of}
 use Rattle.sdp_formats_params.specs.Params.{or_before, others_of, pair_param, param_of, params_of}
@@ -17,8 +17,8 @@ use Rattle.sdp_formats_params.specs.Params.{with_pairs}
 use Rattle.sdp_formats_params.specs.Printed.{levels_text, pair_text, param_text}
 use Rattle.sdp_formats_params.specs.declared.pairs.Pair.{Pair}
 use Rattle.sdp_formats_params.specs.declared.param.FormatParam.{FormatParam}
-use Rattle.sdp_formats_streams.specs.AsRead.{is_level, is_other, params_as_read, spelled_as}
-use Rattle.sdp_formats_streams.specs.Parameters.{parameters}
+use Rattle.sdp_formats_media_lines.specs.AsRead.{is_level, is_other, params_as_read, spelled_as}
+use Rattle.sdp_formats_media_lines.specs.Parameters.{parameters}
 use Rattle.sdp_formats_types.specs.Printed.{params_text}
 use Rattle.sdp_formats_laws.proofs.KeyedLists.{AllLack, all_spelled, are_pairs, lack_feed, lack_return}
 use Rattle.sdp_formats_laws.proofs.KeyedLists.{levels_none, not_level, others_all, pairs_on_line}

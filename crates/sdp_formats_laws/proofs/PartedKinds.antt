@@ -13,10 +13,10 @@ use Rattle.sdp_formats_forms.specs.Split.{Lacks}
 use Rattle.sdp_formats_media_lines.specs.Choice.{attribute_line}
 use Rattle.sdp_formats_media_lines.specs.Choice.{media_attribute, second_attribute, third_attribute, last_attribute}
 use Rattle.sdp_formats_params.specs.declared.FormatParam.{FormatParam}
-use Rattle.sdp_formats_streams.specs.Maps.{payload_type, clock_rate, make_map}
-use Rattle.sdp_formats_streams.specs.AsRead.{params_as_read}
-use Rattle.sdp_formats_streams.specs.Parameters.{parameters}
-use Rattle.sdp_formats_streams.specs.Sources.{make_names, ssrc_number}
+use Rattle.sdp_formats_media_lines.specs.Maps.{payload_type, clock_rate, make_map}
+use Rattle.sdp_formats_media_lines.specs.AsRead.{params_as_read}
+use Rattle.sdp_formats_media_lines.specs.Parameters.{parameters}
+use Rattle.sdp_formats_media_lines.specs.Sources.{make_names, ssrc_number}
 use Rattle.sdp_formats_values.specs.Printed.{is_empty, line_end}
 use Rattle.sdp_formats_types.specs.Printed.{params_text, numbers_text}
 use Rattle.sdp_formats_types.specs.PrintedMedia.{attribute_text, listed_text, named, rtp_map_text}

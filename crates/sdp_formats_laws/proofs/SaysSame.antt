@@ -4,7 +4,7 @@ use Rattle.std.specs.List.{flat_map}
 use Rattle.std.specs.Option.{option_or, unwrap_or}
 use Rattle.rtp_wire.specs.declared.Direction.TheVariants as way
 use Rattle.sdp_formats_lookups.specs.Sections.{extmap_in}
-use Rattle.sdp_formats_streams.specs.AsRead.{as_read}
+use Rattle.sdp_formats_media_lines.specs.AsRead.{as_read}
 use Rattle.sdp_formats_laws.specs.Rows.{ReadSectionsSayTheSame, is_other_line}
 use Rattle.sdp_formats_types.specs.Lookups.{direction_in, first_of, mid_in, msid_in, setup_in}
 use Rattle.sdp_formats_types.specs.declared.MediaAttribute.{MediaAttribute}

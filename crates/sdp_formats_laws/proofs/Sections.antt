@@ -13,9 +13,9 @@ use Rattle.sdp_formats_session_lines.specs.Heads.{media_type, proto, formats, ma
 use Rattle.sdp_formats_session_lines.specs.Lines.{connection_line, bandwidth_line, head_line, passed}
 use Rattle.sdp_formats_session_lines.specs.declared.media.MediaHead.{MediaHead}
 use Rattle.sdp_formats_media_lines.specs.Choice.{attribute_line, media_attribute}
-use Rattle.sdp_formats_streams.specs.PrintedPairs.{RestrictionsComeBack}
+use Rattle.sdp_formats_media_lines.specs.PrintedPairs.{RestrictionsComeBack}
 use Rattle.sdp_formats_reader.specs.Grammar.{SectionSays}
-use Rattle.sdp_formats_streams.specs.AsRead.{as_read}
+use Rattle.sdp_formats_media_lines.specs.AsRead.{as_read}
 use Rattle.sdp_formats_forms.specs.Line.{LineOf}
 use Rattle.sdp_formats_forms.specs.Step.{Stops, Begins, Many, Perhaps}
 use Rattle.sdp_formats_types.specs.Media.{proto_text, is_channel}

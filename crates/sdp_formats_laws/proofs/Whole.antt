@@ -1,11 +1,11 @@
 -- Every printable attribute is read as it is printed.
 use Rattle.std.proofs.Common.{[], ◌∷◌}
 use Rattle.sdp_formats_media_lines.specs.Choice.{attribute_line}
-use Rattle.sdp_formats_streams.specs.AsRead.{as_read}
+use Rattle.sdp_formats_media_lines.specs.AsRead.{as_read}
 use Rattle.sdp_formats_types.specs.PrintedMedia.{attribute_text}
 use Rattle.sdp_formats_types.specs.declared.media.MediaAttribute.{MediaAttribute}
 use Rattle.sdp_formats_types.specs.declared.media.MediaAttribute.TheVariants as a
-use Rattle.sdp_formats_streams.specs.PrintedPairs.{RestrictionsComeBack}
+use Rattle.sdp_formats_media_lines.specs.PrintedPairs.{RestrictionsComeBack}
 use Rattle.sdp_formats_laws.proofs.CandidateLines.{candidate_line}
 use Rattle.sdp_formats_laws.proofs.Printed.{IsPrintedAs}
 use Rattle.sdp_formats_laws.proofs.Restrictions.{rid_line}

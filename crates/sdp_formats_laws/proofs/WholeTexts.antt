@@ -9,7 +9,7 @@ use Rattle.sdp_formats_session_lines.specs.Lines.{version_line, origin_line, nam
 use Rattle.sdp_formats_session_lines.specs.Lines.{something, passed}
 use Rattle.sdp_formats_session_lines.specs.Heads.{media_line}
 use Rattle.sdp_formats_media_lines.specs.Choice.{attribute_line as media_attribute_line}
-use Rattle.sdp_formats_streams.specs.PrintedPairs.{RestrictionsComeBack}
+use Rattle.sdp_formats_media_lines.specs.PrintedPairs.{RestrictionsComeBack}
 use Rattle.sdp_formats_reader.specs.Grammar.{OpeningSays, TimesSay, SessionSays, SectionSays, SdpSays}
 use Rattle.sdp_formats_session_lines.specs.Choice.{attribute_line, session_attribute}
 use Rattle.sdp_formats_forms.specs.Line.{LineOf}

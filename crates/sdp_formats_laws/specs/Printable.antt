@@ -5,11 +5,11 @@ use Rattle.rtp_wire.specs.Kinds.{uri_of, extension_of}
 use Rattle.rtp_wire.specs.Name.{name_of}
 use Rattle.sdp_formats_forms.specs.Split.{Lacks}
 use Rattle.sdp_formats_media_lines.specs.Choice.{media_attribute}
-use Rattle.sdp_formats_streams.specs.PrintedPairs.{ArePairs}
+use Rattle.sdp_formats_media_lines.specs.PrintedPairs.{ArePairs}
 use Rattle.sdp_formats_params.specs.declared.Pair.{Pair}
-use Rattle.sdp_formats_streams.specs.AsRead.{params_as_read}
-use Rattle.sdp_formats_streams.specs.Parameters.{parameters}
-use Rattle.sdp_formats_streams.specs.Names.{has_name_chars}
+use Rattle.sdp_formats_media_lines.specs.AsRead.{params_as_read}
+use Rattle.sdp_formats_media_lines.specs.Parameters.{parameters}
+use Rattle.sdp_formats_media_lines.specs.Names.{has_name_chars}
 use Rattle.sdp_formats_types.specs.Printed.{params_text}
 use Rattle.sdp_formats_values.specs.declared.candidate.Candidate as candidate
 use Rattle.sdp_formats_values.specs.declared.candidate.RelatedAddress.{RelatedAddress}

@@ -3,7 +3,7 @@ use Rattle.std.specs.Prelude.{◌≡◌, ◌<◌, ◌^◌, ℕ, IsTrue, List, []
 use Rattle.std.specs.List.{list_all}
 use Rattle.sdp_formats_forms.specs.Split.{Lacks}
 use Rattle.sdp_formats_session_lines.specs.Heads.{media_type}
-use Rattle.sdp_formats_consistency.specs.Consistency.{is_consistent}
+use Rattle.sdp_formats_predicates.specs.Consistency.{is_consistent}
 use Rattle.sdp_formats_types.specs.declared.media.MediaLine.{MediaLine}
 use Rattle.sdp_formats_types.specs.declared.media.MediaType.{MediaType}
 use Rattle.sdp_formats_types.specs.declared.media.MediaType.TheVariants.{Audio, Video, Application, Unknown}

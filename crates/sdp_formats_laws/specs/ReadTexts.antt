@@ -1,6 +1,6 @@
 -- What a printed text is read as.
 use Rattle.std.specs.Prelude.{map}
-use Rattle.sdp_formats_streams.specs.AsRead.{as_read}
+use Rattle.sdp_formats_media_lines.specs.AsRead.{as_read}
 use Rattle.sdp_formats_types.specs.declared.media.MediaLine.{MediaLine}
 use Rattle.sdp_formats_types.specs.declared.session.Sdp.{Sdp}
 

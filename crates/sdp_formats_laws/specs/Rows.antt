@@ -11,7 +11,7 @@ use Rattle.sdp_formats_laws.specs.RowsBack.{attributes_in, names_type, types_in,
 use Rattle.sdp_formats_rows.specs.Plain.{is_plain}
 use Rattle.sdp_formats_rows.specs.Rows.{Row}
 use Rattle.sdp_formats_section_rows.specs.SectionRows.{rows_of}
-use Rattle.sdp_formats_consistency.specs.Consistency.{is_consistent}
+use Rattle.sdp_formats_predicates.specs.Consistency.{is_consistent}
 use Rattle.sdp_formats_types.specs.Lookups.{direction_of, first_of, mid_in, msid_in, setup_in}
 use Rattle.sdp_formats_types.specs.PrintedSession.{sdp_text}
 use Rattle.sdp_formats_types.specs.declared.media.MediaAttribute.{MediaAttribute}

@@ -3,14 +3,13 @@
 ghost use Rattle.std.specs.Prelude.{List, ℕ, ◌++◌};
 ghost use Rattle.sdp_formats_laws.specs.Printable.{IsPrintable};
 ghost use Rattle.sdp_formats_media_lines.specs.Choice.{attribute_line};
-ghost use Rattle.sdp_formats_streams.specs.AsRead.{as_read};
+ghost use Rattle.sdp_formats_media_lines.specs.AsRead.{as_read};
 ghost use Rattle.sdp_formats_forms.specs.Line.{LineOf};
 ghost use Rattle.sdp_formats_types.specs.PrintedMedia.{attribute_text};
 ghost use Rattle.sdp_formats_types.specs.declared.media.MediaAttribute.{MediaAttribute};
 
 use sdp_formats_forms::Lined;
-use sdp_formats_media_lines::MediaAttributeLine;
-use sdp_formats_streams::printed_pairs_law;
+use sdp_formats_media_lines::{MediaAttributeLine, printed_pairs_law};
 
 /// The printed line of a printable attribute is read as that attribute, whatever stands behind it.
 ///

@@ -8,7 +8,7 @@ ghost use Rattle.sdp_formats_laws.specs.Parameters.{LinksComeBack, PlainParamete
 use h26x_payload_profiles::{
     H265ProfileTierLevel, H266ProfileTierLevel, h265_tables_law, h266_tables_law,
 };
-use sdp_formats_streams::{pairs_law, printed_pairs_law};
+use sdp_formats_media_lines::{pairs_law, printed_pairs_law};
 
 /// The parameters of a plain row, as its section lists them, are read as they are printed (RFC 8866 6.15): the same
 /// parameters, a profile, tier and level in front of the others.

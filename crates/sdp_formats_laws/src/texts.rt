@@ -9,9 +9,8 @@ ghost use Rattle.sdp_formats_types.specs.PrintedSession.{sdp_text};
 ghost use Rattle.sdp_formats_types.specs.declared.session.Sdp.{Sdp};
 
 use sdp_formats_forms::Lined;
-use sdp_formats_media_lines::MediaAttributeLine;
+use sdp_formats_media_lines::{MediaAttributeLine, printed_pairs_law};
 use sdp_formats_session_lines::SessionAttributeLine;
-use sdp_formats_streams::printed_pairs_law;
 
 /// The printed text of a session is read whole as that session, where its texts can stand where they are printed and no
 /// section has a fault; of lines `a=fmtp` as `printed_lines_law` says.

@@ -1,3 +1,4 @@
 pub mod HexNumerals
 pub mod Preferred
 pub mod Turned
+mod EachOnce

@@ -1,11 +1,20 @@
-//! What sections and sessions say, by their attributes, beside the accessors of `MediaLine`.
+//! What sections and sessions say, by their attributes, beside the accessors of `MediaLine`, and what a
+//! section says of its sources (RFC 5576).
 #![tactic(auto)]
 
 pub mod directions;
 pub mod from_text;
+pub mod infos;
 pub mod keys;
+mod known;
 pub mod lists;
 pub mod preference;
+mod said;
 pub mod section;
 pub mod session;
+mod sources;
 pub mod whole;
+
+pub use infos::{no_info, ssrc_info};
+pub use said::is_no_stream;
+pub use sources::sources_of;

@@ -6,11 +6,11 @@ use Rattle.sdp_formats_forms.specs.Form.{Form, told, any_text, number, made, aft
 use Rattle.sdp_formats_session_lines.specs.Candidates.{candidate}
 use Rattle.sdp_formats_session_lines.specs.Digest.{fingerprint}
 use Rattle.sdp_formats_session_lines.specs.Words.{setup_word}
-use Rattle.sdp_formats_streams.specs.Maps.{rtpmap, rtcp_fb}
-use Rattle.sdp_formats_streams.specs.Parameters.{fmtp}
-use Rattle.sdp_formats_streams.specs.Rids.{rid}
-use Rattle.sdp_formats_streams.specs.Simulcasts.{simulcast}
-use Rattle.sdp_formats_streams.specs.Sources.{extmap, msid, ssrc, ssrc_group}
+use Rattle.sdp_formats_media_lines.specs.Maps.{rtpmap, rtcp_fb}
+use Rattle.sdp_formats_media_lines.specs.Parameters.{fmtp}
+use Rattle.sdp_formats_media_lines.specs.Rids.{rid}
+use Rattle.sdp_formats_media_lines.specs.Simulcasts.{simulcast}
+use Rattle.sdp_formats_media_lines.specs.Sources.{extmap, msid, ssrc, ssrc_group}
 use Rattle.sdp_formats_types.specs.declared.media.MediaAttribute.{MediaAttribute}
 use Rattle.sdp_formats_types.specs.declared.media.MediaAttribute.TheVariants.{Candidate, EndOfCandidates, Fingerprint}
 use Rattle.sdp_formats_types.specs.declared.media.MediaAttribute.TheVariants.{IceOptions, IcePwd, IceUfrag, Inactive}

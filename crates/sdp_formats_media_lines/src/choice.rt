@@ -10,12 +10,12 @@ use crate::attributes::{
     extmap_line, fmtp_line, msid_line, rid_line, rtcp_fb_line, rtpmap_line, simulcast_line,
     ssrc_group_line, ssrc_line,
 };
+use crate::pairs_law;
 use crate::transport::{
     candidate_line, fingerprint_line, ice_options_line, ice_pwd_line, ice_ufrag_line,
     max_message_size_line, mid_line, rtcp_line, sctp_init_line, sctp_port_line, setup_line,
 };
 use sdp_formats_forms::{Lined, Refusal, Stepped, behind, fitted, line_of, text_of};
-use sdp_formats_streams::pairs_law;
 use sdp_formats_types::MediaAttribute;
 use std::alloc::Global;
 

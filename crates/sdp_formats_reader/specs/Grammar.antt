@@ -12,7 +12,7 @@ use Rattle.sdp_formats_media_lines.specs.Choice.{attribute_line as media_line}
 use Rattle.sdp_formats_session_lines.specs.Choice.{attribute_line as session_line}
 use Rattle.sdp_formats_forms.specs.Line.{LineOf}
 use Rattle.sdp_formats_forms.specs.Step.{Many, Perhaps}
-use Rattle.sdp_formats_consistency.specs.Consistency.{is_consistent}
+use Rattle.sdp_formats_predicates.specs.Consistency.{is_consistent}
 use Rattle.sdp_formats_types.specs.declared.media.MediaLine.{MediaLine}
 use Rattle.sdp_formats_types.specs.declared.session.Sdp.{Sdp}
 use Rattle.sdp_formats_types.specs.declared.session.Session.{Session}

@@ -1,5 +1,6 @@
 -- What a match makes of a row.
-use Rattle.std.proofs.Common.{◌≡◌, ◌≢◌, ℕ, Bool, true, false, ◌&&◌, List, [], ◌∷◌, ◌++◌, refl, sym, ◌∙◌, ap, Option, Some}
+use Rattle.std.proofs.Common.{◌≡◌, ◌≢◌, ℕ, Bool, true, false, ◌&&◌, List, []}
+use Rattle.std.proofs.Common.{◌∷◌, ◌++◌, refl, sym, ◌∙◌, ap, Option, Some}
 use Rattle.std.proofs.Common.{None, Ok, if◌then◌else◌}
 use Rattle.std.specs.Prelude.{is_none}
 use Rattle.payload_core_base.specs.Codecs.{is_audio_codec}

@@ -1,15 +1,21 @@
-//! The rows that a section of a session text lists.
+//! The rows that a section of a session text lists, and the attributes that list a row in it.
 #![tactic(auto)]
 
+mod attributes;
 mod facts;
+mod feedback;
 mod given;
 mod links;
 mod mapped;
+mod maps;
+mod params;
 mod section_rows;
 mod type_lists;
 
+pub use attributes::as_media_attrs;
 pub use given::{format_given, with_param};
-pub use sdp_formats_row_attributes::{as_media_attrs, map_of, spec_of_map, to_format_param};
+pub use maps::{map_of, spec_of_map};
+pub use params::to_format_param;
 pub use sdp_formats_rows::{CodecSpec, FormatParams, PayloadParams};
 pub use sdp_formats_types::{MediaAttribute, MediaLine, RtpMap};
 pub use section_rows::rtp_params;

@@ -12,8 +12,15 @@ use std::alloc::{AllocError, Global};
 use std::fmt;
 
 /// The name of an `a=rid` line (RFC 8851 4), and whether its stream is active at first: the name, and the flag.
-#[derive(Debug, Drop)]
+#[derive(Debug)]
 pub struct RestrictionId(pub Text, pub bool);
+
+/// Written out, so that who lets one go needs nothing of what is inside.
+impl Drop for RestrictionId {
+    fn drop(self) {
+        let RestrictionId(_first, _second) = self;
+    }
+}
 
 impl RestrictionId {
     /// The name, active or not.
@@ -78,12 +85,22 @@ impl RidDirection {
 }
 
 /// A layer of a simulcast (RFC 8853 5.1).
-#[derive(Debug, Drop)]
+#[derive(Debug)]
 pub struct SimulcastLayer {
     /// The name of its `a=rid` line.
     pub restriction_id: RestrictionId,
     /// Its restrictions, if they are given with it.
     pub attributes: Option<Listed<Pair>>,
+}
+
+/// Written out, so that who lets one go needs nothing of what is inside.
+impl Drop for SimulcastLayer {
+    fn drop(self) {
+        let SimulcastLayer {
+            restriction_id: _restriction_id,
+            attributes: _attributes,
+        } = self;
+    }
 }
 
 /// The name of its `a=rid` line.

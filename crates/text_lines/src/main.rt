@@ -19,9 +19,10 @@ use std::io;
 fn main(rt: HostRuntime) -> io::Result<()> {
     let alloc = rt.alloc();
     let mut rows = Rows::new(alloc);
-    for line in rt.lines(alloc) {
+    let text = io::read_to_string(alloc, rt.reader())?;
+    for line in text.as_str().lines() {
         let mut reply = String::new(alloc);
-        match answer(&rt, &mut rows, line?.as_str(), &mut reply) {
+        match answer(&rt, &mut rows, line, &mut reply) {
             Some(done) => done?,
             None => reply.push_str("fault")?,
         }

@@ -6,7 +6,7 @@ ghost use Rattle.rtp_media_negotiation.specs.Exchanges.{with_offer};
 ghost use Rattle.rtp_media_negotiation.specs.Offers.{Accepts, Answers, offer_of};
 ghost use Rattle.rtp_media_negotiation.specs.Refusals.{MayAccept, MayAnswer, Refuses, RefusesAccept, RefusesAnswer};
 ghost use Rattle.rtp_media_negotiation.specs.Refusals.{RefusesNew, refusal_of_new, refusal_of_offer};
-ghost use Rattle.sdp_formats_writable.specs.Writable.{IsWritableSession};
+ghost use Rattle.sdp_formats_predicates.specs.Writable.{IsWritableSession};
 ghost use Rattle.rtp_media_negotiation.specs.Says.{AgreesOnText};
 ghost use Rattle.rtp_media_ends.specs.Ends.{new_end, with_exchange};
 ghost use Rattle.rtp_media_ends.specs.Connections.{Connects, HaveExchanged, HaveOneAgreement, IsRefused};

@@ -1,5 +1,5 @@
 use Rattle.sdp_formats_media_lines.specs.Choice.{attribute_line}
-use Rattle.sdp_formats_streams.specs.AsRead.{as_read}
+use Rattle.sdp_formats_media_lines.specs.AsRead.{as_read}
 use Rattle.sdp_formats_types.specs.PrintedMedia.{attribute_text}
 use Rattle.sdp_formats_laws.proofs.Printed.{printed_line}
 use Rattle.sdp_formats_laws.proofs.Whole.{printed}

@@ -1,4 +1,5 @@
-use Rattle.std.proofs.Common.{◌≡◌, ℕ, List, arith, refl, sym, ◌∙◌, ap, ap₂, true, None, Some, Result, [], ◌∷◌, ◌≢◌, Ok, Err, IfOk}
+use Rattle.std.proofs.Common.{◌≡◌, ℕ, List, arith, refl, sym, ◌∙◌, ap, ap₂, true}
+use Rattle.std.proofs.Common.{None, Some, Result, [], ◌∷◌, ◌≢◌, Ok, Err, IfOk}
 use Rattle.std.specs.Prelude.{Option}
 use Rattle.std.proofs.lemmas.Grind.{common_steps}
 use Rattle.rtp_wire.specs.Name.{name_of}

@@ -1,7 +1,0 @@
-pub mod Answers
-pub mod Fetched
-pub mod Formats
-pub mod Inboxes
-pub mod OwnedReceiver
-pub mod OwnedSender
-pub mod Outboxes

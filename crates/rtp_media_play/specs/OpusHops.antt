@@ -1,0 +1,31 @@
+-- One sample of Opus over two hops.
+use Rattle.std.specs.Prelude.{ℕ, ◌≡◌, ◌<◌, ◌≤◌, List, [], ◌∷◌, length, Result, Ok, Err}
+use Rattle.payload_core_base.specs.declared.codec.Codec.TheVariants.{Opus}
+use Rattle.payload_core_base.specs.declared.error.PacketError.{PacketError}
+use Rattle.rtp_wire.specs.Carried.{AreValues}
+use Rattle.rtp_media_schedules.specs.Hearing.{MediaUnit}
+use Rattle.rtp_media_streams.specs.Sending.{Sample}
+use Rattle.rtp_media_play.specs.declared.schedule.Event.{Event}
+use Rattle.rtp_media_play.specs.declared.schedule.Event.TheVariants.{Arrive, Poll}
+use Rattle.rtp_media_play.specs.Hops.{Carries, Hop, limit_over, row_over}
+
+-- The first datagram arrives, and the stream is polled twice.
+abbrev pub one_arrival : List Event
+one_arrival = Arrive 0 ∷ Poll ∷ Poll ∷ []
+
+-- A stream of Opus that may be opened, whose numbers begin at 0.
+pub record CarriesOpus (h : Hop) : Type 0 where
+  pub opened : Carries h []
+  pub opus : (row_over h).codec ≡ Opus
+  pub first : h.params.first ≡ 0
+
+-- A sample that one packet has room for.
+pub record FitsPacket (h : Hop) (x : Sample) : Type 0 where
+  pub some : 0 < length x.bytes
+  pub fits : length x.bytes ≤ limit_over h
+  pub values : AreValues x.values
+
+-- The bytes of what is handed out.
+abbrev pub bytes_out : Result MediaUnit PacketError → Result (List ℕ) PacketError
+bytes_out (Ok u) = Ok u.bytes
+bytes_out (Err e) = Err e

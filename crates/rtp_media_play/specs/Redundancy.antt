@@ -1,0 +1,21 @@
+-- One stream between two ends, opened without redundancy and with it.
+use Rattle.std.specs.Prelude.{◌≡◌, None}
+use Rattle.rtp_media_ends.specs.Ends.{agreed_red}
+use Rattle.rtp_media_ends.specs.Params.{IsSound}
+use Rattle.rtp_media_ends.specs.declared.params.StreamParams.{StreamParams}
+use Rattle.rtp_media_play.specs.Units.{packet_limit_of}
+use Rattle.rtp_media_play.specs.Hops.{Hop}
+
+-- The stream opened with other parameters.
+abbrev pub opened_with : Hop → StreamParams → Hop
+opened_with h params = record h { params = params }
+
+-- Parameters without redundancy and with it, where packets have the same limit: a payload with redundancy may have one
+-- byte more (RFC 2198). The rest but the limit of datagrams is the same.
+pub record AddsRedundancy (h : Hop) (plain redundant : StreamParams) : Type 0 where
+  pub none : plain.red ≡ None
+  pub packets : packet_limit_of redundant ≡ packet_limit_of plain
+  pub sound : IsSound (agreed_red h.sender h.mid h.pt) redundant
+  pub first : redundant.first ≡ plain.first
+  pub picture_id : redundant.picture_id ≡ plain.picture_id
+  pub for_browsers : redundant.for_browsers ≡ plain.for_browsers

@@ -1,6 +1,0 @@
-pub mod Again
-pub mod Kept
-pub mod Codecs
-pub mod Hops
-pub mod Redundancy
-pub mod OpusHops

@@ -1,0 +1,111 @@
+//! The candidates of a whole text.
+
+ghost use Rattle.std.specs.Prelude.{◌≡◌, ◌++◌, IfOk, OnOk};
+ghost use Rattle.std.specs.List.{filter_map, flat_map};
+ghost use Rattle.std.specs.Option.{option_copied};
+ghost use Rattle.sdp_formats.specs.Candidates.{Adds, AreEachOnce, borrowed, candidates_of};
+ghost use Rattle.sdp_formats.specs.Candidates.{section_candidate, section_candidates, session_candidate};
+ghost use Rattle.sdp_formats.specs.Keys.{HasKeysOf};
+
+use crate::keys::{CandidateKey, candidate_key};
+use sdp_formats_types::{Candidate, MediaAttribute, MediaLine, Sdp, SessionAttribute};
+use std::alloc::{AllocError, Global};
+use std::collections::BTreeSet;
+
+#[tactic(auto, unfolding(crate::specs::Candidates::session_candidate))]
+fn session_candidate(attribute: &SessionAttribute) -> Option<&Candidate>
+    ensures { option_copied result ≡ session_candidate attribute.now }
+{
+    match attribute {
+        SessionAttribute::Candidate(candidate) => Some(candidate),
+        _ => None,
+    }
+}
+
+#[tactic(auto, unfolding(crate::specs::Candidates::section_candidate))]
+fn section_candidate(attribute: &MediaAttribute) -> Option<&Candidate>
+    ensures { option_copied result ≡ section_candidate attribute.now }
+{
+    match attribute {
+        MediaAttribute::Candidate(candidate) => Some(candidate),
+        _ => None,
+    }
+}
+
+fn push_of_session<'a>(
+    candidates: &mut Vec<&'a Candidate>,
+    attributes: &'a [SessionAttribute],
+) -> Result<(), AllocError>
+    ensures { OnOk result (borrowed candidates.new.items
+        ≡ borrowed candidates.old.items ++ filter_map session_candidate attributes.now) }
+{
+    for attribute in attributes {
+        if let Some(candidate) = session_candidate(attribute) {
+            candidates.push(candidate)?;
+        }
+    }
+    Ok(())
+}
+
+fn push_of_section<'a>(
+    candidates: &mut Vec<&'a Candidate>,
+    attributes: &'a [MediaAttribute],
+) -> Result<(), AllocError>
+    ensures { OnOk result (borrowed candidates.new.items
+        ≡ borrowed candidates.old.items ++ filter_map section_candidate attributes.now) }
+{
+    for attribute in attributes {
+        if let Some(candidate) = section_candidate(attribute) {
+            candidates.push(candidate)?;
+        }
+    }
+    Ok(())
+}
+
+/// All candidates of a text, those of the session first.
+fn all_candidates(alloc: Global, sdp: &Sdp) -> Result<Vec<&Candidate>, AllocError>
+    ensures { IfOk result (λ all. borrowed all.items ≡ candidates_of sdp.now) }
+{
+    let mut candidates = Vec::new(alloc);
+    push_of_session(&mut candidates, sdp.session.attrs.as_slice())?;
+    let sections = sdp.media_lines.as_slice();
+    for section in sections {
+        push_of_section(&mut candidates, section.attrs.as_slice())?;
+    }
+    Ok(candidates)
+}
+
+/// Adds a candidate that is in no earlier place, and its key.
+fn push_new<'a>(
+    once: &mut Vec<&'a Candidate>,
+    keys: &mut BTreeSet<CandidateKey<'a>>,
+    candidate: &'a Candidate,
+) -> Result<(), AllocError>
+    requires { HasKeysOf keys.old (borrowed once.old.items) }
+    ensures added { OnOk result (Adds (borrowed once.old.items) candidate.now (borrowed once.new.items)) }
+    ensures kept { OnOk result (HasKeysOf keys.new (borrowed once.new.items)) }
+{
+    if !keys.insert(candidate_key(candidate))? {
+        return Ok(());
+    }
+    once.push(candidate)?;
+    Ok(())
+}
+
+/// The candidates of a text, of the session and then of its sections, each once, in the order in which they are first
+/// there (RFC 8839 5.1).
+///
+/// # Errors
+///
+/// `AllocError` where memory runs out.
+pub fn ice_candidates(alloc: Global, sdp: &Sdp) -> Result<Vec<&Candidate>, AllocError>
+    ensures { IfOk result (λ once. AreEachOnce (candidates_of sdp.now) (borrowed once.items)) }
+{
+    let all = all_candidates(alloc, sdp)?;
+    let mut once = Vec::new(alloc);
+    let mut keys = BTreeSet::new(alloc);
+    for candidate in all.as_slice() {
+        push_new(&mut once, &mut keys, *candidate)?;
+    }
+    Ok(once)
+}

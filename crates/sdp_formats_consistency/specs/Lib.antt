@@ -1,2 +1,0 @@
-pub mod Consistency
-pub mod Known

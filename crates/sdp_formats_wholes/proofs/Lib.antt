@@ -1,4 +1,0 @@
-mod KeyOrder
-mod KeySets
-mod OneMore
-mod OneName

@@ -1,5 +1,0 @@
-pub mod Candidates
-pub mod Consistency
-pub mod Keys
-pub mod NameSets
-pub mod Wholes
