@@ -9,7 +9,7 @@ mod sender;
 use forwarder::Forwarder;
 use rtp_media::End;
 use sender::send_and_hear;
-use std::io;
+use std::io::{BufRead, BufReader};
 
 fn main(rt: HostRuntime) -> anyhow::Result<()> {
     send_and_hear(&rt)?;
@@ -22,9 +22,8 @@ fn main(rt: HostRuntime) -> anyhow::Result<()> {
 fn forward_lines(rt: &HostRuntime) -> anyhow::Result<()> {
     let alloc = rt.alloc();
     let mut forwarder = Forwarder::new(End::fixed(alloc)?, End::fixed(alloc)?)?;
-    let text = io::read_to_string(alloc, rt.reader())?;
-    for line in text.as_str().lines() {
-        let datagram = hex::decode(alloc, line)?;
+    for line in BufReader::new(alloc, rt.reader())?.lines(alloc) {
+        let datagram = hex::decode(alloc, line?.as_str())?;
         for sent in &forwarder.forward(alloc, &datagram)? {
             println!(*rt; "{}", hex::encode(alloc, sent.as_slice())?)?;
         }
