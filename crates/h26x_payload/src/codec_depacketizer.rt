@@ -12,7 +12,7 @@ use payload_core_audio::{
 use payload_core_av1::Av1Depacketizer;
 use payload_core_base::{Codec, CodecExtra, Depacketizer, PacketError};
 use payload_core_vpx::{Vp8Depacketizer, Vp9Depacketizer};
-use rtp_wire_time::Frequency;
+use rtp_wire::Frequency;
 use std::alloc::Global;
 
 /// The depacketizer of a codec, or another one: by default one that a caller boxed.

@@ -13,7 +13,7 @@ use payload_core_audio::{
 use payload_core_av1::Av1Packetizer;
 use payload_core_base::{Codec, PacketError, Packetizer};
 use payload_core_vpx::{Vp8Packetizer, Vp9Packetizer};
-use rtp_wire_time::Frequency;
+use rtp_wire::Frequency;
 use std::alloc::Global;
 
 /// The packetizer of a codec, or another one: by default one that a caller boxed.

@@ -117,4 +117,4 @@ pub use rtp_wire_extensions::VideoOrientation;
 pub use rtp_wire_ids::Mid;
 pub use rtp_wire_ids::Rid;
 pub use rtp_wire_ids::SeqNo;
-pub use rtp_wire_time::Frequency;
+pub use rtp_wire::Frequency;

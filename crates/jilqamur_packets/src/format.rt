@@ -9,7 +9,7 @@ use crate::codes;
 use crate::copying::text_in;
 use h26x_payload::has_format;
 use payload_core_base::Codec;
-use rtp_wire_time::Frequency;
+use rtp_wire::Frequency;
 
 /// How payloads are read and written, beside their codec.
 #[repr(C)]

@@ -6,7 +6,7 @@ ghost use Rattle.std.specs.Prelude.{◌≡◌, None};
 
 use crate::cut::whole;
 use payload_core_base::{CodecExtra, Depacketizer, PacketError, Packetizer, TelephoneEvent};
-use rtp_wire_time::Frequency;
+use rtp_wire::Frequency;
 use std::alloc::Global;
 
 /// Sends the reports of a telephone event as one packet (RFC 4733 2.3).

@@ -3,7 +3,7 @@
 ghost use Rattle.std.specs.Prelude.{◌≡◌, MatchOption, false, true};
 ghost use Rattle.payload_core_base.specs.Telephone.{ReportsComeBack, events_of, first_event, is_reports, report_of};
 
-use rtp_wire_time::Frequency;
+use rtp_wire::Frequency;
 
 /// One report of a telephone event (RFC 4733 2.3).
 #[derive(Clone, Copy, Debug, PartialEq, Eq, Drop)]

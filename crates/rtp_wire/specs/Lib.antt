@@ -7,13 +7,13 @@ pub use Rattle.rtp_wire_extensions.specs.Values
 pub use Rattle.rtp_wire_extensions.specs.Written
 pub use Rattle.rtp_wire_ids.specs.Direction
 pub use Rattle.rtp_wire_ids.specs.Name
-pub use Rattle.rtp_wire_time.specs.Fractions
-pub use Rattle.rtp_wire_time.specs.Time
 pub mod Default
+pub mod Fractions
 pub mod Header
 pub mod Layout
 pub mod Padding
 pub mod Replay
 pub mod Ring
 pub mod Run
+pub mod Time
 pub mod Widening

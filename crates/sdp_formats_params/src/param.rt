@@ -11,7 +11,7 @@ use h26x_payload_profiles::{H265ProfileTierLevel, H266ProfileTierLevel};
 use rtp_wire::Pt;
 
 /// One format parameter of an `a=fmtp` line (RFC 8866 6.15).
-#[derive(Clone, Copy, Debug, PartialEq, Eq, Drop)]
+#[derive(Clone, Copy, PartialEq, Eq, Drop)]
 pub enum FormatParam {
     /// Opus `minptime`: the least duration of a packet in milliseconds (RFC 7587 6.1).
     MinPTime(u8),

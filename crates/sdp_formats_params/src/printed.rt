@@ -128,3 +128,10 @@ impl fmt::Display for FormatParam {
         }
     }
 }
+
+/// As it is printed.
+impl fmt::Debug for FormatParam {
+    fn fmt<W: fmt::Write>(&self, f: &mut fmt::Formatter<W>) -> fmt::Result {
+        fmt::Display::fmt(self, f)
+    }
+}

@@ -2,7 +2,7 @@ use Rattle.std.specs.Prelude.{◌≡◌, List, Result, Ok, Err, ◌<◌, max, na
 use Rattle.std.specs.Prelude.{◌==◌, nat_lt, if◌then◌else◌, Option, Some, None}
 use Rattle.std.specs.Str.Parse.{ParsesUnsigned}
 use Rattle.std.specs.declared.num.ParseIntError.{ParseIntError}
-use Rattle.rtp_wire_time.specs.declared.frequency.ParseFrequencyError.{ParseFrequencyError}
+use Rattle.rtp_wire.specs.declared.frequency.ParseFrequencyError.{ParseFrequencyError}
 
 -- A count of ticks as a clock rate: 0 is none.
 abbrev pub frequency_of : ℕ → Option ℕ

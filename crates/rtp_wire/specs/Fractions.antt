@@ -6,7 +6,7 @@ use Rattle.std.specs.declared.cmp.Ordering.{Ordering}
 use Rattle.std.specs.declared.cmp.Ordering.TheVariants.{Less, Equal, Greater}
 use Rattle.std.proofs.Common.{sym, ap, ap₂, subst, ◌∙◌, arith}
 use Rattle.std.proofs.Math.Nat.{lt_of_mul-lt-mul_right, mul_right_comm, mul-lt-mul_of_pos_right, lt_trans}
-use Rattle.rtp_wire_time.specs.Time.{Time}
+use Rattle.rtp_wire.specs.Time.{Time}
 
 -- A clock's rate as a divisor; each clock has at least one tick a second.
 abbrev pub divisor : Time → ℕ

@@ -5,10 +5,10 @@ ghost use Rattle.std.specs.Cmp.{partial_order_from_total, partial_equiv_from_equ
 ghost use Rattle.std.specs.Cmp.Rules.{comparing};
 ghost use Rattle.std.specs.Ordering.{as_partial_cmp};
 ghost use Rattle.std.proofs.Common.{rules, refl};
-ghost use Rattle.rtp_wire_time.specs.Time.{Time, rebased, rebased_ticks, checked_rebased, common_rate, first_ticks};
-ghost use Rattle.rtp_wire_time.specs.Time.{second_ticks, BothFit, both_fit, sum_of, difference_of};
-ghost use Rattle.rtp_wire_time.specs.Time.{checked_difference};
-ghost use Rattle.rtp_wire_time.specs.Fractions.{time_cmp, time_eq, time_total};
+ghost use Rattle.rtp_wire.specs.Time.{Time, rebased, rebased_ticks, checked_rebased, common_rate, first_ticks};
+ghost use Rattle.rtp_wire.specs.Time.{second_ticks, BothFit, both_fit, sum_of, difference_of};
+ghost use Rattle.rtp_wire.specs.Time.{checked_difference};
+ghost use Rattle.rtp_wire.specs.Fractions.{time_cmp, time_eq, time_total};
 
 use crate::frequency::Frequency;
 use std::cmp::Ordering;
@@ -23,7 +23,7 @@ pub struct MediaTime {
 }
 
 impl Model for MediaTime {
-    ghost use Rattle.rtp_wire_time.specs.Time.{Time};
+    ghost use Rattle.rtp_wire.specs.Time.{Time};
 
     ghost Value = { Time };
 

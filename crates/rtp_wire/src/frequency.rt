@@ -3,7 +3,7 @@
 ghost use Rattle.std.specs.Prelude.{◌≡◌, ◌<◌, IfOk};
 ghost use Rattle.serde.specs.Event.{Sends, unsigned};
 ghost use Rattle.serde.specs.Steps.{Gives};
-ghost use Rattle.rtp_wire_time.specs.Time.{frequency_of};
+ghost use Rattle.rtp_wire.specs.Time.{frequency_of};
 
 use serde::de::DeserializeOwned;
 use serde::{Described, Deserialize, Deserializer, Format, Serialize, Serializer};
@@ -106,7 +106,7 @@ impl fmt::Display for ParseFrequencyError {
 impl FromStr for Frequency {
     type Err = ParseFrequencyError;
 
-    ghost use Rattle.rtp_wire_time.specs.Time.{ParsesFrequency};
+    ghost use Rattle.rtp_wire.specs.Time.{ParsesFrequency};
 
     ghost from_str_gives = { λ text r. ParsesFrequency text r };
 

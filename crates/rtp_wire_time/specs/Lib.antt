@@ -1,2 +1,0 @@
-pub mod Fractions
-pub mod Time
