@@ -1,0 +1,41 @@
+//! Two ends that agree. Uses the crates `anyhow`, `rtp_media` and `rtp_wire`.
+
+use rtp_media::{
+    Codec, CodecConfig, CodecSpec, End, FormatParams, MediaKind, PayloadParams, SectionSpec,
+    Session,
+};
+use rtp_wire::{Direction, ExtensionMap, Frequency, Mid, Pt, SessionId, Ssrc};
+use std::alloc::{AllocError, Global};
+
+/// An end that has Opus at payload type 111.
+pub(crate) fn opus_end(alloc: Global, session: u64) -> anyhow::Result<End> {
+    let opus = CodecSpec {
+        codec: Codec::Opus,
+        clock_rate: Frequency::FORTY_EIGHT_KHZ,
+        channels: Some(2),
+        format: FormatParams::parse_line("minptime=10;useinbandfec=1"),
+    };
+    let row = PayloadParams::new(Pt::from(111), None, opus);
+    let config = CodecConfig::new_from_payload_params(vec![in alloc; row]?);
+    let session = Session::new(alloc, SessionId::from(session));
+    Ok(End::new(alloc, config, session, ExtensionMap::empty())?)
+}
+
+/// One audio section, `0`, that flows both ways, of this SSRC.
+fn audio(alloc: Global, ssrc: u32) -> Result<Vec<SectionSpec>, AllocError> {
+    let section = SectionSpec {
+        mid: Mid::from("0"),
+        kind: MediaKind::Audio,
+        dir: Direction::SendRecv,
+        ssrcs: vec![in alloc; Ssrc::from(ssrc)]?,
+    };
+    Ok(vec![in alloc; section]?)
+}
+
+/// Has `a` offer and `b` answer. The two texts are all that travels.
+pub(crate) fn agree(alloc: Global, a: &mut End, b: &mut End) -> anyhow::Result<()> {
+    let offer = a.offer(audio(alloc, 44)?)?;
+    let answer = b.answer(offer.as_str(), audio(alloc, 45)?)?;
+    a.accept(answer.as_str())?;
+    Ok(())
+}

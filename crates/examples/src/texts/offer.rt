@@ -1,0 +1,51 @@
+//! Offers read. Uses the crates `anyhow`, `sdp_formats`, `sdp_formats_lookups` and `sdp_formats_section_rows`.
+
+use anyhow::bail;
+use sdp_formats::{MediaAttribute, MediaLine, SdpOffer};
+use sdp_formats_lookups::whole;
+use sdp_formats_section_rows::rtp_params;
+
+/// Prints each section of an offer with its rows and candidates, and the fingerprint.
+pub(crate) fn print_offer(rt: &HostRuntime, text: &str) -> anyhow::Result<()> {
+    let offer = match SdpOffer::from_sdp_string(rt.alloc(), text) {
+        Ok(offer) => offer,
+        Err(error) => bail!("{error}"),
+    };
+    for section in offer.as_sdp().media_lines.as_slice() {
+        print_section(rt, section)?;
+    }
+    if let Some(print) = whole::fingerprint(offer.as_sdp()) {
+        println!(*rt; "fingerprint {print}")?;
+    }
+    Ok(())
+}
+
+fn print_section(rt: &HostRuntime, section: &MediaLine) -> anyhow::Result<()> {
+    let (typ, direction) = (&section.typ, section.direction());
+    if let Some(mid) = section.mid() {
+        println!(*rt; "section {mid}: {typ} {direction}")?;
+    }
+    print_rows(rt, section)?;
+    let count = candidates(section);
+    Ok(println!(*rt; "  {count} candidates")?)
+}
+
+/// Prints a line for each row.
+fn print_rows(rt: &HostRuntime, section: &MediaLine) -> anyhow::Result<()> {
+    for row in &rtp_params(rt.alloc(), section)? {
+        let (pt, spec) = (row.pt(), row.spec());
+        println!(*rt; "  type {pt}: {} {}", spec.codec, spec.clock_rate)?;
+    }
+    Ok(())
+}
+
+/// How many candidates a section has.
+fn candidates(section: &MediaLine) -> usize {
+    let mut count = 0usize;
+    for attribute in section.attrs.as_slice() {
+        if matches!(attribute, MediaAttribute::Candidate(_)) {
+            count = count.saturating_add(1);
+        }
+    }
+    count
+}
