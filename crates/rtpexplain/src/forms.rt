@@ -1,34 +1,157 @@
 //! The forms of lines, and which words fit them.
 
-use crate::lines::{number_of, verb_of};
-use std::alloc::{AllocError, Global};
+use crate::lines::{number_of, word_at};
+use crate::reason::Reason;
 
 /// The forms of all lines, as a user may ask for them.
-pub(crate) const FORMS: [&str; 18] = [
-    "fixed E",
-    "row E PT RTX RED CODEC CLOCK CHANNELS FMTP",
-    "ext E ID URI",
-    "end E SESSION",
-    "offer E SECTION..",
-    "answer E HEX SECTION..",
-    "accept E HEX",
-    "withdraw E",
-    "connect SECTION.. / SECTION..",
-    "send E MID SSRC PT FIRST MTU LIMIT DISTANCES PICTUREID",
-    "open E MID SSRC PT HOLDBACK",
-    "sample E N TIME HEX [mid=TEXT]",
-    "receive E HEX",
-    "poll E N",
-    "queue TIME HEX",
-    "play TX RX ITEM..",
-    "help",
-    "# a comment",
+pub(crate) const FORMS: &str = "\
+fixed E
+row E PT RTX RED CODEC CLOCK CHANNELS FMTP
+ext E ID URI
+end E SESSION
+offer E SECTION..
+answer E HEX SECTION..
+accept E HEX
+withdraw E
+connect SECTION.. / SECTION..
+send E MID SSRC PT FIRST MTU LIMIT DISTANCES PICTUREID
+open E MID SSRC PT HOLDBACK
+sample E N TIME HEX [mid=TEXT]
+receive E HEX
+poll E N
+queue TIME HEX
+play TX RX ITEM..
+help
+# a comment
+";
+
+/// What a word has to be that stands for a name.
+#[derive(Clone, Copy)]
+enum Shape {
+    Letter,
+    Number(u64),
+    NumberOrNone(u64),
+    Numbers,
+    Hex,
+    Section,
+    Item,
+    MidOption,
+}
+
+/// The names of the forms that not all texts fit, each with what a word for it has to be, and that in words.
+const NAMES: [(&str, Shape, &str); 22] = [
+    ("E", Shape::Letter, "`a` or `b`"),
+    (
+        "SSRC",
+        Shape::Number(0xffff_ffff),
+        "a number up to 4294967295",
+    ),
+    (
+        "CLOCK",
+        Shape::Number(0xffff_ffff),
+        "a number up to 4294967295",
+    ),
+    ("PT", Shape::Number(255), "a number up to 255"),
+    ("ID", Shape::Number(255), "a number up to 255"),
+    (
+        "RTX",
+        Shape::NumberOrNone(255),
+        "a number up to 255, or `-` for none",
+    ),
+    (
+        "RED",
+        Shape::NumberOrNone(255),
+        "a number up to 255, or `-` for none",
+    ),
+    (
+        "CHANNELS",
+        Shape::NumberOrNone(255),
+        "a number up to 255, or `-` for none",
+    ),
+    (
+        "PICTUREID",
+        Shape::NumberOrNone(65_535),
+        "a number up to 65535, or `-` for none",
+    ),
+    (
+        "DISTANCES",
+        Shape::Numbers,
+        "numbers up to 255 parted by commas, or `-` for none",
+    ),
+    (
+        "HEX",
+        Shape::Hex,
+        "hexadecimal digits, two a byte, or `-` for no bytes",
+    ),
+    (
+        "SECTION..",
+        Shape::Section,
+        "MID:KIND:DIR:SSRC,SSRC, as `0:audio:sendrecv:44`, with `-` for no SSRC",
+    ),
+    (
+        "ITEM..",
+        Shape::Item,
+        "`a` and a place, `f` and hexadecimal digits, or `p`",
+    ),
+    ("[mid=TEXT]", Shape::MidOption, "`mid=` and a text"),
+    (
+        "FIRST",
+        Shape::Number(u64::MAX),
+        "a number of decimal digits, below 2^64",
+    ),
+    (
+        "MTU",
+        Shape::Number(u64::MAX),
+        "a number of decimal digits, below 2^64",
+    ),
+    (
+        "LIMIT",
+        Shape::Number(u64::MAX),
+        "a number of decimal digits, below 2^64",
+    ),
+    (
+        "HOLDBACK",
+        Shape::Number(u64::MAX),
+        "a number of decimal digits, below 2^64",
+    ),
+    (
+        "N",
+        Shape::Number(u64::MAX),
+        "a number of decimal digits, below 2^64",
+    ),
+    (
+        "TIME",
+        Shape::Number(u64::MAX),
+        "a number of decimal digits, below 2^64",
+    ),
+    (
+        "TX",
+        Shape::Number(u64::MAX),
+        "a number of decimal digits, below 2^64",
+    ),
+    (
+        "RX",
+        Shape::Number(u64::MAX),
+        "a number of decimal digits, below 2^64",
+    ),
+];
+
+/// The kinds and directions that a section may have.
+const MEDIA: [&str; 8] = [
+    "audio:sendrecv",
+    "audio:sendonly",
+    "audio:recvonly",
+    "audio:inactive",
+    "video:sendrecv",
+    "video:sendonly",
+    "video:recvonly",
+    "video:inactive",
 ];
 
 /// The form of the lines that begin with a word.
 pub(crate) fn form_of(verb: &str) -> Option<&'static str> {
-    for form in FORMS {
-        if verb_of(form) == Some(verb) {
+    for form in FORMS.lines() {
+        if word_at(form, 0) == verb {
             return Some(form);
         }
     }
@@ -36,93 +159,68 @@ pub(crate) fn form_of(verb: &str) -> Option<&'static str> {
 }
 
 /// What is wrong with a word that stands for a name of a form.
-pub(crate) fn misfit(alloc: Global, name: &str, word: &str) -> Result<Option<String>, AllocError> {
-    if fits(alloc, name, word) {
-        return Ok(None);
+pub(crate) fn misfit<'a>(name: &'a str, word: &'a str) -> Option<Reason<'a>> {
+    for (known, shape, wanted) in &NAMES {
+        if *known == name && !fits(*shape, word) {
+            let parts = [name, " is `", word, "`, and has to be ", wanted, "", ""];
+            return Some(Reason { parts });
+        }
     }
-    let wanted = wanted_for(name);
-    Ok(Some(format!(in alloc; "{name} is `{word}`, and has to be {wanted}")?))
+    None
 }
 
-/// What a word for a name has to be.
-fn wanted_for(name: &str) -> &'static str {
-    match name {
-        "E" => "`a` or `b`",
-        "SSRC" | "CLOCK" => "a number up to 4294967295",
-        "PT" | "ID" => "a number up to 255",
-        "RTX" | "RED" | "CHANNELS" => "a number up to 255, or `-` for none",
-        "PICTUREID" => "a number up to 65535, or `-` for none",
-        "DISTANCES" => "numbers up to 255 parted by commas, or `-` for none",
-        "HEX" => "hexadecimal digits, two a byte, or `-` for no bytes",
-        "SECTION.." => "MID:KIND:DIR:SSRC,SSRC, as `0:audio:sendrecv:44`, with `-` for no SSRC",
-        "ITEM.." => "`a` and a place, `f` and hexadecimal digits, or `p`",
-        "[mid=TEXT]" => "`mid=` and a text",
-        "/" => "a slash between the sections of `a` and those of `b`",
-        "FIRST" | "MTU" | "LIMIT" | "HOLDBACK" | "N" | "TIME" | "TX" | "RX" | "SESSION" => {
-            "a number of decimal digits, below 2^64"
-        }
-        _ => "a text",
-    }
-}
-
-/// Whether a word can stand for a name of a form.
-fn fits(alloc: Global, name: &str, word: &str) -> bool {
-    match name {
-        "E" => word == "a" || word == "b",
-        "SSRC" | "CLOCK" => is_number(word, u64::from(u32::MAX)),
-        "PT" | "ID" => is_number(word, 255),
-        "RTX" | "RED" | "CHANNELS" => word == "-" || is_number(word, 255),
-        "PICTUREID" => word == "-" || is_number(word, 65_535),
-        "DISTANCES" => word == "-" || are_numbers(word, 255),
-        "HEX" => is_hex(alloc, word),
-        "SECTION.." => is_section(word),
-        "ITEM.." => is_item(alloc, word),
-        "[mid=TEXT]" => word.starts_with("mid="),
-        "FIRST" | "MTU" | "LIMIT" | "HOLDBACK" | "N" | "TIME" | "TX" | "RX" | "SESSION" => {
-            is_number(word, u64::MAX)
-        }
-        _ => true,
+/// Whether a word is what it has to be.
+fn fits(shape: Shape, word: &str) -> bool {
+    match shape {
+        Shape::Letter => word == "a" || word == "b",
+        Shape::Number(most) => is_number(word, most),
+        Shape::NumberOrNone(most) => word == "-" || is_number(word, most),
+        Shape::Numbers => word == "-" || are_numbers(word, 255),
+        Shape::Hex => is_hex(word),
+        Shape::Section => is_section(word),
+        Shape::Item => is_item(word),
+        Shape::MidOption => word.starts_with("mid="),
     }
 }
 
 fn is_number(word: &str, most: u64) -> bool {
-    number_of(word).is_some_and(|n| n <= most)
+    matches!(number_of(word), Some(number) if number <= most)
 }
 
 fn are_numbers(word: &str, most: u64) -> bool {
-    word.split(',').all(|part| is_number(part, most))
+    for part in word.split(',') {
+        if !is_number(part, most) {
+            return false;
+        }
+    }
+    true
 }
 
-fn is_hex(alloc: Global, word: &str) -> bool {
-    word == "-" || (!word.is_empty() && hex::decode(alloc, word).is_ok())
+fn is_hex(word: &str) -> bool {
+    for byte in word.bytes() {
+        if !byte.is_ascii_hexdigit() {
+            return word == "-";
+        }
+    }
+    !word.is_empty() && word.len() % 2 == 0
 }
 
-fn is_item(alloc: Global, word: &str) -> bool {
+fn is_item(word: &str) -> bool {
     if let Some(place) = word.strip_prefix("a") {
         return is_number(place, u64::MAX);
     }
     match word.strip_prefix("f") {
-        Some(digits) => is_hex(alloc, digits),
+        Some(digits) => is_hex(digits),
         None => word == "p",
     }
 }
 
 fn is_section(word: &str) -> bool {
-    let mut parts = word.split(':').skip(1);
-    let kind = parts.next();
-    let direction = parts.next();
-    let Some(ssrcs) = parts.next() else {
+    let Some((_, word)) = word.split_once(':') else {
         return false;
     };
-    (kind == Some("audio") || kind == Some("video"))
-        && is_direction(direction)
-        && (ssrcs == "-" || are_numbers(ssrcs, u64::from(u32::MAX)))
-        && parts.next().is_none()
-}
-
-fn is_direction(word: Option<&str>) -> bool {
-    word == Some("sendrecv")
-        || word == Some("sendonly")
-        || word == Some("recvonly")
-        || word == Some("inactive")
+    let Some((media, ssrcs)) = word.rsplit_once(':') else {
+        return false;
+    };
+    MEDIA.contains(&media) && (ssrcs == "-" || are_numbers(ssrcs, 0xffff_ffff))
 }

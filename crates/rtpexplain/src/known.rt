@@ -1,19 +1,125 @@
 //! What is known of the ends, from the lines and the replies to them.
 
-use crate::lines::{number_at, verb_of, word_at};
-use crate::streams::{Receiver, Sender};
+use crate::lines::{number_at, word_at};
+use crate::streams::Stream;
 use rtp_wire::{ExtensionMap, RtpHeader};
 use std::alloc::Global;
-use std::collections::BTreeMap;
+use std::io;
 
-/// What is known of an end, and of its streams by their numbers.
-#[derive(Drop)]
+/// What is known of an end, and of its streams in the order of their numbers.
 pub(crate) struct KnownEnd {
+    letter: &'static str,
     pub(crate) is_made: bool,
-    pub(crate) senders: BTreeMap<u64, Sender>,
-    pub(crate) receivers: BTreeMap<u64, Receiver>,
-    pub(crate) foreign: u64,
-    pub(crate) unreadable: u64,
+    pub(crate) streams: Vec<Stream>,
+    foreign: u64,
+    unreadable: u64,
+}
+
+/// Written out, so that who lets one go needs nothing of what is inside.
+impl Drop for KnownEnd {
+    fn drop(self) {
+        let KnownEnd {
+            letter: _letter,
+            is_made: _is_made,
+            streams: _streams,
+            foreign: _foreign,
+            unreadable: _unreadable,
+        } = self;
+    }
+}
+
+impl KnownEnd {
+    fn new(alloc: Global, letter: &'static str, is_made: bool) -> KnownEnd {
+        KnownEnd {
+            letter,
+            is_made,
+            streams: Vec::new(alloc),
+            foreign: 0,
+            unreadable: 0,
+        }
+    }
+
+    /// Notes a reply to a line about this end. Where the line makes the end anew, prints what became of it before.
+    fn note(&mut self, rt: &HostRuntime, line: &str, reply: &str) -> anyhow::Result<()> {
+        match word_at(reply, 0) {
+            "ok" if line.starts_with("fixed ") || line.starts_with("end ") => {
+                self.report(rt)?;
+                *self = KnownEnd::new(rt.alloc(), self.letter, true);
+            }
+            "sender" | "receiver" => {
+                let number = number_at(reply, 1).unwrap_or(0);
+                self.streams.push(Stream::new(rt.alloc(), number, line))?;
+            }
+            "foreign" => self.foreign = self.foreign.saturating_add(1),
+            "unreadable" => self.unreadable = self.unreadable.saturating_add(1),
+            _ => return self.note_stream(rt.alloc(), line, reply),
+        }
+        Ok(())
+    }
+
+    /// Notes what was said of a sample, a datagram or a poll, at the stream that the reply or the line names, or that
+    /// the datagram is for.
+    fn note_stream(&mut self, alloc: Global, line: &str, reply: &str) -> anyhow::Result<()> {
+        let number = if word_at(reply, 0) == "taken" {
+            number_at(reply, 1)
+        } else if word_at(line, 0) == "receive" {
+            self.receiver_of(source_in(alloc, word_at(line, 2)))
+        } else {
+            number_at(line, 2)
+        };
+        let Some(number) = number else {
+            return Ok(());
+        };
+        if let Some(stream) = self.streams.get_mut(number as usize) {
+            stream.note(reply)?;
+        }
+        Ok(())
+    }
+
+    /// The receiving stream of a datagram, by its SSRC and type, or else by its SSRC.
+    fn receiver_of(&self, source: Option<(u64, u64)>) -> Option<u64> {
+        let (ssrc, pt) = source?;
+        let mut found = None;
+        for stream in &self.streams {
+            if !stream.is_sender && stream.ssrc == ssrc && (found.is_none() || stream.pt == pt) {
+                found = Some(stream.number);
+            }
+        }
+        found
+    }
+
+    /// Prints what became of the streams, first of those that send, where the end was made.
+    fn report(&self, rt: &HostRuntime) -> io::Result<()> {
+        if !self.is_made {
+            return Ok(());
+        }
+        let (letter, foreign, unreadable) = (self.letter, self.foreign, self.unreadable);
+        for stream in &self.streams {
+            if stream.is_sender {
+                stream.report_sender(rt, letter)?;
+            }
+        }
+        for stream in &self.streams {
+            if !stream.is_sender {
+                stream.report_receiver(rt, letter)?;
+            }
+        }
+        println!(*rt; "  end {letter}: {foreign} foreign, {unreadable} unreadable")
+    }
+}
+
+/// The SSRC and the type of a datagram in hexadecimal digits.
+fn source_in(alloc: Global, digits: &str) -> Option<(u64, u64)> {
+    let Ok(datagram) = hex::decode(alloc, digits) else {
+        return None;
+    };
+    let Some(header) = RtpHeader::parse(&datagram, &ExtensionMap::empty()) else {
+        return None;
+    };
+    Some((
+        u64::from(header.ssrc.get()),
+        u64::from(header.payload_type.get()),
+    ))
 }
 
 /// What is known of both ends.
@@ -23,197 +129,29 @@ pub(crate) struct Known {
     pub(crate) b: KnownEnd,
 }
 
-impl KnownEnd {
-    fn new(alloc: Global, is_made: bool) -> KnownEnd {
-        KnownEnd {
-            is_made,
-            senders: BTreeMap::new(alloc),
-            receivers: BTreeMap::new(alloc),
-            foreign: 0,
-            unreadable: 0,
-        }
-    }
-
-    /// The receiving stream of a datagram, by its SSRC and type, or else by its SSRC.
-    fn receiver_of(&self, datagram: &[u8]) -> Option<u64> {
-        let (ssrc, pt) = source_in(datagram)?;
-        let mut found = None;
-        for (number, receiver) in &self.receivers {
-            if receiver.ssrc == ssrc && (found.is_none() || receiver.pt == pt) {
-                found = Some(*number);
-            }
-        }
-        found
-    }
-
-    /// Notes what was said of a datagram, of this stream where the reply names none.
-    fn verdict(&mut self, reply: &str, stream: Option<u64>) -> anyhow::Result<()> {
-        let stream = match word_at(reply, 0) {
-            "taken" => number_at(reply, 1),
-            "foreign" => {
-                self.foreign = self.foreign.saturating_add(1);
-                None
-            }
-            "unreadable" => {
-                self.unreadable = self.unreadable.saturating_add(1);
-                None
-            }
-            _ => stream,
-        };
-        let Some(stream) = stream else {
-            return Ok(());
-        };
-        let Some(receiver) = self.receivers.get_mut(&stream) else {
-            return Ok(());
-        };
-        match reply {
-            "refused" => receiver.refuse(),
-            "damaged" => receiver.damage(),
-            _ => {
-                if let Some(number) = number_at(reply, 2) {
-                    receiver.take(number)?;
-                }
-            }
-        }
-        Ok(())
-    }
-
-    /// Notes what a poll answered.
-    fn polled(&mut self, reply: &str, stream: Option<u64>) {
-        let Some(stream) = stream else {
-            return;
-        };
-        let Some(receiver) = self.receivers.get_mut(&stream) else {
-            return;
-        };
-        match word_at(reply, 0) {
-            "fault" => receiver.fail(),
-            "unit" => {
-                if let Some(last) = number_at(reply, 2) {
-                    receiver.hand_out(last);
-                }
-            }
-            _ => {}
-        }
-    }
-
-    /// Notes the replies to a line about this end alone.
-    fn note(&mut self, alloc: Global, line: &str, replies: &[&str]) -> anyhow::Result<()> {
-        let Some(reply) = replies.first() else {
-            return Ok(());
-        };
-        match word_at(line, 0) {
-            "fixed" | "end" if *reply == "ok" => *self = KnownEnd::new(alloc, true),
-            "send" if reply.starts_with("sender ") => {
-                let (ssrc, pt) = source_of(line);
-                let sender = Sender {
-                    ssrc,
-                    pt,
-                    datagrams: 0,
-                };
-                self.senders
-                    .insert(number_at(reply, 1).unwrap_or(0), sender)?;
-            }
-            "open" if reply.starts_with("receiver ") => {
-                let (ssrc, pt) = source_of(line);
-                let receiver = Receiver::new(alloc, ssrc, pt);
-                self.receivers
-                    .insert(number_at(reply, 1).unwrap_or(0), receiver)?;
-            }
-            "sample" => self.sent(number_at(line, 2), replies),
-            "receive" => {
-                let datagram = hex::decode(alloc, word_at(line, 2));
-                let stream = match &datagram {
-                    Ok(datagram) => self.receiver_of(datagram),
-                    Err(_) => None,
-                };
-                self.verdict(reply, stream)?;
-            }
-            "poll" => self.polled(reply, number_at(line, 2)),
-            _ => {}
-        }
-        Ok(())
-    }
-
-    /// Notes the datagrams of a sample.
-    fn sent(&mut self, stream: Option<u64>, replies: &[&str]) {
-        let Some(stream) = stream else {
-            return;
-        };
-        let Some(sender) = self.senders.get_mut(&stream) else {
-            return;
-        };
-        let count = replies
-            .iter()
-            .filter(|r| r.starts_with("datagram "))
-            .count();
-        sender.datagrams = sender.datagrams.saturating_add(count as u64);
-    }
-
-    /// Notes the replies to the items of a run, at the end whose stream is polled.
-    fn played(&mut self, line: &str, replies: &[&str]) -> anyhow::Result<()> {
-        let stream = number_at(line, 2);
-        for (item, reply) in line.split(' ').skip(3).zip(replies) {
-            if item == "p" {
-                self.polled(reply, stream);
-            } else {
-                self.verdict(reply, stream)?;
-            }
-        }
-        Ok(())
-    }
-}
-
-/// The SSRC and the type of a datagram.
-fn source_in(datagram: &[u8]) -> Option<(u64, u64)> {
-    let Some(header) = RtpHeader::parse(datagram, &ExtensionMap::empty()) else {
-        return None;
-    };
-    Some((
-        u64::from(header.ssrc.get()),
-        u64::from(header.payload_type.get()),
-    ))
-}
-
-/// The SSRC and the type of a line that opens a stream.
-fn source_of(line: &str) -> (u64, u64) {
-    (
-        number_at(line, 3).unwrap_or(0),
-        number_at(line, 4).unwrap_or(0),
-    )
-}
-
 impl Known {
     /// Nothing was made yet.
     pub(crate) fn new(alloc: Global) -> Known {
         Known {
-            a: KnownEnd::new(alloc, false),
-            b: KnownEnd::new(alloc, false),
+            a: KnownEnd::new(alloc, "a", false),
+            b: KnownEnd::new(alloc, "b", false),
         }
     }
 
-    /// What is known of the end of a letter.
-    pub(crate) fn end(&self, letter: &str) -> &KnownEnd {
-        if letter == "a" { &self.a } else { &self.b }
+    /// Notes a reply to a line: at `b` where it isn't about `a`, since a run is received there.
+    pub(crate) fn note(&mut self, rt: &HostRuntime, line: &str, reply: &str) -> anyhow::Result<()> {
+        if word_at(line, 1) == "a" {
+            self.a.note(rt, line, reply)
+        } else {
+            self.b.note(rt, line, reply)
+        }
     }
 
-    /// Notes the replies to a line.
-    pub(crate) fn note(
-        &mut self,
-        alloc: Global,
-        line: &str,
-        replies: &[&str],
-    ) -> anyhow::Result<()> {
-        if replies.first().is_none_or(|reply| *reply == "error line") {
-            return Ok(());
-        }
-        if verb_of(line) == Some("play") {
-            return self.b.played(line, replies);
-        }
-        match word_at(line, 1) {
-            "a" => self.a.note(alloc, line, replies),
-            "b" => self.b.note(alloc, line, replies),
-            _ => Ok(()),
-        }
+    /// Prints what became of the streams of both ends.
+    pub(crate) fn report(&self, rt: &HostRuntime) -> anyhow::Result<()> {
+        println!(*rt; "at the end")?;
+        self.a.report(rt)?;
+        self.b.report(rt)?;
+        Ok(())
     }
 }

@@ -4,17 +4,22 @@
 mod forms;
 mod known;
 mod lines;
+mod reason;
 mod reasons;
 mod refusals;
 mod replies;
 mod streams;
 
 use forms::FORMS;
-use known::{Known, KnownEnd};
-use lines::{is_comment, program_of, replies_to, text_of, verb_of, word_at};
-use reasons::reason_of;
+use known::Known;
+use lines::{
+    is_comment, is_last, is_line_feed, is_run_without_items, most_replies, program_of, text_of,
+};
+use reasons::error_of;
+use refusals::refusal_of;
 use replies::replies;
 use rtp_media::Status;
+use std::io;
 use std::io::Read;
 use std::process::ExitCode;
 use std::str::Lines;
@@ -39,12 +44,10 @@ fn explain(rt: &HostRuntime) -> anyhow::Result<Status> {
     let mut all = str::from_utf8(&text)?.lines();
     let mut known = Known::new(alloc);
     let lines = input.strip_suffix(b"\n").unwrap_or(&input);
-    for (number, line) in (1u64..).zip(lines.split(|b| *b == b'\n')) {
+    for (number, line) in (1u64..).zip(lines.split(is_line_feed)) {
         explain_line(rt, &mut known, &mut all, number, line)?;
     }
-    println!(*rt; "at the end")?;
-    report_end(rt, "a", &known.a)?;
-    report_end(rt, "b", &known.b)?;
+    known.report(rt)?;
     Ok(status)
 }
 
@@ -52,30 +55,52 @@ fn explain(rt: &HostRuntime) -> anyhow::Result<Status> {
 fn explain_line(
     rt: &HostRuntime,
     known: &mut Known,
-    all: &mut Lines<'_>,
+    replies: &mut Lines<'_>,
     number: u64,
     line: &[u8],
 ) -> anyhow::Result<()> {
     let text = text_of(line);
     println!(*rt; "{number} {text}")?;
     if text == "help" {
-        for form in FORMS {
-            println!(*rt; "  {form}")?;
-        }
+        print_lines(rt, "  ", FORMS)?;
     }
     if line.is_empty() || is_comment(line) {
         return Ok(());
     }
-    let taken = replies_to(rt.alloc(), text, all)?;
-    for reply in &taken {
-        print_reply(rt, reply)?;
-        if let Some(reason) = reason_of(rt.alloc(), known, line, reply)? {
-            println!(*rt; "  line {number}: {reason}")?;
+    for _ in 0..most_replies(text) {
+        let Some(reply) = replies.next() else {
+            break;
+        };
+        explain_reply(rt, known, number, line, reply)?;
+        if is_last(reply) {
+            break;
         }
     }
-    let replaced = replaced_by(text, &taken);
-    report_end(rt, replaced, known.end(replaced))?;
-    known.note(rt.alloc(), text, &taken)
+    Ok(())
+}
+
+/// Prints a reply to a line, and why where it says no, and notes it.
+fn explain_reply(
+    rt: &HostRuntime,
+    known: &mut Known,
+    number: u64,
+    line: &[u8],
+    reply: &str,
+) -> anyhow::Result<()> {
+    let text = text_of(line);
+    if reply == "unreadable" && is_run_without_items(text) {
+        return Ok(());
+    }
+    print_reply(rt, reply)?;
+    let reason = if reply == "error line" {
+        Some(error_of(known, line))
+    } else {
+        refusal_of(reply)
+    };
+    if let Some(reason) = reason {
+        println!(*rt; "  line {number}: {reason}")?;
+    }
+    known.note(rt, text, reply)
 }
 
 /// Prints a reply, and the text of an offer or an answer line by line.
@@ -84,35 +109,16 @@ fn print_reply(rt: &HostRuntime, reply: &str) -> anyhow::Result<()> {
         println!(*rt; "  {reply}")?;
         return Ok(());
     };
-    println!(*rt; "  text")?;
     let text = hex::decode(rt.alloc(), digits)?;
-    for line in str::from_utf8(&text)?.lines() {
-        println!(*rt; "    {line}")?;
-    }
+    println!(*rt; "  text")?;
+    print_lines(rt, "    ", str::from_utf8(&text)?)?;
     Ok(())
 }
 
-/// The letter whose end a line replaces; an empty text where it replaces none.
-fn replaced_by<'a>(line: &'a str, replies: &[&str]) -> &'a str {
-    let makes = verb_of(line) == Some("fixed") || verb_of(line) == Some("end");
-    match replies.first() {
-        Some(reply) if makes && *reply == "ok" => word_at(line, 1),
-        _ => "",
+/// Prints the lines of a text, each behind some blanks.
+fn print_lines(rt: &HostRuntime, blanks: &str, text: &str) -> io::Result<()> {
+    for line in text.lines() {
+        println!(*rt; "{blanks}{line}")?;
     }
-}
-
-/// Prints what became of the streams of an end.
-fn report_end(rt: &HostRuntime, letter: &str, end: &KnownEnd) -> anyhow::Result<()> {
-    if letter.is_empty() || !end.is_made {
-        return Ok(());
-    }
-    for (number, sender) in &end.senders {
-        println!(*rt; "  sender {number} of {letter}: {sender}")?;
-    }
-    for (number, receiver) in &end.receivers {
-        println!(*rt; "  receiver {number} of {letter}: {receiver}")?;
-    }
-    let (foreign, unreadable) = (end.foreign, end.unreadable);
-    println!(*rt; "  end {letter}: {foreign} foreign, {unreadable} unreadable")?;
     Ok(())
 }

@@ -1,115 +1,129 @@
 //! What is known of streams.
 
-use std::alloc::Global;
-use std::fmt;
+use crate::lines::{number_at, word_at};
+use std::alloc::{AllocError, Global};
+use std::io;
 
 /// The most packets that a receiving stream holds.
 const MAX_HELD: usize = 4096;
 
-/// A sending stream.
-#[derive(Drop)]
-pub(crate) struct Sender {
+/// A stream of an end, and what came of it.
+pub(crate) struct Stream {
+    pub(crate) number: u64,
+    pub(crate) is_sender: bool,
     pub(crate) ssrc: u64,
     pub(crate) pt: u64,
-    pub(crate) datagrams: u64,
-}
-
-impl fmt::Display for Sender {
-    fn fmt<W: fmt::Write>(&self, f: &mut fmt::Formatter<W>) -> fmt::Result {
-        let (ssrc, pt, datagrams) = (self.ssrc, self.pt, self.datagrams);
-        write!(f, "SSRC {ssrc}, type {pt}, {datagrams} datagrams printed")
-    }
-}
-
-/// A receiving stream.
-#[derive(Drop)]
-pub(crate) struct Receiver {
-    pub(crate) ssrc: u64,
-    pub(crate) pt: u64,
-    /// The numbers that were taken and wait to be handed out; None where that can't be known any more.
-    waiting: Option<Vec<u64>>,
+    /// The datagrams that were printed of the samples of a sending stream.
+    datagrams: u64,
     taken: u64,
     refused: u64,
     damaged: u64,
     units: u64,
     faults: u64,
+    /// The numbers that were taken and wait to be handed out, where these can be known.
+    waiting: Vec<u64>,
+    is_waiting_known: bool,
+    /// The last number that was handed out.
     cutoff: Option<u64>,
 }
 
-impl Receiver {
-    /// A stream to which nothing came.
-    pub(crate) fn new(alloc: Global, ssrc: u64, pt: u64) -> Receiver {
-        Receiver {
-            ssrc,
-            pt,
-            waiting: Some(Vec::new(alloc)),
+/// Written out, so that who lets one go needs nothing of what is inside.
+impl Drop for Stream {
+    fn drop(self) {
+        let Stream {
+            number: _number,
+            is_sender: _is_sender,
+            ssrc: _ssrc,
+            pt: _pt,
+            datagrams: _datagrams,
+            taken: _taken,
+            refused: _refused,
+            damaged: _damaged,
+            units: _units,
+            faults: _faults,
+            waiting: _waiting,
+            is_waiting_known: _is_waiting_known,
+            cutoff: _cutoff,
+        } = self;
+    }
+}
+
+impl Stream {
+    /// A stream of this number that the line opens.
+    pub(crate) fn new(alloc: Global, number: u64, line: &str) -> Stream {
+        Stream {
+            number,
+            is_sender: word_at(line, 0) == "send",
+            ssrc: number_at(line, 3).unwrap_or(0),
+            pt: number_at(line, 4).unwrap_or(0),
+            datagrams: 0,
             taken: 0,
             refused: 0,
             damaged: 0,
             units: 0,
             faults: 0,
+            waiting: Vec::new(alloc),
+            is_waiting_known: true,
             cutoff: None,
         }
     }
 
-    /// A datagram of this number was taken.
-    pub(crate) fn take(&mut self, number: u64) -> anyhow::Result<()> {
-        self.taken = self.taken.saturating_add(1);
-        if self.cutoff.is_some_and(|cutoff| number <= cutoff) {
-            return Ok(());
-        }
-        let Some(waiting) = &mut self.waiting else {
-            return Ok(());
-        };
-        waiting.push(number)?;
-        if waiting.len() > MAX_HELD {
-            self.waiting = None;
+    /// Notes what was said of a sample, a datagram, or a poll.
+    pub(crate) fn note(&mut self, reply: &str) -> Result<(), AllocError> {
+        match word_at(reply, 0) {
+            "datagram" => self.datagrams = self.datagrams.saturating_add(1),
+            "taken" => {
+                self.taken = self.taken.saturating_add(1);
+                if let Some(number) = number_at(reply, 2)
+                    && self.is_waiting_known
+                    && self.cutoff < Some(number)
+                {
+                    self.waiting.push(number)?;
+                    self.is_waiting_known = self.waiting.len() <= MAX_HELD;
+                }
+            }
+            "refused" if reply == "refused" => self.refused = self.refused.saturating_add(1),
+            "damaged" => self.damaged = self.damaged.saturating_add(1),
+            "unit" => {
+                self.units = self.units.saturating_add(1);
+                let last = number_at(reply, 2);
+                self.cutoff = last;
+                self.waiting.retain(|number| last < Some(*number));
+            }
+            "fault" => {
+                self.faults = self.faults.saturating_add(1);
+                self.is_waiting_known = false;
+            }
+            _ => {}
         }
         Ok(())
     }
 
-    /// A datagram was refused.
-    pub(crate) fn refuse(&mut self) {
-        self.refused = self.refused.saturating_add(1);
+    /// Prints what became of a sending stream, of the end of this letter.
+    pub(crate) fn report_sender(&self, rt: &HostRuntime, letter: &str) -> io::Result<()> {
+        println!(*rt;
+            "  sender {} of {letter}: SSRC {}, type {}, {} datagrams printed",
+            self.number, self.ssrc, self.pt, self.datagrams
+        )
     }
 
-    /// A datagram was damaged.
-    pub(crate) fn damage(&mut self) {
-        self.damaged = self.damaged.saturating_add(1);
-    }
-
-    /// A unit was handed out, of packets up to this number.
-    pub(crate) fn hand_out(&mut self, last: u64) {
-        self.units = self.units.saturating_add(1);
-        self.cutoff = Some(last);
-        if let Some(waiting) = &mut self.waiting {
-            waiting.retain(|number| *number > last);
-        }
-    }
-
-    /// A poll was a fault, of a frame that isn't named.
-    pub(crate) fn fail(&mut self) {
-        self.faults = self.faults.saturating_add(1);
-        self.waiting = None;
-    }
-}
-
-impl fmt::Display for Receiver {
-    fn fmt<W: fmt::Write>(&self, f: &mut fmt::Formatter<W>) -> fmt::Result {
-        let (ssrc, pt) = (self.ssrc, self.pt);
-        let (taken, refused, damaged) = (self.taken, self.refused, self.damaged);
-        let (units, faults) = (self.units, self.faults);
-        write!(
-            f,
-            "SSRC {ssrc}, type {pt}, {taken} taken, {refused} refused, {damaged} damaged, "
+    /// Prints what became of a receiving stream, of the end of this letter.
+    pub(crate) fn report_receiver(&self, rt: &HostRuntime, letter: &str) -> io::Result<()> {
+        print!(*rt;
+            "  receiver {} of {letter}: SSRC {}, type {}, {} taken, {} refused, {} damaged, {} units, {} faults",
+            self.number,
+            self.ssrc,
+            self.pt,
+            self.taken,
+            self.refused,
+            self.damaged,
+            self.units,
+            self.faults
         )?;
-        write!(f, "{units} units, {faults} faults")?;
-        match &self.waiting {
-            Some(waiting) => {
-                let held = waiting.len();
-                write!(f, ", {held} packets held")
-            }
-            None => Ok(()),
+        if self.is_waiting_known {
+            let held = self.waiting.len();
+            print!(*rt; ", {held} packets held")?;
         }
+        println!(*rt;)
     }
 }
