@@ -8,9 +8,8 @@ use crate::reading::{header_text, payload_text, run_text};
 use crate::samples::{head, keyframe, packed, pushed, read, short_packets, unit};
 use crate::writing::{set_map, written};
 use crate::{events, h26x, profiles, redundancy, vp8};
-use h26x_payload::H264ProfileIdc;
 use payload_core::{PacketError, RedSender};
-use rtp_wire::{ExtensionMap, Frequency, SeqNo, SeqNoWindow};
+use rtp_wire::{ExtensionMap, SeqNo, SeqNoWindow};
 use std::alloc::Global;
 
 /// What lines leave for the lines behind them.
@@ -45,12 +44,17 @@ pub(crate) fn answer(subjects: &mut Subjects, line: &mut Line<'_>) {
         return line.put(whole);
     }
     let command = line.word();
-    of_header(subjects, line, command);
-    line.end();
+    if let Err(fault) = of_header(subjects, line, command) {
+        line.refuse(fault);
+    }
 }
 
 /// What a command gives about headers, numbers, windows and times.
-fn of_header(subjects: &mut Subjects, line: &mut Line<'_>, command: &str) {
+fn of_header(
+    subjects: &mut Subjects,
+    line: &mut Line<'_>,
+    command: &str,
+) -> Result<(), PacketError> {
     match command {
         "map" => set_map(line, &mut subjects.map),
         "write-header" => written(line, &subjects.map),
@@ -65,49 +69,55 @@ fn of_header(subjects: &mut Subjects, line: &mut Line<'_>, command: &str) {
         "micros" => micros(line),
         "compare" => comparison(line),
         "minus" => difference(line),
-        "frequency" => match line.value::<Frequency>(line.rest) {
-            Some(rate) => line.put(rate),
-            None => {}
-        },
-        _ => of_words(subjects, line, command),
+        "frequency" => {
+            let rate = line.rate(line.rest);
+            line.put(rate)
+        }
+        _ => return of_words(subjects, line, command),
     }
+    Ok(())
 }
 
 /// What a command gives about payloads.
-fn of_words(subjects: &mut Subjects, line: &mut Line<'_>, command: &str) {
+fn of_words(
+    subjects: &mut Subjects,
+    line: &mut Line<'_>,
+    command: &str,
+) -> Result<(), PacketError> {
     match command {
         "codec" => take_up(line, &mut subjects.formats),
-        "red" => redundancy::answer(line, &mut subjects.sender),
+        "red" => return redundancy::answer(line, &mut subjects.sender),
         "vp8" => vp8::answer(line),
         "event" => events::answer(line),
         "shows" => h26x::shows(line),
         "units" => h26x::units(line),
         "header" => h26x::header(line),
         "profile" => profiles::profile(line),
-        "idc" => {
-            let idc = H264ProfileIdc::try_from(line.number::<u8>());
-            line.put_read(idc);
-        }
+        "idc" => profiles::idc(line),
         "level" => profiles::level(line),
         _ => match &mut subjects.formats {
-            Some(formats) => of_format(line, formats, command),
+            Some(formats) => return of_format(line, formats, command),
             None => line.refuse("no codec yet"),
         },
     }
+    Ok(())
 }
 
 /// What a command gives about a payload format.
-fn of_format(line: &mut Line<'_>, formats: &mut Formats, command: &str) {
+fn of_format(line: &mut Line<'_>, formats: &mut Formats, command: &str) -> Result<(), PacketError> {
     match command {
-        "pack" => packed(line, formats),
-        "read" => read(line, formats),
+        "pack" => {
+            let _packets = packed(line, &mut formats.payloader);
+        }
+        "read" => read(line, &formats.format),
         "push" => pushed(line, formats),
         "pop" => unit(line, formats.buffer.pop()),
         "drain" => unit(line, formats.buffer.drain()),
-        "short" => short_packets(line, formats),
-        "boxed" => carried(line, formats),
-        "head" => head(line, formats),
-        "keyframe" => keyframe(line, formats.codec),
-        _ => line.put(format_args!("fault no command {command}")),
+        "short" => short_packets(line, &formats.format),
+        "boxed" => return carried(line, &formats.format),
+        "head" => head(line, &formats.format),
+        "keyframe" => keyframe(line, formats.format.codec),
+        _ => line.refuse(format_args!("no command {command}")),
     }
+    Ok(())
 }

@@ -6,7 +6,7 @@ use payload_core::{Frequency, TelephoneEvent};
 /// What `read RATE PACKET` and `write RATE EVENT VOLUME NANOSECONDS [end]` give.
 pub(crate) fn answer(line: &mut Line<'_>) {
     let (command, rate) = (line.word(), line.word());
-    let rate = line.value::<Frequency>(rate).unwrap_or(Frequency::MICROS);
+    let rate = line.rate(rate);
     if command == "read" {
         return read(line, rate);
     }

@@ -1,15 +1,16 @@
 //! The payload format that the next lines are about.
 
-use crate::line::{Fault, Line, part};
+use crate::line::{Line, part};
 use h26x_payload::{CodecDepacketizer, CodecPacketizer, NotBoxed};
 use payload_core::{Codec, DepacketizingBuffer, Payloader};
 use rtp_wire::Frequency;
 use std::alloc::Global;
 
-/// What is negotiated of a payload format, the first picture id, whether what browsers need is sent, and the
-/// hold-back.
-#[derive(Clone, Copy, Drop)]
-pub(crate) struct Options {
+/// A codec with what is negotiated of its payload format, the first picture id, whether what browsers need is sent, and
+/// the hold-back.
+#[derive(Drop)]
+pub(crate) struct Format {
+    pub(crate) codec: Codec,
     octet_align: Option<bool>,
     max_don_diff: Option<u16>,
     clock_rate: Frequency,
@@ -18,107 +19,83 @@ pub(crate) struct Options {
     hold_back: usize,
 }
 
-/// A payload format: a payloader, and a buffer, with which samples are sent and packets arrive, and a depacketizer for
-/// packets that are read alone.
+impl Format {
+    /// The codec and the options that words say, each by its name.
+    fn of(line: &mut Line<'_>) -> Format {
+        let mut format = Format {
+            codec: Codec::from(line.word()),
+            octet_align: None,
+            max_don_diff: None,
+            clock_rate: Frequency::EIGHT_KHZ,
+            picture_id: None,
+            for_browsers: false,
+            hold_back: 127,
+        };
+        for word in line.rest.split_whitespace() {
+            let (name, number) = part(word, '=');
+            match name {
+                "aligned" => format.octet_align = Some(true),
+                "browsers" => format.for_browsers = true,
+                "16kHz" => format.clock_rate = Frequency::SIXTEEN_KHZ,
+                "numbers" => format.max_don_diff = Some(line.value(number)),
+                "id" => format.picture_id = Some(line.value(number)),
+                "hold" => format.hold_back = line.value(number),
+                _ => line.refuse(format_args!("no option {word}")),
+            }
+        }
+        format
+    }
+
+    /// A depacketizer with no open fragment, where the codec has one.
+    pub(crate) fn depacketizer(&self, alloc: Global) -> Option<CodecDepacketizer<NotBoxed>> {
+        let mut depacketizer = CodecDepacketizer::<NotBoxed>::new(alloc, self.codec)?;
+        depacketizer.configure_for(self.octet_align, self.max_don_diff, self.clock_rate);
+        Some(depacketizer)
+    }
+
+    /// A packetizer that sent nothing, where the codec has one.
+    pub(crate) fn packetizer(&self) -> Option<CodecPacketizer<NotBoxed>> {
+        let picture_id = match self.picture_id {
+            Some(id) if id < 32768 => Some(id),
+            _ => None,
+        };
+        let mut packetizer = CodecPacketizer::<NotBoxed>::with_picture_id(self.codec, picture_id)?;
+        packetizer.configure_for(self.octet_align, self.max_don_diff, self.clock_rate);
+        if self.for_browsers {
+            return Some(packetizer.with_zero_id().with_prediction());
+        }
+        Some(packetizer)
+    }
+}
+
+/// A payload format with a payloader and a buffer, with which samples are sent and packets arrive.
 #[derive(Drop)]
 pub(crate) struct Formats {
-    pub(crate) codec: Codec,
-    pub(crate) options: Options,
+    pub(crate) format: Format,
     pub(crate) payloader: Payloader<CodecPacketizer<NotBoxed>>,
     pub(crate) buffer: DepacketizingBuffer<CodecDepacketizer<NotBoxed>>,
-    pub(crate) reader: CodecDepacketizer<NotBoxed>,
-}
-
-/// A depacketizer of a codec with no open fragment, where the codec has one.
-pub(crate) fn depacketizer_of(
-    alloc: Global,
-    codec: Codec,
-    options: Options,
-) -> Option<CodecDepacketizer<NotBoxed>> {
-    let mut depacketizer = CodecDepacketizer::<NotBoxed>::new(alloc, codec)?;
-    depacketizer.configure_for(
-        options.octet_align,
-        options.max_don_diff,
-        options.clock_rate,
-    );
-    Some(depacketizer)
-}
-
-/// A packetizer of a codec that sent nothing, where the codec has one.
-pub(crate) fn packetizer_of(codec: Codec, options: Options) -> Option<CodecPacketizer<NotBoxed>> {
-    let picture_id = match options.picture_id {
-        Some(id) if id < 32768 => Some(id),
-        _ => None,
-    };
-    let mut packetizer = CodecPacketizer::<NotBoxed>::with_picture_id(codec, picture_id)?;
-    packetizer.configure_for(
-        options.octet_align,
-        options.max_don_diff,
-        options.clock_rate,
-    );
-    if options.for_browsers {
-        return Some(packetizer.with_zero_id().with_prediction());
-    }
-    Some(packetizer)
-}
-
-/// The options that words say, each by its name.
-fn options_of(line: &mut Line<'_>) -> Options {
-    let mut options = Options {
-        octet_align: None,
-        max_don_diff: None,
-        clock_rate: Frequency::EIGHT_KHZ,
-        picture_id: None,
-        for_browsers: false,
-        hold_back: 127,
-    };
-    for word in line.rest.split_whitespace() {
-        let (name, number) = part(word, '=');
-        match name {
-            "aligned" => options.octet_align = Some(true),
-            "browsers" => options.for_browsers = true,
-            "16kHz" => options.clock_rate = Frequency::SIXTEEN_KHZ,
-            "numbers" => options.max_don_diff = line.value::<u16>(number),
-            "id" => options.picture_id = line.value::<u16>(number),
-            "hold" => options.hold_back = line.value::<usize>(number).unwrap_or(0),
-            _ => line.lacks(Fault::Other("no option ", word)),
-        }
-    }
-    options
 }
 
 impl Formats {
-    /// The payload format of a codec that has one.
-    fn of(alloc: Global, codec: Codec, options: Options) -> Option<Formats> {
-        let reader = depacketizer_of(alloc, codec, options)?;
-        let depacketizer = depacketizer_of(alloc, codec, options)?;
+    /// A payload format of a codec that has one.
+    fn new(alloc: Global, format: Format) -> Option<Formats> {
+        let depacketizer = format.depacketizer(alloc)?;
         Some(Formats {
-            codec,
-            options,
-            payloader: Payloader::new(packetizer_of(codec, options)?),
-            buffer: DepacketizingBuffer::new(alloc, depacketizer, options.hold_back),
-            reader,
+            payloader: Payloader::new(format.packetizer()?),
+            buffer: DepacketizingBuffer::new(alloc, depacketizer, format.hold_back),
+            format,
         })
-    }
-
-    /// Reads packets from no open fragment on.
-    pub(crate) fn read_anew(&mut self, alloc: Global) {
-        if let Some(reader) = depacketizer_of(alloc, self.codec, self.options) {
-            self.reader = reader;
-        }
     }
 }
 
 /// `codec NAME [aligned] [numbers=N] [id=N] [browsers] [hold=N] [16kHz]`: takes up a payload format.
 pub(crate) fn take_up(line: &mut Line<'_>, formats: &mut Option<Formats>) {
     let whole = line.rest;
-    let codec = Codec::from(line.word());
-    let options = options_of(line);
-    if line.fault.is_some() {
-        return;
-    }
-    match Formats::of(line.alloc, codec, options) {
-        None => line.put(format_args!("fault no payload format of {codec}")),
+    let format = Format::of(line);
+    let codec = format.codec;
+    match Formats::new(line.alloc, format) {
+        _ if line.is_refused => {}
+        None => line.refuse(format_args!("no payload format of {codec}")),
         taken_up => {
             *formats = taken_up;
             line.put(format_args!("codec {whole}"));

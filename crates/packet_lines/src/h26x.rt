@@ -13,7 +13,8 @@ pub(crate) fn units(line: &mut Line<'_>) {
         line.put_bytes(unit);
         line.put(" ");
     }
-    line.put_dash_for_none();
+    let has_none = line.answer.is_empty();
+    line.put_where(has_none, "-");
 }
 
 /// `shows TYPE PACKET`: whether an H.264 packet shows a unit of a type.
@@ -35,36 +36,31 @@ pub(crate) fn header(line: &mut Line<'_>) {
             unit_h265(line, H265NALUHeader(word))
         }
         ("H266", [high, low]) => unit_h266(line, H266NALUHeader::new(*high, *low)),
-        _ => line.put(format_args!("fault no header of {codec}")),
-    }
-}
-
-/// What an H.265 header is of.
-fn kind_h265(header: H265NALUHeader) -> &'static str {
-    if header.is_aggregation_packet() {
-        "aggregate"
-    } else if header.is_fragmentation_unit() {
-        "fragment"
-    } else if header.is_paci_packet() {
-        "PACI"
-    } else if header.is_idr_picture() {
-        "IDR"
-    } else if header.is_irap() {
-        "IRAP"
-    } else if header.is_type_vcl_unit() {
-        "VCL"
-    } else {
-        "other"
+        _ => line.refuse(format_args!("no header of {codec}")),
     }
 }
 
 /// An H.265 header: what it is of, F, the type, the layer and TID, and the header of these three.
 fn unit_h265(line: &mut Line<'_>, header: H265NALUHeader) {
-    let kind = kind_h265(header);
-    let f = if header.f() { "F " } else { "" };
+    line.put(if header.is_aggregation_packet() {
+        "aggregate "
+    } else if header.is_fragmentation_unit() {
+        "fragment "
+    } else if header.is_paci_packet() {
+        "PACI "
+    } else if header.is_idr_picture() {
+        "IDR "
+    } else if header.is_irap() {
+        "IRAP "
+    } else if header.is_type_vcl_unit() {
+        "VCL "
+    } else {
+        "other "
+    });
+    line.put_where(header.f(), "F ");
     let (nalu_type, layer, tid) = (header.nalu_type(), header.layer_id(), header.tid());
     let again = H265NALUHeader::new_with_type(nalu_type, layer, tid).0;
-    line.put(format_args!("{kind} {f}{nalu_type} {layer} {tid} {again:04x}"))
+    line.put(format_args!("{nalu_type} {layer} {tid} {again:04x}"))
 }
 
 /// An H.265 fragment's header: S, E and the type, and the header of these three.
@@ -74,35 +70,22 @@ fn fragment_h265(line: &mut Line<'_>, header: H265FragmentationUnitHeader) {
     line.put(format_args!("{s} {e} {fu_type} {again:02x}"))
 }
 
-/// What an H.266 header is of.
-fn kind_h266(header: H266NALUHeader) -> &'static str {
-    if header.is_aggregation_packet() {
-        "aggregate"
-    } else if header.is_fragmentation_unit() {
-        "fragment"
-    } else if header.is_irap() {
-        "IRAP"
-    } else {
-        "other"
-    }
-}
-
-/// F and Z of an H.266 header.
-fn marks_h266(header: H266NALUHeader) -> &'static str {
-    match (header.f(), header.z()) {
-        (true, true) => "F Z ",
-        (true, false) => "F ",
-        (false, true) => "Z ",
-        (false, false) => "",
-    }
-}
-
 /// An H.266 header: what it is of, F and Z, the type, the layer and TID, and the header of these three.
 fn unit_h266(line: &mut Line<'_>, header: H266NALUHeader) {
-    let (kind, marks) = (kind_h266(header), marks_h266(header));
+    line.put(if header.is_aggregation_packet() {
+        "aggregate "
+    } else if header.is_fragmentation_unit() {
+        "fragment "
+    } else if header.is_irap() {
+        "IRAP "
+    } else {
+        "other "
+    });
+    line.put_where(header.f(), "F ");
+    line.put_where(header.z(), "Z ");
     let (nalu_type, layer, tid) = (header.nalu_type(), header.layer_id(), header.tid());
     let again = H266NALUHeader::new_with_type(nalu_type, layer, tid).0;
-    line.put(format_args!("{kind} {marks}{nalu_type} {layer} {tid} {again:04x}"))
+    line.put(format_args!("{nalu_type} {layer} {tid} {again:04x}"))
 }
 
 /// An H.266 fragment's header: S, E, P and the type, and the header of these four.

@@ -20,24 +20,15 @@ use commands::{Subjects, answer};
 use line::Line;
 use std::io;
 
-/// Answers a line by a line: a comment by itself, a command by what it gives, and another line, or a sample or packet
+/// Answers each line by a line: a comment by itself, a command by what it gives, and another line, or a sample or packet
 /// that is refused, by the word `fault` and the reason.
-fn answer_line(rt: &HostRuntime, subjects: &mut Subjects, whole: &str) -> anyhow::Result<()> {
-    let mut line = Line::new(rt.alloc(), whole);
-    answer(subjects, &mut line);
-    println!(*rt; "{}", line.answer.trim_end())?;
-    Ok(())
-}
-
-fn answer_lines(rt: &HostRuntime, subjects: &mut Subjects) -> anyhow::Result<()> {
-    let text = io::read_to_string(rt.alloc(), rt.reader())?;
-    for line in text.as_str().lines() {
-        answer_line(rt, subjects, line)?;
-    }
-    Ok(())
-}
-
 fn main(rt: HostRuntime) -> anyhow::Result<()> {
     let mut subjects = Subjects::new(rt.alloc())?;
-    answer_lines(&rt, &mut subjects)
+    let text = io::read_to_string(rt.alloc(), rt.reader())?;
+    for whole in text.as_str().lines() {
+        let mut line = Line::new(rt.alloc(), whole);
+        answer(&mut subjects, &mut line);
+        println!(rt; "{}", line.answer.trim_end())?;
+    }
+    Ok(())
 }

@@ -11,23 +11,16 @@ pub(crate) fn extended(line: &mut Line<'_>) {
     let (bits, previous, low) = (line.word(), line.word(), line.number::<u32>());
     let previous = match previous {
         "-" => None,
-        word => line.value::<u64>(word),
+        word => Some(line.value::<u64>(word)),
     };
-    match widened(bits, previous, low) {
-        Some(number) => line.put(number),
-        None => line.put(format_args!("fault no number {low} of {bits}")),
-    }
-}
-
-fn widened(bits: &str, previous: Option<u64>, low: u32) -> Option<u64> {
-    match bits {
-        "u7" if low < 128 => Some(extend_u7(previous, low as u8)),
-        "u8" if low < 256 => Some(extend_u8(previous, low as u8)),
-        "u15" if low < 32768 => Some(extend_u15(previous, low as u16)),
-        "u16" if low < 65536 => Some(extend_u16(previous, low as u16)),
-        "u32" => Some(extend_u32(previous, low)),
-        _ => None,
-    }
+    line.put(match bits {
+        "u7" if low < 128 => extend_u7(previous, low as u8),
+        "u8" if low < 256 => extend_u8(previous, low as u8),
+        "u15" if low < 32768 => extend_u15(previous, low as u16),
+        "u16" if low < 65536 => extend_u16(previous, low as u16),
+        "u32" => extend_u32(previous, low),
+        _ => return line.refuse(format_args!("no number {low} of {bits}")),
+    })
 }
 
 /// `window N` is a window that recorded N alone, `window-after N` one that recorded all up to N, and `update N` records
@@ -35,11 +28,11 @@ fn widened(bits: &str, previous: Option<u64>, low: u32) -> Option<u64> {
 pub(crate) fn of_window(line: &mut Line<'_>, window: &mut SeqNoWindow, command: &str) {
     let number = SeqNo::from(line.number::<u64>());
     match command {
-        _ if line.fault.is_some() => return,
+        _ if line.is_refused => {}
+        "accepts" => return line.put_whether(window.accepts(number)),
         "window" => *window = SeqNoWindow::new(number),
         "window-after" => *window = SeqNoWindow::new_after(number),
-        "update" => window.update(number),
-        _ => return line.put_whether(window.accepts(number)),
+        _ => window.update(number),
     }
     line.put(window.max_seq())
 }

@@ -13,20 +13,12 @@ fn put_fields(line: &mut Line<'_>, header: &RtpHeader) {
     for source in header.csrc.iter().take(header.csrc_count) {
         line.put(format_args!("csrc={source} "));
     }
-    line.put(if header.marker { "marker " } else { "" });
-    line.put(if header.has_padding { "padding " } else { "" });
-    line.put(if header.has_extension { "" } else { "bare " })
+    line.put_where(header.marker, "marker ");
+    line.put_where(header.has_padding, "padding ");
+    line.put_where(!header.has_extension, "bare ");
 }
 
 fn put_values(line: &mut Line<'_>, values: &ExtensionValues) {
-    let orientation = match values.video_orientation {
-        Some(orientation) => Some(orientation.get()),
-        None => None,
-    };
-    let (captured, offset) = match values.abs_capture_time {
-        Some(time) => (Some(time.capture_time), time.clock_offset),
-        None => (None, None),
-    };
     line.put_field("audio-level", values.audio_level);
     line.put_field("voice", values.voice_activity);
     line.put_field("send-time", values.abs_send_time);
@@ -34,28 +26,28 @@ fn put_values(line: &mut Line<'_>, values: &ExtensionValues) {
     line.put_field("mid", values.mid);
     line.put_field("rid", values.rid);
     line.put_field("repaired", values.rid_repair);
-    line.put_field("orientation", orientation);
+    if let Some(orientation) = values.video_orientation {
+        line.put(format_args!("orientation={} ", orientation.get()));
+    }
     line.put_field("delay-min", values.play_delay_min);
     line.put_field("delay-max", values.play_delay_max);
     line.put_field("content", values.video_content_type);
-    line.put_field("captured", captured);
-    line.put_field("offset", offset);
+    if let Some(time) = values.abs_capture_time {
+        line.put(format_args!("captured={} ", time.capture_time));
+        line.put_field("offset", time.clock_offset);
+    }
 }
 
 /// `read-header HEX`: the header in front of a datagram, its length, and the payload behind it.
 pub(crate) fn header_text(line: &mut Line<'_>, map: &ExtensionMap) {
     let datagram = line.bytes();
-    match RtpHeader::parse(&datagram, map) {
-        Some(header) => put_header(line, &header, &datagram[header.header_len..]),
-        None => line.put("none"),
-    }
-}
-
-fn put_header(line: &mut Line<'_>, header: &RtpHeader, behind: &[u8]) {
-    put_fields(line, header);
+    let Some(header) = RtpHeader::parse(&datagram, map) else {
+        return line.put("none");
+    };
+    put_fields(line, &header);
     put_values(line, &header.ext_vals);
     line.put(format_args!("length={} payload=", header.header_len));
-    put_unpadded(line, header.has_padding, behind)
+    put_unpadded(line, header.has_padding, &datagram[header.header_len..])
 }
 
 /// What is left of a payload without its padding.
@@ -76,7 +68,15 @@ pub(crate) fn payload_text(line: &mut Line<'_>, has_padding: bool) {
 /// it isn't.
 pub(crate) fn run_text(line: &mut Line<'_>, map: &ExtensionMap) {
     match verdicts_of(line, map) {
-        Ok(verdicts) => put_verdicts(line, &verdicts),
+        Ok(verdicts) => {
+            for verdict in &verdicts {
+                match verdict {
+                    Reception::Taken(number) => line.put(format_args!("{number} ")),
+                    Reception::Refused => line.put("refused "),
+                    Reception::Unreadable => line.put("unreadable "),
+                }
+            }
+        }
         Err(fault) => line.refuse(fault),
     }
 }
@@ -91,14 +91,4 @@ fn verdicts_of(line: &mut Line<'_>, map: &ExtensionMap) -> Result<Vec<Reception>
         slices.push(datagram.as_slice())?;
     }
     receive_run(line.alloc, &slices, map)
-}
-
-fn put_verdicts(line: &mut Line<'_>, verdicts: &[Reception]) {
-    for verdict in verdicts {
-        match verdict {
-            Reception::Taken(number) => line.put(format_args!("{number} ")),
-            Reception::Refused => line.put("refused "),
-            Reception::Unreadable => line.put("unreadable "),
-        }
-    }
 }

@@ -1,19 +1,21 @@
 //! Samples that are packed, and packets that are read and held.
 
-use crate::formats::Formats;
+use crate::formats::{Format, Formats};
 use crate::line::Line;
 use h26x_payload::{detect_h264_keyframe, detect_h265_keyframe, detect_h266_keyframe};
 use payload_core::{
-    Codec, CodecExtra, Depacketized, Depacketizer, PacketError, PacketList, RtpMeta, SentPacket,
-    detect_av1_keyframe, detect_vp8_keyframe,
+    Codec, CodecExtra, Depacketized, Depacketizer, PacketError, PacketList, Packetizer, Payloader,
+    RtpMeta, SentPacket, detect_av1_keyframe, detect_vp8_keyframe,
 };
 use rtp_wire::{ExtensionValues, SeqNo};
 use std::alloc::Global;
 
 /// `head PACKET`: whether a packet is the head of a frame.
-pub(crate) fn head(line: &mut Line<'_>, formats: &Formats) {
+pub(crate) fn head(line: &mut Line<'_>, format: &Format) {
     let packet = line.bytes();
-    line.put_whether(formats.reader.is_partition_head(&packet))
+    if let Some(reader) = format.depacketizer(line.alloc) {
+        line.put_whether(reader.is_partition_head(&packet));
+    }
 }
 
 /// `keyframe PACKET`: whether a packet shows a keyframe of a codec that has a test of that.
@@ -30,36 +32,39 @@ pub(crate) fn keyframe(line: &mut Line<'_>, codec: Codec) {
 }
 
 /// Payloads, parted by blanks, and a star behind each that has the marker; a dash stands for none.
-pub(crate) fn put_payloads(line: &mut Line<'_>, packets: &[SentPacket]) {
+fn put_payloads(line: &mut Line<'_>, packets: &[SentPacket]) {
+    line.put_where(packets.is_empty(), "- ");
     for sent in packets {
         line.put_bytes(sent.payload.as_slice());
-        line.put(if sent.marker { "* " } else { " " });
+        line.put_where(sent.marker, "*");
+        line.put(" ");
     }
-    line.put_dash_for_none()
 }
 
 /// `pack LIMIT SAMPLE`: the payloads that a sample is sent as.
-pub(crate) fn packed(line: &mut Line<'_>, formats: &mut Formats) {
+pub(crate) fn packed<P: Packetizer>(
+    line: &mut Line<'_>,
+    payloader: &mut Payloader<P>,
+) -> PacketList {
     let limit = line.number::<usize>();
     let sample = line.bytes();
-    if line.fault.is_some() {
-        return;
-    }
     let mut sink = PacketList::new(line.alloc);
+    if line.is_refused {
+        return sink;
+    }
     let values = ExtensionValues::absent();
-    let payloader = &mut formats.payloader;
     match payloader.push_sample(line.alloc, &mut sink, limit, 6000, &sample, &values) {
         Ok(()) => put_payloads(line, sink.packets()),
         Err(fault) => line.refuse(fault),
     }
+    sink
 }
 
 /// `read PACKET ..`: the bytes that packets give, one after the other from no open fragment on, and what is told then.
-pub(crate) fn read(line: &mut Line<'_>, formats: &mut Formats) {
+pub(crate) fn read(line: &mut Line<'_>, format: &Format) {
     let mut bytes = Vec::new(line.alloc);
     let mut extra = CodecExtra::None;
-    formats.read_anew(line.alloc);
-    let read = read_all(line, formats, &mut bytes, &mut extra);
+    let read = read_all(line, format, &mut bytes, &mut extra);
     line.put_bytes(&bytes);
     line.put(format_args!(" {extra:?}"));
     if let Err(fault) = read {
@@ -69,14 +74,15 @@ pub(crate) fn read(line: &mut Line<'_>, formats: &mut Formats) {
 
 fn read_all(
     line: &mut Line<'_>,
-    formats: &mut Formats,
+    format: &Format,
     bytes: &mut Vec<u8>,
     extra: &mut CodecExtra,
 ) -> Result<(), PacketError> {
+    let Some(mut reader) = format.depacketizer(line.alloc) else {
+        return Ok(());
+    };
     for word in line.rest.split_whitespace() {
-        formats
-            .reader
-            .depacketize(&line.bytes_of(word), bytes, extra)?;
+        reader.depacketize(&line.bytes_of(word), bytes, extra)?;
     }
     Ok(())
 }
@@ -96,7 +102,7 @@ pub(crate) fn pushed(line: &mut Line<'_>, formats: &mut Formats) {
     let (number, time) = (line.number::<u64>(), line.number::<u32>());
     let meta = meta_of(number, time, line.rest.ends_with('*'));
     let packet = line.bytes();
-    if line.fault.is_some() {
+    if line.is_refused {
         return;
     }
     match formats.buffer.push(meta, &packet) {
@@ -121,25 +127,24 @@ pub(crate) fn unit(line: &mut Line<'_>, unit: Result<Option<Depacketized>, Packe
 }
 
 /// Whether a packet is read from no open fragment on.
-fn is_read(alloc: Global, formats: &mut Formats, packet: &[u8]) -> bool {
+fn is_read(alloc: Global, format: &Format, packet: &[u8]) -> bool {
     let mut bytes = Vec::new(alloc);
     let mut extra = CodecExtra::None;
-    formats.read_anew(alloc);
-    formats
-        .reader
-        .depacketize(packet, &mut bytes, &mut extra)
-        .is_ok()
+    match format.depacketizer(alloc) {
+        Some(mut reader) => reader.depacketize(packet, &mut bytes, &mut extra).is_ok(),
+        None => false,
+    }
 }
 
 /// `short`: how many of the packets of no byte, one and two bytes are read.
-pub(crate) fn short_packets(line: &mut Line<'_>, formats: &mut Formats) {
-    let none = u32::from(is_read(line.alloc, formats, &[]));
+pub(crate) fn short_packets(line: &mut Line<'_>, format: &Format) {
+    let none = u32::from(is_read(line.alloc, format, &[]));
     let mut ones: u32 = 0;
     let mut twos: u32 = 0;
     for a in 0..=255u8 {
-        ones = ones.saturating_add(u32::from(is_read(line.alloc, formats, &[a])));
+        ones = ones.saturating_add(u32::from(is_read(line.alloc, format, &[a])));
         for b in 0..=255u8 {
-            twos = twos.saturating_add(u32::from(is_read(line.alloc, formats, &[a, b])));
+            twos = twos.saturating_add(u32::from(is_read(line.alloc, format, &[a, b])));
         }
     }
     line.put(format_args!("{none} of none, {ones} of one byte, {twos} of two"))

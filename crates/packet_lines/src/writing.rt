@@ -1,6 +1,6 @@
 //! Headers that are written, and their extensions.
 
-use crate::line::{Fault, Line, part};
+use crate::line::{Line, part};
 use rtp_wire::{
     AbsCaptureTime, Extension, ExtensionMap, ExtensionValues, Mid, Pt, Rid, RtpHeader, Ssrc,
     VideoOrientation,
@@ -11,14 +11,11 @@ pub(crate) fn set_map(line: &mut Line<'_>, map: &mut ExtensionMap) {
     map.clear();
     for word in line.rest.split_whitespace() {
         let (id, name) = part(word, '=');
-        let id = line.value::<u8>(id).unwrap_or(0);
+        let id = line.value::<u8>(id);
         match extension_of(name) {
-            _ if id < 1 || id > 16 => line.lacks(Fault::Other(
-                "numbers of header extensions are 1 to 16",
-                "",
-            )),
+            _ if id < 1 || id > 16 => line.refuse("numbers of header extensions are 1 to 16"),
             Some(extension) => map.set(id, extension),
-            None => line.lacks(Fault::Other("no header extension ", name)),
+            None => line.refuse(format_args!("no header extension {name}")),
         }
     }
     line.put("ok")
@@ -44,8 +41,7 @@ fn extension_of(name: &str) -> Option<Extension> {
 pub(crate) fn written(line: &mut Line<'_>, map: &ExtensionMap) {
     let mut header = RtpHeader::default();
     for word in line.rest.split_whitespace() {
-        let (name, value) = part(word, '=');
-        set_field(line, &mut header, name, value);
+        set_field(line, &mut header, word);
     }
     if header.payload_type.get() > 127 || header.csrc_count > 15 {
         return line.refuse("a type above 127, or more than 15 sources");
@@ -59,13 +55,14 @@ pub(crate) fn written(line: &mut Line<'_>, map: &ExtensionMap) {
     }
 }
 
-fn set_field<'a>(line: &mut Line<'a>, header: &mut RtpHeader, name: &'a str, value: &'a str) {
+fn set_field(line: &mut Line<'_>, header: &mut RtpHeader, word: &str) {
+    let (name, value) = part(word, '=');
     match name {
-        "type" => header.payload_type = Pt::from(line.value::<u8>(value).unwrap_or(0)),
-        "number" => header.sequence_number = line.value::<u16>(value).unwrap_or(0),
-        "time" => header.timestamp = line.value::<u32>(value).unwrap_or(0),
-        "ssrc" => header.ssrc = Ssrc::from(line.value::<u32>(value).unwrap_or(0)),
-        "csrc" => push_source(header, line.value::<u32>(value).unwrap_or(0)),
+        "type" => header.payload_type = Pt::from(line.value::<u8>(value)),
+        "number" => header.sequence_number = line.value(value),
+        "time" => header.timestamp = line.value(value),
+        "ssrc" => header.ssrc = Ssrc::from(line.value::<u32>(value)),
+        "csrc" => push_source(header, line.value(value)),
         "marker" => header.marker = true,
         "padding" => header.has_padding = true,
         "bare" => header.has_extension = false,
@@ -81,32 +78,32 @@ fn push_source(header: &mut RtpHeader, source: u32) {
     header.csrc_count = header.csrc_count.saturating_add(1);
 }
 
-fn set_value<'a>(line: &mut Line<'a>, values: &mut ExtensionValues, name: &'a str, value: &'a str) {
+fn set_value(line: &mut Line<'_>, values: &mut ExtensionValues, name: &str, value: &str) {
     match name {
-        "audio-level" => values.audio_level = line.value(value),
-        "voice" => values.voice_activity = line.value(value),
-        "send-time" => values.abs_send_time = line.value(value),
-        "transport" => values.transport_cc = line.value(value),
-        "delay-min" => values.play_delay_min = line.value(value),
-        "delay-max" => values.play_delay_max = line.value(value),
-        "content" => values.video_content_type = line.value(value),
+        "audio-level" => values.audio_level = Some(line.value(value)),
+        "voice" => values.voice_activity = Some(line.value(value)),
+        "send-time" => values.abs_send_time = Some(line.value(value)),
+        "transport" => values.transport_cc = Some(line.value(value)),
+        "delay-min" => values.play_delay_min = Some(line.value(value)),
+        "delay-max" => values.play_delay_max = Some(line.value(value)),
+        "content" => values.video_content_type = Some(line.value(value)),
         "mid" => values.mid = Some(Mid::from(value)),
         "rid" => values.rid = Some(Rid::from(value)),
         "repaired" => values.rid_repair = Some(Rid::from(value)),
         "orientation" => {
-            let orientation = line.value::<u8>(value).unwrap_or(0);
+            let orientation = line.value::<u8>(value);
             values.video_orientation = Some(VideoOrientation::from(orientation));
         }
         "captured" => {
             values.abs_capture_time = Some(AbsCaptureTime {
-                capture_time: line.value::<u64>(value).unwrap_or(0),
+                capture_time: line.value::<u64>(value),
                 clock_offset: None,
             });
         }
         "offset" => match &mut values.abs_capture_time {
-            Some(time) => time.clock_offset = line.value::<i64>(value),
-            None => line.lacks(Fault::Other("no captured in front of offset", "")),
+            Some(time) => time.clock_offset = Some(line.value(value)),
+            None => line.refuse("no captured in front of offset"),
         },
-        _ => line.lacks(Fault::Other("no field ", name)),
+        _ => line.refuse(format_args!("no field {name}")),
     }
 }
