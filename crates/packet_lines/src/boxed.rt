@@ -4,43 +4,44 @@ use crate::formats::Format;
 use crate::line::Line;
 use crate::samples::{meta_of, packed, unit};
 use h26x_payload::{CodecDepacketizer, CodecPacketizer};
-use payload_core::{
-    Depacketized, Depacketizer, DepacketizingBuffer, PacketError, Packetizer, Payloader, SentPacket,
-};
-use std::alloc::Global;
+use payload_core::{Depacketizer, DepacketizingBuffer, Packetizer, Payloader, SentPacket};
+use std::alloc::AllocError;
 
 /// `boxed LIMIT SAMPLE`: the payloads of a sample through a boxed packetizer, and the unit that they give through a
 /// boxed depacketizer.
-pub(crate) fn carried(line: &mut Line<'_>, format: &Format) -> Result<(), PacketError> {
+pub(crate) fn carried(line: &mut Line<'_>, format: &Format) {
+    if send(line, format).is_err() {
+        line.refuse("out of memory");
+    }
+}
+
+/// The payloads of a sample, and the unit that they give.
+fn send(line: &mut Line<'_>, format: &Format) -> Result<(), AllocError> {
     let Some(packetizer) = format.packetizer() else {
         return Ok(());
     };
     let boxed: Box<dyn Packetizer + Drop> = Box::new(line.alloc, packetizer)?;
     let packetizer: CodecPacketizer = CodecPacketizer::Boxed(boxed);
     let sink = packed(line, &mut Payloader::new(packetizer));
-    unit(line, received(line.alloc, format, sink.packets()));
-    Ok(())
+    receive(line, format, sink.packets())
 }
 
 /// The unit of packets.
-fn received(
-    alloc: Global,
-    format: &Format,
-    packets: &[SentPacket],
-) -> Result<Option<Depacketized>, PacketError> {
-    let Some(depacketizer) = format.depacketizer(alloc) else {
-        return Ok(None);
+fn receive(line: &mut Line<'_>, format: &Format, packets: &[SentPacket]) -> Result<(), AllocError> {
+    let Some(depacketizer) = format.depacketizer(line.alloc) else {
+        return Ok(());
     };
-    let boxed: Box<dyn Depacketizer + Drop> = Box::new(alloc, depacketizer)?;
+    let boxed: Box<dyn Depacketizer + Drop> = Box::new(line.alloc, depacketizer)?;
     let depacketizer: CodecDepacketizer = CodecDepacketizer::Boxed(boxed);
-    let mut buffer = DepacketizingBuffer::new(alloc, depacketizer, 0);
-    let mut number = 7;
+    let mut buffer = DepacketizingBuffer::new(line.alloc, depacketizer, 0);
+    let mut number: u64 = 7;
     for packet in packets {
-        buffer.push(
-            meta_of(number, 6000, packet.marker),
-            packet.payload.as_slice(),
-        )?;
+        let meta = meta_of(number, 6000, packet.marker);
+        if let Err(fault) = buffer.push(meta, packet.payload.as_slice()) {
+            line.refuse(fault);
+        }
         number = number.saturating_add(1);
     }
-    buffer.pop()
+    unit(line, buffer.pop());
+    Ok(())
 }

@@ -3,7 +3,7 @@
 use crate::boxed::carried;
 use crate::formats::{Formats, take_up};
 use crate::line::Line;
-use crate::numbers::{comparison, difference, extended, micros, of_window};
+use crate::numbers::{comparison, difference, extended, frequency, micros, of_window};
 use crate::reading::{header_text, payload_text, run_text};
 use crate::samples::{head, keyframe, packed, pushed, read, short_packets, unit};
 use crate::writing::{set_map, written};
@@ -44,17 +44,11 @@ pub(crate) fn answer(subjects: &mut Subjects, line: &mut Line<'_>) {
         return line.put(whole);
     }
     let command = line.word();
-    if let Err(fault) = of_header(subjects, line, command) {
-        line.refuse(fault);
-    }
+    of_header(subjects, line, command);
 }
 
 /// What a command gives about headers, numbers, windows and times.
-fn of_header(
-    subjects: &mut Subjects,
-    line: &mut Line<'_>,
-    command: &str,
-) -> Result<(), PacketError> {
+fn of_header(subjects: &mut Subjects, line: &mut Line<'_>, command: &str) {
     match command {
         "map" => set_map(line, &mut subjects.map),
         "write-header" => written(line, &subjects.map),
@@ -69,24 +63,16 @@ fn of_header(
         "micros" => micros(line),
         "compare" => comparison(line),
         "minus" => difference(line),
-        "frequency" => {
-            let rate = line.rate(line.rest);
-            line.put(rate)
-        }
-        _ => return of_words(subjects, line, command),
+        "frequency" => frequency(line),
+        _ => of_words(subjects, line, command),
     }
-    Ok(())
 }
 
 /// What a command gives about payloads.
-fn of_words(
-    subjects: &mut Subjects,
-    line: &mut Line<'_>,
-    command: &str,
-) -> Result<(), PacketError> {
+fn of_words(subjects: &mut Subjects, line: &mut Line<'_>, command: &str) {
     match command {
         "codec" => take_up(line, &mut subjects.formats),
-        "red" => return redundancy::answer(line, &mut subjects.sender),
+        "red" => redundancy::answer(line, &mut subjects.sender),
         "vp8" => vp8::answer(line),
         "event" => events::answer(line),
         "shows" => h26x::shows(line),
@@ -96,15 +82,14 @@ fn of_words(
         "idc" => profiles::idc(line),
         "level" => profiles::level(line),
         _ => match &mut subjects.formats {
-            Some(formats) => return of_format(line, formats, command),
+            Some(formats) => of_format(line, formats, command),
             None => line.refuse("no codec yet"),
         },
     }
-    Ok(())
 }
 
 /// What a command gives about a payload format.
-fn of_format(line: &mut Line<'_>, formats: &mut Formats, command: &str) -> Result<(), PacketError> {
+fn of_format(line: &mut Line<'_>, formats: &mut Formats, command: &str) {
     match command {
         "pack" => {
             let _packets = packed(line, &mut formats.payloader);
@@ -114,10 +99,9 @@ fn of_format(line: &mut Line<'_>, formats: &mut Formats, command: &str) -> Resul
         "pop" => unit(line, formats.buffer.pop()),
         "drain" => unit(line, formats.buffer.drain()),
         "short" => short_packets(line, &formats.format),
-        "boxed" => return carried(line, &formats.format),
+        "boxed" => carried(line, &formats.format),
         "head" => head(line, &formats.format),
         "keyframe" => keyframe(line, formats.format.codec),
         _ => line.refuse(format_args!("no command {command}")),
     }
-    Ok(())
 }

@@ -150,6 +150,13 @@ impl<'a> Line<'a> {
         bytes
     }
 
+    /// Keeps a value behind others.
+    pub(crate) fn keep<T: Drop>(&mut self, values: &mut Vec<T>, value: T) {
+        if values.push(value).is_err() {
+            self.refuse("out of memory");
+        }
+    }
+
     fn repeat(&mut self, bytes: &mut Vec<u8>, part: &[u8], count: u32) {
         for _ in 0..count {
             if bytes.extend_from_slice(part).is_err() {

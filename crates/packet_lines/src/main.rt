@@ -22,13 +22,18 @@ use std::io;
 
 /// Answers each line by a line: a comment by itself, a command by what it gives, and another line, or a sample or packet
 /// that is refused, by the word `fault` and the reason.
-fn main(rt: HostRuntime) -> anyhow::Result<()> {
-    let mut subjects = Subjects::new(rt.alloc())?;
+fn answer_lines(rt: &HostRuntime, subjects: &mut Subjects) -> io::Result<()> {
     let text = io::read_to_string(rt.alloc(), rt.reader())?;
     for whole in text.as_str().lines() {
         let mut line = Line::new(rt.alloc(), whole);
-        answer(&mut subjects, &mut line);
-        println!(rt; "{}", line.answer.trim_end())?;
+        answer(subjects, &mut line);
+        println!(*rt; "{}", line.answer.trim_end())?;
     }
+    Ok(())
+}
+
+fn main(rt: HostRuntime) -> anyhow::Result<()> {
+    let mut subjects = Subjects::new(rt.alloc())?;
+    answer_lines(&rt, &mut subjects)?;
     Ok(())
 }

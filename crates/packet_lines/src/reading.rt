@@ -2,7 +2,6 @@
 
 use crate::line::Line;
 use rtp_wire::{ExtensionMap, ExtensionValues, Reception, RtpHeader, receive_run, unpad_payload};
-use std::alloc::AllocError;
 
 /// The fields, each as the words of a header that is written say it.
 fn put_fields(line: &mut Line<'_>, header: &RtpHeader) {
@@ -19,6 +18,14 @@ fn put_fields(line: &mut Line<'_>, header: &RtpHeader) {
 }
 
 fn put_values(line: &mut Line<'_>, values: &ExtensionValues) {
+    let orientation = match values.video_orientation {
+        Some(orientation) => Some(orientation.get()),
+        None => None,
+    };
+    let (captured, offset) = match values.abs_capture_time {
+        Some(time) => (Some(time.capture_time), time.clock_offset),
+        None => (None, None),
+    };
     line.put_field("audio-level", values.audio_level);
     line.put_field("voice", values.voice_activity);
     line.put_field("send-time", values.abs_send_time);
@@ -26,16 +33,12 @@ fn put_values(line: &mut Line<'_>, values: &ExtensionValues) {
     line.put_field("mid", values.mid);
     line.put_field("rid", values.rid);
     line.put_field("repaired", values.rid_repair);
-    if let Some(orientation) = values.video_orientation {
-        line.put(format_args!("orientation={} ", orientation.get()));
-    }
+    line.put_field("orientation", orientation);
     line.put_field("delay-min", values.play_delay_min);
     line.put_field("delay-max", values.play_delay_max);
     line.put_field("content", values.video_content_type);
-    if let Some(time) = values.abs_capture_time {
-        line.put(format_args!("captured={} ", time.capture_time));
-        line.put_field("offset", time.clock_offset);
-    }
+    line.put_field("captured", captured);
+    line.put_field("offset", offset);
 }
 
 /// `read-header HEX`: the header in front of a datagram, its length, and the payload behind it.
@@ -67,28 +70,27 @@ pub(crate) fn payload_text(line: &mut Line<'_>, has_padding: bool) {
 /// `run HEX ..`: what becomes of each datagram of a list at a new window, the number under which it is taken, or why
 /// it isn't.
 pub(crate) fn run_text(line: &mut Line<'_>, map: &ExtensionMap) {
-    match verdicts_of(line, map) {
-        Ok(verdicts) => {
-            for verdict in &verdicts {
-                match verdict {
-                    Reception::Taken(number) => line.put(format_args!("{number} ")),
-                    Reception::Refused => line.put("refused "),
-                    Reception::Unreadable => line.put("unreadable "),
-                }
-            }
-        }
+    let mut datagrams = Vec::new(line.alloc);
+    for word in line.rest.split_whitespace() {
+        let datagram = line.bytes_of(word);
+        line.keep(&mut datagrams, datagram);
+    }
+    let mut slices = Vec::new(line.alloc);
+    for datagram in &datagrams {
+        line.keep(&mut slices, datagram.as_slice());
+    }
+    match receive_run(line.alloc, &slices, map) {
+        Ok(verdicts) => put_verdicts(line, &verdicts),
         Err(fault) => line.refuse(fault),
     }
 }
 
-fn verdicts_of(line: &mut Line<'_>, map: &ExtensionMap) -> Result<Vec<Reception>, AllocError> {
-    let mut datagrams = Vec::new(line.alloc);
-    for word in line.rest.split_whitespace() {
-        datagrams.push(line.bytes_of(word))?;
+fn put_verdicts(line: &mut Line<'_>, verdicts: &[Reception]) {
+    for verdict in verdicts {
+        match verdict {
+            Reception::Taken(number) => line.put(format_args!("{number} ")),
+            Reception::Refused => line.put("refused "),
+            Reception::Unreadable => line.put("unreadable "),
+        }
     }
-    let mut slices = Vec::new(line.alloc);
-    for datagram in &datagrams {
-        slices.push(datagram.as_slice())?;
-    }
-    receive_run(line.alloc, &slices, map)
 }

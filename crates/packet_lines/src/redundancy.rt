@@ -1,73 +1,98 @@
 //! Payloads beside older ones (RFC 2198).
 
 use crate::line::{Line, part};
-use payload_core::{PacketError, RedDecoder, RedEncoder, RedSender, RedundantBlock};
+use payload_core::{RedDecoder, RedEncoder, RedSender, RedundantBlock};
 
 /// What `new DISTANCES`, `sync DISTANCES`, `wrap`, `write` and `read PACKET` give.
-pub(crate) fn answer(line: &mut Line<'_>, sender: &mut RedSender) -> Result<(), PacketError> {
+pub(crate) fn answer(line: &mut Line<'_>, sender: &mut RedSender) {
     match line.word() {
         "wrap" => wrapped(line, sender),
         "write" => written(line),
         "read" => read(line),
-        "new" => {
-            *sender = RedSender::new(line.alloc, &[])?;
-            synced(line, sender)
+        "new" => renewed(line, sender),
+        "sync" => synced(line, sender),
+        command => line.refuse(format_args!("no command red {command}")),
+    }
+}
+
+/// Forgets what was sent, and takes the distances of the next word, if they are some.
+fn renewed(line: &mut Line<'_>, sender: &mut RedSender) {
+    match RedSender::new(line.alloc, &[]) {
+        Ok(other) => {
+            *sender = other;
+            synced(line, sender);
         }
-        _ => synced(line, sender),
+        Err(fault) => line.refuse(fault),
     }
 }
 
 /// Takes the distances of the next word, if they are some: numbers that commas part, or a dash for none.
-fn synced(line: &mut Line<'_>, sender: &mut RedSender) -> Result<(), PacketError> {
+fn synced(line: &mut Line<'_>, sender: &mut RedSender) {
     let mut distances = Vec::new(line.alloc);
     let word = line.word();
     for part in if word == "-" { "" } else { word }.split_terminator(',') {
-        distances.push(line.value::<u32>(part))?;
+        let distance = line.value::<u32>(part);
+        line.keep(&mut distances, distance);
     }
-    if RedSender::are_distances(&distances) {
-        line.put(word);
-        return sender.sync(&distances);
+    if !RedSender::are_distances(&distances) {
+        line.refuse("no distances");
+    } else if sender.sync(&distances).is_err() {
+        line.refuse("out of memory");
     }
-    line.refuse("no distances");
-    Ok(())
+    line.put(word);
 }
 
 /// `wrap TYPE TIME BUDGET PAYLOAD`: the packet that a payload is sent in.
-fn wrapped(line: &mut Line<'_>, sender: &mut RedSender) -> Result<(), PacketError> {
+fn wrapped(line: &mut Line<'_>, sender: &mut RedSender) {
     let (pt, time) = (line.number::<u8>(), line.number::<u32>());
     let budget = line.number::<usize>();
     let payload = line.bytes();
-    if !line.is_refused {
-        line.put_bytes(&sender.wrap(pt, &payload, time, budget)?);
+    if line.is_refused {
+        return;
     }
-    Ok(())
+    match sender.wrap(pt, &payload, time, budget) {
+        Ok(packet) => line.put_bytes(&packet),
+        Err(fault) => line.refuse(fault),
+    }
 }
 
-/// `write TYPE PAYLOAD TYPE@OFFSET=PAYLOAD ..`: the packet of a primary payload behind blocks.
-fn written(line: &mut Line<'_>) -> Result<(), PacketError> {
-    let primary_pt = line.number::<u8>();
-    let primary = line.bytes();
+/// A block from `TYPE@OFFSET=PAYLOAD`.
+fn block_of(line: &mut Line<'_>, word: &str) -> RedundantBlock {
+    let (pt, rest) = part(word, '@');
+    let (offset, payload) = part(rest, '=');
+    RedundantBlock {
+        pt: line.value::<u8>(pt),
+        timestamp_offset: line.value::<u32>(offset),
+        payload: line.bytes_of(payload),
+    }
+}
+
+/// `write TYPE PAYLOAD BLOCK ..`: the packet of a primary payload behind blocks.
+fn written(line: &mut Line<'_>) {
+    let pt = line.number::<u8>();
+    let payload = line.bytes();
     let mut blocks = Vec::new(line.alloc);
     for word in line.rest.split_whitespace() {
-        let (pt, rest) = part(word, '@');
-        let (offset, payload) = part(rest, '=');
-        blocks.push(RedundantBlock {
-            pt: line.value::<u8>(pt),
-            timestamp_offset: line.value::<u32>(offset),
-            payload: line.bytes_of(payload),
-        })?;
+        let block = block_of(line, word);
+        line.keep(&mut blocks, block);
     }
-    line.put_bytes(&RedEncoder::encode(line.alloc, primary_pt, &primary, &blocks)?);
-    Ok(())
+    match RedEncoder::encode(line.alloc, pt, &payload, &blocks) {
+        Ok(packet) => line.put_bytes(&packet),
+        Err(fault) => line.refuse(fault),
+    }
 }
 
 /// The blocks of a packet, each as `write` reads it, and a star behind the primary payload.
-fn read(line: &mut Line<'_>) -> Result<(), PacketError> {
+fn read(line: &mut Line<'_>) {
     let packet = line.bytes();
-    for block in RedDecoder::decode(&packet)? {
-        line.put(format_args!("{}@{}=", block.pt, block.timestamp_offset));
-        line.put_bytes(block.payload);
-        line.put(if block.primary { "*" } else { " " });
+    match RedDecoder::decode(&packet) {
+        Ok(blocks) => {
+            for block in blocks {
+                line.put(format_args!("{}@{}=", block.pt, block.timestamp_offset));
+                line.put_bytes(block.payload);
+                line.put(if block.primary { "*" } else { " " });
+            }
+        }
+        Err(fault) => line.refuse(fault),
     }
-    Ok(())
 }
