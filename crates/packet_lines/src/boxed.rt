@@ -9,14 +9,7 @@ use std::alloc::AllocError;
 
 /// `boxed LIMIT SAMPLE`: the payloads of a sample through a boxed packetizer, and the unit that they give through a
 /// boxed depacketizer.
-pub(crate) fn carried(line: &mut Line<'_>, format: &Format) {
-    if send(line, format).is_err() {
-        line.refuse("out of memory");
-    }
-}
-
-/// The payloads of a sample, and the unit that they give.
-fn send(line: &mut Line<'_>, format: &Format) -> Result<(), AllocError> {
+pub(crate) fn carried(line: &mut Line<'_>, format: &Format) -> Result<(), AllocError> {
     let Some(packetizer) = format.packetizer() else {
         return Ok(());
     };

@@ -3,14 +3,14 @@
 use crate::boxed::carried;
 use crate::formats::{Formats, take_up};
 use crate::line::Line;
-use crate::numbers::{comparison, difference, extended, frequency, micros, of_window};
+use crate::numbers::{comparison, difference, extended, micros, of_window};
 use crate::reading::{header_text, payload_text, run_text};
 use crate::samples::{head, keyframe, packed, pushed, read, short_packets, unit};
 use crate::writing::{set_map, written};
 use crate::{events, h26x, profiles, redundancy, vp8};
-use payload_core::{PacketError, RedSender};
+use payload_core::RedSender;
 use rtp_wire::{ExtensionMap, SeqNo, SeqNoWindow};
-use std::alloc::Global;
+use std::alloc::{AllocError, Global};
 
 /// What lines leave for the lines behind them.
 #[derive(Drop)]
@@ -26,9 +26,12 @@ pub(crate) struct Subjects {
 
 impl Subjects {
     /// No header extension, a window behind the number 0, no payload format, and nothing sent.
-    pub(crate) fn new(alloc: Global) -> Result<Self, PacketError> {
+    pub(crate) fn new(alloc: Global) -> Result<Self, AllocError> {
+        let Ok(sender) = RedSender::new(alloc, &[]) else {
+            return Err(AllocError);
+        };
         Ok(Subjects {
-            sender: RedSender::new(alloc, &[])?,
+            sender,
             map: ExtensionMap::empty(),
             window: SeqNoWindow::new_after(SeqNo::from(0)),
             formats: None,
@@ -63,7 +66,10 @@ fn of_header(subjects: &mut Subjects, line: &mut Line<'_>, command: &str) {
         "micros" => micros(line),
         "compare" => comparison(line),
         "minus" => difference(line),
-        "frequency" => frequency(line),
+        "frequency" => {
+            let rate = line.rate(line.rest);
+            line.put(rate)
+        }
         _ => of_words(subjects, line, command),
     }
 }
@@ -99,7 +105,11 @@ fn of_format(line: &mut Line<'_>, formats: &mut Formats, command: &str) {
         "pop" => unit(line, formats.buffer.pop()),
         "drain" => unit(line, formats.buffer.drain()),
         "short" => short_packets(line, &formats.format),
-        "boxed" => carried(line, &formats.format),
+        "boxed" => {
+            if carried(line, &formats.format).is_err() {
+                line.refuse("out of memory");
+            }
+        }
         "head" => head(line, &formats.format),
         "keyframe" => keyframe(line, formats.format.codec),
         _ => line.refuse(format_args!("no command {command}")),

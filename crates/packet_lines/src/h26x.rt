@@ -28,19 +28,31 @@ pub(crate) fn shows(line: &mut Line<'_>) {
 pub(crate) fn header(line: &mut Line<'_>) {
     let codec = line.word();
     let bytes = line.bytes();
-    match (codec, bytes.as_slice()) {
-        ("H265", [byte]) => fragment_h265(line, H265FragmentationUnitHeader(*byte)),
-        ("H266", [byte]) => fragment_h266(line, H266FragmentationUnitHeader(*byte)),
-        ("H265", [high, low]) => {
-            let word = u16::from(*high) * 256 + u16::from(*low);
-            unit_h265(line, H265NALUHeader(word))
-        }
-        ("H266", [high, low]) => unit_h266(line, H266NALUHeader::new(*high, *low)),
+    match codec {
+        "H265" => header_h265(line, &bytes),
+        "H266" => header_h266(line, &bytes),
         _ => line.refuse(format_args!("no header of {codec}")),
     }
 }
 
-/// An H.265 header: what it is of, F, the type, the layer and TID, and the header of these three.
+/// An H.265 header; of a fragment S, E and the type, and the header of these three.
+fn header_h265(line: &mut Line<'_>, bytes: &[u8]) {
+    match bytes {
+        [byte] => {
+            let header = H265FragmentationUnitHeader(*byte);
+            let (s, e, fu_type) = (header.s(), header.e(), header.fu_type());
+            let again = H265FragmentationUnitHeader::new(s, e, fu_type).0;
+            line.put(format_args!("{s} {e} {fu_type} {again:02x}"))
+        }
+        [high, low] => {
+            let word = u16::from(*high) * 256 + u16::from(*low);
+            unit_h265(line, H265NALUHeader(word))
+        }
+        _ => line.refuse("no header of H265"),
+    }
+}
+
+/// An H.265 unit's header: what it is of, F, the type, the layer and TID, and the header of these three.
 fn unit_h265(line: &mut Line<'_>, header: H265NALUHeader) {
     line.put(if header.is_aggregation_packet() {
         "aggregate "
@@ -63,14 +75,21 @@ fn unit_h265(line: &mut Line<'_>, header: H265NALUHeader) {
     line.put(format_args!("{nalu_type} {layer} {tid} {again:04x}"))
 }
 
-/// An H.265 fragment's header: S, E and the type, and the header of these three.
-fn fragment_h265(line: &mut Line<'_>, header: H265FragmentationUnitHeader) {
-    let (s, e, fu_type) = (header.s(), header.e(), header.fu_type());
-    let again = H265FragmentationUnitHeader::new(s, e, fu_type).0;
-    line.put(format_args!("{s} {e} {fu_type} {again:02x}"))
+/// An H.266 header; of a fragment S, E, P and the type, and the header of these four.
+fn header_h266(line: &mut Line<'_>, bytes: &[u8]) {
+    match bytes {
+        [byte] => {
+            let header = H266FragmentationUnitHeader(*byte);
+            let (s, e, p, fu_type) = (header.s(), header.e(), header.p(), header.fu_type());
+            let again = H266FragmentationUnitHeader::new(s, e, p, fu_type).0;
+            line.put(format_args!("{s} {e} {p} {fu_type} {again:02x}"))
+        }
+        [high, low] => unit_h266(line, H266NALUHeader::new(*high, *low)),
+        _ => line.refuse("no header of H266"),
+    }
 }
 
-/// An H.266 header: what it is of, F and Z, the type, the layer and TID, and the header of these three.
+/// An H.266 unit's header: what it is of, F and Z, the type, the layer and TID, and the header of these three.
 fn unit_h266(line: &mut Line<'_>, header: H266NALUHeader) {
     line.put(if header.is_aggregation_packet() {
         "aggregate "
@@ -86,11 +105,4 @@ fn unit_h266(line: &mut Line<'_>, header: H266NALUHeader) {
     let (nalu_type, layer, tid) = (header.nalu_type(), header.layer_id(), header.tid());
     let again = H266NALUHeader::new_with_type(nalu_type, layer, tid).0;
     line.put(format_args!("{nalu_type} {layer} {tid} {again:04x}"))
-}
-
-/// An H.266 fragment's header: S, E, P and the type, and the header of these four.
-fn fragment_h266(line: &mut Line<'_>, header: H266FragmentationUnitHeader) {
-    let (s, e, p, fu_type) = (header.s(), header.e(), header.p(), header.fu_type());
-    let again = H266FragmentationUnitHeader::new(s, e, p, fu_type).0;
-    line.put(format_args!("{s} {e} {p} {fu_type} {again:02x}"))
 }

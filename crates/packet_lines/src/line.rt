@@ -89,8 +89,8 @@ impl<'a> Line<'a> {
         word
     }
 
-    /// What a word says: a number, a truth value or a clock rate.
-    fn said<T: FromStr + Drop>(&mut self, word: &str, otherwise: T) -> T
+    /// The number or truth value that a word says.
+    pub(crate) fn value<T: FromStr + Default + Drop>(&mut self, word: &str) -> T
     where
         T::Err: Drop,
     {
@@ -98,15 +98,7 @@ impl<'a> Line<'a> {
             return value;
         }
         self.refuse(format_args!("no such value {word:?}"));
-        otherwise
-    }
-
-    /// The number or truth value that a word says.
-    pub(crate) fn value<T: FromStr + Default + Drop>(&mut self, word: &str) -> T
-    where
-        T::Err: Drop,
-    {
-        self.said(word, T::default())
+        T::default()
     }
 
     /// What the next word says.
@@ -120,7 +112,11 @@ impl<'a> Line<'a> {
 
     /// The clock rate that a word says.
     pub(crate) fn rate(&mut self, word: &str) -> Frequency {
-        self.said(word, Frequency::MICROS)
+        if let Ok(rate) = word.parse::<Frequency>() {
+            return rate;
+        }
+        self.refuse(format_args!("no such value {word:?}"));
+        Frequency::MICROS
     }
 
     /// The next word, a time: `TICKS/RATE`.

@@ -32,8 +32,7 @@ fn answer_lines(rt: &HostRuntime, subjects: &mut Subjects) -> io::Result<()> {
     Ok(())
 }
 
-fn main(rt: HostRuntime) -> anyhow::Result<()> {
+fn main(rt: HostRuntime) -> io::Result<()> {
     let mut subjects = Subjects::new(rt.alloc())?;
-    answer_lines(&rt, &mut subjects)?;
-    Ok(())
+    answer_lines(&rt, &mut subjects)
 }

@@ -37,12 +37,6 @@ pub(crate) fn of_window(line: &mut Line<'_>, window: &mut SeqNoWindow, command: 
     line.put(window.max_seq())
 }
 
-/// `frequency RATE`: the clock rate.
-pub(crate) fn frequency(line: &mut Line<'_>) {
-    let rate = line.rate(line.rest);
-    line.put(rate)
-}
-
 /// `micros TIME`: its whole microseconds.
 pub(crate) fn micros(line: &mut Line<'_>) {
     let time = line.time();

@@ -62,20 +62,19 @@ fn set_field(line: &mut Line<'_>, header: &mut RtpHeader, word: &str) {
         "number" => header.sequence_number = line.value(value),
         "time" => header.timestamp = line.value(value),
         "ssrc" => header.ssrc = Ssrc::from(line.value::<u32>(value)),
-        "csrc" => push_source(header, line.value(value)),
+        // One that has no place is counted, so that the header isn't written.
+        "csrc" => {
+            let source = line.value(value);
+            if header.csrc_count < 15 {
+                header.csrc[header.csrc_count] = source;
+            }
+            header.csrc_count = header.csrc_count.saturating_add(1);
+        }
         "marker" => header.marker = true,
         "padding" => header.has_padding = true,
         "bare" => header.has_extension = false,
         _ => set_value(line, &mut header.ext_vals, name, value),
     }
-}
-
-/// A source that has no place is counted, so that the header isn't written.
-fn push_source(header: &mut RtpHeader, source: u32) {
-    if header.csrc_count < 15 {
-        header.csrc[header.csrc_count] = source;
-    }
-    header.csrc_count = header.csrc_count.saturating_add(1);
 }
 
 fn set_value(line: &mut Line<'_>, values: &mut ExtensionValues, name: &str, value: &str) {
