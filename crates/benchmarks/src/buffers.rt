@@ -2,7 +2,7 @@
 
 use crate::measured::Round;
 use crate::tally::Tally;
-use payload_core::{Depacketizer, DepacketizingBuffer, OpusDepacketizer, PacketError, RtpMeta};
+use payload_core::{Depacketizer, DepacketizingBuffer, OpusDepacketizer, RtpMeta};
 use rtp_wire::{ExtensionValues, SeqNo};
 use std::alloc::Global;
 
@@ -16,28 +16,34 @@ fn meta(number: u64, time: u32, marker: bool) -> RtpMeta {
     }
 }
 
+/// Pops a unit, if one is due, and counts it.
+fn pop<D: Depacketizer>(buffer: &mut DepacketizingBuffer<D>, tally: &mut Tally) {
+    if let Ok(Some(unit)) = buffer.pop() {
+        tally.add(1, unit.bytes.len());
+    }
+}
+
 /// The packets of a sample that are pushed into a buffer, the last with the marker, of which their unit is popped then.
 #[derive(Drop)]
 pub(crate) struct Buffering<'a, D> {
     pub(crate) buffer: DepacketizingBuffer<D>,
     pub(crate) packets: &'a [Vec<u8>],
-    pub(crate) number: u32,
+    pub(crate) number: u64,
 }
 
 /// Counts units, and their bytes.
 impl<D: Depacketizer + Drop> Round for Buffering<'_, D> {
-    fn round(&mut self, _alloc: Global, time: u32, tally: &mut Tally) -> Result<(), PacketError> {
+    fn round(&mut self, _alloc: Global, time: u32, tally: &mut Tally) {
         let packets = self.packets;
-        for (place, packet) in packets.iter().enumerate() {
-            let last = packets.len() - place == 1;
-            self.buffer
-                .push(meta(u64::from(self.number), time, last), packet)?;
+        let mut behind = packets.len();
+        for packet in packets {
+            behind = behind.saturating_sub(1);
+            let _ = self
+                .buffer
+                .push(meta(self.number, time, behind == 0), packet);
             self.number = self.number.saturating_add(1);
         }
-        if let Some(unit) = self.buffer.pop()? {
-            tally.add(1, unit.bytes.len());
-        }
-        Ok(())
+        pop(&mut self.buffer, tally);
     }
 }
 
@@ -50,12 +56,9 @@ pub(crate) struct Waiting {
 
 /// Counts units, and their bytes.
 impl Round for Waiting {
-    fn round(&mut self, _alloc: Global, time: u32, tally: &mut Tally) -> Result<(), PacketError> {
-        self.buffer.push(meta(self.number, time, false), &[7; 120])?;
+    fn round(&mut self, _alloc: Global, time: u32, tally: &mut Tally) {
+        let _ = self.buffer.push(meta(self.number, time, false), &[7; 120]);
         self.number = self.number.saturating_add(2);
-        if let Some(unit) = self.buffer.pop()? {
-            tally.add(1, unit.bytes.len());
-        }
-        Ok(())
+        pop(&mut self.buffer, tally);
     }
 }

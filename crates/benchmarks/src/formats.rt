@@ -10,6 +10,7 @@ use payload_core::{
 };
 use rtp_wire::ExtensionValues;
 use std::alloc::Global;
+use std::io;
 
 /// The limit of a payload in bytes.
 pub(crate) const LIMIT: usize = 1200;
@@ -25,12 +26,12 @@ struct Sending<'a, P> {
 
 /// Counts what the line took.
 impl<P: Packetizer> Round for Sending<'_, P> {
-    fn round(&mut self, alloc: Global, number: u32, tally: &mut Tally) -> Result<(), PacketError> {
+    fn round(&mut self, alloc: Global, number: u32, tally: &mut Tally) {
         let line = &mut self.line;
-        self.payloader
-            .push_sample(alloc, line, LIMIT, number, self.sample, &self.values)?;
+        let _ = self
+            .payloader
+            .push_sample(alloc, line, LIMIT, number, self.sample, &self.values);
         *tally = self.line.tally;
-        Ok(())
     }
 }
 
@@ -44,21 +45,16 @@ struct Reading<'a, D> {
 
 /// Counts packets, and the bytes that they give.
 impl<D: Depacketizer> Round for Reading<'_, D> {
-    fn round(
-        &mut self,
-        _alloc: Global,
-        _number: u32,
-        tally: &mut Tally,
-    ) -> Result<(), PacketError> {
+    fn round(&mut self, _alloc: Global, _number: u32, tally: &mut Tally) {
         self.out.clear();
         let packets = self.packets;
         let mut extra = CodecExtra::None;
         for packet in packets {
-            self.depacketizer
-                .depacketize(packet, &mut self.out, &mut extra)?;
+            let _ = self
+                .depacketizer
+                .depacketize(packet, &mut self.out, &mut extra);
         }
         tally.add(packets.len(), self.out.len());
-        Ok(())
     }
 }
 
@@ -73,21 +69,15 @@ pub(crate) struct Copying<'a> {
 
 /// Counts packets, and the bytes that they give.
 impl Round for Copying<'_> {
-    fn round(
-        &mut self,
-        _alloc: Global,
-        _number: u32,
-        tally: &mut Tally,
-    ) -> Result<(), PacketError> {
+    fn round(&mut self, _alloc: Global, _number: u32, tally: &mut Tally) {
         self.fragment.clear();
         self.out.clear();
         let packets = self.packets;
         for packet in packets {
-            self.fragment.extend_from_slice(packet)?;
+            let _ = self.fragment.extend_from_slice(packet);
         }
-        self.out.extend_from_slice(&self.fragment)?;
+        let _ = self.out.extend_from_slice(&self.fragment);
         tally.add(packets.len(), self.out.len());
-        Ok(())
     }
 }
 
@@ -99,9 +89,10 @@ pub(crate) struct SendingRed {
 
 /// Counts packets, and their bytes.
 impl Round for SendingRed {
-    fn round(&mut self, _alloc: Global, time: u32, tally: &mut Tally) -> Result<(), PacketError> {
-        tally.add(1, self.sender.wrap(111, &[7; 120], time, LIMIT)?.len());
-        Ok(())
+    fn round(&mut self, _alloc: Global, time: u32, tally: &mut Tally) {
+        if let Ok(packet) = self.sender.wrap(111, &[7; 120], time, LIMIT) {
+            tally.add(1, packet.len());
+        }
     }
 }
 
@@ -113,31 +104,31 @@ pub(crate) struct ReadingRed<'a> {
 
 /// Counts payloads, and their bytes.
 impl Round for ReadingRed<'_> {
-    fn round(
-        &mut self,
-        _alloc: Global,
-        _number: u32,
-        tally: &mut Tally,
-    ) -> Result<(), PacketError> {
-        for block in RedDecoder::decode(self.packet)? {
-            tally.add(1, block.payload.len());
+    fn round(&mut self, _alloc: Global, _number: u32, tally: &mut Tally) {
+        if let Ok(blocks) = RedDecoder::decode(self.packet) {
+            for block in blocks {
+                tally.add(1, block.payload.len());
+            }
         }
-        Ok(())
     }
 }
 
-/// Does it so often, and prints how many packets it were, and the time that it took; answers what did it.
-pub(crate) fn measure_packets<R: Round + Drop>(
+/// What a payload format refuses, as an error of the program.
+pub(crate) fn refused(_error: PacketError) -> io::Error {
+    io::Error::other("a payload format refuses a sample")
+}
+
+/// Does it so often, and prints how many packets it were, and the time that it took.
+pub(crate) fn measure_packets<R: Round>(
     rt: &HostRuntime,
     format: &str,
     way: &str,
-    round: R,
+    round: &mut R,
     rounds: u32,
-) -> anyhow::Result<R> {
-    let (tally, round) = measure(rt, format, way, round, rounds)?;
+) -> io::Result<()> {
+    let tally = measure(rt, format, way, round, rounds)?;
     let (packets, bytes) = (tally.packets, tally.bytes);
-    println!(*rt; "{format} {way}: {packets} packets or units, {bytes} bytes")?;
-    Ok(round)
+    println!(*rt; "{format} {way}: {packets} packets or units, {bytes} bytes")
 }
 
 /// Sends a sample of a format, reads its packets, and has them go through a buffer, so often.
@@ -148,29 +139,29 @@ pub(crate) fn both_ways<P: Packetizer + Drop, D: Depacketizer + Drop>(
     rounds: u32,
     mut packetizer: P,
     depacketizer: D,
-) -> anyhow::Result<()> {
-    let packets = packetizer.packetize(rt.alloc(), LIMIT, sample)?;
-    let sending = Sending {
+) -> io::Result<()> {
+    let packets = packetizer
+        .packetize(rt.alloc(), LIMIT, sample)
+        .map_err(refused)?;
+    let mut sending = Sending {
         payloader: Payloader::new(packetizer),
         line: Line::new(),
         sample,
         values: ExtensionValues::absent(),
     };
-    let sum = measure_packets(rt, format, "sent", sending, rounds)?
-        .line
-        .sum;
+    measure_packets(rt, format, "sent", &mut sending, rounds)?;
+    let sum = sending.line.sum;
     eprintln!(*rt; "{format}: bytes of the payloads are {sum} together")?;
-    let reading = Reading {
+    let mut reading = Reading {
         depacketizer,
         packets: &packets,
         out: Vec::new(rt.alloc()),
     };
-    let depacketizer = measure_packets(rt, format, "read", reading, rounds)?.depacketizer;
-    let buffering = Buffering {
-        buffer: DepacketizingBuffer::new(rt.alloc(), depacketizer, 0),
+    measure_packets(rt, format, "read", &mut reading, rounds)?;
+    let mut buffering = Buffering {
+        buffer: DepacketizingBuffer::new(rt.alloc(), reading.depacketizer, 0),
         packets: &packets,
         number: 0,
     };
-    measure_packets(rt, format, "through the buffer", buffering, rounds)?;
-    Ok(())
+    measure_packets(rt, format, "through the buffer", &mut buffering, rounds)
 }

@@ -8,8 +8,8 @@ use h26x_payload::{
     H264Depacketizer, H264Packetizer, H265Depacketizer, H265Packetizer, H266Depacketizer,
     H266Packetizer, nal_units,
 };
-use payload_core::PacketError;
 use std::alloc::{AllocError, Global};
+use std::io;
 
 /// How often an access unit is sent, read or cut.
 const ROUNDS: u32 = 2_000;
@@ -35,7 +35,7 @@ fn h266_sample(alloc: Global) -> Result<Vec<u8>, AllocError> {
 }
 
 /// H.264.
-fn h264(rt: &HostRuntime) -> anyhow::Result<()> {
+fn h264(rt: &HostRuntime) -> io::Result<()> {
     let sample = h264_sample(rt.alloc())?;
     let depacketizer = H264Depacketizer::new(rt.alloc());
     both_ways(
@@ -49,7 +49,7 @@ fn h264(rt: &HostRuntime) -> anyhow::Result<()> {
 }
 
 /// H.265, with decoding order numbers or without.
-fn h265(rt: &HostRuntime, format: &str, donl: bool) -> anyhow::Result<()> {
+fn h265(rt: &HostRuntime, format: &str, donl: bool) -> io::Result<()> {
     let sample = h265_sample(rt.alloc())?;
     let mut packetizer = H265Packetizer::new();
     packetizer.with_donl(donl);
@@ -59,7 +59,7 @@ fn h265(rt: &HostRuntime, format: &str, donl: bool) -> anyhow::Result<()> {
 }
 
 /// H.266.
-fn h266(rt: &HostRuntime) -> anyhow::Result<()> {
+fn h266(rt: &HostRuntime) -> io::Result<()> {
     let sample = h266_sample(rt.alloc())?;
     let depacketizer = H266Depacketizer::new(rt.alloc());
     both_ways(
@@ -80,28 +80,22 @@ struct Cutting<'a> {
 
 /// Counts units, and their bytes.
 impl Round for Cutting<'_> {
-    fn round(
-        &mut self,
-        _alloc: Global,
-        _number: u32,
-        tally: &mut Tally,
-    ) -> Result<(), PacketError> {
+    fn round(&mut self, _alloc: Global, _number: u32, tally: &mut Tally) {
         for unit in nal_units(self.sample) {
             tally.add(1, unit.len());
         }
-        Ok(())
     }
 }
 
 /// A text cut into its units.
-fn cut(rt: &HostRuntime) -> anyhow::Result<()> {
+fn cut(rt: &HostRuntime) -> io::Result<()> {
     let sample = h264_sample(rt.alloc())?;
-    let (units, _) = measure(rt, "H.264", "cut", Cutting { sample: &sample }, ROUNDS)?;
-    Ok(println!(*rt; "cut: {} units, {} bytes", units.packets, units.bytes)?)
+    let units = measure(rt, "H.264", "cut", &mut Cutting { sample: &sample }, ROUNDS)?;
+    println!(*rt; "cut: {} units, {} bytes", units.packets, units.bytes)
 }
 
 /// Each format, with decoding order numbers too, and cutting.
-pub(crate) fn measure_all(rt: &HostRuntime) -> anyhow::Result<()> {
+pub(crate) fn measure_all(rt: &HostRuntime) -> io::Result<()> {
     h264(rt)?;
     h265(rt, "H.265", false)?;
     h265(rt, "H.265 with DONL", true)?;

@@ -4,11 +4,11 @@ ghost use Rattle.std.specs.Prelude.{◌≤◌, ◌<◌};
 
 use crate::measured::{Round, measure};
 use crate::tally::Tally;
-use payload_core::PacketError;
 use rtp_wire::{
     Extension, ExtensionMap, ExtensionValues, Mid, RtpHeader, SeqNo, SeqNoWindow, VideoOrientation,
 };
 use std::alloc::Global;
+use std::io;
 
 /// How often each thing is done.
 const ROUNDS: u32 = 200_000;
@@ -50,12 +50,11 @@ impl<'a> Writing<'a> {
 
 /// Counts headers, and their bytes.
 impl Round for Writing<'_> {
-    fn round(&mut self, _alloc: Global, number: u32, tally: &mut Tally) -> Result<(), PacketError> {
+    fn round(&mut self, _alloc: Global, number: u32, tally: &mut Tally) {
         let header = header(self.exts, self.values, (number % 65536) as u16);
         if header.wire_len(self.exts) <= self.buf.len() {
             tally.add(1, header.write_to(&mut self.buf, self.exts));
         }
-        Ok(())
     }
 }
 
@@ -80,16 +79,10 @@ impl<'a> Reading<'a> {
 
 /// Counts headers, and their bytes.
 impl Round for Reading<'_> {
-    fn round(
-        &mut self,
-        _alloc: Global,
-        _number: u32,
-        tally: &mut Tally,
-    ) -> Result<(), PacketError> {
+    fn round(&mut self, _alloc: Global, _number: u32, tally: &mut Tally) {
         if let Some(header) = RtpHeader::parse(&self.buf, self.exts) {
             tally.add(1, header.header_len);
         }
-        Ok(())
     }
 }
 
@@ -101,23 +94,21 @@ struct Copying {
 
 /// Counts copies, and how many of the written bytes are the greatest.
 impl Round for Copying {
-    fn round(&mut self, _alloc: Global, number: u32, tally: &mut Tally) -> Result<(), PacketError> {
+    fn round(&mut self, _alloc: Global, number: u32, tally: &mut Tally) {
         self.to[..COPIED].copy_from_slice(&[255; COPIED]);
         self.to[2] = (number % 256) as u8;
         tally.add(1, (self.to[2] / 255) as usize);
-        Ok(())
     }
 }
 
 /// A window is handed rising numbers, every third one twice; counts those that it takes.
 impl Round for SeqNoWindow {
-    fn round(&mut self, _alloc: Global, number: u32, tally: &mut Tally) -> Result<(), PacketError> {
+    fn round(&mut self, _alloc: Global, number: u32, tally: &mut Tally) {
         let number = SeqNo::from((number - number % 3 / 2) as u64);
         if self.accepts(number) {
             self.update(number);
             tally.add(1, 0);
         }
-        Ok(())
     }
 }
 
@@ -143,27 +134,36 @@ fn both_ways(
     what: &str,
     exts: &ExtensionMap,
     values: &ExtensionValues,
-) -> anyhow::Result<()> {
-    let writing = Writing::new(exts, values);
-    let (written, _) = measure(rt, "header", "written", writing, ROUNDS)?;
-    let reading = Reading::new(exts, values);
-    let (read, _) = measure(rt, "header", "read", reading, ROUNDS)?;
+) -> io::Result<()> {
+    let mut writing = Writing::new(exts, values);
+    let written = measure(rt, "header", "written", &mut writing, ROUNDS)?;
+    let mut reading = Reading::new(exts, values);
+    let read = measure(rt, "header", "read", &mut reading, ROUNDS)?;
     let (bytes, written, read) = (written.bytes, written.packets, read.packets);
-    Ok(println!(*rt; "headers {what}: {bytes} bytes\nwritten: {written}\nread: {read}")?)
+    println!(*rt; "headers {what}: {bytes} bytes\nwritten: {written}\nread: {read}")
+}
+
+/// Headers without extensions, written and read.
+fn plain(rt: &HostRuntime) -> io::Result<()> {
+    let exts = ExtensionMap::empty();
+    both_ways(rt, "without extensions", &exts, &ExtensionValues::absent())
+}
+
+/// Headers with four extensions, written and read.
+fn extended(rt: &HostRuntime) -> io::Result<()> {
+    let (exts, values) = four();
+    both_ways(rt, "with four extensions", &exts, &values)
 }
 
 /// Copies, headers without extensions and with four, and a window.
-pub(crate) fn measure_all(rt: &HostRuntime) -> anyhow::Result<()> {
-    let (copied, _) = measure(rt, "bytes", "copied", Copying { to: [0; 64] }, ROUNDS)?;
-    println!(*rt;
-        "copies of {COPIED} bytes: {}\ncopied: {}",
-        copied.bytes, copied.packets
-    )?;
-    let (exts, values) = (ExtensionMap::empty(), ExtensionValues::absent());
-    both_ways(rt, "without extensions", &exts, &values)?;
-    let (exts, values) = four();
-    both_ways(rt, "with four extensions", &exts, &values)?;
-    let window = SeqNoWindow::new(SeqNo::from(0));
-    let (taken, _) = measure(rt, "window", "updated", window, ROUNDS)?;
-    Ok(println!(*rt; "window updates: {}", taken.packets)?)
+pub(crate) fn measure_all(rt: &HostRuntime) -> io::Result<()> {
+    let mut copying = Copying { to: [0; 64] };
+    let copied = measure(rt, "bytes", "copied", &mut copying, ROUNDS)?;
+    let (greatest, copied) = (copied.bytes, copied.packets);
+    println!(*rt; "copies of {COPIED} bytes: {greatest}\ncopied: {copied}")?;
+    plain(rt)?;
+    extended(rt)?;
+    let mut window = SeqNoWindow::new(SeqNo::from(0));
+    let taken = measure(rt, "window", "updated", &mut window, ROUNDS)?;
+    println!(*rt; "window updates: {}", taken.packets)
 }

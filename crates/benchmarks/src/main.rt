@@ -16,11 +16,10 @@ mod texts;
 
 use std::io;
 
-fn main(rt: HostRuntime) -> anyhow::Result<()> {
-    let text = io::read_to_string(rt.alloc(), rt.reader())?;
+fn main(rt: HostRuntime) -> io::Result<()> {
     headers::measure_all(&rt)?;
     payloads::measure_all(&rt)?;
     h26x::measure_all(&rt)?;
-    texts::measure_all(&rt, text.as_str())?;
+    texts::measure_all(&rt)?;
     made_texts::measure_all(&rt)
 }

@@ -1,43 +1,39 @@
 //! What is done over and over, and the time that it takes.
 
 use crate::tally::Tally;
-use payload_core::PacketError;
 use std::alloc::Global;
+use std::io;
 use std::time::Instant;
 
 /// What is done over and over.
 pub(crate) trait Round {
-    /// Does it once more, and counts what came of it.
-    fn round(&mut self, alloc: Global, number: u32, tally: &mut Tally) -> Result<(), PacketError>;
+    /// Does it once more, and counts what came of it. Where something fails, less is counted.
+    fn round(&mut self, alloc: Global, number: u32, tally: &mut Tally);
 }
 
 /// Does it so often; answers what was counted.
-pub(crate) fn repeat<R: Round>(
-    alloc: Global,
-    round: &mut R,
-    rounds: u32,
-) -> Result<Tally, PacketError> {
+pub(crate) fn repeat<R: Round>(alloc: Global, round: &mut R, rounds: u32) -> Tally {
     let mut tally = Tally::new();
     for number in 0..rounds {
-        round.round(alloc, number, &mut tally)?;
+        round.round(alloc, number, &mut tally);
     }
-    Ok(tally)
+    tally
 }
 
-/// Does it so often, and prints the time that it took; answers what was counted, and what did it.
-pub(crate) fn measure<R: Round + Drop>(
+/// Does it so often, and prints the time that it took; answers what was counted.
+pub(crate) fn measure<R: Round>(
     rt: &HostRuntime,
     what: &str,
     way: &str,
-    mut round: R,
+    round: &mut R,
     rounds: u32,
-) -> anyhow::Result<(Tally, R)> {
+) -> io::Result<Tally> {
     let start = Instant::now(rt)?;
-    let tally = repeat(rt.alloc(), &mut round, rounds)?;
+    let tally = repeat(rt.alloc(), round, rounds);
     let micros = start.elapsed(rt)?.as_micros().max(1);
     let nanos = micros.saturating_mul(1_000) / (tally.packets as u128).max(1);
     let rate = tally.packets as u128 * 1_000_000 / micros;
     let bytes = tally.bytes as u128 / micros;
     eprintln!(*rt; "{what} {way}: {micros} us, {nanos} ns each, {rate} and {bytes} MB a second")?;
-    Ok((tally, round))
+    Ok(tally)
 }

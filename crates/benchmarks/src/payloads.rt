@@ -1,7 +1,7 @@
 //! Payload formats of sound and pictures, and a buffer that holds many packets.
 
 use crate::buffers::Waiting;
-use crate::formats::{Copying, LIMIT, ReadingRed, SendingRed, both_ways, measure_packets};
+use crate::formats::{Copying, LIMIT, ReadingRed, SendingRed, both_ways, measure_packets, refused};
 use crate::measured::{measure, repeat};
 use payload_core::{
     AmrWbDepacketizer, AmrWbPacketizer, Av1Depacketizer, Av1Packetizer, DepacketizingBuffer,
@@ -10,6 +10,7 @@ use payload_core::{
     Vp9Packetizer,
 };
 use std::alloc::Global;
+use std::io;
 
 /// How often a sample of Opus or G.711 is sent and read.
 const AUDIO: u32 = 50_000;
@@ -24,7 +25,7 @@ const VIDEO: u32 = 2_000;
 const TURNS: u32 = 2_000;
 
 /// Opus and G.711: samples of 20 ms.
-fn audio(rt: &HostRuntime) -> anyhow::Result<()> {
+fn audio(rt: &HostRuntime) -> io::Result<()> {
     let (packetizer, depacketizer) = (OpusPacketizer::new(), OpusDepacketizer::new());
     both_ways(rt, "Opus", &[7; 120], AUDIO, packetizer, depacketizer)?;
     let (packetizer, depacketizer) = (G711Packetizer::new(), G711Depacketizer::new());
@@ -32,7 +33,7 @@ fn audio(rt: &HostRuntime) -> anyhow::Result<()> {
 }
 
 /// AMR-WB in one layout: samples of 20 ms at 23.85 kbit/s.
-fn speech(rt: &HostRuntime, format: &str, octet_align: bool) -> anyhow::Result<()> {
+fn speech(rt: &HostRuntime, format: &str, octet_align: bool) -> io::Result<()> {
     let mut sample = [7; 61];
     sample[0] = 0x44;
     let packetizer = AmrWbPacketizer::new(octet_align);
@@ -51,16 +52,21 @@ fn redundant_packet(alloc: Global) -> Result<Vec<u8>, PacketError> {
 }
 
 /// Opus with one older payload beside each.
-fn redundant(rt: &HostRuntime) -> anyhow::Result<()> {
-    let sender = RedSender::new(rt.alloc(), &[1])?;
-    measure_packets(rt, "RED", "sent", SendingRed { sender }, AUDIO)?;
-    let packet = redundant_packet(rt.alloc())?;
-    measure_packets(rt, "RED", "read", ReadingRed { packet: &packet }, AUDIO)?;
-    Ok(())
+fn redundant(rt: &HostRuntime) -> io::Result<()> {
+    let sender = RedSender::new(rt.alloc(), &[1]).map_err(refused)?;
+    measure_packets(rt, "RED", "sent", &mut SendingRed { sender }, AUDIO)?;
+    let packet = redundant_packet(rt.alloc()).map_err(refused)?;
+    measure_packets(
+        rt,
+        "RED",
+        "read",
+        &mut ReadingRed { packet: &packet },
+        AUDIO,
+    )
 }
 
 /// VP8 and VP9: frames of 12,000 bytes.
-fn video(rt: &HostRuntime) -> anyhow::Result<()> {
+fn video(rt: &HostRuntime) -> io::Result<()> {
     let frame = [7; 12_000];
     let packetizer = Vp8Packetizer::with_picture_id(Some(1));
     both_ways(rt, "VP8", &frame, VIDEO, packetizer, Vp8Depacketizer::new())?;
@@ -69,13 +75,7 @@ fn video(rt: &HostRuntime) -> anyhow::Result<()> {
 }
 
 /// AV1: a temporal unit of one frame of so many bytes, behind its header and its size in leb128.
-fn av1(
-    rt: &HostRuntime,
-    format: &str,
-    header: &[u8],
-    size: usize,
-    rounds: u32,
-) -> anyhow::Result<()> {
+fn av1(rt: &HostRuntime, format: &str, header: &[u8], size: usize, rounds: u32) -> io::Result<()> {
     let frame = vec![in rt.alloc(); 7; size]?;
     let unit = [header, &frame].concat(rt.alloc())?;
     let depacketizer = Av1Depacketizer::new(rt.alloc());
@@ -91,19 +91,20 @@ fn av1(
 }
 
 /// The packets of an AV1 unit as plain bytes, copied twice, as a reader has to.
-fn baseline(rt: &HostRuntime, format: &str, unit: &[u8], rounds: u32) -> anyhow::Result<()> {
-    let packets = Av1Packetizer::new().packetize(rt.alloc(), LIMIT, unit)?;
-    let copying = Copying {
+fn baseline(rt: &HostRuntime, format: &str, unit: &[u8], rounds: u32) -> io::Result<()> {
+    let packets = Av1Packetizer::new()
+        .packetize(rt.alloc(), LIMIT, unit)
+        .map_err(refused)?;
+    let mut copying = Copying {
         packets: &packets,
         fragment: Vec::new(rt.alloc()),
         out: Vec::new(rt.alloc()),
     };
-    measure_packets(rt, format, "copied twice", copying, rounds)?;
-    Ok(())
+    measure_packets(rt, format, "copied twice", &mut copying, rounds)
 }
 
 /// AV1 units of growing size.
-fn av1_sizes(rt: &HostRuntime) -> anyhow::Result<()> {
+fn av1_sizes(rt: &HostRuntime) -> io::Result<()> {
     let header = [0x32, 0xE0, 0x5D];
     av1(rt, "AV1 of 12,000 bytes", &header, 12_000, VIDEO)?;
     let header = [0x32, 0xC0, 0x9A, 0x0C];
@@ -119,19 +120,19 @@ fn av1_sizes(rt: &HostRuntime) -> anyhow::Result<()> {
 }
 
 /// Pushes packets into a buffer in which so many wait, and pops after each.
-fn buffer(rt: &HostRuntime, what: &str, waiting: u32) -> anyhow::Result<()> {
+fn buffer(rt: &HostRuntime, what: &str, waiting: u32) -> io::Result<()> {
     let depacketizer = OpusDepacketizer::new();
     let mut packets = Waiting {
         buffer: DepacketizingBuffer::new(rt.alloc(), depacketizer, waiting as usize),
         number: 0,
     };
-    repeat(rt.alloc(), &mut packets, waiting.saturating_add(1))?;
-    let (tally, _) = measure(rt, what, "pushed and popped", packets, TURNS)?;
-    Ok(println!(*rt; "{what}: {TURNS} packets, {} units", tally.packets)?)
+    let _held = repeat(rt.alloc(), &mut packets, waiting.saturating_add(1));
+    let tally = measure(rt, what, "pushed and popped", &mut packets, TURNS)?;
+    println!(*rt; "{what}: {TURNS} packets, {} units", tally.packets)
 }
 
 /// Every payload format but H.26x, and the buffer.
-pub(crate) fn measure_all(rt: &HostRuntime) -> anyhow::Result<()> {
+pub(crate) fn measure_all(rt: &HostRuntime) -> io::Result<()> {
     audio(rt)?;
     speech(rt, "AMR-WB octet-aligned", true)?;
     speech(rt, "AMR-WB bandwidth-efficient", false)?;

@@ -2,8 +2,13 @@
 
 use std::alloc::{AllocError, Global};
 
+/// The bytes of a slice behind its start.
+const SLICE: [u8; 3_000] = [7; 3_000];
+
 /// An access unit of parameter sets and four slices with this start, some 12,000 bytes.
 pub(crate) fn access_unit(alloc: Global, sets: &[u8], start: &[u8]) -> Result<Vec<u8>, AllocError> {
-    let slice = [start, &[7; 3_000]].concat(alloc)?;
-    [sets, &slice, &slice, &slice, &slice].concat(alloc)
+    [
+        sets, start, &SLICE, start, &SLICE, start, &SLICE, start, &SLICE,
+    ]
+    .concat(alloc)
 }

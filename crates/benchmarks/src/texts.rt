@@ -2,10 +2,9 @@
 
 use crate::measured::{Round, measure};
 use crate::tally::Tally;
-use anyhow::bail;
-use payload_core::PacketError;
 use sdp_formats::{Sdp, sdp_parser};
 use std::alloc::Global;
+use std::io;
 
 /// How often each thing is done.
 const ROUNDS: u32 = 500;
@@ -18,11 +17,10 @@ struct Reading<'a> {
 
 /// Counts sections, and the bytes of the text.
 impl Round for Reading<'_> {
-    fn round(&mut self, alloc: Global, _number: u32, tally: &mut Tally) -> Result<(), PacketError> {
+    fn round(&mut self, alloc: Global, _number: u32, tally: &mut Tally) {
         if let Ok((sdp, _)) = sdp_parser(alloc, self.text) {
             tally.add(sdp.media_lines.as_slice().len(), self.text.len());
         }
-        Ok(())
     }
 }
 
@@ -34,20 +32,23 @@ struct Printing<'a> {
 
 /// Counts texts, and their bytes.
 impl Round for Printing<'_> {
-    fn round(&mut self, alloc: Global, _number: u32, tally: &mut Tally) -> Result<(), PacketError> {
-        tally.add(1, self.sdp.to_sdp_string(alloc)?.len());
-        Ok(())
+    fn round(&mut self, alloc: Global, _number: u32, tally: &mut Tally) {
+        if let Ok(text) = self.sdp.to_sdp_string(alloc) {
+            tally.add(1, text.len());
+        }
     }
 }
 
-/// A session text, read and printed.
-pub(crate) fn measure_all(rt: &HostRuntime, text: &str) -> anyhow::Result<()> {
-    let sdp = match sdp_parser(rt.alloc(), text) {
-        Ok((sdp, _)) => sdp,
-        Err(error) => bail!("{error}"),
+/// The session text of standard input, read and printed.
+pub(crate) fn measure_all(rt: &HostRuntime) -> io::Result<()> {
+    let text = io::read_to_string(rt.alloc(), rt.reader())?;
+    let text = text.as_str();
+    let Ok((sdp, _)) = sdp_parser(rt.alloc(), text) else {
+        return Err(io::Error::other("standard input is no session text"));
     };
-    let (read, _) = measure(rt, "text", "read", Reading { text }, ROUNDS)?;
+    let read = measure(rt, "text", "read", &mut Reading { text }, ROUNDS)?;
     println!(*rt; "sections: {}\nread: {} bytes", read.packets, read.bytes)?;
-    let (printed, _) = measure(rt, "text", "printed", Printing { sdp: &sdp }, ROUNDS)?;
-    Ok(println!(*rt; "printed: {} bytes", printed.bytes)?)
+    let mut printing = Printing { sdp: &sdp };
+    let printed = measure(rt, "text", "printed", &mut printing, ROUNDS)?;
+    println!(*rt; "printed: {} bytes", printed.bytes)
 }
