@@ -30,6 +30,6 @@ pub use payload_core_vpx::{
     Vp8PatchBuilder, Vp8PatchError, Vp9Depacketizer, Vp9Packetizer, detect_vp8_keyframe,
     vp8_keyframe_law, vp8_law, vp8_layout_law, vp8_patch_law, vp9_law, vp9_layout_law,
 };
+pub use rtp_wire::{Frequency, ParseFrequencyError};
 pub use rtp_wire_extensions::{AbsCaptureTime, ExtensionValues, VideoOrientation};
 pub use rtp_wire_ids::{Mid, Pt, Rid, SeqNo};
-pub use rtp_wire::{Frequency, ParseFrequencyError};
