@@ -27,14 +27,14 @@ use std::io;
 fn main(rt: HostRuntime) -> anyhow::Result<()> {
     let text = io::read_to_string(rt.alloc(), rt.reader())?;
     for part in text.as_str().split("\n== ") {
-        let (name, lines) = part.split_once('\n').unwrap_or((part, ""));
-        run(&rt, name.strip_prefix("== ").unwrap_or(name), lines)?;
+        run(&rt, part.strip_prefix("== ").unwrap_or(part))?;
     }
     Ok(())
 }
 
-/// Runs the example of this name on what it reads.
-fn run(rt: &HostRuntime, name: &str, lines: &str) -> anyhow::Result<()> {
+/// Runs the example whose name is the first line, on the lines behind it.
+fn run(rt: &HostRuntime, part: &str) -> anyhow::Result<()> {
+    let (name, lines) = part.split_once('\n').unwrap_or((part, ""));
     println!(*rt; "== {name}")?;
     match name {
         "recorder" => packets::record(rt, lines),

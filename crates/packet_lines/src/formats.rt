@@ -6,8 +6,8 @@ use payload_core::{Codec, DepacketizingBuffer, Payloader};
 use rtp_wire::Frequency;
 use std::alloc::Global;
 
-/// A codec with what is negotiated of its payload format, the first picture id, whether what browsers need is sent, and
-/// the hold-back.
+/// A codec with what is negotiated of its payload format, the first picture id, whether what browsers need is sent,
+/// and the hold-back.
 #[derive(Drop)]
 pub(crate) struct Format {
     pub(crate) codec: Codec,

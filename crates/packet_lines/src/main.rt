@@ -20,8 +20,8 @@ use commands::{Subjects, answer};
 use line::Line;
 use std::io;
 
-/// Answers each line by a line: a comment by itself, a command by what it gives, and another line, or a sample or packet
-/// that is refused, by the word `fault` and the reason.
+/// Answers each line by a line: a comment by itself, a command by what it gives, and another line, or a sample or
+/// packet that is refused, by the word `fault` and the reason.
 fn answer_lines(rt: &HostRuntime, subjects: &mut Subjects) -> io::Result<()> {
     let text = io::read_to_string(rt.alloc(), rt.reader())?;
     for whole in text.as_str().lines() {

@@ -38,36 +38,22 @@ enum Shape {
     MidOption,
 }
 
+const UP_TO_32_BITS: &str = "a number up to 4294967295";
+
+const UP_TO_64_BITS: &str = "a number of decimal digits, below 2^64";
+
+const BYTE_OR_NONE: &str = "a number up to 255, or `-` for none";
+
 /// The names of the forms that not all texts fit, each with what a word for it has to be, and that in words.
 const NAMES: [(&str, Shape, &str); 22] = [
     ("E", Shape::Letter, "`a` or `b`"),
-    (
-        "SSRC",
-        Shape::Number(0xffff_ffff),
-        "a number up to 4294967295",
-    ),
-    (
-        "CLOCK",
-        Shape::Number(0xffff_ffff),
-        "a number up to 4294967295",
-    ),
+    ("SSRC", Shape::Number(0xffff_ffff), UP_TO_32_BITS),
+    ("CLOCK", Shape::Number(0xffff_ffff), UP_TO_32_BITS),
     ("PT", Shape::Number(255), "a number up to 255"),
     ("ID", Shape::Number(255), "a number up to 255"),
-    (
-        "RTX",
-        Shape::NumberOrNone(255),
-        "a number up to 255, or `-` for none",
-    ),
-    (
-        "RED",
-        Shape::NumberOrNone(255),
-        "a number up to 255, or `-` for none",
-    ),
-    (
-        "CHANNELS",
-        Shape::NumberOrNone(255),
-        "a number up to 255, or `-` for none",
-    ),
+    ("RTX", Shape::NumberOrNone(255), BYTE_OR_NONE),
+    ("RED", Shape::NumberOrNone(255), BYTE_OR_NONE),
+    ("CHANNELS", Shape::NumberOrNone(255), BYTE_OR_NONE),
     (
         "PICTUREID",
         Shape::NumberOrNone(65_535),
@@ -94,46 +80,14 @@ const NAMES: [(&str, Shape, &str); 22] = [
         "`a` and a place, `f` and hexadecimal digits, or `p`",
     ),
     ("[mid=TEXT]", Shape::MidOption, "`mid=` and a text"),
-    (
-        "FIRST",
-        Shape::Number(u64::MAX),
-        "a number of decimal digits, below 2^64",
-    ),
-    (
-        "MTU",
-        Shape::Number(u64::MAX),
-        "a number of decimal digits, below 2^64",
-    ),
-    (
-        "LIMIT",
-        Shape::Number(u64::MAX),
-        "a number of decimal digits, below 2^64",
-    ),
-    (
-        "HOLDBACK",
-        Shape::Number(u64::MAX),
-        "a number of decimal digits, below 2^64",
-    ),
-    (
-        "N",
-        Shape::Number(u64::MAX),
-        "a number of decimal digits, below 2^64",
-    ),
-    (
-        "TIME",
-        Shape::Number(u64::MAX),
-        "a number of decimal digits, below 2^64",
-    ),
-    (
-        "TX",
-        Shape::Number(u64::MAX),
-        "a number of decimal digits, below 2^64",
-    ),
-    (
-        "RX",
-        Shape::Number(u64::MAX),
-        "a number of decimal digits, below 2^64",
-    ),
+    ("FIRST", Shape::Number(u64::MAX), UP_TO_64_BITS),
+    ("MTU", Shape::Number(u64::MAX), UP_TO_64_BITS),
+    ("LIMIT", Shape::Number(u64::MAX), UP_TO_64_BITS),
+    ("HOLDBACK", Shape::Number(u64::MAX), UP_TO_64_BITS),
+    ("N", Shape::Number(u64::MAX), UP_TO_64_BITS),
+    ("TIME", Shape::Number(u64::MAX), UP_TO_64_BITS),
+    ("TX", Shape::Number(u64::MAX), UP_TO_64_BITS),
+    ("RX", Shape::Number(u64::MAX), UP_TO_64_BITS),
 ];
 
 /// The kinds and directions that a section may have.

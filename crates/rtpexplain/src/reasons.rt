@@ -37,7 +37,8 @@ pub(crate) fn error_of<'a>(known: &Known, line: &'a [u8]) -> Reason<'a> {
         .unwrap_or(Reason::words("its conditions fail"))
 }
 
-/// The first word that doesn't fit the form, is left over, or is missing.
+/// The first word that doesn't fit the form, is left over, or is missing. Slashes may stand between the sections of
+/// `connect`.
 fn unfit_word<'a>(form: &'static str, line: &'a str) -> Option<Reason<'a>> {
     let further = match form.rsplit_once(' ') {
         Some((_, last)) if last.ends_with("..") => last,
