@@ -53,31 +53,29 @@ fixed_section = record {
   receives = true;
 }
 
--- What the end agrees on that answers a section: it flows as the answer says.
-unfoldable pub agreed_by_answer : Wanted → MediaLine → MediaLine → Agreed
-agreed_by_answer w offer answer = record {
+-- A section of the answer and of the other end's text: the name, kind, rows and extensions of the answer, the SSRCs that
+-- this end wanted and those that the other end's text names, and how it flows.
+abbrev pub agreed : List ℕ → MediaLine → MediaLine → Bool → Bool → Agreed
+agreed ssrcs remote answer from to = record {
   mid = mid_of answer;
   kind = kind_of answer.typ;
   rows = rows_of answer.pts answer.attrs;
   map = map_of_lines answer.attrs;
-  own_ssrcs = w.ssrcs;
-  remote_ssrcs = ssrcs_of offer;
-  sends = sends (direction_of answer.attrs);
-  receives = receives (direction_of answer.attrs);
+  own_ssrcs = ssrcs;
+  remote_ssrcs = ssrcs_of remote;
+  sends = from;
+  receives = to;
 }
+
+-- What the end agrees on that answers a section: it flows as the answer says.
+unfoldable pub agreed_by_answer : Wanted → MediaLine → MediaLine → Agreed
+agreed_by_answer w offer answer =
+    agreed w.ssrcs offer answer (sends (direction_of answer.attrs)) (receives (direction_of answer.attrs))
 
 -- What the end agrees on that offered it: it flows where the answer lets it and the offer asked for it.
 unfoldable pub agreed_by_accept : Wanted → MediaLine → Agreed
-agreed_by_accept w answer = record {
-  mid = mid_of answer;
-  kind = kind_of answer.typ;
-  rows = rows_of answer.pts answer.attrs;
-  map = map_of_lines answer.attrs;
-  own_ssrcs = w.ssrcs;
-  remote_ssrcs = ssrcs_of answer;
-  sends = receives (direction_of answer.attrs) && sends w.dir;
-  receives = sends (direction_of answer.attrs) && receives w.dir;
-}
+agreed_by_accept w answer = agreed w.ssrcs answer answer (receives (direction_of answer.attrs) && sends w.dir)
+    (sends (direction_of answer.attrs) && receives w.dir)
 
 -- The agreed section of a name.
 abbrev pub section_of : List Agreed → List ℕ → Option Agreed

@@ -2,8 +2,8 @@
 
 ghost use Rattle.std.specs.Prelude.{◌≡◌, ◌==◌, IfOk, find};
 ghost use Rattle.std.specs.Str.{bytes_eq};
-ghost use Rattle.rtp_media_sections.specs.Agreement.{agreed_by_accept, agreed_by_answer, fixed_section, is_named};
-ghost use Rattle.rtp_media_sections.specs.Agreement.{row_in, shape_of_agreed};
+ghost use Rattle.rtp_media_sections.specs.Agreement.{agreed, agreed_by_accept, agreed_by_answer, fixed_section};
+ghost use Rattle.rtp_media_sections.specs.Agreement.{is_named, row_in, shape_of_agreed};
 
 use crate::extmaps::map_of_lines;
 use crate::read::{kind_of, mid_of, ssrcs_of};
@@ -153,6 +153,29 @@ impl AgreedSection {
     }
 }
 
+/// A section of these texts that flows so: this end names the SSRCs that it wanted, the other one those of its text.
+fn agreed(
+    alloc: Global,
+    wanted: &SectionSpec,
+    remote: &MediaLine,
+    answer: &MediaLine,
+    sends: bool,
+    receives: bool,
+) -> Result<AgreedSection, AllocError>
+    ensures { IfOk result (λ a. a ≡ agreed wanted.now.ssrcs remote.now answer.now sends receives) }
+{
+    Ok(AgreedSection {
+        mid: mid_of(answer),
+        kind: kind_of(&answer.typ),
+        rows: rtp_params(alloc, answer)?,
+        exts: map_of_lines(alloc, answer.attrs.as_slice())?,
+        own_ssrcs: SsrcList::of(alloc, wanted.ssrcs.clone()?)?,
+        remote_ssrcs: SsrcList::of(alloc, ssrcs_of(alloc, remote)?)?,
+        sends,
+        receives,
+    })
+}
+
 /// What the end agrees on that answers an offered section, by its own text of the answer.
 ///
 /// # Errors
@@ -168,16 +191,14 @@ pub fn agreed_by_answer(
     ensures { IfOk result (λ a. a ≡ agreed_by_answer wanted.now offer.now answer.now) }
 {
     let dir = answer.direction();
-    Ok(AgreedSection {
-        mid: mid_of(answer),
-        kind: kind_of(&answer.typ),
-        rows: rtp_params(alloc, answer)?,
-        exts: map_of_lines(alloc, answer.attrs.as_slice())?,
-        own_ssrcs: SsrcList::of(alloc, wanted.ssrcs.clone()?)?,
-        remote_ssrcs: SsrcList::of(alloc, ssrcs_of(alloc, offer)?)?,
-        sends: dir.is_sending(),
-        receives: dir.is_receiving(),
-    })
+    agreed(
+        alloc,
+        wanted,
+        offer,
+        answer,
+        dir.is_sending(),
+        dir.is_receiving(),
+    )
 }
 
 /// What the end agrees on that offered a section, by the text of the answer.
@@ -194,14 +215,7 @@ pub fn agreed_by_accept(
     ensures { IfOk result (λ a. a ≡ agreed_by_accept wanted.now answer.now) }
 {
     let dir = answer.direction();
-    Ok(AgreedSection {
-        mid: mid_of(answer),
-        kind: kind_of(&answer.typ),
-        rows: rtp_params(alloc, answer)?,
-        exts: map_of_lines(alloc, answer.attrs.as_slice())?,
-        own_ssrcs: SsrcList::of(alloc, wanted.ssrcs.clone()?)?,
-        remote_ssrcs: SsrcList::of(alloc, ssrcs_of(alloc, answer)?)?,
-        sends: dir.is_receiving() && wanted.dir.is_sending(),
-        receives: dir.is_sending() && wanted.dir.is_receiving(),
-    })
+    let sends = dir.is_receiving() && wanted.dir.is_sending();
+    let receives = dir.is_sending() && wanted.dir.is_receiving();
+    agreed(alloc, wanted, answer, answer, sends, receives)
 }
