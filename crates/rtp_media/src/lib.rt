@@ -13,7 +13,7 @@ mod writing;
 pub use input::lines_are_what_was_ended;
 pub use line_buffer::MAX_LINE_LENGTH;
 pub use line_runs::{MAX_READS, run_lines, run_within};
-pub use program::run;
+pub use program::{Program, run};
 pub use respond::Respond;
 pub use rtp_media_ends::{
     Bandwidth, Codec, CodecConfig, CodecSpec, Datagram, Distances, End, EndError, ExchangeError,

@@ -62,12 +62,22 @@ impl EndAndDraft {
     }
 }
 
-/// What the two letters stand for, and the samples that are kept for a run.
-#[derive(Drop)]
-struct Program {
+/// What the program answers its lines over: what the two letters stand for, and the samples that are kept for a run.
+pub struct Program {
     a: EndAndDraft,
     b: EndAndDraft,
     queue: Vec<QueueCommand>,
+}
+
+/// Written out, so that who lets one go needs nothing of what is inside.
+impl Drop for Program {
+    fn drop(self) {
+        let Program {
+            a: _a,
+            b: _b,
+            queue: _queue,
+        } = self;
+    }
 }
 
 impl Model for Program {
@@ -80,6 +90,19 @@ impl Model for Program {
     ghost coded = { Prim.hlevel (codes, window_code) };
 
     ghost view = { λ p. record { a = p.a; b = p.b; queue = p.queue.items } };
+}
+
+impl Program {
+    /// No end is made, and no sample is kept.
+    pub fn new(alloc: Global) -> Program
+        ensures { result ≡ initial_state }
+    {
+        Program {
+            a: EndAndDraft::clear(alloc),
+            b: EndAndDraft::clear(alloc),
+            queue: Vec::new(alloc),
+        }
+    }
 }
 
 impl Respond for Program {
@@ -241,10 +264,6 @@ pub fn run<R: Read, W: Write>(
     ensures stopped { OnErr result (IfSome (R.remaining reader.old) (λ input. WritesFront AnswersCommand initial_state
         (W.contents writer.old) (W.contents writer.new) (lines_of input))) }
 {
-    let mut program = Program {
-        a: EndAndDraft::clear(alloc),
-        b: EndAndDraft::clear(alloc),
-        queue: Vec::new(alloc),
-    };
+    let mut program = Program::new(alloc);
     run_lines(alloc, reader, writer, &mut program)
 }

@@ -29,7 +29,7 @@ impl Status {
     }
 
     /// The status of two parts of a run, one after the other.
-    pub(crate) fn and(self, later: Status) -> Status
+    pub fn and(self, later: Status) -> Status
         ensures { result ≡ worse self later }
     {
         match self {

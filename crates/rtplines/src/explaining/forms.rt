@@ -1,7 +1,7 @@
 //! The forms of lines, and which words fit them.
 
-use crate::lines::{number_of, word_at};
-use crate::reason::Reason;
+use super::lines::{number_of, word_at};
+use super::reason::Reason;
 
 /// The forms of all lines, as a user may ask for them.
 pub(crate) const FORMS: &str = "\

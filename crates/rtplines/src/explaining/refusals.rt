@@ -1,6 +1,6 @@
 //! What the program replies where it says no, in words.
 
-use crate::reason::Reason;
+use super::reason::Reason;
 
 /// Why each of these replies comes.
 const REASONS: [(&str, &str); 26] = [

@@ -1,9 +1,9 @@
 //! Why a line is an `error line`, or was refused.
 
-use crate::forms::{form_of, misfit};
-use crate::known::{Known, KnownEnd};
-use crate::lines::{number_at, number_of, word_at};
-use crate::reason::Reason;
+use super::forms::{form_of, misfit};
+use super::known::{Known, KnownEnd};
+use super::lines::{number_at, number_of, word_at};
+use super::reason::Reason;
 use rtp_media::MAX_LINE_LENGTH;
 
 /// The reason for a line that is too long names this number.

@@ -1,5 +1,4 @@
-//! Reads lines of the media path's program, with comments among them, and says in words what came of each.
-#![tactic(auto)]
+//! What came of each line, in words.
 
 mod forms;
 mod known;
@@ -12,40 +11,26 @@ mod streams;
 
 use forms::FORMS;
 use known::Known;
-use lines::{
-    is_comment, is_last, is_line_feed, is_run_without_items, most_replies, program_of, text_of,
-};
+use lines::{is_comment, is_line_feed, text_of};
 use reasons::error_of;
 use refusals::refusal_of;
-use replies::replies;
-use rtp_media::Status;
+use replies::replies_to;
+use rtp_media::{Program, Status};
 use std::io;
 use std::io::Read;
-use std::process::ExitCode;
-use std::str::Lines;
 
-/// Each line with its number, what the program replies to it, and why where it is an `error line` or refused; at the
-/// end what became of each stream. The status is that of the program.
-fn main(rt: HostRuntime) -> ExitCode {
-    match explain(&rt) {
-        Ok(status) => ExitCode::from(status.code()),
-        Err(fault) => {
-            let _ = eprintln!(rt; "{fault}");
-            ExitCode::from(1)
-        }
-    }
-}
-
-fn explain(rt: &HostRuntime) -> anyhow::Result<Status> {
+/// Prints each line with its number, what the program replies to it, and why where it is an `error line` or refused; at
+/// the end what became of each stream. The status is that of the program.
+pub(crate) fn explain(rt: &HostRuntime) -> anyhow::Result<Status> {
     let alloc = rt.alloc();
     let mut input = Vec::new(alloc);
     rt.reader().read_to_end(&mut input)?;
-    let (text, status) = replies(alloc, &program_of(alloc, &input)?)?;
-    let mut all = str::from_utf8(&text)?.lines();
-    let mut known = Known::new(alloc);
     let lines = input.strip_suffix(b"\n").unwrap_or(&input);
+    let (mut program, mut known) = (Program::new(alloc), Known::new(alloc));
+    let mut status = Status::Success;
     for (number, line) in (1u64..).zip(lines.split(is_line_feed)) {
-        explain_line(rt, &mut known, &mut all, number, line)?;
+        let of_line = explain_line(rt, &mut program, &mut known, number, line)?;
+        status = status.and(of_line);
     }
     known.report(rt)?;
     Ok(status)
@@ -54,29 +39,24 @@ fn explain(rt: &HostRuntime) -> anyhow::Result<Status> {
 /// Prints a line, the replies to it, and why where they say no.
 fn explain_line(
     rt: &HostRuntime,
+    program: &mut Program,
     known: &mut Known,
-    replies: &mut Lines<'_>,
     number: u64,
     line: &[u8],
-) -> anyhow::Result<()> {
+) -> anyhow::Result<Status> {
     let text = text_of(line);
     println!(*rt; "{number} {text}")?;
     if text == "help" {
         print_lines(rt, "  ", FORMS)?;
     }
-    if line.is_empty() || is_comment(line) {
-        return Ok(());
+    if is_comment(line) {
+        return Ok(Status::Success);
     }
-    for _ in 0..most_replies(text) {
-        let Some(reply) = replies.next() else {
-            break;
-        };
+    let (replies, status) = replies_to(rt.alloc(), program, line)?;
+    for reply in str::from_utf8(&replies)?.lines() {
         explain_reply(rt, known, number, line, reply)?;
-        if is_last(reply) {
-            break;
-        }
     }
-    Ok(())
+    Ok(status)
 }
 
 /// Prints a reply to a line, and why where it says no, and notes it.
@@ -87,10 +67,6 @@ fn explain_reply(
     line: &[u8],
     reply: &str,
 ) -> anyhow::Result<()> {
-    let text = text_of(line);
-    if reply == "unreadable" && is_run_without_items(text) {
-        return Ok(());
-    }
     print_reply(rt, reply)?;
     let reason = if reply == "error line" {
         Some(error_of(known, line))
@@ -100,7 +76,7 @@ fn explain_reply(
     if let Some(reason) = reason {
         println!(*rt; "  line {number}: {reason}")?;
     }
-    known.note(rt, text, reply)
+    known.note(rt, text_of(line), reply)
 }
 
 /// Prints a reply, and the text of an offer or an answer line by line.

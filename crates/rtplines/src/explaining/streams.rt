@@ -1,6 +1,6 @@
 //! What is known of streams.
 
-use crate::lines::{number_at, word_at};
+use super::lines::{number_at, word_at};
 use std::alloc::{AllocError, Global};
 use std::io;
 

@@ -1,7 +1,7 @@
 //! What is known of the ends, from the lines and the replies to them.
 
-use crate::lines::{number_at, word_at};
-use crate::streams::Stream;
+use super::lines::{number_at, word_at};
+use super::streams::Stream;
 use rtp_wire::{ExtensionMap, RtpHeader};
 use std::alloc::Global;
 use std::io;
