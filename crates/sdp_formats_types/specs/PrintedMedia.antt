@@ -57,6 +57,15 @@ abbrev pub named_output : List ℕ → Option (List ℕ) → Option (List ℕ)
 named_output name None = None
 named_output name (Some value) = Some (named name value)
 
+-- A line with two values behind its name, a blank between them.
+abbrev pub both : List ℕ → List ℕ → List ℕ → List ℕ
+both name first second = spelled (name ∷ first ∷ codes " " ∷ second ∷ line_end ∷ [])
+
+-- The same of values that may have a text.
+abbrev pub both_output : List ℕ → Option (List ℕ) → Option (List ℕ) → Option (List ℕ)
+both_output name (Some first) (Some second) = Some (both name first second)
+both_output name _ _ = None
+
 -- The line of an attribute that is a plain word.
 abbrev pub flag_text : MediaAttribute → List ℕ
 flag_text RecvOnly = codes "a=recvonly\r\n"

@@ -146,7 +146,6 @@ impl fmt::Display for RtpMap {
 }
 
 /// An attribute of a section (RFC 8866 5.13).
-#[derive(Debug)]
 pub enum MediaAttribute {
     /// `a=rtcp` (RFC 3605 2.1).
     Rtcp(Text),
@@ -256,16 +255,9 @@ impl Drop for MediaAttribute {
             Self::Rtcp(_text) | Self::IceUfrag(_text) | Self::IcePwd(_text) => {}
             Self::IceOptions(_text) | Self::SctpInit(_text) | Self::Unused(_text) => {}
             Self::Fingerprint(_fingerprint) => {}
-            Self::Setup(_setup) => {}
-            Self::Mid(_mid) => {}
-            Self::SctpPort(_port) => {}
-            Self::MaxMessageSize(_size) => {}
-            Self::ExtMap { id: _id, ext: _ext } => {}
-            Self::RecvOnly | Self::SendRecv | Self::SendOnly | Self::Inactive => {}
-            Self::RtcpMux | Self::RtcpMuxOnly | Self::RtcpRsize | Self::EndOfCandidates => {}
+            Self::ExtMap { id: _, ext: _ext } => {}
             Self::Msid(_msid) => {}
             Self::Candidate(_candidate) => {}
-            Self::RtpMap { pt: _, value: _map } => {}
             Self::RtcpFb { pt: _, value: _fb } => {}
             Self::Fmtp {
                 pt: _,
@@ -273,7 +265,7 @@ impl Drop for MediaAttribute {
             } => {}
             Self::Rid {
                 id: _id,
-                direction: _direction,
+                direction: _,
                 pt: _types,
                 restriction: _restriction,
             } => {}
@@ -283,10 +275,14 @@ impl Drop for MediaAttribute {
                 ssrcs: _ssrcs,
             } => {}
             Self::Ssrc {
-                ssrc: _ssrc,
+                ssrc: _,
                 attr: _attr,
                 value: _value,
             } => {}
+            Self::RecvOnly | Self::SendRecv | Self::SendOnly | Self::Inactive => {}
+            Self::RtcpMux | Self::RtcpMuxOnly | Self::RtcpRsize | Self::EndOfCandidates => {}
+            Self::Setup(_) | Self::Mid(_) | Self::SctpPort(_) | Self::MaxMessageSize(_) => {}
+            Self::RtpMap { pt: _, value: _ } => {}
         }
     }
 }

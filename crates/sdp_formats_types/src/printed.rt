@@ -1,23 +1,36 @@
 //! Lists of a line as they are printed.
 
+ghost use Rattle.std.specs.Fmt.{DisplaysOnOk};
+ghost use Rattle.sdp_formats_types.specs.PrintedMedia.{both_output, named_output};
+
 use rtp_wire::{Mid, Pt, Ssrc};
 use sdp_formats_forms::{Joined, Text};
 use sdp_formats_params::{FormatParam, Pair};
 use std::fmt;
+use std::fmt::Display;
 
-/// A line with a value behind its name: the name, and the value.
-#[derive(Drop)]
-pub struct ValueLine<'a, T>(pub &'a str, pub &'a T);
+/// Writes a line with a value behind its name.
+pub(crate) fn write_value<W: fmt::Write, T: fmt::Display>(
+    f: &mut fmt::Formatter<W>,
+    name: &str,
+    value: &T,
+) -> fmt::Result
+    ensures { DisplaysOnOk W.write_str_gives f.old result (named_output name.now (T.Display.output value.now)) f.new }
+{
+    write!(f, "{name}{value}\r\n")
+}
 
-impl<'a, T: fmt::Display> fmt::Display for ValueLine<'a, T> {
-    ghost use Rattle.sdp_formats_types.specs.PrintedMedia.{named_output};
-
-    ghost output = { λ n. named_output n.0.now (T.Display.output n.1.now) };
-
-    fn fmt<W: fmt::Write>(&self, f: &mut fmt::Formatter<W>) -> fmt::Result {
-        let (name, value) = (self.0, self.1);
-        write!(f, "{name}{value}\r\n")
-    }
+/// Writes a line with two values behind its name, a blank between them.
+pub(crate) fn write_both<W: fmt::Write, A: fmt::Display, B: fmt::Display>(
+    f: &mut fmt::Formatter<W>,
+    name: &str,
+    first: &A,
+    second: &B,
+) -> fmt::Result
+    ensures { DisplaysOnOk W.write_str_gives f.old result
+        (both_output name.now (A.Display.output first.now) (B.Display.output second.now)) f.new }
+{
+    write!(f, "{name}{first} {second}\r\n")
 }
 
 /// Format parameters with semicolons between.
@@ -31,8 +44,7 @@ impl fmt::Display for Params<'_> {
     ghost output = { λ p. Some (params_text p.0.now) };
 
     fn fmt<W: fmt::Write>(&self, f: &mut fmt::Formatter<W>) -> fmt::Result {
-        let params = Joined(self.0, ";");
-        write!(f, "{params}")
+        Joined(self.0, ";").fmt(f)
     }
 }
 
@@ -47,8 +59,7 @@ impl fmt::Display for Types<'_> {
     ghost output = { λ p. Some (numbers_text p.1.now p.0.now) };
 
     fn fmt<W: fmt::Write>(&self, f: &mut fmt::Formatter<W>) -> fmt::Result {
-        let types = Joined(self.0, self.1);
-        write!(f, "{types}")
+        Joined(self.0, self.1).fmt(f)
     }
 }
 
@@ -83,8 +94,7 @@ impl fmt::Display for Restrictions<'_> {
     ghost output = { λ p. Some (restrictions_text p.0.now) };
 
     fn fmt<W: fmt::Write>(&self, f: &mut fmt::Formatter<W>) -> fmt::Result {
-        let restrictions = Joined(self.0, ";");
-        write!(f, "{restrictions}")
+        Joined(self.0, ";").fmt(f)
     }
 }
 
@@ -122,8 +132,7 @@ impl fmt::Display for Sources<'_> {
     ghost output = { λ s. Some (numbers_text (codes " ") s.0.now) };
 
     fn fmt<W: fmt::Write>(&self, f: &mut fmt::Formatter<W>) -> fmt::Result {
-        let sources = Joined(self.0, " ");
-        write!(f, "{sources}")
+        Joined(self.0, " ").fmt(f)
     }
 }
 
@@ -138,8 +147,7 @@ impl fmt::Display for Mids<'_> {
     ghost output = { λ m. Some (words_text m.0.now) };
 
     fn fmt<W: fmt::Write>(&self, f: &mut fmt::Formatter<W>) -> fmt::Result {
-        let mids = Joined(self.0, " ");
-        write!(f, "{mids}")
+        Joined(self.0, " ").fmt(f)
     }
 }
 
@@ -154,7 +162,6 @@ impl fmt::Display for Words<'_> {
     ghost output = { λ w. Some (words_text w.0.now) };
 
     fn fmt<W: fmt::Write>(&self, f: &mut fmt::Formatter<W>) -> fmt::Result {
-        let words = Joined(self.0, " ");
-        write!(f, "{words}")
+        Joined(self.0, " ").fmt(f)
     }
 }

@@ -4,7 +4,7 @@ ghost use Rattle.std.specs.Prelude.{◌≡◌};
 ghost use Rattle.sdp_formats_types.specs.PrintedMedia.{flag_text, port_of};
 
 use crate::media::{MediaAttribute, MediaLine};
-use crate::printed::{Params, RidRestrictions, RidTypes, Sources, Types, ValueLine};
+use crate::printed::{Params, RidRestrictions, RidTypes, Sources, Types, write_both, write_value};
 use sdp_formats_forms::{Joined, Maybe};
 use std::fmt;
 use std::fmt::Display;
@@ -20,19 +20,19 @@ impl fmt::Display for MediaAttribute {
     #[tactic(auto, unfolding(crate::specs::PrintedMedia::attribute_text))]
     fn fmt<W: fmt::Write>(&self, f: &mut fmt::Formatter<W>) -> fmt::Result {
         match self {
-            MediaAttribute::Rtcp(value) => ValueLine("a=rtcp:", value).fmt(f),
-            MediaAttribute::IceUfrag(value) => ValueLine("a=ice-ufrag:", value).fmt(f),
-            MediaAttribute::IcePwd(value) => ValueLine("a=ice-pwd:", value).fmt(f),
-            MediaAttribute::IceOptions(value) => ValueLine("a=ice-options:", value).fmt(f),
-            MediaAttribute::Fingerprint(value) => ValueLine("a=fingerprint:", value).fmt(f),
-            MediaAttribute::Setup(value) => ValueLine("a=setup:", value).fmt(f),
-            MediaAttribute::Mid(value) => ValueLine("a=mid:", value).fmt(f),
-            MediaAttribute::SctpPort(port) => ValueLine("a=sctp-port:", port).fmt(f),
-            MediaAttribute::MaxMessageSize(size) => ValueLine("a=max-message-size:", size).fmt(f),
-            MediaAttribute::SctpInit(value) => ValueLine("a=sctp-init:", value).fmt(f),
-            MediaAttribute::Msid(value) => ValueLine("a=msid:", value).fmt(f),
-            MediaAttribute::Candidate(value) => ValueLine("a=", value).fmt(f),
-            MediaAttribute::Unused(value) => ValueLine("a=", value).fmt(f),
+            MediaAttribute::Rtcp(value) => write_value(f, "a=rtcp:", value),
+            MediaAttribute::IceUfrag(value) => write_value(f, "a=ice-ufrag:", value),
+            MediaAttribute::IcePwd(value) => write_value(f, "a=ice-pwd:", value),
+            MediaAttribute::IceOptions(value) => write_value(f, "a=ice-options:", value),
+            MediaAttribute::Fingerprint(value) => write_value(f, "a=fingerprint:", value),
+            MediaAttribute::Setup(value) => write_value(f, "a=setup:", value),
+            MediaAttribute::Mid(value) => write_value(f, "a=mid:", value),
+            MediaAttribute::SctpPort(port) => write_value(f, "a=sctp-port:", port),
+            MediaAttribute::MaxMessageSize(size) => write_value(f, "a=max-message-size:", size),
+            MediaAttribute::SctpInit(value) => write_value(f, "a=sctp-init:", value),
+            MediaAttribute::Msid(value) => write_value(f, "a=msid:", value),
+            MediaAttribute::Candidate(value) => write_value(f, "a=", value),
+            MediaAttribute::Unused(value) => write_value(f, "a=", value),
             MediaAttribute::RecvOnly
             | MediaAttribute::SendRecv
             | MediaAttribute::SendOnly
@@ -47,6 +47,13 @@ impl fmt::Display for MediaAttribute {
             | MediaAttribute::SsrcGroup { .. } => ListedAttribute(self).fmt(f),
             _ => PartedAttribute(self).fmt(f),
         }
+    }
+}
+
+/// As it is printed.
+impl fmt::Debug for MediaAttribute {
+    fn fmt<W: fmt::Write>(&self, f: &mut fmt::Formatter<W>) -> fmt::Result {
+        fmt::Display::fmt(self, f)
     }
 }
 
@@ -79,9 +86,9 @@ impl fmt::Display for PartedAttribute<'_> {
 
     fn fmt<W: fmt::Write>(&self, f: &mut fmt::Formatter<W>) -> fmt::Result {
         match self.0 {
-            MediaAttribute::ExtMap { id, ext } => write!(f, "a=extmap:{id} {ext}\r\n"),
-            MediaAttribute::RtpMap { pt, value } => write!(f, "a=rtpmap:{pt} {value}\r\n"),
-            MediaAttribute::RtcpFb { pt, value } => write!(f, "a=rtcp-fb:{pt} {value}\r\n"),
+            MediaAttribute::ExtMap { id, ext } => write_both(f, "a=extmap:", id, ext),
+            MediaAttribute::RtpMap { pt, value } => write_both(f, "a=rtpmap:", pt, value),
+            MediaAttribute::RtcpFb { pt, value } => write_both(f, "a=rtcp-fb:", pt, value),
             MediaAttribute::Ssrc { ssrc, attr, value } => {
                 write!(f, "a=ssrc:{ssrc} {attr}:{value}\r\n")
             }
@@ -108,7 +115,7 @@ impl fmt::Display for ListedAttribute<'_> {
                     return Ok(());
                 }
                 let params = Params(values.as_slice());
-                write!(f, "a=fmtp:{pt} {params}\r\n")
+                write_both(f, "a=fmtp:", pt, &params)
             }
             MediaAttribute::Rid {
                 id,
@@ -126,7 +133,7 @@ impl fmt::Display for ListedAttribute<'_> {
             }
             MediaAttribute::SsrcGroup { semantics, ssrcs } => {
                 let sources = Sources(ssrcs.as_slice());
-                write!(f, "a=ssrc-group:{semantics} {sources}\r\n")
+                write_both(f, "a=ssrc-group:", semantics, &sources)
             }
             _ => Ok(()),
         }
@@ -167,8 +174,7 @@ impl fmt::Display for Attributes<'_> {
     ghost output = { λ a. Some (attributes_text a.0.now) };
 
     fn fmt<W: fmt::Write>(&self, f: &mut fmt::Formatter<W>) -> fmt::Result {
-        let attributes = Joined(self.0, "");
-        write!(f, "{attributes}")
+        Joined(self.0, "").fmt(f)
     }
 }
 

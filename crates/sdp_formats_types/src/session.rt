@@ -76,7 +76,6 @@ impl fmt::Display for Bandwidth {
 }
 
 /// An attribute of the session (RFC 8866 5.13).
-#[derive(Debug)]
 pub enum SessionAttribute {
     /// `a=group` (RFC 5888 5).
     Group {

@@ -5,7 +5,7 @@ ghost use Rattle.std.specs.String.{string_bytes};
 ghost use Rattle.sdp_formats_types.specs.PrintedSession.{sdp_text};
 
 use crate::media::MediaLine;
-use crate::printed::{Mids, ValueLine, Words};
+use crate::printed::{Mids, Words, write_both, write_value};
 use crate::session::{Sdp, Session, SessionAttribute};
 use rtp_wire::Mid;
 use sdp_formats_forms::{Joined, Maybe, Text};
@@ -29,19 +29,26 @@ impl fmt::Display for SessionAttribute {
                 stream_ids,
             } => {
                 let streams = Words(stream_ids.as_slice());
-                write!(f, "a=msid-semantic: {semantic} {streams}\r\n")
+                write_both(f, "a=msid-semantic: ", semantic, &streams)
             }
             SessionAttribute::AllowMixedExts => f.write_str("a=extmap-allow-mixed\r\n"),
             SessionAttribute::IceLite => f.write_str("a=ice-lite\r\n"),
-            SessionAttribute::IceUfrag(value) => ValueLine("a=ice-ufrag:", value).fmt(f),
-            SessionAttribute::IcePwd(value) => ValueLine("a=ice-pwd:", value).fmt(f),
-            SessionAttribute::IceOptions(value) => ValueLine("a=ice-options:", value).fmt(f),
-            SessionAttribute::Fingerprint(value) => ValueLine("a=fingerprint:", value).fmt(f),
-            SessionAttribute::Setup(value) => ValueLine("a=setup:", value).fmt(f),
-            SessionAttribute::Candidate(value) => ValueLine("a=", value).fmt(f),
+            SessionAttribute::IceUfrag(value) => write_value(f, "a=ice-ufrag:", value),
+            SessionAttribute::IcePwd(value) => write_value(f, "a=ice-pwd:", value),
+            SessionAttribute::IceOptions(value) => write_value(f, "a=ice-options:", value),
+            SessionAttribute::Fingerprint(value) => write_value(f, "a=fingerprint:", value),
+            SessionAttribute::Setup(value) => write_value(f, "a=setup:", value),
+            SessionAttribute::Candidate(value) => write_value(f, "a=", value),
             SessionAttribute::EndOfCandidates => f.write_str("a=end-of-candidates\r\n"),
-            SessionAttribute::Unused(value) => ValueLine("a=", value).fmt(f),
+            SessionAttribute::Unused(value) => write_value(f, "a=", value),
         }
+    }
+}
+
+/// As it is printed.
+impl fmt::Debug for SessionAttribute {
+    fn fmt<W: fmt::Write>(&self, f: &mut fmt::Formatter<W>) -> fmt::Result {
+        fmt::Display::fmt(self, f)
     }
 }
 
@@ -56,12 +63,11 @@ impl fmt::Display for Group<'_> {
     ghost output = { λ g. Some (group_text g.0.now g.1.now) };
 
     fn fmt<W: fmt::Write>(&self, f: &mut fmt::Formatter<W>) -> fmt::Result {
-        let typ = self.0;
         if self.1.is_empty() {
-            return write!(f, "a=group:{typ}\r\n");
+            return write_value(f, "a=group:", self.0);
         }
         let mids = Mids(self.1);
-        write!(f, "a=group:{typ} {mids}\r\n")
+        write_both(f, "a=group:", self.0, &mids)
     }
 }
 
@@ -76,8 +82,7 @@ impl fmt::Display for SessionAttributes<'_> {
     ghost output = { λ a. Some (attributes_text a.0.now) };
 
     fn fmt<W: fmt::Write>(&self, f: &mut fmt::Formatter<W>) -> fmt::Result {
-        let attributes = Joined(self.0, "");
-        write!(f, "{attributes}")
+        Joined(self.0, "").fmt(f)
     }
 }
 
@@ -92,8 +97,7 @@ impl fmt::Display for Sections<'_> {
     ghost output = { λ s. Some (sections_text s.0.now) };
 
     fn fmt<W: fmt::Write>(&self, f: &mut fmt::Formatter<W>) -> fmt::Result {
-        let sections = Joined(self.0, "");
-        write!(f, "{sections}")
+        Joined(self.0, "").fmt(f)
     }
 }
 
