@@ -1,6 +1,6 @@
 -- Format parameters as they are printed (RFC 8866 6.15).
 use Rattle.std.specs.Prelude.{ℕ, ◌^◌, ◌/◌, ◌%◌, ◌-◌, ◌==◌, ◌&&◌, nat_le, Bool, true, false, List, [], ◌∷◌, ◌++◌, map}
-use Rattle.std.specs.Prelude.{filter}
+use Rattle.std.specs.Prelude.{filter, Option, None, Some}
 use Rattle.std.specs.Prelude.{codes}
 use Rattle.std.specs.Fmt.{decimal, digits, padded_integral, format_spec}
 use Rattle.sdp_formats_forms.specs.Joined.{spelled, joined, each_behind}
@@ -23,6 +23,11 @@ use Rattle.sdp_formats_params.specs.declared.param.FormatParam.TheVariants.{Apt,
 
 abbrev pub pair_text : Pair → List ℕ
 pair_text p = p.key ++ (codes "=" ++ p.value)
+
+-- A value behind a name, where the value has a text.
+abbrev pub named_output : List ℕ → Option (List ℕ) → Option (List ℕ)
+named_output name None = None
+named_output name (Some value) = Some (name ++ value)
 
 -- A flag is 1 or 0.
 abbrev pub flag_digit : Bool → ℕ

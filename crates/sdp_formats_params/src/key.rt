@@ -4,10 +4,10 @@ ghost use Rattle.std.specs.Prelude.{◌≡◌};
 ghost use Rattle.std.specs.Array.Iter.{array_into_iter_items};
 ghost use Rattle.sdp_formats_params.specs.Keys.{all_keys, key_name, is_name_of, key_named, is_level_key};
 
-use std::array;
+use std::{array, fmt};
 
 /// A known format parameter.
-#[derive(Clone, Copy, Debug, Drop)]
+#[derive(Clone, Copy, Drop)]
 pub enum Key {
     /// Opus `minptime` (RFC 7587 6.1).
     MinPTime,
@@ -119,5 +119,12 @@ impl Key {
         ensures { result ≡ is_level_key self.now }
     {
         matches!(self, Key::TierFlag | Key::LevelId)
+    }
+}
+
+/// By its name.
+impl fmt::Debug for Key {
+    fn fmt<W: fmt::Write>(&self, f: &mut fmt::Formatter<W>) -> fmt::Result {
+        f.write_str(self.as_str())
     }
 }

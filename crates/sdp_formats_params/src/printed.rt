@@ -1,11 +1,13 @@
 //! Format parameters as they are printed (RFC 8866 6.15).
 
 ghost use Rattle.std.specs.Prelude.{◌≡◌, ◌≤◌};
-ghost use Rattle.sdp_formats_params.specs.Printed.{flag_digit, has_mode};
+ghost use Rattle.std.specs.Fmt.{DisplaysOnOk};
+ghost use Rattle.sdp_formats_params.specs.Printed.{flag_digit, has_mode, named_output};
 
 use crate::numbers::bit_of;
 use crate::param::FormatParam;
 use std::fmt;
+use std::fmt::Display;
 
 fn digit(flag: bool) -> u8
     ensures { result ≡ flag_digit flag }
@@ -81,6 +83,17 @@ impl fmt::Display for Modes {
     }
 }
 
+/// Writes a parameter's name and its value.
+fn write_named<W: fmt::Write, T: fmt::Display>(
+    f: &mut fmt::Formatter<W>,
+    name: &str,
+    value: &T,
+) -> fmt::Result
+    ensures { DisplaysOnOk W.write_str_gives f.old result (named_output name.now (T.Display.output value.now)) f.new }
+{
+    write!(f, "{name}{value}")
+}
+
 impl fmt::Display for FormatParam {
     ghost use Rattle.std.specs.Prelude.{Some};
     ghost use Rattle.sdp_formats_params.specs.Printed.{param_text};
@@ -90,40 +103,38 @@ impl fmt::Display for FormatParam {
     #[tactic(auto, unfolding(crate::specs::Printed::param_text))]
     fn fmt<W: fmt::Write>(&self, f: &mut fmt::Formatter<W>) -> fmt::Result {
         match self {
-            FormatParam::MinPTime(v) => write!(f, "minptime={v}"),
-            FormatParam::UseInbandFec(v) => write!(f, "useinbandfec={}", digit(*v)),
-            FormatParam::UseDtx(v) => write!(f, "usedtx={}", digit(*v)),
-            FormatParam::Stereo(v) => write!(f, "stereo={}", digit(*v)),
-            FormatParam::SpropStereo(v) => write!(f, "sprop-stereo={}", digit(*v)),
+            FormatParam::MinPTime(v) => write_named(f, "minptime=", v),
+            FormatParam::UseInbandFec(v) => write_named(f, "useinbandfec=", &digit(*v)),
+            FormatParam::UseDtx(v) => write_named(f, "usedtx=", &digit(*v)),
+            FormatParam::Stereo(v) => write_named(f, "stereo=", &digit(*v)),
+            FormatParam::SpropStereo(v) => write_named(f, "sprop-stereo=", &digit(*v)),
             FormatParam::LevelAsymmetryAllowed(v) => {
-                write!(f, "level-asymmetry-allowed={}", digit(*v))
+                write_named(f, "level-asymmetry-allowed=", &digit(*v))
             }
-            FormatParam::PacketizationMode(v) => write!(f, "packetization-mode={v}"),
+            FormatParam::PacketizationMode(v) => write_named(f, "packetization-mode=", v),
             FormatParam::ProfileLevelId(v) => write!(f, "profile-level-id={v:06x}"),
-            FormatParam::ProfileId(v) => write!(f, "profile-id={v}"),
-            FormatParam::Profile(v) => write!(f, "profile={v}"),
-            FormatParam::LevelIdx(v) => write!(f, "level-idx={v}"),
-            FormatParam::Tier(v) => write!(f, "tier={v}"),
+            FormatParam::ProfileId(v) => write_named(f, "profile-id=", v),
+            FormatParam::Profile(v) => write_named(f, "profile=", v),
+            FormatParam::LevelIdx(v) => write_named(f, "level-idx=", v),
+            FormatParam::Tier(v) => write_named(f, "tier=", v),
             FormatParam::H265ProfileTierLevel(v) => {
-                let levels = Levels(v.profile_id(), v.tier_flag(), v.level_id());
-                write!(f, "{levels}")
+                Levels(v.profile_id(), v.tier_flag(), v.level_id()).fmt(f)
             }
             FormatParam::H266ProfileTierLevel(v) => {
-                let levels = Levels(v.profile_id(), v.tier_flag(), v.level_id());
-                write!(f, "{levels}")
+                Levels(v.profile_id(), v.tier_flag(), v.level_id()).fmt(f)
             }
-            FormatParam::SpropMaxDonDiff(v) => write!(f, "sprop-max-don-diff={v}"),
-            FormatParam::TelephoneEvents(v) | FormatParam::BareRange(v) => write!(f, "0-{v}"),
+            FormatParam::SpropMaxDonDiff(v) => write_named(f, "sprop-max-don-diff=", v),
+            FormatParam::TelephoneEvents(v) | FormatParam::BareRange(v) => write_named(f, "0-", v),
             FormatParam::BarePtList(pt) | FormatParam::Red(pt) => {
                 let again = pt;
                 write!(f, "{pt}/{again}")
             }
-            FormatParam::OctetAlign(v) => write!(f, "octet-align={}", digit(*v)),
+            FormatParam::OctetAlign(v) => write_named(f, "octet-align=", &digit(*v)),
             FormatParam::ModeSet(modes) => {
                 let modes = Modes(*modes);
-                write!(f, "mode-set={modes}")
+                write_named(f, "mode-set=", &modes)
             }
-            FormatParam::Apt(pt) => write!(f, "apt={pt}"),
+            FormatParam::Apt(pt) => write_named(f, "apt=", pt),
             FormatParam::AmrWbUnsupported | FormatParam::Unknown => Ok(()),
         }
     }
