@@ -15,7 +15,7 @@ use crate::transport::{
     candidate_line, fingerprint_line, ice_options_line, ice_pwd_line, ice_ufrag_line,
     max_message_size_line, mid_line, rtcp_line, sctp_init_line, sctp_port_line, setup_line,
 };
-use sdp_formats_forms::{Lined, Refusal, Stepped, behind, fitted, line_of, text_of};
+use sdp_formats_forms::{Lined, Refusal, Stepped, behind, line_of, text_of};
 use sdp_formats_types::MediaAttribute;
 use std::alloc::Global;
 
@@ -55,20 +55,25 @@ fn end_word(text: &str) -> Option<MediaAttribute>
 fn last_attribute(alloc: Global, text: &str) -> Result<MediaAttribute, Refusal>
     ensures { Gives result (last_attribute.reads text.now) }
 {
-    if let Some(attribute) = fitted(fmtp_line(alloc, text))? {
-        return Ok(attribute);
+    match fmtp_line(alloc, text) {
+        Err(Refusal::Unfit) => {}
+        said => return said,
     }
-    if let Some(attribute) = fitted(rid_line(alloc, text))? {
-        return Ok(attribute);
+    match rid_line(alloc, text) {
+        Err(Refusal::Unfit) => {}
+        said => return said,
     }
-    if let Some(attribute) = fitted(simulcast_line(alloc, text))? {
-        return Ok(attribute);
+    match simulcast_line(alloc, text) {
+        Err(Refusal::Unfit) => {}
+        said => return said,
     }
-    if let Some(attribute) = fitted(ssrc_group_line(alloc, text))? {
-        return Ok(attribute);
+    match ssrc_group_line(alloc, text) {
+        Err(Refusal::Unfit) => {}
+        said => return said,
     }
-    if let Some(attribute) = fitted(ssrc_line(alloc, text))? {
-        return Ok(attribute);
+    match ssrc_line(alloc, text) {
+        Err(Refusal::Unfit) => {}
+        said => return said,
     }
     Ok(MediaAttribute::Unused(text_of(alloc, text)?))
 }
@@ -80,17 +85,20 @@ fn third_attribute(alloc: Global, text: &str) -> Result<MediaAttribute, Refusal>
     if let Some(attribute) = mux_word(text) {
         return Ok(attribute);
     }
-    if let Some(attribute) = fitted(candidate_line(alloc, text))? {
-        return Ok(attribute);
+    match candidate_line(alloc, text) {
+        Err(Refusal::Unfit) => {}
+        said => return said,
     }
     if let Some(attribute) = end_word(text) {
         return Ok(attribute);
     }
-    if let Some(attribute) = fitted(rtpmap_line(text))? {
-        return Ok(attribute);
+    match rtpmap_line(text) {
+        Err(Refusal::Unfit) => {}
+        said => return said,
     }
-    if let Some(attribute) = fitted(rtcp_fb_line(alloc, text))? {
-        return Ok(attribute);
+    match rtcp_fb_line(alloc, text) {
+        Err(Refusal::Unfit) => {}
+        said => return said,
     }
     last_attribute(alloc, text)
 }
@@ -99,26 +107,32 @@ fn third_attribute(alloc: Global, text: &str) -> Result<MediaAttribute, Refusal>
 fn second_attribute(alloc: Global, text: &str) -> Result<MediaAttribute, Refusal>
     ensures { Gives result (second_attribute.reads text.now) }
 {
-    if let Some(attribute) = fitted(sctp_port_line(text))? {
-        return Ok(attribute);
+    match sctp_port_line(text) {
+        Err(Refusal::Unfit) => {}
+        said => return said,
     }
-    if let Some(attribute) = fitted(max_message_size_line(text))? {
-        return Ok(attribute);
+    match max_message_size_line(text) {
+        Err(Refusal::Unfit) => {}
+        said => return said,
     }
-    if let Some(attribute) = fitted(sctp_init_line(alloc, text))? {
-        return Ok(attribute);
+    match sctp_init_line(alloc, text) {
+        Err(Refusal::Unfit) => {}
+        said => return said,
     }
-    if let Some(attribute) = fitted(extmap_line(alloc, text))? {
-        return Ok(attribute);
+    match extmap_line(alloc, text) {
+        Err(Refusal::Unfit) => {}
+        said => return said,
     }
     if let Some(attribute) = direction_word(text) {
         return Ok(attribute);
     }
-    if let Some(attribute) = fitted(msid_line(alloc, text))? {
-        return Ok(attribute);
+    match msid_line(alloc, text) {
+        Err(Refusal::Unfit) => {}
+        said => return said,
     }
-    if let Some(attribute) = fitted(rtcp_line(alloc, text))? {
-        return Ok(attribute);
+    match rtcp_line(alloc, text) {
+        Err(Refusal::Unfit) => {}
+        said => return said,
     }
     third_attribute(alloc, text)
 }
@@ -128,23 +142,29 @@ fn second_attribute(alloc: Global, text: &str) -> Result<MediaAttribute, Refusal
 fn media_attribute(alloc: Global, text: &str) -> Result<MediaAttribute, Refusal>
     ensures { Gives result (media_attribute.reads text.now) }
 {
-    if let Some(attribute) = fitted(ice_ufrag_line(alloc, text))? {
-        return Ok(attribute);
+    match ice_ufrag_line(alloc, text) {
+        Err(Refusal::Unfit) => {}
+        said => return said,
     }
-    if let Some(attribute) = fitted(ice_pwd_line(alloc, text))? {
-        return Ok(attribute);
+    match ice_pwd_line(alloc, text) {
+        Err(Refusal::Unfit) => {}
+        said => return said,
     }
-    if let Some(attribute) = fitted(ice_options_line(alloc, text))? {
-        return Ok(attribute);
+    match ice_options_line(alloc, text) {
+        Err(Refusal::Unfit) => {}
+        said => return said,
     }
-    if let Some(attribute) = fitted(fingerprint_line(alloc, text))? {
-        return Ok(attribute);
+    match fingerprint_line(alloc, text) {
+        Err(Refusal::Unfit) => {}
+        said => return said,
     }
-    if let Some(attribute) = fitted(setup_line(text))? {
-        return Ok(attribute);
+    match setup_line(text) {
+        Err(Refusal::Unfit) => {}
+        said => return said,
     }
-    if let Some(attribute) = fitted(mid_line(text))? {
-        return Ok(attribute);
+    match mid_line(text) {
+        Err(Refusal::Unfit) => {}
+        said => return said,
     }
     second_attribute(alloc, text)
 }

@@ -9,7 +9,7 @@ use crate::maps::payload_type;
 use crate::pairs;
 use rtp_wire::Pt;
 use sdp_formats_forms::{
-    Listed, Reads, Refusal, behind, fitted, has_digits_alone, list_of, number_8, split,
+    Listed, Reads, Refusal, behind, has_digits_alone, list_of, number_8, split,
 };
 use sdp_formats_params::FormatParam;
 use sdp_formats_types::MediaAttribute;
@@ -68,14 +68,17 @@ fn range(alloc: Global, text: &str) -> Result<Listed<FormatParam>, Refusal>
 fn parameters(alloc: Global, text: &str) -> Result<Listed<FormatParam>, Refusal>
     ensures { Gives result (parameters.reads text.now) }
 {
-    if let Some(values) = fitted(key_values(alloc, text))? {
-        return Ok(values);
+    match key_values(alloc, text) {
+        Err(Refusal::Unfit) => {}
+        said => return said,
     }
-    if let Some(values) = fitted(slash_list(alloc, text))? {
-        return Ok(values);
+    match slash_list(alloc, text) {
+        Err(Refusal::Unfit) => {}
+        said => return said,
     }
-    if let Some(values) = fitted(range(alloc, text))? {
-        return Ok(values);
+    match range(alloc, text) {
+        Err(Refusal::Unfit) => {}
+        said => return said,
     }
     one(alloc, FormatParam::Unknown)
 }
@@ -106,8 +109,9 @@ fn bare_fmtp(alloc: Global, value: &str) -> Result<MediaAttribute, Refusal>
 pub fn fmtp(alloc: Global, value: &str) -> Result<MediaAttribute, Refusal>
     ensures { Gives result (fmtp.reads value.now) }
 {
-    if let Some(attribute) = fitted(listed_fmtp(alloc, value))? {
-        return Ok(attribute);
+    match listed_fmtp(alloc, value) {
+        Err(Refusal::Unfit) => {}
+        said => return said,
     }
     bare_fmtp(alloc, value)
 }
