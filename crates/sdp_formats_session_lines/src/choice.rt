@@ -8,7 +8,7 @@ use crate::kinds::{
     candidate_line, end_word, fingerprint_line, group_line, ice_lite, ice_options_line,
     ice_pwd_line, ice_ufrag_line, msid_semantic_line, setup_line,
 };
-use sdp_formats_forms::{Lined, Refusal, Stepped, behind, fitted, line_of, text_of};
+use sdp_formats_forms::{Lined, Refusal, Stepped, behind, line_of, text_of};
 use sdp_formats_types::SessionAttribute;
 use std::alloc::Global;
 
@@ -16,14 +16,17 @@ use std::alloc::Global;
 fn later_attribute(alloc: Global, text: &str) -> Result<SessionAttribute, Refusal>
     ensures { Gives result (later_attribute.reads text.now) }
 {
-    if let Some(attribute) = fitted(fingerprint_line(alloc, text))? {
-        return Ok(attribute);
+    match fingerprint_line(alloc, text) {
+        Err(Refusal::Unfit) => {}
+        said => return said,
     }
-    if let Some(attribute) = fitted(setup_line(text))? {
-        return Ok(attribute);
+    match setup_line(text) {
+        Err(Refusal::Unfit) => {}
+        said => return said,
     }
-    if let Some(attribute) = fitted(candidate_line(alloc, text))? {
-        return Ok(attribute);
+    match candidate_line(alloc, text) {
+        Err(Refusal::Unfit) => {}
+        said => return said,
     }
     if let Some(attribute) = end_word(text) {
         return Ok(attribute);
@@ -36,23 +39,28 @@ fn later_attribute(alloc: Global, text: &str) -> Result<SessionAttribute, Refusa
 fn session_attribute(alloc: Global, text: &str) -> Result<SessionAttribute, Refusal>
     ensures { Gives result (session_attribute.reads text.now) }
 {
-    if let Some(attribute) = fitted(group_line(alloc, text))? {
-        return Ok(attribute);
+    match group_line(alloc, text) {
+        Err(Refusal::Unfit) => {}
+        said => return said,
     }
-    if let Some(attribute) = fitted(msid_semantic_line(alloc, text))? {
-        return Ok(attribute);
+    match msid_semantic_line(alloc, text) {
+        Err(Refusal::Unfit) => {}
+        said => return said,
     }
     if let Some(attribute) = ice_lite(text) {
         return Ok(attribute);
     }
-    if let Some(attribute) = fitted(ice_ufrag_line(alloc, text))? {
-        return Ok(attribute);
+    match ice_ufrag_line(alloc, text) {
+        Err(Refusal::Unfit) => {}
+        said => return said,
     }
-    if let Some(attribute) = fitted(ice_pwd_line(alloc, text))? {
-        return Ok(attribute);
+    match ice_pwd_line(alloc, text) {
+        Err(Refusal::Unfit) => {}
+        said => return said,
     }
-    if let Some(attribute) = fitted(ice_options_line(alloc, text))? {
-        return Ok(attribute);
+    match ice_options_line(alloc, text) {
+        Err(Refusal::Unfit) => {}
+        said => return said,
     }
     later_attribute(alloc, text)
 }
