@@ -40,6 +40,29 @@ fn fitting(place: usize, room: usize, len: usize) -> usize
     part
 }
 
+/// Takes a part of a text as the last element, unless it is empty, and puts back what is behind it.
+fn cut_last<'a>(
+    part: usize,
+    text: &'a [u8],
+    elements: Vec<&'a [u8]>,
+    texts: &mut VecDeque<&'a [u8]>,
+) -> Result<(Vec<&'a [u8]>, bool), PacketError>
+    requires { part < length text.now }
+    ensures elements { IfOk result (λ e. map (λ t. t.now) e.0.items ≡ map (λ t. t.now) elements.entry.items
+        ++ front part (text.now ∷ map (λ t. t.now) texts.old.items)) }
+    ensures cut { IfOk result (λ e. e.1 ≡ is_cut part (text.now ∷ map (λ t. t.now) texts.old.items)) }
+    ensures left { IfOk result (λ _. map (λ t. t.now) texts.new.items
+        ≡ back part (text.now ∷ map (λ t. t.now) texts.old.items)) }
+    ensures memory { IfErr result (λ e. e ≡ PacketError.Memory) }
+{
+    texts.push_front(&text[part..])?;
+    let mut elements = elements;
+    if part > 0 {
+        elements.push(&text[..part])?;
+    }
+    Ok((elements, part > 0))
+}
+
 /// The elements of the longest prefix of texts that fits the room, which are then gone, and whether the last one
 /// is cut.
 fn next_elements<'a>(
@@ -60,14 +83,8 @@ fn next_elements<'a>(
     let mut left = room;
     while let Some(text) = texts.pop_front() {
         let part = fitting(elements.len(), left, text.len());
-        if part == 0 {
-            texts.push_front(text)?;
-            return Ok((elements, false));
-        }
         if part < text.len() {
-            texts.push_front(&text[part..])?;
-            elements.push(&text[..part])?;
-            return Ok((elements, true));
+            return cut_last(part, text, elements, texts);
         }
         left = left.saturating_sub(size_len(text.len()) + text.len());
         elements.push(text)?;

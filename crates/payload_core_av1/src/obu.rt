@@ -1,11 +1,12 @@
 //! Open bitstream units (AV1 bitstream specification 5.3.1 to 5.3.3).
 
-ghost use Rattle.payload_core_av1.specs.Obus.{first_obu, has_extension, has_size, if_small, is_kept, obu, obu_cut};
-ghost use Rattle.payload_core_av1.specs.Obus.{payload_in, payload_limit, whole_obu, with_its_size, with_size};
-ghost use Rattle.payload_core_av1.specs.Obus.{without_its_size, without_size};
+ghost use Rattle.payload_core_av1.specs.Obus.{extension_bytes, first_obu, has_extension, has_size, if_small, is_kept};
+ghost use Rattle.payload_core_av1.specs.Obus.{obu, obu_cut, obu_of, payload_in, payload_limit, whole_obu};
+ghost use Rattle.payload_core_av1.specs.Obus.{with_its_size, with_size, without_its_size, without_size};
 ghost use Rattle.payload_core_av1.specs.Av1ReadingViews.{Keeps};
 ghost use Rattle.payload_core_av1.specs.Samples.{is_sequence_header};
-ghost use Rattle.std.specs.Prelude.{◌≡◌, ◌+◌, ◌++◌, ◌<◌, ◌≤◌, IfErr, IfOk, IfSome, MatchOption, None, Some, length};
+ghost use Rattle.std.specs.Prelude.{◌≡◌, ◌+◌, ◌++◌, ◌∷◌, ◌<◌, ◌≤◌, IfErr, IfOk, IfSome, MatchOption, None, Some};
+ghost use Rattle.std.specs.Prelude.{length};
 
 use crate::leb128::{push_size, sized_part};
 use payload_core_base::PacketError;
@@ -79,30 +80,15 @@ fn payload_in(has_size: bool, text: &[u8]) -> Option<(&[u8], &[u8])>
     if_small(payload, rest)
 }
 
-/// The unit that stands in front of a text, and what stands behind it.
-pub fn first_obu(text: &[u8]) -> Option<(Obu<'_>, &[u8])>
-    ensures value { MatchOption result (first_obu text.now ≡ None)
-        (λ cut. first_obu text.now ≡ Some (obu_cut cut.0.header cut.0.extension cut.0.payload.now cut.1.now)) }
-    ensures shorter { IfSome result (λ cut. length cut.0.payload.now + length cut.1.now < length text.now) }
+/// The unit of a header and an extension byte whose payload stands in front of a text, and what stands behind it.
+fn obu_in_front(header: u8, extension: Option<u8>, text: &[u8]) -> Option<(Obu<'_>, &[u8])>
+    ensures value { let cut = obu_of header extension (payload_in (has_size header) text.now) in
+        MatchOption result (cut ≡ None)
+        (λ c. cut ≡ Some (obu_cut c.0.header c.0.extension c.0.payload.now c.1.now)) }
+    ensures shorter { IfSome result (λ cut. length cut.0.payload.now + length cut.1.now ≤ length text.now) }
     ensures small { IfSome result (λ cut. length cut.0.payload.now < payload_limit) }
 {
-    let (header, behind) = text.split_first()?;
-    let header = *header;
-    if !has_extension(header) {
-        let (payload, rest) = payload_in(has_size(header), behind)?;
-        let extension = None;
-        return Some((
-            Obu {
-                header,
-                extension,
-                payload,
-            },
-            rest,
-        ));
-    }
-    let (byte, behind) = behind.split_first()?;
-    let (payload, rest) = payload_in(has_size(header), behind)?;
-    let extension = Some(*byte);
+    let (payload, rest) = payload_in(has_size(header), text)?;
     Some((
         Obu {
             header,
@@ -111,6 +97,34 @@ pub fn first_obu(text: &[u8]) -> Option<(Obu<'_>, &[u8])>
         },
         rest,
     ))
+}
+
+/// The unit that stands in front of a text, and what stands behind it.
+pub fn first_obu(text: &[u8]) -> Option<(Obu<'_>, &[u8])>
+    ensures value { MatchOption result (first_obu text.now ≡ None)
+        (λ cut. first_obu text.now ≡ Some (obu_cut cut.0.header cut.0.extension cut.0.payload.now cut.1.now)) }
+    ensures shorter { IfSome result (λ cut. length cut.0.payload.now + length cut.1.now < length text.now) }
+    ensures small { IfSome result (λ cut. length cut.0.payload.now < payload_limit) }
+{
+    let (header, behind) = text.split_first()?;
+    if !has_extension(*header) {
+        return obu_in_front(*header, None, behind);
+    }
+    let (byte, behind) = behind.split_first()?;
+    obu_in_front(*header, Some(*byte), behind)
+}
+
+/// Writes the header byte of a unit and its extension byte.
+fn push_header(header: u8, extension: Option<u8>, out: &mut Vec<u8>) -> Result<(), PacketError>
+    ensures written { IfOk result (λ _. out.new.items ≡ out.old.items ++ (header ∷ extension_bytes extension)) }
+    ensures kept { Keeps out.old.items out.new.items }
+    ensures memory { IfErr result (λ e. e ≡ PacketError.Memory) }
+{
+    out.push(header)?;
+    if let Some(byte) = extension {
+        out.push(byte)?;
+    }
+    Ok(())
 }
 
 /// The unit that a text is; with S it carries just its own size.
@@ -140,10 +154,7 @@ impl Obu<'_> {
         ensures kept { Keeps out.old.items out.new.items }
         ensures memory { IfErr result (λ e. e ≡ PacketError.Memory) }
     {
-        out.push(with_size(self.header))?;
-        if let Some(byte) = self.extension {
-            out.push(byte)?;
-        }
+        push_header(with_size(self.header), self.extension, out)?;
         push_size(out, self.payload.len())?;
         out.extend_from_slice(self.payload)?;
         Ok(())
@@ -163,10 +174,7 @@ impl Obu<'_> {
         ensures memory { IfErr result (λ e. e ≡ PacketError.Memory) }
     {
         let mut text = Vec::new(alloc);
-        text.push(without_size(self.header))?;
-        if let Some(byte) = self.extension {
-            text.push(byte)?;
-        }
+        push_header(without_size(self.header), self.extension, &mut text)?;
         text.extend_from_slice(self.payload)?;
         Ok(text)
     }

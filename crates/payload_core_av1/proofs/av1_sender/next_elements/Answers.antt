@@ -31,16 +31,16 @@ loop-text-preserved c =
     let is : before ≡ e ∷ others = ap (λ (ts : List (Bor (List ℕ))). map (λ (t : Bor (List ℕ)). t.now) ts)
     c.in-Some.ensures.items in
     let place : ℕ = vec_len c.loop-text.elements in
-    let p : ℕ = vec_len c.push-in-Some.new.self in
+    let p : ℕ = vec_len c.push.new.self in
     let part : c.fitting-part.result ≡ greatest_part place c.loop-text.left (length e) =
     c.fitting-part.ensures ∙ ap (λ n. greatest_part n c.loop-text.left (length e)) c.len.ensures in
     let ge : length e ≤ greatest_part place c.loop-text.left (length e) = omega (arith, part) in
-    let next : p ≡ place + 1 = c.in_ok-push-2.ensures.len in
+    let next : p ≡ place + 1 = c.in_ok-push.ensures.len in
     let left : c.saturating_sub-left.result ≡ c.loop-text.left - (length (spelling (length e)) + length e) =
     omega (arith, c.saturating_sub-left.ensures, c.size_len.ensures.value) in
     let taken = taken-whole place c.loop-text.left p c.saturating_sub-left.result e others before elements is
     inv.texts ge next left in
-    let pushed = ap (λ (es : List (Bor (List ℕ))). map (λ (t : Bor (List ℕ)). t.now) es) c.in_ok-push-2.ensures.items
+    let pushed = ap (λ (es : List (Bor (List ℕ))). map (λ (t : Bor (List ℕ)). t.now) es) c.in_ok-push.ensures.items
     ∙ map_push (λ (t : Bor (List ℕ)). t.now) c.loop-text.elements.items c.in-Some.text in
     record {
       texts = taken.texts_are;
