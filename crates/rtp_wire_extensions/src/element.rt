@@ -112,28 +112,18 @@ pub fn value_bytes(ext: &Extension, values: &ExtensionValues) -> Option<ElementB
         Extension::AbsoluteCaptureTime => capture_bytes(values.abs_capture_time),
         Extension::AudioLevel => level_bytes(values.audio_level, values.voice_activity),
         Extension::VideoOrientation => {
-            values
-                .video_orientation
-                .map(|v| ElementBytes::new(&[v.get()]))
-        },
-        Extension::TransportSequenceNumber => {
-            values
-                .transport_cc
-                .map(|number| ElementBytes::new(&number.to_be_bytes()))
-        },
-        Extension::PlayoutDelay => delay_bytes(values.play_delay_min, values.play_delay_max),
-        Extension::VideoContentType => {
-            values
-                .video_content_type
-                .map(|number| ElementBytes::new(&[number]))
-        },
-        Extension::RtpStreamId => values.rid.map(|name| ElementBytes::new(name.as_bytes())),
-        Extension::RepairedRtpStreamId => {
-            values
-                .rid_repair
-                .map(|name| ElementBytes::new(name.as_bytes()))
+            let turn = values.video_orientation?;
+            Some(ElementBytes::new(&[turn.get()]))
         }
-        Extension::RtpMid => values.mid.map(|name| ElementBytes::new(name.as_bytes())),
+        Extension::TransportSequenceNumber => {
+            let number = values.transport_cc?;
+            Some(ElementBytes::new(&number.to_be_bytes()))
+        }
+        Extension::PlayoutDelay => delay_bytes(values.play_delay_min, values.play_delay_max),
+        Extension::VideoContentType => Some(ElementBytes::new(&[values.video_content_type?])),
+        Extension::RtpStreamId => Some(ElementBytes::new(values.rid?.as_bytes())),
+        Extension::RepairedRtpStreamId => Some(ElementBytes::new(values.rid_repair?.as_bytes())),
+        Extension::RtpMid => Some(ElementBytes::new(values.mid?.as_bytes())),
         Extension::UnknownUri(_) => None,
     }
 }

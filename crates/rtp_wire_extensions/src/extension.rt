@@ -79,7 +79,7 @@ impl Eq for Uri {
 }
 
 /// A header extension (RFC 8285 5): a known kind, or another that is named by its URI.
-#[derive(Debug, PartialEq, Eq, Drop)]
+#[derive(PartialEq, Eq, Drop)]
 pub enum Extension {
     /// When the packet left: `abs-send-time`.
     AbsoluteSendTime,
@@ -228,5 +228,12 @@ impl fmt::Display for Extension {
 
     fn fmt<W: fmt::Write>(&self, f: &mut fmt::Formatter<W>) -> fmt::Result {
         f.write_str(self.as_uri())
+    }
+}
+
+/// As it is printed.
+impl fmt::Debug for Extension {
+    fn fmt<W: fmt::Write>(&self, f: &mut fmt::Formatter<W>) -> fmt::Result {
+        fmt::Display::fmt(self, f)
     }
 }

@@ -14,28 +14,37 @@ pub fn value_len(ext: &Extension, values: &ExtensionValues) -> Option<usize>
     ensures short { IfSome result (λ len. len ≤ 16) }
 {
     match ext {
-        Extension::AbsoluteSendTime => values.abs_send_time.map(|_time| 3),
+        Extension::AbsoluteSendTime => {
+            let _time = values.abs_send_time?;
+            Some(3)
+        }
         Extension::AbsoluteCaptureTime => {
-            values
-                .abs_capture_time
-                .map(|time| if time.clock_offset.is_some() { 16 } else { 8 })
+            let time = values.abs_capture_time?;
+            Some(if time.clock_offset.is_some() { 16 } else { 8 })
         }
         Extension::AudioLevel => {
-            level_bytes(values.audio_level, values.voice_activity).map(|level| level
-                .as_slice()
-                .len())
+            let level = level_bytes(values.audio_level, values.voice_activity)?;
+            Some(level.as_slice().len())
         }
-        Extension::VideoOrientation => values.video_orientation.map(|_turn| 1),
-        Extension::TransportSequenceNumber => values.transport_cc.map(|_number| 2),
+        Extension::VideoOrientation => {
+            let _turn = values.video_orientation?;
+            Some(1)
+        }
+        Extension::TransportSequenceNumber => {
+            let _number = values.transport_cc?;
+            Some(2)
+        }
         Extension::PlayoutDelay => {
-            delay_bytes(values.play_delay_min, values.play_delay_max).map(|delay| delay
-                .as_slice()
-                .len())
+            let delay = delay_bytes(values.play_delay_min, values.play_delay_max)?;
+            Some(delay.as_slice().len())
         }
-        Extension::VideoContentType => values.video_content_type.map(|_content| 1),
-        Extension::RtpStreamId => values.rid.map(|name| name.as_bytes().len()),
-        Extension::RepairedRtpStreamId => values.rid_repair.map(|name| name.as_bytes().len()),
-        Extension::RtpMid => values.mid.map(|name| name.as_bytes().len()),
+        Extension::VideoContentType => {
+            let _content = values.video_content_type?;
+            Some(1)
+        }
+        Extension::RtpStreamId => Some(values.rid?.as_bytes().len()),
+        Extension::RepairedRtpStreamId => Some(values.rid_repair?.as_bytes().len()),
+        Extension::RtpMid => Some(values.mid?.as_bytes().len()),
         Extension::UnknownUri(_) => None,
     }
 }

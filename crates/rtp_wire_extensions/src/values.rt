@@ -110,11 +110,9 @@ impl ExtensionValues {
     pub(crate) fn has_full_names(&self) -> bool
         ensures { result ≡ true → HasFullNames self.now }
     {
-        self.mid.is_none_or(|name| !name.as_bytes().is_empty())
-            && self.rid.is_none_or(|name| !name.as_bytes().is_empty())
-            && self
-                .rid_repair
-                .is_none_or(|name| !name.as_bytes().is_empty())
+        !matches!(self.mid, Some(name) if name.as_bytes().is_empty())
+            && !matches!(self.rid, Some(name) if name.as_bytes().is_empty())
+            && !matches!(self.rid_repair, Some(name) if name.as_bytes().is_empty())
     }
 
     /// Reads each value, so that callers know the range of its type.
