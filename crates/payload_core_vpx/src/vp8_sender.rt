@@ -52,15 +52,11 @@ fn packet(
     let mut packet = Vec::with_capacity(alloc, piece.len().saturating_add(4))?;
     if !tells {
         packet.push(start)?;
+    } else if id < 128 {
+        packet.extend_from_slice(&[0x80 + start, 0x80, id as u8])?;
     } else {
-        packet.push(0x80 + start)?;
-        packet.push(0x80)?;
-        if id < 128 {
-            packet.push(id as u8)?;
-        } else {
-            packet.push(0x80 + (id / 256) as u8)?;
-            packet.push((id % 256) as u8)?;
-        }
+        let high = 0x80 + (id / 256) as u8;
+        packet.extend_from_slice(&[0x80 + start, 0x80, high, (id % 256) as u8])?;
     }
     packet.extend_from_slice(piece)?;
     Ok(packet)

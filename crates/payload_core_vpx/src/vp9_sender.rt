@@ -65,9 +65,8 @@ fn packet(
     let begins: u8 = if first { 0x08 } else { 0 };
     let ends: u8 = if last { 0x04 } else { 0 };
     let mut packet = Vec::with_capacity(alloc, piece.len().saturating_add(4))?;
-    packet.push(0x90 + predicted + begins + ends)?;
-    packet.push(0x80 + (id / 256) as u8)?;
-    packet.push((id % 256) as u8)?;
+    let flags = 0x90 + predicted + begins + ends;
+    packet.extend_from_slice(&[flags, 0x80 + (id / 256) as u8, (id % 256) as u8])?;
     if told {
         packet.push(PREVIOUS_FRAME)?;
     }
