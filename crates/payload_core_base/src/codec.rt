@@ -9,7 +9,7 @@ use crate::codec_names::CODECS;
 use std::fmt;
 
 /// A codec or payload format, as `a=rtpmap` names it (RFC 8866 6.6).
-#[derive(Clone, Copy, Debug, PartialEq, Eq, Drop)]
+#[derive(Clone, Copy, PartialEq, Eq, Drop)]
 pub enum Codec {
     /// Opus (RFC 7587).
     Opus,

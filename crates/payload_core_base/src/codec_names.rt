@@ -12,6 +12,7 @@ use payload_core_tables::{Named, read_name, write_name};
 use serde::de::DeserializeOwned;
 use serde::{Described, Deserialize, Deserializer, Format, Serialize, Serializer};
 use std::alloc::Global;
+use std::fmt;
 
 /// Every codec.
 pub const CODECS: [Codec; 17] = [
@@ -57,6 +58,13 @@ impl Named for Codec {
             Codec::Null => "Null",
             Codec::Unknown => "Unknown",
         }
+    }
+}
+
+/// The name of its variant.
+impl fmt::Debug for Codec {
+    fn fmt<W: fmt::Write>(&self, f: &mut fmt::Formatter<W>) -> fmt::Result {
+        f.write_str(self.name())
     }
 }
 
