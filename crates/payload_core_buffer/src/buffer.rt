@@ -89,7 +89,8 @@ impl<D: Depacketizer> DepacketizingBuffer<D> {
         ensures unchanged { OnErr result (self.new ≡ self.old) }
         ensures memory { IfErr result (λ e. e ≡ PacketError.Memory) }
     {
-        if self.cutoff.is_some_and(|c| meta.seq_no.get() <= c.get()) {
+        let cutoff = self.cutoff;
+        if matches!(cutoff, Some(c) if meta.seq_no.get() <= c.get()) {
             return Ok(());
         }
         keep(self.alloc, &mut self.held, meta, payload)
