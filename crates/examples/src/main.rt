@@ -11,7 +11,7 @@
 //! - `offer`: an offer, into its sections with their rows and candidates (`texts::offer`)
 //! - `browser`: an end's text, which gets the transport's lines (`texts::transport`)
 //! - `rows`: rows in JSON, a line each, read and written (`texts::rows_json`)
-//! - `track`: nothing; a struct of the program's own, with what rows hold, written and read by serde
+//! - `track`: nothing; a tuple of the program's own, of what rows hold, written and read by serde
 //!   (`texts::values_json`)
 //! - `captures`: captures of browsers in data/, a line each, `FILE CODEC TYPE [REDTYPE]`, into units
 //!   (`packets::captures`)
