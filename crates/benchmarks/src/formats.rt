@@ -4,11 +4,12 @@ use crate::buffers::Buffering;
 use crate::line::Line;
 use crate::measured::{Round, measure};
 use crate::tally::Tally;
+use h26x_payload::{CodecDepacketizer, CodecPacketizer, NotBoxed};
 use payload_core::{
-    CodecExtra, Depacketizer, DepacketizingBuffer, PacketError, Packetizer, Payloader, RedDecoder,
-    RedSender,
+    Codec, CodecExtra, Depacketizer, DepacketizingBuffer, PacketError, Packetizer, Payloader,
+    RedDecoder, RedSender,
 };
-use rtp_wire::ExtensionValues;
+use rtp_wire::{ExtensionValues, Frequency};
 use std::alloc::Global;
 use std::io;
 
@@ -131,8 +132,40 @@ pub(crate) fn measure_packets<R: Round>(
     println!(*rt; "{format} {way}: {packets} packets or units, {bytes} bytes")
 }
 
-/// Sends a sample of a format, reads its packets, and has them go through a buffer, so often.
-pub(crate) fn both_ways<P: Packetizer + Drop, D: Depacketizer + Drop>(
+/// A packetizer and a depacketizer of a codec; with `is_set` AMR-WB is octet-aligned, and units of H.265 have decoding
+/// order numbers.
+fn pair(
+    alloc: Global,
+    codec: Codec,
+    is_set: bool,
+) -> Option<(CodecPacketizer<NotBoxed>, CodecDepacketizer<NotBoxed>)> {
+    let (octet_align, max_don_diff) = (Some(is_set), Some(u16::from(is_set)));
+    let mut packetizer = CodecPacketizer::<NotBoxed>::with_picture_id(codec, Some(1))?;
+    packetizer.configure_for(octet_align, max_don_diff, Frequency::EIGHT_KHZ);
+    let mut depacketizer = CodecDepacketizer::<NotBoxed>::new(alloc, codec)?;
+    depacketizer.configure_for(octet_align, max_don_diff, Frequency::EIGHT_KHZ);
+    Some((packetizer, depacketizer))
+}
+
+/// Sends a sample of a codec, reads its packets, and has them go through a buffer, so often.
+pub(crate) fn measure_codec(
+    rt: &HostRuntime,
+    format: &str,
+    codec: Codec,
+    is_set: bool,
+    sample: &[u8],
+    rounds: u32,
+) -> io::Result<()> {
+    match pair(rt.alloc(), codec, is_set) {
+        Some((packetizer, depacketizer)) => {
+            both_ways(rt, format, sample, rounds, packetizer, depacketizer)
+        }
+        None => Err(io::Error::other("a codec without a payload format")),
+    }
+}
+
+/// Sends a sample, reads its packets, and has them go through a buffer, so often.
+fn both_ways<P: Packetizer + Drop, D: Depacketizer + Drop>(
     rt: &HostRuntime,
     format: &str,
     sample: &[u8],
@@ -162,6 +195,7 @@ pub(crate) fn both_ways<P: Packetizer + Drop, D: Depacketizer + Drop>(
         buffer: DepacketizingBuffer::new(rt.alloc(), reading.depacketizer, 0),
         packets: &packets,
         number: 0,
+        step: 1,
     };
     measure_packets(rt, format, "through the buffer", &mut buffering, rounds)
 }

@@ -1,76 +1,27 @@
 //! H.264, H.265 and H.266, and texts cut into units.
 
-use crate::formats::both_ways;
+use crate::formats::measure_codec;
 use crate::measured::{Round, measure};
 use crate::samples::access_unit;
 use crate::tally::Tally;
-use h26x_payload::{
-    H264Depacketizer, H264Packetizer, H265Depacketizer, H265Packetizer, H266Depacketizer,
-    H266Packetizer, nal_units,
-};
-use std::alloc::{AllocError, Global};
+use h26x_payload::{Codec, nal_units};
+use std::alloc::Global;
 use std::io;
 
 /// How often an access unit is sent, read or cut.
 const ROUNDS: u32 = 2_000;
 
-/// SPS, PPS and four slices of a keyframe.
-fn h264_sample(alloc: Global) -> Result<Vec<u8>, AllocError> {
-    let sets = b"\0\0\0\x01\x67parameters, 20 bytes\0\0\0\x01\x68parameters, 20 bytes";
-    access_unit(alloc, sets, b"\0\0\0\x01\x65")
-}
+/// SPS and PPS.
+const H264_SETS: &[u8] = b"\0\0\0\x01\x67parameters, 20 bytes\0\0\0\x01\x68parameters, 20 bytes";
 
-/// VPS, SPS, PPS and four slices of a keyframe.
-fn h265_sample(alloc: Global) -> Result<Vec<u8>, AllocError> {
-    let sets = b"\0\0\0\x01\x40\x01parameters, 20 bytes\0\0\0\x01\x42\x01parameters, 20 bytes\
-        \0\0\0\x01\x44\x01parameters, 20 bytes";
-    access_unit(alloc, sets, b"\0\0\0\x01\x26\x01")
-}
+/// VPS, SPS and PPS.
+const H265_SETS: &[u8] =
+    b"\0\0\0\x01\x40\x01parameters, 20 bytes\0\0\0\x01\x42\x01parameters, 20 bytes\
+    \0\0\0\x01\x44\x01parameters, 20 bytes";
 
-/// VPS, SPS, PPS and four slices of a keyframe.
-fn h266_sample(alloc: Global) -> Result<Vec<u8>, AllocError> {
-    let sets = b"\0\0\0\x01\0\x71parameters, 20 bytes\0\0\0\x01\0\x79parameters, 20 bytes\
-        \0\0\0\x01\0\x81parameters, 20 bytes";
-    access_unit(alloc, sets, b"\0\0\0\x01\0\x39")
-}
-
-/// H.264.
-fn h264(rt: &HostRuntime) -> io::Result<()> {
-    let sample = h264_sample(rt.alloc())?;
-    let depacketizer = H264Depacketizer::new(rt.alloc());
-    both_ways(
-        rt,
-        "H.264",
-        &sample,
-        ROUNDS,
-        H264Packetizer::new(),
-        depacketizer,
-    )
-}
-
-/// H.265, with decoding order numbers or without.
-fn h265(rt: &HostRuntime, format: &str, donl: bool) -> io::Result<()> {
-    let sample = h265_sample(rt.alloc())?;
-    let mut packetizer = H265Packetizer::new();
-    packetizer.with_donl(donl);
-    let mut depacketizer = H265Depacketizer::new(rt.alloc());
-    depacketizer.with_donl(donl);
-    both_ways(rt, format, &sample, ROUNDS, packetizer, depacketizer)
-}
-
-/// H.266.
-fn h266(rt: &HostRuntime) -> io::Result<()> {
-    let sample = h266_sample(rt.alloc())?;
-    let depacketizer = H266Depacketizer::new(rt.alloc());
-    both_ways(
-        rt,
-        "H.266",
-        &sample,
-        ROUNDS,
-        H266Packetizer::new(),
-        depacketizer,
-    )
-}
+/// VPS, SPS and PPS.
+const H266_SETS: &[u8] = b"\0\0\0\x01\0\x71parameters, 20 bytes\0\0\0\x01\0\x79parameters, 20 bytes\
+    \0\0\0\x01\0\x81parameters, 20 bytes";
 
 /// An access unit that is cut into its units.
 #[derive(Drop)]
@@ -87,18 +38,19 @@ impl Round for Cutting<'_> {
     }
 }
 
-/// A text cut into its units.
-fn cut(rt: &HostRuntime) -> io::Result<()> {
-    let sample = h264_sample(rt.alloc())?;
-    let units = measure(rt, "H.264", "cut", &mut Cutting { sample: &sample }, ROUNDS)?;
-    println!(*rt; "cut: {} units, {} bytes", units.packets, units.bytes)
-}
-
-/// Each format, with decoding order numbers too, and cutting.
+/// A keyframe of each format, with decoding order numbers too, and one of H.264 cut into its units.
 pub(crate) fn measure_all(rt: &HostRuntime) -> io::Result<()> {
-    h264(rt)?;
-    h265(rt, "H.265", false)?;
-    h265(rt, "H.265 with DONL", true)?;
-    h266(rt)?;
-    cut(rt)
+    let h264 = access_unit(rt.alloc(), H264_SETS, b"\0\0\0\x01\x65")?;
+    let h265 = access_unit(rt.alloc(), H265_SETS, b"\0\0\0\x01\x26\x01")?;
+    let h266 = access_unit(rt.alloc(), H266_SETS, b"\0\0\0\x01\0\x39")?;
+    for (format, codec, has_numbers, sample) in [
+        ("H.264", Codec::H264, false, &h264),
+        ("H.265", Codec::H265, false, &h265),
+        ("H.265 with DONL", Codec::H265, true, &h265),
+        ("H.266", Codec::H266, false, &h266),
+    ] {
+        measure_codec(rt, format, codec, has_numbers, sample, ROUNDS)?;
+    }
+    let units = measure(rt, "H.264", "cut", &mut Cutting { sample: &h264 }, ROUNDS)?;
+    println!(*rt; "cut: {} units, {} bytes", units.packets, units.bytes)
 }

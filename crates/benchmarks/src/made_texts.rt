@@ -4,7 +4,7 @@ use crate::measured::{Round, measure};
 use crate::tally::Tally;
 use sdp_formats::sdp_parser;
 use sdp_formats_section_rows::rtp_params;
-use std::alloc::{AllocError, Global};
+use std::alloc::Global;
 use std::io;
 
 /// What stands before the types of the one section, of which this is the first.
@@ -12,12 +12,6 @@ const HEAD: &str = "v=0\r\no=- 1 2 IN IP4 0.0.0.0\r\ns=-\r\nt=0 0\r\nm=audio 9 U
 
 /// What stands between its types and its other lines.
 const SECTION: &str = "\r\nc=IN IP4 0.0.0.0\r\na=mid:0\r\na=sendrecv\r\n";
-
-/// A text whose section lists such types more, and has these lines so often.
-fn made(alloc: Global, types: &str, lines: &str, times: usize) -> Result<String, AllocError> {
-    let lines = lines.repeat(alloc, times)?;
-    [HEAD, types, SECTION, lines.as_str()].concat(alloc)
-}
 
 /// A session text that is read with the rows of its sections.
 #[derive(Drop)]
@@ -38,16 +32,7 @@ impl Round for Reading<'_> {
     }
 }
 
-/// Reads a text once.
-fn read(rt: &HostRuntime, what: &str, text: &str) -> io::Result<()> {
-    let read = measure(rt, what, "read", &mut Reading { text }, 1)?;
-    println!(*rt;
-        "{what}: {} rows\n{what}: {} bytes",
-        read.packets, read.bytes
-    )
-}
-
-/// Reads the text with such types and lines once.
+/// Reads a text once whose section lists such types more, and has these lines so often.
 fn read_made(
     rt: &HostRuntime,
     what: &str,
@@ -55,8 +40,21 @@ fn read_made(
     lines: &str,
     times: usize,
 ) -> io::Result<()> {
-    let text = made(rt.alloc(), types, lines, times)?;
-    read(rt, what, text.as_str())
+    let lines = lines.repeat(rt.alloc(), times)?;
+    let text = [HEAD, types, SECTION, lines.as_str()].concat(rt.alloc())?;
+    let read = measure(
+        rt,
+        what,
+        "read",
+        &mut Reading {
+            text: text.as_str(),
+        },
+        1,
+    )?;
+    println!(*rt;
+        "{what}: {} rows\n{what}: {} bytes",
+        read.packets, read.bytes
+    )
 }
 
 /// Each kind of text, read with its rows.

@@ -1,13 +1,13 @@
 //! Payload formats of sound and pictures, and a buffer that holds many packets.
 
-use crate::buffers::Waiting;
-use crate::formats::{Copying, LIMIT, ReadingRed, SendingRed, both_ways, measure_packets, refused};
+use crate::buffers::Buffering;
+use crate::formats::{
+    Copying, LIMIT, ReadingRed, SendingRed, measure_codec, measure_packets, refused,
+};
 use crate::measured::{measure, repeat};
 use payload_core::{
-    AmrWbDepacketizer, AmrWbPacketizer, Av1Depacketizer, Av1Packetizer, DepacketizingBuffer,
-    G711Depacketizer, G711Packetizer, OpusDepacketizer, OpusPacketizer, PacketError, Packetizer,
-    RedEncoder, RedSender, RedundantBlock, Vp8Depacketizer, Vp8Packetizer, Vp9Depacketizer,
-    Vp9Packetizer,
+    Av1Packetizer, Codec, DepacketizingBuffer, OpusDepacketizer, PacketError, Packetizer,
+    RedEncoder, RedSender, RedundantBlock,
 };
 use std::alloc::Global;
 use std::io;
@@ -24,21 +24,32 @@ const VIDEO: u32 = 2_000;
 /// How many packets are pushed into a full buffer.
 const TURNS: u32 = 2_000;
 
-/// Opus and G.711: samples of 20 ms.
+/// Opus, G.711, and AMR-WB in both layouts: samples of 20 ms, of speech at 23.85 kbit/s.
 fn audio(rt: &HostRuntime) -> io::Result<()> {
-    let (packetizer, depacketizer) = (OpusPacketizer::new(), OpusDepacketizer::new());
-    both_ways(rt, "Opus", &[7; 120], AUDIO, packetizer, depacketizer)?;
-    let (packetizer, depacketizer) = (G711Packetizer::new(), G711Depacketizer::new());
-    both_ways(rt, "G.711", &[7; 160], AUDIO, packetizer, depacketizer)
-}
-
-/// AMR-WB in one layout: samples of 20 ms at 23.85 kbit/s.
-fn speech(rt: &HostRuntime, format: &str, octet_align: bool) -> io::Result<()> {
-    let mut sample = [7; 61];
-    sample[0] = 0x44;
-    let packetizer = AmrWbPacketizer::new(octet_align);
-    let depacketizer = AmrWbDepacketizer::new(octet_align);
-    both_ways(rt, format, &sample, SPEECH, packetizer, depacketizer)
+    let (opus, g711) = ([7; 120], [7; 160]);
+    let mut speech = [7; 61];
+    speech[0] = 0x44;
+    for (format, codec, is_set, sample, rounds) in [
+        ("Opus", Codec::Opus, false, &opus[..], AUDIO),
+        ("G.711", Codec::PCMU, false, &g711[..], AUDIO),
+        (
+            "AMR-WB octet-aligned",
+            Codec::AmrWb,
+            true,
+            &speech[..],
+            SPEECH,
+        ),
+        (
+            "AMR-WB bandwidth-efficient",
+            Codec::AmrWb,
+            false,
+            &speech[..],
+            SPEECH,
+        ),
+    ] {
+        measure_codec(rt, format, codec, is_set, sample, rounds)?;
+    }
+    Ok(())
 }
 
 /// A packet of Opus with one older payload.
@@ -68,25 +79,15 @@ fn redundant(rt: &HostRuntime) -> io::Result<()> {
 /// VP8 and VP9: frames of 12,000 bytes.
 fn video(rt: &HostRuntime) -> io::Result<()> {
     let frame = [7; 12_000];
-    let packetizer = Vp8Packetizer::with_picture_id(Some(1));
-    both_ways(rt, "VP8", &frame, VIDEO, packetizer, Vp8Depacketizer::new())?;
-    let packetizer = Vp9Packetizer::with_picture_id(1);
-    both_ways(rt, "VP9", &frame, VIDEO, packetizer, Vp9Depacketizer::new())
+    measure_codec(rt, "VP8", Codec::Vp8, false, &frame, VIDEO)?;
+    measure_codec(rt, "VP9", Codec::Vp9, false, &frame, VIDEO)
 }
 
 /// AV1: a temporal unit of one frame of so many bytes, behind its header and its size in leb128.
 fn av1(rt: &HostRuntime, format: &str, header: &[u8], size: usize, rounds: u32) -> io::Result<()> {
     let frame = vec![in rt.alloc(); 7; size]?;
     let unit = [header, &frame].concat(rt.alloc())?;
-    let depacketizer = Av1Depacketizer::new(rt.alloc());
-    both_ways(
-        rt,
-        format,
-        &unit,
-        rounds,
-        Av1Packetizer::new(),
-        depacketizer,
-    )?;
+    measure_codec(rt, format, Codec::Av1, false, &unit, rounds)?;
     baseline(rt, format, &unit, rounds)
 }
 
@@ -103,42 +104,43 @@ fn baseline(rt: &HostRuntime, format: &str, unit: &[u8], rounds: u32) -> io::Res
     measure_packets(rt, format, "copied twice", &mut copying, rounds)
 }
 
-/// AV1 units of growing size.
-fn av1_sizes(rt: &HostRuntime) -> io::Result<()> {
-    let header = [0x32, 0xE0, 0x5D];
-    av1(rt, "AV1 of 12,000 bytes", &header, 12_000, VIDEO)?;
-    let header = [0x32, 0xC0, 0x9A, 0x0C];
-    av1(rt, "AV1 of 200,000 bytes", &header, 200_000, VIDEO / 16)?;
-    let header = [0x32, 0x80, 0x92, 0xF4, 0x01];
-    av1(
-        rt,
-        "AV1 of 4,000,000 bytes",
-        &header,
-        4_000_000,
-        VIDEO / 160,
-    )
-}
-
-/// Pushes packets into a buffer in which so many wait, and pops after each.
+/// Pushes packets into a buffer in which so many wait for those with the numbers between them, and pops after each.
 fn buffer(rt: &HostRuntime, what: &str, waiting: u32) -> io::Result<()> {
+    let packets = [Vec::from_slice(rt.alloc(), &[7; 120])?];
     let depacketizer = OpusDepacketizer::new();
-    let mut packets = Waiting {
+    let mut buffering = Buffering {
         buffer: DepacketizingBuffer::new(rt.alloc(), depacketizer, waiting as usize),
+        packets: &packets,
         number: 0,
+        step: 2,
     };
-    let _held = repeat(rt.alloc(), &mut packets, waiting.saturating_add(1));
-    let tally = measure(rt, what, "pushed and popped", &mut packets, TURNS)?;
+    let _held = repeat(rt.alloc(), &mut buffering, waiting.saturating_add(1));
+    let tally = measure(rt, what, "pushed and popped", &mut buffering, TURNS)?;
     println!(*rt; "{what}: {TURNS} packets, {} units", tally.packets)
 }
 
-/// Every payload format but H.26x, and the buffer.
+/// Every payload format but H.26x, AV1 in units of growing size, and the buffer.
 pub(crate) fn measure_all(rt: &HostRuntime) -> io::Result<()> {
     audio(rt)?;
-    speech(rt, "AMR-WB octet-aligned", true)?;
-    speech(rt, "AMR-WB bandwidth-efficient", false)?;
     redundant(rt)?;
     video(rt)?;
-    av1_sizes(rt)?;
+    for (format, header, size, rounds) in [
+        ("AV1 of 12,000 bytes", &b"\x32\xE0\x5D"[..], 12_000, VIDEO),
+        (
+            "AV1 of 200,000 bytes",
+            &b"\x32\xC0\x9A\x0C"[..],
+            200_000,
+            VIDEO / 16,
+        ),
+        (
+            "AV1 of 4,000,000 bytes",
+            &b"\x32\x80\x92\xF4\x01"[..],
+            4_000_000,
+            VIDEO / 160,
+        ),
+    ] {
+        av1(rt, format, header, size, rounds)?;
+    }
     buffer(rt, "buffer of 15 and one more", 15)?;
     buffer(rt, "buffer of 4095 and one more", 4_095)
 }
