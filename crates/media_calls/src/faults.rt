@@ -1,30 +1,12 @@
 //! Runs of the program's lines whose reader or writer fails, or whose input takes more reads than it may.
 
-use rtp_media::{Respond, RunFault, Status, run_within};
-use rtp_media_lines::{Command, Reply};
-use std::alloc::{AllocError, Global};
+use rtp_media::{Program, RunFault, Status, run_within};
+use std::alloc::Global;
 use std::io;
 use std::io::{ErrorKind, Read, Write};
 
 /// More reads than a run here takes.
 const MANY: usize = 1_000;
-
-/// Replies to each command with how many came so far.
-#[derive(Drop)]
-struct Count {
-    commands: usize,
-}
-
-impl Respond for Count {
-    ghost gives = { λ old command new replies. Unit {0} };
-
-    fn respond(&mut self, alloc: Global, _command: Command) -> Result<Vec<Reply>, AllocError> {
-        self.commands = self.commands.saturating_add(1);
-        let mut replies = Vec::new(alloc);
-        replies.push(Reply::Sender(self.commands))?;
-        Ok(replies)
-    }
-}
 
 /// Gives its bytes in pieces of 3, and then ends, or fails.
 #[derive(Drop)]
@@ -91,8 +73,8 @@ fn runs_so(
     mut sink: Sink,
     wanted: (Result<Status, RunFault>, &str),
 ) -> bool {
-    let mut count = Count { commands: 0 };
-    let result = run_within(alloc, reads, &mut source, &mut sink, &mut count);
+    let mut program = Program::new(alloc);
+    let result = run_within(alloc, reads, &mut source, &mut sink, &mut program);
     result == wanted.0 && sink.taken.as_slice() == wanted.1.as_bytes()
 }
 
@@ -102,7 +84,7 @@ pub(crate) fn reads_and_writes_that_fail(alloc: Global) -> bool {
         rest: b"fixed a\nfixed b",
         fails: true,
     };
-    let wanted = (Err(RunFault::Read), "sender 1\n");
+    let wanted = (Err(RunFault::Read), "ok\n");
     let read = runs_so(
         alloc,
         MANY,
@@ -111,19 +93,19 @@ pub(crate) fn reads_and_writes_that_fail(alloc: Global) -> bool {
         wanted,
     );
     let lines = b"fixed a\nfixed b\n";
-    let wanted = (Err(RunFault::Write), "sender 1\nse");
+    let wanted = (Err(RunFault::Write), "ok\nok");
     let write = runs_so(
         alloc,
         MANY,
         make_source(lines),
-        make_sink(alloc, 11, true),
+        make_sink(alloc, 5, true),
         wanted,
     );
     let none_taken = runs_so(
         alloc,
         MANY,
         make_source(lines),
-        make_sink(alloc, 11, false),
+        make_sink(alloc, 5, false),
         wanted,
     );
     read && write && none_taken
@@ -132,7 +114,7 @@ pub(crate) fn reads_and_writes_that_fail(alloc: Global) -> bool {
 /// An input that takes more reads than it may ends a run as a read that fails does, and not one that takes just these.
 pub(crate) fn an_input_that_takes_more_reads(alloc: Global) -> bool {
     let line = b"fixed a\n";
-    let all = (Ok(Status::Success), "sender 1\n");
+    let all = (Ok(Status::Success), "ok\n");
     let in_four = runs_so(
         alloc,
         4,
@@ -140,7 +122,7 @@ pub(crate) fn an_input_that_takes_more_reads(alloc: Global) -> bool {
         make_sink(alloc, usize::MAX, false),
         all,
     );
-    let fewer = (Err(RunFault::Read), "sender 1\n");
+    let fewer = (Err(RunFault::Read), "ok\n");
     let in_three = runs_so(
         alloc,
         3,
