@@ -53,7 +53,7 @@ fixed_section = record {
   receives = true;
 }
 
--- A section of the answer and of the other end's text: the name, kind, rows and extensions of the answer, the SSRCs that
+-- A section of the answer and of the other end's text: name, kind, rows and extensions of the answer, the SSRCs that
 -- this end wanted and those that the other end's text names, and how it flows.
 abbrev pub agreed : List ℕ → MediaLine → MediaLine → Bool → Bool → Agreed
 agreed ssrcs remote answer from to = record {
