@@ -206,6 +206,14 @@ abbrev pub with_distances : Sending → Option ℕ → Option (List ℕ) → Sen
 with_distances s red None = s
 with_distances s red (Some distances) = redundant_sender s (unwrap_or red 0) distances
 
+-- A new stream that sends a row under a map.
+abbrev pub row_sender : ℕ → Row → Numbering → StreamParams → Sending
+row_sender ssrc row exts params =
+    with_distances
+    (opened_sender ssrc (types_of row) exts (row_format_of row) params.picture_id params.for_browsers params.first
+    params.mtu params.limit)
+    row.red params.red
+
 -- The stream that an end opens to send: the agreed row under the agreed map.
 abbrev pub new_sender : EndState → List ℕ → ℕ → ℕ → StreamParams → Sending
 new_sender e mid ssrc pt params =

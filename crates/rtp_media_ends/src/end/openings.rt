@@ -10,7 +10,7 @@ ghost use Rattle.rtp_media_ends.specs.Ends.{agreed_red, carried_row, is_carried,
 ghost use Rattle.rtp_media_ends.specs.Ends.{refusal_of_open_receiver, refusal_of_open_sender, after_open_sender};
 ghost use Rattle.rtp_media_ends.specs.Ends.{after_open_receiver, row_format_of, stream_map, types_of, with_distances};
 ghost use Rattle.rtp_media_ends.specs.Ends.{sender_at, is_receiver_at, is_sender_at, new_sender, new_receiver};
-ghost use Rattle.rtp_media_ends.specs.Ends.{receives_as, sends_as};
+ghost use Rattle.rtp_media_ends.specs.Ends.{receives_as, row_sender, sends_as};
 ghost use Rattle.rtp_media_ends.specs.FullArrival.{HasReceiver, IsSender};
 ghost use Rattle.rtp_media_ends.specs.Params.{IsSound};
 
@@ -62,19 +62,7 @@ impl End {
         let exts = self.stream_exts(mid)?;
         let types = types_of(&row);
         let number = self.streams.len();
-        let stream = SendingStream::new(
-            self.alloc,
-            ssrc,
-            types,
-            exts,
-            row_format_of(&row),
-            params.picture_id,
-            params.for_browsers,
-            params.first,
-            params.mtu,
-            params.limit,
-        );
-        let stream = with_distances(self.alloc, stream, row.red(), params.red.as_ref())?;
+        let stream = sending_stream(self.alloc, ssrc, &row, exts, &params)?;
         self.senders.set_types(ssrc, &types, number)?;
         self.streams.push(OpenStream::Sender(stream))?;
         Ok(number)
@@ -253,6 +241,33 @@ fn is_carried(row: &PayloadParams) -> bool
     ensures { result ≡ is_carried row.now }
 {
     has_format(row.spec().codec) && row.pt().get() <= 127 && is_red_of(row.pt(), row.red())
+}
+
+/// A new sending stream of a row.
+fn sending_stream(
+    alloc: Global,
+    ssrc: Ssrc,
+    row: &PayloadParams,
+    exts: ExtensionMap,
+    params: &StreamParams,
+) -> Result<SendingStream, AllocError>
+    requires sound { IsSound row.now.red params.now }
+    requires carried { is_carried row.now ≡ true }
+    ensures { IfOk result (λ s. s ≡ row_sender ssrc row.now exts params.now) }
+{
+    let stream = SendingStream::new(
+        alloc,
+        ssrc,
+        types_of(row),
+        exts,
+        row_format_of(row),
+        params.picture_id,
+        params.for_browsers,
+        params.first,
+        params.mtu,
+        params.limit,
+    );
+    with_distances(alloc, stream, row.red(), params.red.as_ref())
 }
 
 /// The stream with redundancy under this RED type, where there are distances.

@@ -21,13 +21,10 @@ returns-clause-sender c =
     let row : Row = c.in_ok-row.row in
     let sound : IsSound row.red c.args.params =
     subst (λ (o : Option Row). IsSound (red_in o) c.args.params) c.in_ok-row.ensures.row c.requires in
-    let stream : c.in_ok-stream.stream ≡ with_distances
-    (opened_sender c.args.ssrc (types_of row) c.in_ok-exts.exts (row_format_of row) c.args.params.picture_id
-    c.args.params.for_browsers c.args.params.first c.args.params.mtu c.args.params.limit) row.red c.args.params.red =
-    grind (arith, common_steps) in
     let opened = opened-sound c.codec_law.ensures.first c.args.ssrc row c.in_ok-exts.exts c.args.params
     (carried-fits row c.in_ok-row.ensures.carried) (omega arith) sound in
-    subst IsSender (sym (let there : _ ≡ c.in_ok-stream.stream = grind (arith, common_steps) in there ∙ stream)) opened
+    subst IsSender (sym (let there : _ ≡ c.in_ok-stream.stream = grind (arith, common_steps) in
+    there ∙ c.in_ok-stream.ensures)) opened
 
 pub returns-clause-sends : goal.returns-clause-sends
 unfolding after_open_sender
@@ -67,14 +64,15 @@ invariant_of-self-2 c =
     may-send c.self.inside.senders c.set_types.new.self c.self.inside.receivers c.self.inside.streams.items c.args.ssrc
     c.types_of-types.result c.set_types.ensures.others free c.self.invariant in
     let number : c.len-number.result ≡ length c.self.inside.streams.items = grind (arith, common_steps) in
-    let opened : Sending = opened_sender c.args.ssrc c.types_of-types.result c.in_ok-exts.exts
-    c.row_format_of.result c.args.params.picture_id c.args.params.for_browsers c.args.params.first c.args.params.mtu
-    c.args.params.limit in
+    let opened : Sending = opened_sender c.args.ssrc (types_of c.in_ok-row.row) c.in_ok-exts.exts
+    (row_format_of c.in_ok-row.row) c.args.params.picture_id c.args.params.for_browsers c.args.params.first
+    c.args.params.mtu c.args.params.limit in
     let stream : c.in_ok-stream.stream ≡ with_distances opened c.in_ok-row.row.red c.args.params.red =
-    grind (arith, common_steps) in
+    c.in_ok-stream.ensures in
     rw c.in_ok-push.ensures.items
     (sender-added c.set_types.new.self c.self.inside.receivers c.self.inside.streams.items c.in_ok-stream.stream
     c.args.ssrc c.types_of-types.result c.len-number.result
     (ap (λ (x : Sending). x.ssrc) stream ∙ same-ssrc opened c.in_ok-row.row.red c.args.params.red)
-    (ap (λ (x : Sending). x.types) stream ∙ same-types opened c.in_ok-row.row.red c.args.params.red) number indexed
+    (ap (λ (x : Sending). x.types) stream ∙ same-types opened c.in_ok-row.row.red c.args.params.red
+    ∙ sym c.types_of-types.ensures) number indexed
     c.in_ok-set_types.ensures.set)
