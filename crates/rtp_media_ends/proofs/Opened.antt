@@ -1,5 +1,5 @@
 -- Streams as an end opens them.
-use Rattle.std.proofs.Common.{◌≡◌, ◌≢◌, ℕ, ◌<◌, ◌≤◌, ◌^◌, Bool, true, false, List, refl, sym, arith, ◌&&◌}
+use Rattle.std.proofs.Common.{◌≡◌, ◌≢◌, ℕ, ◌<◌, ◌≤◌, ◌^◌, Bool, true, false, List, refl, sym, ap, arith, ◌&&◌}
 use Rattle.std.proofs.Common.{true≢false}
 use Rattle.std.proofs.lemmas.Bool.Decides.{nat_tests}
 use Rattle.std.specs.Option.{ForSome}
@@ -11,7 +11,9 @@ use Rattle.sdp_formats_rows.specs.Rows.{Row}
 use Rattle.rtp_media_streams.specs.Rows.{coding_in, first_state, settings_in}
 use Rattle.rtp_media_streams.specs.Sending.{opened_sender}
 use Rattle.rtp_media_streams.proofs.Configured.{reached-in-forms}
-use Rattle.rtp_media_ends.specs.Ends.{is_carried, is_red_of, row_format_of, types_of, with_distances}
+use Rattle.rtp_media_sections.specs.Agreement.{agreed_row_of}
+use Rattle.rtp_media_ends.specs.Ends.{EndState, is_carried, is_red_of, new_sender, red_in, row_format_in}
+use Rattle.rtp_media_ends.specs.Ends.{row_format_of, row_sender, stream_map, types_in, types_of, with_distances}
 use Rattle.rtp_media_ends.specs.FullArrival.{IsSender}
 use Rattle.rtp_media_ends.specs.Params.{IsRedundancy, IsSound}
 use Rattle.rtp_media_ends.specs.declared.params.StreamParams.{StreamParams}
@@ -91,3 +93,12 @@ opened-sound law ssrc row map params fit fits sound = go row.red params.red refl
     ssrc = fits;
     reached = reached;
   }
+
+-- the stream of the agreed row is the one that the end opens
+pub sender-of-row : (e : EndState) (mid : List ℕ) (ssrc pt : ℕ) (params : StreamParams) (row : Row)
+    → agreed_row_of e.exchange.agreed mid pt ≡ Some row
+    → row_sender ssrc row (stream_map e mid) params ≡ new_sender e mid ssrc pt params
+sender-of-row e mid ssrc pt params row is =
+    ap (λ (o : Option Row). with_distances
+    (opened_sender ssrc (types_in o) (stream_map e mid) (row_format_in o) params.picture_id params.for_browsers
+    params.first params.mtu params.limit) (red_in o) params.red) (sym is)

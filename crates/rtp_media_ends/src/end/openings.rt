@@ -38,7 +38,6 @@ impl End {
     /// is missing, not locked, or means something else), `WrongDirection`, `SsrcNotNamed` (the
     /// section of this end doesn't name the SSRC) and `AlreadyOpen`; or `Memory`. The end is then
     /// unchanged.
-    #[tactic(auto, unfolding(crate::specs::Ends::after_open_sender))]
     pub fn open_sender(
         &mut self,
         mid: Mid,
@@ -57,15 +56,7 @@ impl End {
             ≡ Some e) }
         ensures unchanged { OnErr result (self.new ≡ self.old) }
     {
-        codec_law();
-        let row = self.sender_row(mid, ssrc, pt)?;
-        let exts = self.stream_exts(mid)?;
-        let types = types_of(&row);
-        let number = self.streams.len();
-        let stream = sending_stream(self.alloc, ssrc, &row, exts, &params)?;
-        self.senders.set_types(ssrc, &types, number)?;
-        self.streams.push(OpenStream::Sender(stream))?;
-        Ok(number)
+        self.open_sender_with(mid, ssrc, pt, &params)
     }
 
     /// Opens a receiving stream of this SSRC for the agreed row of a payload type, and answers its
@@ -101,6 +92,63 @@ impl End {
         let stream = ReceivingStream::new(self.alloc, ssrc, types, exts, format, hold_back);
         self.streams.push(OpenStream::Receiver(stream))?;
         Ok(number)
+    }
+
+    /// Opens a sending stream with these parameters.
+    #[tactic(auto, unfolding(crate::specs::Ends::after_open_sender))]
+    fn open_sender_with(
+        &mut self,
+        mid: Mid,
+        ssrc: Ssrc,
+        pt: Pt,
+        params: &StreamParams,
+    ) -> Result<usize, OpenError>
+        requires { IsSound (agreed_red self.old mid pt) params.now }
+        ensures number { IfOk result (λ n. n ≡ length self.old.streams) }
+        ensures opens { OnOk result (refusal_of_open_sender self.old mid ssrc pt ≡ None) }
+        ensures after { OnOk result (self.new ≡ after_open_sender self.old mid ssrc pt params.now) }
+        ensures stream { IfOk result (λ n. sender_at self.new n ≡ new_sender self.old mid ssrc pt params.now) }
+        ensures sender { IfOk result (λ n. IsSender (sender_at self.new n)) }
+        ensures sends { IfOk result (λ n. is_sender_at self.new n ≡ true) }
+        ensures refused { IfErr result (λ e. e ≢ OpenError.Memory → refusal_of_open_sender self.old mid ssrc pt
+            ≡ Some e) }
+        ensures unchanged { OnErr result (self.new ≡ self.old) }
+    {
+        codec_law();
+        let row = self.sender_row(mid, ssrc, pt)?;
+        let types = types_of(&row);
+        let number = self.streams.len();
+        let stream = self.sending_stream(mid, ssrc, &row, params)?;
+        self.senders.set_types(ssrc, &types, number)?;
+        self.streams.push(OpenStream::Sender(stream))?;
+        Ok(number)
+    }
+
+    /// A new sending stream of a row in a section of this name.
+    fn sending_stream(
+        &self,
+        mid: Mid,
+        ssrc: Ssrc,
+        row: &PayloadParams,
+        params: &StreamParams,
+    ) -> Result<SendingStream, AllocError>
+        requires sound { IsSound row.now.red params.now }
+        requires carried { is_carried row.now ≡ true }
+        ensures { IfOk result (λ s. s ≡ row_sender ssrc row.now (stream_map self.now mid) params.now) }
+    {
+        let stream = SendingStream::new(
+            self.alloc,
+            ssrc,
+            types_of(row),
+            self.stream_exts(mid)?,
+            row_format_of(row),
+            params.picture_id,
+            params.for_browsers,
+            params.first,
+            params.mtu,
+            params.limit,
+        );
+        with_distances(self.alloc, stream, row.red(), params.red.as_ref())
     }
 
     /// The row that a new sending stream sends, or why there is none.
@@ -241,33 +289,6 @@ fn is_carried(row: &PayloadParams) -> bool
     ensures { result ≡ is_carried row.now }
 {
     has_format(row.spec().codec) && row.pt().get() <= 127 && is_red_of(row.pt(), row.red())
-}
-
-/// A new sending stream of a row.
-fn sending_stream(
-    alloc: Global,
-    ssrc: Ssrc,
-    row: &PayloadParams,
-    exts: ExtensionMap,
-    params: &StreamParams,
-) -> Result<SendingStream, AllocError>
-    requires sound { IsSound row.now.red params.now }
-    requires carried { is_carried row.now ≡ true }
-    ensures { IfOk result (λ s. s ≡ row_sender ssrc row.now exts params.now) }
-{
-    let stream = SendingStream::new(
-        alloc,
-        ssrc,
-        types_of(row),
-        exts,
-        row_format_of(row),
-        params.picture_id,
-        params.for_browsers,
-        params.first,
-        params.mtu,
-        params.limit,
-    );
-    with_distances(alloc, stream, row.red(), params.red.as_ref())
 }
 
 /// The stream with redundancy under this RED type, where there are distances.

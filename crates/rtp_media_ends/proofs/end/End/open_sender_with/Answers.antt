@@ -7,21 +7,21 @@ use Rattle.rtp_media_streams.specs.Sending.{Sending, opened_sender}
 use Rattle.rtp_media_streams.specs.declared.types.PayloadTypes.{PayloadTypes}
 use Rattle.rtp_media_ends.specs.declared.open_stream.OpenStream.{OpenStream}
 use Rattle.rtp_media_ends.specs.Ends.{EndState, after_open_sender, is_sender_at, new_sender, red_in, row_format_of}
-use Rattle.rtp_media_ends.specs.Ends.{sends_as, types_of, with_distances}
+use Rattle.rtp_media_ends.specs.Ends.{sends_as, stream_map, types_of, with_distances}
 use Rattle.rtp_media_ends.specs.Indexed.{AreIndexed}
 use Rattle.rtp_media_ends.proofs.Indexing.{may-send, same-ssrc, same-types, sender-added}
 use Rattle.rtp_media_ends.specs.FullArrival.{IsSender}
 use Rattle.rtp_media_ends.specs.Params.{IsSound}
 use Rattle.rtp_media_ends.proofs.Numbers.{new-sender-sends}
-use Rattle.rtp_media_ends.proofs.Opened.{carried-fits, opened-sound}
-use Rattle.rtp_media_ends.proofs.end.End.open_sender.Goals as goal
+use Rattle.rtp_media_ends.proofs.Opened.{carried-fits, opened-sound, sender-of-row}
+use Rattle.rtp_media_ends.proofs.end.End.open_sender_with.Goals as goal
 
 pub returns-clause-sender : goal.returns-clause-sender
 returns-clause-sender c =
     let row : Row = c.in_ok-row.row in
-    let sound : IsSound row.red c.args.params =
-    subst (λ (o : Option Row). IsSound (red_in o) c.args.params) c.in_ok-row.ensures.row c.requires in
-    let opened = opened-sound c.codec_law.ensures.first c.args.ssrc row c.in_ok-exts.exts c.args.params
+    let sound : IsSound row.red c.args.params.now =
+    subst (λ (o : Option Row). IsSound (red_in o) c.args.params.now) c.in_ok-row.ensures.row c.requires in
+    let opened = opened-sound c.codec_law.ensures.first c.args.ssrc row (stream_map c.args.self.now c.args.mid) c.args.params.now
     (carried-fits row c.in_ok-row.ensures.carried) (omega arith) sound in
     subst IsSender (sym (let there : _ ≡ c.in_ok-stream.stream = grind (arith, common_steps) in
     there ∙ c.in_ok-stream.ensures)) opened
@@ -29,13 +29,16 @@ returns-clause-sender c =
 pub returns-clause-sends : goal.returns-clause-sends
 unfolding after_open_sender
 returns-clause-sends c =
+    let stream : c.in_ok-stream.stream ≡ new_sender c.args.self.now c.args.mid c.args.ssrc c.args.pt c.args.params.now =
+    c.in_ok-stream.ensures ∙ sender-of-row c.args.self.now c.args.mid c.args.ssrc c.args.pt c.args.params.now
+    c.in_ok-row.row c.in_ok-row.ensures.row in
     let opened : EndState = record { exchange = c.self.inside.exchange; streams = c.push.new.self.items } in
-    let after : opened ≡ after_open_sender c.args.self.now c.args.mid c.args.ssrc c.args.pt c.args.params =
+    let after : opened ≡ after_open_sender c.args.self.now c.args.mid c.args.ssrc c.args.pt c.args.params.now =
     grind (arith, common_steps) in
     let number : length c.args.self.now.streams ≡ c.len-number.result = grind (arith, common_steps) in
     subst₂ (λ (e : EndState) (n : ℕ). is_sender_at e n ≡ true) (sym after) number
     (new-sender-sends c.args.self.now
-    (new_sender c.args.self.now c.args.mid c.args.ssrc c.args.pt c.args.params))
+    (new_sender c.args.self.now c.args.mid c.args.ssrc c.args.pt c.args.params.now))
 
 pub invariant_of-self : goal.invariant_of-self
 invariant_of-self c =
@@ -64,15 +67,15 @@ invariant_of-self-2 c =
     may-send c.self.inside.senders c.set_types.new.self c.self.inside.receivers c.self.inside.streams.items c.args.ssrc
     c.types_of-types.result c.set_types.ensures.others free c.self.invariant in
     let number : c.len-number.result ≡ length c.self.inside.streams.items = grind (arith, common_steps) in
-    let opened : Sending = opened_sender c.args.ssrc (types_of c.in_ok-row.row) c.in_ok-exts.exts
-    (row_format_of c.in_ok-row.row) c.args.params.picture_id c.args.params.for_browsers c.args.params.first
-    c.args.params.mtu c.args.params.limit in
-    let stream : c.in_ok-stream.stream ≡ with_distances opened c.in_ok-row.row.red c.args.params.red =
+    let opened : Sending = opened_sender c.args.ssrc (types_of c.in_ok-row.row) (stream_map c.args.self.now c.args.mid)
+    (row_format_of c.in_ok-row.row) c.args.params.now.picture_id c.args.params.now.for_browsers c.args.params.now.first
+    c.args.params.now.mtu c.args.params.now.limit in
+    let stream : c.in_ok-stream.stream ≡ with_distances opened c.in_ok-row.row.red c.args.params.now.red =
     c.in_ok-stream.ensures in
     rw c.in_ok-push.ensures.items
     (sender-added c.set_types.new.self c.self.inside.receivers c.self.inside.streams.items c.in_ok-stream.stream
     c.args.ssrc c.types_of-types.result c.len-number.result
-    (ap (λ (x : Sending). x.ssrc) stream ∙ same-ssrc opened c.in_ok-row.row.red c.args.params.red)
-    (ap (λ (x : Sending). x.types) stream ∙ same-types opened c.in_ok-row.row.red c.args.params.red
+    (ap (λ (x : Sending). x.ssrc) stream ∙ same-ssrc opened c.in_ok-row.row.red c.args.params.now.red)
+    (ap (λ (x : Sending). x.types) stream ∙ same-types opened c.in_ok-row.row.red c.args.params.now.red
     ∙ sym c.types_of-types.ensures) number indexed
     c.in_ok-set_types.ensures.set)
