@@ -115,6 +115,7 @@ pub use rtp_wire::Frequency;
 pub use rtp_wire_extensions::AbsCaptureTime;
 pub use rtp_wire_extensions::ExtensionValues;
 pub use rtp_wire_extensions::VideoOrientation;
+pub use rtp_wire_ids::ClockRate;
 pub use rtp_wire_ids::Mid;
 pub use rtp_wire_ids::Rid;
 pub use rtp_wire_ids::SeqNo;

@@ -32,4 +32,4 @@ pub use payload_core_vpx::{
 };
 pub use rtp_wire::{Frequency, ParseFrequencyError};
 pub use rtp_wire_extensions::{AbsCaptureTime, ExtensionValues, VideoOrientation};
-pub use rtp_wire_ids::{Mid, Pt, Rid, SeqNo};
+pub use rtp_wire_ids::{ClockRate, Mid, Pt, Rid, SeqNo};

@@ -2,12 +2,14 @@
 
 ghost use Rattle.payload_core_audio.specs.Plain.{idle_sender};
 ghost use Rattle.payload_core_audio.specs.Telephone.{telephone_format, telephone_packing};
+ghost use Rattle.std.specs.Int.NonZero.{non_zero_u32_get};
 ghost use Rattle.std.specs.Prelude.{◌≡◌, None};
 
 use crate::cut::whole;
 use payload_core_base::{CodecExtra, Depacketizer, PacketError, Packetizer, TelephoneEvent};
-use rtp_wire::Frequency;
+use rtp_wire::ClockRate;
 use std::alloc::Global;
+use std::num::NonZeroU32;
 
 /// Sends the reports of a telephone event as one packet (RFC 4733 2.3).
 #[derive(Clone, Copy, Debug, Drop)]
@@ -46,20 +48,22 @@ impl Packetizer for TelephoneEventPacketizer {
 /// event (RFC 4733 2.3).
 #[derive(Clone, Copy, Debug, Drop)]
 pub struct TelephoneEventDepacketizer {
-    clock_rate: Frequency,
+    clock_rate: NonZeroU32,
 }
 
 impl TelephoneEventDepacketizer {
     /// A depacketizer of reports whose durations are in ticks of `clock_rate`.
-    pub fn new(clock_rate: Frequency) -> Self
-        ensures { result ≡ record { clock_rate = clock_rate } }
+    pub fn new<C: ClockRate>(clock_rate: C) -> Self
+        ensures { non_zero_u32_get result.clock_rate ≡ C.hertz clock_rate }
     {
-        TelephoneEventDepacketizer { clock_rate }
+        TelephoneEventDepacketizer {
+            clock_rate: clock_rate.hertz(),
+        }
     }
 }
 
 impl Depacketizer for TelephoneEventDepacketizer {
-    ghost format = { λ t. telephone_format t.clock_rate };
+    ghost format = { λ t. telephone_format (non_zero_u32_get t.clock_rate) };
 
     ghost fragment = { λ _. None };
 

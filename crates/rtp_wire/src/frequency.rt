@@ -5,11 +5,13 @@ ghost use Rattle.serde.specs.Event.{Sends, unsigned};
 ghost use Rattle.serde.specs.Steps.{Gives};
 ghost use Rattle.rtp_wire.specs.Time.{frequency_of};
 
+use rtp_wire_ids::ClockRate;
 use serde::de::DeserializeOwned;
 use serde::{Described, Deserialize, Deserializer, Format, Serialize, Serializer};
 use std::alloc::Global;
 use std::fmt;
 use std::marker::Model;
+use std::num::NonZeroU32;
 use std::str::FromStr;
 
 /// Ticks a second of a clock, 1 to 4,294,967,295.
@@ -75,6 +77,17 @@ impl Frequency {
 
     /// Seconds.
     pub const SECONDS: Frequency = Frequency(1);
+}
+
+impl ClockRate for Frequency {
+    ghost hertz = { λ f. f };
+
+    fn hertz(self) -> NonZeroU32 {
+        match NonZeroU32::new(self.get()) {
+            Some(hertz) => hertz,
+            None => NonZeroU32::MIN,
+        }
+    }
 }
 
 impl fmt::Display for Frequency {

@@ -21,7 +21,9 @@ pub use rtp_wire_extensions::{
     AbsCaptureTime, Extension, ExtensionMap, ExtensionMapIter, ExtensionValues, ExtensionsForm,
     MAX_ID, MAX_ID_ONE_BYTE_FORM, Uri, VideoOrientation,
 };
-pub use rtp_wire_ids::{Direction, Mid, Pt, Rid, SeqNo, SessionId, Ssrc, direction_laws};
+pub use rtp_wire_ids::{
+    ClockRate, Direction, Mid, Pt, Rid, SeqNo, SessionId, Ssrc, direction_laws,
+};
 pub use run::{Reception, receive_one, receive_run};
 pub use widening::{extend_u7, extend_u8, extend_u15, extend_u16, extend_u32};
 pub use window::SeqNoWindow;
