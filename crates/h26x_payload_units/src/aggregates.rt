@@ -10,7 +10,7 @@ use payload_core_base::PacketError;
 use std::alloc::Global;
 
 /// What is wrong with an aggregate behind its whole units.
-#[derive(Clone, Copy, Debug, PartialEq, Eq, Drop)]
+#[derive(Clone, Copy, Drop)]
 pub enum AggregateFault {
     /// The bytes end before a size does.
     CutShort,

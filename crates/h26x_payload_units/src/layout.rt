@@ -8,7 +8,7 @@ ghost use Rattle.h26x_payload_units.specs.Reading.{begins_by};
 ghost use Rattle.std.specs.Prelude.{◌≡◌};
 
 /// Whose units a packet carries. Both codecs' headers have two bytes, with a layer and a TID in them.
-#[derive(Clone, Copy, Debug, Drop)]
+#[derive(Clone, Copy, Drop)]
 pub enum Layout {
     /// H.265 (RFC 7798).
     H265,

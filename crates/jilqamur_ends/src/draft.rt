@@ -21,7 +21,7 @@ use std::mem;
 
 /// The numbers of a row: a payload type and what it stands for.
 #[repr(C)]
-#[derive(Clone, Copy, Debug, Drop)]
+#[derive(Clone, Copy, Drop)]
 pub struct WireRow {
     /// The payload type.
     pub payload_type: u8,

@@ -17,7 +17,7 @@ use std::marker::Model;
 
 /// How a sending stream by codec numbers and cuts its samples.
 #[repr(C)]
-#[derive(Clone, Copy, Debug, Drop)]
+#[derive(Clone, Copy, Drop)]
 pub struct WireSender {
     /// The stream's source.
     pub ssrc: u32,

@@ -18,7 +18,7 @@ use std::alloc::{AllocError, Global};
 
 /// How a sending stream numbers and cuts its samples.
 #[repr(C)]
-#[derive(Clone, Copy, Debug, Drop)]
+#[derive(Clone, Copy, Drop)]
 pub struct WireStream {
     /// The first sequence number, below 32,768.
     pub first: u64,

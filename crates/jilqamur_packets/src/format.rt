@@ -13,7 +13,7 @@ use rtp_wire::Frequency;
 
 /// How payloads are read and written, beside their codec.
 #[repr(C)]
-#[derive(Clone, Copy, Debug, Drop)]
+#[derive(Clone, Copy, Drop)]
 pub struct WireFormat {
     /// Ticks a second, at least 1.
     pub clock_rate: u32,
@@ -28,7 +28,7 @@ pub struct WireFormat {
 }
 
 /// A codec, and what changes the layout of its payloads.
-#[derive(Clone, Copy, Debug, Drop)]
+#[derive(Clone, Copy, Drop)]
 pub struct PayloadFormat {
     /// The codec.
     pub codec: Codec,

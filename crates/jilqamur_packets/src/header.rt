@@ -12,7 +12,7 @@ use rtp_wire::{ExtensionMap, ExtensionValues, Pt, RtpHeader, Ssrc};
 
 /// The header of an RTP packet (RFC 3550 5.1), without the values of its extensions.
 #[repr(C)]
-#[derive(Clone, Copy, Debug, Drop)]
+#[derive(Clone, Copy, Drop)]
 pub struct WireHeader {
     /// Whether padding stands behind the payload.
     pub has_padding: bool,

@@ -21,7 +21,7 @@ use std::marker::Model;
 
 /// How a packetizer counts pictures, and which forms it writes.
 #[repr(C)]
-#[derive(Clone, Copy, Debug, Drop)]
+#[derive(Clone, Copy, Drop)]
 pub struct WirePacketizer {
     /// Whether VP8's frames have picture ids; VP9's always do.
     pub has_picture_id: bool,

@@ -12,7 +12,7 @@ use std::marker::Model;
 
 /// What is told of a unit beside its bytes.
 #[repr(C)]
-#[derive(Clone, Copy, Debug, Drop)]
+#[derive(Clone, Copy, Drop)]
 pub struct WireUnit {
     /// The widened sequence number of its first packet.
     pub first: u64,

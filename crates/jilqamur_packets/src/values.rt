@@ -8,7 +8,7 @@ use rtp_wire::{AbsCaptureTime, ExtensionValues, Mid, VideoOrientation};
 /// The values of header extensions (RFC 8285), but the names of sections and streams. One that isn't given is not
 /// looked at, and is 0 or false in values that were read.
 #[repr(C)]
-#[derive(Clone, Copy, Debug, Drop)]
+#[derive(Clone, Copy, Drop)]
 pub struct WireValues {
     /// Whether the audio level is given.
     pub has_audio_level: bool,

@@ -8,7 +8,7 @@ use rtp_wire::Frequency;
 
 /// What a row says of a stream's payloads: its codec and clock rate, and the parameters that change the
 /// layout of payloads.
-#[derive(Clone, Copy, Debug, PartialEq, Eq, Drop)]
+#[derive(Clone, Copy, Drop)]
 pub struct RowFormat {
     /// The codec.
     pub codec: Codec,

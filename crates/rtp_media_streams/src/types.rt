@@ -7,7 +7,7 @@ use rtp_wire::Pt;
 
 /// The payload types of a stream's row (RFC 3550 5.1): its own and, where it has one, that of its
 /// redundancy (RFC 2198).
-#[derive(Clone, Copy, Debug, PartialEq, Eq, Drop)]
+#[derive(Clone, Copy, Drop)]
 pub struct PayloadTypes {
     /// The row's own type.
     pub pt: Pt,

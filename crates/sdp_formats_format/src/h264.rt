@@ -8,7 +8,7 @@ use crate::points::{level_points, points_if};
 use h26x_payload_profiles::{H264Profile, H264ProfileLevel};
 
 /// What a format gives of H.264 (RFC 6184 8.1).
-#[derive(Clone, Copy, Debug, PartialEq, Eq, Drop)]
+#[derive(Clone, Copy, Drop)]
 pub struct GivenH264 {
     /// `packetization-mode`.
     pub packetization_mode: Option<u8>,

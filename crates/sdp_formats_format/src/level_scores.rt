@@ -11,7 +11,7 @@ use h26x_payload_profiles::{
 };
 
 /// What a format gives of a profile, a tier and a level.
-#[derive(Clone, Copy, Debug, PartialEq, Eq, Drop)]
+#[derive(Clone, Copy, Drop)]
 pub struct GivenLevel<P, L> {
     /// Profile, tier and level.
     pub level: Option<ProfileTierLevel<P, L>>,

@@ -9,7 +9,7 @@ use crate::error::RoundError;
 use sdp_formats_rows::{PayloadParams, Pt};
 
 /// What a type is for.
-#[derive(Clone, Copy, Debug, PartialEq, Eq, Drop)]
+#[derive(Clone, Copy, Drop)]
 pub(crate) enum Role {
     /// The codec, or redundancy over it.
     Main,
@@ -18,7 +18,7 @@ pub(crate) enum Role {
 }
 
 /// The types that a row was given so far in its turn.
-#[derive(Clone, Copy, Debug, Drop)]
+#[derive(Clone, Copy, Drop)]
 pub(crate) struct Own {
     pub first: Option<u8>,
     pub second: Option<u8>,
