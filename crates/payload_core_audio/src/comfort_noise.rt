@@ -1,7 +1,7 @@
 //! Comfort noise payloads (RFC 3389).
 
 ghost use Rattle.payload_core_audio.specs.Plain.{idle_sender, noise_packing, plain_format};
-ghost use Rattle.std.specs.Prelude.{None};
+ghost use Rattle.std.specs.Prelude.{◌≡◌, None};
 
 use crate::cut::whole;
 use payload_core_base::{CodecExtra, Depacketizer, PacketError, Packetizer};
@@ -13,7 +13,9 @@ pub struct ComfortNoisePacketizer;
 
 impl ComfortNoisePacketizer {
     /// A packetizer, which keeps nothing between samples.
-    pub fn new() -> Self {
+    pub fn new() -> Self
+        ensures { result ≡ record {} }
+    {
         ComfortNoisePacketizer
     }
 }
@@ -43,7 +45,9 @@ pub struct ComfortNoiseDepacketizer;
 
 impl ComfortNoiseDepacketizer {
     /// A depacketizer, which keeps nothing between packets.
-    pub fn new() -> Self {
+    pub fn new() -> Self
+        ensures { result ≡ record {} }
+    {
         ComfortNoiseDepacketizer
     }
 }

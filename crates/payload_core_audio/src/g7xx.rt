@@ -14,7 +14,9 @@ pub struct G7xxPacketizer;
 
 impl G7xxPacketizer {
     /// A packetizer, which keeps nothing between samples.
-    pub fn new() -> Self {
+    pub fn new() -> Self
+        ensures { result ≡ record {} }
+    {
         G7xxPacketizer
     }
 }
@@ -59,7 +61,9 @@ pub struct G711Depacketizer;
 
 impl G711Depacketizer {
     /// A depacketizer, which keeps nothing between packets.
-    pub fn new() -> Self {
+    pub fn new() -> Self
+        ensures { result ≡ record {} }
+    {
         G711Depacketizer
     }
 }

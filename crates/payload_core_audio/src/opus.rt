@@ -15,7 +15,9 @@ pub struct OpusPacketizer;
 
 impl OpusPacketizer {
     /// A packetizer, which keeps nothing between samples.
-    pub fn new() -> Self {
+    pub fn new() -> Self
+        ensures { result ≡ record {} }
+    {
         OpusPacketizer
     }
 }
@@ -54,7 +56,9 @@ pub struct OpusDepacketizer;
 
 impl OpusDepacketizer {
     /// A depacketizer, which keeps nothing between packets.
-    pub fn new() -> Self {
+    pub fn new() -> Self
+        ensures { result ≡ record {} }
+    {
         OpusDepacketizer
     }
 }

@@ -17,7 +17,9 @@ pub struct TelephoneEventPacketizer;
 
 impl TelephoneEventPacketizer {
     /// A packetizer, which keeps nothing between samples.
-    pub fn new() -> Self {
+    pub fn new() -> Self
+        ensures { result ≡ record {} }
+    {
         TelephoneEventPacketizer
     }
 }

@@ -223,7 +223,9 @@ fn kept_of(alloc: Global, sample: &[u8]) -> Result<Kept, PacketError>
 
 impl Av1Packetizer {
     /// A packetizer, which keeps nothing between samples.
-    pub fn new() -> Self {
+    pub fn new() -> Self
+        ensures { result ≡ record {} }
+    {
         Av1Packetizer
     }
 }

@@ -12,7 +12,9 @@ pub struct Vp8Depacketizer;
 
 impl Vp8Depacketizer {
     /// A depacketizer, which keeps nothing between packets.
-    pub fn new() -> Self {
+    pub fn new() -> Self
+        ensures { result ≡ record {} }
+    {
         Vp8Depacketizer
     }
 }

@@ -28,7 +28,9 @@ pub struct Vp9Depacketizer;
 
 impl Vp9Depacketizer {
     /// A depacketizer, which keeps nothing between packets.
-    pub fn new() -> Self {
+    pub fn new() -> Self
+        ensures { result ≡ record {} }
+    {
         Vp9Depacketizer
     }
 }

@@ -1,28 +1,12 @@
 //! How many bytes each extension's value has.
 
-ghost use Rattle.std.specs.Prelude.{◌≡◌, ◌≤◌, IfSome, None, Some, if◌then◌else◌, length};
+ghost use Rattle.std.specs.Prelude.{◌≡◌, ◌≤◌, IfSome, length};
 ghost use Rattle.std.specs.Option.{option_map};
 ghost use Rattle.rtp_wire_extensions.specs.Carried.{value_bytes};
 
 use crate::element::{delay_bytes, level_bytes};
 use crate::extension::Extension;
 use crate::values::ExtensionValues;
-use rtp_wire_ids::Rid;
-
-/// So many bytes, where the value is there.
-fn len_if(is_there: bool, len: usize) -> Option<usize>
-    ensures { result ≡ (if is_there then Some len else None) }
-{
-    if is_there { Some(len) } else { None }
-}
-
-/// How many bytes the text of a restriction has.
-fn rid_len(rid: Option<Rid>) -> Option<usize>
-    ensures value { result ≡ option_map length rid }
-    ensures short { IfSome result (λ len. len ≤ 16) }
-{
-    Some(rid?.as_bytes().len())
-}
 
 /// How many bytes an extension carries of the values, at most 16, if any.
 pub fn value_len(ext: &Extension, values: &ExtensionValues) -> Option<usize>
@@ -30,7 +14,7 @@ pub fn value_len(ext: &Extension, values: &ExtensionValues) -> Option<usize>
     ensures short { IfSome result (λ len. len ≤ 16) }
 {
     match ext {
-        Extension::AbsoluteSendTime => len_if(values.abs_send_time.is_some(), 3),
+        Extension::AbsoluteSendTime => values.abs_send_time.is_some().then_some(3),
         Extension::AbsoluteCaptureTime => {
             let time = values.abs_capture_time?;
             Some(if time.clock_offset.is_some() { 16 } else { 8 })
@@ -39,15 +23,15 @@ pub fn value_len(ext: &Extension, values: &ExtensionValues) -> Option<usize>
             let level = level_bytes(values.audio_level, values.voice_activity)?;
             Some(level.as_slice().len())
         }
-        Extension::VideoOrientation => len_if(values.video_orientation.is_some(), 1),
-        Extension::TransportSequenceNumber => len_if(values.transport_cc.is_some(), 2),
+        Extension::VideoOrientation => values.video_orientation.is_some().then_some(1),
+        Extension::TransportSequenceNumber => values.transport_cc.is_some().then_some(2),
         Extension::PlayoutDelay => {
             let delay = delay_bytes(values.play_delay_min, values.play_delay_max)?;
             Some(delay.as_slice().len())
         }
-        Extension::VideoContentType => len_if(values.video_content_type.is_some(), 1),
-        Extension::RtpStreamId => rid_len(values.rid),
-        Extension::RepairedRtpStreamId => rid_len(values.rid_repair),
+        Extension::VideoContentType => values.video_content_type.is_some().then_some(1),
+        Extension::RtpStreamId => Some(values.rid?.as_bytes().len()),
+        Extension::RepairedRtpStreamId => Some(values.rid_repair?.as_bytes().len()),
         Extension::RtpMid => Some(values.mid?.as_bytes().len()),
         Extension::UnknownUri(_) => None,
     }
