@@ -9,7 +9,7 @@ use std::fmt;
 use thiserror::Error;
 
 /// A field of a row, of its codec, of its format, or of a profile, tier and level.
-#[derive(Clone, Copy, Debug, Drop)]
+#[derive(Clone, Copy, Drop)]
 pub enum Field {
     /// The payload type of a row.
     Pt,
@@ -128,6 +128,13 @@ impl fmt::Display for Field {
 
     ghost output = { λ field. Some (field_name field) };
 
+    fn fmt<W: fmt::Write>(&self, f: &mut fmt::Formatter<W>) -> fmt::Result {
+        f.write_str(self.as_str())
+    }
+}
+
+/// Its name.
+impl fmt::Debug for Field {
     fn fmt<W: fmt::Write>(&self, f: &mut fmt::Formatter<W>) -> fmt::Result {
         f.write_str(self.as_str())
     }
