@@ -18,7 +18,7 @@ use crate::constants::{
 use crate::headers::type_of;
 use h26x_payload_units::{copy_of_set, nal_units, push_sized, set_of};
 use payload_core_base::{PacketError, Packetizer};
-use std::alloc::Global;
+use std::alloc::{AllocError, Global};
 
 // The largest size that two bytes hold.
 const MAX_AGGREGATED: usize = 65_535;
@@ -64,11 +64,10 @@ fn unit_type(unit: &[u8]) -> u8
 }
 
 /// The STAP-A of two parameter sets.
-fn stap_a(alloc: Global, sps: &[u8], pps: &[u8]) -> Result<Vec<u8>, PacketError>
+fn stap_a(alloc: Global, sps: &[u8], pps: &[u8]) -> Result<Vec<u8>, AllocError>
     requires sps { length sps.now ≤ 65535 }
     requires pps { length pps.now ≤ 65535 }
-    ensures packet { IfOk result (λ p. p.items ≡ stap_a (sps.now ∷ pps.now ∷ [])) }
-    ensures memory { IfErr result (λ e. e ≡ PacketError.Memory) }
+    ensures { IfOk result (λ p. p.items ≡ stap_a (sps.now ∷ pps.now ∷ [])) }
 {
     let mut packet = Vec::new(alloc);
     packet.push(OUTPUT_STAP_AHEADER)?;
@@ -84,10 +83,9 @@ fn push_together(
     sps: &[u8],
     pps: &[u8],
     packets: &mut Vec<Vec<u8>>,
-) -> Result<(), PacketError>
-    ensures packets { OnOk result (map (λ p. p.items) packets.new.items ≡ map (λ p. p.items) packets.old.items
+) -> Result<(), AllocError>
+    ensures { OnOk result (map (λ p. p.items) packets.new.items ≡ map (λ p. p.items) packets.old.items
         ++ flat_map (packets_of limit) (together h264_rules limit (sps.now ∷ pps.now ∷ []))) }
-    ensures memory { IfErr result (λ e. e ≡ PacketError.Memory) }
 {
     if sps.len() > MAX_AGGREGATED || pps.len() > MAX_AGGREGATED {
         return Ok(());
@@ -107,9 +105,8 @@ fn fu_a(
     first: bool,
     last: bool,
     part: &[u8],
-) -> Result<Vec<u8>, PacketError>
-    ensures packet { IfOk result (λ p. p.items ≡ fu_a header first last part.now) }
-    ensures memory { IfErr result (λ e. e ≡ PacketError.Memory) }
+) -> Result<Vec<u8>, AllocError>
+    ensures { IfOk result (λ p. p.items ≡ fu_a header first last part.now) }
 {
     let start: u8 = if first { 128 } else { 0 };
     let end: u8 = if last { 64 } else { 0 };
@@ -126,11 +123,10 @@ fn push_fragments(
     limit: usize,
     unit: &[u8],
     packets: &mut Vec<Vec<u8>>,
-) -> Result<(), PacketError>
+) -> Result<(), AllocError>
     requires { 3 ≤ limit }
-    ensures packets { OnOk result (map (λ p. p.items) packets.new.items ≡ map (λ p. p.items) packets.old.items
+    ensures { OnOk result (map (λ p. p.items) packets.new.items ≡ map (λ p. p.items) packets.old.items
         ++ fragments_of limit unit.now) }
-    ensures memory { IfErr result (λ e. e ≡ PacketError.Memory) }
 {
     let Some((header, body)) = unit.split_first() else {
         return Ok(());
@@ -151,10 +147,9 @@ fn push_alone(
     limit: usize,
     unit: &[u8],
     packets: &mut Vec<Vec<u8>>,
-) -> Result<(), PacketError>
-    ensures packets { OnOk result (map (λ p. p.items) packets.new.items ≡ map (λ p. p.items) packets.old.items
+) -> Result<(), AllocError>
+    ensures { OnOk result (map (λ p. p.items) packets.new.items ≡ map (λ p. p.items) packets.old.items
         ++ flat_map (packets_of limit) (alone h264_rules limit unit.now)) }
-    ensures memory { IfErr result (λ e. e ≡ PacketError.Memory) }
 {
     if unit.len() <= limit {
         packets.push(Vec::from_slice(alloc, unit)?)?;
@@ -173,12 +168,11 @@ fn push_leaving<'a>(
     unit: &[u8],
     waiting: WaitingSets<'a>,
     packets: &mut Vec<Vec<u8>>,
-) -> Result<WaitingSets<'a>, PacketError>
+) -> Result<WaitingSets<'a>, AllocError>
     ensures packets { OnOk result (map (λ p. p.items) packets.new.items ≡ map (λ p. p.items) packets.old.items
         ++ flat_map (packets_of limit) (departing h264_rules limit Leaves (waiting_in waiting.entry) unit.now)) }
     ensures waiting { IfOk result (λ w. waiting_in w
         ≡ waiting_behind h264_rules Leaves (waiting_in waiting.entry) unit.now) }
-    ensures memory { IfErr result (λ e. e ≡ PacketError.Memory) }
 {
     let Some(sps) = waiting.sps else {
         push_alone(alloc, limit, unit, packets)?;
@@ -203,13 +197,12 @@ fn push_unit<'a>(
     unit: &'a [u8],
     waiting: WaitingSets<'a>,
     packets: &mut Vec<Vec<u8>>,
-) -> Result<WaitingSets<'a>, PacketError>
+) -> Result<WaitingSets<'a>, AllocError>
     ensures packets { OnOk result (map (λ p. p.items) packets.new.items ≡ map (λ p. p.items) packets.old.items
         ++ flat_map (packets_of limit) (departing h264_rules limit (role_by (unit_type unit.now))
         (waiting_in waiting.entry) unit.now)) }
     ensures waiting { IfOk result (λ w. waiting_in w
         ≡ waiting_behind h264_rules (role_by (unit_type unit.now)) (waiting_in waiting.entry) unit.now) }
-    ensures memory { IfErr result (λ e. e ≡ PacketError.Memory) }
 {
     match unit_type(unit) {
         AUD_NALU_TYPE | FILLER_NALU_TYPE => Ok(waiting),
@@ -232,12 +225,11 @@ fn push_units<'a>(
     sample: &'a [u8],
     waiting: WaitingSets<'a>,
     packets: &mut Vec<Vec<u8>>,
-) -> Result<WaitingSets<'a>, PacketError>
+) -> Result<WaitingSets<'a>, AllocError>
     ensures packets { OnOk result (map (λ p. p.items) packets.new.items ≡ map (λ p. p.items) packets.old.items
         ++ flat_map (packets_of limit) (departures h264_rules limit (waiting_in waiting.entry) (units_of sample.now))) }
     ensures waiting { IfOk result (λ w. waiting_in w
         ≡ waiting_after h264_rules (waiting_in waiting.entry) (units_of sample.now)) }
-    ensures memory { IfErr result (λ e. e ≡ PacketError.Memory) }
 {
     let mut waiting = waiting;
     for unit in nal_units(sample) {

@@ -8,8 +8,7 @@ ghost use Rattle.std.specs.Prelude.{◌≡◌, ◌++◌, ◌≤◌, IfErr, IfOk,
 
 use crate::constants::NALU_HEADER_SIZE;
 use h26x_payload_units::{Layout, donl_size, push_sized};
-use payload_core_base::PacketError;
-use std::alloc::Global;
+use std::alloc::{AllocError, Global};
 
 /// How units are sent: whose they are, with decoding order numbers or without, and the limit.
 #[derive(Clone, Copy, Drop)]
@@ -64,9 +63,8 @@ fn least_tid(vps: Option<&[u8]>, sps: &[u8], pps: &[u8]) -> u8
 }
 
 /// Writes a decoding order number, where it is sent.
-fn push_donl(donl: bool, number: u16, out: &mut Vec<u8>) -> Result<(), PacketError>
-    ensures written { OnOk result (out.new.items ≡ out.old.items ++ donl_bytes donl number) }
-    ensures memory { IfErr result (λ e. e ≡ PacketError.Memory) }
+fn push_donl(donl: bool, number: u16, out: &mut Vec<u8>) -> Result<(), AllocError>
+    ensures { OnOk result (out.new.items ≡ out.old.items ++ donl_bytes donl number) }
 {
     if donl {
         out.push((number / 256) as u8)?;
@@ -76,9 +74,8 @@ fn push_donl(donl: bool, number: u16, out: &mut Vec<u8>) -> Result<(), PacketErr
 }
 
 /// Writes the difference to the decoding order number before, where it is sent.
-fn push_dond(form: Form, out: &mut Vec<u8>) -> Result<(), PacketError>
-    ensures written { OnOk result (out.new.items ≡ out.old.items ++ dond_bytes form.layout form.donl) }
-    ensures memory { IfErr result (λ e. e ≡ PacketError.Memory) }
+fn push_dond(form: Form, out: &mut Vec<u8>) -> Result<(), AllocError>
+    ensures { OnOk result (out.new.items ≡ out.old.items ++ dond_bytes form.layout form.donl) }
 {
     match form.layout {
         Layout::H265 if form.donl => Ok(out.push(0)?),
@@ -87,11 +84,10 @@ fn push_dond(form: Form, out: &mut Vec<u8>) -> Result<(), PacketError>
 }
 
 /// Writes a VPS, if there is one, before an SPS.
-fn push_before(form: Form, vps: Option<&[u8]>, out: &mut Vec<u8>) -> Result<(), PacketError>
+fn push_before(form: Form, vps: Option<&[u8]>, out: &mut Vec<u8>) -> Result<(), AllocError>
     requires { IfSome vps (λ s. length s.now ≤ 65535) }
-    ensures written { OnOk result (out.new.items
+    ensures { OnOk result (out.new.items
         ≡ out.old.items ++ sized_before form.layout form.donl (option_map (λ s. s.now) vps.entry)) }
-    ensures memory { IfErr result (λ e. e ≡ PacketError.Memory) }
 {
     let Some(vps) = vps else {
         return Ok(());
@@ -107,13 +103,12 @@ pub fn aggregate(
     vps: Option<&[u8]>,
     sps: &[u8],
     pps: &[u8],
-) -> Result<Vec<u8>, PacketError>
+) -> Result<Vec<u8>, AllocError>
     requires vps { IfSome vps (λ s. length s.now ≤ 65535) }
     requires sps { length sps.now ≤ 65535 }
     requires pps { length pps.now ≤ 65535 }
-    ensures packet { IfOk result (λ p. p.items
+    ensures { IfOk result (λ p. p.items
         ≡ aggregate form.layout form.donl number (joining (option_map (λ s. s.now) vps.entry) sps.now pps.now)) }
-    ensures memory { IfErr result (λ e. e ≡ PacketError.Memory) }
 {
     let layer = least_layer(form.layout, vps, sps, pps);
     let mut packet = Vec::new(form.alloc);
@@ -128,9 +123,8 @@ pub fn aggregate(
 }
 
 /// A unit alone.
-pub fn single(form: Form, number: u16, unit: &[u8]) -> Result<Vec<u8>, PacketError>
-    ensures packet { IfOk result (λ p. p.items ≡ single form.donl number unit.now) }
-    ensures memory { IfErr result (λ e. e ≡ PacketError.Memory) }
+pub fn single(form: Form, number: u16, unit: &[u8]) -> Result<Vec<u8>, AllocError>
+    ensures { IfOk result (λ p. p.items ≡ single form.donl number unit.now) }
 {
     if unit.len() <= NALU_HEADER_SIZE {
         return Ok(Vec::from_slice(form.alloc, unit)?);
@@ -157,10 +151,9 @@ pub fn fragment(
     first: bool,
     last: bool,
     part: &[u8],
-) -> Result<Vec<u8>, PacketError>
-    ensures packet { IfOk result (λ p. p.items ≡ fragment form.layout form.donl cut.number cut.high cut.low first last
+) -> Result<Vec<u8>, AllocError>
+    ensures { IfOk result (λ p. p.items ≡ fragment form.layout form.donl cut.number cut.high cut.low first last
         part.now) }
-    ensures memory { IfErr result (λ e. e ≡ PacketError.Memory) }
 {
     let mut packet = Vec::new(form.alloc);
     let nalu_type = form.layout.fragment_type();

@@ -17,7 +17,7 @@ ghost use Rattle.std.specs.Prelude.{unwrap_or};
 use crate::constants::{FRAGMENT_HEADER_SIZE, NALU_HEADER_SIZE, NALU_LENGTH_SIZE};
 use crate::packets::{Cut, Form, aggregate, fragment, single, single_size};
 use h26x_payload_units::{UnitKind, donl_size, nal_units};
-use payload_core_base::PacketError;
+use std::alloc::AllocError;
 
 // The largest size that two bytes hold.
 const MAX_AGGREGATED: usize = 65_535;
@@ -61,13 +61,12 @@ fn push_together(
     sps: &[u8],
     pps: &[u8],
     packets: &mut Vec<Vec<u8>>,
-) -> Result<u16, PacketError>
+) -> Result<u16, AllocError>
     ensures packets { OnOk result (map (λ p. p.items) packets.new.items ≡ map (λ p. p.items) packets.old.items
         ++ flat_map (packets_in form) (numbered number (together (rules_in form) form.limit
         (joining (option_map (λ s. s.now) vps.entry) sps.now pps.now)))) }
     ensures number { IfOk result (λ n. n ≡ number_after number (together (rules_in form) form.limit
         (joining (option_map (λ s. s.now) vps.entry) sps.now pps.now))) }
-    ensures memory { IfErr result (λ e. e ≡ PacketError.Memory) }
 {
     let vps_len = length_of(vps);
     if vps_len > MAX_AGGREGATED || sps.len() > MAX_AGGREGATED || pps.len() > MAX_AGGREGATED {
@@ -89,12 +88,11 @@ fn push_later_fragments(
     cut: Cut,
     rest: &[u8],
     packets: &mut Vec<Vec<u8>>,
-) -> Result<(), PacketError>
+) -> Result<(), AllocError>
     requires { 4 ≤ form.limit }
-    ensures packets { OnOk result (map (λ p. p.items) packets.new.items ≡ map (λ p. p.items) packets.old.items
+    ensures { OnOk result (map (λ p. p.items) packets.new.items ≡ map (λ p. p.items) packets.old.items
         ++ in_fragments (fragment form.layout form.donl cut.number cut.high cut.low) false
         (pieces (form.limit - 3) rest.now)) }
-    ensures memory { IfErr result (λ e. e ≡ PacketError.Memory) }
 {
     let mut left = rest.len();
     for part in rest.chunks(form.limit - FRAGMENT_HEADER_SIZE) {
@@ -110,11 +108,10 @@ fn push_fragments(
     number: u16,
     unit: &[u8],
     packets: &mut Vec<Vec<u8>>,
-) -> Result<(), PacketError>
+) -> Result<(), AllocError>
     requires { 4 + donl_size form.donl ≤ form.limit }
-    ensures packets { OnOk result (map (λ p. p.items) packets.new.items ≡ map (λ p. p.items) packets.old.items
+    ensures { OnOk result (map (λ p. p.items) packets.new.items ≡ map (λ p. p.items) packets.old.items
         ++ fragments_of form.layout form.donl form.limit number unit.now) }
-    ensures memory { IfErr result (λ e. e ≡ PacketError.Memory) }
 {
     let Some((high, rest)) = unit.split_first() else {
         return Ok(());
@@ -139,11 +136,10 @@ fn push_alone(
     number: u16,
     unit: &[u8],
     packets: &mut Vec<Vec<u8>>,
-) -> Result<u16, PacketError>
+) -> Result<u16, AllocError>
     ensures packets { OnOk result (map (λ p. p.items) packets.new.items ≡ map (λ p. p.items) packets.old.items
         ++ flat_map (packets_in form) (numbered number (alone (rules_in form) form.limit unit.now))) }
     ensures number { IfOk result (λ n. n ≡ number_after number (alone (rules_in form) form.limit unit.now)) }
-    ensures memory { IfErr result (λ e. e ≡ PacketError.Memory) }
 {
     if single_size(form, unit) <= form.limit {
         packets.push(single(form, number, unit)?)?;
@@ -162,7 +158,7 @@ fn push_leaving<'a>(
     unit: &[u8],
     kept: Kept<'a>,
     packets: &mut Vec<Vec<u8>>,
-) -> Result<Kept<'a>, PacketError>
+) -> Result<Kept<'a>, AllocError>
     ensures packets { OnOk result (map (λ p. p.items) packets.new.items ≡ map (λ p. p.items) packets.old.items
         ++ flat_map (packets_in form) (numbered kept.entry.number (departing (rules_in form) form.limit Leaves
         (waiting_in kept.entry) unit.now))) }
@@ -170,7 +166,6 @@ fn push_leaving<'a>(
         (rules_in form) form.limit Leaves (waiting_in kept.entry) unit.now)) }
     ensures waiting { IfOk result (λ k. waiting_in k ≡ waiting_behind (rules_in form) Leaves
         (waiting_in kept.entry) unit.now) }
-    ensures memory { IfErr result (λ e. e ≡ PacketError.Memory) }
 {
     if form.layout.needs_vps() && kept.vps.is_none() {
         return push_without(form, unit, kept, packets);
@@ -197,13 +192,12 @@ fn push_without<'a>(
     unit: &[u8],
     kept: Kept<'a>,
     packets: &mut Vec<Vec<u8>>,
-) -> Result<Kept<'a>, PacketError>
+) -> Result<Kept<'a>, AllocError>
     ensures packets { OnOk result (map (λ p. p.items) packets.new.items ≡ map (λ p. p.items) packets.old.items
         ++ flat_map (packets_in form) (numbered kept.entry.number (alone (rules_in form) form.limit unit.now))) }
     ensures number { IfOk result (λ k. k.number ≡ number_after kept.entry.number (alone
         (rules_in form) form.limit unit.now)) }
     ensures waiting { IfOk result (λ k. waiting_in k ≡ waiting_in kept.entry) }
-    ensures memory { IfErr result (λ e. e ≡ PacketError.Memory) }
 {
     let number = push_alone(form, kept.number, unit, packets)?;
     Ok(Kept {
@@ -220,7 +214,7 @@ fn push_unit<'a>(
     unit: &'a [u8],
     kept: Kept<'a>,
     packets: &mut Vec<Vec<u8>>,
-) -> Result<Kept<'a>, PacketError>
+) -> Result<Kept<'a>, AllocError>
     ensures packets { OnOk result (map (λ p. p.items) packets.new.items ≡ map (λ p. p.items) packets.old.items
         ++ flat_map (packets_in form) (numbered kept.entry.number (departing (rules_in form) form.limit
         (role_by form.layout (unit_type form.layout unit.now)) (waiting_in kept.entry) unit.now))) }
@@ -228,7 +222,6 @@ fn push_unit<'a>(
         (role_by form.layout (unit_type form.layout unit.now)) (waiting_in kept.entry) unit.now)) }
     ensures waiting { IfOk result (λ k. waiting_in k ≡ waiting_behind (rules_in form)
         (role_by form.layout (unit_type form.layout unit.now)) (waiting_in kept.entry) unit.now) }
-    ensures memory { IfErr result (λ e. e ≡ PacketError.Memory) }
 {
     match form.layout.unit_kind(form.layout.unit_type(unit)) {
         UnitKind::Unsent => Ok(kept),
@@ -260,7 +253,7 @@ pub fn push_units<'a>(
     sample: &'a [u8],
     kept: Kept<'a>,
     packets: &mut Vec<Vec<u8>>,
-) -> Result<Kept<'a>, PacketError>
+) -> Result<Kept<'a>, AllocError>
     ensures packets { OnOk result (map (λ p. p.items) packets.new.items ≡ map (λ p. p.items) packets.old.items
         ++ flat_map (packets_in form) (numbered kept.entry.number (departures (rules_in form) form.limit
         (waiting_in kept.entry) (units_of sample.now)))) }
@@ -268,7 +261,6 @@ pub fn push_units<'a>(
         (rules_in form) form.limit (waiting_in kept.entry) (units_of sample.now))) }
     ensures waiting { IfOk result (λ k. waiting_in k ≡ waiting_after (rules_in form) (waiting_in kept.entry)
         (units_of sample.now)) }
-    ensures memory { IfErr result (λ e. e ≡ PacketError.Memory) }
 {
     let mut kept = kept;
     for unit in nal_units(sample) {

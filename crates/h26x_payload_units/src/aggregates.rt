@@ -6,8 +6,7 @@ ghost use Rattle.std.specs.List.{flat_map};
 ghost use Rattle.std.specs.Prelude.{ℕ, ◌≡◌, ◌<◌, ◌≤◌, ◌++◌, IfErr, IfOk, OnOk, Some, length};
 
 use crate::open_unit::push_unit;
-use payload_core_base::PacketError;
-use std::alloc::Global;
+use std::alloc::{AllocError, Global};
 
 /// What is wrong with an aggregate behind its whole units.
 #[derive(Clone, Copy, Drop)]
@@ -69,9 +68,8 @@ pub fn aggregated_units(
     lead: usize,
     later: usize,
     body: &[u8],
-) -> Result<Vec<u8>, PacketError>
-    ensures written { IfOk result (λ v. v.items ≡ flat_map behind_code (aggregated lead later body.now).units) }
-    ensures memory { IfErr result (λ e. e ≡ PacketError.Memory) }
+) -> Result<Vec<u8>, AllocError>
+    ensures { IfOk result (λ v. v.items ≡ flat_map behind_code (aggregated lead later body.now).units) }
 {
     let mut written = Vec::new(alloc);
     let mut lead = lead;
@@ -92,10 +90,9 @@ pub fn aggregated_units(
 /// # Conditions
 ///
 /// The unit has at most 65,535 bytes.
-pub fn push_sized(unit: &[u8], out: &mut Vec<u8>) -> Result<(), PacketError>
+pub fn push_sized(unit: &[u8], out: &mut Vec<u8>) -> Result<(), AllocError>
     requires { length unit.now ≤ 65535 }
-    ensures written { OnOk result (out.new.items ≡ out.old.items ++ sized unit.now) }
-    ensures memory { IfErr result (λ e. e ≡ PacketError.Memory) }
+    ensures { OnOk result (out.new.items ≡ out.old.items ++ sized unit.now) }
 {
     out.push((unit.len() / 256) as u8)?;
     out.push((unit.len() % 256) as u8)?;

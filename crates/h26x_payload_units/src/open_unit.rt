@@ -3,47 +3,43 @@
 ghost use Rattle.h26x_payload_units.specs.Fragments.{behind_code, continued, open_after, put_behind, written_at};
 ghost use Rattle.std.specs.Prelude.{◌++◌, ◌≡◌, IfErr, IfOk, None, OnErr, OnOk, true};
 
-use payload_core_base::PacketError;
-use std::alloc::Global;
+use std::alloc::{AllocError, Global};
 use std::marker::Model;
 
 /// The start code that each unit is written behind (ITU-T H.264 annex B).
 pub const ANNEXB_NALUSTART_CODE: [u8; 4] = [0, 0, 0, 1];
 
 /// Writes a unit behind its start code. Where memory runs out, `out` is as it was.
-pub fn push_unit(unit: &[u8], out: &mut Vec<u8>) -> Result<(), PacketError>
+pub fn push_unit(unit: &[u8], out: &mut Vec<u8>) -> Result<(), AllocError>
     ensures written { OnOk result (out.new.items ≡ out.old.items ++ behind_code unit.now) }
     ensures unchanged { OnErr result (out.new.items ≡ out.old.items) }
-    ensures memory { IfErr result (λ e. e ≡ PacketError.Memory) }
 {
     let len = out.len();
     out.extend_from_slice(&ANNEXB_NALUSTART_CODE)?;
     if let Err(e) = out.extend_from_slice(unit) {
         out.truncate(len);
-        return Err(PacketError::from(e));
+        return Err(e);
     }
     Ok(())
 }
 
 /// Writes a unit of a header and a body behind its start code. Where memory runs out, `out` is as it was.
-pub fn push_unit_of(header: &[u8], body: &[u8], out: &mut Vec<u8>) -> Result<(), PacketError>
+pub fn push_unit_of(header: &[u8], body: &[u8], out: &mut Vec<u8>) -> Result<(), AllocError>
     ensures written { OnOk result (out.new.items ≡ out.old.items ++ behind_code (header.now ++ body.now)) }
     ensures unchanged { OnErr result (out.new.items ≡ out.old.items) }
-    ensures memory { IfErr result (λ e. e ≡ PacketError.Memory) }
 {
     let len = out.len();
     push_unit(header, out)?;
     if let Err(e) = out.extend_from_slice(body) {
         out.truncate(len);
-        return Err(PacketError::from(e));
+        return Err(e);
     }
     Ok(())
 }
 
 /// A unit that begins with this header, behind its start code.
-fn begun(alloc: Global, header: &[u8], part: &[u8]) -> Result<Vec<u8>, PacketError>
-    ensures begun { IfOk result (λ v. v.items ≡ behind_code (header.now ++ part.now)) }
-    ensures memory { IfErr result (λ e. e ≡ PacketError.Memory) }
+fn begun(alloc: Global, header: &[u8], part: &[u8]) -> Result<Vec<u8>, AllocError>
+    ensures { IfOk result (λ v. v.items ≡ behind_code (header.now ++ part.now)) }
 {
     let mut unit = Vec::from_slice(alloc, &ANNEXB_NALUSTART_CODE)?;
     unit.extend_from_slice(header)?;
@@ -95,13 +91,12 @@ impl OpenUnit {
         header: &[u8],
         part: &[u8],
         out: &mut Vec<u8>,
-    ) -> Result<(), PacketError>
+    ) -> Result<(), AllocError>
         ensures written { OnOk result (out.new.items ≡ out.old.items
             ++ written_at is_end (put_behind is_start header.now part.now self.old)) }
         ensures open_unit { OnOk result (self.new
             ≡ open_after is_end (put_behind is_start header.now part.now self.old)) }
         ensures unchanged { OnErr result ((self.new ≡ self.old) × (out.new.items ≡ out.old.items)) }
-        ensures memory { IfErr result (λ e. e ≡ PacketError.Memory) }
     {
         if is_start {
             return self.start(is_end, header, part, out);
@@ -116,12 +111,11 @@ impl OpenUnit {
         header: &[u8],
         part: &[u8],
         out: &mut Vec<u8>,
-    ) -> Result<(), PacketError>
+    ) -> Result<(), AllocError>
         ensures written { OnOk result (out.new.items ≡ out.old.items
             ++ written_at is_end (put_behind true header.now part.now None)) }
         ensures open_unit { OnOk result (self.new ≡ open_after is_end (put_behind true header.now part.now None)) }
         ensures unchanged { OnErr result ((self.new ≡ self.old) × (out.new.items ≡ out.old.items)) }
-        ensures memory { IfErr result (λ e. e ≡ PacketError.Memory) }
     {
         let unit = begun(self.alloc, header, part)?;
         if is_end {
@@ -134,12 +128,11 @@ impl OpenUnit {
     }
 
     /// A fragment that goes on with a unit.
-    fn go_on(&mut self, is_end: bool, part: &[u8], out: &mut Vec<u8>) -> Result<(), PacketError>
+    fn go_on(&mut self, is_end: bool, part: &[u8], out: &mut Vec<u8>) -> Result<(), AllocError>
         ensures written { OnOk result (out.new.items ≡ out.old.items
             ++ written_at is_end (continued self.old part.now)) }
         ensures open_unit { OnOk result (self.new ≡ open_after is_end (continued self.old part.now)) }
         ensures unchanged { OnErr result ((self.new ≡ self.old) × (out.new.items ≡ out.old.items)) }
-        ensures memory { IfErr result (λ e. e ≡ PacketError.Memory) }
     {
         let Some(unit) = &mut self.bytes else {
             return Ok(());
@@ -152,7 +145,7 @@ impl OpenUnit {
         out.extend_from_slice(unit)?;
         if let Err(e) = out.extend_from_slice(part) {
             out.truncate(len);
-            return Err(PacketError::from(e));
+            return Err(e);
         }
         self.bytes = None;
         Ok(())

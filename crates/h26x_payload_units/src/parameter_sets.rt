@@ -2,8 +2,7 @@
 
 ghost use Rattle.std.specs.Prelude.{◌≡◌, IfErr, IfOk, option_map};
 
-use payload_core_base::PacketError;
-use std::alloc::Global;
+use std::alloc::{AllocError, Global};
 
 /// A waiting set as a slice.
 pub fn set_of(set: &Option<Vec<u8>>) -> Option<&[u8]>
@@ -16,9 +15,8 @@ pub fn set_of(set: &Option<Vec<u8>>) -> Option<&[u8]>
 }
 
 /// A copy of a waiting set.
-pub fn copy_of_set(alloc: Global, set: Option<&[u8]>) -> Result<Option<Vec<u8>>, PacketError>
-    ensures copy { IfOk result (λ copy. option_map (λ v. v.items) copy ≡ option_map (λ s. s.now) set.entry) }
-    ensures memory { IfErr result (λ e. e ≡ PacketError.Memory) }
+pub fn copy_of_set(alloc: Global, set: Option<&[u8]>) -> Result<Option<Vec<u8>>, AllocError>
+    ensures { IfOk result (λ copy. option_map (λ v. v.items) copy ≡ option_map (λ s. s.now) set.entry) }
 {
     match set {
         Some(set) => Ok(Some(Vec::from_slice(alloc, set)?)),

@@ -11,7 +11,7 @@ ghost use Rattle.std.specs.Prelude.{None, Some, false, length, true, ℕ};
 use crate::bits::{BitPlace, octet_at};
 use crate::field::{front_of, header_at, push_speech};
 use payload_core_base::{CodecExtra, Depacketizer, PacketError, Packetizer};
-use std::alloc::Global;
+use std::alloc::{AllocError, Global};
 
 // How many speech bits the frame types 0 to 9 have (3GPP TS 26.201).
 const SPEECH_BITS: [u16; 10] = [132, 177, 253, 285, 317, 365, 397, 461, 477, 40];
@@ -197,11 +197,10 @@ fn packet_len(octet_align: bool, size: usize) -> usize
 }
 
 /// The packet of a sample with so many speech bits in the octet-aligned layout.
-fn aligned_packet(alloc: Global, bytes: &[u8], size: usize) -> Result<Vec<u8>, PacketError>
+fn aligned_packet(alloc: Global, bytes: &[u8], size: usize) -> Result<Vec<u8>, AllocError>
     requires few { size ≤ 477 }
     requires room { 8 + size ≤ 8 * length bytes.now }
-    ensures packet { IfOk result (λ v. v.items ≡ amr_wb_packet true bytes.now size) }
-    ensures memory { IfErr result (λ e. e ≡ PacketError.Memory) }
+    ensures { IfOk result (λ v. v.items ≡ amr_wb_packet true bytes.now size) }
 {
     let mut packet = Vec::with_capacity(alloc, packet_len(true, size))?;
     packet.push(0xF0)?;
@@ -211,11 +210,10 @@ fn aligned_packet(alloc: Global, bytes: &[u8], size: usize) -> Result<Vec<u8>, P
 }
 
 /// The packet of a sample with so many speech bits in the bandwidth-efficient layout.
-fn efficient_packet(alloc: Global, bytes: &[u8], size: usize) -> Result<Vec<u8>, PacketError>
+fn efficient_packet(alloc: Global, bytes: &[u8], size: usize) -> Result<Vec<u8>, AllocError>
     requires few { size ≤ 477 }
     requires room { 8 + size ≤ 8 * length bytes.now }
-    ensures packet { IfOk result (λ v. v.items ≡ amr_wb_packet false bytes.now size) }
-    ensures memory { IfErr result (λ e. e ≡ PacketError.Memory) }
+    ensures { IfOk result (λ v. v.items ≡ amr_wb_packet false bytes.now size) }
 {
     let mut packet = Vec::with_capacity(alloc, packet_len(false, size))?;
     for k in 0..(size + 17) / 8 {
@@ -230,11 +228,10 @@ fn packet_of(
     octet_align: bool,
     bytes: &[u8],
     size: usize,
-) -> Result<Vec<u8>, PacketError>
+) -> Result<Vec<u8>, AllocError>
     requires few { size ≤ 477 }
     requires room { 8 + size ≤ 8 * length bytes.now }
-    ensures packet { IfOk result (λ v. v.items ≡ amr_wb_packet octet_align bytes.now size) }
-    ensures memory { IfErr result (λ e. e ≡ PacketError.Memory) }
+    ensures { IfOk result (λ v. v.items ≡ amr_wb_packet octet_align bytes.now size) }
 {
     if octet_align {
         return aligned_packet(alloc, bytes, size);

@@ -5,12 +5,11 @@ ghost use Rattle.payload_core_audio.specs.Plain.{idle_sender, is_one_piece, pack
 ghost use Rattle.std.specs.Prelude.{◌≡◌, ◌≢◌, ◌∷◌, [], Err, IfErr, IfOk, map, true};
 
 use payload_core_base::PacketError;
-use std::alloc::Global;
+use std::alloc::{AllocError, Global};
 
 /// The pieces of a sample at a limit.
-pub fn cut(alloc: Global, limit: usize, bytes: &[u8]) -> Result<Vec<Vec<u8>>, PacketError>
-    ensures pieces { IfOk result (λ ps. map (λ p. p.items) ps.items ≡ pieces limit bytes.now) }
-    ensures memory { IfErr result (λ e. e ≡ PacketError.Memory) }
+pub fn cut(alloc: Global, limit: usize, bytes: &[u8]) -> Result<Vec<Vec<u8>>, AllocError>
+    ensures { IfOk result (λ ps. map (λ p. p.items) ps.items ≡ pieces limit bytes.now) }
 {
     if limit == 0 {
         return Ok(Vec::new(alloc));

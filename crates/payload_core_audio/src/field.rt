@@ -6,7 +6,7 @@ ghost use Rattle.payload_core_audio.specs.BitPlaces.{place_of};
 ghost use Rattle.std.specs.Prelude.{◌≡◌, ◌+◌, ◌*◌, ◌<◌, ◌≤◌, ◌++◌, IfErr, OnOk, length};
 
 use crate::bits::BitPlace;
-use payload_core_base::PacketError;
+use std::alloc::AllocError;
 
 /// The first so many bits of a byte, with zeros behind them.
 pub fn front_of(count: usize, byte: u8) -> u8
@@ -34,12 +34,11 @@ fn push_bytes(
     place: BitPlace,
     count: usize,
     out: &mut Vec<u8>,
-) -> Result<(), PacketError>
+) -> Result<(), AllocError>
     requires few { count ≤ 60 }
     requires room { place_of place + 8 * count ≤ 8 * length bytes.now }
-    ensures written { OnOk result (out.new.items
+    ensures { OnOk result (out.new.items
         ≡ out.old.items ++ bytes_from (bits_from bytes.now (place_of place)) count) }
-    ensures memory { IfErr result (λ e. e ≡ PacketError.Memory) }
 {
     if let Some(octets) = place.octets(bytes, count) {
         out.extend_from_slice(octets)?;
@@ -57,11 +56,10 @@ pub fn push_speech(
     place: BitPlace,
     size: usize,
     out: &mut Vec<u8>,
-) -> Result<(), PacketError>
+) -> Result<(), AllocError>
     requires few { size ≤ 477 }
     requires room { place_of place + size ≤ 8 * length bytes.now }
-    ensures written { OnOk result (out.new.items ≡ out.old.items ++ speech_of bytes.now (place_of place) size) }
-    ensures memory { IfErr result (λ e. e ≡ PacketError.Memory) }
+    ensures { OnOk result (out.new.items ≡ out.old.items ++ speech_of bytes.now (place_of place) size) }
 {
     out.reserve((size + 7) / 8)?;
     push_bytes(bytes, place, size / 8, out)?;

@@ -33,7 +33,7 @@ impl Packetizer for OpusPacketizer {
         mtu: usize,
         bytes: &[u8],
     ) -> Result<Vec<Vec<u8>>, PacketError> {
-        cut(alloc, mtu, bytes)
+        Ok(cut(alloc, mtu, bytes)?)
     }
 
     fn is_marker(&mut self, _bytes: &[u8], _previous: Option<&[u8]>, _last: bool) -> bool {

@@ -9,7 +9,7 @@ ghost use Rattle.std.specs.Prelude.{◌≡◌, ◌≢◌, ◌++◌, IfErr, IfOk,
 use crate::leb128::sized_part;
 use crate::obu::whole_obu;
 use payload_core_base::PacketError;
-use std::alloc::Global;
+use std::alloc::{AllocError, Global};
 use std::mem;
 
 /// So many elements behind their sizes, and the rest as the last one.
@@ -121,10 +121,9 @@ fn opened_by(
     alloc: Global,
     spare: &mut Vec<u8>,
     element: &[u8],
-) -> Result<Option<Vec<u8>>, PacketError>
-    ensures opened { IfOk result (λ f. (before : Fragment) → opened_by before element.now
+) -> Result<Option<Vec<u8>>, AllocError>
+    ensures { IfOk result (λ f. (before : Fragment) → opened_by before element.now
         ≡ or_else (option_map (λ v. v.items) f) before) }
-    ensures memory { IfErr result (λ e. e ≡ PacketError.Memory) }
 {
     if element.is_empty() {
         return Ok(None);

@@ -12,7 +12,7 @@ ghost use Rattle.std.specs.Prelude.{nat_lt, filter, option_map, IfErr, IfOk, Lis
 use crate::leb128::{push_size, size_len};
 use crate::obu::{Obu, first_obu};
 use payload_core_base::{PacketError, Packetizer};
-use std::alloc::Global;
+use std::alloc::{AllocError, Global};
 use std::collections::VecDeque;
 
 // How many elements have a packet whose last one has no size.
@@ -46,14 +46,13 @@ fn cut_last<'a>(
     text: &'a [u8],
     elements: Vec<&'a [u8]>,
     texts: &mut VecDeque<&'a [u8]>,
-) -> Result<(Vec<&'a [u8]>, bool), PacketError>
+) -> Result<(Vec<&'a [u8]>, bool), AllocError>
     requires { part < length text.now }
     ensures elements { IfOk result (λ e. map (λ t. t.now) e.0.items ≡ map (λ t. t.now) elements.entry.items
         ++ front part (text.now ∷ map (λ t. t.now) texts.old.items)) }
     ensures cut { IfOk result (λ e. e.1 ≡ is_cut part (text.now ∷ map (λ t. t.now) texts.old.items)) }
     ensures left { IfOk result (λ _. map (λ t. t.now) texts.new.items
         ≡ back part (text.now ∷ map (λ t. t.now) texts.old.items)) }
-    ensures memory { IfErr result (λ e. e ≡ PacketError.Memory) }
 {
     texts.push_front(&text[part..])?;
     let mut elements = elements;
@@ -69,7 +68,7 @@ fn next_elements<'a>(
     alloc: Global,
     room: usize,
     texts: &mut VecDeque<&'a [u8]>,
-) -> Result<(Vec<&'a [u8]>, bool), PacketError>
+) -> Result<(Vec<&'a [u8]>, bool), AllocError>
     requires { AreTexts (map (λ t. t.now) texts.old.items) }
     ensures elements { IfOk result (λ e. map (λ t. t.now) e.0.items
         ≡ front (longest (room + 1) (map (λ t. t.now) texts.old.items)) (map (λ t. t.now) texts.old.items)) }
@@ -77,7 +76,6 @@ fn next_elements<'a>(
         (map (λ t. t.now) texts.old.items)) }
     ensures left { IfOk result (λ _. map (λ t. t.now) texts.new.items
         ≡ back (longest (room + 1) (map (λ t. t.now) texts.old.items)) (map (λ t. t.now) texts.old.items)) }
-    ensures memory { IfErr result (λ e. e ≡ PacketError.Memory) }
 {
     let mut elements = Vec::new(alloc);
     let mut left = room;
@@ -112,11 +110,10 @@ fn has_size(place: usize, count: usize) -> bool
 }
 
 /// Writes an element, with its size in front or without.
-fn push_element(has_size: bool, element: &[u8], out: &mut Vec<u8>) -> Result<(), PacketError>
+fn push_element(has_size: bool, element: &[u8], out: &mut Vec<u8>) -> Result<(), AllocError>
     requires { length element.now < size_limit }
-    ensures written { IfOk result (λ _. out.new.items ≡ out.old.items
+    ensures { IfOk result (λ _. out.new.items ≡ out.old.items
         ++ (if has_size then sized element.now else element.now)) }
-    ensures memory { IfErr result (λ e. e ≡ PacketError.Memory) }
 {
     if has_size {
         push_size(out, element.len())?;
@@ -132,10 +129,9 @@ fn packet(
     y: bool,
     n: bool,
     elements: &[&[u8]],
-) -> Result<Vec<u8>, PacketError>
+) -> Result<Vec<u8>, AllocError>
     requires { AreTexts (map (λ e. e.now) elements.now) }
-    ensures packet { IfOk result (λ p. p.items ≡ packet_of z y n (map (λ e. e.now) elements.now)) }
-    ensures memory { IfErr result (λ e. e ≡ PacketError.Memory) }
+    ensures { IfOk result (λ p. p.items ≡ packet_of z y n (map (λ e. e.now) elements.now)) }
 {
     let mut packet = Vec::new(alloc);
     packet.push(aggregation(z, y, n, elements.len()))?;
@@ -151,12 +147,11 @@ fn packets(
     limit: usize,
     begins: bool,
     texts: VecDeque<&[u8]>,
-) -> Result<Vec<Vec<u8>>, PacketError>
+) -> Result<Vec<Vec<u8>>, AllocError>
     requires limit { 2 ≤ limit }
     requires texts { AreTexts (map (λ t. t.now) texts.items) }
-    ensures packets { IfOk result (λ ps. map (λ p. p.items) ps.items
+    ensures { IfOk result (λ ps. map (λ p. p.items) ps.items
         ≡ packets_of limit begins (map (λ t. t.now) texts.entry.items)) }
-    ensures memory { IfErr result (λ e. e ≡ PacketError.Memory) }
 {
     let mut texts = texts;
     let mut packets = Vec::new(alloc);
@@ -179,13 +174,12 @@ struct Kept {
 }
 
 /// Keeps a unit, if it is sent.
-fn keep(alloc: Global, obu: &Obu<'_>, kept: &mut Kept) -> Result<(), PacketError>
+fn keep(alloc: Global, obu: &Obu<'_>, kept: &mut Kept) -> Result<(), AllocError>
     ensures texts { let os = filter is_kept (spec_obu obu.now.header obu.now.extension obu.now.payload.now ∷ []) in
         IfOk result (λ _. map (λ t. t.items) kept.new.texts.items ≡ map (λ t. t.items) kept.old.texts.items
         ++ texts_of os) }
     ensures begins { let os = filter is_kept (spec_obu obu.now.header obu.now.extension obu.now.payload.now ∷ []) in
         IfOk result (λ _. kept.new.begins ≡ (kept.old.begins || begins_sequence os)) }
-    ensures memory { IfErr result (λ e. e ≡ PacketError.Memory) }
 {
     if !obu.is_kept() {
         return Ok(());
@@ -212,10 +206,7 @@ fn kept_of(alloc: Global, sample: &[u8]) -> Result<Kept, PacketError>
         let Some((obu, behind)) = first_obu(rest) else {
             return Err(PacketError::ErrAv1CorruptedPacket);
         };
-        match keep(alloc, &obu, &mut kept) {
-            Ok(()) => {}
-            Err(e) => return Err(e),
-        }
+        keep(alloc, &obu, &mut kept)?;
         rest = behind;
     }
     Ok(kept)
@@ -231,9 +222,8 @@ impl Av1Packetizer {
 }
 
 /// The texts as slices.
-fn slices(alloc: Global, texts: &[Vec<u8>]) -> Result<VecDeque<&[u8]>, PacketError>
-    ensures slices { IfOk result (λ q. map (λ t. t.now) q.items ≡ map (λ t. t.items) texts.now) }
-    ensures memory { IfErr result (λ e. e ≡ PacketError.Memory) }
+fn slices(alloc: Global, texts: &[Vec<u8>]) -> Result<VecDeque<&[u8]>, AllocError>
+    ensures { IfOk result (λ q. map (λ t. t.now) q.items ≡ map (λ t. t.items) texts.now) }
 {
     let mut slices = VecDeque::new(alloc);
     for text in texts {
@@ -261,7 +251,7 @@ impl Packetizer for Av1Packetizer {
             return Ok(Vec::new(alloc));
         }
         let texts = slices(alloc, &kept.texts)?;
-        packets(alloc, mtu, kept.begins, texts)
+        Ok(packets(alloc, mtu, kept.begins, texts)?)
     }
 
     fn is_marker(&mut self, _bytes: &[u8], _previous: Option<&[u8]>, last: bool) -> bool {

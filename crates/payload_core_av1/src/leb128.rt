@@ -6,7 +6,7 @@ ghost use Rattle.std.specs.Prelude.{◌≡◌, ◌+◌, ◌++◌, ◌<◌, ◌�
 ghost use Rattle.std.specs.Prelude.{length, take};
 ghost use Rattle.payload_core_av1.specs.Bounds.{bound_of};
 
-use payload_core_base::PacketError;
+use std::alloc::AllocError;
 
 /// The size that stands in front of a text in at most so many bytes, and what stands behind it.
 fn size_within(most: u8, text: &[u8]) -> Option<(usize, &[u8])>
@@ -43,11 +43,10 @@ pub fn sized_part(text: &[u8]) -> Option<(&[u8], &[u8])>
 }
 
 /// Writes a size in its shortest form behind the bytes of `out`.
-pub fn push_size(out: &mut Vec<u8>, size: usize) -> Result<(), PacketError>
+pub fn push_size(out: &mut Vec<u8>, size: usize) -> Result<(), AllocError>
     requires { size < size_limit }
     ensures written { IfOk result (λ _. out.new.items ≡ out.old.items ++ spelling size) }
     ensures kept { Keeps out.old.items out.new.items }
-    ensures memory { IfErr result (λ e. e ≡ PacketError.Memory) }
 {
     let mut left = size;
     while left >= 128 {

@@ -9,8 +9,7 @@ ghost use Rattle.std.specs.Prelude.{◌≡◌, ◌+◌, ◌++◌, ◌∷◌, ◌
 ghost use Rattle.std.specs.Prelude.{length};
 
 use crate::leb128::{push_size, sized_part};
-use payload_core_base::PacketError;
-use std::alloc::Global;
+use std::alloc::{AllocError, Global};
 
 // Payloads below this, 2^56 - 2 bytes, have sizes that are spelled in eight bytes, header included.
 const PAYLOAD_LIMIT: usize = 72_057_594_037_927_934;
@@ -115,10 +114,9 @@ pub fn first_obu(text: &[u8]) -> Option<(Obu<'_>, &[u8])>
 }
 
 /// Writes the header byte of a unit and its extension byte.
-fn push_header(header: u8, extension: Option<u8>, out: &mut Vec<u8>) -> Result<(), PacketError>
+fn push_header(header: u8, extension: Option<u8>, out: &mut Vec<u8>) -> Result<(), AllocError>
     ensures written { IfOk result (λ _. out.new.items ≡ out.old.items ++ (header ∷ extension_bytes extension)) }
     ensures kept { Keeps out.old.items out.new.items }
-    ensures memory { IfErr result (λ e. e ≡ PacketError.Memory) }
 {
     out.push(header)?;
     if let Some(byte) = extension {
@@ -147,12 +145,11 @@ impl Obu<'_> {
 
     /// Writes the unit with S and its size in the shortest form. Where memory runs out, a part of it may stand
     /// behind the old bytes.
-    pub fn push_with_size(&self, out: &mut Vec<u8>) -> Result<(), PacketError>
+    pub fn push_with_size(&self, out: &mut Vec<u8>) -> Result<(), AllocError>
         requires { length self.now.payload.now < payload_limit }
         ensures written { IfOk result (λ _. out.new.items ≡ out.old.items
             ++ with_its_size (obu self.now.header self.now.extension self.now.payload.now)) }
         ensures kept { Keeps out.old.items out.new.items }
-        ensures memory { IfErr result (λ e. e ≡ PacketError.Memory) }
     {
         push_header(with_size(self.header), self.extension, out)?;
         push_size(out, self.payload.len())?;
@@ -168,10 +165,9 @@ impl Obu<'_> {
     }
 
     /// The bytes of the unit without S and size.
-    pub fn without_its_size(&self, alloc: Global) -> Result<Vec<u8>, PacketError>
-        ensures text { IfOk result (λ v. v.items
+    pub fn without_its_size(&self, alloc: Global) -> Result<Vec<u8>, AllocError>
+        ensures { IfOk result (λ v. v.items
             ≡ without_its_size (obu self.now.header self.now.extension self.now.payload.now)) }
-        ensures memory { IfErr result (λ e. e ≡ PacketError.Memory) }
     {
         let mut text = Vec::new(alloc);
         push_header(without_size(self.header), self.extension, &mut text)?;

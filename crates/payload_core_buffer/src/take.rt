@@ -13,7 +13,7 @@ use crate::held::{Held, RtpMeta};
 use crate::run::hand_on;
 use payload_core_base::{Depacketizer, PacketError};
 use rtp_wire_ids::SeqNo;
-use std::alloc::Global;
+use std::alloc::{AllocError, Global};
 use std::collections::BTreeMap;
 
 /// What is known of the packets of a frame.
@@ -21,11 +21,10 @@ fn metas(
     alloc: Global,
     held: &BTreeMap<u64, Held>,
     frame: Frame,
-) -> Result<Vec<RtpMeta>, PacketError>
+) -> Result<Vec<RtpMeta>, AllocError>
     requires { frame.start ≤ frame.end }
-    ensures metas { IfOk result (λ v. v.items
+    ensures { IfOk result (λ v. v.items
         ≡ map (λ h. h.meta) (slice_range (values held.now) frame.start frame.end)) }
-    ensures memory { IfErr result (λ e. e ≡ PacketError.Memory) }
 {
     let packets = held
         .values()

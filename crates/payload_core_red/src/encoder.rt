@@ -7,17 +7,15 @@ ghost use Rattle.std.specs.Prelude.{◌≡◌, ◌%◌, IfErr, IfOk, map, filter
 
 use crate::block::RedundantBlock;
 use crate::spelling::{MAX_BLOCKS, OldPayload, spell};
-use payload_core_base::PacketError;
-use std::alloc::Global;
+use std::alloc::{AllocError, Global};
 
 /// Packs older payloads beside a primary one.
 #[derive(Clone, Copy, Debug, Drop)]
 pub struct RedEncoder;
 
 /// The first 32 blocks that fit.
-fn fitting(alloc: Global, blocks: &[RedundantBlock]) -> Result<Vec<OldPayload<'_>>, PacketError>
-    ensures fitting { IfOk result (λ olds. map old_block olds.items ≡ take 32 (filter fits (map block_of blocks.now))) }
-    ensures memory { IfErr result (λ e. e ≡ PacketError.Memory) }
+fn fitting(alloc: Global, blocks: &[RedundantBlock]) -> Result<Vec<OldPayload<'_>>, AllocError>
+    ensures { IfOk result (λ olds. map old_block olds.items ≡ take 32 (filter fits (map block_of blocks.now))) }
 {
     let mut olds = Vec::new(alloc);
     for block in blocks {
@@ -37,16 +35,15 @@ impl RedEncoder {
     /// masked to seven bits (RFC 2198 3).
     ///
     /// # Errors
-    /// `Memory` alone.
+    /// `AllocError`.
     pub fn encode(
         alloc: Global,
         primary_pt: u8,
         primary: &[u8],
         redundant: &[RedundantBlock],
-    ) -> Result<Vec<u8>, PacketError>
-        ensures packet { IfOk result (λ packet. IsRed packet.items (sent_blocks (map block_of redundant.now))
+    ) -> Result<Vec<u8>, AllocError>
+        ensures { IfOk result (λ packet. IsRed packet.items (sent_blocks (map block_of redundant.now))
             (primary_pt % 128) primary.now) }
-        ensures memory { IfErr result (λ e. e ≡ PacketError.Memory) }
     {
         let blocks = fitting(alloc, redundant)?;
         spell(alloc, &blocks, primary_pt, primary)

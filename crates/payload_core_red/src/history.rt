@@ -8,8 +8,7 @@ ghost use Rattle.payload_core_red.specs.RedWrapping.{IsLongestPrefix, level, lev
 ghost use Rattle.std.specs.Prelude.{◌≡◌, ◌+◌, ◌<◌, ◌≤◌, All, IfErr, IfOk, length, map, option_map};
 
 use crate::spelling::{OldPayload, fields_fit};
-use payload_core_base::PacketError;
-use std::alloc::Global;
+use std::alloc::{AllocError, Global};
 
 /// A payload that was wrapped.
 pub struct KeptPayload {
@@ -48,11 +47,10 @@ pub fn levels<'a>(
     history: &'a [KeptPayload],
     distances: &[u32],
     time: u32,
-) -> Result<Vec<OldPayload<'a>>, PacketError>
+) -> Result<Vec<OldPayload<'a>>, AllocError>
     requires { All (λ d. (0 < d) × (d ≤ 8)) distances.now }
-    ensures levels { IfOk result (λ olds. map old_block olds.items
+    ensures { IfOk result (λ olds. map old_block olds.items
         ≡ levels (map kept_of history.now) distances.now time) }
-    ensures memory { IfErr result (λ e. e ≡ PacketError.Memory) }
 {
     let mut olds = Vec::new(alloc);
     for distance in distances {

@@ -6,8 +6,7 @@ ghost use Rattle.std.specs.Prelude.{◌≡◌, ◌<◌, ◌∷◌, ◌↔◌, []
 
 use crate::history::{KeptPayload, levels, longest_prefix};
 use crate::spelling::spell;
-use payload_core_base::PacketError;
-use std::alloc::Global;
+use std::alloc::{AllocError, Global};
 use std::marker::Model;
 
 // How many payloads are kept.
@@ -60,11 +59,10 @@ impl RedSender {
     /// The distances rise strictly, each from 1 to 8: `are_distances` tests it.
     ///
     /// # Errors
-    /// `Memory` alone.
-    pub fn new(alloc: Global, distances: &[u32]) -> Result<Self, PacketError>
+    /// `AllocError`.
+    pub fn new(alloc: Global, distances: &[u32]) -> Result<Self, AllocError>
         requires { AreDistances distances.now }
-        ensures made { IfOk result (λ s. s ≡ record { distances = distances.now; history = [] }) }
-        ensures memory { IfErr result (λ e. e ≡ PacketError.Memory) }
+        ensures { IfOk result (λ s. s ≡ record { distances = distances.now; history = [] }) }
     {
         Ok(RedSender {
             distances: Vec::from_slice(alloc, distances)?,
@@ -78,12 +76,11 @@ impl RedSender {
     /// The distances rise strictly, each from 1 to 8: `are_distances` tests it.
     ///
     /// # Errors
-    /// `Memory` alone, which changes nothing.
-    pub fn sync(&mut self, distances: &[u32]) -> Result<(), PacketError>
+    /// `AllocError`, which changes nothing.
+    pub fn sync(&mut self, distances: &[u32]) -> Result<(), AllocError>
         requires { AreDistances distances.now }
         ensures synced { OnOk result (self.new ≡ record { distances = distances.now; history = self.old.history }) }
         ensures unchanged { OnErr result (self.new ≡ self.old) }
-        ensures memory { IfErr result (λ e. e ≡ PacketError.Memory) }
     {
         self.distances = Vec::from_slice(*self.history.allocator(), distances)?;
         Ok(())
@@ -96,9 +93,8 @@ impl RedSender {
         payload: &[u8],
         time: u32,
         budget: usize,
-    ) -> Result<Vec<u8>, PacketError>
-        ensures wrapped { IfOk result (λ sent. IsWrap self.now pt payload.now time budget sent.items) }
-        ensures memory { IfErr result (λ e. e ≡ PacketError.Memory) }
+    ) -> Result<Vec<u8>, AllocError>
+        ensures { IfOk result (λ sent. IsWrap self.now pt payload.now time budget sent.items) }
     {
         let alloc = *self.history.allocator();
         if budget <= payload.len() {
@@ -118,7 +114,7 @@ impl RedSender {
         payload: &[u8],
         time: u32,
         budget: usize,
-    ) -> Result<Vec<u8>, PacketError>
+    ) -> Result<Vec<u8>, AllocError>
         ensures wrapped { IfOk result (λ sent. IsWrap self.old pt payload.now time budget sent.items) }
         ensures kept { OnOk result (self.new ≡ record {
           distances = self.old.distances;
@@ -126,7 +122,6 @@ impl RedSender {
               record { pt = pt; time = time; payload = payload.now } ∷ self.old.history;
         }) }
         ensures unchanged { OnErr result (self.new ≡ self.old) }
-        ensures memory { IfErr result (λ e. e ≡ PacketError.Memory) }
     {
         let sent = self.wrapped(pt, payload, time, budget)?;
         let payload = Vec::from_slice(*self.history.allocator(), payload)?;
@@ -157,18 +152,17 @@ impl RedSender {
     /// the seven before it.
     ///
     /// # Errors
-    /// `Memory` alone, which changes nothing.
+    /// `AllocError`, which changes nothing.
     pub fn wrap(
         &mut self,
         pt: u8,
         payload: &[u8],
         time: u32,
         budget: usize,
-    ) -> Result<Vec<u8>, PacketError>
+    ) -> Result<Vec<u8>, AllocError>
         ensures wrapped { IfOk result (λ sent. IsWrap self.old pt payload.now time budget sent.items) }
         ensures kept { OnOk result (self.new ≡ keeping self.old pt payload.now time) }
         ensures unchanged { OnErr result (self.new ≡ self.old) }
-        ensures memory { IfErr result (λ e. e ≡ PacketError.Memory) }
     {
         let sent = self.prepare(pt, payload, time, budget)?;
         self.settle();

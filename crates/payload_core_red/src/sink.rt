@@ -63,10 +63,7 @@ impl<S: PacketSink> PacketSink for RedSink<S> {
         time: u32,
         values: &ExtensionValues,
     ) -> Result<(), PacketError> {
-        let sent = match self.sender.prepare(self.pt, payload, time, self.budget) {
-            Ok(sent) => sent,
-            Err(e) => return Err(e),
-        };
+        let sent = self.sender.prepare(self.pt, payload, time, self.budget)?;
         if let Err(e) = self.sink.send(&sent, marker, time, values) {
             self.sender.forget();
             return Err(e);

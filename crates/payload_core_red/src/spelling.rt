@@ -5,8 +5,7 @@ ghost use Rattle.payload_core_red.specs.RedSending.{masked};
 ghost use Rattle.payload_core_red.specs.RedViews.{old_block};
 ghost use Rattle.std.specs.Prelude.{◌≡◌, ◌+◌, ◌%◌, ◌<◌, ◌≤◌, ◌++◌, ◌&&◌, All, IfErr, IfOk, OnOk, length, map, nat_le};
 
-use payload_core_base::PacketError;
-use std::alloc::Global;
+use std::alloc::{AllocError, Global};
 
 /// The blocks that a packet has beside its primary payload, at most.
 pub const MAX_BLOCKS: usize = 32;
@@ -27,10 +26,9 @@ pub fn fields_fit(timestamp_offset: u32, payload: &[u8]) -> bool
 }
 
 /// Writes the header of a block.
-fn push_header(packet: &mut Vec<u8>, block: &OldPayload<'_>) -> Result<(), PacketError>
+fn push_header(packet: &mut Vec<u8>, block: &OldPayload<'_>) -> Result<(), AllocError>
     requires { HasRoom (masked (old_block block.now)) }
-    ensures written { OnOk result (packet.new.items ≡ packet.old.items ++ header (masked (old_block block.now))) }
-    ensures memory { IfErr result (λ e. e ≡ PacketError.Memory) }
+    ensures { OnOk result (packet.new.items ≡ packet.old.items ++ header (masked (old_block block.now))) }
 {
     let size = block.payload.len();
     let middle = (block.timestamp_offset % 64 * 4) as u8 + (size / 256) as u8;
@@ -47,12 +45,11 @@ pub fn spell(
     blocks: &[OldPayload<'_>],
     pt: u8,
     primary: &[u8],
-) -> Result<Vec<u8>, PacketError>
+) -> Result<Vec<u8>, AllocError>
     requires room { All (λ b. HasRoom (masked (old_block b))) blocks.now }
     requires few { length blocks.now ≤ 32 }
-    ensures packet { IfOk result (λ packet. IsRed packet.items (map masked (map old_block blocks.now)) (pt % 128)
+    ensures { IfOk result (λ packet. IsRed packet.items (map masked (map old_block blocks.now)) (pt % 128)
         primary.now) }
-    ensures memory { IfErr result (λ e. e ≡ PacketError.Memory) }
 {
     let mut packet = Vec::new(alloc);
     for block in blocks {

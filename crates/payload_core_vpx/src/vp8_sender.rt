@@ -8,7 +8,7 @@ ghost use Rattle.std.specs.Prelude.{◌≡◌, ◌-◌, ◌++◌, ◌<◌, ◌�
 ghost use Rattle.std.specs.Prelude.{true, unwrap_or};
 
 use payload_core_base::{PacketError, Packetizer};
-use std::alloc::Global;
+use std::alloc::{AllocError, Global};
 
 /// How many bytes a descriptor without an id has (RFC 7741 4.2).
 pub const VP8_HEADER_SIZE: usize = 1;
@@ -43,10 +43,9 @@ fn packet(
     id: u16,
     first: bool,
     piece: &[u8],
-) -> Result<Vec<u8>, PacketError>
+) -> Result<Vec<u8>, AllocError>
     requires { id < 32768 }
-    ensures packet { IfOk result (λ p. p.items ≡ descriptor tells id first ++ piece.now) }
-    ensures memory { IfErr result (λ e. e ≡ PacketError.Memory) }
+    ensures { IfOk result (λ p. p.items ≡ descriptor tells id first ++ piece.now) }
 {
     let start: u8 = if first { 0x10 } else { 0 };
     let mut packet = Vec::with_capacity(alloc, piece.len().saturating_add(4))?;
@@ -69,12 +68,11 @@ fn packets(
     id: u16,
     size: usize,
     bytes: &[u8],
-) -> Result<Vec<Vec<u8>>, PacketError>
+) -> Result<Vec<Vec<u8>>, AllocError>
     requires id { id < 32768 }
     requires size { 0 < size }
-    ensures packets { IfOk result (λ ps. map (λ p. p.items) ps.items
+    ensures { IfOk result (λ ps. map (λ p. p.items) ps.items
         ≡ described tells id true (pieces size bytes.now)) }
-    ensures memory { IfErr result (λ e. e ≡ PacketError.Memory) }
 {
     let mut packets = Vec::with_capacity(alloc, bytes.len().div_ceil(size))?;
     let mut first = true;
@@ -142,10 +140,7 @@ impl Packetizer for Vp8Packetizer {
         if bytes.is_empty() || mtu <= size {
             return Ok(Vec::new(alloc));
         }
-        let packets = match packets(alloc, tells, self.id, mtu - size, bytes) {
-            Ok(packets) => packets,
-            Err(e) => return Err(e),
-        };
+        let packets = packets(alloc, tells, self.id, mtu - size, bytes)?;
         self.id = if self.id < 32767 { self.id + 1 } else { 0 };
         Ok(packets)
     }

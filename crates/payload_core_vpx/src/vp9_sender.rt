@@ -8,7 +8,7 @@ ghost use Rattle.payload_core_base.specs.Pieces.{pieces};
 ghost use Rattle.std.specs.Prelude.{◌≡◌, ◌++◌, ◌<◌, ◌≤◌, [], IfErr, IfOk, false, map, true};
 
 use payload_core_base::{PacketError, Packetizer};
-use std::alloc::Global;
+use std::alloc::{AllocError, Global};
 
 // The reference to the frame before: P_DIFF 1, and N clear.
 const PREVIOUS_FRAME: u8 = 0x02;
@@ -56,10 +56,9 @@ fn packet(
     first: bool,
     last: bool,
     piece: &[u8],
-) -> Result<Vec<u8>, PacketError>
+) -> Result<Vec<u8>, AllocError>
     requires { id < 32768 }
-    ensures packet { IfOk result (λ p. p.items ≡ descriptor told id first last ++ piece.now) }
-    ensures memory { IfErr result (λ e. e ≡ PacketError.Memory) }
+    ensures { IfOk result (λ p. p.items ≡ descriptor told id first last ++ piece.now) }
 {
     let predicted: u8 = if told { 0x40 } else { 0 };
     let begins: u8 = if first { 0x08 } else { 0 };
@@ -81,11 +80,10 @@ fn packets(
     id: u16,
     size: usize,
     bytes: &[u8],
-) -> Result<Vec<Vec<u8>>, PacketError>
+) -> Result<Vec<Vec<u8>>, AllocError>
     requires id { id < 32768 }
     requires size { 0 < size }
-    ensures packets { IfOk result (λ ps. map (λ p. p.items) ps.items ≡ described told id true (pieces size bytes.now)) }
-    ensures memory { IfErr result (λ e. e ≡ PacketError.Memory) }
+    ensures { IfOk result (λ ps. map (λ p. p.items) ps.items ≡ described told id true (pieces size bytes.now)) }
 {
     let mut packets = Vec::with_capacity(alloc, bytes.len().div_ceil(size))?;
     let mut first = true;
@@ -153,10 +151,7 @@ impl Packetizer for Vp9Packetizer {
         if bytes.is_empty() || mtu <= size {
             return Ok(Vec::new(alloc));
         }
-        let packets = match packets(alloc, told, self.id, mtu - size, bytes) {
-            Ok(packets) => packets,
-            Err(e) => return Err(e),
-        };
+        let packets = packets(alloc, told, self.id, mtu - size, bytes)?;
         self.id = if self.id < 32767 { self.id + 1 } else { 0 };
         Ok(packets)
     }

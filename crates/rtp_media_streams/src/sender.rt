@@ -152,9 +152,7 @@ impl SendingStream {
         ensures { IfOk result (λ s. s ≡ redundant_sender self red distances.now) }
     {
         let mut stream = self;
-        let Ok(sender) = RedSender::new(stream.alloc, distances) else {
-            return Err(AllocError);
-        };
+        let sender = RedSender::new(stream.alloc, distances)?;
         stream.stamp.set_type(red);
         stream.redundancy = Some(sender);
         Ok(stream)

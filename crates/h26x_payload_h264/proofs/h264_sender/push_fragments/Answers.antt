@@ -35,14 +35,14 @@ loop-part-preserved c =
       size = steps.0 ∙ whole.size;
       left = left;
       whole =
-          rw (c.in_ok-push.ensures.items, map-append, append_assoc, c.in_ok-fu_a.ensures.packet)
+          rw (c.in_ok-push.ensures.items, map-append, append_assoc, c.in_ok-fu_a.ensures)
           (ap (λ e. before ++ fu_a header c.loop-part.first e c.in-Some-part.part.now
           ∷ in_fragments (fu_a header) false (pieces size rest)) (sym last)
           ∙ ap (λ ps. before ++ in_fragments (fu_a header) c.loop-part.first ps) (sym next) ∙ whole.whole);
     }
 
-pub returns-clause-packets : goal.returns-clause-packets
-returns-clause-packets c =
+pub returns : goal.returns
+returns c =
     let whole = c.loop-part.invariant.whole in
     let ps : List (List ℕ) = map (λ p. p.items) c.loop-part.packets.items in
     sym (append-nil ps) ∙ ap (λ rest. ps ++ in_fragments (fu_a c.in-Some.header.now) c.loop-part.first rest)

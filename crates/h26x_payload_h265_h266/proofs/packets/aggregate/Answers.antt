@@ -5,19 +5,19 @@ use Rattle.h26x_payload_h265_h266.specs.Waiting.{joining}
 use Rattle.h26x_payload_h265_h266.proofs.SendingLemmas.{sets_laid}
 use Rattle.h26x_payload_h265_h266.proofs.packets.aggregate.Goals as goal
 
-pub returns-clause-packet : goal.returns-clause-packet
-returns-clause-packet c =
+pub returns : goal.returns
+returns c =
     let l = c.args.form.layout in
     let vps = option_map (λ s. s.now) c.args.vps in
     let sets : List (List ℕ) = joining vps c.args.sps.now c.args.pps.now in
     let layer : ℕ = least (layer_of l) sets in
     let tid : ℕ = least tid_of sets in
     rw (
-      c.in_ok-push_sized-2.ensures.written,
-      c.in_ok-push_dond.ensures.written,
-      c.in_ok-push_sized.ensures.written,
-      c.in_ok-push_before.ensures.written,
-      c.in_ok-push_donl.ensures.written,
+      c.in_ok-push_sized-2.ensures,
+      c.in_ok-push_dond.ensures,
+      c.in_ok-push_sized.ensures,
+      c.in_ok-push_before.ensures,
+      c.in_ok-push_donl.ensures,
       c.in_ok-push-2.ensures.items,
       c.in_ok-push.ensures.items,
       c.new-packet.ensures.items,

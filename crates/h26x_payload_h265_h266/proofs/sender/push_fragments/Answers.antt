@@ -7,8 +7,8 @@ use Rattle.h26x_payload_h265_h266.specs.Packing.{fragment}
 use Rattle.h26x_payload_h265_h266.proofs.SendingLemmas.{fragments_are}
 use Rattle.h26x_payload_h265_h266.proofs.sender.push_fragments.Goals as goal
 
-pub returns-clause-packets : goal.returns-clause-packets
-returns-clause-packets c =
+pub returns : goal.returns
+returns c =
     let l = c.args.form.layout in
     let donl = c.args.form.donl in
     let limit : ℕ = c.args.form.limit in
@@ -23,6 +23,6 @@ returns-clause-packets c =
     let before : List (List ℕ) = map (λ p. p.items) c.args.packets.now.items in
     let later : List (List ℕ) = in_fragments (fragment l donl number high low) false (pieces (limit - 3) rest) in
     on_ok_weaker c.push_later_fragments.result
-    (λ sent. sent ∙ rw (c.in_ok-push.ensures.items, map-append, append_assoc, c.in_ok-fragment.ensures.packet)
+    (λ sent. sent ∙ rw (c.in_ok-push.ensures.items, map-append, append_assoc, c.in_ok-fragment.ensures)
     (ap (λ t. before ++ t) all))
-    c.push_later_fragments.ensures.packets
+    c.push_later_fragments.ensures

@@ -37,15 +37,15 @@ loop-part-preserved c =
       size = steps.0 ∙ whole.size;
       left = left;
       whole =
-          rw (c.in_ok-push.ensures.items, map-append, append_assoc, c.in_ok-fragment.ensures.packet)
+          rw (c.in_ok-push.ensures.items, map-append, append_assoc, c.in_ok-fragment.ensures)
           (ap (λ e. before ++ fragment l donl cut.number cut.high cut.low false e c.in-Some.part.now
           ∷ in_fragments (fragment l donl cut.number cut.high cut.low) false (pieces size rest)) (sym last)
           ∙ ap (λ ps. before ++ in_fragments (fragment l donl cut.number cut.high cut.low) false ps) (sym next)
           ∙ whole.whole);
     }
 
-pub returns-clause-packets : goal.returns-clause-packets
-returns-clause-packets c =
+pub returns : goal.returns
+returns c =
     let whole = c.loop-part.invariant.whole in
     let cut = c.args.cut in
     let ps : List (List ℕ) = map (λ p. p.items) c.loop-part.packets.items in

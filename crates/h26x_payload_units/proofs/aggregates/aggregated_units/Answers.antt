@@ -6,8 +6,8 @@ use Rattle.h26x_payload_units.specs.Fragments.{behind_code}
 use Rattle.h26x_payload_units.proofs.AggregateLemmas.{none_is}
 use Rattle.h26x_payload_units.proofs.aggregates.aggregated_units.Goals as goal
 
-pub returns-clause-written : goal.returns-clause-written
-returns-clause-written c =
+pub returns : goal.returns
+returns c =
     let rest = c.loop-rest.rest.now in
     let written = c.loop-rest.written.items in
     let empty : length rest ≡ 0 = grind (arith, nat_tests) in

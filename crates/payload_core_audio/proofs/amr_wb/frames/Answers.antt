@@ -53,7 +53,7 @@ loop-preserved c =
     let out = c.push_speech.new.out.items in
     let written : out ≡ c.loop.out.items ++ (c.header_at-header.result
     ∷ speech_of packet (place_of c.loop.place) size) =
-    c.in_ok-push_speech.ensures.written ∙ ap (λ xs. xs ++ speech_of packet (place_of c.loop.place) size)
+    c.in_ok-push_speech.ensures ∙ ap (λ xs. xs ++ speech_of packet (place_of c.loop.place) size)
     c.in_ok-push.ensures.items ∙ append_assoc c.loop.out.items (c.header_at-header.result ∷ [])
     (speech_of packet (place_of c.loop.place) size) in
     let go = frames_go o packet (c.args.count - (k + 1)) k (place_of c.loop.place) c.header_at-header.result

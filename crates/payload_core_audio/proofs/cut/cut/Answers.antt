@@ -4,8 +4,8 @@ use Rattle.std.specs.Slice.Iter.{chunks_rest}
 use Rattle.payload_core_base.proofs.PieceLemmas.{pieces-none, pieces-end, pieces-next}
 use Rattle.payload_core_audio.proofs.cut.cut.Goals as goal
 
-pub returns-then-limit-eq0-clause-pieces : goal.returns-then-limit-eq0-clause-pieces
-returns-then-limit-eq0-clause-pieces c =
+pub returns-then-limit-eq0 : goal.returns-then-limit-eq0
+returns-then-limit-eq0 c =
     rw (c.new.ensures.items, c.if-limit-eq0.true) (sym (pieces-none c.args.bytes.now))
 
 pub loop-piece-preserved : goal.loop-piece-preserved
@@ -23,8 +23,8 @@ loop-piece-preserved c =
           (ap (λ ps. map (λ p. p.items) c.loop-piece.packets.items ++ ps) (sym next) ∙ whole.whole);
     }
 
-pub returns-clause-pieces : goal.returns-clause-pieces
-returns-clause-pieces c =
+pub returns : goal.returns
+returns c =
     let whole = c.loop-piece.invariant in
     let ps : List (List ℕ) = map (λ p. p.items) c.loop-piece.packets.items in
     sym (append-nil ps) ∙ ap (λ rest. ps ++ rest)

@@ -27,7 +27,7 @@ loop-place-preserved c =
     ) in
     let out : List ℕ = c.loop-place.packet.items in
     let element : List ℕ = if ltb (i + 1) (length all) || leb 3 i then sized e else e in
-    ap (λ t. t ++ body_from (i + 1) others) c.in_ok-push_element.ensures.written
+    ap (λ t. t ++ body_from (i + 1) others) c.in_ok-push_element.ensures
     ∙ ap (λ b. (out ++ (if b then sized e else e)) ++ body_from (i + 1) others) c.has_size.ensures
     ∙ append_assoc out element (body_from (i + 1) others)
     ∙ ap (λ t. out ++ t) (body-step i (length all) e others total)

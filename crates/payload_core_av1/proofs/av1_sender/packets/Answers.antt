@@ -44,7 +44,7 @@ loop-alloc-preserved c =
     let some : 0 < length c.loop-alloc.texts.items = omega (arith, c.loop-alloc.texts.ok.0) in
     let some' : 0 < length texts = omega (arith, length-map c.loop-alloc.texts.items (λ (t : Bor (List ℕ)). t.now)) in
     let before : List (List ℕ) = map (λ (p : Vec ℕ Global). p.items) c.loop-alloc.packets.items in
-    let packet = c.in_ok-packet.ensures.packet
+    let packet = c.in_ok-packet.ensures
     ∙ ap (λ es. packet_of c.loop-alloc.z c.in_ok-elements.y c.loop-alloc.n es) elements
     ∙ ap (λ y. packet_of c.loop-alloc.z y c.loop-alloc.n (front size texts)) cut in
     let pushed = ap (λ (ps : List (Vec ℕ Global)). map (λ (p : Vec ℕ Global). p.items) ps) c.in_ok-push.ensures.items

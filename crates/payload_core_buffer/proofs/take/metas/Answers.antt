@@ -4,8 +4,8 @@ use Rattle.payload_core_buffer.specs.declared.held.Held.{Held}
 use Rattle.payload_core_buffer.proofs.RunLemmas.{frame_road}
 use Rattle.payload_core_buffer.proofs.take.metas.Goals as goal
 
-pub returns-clause-metas : goal.returns-clause-metas
-returns-clause-metas c =
+pub returns : goal.returns
+returns c =
     let road = frame_road c.map.ensures.source c.take-packets.ensures.source c.take-packets.ensures.count
     c.skip.ensures.source c.skip.ensures.count c.values.ensures.rest in
     rw c.in_ok-metas.was at (items_from_collect c.collect.result c.collect.ensures.ran

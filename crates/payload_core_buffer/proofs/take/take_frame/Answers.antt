@@ -16,7 +16,7 @@ returns-in-Ok-hand_on-clause-taken g c = record {
   read = rw (c.new.ensures.bytes, c.new.ensures.extra, ← between_is (values c.args.held.now) c.args.frame)
       c.in-Ok-hand_on.ensures.read;
   metas = rw (← between_is (values c.args.held.now) c.args.frame)
-      (c.new.ensures.metas ∙ c.in-Ok.ensures.metas
+      (c.new.ensures.metas ∙ c.in-Ok.ensures
       ∙ metas_are (slice_range (values c.args.held.now) c.args.frame.start c.args.frame.end));
   done = record {
     gone = left_is c.args.frame.end c.args.held.now c.finish.new.held c.finish.ensures.gone;

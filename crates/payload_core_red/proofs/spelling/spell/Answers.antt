@@ -9,8 +9,8 @@ use Rattle.payload_core_red.specs.declared.spelling.OldPayload.{OldPayload}
 use Rattle.payload_core_red.proofs.LayoutLemmas.{payloads_of}
 use Rattle.payload_core_red.proofs.spelling.spell.Goals as goal
 
-pub returns-clause-packet : goal.returns-clause-packet
-returns-clause-packet c =
+pub returns : goal.returns
+returns c =
     let olds : List OldPayload = c.args.blocks.now in
     let blocks : List Block = map old_block olds in
     let headers : List ℕ = flat_map header (map masked blocks) in

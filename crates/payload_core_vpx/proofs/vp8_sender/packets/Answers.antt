@@ -15,13 +15,13 @@ loop-piece-preserved c =
     record {
       size = steps.0 ∙ whole.size;
       whole =
-          rw (c.in_ok-push.ensures.items, map-append, append_assoc, c.in_ok-packet.ensures.packet)
+          rw (c.in_ok-push.ensures.items, map-append, append_assoc, c.in_ok-packet.ensures)
           (ap (λ ps. map (λ p. p.items) c.loop-piece.packets.items
           ++ described c.args.tells c.args.id c.loop-piece.first ps) (sym next) ∙ whole.whole);
     }
 
-pub returns-clause-packets : goal.returns-clause-packets
-returns-clause-packets c =
+pub returns : goal.returns
+returns c =
     let whole = c.loop-piece.invariant in
     let ps : List (List ℕ) = map (λ p. p.items) c.loop-piece.packets.items in
     sym (append-nil ps) ∙ ap (λ rest. ps ++ described c.args.tells c.args.id c.loop-piece.first rest)

@@ -32,14 +32,14 @@ loop-piece-preserved c =
       size = steps.0 ∙ whole.size;
       left = left;
       whole =
-          rw (c.in_ok-push.ensures.items, map-append, append_assoc, c.in_ok-packet.ensures.packet)
+          rw (c.in_ok-push.ensures.items, map-append, append_assoc, c.in_ok-packet.ensures)
           (ap (λ e. before ++ (descriptor c.args.told c.args.id c.loop-piece.first e ++ c.in-Some.piece.now)
           ∷ described c.args.told c.args.id false (pieces c.args.size rest)) (sym last)
           ∙ ap (λ ps. before ++ described c.args.told c.args.id c.loop-piece.first ps) (sym next) ∙ whole.whole);
     }
 
-pub returns-clause-packets : goal.returns-clause-packets
-returns-clause-packets c =
+pub returns : goal.returns
+returns c =
     let whole = c.loop-piece.invariant.whole in
     let ps : List (List ℕ) = map (λ p. p.items) c.loop-piece.packets.items in
     sym (append-nil ps) ∙ ap (λ rest. ps ++ described c.args.told c.args.id c.loop-piece.first rest)

@@ -11,7 +11,7 @@ pub spell-requires-clause-room : goal.spell-requires-clause-room
 spell-requires-clause-room c =
     let R : Block → Type 0 = λ b. HasRoom (masked b) in
     let room : All R (map old_block c.in_ok-blocks.blocks.items) =
-    subst (All R) (sym c.in_ok-blocks.ensures.fitting) (kept-room (map block_of c.args.redundant.now)) in
+    subst (All R) (sym c.in_ok-blocks.ensures) (kept-room (map block_of c.args.redundant.now)) in
     subst (All (λ b. R (old_block b))) (sym c.deref.ensures.value)
     (All-unmap R old_block c.in_ok-blocks.blocks.items room)
 
@@ -22,12 +22,12 @@ spell-requires-clause-few c =
       arith,
       ap length c.deref.ensures.value,
       length-map c.in_ok-blocks.blocks.items old_block,
-      ap length c.in_ok-blocks.ensures.fitting,
+      ap length c.in_ok-blocks.ensures,
       length-take 32 fitting,
     )
 
-pub returns-clause-packet : goal.returns-clause-packet
-returns-clause-packet c =
+pub returns : goal.returns
+returns c =
     let P : List Block → Type 0 = λ bs. IfOk c.spell.result
     (λ packet. IsRed packet.items (map masked bs) (c.args.primary_pt % 128) c.args.primary.now) in
-    subst P (ap (map old_block) c.deref.ensures.value ∙ c.in_ok-blocks.ensures.fitting) c.spell.ensures.packet
+    subst P (ap (map old_block) c.deref.ensures.value ∙ c.in_ok-blocks.ensures) c.spell.ensures

@@ -19,7 +19,7 @@ R b = HasRoom (masked b)
 pub longest_prefix-count-requires-clause-room : goal.longest_prefix-count-requires-clause-room
 longest_prefix-count-requires-clause-room c =
     let olds : List OldPayload = c.in_ok-olds.olds.items in
-    let room : All R (map old_block olds) = subst (All R) (sym c.in_ok-olds.ensures.levels)
+    let room : All R (map old_block olds) = subst (All R) (sym c.in_ok-olds.ensures)
     (levels-room (map kept_of c.deref.result.now) c.deref-2.result.now c.args.time) in
     subst (All (λ b. R (old_block b))) (sym c.deref-3.ensures.value) (All-unmap R old_block olds room)
 
@@ -27,7 +27,7 @@ pub spell-requires-clause-room : goal.spell-requires-clause-room
 spell-requires-clause-room c =
     let olds : List OldPayload = c.in_ok-olds.olds.items in
     let Q : OldPayload → Type 0 = λ b. R (old_block b) in
-    let room : All R (map old_block olds) = subst (All R) (sym c.in_ok-olds.ensures.levels)
+    let room : All R (map old_block olds) = subst (All R) (sym c.in_ok-olds.ensures)
     (levels-room (map kept_of c.deref.result.now) c.deref-2.result.now c.args.time) in
     let sent : c.deref-4.result.now ≡ reverse (take c.longest_prefix-count.result olds) =
     c.deref-4.ensures.value ∙ c.reverse.ensures.items ∙ ap reverse c.truncate.ensures.items in
@@ -48,12 +48,12 @@ spell-requires-clause-few c =
       length-reverse (take count olds),
       length-take count olds,
       length-map olds old_block,
-      ap length c.in_ok-olds.ensures.levels,
+      ap length c.in_ok-olds.ensures,
       few,
     )
 
-pub returns-clause-wrapped : goal.returns-clause-wrapped
-returns-clause-wrapped c =
+pub returns : goal.returns
+returns c =
     let olds : List OldPayload = c.in_ok-olds.olds.items in
     let count : ℕ = c.longest_prefix-count.result in
     let sent : c.deref-4.result.now ≡ reverse (take count olds) =
@@ -63,7 +63,7 @@ returns-clause-wrapped c =
     let r : Redundancy = c.args.self.now in
     let ls : List Block = levels r.history r.distances c.args.time in
     let found : map old_block olds ≡ ls =
-    c.in_ok-olds.ensures.levels
+    c.in_ok-olds.ensures
     ∙ ap (λ h. levels (map kept_of h) c.deref-2.result.now c.args.time) c.deref.ensures.value
     ∙ ap (λ ds. levels (map kept_of c.self.inside.history.items) ds c.args.time) c.deref-2.ensures.value
     ∙ ap (λ (v : Redundancy). levels v.history v.distances c.args.time) c.self.view_is in
@@ -77,4 +77,4 @@ returns-clause-wrapped c =
     IfOk-weaker c.spell.result _ _ (λ packet is. record {
       wrapped = λ le. record { count = count; longest = longest; is_red = is };
       unwrapped = λ lt. absurd (omega (arith, lt, c.if-budget-payload.false));
-    }) (subst P blocks c.spell.ensures.packet)
+    }) (subst P blocks c.spell.ensures)
