@@ -1,10 +1,22 @@
 //! Numbers, windows and times.
 
-use crate::line::Line;
+use crate::line::{Line, named};
 use rtp_wire::{
     Frequency, SeqNo, SeqNoWindow, extend_u7, extend_u8, extend_u15, extend_u16, extend_u32,
 };
 use std::cmp::Ordering;
+
+/// What is done at a window.
+#[derive(Clone, Copy)]
+pub(crate) enum Step {
+    New,
+    NewAfter,
+    Update,
+    Accepts,
+}
+
+/// How many bits each kind of number has.
+const BITS: [(&str, u32); 5] = [("u7", 7), ("u8", 8), ("u15", 15), ("u16", 16), ("u32", 32)];
 
 /// `extend BITS PREVIOUS LOW`: a number of few bits, widened by the one before it, or by none where a dash stands.
 pub(crate) fn extended(line: &mut Line<'_>) {
@@ -13,26 +25,26 @@ pub(crate) fn extended(line: &mut Line<'_>) {
         "-" => None,
         word => Some(line.value::<u64>(word)),
     };
-    line.put(match bits {
-        "u7" if low < 128 => extend_u7(previous, low as u8),
-        "u8" if low < 256 => extend_u8(previous, low as u8),
-        "u15" if low < 32768 => extend_u15(previous, low as u16),
-        "u16" if low < 65536 => extend_u16(previous, low as u16),
-        "u32" => extend_u32(previous, low),
+    line.put(match named(&BITS, bits) {
+        Some(7) if low < 128 => extend_u7(previous, low as u8),
+        Some(8) if low < 256 => extend_u8(previous, low as u8),
+        Some(15) if low < 32768 => extend_u15(previous, low as u16),
+        Some(16) if low < 65536 => extend_u16(previous, low as u16),
+        Some(32) => extend_u32(previous, low),
         _ => return line.refuse(format_args!("no number {low} of {bits}")),
     })
 }
 
 /// `window N` is a window that recorded N alone, `window-after N` one that recorded all up to N, and `update N` records
 /// N at the window: each gives the greatest number. `accepts N` gives whether the window accepts N.
-pub(crate) fn of_window(line: &mut Line<'_>, window: &mut SeqNoWindow, command: &str) {
+pub(crate) fn of_window(line: &mut Line<'_>, window: &mut SeqNoWindow, step: Step) {
     let number = SeqNo::from(line.number::<u64>());
-    match command {
+    match step {
         _ if line.is_refused => {}
-        "accepts" => return line.put_whether(window.accepts(number)),
-        "window" => *window = SeqNoWindow::new(number),
-        "window-after" => *window = SeqNoWindow::new_after(number),
-        _ => window.update(number),
+        Step::Accepts => return line.put_whether(window.accepts(number)),
+        Step::New => *window = SeqNoWindow::new(number),
+        Step::NewAfter => *window = SeqNoWindow::new_after(number),
+        Step::Update => window.update(number),
     }
     line.put(window.max_seq())
 }
