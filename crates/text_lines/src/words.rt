@@ -3,6 +3,16 @@
 use sdp_formats_config::{Codec, CodecSpec, FormatParams, Frequency, PayloadParams, Pt};
 use std::str::SplitWhitespace;
 
+/// What a name stands for, where it is one of these.
+pub(crate) fn named<T: Copy>(names: &[(&str, T)], name: &str) -> Option<T> {
+    for (known, meaning) in names {
+        if *known == name {
+            return Some(*meaning);
+        }
+    }
+    None
+}
+
 /// The next word, a number of 8 bits.
 pub(crate) fn next_number(words: &mut SplitWhitespace<'_>) -> Option<u8> {
     words.next()?.parse::<u8>().ok()
@@ -23,20 +33,26 @@ fn maybe_type(words: &mut SplitWhitespace<'_>) -> Option<Option<Pt>> {
     }
 }
 
-/// A codec: its name, clock rate, channels and format.
-pub(crate) fn next_spec(words: &mut SplitWhitespace<'_>) -> Option<CodecSpec> {
-    let codec = Codec::from(words.next()?);
-    let clock_rate = Frequency::new(words.next()?.parse::<u32>().ok()?)?;
-    let channels = maybe_number(words)?;
-    let format = match words.next()? {
+/// A clock rate in ticks a second.
+fn next_rate(words: &mut SplitWhitespace<'_>) -> Option<Frequency> {
+    Frequency::new(words.next()?.parse::<u32>().ok()?)
+}
+
+/// Format parameters, or none at a dash.
+fn next_format(words: &mut SplitWhitespace<'_>) -> Option<FormatParams> {
+    Some(match words.next()? {
         "-" => FormatParams::default(),
         word => FormatParams::parse_line(word),
-    };
+    })
+}
+
+/// A codec: its name, clock rate, channels and format.
+pub(crate) fn next_spec(words: &mut SplitWhitespace<'_>) -> Option<CodecSpec> {
     Some(CodecSpec {
-        codec,
-        clock_rate,
-        channels,
-        format,
+        codec: Codec::from(words.next()?),
+        clock_rate: next_rate(words)?,
+        channels: maybe_number(words)?,
+        format: next_format(words)?,
     })
 }
 
