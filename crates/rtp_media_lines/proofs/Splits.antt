@@ -77,11 +77,3 @@ ended-words_of line x = let parts = slice_split-IsCons (λ b. b == 32) line in r
 -- a word has a part
 pub ended-colon_parts : {A : Type 0} (word : List ℕ) (x : A) → ended (colon_parts word) x ≡ None
 ended-colon_parts word x = let parts = slice_split-IsCons (λ b. b == 58) word in rw parts.2 refl
-
-IsCons-nonempty : {X : Type 0} (xs : List X) → IsCons xs → false ≡ (length xs == 0)
-IsCons-nonempty [] (y, ys, h) = cc h
-IsCons-nonempty (x ∷ xs) h = grind (arith)
-
--- a line has words
-pub words_of-nonempty : (line : List ℕ) → false ≡ (length (words_of line) == 0)
-words_of-nonempty line = IsCons-nonempty (words_of line) (slice_split-IsCons (λ b. b == 32) line)

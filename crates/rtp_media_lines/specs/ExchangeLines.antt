@@ -3,8 +3,27 @@ use Rattle.std.specs.Prelude.{ℕ, ◌^◌, List, Option, Some}
 use Rattle.rtp_media_lines.specs.declared.line.Command.{Command}
 use Rattle.rtp_media_lines.specs.declared.line.Command.TheVariants.{Row, Ext, End, Offer, Answer, Accept, Withdraw}
 use Rattle.rtp_media_lines.specs.declared.line.Command.TheVariants.{Connect}
+use Rattle.rtp_media_lines.specs.declared.words.Letter.{Letter}
 use Rattle.rtp_media_lines.specs.Sections.{sections_of, sections_then_slash}
 use Rattle.rtp_media_lines.specs.Words.{letter_of, text_of, hex_of, dash_or, number_below, first, ended, ◌>>=◌}
+
+-- CODEC CLOCK CHANNELS FMTP, behind the end and the types of a row
+abbrev pub rest_of_row : Letter → ℕ → Option ℕ → Option ℕ → List (List ℕ) → Option Command
+rest_of_row letter pt resend red words = do
+  codec ← first text_of words
+  clock ← first (number_below (2 ^ 32)) codec.1
+  channels ← first (dash_or (number_below (2 ^ 8))) clock.1
+  format ← first (dash_or text_of) channels.1
+  ended format.1 (Row (record {
+    letter = letter;
+    pt = pt;
+    resend = resend;
+    red = red;
+    codec = codec.0;
+    clock_rate = clock.0;
+    channels = channels.0;
+    format = format.0;
+  }))
 
 -- row E PT RTX RED CODEC CLOCK CHANNELS FMTP
 unfoldable pub row_of : List (List ℕ) → Option Command
@@ -13,20 +32,7 @@ row_of words = do
   pt ← first (number_below (2 ^ 8)) letter.1
   resend ← first (dash_or (number_below (2 ^ 8))) pt.1
   red ← first (dash_or (number_below (2 ^ 8))) resend.1
-  codec ← first text_of red.1
-  clock ← first (number_below (2 ^ 32)) codec.1
-  channels ← first (dash_or (number_below (2 ^ 8))) clock.1
-  format ← first (dash_or text_of) channels.1
-  ended format.1 (Row (record {
-    letter = letter.0;
-    pt = pt.0;
-    resend = resend.0;
-    red = red.0;
-    codec = codec.0;
-    clock_rate = clock.0;
-    channels = channels.0;
-    format = format.0;
-  }))
+  rest_of_row letter.0 pt.0 resend.0 red.0 red.1
 
 -- ext E ID URI
 unfoldable pub ext_of : List (List ℕ) → Option Command

@@ -6,6 +6,7 @@ use Rattle.rtp_media_lines.specs.declared.line.Line.TheVariants as line
 use Rattle.rtp_media_lines.specs.declared.line.Command.{Command}
 use Rattle.rtp_media_lines.specs.declared.line.Command.TheVariants.{Fixed, Send, Open, Sample, Receive, Poll}
 use Rattle.std.specs.Option.{option_map}
+use Rattle.rtp_media_lines.specs.declared.words.Letter.{Letter}
 use Rattle.rtp_media_lines.specs.ExchangeLines.{row_of, ext_of, end_of, offer_of, answer_of, accept_of, withdraw_of}
 use Rattle.rtp_media_lines.specs.ExchangeLines.{connect_of}
 use Rattle.rtp_media_lines.specs.PlayLines.{play_of, queue_of}
@@ -18,6 +19,26 @@ fixed_of words = do
   letter ← first letter_of words
   ended letter.1 (Fixed letter.0)
 
+-- FIRST MTU LIMIT DISTANCES PICTUREID, behind the stream that is sent
+abbrev pub rest_of_send : Letter → List ℕ → ℕ → ℕ → List (List ℕ) → Option Command
+rest_of_send letter mid ssrc pt words = do
+  number ← first (number_below (2 ^ 64)) words
+  mtu ← first (number_below (2 ^ 64)) number.1
+  limit ← first (number_below (2 ^ 64)) mtu.1
+  distances ← first (dash_or numbers_of) limit.1
+  picture ← first (dash_or (number_below (2 ^ 16))) distances.1
+  ended picture.1 (Send (record {
+    letter = letter;
+    mid = mid;
+    ssrc = ssrc;
+    pt = pt;
+    first = number.0;
+    mtu = mtu.0;
+    limit = limit.0;
+    distances = distances.0;
+    picture_id = picture.0;
+  }))
+
 -- send E MID SSRC PT FIRST MTU LIMIT DISTANCES PICTUREID
 unfoldable pub send_of : List (List ℕ) → Option Command
 send_of words = do
@@ -25,22 +46,7 @@ send_of words = do
   mid ← first text_of letter.1
   ssrc ← first (number_below (2 ^ 32)) mid.1
   pt ← first (number_below (2 ^ 8)) ssrc.1
-  number ← first (number_below (2 ^ 64)) pt.1
-  mtu ← first (number_below (2 ^ 64)) number.1
-  limit ← first (number_below (2 ^ 64)) mtu.1
-  distances ← first (dash_or numbers_of) limit.1
-  picture ← first (dash_or (number_below (2 ^ 16))) distances.1
-  ended picture.1 (Send (record {
-    letter = letter.0;
-    mid = mid.0;
-    ssrc = ssrc.0;
-    pt = pt.0;
-    first = number.0;
-    mtu = mtu.0;
-    limit = limit.0;
-    distances = distances.0;
-    picture_id = picture.0;
-  }))
+  rest_of_send letter.0 mid.0 ssrc.0 pt.0 pt.1
 
 -- open E MID SSRC PT HOLDBACK
 unfoldable pub open_of : List (List ℕ) → Option Command

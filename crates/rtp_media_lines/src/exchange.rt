@@ -2,7 +2,7 @@
 
 ghost use Rattle.rtp_media_lines.specs.Misreads.{Reads};
 ghost use Rattle.rtp_media_lines.specs.ExchangeLines.{row_of, ext_of, end_of, offer_of, answer_of, accept_of};
-ghost use Rattle.rtp_media_lines.specs.ExchangeLines.{withdraw_of, connect_of};
+ghost use Rattle.rtp_media_lines.specs.ExchangeLines.{withdraw_of, connect_of, rest_of_row};
 
 use crate::fields::{
     hex_word, letter_word, number_or_dash_word, number_word, text_or_dash_word, text_word,
@@ -101,14 +101,28 @@ pub(crate) fn row_of(alloc: Global, words: Words<'_>) -> Result<Command, Misread
     let (pt, rest) = number_word(rest, u8::MAX as u64)?;
     let (resend, rest) = number_or_dash_word(rest)?;
     let (red, rest) = number_or_dash_word(rest)?;
-    let (codec, rest) = text_word(alloc, rest)?;
+    rest_of_row(alloc, letter, pt as u8, resend, red, rest)
+}
+
+/// The words of a `row` line behind its types.
+fn rest_of_row(
+    alloc: Global,
+    letter: Letter,
+    pt: u8,
+    resend: Option<u8>,
+    red: Option<u8>,
+    words: Words<'_>,
+) -> Result<Command, Misread>
+    ensures { Reads result (rest_of_row letter pt resend red words.entry) }
+{
+    let (codec, rest) = text_word(alloc, words)?;
     let (clock_rate, rest) = number_word(rest, u32::MAX as u64)?;
     let (channels, rest) = number_or_dash_word(rest)?;
     let (format, rest) = text_or_dash_word(alloc, rest)?;
     rest.end()?;
     Ok(Command::Row(RowCommand {
         letter,
-        pt: pt as u8,
+        pt,
         resend,
         red,
         codec,

@@ -80,7 +80,9 @@ fn numbers_of(alloc: Global, word: &str) -> Result<Bytes, Misread>
     let mut rest = Some(word);
     while let Some(text) = rest {
         let (number, after) = split_comma(text);
-        let number = number_up_to(number, u8::MAX as u64).ok_or(Misread::NotUnderstood)?;
+        let Some(number) = number_up_to(number, u8::MAX as u64) else {
+            return Err(Misread::NotUnderstood);
+        };
         numbers.push(number as u8)?;
         rest = after;
     }
@@ -102,8 +104,10 @@ pub(crate) fn letter_word(words: Words<'_>) -> Result<(Letter, Words<'_>), Misre
     ensures { Reads result (first letter_of words.entry) }
 {
     let (word, rest) = words.next()?;
-    let letter = letter_of(word).ok_or(Misread::NotUnderstood)?;
-    Ok((letter, rest))
+    match letter_of(word) {
+        Some(letter) => Ok((letter, rest)),
+        None => Err(Misread::NotUnderstood),
+    }
 }
 
 /// The next word as a number up to `max`.
@@ -112,8 +116,10 @@ pub(crate) fn number_word(words: Words<'_>, max: u64) -> Result<(u64, Words<'_>)
     ensures bound { IfOk result (λ x. x.0 ≤ max) }
 {
     let (word, rest) = words.next()?;
-    let number = number_up_to(word, max).ok_or(Misread::NotUnderstood)?;
-    Ok((number, rest))
+    match number_up_to(word, max) {
+        Some(number) => Ok((number, rest)),
+        None => Err(Misread::NotUnderstood),
+    }
 }
 
 /// The next word as a text.
@@ -159,8 +165,10 @@ pub(crate) fn picture_id_word(words: Words<'_>) -> Result<(Option<u16>, Words<'_
     if word == "-" {
         return Ok((None, rest));
     }
-    let id = number_up_to(word, u16::MAX as u64).ok_or(Misread::NotUnderstood)?;
-    Ok((Some(id as u16), rest))
+    match number_up_to(word, u16::MAX as u64) {
+        Some(id) => Ok((Some(id as u16), rest)),
+        None => Err(Misread::NotUnderstood),
+    }
 }
 
 /// The number below 256 of the next word, or none at a dash.
@@ -171,8 +179,10 @@ pub(crate) fn number_or_dash_word(words: Words<'_>) -> Result<(Option<u8>, Words
     if word == "-" {
         return Ok((None, rest));
     }
-    let number = number_up_to(word, u8::MAX as u64).ok_or(Misread::NotUnderstood)?;
-    Ok((Some(number as u8), rest))
+    match number_up_to(word, u8::MAX as u64) {
+        Some(number) => Ok((Some(number as u8), rest)),
+        None => Err(Misread::NotUnderstood),
+    }
 }
 
 /// The text of the next word, or none at a dash.
@@ -204,12 +214,12 @@ pub(crate) fn behind<'a>(word: &'a str, letters: &str) -> Option<&'a str>
 pub(crate) fn mid_value(alloc: Global, words: Words<'_>) -> Result<Option<Text>, Misread>
     ensures { Reads result (mid_value words.entry) }
 {
-    if words.is_empty() {
+    let Ok((word, rest)) = words.next() else {
         return Ok(None);
-    }
-    let (word, rest) = words.next()?;
-    let text = behind(word, "mid=").ok_or(Misread::NotUnderstood)?;
-    let text = Text::from_str(alloc, text)?;
+    };
+    let Some(text) = behind(word, "mid=") else {
+        return Err(Misread::NotUnderstood);
+    };
     rest.end()?;
-    Ok(Some(text))
+    Ok(Some(Text::from_str(alloc, text)?))
 }

@@ -3,7 +3,7 @@
 ghost use Rattle.std.specs.Prelude.{◌≡◌, IfOk};
 ghost use Rattle.rtp_media_lines.specs.Misreads.{Reads};
 ghost use Rattle.rtp_media_lines.specs.Lines.{line_of, command_of, exchange_command_of, fixed_of, send_of, open_of};
-ghost use Rattle.rtp_media_lines.specs.Lines.{sample_of, receive_of, poll_of, run_command_of};
+ghost use Rattle.rtp_media_lines.specs.Lines.{sample_of, receive_of, poll_of, run_command_of, rest_of_send};
 
 use crate::exchange::{
     AcceptCommand, AnswerCommand, ConnectCommand, EndCommand, ExtCommand, OfferCommand, RowCommand,
@@ -219,7 +219,21 @@ fn send_of(alloc: Global, words: Words<'_>) -> Result<Command, Misread>
     let (mid, rest) = text_word(alloc, rest)?;
     let (ssrc, rest) = number_word(rest, u32::MAX as u64)?;
     let (pt, rest) = number_word(rest, u8::MAX as u64)?;
-    let (first, rest) = number_word(rest, u64::MAX)?;
+    rest_of_send(alloc, letter, mid, ssrc as u32, pt as u8, rest)
+}
+
+/// The words of a `send` line behind its payload type.
+fn rest_of_send(
+    alloc: Global,
+    letter: Letter,
+    mid: Text,
+    ssrc: u32,
+    pt: u8,
+    words: Words<'_>,
+) -> Result<Command, Misread>
+    ensures { Reads result (rest_of_send letter mid ssrc pt words.entry) }
+{
+    let (first, rest) = number_word(words, u64::MAX)?;
     let (mtu, rest) = number_word(rest, usize::MAX as u64)?;
     let (limit, rest) = number_word(rest, usize::MAX as u64)?;
     let (distances, rest) = distances_word(alloc, rest)?;
@@ -228,8 +242,8 @@ fn send_of(alloc: Global, words: Words<'_>) -> Result<Command, Misread>
     Ok(Command::Send(SendCommand {
         letter,
         mid,
-        ssrc: ssrc as u32,
-        pt: pt as u8,
+        ssrc,
+        pt,
         first,
         mtu: mtu as usize,
         limit: limit as usize,

@@ -5,7 +5,7 @@ ghost use Rattle.rtp_media_lines.specs.declared.misread.Misread.TheVariants.{Mem
 
 use std::alloc::{AllocError, AllocFailed};
 
-#[derive(Debug, Drop)]
+#[derive(Drop)]
 pub(crate) enum Misread {
     NotUnderstood,
     Memory,

@@ -101,11 +101,15 @@ fn item_of(alloc: Global, word: &str) -> Result<PlayItem, Misread>
         return Ok(PlayItem::Poll);
     }
     let Some(number) = behind(word, "a") else {
-        let bytes = behind(word, "f").ok_or(Misread::NotUnderstood)?;
+        let Some(bytes) = behind(word, "f") else {
+            return Err(Misread::NotUnderstood);
+        };
         return Ok(PlayItem::Foreign(hex_of(alloc, bytes)?));
     };
-    let number = number_up_to(number, usize::MAX as u64).ok_or(Misread::NotUnderstood)?;
-    Ok(PlayItem::Arrive(number as usize))
+    match number_up_to(number, usize::MAX as u64) {
+        Some(number) => Ok(PlayItem::Arrive(number as usize)),
+        None => Err(Misread::NotUnderstood),
+    }
 }
 
 /// The items of all words that are left.
@@ -114,8 +118,7 @@ fn item_words(alloc: Global, words: Words<'_>) -> Result<PlayItems, Misread>
 {
     let mut items = Vec::new(alloc);
     let mut rest = words;
-    while !rest.is_empty() {
-        let (word, after) = rest.next()?;
+    while let Ok((word, after)) = rest.next() {
         items.push(item_of(alloc, word)?)?;
         rest = after;
     }

@@ -1,7 +1,8 @@
 //! What the program prints.
 
-ghost use Rattle.std.specs.Prelude.{◌≡◌, ◌++◌, IfOk, OnOk, OnErr, string_bytes, [], ◌∷◌};
+ghost use Rattle.std.specs.Prelude.{◌≡◌, ◌++◌, IfOk, OnOk, OnErr, string_bytes, [], ◌∷◌, decimal};
 ghost use Rattle.std.specs.List.{flat_map};
+ghost use Rattle.rtp_media_lines.specs.declared.reply.Reply.TheVariants.{Taken, NextUnit};
 ghost use Rattle.rtp_media_lines.specs.Replies.{reply_text, hex_text, is_error_line, text_line};
 
 use crate::owned::Bytes;
@@ -101,26 +102,23 @@ impl Reply {
             Reply::Done => String::from_str(alloc, "ok\n"),
             Reply::ErrorLine => String::from_str(alloc, "error line\n"),
             Reply::Refused(name) => named(alloc, "refused", name.as_str()),
-            Reply::Sender(stream) => format!(in alloc; "sender {stream}\n"),
-            Reply::Receiver(stream) => format!(in alloc; "receiver {stream}\n"),
-            Reply::Datagram(bytes) => named(alloc, "datagram", hex_text(alloc, bytes)?.as_str()),
+            Reply::Sender(stream) => numbered(alloc, "sender", *stream),
+            Reply::Receiver(stream) => numbered(alloc, "receiver", *stream),
+            Reply::Datagram(bytes) => hex_line(alloc, "datagram", bytes),
             Reply::Unreadable => String::from_str(alloc, "unreadable\n"),
             Reply::Foreign => String::from_str(alloc, "foreign\n"),
             Reply::Damaged => String::from_str(alloc, "damaged\n"),
             Reply::NotTaken => String::from_str(alloc, "refused\n"),
-            Reply::Taken { stream, number } => format!(in alloc; "taken {stream} {number}\n"),
+            Reply::Taken { stream, number } => taken(alloc, *stream, *number),
             Reply::NextUnit {
                 first,
                 last,
                 time,
                 unit,
-            } => {
-                let unit = hex_text(alloc, unit)?;
-                format!(in alloc; "unit {first} {last} {time} {unit}\n")
-            }
+            } => next_unit(alloc, *first, *last, *time, unit),
             Reply::NoUnit => String::from_str(alloc, "none\n"),
             Reply::Fault(name) => named(alloc, "fault", name.as_str()),
-            Reply::Text(bytes) => named(alloc, "text", hex_text(alloc, bytes)?.as_str()),
+            Reply::Text(bytes) => hex_line(alloc, "text", bytes),
             Reply::NoOffer => String::from_str(alloc, "none\n"),
         }
     }
@@ -150,6 +148,41 @@ fn named(alloc: Global, first: &str, second: &str) -> Result<String, AllocError>
     ensures { IfOk result (λ text. string_bytes text ≡ text_line (first.now ∷ second.now ∷ [])) }
 {
     format!(in alloc; "{first} {second}\n")
+}
+
+/// A word and a number as a line.
+fn numbered(alloc: Global, word: &str, number: usize) -> Result<String, AllocError>
+    ensures { IfOk result (λ text. string_bytes text ≡ text_line (word.now ∷ decimal number ∷ [])) }
+{
+    format!(in alloc; "{word} {number}\n")
+}
+
+/// A word and bytes as a line.
+fn hex_line(alloc: Global, word: &str, bytes: &Bytes) -> Result<String, AllocError>
+    ensures { IfOk result (λ text. string_bytes text ≡ text_line (word.now ∷ hex_text bytes.now ∷ [])) }
+{
+    named(alloc, word, hex_text(alloc, bytes)?.as_str())
+}
+
+/// What is printed of a datagram that a receiving stream took.
+fn taken(alloc: Global, stream: usize, number: u64) -> Result<String, AllocError>
+    ensures { IfOk result (λ text. string_bytes text ≡ reply_text (Taken stream number)) }
+{
+    format!(in alloc; "taken {stream} {number}\n")
+}
+
+/// What is printed of a unit: of these numbers of its first and last packet, this time, and these bytes.
+fn next_unit(
+    alloc: Global,
+    first: u64,
+    last: u64,
+    time: u64,
+    unit: &Bytes,
+) -> Result<String, AllocError>
+    ensures { IfOk result (λ text. string_bytes text ≡ reply_text (NextUnit first last time unit.now)) }
+{
+    let unit = hex_text(alloc, unit)?;
+    format!(in alloc; "unit {first} {last} {time} {unit}\n")
 }
 
 /// Bytes as hexadecimal digits in lower case, or a dash for none.

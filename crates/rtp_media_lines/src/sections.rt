@@ -1,6 +1,6 @@
 //! The sections that a line names.
 
-ghost use Rattle.std.specs.Prelude.{◌≡◌, ℕ, ◌^◌, List, [], ◌∷◌, IfOk, IfErr};
+ghost use Rattle.std.specs.Prelude.{◌≡◌, ℕ, ◌^◌, List, ◌∷◌};
 ghost use Rattle.std.specs.Option.{option_copied};
 ghost use Rattle.rtp_media_lines.specs.Sections.{kind_of, direction_of, ssrcs_of, colon_parts, colon_parts_in};
 ghost use Rattle.rtp_media_lines.specs.Sections.{section_of, sections_of, sections_then_slash};
@@ -113,7 +113,9 @@ fn ssrcs_of(alloc: Global, word: &str) -> Result<Ssrcs, Misread>
     let mut rest = Some(word);
     while let Some(text) = rest {
         let (number, after) = split_comma(text);
-        let number = number_up_to(number, u32::MAX as u64).ok_or(Misread::NotUnderstood)?;
+        let Some(number) = number_up_to(number, u32::MAX as u64) else {
+            return Err(Misread::NotUnderstood);
+        };
         numbers.push(number as u32)?;
         rest = after;
     }
@@ -127,18 +129,6 @@ fn split_colon(text: &str) -> (&str, Option<&str>)
     match text.split_once(':') {
         Some((part, rest)) => (part, Some(rest)),
         None => (text, None),
-    }
-}
-
-/// The next of the parts that stand between single colons.
-fn next_part(parts: Option<&str>) -> Result<(&str, Option<&str>), Misread>
-    ensures found { IfOk result (λ x. colon_parts_in (option_copied parts.entry) ≡ x.0.now
-        ∷ colon_parts_in (option_copied x.1)) }
-    ensures none { IfErr result (λ e. (e ≡ Misread.NotUnderstood) × (colon_parts_in (option_copied parts.entry) ≡ [])) }
-{
-    match parts {
-        Some(text) => Ok(split_colon(text)),
-        None => Err(Misread::NotUnderstood),
     }
 }
 
@@ -157,14 +147,21 @@ fn end_of_parts(parts: Option<&str>) -> Result<(), Misread>
 fn section_of(alloc: Global, word: &str) -> Result<SectionWord, Misread>
     ensures { Reads result (section_of word.now) }
 {
-    let (mid, rest) = split_colon(word);
-    let (kind, rest) = next_part(rest)?;
-    let kind = kind_of(kind).ok_or(Misread::NotUnderstood)?;
-    let (direction, rest) = next_part(rest)?;
-    let direction = direction_of(direction).ok_or(Misread::NotUnderstood)?;
-    let (ssrcs, rest) = next_part(rest)?;
-    let ssrcs = ssrcs_of(alloc, ssrcs)?;
+    let (mid, Some(rest)) = split_colon(word) else {
+        return Err(Misread::NotUnderstood);
+    };
+    let (kind, Some(rest)) = split_colon(rest) else {
+        return Err(Misread::NotUnderstood);
+    };
+    let (direction, Some(rest)) = split_colon(rest) else {
+        return Err(Misread::NotUnderstood);
+    };
+    let (ssrcs, rest) = split_colon(rest);
     end_of_parts(rest)?;
+    let (Some(kind), Some(direction)) = (kind_of(kind), direction_of(direction)) else {
+        return Err(Misread::NotUnderstood);
+    };
+    let ssrcs = ssrcs_of(alloc, ssrcs)?;
     Ok(SectionWord {
         mid: Text::from_str(alloc, mid)?,
         kind,
@@ -179,8 +176,7 @@ pub(crate) fn section_words(alloc: Global, words: Words<'_>) -> Result<Sections,
 {
     let mut items = Vec::new(alloc);
     let mut rest = words;
-    while !rest.is_empty() {
-        let (word, after) = rest.next()?;
+    while let Ok((word, after)) = rest.next() {
         items.push(section_of(alloc, word)?)?;
         rest = after;
     }

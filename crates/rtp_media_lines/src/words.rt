@@ -1,6 +1,6 @@
 //! The words of a line, read one after the other.
 
-ghost use Rattle.std.specs.Prelude.{◌≡◌, ℕ, List, [], ◌∷◌, IfOk, IfErr, length, ◌==◌};
+ghost use Rattle.std.specs.Prelude.{◌≡◌, ℕ, List, [], ◌∷◌, IfOk, IfErr};
 ghost use Rattle.std.specs.Option.{option_copied};
 ghost use Rattle.rtp_media_lines.specs.Words.{words_in, words_of, ended};
 ghost use Rattle.rtp_media_lines.specs.Misreads.{Reads};
@@ -45,15 +45,6 @@ impl<'a> Words<'a> {
         };
         let (word, rest) = split_word(rest);
         Ok((word, Words { rest }))
-    }
-
-    pub(crate) fn is_empty(&self) -> bool
-        ensures { result ≡ (length self.now == 0) }
-    {
-        match self.rest {
-            None => true,
-            Some(_) => false,
-        }
     }
 
     pub(crate) fn end(self) -> Result<(), Misread>
