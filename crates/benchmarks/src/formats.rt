@@ -176,6 +176,18 @@ fn both_ways<P: Packetizer + Drop, D: Depacketizer + Drop>(
     let packets = packetizer
         .packetize(rt.alloc(), LIMIT, sample)
         .map_err(refused)?;
+    sent(rt, format, sample, rounds, packetizer)?;
+    received(rt, format, &packets, rounds, depacketizer)
+}
+
+/// Sends a sample so often.
+fn sent<P: Packetizer + Drop>(
+    rt: &HostRuntime,
+    format: &str,
+    sample: &[u8],
+    rounds: u32,
+    packetizer: P,
+) -> io::Result<()> {
     let mut sending = Sending {
         payloader: Payloader::new(packetizer),
         line: Line::new(),
@@ -184,16 +196,26 @@ fn both_ways<P: Packetizer + Drop, D: Depacketizer + Drop>(
     };
     measure_packets(rt, format, "sent", &mut sending, rounds)?;
     let sum = sending.line.sum;
-    eprintln!(*rt; "{format}: bytes of the payloads are {sum} together")?;
+    eprintln!(*rt; "{format}: bytes of the payloads are {sum} together")
+}
+
+/// Reads packets, and has them go through a buffer, so often.
+fn received<D: Depacketizer + Drop>(
+    rt: &HostRuntime,
+    format: &str,
+    packets: &[Vec<u8>],
+    rounds: u32,
+    depacketizer: D,
+) -> io::Result<()> {
     let mut reading = Reading {
         depacketizer,
-        packets: &packets,
+        packets,
         out: Vec::new(rt.alloc()),
     };
     measure_packets(rt, format, "read", &mut reading, rounds)?;
     let mut buffering = Buffering {
         buffer: DepacketizingBuffer::new(rt.alloc(), reading.depacketizer, 0),
-        packets: &packets,
+        packets,
         number: 0,
         step: 1,
     };

@@ -51,6 +51,11 @@ pub(crate) fn measure_all(rt: &HostRuntime) -> io::Result<()> {
     ] {
         measure_codec(rt, format, codec, has_numbers, sample, ROUNDS)?;
     }
-    let units = measure(rt, "H.264", "cut", &mut Cutting { sample: &h264 }, ROUNDS)?;
+    cut(rt, &h264)
+}
+
+/// A sample cut into its units.
+fn cut(rt: &HostRuntime, sample: &[u8]) -> io::Result<()> {
+    let units = measure(rt, "H.264", "cut", &mut Cutting { sample }, ROUNDS)?;
     println!(*rt; "cut: {} units, {} bytes", units.packets, units.bytes)
 }

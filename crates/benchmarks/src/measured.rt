@@ -30,10 +30,21 @@ pub(crate) fn measure<R: Round>(
 ) -> io::Result<Tally> {
     let start = Instant::now(rt)?;
     let tally = repeat(rt.alloc(), round, rounds);
-    let micros = start.elapsed(rt)?.as_micros().max(1);
+    put_times(rt, what, way, start.elapsed(rt)?.as_micros(), tally)?;
+    Ok(tally)
+}
+
+/// Prints the time that it took, and how long each took of what was counted.
+fn put_times(
+    rt: &HostRuntime,
+    what: &str,
+    way: &str,
+    micros: u128,
+    tally: Tally,
+) -> io::Result<()> {
+    let micros = micros.max(1);
     let nanos = micros.saturating_mul(1_000) / (tally.packets as u128).max(1);
     let rate = tally.packets as u128 * 1_000_000 / micros;
     let bytes = tally.bytes as u128 / micros;
-    eprintln!(*rt; "{what} {way}: {micros} us, {nanos} ns each, {rate} and {bytes} MB a second")?;
-    Ok(tally)
+    eprintln!(*rt; "{what} {way}: {micros} us, {nanos} ns each, {rate} and {bytes} MB a second")
 }

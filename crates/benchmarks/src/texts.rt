@@ -43,12 +43,16 @@ impl Round for Printing<'_> {
 pub(crate) fn measure_all(rt: &HostRuntime) -> io::Result<()> {
     let text = io::read_to_string(rt.alloc(), rt.reader())?;
     let text = text.as_str();
-    let Ok((sdp, _)) = sdp_parser(rt.alloc(), text) else {
-        return Err(io::Error::other("standard input is no session text"));
-    };
+    match sdp_parser(rt.alloc(), text) {
+        Ok((sdp, _)) => both_ways(rt, text, &sdp),
+        Err(_) => Err(io::Error::other("standard input is no session text")),
+    }
+}
+
+/// A session text read, and what was read of it printed.
+fn both_ways(rt: &HostRuntime, text: &str, sdp: &Sdp) -> io::Result<()> {
     let read = measure(rt, "text", "read", &mut Reading { text }, ROUNDS)?;
     println!(*rt; "sections: {}\nread: {} bytes", read.packets, read.bytes)?;
-    let mut printing = Printing { sdp: &sdp };
-    let printed = measure(rt, "text", "printed", &mut printing, ROUNDS)?;
+    let printed = measure(rt, "text", "printed", &mut Printing { sdp }, ROUNDS)?;
     println!(*rt; "printed: {} bytes", printed.bytes)
 }
