@@ -170,7 +170,7 @@ impl H264Depacketizer {
             return Err(PacketError::ErrShortPacket);
         };
         match kind_of(*first) {
-            PacketKind::Single => push_unit(packet, out),
+            PacketKind::Single => Ok(push_unit(packet, out)?),
             PacketKind::Aggregate => self.give_units(body, out),
             PacketKind::Fragment => self.give_fragment(*first, body, out),
             PacketKind::Unhandled => Err(PacketError::NaluTypeIsNotHandled(type_of(*first))),
@@ -211,7 +211,8 @@ impl H264Depacketizer {
         };
         let header = [begun_header(first, *fu)];
         self.unit
-            .put(has_start(*fu), has_end(*fu), &header, body, out)
+            .put(has_start(*fu), has_end(*fu), &header, body, out)?;
+        Ok(())
     }
 }
 

@@ -169,7 +169,8 @@ impl<L: H265OrH266> H265OrH266Depacketizer<L> {
         ensures donl { self.new.donl ≡ self.old.donl }
     {
         let (_, unit) = body.split_at(donl_size(self.donl));
-        push_unit_of(&[high, low], unit, out)
+        push_unit_of(&[high, low], unit, out)?;
+        Ok(())
     }
 
     /// What an aggregate gives.
@@ -217,7 +218,8 @@ impl<L: H265OrH266> H265OrH266Depacketizer<L> {
             layout.high_with(high, nalu_type),
             layout.low_with(low, nalu_type),
         ];
-        self.unit.put(starts, has_end(*fu), &header, part, out)
+        self.unit.put(starts, has_end(*fu), &header, part, out)?;
+        Ok(())
     }
 }
 

@@ -6,9 +6,15 @@ use std::alloc::{AllocError, Global};
 use std::marker::Model;
 
 /// Bytes that a line holds as hexadecimal digits.
-#[derive(Drop)]
 pub struct Bytes {
     items: Vec<u8>,
+}
+
+/// Written out, so that who lets one go needs nothing of what is inside.
+impl Drop for Bytes {
+    fn drop(self) {
+        let Bytes { items: _items } = self;
+    }
 }
 
 impl Model for Bytes {
@@ -42,9 +48,15 @@ impl Bytes {
 }
 
 /// A word of a line, as its UTF-8 bytes.
-#[derive(Drop)]
 pub struct Text {
     text: String,
+}
+
+/// Written out, so that who lets one go needs nothing of what is inside.
+impl Drop for Text {
+    fn drop(self) {
+        let Text { text: _text } = self;
+    }
 }
 
 impl Model for Text {

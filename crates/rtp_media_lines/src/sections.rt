@@ -17,9 +17,15 @@ use std::alloc::Global;
 use std::marker::Model;
 
 /// The synchronization sources that a section names (RFC 5576 4.1).
-#[derive(Drop)]
 pub struct Ssrcs {
     numbers: Vec<u32>,
+}
+
+/// Written out, so that who lets one go needs nothing of what is inside.
+impl Drop for Ssrcs {
+    fn drop(self) {
+        let Ssrcs { numbers: _numbers } = self;
+    }
 }
 
 impl Model for Ssrcs {
@@ -40,7 +46,6 @@ impl Ssrcs {
 }
 
 /// `MID:KIND:DIR:SSRC,SSRC`: a section as an end wants it.
-#[derive(Drop)]
 pub struct SectionWord {
     /// The media identification (RFC 5888 4), which may be empty here.
     pub mid: Text,
@@ -50,6 +55,18 @@ pub struct SectionWord {
     pub direction: Direction,
     /// The synchronization sources that the end sends under.
     pub ssrcs: Ssrcs,
+}
+
+/// Written out, so that who lets one go needs nothing of what is inside.
+impl Drop for SectionWord {
+    fn drop(self) {
+        let SectionWord {
+            mid: _mid,
+            kind: _kind,
+            direction: _direction,
+            ssrcs: _ssrcs,
+        } = self;
+    }
 }
 
 /// Sections, one after the other.

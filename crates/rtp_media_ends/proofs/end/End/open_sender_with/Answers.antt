@@ -21,8 +21,8 @@ returns-clause-sender c =
     let row : Row = c.in_ok-row.row in
     let sound : IsSound row.red c.args.params.now =
     subst (λ (o : Option Row). IsSound (red_in o) c.args.params.now) c.in_ok-row.ensures.row c.requires in
-    let opened = opened-sound c.codec_law.ensures.first c.args.ssrc row (stream_map c.args.self.now c.args.mid) c.args.params.now
-    (carried-fits row c.in_ok-row.ensures.carried) (omega arith) sound in
+    let opened = opened-sound c.codec_law.ensures.first c.args.ssrc row (stream_map c.args.self.now c.args.mid)
+    c.args.params.now (carried-fits row c.in_ok-row.ensures.carried) (omega arith) sound in
     subst IsSender (sym (let there : _ ≡ c.in_ok-stream.stream = grind (arith, common_steps) in
     there ∙ c.in_ok-stream.ensures)) opened
 
