@@ -15,7 +15,7 @@ loop-rest-preserved c =
     let before : List (List ℕ) = map (λ (t : Vec ℕ Global). t.items) c.loop-rest.kept.texts.items in
     record {
       texts = ap (λ (ts : List (List ℕ)). option_map (λ (os : List Obu). ts ++ texts_of os) (kept_of cut.rest))
-          c.in-Ok.ensures.texts ∙ texts-go rest cut before c.in-Some.ensures.value ∙ inv.texts;
+          c.in_ok-keep.ensures.texts ∙ texts-go rest cut before c.in-Some.ensures.value ∙ inv.texts;
       begins = ap (λ (b : Bool). option_map (λ (os : List Obu). b || begins_sequence os) (kept_of cut.rest))
-          c.in-Ok.ensures.begins ∙ begins-go rest cut c.loop-rest.kept.begins c.in-Some.ensures.value ∙ inv.begins;
+          c.in_ok-keep.ensures.begins ∙ begins-go rest cut c.loop-rest.kept.begins c.in-Some.ensures.value ∙ inv.begins;
     }
