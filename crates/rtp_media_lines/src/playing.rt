@@ -31,6 +31,7 @@ impl Drop for QueueCommand {
 }
 
 /// What happens in a run.
+#[derive(Drop)]
 pub enum PlayItem {
     /// `a3`: the sender's datagram of this place arrives, counted from 0.
     Arrive(usize),
@@ -38,16 +39,6 @@ pub enum PlayItem {
     Foreign(Bytes),
     /// `p`: the receiving stream is polled.
     Poll,
-}
-
-/// Written out, so that who lets one go needs nothing of what is inside.
-impl Drop for PlayItem {
-    fn drop(self) {
-        match self {
-            PlayItem::Foreign(_bytes) => {}
-            PlayItem::Arrive(_) | PlayItem::Poll => {}
-        }
-    }
 }
 
 /// What happens in a run, one after the other.
