@@ -13,21 +13,12 @@ use std::alloc::Global;
 use std::marker::Model;
 
 /// `queue TIME HEX`: keep a sample for a run.
+#[derive(Drop)]
 pub struct QueueCommand {
     /// The time, at the clock rate of the row of the stream that sends it.
     pub time: u64,
     /// The sample's bytes.
     pub sample: Bytes,
-}
-
-/// Written out, so that who lets one go needs nothing of what is inside.
-impl Drop for QueueCommand {
-    fn drop(self) {
-        let QueueCommand {
-            time: _time,
-            sample: _sample,
-        } = self;
-    }
 }
 
 /// What happens in a run.
