@@ -1,30 +1,10 @@
 //! The payload format that the next lines are about.
 
-use crate::line::{Line, named, part};
+use crate::line::{Line, part};
 use h26x_payload::{CodecDepacketizer, CodecPacketizer, NotBoxed};
 use payload_core::{Codec, DepacketizingBuffer, Payloader};
 use rtp_wire::Frequency;
 use std::alloc::Global;
-
-/// What a word says of a payload format.
-#[derive(Clone, Copy)]
-enum Choice {
-    Aligned,
-    Browsers,
-    Wide,
-    Numbers,
-    Id,
-    Hold,
-}
-
-const CHOICES: [(&str, Choice); 6] = [
-    ("aligned", Choice::Aligned),
-    ("browsers", Choice::Browsers),
-    ("16kHz", Choice::Wide),
-    ("numbers", Choice::Numbers),
-    ("id", Choice::Id),
-    ("hold", Choice::Hold),
-];
 
 /// A codec with what is negotiated of its payload format, the first picture id, whether what browsers need is sent,
 /// and the hold-back.
@@ -52,23 +32,18 @@ impl Format {
             hold_back: 127,
         };
         for word in line.rest.split_whitespace() {
-            format.choose(line, word);
+            let (name, number) = part(word, '=');
+            match name {
+                "aligned" => format.octet_align = Some(true),
+                "browsers" => format.for_browsers = true,
+                "16kHz" => format.clock_rate = Frequency::SIXTEEN_KHZ,
+                "numbers" => format.max_don_diff = Some(line.value(number)),
+                "id" => format.picture_id = Some(line.value(number)),
+                "hold" => format.hold_back = line.value(number),
+                _ => line.refuse(format_args!("no option {word}")),
+            }
         }
         format
-    }
-
-    /// Takes the option that a word says.
-    fn choose(&mut self, line: &mut Line<'_>, word: &str) {
-        let (name, number) = part(word, '=');
-        match named(&CHOICES, name) {
-            Some(Choice::Aligned) => self.octet_align = Some(true),
-            Some(Choice::Browsers) => self.for_browsers = true,
-            Some(Choice::Wide) => self.clock_rate = Frequency::SIXTEEN_KHZ,
-            Some(Choice::Numbers) => self.max_don_diff = Some(line.value(number)),
-            Some(Choice::Id) => self.picture_id = Some(line.value(number)),
-            Some(Choice::Hold) => self.hold_back = line.value(number),
-            None => line.refuse(format_args!("no option {word}")),
-        }
     }
 
     /// A depacketizer with no open fragment, where the codec has one.

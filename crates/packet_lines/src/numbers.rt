@@ -1,6 +1,6 @@
 //! Numbers, windows and times.
 
-use crate::line::{Line, named};
+use crate::line::Line;
 use rtp_wire::{
     Frequency, SeqNo, SeqNoWindow, extend_u7, extend_u8, extend_u15, extend_u16, extend_u32,
 };
@@ -15,9 +15,6 @@ pub(crate) enum Step {
     Accepts,
 }
 
-/// How many bits each kind of number has.
-const BITS: [(&str, u32); 5] = [("u7", 7), ("u8", 8), ("u15", 15), ("u16", 16), ("u32", 32)];
-
 /// `extend BITS PREVIOUS LOW`: a number of few bits, widened by the one before it, or by none where a dash stands.
 pub(crate) fn extended(line: &mut Line<'_>) {
     let (bits, previous, low) = (line.word(), line.word(), line.number::<u32>());
@@ -25,12 +22,12 @@ pub(crate) fn extended(line: &mut Line<'_>) {
         "-" => None,
         word => Some(line.value::<u64>(word)),
     };
-    line.put(match named(&BITS, bits) {
-        Some(7) if low < 128 => extend_u7(previous, low as u8),
-        Some(8) if low < 256 => extend_u8(previous, low as u8),
-        Some(15) if low < 32768 => extend_u15(previous, low as u16),
-        Some(16) if low < 65536 => extend_u16(previous, low as u16),
-        Some(32) => extend_u32(previous, low),
+    line.put(match bits {
+        "u7" if low < 128 => extend_u7(previous, low as u8),
+        "u8" if low < 256 => extend_u8(previous, low as u8),
+        "u15" if low < 32768 => extend_u15(previous, low as u16),
+        "u16" if low < 65536 => extend_u16(previous, low as u16),
+        "u32" => extend_u32(previous, low),
         _ => return line.refuse(format_args!("no number {low} of {bits}")),
     })
 }

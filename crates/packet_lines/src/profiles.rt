@@ -6,35 +6,25 @@ use h26x_payload::{
 };
 use std::fmt::Debug;
 
-/// Why nothing is told of values.
-const NO_PROFILE: &str = "no profile, tier and level";
-
 /// `profile CODEC VALUE ..`: what a codec's values mean, of H.264 a profile-level-id in hexadecimal, of the others a
 /// profile-id, a tier-flag and a level-id, where a dash stands for one that isn't given.
 pub(crate) fn profile(line: &mut Line<'_>) {
-    let codec = line.word();
-    if codec == "H264" {
-        return profile_h264(line);
-    }
-    let (profile, tier, level) = (given(line), given(line), given(line));
-    if codec == "H265" {
-        match H265ProfileTierLevel::from_fmtp(profile, tier, level) {
-            Some(read) => put_three(line, read.profile(), read.tier(), read.level()),
-            None => line.refuse(NO_PROFILE),
+    match line.word() {
+        "H264" => {
+            let number = u32::from_str_radix(line.rest, 16).unwrap_or(0);
+            match H264ProfileLevel::try_from(number) {
+                Ok(read) => line.put(format_args!("{:?} {:?}", read.profile(), read.level())),
+                Err(fault) => line.refuse(fault),
+            }
         }
-    } else {
-        match H266ProfileTierLevel::from_fmtp(profile, tier, level) {
+        "H265" => match H265ProfileTierLevel::from_fmtp(given(line), given(line), given(line)) {
             Some(read) => put_three(line, read.profile(), read.tier(), read.level()),
-            None => line.refuse(NO_PROFILE),
-        }
-    }
-}
-
-fn profile_h264(line: &mut Line<'_>) {
-    let number = u32::from_str_radix(line.rest, 16).unwrap_or(0);
-    match H264ProfileLevel::try_from(number) {
-        Ok(read) => line.put(format_args!("{:?} {:?}", read.profile(), read.level())),
-        Err(fault) => line.refuse(fault),
+            None => line.refuse("no profile, tier and level"),
+        },
+        _ => match H266ProfileTierLevel::from_fmtp(given(line), given(line), given(line)) {
+            Some(read) => put_three(line, read.profile(), read.tier(), read.level()),
+            None => line.refuse("no profile, tier and level"),
+        },
     }
 }
 

@@ -1,36 +1,17 @@
 //! Payloads beside older ones (RFC 2198).
 
-use crate::line::{Line, named, part};
+use crate::line::{Line, part};
 use payload_core::{RedDecoder, RedEncoder, RedSender, RedundantBlock};
-
-/// What is done with payloads beside older ones.
-#[derive(Clone, Copy)]
-enum Step {
-    Wrap,
-    Write,
-    Read,
-    New,
-    Sync,
-}
-
-const STEPS: [(&str, Step); 5] = [
-    ("wrap", Step::Wrap),
-    ("write", Step::Write),
-    ("read", Step::Read),
-    ("new", Step::New),
-    ("sync", Step::Sync),
-];
 
 /// What `new DISTANCES`, `sync DISTANCES`, `wrap`, `write` and `read PACKET` give.
 pub(crate) fn answer(line: &mut Line<'_>, sender: &mut RedSender) {
-    let word = line.word();
-    match named(&STEPS, word) {
-        Some(Step::Wrap) => wrapped(line, sender),
-        Some(Step::Write) => written(line),
-        Some(Step::Read) => read(line),
-        Some(Step::New) => renewed(line, sender),
-        Some(Step::Sync) => synced(line, sender),
-        None => line.refuse(format_args!("no command red {word}")),
+    match line.word() {
+        "wrap" => wrapped(line, sender),
+        "write" => written(line),
+        "read" => read(line),
+        "new" => renewed(line, sender),
+        "sync" => synced(line, sender),
+        command => line.refuse(format_args!("no command red {command}")),
     }
 }
 

@@ -1,17 +1,7 @@
 //! Ids in VP8 payload descriptors (RFC 7741 4.2).
 
-use crate::line::{Line, named, part};
+use crate::line::{Line, part};
 use payload_core::{Vp8Descriptor, Vp8Patch};
-
-/// An id of a payload descriptor.
-#[derive(Clone, Copy)]
-enum Id {
-    Picture,
-    Tl0,
-    Key,
-}
-
-const IDS: [(&str, Id); 3] = [("id", Id::Picture), ("tl0", Id::Tl0), ("key", Id::Key)];
 
 // A payload of so many bytes reaches each id that a descriptor can have.
 const REACHES_IDS: usize = 6;
@@ -39,11 +29,11 @@ fn patched(line: &mut Line<'_>, descriptor: &Vp8Descriptor, payload: &[u8]) {
     let mut builder = descriptor.patch();
     for word in line.rest.split_whitespace() {
         let (name, number) = part(word, '=');
-        builder = match named(&IDS, name) {
-            Some(Id::Picture) => builder.picture_id(line.value::<u16>(number)),
-            Some(Id::Tl0) => builder.tl0_pic_idx(line.value::<u8>(number)),
-            Some(Id::Key) => builder.key_idx(line.value::<u8>(number)),
-            None => return line.refuse(format_args!("no id {word}")),
+        builder = match name {
+            "id" => builder.picture_id(line.value::<u16>(number)),
+            "tl0" => builder.tl0_pic_idx(line.value::<u8>(number)),
+            "key" => builder.key_idx(line.value::<u8>(number)),
+            _ => return line.refuse(format_args!("no id {word}")),
         };
     }
     match builder.build() {

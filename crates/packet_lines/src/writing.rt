@@ -22,23 +22,19 @@ pub(crate) fn set_map(line: &mut Line<'_>, map: &mut ExtensionMap) {
 }
 
 fn extension_of(name: &str) -> Option<Extension> {
-    for (known, extension) in [
-        ("audio-level", Extension::AudioLevel),
-        ("send-time", Extension::AbsoluteSendTime),
-        ("transport", Extension::TransportSequenceNumber),
-        ("mid", Extension::RtpMid),
-        ("rid", Extension::RtpStreamId),
-        ("repaired", Extension::RepairedRtpStreamId),
-        ("orientation", Extension::VideoOrientation),
-        ("delay", Extension::PlayoutDelay),
-        ("content", Extension::VideoContentType),
-        ("captured", Extension::AbsoluteCaptureTime),
-    ] {
-        if known == name {
-            return Some(extension);
-        }
-    }
-    None
+    Some(match name {
+        "audio-level" => Extension::AudioLevel,
+        "send-time" => Extension::AbsoluteSendTime,
+        "transport" => Extension::TransportSequenceNumber,
+        "mid" => Extension::RtpMid,
+        "rid" => Extension::RtpStreamId,
+        "repaired" => Extension::RepairedRtpStreamId,
+        "orientation" => Extension::VideoOrientation,
+        "delay" => Extension::PlayoutDelay,
+        "content" => Extension::VideoContentType,
+        "captured" => Extension::AbsoluteCaptureTime,
+        _ => return None,
+    })
 }
 
 /// A field of a header, or a value of a header extension.
