@@ -33,26 +33,20 @@ fn maybe_type(words: &mut SplitWhitespace<'_>) -> Option<Option<Pt>> {
     }
 }
 
-/// A clock rate in ticks a second.
-fn next_rate(words: &mut SplitWhitespace<'_>) -> Option<Frequency> {
-    Frequency::new(words.next()?.parse::<u32>().ok()?)
-}
-
-/// Format parameters, or none at a dash.
-fn next_format(words: &mut SplitWhitespace<'_>) -> Option<FormatParams> {
-    Some(match words.next()? {
-        "-" => FormatParams::default(),
-        word => FormatParams::parse_line(word),
-    })
-}
-
 /// A codec: its name, clock rate, channels and format.
 pub(crate) fn next_spec(words: &mut SplitWhitespace<'_>) -> Option<CodecSpec> {
+    let codec = Codec::from(words.next()?);
+    let clock_rate = Frequency::new(words.next()?.parse::<u32>().ok()?)?;
+    let channels = maybe_number(words)?;
+    let format = match words.next()? {
+        "-" => FormatParams::default(),
+        word => FormatParams::parse_line(word),
+    };
     Some(CodecSpec {
-        codec: Codec::from(words.next()?),
-        clock_rate: next_rate(words)?,
-        channels: maybe_number(words)?,
-        format: next_format(words)?,
+        codec,
+        clock_rate,
+        channels,
+        format,
     })
 }
 
