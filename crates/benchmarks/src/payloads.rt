@@ -6,10 +6,10 @@ use crate::formats::{
 };
 use crate::measured::{measure, repeat};
 use payload_core::{
-    Av1Packetizer, Codec, DepacketizingBuffer, OpusDepacketizer, PacketError, Packetizer,
-    RedEncoder, RedSender, RedundantBlock,
+    Av1Packetizer, Codec, DepacketizingBuffer, OpusDepacketizer, Packetizer, RedEncoder, RedSender,
+    RedundantBlock,
 };
-use std::alloc::Global;
+use std::alloc::{AllocError, Global};
 use std::io;
 
 /// How often a sample of Opus or G.711 is sent and read.
@@ -53,7 +53,7 @@ fn audio(rt: &HostRuntime) -> io::Result<()> {
 }
 
 /// A packet of Opus with one older payload.
-fn redundant_packet(alloc: Global) -> Result<Vec<u8>, PacketError> {
+fn redundant_packet(alloc: Global) -> Result<Vec<u8>, AllocError> {
     let old = RedundantBlock {
         pt: 111,
         timestamp_offset: 960,
@@ -64,9 +64,9 @@ fn redundant_packet(alloc: Global) -> Result<Vec<u8>, PacketError> {
 
 /// Opus with one older payload beside each.
 fn redundant(rt: &HostRuntime) -> io::Result<()> {
-    let sender = RedSender::new(rt.alloc(), &[1]).map_err(refused)?;
+    let sender = RedSender::new(rt.alloc(), &[1])?;
     measure_packets(rt, "RED", "sent", &mut SendingRed { sender }, AUDIO)?;
-    let packet = redundant_packet(rt.alloc()).map_err(refused)?;
+    let packet = redundant_packet(rt.alloc())?;
     measure_packets(
         rt,
         "RED",

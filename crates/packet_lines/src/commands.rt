@@ -100,11 +100,8 @@ pub(crate) struct Subjects {
 impl Subjects {
     /// No header extension, a window behind the number 0, no payload format, and nothing sent.
     pub(crate) fn new(alloc: Global) -> Result<Self, AllocError> {
-        let Ok(sender) = RedSender::new(alloc, &[]) else {
-            return Err(AllocError);
-        };
         Ok(Subjects {
-            sender,
+            sender: RedSender::new(alloc, &[])?,
             map: ExtensionMap::empty(),
             window: SeqNoWindow::new_after(SeqNo::from(0)),
             formats: None,
