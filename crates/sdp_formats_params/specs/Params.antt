@@ -132,6 +132,15 @@ level_param None other = level_266 other
 abbrev pub levels_of : Option (List ℕ) → Option (List ℕ) → Option (List ℕ) → List FormatParam
 levels_of id tier level = level_param (given_265 id tier level) (given_266 id tier level)
 
+abbrev pub levels_in : List Pair → List FormatParam
+levels_in ps = levels_of (last_value (codes "profile-id") None ps) (last_value (codes "tier-flag") None ps)
+    (last_value (codes "level-id") None ps)
+
+-- One parameter, or none.
+abbrev pub listed : Option FormatParam → List FormatParam
+listed None = []
+listed (Some p) = p ∷ []
+
 -- One of the three keys of a profile, tier and level, in lower case.
 abbrev pub is_level_name : List ℕ → Bool
 is_level_name k = bytes_eq k (codes "profile-id") || (bytes_eq k (codes "tier-flag") || bytes_eq k (codes "level-id"))

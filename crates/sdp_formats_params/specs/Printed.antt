@@ -61,6 +61,23 @@ modes_left false texts = each_behind (codes ",") texts
 abbrev pub six_digits : ℕ → List ℕ
 six_digits number = padded_integral (format_spec 32 0 4 6 (2 ^ 64 - 1)) false [] (digits 16 false number)
 
+-- What stands before a flag or a byte.
+abbrev pub name_before : FormatParam → List ℕ
+name_before (UseInbandFec v) = codes "useinbandfec="
+name_before (UseDtx v) = codes "usedtx="
+name_before (Stereo v) = codes "stereo="
+name_before (SpropStereo v) = codes "sprop-stereo="
+name_before (LevelAsymmetryAllowed v) = codes "level-asymmetry-allowed="
+name_before (OctetAlign v) = codes "octet-align="
+name_before (MinPTime v) = codes "minptime="
+name_before (PacketizationMode v) = codes "packetization-mode="
+name_before (Profile v) = codes "profile="
+name_before (LevelIdx v) = codes "level-idx="
+name_before (Tier v) = codes "tier="
+name_before (TelephoneEvents v) = codes "0-"
+name_before (BareRange v) = codes "0-"
+name_before _ = []
+
 unfoldable pub param_text : FormatParam → List ℕ
 param_text (MinPTime v) = codes "minptime=" ++ decimal v
 param_text (UseInbandFec v) = codes "useinbandfec=" ++ decimal (flag_digit v)

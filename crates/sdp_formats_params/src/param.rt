@@ -136,7 +136,7 @@ fn other_param(key: &str, value: &str) -> FormatParam
             None => FormatParam::Unknown,
         };
     }
-    if (has_name(key, "crc") || has_name(key, "robust-sorting")) && value == "1" {
+    if (has_name(key, "crc") || has_name(key, "robust-sorting")) && is_flag(value) {
         return FormatParam::AmrWbUnsupported;
     }
     if has_name(key, "mode-change-period") && value == "2" {

@@ -2,7 +2,7 @@
 
 ghost use Rattle.std.specs.Prelude.{◌≡◌, ◌≤◌};
 ghost use Rattle.std.specs.Fmt.{DisplaysOnOk};
-ghost use Rattle.sdp_formats_params.specs.Printed.{flag_digit, has_mode, named_output};
+ghost use Rattle.sdp_formats_params.specs.Printed.{flag_digit, has_mode, name_before, named_output};
 
 use crate::numbers::bit_of;
 use crate::param::FormatParam;
@@ -83,6 +83,27 @@ impl fmt::Display for Modes {
     }
 }
 
+/// What stands before the value of a parameter whose value is a flag or a byte; nothing for another.
+fn name_before(param: &FormatParam) -> &'static str
+    ensures { result.now ≡ name_before param.now }
+{
+    match param {
+        FormatParam::UseInbandFec(_) => "useinbandfec=",
+        FormatParam::UseDtx(_) => "usedtx=",
+        FormatParam::Stereo(_) => "stereo=",
+        FormatParam::SpropStereo(_) => "sprop-stereo=",
+        FormatParam::LevelAsymmetryAllowed(_) => "level-asymmetry-allowed=",
+        FormatParam::OctetAlign(_) => "octet-align=",
+        FormatParam::MinPTime(_) => "minptime=",
+        FormatParam::PacketizationMode(_) => "packetization-mode=",
+        FormatParam::Profile(_) => "profile=",
+        FormatParam::LevelIdx(_) => "level-idx=",
+        FormatParam::Tier(_) => "tier=",
+        FormatParam::TelephoneEvents(_) | FormatParam::BareRange(_) => "0-",
+        _ => "",
+    }
+}
+
 /// Writes a parameter's name and its value.
 fn write_named<W: fmt::Write, T: fmt::Display>(
     f: &mut fmt::Formatter<W>,
@@ -103,20 +124,21 @@ impl fmt::Display for FormatParam {
     #[tactic(auto, unfolding(crate::specs::Printed::param_text))]
     fn fmt<W: fmt::Write>(&self, f: &mut fmt::Formatter<W>) -> fmt::Result {
         match self {
-            FormatParam::MinPTime(v) => write_named(f, "minptime=", v),
-            FormatParam::UseInbandFec(v) => write_named(f, "useinbandfec=", &digit(*v)),
-            FormatParam::UseDtx(v) => write_named(f, "usedtx=", &digit(*v)),
-            FormatParam::Stereo(v) => write_named(f, "stereo=", &digit(*v)),
-            FormatParam::SpropStereo(v) => write_named(f, "sprop-stereo=", &digit(*v)),
-            FormatParam::LevelAsymmetryAllowed(v) => {
-                write_named(f, "level-asymmetry-allowed=", &digit(*v))
-            }
-            FormatParam::PacketizationMode(v) => write_named(f, "packetization-mode=", v),
+            FormatParam::UseInbandFec(v)
+            | FormatParam::UseDtx(v)
+            | FormatParam::Stereo(v)
+            | FormatParam::SpropStereo(v)
+            | FormatParam::LevelAsymmetryAllowed(v)
+            | FormatParam::OctetAlign(v) => write_named(f, name_before(self), &digit(*v)),
+            FormatParam::MinPTime(v)
+            | FormatParam::PacketizationMode(v)
+            | FormatParam::Profile(v)
+            | FormatParam::LevelIdx(v)
+            | FormatParam::Tier(v)
+            | FormatParam::TelephoneEvents(v)
+            | FormatParam::BareRange(v) => write_named(f, name_before(self), v),
             FormatParam::ProfileLevelId(v) => write!(f, "profile-level-id={v:06x}"),
             FormatParam::ProfileId(v) => write_named(f, "profile-id=", v),
-            FormatParam::Profile(v) => write_named(f, "profile=", v),
-            FormatParam::LevelIdx(v) => write_named(f, "level-idx=", v),
-            FormatParam::Tier(v) => write_named(f, "tier=", v),
             FormatParam::H265ProfileTierLevel(v) => {
                 Levels(v.profile_id(), v.tier_flag(), v.level_id()).fmt(f)
             }
@@ -124,16 +146,11 @@ impl fmt::Display for FormatParam {
                 Levels(v.profile_id(), v.tier_flag(), v.level_id()).fmt(f)
             }
             FormatParam::SpropMaxDonDiff(v) => write_named(f, "sprop-max-don-diff=", v),
-            FormatParam::TelephoneEvents(v) | FormatParam::BareRange(v) => write_named(f, "0-", v),
             FormatParam::BarePtList(pt) | FormatParam::Red(pt) => {
                 let again = pt;
                 write!(f, "{pt}/{again}")
             }
-            FormatParam::OctetAlign(v) => write_named(f, "octet-align=", &digit(*v)),
-            FormatParam::ModeSet(modes) => {
-                let modes = Modes(*modes);
-                write_named(f, "mode-set=", &modes)
-            }
+            FormatParam::ModeSet(modes) => write_named(f, "mode-set=", &Modes(*modes)),
             FormatParam::Apt(pt) => write_named(f, "apt=", pt),
             FormatParam::AmrWbUnsupported | FormatParam::Unknown => Ok(()),
         }

@@ -1,13 +1,11 @@
 //! The format parameters of several keys.
 
 ghost use Rattle.std.specs.Prelude.{◌≡◌, ◌++◌, [], None, OnOk, IfOk, map, codes};
-ghost use Rattle.std.specs.Prelude.{List};
 ghost use Rattle.std.specs.List.{list_any};
 ghost use Rattle.std.specs.Str.{str_eq_ignore_ascii_case};
-ghost use Rattle.sdp_formats_params.specs.declared.param.FormatParam.{FormatParam};
 ghost use Rattle.std.specs.Option.{option_copied};
 ghost use Rattle.sdp_formats_params.specs.Params.{pair_param, gives_level, is_level, or_before, last_value};
-ghost use Rattle.sdp_formats_params.specs.Params.{with_pairs, with_pair, levels_of, is_level_name, onto_others};
+ghost use Rattle.sdp_formats_params.specs.Params.{with_pairs, with_pair, levels_in, listed, is_level_name};
 ghost use Rattle.sdp_formats_params.specs.Params.{others_of, level_params, params_of};
 
 use crate::key::Key;
@@ -94,41 +92,26 @@ fn settled(alloc: Global, pairs: &[Pair]) -> Result<IndexMap<Text, Text>, AllocE
     Ok(entries)
 }
 
-fn levels(
-    alloc: Global,
-    profile_id: Option<&str>,
-    tier_flag: Option<&str>,
-    level_id: Option<&str>,
-) -> Result<Vec<FormatParam>, AllocError>
-    ensures { IfOk result (λ params. params.items
-        ≡ levels_of (option_copied profile_id.entry) (option_copied tier_flag.entry) (option_copied level_id.entry)) }
+/// The profile, tier and level that the pairs mean: of H.265, else of H.266.
+fn level_of(pairs: &[Pair]) -> Option<FormatParam>
+    ensures { listed result ≡ levels_in pairs.now }
 {
-    let mut params = Vec::new(alloc);
-    if let Some(ptl) = H265ProfileTierLevel::from_fmtp(profile_id, tier_flag, level_id) {
-        params.push(FormatParam::H265ProfileTierLevel(ptl))?;
-        return Ok(params);
+    let profile_id = last_value(pairs, "profile-id");
+    let tier_flag = last_value(pairs, "tier-flag");
+    let level_id = last_value(pairs, "level-id");
+    match H265ProfileTierLevel::from_fmtp(profile_id, tier_flag, level_id) {
+        Some(ptl) => Some(FormatParam::H265ProfileTierLevel(ptl)),
+        None => match H266ProfileTierLevel::from_fmtp(profile_id, tier_flag, level_id) {
+            Some(ptl) => Some(FormatParam::H266ProfileTierLevel(ptl)),
+            None => None,
+        },
     }
-    if let Some(ptl) = H266ProfileTierLevel::from_fmtp(profile_id, tier_flag, level_id) {
-        params.push(FormatParam::H266ProfileTierLevel(ptl))?;
-    }
-    Ok(params)
 }
 
 fn is_level_name(key: &str) -> bool
     ensures { result ≡ is_level_name key.now }
 {
     key == "profile-id" || key == "tier-flag" || key == "level-id"
-}
-
-fn push_other(params: &mut Vec<FormatParam>, key: &str, value: &str) -> Result<(), AllocError>
-    ensures { OnOk result ((more : List FormatParam) → params.new.items ++ more ≡ params.old.items
-        ++ onto_others (key.now, value.now) more) }
-{
-    if is_level_name(key) {
-        return Ok(());
-    }
-    params.push(FormatParam::parse(key, value))?;
-    Ok(())
 }
 
 fn push_others(
@@ -138,7 +121,9 @@ fn push_others(
     ensures { OnOk result (params.new.items ≡ params.old.items ++ others_of entries.now.entries) }
 {
     for (key, value) in entries.iter() {
-        push_other(params, key.as_str(), value.as_str())?;
+        if !is_level_name(key.as_str()) {
+            params.push(FormatParam::parse(key.as_str(), value.as_str()))?;
+        }
     }
     Ok(())
 }
@@ -146,12 +131,10 @@ fn push_others(
 fn level_params(alloc: Global, pairs: &[Pair]) -> Result<Vec<FormatParam>, AllocError>
     ensures { IfOk result (λ params. params.items ≡ level_params pairs.now) }
 {
-    let mut params = levels(
-        alloc,
-        last_value(pairs, "profile-id"),
-        last_value(pairs, "tier-flag"),
-        last_value(pairs, "level-id"),
-    )?;
+    let mut params = Vec::new(alloc);
+    if let Some(level) = level_of(pairs) {
+        params.push(level)?;
+    }
     push_others(&mut params, &settled(alloc, pairs)?)?;
     Ok(params)
 }
