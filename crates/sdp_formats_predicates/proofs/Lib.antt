@@ -1,2 +1,3 @@
+mod SameParams
 mod Reading
 mod Tables

@@ -71,28 +71,28 @@ impl Same for Attribute {
     #[tactic(auto, unfolding(crate::specs::Compound::is_compound))]
     fn is_same(&self, other: &Attribute) -> bool {
         match (self, other) {
-            (Attribute::Rtcp(a), Attribute::Rtcp(b)) => a.is_same(b),
-            (Attribute::IceUfrag(a), Attribute::IceUfrag(b)) => a.is_same(b),
-            (Attribute::IcePwd(a), Attribute::IcePwd(b)) => a.is_same(b),
-            (Attribute::IceOptions(a), Attribute::IceOptions(b)) => a.is_same(b),
+            (Attribute::Rtcp(a), Attribute::Rtcp(b))
+            | (Attribute::IceUfrag(a), Attribute::IceUfrag(b))
+            | (Attribute::IcePwd(a), Attribute::IcePwd(b))
+            | (Attribute::IceOptions(a), Attribute::IceOptions(b))
+            | (Attribute::SctpInit(a), Attribute::SctpInit(b))
+            | (Attribute::Unused(a), Attribute::Unused(b)) => a.is_same(b),
             (Attribute::Fingerprint(a), Attribute::Fingerprint(b)) => a.is_same(b),
             (Attribute::Setup(a), Attribute::Setup(b)) => a.is_same(b),
             (Attribute::Mid(a), Attribute::Mid(b)) => a.is_same(b),
             (Attribute::SctpPort(a), Attribute::SctpPort(b)) => a == b,
             (Attribute::MaxMessageSize(a), Attribute::MaxMessageSize(b)) => a == b,
-            (Attribute::SctpInit(a), Attribute::SctpInit(b)) => a.is_same(b),
-            (Attribute::RecvOnly, Attribute::RecvOnly) => true,
-            (Attribute::SendRecv, Attribute::SendRecv) => true,
-            (Attribute::SendOnly, Attribute::SendOnly) => true,
-            (Attribute::Inactive, Attribute::Inactive) => true,
             (Attribute::Msid(a), Attribute::Msid(b)) => a.is_same(b),
-            (Attribute::RtcpMux, Attribute::RtcpMux) => true,
-            (Attribute::RtcpMuxOnly, Attribute::RtcpMuxOnly) => true,
-            (Attribute::RtcpRsize, Attribute::RtcpRsize) => true,
             (Attribute::Candidate(a), Attribute::Candidate(b)) => a.is_same(b),
-            (Attribute::EndOfCandidates, Attribute::EndOfCandidates) => true,
             (Attribute::Simulcast(a), Attribute::Simulcast(b)) => a.is_same(b),
-            (Attribute::Unused(a), Attribute::Unused(b)) => a.is_same(b),
+            (Attribute::RecvOnly, Attribute::RecvOnly)
+            | (Attribute::SendRecv, Attribute::SendRecv)
+            | (Attribute::SendOnly, Attribute::SendOnly)
+            | (Attribute::Inactive, Attribute::Inactive)
+            | (Attribute::RtcpMux, Attribute::RtcpMux)
+            | (Attribute::RtcpMuxOnly, Attribute::RtcpMuxOnly)
+            | (Attribute::RtcpRsize, Attribute::RtcpRsize)
+            | (Attribute::EndOfCandidates, Attribute::EndOfCandidates) => true,
             _ => is_same_compound(self, other),
         }
     }

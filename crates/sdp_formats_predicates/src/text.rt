@@ -3,6 +3,7 @@
 use sdp_formats_forms::{Joined, Maybe};
 use sdp_formats_types::{MediaLine, Session, SessionAttribute};
 use std::fmt;
+use std::fmt::Display;
 
 // Attributes one behind the other.
 #[derive(Drop)]
@@ -15,8 +16,7 @@ impl fmt::Display for Attributes<'_> {
     ghost output = { λ a. Some (attributes_text a.0.now) };
 
     fn fmt<W: fmt::Write>(&self, f: &mut fmt::Formatter<W>) -> fmt::Result {
-        let attributes = Joined(self.0, "");
-        write!(f, "{attributes}")
+        Joined(self.0, "").fmt(f)
     }
 }
 
@@ -51,8 +51,7 @@ impl fmt::Display for Sections<'_> {
     ghost output = { λ s. Some (sections_text s.0.now) };
 
     fn fmt<W: fmt::Write>(&self, f: &mut fmt::Formatter<W>) -> fmt::Result {
-        let sections = Joined(self.0, "");
-        write!(f, "{sections}")
+        Joined(self.0, "").fmt(f)
     }
 }
 

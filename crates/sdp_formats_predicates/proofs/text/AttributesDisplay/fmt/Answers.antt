@@ -5,4 +5,4 @@ use Rattle.sdp_formats_predicates.proofs.text.AttributesDisplay.fmt.Goals as goa
 
 pub returns-clause-writes : goal.returns-clause-writes
 returns-clause-writes g c = writes_same _ _ _ _ _ _ (joined_some [] attribute_text c.args.self.now.0.now)
-    c.write.ensures.writes
+    c.fmt.ensures.writes
