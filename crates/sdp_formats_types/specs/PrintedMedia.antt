@@ -66,6 +66,16 @@ abbrev pub both_output : List ℕ → Option (List ℕ) → Option (List ℕ) �
 both_output name (Some first) (Some second) = Some (both name first second)
 both_output name _ _ = None
 
+-- What stands before the text of an attribute that is one text.
+abbrev pub name_before : MediaAttribute → List ℕ
+name_before (Rtcp value) = codes "a=rtcp:"
+name_before (IceUfrag value) = codes "a=ice-ufrag:"
+name_before (IcePwd value) = codes "a=ice-pwd:"
+name_before (IceOptions value) = codes "a=ice-options:"
+name_before (SctpInit value) = codes "a=sctp-init:"
+name_before (Unused value) = codes "a="
+name_before _ = []
+
 -- The line of an attribute that is a plain word.
 abbrev pub flag_text : MediaAttribute → List ℕ
 flag_text RecvOnly = codes "a=recvonly\r\n"

@@ -1,7 +1,7 @@
 //! Sections and their attributes as they are printed (RFC 8866 5.13, 5.14).
 
 ghost use Rattle.std.specs.Prelude.{◌≡◌};
-ghost use Rattle.sdp_formats_types.specs.PrintedMedia.{flag_text, port_of};
+ghost use Rattle.sdp_formats_types.specs.PrintedMedia.{flag_text, name_before, port_of};
 
 use crate::media::{MediaAttribute, MediaLine};
 use crate::printed::{Params, RidRestrictions, RidTypes, Sources, Types, write_both, write_value};
@@ -20,19 +20,19 @@ impl fmt::Display for MediaAttribute {
     #[tactic(auto, unfolding(crate::specs::PrintedMedia::attribute_text))]
     fn fmt<W: fmt::Write>(&self, f: &mut fmt::Formatter<W>) -> fmt::Result {
         match self {
-            MediaAttribute::Rtcp(value) => write_value(f, "a=rtcp:", value),
-            MediaAttribute::IceUfrag(value) => write_value(f, "a=ice-ufrag:", value),
-            MediaAttribute::IcePwd(value) => write_value(f, "a=ice-pwd:", value),
-            MediaAttribute::IceOptions(value) => write_value(f, "a=ice-options:", value),
+            MediaAttribute::Rtcp(value)
+            | MediaAttribute::IceUfrag(value)
+            | MediaAttribute::IcePwd(value)
+            | MediaAttribute::IceOptions(value)
+            | MediaAttribute::SctpInit(value)
+            | MediaAttribute::Unused(value) => write_value(f, name_before(self), value),
             MediaAttribute::Fingerprint(value) => write_value(f, "a=fingerprint:", value),
             MediaAttribute::Setup(value) => write_value(f, "a=setup:", value),
             MediaAttribute::Mid(value) => write_value(f, "a=mid:", value),
             MediaAttribute::SctpPort(port) => write_value(f, "a=sctp-port:", port),
             MediaAttribute::MaxMessageSize(size) => write_value(f, "a=max-message-size:", size),
-            MediaAttribute::SctpInit(value) => write_value(f, "a=sctp-init:", value),
             MediaAttribute::Msid(value) => write_value(f, "a=msid:", value),
             MediaAttribute::Candidate(value) => write_value(f, "a=", value),
-            MediaAttribute::Unused(value) => write_value(f, "a=", value),
             MediaAttribute::RecvOnly
             | MediaAttribute::SendRecv
             | MediaAttribute::SendOnly
@@ -54,6 +54,21 @@ impl fmt::Display for MediaAttribute {
 impl fmt::Debug for MediaAttribute {
     fn fmt<W: fmt::Write>(&self, f: &mut fmt::Formatter<W>) -> fmt::Result {
         fmt::Display::fmt(self, f)
+    }
+}
+
+/// What stands before the text of an attribute that is one text; nothing for another.
+fn name_before(attribute: &MediaAttribute) -> &'static str
+    ensures { result.now ≡ name_before attribute.now }
+{
+    match attribute {
+        MediaAttribute::Rtcp(_) => "a=rtcp:",
+        MediaAttribute::IceUfrag(_) => "a=ice-ufrag:",
+        MediaAttribute::IcePwd(_) => "a=ice-pwd:",
+        MediaAttribute::IceOptions(_) => "a=ice-options:",
+        MediaAttribute::SctpInit(_) => "a=sctp-init:",
+        MediaAttribute::Unused(_) => "a=",
+        _ => "",
     }
 }
 
