@@ -1,6 +1,7 @@
 //! What a section says of each of its sources.
 
-ghost use Rattle.std.specs.Prelude.{◌≡◌, IfOk, None};
+ghost use Rattle.std.specs.Prelude.{◌≡◌, [], IfOk, None, map};
+ghost use Rattle.sdp_formats_lookups.specs.Known.{info_with};
 ghost use Rattle.sdp_formats_lookups.specs.Sources.{infos_of};
 
 use crate::known::Known;
@@ -22,6 +23,17 @@ pub fn no_info() -> SsrcInfo
     }
 }
 
+/// What is known of each of these sources.
+fn infos_by(alloc: Global, known: &Known<'_>, sources: &[Ssrc]) -> Result<Vec<SsrcInfo>, AllocError>
+    ensures { IfOk result (λ infos. infos.items ≡ map (info_with known.now []) sources.now) }
+{
+    let mut infos = Vec::new(alloc);
+    for source in sources {
+        infos.push(known.info(alloc, *source)?)?;
+    }
+    Ok(infos)
+}
+
 /// What a section says of its sources (RFC 5576): first those of its `a=ssrc` lines, then those that its groups of
 /// retransmission let repair others (RFC 4588 8.3), each once, in the order in which they are first named. Of what is
 /// said more than once of a source the last counts.
@@ -35,9 +47,5 @@ pub fn ssrc_info(alloc: Global, section: &MediaLine) -> Result<Vec<SsrcInfo>, Al
     let attributes = section.attrs.as_slice();
     let sources = sources_of(alloc, attributes)?;
     let known = Known::from_attributes(alloc, attributes)?;
-    let mut infos = Vec::new(alloc);
-    for source in sources.as_slice() {
-        infos.push(known.info(alloc, *source)?)?;
-    }
-    Ok(infos)
+    infos_by(alloc, &known, sources.as_slice())
 }

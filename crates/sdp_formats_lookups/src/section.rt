@@ -13,69 +13,42 @@ use crate::preference::chosen;
 use sdp_formats_forms::Text;
 use sdp_formats_types::{Fingerprint, MediaAttribute, MediaLine, Simulcast};
 
-#[tactic(auto, unfolding(crate::specs::Sections::sctp_init_in))]
-fn sctp_init_in(attribute: &MediaAttribute) -> Option<&Text>
-    ensures { option_copied result ≡ sctp_init_in attribute.now }
-{
-    match attribute {
-        MediaAttribute::SctpInit(value) => Some(value),
-        _ => None,
-    }
-}
-
 /// The parameters of the first `a=sctp-init`.
+#[tactic(auto, unfolding(crate::specs::Sections::sctp_init_in))]
 pub fn sctp_init(section: &MediaLine) -> Option<&Text>
     ensures { option_copied result ≡ first_of sctp_init_in section.now.attrs }
 {
     let attributes = section.attrs.as_slice();
     for attribute in attributes {
-        if let Some(value) = sctp_init_in(attribute) {
+        if let MediaAttribute::SctpInit(value) = attribute {
             return Some(value);
         }
     }
     None
 }
 
-#[tactic(auto, unfolding(crate::specs::Sections::ice_ufrag_in))]
-fn ice_ufrag_in(attribute: &MediaAttribute) -> Option<&Text>
-    ensures { option_copied result ≡ ice_ufrag_in attribute.now }
-{
-    match attribute {
-        MediaAttribute::IceUfrag(value) => Some(value),
-        _ => None,
-    }
-}
-
 /// The name of the first `a=ice-ufrag` (RFC 8839 5.4).
+#[tactic(auto, unfolding(crate::specs::Sections::ice_ufrag_in))]
 pub fn ice_ufrag(section: &MediaLine) -> Option<&Text>
     ensures { option_copied result ≡ first_of ice_ufrag_in section.now.attrs }
 {
     let attributes = section.attrs.as_slice();
     for attribute in attributes {
-        if let Some(value) = ice_ufrag_in(attribute) {
+        if let MediaAttribute::IceUfrag(value) = attribute {
             return Some(value);
         }
     }
     None
 }
 
-#[tactic(auto, unfolding(crate::specs::Sections::ice_pwd_in))]
-fn ice_pwd_in(attribute: &MediaAttribute) -> Option<&Text>
-    ensures { option_copied result ≡ ice_pwd_in attribute.now }
-{
-    match attribute {
-        MediaAttribute::IcePwd(value) => Some(value),
-        _ => None,
-    }
-}
-
 /// The password of the first `a=ice-pwd` (RFC 8839 5.4).
+#[tactic(auto, unfolding(crate::specs::Sections::ice_pwd_in))]
 pub fn ice_pwd(section: &MediaLine) -> Option<&Text>
     ensures { option_copied result ≡ first_of ice_pwd_in section.now.attrs }
 {
     let attributes = section.attrs.as_slice();
     for attribute in attributes {
-        if let Some(value) = ice_pwd_in(attribute) {
+        if let MediaAttribute::IcePwd(value) = attribute {
             return Some(value);
         }
     }
@@ -110,47 +83,29 @@ pub fn fingerprint(section: &MediaLine) -> Option<&Fingerprint>
     best_fingerprint(section.attrs.as_slice())
 }
 
-#[tactic(auto, unfolding(crate::specs::Sections::simulcast_in))]
-fn simulcast_in(attribute: &MediaAttribute) -> Option<&Simulcast>
-    ensures { option_copied result ≡ simulcast_in attribute.now }
-{
-    match attribute {
-        MediaAttribute::Simulcast(value) => Some(value),
-        _ => None,
-    }
-}
-
 /// The layers of the first `a=simulcast` (RFC 8853 5.1).
+#[tactic(auto, unfolding(crate::specs::Sections::simulcast_in))]
 pub fn simulcast(section: &MediaLine) -> Option<&Simulcast>
     ensures { option_copied result ≡ first_of simulcast_in section.now.attrs }
 {
     let attributes = section.attrs.as_slice();
     for attribute in attributes {
-        if let Some(value) = simulcast_in(attribute) {
+        if let MediaAttribute::Simulcast(value) = attribute {
             return Some(value);
         }
     }
     None
 }
 
-#[tactic(auto, unfolding(crate::specs::Sections::max_message_size_in))]
-fn max_message_size_in(attribute: &MediaAttribute) -> Option<usize>
-    ensures { result ≡ max_message_size_in attribute.now }
-{
-    match attribute {
-        MediaAttribute::MaxMessageSize(value) => Some(*value),
-        _ => None,
-    }
-}
-
 /// The number of bytes of the first `a=max-message-size` (RFC 8841 6).
+#[tactic(auto, unfolding(crate::specs::Sections::max_message_size_in))]
 pub fn max_message_size(section: &MediaLine) -> Option<usize>
     ensures { result ≡ first_of max_message_size_in section.now.attrs }
 {
     let attributes = section.attrs.as_slice();
     for attribute in attributes {
-        if let Some(value) = max_message_size_in(attribute) {
-            return Some(value);
+        if let MediaAttribute::MaxMessageSize(value) = attribute {
+            return Some(*value);
         }
     }
     None
@@ -165,20 +120,13 @@ pub fn ice_creds(section: &MediaLine) -> Option<(&Text, &Text)>
     Some((ufrag, pass))
 }
 
-#[tactic(auto, unfolding(crate::specs::Sections::ends_candidates))]
-fn ends_candidates(attribute: &MediaAttribute) -> bool
-    ensures { result ≡ ends_candidates attribute.now }
-{
-    matches!(attribute, MediaAttribute::EndOfCandidates)
-}
-
 /// Whether no more candidates come (RFC 8840 8.2).
+#[tactic(auto, unfolding(crate::specs::Sections::ends_candidates))]
 pub fn end_of_candidates(section: &MediaLine) -> bool
     ensures { result ≡ list_any ends_candidates section.now.attrs }
 {
-    section
-        .attrs
-        .as_slice()
-        .iter()
-        .any(|attribute| ends_candidates(attribute))
+    section.attrs.as_slice().iter().any(|attribute| matches!(
+        attribute,
+        MediaAttribute::EndOfCandidates
+    ))
 }

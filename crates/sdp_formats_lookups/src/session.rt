@@ -13,69 +13,42 @@ use crate::preference::chosen;
 use sdp_formats_forms::Text;
 use sdp_formats_types::{Fingerprint, Session, SessionAttribute, Setup};
 
-#[tactic(auto, unfolding(crate::specs::Sessions::setup_in))]
-fn setup_in(attribute: &SessionAttribute) -> Option<Setup>
-    ensures { result ≡ setup_in attribute.now }
-{
-    match attribute {
-        SessionAttribute::Setup(value) => Some(*value),
-        _ => None,
-    }
-}
-
 /// Which end opens the connection, of the first `a=setup` (RFC 4145 4).
+#[tactic(auto, unfolding(crate::specs::Sessions::setup_in))]
 pub fn setup(session: &Session) -> Option<Setup>
     ensures { result ≡ first_of setup_in session.now.attrs }
 {
     let attributes = session.attrs.as_slice();
     for attribute in attributes {
-        if let Some(value) = setup_in(attribute) {
-            return Some(value);
+        if let SessionAttribute::Setup(value) = attribute {
+            return Some(*value);
         }
     }
     None
 }
 
-#[tactic(auto, unfolding(crate::specs::Sessions::ice_ufrag_in))]
-fn ice_ufrag_in(attribute: &SessionAttribute) -> Option<&Text>
-    ensures { option_copied result ≡ ice_ufrag_in attribute.now }
-{
-    match attribute {
-        SessionAttribute::IceUfrag(value) => Some(value),
-        _ => None,
-    }
-}
-
 /// The name of the first `a=ice-ufrag` (RFC 8839 5.4).
+#[tactic(auto, unfolding(crate::specs::Sessions::ice_ufrag_in))]
 pub fn ice_ufrag(session: &Session) -> Option<&Text>
     ensures { option_copied result ≡ first_of ice_ufrag_in session.now.attrs }
 {
     let attributes = session.attrs.as_slice();
     for attribute in attributes {
-        if let Some(value) = ice_ufrag_in(attribute) {
+        if let SessionAttribute::IceUfrag(value) = attribute {
             return Some(value);
         }
     }
     None
 }
 
-#[tactic(auto, unfolding(crate::specs::Sessions::ice_pwd_in))]
-fn ice_pwd_in(attribute: &SessionAttribute) -> Option<&Text>
-    ensures { option_copied result ≡ ice_pwd_in attribute.now }
-{
-    match attribute {
-        SessionAttribute::IcePwd(value) => Some(value),
-        _ => None,
-    }
-}
-
 /// The password of the first `a=ice-pwd` (RFC 8839 5.4).
+#[tactic(auto, unfolding(crate::specs::Sessions::ice_pwd_in))]
 pub fn ice_pwd(session: &Session) -> Option<&Text>
     ensures { option_copied result ≡ first_of ice_pwd_in session.now.attrs }
 {
     let attributes = session.attrs.as_slice();
     for attribute in attributes {
-        if let Some(value) = ice_pwd_in(attribute) {
+        if let SessionAttribute::IcePwd(value) = attribute {
             return Some(value);
         }
     }
@@ -119,32 +92,19 @@ pub fn ice_creds(session: &Session) -> Option<(&Text, &Text)>
     Some((ufrag, pass))
 }
 
-#[tactic(auto, unfolding(crate::specs::Sessions::ends_candidates))]
-fn ends_candidates(attribute: &SessionAttribute) -> bool
-    ensures { result ≡ ends_candidates attribute.now }
-{
-    matches!(attribute, SessionAttribute::EndOfCandidates)
-}
-
 /// Whether no more candidates come (RFC 8840 8.2).
+#[tactic(auto, unfolding(crate::specs::Sessions::ends_candidates))]
 pub fn end_of_candidates(session: &Session) -> bool
     ensures { result ≡ list_any ends_candidates session.now.attrs }
 {
-    session
-        .attrs
-        .as_slice()
-        .iter()
-        .any(|attribute| ends_candidates(attribute))
-}
-
-#[tactic(auto, unfolding(crate::specs::Sessions::is_lite))]
-fn is_lite(attribute: &SessionAttribute) -> bool
-    ensures { result ≡ is_lite attribute.now }
-{
-    matches!(attribute, SessionAttribute::IceLite)
+    session.attrs.as_slice().iter().any(|attribute| matches!(
+        attribute,
+        SessionAttribute::EndOfCandidates
+    ))
 }
 
 /// Whether its end answers connectivity checks alone (RFC 8839 5.3).
+#[tactic(auto, unfolding(crate::specs::Sessions::is_lite))]
 pub fn ice_lite(session: &Session) -> bool
     ensures { result ≡ list_any is_lite session.now.attrs }
 {
@@ -152,5 +112,5 @@ pub fn ice_lite(session: &Session) -> bool
         .attrs
         .as_slice()
         .iter()
-        .any(|attribute| is_lite(attribute))
+        .any(|attribute| matches!(attribute, SessionAttribute::IceLite))
 }
