@@ -5,3 +5,4 @@ pub mod Consistency
 pub mod Keys
 pub mod NameSets
 pub mod Wholes
+pub mod Copies

@@ -13,25 +13,6 @@ use std::alloc::{AllocError, Global};
 use std::collections::BTreeSet;
 
 #[tactic(auto, unfolding(crate::specs::Candidates::session_candidate))]
-fn session_candidate(attribute: &SessionAttribute) -> Option<&Candidate>
-    ensures { option_copied result ≡ session_candidate attribute.now }
-{
-    match attribute {
-        SessionAttribute::Candidate(candidate) => Some(candidate),
-        _ => None,
-    }
-}
-
-#[tactic(auto, unfolding(crate::specs::Candidates::section_candidate))]
-fn section_candidate(attribute: &MediaAttribute) -> Option<&Candidate>
-    ensures { option_copied result ≡ section_candidate attribute.now }
-{
-    match attribute {
-        MediaAttribute::Candidate(candidate) => Some(candidate),
-        _ => None,
-    }
-}
-
 fn push_of_session<'a>(
     candidates: &mut Vec<&'a Candidate>,
     attributes: &'a [SessionAttribute],
@@ -40,13 +21,14 @@ fn push_of_session<'a>(
         ≡ borrowed candidates.old.items ++ filter_map session_candidate attributes.now) }
 {
     for attribute in attributes {
-        if let Some(candidate) = session_candidate(attribute) {
+        if let SessionAttribute::Candidate(candidate) = attribute {
             candidates.push(candidate)?;
         }
     }
     Ok(())
 }
 
+#[tactic(auto, unfolding(crate::specs::Candidates::section_candidate))]
 fn push_of_section<'a>(
     candidates: &mut Vec<&'a Candidate>,
     attributes: &'a [MediaAttribute],
@@ -55,7 +37,7 @@ fn push_of_section<'a>(
         ≡ borrowed candidates.old.items ++ filter_map section_candidate attributes.now) }
 {
     for attribute in attributes {
-        if let Some(candidate) = section_candidate(attribute) {
+        if let MediaAttribute::Candidate(candidate) = attribute {
             candidates.push(candidate)?;
         }
     }

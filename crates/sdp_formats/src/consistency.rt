@@ -35,20 +35,11 @@ fn names_of(alloc: Global, sections: &[MediaLine]) -> Result<Vec<Mid>, AllocErro
 }
 
 #[tactic(auto, unfolding(crate::specs::Consistency::group_in))]
-fn group_in(attribute: &SessionAttribute) -> Option<&Listed<Mid>>
-    ensures { option_copied result ≡ group_in attribute.now }
-{
-    match attribute {
-        SessionAttribute::Group { mids, .. } => Some(mids),
-        _ => None,
-    }
-}
-
 fn first_group(attributes: &[SessionAttribute]) -> Option<&Listed<Mid>>
     ensures { option_copied result ≡ first_of group_in attributes.now }
 {
     for attribute in attributes {
-        if let Some(mids) = group_in(attribute) {
+        if let SessionAttribute::Group { mids, .. } = attribute {
             return Some(mids);
         }
     }

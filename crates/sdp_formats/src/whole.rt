@@ -24,29 +24,17 @@ pub fn parse(alloc: Global, input: &str) -> Result<Sdp, SdpError>
     Ok(sdp)
 }
 
-#[tactic(auto, unfolding(crate::specs::Wholes::bundle_in))]
-fn bundle_in(attribute: &SessionAttribute) -> Option<&[Mid]>
-    ensures { option_copied result ≡ bundle_in attribute.now }
-{
-    match attribute {
-        SessionAttribute::Group { typ, mids } => {
-            if typ.as_str() == "BUNDLE" {
-                return Some(mids.as_slice());
-            }
-            None
-        }
-        _ => None,
-    }
-}
-
 /// The sections of the first `a=group` of meaning `BUNDLE`: those that share one transport (RFC 9143 7).
+#[tactic(auto, unfolding(crate::specs::Wholes::bundle_in))]
 pub fn bundle_mids(sdp: &Sdp) -> Option<&[Mid]>
     ensures { option_copied result ≡ bundle_of sdp.now }
 {
     let attributes = sdp.session.attrs.as_slice();
     for attribute in attributes {
-        if let Some(mids) = bundle_in(attribute) {
-            return Some(mids);
+        if let SessionAttribute::Group { typ, mids } = attribute {
+            if typ.as_str() == "BUNDLE" {
+                return Some(mids.as_slice());
+            }
         }
     }
     None
