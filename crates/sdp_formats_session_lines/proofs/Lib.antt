@@ -1,2 +1,3 @@
 pub mod Exactness
 pub mod Ends
+pub mod Passing

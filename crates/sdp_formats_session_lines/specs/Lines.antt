@@ -1,7 +1,8 @@
 -- Kinds of lines in a header and at the head of a section (RFC 8866 5).
-use Rattle.std.specs.Prelude.{ℕ, List, Some, None, codes, if◌then◌else◌}
+use Rattle.std.specs.Prelude.{ℕ, Bool, true, false, ◌||◌, List, [], ◌∷◌, Option, Some, None, codes, if◌then◌else◌}
 use Rattle.std.specs.Str.{bytes_eq}
 use Rattle.sdp_formats_forms.specs.Form.{Form, told, any_text, made, after, either, cut}
+use Rattle.sdp_formats_forms.specs.Split.{behind}
 use Rattle.sdp_formats_session_lines.specs.Heads.{origin, media_line}
 use Rattle.sdp_formats_session_lines.specs.declared.media.MediaHead.{MediaHead}
 use Rattle.sdp_formats_session_lines.specs.declared.passed.Passed.{Passed}
@@ -36,6 +37,24 @@ other_line =
     either (after (codes "i=") something) (either (after (codes "u=") something)
     (either (after (codes "e=") something) (either (after (codes "p=") something)
     (either (after (codes "c=") something) (either (after (codes "z=") something) (after (codes "k=") something))))))
+
+abbrev pub passed_if : Bool → Option Passed
+passed_if is_so = if is_so then Some passed else None
+
+-- Whether a line is these words with something behind them.
+abbrev pub says_something : Option (List ℕ) → Bool
+says_something None = false
+says_something (Some []) = false
+says_something (Some (b ∷ bs)) = true
+
+abbrev pub is_lettered : List ℕ → List ℕ → Bool
+is_lettered words t = says_something (behind words t)
+
+abbrev pub is_other : List ℕ → Bool
+is_other t =
+    is_lettered (codes "i=") t || (is_lettered (codes "u=") t || (is_lettered (codes "e=") t
+    || (is_lettered (codes "p=") t || (is_lettered (codes "c=") t || (is_lettered (codes "z=") t
+    || is_lettered (codes "k=") t)))))
 
 abbrev pub make_bandwidth : List ℕ × List ℕ → Bandwidth
 make_bandwidth x = record { typ = x.0; val = x.1 }

@@ -3,9 +3,9 @@
 ghost use Rattle.std.specs.Prelude.{◌≡◌, codes};
 ghost use Rattle.sdp_formats_forms.specs.Form.{after};
 ghost use Rattle.sdp_formats_forms.specs.Refusals.{Gives, GivesBy};
-ghost use Rattle.sdp_formats_session_lines.specs.Lines.{exactly, something, other_line};
+ghost use Rattle.sdp_formats_session_lines.specs.Lines.{exactly, something, passed_if, is_lettered, is_other};
 
-use sdp_formats_forms::{Lined, Refusal, Stepped, behind, fitted, line_of};
+use sdp_formats_forms::{Lined, Refusal, Stepped, behind, line_of, stripped};
 use std::alloc::Global;
 
 /// A line that was read and isn't kept.
@@ -30,53 +30,48 @@ pub struct RepeatLine;
 /// The line `c=` of a section.
 pub struct ConnectionLine;
 
-fn exactly(text: &str, words: &str) -> Result<Passed, Refusal>
-    ensures { Gives result ((exactly words.now).reads text.now) }
+fn passed_if(is_so: bool) -> Result<Passed, Refusal>
+    ensures { Gives result (passed_if is_so) }
 {
-    if text == words {
+    if is_so {
         Ok(Passed)
     } else {
         Err(Refusal::Unfit)
     }
 }
 
-fn something(text: &str) -> Result<Passed, Refusal>
-    ensures { Gives result (something.reads text.now) }
+fn exactly(text: &str, words: &str) -> Result<Passed, Refusal>
+    ensures { Gives result ((exactly words.now).reads text.now) }
 {
-    if text.is_empty() {
-        return Err(Refusal::Unfit);
+    passed_if(text == words)
+}
+
+/// Whether a line begins with these words and says something behind them.
+fn is_lettered(content: &str, words: &str) -> bool
+    ensures { result ≡ is_lettered words.now content.now }
+{
+    match stripped(content, words) {
+        Some(rest) => !rest.is_empty(),
+        None => false,
     }
-    Ok(Passed)
 }
 
 fn lettered(content: &str, words: &str) -> Result<Passed, Refusal>
     ensures { Gives result ((after words.now something).reads content.now) }
 {
-    something(behind(content, words)?)
+    passed_if(is_lettered(content, words))
 }
 
-fn other(content: &str) -> Result<Passed, Refusal>
-    ensures { Gives result (other_line.reads content.now) }
+fn is_other(content: &str) -> bool
+    ensures { result ≡ is_other content.now }
 {
-    if let Some(passed) = fitted(lettered(content, "i="))? {
-        return Ok(passed);
-    }
-    if let Some(passed) = fitted(lettered(content, "u="))? {
-        return Ok(passed);
-    }
-    if let Some(passed) = fitted(lettered(content, "e="))? {
-        return Ok(passed);
-    }
-    if let Some(passed) = fitted(lettered(content, "p="))? {
-        return Ok(passed);
-    }
-    if let Some(passed) = fitted(lettered(content, "c="))? {
-        return Ok(passed);
-    }
-    if let Some(passed) = fitted(lettered(content, "z="))? {
-        return Ok(passed);
-    }
-    lettered(content, "k=")
+    is_lettered(content, "i=")
+        || is_lettered(content, "u=")
+        || is_lettered(content, "e=")
+        || is_lettered(content, "p=")
+        || is_lettered(content, "c=")
+        || is_lettered(content, "z=")
+        || is_lettered(content, "k=")
 }
 
 impl Lined<Passed> for VersionLine {
@@ -145,7 +140,7 @@ impl Lined<Passed> for OtherLine {
     ghost form = { other_line };
 
     fn read(_alloc: Global, content: &str) -> Result<Passed, Refusal> {
-        other(content)
+        passed_if(is_other(content))
     }
 
     fn exact_law() {}
