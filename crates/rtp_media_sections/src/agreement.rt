@@ -64,6 +64,24 @@ impl Model for AgreedSection {
     } };
 }
 
+/// The row of Opus at type 111.
+fn fixed_rows(alloc: Global) -> Result<Vec<PayloadParams>, AllocError>
+    ensures { IfOk result (λ rows. rows.items ≡ fixed_section.rows) }
+{
+    let mut config = CodecConfig::empty(alloc);
+    config.enable_opus(true, false)?;
+    let mut rows = Vec::new(alloc);
+    rows.extend_from_slice(config.params())?;
+    Ok(rows)
+}
+
+/// SSRC 44 alone.
+fn fixed_ssrcs(alloc: Global) -> Result<SsrcList, AllocError>
+    ensures { IfOk result (λ ssrcs. ssrcs ≡ fixed_section.own_ssrcs) }
+{
+    SsrcList::of(alloc, vec![in alloc; Ssrc::from(44)]?)
+}
+
 impl AgreedSection {
     /// What both fixed ends agree on: section `0`, Opus at type 111, no header extension, SSRC 44 at either side.
     ///
@@ -73,17 +91,13 @@ impl AgreedSection {
     pub fn fixed(alloc: Global) -> Result<Self, AllocError>
         ensures { IfOk result (λ a. a ≡ fixed_section) }
     {
-        let mut config = CodecConfig::empty(alloc);
-        config.enable_opus(true, false)?;
-        let mut rows = Vec::new(alloc);
-        rows.extend_from_slice(config.params())?;
         Ok(AgreedSection {
             mid: Mid::from("0"),
             kind: MediaKind::Audio,
-            rows,
+            rows: fixed_rows(alloc)?,
             exts: ExtensionMap::empty(),
-            own_ssrcs: SsrcList::of(alloc, vec![in alloc; Ssrc::from(44)]?)?,
-            remote_ssrcs: SsrcList::of(alloc, vec![in alloc; Ssrc::from(44)]?)?,
+            own_ssrcs: fixed_ssrcs(alloc)?,
+            remote_ssrcs: fixed_ssrcs(alloc)?,
             sends: true,
             receives: true,
         })
