@@ -1,0 +1,6 @@
+use Rattle.std.proofs.Common.{arith}
+use Rattle.std.proofs.lemmas.Grind.{common_steps}
+use Rattle.sdp_formats_section_rows.proofs.mapped.mappings.Goals as goal
+
+pub loop-pt-preserved : goal.loop-pt-preserved
+loop-pt-preserved c = grind (arith, common_steps)
