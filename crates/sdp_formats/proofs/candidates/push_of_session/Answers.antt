@@ -6,3 +6,6 @@ use Rattle.sdp_formats.proofs.candidates.push_of_session.Goals as goal
 pub loop-attribute-preserved : goal.loop-attribute-preserved
 unfolding session_candidate
 loop-attribute-preserved c = grind (arith, common_steps)
+
+pub returns : goal.returns
+returns c = grind (arith, common_steps)

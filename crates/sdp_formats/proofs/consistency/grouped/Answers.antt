@@ -4,3 +4,6 @@ use Rattle.sdp_formats.proofs.consistency.grouped.Goals as goal
 
 pub loop-section-preserved : goal.loop-section-preserved
 loop-section-preserved c = grind (arith, common_steps)
+
+pub returns : goal.returns
+returns c = grind (arith, common_steps)

@@ -4,3 +4,6 @@ use Rattle.sdp_formats_lookups.proofs.lists.extmaps.Goals as goal
 
 pub loop-attribute-preserved : goal.loop-attribute-preserved
 loop-attribute-preserved c = grind (arith, common_steps)
+
+pub returns : goal.returns
+returns c = grind (arith, common_steps)

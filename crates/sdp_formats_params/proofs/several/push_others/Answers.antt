@@ -4,3 +4,6 @@ use Rattle.sdp_formats_params.proofs.several.push_others.Goals as goal
 
 pub loop-key-preserved : goal.loop-key-preserved
 loop-key-preserved c = grind (arith, common_steps)
+
+pub returns : goal.returns
+returns c = grind (arith, common_steps)

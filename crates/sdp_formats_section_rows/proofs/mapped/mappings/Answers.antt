@@ -4,3 +4,6 @@ use Rattle.sdp_formats_section_rows.proofs.mapped.mappings.Goals as goal
 
 pub loop-pt-preserved : goal.loop-pt-preserved
 loop-pt-preserved c = grind (arith, common_steps)
+
+pub returns : goal.returns
+returns c = grind (arith, common_steps)

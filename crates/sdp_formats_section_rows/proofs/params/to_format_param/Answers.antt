@@ -4,3 +4,6 @@ use Rattle.sdp_formats_section_rows.proofs.params.to_format_param.Goals as goal
 
 pub loop-param-preserved : goal.loop-param-preserved
 loop-param-preserved c = grind (arith, common_steps)
+
+pub returns : goal.returns
+returns c = grind (arith, common_steps)

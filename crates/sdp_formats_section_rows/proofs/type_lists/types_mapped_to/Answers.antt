@@ -4,3 +4,6 @@ use Rattle.sdp_formats_section_rows.proofs.type_lists.types_mapped_to.Goals as g
 
 pub loop-mapping-preserved : goal.loop-mapping-preserved
 loop-mapping-preserved c = grind (arith, common_steps)
+
+pub returns : goal.returns
+returns c = grind (arith, common_steps)
