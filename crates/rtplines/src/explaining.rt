@@ -53,7 +53,7 @@ fn explain_line(
         return Ok(Status::Success);
     }
     let (replies, status) = replies_to(rt.alloc(), program, line)?;
-    for reply in str::from_utf8(&replies)?.lines() {
+    for reply in text_of(&replies).lines() {
         explain_reply(rt, known, number, line, reply)?;
     }
     Ok(status)
@@ -76,19 +76,17 @@ fn explain_reply(
     if let Some(reason) = reason {
         println!(*rt; "  line {number}: {reason}")?;
     }
-    known.note(rt, text_of(line), reply)
+    Ok(known.note(rt, text_of(line), reply)?)
 }
 
 /// Prints a reply, and the text of an offer or an answer line by line.
 fn print_reply(rt: &HostRuntime, reply: &str) -> anyhow::Result<()> {
     let Some(digits) = reply.strip_prefix("text ") else {
-        println!(*rt; "  {reply}")?;
-        return Ok(());
+        return Ok(println!(*rt; "  {reply}")?);
     };
-    let text = hex::decode(rt.alloc(), digits)?;
     println!(*rt; "  text")?;
-    print_lines(rt, "    ", str::from_utf8(&text)?)?;
-    Ok(())
+    let text = hex::decode(rt.alloc(), digits)?;
+    Ok(print_lines(rt, "    ", text_of(&text))?)
 }
 
 /// Prints the lines of a text, each behind some blanks.

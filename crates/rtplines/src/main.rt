@@ -24,8 +24,7 @@ fn main(rt: HostRuntime) -> ExitCode {
 
 /// Answers the lines, or explains what came of them, as the argument says.
 fn answer(rt: &HostRuntime) -> anyhow::Result<Status> {
-    let mut words = env::args(rt)?.skip(1);
-    match words.next() {
+    match env::args(rt)?.nth(1) {
         None => Ok(run(rt.alloc(), &mut rt.reader(), &mut io::writer(rt))?),
         Some(word) if word.as_str() == "explain" => explain(rt),
         Some(_) => bail!("usage: rtplines [explain]"),

@@ -125,11 +125,12 @@ pub(crate) fn misfit<'a>(name: &'a str, word: &'a str) -> Option<Reason<'a>> {
 
 /// Whether a word is what it has to be.
 fn fits(shape: Shape, word: &str) -> bool {
+    let is_none = word == "-";
     match shape {
         Shape::Letter => word == "a" || word == "b",
         Shape::Number(most) => is_number(word, most),
-        Shape::NumberOrNone(most) => word == "-" || is_number(word, most),
-        Shape::Numbers => word == "-" || are_numbers(word, 255),
+        Shape::NumberOrNone(most) => is_none || is_number(word, most),
+        Shape::Numbers => is_none || are_numbers(word, 255),
         Shape::Hex => is_hex(word),
         Shape::Section => is_section(word),
         Shape::Item => is_item(word),

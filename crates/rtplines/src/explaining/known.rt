@@ -1,9 +1,9 @@
 //! What is known of the ends, from the lines and the replies to them.
 
-use super::lines::{number_at, word_at};
+use super::lines::{number_at, number_or_zero_at, word_at};
 use super::streams::Stream;
 use rtp_wire::{ExtensionMap, RtpHeader};
-use std::alloc::Global;
+use std::alloc::{AllocError, Global};
 use std::io;
 
 /// What is known of an end, and of its streams in the order of their numbers.
@@ -29,10 +29,11 @@ impl Drop for KnownEnd {
 }
 
 impl KnownEnd {
-    fn new(alloc: Global, letter: &'static str, is_made: bool) -> KnownEnd {
+    /// Nothing was made yet.
+    fn new(alloc: Global, letter: &'static str) -> KnownEnd {
         KnownEnd {
             letter,
-            is_made,
+            is_made: false,
             streams: Vec::new(alloc),
             foreign: 0,
             unreadable: 0,
@@ -40,26 +41,34 @@ impl KnownEnd {
     }
 
     /// Notes a reply to a line about this end. Where the line makes the end anew, prints what became of it before.
-    fn note(&mut self, rt: &HostRuntime, line: &str, reply: &str) -> anyhow::Result<()> {
+    fn note(&mut self, rt: &HostRuntime, line: &str, reply: &str) -> io::Result<()> {
         match word_at(reply, 0) {
             "ok" if line.starts_with("fixed ") || line.starts_with("end ") => {
                 self.report(rt)?;
-                *self = KnownEnd::new(rt.alloc(), self.letter, true);
+                self.begin();
             }
             "sender" | "receiver" => {
-                let number = number_at(reply, 1).unwrap_or(0);
+                let number = number_or_zero_at(reply, 1);
                 self.streams.push(Stream::new(rt.alloc(), number, line))?;
             }
             "foreign" => self.foreign = self.foreign.saturating_add(1),
             "unreadable" => self.unreadable = self.unreadable.saturating_add(1),
-            _ => return self.note_stream(rt.alloc(), line, reply),
+            _ => self.note_stream(rt.alloc(), line, reply)?,
         }
         Ok(())
     }
 
+    /// The end is made, anew or for the first time.
+    fn begin(&mut self) {
+        self.is_made = true;
+        self.streams.clear();
+        self.foreign = 0;
+        self.unreadable = 0;
+    }
+
     /// Notes what was said of a sample, a datagram or a poll, at the stream that the reply or the line names, or that
     /// the datagram is for.
-    fn note_stream(&mut self, alloc: Global, line: &str, reply: &str) -> anyhow::Result<()> {
+    fn note_stream(&mut self, alloc: Global, line: &str, reply: &str) -> Result<(), AllocError> {
         let number = if word_at(reply, 0) == "taken" {
             number_at(reply, 1)
         } else if word_at(line, 0) == "receive" {
@@ -70,10 +79,10 @@ impl KnownEnd {
         let Some(number) = number else {
             return Ok(());
         };
-        if let Some(stream) = self.streams.get_mut(number as usize) {
-            stream.note(reply)?;
+        match self.streams.get_mut(number as usize) {
+            Some(stream) => stream.note(reply),
+            None => Ok(()),
         }
-        Ok(())
     }
 
     /// The receiving stream of a datagram, by its SSRC and type, or else by its SSRC.
@@ -94,14 +103,11 @@ impl KnownEnd {
             return Ok(());
         }
         let (letter, foreign, unreadable) = (self.letter, self.foreign, self.unreadable);
-        for stream in &self.streams {
-            if stream.is_sender {
-                stream.report_sender(rt, letter)?;
-            }
-        }
-        for stream in &self.streams {
-            if !stream.is_sender {
-                stream.report_receiver(rt, letter)?;
+        for is_sender in [true, false] {
+            for stream in &self.streams {
+                if stream.is_sender == is_sender {
+                    stream.report(rt, letter)?;
+                }
             }
         }
         println!(*rt; "  end {letter}: {foreign} foreign, {unreadable} unreadable")
@@ -133,13 +139,13 @@ impl Known {
     /// Nothing was made yet.
     pub(crate) fn new(alloc: Global) -> Known {
         Known {
-            a: KnownEnd::new(alloc, "a", false),
-            b: KnownEnd::new(alloc, "b", false),
+            a: KnownEnd::new(alloc, "a"),
+            b: KnownEnd::new(alloc, "b"),
         }
     }
 
     /// Notes a reply to a line: at `b` where it isn't about `a`, since a run is received there.
-    pub(crate) fn note(&mut self, rt: &HostRuntime, line: &str, reply: &str) -> anyhow::Result<()> {
+    pub(crate) fn note(&mut self, rt: &HostRuntime, line: &str, reply: &str) -> io::Result<()> {
         if word_at(line, 1) == "a" {
             self.a.note(rt, line, reply)
         } else {
@@ -148,10 +154,9 @@ impl Known {
     }
 
     /// Prints what became of the streams of both ends.
-    pub(crate) fn report(&self, rt: &HostRuntime) -> anyhow::Result<()> {
+    pub(crate) fn report(&self, rt: &HostRuntime) -> io::Result<()> {
         println!(*rt; "at the end")?;
         self.a.report(rt)?;
-        self.b.report(rt)?;
-        Ok(())
+        self.b.report(rt)
     }
 }

@@ -35,3 +35,8 @@ pub(crate) fn number_of(word: &str) -> Option<u64> {
 pub(crate) fn number_at(line: &str, place: usize) -> Option<u64> {
     number_of(word_at(line, place))
 }
+
+/// The number of this place in a line, and 0 where there is none.
+pub(crate) fn number_or_zero_at(line: &str, place: usize) -> u64 {
+    number_at(line, place).unwrap_or(0)
+}

@@ -2,7 +2,7 @@
 
 use super::forms::{form_of, misfit};
 use super::known::{Known, KnownEnd};
-use super::lines::{number_at, number_of, word_at};
+use super::lines::{number_of, number_or_zero_at, word_at};
 use super::reason::Reason;
 use rtp_media::MAX_LINE_LENGTH;
 
@@ -40,17 +40,13 @@ pub(crate) fn error_of<'a>(known: &Known, line: &'a [u8]) -> Reason<'a> {
 /// The first word that doesn't fit the form, is left over, or is missing. Slashes may stand between the sections of
 /// `connect`.
 fn unfit_word<'a>(form: &'static str, line: &'a str) -> Option<Reason<'a>> {
-    let further = match form.rsplit_once(' ') {
-        Some((_, last)) if last.ends_with("..") => last,
-        _ => "",
-    };
     let mut names = form.split(' ');
     for word in line.split(' ') {
-        let name = names.next().unwrap_or(further);
-        if name.is_empty() {
-            let parts = ["`", word, "` is one word too many: `", form, "`", "", ""];
-            return Some(Reason { parts });
-        }
+        let name = match names.next() {
+            Some(name) => name,
+            None if form.ends_with("..") => last_name(form),
+            None => return Some(left_over(form, word)),
+        };
         if word == "/" && form.starts_with("connect ") {
             continue;
         }
@@ -58,8 +54,30 @@ fn unfit_word<'a>(form: &'static str, line: &'a str) -> Option<Reason<'a>> {
             return Some(reason);
         }
     }
-    let name = names.next().unwrap_or("");
-    if name.is_empty() || name.ends_with("..") || name.ends_with(']') {
+    match names.next() {
+        Some(name) => missing(form, name),
+        None => None,
+    }
+}
+
+/// The last name of a form, which stands for all further words where it ends with two points.
+fn last_name(form: &'static str) -> &'static str {
+    match form.rsplit_once(' ') {
+        Some((_, last)) => last,
+        None => form,
+    }
+}
+
+/// A word for which the form has no name.
+fn left_over<'a>(form: &'static str, word: &'a str) -> Reason<'a> {
+    Reason {
+        parts: ["`", word, "` is one word too many: `", form, "`", "", ""],
+    }
+}
+
+/// A name of the form for which there is no word, unless none is needed.
+fn missing(form: &'static str, name: &'static str) -> Option<Reason<'static>> {
+    if name.ends_with("..") || name.ends_with(']') {
         return None;
     }
     let parts = [name, " is missing: `", form, "`", "", "", ""];
@@ -79,22 +97,33 @@ fn unfit_section(line: &str) -> Option<Reason<'_>> {
 
 /// The condition that a line of the right words doesn't meet.
 fn unmet<'a>(known: &Known, line: &'a str) -> Option<Reason<'a>> {
-    let (letter, stream) = (word_at(line, 1), word_at(line, 2));
-    let end = if letter == "a" { &known.a } else { &known.b };
-    let missing = unmade(end, letter);
     match word_at(line, 0) {
         "row" => Some(Reason::words("CLOCK has to be 1 or more")),
-        "ext" => Some(Reason::around("", stream, " is no number of a header extension: 1 to 16")),
+        "ext" => Some(Reason::around(
+            "",
+            word_at(line, 2),
+            " is no number of a header extension: 1 to 16",
+        )),
         "connect" => unmade(&known.a, "a").or(unmade(&known.b, "b")),
         "play" => unmade(&known.a, "a")
             .or(unmade(&known.b, "b"))
-            .or(unopened(&known.a, "sending", letter, "a"))
-            .or(unopened(&known.b, "receiving", stream, "b")),
-        "sample" => missing.or(unopened(end, "sending", stream, letter)),
-        "poll" => missing.or(unopened(end, "receiving", stream, letter)),
-        "answer" | "accept" => missing.or(Some(Reason::words("HEX isn't a text of UTF-8"))),
-        "send" => missing.or(Some(unsound(line))),
-        _ => missing,
+            .or(unopened(&known.a, true, word_at(line, 1), "a"))
+            .or(unopened(&known.b, false, word_at(line, 2), "b")),
+        verb => {
+            let letter = word_at(line, 1);
+            let end = if letter == "a" { &known.a } else { &known.b };
+            unmade(end, letter).or(unmet_at(end, verb, line))
+        }
+    }
+}
+
+/// The condition that a line about an end that is there doesn't meet.
+fn unmet_at<'a>(end: &KnownEnd, verb: &str, line: &'a str) -> Option<Reason<'a>> {
+    match verb {
+        "sample" | "poll" => unopened(end, verb == "sample", word_at(line, 2), word_at(line, 1)),
+        "answer" | "accept" => Some(Reason::words("HEX isn't a text of UTF-8")),
+        "send" => Some(unsound(line)),
+        _ => None,
     }
 }
 
@@ -118,40 +147,42 @@ fn unmade<'a>(end: &KnownEnd, letter: &'a str) -> Option<Reason<'a>> {
 /// A stream that isn't there.
 fn unopened<'a>(
     end: &KnownEnd,
-    way: &'a str,
+    is_sender: bool,
     stream: &'a str,
     letter: &'a str,
 ) -> Option<Reason<'a>> {
     if let Some(number) = number_of(stream)
         && let Some(found) = end.streams.get(number as usize)
-        && found.is_sender == (way == "sending")
+        && found.is_sender == is_sender
     {
         return None;
     }
+    let way = if is_sender { "sending" } else { "receiving" };
     let parts = ["no ", way, " stream ", stream, " of ", letter, ""];
     Some(Reason { parts })
 }
 
 /// What is wrong with the parameters of a sending stream.
 fn unsound(line: &str) -> Reason<'_> {
-    let mtu = number_at(line, 6);
-    if number_at(line, 5) >= Some(32_768) {
-        Reason::words("FIRST has to be below 32768")
-    } else if mtu == Some(0) {
-        Reason::words("MTU has to be 1 or more")
-    } else if number_at(line, 9) > Some(32_767) {
-        Reason::words("PICTUREID has to be 32767 or less")
-    } else if mtu == Some(1) {
-        Reason::words("MTU has to be 2 or more with redundancy")
+    let mtu = number_or_zero_at(line, 6);
+    let fault = if number_or_zero_at(line, 5) >= 32_768 {
+        "FIRST has to be below 32768"
+    } else if mtu == 0 {
+        "MTU has to be 1 or more"
+    } else if number_or_zero_at(line, 9) > 32_767 {
+        "PICTUREID has to be 32767 or less"
+    } else if mtu == 1 {
+        "MTU has to be 2 or more with redundancy"
     } else if !do_rise(word_at(line, 8)) {
-        Reason::words("DISTANCES have to rise, within 1 to 8")
+        "DISTANCES have to rise, within 1 to 8"
     } else {
-        Reason::around(
+        return Reason::around(
             "no row of type ",
             word_at(line, 4),
             " is agreed that has a RED type, so DISTANCES has to be `-`",
-        )
-    }
+        );
+    };
+    Reason::words(fault)
 }
 
 /// Whether numbers that commas part rise strictly, within 1 to 8.
