@@ -9,30 +9,32 @@ mod stream;
 use payload_core::Depacketized;
 use recorder::Recorder;
 use rtp_wire::{Pt, Ssrc};
+use std::io;
 
 /// Records the datagrams of these lines, and prints the frames in order.
 pub(crate) fn record(rt: &HostRuntime, lines: &str) -> anyhow::Result<()> {
     let alloc = rt.alloc();
     let mut recorder = Recorder::new(alloc, Ssrc::from(44), Pt::from(96));
     for line in lines.lines() {
-        let taken = recorder.receive(&hex::decode(alloc, line)?)?;
-        println!(*rt; "{}", if taken { "taken" } else { "not taken" })?;
-        print(rt, &recorder.frames(alloc)?)?;
+        record_line(rt, &mut recorder, line)?;
     }
-    print(rt, &recorder.last_frames(alloc)?)
+    Ok(print(rt, &recorder.last_frames(alloc)?)?)
+}
+
+/// Records the datagram of a line, and prints the frames that are due then.
+fn record_line(rt: &HostRuntime, recorder: &mut Recorder, line: &str) -> anyhow::Result<()> {
+    let taken = recorder.receive(&hex::decode(rt.alloc(), line)?)?;
+    println!(*rt; "{}", if taken { "taken" } else { "not taken" })?;
+    Ok(print(rt, &recorder.frames(rt.alloc())?)?)
 }
 
 /// A line for each frame.
-fn print(rt: &HostRuntime, frames: &[Depacketized]) -> anyhow::Result<()> {
+fn print(rt: &HostRuntime, frames: &[Depacketized]) -> io::Result<()> {
     for frame in frames {
-        let numbers = frame.seq_range();
-        println!(*rt;
-            "frame of packets {} to {}, time {}: {}",
-            numbers.start(),
-            numbers.end(),
-            frame.time(),
-            hex::encode(rt.alloc(), &frame.bytes)?
-        )?;
+        let (numbers, time) = (frame.seq_range(), frame.time());
+        let (first, last) = (numbers.start(), numbers.end());
+        let bytes = hex::encode(rt.alloc(), &frame.bytes)?;
+        println!(*rt; "frame of packets {first} to {last}, time {time}: {bytes}")?;
     }
     Ok(())
 }

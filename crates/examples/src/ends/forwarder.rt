@@ -53,18 +53,13 @@ impl Forwarder {
         self.inward.receive(datagram)?;
         let mut sent = Vec::new(alloc);
         for _ in 0..MOST_UNITS {
-            let Some(unit) = self.next_unit()? else {
-                break;
-            };
-            sent.extend(self.push(&unit)?)?;
+            ensure!(self.inward.is_receiver(self.rx), "no such stream");
+            match self.inward.poll(self.rx)? {
+                Some(unit) => sent.extend(self.push(&unit)?)?,
+                None => break,
+            }
         }
         Ok(sent)
-    }
-
-    /// The next unit that is due.
-    fn next_unit(&mut self) -> anyhow::Result<Option<Unit>> {
-        ensure!(self.inward.is_receiver(self.rx), "no such stream");
-        Ok(self.inward.poll(self.rx)?)
     }
 
     /// The datagrams of a unit, with its time and the values of its header extensions.

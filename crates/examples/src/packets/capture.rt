@@ -5,7 +5,7 @@ use std::alloc::Global;
 use std::str::SplitWhitespace;
 
 /// The codec and payload type of a capture's streams, and the type of their redundant payloads.
-#[derive(Clone, Copy, Drop)]
+#[derive(Clone, Copy)]
 pub(crate) struct Capture {
     pub(crate) codec: Codec,
     pub(crate) pt: u8,

@@ -9,6 +9,7 @@ use payload_core::{
 };
 use rtp_wire::ExtensionValues;
 use std::alloc::Global;
+use std::io;
 
 /// How many frames are sent.
 const FRAMES: u8 = 12;
@@ -22,13 +23,22 @@ pub(crate) fn lossy_link(rt: &HostRuntime) -> anyhow::Result<()> {
     let packets = packets(alloc)?;
     let mut buffer = DepacketizingBuffer::new(alloc, Vp8Depacketizer::new(), HOLD_BACK);
     for (number, packet) in (0u64..).zip(&packets) {
-        if is_lost(number) {
-            println!(*rt; "packet {number} is lost")?;
-        } else {
-            print(rt, &arrive(alloc, &mut buffer, number, packet)?, "")?;
-        }
+        send(rt, &mut buffer, number, packet)?;
     }
-    print(rt, &last_frames(alloc, &mut buffer)?, ", at the end")
+    Ok(print(rt, &last_frames(alloc, &mut buffer)?, ", at the end")?)
+}
+
+/// Sends the packet of this number over the link.
+fn send(
+    rt: &HostRuntime,
+    buffer: &mut DepacketizingBuffer<Vp8Depacketizer>,
+    number: u64,
+    packet: &SentPacket,
+) -> anyhow::Result<()> {
+    if is_lost(number) {
+        return Ok(println!(*rt; "packet {number} is lost")?);
+    }
+    Ok(print(rt, &arrive(rt.alloc(), buffer, number, packet)?, "")?)
 }
 
 /// The frames that are due once the packet of this number is there.
@@ -45,7 +55,7 @@ fn arrive(
 }
 
 /// A line for each frame, with this behind it.
-fn print(rt: &HostRuntime, frames: &[Depacketized], behind: &str) -> anyhow::Result<()> {
+fn print(rt: &HostRuntime, frames: &[Depacketized], behind: &str) -> io::Result<()> {
     for frame in frames {
         let (time, len) = (frame.time(), frame.bytes.len());
         println!(*rt; "frame at {time}, {len} bytes{behind}")?;

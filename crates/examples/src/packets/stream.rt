@@ -14,7 +14,7 @@ use std::alloc::Global;
 const HOLD_BACK: usize = 127;
 
 /// What came of a stream's datagrams.
-#[derive(Clone, Copy, Drop)]
+#[derive(Clone, Copy)]
 pub(crate) struct Counts {
     /// Datagrams that were taken.
     pub(crate) taken: u64,
@@ -35,6 +35,19 @@ pub(crate) struct Counts {
     /// Frames that could not be read.
     pub(crate) faults: u64,
 }
+
+/// Nothing came.
+const NONE: Counts = Counts {
+    taken: 0,
+    padding: 0,
+    refused: 0,
+    units: 0,
+    bytes: 0,
+    keyframes: 0,
+    begins_with_keyframe: false,
+    drained: 0,
+    faults: 0,
+};
 
 /// A stream: its SSRC, its replay window and its buffer.
 #[derive(Drop)]
@@ -70,10 +83,7 @@ fn primary_of(payload: &[u8], pt: u8) -> Option<&[u8]> {
 
 /// The payload of a datagram without its padding and redundancy.
 fn payload_of<'a>(capture: &Capture, header: &RtpHeader, datagram: &'a [u8]) -> Option<&'a [u8]> {
-    if header.header_len > datagram.len() {
-        return None;
-    }
-    let payload = unpad_payload(header.has_padding, &datagram[header.header_len..])?;
+    let payload = unpad_payload(header.has_padding, datagram.get(header.header_len..)?)?;
     if payload.is_empty() || header.payload_type.get() == capture.pt {
         return Some(payload);
     }
@@ -110,20 +120,9 @@ impl Counts {
 impl Stream {
     /// A stream that received nothing; None where the codec has no payload format.
     pub(crate) fn new(alloc: Global, capture: &Capture, ssrc: Ssrc) -> Option<Stream> {
-        let counts = Counts {
-            taken: 0,
-            padding: 0,
-            refused: 0,
-            units: 0,
-            bytes: 0,
-            keyframes: 0,
-            begins_with_keyframe: false,
-            drained: 0,
-            faults: 0,
-        };
         Some(Stream {
             ssrc,
-            counts,
+            counts: NONE,
             window: None,
             buffer: DepacketizingBuffer::new(alloc, capture.depacketizer(alloc)?, HOLD_BACK),
         })

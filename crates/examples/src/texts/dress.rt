@@ -29,13 +29,11 @@ fn push_transport(
 ) -> Result<(), AllocError>
     ensures { OnOk result (attributes.new ≡ attributes.old ++ transport_lines transport.now) }
 {
-    let fingerprint = Fingerprint {
-        hash_func: transport.fingerprint.hash_func.clone(alloc)?,
-        bytes: Listed::of(Vec::from_slice(alloc, transport.fingerprint.bytes.as_slice())?),
-    };
     attributes.push(MediaAttribute::IceUfrag(transport.creds.ufrag.clone(alloc)?))?;
     attributes.push(MediaAttribute::IcePwd(transport.creds.pass.clone(alloc)?))?;
-    attributes.push(MediaAttribute::Fingerprint(fingerprint))?;
+    let hash_func = transport.fingerprint.hash_func.clone(alloc)?;
+    let bytes = Listed::of(Vec::from_slice(alloc, transport.fingerprint.bytes.as_slice())?);
+    attributes.push(MediaAttribute::Fingerprint(Fingerprint { hash_func, bytes }))?;
     attributes.push(MediaAttribute::Setup(transport.setup))?;
     attributes.push(MediaAttribute::RtcpMux)
 }
