@@ -27,15 +27,8 @@ pub(crate) struct Call {
 impl Call {
     /// Two ends that exchanged texts, and a stream from the first to the second.
     pub(crate) fn new(alloc: Global, case: &Case, hold_back: usize) -> Result<Self, Stopped> {
-        let mut a = end(alloc, case, 1)?;
-        let mut b = end(alloc, case, 2)?;
         let ssrc = Ssrc::from(44);
-        connect(
-            &mut a,
-            &mut b,
-            sections(alloc, case, vec![in alloc; ssrc]?)?,
-            sections(alloc, case, vec![in alloc; Ssrc::from(45)]?)?,
-        )?;
+        let (mut a, mut b) = connected(alloc, case, vec![in alloc; ssrc]?)?;
         let tx = open_sender(alloc, &mut a, case, ssrc, SHORT)?;
         let rx = b.open_receiver(Mid::from("0"), ssrc, Pt::from(TYPE), hold_back)?;
         Ok(Call { a, b, tx, rx })
@@ -67,6 +60,20 @@ impl Call {
     }
 }
 
+/// Two ends of a row that exchanged texts, in which the first one's section has these SSRCs.
+pub(crate) fn connected(
+    alloc: Global,
+    case: &Case,
+    ssrcs: Vec<Ssrc>,
+) -> Result<(End, End), Stopped> {
+    let sections_a = sections(alloc, case, ssrcs)?;
+    let sections_b = sections_of(alloc, case, 0)?;
+    let mut a = end(alloc, case, 1)?;
+    let mut b = end(alloc, case, 2)?;
+    connect(&mut a, &mut b, sections_a, sections_b)?;
+    Ok((a, b))
+}
+
 /// An end of one row.
 pub(crate) fn end(alloc: Global, case: &Case, session: u64) -> Result<End, Stopped> {
     let config = CodecConfig::new_from_payload_params(vec![in alloc; case.row()]?);
@@ -74,12 +81,17 @@ pub(crate) fn end(alloc: Global, case: &Case, session: u64) -> Result<End, Stopp
     Ok(End::new(alloc, config, session, ExtensionMap::empty())?)
 }
 
-/// One section that flows both ways, of these SSRCs.
-pub(crate) fn sections(
+/// One section that flows both ways, of this SSRC.
+pub(crate) fn sections_of(
     alloc: Global,
     case: &Case,
-    ssrcs: Vec<Ssrc>,
+    ssrc: u32,
 ) -> Result<Vec<SectionSpec>, AllocError> {
+    sections(alloc, case, vec![in alloc; Ssrc::from(ssrc)]?)
+}
+
+/// One section that flows both ways, of these SSRCs.
+fn sections(alloc: Global, case: &Case, ssrcs: Vec<Ssrc>) -> Result<Vec<SectionSpec>, AllocError> {
     let kind = if case.codec.is_video() {
         MediaKind::Video
     } else {
@@ -114,17 +126,24 @@ pub(crate) fn open_sender(
 
 /// With redundancy one and three packets back.
 fn params(alloc: Global, case: &Case, mtu: usize) -> Result<StreamParams, AllocError> {
-    let red = if case.has_red() {
-        Some(Distances::from_vec(vec![in alloc; 1, 3]?))
-    } else {
-        None
-    };
     Ok(StreamParams {
         first: FIRST,
         mtu,
         limit: mtu.saturating_add(100),
-        red,
+        red: distances(alloc, case, &[1, 3])?,
         picture_id: Some(32_000),
         for_browsers: false,
     })
+}
+
+/// These distances, where the row has redundancy.
+pub(crate) fn distances(
+    alloc: Global,
+    case: &Case,
+    distances: &[u8],
+) -> Result<Option<Distances>, AllocError> {
+    if !case.has_red() {
+        return Ok(None);
+    }
+    Ok(Some(Distances::from_vec(Vec::from_slice(alloc, distances)?)))
 }

@@ -2,6 +2,7 @@
 
 use rtp_media::{Codec, CodecSpec, FormatParams, PayloadParams};
 use rtp_wire::{Frequency, Pt};
+use std::fmt;
 
 /// The payload type of each row, and its RED type where it has one.
 pub(crate) const TYPE: u8 = 111;
@@ -9,7 +10,7 @@ pub(crate) const TYPE: u8 = 111;
 const RED_TYPE: u8 = 63;
 
 /// What a row has beside its codec.
-#[derive(Clone, Copy, Drop)]
+#[derive(Clone, Copy)]
 pub(crate) enum Beside {
     Nothing,
     Redundancy,
@@ -18,23 +19,31 @@ pub(crate) enum Beside {
 }
 
 /// A codec as a row of both ends.
-#[derive(Clone, Copy, Drop)]
+#[derive(Clone, Copy)]
 pub(crate) struct Case {
     pub(crate) codec: Codec,
     pub(crate) beside: Beside,
 }
 
-impl Case {
-    /// What it has beside its codec, in words.
-    pub(crate) fn manner(&self) -> &'static str {
-        match self.beside {
+/// Opus alone.
+pub(crate) const OPUS: Case = Case {
+    codec: Codec::Opus,
+    beside: Beside::Nothing,
+};
+
+impl fmt::Display for Case {
+    fn fmt<W: fmt::Write>(&self, f: &mut fmt::Formatter<W>) -> fmt::Result {
+        f.write_str(self.codec.as_str())?;
+        f.write_str(match self.beside {
             Beside::Nothing => "",
             Beside::Redundancy => " with redundancy",
             Beside::OctetAlign => " octet-aligned",
             Beside::DecodingOrder => " with decoding order numbers",
-        }
+        })
     }
+}
 
+impl Case {
     /// Whether it has a RED type.
     pub(crate) fn has_red(&self) -> bool {
         matches!(self.beside, Beside::Redundancy)
@@ -95,37 +104,24 @@ impl Case {
     }
 }
 
-fn plain(codec: Codec) -> Case {
-    Case {
-        codec,
-        beside: Beside::Nothing,
-    }
-}
-
-fn with(codec: Codec, beside: Beside) -> Case {
-    Case { codec, beside }
-}
-
 /// Each codec that has a payload format, in each of its layouts.
-pub(crate) fn cases() -> [Case; 18] {
-    [
-        plain(Codec::Opus),
-        with(Codec::Opus, Beside::Redundancy),
-        plain(Codec::PCMU),
-        plain(Codec::PCMA),
-        with(Codec::PCMA, Beside::Redundancy),
-        plain(Codec::G722),
-        plain(Codec::CN),
-        plain(Codec::AmrWb),
-        with(Codec::AmrWb, Beside::OctetAlign),
-        plain(Codec::Tele),
-        plain(Codec::Vp8),
-        plain(Codec::Vp9),
-        plain(Codec::Av1),
-        plain(Codec::H264),
-        plain(Codec::H265),
-        with(Codec::H265, Beside::DecodingOrder),
-        plain(Codec::H266),
-        with(Codec::H266, Beside::DecodingOrder),
-    ]
-}
+pub(crate) const CASES: [(Codec, Beside); 18] = [
+    (Codec::Opus, Beside::Nothing),
+    (Codec::Opus, Beside::Redundancy),
+    (Codec::PCMU, Beside::Nothing),
+    (Codec::PCMA, Beside::Nothing),
+    (Codec::PCMA, Beside::Redundancy),
+    (Codec::G722, Beside::Nothing),
+    (Codec::CN, Beside::Nothing),
+    (Codec::AmrWb, Beside::Nothing),
+    (Codec::AmrWb, Beside::OctetAlign),
+    (Codec::Tele, Beside::Nothing),
+    (Codec::Vp8, Beside::Nothing),
+    (Codec::Vp9, Beside::Nothing),
+    (Codec::Av1, Beside::Nothing),
+    (Codec::H264, Beside::Nothing),
+    (Codec::H265, Beside::Nothing),
+    (Codec::H265, Beside::DecodingOrder),
+    (Codec::H266, Beside::Nothing),
+    (Codec::H266, Beside::DecodingOrder),
+];

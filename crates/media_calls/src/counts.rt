@@ -37,7 +37,7 @@ impl Canonical {
 }
 
 /// How many samples were sent, and how many of their units came out whole, in part, and not at all.
-#[derive(Clone, Copy, Debug)]
+#[derive(Clone, Copy)]
 pub(crate) struct Counts {
     pub(crate) sent: usize,
     pub(crate) whole: usize,

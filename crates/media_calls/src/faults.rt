@@ -51,84 +51,103 @@ impl Write for Sink {
     }
 }
 
-/// A source of these bytes, which then ends.
-fn make_source(rest: &[u8]) -> Source<'_> {
-    Source { rest, fails: false }
-}
-
-/// A sink with so much room.
-fn make_sink(alloc: Global, room: usize, fails: bool) -> Sink {
-    Sink {
-        taken: Vec::new(alloc),
-        room,
-        fails,
-    }
-}
-
-/// Whether the lines of a source have this result within so many reads, and this is written.
-fn runs_so(
-    alloc: Global,
+/// Lines, how often they are read and whether reads fail behind them, how much is written and whether writes fail then,
+/// and what is to come of it.
+struct Run {
+    lines: &'static [u8],
     reads: usize,
-    mut source: Source<'_>,
-    mut sink: Sink,
-    wanted: (Result<Status, RunFault>, &str),
-) -> bool {
+    fails_to_read: bool,
+    room: usize,
+    fails_to_write: bool,
+    result: Result<Status, RunFault>,
+    written: &'static [u8],
+}
+
+/// A read or a write that fails, or a write that takes nothing.
+const FAILING: [Run; 3] = [
+    Run {
+        lines: b"fixed a\nfixed b",
+        reads: MANY,
+        fails_to_read: true,
+        room: usize::MAX,
+        fails_to_write: false,
+        result: Err(RunFault::Read),
+        written: b"ok\n",
+    },
+    Run {
+        lines: b"fixed a\nfixed b\n",
+        reads: MANY,
+        fails_to_read: false,
+        room: 5,
+        fails_to_write: true,
+        result: Err(RunFault::Write),
+        written: b"ok\nok",
+    },
+    Run {
+        lines: b"fixed a\nfixed b\n",
+        reads: MANY,
+        fails_to_read: false,
+        room: 5,
+        fails_to_write: false,
+        result: Err(RunFault::Write),
+        written: b"ok\nok",
+    },
+];
+
+/// Just the reads that are needed, and one less.
+const READS: [Run; 2] = [
+    Run {
+        lines: b"fixed a\n",
+        reads: 4,
+        fails_to_read: false,
+        room: usize::MAX,
+        fails_to_write: false,
+        result: Ok(Status::Success),
+        written: b"ok\n",
+    },
+    Run {
+        lines: b"fixed a\n",
+        reads: 3,
+        fails_to_read: false,
+        room: usize::MAX,
+        fails_to_write: false,
+        result: Err(RunFault::Read),
+        written: b"ok\n",
+    },
+];
+
+/// Whether what is to come of each run comes of it.
+fn all_go_so(alloc: Global, runs: &[Run]) -> bool {
+    for run in runs {
+        if !goes_so(alloc, run) {
+            return false;
+        }
+    }
+    true
+}
+
+/// Whether what is to come of a run comes of it.
+fn goes_so(alloc: Global, run: &Run) -> bool {
+    let mut source = Source {
+        rest: run.lines,
+        fails: run.fails_to_read,
+    };
+    let mut sink = Sink {
+        taken: Vec::new(alloc),
+        room: run.room,
+        fails: run.fails_to_write,
+    };
     let mut program = Program::new(alloc);
-    let result = run_within(alloc, reads, &mut source, &mut sink, &mut program);
-    result == wanted.0 && sink.taken.as_slice() == wanted.1.as_bytes()
+    let result = run_within(alloc, run.reads, &mut source, &mut sink, &mut program);
+    result == run.result && sink.taken.as_slice() == run.written
 }
 
 /// A read or a write that fails, or a write that takes nothing, ends a run; what was written before stays.
 pub(crate) fn reads_and_writes_that_fail(alloc: Global) -> bool {
-    let failing = Source {
-        rest: b"fixed a\nfixed b",
-        fails: true,
-    };
-    let wanted = (Err(RunFault::Read), "ok\n");
-    let read = runs_so(
-        alloc,
-        MANY,
-        failing,
-        make_sink(alloc, usize::MAX, false),
-        wanted,
-    );
-    let lines = b"fixed a\nfixed b\n";
-    let wanted = (Err(RunFault::Write), "ok\nok");
-    let write = runs_so(
-        alloc,
-        MANY,
-        make_source(lines),
-        make_sink(alloc, 5, true),
-        wanted,
-    );
-    let none_taken = runs_so(
-        alloc,
-        MANY,
-        make_source(lines),
-        make_sink(alloc, 5, false),
-        wanted,
-    );
-    read && write && none_taken
+    all_go_so(alloc, &FAILING)
 }
 
 /// An input that takes more reads than it may ends a run as a read that fails does, and not one that takes just these.
 pub(crate) fn an_input_that_takes_more_reads(alloc: Global) -> bool {
-    let line = b"fixed a\n";
-    let all = (Ok(Status::Success), "ok\n");
-    let in_four = runs_so(
-        alloc,
-        4,
-        make_source(line),
-        make_sink(alloc, usize::MAX, false),
-        all,
-    );
-    let fewer = (Err(RunFault::Read), "ok\n");
-    let in_three = runs_so(
-        alloc,
-        3,
-        make_source(line),
-        make_sink(alloc, usize::MAX, false),
-        fewer,
-    );
-    in_four && in_three
+    all_go_so(alloc, &READS)
 }

@@ -27,32 +27,31 @@ use sessions::{
     lines_that_would_be_read_otherwise_are_refused, offers_say_the_lines_of_the_session,
 };
 use soak::soak_all;
-use std::alloc::Global;
 use std::process::ExitCode;
+use stopped::Stopped;
 
 /// Prints what comes out of the proved calls, a line for each worked row, and a line for each run; status 1 where
 /// something is wrong.
 fn main(rt: HostRuntime) -> ExitCode {
-    if let Err(stopped) = print_calls(&rt) {
-        let _ = eprintln!(rt; "{stopped}");
-        return ExitCode::from(1);
-    }
-    match print_rows(&rt, rt.alloc()) {
-        Ok(true) => {}
-        Ok(false) => return ExitCode::from(1),
-        Err(fault) => {
-            let _ = eprintln!(rt; "{fault}");
-            return ExitCode::from(1);
+    match are_all_right(&rt) {
+        Ok(true) => ExitCode::from(0),
+        Ok(false) => ExitCode::from(1),
+        Err(stopped) => {
+            let _ = eprintln!(rt; "{stopped}");
+            ExitCode::from(1)
         }
     }
-    if soak_all(&rt) {
-        return ExitCode::from(0);
-    }
-    ExitCode::from(1)
+}
+
+/// Prints them, up to the first part in which something is wrong, and answers whether there is none.
+fn are_all_right(rt: &HostRuntime) -> Result<bool, Stopped> {
+    print_calls(rt)?;
+    Ok(print_rows(rt)? && soak_all(rt))
 }
 
 /// A line for each row that the program's lines can't say, and whether all are as they must be.
-fn print_rows(rt: &impl Print, alloc: Global) -> anyhow::Result<bool> {
+fn print_rows(rt: &HostRuntime) -> Result<bool, Stopped> {
+    let alloc = rt.alloc();
     let rows = [
         (
             "row 12, receive_all",
@@ -81,10 +80,10 @@ fn print_rows(rt: &impl Print, alloc: Global) -> anyhow::Result<bool> {
         ),
     ];
     let mut all_are_right = true;
-    for (name, is_right) in rows {
-        let word = if is_right { "ok" } else { "wrong" };
-        println!(rt; "{name}: {word}")?;
-        all_are_right &= is_right;
+    for (name, is_right) in &rows {
+        let word = if *is_right { "ok" } else { "wrong" };
+        let _ = println!(*rt; "{name}: {word}");
+        all_are_right &= *is_right;
     }
     Ok(all_are_right)
 }

@@ -1,9 +1,9 @@
 //! Ends with many streams, and samples of real sizes.
 
-use crate::calls::{end, open_sender, sections};
+use crate::calls::{connected, open_sender};
 use crate::cases::{Case, TYPE};
 use crate::stopped::Stopped;
-use rtp_media::{Datagram, End, Received, connect};
+use rtp_media::{Datagram, End, Received};
 use rtp_wire::{ExtensionValues, MediaTime, Mid, Pt, Ssrc};
 use std::alloc::Global;
 use std::time::{Duration, Instant};
@@ -12,7 +12,7 @@ use std::time::{Duration, Instant};
 const MTU: usize = 1_200;
 
 /// How many streams two ends have, and which sample the last of them carries how often.
-#[derive(Clone, Copy, Drop)]
+#[derive(Clone, Copy)]
 pub(crate) struct Load<'a> {
     pub(crate) streams: u32,
     pub(crate) sample: &'a [u8],
@@ -21,7 +21,7 @@ pub(crate) struct Load<'a> {
 
 /// What sending the samples took, opening receiving streams for all SSRCs of the section, and receiving and polling
 /// the datagrams.
-#[derive(Clone, Copy, Drop)]
+#[derive(Clone, Copy)]
 pub(crate) struct Times {
     pub(crate) sent: Duration,
     pub(crate) opened: Duration,
@@ -32,30 +32,21 @@ pub(crate) struct Times {
 /// sends those of the last.
 pub(crate) fn carry(rt: &HostRuntime, case: &Case, load: Load<'_>) -> Result<Times, Stopped> {
     let alloc = rt.alloc();
-    let mut sender = end(alloc, case, 1)?;
-    let mut receiver = end(alloc, case, 2)?;
     let ssrcs = (1..=load.streams).map(Ssrc::from).collect(alloc)?;
-    connect(
-        &mut sender,
-        &mut receiver,
-        sections(alloc, case, ssrcs)?,
-        sections(alloc, case, vec![in alloc; Ssrc::from(0)]?)?,
-    )?;
+    let (mut sender, mut receiver) = connected(alloc, case, ssrcs)?;
     let start = Instant::now(rt)?;
     open_all(&mut receiver, load.streams)?;
     let opened = start.elapsed(rt)?;
-    let start = Instant::now(rt)?;
     let datagrams = datagrams_of(alloc, case, &mut sender, load)?;
     let sent = start.elapsed(rt)?;
-    let start = Instant::now(rt)?;
     if received(&mut receiver, &datagrams)? != load.count {
         return Err(Stopped::Missing);
     }
     let received = start.elapsed(rt)?;
     Ok(Times {
-        sent,
+        sent: sent.saturating_sub(opened),
         opened,
-        received,
+        received: received.saturating_sub(sent),
     })
 }
 
@@ -91,22 +82,17 @@ fn open_all(receiver: &mut End, count: u32) -> Result<(), Stopped> {
 fn received(receiver: &mut End, datagrams: &[Datagram]) -> Result<u32, Stopped> {
     let mut units = 0u32;
     for datagram in datagrams {
-        if has_unit(receiver, datagram)? {
-            units = units.saturating_add(1);
+        let Received::Taken(rx, _) = receiver.receive(datagram.as_slice())? else {
+            return Err(Stopped::Missing);
+        };
+        if !receiver.is_receiver(rx) {
+            return Err(Stopped::Refused);
+        }
+        match receiver.poll(rx) {
+            Ok(Some(_)) => units = units.saturating_add(1),
+            Ok(None) => {}
+            Err(_) => return Err(Stopped::Fault),
         }
     }
     Ok(units)
-}
-
-fn has_unit(receiver: &mut End, datagram: &Datagram) -> Result<bool, Stopped> {
-    let Received::Taken(rx, _) = receiver.receive(datagram.as_slice())? else {
-        return Err(Stopped::Missing);
-    };
-    if !receiver.is_receiver(rx) {
-        return Err(Stopped::Refused);
-    }
-    match receiver.poll(rx) {
-        Ok(unit) => Ok(unit.is_some()),
-        Err(_) => Err(Stopped::Fault),
-    }
 }

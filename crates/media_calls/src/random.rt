@@ -2,7 +2,7 @@
 
 ghost use Rattle.std.specs.Prelude.{◌<◌};
 
-use std::alloc::{AllocError, Global};
+use std::alloc::AllocError;
 
 /// A linear congruential generator.
 #[derive(Drop)]
@@ -40,12 +40,11 @@ impl Random {
         self.below(256) as u8
     }
 
-    /// So many bytes other than 0.
-    pub(crate) fn bytes(&mut self, alloc: Global, count: u64) -> Result<Vec<u8>, AllocError> {
-        let mut bytes = Vec::new(alloc);
+    /// Puts so many bytes other than 0 behind others.
+    pub(crate) fn put_bytes(&mut self, bytes: &mut Vec<u8>, count: u64) -> Result<(), AllocError> {
         for _ in 0..count {
             bytes.push(self.below(255) as u8 + 1)?;
         }
-        Ok(bytes)
+        Ok(())
     }
 }

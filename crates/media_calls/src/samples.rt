@@ -5,11 +5,11 @@ mod obus;
 mod units;
 
 use crate::random::Random;
-use audio::{amr_wb_sample, audio_sample, event_sample, vp8_sample, vp9_sample};
-use obus::temporal_unit;
+use audio::{put_amr_wb, put_event, put_sound, put_vp8, put_vp9};
+use obus::put_temporal_unit;
 use rtp_media::Codec;
 use std::alloc::{AllocError, Global};
-use units::access_unit;
+use units::put_access_unit;
 
 /// A sample's bytes, the bytes of its unit, and where the parts of the unit begin: a unit may lack its leading parts.
 #[derive(Drop)]
@@ -19,26 +19,6 @@ pub(crate) struct Drawn {
     pub(crate) parts: Vec<usize>,
 }
 
-impl Drawn {
-    /// A sample without bytes.
-    fn empty(alloc: Global) -> Self {
-        Drawn {
-            bytes: Vec::new(alloc),
-            unit: Vec::new(alloc),
-            parts: Vec::new(alloc),
-        }
-    }
-
-    /// A sample that is its own unit, in one part.
-    fn whole(alloc: Global, bytes: Vec<u8>) -> Result<Self, AllocError> {
-        Ok(Drawn {
-            unit: Vec::from_slice(alloc, &bytes)?,
-            parts: vec![in alloc; 0]?,
-            bytes,
-        })
-    }
-}
-
 /// The sample of a place; every eighth picture is a key picture.
 pub(crate) fn draw_sample(
     alloc: Global,
@@ -46,15 +26,33 @@ pub(crate) fn draw_sample(
     codec: Codec,
     place: usize,
 ) -> Result<Drawn, AllocError> {
-    let is_key = place % 8 == 0;
-    let bytes = match codec {
-        Codec::AmrWb => amr_wb_sample(alloc, random)?,
-        Codec::Tele => event_sample(alloc, random)?,
-        Codec::Vp8 => vp8_sample(alloc, random, is_key)?,
-        Codec::Vp9 => vp9_sample(alloc, random, is_key)?,
-        Codec::Av1 => return temporal_unit(alloc, random, is_key),
-        Codec::H264 | Codec::H265 | Codec::H266 => return access_unit(alloc, random, codec, is_key),
-        _ => audio_sample(alloc, random)?,
+    let mut drawn = Drawn {
+        bytes: Vec::new(alloc),
+        unit: Vec::new(alloc),
+        parts: Vec::new(alloc),
     };
-    Drawn::whole(alloc, bytes)
+    put_sample(random, codec, place % 8 == 0, &mut drawn)?;
+    if drawn.parts.is_empty() {
+        drawn.unit.extend_from_slice(&drawn.bytes)?;
+        drawn.parts.push(0)?;
+    }
+    Ok(drawn)
+}
+
+/// Puts the bytes of a sample, and the unit and its parts where the sample isn't its own unit, in one part.
+fn put_sample(
+    random: &mut Random,
+    codec: Codec,
+    is_key: bool,
+    drawn: &mut Drawn,
+) -> Result<(), AllocError> {
+    match codec {
+        Codec::AmrWb => put_amr_wb(random, &mut drawn.bytes),
+        Codec::Tele => put_event(random, &mut drawn.bytes),
+        Codec::Vp8 => put_vp8(random, is_key, &mut drawn.bytes),
+        Codec::Vp9 => put_vp9(random, is_key, &mut drawn.bytes),
+        Codec::Av1 => put_temporal_unit(random, is_key, drawn),
+        Codec::H264 | Codec::H265 | Codec::H266 => put_access_unit(random, codec, is_key, drawn),
+        _ => put_sound(random, &mut drawn.bytes),
+    }
 }

@@ -12,7 +12,7 @@ const BLOCK: usize = 128;
 
 /// The order in which the datagrams of a block come: place `k` has the one at `k * factor + turn`, modulo the block's
 /// length, so that an odd factor gives each of them one place.
-#[derive(Clone, Copy, Drop)]
+#[derive(Clone, Copy)]
 struct Order {
     factor: usize,
     turn: usize,
@@ -35,53 +35,51 @@ impl Order {
     }
 }
 
-/// A tame schedule of so many datagrams: every one comes, none later than one numbered 128 above it, some again; behind
-/// the first block polls come at times; and at the end so many polls and one more.
-pub(crate) fn tame_schedule(
+/// A schedule of so many datagrams, with so many polls and one more at the end. In a tame one every datagram comes, none
+/// later than one numbered 128 above it, some again, and behind the first block polls come at times. In a sane one
+/// datagrams are lost, and polls come at any time.
+pub(crate) fn draw_schedule(
     alloc: Global,
     random: &mut Random,
+    is_tame: bool,
     count: usize,
     polls: usize,
 ) -> Result<Vec<Event>, AllocError> {
     let mut schedule = Vec::new(alloc);
     for block in 0..count.div_ceil(BLOCK) {
-        let order = Order::draw(random);
-        for place in 0..BLOCK {
-            let number = (block * BLOCK).saturating_add(order.at(place));
-            schedule.push(Event::Arrive(number))?;
-            disturb(alloc, &mut schedule, random, number)?;
-            if block > 0 && random.one_in(2) {
-                schedule.push(Event::Poll)?;
-            }
-        }
+        put_block(alloc, random, is_tame, block, &mut schedule)?;
     }
-    poll_out(&mut schedule, polls)?;
+    for _ in 0..=polls {
+        schedule.push(Event::Poll)?;
+    }
     Ok(schedule)
 }
 
-/// A sane one: the same, but that datagrams are lost, and polls come at any time.
-pub(crate) fn sane_schedule(
+/// Puts the datagrams of a block, with polls among them.
+fn put_block(
     alloc: Global,
     random: &mut Random,
-    count: usize,
-    polls: usize,
-) -> Result<Vec<Event>, AllocError> {
-    let mut schedule = Vec::new(alloc);
-    for block in 0..count.div_ceil(BLOCK) {
-        let order = Order::draw(random);
-        for place in 0..BLOCK {
-            let number = (block * BLOCK).saturating_add(order.at(place));
-            if !random.one_in(24) {
-                schedule.push(Event::Arrive(number))?;
-            }
-            disturb(alloc, &mut schedule, random, number)?;
-            if random.one_in(3) {
-                schedule.push(Event::Poll)?;
-            }
+    is_tame: bool,
+    block: usize,
+    schedule: &mut Vec<Event>,
+) -> Result<(), AllocError> {
+    let order = Order::draw(random);
+    for place in 0..BLOCK {
+        let number = block.saturating_mul(BLOCK).saturating_add(order.at(place));
+        if is_tame || !random.one_in(24) {
+            schedule.push(Event::Arrive(number))?;
+        }
+        disturb(alloc, schedule, random, number)?;
+        let is_polled = if is_tame {
+            block > 0 && random.one_in(2)
+        } else {
+            random.one_in(3)
+        };
+        if is_polled {
+            schedule.push(Event::Poll)?;
         }
     }
-    poll_out(&mut schedule, polls)?;
-    Ok(schedule)
+    Ok(())
 }
 
 /// At times an earlier datagram comes again, or late, or other bytes come.
@@ -111,8 +109,7 @@ fn other_bytes(alloc: Global, random: &mut Random) -> Result<Vec<u8>, AllocError
         _ => header(alloc, random, 5, 44)?,
     };
     let count = random.below(40);
-    let rest = random.bytes(alloc, count)?;
-    bytes.extend_from_slice(&rest)?;
+    random.put_bytes(&mut bytes, count)?;
     Ok(bytes)
 }
 
@@ -124,13 +121,4 @@ fn header(alloc: Global, random: &mut Random, pt: u8, ssrc: u8) -> Result<Vec<u8
     }
     bytes.extend_from_slice(&[0, 0, 0, ssrc])?;
     Ok(bytes)
-}
-
-/// So many polls, and one more.
-fn poll_out(schedule: &mut Vec<Event>, polls: usize) -> Result<(), AllocError> {
-    for _ in 0..polls {
-        schedule.push(Event::Poll)?;
-    }
-    schedule.push(Event::Poll)?;
-    Ok(())
 }

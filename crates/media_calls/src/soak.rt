@@ -2,13 +2,13 @@
 //! with what was sent, and counted.
 
 use crate::calls::{Call, FIRST};
-use crate::cases::{Case, cases};
+use crate::cases::{CASES, Case, OPUS};
 use crate::counts::{Canonical, Counts, count_units};
 use crate::many::{Load, Times, carry};
 use crate::random::Random;
 use crate::rates::{sized_sample, usual_size};
 use crate::samples::{Drawn, draw_sample};
-use crate::schedules::{sane_schedule, tame_schedule};
+use crate::schedules::draw_schedule;
 use crate::stopped::Stopped;
 use rtp_media::Sample;
 use rtp_wire::{ExtensionValues, MediaTime};
@@ -36,111 +36,104 @@ const MANY: [u32; 5] = [1, 8, 100, 2_000, 8_000];
 /// streams. Times are printed on standard error. Answers whether all were right.
 pub(crate) fn soak_all(rt: &HostRuntime) -> bool {
     let mut all_are_right = true;
-    for case in cases() {
-        all_are_right &= report(rt, &case, true) && report(rt, &case, false);
+    for (codec, beside) in &CASES {
+        let case = Case {
+            codec: *codec,
+            beside: *beside,
+        };
+        all_are_right &= is_right(rt, report(rt, &case, true))
+            && is_right(rt, report(rt, &case, false));
     }
-    for case in cases() {
-        all_are_right &= report_rates(rt, &case);
+    for (codec, beside) in &CASES {
+        let case = Case {
+            codec: *codec,
+            beside: *beside,
+        };
+        all_are_right &= is_right(rt, report_rates(rt, &case));
     }
-    for count in MANY {
-        all_are_right &= report_many(rt, count);
+    for count in &MANY {
+        all_are_right &= is_right(rt, report_many(rt, *count));
     }
     all_are_right
 }
 
-/// Prints what the runs of a codec were; answers whether they were right.
-fn report(rt: &HostRuntime, case: &Case, is_tame: bool) -> bool {
-    let (name, manner) = (case.codec.as_str(), case.manner());
+/// Whether a run came to its end. Where it did not, ends its line with why.
+fn is_right(rt: &HostRuntime, run: Result<(), Stopped>) -> bool {
+    match run {
+        Ok(()) => true,
+        Err(stopped) => {
+            let _ = println!(*rt; "{stopped}");
+            false
+        }
+    }
+}
+
+/// Prints what the runs of a codec were.
+fn report(rt: &HostRuntime, case: &Case, is_tame: bool) -> Result<(), Stopped> {
     let kind = if is_tame { "tame" } else { "sane" };
-    match soak(rt.alloc(), case, is_tame) {
-        Ok(counts) => {
-            let _ = println!(*rt;
-                "{name}{manner}, {kind}: {} sent, {} whole, {} partial, {} lost: ok",
-                counts.sent, counts.whole, counts.partial, counts.lost
-            );
-            true
-        }
-        Err(stopped) => {
-            let _ = println!(*rt; "{name}{manner}, {kind}: {stopped}");
-            false
-        }
-    }
+    let _ = print!(*rt; "{case}, {kind}: ");
+    let counts = soak(rt.alloc(), case, is_tame)?;
+    let _ = println!(*rt;
+        "{} sent, {} whole, {} partial, {} lost: ok",
+        counts.sent, counts.whole, counts.partial, counts.lost
+    );
+    Ok(())
 }
 
-/// Prints how samples of a codec's usual size, and large pictures, go through two ends; answers whether all came.
-fn report_rates(rt: &HostRuntime, case: &Case) -> bool {
-    let is_right = report_rate(rt, case, usual_size(case.codec));
+/// Prints how samples of a codec's usual size, and large pictures, go through two ends.
+fn report_rates(rt: &HostRuntime, case: &Case) -> Result<(), Stopped> {
+    report_rate(rt, case, usual_size(case.codec))?;
     if case.codec.is_video() {
-        return is_right && report_rate(rt, case, LARGE);
+        report_rate(rt, case, LARGE)?;
     }
-    is_right
+    Ok(())
 }
 
-/// Prints how samples of so many bytes go through two ends; answers whether all came.
-fn report_rate(rt: &HostRuntime, case: &Case, size: usize) -> bool {
-    let (name, manner) = (case.codec.as_str(), case.manner());
+/// Prints how samples of so many bytes go through two ends.
+fn report_rate(rt: &HostRuntime, case: &Case, size: usize) -> Result<(), Stopped> {
     let count = (BYTES / size.max(1)).min(MOST) as u32;
-    match carry_sized(rt, case, size, count) {
-        Ok(times) => {
-            let bytes = u128::from(count) * size as u128;
-            let sent = bytes / times.sent.as_micros().max(1);
-            let received = bytes / times.received.as_micros().max(1);
-            let _ = println!(*rt; "{name}{manner}: {count} samples of {size} bytes: ok");
-            let _ = eprintln!(*rt;
-                "{name}{manner}, {size} bytes: {sent} MB a second sent, {received} received"
-            );
-            true
-        }
-        Err(stopped) => {
-            let _ = println!(*rt; "{name}{manner}, {size} bytes: {stopped}");
-            false
-        }
-    }
-}
-
-/// One stream of so many samples of a size.
-fn carry_sized(rt: &HostRuntime, case: &Case, size: usize, count: u32) -> Result<Times, Stopped> {
+    let _ = print!(*rt; "{case}: {count} samples of {size} bytes: ");
     let sample = sized_sample(rt.alloc(), case, size)?;
     let load = Load {
         streams: 1,
         sample: &sample,
         count,
     };
-    carry(rt, case, load)
+    let times = carry(rt, case, load)?;
+    let bytes = u128::from(count) * size as u128;
+    let sent = bytes / times.sent.as_micros().max(1);
+    let received = bytes / times.received.as_micros().max(1);
+    let _ = println!(*rt; "ok");
+    let _ = eprintln!(*rt; "{case}, {size} bytes: {sent} MB a second sent, {received} received");
+    Ok(())
 }
 
-/// Prints what ends with so many streams do; answers whether it was right.
-fn report_many(rt: &HostRuntime, streams: u32) -> bool {
+/// Prints what ends with so many streams do.
+fn report_many(rt: &HostRuntime, streams: u32) -> Result<(), Stopped> {
     let load = Load {
         streams,
         sample: &[1, 2, 3, 4],
         count: 4_000,
     };
-    match carry(rt, &cases()[0], load) {
-        Ok(times) => {
-            let opened = times.opened.as_nanos() / u128::from(streams).max(1);
-            let received = times.received.as_nanos() / u128::from(load.count);
-            let _ = println!(*rt;
-                "{streams} streams: {} datagrams of the last, and a unit of each: ok",
-                load.count
-            );
-            let _ = eprintln!(*rt;
-                "{streams} streams: {opened} ns to open one, {received} ns to receive and poll a datagram"
-            );
-            true
-        }
-        Err(stopped) => {
-            let _ = println!(*rt; "{streams} streams: {stopped}");
-            false
-        }
-    }
+    let _ = print!(*rt; "{streams} streams: ");
+    let times = carry(rt, &OPUS, load)?;
+    let opened = times.opened.as_nanos() / u128::from(streams).max(1);
+    let received = times.received.as_nanos() / u128::from(load.count);
+    let _ = println!(*rt;
+        "{} datagrams of the last, and a unit of each: ok",
+        load.count
+    );
+    let _ = eprintln!(*rt;
+        "{streams} streams: {opened} ns to open one, {received} ns to receive and poll a datagram"
+    );
+    Ok(())
 }
 
 /// The runs of all seeds.
 fn soak(alloc: Global, case: &Case, is_tame: bool) -> Result<Counts, Stopped> {
     let mut counts = Counts::none();
-    for seed in SEEDS {
-        let more = run(alloc, case, seed, is_tame)?;
+    for seed in &SEEDS {
+        let more = run(alloc, case, *seed, is_tame)?;
         if is_tame && !more.is_all() {
             return Err(Stopped::Missing);
         }
@@ -152,33 +145,10 @@ fn soak(alloc: Global, case: &Case, is_tame: bool) -> Result<Counts, Stopped> {
 /// Sends samples from one end to another under a schedule of a seed.
 fn run(alloc: Global, case: &Case, seed: u64, is_tame: bool) -> Result<Counts, Stopped> {
     let mut random = Random::new(seed);
-    let mut twin = Call::new(alloc, case, 127)?;
     let mut samples = Vec::new(alloc);
     let mut sent = Vec::new(alloc);
-    let mut end = FIRST;
-    for place in 0..SAMPLES {
-        let drawn = draw_sample(alloc, &mut random, case.codec, place)?;
-        let first = end;
-        let time = 960 * place as u64;
-        let Drawn { bytes, unit, parts } = drawn;
-        let time_of_case = MediaTime::new(time, case.rtp_clock());
-        let sample = Sample::new(time_of_case, ExtensionValues::absent(), bytes);
-        end = end.saturating_add(twin.datagrams_of(&sample)?);
-        samples.push(sample)?;
-        sent.push(Canonical {
-            unit,
-            parts,
-            time: time as u32,
-            first,
-            end,
-        })?;
-    }
-    let count = end.saturating_sub(FIRST) as usize;
-    let schedule = if is_tame {
-        tame_schedule(alloc, &mut random, count, SAMPLES)?
-    } else {
-        sane_schedule(alloc, &mut random, count, SAMPLES)?
-    };
+    let count = draw_samples(alloc, &mut random, case, &mut samples, &mut sent)?;
+    let schedule = draw_schedule(alloc, &mut random, is_tame, count, SAMPLES)?;
     let hold_back = if is_tame {
         127
     } else {
@@ -186,4 +156,33 @@ fn run(alloc: Global, case: &Case, seed: u64, is_tame: bool) -> Result<Counts, S
     };
     let all = Call::new(alloc, case, hold_back)?.play(alloc, &samples, &schedule)?;
     count_units(&sent, &all)
+}
+
+/// Draws samples, with what a receiver is to get of each, and answers in how many datagrams they are sent.
+fn draw_samples(
+    alloc: Global,
+    random: &mut Random,
+    case: &Case,
+    samples: &mut Vec<Sample>,
+    sent: &mut Vec<Canonical>,
+) -> Result<usize, Stopped> {
+    let mut twin = Call::new(alloc, case, 127)?;
+    let mut end = FIRST;
+    for place in 0..SAMPLES {
+        let Drawn { bytes, unit, parts } = draw_sample(alloc, random, case.codec, place)?;
+        let time = 960 * place as u32;
+        let time_of_case = MediaTime::new(u64::from(time), case.rtp_clock());
+        let sample = Sample::new(time_of_case, ExtensionValues::absent(), bytes);
+        let first = end;
+        end = end.saturating_add(twin.datagrams_of(&sample)?);
+        samples.push(sample)?;
+        sent.push(Canonical {
+            unit,
+            parts,
+            time,
+            first,
+            end,
+        })?;
+    }
+    Ok(end.saturating_sub(FIRST) as usize)
 }

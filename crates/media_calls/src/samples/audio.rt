@@ -1,74 +1,69 @@
 //! Samples that are their own unit: of audio, telephone events, VP8 and VP9.
 
 use crate::random::Random;
-use std::alloc::{AllocError, Global};
+use std::alloc::AllocError;
 
 /// A frame of sound that one packet has room for.
-pub(crate) fn audio_sample(alloc: Global, random: &mut Random) -> Result<Vec<u8>, AllocError> {
+pub(crate) fn put_sound(random: &mut Random, sample: &mut Vec<u8>) -> Result<(), AllocError> {
     let count = random.below(80) + 1;
-    random.bytes(alloc, count)
+    random.put_bytes(sample, count)
 }
 
 /// A frame of AMR-WB: its entry, and as many speech bits as its frame type has, filled up with zeros (RFC 4867 5.3).
-pub(crate) fn amr_wb_sample(alloc: Global, random: &mut Random) -> Result<Vec<u8>, AllocError> {
+pub(crate) fn put_amr_wb(random: &mut Random, sample: &mut Vec<u8>) -> Result<(), AllocError> {
     let (frame_type, count, mask) = match random.below(4) {
         0 => (0, 17, 0xf0),
         1 => (1, 23, 0x80),
         2 => (8, 60, 0xf8),
         _ => (9, 5, 0xff),
     };
-    let mut sample = vec![in alloc; frame_type * 8 + 4]?;
+    sample.push(frame_type * 8 + 4)?;
     for _ in 1..count {
         sample.push(random.byte())?;
     }
     sample.push(random.byte() & mask)?;
-    Ok(sample)
+    Ok(())
 }
 
 /// A report of a telephone event: its number, E and the volume, and its duration (RFC 4733 2.3).
-pub(crate) fn event_sample(alloc: Global, random: &mut Random) -> Result<Vec<u8>, AllocError> {
+pub(crate) fn put_event(random: &mut Random, sample: &mut Vec<u8>) -> Result<(), AllocError> {
     let event = random.below(16) as u8;
     let end = if random.one_in(4) { 0x80 } else { 0 };
     let volume = random.below(64) as u8;
-    let mut sample = vec![in alloc; event, end + volume]?;
-    sample.push(random.byte())?;
-    sample.push(random.byte())?;
-    Ok(sample)
+    sample.extend_from_slice(&[event, end + volume, random.byte(), random.byte()])
 }
 
 /// A frame of VP8: the tag of a key frame with its start code and size, or that of another frame (RFC 6386 9.1).
-pub(crate) fn vp8_sample(
-    alloc: Global,
+pub(crate) fn put_vp8(
     random: &mut Random,
     is_key: bool,
-) -> Result<Vec<u8>, AllocError> {
+    sample: &mut Vec<u8>,
+) -> Result<(), AllocError> {
     let head: &[u8] = if is_key {
         &[0x50, 0x02, 0x00, 0x9d, 0x01, 0x2a, 0x40, 0x01, 0xf0, 0x00]
     } else {
         &[0x51, 0x02, 0x00]
     };
-    picture(alloc, random, head)
+    put_picture(random, head, sample)
 }
 
 /// A frame of VP9 in profile 0: a key frame with its sync code, or another one.
-pub(crate) fn vp9_sample(
-    alloc: Global,
+pub(crate) fn put_vp9(
     random: &mut Random,
     is_key: bool,
-) -> Result<Vec<u8>, AllocError> {
+    sample: &mut Vec<u8>,
+) -> Result<(), AllocError> {
     let head: &[u8] = if is_key {
         &[0x82, 0x49, 0x83, 0x42]
     } else {
         &[0x86]
     };
-    picture(alloc, random, head)
+    put_picture(random, head, sample)
 }
 
 /// The head of a picture, and bytes behind it for several packets.
-fn picture(alloc: Global, random: &mut Random, head: &[u8]) -> Result<Vec<u8>, AllocError> {
-    let mut sample = Vec::from_slice(alloc, head)?;
+fn put_picture(random: &mut Random, head: &[u8], sample: &mut Vec<u8>) -> Result<(), AllocError> {
+    sample.extend_from_slice(head)?;
     let count = random.below(900) + 1;
-    let rest = random.bytes(alloc, count)?;
-    sample.extend_from_slice(&rest)?;
-    Ok(sample)
+    random.put_bytes(sample, count)
 }
