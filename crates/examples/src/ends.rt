@@ -14,17 +14,9 @@ pub(crate) fn forward(rt: &HostRuntime, lines: &str) -> anyhow::Result<()> {
     let alloc = rt.alloc();
     let mut forwarder = Forwarder::new(End::fixed(alloc)?, End::fixed(alloc)?)?;
     for line in lines.lines() {
-        forward_line(rt, &mut forwarder, line)?;
-    }
-    Ok(())
-}
-
-/// Forwards the units that are due once the datagram of a line is there.
-fn forward_line(rt: &HostRuntime, forwarder: &mut Forwarder, line: &str) -> anyhow::Result<()> {
-    let alloc = rt.alloc();
-    for sent in &forwarder.forward(alloc, &hex::decode(alloc, line)?)? {
-        let digits = hex::encode(alloc, sent.as_slice())?;
-        println!(*rt; "{digits}")?;
+        for sent in &forwarder.forward(alloc, &hex::decode(alloc, line)?)? {
+            println!(*rt; "{}", hex::encode(alloc, sent.as_slice())?)?;
+        }
     }
     Ok(())
 }

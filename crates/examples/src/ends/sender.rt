@@ -15,8 +15,9 @@ pub(crate) fn send_and_hear(rt: &HostRuntime) -> anyhow::Result<()> {
     let tx = open_sender(&mut a)?;
     let rx = b.open_receiver(Mid::from("0"), Ssrc::from(44), Pt::from(111), 127)?;
     for k in 0..3u8 {
-        let datagrams = send(&mut a, tx, k)?;
-        hear_all(rt, &mut b, rx, &datagrams)?;
+        for datagram in &send(&mut a, tx, k)? {
+            hear(rt, &mut b, rx, datagram)?;
+        }
     }
     Ok(())
 }
@@ -44,19 +45,6 @@ fn send(end: &mut End, tx: usize, k: u8) -> anyhow::Result<Vec<Datagram>> {
     ensure!(end.is_sender(tx), "no such stream");
     let time = MediaTime::new(960 * u64::from(k), Frequency::FORTY_EIGHT_KHZ);
     Ok(end.push_sample(tx, time, &[k, 2, 3], &ExtensionValues::absent())?)
-}
-
-/// Takes datagrams in, one after the other.
-fn hear_all(
-    rt: &HostRuntime,
-    end: &mut End,
-    rx: usize,
-    datagrams: &[Datagram],
-) -> anyhow::Result<()> {
-    for datagram in datagrams {
-        hear(rt, end, rx, datagram)?;
-    }
-    Ok(())
 }
 
 /// Takes a datagram in, and prints the unit that is due then.

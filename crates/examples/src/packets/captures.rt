@@ -34,26 +34,16 @@ fn receive(
     Ok(streams.push(stream)?)
 }
 
-/// Takes the datagram of a line in: its time in milliseconds and its bytes in hexadecimal.
-fn receive_line(
-    alloc: Global,
-    capture: &Capture,
-    streams: &mut Vec<Stream>,
-    line: &str,
-) -> anyhow::Result<()> {
-    match line.split_once(' ') {
-        Some((time, bytes)) if !time.starts_with("#") => {
-            receive(alloc, capture, streams, &hex::decode(alloc, bytes)?)
-        }
-        _ => Ok(()),
-    }
-}
-
-/// The streams of a capture, which has a line for each datagram.
+/// The streams of a capture: a line for each datagram, its time in milliseconds and its bytes in hexadecimal.
 fn received(alloc: Global, capture: &Capture, text: &str) -> anyhow::Result<Vec<Stream>> {
     let mut streams = Vec::new(alloc);
     for line in text.lines() {
-        receive_line(alloc, capture, &mut streams, line)?;
+        match line.split_once(' ') {
+            Some((time, bytes)) if !time.starts_with("#") => {
+                receive(alloc, capture, &mut streams, &hex::decode(alloc, bytes)?)?;
+            }
+            _ => {}
+        }
     }
     for stream in &mut streams {
         stream.drain()?;

@@ -70,10 +70,14 @@ pub(crate) fn print_rows(rt: &HostRuntime, lines: &str) -> anyhow::Result<()> {
     let h265 = "profile-id=1;tier-flag=0;level-id=93";
     let mut locked = video(104, 105, Codec::H265, h265);
     locked.lock();
-    print_row(rt, &opus())?;
-    print_row(rt, &video(96, 97, Codec::Vp8, ""))?;
-    print_row(rt, &video(102, 103, Codec::H264, h264))?;
-    print_row(rt, &locked)?;
+    for row in [
+        &opus(),
+        &video(96, 97, Codec::Vp8, ""),
+        &video(102, 103, Codec::H264, h264),
+        &locked,
+    ] {
+        print_row(rt, row)?;
+    }
     for line in lines.lines() {
         print_line(rt, line)?;
     }

@@ -45,6 +45,15 @@ const H266: Headers = Headers {
     information: &[0x00, 0xb9],
 };
 
+/// Those of a codec.
+fn headers_of(codec: Codec) -> Headers {
+    match codec {
+        Codec::H264 => H264,
+        Codec::H265 => H265,
+        _ => H266,
+    }
+}
+
 /// A delimiter, which isn't sent, in a key picture the parameter sets, at times supplemental information, and slices.
 pub(crate) fn put_access_unit(
     random: &mut Random,
@@ -52,11 +61,7 @@ pub(crate) fn put_access_unit(
     is_key: bool,
     drawn: &mut Drawn,
 ) -> Result<(), AllocError> {
-    let headers = match codec {
-        Codec::H264 => &H264,
-        Codec::H265 => &H265,
-        _ => &H266,
-    };
+    let headers = headers_of(codec);
     put(random, drawn, headers.delimiter, 3)?;
     drawn.unit.clear();
     drawn.parts.clear();

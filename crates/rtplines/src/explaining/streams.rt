@@ -1,21 +1,11 @@
 //! What is known of streams.
 
-use super::lines::{number_at, number_or_zero_at, word_at};
+use super::lines::{number_at, word_at};
 use std::alloc::{AllocError, Global};
 use std::io;
 
 /// The most packets that a receiving stream holds.
 const MAX_HELD: usize = 4096;
-
-/// The first words of the replies that are counted, whether a stream that sends has them, and what they are counted as.
-const COUNTED: [(&str, bool, &str); 6] = [
-    ("datagram", true, "datagrams printed"),
-    ("taken", false, "taken"),
-    ("refused", false, "refused"),
-    ("damaged", false, "damaged"),
-    ("unit", false, "units"),
-    ("fault", false, "faults"),
-];
 
 /// A stream of an end, and what came of it.
 pub(crate) struct Stream {
@@ -23,13 +13,18 @@ pub(crate) struct Stream {
     pub(crate) is_sender: bool,
     pub(crate) ssrc: u64,
     pub(crate) pt: u64,
-    /// How often each of these replies came.
-    counts: [u64; 6],
+    /// The datagrams that were printed of the samples of a sending stream.
+    datagrams: u64,
+    taken: u64,
+    refused: u64,
+    damaged: u64,
+    units: u64,
+    faults: u64,
     /// The numbers that were taken and wait to be handed out, where these can be known.
     waiting: Vec<u64>,
     is_waiting_known: bool,
-    /// The lowest number that was not handed out.
-    next: u64,
+    /// The last number that was handed out.
+    cutoff: Option<u64>,
 }
 
 /// Written out, so that who lets one go needs nothing of what is inside.
@@ -40,10 +35,15 @@ impl Drop for Stream {
             is_sender: _is_sender,
             ssrc: _ssrc,
             pt: _pt,
-            counts: _counts,
+            datagrams: _datagrams,
+            taken: _taken,
+            refused: _refused,
+            damaged: _damaged,
+            units: _units,
+            faults: _faults,
             waiting: _waiting,
             is_waiting_known: _is_waiting_known,
-            next: _next,
+            cutoff: _cutoff,
         } = self;
     }
 }
@@ -54,53 +54,73 @@ impl Stream {
         Stream {
             number,
             is_sender: word_at(line, 0) == "send",
-            ssrc: number_or_zero_at(line, 3),
-            pt: number_or_zero_at(line, 4),
-            counts: [0; 6],
+            ssrc: number_at(line, 3).unwrap_or(0),
+            pt: number_at(line, 4).unwrap_or(0),
+            datagrams: 0,
+            taken: 0,
+            refused: 0,
+            damaged: 0,
+            units: 0,
+            faults: 0,
             waiting: Vec::new(alloc),
             is_waiting_known: true,
-            next: 0,
+            cutoff: None,
         }
     }
 
-    /// Notes what was said of a sample, a datagram, or a poll; what was said of a call that is refused isn't.
+    /// Notes what was said of a sample, a datagram, or a poll.
     pub(crate) fn note(&mut self, reply: &str) -> Result<(), AllocError> {
-        let word = word_at(reply, 0);
-        if reply.starts_with("refused ") {
-            return Ok(());
-        }
-        for (count, (known, _, _)) in self.counts.iter_mut().zip(&COUNTED) {
-            if *known == word {
-                *count = count.saturating_add(1);
+        match word_at(reply, 0) {
+            "datagram" => self.datagrams = self.datagrams.saturating_add(1),
+            "taken" => {
+                self.taken = self.taken.saturating_add(1);
+                if let Some(number) = number_at(reply, 2)
+                    && self.is_waiting_known
+                    && self.cutoff < Some(number)
+                {
+                    self.waiting.push(number)?;
+                    self.is_waiting_known = self.waiting.len() <= MAX_HELD;
+                }
             }
-        }
-        if word == "fault" {
-            self.is_waiting_known = false;
-        }
-        let Some(number) = number_at(reply, 2) else {
-            return Ok(());
-        };
-        if word == "taken" && self.is_waiting_known && number >= self.next {
-            self.waiting.push(number)?;
-            self.is_waiting_known = self.waiting.len() <= MAX_HELD;
-        } else if word == "unit" {
-            self.next = number.saturating_add(1);
-            self.waiting.retain(|waiting| *waiting > number);
+            "refused" if reply == "refused" => self.refused = self.refused.saturating_add(1),
+            "damaged" => self.damaged = self.damaged.saturating_add(1),
+            "unit" => {
+                self.units = self.units.saturating_add(1);
+                let last = number_at(reply, 2);
+                self.cutoff = last;
+                self.waiting.retain(|number| last < Some(*number));
+            }
+            "fault" => {
+                self.faults = self.faults.saturating_add(1);
+                self.is_waiting_known = false;
+            }
+            _ => {}
         }
         Ok(())
     }
 
-    /// Prints what became of a stream, of the end of this letter.
-    pub(crate) fn report(&self, rt: &HostRuntime, letter: &str) -> io::Result<()> {
-        let way = if self.is_sender { "sender" } else { "receiver" };
-        let (number, ssrc, pt) = (self.number, self.ssrc, self.pt);
-        print!(*rt; "  {way} {number} of {letter}: SSRC {ssrc}, type {pt}")?;
-        for (count, (_, is_sent, counted)) in self.counts.iter().zip(&COUNTED) {
-            if *is_sent == self.is_sender {
-                print!(*rt; ", {count} {counted}")?;
-            }
-        }
-        if !self.is_sender && self.is_waiting_known {
+    /// Prints what became of a sending stream, of the end of this letter.
+    pub(crate) fn report_sender(&self, rt: &HostRuntime, letter: &str) -> io::Result<()> {
+        println!(*rt;
+            "  sender {} of {letter}: SSRC {}, type {}, {} datagrams printed",
+            self.number, self.ssrc, self.pt, self.datagrams
+        )
+    }
+
+    /// Prints what became of a receiving stream, of the end of this letter.
+    pub(crate) fn report_receiver(&self, rt: &HostRuntime, letter: &str) -> io::Result<()> {
+        print!(*rt;
+            "  receiver {} of {letter}: SSRC {}, type {}, {} taken, {} refused, {} damaged, {} units, {} faults",
+            self.number,
+            self.ssrc,
+            self.pt,
+            self.taken,
+            self.refused,
+            self.damaged,
+            self.units,
+            self.faults
+        )?;
+        if self.is_waiting_known {
             let held = self.waiting.len();
             print!(*rt; ", {held} packets held")?;
         }
