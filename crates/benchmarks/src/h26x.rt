@@ -51,11 +51,6 @@ pub(crate) fn measure_all(rt: &HostRuntime) -> io::Result<()> {
     ] {
         measure_codec(rt, format, codec, has_numbers, sample, ROUNDS)?;
     }
-    cut(rt, &h264)
-}
-
-/// A sample cut into its units.
-fn cut(rt: &HostRuntime, sample: &[u8]) -> io::Result<()> {
-    let units = measure(rt, "H.264", "cut", &mut Cutting { sample }, ROUNDS)?;
+    let units = measure(rt, "H.264", "cut", &mut Cutting { sample: &h264 }, ROUNDS)?;
     println!(*rt; "cut: {} units, {} bytes", units.packets, units.bytes)
 }

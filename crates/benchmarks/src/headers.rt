@@ -133,25 +133,15 @@ fn both_ways(rt: &HostRuntime, what: &str, extensions: &Extensions) -> io::Resul
     println!(*rt; "headers {what}: {bytes} bytes\nwritten: {written}\nread: {read}")
 }
 
-/// Copies of bytes.
-fn copies(rt: &HostRuntime) -> io::Result<()> {
+/// Copies, headers without extensions and with four, and a window.
+pub(crate) fn measure_all(rt: &HostRuntime) -> io::Result<()> {
     let mut copying = Copying { to: [0; 64] };
     let copied = measure(rt, "bytes", "copied", &mut copying, ROUNDS)?;
     let (greatest, copied) = (copied.bytes, copied.packets);
-    println!(*rt; "copies of {COPIED} bytes: {greatest}\ncopied: {copied}")
-}
-
-/// A window that takes numbers.
-fn updates(rt: &HostRuntime) -> io::Result<()> {
+    println!(*rt; "copies of {COPIED} bytes: {greatest}\ncopied: {copied}")?;
+    both_ways(rt, "without extensions", &Extensions::none())?;
+    both_ways(rt, "with four extensions", &Extensions::four())?;
     let mut window = SeqNoWindow::new(SeqNo::from(0));
     let taken = measure(rt, "window", "updated", &mut window, ROUNDS)?;
     println!(*rt; "window updates: {}", taken.packets)
-}
-
-/// Copies, headers without extensions and with four, and a window.
-pub(crate) fn measure_all(rt: &HostRuntime) -> io::Result<()> {
-    copies(rt)?;
-    both_ways(rt, "without extensions", &Extensions::none())?;
-    both_ways(rt, "with four extensions", &Extensions::four())?;
-    updates(rt)
 }
