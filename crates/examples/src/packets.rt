@@ -16,16 +16,11 @@ pub(crate) fn record(rt: &HostRuntime, lines: &str) -> anyhow::Result<()> {
     let alloc = rt.alloc();
     let mut recorder = Recorder::new(alloc, Ssrc::from(44), Pt::from(96));
     for line in lines.lines() {
-        record_line(rt, &mut recorder, line)?;
+        let taken = recorder.receive(&hex::decode(alloc, line)?)?;
+        println!(*rt; "{}", if taken { "taken" } else { "not taken" })?;
+        print(rt, &recorder.frames(alloc)?)?;
     }
     Ok(print(rt, &recorder.last_frames(alloc)?)?)
-}
-
-/// Records the datagram of a line, and prints the frames that are due then.
-fn record_line(rt: &HostRuntime, recorder: &mut Recorder, line: &str) -> anyhow::Result<()> {
-    let taken = recorder.receive(&hex::decode(rt.alloc(), line)?)?;
-    println!(*rt; "{}", if taken { "taken" } else { "not taken" })?;
-    Ok(print(rt, &recorder.frames(rt.alloc())?)?)
 }
 
 /// A line for each frame.

@@ -35,8 +35,8 @@ impl Order {
     }
 }
 
-/// A schedule of so many datagrams, with so many polls and one more at the end. In a tame one every datagram comes, none
-/// later than one numbered 128 above it, some again, and behind the first block polls come at times. In a sane one
+/// A schedule of so many datagrams, with so many polls and one more at the end. In a tame one every datagram comes,
+/// none later than one numbered 128 above it, some again, and behind the first block polls come at times. In a sane one
 /// datagrams are lost, and polls come at any time.
 pub(crate) fn draw_schedule(
     alloc: Global,

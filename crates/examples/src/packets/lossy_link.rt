@@ -23,22 +23,13 @@ pub(crate) fn lossy_link(rt: &HostRuntime) -> anyhow::Result<()> {
     let packets = packets(alloc)?;
     let mut buffer = DepacketizingBuffer::new(alloc, Vp8Depacketizer::new(), HOLD_BACK);
     for (number, packet) in (0u64..).zip(&packets) {
-        send(rt, &mut buffer, number, packet)?;
+        if is_lost(number) {
+            println!(*rt; "packet {number} is lost")?;
+        } else {
+            print(rt, &arrive(alloc, &mut buffer, number, packet)?, "")?;
+        }
     }
     Ok(print(rt, &last_frames(alloc, &mut buffer)?, ", at the end")?)
-}
-
-/// Sends the packet of this number over the link.
-fn send(
-    rt: &HostRuntime,
-    buffer: &mut DepacketizingBuffer<Vp8Depacketizer>,
-    number: u64,
-    packet: &SentPacket,
-) -> anyhow::Result<()> {
-    if is_lost(number) {
-        return Ok(println!(*rt; "packet {number} is lost")?);
-    }
-    Ok(print(rt, &arrive(rt.alloc(), buffer, number, packet)?, "")?)
 }
 
 /// The frames that are due once the packet of this number is there.

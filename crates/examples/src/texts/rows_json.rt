@@ -70,7 +70,7 @@ pub(crate) fn print_rows(rt: &HostRuntime, lines: &str) -> anyhow::Result<()> {
     let h265 = "profile-id=1;tier-flag=0;level-id=93";
     let mut locked = video(104, 105, Codec::H265, h265);
     locked.lock();
-    for row in [
+    for row in &[
         &opus(),
         &video(96, 97, Codec::Vp8, ""),
         &video(102, 103, Codec::H264, h264),

@@ -103,9 +103,9 @@ impl KnownEnd {
             return Ok(());
         }
         let (letter, foreign, unreadable) = (self.letter, self.foreign, self.unreadable);
-        for is_sender in [true, false] {
+        for is_sender in &[true, false] {
             for stream in &self.streams {
-                if stream.is_sender == is_sender {
+                if stream.is_sender == *is_sender {
                     stream.report(rt, letter)?;
                 }
             }

@@ -40,13 +40,17 @@ pub(crate) fn error_of<'a>(known: &Known, line: &'a [u8]) -> Reason<'a> {
 /// The first word that doesn't fit the form, is left over, or is missing. Slashes may stand between the sections of
 /// `connect`.
 fn unfit_word<'a>(form: &'static str, line: &'a str) -> Option<Reason<'a>> {
+    let further = match form.rsplit_once(' ') {
+        Some((_, last)) if last.ends_with("..") => last,
+        _ => "",
+    };
     let mut names = form.split(' ');
     for word in line.split(' ') {
-        let name = match names.next() {
-            Some(name) => name,
-            None if form.ends_with("..") => last_name(form),
-            None => return Some(left_over(form, word)),
-        };
+        let name = names.next().unwrap_or(further);
+        if name.is_empty() {
+            let parts = ["`", word, "` is one word too many: `", form, "`", "", ""];
+            return Some(Reason { parts });
+        }
         if word == "/" && form.starts_with("connect ") {
             continue;
         }
@@ -54,30 +58,8 @@ fn unfit_word<'a>(form: &'static str, line: &'a str) -> Option<Reason<'a>> {
             return Some(reason);
         }
     }
-    match names.next() {
-        Some(name) => missing(form, name),
-        None => None,
-    }
-}
-
-/// The last name of a form, which stands for all further words where it ends with two points.
-fn last_name(form: &'static str) -> &'static str {
-    match form.rsplit_once(' ') {
-        Some((_, last)) => last,
-        None => form,
-    }
-}
-
-/// A word for which the form has no name.
-fn left_over<'a>(form: &'static str, word: &'a str) -> Reason<'a> {
-    Reason {
-        parts: ["`", word, "` is one word too many: `", form, "`", "", ""],
-    }
-}
-
-/// A name of the form for which there is no word, unless none is needed.
-fn missing(form: &'static str, name: &'static str) -> Option<Reason<'static>> {
-    if name.ends_with("..") || name.ends_with(']') {
+    let name = names.next().unwrap_or("");
+    if name.is_empty() || name.ends_with("..") || name.ends_with(']') {
         return None;
     }
     let parts = [name, " is missing: `", form, "`", "", "", ""];
@@ -97,33 +79,22 @@ fn unfit_section(line: &str) -> Option<Reason<'_>> {
 
 /// The condition that a line of the right words doesn't meet.
 fn unmet<'a>(known: &Known, line: &'a str) -> Option<Reason<'a>> {
+    let (letter, stream) = (word_at(line, 1), word_at(line, 2));
+    let end = if letter == "a" { &known.a } else { &known.b };
+    let missing = unmade(end, letter);
     match word_at(line, 0) {
         "row" => Some(Reason::words("CLOCK has to be 1 or more")),
-        "ext" => Some(Reason::around(
-            "",
-            word_at(line, 2),
-            " is no number of a header extension: 1 to 16",
-        )),
+        "ext" => Some(Reason::around("", stream, " is no number of a header extension: 1 to 16")),
         "connect" => unmade(&known.a, "a").or(unmade(&known.b, "b")),
         "play" => unmade(&known.a, "a")
             .or(unmade(&known.b, "b"))
-            .or(unopened(&known.a, true, word_at(line, 1), "a"))
-            .or(unopened(&known.b, false, word_at(line, 2), "b")),
-        verb => {
-            let letter = word_at(line, 1);
-            let end = if letter == "a" { &known.a } else { &known.b };
-            unmade(end, letter).or(unmet_at(end, verb, line))
-        }
-    }
-}
-
-/// The condition that a line about an end that is there doesn't meet.
-fn unmet_at<'a>(end: &KnownEnd, verb: &str, line: &'a str) -> Option<Reason<'a>> {
-    match verb {
-        "sample" | "poll" => unopened(end, verb == "sample", word_at(line, 2), word_at(line, 1)),
-        "answer" | "accept" => Some(Reason::words("HEX isn't a text of UTF-8")),
-        "send" => Some(unsound(line)),
-        _ => None,
+            .or(unopened(&known.a, true, letter, "a"))
+            .or(unopened(&known.b, false, stream, "b")),
+        "sample" => missing.or(unopened(end, true, stream, letter)),
+        "poll" => missing.or(unopened(end, false, stream, letter)),
+        "answer" | "accept" => missing.or(Some(Reason::words("HEX isn't a text of UTF-8"))),
+        "send" => missing.or(Some(unsound(line))),
+        _ => missing,
     }
 }
 

@@ -1,6 +1,6 @@
 //! What is known of streams.
 
-use super::lines::{number_at, word_at};
+use super::lines::{number_at, number_or_zero_at, word_at};
 use std::alloc::{AllocError, Global};
 use std::io;
 
@@ -23,8 +23,8 @@ pub(crate) struct Stream {
     /// The numbers that were taken and wait to be handed out, where these can be known.
     waiting: Vec<u64>,
     is_waiting_known: bool,
-    /// The last number that was handed out.
-    cutoff: Option<u64>,
+    /// The lowest number that may still be handed out.
+    next: u64,
 }
 
 /// Written out, so that who lets one go needs nothing of what is inside.
@@ -43,7 +43,7 @@ impl Drop for Stream {
             faults: _faults,
             waiting: _waiting,
             is_waiting_known: _is_waiting_known,
-            cutoff: _cutoff,
+            next: _next,
         } = self;
     }
 }
@@ -54,8 +54,8 @@ impl Stream {
         Stream {
             number,
             is_sender: word_at(line, 0) == "send",
-            ssrc: number_at(line, 3).unwrap_or(0),
-            pt: number_at(line, 4).unwrap_or(0),
+            ssrc: number_or_zero_at(line, 3),
+            pt: number_or_zero_at(line, 4),
             datagrams: 0,
             taken: 0,
             refused: 0,
@@ -64,7 +64,7 @@ impl Stream {
             faults: 0,
             waiting: Vec::new(alloc),
             is_waiting_known: true,
-            cutoff: None,
+            next: 0,
         }
     }
 
@@ -76,7 +76,7 @@ impl Stream {
                 self.taken = self.taken.saturating_add(1);
                 if let Some(number) = number_at(reply, 2)
                     && self.is_waiting_known
-                    && self.cutoff < Some(number)
+                    && self.next <= number
                 {
                     self.waiting.push(number)?;
                     self.is_waiting_known = self.waiting.len() <= MAX_HELD;
@@ -86,9 +86,9 @@ impl Stream {
             "damaged" => self.damaged = self.damaged.saturating_add(1),
             "unit" => {
                 self.units = self.units.saturating_add(1);
-                let last = number_at(reply, 2);
-                self.cutoff = last;
-                self.waiting.retain(|number| last < Some(*number));
+                let last = number_or_zero_at(reply, 2);
+                self.next = last.saturating_add(1);
+                self.waiting.retain(|number| last < *number);
             }
             "fault" => {
                 self.faults = self.faults.saturating_add(1);
@@ -99,16 +99,23 @@ impl Stream {
         Ok(())
     }
 
-    /// Prints what became of a sending stream, of the end of this letter.
-    pub(crate) fn report_sender(&self, rt: &HostRuntime, letter: &str) -> io::Result<()> {
+    /// Prints what became of a stream, of the end of this letter.
+    pub(crate) fn report(&self, rt: &HostRuntime, letter: &str) -> io::Result<()> {
+        if self.is_sender {
+            self.report_sender(rt, letter)
+        } else {
+            self.report_receiver(rt, letter)
+        }
+    }
+
+    fn report_sender(&self, rt: &HostRuntime, letter: &str) -> io::Result<()> {
         println!(*rt;
             "  sender {} of {letter}: SSRC {}, type {}, {} datagrams printed",
             self.number, self.ssrc, self.pt, self.datagrams
         )
     }
 
-    /// Prints what became of a receiving stream, of the end of this letter.
-    pub(crate) fn report_receiver(&self, rt: &HostRuntime, letter: &str) -> io::Result<()> {
+    fn report_receiver(&self, rt: &HostRuntime, letter: &str) -> io::Result<()> {
         print!(*rt;
             "  receiver {} of {letter}: SSRC {}, type {}, {} taken, {} refused, {} damaged, {} units, {} faults",
             self.number,
