@@ -69,7 +69,7 @@ fn source(alloc: Global, attribute: &Attribute) -> Result<Attribute, AllocError>
 }
 
 /// A copy of an attribute of a kind that holds several values; of another kind `Inactive`.
-#[tactic(auto, unfolding(sdp_formats_predicates::specs::Compound::is_compound, sdp_formats_predicates::specs::Compound::is_source))]
+#[tactic(auto, unfolding(sdp_formats_predicates::specs::Compound::is_compound))]
 fn compound(alloc: Global, attribute: &Attribute) -> Result<Attribute, AllocError>
     requires { IsTrue (is_compound attribute.now) }
     ensures { IfOk result (λ copy. copy ≡ attribute.now) }

@@ -4,7 +4,8 @@ use Rattle.std.specs.Option.{option_or}
 use Rattle.sdp_formats_forms.specs.Bind.{◌>>=◌}
 use Rattle.sdp_formats_forms.specs.Form.{after}
 use Rattle.sdp_formats_forms.specs.Split.{behind}
-use Rattle.sdp_formats_session_lines.specs.Lines.{is_lettered, is_other, other_line, passed_if, says_something, something}
+use Rattle.sdp_formats_session_lines.specs.Lines.{is_lettered, is_other, other_line, passed_if, says_something}
+use Rattle.sdp_formats_session_lines.specs.Lines.{something}
 use Rattle.sdp_formats_session_lines.specs.declared.passed.Passed.{Passed}
 
 rest_read : (rest : Option (List ℕ)) → (rest >>= something.reads) ≡ passed_if (says_something rest)
