@@ -5,7 +5,6 @@ use Rattle.sdp_formats_reader.specs.Grammar.{ReadsSdp, ReadsSession, SessionSays
 use Rattle.sdp_formats_types.specs.declared.session.Sdp.{Sdp}
 use Rattle.sdp_formats_types.specs.declared.session.Session.{Session}
 use Rattle.sdp_formats.specs.Texts.{ParsesSdp, ParsesSession, SaysNothing}
-use Rattle.sdp_formats.specs.declared.error.SdpError.TheVariants as error
 
 pub read : (t : List ℕ) (r : Sdp × Bor (List ℕ)) → ReadsSdp t (Ok r) → ParsesSdp t (Ok r)
 unfolding ReadsSdp

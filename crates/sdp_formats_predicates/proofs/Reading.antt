@@ -1,5 +1,5 @@
 -- What a reader of lines answers decides whether a text is a line whose value is so.
-use Rattle.std.proofs.Common.{◌≡◌, ℕ, Bool, true, false, ◌&&◌, ◌==◌, List, [], ◌∷◌, length}
+use Rattle.std.proofs.Common.{◌≡◌, ℕ, Bool, false, ◌&&◌, ◌==◌, List, [], ◌∷◌, length}
 use Rattle.std.proofs.Common.{sym, subst, ◌∙◌, true≢false, suc, arith}
 use Rattle.std.proofs.Common.{Err}
 use Rattle.std.proofs.lemmas.Bool.Decides.{nat_tests}
