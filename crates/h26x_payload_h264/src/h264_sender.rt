@@ -8,7 +8,7 @@ ghost use Rattle.h26x_payload_h264.specs.H264Packing.{fragments_of, fu_a, h264_p
 ghost use Rattle.h26x_payload_h264.specs.H264Packing.{role_by, stap_a, unit_type};
 ghost use Rattle.h26x_payload_h264.specs.H264Waiting.{waiting_in};
 ghost use Rattle.std.specs.List.{flat_map};
-ghost use Rattle.std.specs.Prelude.{[], ◌∷◌, ◌≡◌, ◌++◌, ◌<◌, ◌≤◌, IfErr, IfOk, None, OnOk, Some, length, map};
+ghost use Rattle.std.specs.Prelude.{[], ◌∷◌, ◌≡◌, ◌++◌, ◌<◌, ◌≤◌, IfOk, None, OnOk, Some, length, map};
 ghost use Rattle.std.specs.Prelude.{option_map};
 
 use crate::constants::{

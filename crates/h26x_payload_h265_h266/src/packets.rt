@@ -4,7 +4,7 @@ ghost use Rattle.h26x_payload_units.specs.Headers.{layer_of, tid_of};
 ghost use Rattle.h26x_payload_units.specs.Numbers.{dond_bytes, donl_bytes};
 ghost use Rattle.h26x_payload_h265_h266.specs.Packing.{aggregate, fragment, least, single};
 ghost use Rattle.h26x_payload_h265_h266.specs.Waiting.{joining, sized_before};
-ghost use Rattle.std.specs.Prelude.{◌≡◌, ◌++◌, ◌≤◌, IfErr, IfOk, IfSome, OnOk, length, option_map};
+ghost use Rattle.std.specs.Prelude.{◌≡◌, ◌++◌, ◌≤◌, IfOk, IfSome, OnOk, length, option_map};
 
 use crate::constants::NALU_HEADER_SIZE;
 use h26x_payload_units::{Layout, donl_size, push_sized};

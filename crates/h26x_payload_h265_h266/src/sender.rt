@@ -11,7 +11,7 @@ ghost use Rattle.h26x_payload_units.specs.Numbers.{donl_size, number_after, numb
 ghost use Rattle.h26x_payload_units.specs.Units.{units_of};
 ghost use Rattle.payload_core_base.specs.Pieces.{pieces};
 ghost use Rattle.std.specs.List.{flat_map};
-ghost use Rattle.std.specs.Prelude.{[], ◌≡◌, ◌++◌, ◌+◌, ◌-◌, ◌≤◌, IfErr, IfOk, OnOk, false, length, map, option_map};
+ghost use Rattle.std.specs.Prelude.{[], ◌≡◌, ◌++◌, ◌+◌, ◌-◌, ◌≤◌, IfOk, OnOk, false, length, map, option_map};
 ghost use Rattle.std.specs.Prelude.{unwrap_or};
 
 use crate::constants::{FRAGMENT_HEADER_SIZE, NALU_HEADER_SIZE, NALU_LENGTH_SIZE};

@@ -1,7 +1,7 @@
 //! Units that are put together from fragments, and the start code that each unit is written behind.
 
 ghost use Rattle.h26x_payload_units.specs.Fragments.{behind_code, continued, open_after, put_behind, written_at};
-ghost use Rattle.std.specs.Prelude.{◌++◌, ◌≡◌, IfErr, IfOk, None, OnErr, OnOk, true};
+ghost use Rattle.std.specs.Prelude.{◌++◌, ◌≡◌, IfOk, None, OnErr, OnOk, true};
 
 use std::alloc::{AllocError, Global};
 use std::marker::Model;

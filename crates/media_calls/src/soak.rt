@@ -4,7 +4,7 @@
 use crate::calls::{Call, FIRST};
 use crate::cases::{CASES, Case, OPUS};
 use crate::counts::{Canonical, Counts, count_units};
-use crate::many::{Load, Times, carry};
+use crate::many::{Load, carry};
 use crate::random::Random;
 use crate::rates::{sized_sample, usual_size};
 use crate::samples::{Drawn, draw_sample};

@@ -3,7 +3,7 @@
 ghost use Rattle.payload_core_audio.specs.AmrWb.{bytes_from, header_at, speech_of};
 ghost use Rattle.payload_core_audio.specs.BitBytes.{bits_from, front_of};
 ghost use Rattle.payload_core_audio.specs.BitPlaces.{place_of};
-ghost use Rattle.std.specs.Prelude.{◌≡◌, ◌+◌, ◌*◌, ◌<◌, ◌≤◌, ◌++◌, IfErr, OnOk, length};
+ghost use Rattle.std.specs.Prelude.{◌≡◌, ◌+◌, ◌*◌, ◌<◌, ◌≤◌, ◌++◌, OnOk, length};
 
 use crate::bits::BitPlace;
 use std::alloc::AllocError;

@@ -2,7 +2,7 @@
 
 ghost use Rattle.payload_core_av1.specs.Av1ReadingViews.{Keeps};
 ghost use Rattle.payload_core_av1.specs.Leb128.{cut_by, size_in, size_limit, size_within, sized_part, spelling};
-ghost use Rattle.std.specs.Prelude.{◌≡◌, ◌+◌, ◌++◌, ◌<◌, ◌≤◌, IfErr, IfOk, IfSome, MatchOption, None, Some, drop};
+ghost use Rattle.std.specs.Prelude.{◌≡◌, ◌+◌, ◌++◌, ◌<◌, ◌≤◌, IfOk, IfSome, MatchOption, None, Some, drop};
 ghost use Rattle.std.specs.Prelude.{length, take};
 ghost use Rattle.payload_core_av1.specs.Bounds.{bound_of};
 

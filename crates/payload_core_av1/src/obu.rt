@@ -5,7 +5,7 @@ ghost use Rattle.payload_core_av1.specs.Obus.{obu, obu_cut, obu_of, payload_in, 
 ghost use Rattle.payload_core_av1.specs.Obus.{with_its_size, with_size, without_its_size, without_size};
 ghost use Rattle.payload_core_av1.specs.Av1ReadingViews.{Keeps};
 ghost use Rattle.payload_core_av1.specs.Samples.{is_sequence_header};
-ghost use Rattle.std.specs.Prelude.{◌≡◌, ◌+◌, ◌++◌, ◌∷◌, ◌<◌, ◌≤◌, IfErr, IfOk, IfSome, MatchOption, None, Some};
+ghost use Rattle.std.specs.Prelude.{◌≡◌, ◌+◌, ◌++◌, ◌∷◌, ◌<◌, ◌≤◌, IfOk, IfSome, MatchOption, None, Some};
 ghost use Rattle.std.specs.Prelude.{length};
 
 use crate::leb128::{push_size, sized_part};

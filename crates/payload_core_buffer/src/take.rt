@@ -5,7 +5,7 @@ ghost use Rattle.payload_core_buffer.specs.Frames.{IsFrame, number_at};
 ghost use Rattle.payload_core_buffer.specs.Packets.{packets_of};
 ghost use Rattle.payload_core_buffer.specs.Pops.{Pops, Takes, pop_state};
 ghost use Rattle.std.specs.BTreeMap.{btree_map_len, values};
-ghost use Rattle.std.specs.Prelude.{◌≡◌, ◌-◌, ◌<◌, ◌≤◌, IfErr, IfNone, IfOk, Some, drop, map, slice_range};
+ghost use Rattle.std.specs.Prelude.{◌≡◌, ◌-◌, ◌<◌, ◌≤◌, IfNone, IfOk, Some, drop, map, slice_range};
 
 use crate::depacketized::Depacketized;
 use crate::frame::{Frame, due_frame, number_at};

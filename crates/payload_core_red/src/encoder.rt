@@ -3,7 +3,7 @@
 ghost use Rattle.payload_core_red.specs.Red.{IsRed};
 ghost use Rattle.payload_core_red.specs.RedSending.{fits, masked, sent_blocks};
 ghost use Rattle.payload_core_red.specs.RedViews.{block_of, old_block};
-ghost use Rattle.std.specs.Prelude.{◌≡◌, ◌%◌, IfErr, IfOk, map, filter, take};
+ghost use Rattle.std.specs.Prelude.{◌≡◌, ◌%◌, IfOk, map, filter, take};
 
 use crate::block::RedundantBlock;
 use crate::spelling::{MAX_BLOCKS, OldPayload, spell};

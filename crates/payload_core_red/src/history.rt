@@ -5,7 +5,7 @@ ghost use Rattle.payload_core_red.specs.RedHistory.{kept_of};
 ghost use Rattle.payload_core_red.specs.RedSending.{masked};
 ghost use Rattle.payload_core_red.specs.RedViews.{old_block};
 ghost use Rattle.payload_core_red.specs.RedWrapping.{IsLongestPrefix, level, levels};
-ghost use Rattle.std.specs.Prelude.{◌≡◌, ◌+◌, ◌<◌, ◌≤◌, All, IfErr, IfOk, length, map, option_map};
+ghost use Rattle.std.specs.Prelude.{◌≡◌, ◌+◌, ◌<◌, ◌≤◌, All, IfOk, length, map, option_map};
 
 use crate::spelling::{OldPayload, fields_fit};
 use std::alloc::{AllocError, Global};

@@ -2,7 +2,7 @@
 
 ghost use Rattle.payload_core_red.specs.RedHistory.{AreDistances, keeping};
 ghost use Rattle.payload_core_red.specs.RedWrapping.{IsWrap};
-ghost use Rattle.std.specs.Prelude.{◌≡◌, ◌<◌, ◌∷◌, ◌↔◌, [], IfErr, IfOk, IsTrue, OnErr, OnOk, drop, length, take};
+ghost use Rattle.std.specs.Prelude.{◌≡◌, ◌<◌, ◌∷◌, ◌↔◌, [], IfOk, IsTrue, OnErr, OnOk, drop, length, take};
 
 use crate::history::{KeptPayload, levels, longest_prefix};
 use crate::spelling::spell;

@@ -3,7 +3,7 @@
 ghost use Rattle.payload_core_red.specs.Red.{HasRoom, IsRed, header};
 ghost use Rattle.payload_core_red.specs.RedSending.{masked};
 ghost use Rattle.payload_core_red.specs.RedViews.{old_block};
-ghost use Rattle.std.specs.Prelude.{◌≡◌, ◌+◌, ◌%◌, ◌<◌, ◌≤◌, ◌++◌, ◌&&◌, All, IfErr, IfOk, OnOk, length, map, nat_le};
+ghost use Rattle.std.specs.Prelude.{◌≡◌, ◌+◌, ◌%◌, ◌<◌, ◌≤◌, ◌++◌, ◌&&◌, All, IfOk, OnOk, length, map, nat_le};
 
 use std::alloc::{AllocError, Global};
 

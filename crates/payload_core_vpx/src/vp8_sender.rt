@@ -4,7 +4,7 @@ ghost use Rattle.payload_core_base.specs.Frames.{next_id};
 ghost use Rattle.payload_core_vpx.specs.Vp8.{described, descriptor, descriptor_size, pack_vp8, tells_id};
 ghost use Rattle.payload_core_vpx.specs.Vp8.{vp8_packing};
 ghost use Rattle.payload_core_base.specs.Pieces.{pieces};
-ghost use Rattle.std.specs.Prelude.{◌≡◌, ◌-◌, ◌++◌, ◌<◌, ◌≤◌, [], IfErr, IfOk, Some, false, is_some, map};
+ghost use Rattle.std.specs.Prelude.{◌≡◌, ◌-◌, ◌++◌, ◌<◌, ◌≤◌, [], IfOk, Some, false, is_some, map};
 ghost use Rattle.std.specs.Prelude.{true, unwrap_or};
 
 use payload_core_base::{PacketError, Packetizer};

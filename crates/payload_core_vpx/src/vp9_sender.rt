@@ -5,7 +5,7 @@ ghost use Rattle.payload_core_vpx.specs.Vp9.{described, descriptor, descriptor_s
 ghost use Rattle.payload_core_vpx.specs.Vp9.{vp9_packing};
 ghost use Rattle.payload_core_vpx.specs.Vp9Frame.{is_predicted};
 ghost use Rattle.payload_core_base.specs.Pieces.{pieces};
-ghost use Rattle.std.specs.Prelude.{◌≡◌, ◌++◌, ◌<◌, ◌≤◌, [], IfErr, IfOk, false, map, true};
+ghost use Rattle.std.specs.Prelude.{◌≡◌, ◌++◌, ◌<◌, ◌≤◌, [], IfOk, false, map, true};
 
 use payload_core_base::{PacketError, Packetizer};
 use std::alloc::{AllocError, Global};

@@ -4,7 +4,7 @@ ghost use Rattle.std.specs.Prelude.{◌≡◌, ℕ, ◌^◌, List, ◌∷◌};
 ghost use Rattle.std.specs.Option.{option_copied};
 ghost use Rattle.rtp_media_lines.specs.Sections.{kind_of, direction_of, ssrcs_of, colon_parts, colon_parts_in};
 ghost use Rattle.rtp_media_lines.specs.Sections.{section_of, sections_of, sections_then_slash};
-ghost use Rattle.rtp_media_lines.specs.Words.{comma_parts, parts_in, ended};
+ghost use Rattle.rtp_media_lines.specs.Words.{ended};
 ghost use Rattle.rtp_media_lines.specs.Misreads.{Reads};
 
 use crate::fields::{number_up_to, split_comma};

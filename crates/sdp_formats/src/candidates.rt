@@ -8,7 +8,7 @@ ghost use Rattle.sdp_formats.specs.Candidates.{section_candidate, section_candid
 ghost use Rattle.sdp_formats.specs.Keys.{HasKeysOf};
 
 use crate::keys::{CandidateKey, candidate_key};
-use sdp_formats_types::{Candidate, MediaAttribute, MediaLine, Sdp, SessionAttribute};
+use sdp_formats_types::{Candidate, MediaAttribute, Sdp, SessionAttribute};
 use std::alloc::{AllocError, Global};
 use std::collections::BTreeSet;
 
