@@ -69,20 +69,13 @@ impl<'a> Line<'a> {
 
     /// Answers by bytes in hexadecimal; a dash stands for none, and of many the first three stand before their count.
     pub(crate) fn put_bytes(&mut self, bytes: &[u8]) {
-        if bytes.is_empty() {
-            self.put("-")
-        } else if bytes.len() <= IN_FULL {
-            self.put_digits(bytes)
-        } else {
-            self.put_digits(&bytes[..3]);
-            self.put(format_args!("..({})", bytes.len()))
+        let is_in_full = bytes.len() <= IN_FULL;
+        self.put_where(bytes.is_empty(), "-");
+        for byte in if is_in_full { bytes } else { &bytes[..3] } {
+            self.put(format_args!("{byte:02x}"));
         }
-    }
-
-    fn put_digits(&mut self, bytes: &[u8]) {
-        match hex::encode(self.alloc, bytes) {
-            Ok(digits) => self.put(digits.as_str()),
-            Err(fault) => self.refuse(fault),
+        if !is_in_full {
+            self.put(format_args!("..({})", bytes.len()));
         }
     }
 
@@ -96,10 +89,6 @@ impl<'a> Line<'a> {
         word
     }
 
-    fn refuse_value(&mut self, word: &str) {
-        self.refuse(format_args!("no such value {word:?}"))
-    }
-
     /// The number or truth value that a word says.
     pub(crate) fn value<T: FromStr + Default + Drop>(&mut self, word: &str) -> T
     where
@@ -108,7 +97,7 @@ impl<'a> Line<'a> {
         if let Ok(value) = word.parse::<T>() {
             return value;
         }
-        self.refuse_value(word);
+        self.refuse(format_args!("no such value {word:?}"));
         T::default()
     }
 
@@ -126,7 +115,7 @@ impl<'a> Line<'a> {
         if let Ok(rate) = word.parse::<Frequency>() {
             return rate;
         }
-        self.refuse_value(word);
+        self.refuse(format_args!("no such value {word:?}"));
         Frequency::MICROS
     }
 
@@ -147,19 +136,14 @@ impl<'a> Line<'a> {
     pub(crate) fn bytes_of(&mut self, word: &str) -> Vec<u8> {
         let mut bytes = Vec::new(self.alloc);
         for part in word.trim_end_matches('*').split('+') {
-            self.add_part(&mut bytes, word, part);
+            let (digits, count) = part.split_once(':').unwrap_or((part, "1"));
+            let count = self.value::<u32>(count);
+            match hex::decode(self.alloc, if digits == "-" { "" } else { digits }) {
+                Ok(part) => self.repeat(&mut bytes, &part, count),
+                Err(_) => self.refuse(format_args!("no such value {word:?}")),
+            }
         }
         bytes
-    }
-
-    /// Puts a part of a word behind the bytes of the parts in front of it.
-    fn add_part(&mut self, bytes: &mut Vec<u8>, word: &str, part: &str) {
-        let (digits, count) = part.split_once(':').unwrap_or((part, "1"));
-        let count = self.value::<u32>(count);
-        match hex::decode(self.alloc, if digits == "-" { "" } else { digits }) {
-            Ok(part) => self.repeat(bytes, &part, count),
-            Err(_) => self.refuse_value(word),
-        }
     }
 
     /// Keeps a value behind others.
@@ -176,16 +160,6 @@ impl<'a> Line<'a> {
             }
         }
     }
-}
-
-/// What a name stands for, where it is one of these.
-pub(crate) fn named<T: Copy>(names: &[(&str, T)], name: &str) -> Option<T> {
-    for (known, meaning) in names {
-        if *known == name {
-            return Some(*meaning);
-        }
-    }
-    None
 }
 
 /// What stands before and behind the first such sign; all of the word and nothing where there is none.

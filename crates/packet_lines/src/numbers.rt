@@ -6,15 +6,6 @@ use rtp_wire::{
 };
 use std::cmp::Ordering;
 
-/// What is done at a window.
-#[derive(Clone, Copy)]
-pub(crate) enum Step {
-    New,
-    NewAfter,
-    Update,
-    Accepts,
-}
-
 /// `extend BITS PREVIOUS LOW`: a number of few bits, widened by the one before it, or by none where a dash stands.
 pub(crate) fn extended(line: &mut Line<'_>) {
     let (bits, previous, low) = (line.word(), line.word(), line.number::<u32>());
@@ -34,14 +25,14 @@ pub(crate) fn extended(line: &mut Line<'_>) {
 
 /// `window N` is a window that recorded N alone, `window-after N` one that recorded all up to N, and `update N` records
 /// N at the window: each gives the greatest number. `accepts N` gives whether the window accepts N.
-pub(crate) fn of_window(line: &mut Line<'_>, window: &mut SeqNoWindow, step: Step) {
+pub(crate) fn of_window(line: &mut Line<'_>, window: &mut SeqNoWindow, command: &str) {
     let number = SeqNo::from(line.number::<u64>());
-    match step {
+    match command {
         _ if line.is_refused => {}
-        Step::Accepts => return line.put_whether(window.accepts(number)),
-        Step::New => *window = SeqNoWindow::new(number),
-        Step::NewAfter => *window = SeqNoWindow::new_after(number),
-        Step::Update => window.update(number),
+        "accepts" => return line.put_whether(window.accepts(number)),
+        "window" => *window = SeqNoWindow::new(number),
+        "window-after" => *window = SeqNoWindow::new_after(number),
+        _ => window.update(number),
     }
     line.put(window.max_seq())
 }

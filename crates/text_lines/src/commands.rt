@@ -4,60 +4,13 @@ use crate::configs::{enable, put_distances};
 use crate::printing::{put_round, put_rows};
 use crate::row::{new_row, put_equality, put_feedback};
 use crate::texts::{put_prefixes, put_text};
-use crate::words::{named, next_number, next_row, next_spec};
+use crate::words::{next_number, next_row, next_spec};
 use sdp_formats::SdpError;
 use sdp_formats_config::{CodecConfig, Direction, FormatParams, Pt};
 use std::alloc::{AllocError, Global};
 use std::fmt::Write;
 use std::fs;
 use std::str::SplitWhitespace;
-
-/// What a line's first word asks for.
-#[derive(Clone, Copy)]
-enum Command {
-    Text,
-    Prefixes,
-    Format,
-    Score,
-    Feedback,
-    Equal,
-    Distances,
-    Find,
-    Rows,
-    Round,
-    Own,
-    Locked,
-    Remote,
-    Enable(bool),
-    Add,
-    Defaults,
-    Fresh,
-    Clear,
-    Other,
-}
-
-const COMMANDS: [(&str, Command); 20] = [
-    ("text", Command::Text),
-    ("prefixes", Command::Prefixes),
-    ("format", Command::Format),
-    ("score", Command::Score),
-    ("feedback", Command::Feedback),
-    ("equal", Command::Equal),
-    ("distances", Command::Distances),
-    ("find", Command::Find),
-    ("rows", Command::Rows),
-    ("round", Command::Round),
-    ("own", Command::Own),
-    ("locked", Command::Locked),
-    ("remote", Command::Remote),
-    ("enable", Command::Enable(true)),
-    ("disable", Command::Enable(false)),
-    ("add", Command::Add),
-    ("defaults", Command::Defaults),
-    ("fresh", Command::Fresh),
-    ("clear", Command::Clear),
-    ("other", Command::Other),
-];
 
 /// Whether the answer to a line, or a part of it, could be written; none where the line isn't understood.
 pub(crate) type Answer = Option<Result<(), AllocError>>;
@@ -85,14 +38,11 @@ pub(crate) fn answer(rt: &HostRuntime, rows: &mut Rows, line: &str, reply: &mut 
         Some(parts) => parts,
         None => (line, ""),
     };
-    if command.is_empty() || command == "#" {
-        return Some(reply.push_str(line));
-    }
-    match named(&COMMANDS, command)? {
-        Command::Text => put_file(rt, false, rest, reply),
-        Command::Prefixes => put_file(rt, true, rest, reply),
-        Command::Format => Some(put_format(rt.alloc(), rest, reply)),
-        command => {
+    match command {
+        "" | "#" => Some(reply.push_str(line)),
+        "text" | "prefixes" => put_file(rt, command, rest, reply),
+        "format" => Some(put_format(rt.alloc(), rest, reply)),
+        _ => {
             let words = &mut rest.split_whitespace();
             of_words(rt.alloc(), rows, command, words, reply)
         }
@@ -100,12 +50,12 @@ pub(crate) fn answer(rt: &HostRuntime, rows: &mut Rows, line: &str, reply: &mut 
 }
 
 /// `text NAME` and `prefixes NAME`: what the session text in a file has, and how many of its prefixes are such texts.
-fn put_file(rt: &HostRuntime, by_prefix: bool, name: &str, reply: &mut String) -> Answer {
+fn put_file(rt: &HostRuntime, command: &str, name: &str, reply: &mut String) -> Answer {
     let text = fs::read_to_string(rt, name).ok()?;
-    let done = if by_prefix {
-        put_prefixes(rt.alloc(), name, text.as_str(), reply)
-    } else {
+    let done = if command == "text" {
         put_text(rt.alloc(), name, text.as_str(), reply)
+    } else {
+        put_prefixes(rt.alloc(), name, text.as_str(), reply)
     };
     Some(match done {
         Ok(()) => Ok(()),
@@ -123,18 +73,18 @@ fn put_format(alloc: Global, text: &str, reply: &mut String) -> Result<(), Alloc
 fn of_words(
     alloc: Global,
     rows: &mut Rows,
-    command: Command,
+    command: &str,
     words: &mut SplitWhitespace<'_>,
     reply: &mut String,
 ) -> Answer {
     match command {
-        Command::Score => put_score(words, reply),
-        Command::Feedback => put_feedback(words, reply),
-        Command::Equal => put_equality(words, reply),
-        Command::Distances => put_distances(alloc, &mut rows.own, words, reply),
-        Command::Find => put_found(&rows.own, words, reply),
-        Command::Rows => Some(put_own_rows(alloc, &rows.own, reply)),
-        Command::Round => {
+        "score" => put_score(words, reply),
+        "feedback" => put_feedback(words, reply),
+        "equal" => put_equality(words, reply),
+        "distances" => put_distances(alloc, &mut rows.own, words, reply),
+        "find" => put_found(&rows.own, words, reply),
+        "rows" => Some(put_own_rows(alloc, &rows.own, reply)),
+        "round" => {
             let dir = Direction::from(words.next()?);
             Some(put_round(alloc, &mut rows.own, rows.remote.params(), dir, reply))
         }
@@ -149,35 +99,36 @@ fn of_words(
 fn change(
     alloc: Global,
     rows: &mut Rows,
-    command: Command,
+    command: &str,
     words: &mut SplitWhitespace<'_>,
 ) -> Answer {
     match command {
-        Command::Own | Command::Locked | Command::Remote => return push(rows, command, words),
-        Command::Enable(enabled) => return enable(&mut rows.own, enabled, words),
-        Command::Add => return add(&mut rows.own, words),
-        Command::Defaults => match CodecConfig::new_with_defaults(alloc) {
+        "own" | "locked" | "remote" => return push(rows, command, words),
+        "enable" | "disable" => return enable(&mut rows.own, command == "enable", words),
+        "add" => return add(&mut rows.own, words),
+        "defaults" => match CodecConfig::new_with_defaults(alloc) {
             Ok(config) => rows.own = config,
             Err(fault) => return Some(Err(fault)),
         },
-        Command::Fresh => *rows = Rows::new(alloc),
-        Command::Clear => rows.own.clear(),
-        Command::Other => rows.remote.clear(),
+        "fresh" => *rows = Rows::new(alloc),
+        "clear" => rows.own.clear(),
+        "other" => rows.remote.clear(),
         _ => return None,
     }
     Some(Ok(()))
 }
 
 /// `own ROW`, `locked ROW` and `remote ROW`: a row behind the own ones, locked or not, or behind the other end's.
-fn push(rows: &mut Rows, command: Command, words: &mut SplitWhitespace<'_>) -> Answer {
+fn push(rows: &mut Rows, command: &str, words: &mut SplitWhitespace<'_>) -> Answer {
     let mut row = next_row(words)?;
-    if matches!(command, Command::Remote) {
-        return Some(rows.remote.push(row));
-    }
-    if matches!(command, Command::Locked) {
+    if command == "locked" {
         row.lock();
     }
-    Some(rows.own.push(row))
+    Some(if command == "remote" {
+        rows.remote.push(row)
+    } else {
+        rows.own.push(row)
+    })
 }
 
 /// `add TYPE SPEC`: a new row of a codec behind the others.

@@ -1,31 +1,10 @@
 //! Commands on one row: its feedback, and what it equals.
 
 use crate::commands::Answer;
-use crate::words::{named, next_row, next_spec};
+use crate::words::{next_row, next_spec};
 use sdp_formats_config::{PayloadParams, Pt};
-use std::alloc::AllocError;
 use std::fmt::Write;
 use std::str::SplitWhitespace;
-
-/// A flag of a row's feedback, or none.
-#[derive(Clone, Copy)]
-enum Flag {
-    TransportCc,
-    Nack,
-    Pli,
-    Fir,
-    Remb,
-    None,
-}
-
-const FLAGS: [(&str, Flag); 6] = [
-    ("cc", Flag::TransportCc),
-    ("nack", Flag::Nack),
-    ("pli", Flag::Pli),
-    ("fir", Flag::Fir),
-    ("remb", Flag::Remb),
-    ("-", Flag::None),
-];
 
 /// A new row of the codec that the words give.
 pub(crate) fn new_row(words: &mut SplitWhitespace<'_>) -> Option<PayloadParams> {
@@ -35,27 +14,23 @@ pub(crate) fn new_row(words: &mut SplitWhitespace<'_>) -> Option<PayloadParams> 
 
 /// `feedback FLAG SPEC`: the feedback of a new row, once one flag is off, or none at a dash.
 pub(crate) fn put_feedback(words: &mut SplitWhitespace<'_>, reply: &mut String) -> Answer {
-    let flag = named(&FLAGS, words.next()?)?;
+    let flag = words.next()?;
     let mut row = new_row(words)?;
     match flag {
-        Flag::TransportCc => row.set_fb_transport_cc(false),
-        Flag::Nack => row.set_fb_nack(false),
-        Flag::Pli => row.set_fb_pli(false),
-        Flag::Fir => row.set_fb_fir(false),
-        Flag::Remb => row.set_fb_remb(false),
-        Flag::None => {}
+        "cc" => row.set_fb_transport_cc(false),
+        "nack" => row.set_fb_nack(false),
+        "pli" => row.set_fb_pli(false),
+        "fir" => row.set_fb_fir(false),
+        "remb" => row.set_fb_remb(false),
+        "-" => {}
+        _ => return None,
     }
-    Some(put_flags(&row, reply))
-}
-
-/// Writes each flag of a row.
-fn put_flags(row: &PayloadParams, reply: &mut String) -> Result<(), AllocError> {
     let cc = told("cc", row.fb_transport_cc());
     let nack = told("nack", row.fb_nack());
     let pli = told("pli", row.fb_pli());
     let fir = told("fir", row.fb_fir());
     let remb = told("remb", row.fb_remb());
-    write!(reply, "{cc} {nack} {pli} {fir} {remb}")
+    Some(write!(reply, "{cc} {nack} {pli} {fir} {remb}"))
 }
 
 /// The flag's name, or a dash where it is off.

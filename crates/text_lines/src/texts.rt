@@ -1,8 +1,8 @@
 //! Commands on session texts.
 
 use sdp_formats::{
-    MediaAttribute, MediaLine, Sdp, SdpError, SessionAttribute, SsrcInfo, TryClone,
-    assert_consistency, bundle_mids, ice_candidates, parse, sctp_init, sdp_parser,
+    MediaAttribute, MediaLine, Sdp, SdpError, SessionAttribute, TryClone, assert_consistency,
+    bundle_mids, ice_candidates, parse, sctp_init, sdp_parser,
 };
 use sdp_formats_forms::Maybe;
 use sdp_formats_lookups::ssrc_info;
@@ -21,18 +21,13 @@ pub(crate) fn put_text(
 ) -> Result<(), SdpError> {
     write!(reply, "{name}: ")?;
     let (sdp, rest) = sdp_parser(alloc, text)?;
-    put_parts(alloc, &sdp, rest.len(), reply)?;
-    put_again(alloc, text, &sdp, reply)?;
-    put_printed(alloc, text, sdp.to_sdp_string(alloc)?.as_str(), reply)
-}
-
-/// What the session, each section and the text as a whole have.
-fn put_parts(alloc: Global, sdp: &Sdp, left: usize, reply: &mut String) -> Result<(), AllocError> {
-    put_session(sdp, left, reply)?;
+    put_session(&sdp, rest.len(), reply)?;
     for section in sdp.media_lines.as_slice() {
         put_section(alloc, section, reply)?;
     }
-    put_whole(alloc, sdp, reply)
+    put_whole(alloc, &sdp, reply)?;
+    put_again(alloc, text, &sdp, reply)?;
+    put_printed(alloc, text, sdp.to_sdp_string(alloc)?.as_str(), reply)
 }
 
 fn put_session(sdp: &Sdp, left: usize, reply: &mut String) -> Result<(), AllocError> {
@@ -66,21 +61,17 @@ fn put_section(alloc: Global, section: &MediaLine, reply: &mut String) -> Result
         "\n  section: {types} types, {count} attributes, {unused} unused"
     )?;
     for source in ssrc_info(alloc, section)?.as_slice() {
-        put_source(source, reply)?;
+        let repairs = Maybe(" repairs ", &source.repairs);
+        let cname = Maybe(" of ", &source.cname);
+        let stream = Maybe(" in ", &source.stream_id);
+        let track = Maybe(" track ", &source.track_id);
+        write!(
+            reply,
+            "\n    source {}{repairs}{cname}{stream}{track}",
+            source.ssrc
+        )?;
     }
     Ok(())
-}
-
-fn put_source(source: &SsrcInfo, reply: &mut String) -> Result<(), AllocError> {
-    let repairs = Maybe(" repairs ", &source.repairs);
-    let cname = Maybe(" of ", &source.cname);
-    let stream = Maybe(" in ", &source.stream_id);
-    let track = Maybe(" track ", &source.track_id);
-    write!(
-        reply,
-        "\n    source {}{repairs}{cname}{stream}{track}",
-        source.ssrc
-    )
 }
 
 /// What the text says as a whole.

@@ -3,16 +3,6 @@
 use sdp_formats_config::{Codec, CodecSpec, FormatParams, Frequency, PayloadParams, Pt};
 use std::str::SplitWhitespace;
 
-/// What a name stands for, where it is one of these.
-pub(crate) fn named<T: Copy>(names: &[(&str, T)], name: &str) -> Option<T> {
-    for (known, meaning) in names {
-        if *known == name {
-            return Some(*meaning);
-        }
-    }
-    None
-}
-
 /// The next word, a number of 8 bits.
 pub(crate) fn next_number(words: &mut SplitWhitespace<'_>) -> Option<u8> {
     words.next()?.parse::<u8>().ok()
