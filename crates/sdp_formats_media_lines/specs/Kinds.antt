@@ -3,9 +3,9 @@ use Rattle.std.specs.Prelude.{ℕ, ◌^◌, List, Option, Some, None, codes, if�
 use Rattle.std.specs.Str.{bytes_eq}
 use Rattle.rtp_wire.specs.Name.{name_of}
 use Rattle.sdp_formats_forms.specs.Form.{Form, told, any_text, number, made, after}
-use Rattle.sdp_formats_session_lines.specs.Candidates.{candidate}
-use Rattle.sdp_formats_session_lines.specs.Digest.{fingerprint}
-use Rattle.sdp_formats_session_lines.specs.Words.{setup_word}
+use Rattle.sdp_formats_values.specs.Candidates.{candidate}
+use Rattle.sdp_formats_values.specs.Digest.{fingerprint}
+use Rattle.sdp_formats_values.specs.Words.{setup_word}
 use Rattle.sdp_formats_media_lines.specs.Maps.{rtpmap, rtcp_fb}
 use Rattle.sdp_formats_media_lines.specs.Parameters.{fmtp}
 use Rattle.sdp_formats_media_lines.specs.Rids.{rid}

@@ -8,8 +8,8 @@ ghost use Rattle.sdp_formats_media_lines.specs.Kinds.{max_message_size_line, sct
 
 use rtp_wire::Mid;
 use sdp_formats_forms::{Refusal, behind, number_16, number_64, some, text_of};
-use sdp_formats_session_lines::{candidate, fingerprint, setup_of};
 use sdp_formats_types::MediaAttribute;
+use sdp_formats_values::{candidate_of, fingerprint_of, setup_of};
 use std::alloc::Global;
 
 pub(crate) fn ice_ufrag_line(alloc: Global, text: &str) -> Result<MediaAttribute, Refusal>
@@ -37,7 +37,7 @@ pub(crate) fn fingerprint_line(alloc: Global, text: &str) -> Result<MediaAttribu
     ensures { Gives result (fingerprint_line.reads text.now) }
 {
     let value = behind(text, "fingerprint:")?;
-    Ok(MediaAttribute::Fingerprint(fingerprint(alloc, value)?))
+    Ok(MediaAttribute::Fingerprint(fingerprint_of(alloc, value)?))
 }
 
 pub(crate) fn setup_line(text: &str) -> Result<MediaAttribute, Refusal>
@@ -51,7 +51,7 @@ pub(crate) fn candidate_line(alloc: Global, text: &str) -> Result<MediaAttribute
     ensures { Gives result (candidate_line.reads text.now) }
 {
     let value = behind(text, "candidate:")?;
-    Ok(MediaAttribute::Candidate(candidate(alloc, value)?))
+    Ok(MediaAttribute::Candidate(candidate_of(alloc, value)?))
 }
 
 pub(crate) fn sctp_port_line(text: &str) -> Result<MediaAttribute, Refusal>

@@ -8,7 +8,7 @@ ghost use Rattle.sdp_formats_params.specs.Params.{level_param, telephone_events}
 use crate::key::Key;
 use crate::numbers::{byte_of, don_diff_of, modes_of, profile_level_of, range_of, word_of};
 use h26x_payload_profiles::{H265ProfileTierLevel, H266ProfileTierLevel};
-use rtp_wire::Pt;
+use rtp_wire_ids::Pt;
 
 /// One format parameter of an `a=fmtp` line (RFC 8866 6.15).
 #[derive(Clone, Copy, PartialEq, Eq, Drop)]

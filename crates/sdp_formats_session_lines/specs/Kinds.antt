@@ -2,9 +2,9 @@
 use Rattle.std.specs.Prelude.{ℕ, List, Option, Some, None, codes, if◌then◌else◌}
 use Rattle.std.specs.Str.{bytes_eq}
 use Rattle.sdp_formats_forms.specs.Form.{Form, told, any_text, made, after}
-use Rattle.sdp_formats_session_lines.specs.Candidates.{candidate}
-use Rattle.sdp_formats_session_lines.specs.Digest.{fingerprint}
-use Rattle.sdp_formats_session_lines.specs.Words.{setup_word}
+use Rattle.sdp_formats_values.specs.Candidates.{candidate}
+use Rattle.sdp_formats_values.specs.Digest.{fingerprint}
+use Rattle.sdp_formats_values.specs.Words.{setup_word}
 use Rattle.sdp_formats_session_lines.specs.Groups.{group, msid_semantic}
 use Rattle.sdp_formats_types.specs.declared.session.SessionAttribute.{SessionAttribute}
 use Rattle.sdp_formats_types.specs.declared.session.SessionAttribute.TheVariants.{IceLite, IceUfrag, IcePwd}

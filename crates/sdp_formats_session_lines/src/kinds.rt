@@ -7,9 +7,9 @@ ghost use Rattle.sdp_formats_session_lines.specs.Kinds.{ice_options_line, finger
 ghost use Rattle.sdp_formats_session_lines.specs.Kinds.{candidate_line, ice_lite, end_word};
 
 use crate::groups::{group, msid_semantic};
-use crate::{candidate, fingerprint, setup_of};
 use sdp_formats_forms::{Refusal, behind, text_of};
 use sdp_formats_types::SessionAttribute;
+use sdp_formats_values::{candidate_of, fingerprint_of, setup_of};
 use std::alloc::Global;
 
 pub(crate) fn ice_lite(text: &str) -> Option<SessionAttribute>
@@ -69,7 +69,7 @@ pub(crate) fn fingerprint_line(alloc: Global, text: &str) -> Result<SessionAttri
     ensures { Gives result (fingerprint_line.reads text.now) }
 {
     let value = behind(text, "fingerprint:")?;
-    Ok(SessionAttribute::Fingerprint(fingerprint(alloc, value)?))
+    Ok(SessionAttribute::Fingerprint(fingerprint_of(alloc, value)?))
 }
 
 pub(crate) fn setup_line(text: &str) -> Result<SessionAttribute, Refusal>
@@ -83,5 +83,5 @@ pub(crate) fn candidate_line(alloc: Global, text: &str) -> Result<SessionAttribu
     ensures { Gives result (candidate_line.reads text.now) }
 {
     let value = behind(text, "candidate:")?;
-    Ok(SessionAttribute::Candidate(candidate(alloc, value)?))
+    Ok(SessionAttribute::Candidate(candidate_of(alloc, value)?))
 }

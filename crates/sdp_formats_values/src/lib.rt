@@ -1,14 +1,21 @@
-//! Values of session texts that stand alone: candidates, fingerprints, setups, names and layers of streams.
+//! Values of session texts that stand alone: candidates, fingerprints, setups, names and layers of streams; and how
+//! candidates, fingerprints and setups are read (RFC 8839 5.1, RFC 8122 5, RFC 4145 4).
 #![tactic(auto)]
 
 mod candidate;
+mod candidate_reader;
+mod digest;
 mod fingerprint;
 mod setup;
 mod streams;
+mod words;
 
 pub use candidate::{Candidate, CandidateKind, IceCreds, Protocol, RelatedAddress, TcpType};
+pub use candidate_reader::candidate_of;
+pub use digest::fingerprint_of;
 pub use fingerprint::Fingerprint;
 pub use setup::Setup;
 pub use streams::{
     Msid, RestrictionId, RidDirection, Simulcast, SimulcastGroups, SimulcastLayer, SsrcInfo,
 };
+pub use words::setup_of;

@@ -5,7 +5,7 @@ ghost use Rattle.std.specs.String.{string_bytes};
 ghost use Rattle.sdp_formats_values.specs.Printed.{way_text, name_text};
 ghost use Rattle.sdp_formats_values.specs.Streams.{inverted};
 
-use rtp_wire::Ssrc;
+use rtp_wire_ids::Ssrc;
 use sdp_formats_forms::{Joined, Listed, Text};
 use sdp_formats_params::Pair;
 use std::alloc::{AllocError, Global};
