@@ -2,8 +2,7 @@
 
 use crate::measured::{Round, measure};
 use crate::tally::Tally;
-use sdp_formats::sdp_parser;
-use sdp_formats_section_rows::rtp_params;
+use sdp_formats::{rtp_params, sdp_parser};
 use std::alloc::Global;
 use std::io;
 

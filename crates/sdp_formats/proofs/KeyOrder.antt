@@ -20,7 +20,7 @@ use Rattle.sdp_formats_values.specs.declared.candidate.TcpType.{TcpType}
 use Rattle.sdp_formats_values.specs.declared.candidate.TcpType.TheVariants.{Active, Passive, So}
 use Rattle.sdp_formats.specs.Candidates.{IsAmong}
 use Rattle.sdp_formats.specs.Keys.{IsKeyOf, address_cmp, candidate_cmp, key_cmp, related_of, shown, text_cmp}
-use Rattle.sdp_formats.specs.declared.keys.CandidateKey.{CandidateKey}
+use Rattle.sdp_formats.specs.declared.candidate_keys.CandidateKey.{CandidateKey}
 
 both : (a b : Ordering) → ordering_then a b ≡ Equal → (a ≡ Equal) × (b ≡ Equal)
 both Less b e = absurd (true≢false (ap is_lt e))

@@ -9,7 +9,7 @@ use Rattle.sdp_formats_values.specs.declared.candidate.Candidate.{Candidate}
 use Rattle.sdp_formats.proofs.KeyOrder.{among, key_order}
 use Rattle.sdp_formats.specs.Candidates.{IsAmong}
 use Rattle.sdp_formats.specs.Keys.{HasKeysOf, IsKeyOf, candidate_cmp, key_cmp}
-use Rattle.sdp_formats.specs.declared.keys.CandidateKey.{CandidateKey}
+use Rattle.sdp_formats.specs.declared.candidate_keys.CandidateKey.{CandidateKey}
 
 turned : (b : Bool) → false ≡ not b → b ≡ true
 turned true e = refl

@@ -10,7 +10,7 @@ use Rattle.std.specs.declared.cmp.Ordering.{Ordering}
 use Rattle.sdp_formats_values.specs.PrintedCandidates.{protocol_text, kind_text, tcp_type_text}
 use Rattle.sdp_formats_values.specs.declared.candidate.Candidate.{Candidate}
 use Rattle.sdp_formats_values.specs.declared.candidate.RelatedAddress.{RelatedAddress}
-use Rattle.sdp_formats.specs.declared.keys.CandidateKey.{CandidateKey}
+use Rattle.sdp_formats.specs.declared.candidate_keys.CandidateKey.{CandidateKey}
 
 abbrev pub text_cmp : List ℕ → List ℕ → Ordering
 text_cmp a b = slice_cmp nat_cmp a b

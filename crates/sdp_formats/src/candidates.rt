@@ -7,7 +7,7 @@ ghost use Rattle.sdp_formats.specs.Candidates.{Adds, AreEachOnce, borrowed, cand
 ghost use Rattle.sdp_formats.specs.Candidates.{section_candidate, section_candidates, session_candidate};
 ghost use Rattle.sdp_formats.specs.Keys.{HasKeysOf};
 
-use crate::keys::{CandidateKey, candidate_key};
+use crate::candidate_keys::{CandidateKey, candidate_key};
 use sdp_formats_types::{Candidate, MediaAttribute, Sdp, SessionAttribute};
 use std::alloc::{AllocError, Global};
 use std::collections::BTreeSet;

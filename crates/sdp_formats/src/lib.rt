@@ -1,19 +1,20 @@
 //! Session texts: what offers and answers of WebRTC say (RFC 8866, RFC 8829, RFC 9143, RFC 8839), read and
 //! printed; what whole ones say of their bundle, their candidates, and whether their parts go together; and copies of
-//! what they hold.
+//! what they hold. What sections and sessions say by their attributes, the rows that a section lists, configs of rows
+//! and their rounds stand here too, and so does what their calls name of the wire.
 #![tactic(auto)]
 
 mod again;
 mod attributes;
+mod candidate_keys;
 mod candidates;
 mod consistency;
 mod error;
 mod exchanged;
-mod keys;
 mod name_set;
 mod parser;
 mod texts;
-mod whole;
+mod wholes;
 
 pub use again::TryClone;
 pub use candidates::ice_candidates;
@@ -21,12 +22,29 @@ pub use consistency::assert_consistency;
 pub use error::SdpError;
 pub use exchanged::{SdpAnswer, SdpOffer};
 pub use parser::{sdp_parser, session_parser};
-pub use sdp_formats_forms::FingerprintFmt;
-pub use sdp_formats_predicates::{Inconsistency, check_consistent, is_consistent};
+pub use rtp_wire::{Direction, Extension, Frequency, Mid, Pt, SessionId, Ssrc};
+pub use sdp_formats_config::{CodecConfig, RemoteSection};
+pub use sdp_formats_forms::{FingerprintFmt, Joined, Maybe, Refusal};
+pub use sdp_formats_lookups::{
+    directions, from_text, keys, lists, no_info, preference, section, session, sources_of,
+    ssrc_info, whole,
+};
+pub use sdp_formats_predicates::same::Same;
+pub use sdp_formats_predicates::{
+    Inconsistency, check_consistent, is_consistent, is_writable_session,
+};
+pub use sdp_formats_round::{RoundError, best_row, round};
+pub use sdp_formats_rows::{
+    Codec, CodecSpec, FormatParams, MediaKind, PayloadParams, scores_in_range, scores_symmetric,
+};
+pub use sdp_formats_section_rows::{
+    as_media_attrs, map_of, rtp_params, spec_of_map, to_format_param,
+};
 pub use sdp_formats_types::{
     Bandwidth, Candidate, CandidateKind, Fingerprint, FormatParam, H265ProfileTierLevel,
     H266ProfileTierLevel, IceCreds, Listed, MediaAttribute, MediaLine, MediaType, Msid, Pair,
     Proto, Protocol, RelatedAddress, RestrictionId, RidDirection, RtpMap, Sdp, Session,
     SessionAttribute, Setup, Simulcast, SimulcastGroups, SimulcastLayer, SsrcInfo, TcpType, Text,
 };
-pub use whole::{bundle_mids, parse, sctp_init};
+pub use sdp_formats_values::{candidate_of, fingerprint_of, setup_of};
+pub use wholes::{bundle_mids, parse, sctp_init};

@@ -1,7 +1,7 @@
 //! Commands on the config of an end: default rows of a codec, and the distances of redundancy.
 
 use crate::commands::Answer;
-use sdp_formats_config::{Codec, CodecConfig};
+use sdp_formats::{Codec, CodecConfig};
 use std::alloc::{AllocError, Global};
 use std::fmt::Write;
 use std::str::SplitWhitespace;

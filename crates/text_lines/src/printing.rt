@@ -1,7 +1,7 @@
 //! What rounds give, as text.
 
 use crate::row::told;
-use sdp_formats_config::{CodecConfig, Direction, PayloadParams, RoundError};
+use sdp_formats::{CodecConfig, Direction, PayloadParams, RoundError};
 use std::alloc::{AllocError, Global};
 use std::fmt;
 use std::fmt::Write;

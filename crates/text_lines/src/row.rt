@@ -2,7 +2,7 @@
 
 use crate::commands::Answer;
 use crate::words::{next_row, next_spec};
-use sdp_formats_config::{PayloadParams, Pt};
+use sdp_formats::{PayloadParams, Pt};
 use std::fmt::Write;
 use std::str::SplitWhitespace;
 

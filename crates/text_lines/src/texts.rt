@@ -1,12 +1,9 @@
 //! Commands on session texts.
 
 use sdp_formats::{
-    MediaAttribute, MediaLine, Sdp, SdpError, SessionAttribute, TryClone, assert_consistency,
-    bundle_mids, ice_candidates, parse, sctp_init, sdp_parser,
+    Maybe, MediaAttribute, MediaLine, Same, Sdp, SdpError, SessionAttribute, TryClone,
+    assert_consistency, bundle_mids, ice_candidates, parse, sctp_init, sdp_parser, ssrc_info,
 };
-use sdp_formats_forms::Maybe;
-use sdp_formats_lookups::ssrc_info;
-use sdp_formats_predicates::same::Same;
 use std::alloc::{AllocError, Global};
 use std::fmt::Write;
 

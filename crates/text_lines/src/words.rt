@@ -1,6 +1,6 @@
 //! The words of a line: none where one is missing, or isn't what has to stand there.
 
-use sdp_formats_config::{Codec, CodecSpec, FormatParams, Frequency, PayloadParams, Pt};
+use sdp_formats::{Codec, CodecSpec, FormatParams, Frequency, PayloadParams, Pt};
 use std::str::SplitWhitespace;
 
 /// The next word, a number of 8 bits.

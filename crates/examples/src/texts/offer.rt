@@ -1,9 +1,7 @@
-//! Offers read. Uses the crates `anyhow`, `sdp_formats`, `sdp_formats_lookups` and `sdp_formats_section_rows`.
+//! Offers read. Uses the crates `anyhow` and `sdp_formats`.
 
 use anyhow::bail;
-use sdp_formats::{MediaAttribute, MediaLine, SdpOffer};
-use sdp_formats_lookups::whole;
-use sdp_formats_section_rows::rtp_params;
+use sdp_formats::{MediaAttribute, MediaLine, SdpOffer, rtp_params, whole};
 
 /// Prints each section of an offer with its rows and candidates, and the fingerprint.
 pub(crate) fn print_offer(rt: &HostRuntime, text: &str) -> anyhow::Result<()> {

@@ -1,7 +1,7 @@
 use Rattle.std.proofs.Common.{◌≡◌, drop}
 use Rattle.std.specs.Prelude.{find}
 use Rattle.sdp_formats_types.specs.Media.{is_channel}
-use Rattle.sdp_formats.proofs.whole.sctp_init.Given as goal
+use Rattle.sdp_formats.proofs.wholes.sctp_init.Given as goal
 
 -- the sections so far are of no data channels
 abbrev pub invariant-loop-section : goal.invariant-loop-section

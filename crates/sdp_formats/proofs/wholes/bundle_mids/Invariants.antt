@@ -1,7 +1,7 @@
 use Rattle.std.proofs.Common.{◌≡◌, drop}
 use Rattle.sdp_formats_types.specs.Lookups.{first_of}
 use Rattle.sdp_formats.specs.Wholes.{bundle_in}
-use Rattle.sdp_formats.proofs.whole.bundle_mids.Given as goal
+use Rattle.sdp_formats.proofs.wholes.bundle_mids.Given as goal
 
 -- the attributes so far name no bundle
 abbrev pub invariant-loop-attribute : goal.invariant-loop-attribute
