@@ -1,6 +1,7 @@
 //! Why a session text isn't read.
 
 use std::alloc::{AllocError, AllocFailed};
+use std::error::Error;
 use std::fmt;
 
 /// Why a session text isn't read.
@@ -50,3 +51,5 @@ impl fmt::Display for SdpError {
         }
     }
 }
+
+impl Error for SdpError {}

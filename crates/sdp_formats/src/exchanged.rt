@@ -11,6 +11,7 @@ use sdp_formats_types::Sdp;
 use std::alloc::{AllocError, Global};
 use std::fmt;
 use std::marker::Model;
+use std::ops::Deref;
 
 /// An offer (RFC 8829). Contracts see it as its session text.
 #[derive(Debug)]
@@ -62,6 +63,17 @@ impl SdpOffer {
         ensures { IfOk result (λ text. string_bytes text ≡ sdp_text self.now) }
     {
         self.sdp.to_sdp_string(alloc)
+    }
+}
+
+/// Its session text.
+impl Deref for SdpOffer {
+    type Target = Sdp;
+
+    ghost deref_gives = { λ offer sdp. sdp ≡ offer };
+
+    fn deref(&self) -> &Sdp {
+        &self.sdp
     }
 }
 
@@ -134,6 +146,17 @@ impl SdpAnswer {
         ensures { IfOk result (λ text. string_bytes text ≡ sdp_text self.now) }
     {
         self.sdp.to_sdp_string(alloc)
+    }
+}
+
+/// Its session text.
+impl Deref for SdpAnswer {
+    type Target = Sdp;
+
+    ghost deref_gives = { λ answer sdp. sdp ≡ answer };
+
+    fn deref(&self) -> &Sdp {
+        &self.sdp
     }
 }
 

@@ -15,6 +15,7 @@ pub use rounds::RemoteSection;
 use sdp_formats_rows::PayloadParams;
 use std::alloc::{AllocError, Global};
 use std::marker::Model;
+use std::ops::DerefSlice;
 
 /// The rows that an end is ready to use, in order of preference, and the distances of redundant
 /// audio.
@@ -111,5 +112,16 @@ impl CodecConfig {
             params: self.params.clone()?,
             red_distances: self.red_distances.clone()?,
         })
+    }
+}
+
+/// Its rows, in order of preference.
+impl DerefSlice for CodecConfig {
+    type Elem = PayloadParams;
+
+    ghost deref_gives = { λ config rows. rows ≡ config.rows };
+
+    fn deref(&self) -> &[PayloadParams] {
+        self.params.as_slice()
     }
 }

@@ -1,5 +1,5 @@
 -- What a reader answers of a text.
-use Rattle.std.specs.Prelude.{◌≡◌, ℕ, List, Option, None, Some, Result, Ok, Err}
+use Rattle.std.specs.Prelude.{◌≡◌, ℕ, List, Option, None, Some, Result, Ok, Err, codes}
 use Rattle.std.specs.Borrow.{Bor}
 use Rattle.std.specs.Option.{option_copied}
 use Rattle.sdp_formats_forms.specs.declared.refusal.Refusal.{Refusal}
@@ -34,3 +34,8 @@ abbrev pub fitted_of : {A : Type 0} → Result A Refusal → Result (Option A) R
 fitted_of (Ok a) = Ok (Some a)
 fitted_of (Err Unfit) = Ok None
 fitted_of (Err Memory) = Err Memory
+
+-- What is printed of a refusal.
+abbrev pub refusal_text : Refusal → List ℕ
+refusal_text Unfit = codes "not of the form"
+refusal_text Memory = codes "out of memory"

@@ -5,6 +5,7 @@ ghost use Rattle.sdp_formats_forms.specs.Pieces.{head};
 
 use std::alloc::{AllocError, Global};
 use std::marker::Model;
+use std::ops::DerefSlice;
 
 /// A list of values. Contracts see it as the list of what its values are.
 #[derive(Debug, Drop)]
@@ -77,5 +78,16 @@ impl<T> Listed<T> {
     {
         self.items.push(value)?;
         Ok(())
+    }
+}
+
+/// Its values, as a slice.
+impl<T> DerefSlice for Listed<T> {
+    type Elem = T;
+
+    ghost deref_gives = { λ list items. items ≡ list };
+
+    fn deref(&self) -> &[T] {
+        self.items.as_slice()
     }
 }

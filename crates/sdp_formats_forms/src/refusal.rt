@@ -1,6 +1,8 @@
 //! Why a text isn't read.
 
 use std::alloc::{AllocError, AllocFailed};
+use std::error::Error;
+use std::fmt;
 
 /// Why a text isn't read.
 #[derive(Debug, Drop)]
@@ -32,3 +34,19 @@ impl<T: Drop> From<AllocFailed<T>> for Refusal {
         Refusal::Memory
     }
 }
+
+impl fmt::Display for Refusal {
+    ghost use Rattle.std.specs.Prelude.{Some};
+    ghost use Rattle.sdp_formats_forms.specs.Refusals.{refusal_text};
+
+    ghost output = { λ e. Some (refusal_text e) };
+
+    fn fmt<W: fmt::Write>(&self, f: &mut fmt::Formatter<W>) -> fmt::Result {
+        match self {
+            Refusal::Unfit => f.write_str("not of the form"),
+            Refusal::Memory => f.write_str("out of memory"),
+        }
+    }
+}
+
+impl Error for Refusal {}

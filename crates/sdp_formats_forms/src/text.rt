@@ -11,6 +11,7 @@ use std::alloc::{AllocError, Global};
 use std::fmt;
 use std::hash::{Hash, Hasher};
 use std::marker::Model;
+use std::ops::DerefStr;
 
 /// A text of a line. Contracts see it as its bytes.
 #[derive(Debug)]
@@ -99,5 +100,14 @@ impl fmt::Display for Text {
 
     fn fmt<W: fmt::Write>(&self, f: &mut fmt::Formatter<W>) -> fmt::Result {
         f.write_str(self.as_str())
+    }
+}
+
+/// It as a string slice.
+impl DerefStr for Text {
+    ghost deref_gives = { λ text bytes. bytes ≡ text };
+
+    fn deref(&self) -> &str {
+        self.text.as_str()
     }
 }

@@ -7,6 +7,7 @@ ghost use Rattle.sdp_formats_lookups.specs.FromText.{IsFromText, print_in_text};
 use sdp_formats_forms::{Reads, Refusal, Text, list_of, split};
 use sdp_formats_types::Fingerprint;
 use std::alloc::Global;
+use std::error::Error;
 use std::fmt;
 
 /// Why a text gives no fingerprint.
@@ -31,6 +32,8 @@ impl fmt::Display for FingerprintError {
         }
     }
 }
+
+impl Error for FingerprintError {}
 
 // A byte of a digest.
 struct HexNumber;

@@ -10,6 +10,7 @@ use sdp_formats_forms::{Joined, Listed, Text};
 use sdp_formats_params::Pair;
 use std::alloc::{AllocError, Global};
 use std::fmt;
+use std::ops::DerefSlice;
 
 /// The name of an `a=rid` line (RFC 8851 4), and whether its stream is active at first: the name, and the flag.
 #[derive(Debug)]
@@ -119,6 +120,17 @@ impl fmt::Display for SimulcastLayer {
 /// The layers of one way of a simulcast, in the order of preference; of alternatives the first (RFC 8853 5.1).
 #[derive(Debug, Drop)]
 pub struct SimulcastGroups(pub Listed<SimulcastLayer>);
+
+/// Its layers, as a slice.
+impl DerefSlice for SimulcastGroups {
+    type Elem = SimulcastLayer;
+
+    ghost deref_gives = { λ groups layers. layers ≡ groups.0 };
+
+    fn deref(&self) -> &[SimulcastLayer] {
+        self.0.as_slice()
+    }
+}
 
 /// The names of the layers with semicolons between.
 impl fmt::Display for SimulcastGroups {

@@ -1,18 +1,14 @@
 //! Offers read. Uses the crates `anyhow` and `sdp_formats`.
 
-use anyhow::bail;
 use sdp_formats::{MediaAttribute, MediaLine, SdpOffer, rtp_params, whole};
 
 /// Prints each section of an offer with its rows and candidates, and the fingerprint.
 pub(crate) fn print_offer(rt: &HostRuntime, text: &str) -> anyhow::Result<()> {
-    let offer = match SdpOffer::from_sdp_string(rt.alloc(), text) {
-        Ok(offer) => offer,
-        Err(error) => bail!("{error}"),
-    };
-    for section in offer.as_sdp().media_lines.as_slice() {
+    let offer = SdpOffer::from_sdp_string(rt.alloc(), text)?;
+    for section in offer.media_lines.iter() {
         print_section(rt, section)?;
     }
-    if let Some(print) = whole::fingerprint(offer.as_sdp()) {
+    if let Some(print) = whole::fingerprint(&offer) {
         println!(*rt; "fingerprint {print}")?;
     }
     Ok(())
@@ -40,7 +36,7 @@ fn print_rows(rt: &HostRuntime, section: &MediaLine) -> anyhow::Result<()> {
 /// How many candidates a section has.
 fn candidates(section: &MediaLine) -> usize {
     let mut count = 0usize;
-    for attribute in section.attrs.as_slice() {
+    for attribute in section.attrs.iter() {
         if matches!(attribute, MediaAttribute::Candidate(_)) {
             count = count.saturating_add(1);
         }
