@@ -2,7 +2,8 @@
 use Rattle.std.proofs.Common.{◌≡◌, List, ◌∷◌, sym, subst, Bor}
 use Rattle.std.specs.List.{FoldsTo}
 use Rattle.sdp_formats_values.specs.declared.candidate.Candidate.{Candidate}
-use Rattle.sdp_formats.specs.Candidates.{Adds, borrowed}
+use Rattle.sdp_formats.specs.Candidates.{Adds}
+use Rattle.sdp_formats_lookups.specs.Candidates.{borrowed}
 
 pub one_more : (seen now last : List Candidate) (left rest : List (Bor Candidate)) (next : Bor Candidate)
     → left ≡ next ∷ rest → Adds seen next.now now → FoldsTo Adds now (borrowed rest) last

@@ -1,48 +1,15 @@
 //! The candidates of a whole text.
 
-ghost use Rattle.std.specs.Prelude.{◌≡◌, ◌++◌, IfOk, OnOk};
-ghost use Rattle.std.specs.List.{filter_map, flat_map};
-ghost use Rattle.std.specs.Option.{option_copied};
-ghost use Rattle.sdp_formats.specs.Candidates.{Adds, AreEachOnce, borrowed, candidates_of};
-ghost use Rattle.sdp_formats.specs.Candidates.{section_candidate, section_candidates, session_candidate};
+ghost use Rattle.std.specs.Prelude.{◌≡◌, IfOk, OnOk};
+ghost use Rattle.sdp_formats.specs.Candidates.{Adds, AreEachOnce, candidates_of};
 ghost use Rattle.sdp_formats.specs.Keys.{HasKeysOf};
+ghost use Rattle.sdp_formats_lookups.specs.Candidates.{borrowed};
 
 use crate::candidate_keys::{CandidateKey, candidate_key};
-use sdp_formats_types::{Candidate, MediaAttribute, Sdp, SessionAttribute};
+use sdp_formats_lookups::{push_of_section, push_of_session};
+use sdp_formats_types::{Candidate, Sdp};
 use std::alloc::{AllocError, Global};
 use std::collections::BTreeSet;
-
-#[tactic(auto, unfolding(crate::specs::Candidates::session_candidate))]
-fn push_of_session<'a>(
-    candidates: &mut Vec<&'a Candidate>,
-    attributes: &'a [SessionAttribute],
-) -> Result<(), AllocError>
-    ensures { OnOk result (borrowed candidates.new.items
-        ≡ borrowed candidates.old.items ++ filter_map session_candidate attributes.now) }
-{
-    for attribute in attributes {
-        if let SessionAttribute::Candidate(candidate) = attribute {
-            candidates.push(candidate)?;
-        }
-    }
-    Ok(())
-}
-
-#[tactic(auto, unfolding(crate::specs::Candidates::section_candidate))]
-fn push_of_section<'a>(
-    candidates: &mut Vec<&'a Candidate>,
-    attributes: &'a [MediaAttribute],
-) -> Result<(), AllocError>
-    ensures { OnOk result (borrowed candidates.new.items
-        ≡ borrowed candidates.old.items ++ filter_map section_candidate attributes.now) }
-{
-    for attribute in attributes {
-        if let MediaAttribute::Candidate(candidate) = attribute {
-            candidates.push(candidate)?;
-        }
-    }
-    Ok(())
-}
 
 /// All candidates of a text, those of the session first.
 fn all_candidates(alloc: Global, sdp: &Sdp) -> Result<Vec<&Candidate>, AllocError>

@@ -22,11 +22,11 @@ pub use consistency::assert_consistency;
 pub use error::SdpError;
 pub use exchanged::{SdpAnswer, SdpOffer};
 pub use parser::{sdp_parser, session_parser};
-pub use rtp_wire::{Direction, Extension, Frequency, Mid, Pt, SessionId, Ssrc};
+pub use rtp_wire::{Direction, Extension, Frequency, Mid, Pt, Rid, SessionId, Ssrc};
 pub use sdp_formats_config::{CodecConfig, RemoteSection};
 pub use sdp_formats_forms::{FingerprintFmt, Joined, Maybe, Refusal};
 pub use sdp_formats_lookups::{
-    directions, from_text, keys, lists, no_info, preference, section, session, sources_of,
+    directions, from_text, is_no_stream, keys, lists, preference, section, session, sources_of,
     ssrc_info, whole,
 };
 pub use sdp_formats_predicates::same::Same;
@@ -38,7 +38,7 @@ pub use sdp_formats_rows::{
     Codec, CodecSpec, FormatParams, MediaKind, PayloadParams, scores_in_range, scores_symmetric,
 };
 pub use sdp_formats_section_rows::{
-    as_media_attrs, map_of, rtp_params, spec_of_map, to_format_param,
+    as_media_attrs, format_given, map_of, rtp_params, spec_of_map, to_format_param, with_param,
 };
 pub use sdp_formats_types::{
     Bandwidth, Candidate, CandidateKind, Fingerprint, FormatParam, H265ProfileTierLevel,

@@ -9,7 +9,7 @@ use Rattle.sdp_formats_params.specs.declared.param.FormatParam.{FormatParam}
 use Rattle.sdp_formats_params.specs.declared.param.FormatParam.TheVariants as param
 use Rattle.sdp_formats_format.specs.Formats.{no_format}
 use Rattle.sdp_formats_format.specs.declared.format.FormatParams.{FormatParams}
-use Rattle.sdp_formats_section_rows.specs.Attributes.{all_params, given_param, listed_param, params_of}
+use Rattle.sdp_formats_format.specs.Parameters.{all_params, given_param, listed_param, params_of}
 use Rattle.sdp_formats_section_rows.specs.Given.{is_unsupported, with_param}
 use Rattle.sdp_formats_section_rows.specs.SectionRows.{names}
 

@@ -18,7 +18,7 @@ use Rattle.sdp_formats_media_lines.specs.PrintedPairs.{PairsComeBack}
 use Rattle.sdp_formats_params.specs.declared.param.FormatParam.{FormatParam}
 use Rattle.sdp_formats_params.specs.declared.param.FormatParam.TheVariants as param
 use Rattle.sdp_formats_format.specs.declared.format.FormatParams.{FormatParams}
-use Rattle.sdp_formats_section_rows.specs.Attributes.{all_params, given_param, listed_param, params_of}
+use Rattle.sdp_formats_format.specs.Parameters.{all_params, given_param, listed_param, params_of}
 use Rattle.sdp_formats_laws.proofs.KeyedLists.{keyed_on_line, keyed_read}
 use Rattle.sdp_formats_laws.proofs.LevelLists.{IsRising, level_back, weaker}
 use Rattle.sdp_formats_laws.proofs.KeyRanks.{rank_of}

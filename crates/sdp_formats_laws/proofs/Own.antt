@@ -19,7 +19,8 @@ use Rattle.sdp_formats_format.specs.Texts.{numbers_265, numbers_266}
 use Rattle.sdp_formats_format.specs.declared.format.FormatParams.{FormatParams}
 use Rattle.sdp_formats_rows.specs.declared.spec.CodecSpec.{CodecSpec}
 use Rattle.sdp_formats_section_rows.specs.Attributes.{all_feedback, feedback_line, feedback_lines}
-use Rattle.sdp_formats_section_rows.specs.Attributes.{fmtp_of, is_used, params_in, params_of, words_of}
+use Rattle.sdp_formats_section_rows.specs.Attributes.{fmtp_of, is_used, params_in, words_of}
+use Rattle.sdp_formats_format.specs.Parameters.{params_of}
 use Rattle.sdp_formats_section_rows.specs.Given.{events_after, format_given, is_declined, is_unsupported}
 use Rattle.sdp_formats_section_rows.specs.Given.{most_of, with_attribute, with_events, with_param}
 use Rattle.sdp_formats_types.specs.declared.media.MediaAttribute.{MediaAttribute}

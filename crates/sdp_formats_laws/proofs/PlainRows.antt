@@ -19,7 +19,8 @@ use Rattle.sdp_formats_rows.specs.Same.{same, same_flag, same_format, same_h264,
 use Rattle.sdp_formats_rows.specs.Same.{same_speech, same_video}
 use Rattle.sdp_formats_format.specs.Texts.{format_text, numbers_265, numbers_266}
 use Rattle.sdp_formats_format.specs.declared.format.FormatParams.{FormatParams}
-use Rattle.sdp_formats_section_rows.specs.Attributes.{params_in, params_of}
+use Rattle.sdp_formats_section_rows.specs.Attributes.{params_in}
+use Rattle.sdp_formats_format.specs.Parameters.{params_of}
 use Rattle.sdp_formats_laws.proofs.FormatRanges.{Apart, format_held}
 use Rattle.sdp_formats_laws.proofs.FormatsBack.{OneLevel, format_back}
 use Rattle.sdp_formats_laws.proofs.OtherParams.{events_back}

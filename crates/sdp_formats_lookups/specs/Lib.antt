@@ -1,3 +1,4 @@
+pub mod Candidates
 pub mod Creds
 pub mod Directions
 pub mod FromText

@@ -1,6 +1,6 @@
 //! What a section says of each of its sources.
 
-ghost use Rattle.std.specs.Prelude.{◌≡◌, [], IfOk, None, map};
+ghost use Rattle.std.specs.Prelude.{◌≡◌, [], IfOk, map};
 ghost use Rattle.sdp_formats_lookups.specs.Known.{info_with};
 ghost use Rattle.sdp_formats_lookups.specs.Sources.{infos_of};
 
@@ -9,19 +9,6 @@ use crate::sources::sources_of;
 use rtp_wire::Ssrc;
 use sdp_formats_types::{MediaLine, SsrcInfo};
 use std::alloc::{AllocError, Global};
-
-/// Nothing said of source 0.
-pub fn no_info() -> SsrcInfo
-    ensures { result ≡ record { ssrc = 0; repairs = None; cname = None; stream_id = None; track_id = None } }
-{
-    SsrcInfo {
-        ssrc: Ssrc::from(0),
-        repairs: None,
-        cname: None,
-        stream_id: None,
-        track_id: None,
-    }
-}
 
 /// What is known of each of these sources.
 fn infos_by(alloc: Global, known: &Known<'_>, sources: &[Ssrc]) -> Result<Vec<SsrcInfo>, AllocError>

@@ -2,6 +2,7 @@
 //! section says of its sources (RFC 5576).
 #![tactic(auto)]
 
+mod candidates;
 pub mod directions;
 pub mod from_text;
 pub mod infos;
@@ -15,6 +16,7 @@ pub mod session;
 mod sources;
 pub mod whole;
 
-pub use infos::{no_info, ssrc_info};
+pub use candidates::{push_of_section, push_of_session};
+pub use infos::ssrc_info;
 pub use said::is_no_stream;
 pub use sources::sources_of;

@@ -1,17 +1,21 @@
 //! What a section says, by its attributes.
 
-ghost use Rattle.std.specs.Prelude.{◌≡◌};
+ghost use Rattle.std.specs.Prelude.{◌≡◌, IfOk};
 ghost use Rattle.std.specs.List.{filter_map, list_any};
 ghost use Rattle.std.specs.Option.{option_copied};
+ghost use Rattle.sdp_formats_lookups.specs.Candidates.{borrowed, section_candidates};
 ghost use Rattle.sdp_formats_lookups.specs.Creds.{creds_view};
 ghost use Rattle.sdp_formats_lookups.specs.Preference.{IsPreferred, best_of};
 ghost use Rattle.sdp_formats_lookups.specs.Sections.{creds_of, ends_candidates, fingerprint_in, ice_pwd_in};
-ghost use Rattle.sdp_formats_lookups.specs.Sections.{ice_ufrag_in, max_message_size_in, sctp_init_in, simulcast_in};
+ghost use Rattle.sdp_formats_lookups.specs.Sections.{ice_ufrag_in, last_of, max_message_size_in, sctp_init_in};
+ghost use Rattle.sdp_formats_lookups.specs.Sections.{simulcast_in};
 ghost use Rattle.sdp_formats_types.specs.Lookups.{first_of};
 
+use crate::candidates::push_of_section;
 use crate::preference::chosen;
 use sdp_formats_forms::Text;
-use sdp_formats_types::{Fingerprint, MediaAttribute, MediaLine, Simulcast};
+use sdp_formats_types::{Candidate, Fingerprint, MediaAttribute, MediaLine, Simulcast};
+use std::alloc::{AllocError, Global};
 
 /// The parameters of the first `a=sctp-init`.
 #[tactic(auto, unfolding(crate::specs::Sections::sctp_init_in))]
@@ -83,18 +87,19 @@ pub fn fingerprint(section: &MediaLine) -> Option<&Fingerprint>
     best_fingerprint(section.attrs.as_slice())
 }
 
-/// The layers of the first `a=simulcast` (RFC 8853 5.1).
+/// The layers of the last `a=simulcast`; RFC 8853 5.1 has one.
 #[tactic(auto, unfolding(crate::specs::Sections::simulcast_in))]
 pub fn simulcast(section: &MediaLine) -> Option<&Simulcast>
-    ensures { option_copied result ≡ first_of simulcast_in section.now.attrs }
+    ensures { option_copied result ≡ last_of simulcast_in section.now.attrs }
 {
     let attributes = section.attrs.as_slice();
+    let mut found = None;
     for attribute in attributes {
         if let MediaAttribute::Simulcast(value) = attribute {
-            return Some(value);
+            found = Some(value);
         }
     }
-    None
+    found
 }
 
 /// The number of bytes of the first `a=max-message-size` (RFC 8841 6).
@@ -129,4 +134,17 @@ pub fn end_of_candidates(section: &MediaLine) -> bool
         attribute,
         MediaAttribute::EndOfCandidates
     ))
+}
+
+/// The candidates of the section, in order (RFC 8839 5.1).
+///
+/// # Errors
+///
+/// `AllocError` where memory runs out.
+pub fn ice_candidates(alloc: Global, section: &MediaLine) -> Result<Vec<&Candidate>, AllocError>
+    ensures { IfOk result (λ candidates. borrowed candidates.items ≡ section_candidates section.now) }
+{
+    let mut candidates = Vec::new(alloc);
+    push_of_section(&mut candidates, section.attrs.as_slice())?;
+    Ok(candidates)
 }

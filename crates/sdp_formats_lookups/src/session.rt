@@ -1,17 +1,20 @@
 //! What a session says, by its attributes.
 
-ghost use Rattle.std.specs.Prelude.{◌≡◌};
+ghost use Rattle.std.specs.Prelude.{◌≡◌, IfOk};
 ghost use Rattle.std.specs.List.{filter_map, list_any};
 ghost use Rattle.std.specs.Option.{option_copied};
+ghost use Rattle.sdp_formats_lookups.specs.Candidates.{borrowed, session_candidates};
 ghost use Rattle.sdp_formats_lookups.specs.Creds.{creds_view};
 ghost use Rattle.sdp_formats_lookups.specs.Preference.{IsPreferred, best_of};
 ghost use Rattle.sdp_formats_lookups.specs.Sessions.{creds_of, ends_candidates, fingerprint_in, ice_pwd_in};
 ghost use Rattle.sdp_formats_lookups.specs.Sessions.{ice_ufrag_in, is_lite, setup_in};
 ghost use Rattle.sdp_formats_types.specs.Lookups.{first_of};
 
+use crate::candidates::push_of_session;
 use crate::preference::chosen;
 use sdp_formats_forms::Text;
-use sdp_formats_types::{Fingerprint, Session, SessionAttribute, Setup};
+use sdp_formats_types::{Candidate, Fingerprint, Session, SessionAttribute, Setup};
+use std::alloc::{AllocError, Global};
 
 /// Which end opens the connection, of the first `a=setup` (RFC 4145 4).
 #[tactic(auto, unfolding(crate::specs::Sessions::setup_in))]
@@ -113,4 +116,17 @@ pub fn ice_lite(session: &Session) -> bool
         .as_slice()
         .iter()
         .any(|attribute| matches!(attribute, SessionAttribute::IceLite))
+}
+
+/// The candidates of the session, in order (RFC 8839 5.1).
+///
+/// # Errors
+///
+/// `AllocError` where memory runs out.
+pub fn ice_candidates(alloc: Global, session: &Session) -> Result<Vec<&Candidate>, AllocError>
+    ensures { IfOk result (λ candidates. borrowed candidates.items ≡ session_candidates session.now) }
+{
+    let mut candidates = Vec::new(alloc);
+    push_of_session(&mut candidates, session.attrs.as_slice())?;
+    Ok(candidates)
 }

@@ -15,7 +15,7 @@ mod type_lists;
 pub use attributes::as_media_attrs;
 pub use given::{format_given, with_param};
 pub use maps::{map_of, spec_of_map};
-pub use params::to_format_param;
+pub use sdp_formats_format::to_format_param;
 pub use sdp_formats_rows::{CodecSpec, FormatParams, PayloadParams};
 pub use sdp_formats_types::{MediaAttribute, MediaLine, RtpMap};
 pub use section_rows::rtp_params;

@@ -1,5 +1,7 @@
 -- Media sections.
-use Rattle.std.specs.Prelude.{ℕ, Bool, true, false, List, codes}
+use Rattle.std.specs.Prelude.{ℕ, Bool, true, false, List, codes, Option, Some, None}
+use Rattle.payload_core_base.specs.declared.codec.MediaKind.{MediaKind}
+use Rattle.payload_core_base.specs.declared.codec.MediaKind.TheVariants as kind
 use Rattle.rtp_wire.specs.declared.Direction.{Direction}
 use Rattle.rtp_wire.specs.declared.Direction.TheVariants as way
 use Rattle.sdp_formats_types.specs.declared.media.MediaType.{MediaType}
@@ -14,6 +16,12 @@ abbrev pub is_media : MediaType → Bool
 is_media Audio = true
 is_media Video = true
 is_media _ = false
+
+-- The kind of media of audio and video.
+abbrev pub kind_of_type : MediaType → Option MediaKind
+kind_of_type Audio = Some kind.Audio
+kind_of_type Video = Some kind.Video
+kind_of_type _ = None
 
 abbrev pub is_channel : MediaType → Bool
 is_channel Application = true

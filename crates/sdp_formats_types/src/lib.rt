@@ -4,6 +4,7 @@
 mod direction;
 mod lookups;
 mod media;
+mod media_type;
 mod printed;
 mod section;
 mod session;

@@ -1,7 +1,9 @@
 //! Media sections.
 
-ghost use Rattle.std.specs.Prelude.{◌≡◌};
-ghost use Rattle.sdp_formats_types.specs.Media.{is_media, is_channel, proto_text};
+ghost use Rattle.std.specs.Prelude.{◌≡◌, [], None, false};
+ghost use Rattle.sdp_formats_types.specs.Media.{proto_text};
+ghost use Rattle.sdp_formats_types.specs.declared.media.MediaType.TheVariants.{Audio};
+ghost use Rattle.sdp_formats_types.specs.declared.media.Proto.TheVariants.{Srtp};
 
 use crate::session::Bandwidth;
 use payload_core_base::Codec;
@@ -11,12 +13,14 @@ use sdp_formats_params::{FormatParam, Pair};
 use sdp_formats_values::{
     Candidate, Fingerprint, Msid, RestrictionId, RidDirection, Setup, Simulcast,
 };
+use std::alloc::Global;
 use std::fmt;
 
 /// What a section carries (RFC 8866 5.14).
-#[derive(Debug, Drop)]
+#[derive(Debug, Default, Drop)]
 pub enum MediaType {
     /// `audio`
+    #[default]
     Audio,
     /// `video`
     Video,
@@ -24,22 +28,6 @@ pub enum MediaType {
     Application,
     /// Anything else.
     Unknown(Text),
-}
-
-impl MediaType {
-    /// Whether it is audio or video.
-    pub fn is_media(&self) -> bool
-        ensures { result ≡ is_media self.now }
-    {
-        matches!(self, MediaType::Audio | MediaType::Video)
-    }
-
-    /// Whether it is a channel of data.
-    pub fn is_channel(&self) -> bool
-        ensures { result ≡ is_channel self.now }
-    {
-        matches!(self, MediaType::Application)
-    }
 }
 
 /// How a section is carried (RFC 8866 5.14).
@@ -118,6 +106,29 @@ impl Drop for MediaLine {
             bw: _bw,
             attrs: _attrs,
         } = self;
+    }
+}
+
+impl MediaLine {
+    /// A section of audio in use, over `UDP/TLS/RTP/SAVPF`, without payload types, bandwidth and attributes.
+    pub fn empty(alloc: Global) -> MediaLine
+        ensures { result ≡ record {
+          typ = Audio;
+          disabled = false;
+          proto = Srtp;
+          pts = [];
+          bw = None;
+          attrs = [];
+        } }
+    {
+        MediaLine {
+            typ: MediaType::Audio,
+            disabled: false,
+            proto: Proto::Srtp,
+            pts: Listed::new(alloc),
+            bw: None,
+            attrs: Listed::new(alloc),
+        }
     }
 }
 

@@ -1,6 +1,7 @@
 //! Candidates (RFC 8839 5.1) and credentials (RFC 8839 5.4).
 
 ghost use Rattle.std.specs.Prelude.{◌≡◌, IfOk};
+ghost use Rattle.std.specs.Option.{option_copied};
 ghost use Rattle.std.specs.String.{string_bytes};
 ghost use Rattle.sdp_formats_values.specs.PrintedCandidates.{protocol_text, kind_text, tcp_type_text, candidate_text};
 
@@ -106,6 +107,16 @@ impl Candidate {
         ensures { result ≡ self.now.tcptype }
     {
         self.tcptype
+    }
+
+    /// The name of the credentials that it belongs to, if it is told.
+    pub fn ufrag(&self) -> Option<&str>
+        ensures { option_copied result ≡ self.now.ufrag }
+    {
+        match &self.ufrag {
+            Some(ufrag) => Some(ufrag.as_str()),
+            None => None,
+        }
     }
 }
 

@@ -1,6 +1,6 @@
 //! Streams of a section: names of restrictions, layers, sources.
 
-ghost use Rattle.std.specs.Prelude.{◌≡◌, true, IfOk};
+ghost use Rattle.std.specs.Prelude.{◌≡◌, true, [], IfOk};
 ghost use Rattle.std.specs.String.{string_bytes};
 ghost use Rattle.sdp_formats_values.specs.Printed.{way_text, name_text};
 ghost use Rattle.sdp_formats_values.specs.Streams.{inverted};
@@ -36,6 +36,13 @@ impl RestrictionId {
         ensures { result ≡ record { 0 = rid; 1 = true } }
     {
         RestrictionId(rid, true)
+    }
+
+    /// The empty name, of an active stream.
+    pub fn default(alloc: Global) -> RestrictionId
+        ensures { result ≡ record { 0 = []; 1 = true } }
+    {
+        RestrictionId(Text::of(String::new(alloc)), true)
     }
 
     /// It as it stands in an `a=simulcast` line: behind a tilde where it isn't active at first (RFC 8853 5.1).
@@ -226,4 +233,27 @@ pub struct SsrcInfo {
     pub stream_id: Option<Text>,
     /// Its track in that stream.
     pub track_id: Option<Text>,
+}
+
+/// Nothing said of source 0.
+impl Default for SsrcInfo {
+    ghost use Rattle.std.specs.Prelude.{None};
+
+    ghost is_default = { λ info. info ≡ record {
+      ssrc = 0;
+      repairs = None;
+      cname = None;
+      stream_id = None;
+      track_id = None;
+    } };
+
+    fn default() -> SsrcInfo {
+        SsrcInfo {
+            ssrc: Ssrc::from(0),
+            repairs: None,
+            cname: None,
+            stream_id: None,
+            track_id: None,
+        }
+    }
 }

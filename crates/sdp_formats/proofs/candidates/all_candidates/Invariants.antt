@@ -1,6 +1,7 @@
 use Rattle.std.proofs.Common.{◌≡◌, ◌++◌, drop}
 use Rattle.std.specs.List.{flat_map}
-use Rattle.sdp_formats.specs.Candidates.{borrowed, candidates_of, section_candidates}
+use Rattle.sdp_formats.specs.Candidates.{candidates_of}
+use Rattle.sdp_formats_lookups.specs.Candidates.{borrowed, section_candidates}
 use Rattle.sdp_formats.proofs.candidates.all_candidates.Given as goal
 
 -- the candidates so far and those of the sections that are left

@@ -2,7 +2,8 @@ use Rattle.std.proofs.Common.{◌≡◌, ◌∷◌, ℕ, ◌+◌, Bor, List, ari
 use Rattle.std.specs.List.{FoldsTo}
 use Rattle.sdp_formats_values.specs.declared.candidate.Candidate.{Candidate}
 use Rattle.sdp_formats.proofs.OneMore.{one_more}
-use Rattle.sdp_formats.specs.Candidates.{Adds, borrowed}
+use Rattle.sdp_formats.specs.Candidates.{Adds}
+use Rattle.sdp_formats_lookups.specs.Candidates.{borrowed}
 use Rattle.sdp_formats.proofs.candidates.ice_candidates.Goals as goal
 
 pub loop-candidate-preserved : goal.loop-candidate-preserved

@@ -1,7 +1,8 @@
 use Rattle.std.proofs.Common.{List, [], drop}
 use Rattle.std.specs.List.{FoldsTo}
 use Rattle.sdp_formats_values.specs.declared.candidate.Candidate.{Candidate}
-use Rattle.sdp_formats.specs.Candidates.{Adds, borrowed}
+use Rattle.sdp_formats.specs.Candidates.{Adds}
+use Rattle.sdp_formats_lookups.specs.Candidates.{borrowed}
 use Rattle.sdp_formats.specs.Keys.{HasKeysOf}
 use Rattle.sdp_formats.proofs.candidates.ice_candidates.Given as goal
 

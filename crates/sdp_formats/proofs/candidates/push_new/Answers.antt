@@ -2,7 +2,7 @@ use Rattle.std.proofs.Common.{◌≡◌, ◌∙◌, ◌++◌, ◌∷◌, [], Bor
 use Rattle.std.proofs.lemmas.List.{map-append}
 use Rattle.sdp_formats_values.specs.declared.candidate.Candidate.{Candidate}
 use Rattle.sdp_formats.proofs.KeySets.{absent, more_keys, present}
-use Rattle.sdp_formats.specs.Candidates.{borrowed}
+use Rattle.sdp_formats_lookups.specs.Candidates.{borrowed}
 use Rattle.sdp_formats.specs.Keys.{HasKeysOf}
 use Rattle.sdp_formats.proofs.candidates.push_new.Goals as goal
 

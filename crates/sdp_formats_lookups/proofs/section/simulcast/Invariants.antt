@@ -1,9 +1,11 @@
 use Rattle.std.proofs.Common.{◌≡◌, drop}
-use Rattle.sdp_formats_lookups.specs.Sections.{simulcast_in}
-use Rattle.sdp_formats_types.specs.Lookups.{first_of}
+use Rattle.std.specs.Prelude.{fold}
+use Rattle.std.specs.Option.{option_copied}
+use Rattle.sdp_formats_lookups.specs.Sections.{last_of, replaced, simulcast_in}
 use Rattle.sdp_formats_lookups.proofs.section.simulcast.Given as goal
 
--- the attributes so far say nothing
+-- what was said last so far, and then the rest, is what is said last of all
 abbrev pub invariant-loop-attribute : goal.invariant-loop-attribute
 invariant-loop-attribute l =
-    first_of simulcast_in (drop l.attribute-index l.attributes) ≡ first_of simulcast_in l.fn.section.attrs
+    fold (λ before a. replaced before (simulcast_in a)) (option_copied l.found) (drop l.attribute-index l.attributes)
+    ≡ last_of simulcast_in l.attributes

@@ -1,8 +1,8 @@
 use Rattle.std.proofs.Common.{◌≡◌, ◌++◌}
 use Rattle.std.specs.Array.Iter.{array_into_iter_items}
 use Rattle.std.specs.List.{flat_map}
-use Rattle.sdp_formats_section_rows.specs.Attributes.{given_param, params_of}
-use Rattle.sdp_formats_section_rows.proofs.params.to_format_param.Given as goal
+use Rattle.sdp_formats_format.specs.Parameters.{given_param, params_of}
+use Rattle.sdp_formats_format.proofs.parameters.to_format_param.Given as goal
 
 -- the parameters so far and those that are left
 abbrev pub invariant-loop-param : goal.invariant-loop-param

@@ -1,7 +1,7 @@
 use Rattle.std.proofs.Common.{arith}
 use Rattle.std.proofs.lemmas.Grind.{common_steps}
-use Rattle.sdp_formats.specs.Candidates.{session_candidate}
-use Rattle.sdp_formats.proofs.candidates.push_of_session.Goals as goal
+use Rattle.sdp_formats_lookups.specs.Candidates.{session_candidate}
+use Rattle.sdp_formats_lookups.proofs.candidates.push_of_session.Goals as goal
 
 pub loop-attribute-preserved : goal.loop-attribute-preserved
 unfolding session_candidate

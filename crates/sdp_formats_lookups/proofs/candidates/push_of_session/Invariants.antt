@@ -1,7 +1,7 @@
 use Rattle.std.proofs.Common.{◌≡◌, ◌++◌, drop}
 use Rattle.std.specs.List.{filter_map}
-use Rattle.sdp_formats.specs.Candidates.{borrowed, session_candidate}
-use Rattle.sdp_formats.proofs.candidates.push_of_session.Given as goal
+use Rattle.sdp_formats_lookups.specs.Candidates.{borrowed, session_candidate}
+use Rattle.sdp_formats_lookups.proofs.candidates.push_of_session.Given as goal
 
 -- the candidates so far and those of the attributes that are left
 abbrev pub invariant-loop-attribute : goal.invariant-loop-attribute
