@@ -2,6 +2,7 @@
 #![tactic(auto)]
 
 mod key;
+mod line_hasher;
 mod numbers;
 mod pairs;
 mod param;

@@ -9,6 +9,7 @@ ghost use Rattle.sdp_formats_params.specs.Params.{with_pairs, with_pair, levels_
 ghost use Rattle.sdp_formats_params.specs.Params.{others_of, level_params, params_of};
 
 use crate::key::Key;
+use crate::line_hasher::LineHasher;
 use crate::pairs::Pair;
 use crate::param::{FormatParam, has_name};
 use h26x_payload_profiles::{H265ProfileTierLevel, H266ProfileTierLevel};
@@ -71,7 +72,7 @@ fn last_value<'a>(pairs: &'a [Pair], name: &str) -> Option<&'a str>
 
 fn put_pair(
     alloc: Global,
-    entries: &mut IndexMap<Text, Text>,
+    entries: &mut IndexMap<Text, Text, LineHasher>,
     pair: &Pair,
 ) -> Result<(), AllocError>
     ensures { OnOk result (entries.new.entries ≡ with_pair entries.old.entries pair.now) }
@@ -82,10 +83,10 @@ fn put_pair(
     Ok(())
 }
 
-fn settled(alloc: Global, pairs: &[Pair]) -> Result<IndexMap<Text, Text>, AllocError>
+fn settled(alloc: Global, pairs: &[Pair]) -> Result<IndexMap<Text, Text, LineHasher>, AllocError>
     ensures { IfOk result (λ entries. entries.entries ≡ with_pairs [] pairs.now) }
 {
-    let mut entries = IndexMap::new(alloc);
+    let mut entries = IndexMap::with_hasher(alloc, LineHasher::of(pairs));
     for pair in pairs {
         put_pair(alloc, &mut entries, pair)?;
     }
@@ -116,7 +117,7 @@ fn is_level_name(key: &str) -> bool
 
 fn push_others(
     params: &mut Vec<FormatParam>,
-    entries: &IndexMap<Text, Text>,
+    entries: &IndexMap<Text, Text, LineHasher>,
 ) -> Result<(), AllocError>
     ensures { OnOk result (params.new.items ≡ params.old.items ++ others_of entries.now.entries) }
 {
