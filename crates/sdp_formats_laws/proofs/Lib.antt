@@ -42,5 +42,6 @@ pub mod WholeRows
 pub mod RowsSame
 pub mod RowLines
 pub mod RowTexts
+pub mod WritableTexts
 pub mod SaysSame
 pub mod StaticTypes

@@ -41,7 +41,7 @@ module _ (more : List ℕ) where
   behind : List ℕ → List ℕ
   behind t = t ++ more
 
-  forth : (t c r : List ℕ) → is_ended t ≡ true → IsLine t c r → IsLine (t ++ more) c (r ++ more) × (is_ended r ≡ true)
+  pub forth : (t c r : List ℕ) → is_ended t ≡ true → IsLine t c r → IsLine (t ++ more) c (r ++ more) × (is_ended r ≡ true)
   forth t c r ok h = ⊎_elim
       (λ (e : t ≡ c ++ 10 ∷ r). (
         (inl (ap (λ x. x ++ more) e ∙ append_assoc c (10 ∷ r) more), h.1, h.2, h.3),

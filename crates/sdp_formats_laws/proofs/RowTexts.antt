@@ -18,7 +18,7 @@ section_back come read m rows h =
     read m ∙ (λ i. rows_of (h.types i) (h.attributes i))
     ∙ come rows h.others h.behind h.plain h.distinct h.others_silent h.behind_silent
 
-sections_back : PlainRowsComeBack → ReadRowsAreRows → (ms : List MediaLine) (lists : List (List Row))
+pub sections_back : PlainRowsComeBack → ReadRowsAreRows → (ms : List MediaLine) (lists : List (List Row))
     → EachListsRows ms lists → map section_rows (map section_as_read ms) ≡ map (map unlocked) lists
 sections_back come read [] [] h = refl
 sections_back come read (m ∷ ms) (rows ∷ lists) h =
@@ -26,7 +26,7 @@ sections_back come read (m ∷ ms) (rows ∷ lists) h =
 sections_back come read [] (rows ∷ lists) h = absurd h
 sections_back come read (m ∷ ms) [] h = absurd h
 
-sections_print : RowsArePrintable → (ms : List MediaLine) (lists : List (List Row)) → EachListsRows ms lists
+pub sections_print : RowsArePrintable → (ms : List MediaLine) (lists : List (List Row)) → EachListsRows ms lists
     → IsEach IsPrintableSection ms
 sections_print print [] [] h = tt
 sections_print print (m ∷ ms) (rows ∷ lists) h = (print m rows h.0, sections_print print ms lists h.1)

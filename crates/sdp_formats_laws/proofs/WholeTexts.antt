@@ -1,11 +1,14 @@
 -- Whole session texts are read as they are printed.
-use Rattle.std.proofs.Common.{◌≡◌, ℕ, List, [], ◌∷◌, ◌++◌, Option, Some, None, codes, decimal, map}
+use Rattle.std.proofs.Common.{◌≡◌, ℕ, ◌<◌, ◌^◌, IsTrue, List, [], ◌∷◌, ◌++◌, Option, Some, None, codes, decimal, map}
 use Rattle.std.proofs.Common.{refl, sym, ◌∙◌, ap, subst, append_assoc, ⊎_elim, arith}
+use Rattle.std.specs.List.{list_all}
 use Rattle.std.specs.Option.{option_map}
 use Rattle.sdp_formats_forms.specs.Form.{IsExact}
 use Rattle.sdp_formats_forms.specs.Joined.{each_behind, maybe_text}
 use Rattle.sdp_formats_forms.specs.Split.{Lacks}
+use Rattle.sdp_formats_predicates.specs.Consistency.{is_consistent}
 use Rattle.sdp_formats_session_lines.specs.Lines.{version_line, origin_line, name_line, other_line, times_line}
+use Rattle.sdp_formats_session_lines.specs.Lines.{bandwidth_line}
 use Rattle.sdp_formats_session_lines.specs.Lines.{something, passed}
 use Rattle.sdp_formats_session_lines.specs.Heads.{media_line}
 use Rattle.sdp_formats_media_lines.specs.Choice.{attribute_line as media_attribute_line}
@@ -13,7 +16,7 @@ use Rattle.sdp_formats_media_lines.specs.PrintedPairs.{RestrictionsComeBack}
 use Rattle.sdp_formats_reader.specs.Grammar.{OpeningSays, TimesSay, SessionSays, SectionSays, SdpSays}
 use Rattle.sdp_formats_session_lines.specs.Choice.{attribute_line, session_attribute}
 use Rattle.sdp_formats_forms.specs.Line.{LineOf}
-use Rattle.sdp_formats_forms.specs.Step.{Stops, Begins}
+use Rattle.sdp_formats_forms.specs.Step.{Stops, Begins, Perhaps}
 use Rattle.sdp_formats_values.specs.Printed.{line_end}
 use Rattle.sdp_formats_types.specs.PrintedMedia.{named, bandwidth_text, section_text}
 use Rattle.sdp_formats_types.specs.PrintedSession.{attribute_text, attributes_text, session_text, sections_text}
@@ -77,26 +80,29 @@ not_first : (c : ℕ) (attrs : List SessionAttribute) (t rest : List ℕ) → (9
 not_first c attrs t rest a m begins tail e = ⊎_elim (λ (x : first t ≡ Some 97). apart 97 c a (sym x ∙ e))
     (λ (r : rest ≡ t). tail c m (ap first r ∙ e)) (first_of 97 (61 ∷ []) session_attribute t attrs rest begins)
 
-session_says : IsExact attribute_line → (s : Session) (rest : List ℕ) → IsPrintableSession s → IsTail rest
-    → SessionSays (session_text s ++ rest) s rest
+-- what is read of a printed session, whose bandwidth is read as it is and whose attributes are read as these
+pub session_reads : (s : Session) (bs : List SessionAttribute) (rest : List ℕ) → (s.id < 2 ^ 64)
+    → ((t : List ℕ) → (first t ≡ Some 98 → ⊥)
+    → Perhaps (LineOf bandwidth_line.Says) (maybe_text [] (option_map bandwidth_text s.bw) ++ t) s.bw t)
+    → Begins (LineOf attribute_line.Says) (attributes_text s.attrs ++ rest) bs rest → IsTail rest
+    → SessionSays (session_text s ++ rest) (record s { attrs = bs }) rest
 unfolding SessionSays OpeningSays TimesSay session_text
-session_says exact s rest h tail =
+session_reads s bs rest id bandwidth begins tail =
     let five = attributes_text s.attrs ++ rest in
     let four = (codes "t=0 0" ++ line_end) ++ five in
     let bw = maybe_text [] (option_map bandwidth_text s.bw) in
     let three = bw ++ four in
     let two = (codes "s=-" ++ line_end) ++ three in
     let one = named (codes "o=str0m-0.25.0 ") (decimal s.id ++ 32 ∷ after_number) ++ two in
-    let begins = begins_all (LineOf attribute_line.Says) attribute_text IsPrintable
-    (λ x r p. printed_line attribute_line exact x (attribute_text x) r (printed x p)) s.attrs rest h.2 in
-    subst (λ t. SessionSays t s rest) (sym (session_shape (decimal s.id) bw (attributes_text s.attrs) rest)) (
+    subst (λ t. SessionSays t (record s { attrs = bs }) rest)
+    (sym (session_shape (decimal s.id) bw (attributes_text s.attrs) rest)) (
       three,
       (
         passed,
         one,
         printed_line version_line version-exact passed (codes "v=0" ++ line_end) one version,
         two,
-        printed_line origin_line origin-exact s.id _ two (originator s.id h.0),
+        printed_line origin_line origin-exact s.id _ two (originator s.id id),
         passed,
         printed_line name_line name-exact passed (codes "s=-" ++ line_end) three name,
       ),
@@ -104,7 +110,7 @@ session_says exact s rest h tail =
       three,
       (refl, no_other three (bandwidth_first s.bw five)),
       four,
-      perhaps_bandwidth s.bw four h.1 (λ e. apart 116 98 (λ n. omega (n, arith)) e),
+      bandwidth four (λ e. apart 116 98 (λ n. omega (n, arith)) e),
       passed,
       five,
       (
@@ -114,11 +120,17 @@ session_says exact s rest h tail =
         (
           refl,
           other_start 114 (61 ∷ []) something five
-              (not_first 114 s.attrs five rest (λ e. omega (e, arith)) (λ e. omega (e, arith)) begins tail),
+              (not_first 114 bs five rest (λ e. omega (e, arith)) (λ e. omega (e, arith)) begins tail),
         ),
       ),
       (begins, other_start 97 (61 ∷ []) session_attribute rest (tail 97 (λ e. omega (e, arith)))),
     )
+
+session_says : IsExact attribute_line → (s : Session) (rest : List ℕ) → IsPrintableSession s → IsTail rest
+    → SessionSays (session_text s ++ rest) s rest
+session_says exact s rest h tail = session_reads s s.attrs rest h.0 (λ t other. perhaps_bandwidth s.bw t h.1 other)
+    (begins_all (LineOf attribute_line.Says) attribute_text IsPrintable
+    (λ x r p. printed_line attribute_line exact x (attribute_text x) r (printed x p)) s.attrs rest h.2) tail
 
 nothing_left : IsTail []
 nothing_left = λ c other e. cc
@@ -149,16 +161,25 @@ sections_begin back exact (m ∷ ms) h =
       section_tail m (each_behind [] (map section_text ms)),
     )
 
-pub text_says : RestrictionsComeBack → IsExact attribute_line → IsExact media_attribute_line → (sdp : Sdp)
-    → IsPrintableText sdp
-    → SdpSays (sdp_text sdp) (text_as_read sdp) []
+-- a text whose session is read so
+pub text_reads : RestrictionsComeBack → IsExact media_attribute_line → (sdp : Sdp) (read : Session)
+    → (IsTail (sections_text sdp.media_lines)
+    → SessionSays (session_text sdp.session ++ sections_text sdp.media_lines) read (sections_text sdp.media_lines))
+    → IsEach IsPrintableSection sdp.media_lines → IsTrue (list_all is_consistent sdp.media_lines)
+    → SdpSays (sdp_text sdp) (record { session = read; media_lines = map section_as_read sdp.media_lines }) []
 unfolding SdpSays
-text_says back exact media_exact sdp h =
-    let sections = sections_begin back media_exact sdp.media_lines h.1 in
+text_reads back media_exact sdp read says each consistent =
+    let sections = sections_begin back media_exact sdp.media_lines each in
     let same = joined_behind (map section_text sdp.media_lines) in
     let tail = subst IsTail (sym same) sections.1 in (
       sections_text sdp.media_lines,
-      session_says exact sdp.session (sections_text sdp.media_lines) h.0 tail,
+      says tail,
       (subst (λ t. Begins SectionSays t (map section_as_read sdp.media_lines) []) (sym same) sections.0, no_section),
-      all_consistent sdp.media_lines h.2,
+      all_consistent sdp.media_lines consistent,
     )
+
+pub text_says : RestrictionsComeBack → IsExact attribute_line → IsExact media_attribute_line → (sdp : Sdp)
+    → IsPrintableText sdp
+    → SdpSays (sdp_text sdp) (text_as_read sdp) []
+text_says back exact media_exact sdp h = text_reads back media_exact sdp sdp.session
+    (λ tail. session_says exact sdp.session (sections_text sdp.media_lines) h.0 tail) h.1 h.2

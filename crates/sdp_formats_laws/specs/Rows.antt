@@ -3,7 +3,7 @@ use Rattle.std.specs.Prelude.{◌≡◌, ◌≢◌, ◌<◌, ◌^◌, Bool, true
 use Rattle.std.specs.List.{flat_map, list_all, list_any}
 use Rattle.sdp_formats_laws.specs.Printable.{IsPrintable}
 use Rattle.sdp_formats_laws.specs.PrintableTexts.{IsEach, IsPrintableBandwidth, IsPrintableSection, IsPrintableSession}
-use Rattle.sdp_formats_laws.specs.ReadTexts.{section_as_read, text_as_read}
+use Rattle.sdp_formats_laws.specs.ReadTexts.{section_as_read, text_as_read, text_read}
 use Rattle.sdp_formats_lookups.specs.Sections.{extmap_in}
 use Rattle.sdp_formats_reader.specs.Grammar.{SdpSays}
 use Rattle.sdp_formats_round.specs.Laws.{is_distinct}
@@ -12,6 +12,7 @@ use Rattle.sdp_formats_rows.specs.Plain.{is_plain}
 use Rattle.sdp_formats_rows.specs.Rows.{Row}
 use Rattle.sdp_formats_section_rows.specs.SectionRows.{rows_of}
 use Rattle.sdp_formats_predicates.specs.Consistency.{is_consistent}
+use Rattle.sdp_formats_predicates.specs.Writable.{ComesBack, IsWritableSession}
 use Rattle.sdp_formats_types.specs.Lookups.{direction_of, first_of, mid_in, msid_in, setup_in}
 use Rattle.sdp_formats_types.specs.PrintedSession.{sdp_text}
 use Rattle.sdp_formats_types.specs.declared.media.MediaAttribute.{MediaAttribute}
@@ -20,6 +21,7 @@ use Rattle.sdp_formats_types.specs.declared.media.MediaLine.{MediaLine}
 use Rattle.sdp_formats_types.specs.declared.media.MediaType.{MediaType}
 use Rattle.sdp_formats_types.specs.declared.media.MediaType.TheVariants.{Audio, Video}
 use Rattle.sdp_formats_types.specs.declared.session.Sdp.{Sdp}
+use Rattle.sdp_formats_types.specs.declared.session.SessionAttribute.{SessionAttribute}
 
 -- A clock rate of 32 bits above 0 and channels of 8 bits, as every row of the program has.
 abbrev pub IsSized : Row → Type 0
@@ -73,6 +75,22 @@ RowTextsComeBack = (sdp : Sdp) (rows : List (List Row)) → IsPrintableSession s
     → EachListsRows sdp.media_lines rows → IsTrue (list_all is_consistent sdp.media_lines)
     → SdpSays (sdp_text sdp) (text_as_read sdp) []
     × (map section_rows (text_as_read sdp).media_lines ≡ map (map unlocked) rows)
+
+-- What is read of attributes of a session, one by one: the attribute, or one of no known kind.
+abbrev pub AllComeBack : List SessionAttribute → List SessionAttribute → Type 0
+AllComeBack [] [] = Unit {0}
+AllComeBack (a ∷ as') (b ∷ bs) = ComesBack a b × AllComeBack as' bs
+AllComeBack [] (b ∷ bs) = ⊥
+AllComeBack (a ∷ as') [] = ⊥
+
+-- The same of a session that can be written, of whose attributes some may be read as ones of no known kind.
+abbrev pub WritableRowTextsComeBack : Type 0
+WritableRowTextsComeBack = (sdp : Sdp) (rows : List (List Row)) → (sdp.session.id < 2 ^ 64)
+    → IsWritableSession sdp.session → EachListsRows sdp.media_lines rows
+    → IsTrue (list_all is_consistent sdp.media_lines)
+    → (attrs : List SessionAttribute) × SdpSays (sdp_text sdp) (text_read sdp attrs) []
+    × AllComeBack sdp.session.attrs attrs
+    × (map section_rows (text_read sdp attrs).media_lines ≡ map (map unlocked) rows)
 
 -- A line of another kind than `a=fmtp`.
 abbrev pub is_other_line : MediaAttribute → Bool

@@ -1,12 +1,14 @@
 //! Rows that are printed in a text and read of it.
 
 ghost use Rattle.sdp_formats_laws.specs.Rows.{ReadRowsAreRows, ReadSectionsSayTheSame, RowTextsComeBack};
-ghost use Rattle.sdp_formats_laws.specs.Rows.{RowsArePrintable};
+ghost use Rattle.sdp_formats_laws.specs.Rows.{RowsArePrintable, WritableRowTextsComeBack};
 ghost use Rattle.sdp_formats_laws.specs.StaticTypes.{StaticTypesAgree};
 
 use crate::parameters::{links_law, plain_parameters_law};
 use crate::rows_back::plain_rows_come_back;
 use crate::texts::printed_texts_law;
+use sdp_formats_forms::Lined;
+use sdp_formats_media_lines::{MediaAttributeLine, printed_pairs_law};
 
 /// A section that lists plain rows, as `as_media_attrs` gives their attributes, can be printed: each of its lines is
 /// read as what it was printed of.
@@ -33,6 +35,18 @@ pub fn row_texts_law()
     ensures { RowTextsComeBack }
 {
     printed_texts_law();
+    plain_rows_come_back();
+    row_lines_law();
+    read_rows_law();
+}
+
+/// The same of a session that can be written, as `is_writable_session` tells: each of its attributes is read as itself,
+/// or as one of no known kind.
+pub fn writable_row_texts_law()
+    ensures { WritableRowTextsComeBack }
+{
+    MediaAttributeLine::exact_law();
+    printed_pairs_law();
     plain_rows_come_back();
     row_lines_law();
     read_rows_law();
