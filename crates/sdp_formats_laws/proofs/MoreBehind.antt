@@ -17,7 +17,7 @@ use Rattle.sdp_formats_laws.proofs.LineEnds.{lacking, one_cut}
 use Rattle.sdp_formats_laws.proofs.Sections.{no_bandwidth}
 use Rattle.sdp_formats_laws.proofs.Stopping.{other_start}
 use Rattle.sdp_formats_laws.proofs.WholeTexts.{LacksFirst, no_other}
-use Rattle.sdp_formats_laws.specs.LineEnds.{FitsNowhere, ReadsWithMoreBehind, is_ended}
+use Rattle.sdp_formats_laws.specs.LineEnds.{BeginsOtherwise, FitsNowhere, OthersFitNowhere, ReadsWithMoreBehind, is_ended}
 
 ended_tail : (c r : List ℕ) → is_ended (c ++ 10 ∷ r) ≡ true → is_ended r ≡ true
 ended_tail [] [] h = refl
@@ -105,28 +105,44 @@ nothing_first : (cs : List ℕ) → LacksFirst cs []
 nothing_first [] = tt
 nothing_first (c ∷ cs) = (no_letter c, nothing_first cs)
 
-letters : (more : List ℕ) → FitsNowhere more → LacksFirst (codes "vosiuepczkbtrma") more
+letters : (more : List ℕ) → BeginsOtherwise more → LacksFirst (codes "vosiuepczkbtrma") more
 letters [] h = nothing_first (codes "vosiuepczkbtrma")
 letters (b ∷ t) h = lacks_first b t (codes "vosiuepczkbtrma") h
 
-all_carry : (more : List ℕ) → FitsNowhere more → CarriesLines (λ t. t ++ more) (λ t. is_ended t ≡ true)
-all_carry more h =
+pub others_fit_nowhere : OthersFitNowhere
+others_fit_nowhere more h =
     let v = letters more h in
     let i = v.1.1.1 in
     let b = i.1.1.1.1.1.1.1 in
     record {
-      version = carries more version_line.Says (other_start 118 (61 ∷ []) (exactly (codes "0")) more v.0);
-      origin = carries more origin_line.Says (other_start 111 (61 ∷ []) origin more v.1.0);
-      name = carries more name_line.Says (other_start 115 (61 ∷ []) something more v.1.1.0);
-      others = carries more other_line.Says (no_other more
-          (i.0, (i.1.0, (i.1.1.0, (i.1.1.1.0, (i.1.1.1.1.0, (i.1.1.1.1.1.0, (i.1.1.1.1.1.1.0, tt))))))));
-      bandwidth = carries more bandwidth_line.Says (no_bandwidth more b.0);
-      times = carries more times_line.Says (other_start 116 (61 ∷ []) (exactly (codes "0 0")) more b.1.0);
-      repeats = carries more repeat_line.Says (other_start 114 (61 ∷ []) something more b.1.1.0);
-      attribute = carries more session_line.Says (other_start 97 (61 ∷ []) session_attribute more b.1.1.1.1.0);
-      head = carries more head_line.Says (other_start 109 (61 ∷ []) media_line more b.1.1.1.0);
-      connection = carries more connection_line.Says (other_start 99 (61 ∷ []) something more i.1.1.1.1.0);
-      media = carries more attribute_line.Says (other_start 97 (61 ∷ []) media_attribute more b.1.1.1.1.0);
+      version = other_start 118 (61 ∷ []) (exactly (codes "0")) more v.0;
+      origin = other_start 111 (61 ∷ []) origin more v.1.0;
+      name = other_start 115 (61 ∷ []) something more v.1.1.0;
+      others = no_other more
+          (i.0, (i.1.0, (i.1.1.0, (i.1.1.1.0, (i.1.1.1.1.0, (i.1.1.1.1.1.0, (i.1.1.1.1.1.1.0, tt)))))));
+      bandwidth = no_bandwidth more b.0;
+      times = other_start 116 (61 ∷ []) (exactly (codes "0 0")) more b.1.0;
+      repeats = other_start 114 (61 ∷ []) something more b.1.1.0;
+      attribute = other_start 97 (61 ∷ []) session_attribute more b.1.1.1.1.0;
+      head = other_start 109 (61 ∷ []) media_line more b.1.1.1.0;
+      connection = other_start 99 (61 ∷ []) something more i.1.1.1.1.0;
+      media = other_start 97 (61 ∷ []) media_attribute more b.1.1.1.1.0;
+    }
+
+all_carry : (more : List ℕ) → FitsNowhere more → CarriesLines (λ t. t ++ more) (λ t. is_ended t ≡ true)
+all_carry more h =
+    record {
+      version = carries more version_line.Says h.version;
+      origin = carries more origin_line.Says h.origin;
+      name = carries more name_line.Says h.name;
+      others = carries more other_line.Says h.others;
+      bandwidth = carries more bandwidth_line.Says h.bandwidth;
+      times = carries more times_line.Says h.times;
+      repeats = carries more repeat_line.Says h.repeats;
+      attribute = carries more session_line.Says h.attribute;
+      head = carries more head_line.Says h.head;
+      connection = carries more connection_line.Says h.connection;
+      media = carries more attribute_line.Says h.media;
     }
 
 pub more_behind : ReadsWithMoreBehind

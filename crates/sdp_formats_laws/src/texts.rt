@@ -1,7 +1,7 @@
 //! Session texts that are read as they are printed.
 
 ghost use Rattle.std.specs.Prelude.{[]};
-ghost use Rattle.sdp_formats_laws.specs.LineEnds.{ReadsByAnyEnd, ReadsWithMoreBehind};
+ghost use Rattle.sdp_formats_laws.specs.LineEnds.{OthersFitNowhere, ReadsByAnyEnd, ReadsWithMoreBehind};
 ghost use Rattle.sdp_formats_laws.specs.PrintableTexts.{IsPrintableText};
 ghost use Rattle.sdp_formats_laws.specs.ReadTexts.{text_as_read};
 ghost use Rattle.sdp_formats_reader.specs.Grammar.{SdpSays};
@@ -29,7 +29,8 @@ pub fn line_ends_law()
 {}
 
 /// What is read of a text, the last line of which is ended, doesn't change, but for the rest, when a text is put
-/// behind it whose first byte is no letter that a kind of line begins with.
+/// behind it that begins with no line of any kind; as one does whose first byte is no letter of a kind of line.
 pub fn more_behind_law()
-    ensures { ReadsWithMoreBehind }
+    ensures more { ReadsWithMoreBehind }
+    ensures letters { OthersFitNowhere }
 {}
