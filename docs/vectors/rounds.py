@@ -1,8 +1,6 @@
 #!/usr/bin/env python3
-"""Writes what `crates/text_lines` reads and must answer. In front stand commands on session texts and their replies,
-which are kept by hand in `texts.txt` beside this script, each command behind `> ` and its reply below it, and copied.
-Behind them stand rounds of rows, worked out with an array of marks from the rules of negotiation alone, beside rounds
-that were put together by hand, and rows, formats and configs by hand.
+"""Writes what `crates/row_lines` reads and must answer: rounds of rows, worked out with an array of marks from the
+rules of negotiation alone, beside rounds that were put together by hand, and rows, formats and configs by hand.
 
 Run it with `python3 docs/vectors/rounds.py`. Random rounds come from a fixed seed.
 """
@@ -13,8 +11,7 @@ from dataclasses import dataclass, field
 from pathlib import Path
 from typing import Optional
 
-CRATE = Path(__file__).resolve().parents[2] / "crates/text_lines"
-TEXTS = Path(__file__).with_name("texts.txt")
+CRATE = Path(__file__).resolve().parents[2] / "crates/row_lines"
 
 PREFERRED = [*range(96, 128), *range(80, 96), 77, 78, *range(35, 72)]
 AUDIO = ["opus", "PCMU", "PCMA", "G722", "CN", "AMR-WB"]
@@ -554,24 +551,13 @@ def random_rounds(seed, count):
         yield from lines_of(f"Random rounds {n}", own, rounds)
 
 
-def texts():
-    """The commands and the lines of replies that are kept by hand."""
-    lines = TEXTS.read_text().splitlines()
-    return ([line[2:] for line in lines if line.startswith("> ")],
-            [line for line in lines if not line.startswith("> ")])
-
-
 def main():
     rows = [*by_hand(), *formats(), *feedback_and_equality(), *configs(), *rows_move_away(), *no_type_is_left(),
             *random_rounds(1, 300)]
-    read, told = texts()
-    for line, answer in rows:
-        read.append(line)
-        told.append(line if answer is None else answer)
-    (CRATE / "stdin").write_text("\n".join(read) + "\n")
-    (CRATE / "stdout").write_text("\n".join(told) + "\n")
+    (CRATE / "stdin").write_text("".join(f"{line}\n" for line, _ in rows))
+    (CRATE / "stdout").write_text("".join((line if answer is None else answer) + "\n" for line, answer in rows))
     answers = [a.split(" ")[0] for l, a in rows if l.startswith("round")]
-    print({word: answers.count(word) for word in sorted(set(answers))}, len(read), "lines")
+    print({word: answers.count(word) for word in sorted(set(answers))}, len(rows), "lines")
 
 
 if __name__ == "__main__":

@@ -1,170 +1,77 @@
 //! The commands.
 
-use crate::configs::{enable, put_distances};
-use crate::printing::{put_round, put_rows};
-use crate::row::{new_row, put_equality, put_feedback};
-use crate::texts::{put_prefixes, put_text};
-use crate::words::{next_number, next_row, next_spec};
-use sdp_formats::{CodecConfig, Direction, FormatParams, Pt, SdpError};
+use crate::attributes::{put_attributes, put_directed};
+use crate::rows::put_rows;
+use crate::said::put_said;
+use crate::texts::{put_answer, put_offer, put_prefixes, put_session, put_text};
+use crate::values::{put_candidate, put_fingerprint, put_parameters, put_setup};
+use sdp_formats::SdpError;
 use std::alloc::{AllocError, Global};
 use std::fmt::Write;
 use std::fs;
-use std::str::SplitWhitespace;
 
-/// Whether the answer to a line, or a part of it, could be written; none where the line isn't understood.
+/// Whether the answer to a line could be written; none where the line isn't understood.
 pub(crate) type Answer = Option<Result<(), AllocError>>;
 
-/// The rows that a round is run on: those of an end, and those of the other end.
-#[derive(Drop)]
-pub(crate) struct Rows {
-    own: CodecConfig,
-    remote: CodecConfig,
-}
-
-impl Rows {
-    /// No rows at either end.
-    pub(crate) fn new(alloc: Global) -> Self {
-        Rows {
-            own: CodecConfig::empty(alloc),
-            remote: CodecConfig::empty(alloc),
-        }
+/// A text's first word, and what stands behind it.
+fn parted(text: &str) -> (&str, &str) {
+    match text.split_once(' ') {
+        Some(parts) => parts,
+        None => (text, ""),
     }
 }
 
 /// Writes what a line gives.
-pub(crate) fn answer(rt: &HostRuntime, rows: &mut Rows, line: &str, reply: &mut String) -> Answer {
-    let (command, rest) = match line.split_once(' ') {
-        Some(parts) => parts,
-        None => (line, ""),
-    };
+pub(crate) fn answer(rt: &HostRuntime, line: &str, reply: &mut String) -> Answer {
+    let (command, rest) = parted(line);
     match command {
         "" | "#" => Some(reply.push_str(line)),
-        "text" | "prefixes" => put_file(rt, command, rest, reply),
-        "format" => Some(put_format(rt.alloc(), rest, reply)),
-        _ => {
-            let words = &mut rest.split_whitespace();
-            of_words(rt.alloc(), rows, command, words, reply)
-        }
+        "candidate" => Some(put_candidate(rt.alloc(), rest, reply)),
+        "fingerprint" => Some(put_fingerprint(rt.alloc(), rest, reply)),
+        "parameters" => Some(put_parameters(rt.alloc(), rest, reply)),
+        "setup" => Some(put_setup(parted(rest), reply)),
+        _ => put_file(rt, command, parted(rest), reply),
     }
 }
 
-/// `text NAME` and `prefixes NAME`: what the session text in a file has, and how many of its prefixes are such texts.
-fn put_file(rt: &HostRuntime, command: &str, name: &str, reply: &mut String) -> Answer {
-    let text = fs::read_to_string(rt, name).ok()?;
-    let done = if command == "text" {
-        put_text(rt.alloc(), name, text.as_str(), reply)
-    } else {
-        put_prefixes(rt.alloc(), name, text.as_str(), reply)
-    };
-    Some(match done {
-        Ok(()) => Ok(()),
-        Err(SdpError::Memory) => Err(AllocError),
-        Err(_) => reply.push_str("no session text"),
-    })
-}
-
-/// `format TEXT`: the parameters that a text gives, blanks and all, printed again.
-fn put_format(alloc: Global, text: &str, reply: &mut String) -> Result<(), AllocError> {
-    reply.push_str(FormatParams::parse_line(text).to_string(alloc)?.as_str())
-}
-
-/// Writes what a command gives with the words behind it.
-fn of_words(
-    alloc: Global,
-    rows: &mut Rows,
+/// `COMMAND NAME ..`: the name, and what a command on the session text in the file of that name gives.
+fn put_file(
+    rt: &HostRuntime,
     command: &str,
-    words: &mut SplitWhitespace<'_>,
+    (name, word): (&str, &str),
     reply: &mut String,
 ) -> Answer {
-    match command {
-        "score" => put_score(words, reply),
-        "feedback" => put_feedback(words, reply),
-        "equal" => put_equality(words, reply),
-        "distances" => put_distances(alloc, &mut rows.own, words, reply),
-        "find" => put_found(&rows.own, words, reply),
-        "rows" => Some(put_own_rows(alloc, &rows.own, reply)),
-        "round" => {
-            let dir = Direction::from(words.next()?);
-            Some(put_round(alloc, &mut rows.own, rows.remote.params(), dir, reply))
-        }
-        _ => match change(alloc, rows, command, words)? {
-            Ok(()) => Some(reply.push_str("ok")),
-            Err(fault) => Some(Err(fault)),
-        },
+    let text = fs::read_to_string(rt, name).ok()?;
+    if let Err(fault) = write!(reply, "{name}: ") {
+        return Some(Err(fault));
     }
+    Some(
+        match of_text(rt.alloc(), command, word, text.as_str(), reply)? {
+            Ok(()) => Ok(()),
+            Err(SdpError::Memory) => Err(AllocError),
+            Err(_) => reply.push_str("no session text"),
+        },
+    )
 }
 
-/// Rows put behind the others or in place of some, or none left.
-fn change(
+/// Writes what a command on a session text gives.
+fn of_text(
     alloc: Global,
-    rows: &mut Rows,
     command: &str,
-    words: &mut SplitWhitespace<'_>,
-) -> Answer {
-    match command {
-        "own" | "locked" | "remote" => return push(rows, command, words),
-        "enable" | "disable" => return enable(&mut rows.own, command == "enable", words),
-        "add" => return add(&mut rows.own, words),
-        "defaults" => match CodecConfig::new_with_defaults(alloc) {
-            Ok(config) => rows.own = config,
-            Err(fault) => return Some(Err(fault)),
-        },
-        "fresh" => *rows = Rows::new(alloc),
-        "clear" => rows.own.clear(),
-        "other" => rows.remote.clear(),
+    word: &str,
+    text: &str,
+    reply: &mut String,
+) -> Option<Result<(), SdpError>> {
+    Some(match command {
+        "text" => put_text(alloc, text, reply),
+        "prefixes" => put_prefixes(alloc, text, reply),
+        "session" => put_session(alloc, text, reply),
+        "offer" => put_offer(alloc, text, reply),
+        "answer" => put_answer(alloc, text, reply),
+        "attributes" => put_attributes(alloc, text, reply),
+        "directed" => put_directed(alloc, text, word, reply),
+        "rows" => put_rows(alloc, text, reply),
+        "says" => put_said(alloc, text, reply),
         _ => return None,
-    }
-    Some(Ok(()))
-}
-
-/// `own ROW`, `locked ROW` and `remote ROW`: a row behind the own ones, locked or not, or behind the other end's.
-fn push(rows: &mut Rows, command: &str, words: &mut SplitWhitespace<'_>) -> Answer {
-    let mut row = next_row(words)?;
-    if command == "locked" {
-        row.lock();
-    }
-    Some(if command == "remote" {
-        rows.remote.push(row)
-    } else {
-        rows.own.push(row)
     })
-}
-
-/// `add TYPE SPEC`: a new row of a codec behind the others.
-fn add(config: &mut CodecConfig, words: &mut SplitWhitespace<'_>) -> Answer {
-    let pt = Pt::new_with_value(next_number(words)?);
-    let spec = next_spec(words)?;
-    Some(config.add_config(
-        pt,
-        None,
-        spec.codec,
-        spec.clock_rate,
-        spec.channels,
-        spec.format,
-    ))
-}
-
-/// `score SPEC SPEC`: how well two rows match.
-fn put_score(words: &mut SplitWhitespace<'_>, reply: &mut String) -> Answer {
-    let one = new_row(words)?;
-    let other = new_row(words)?;
-    Some(match one.match_score(&other) {
-        Some(points) => write!(reply, "{points}"),
-        None => reply.push_str("none"),
-    })
-}
-
-/// `find TYPE`: the codec of the first own row of a type.
-fn put_found(config: &CodecConfig, words: &mut SplitWhitespace<'_>, reply: &mut String) -> Answer {
-    let pt = Pt::new_with_value(next_number(words)?);
-    Some(match config.find(|row| row.pt() == pt) {
-        Some(row) => write!(reply, "{}", row.spec().codec),
-        None => reply.push_str("none"),
-    })
-}
-
-/// `rows`: how many own rows there are, and which.
-fn put_own_rows(alloc: Global, config: &CodecConfig, reply: &mut String) -> Result<(), AllocError> {
-    write!(reply, "{}", config.params().len())?;
-    put_rows(alloc, config.params(), reply)
 }

@@ -1,24 +1,19 @@
 //! Commands on session texts.
 
 use sdp_formats::{
-    Maybe, MediaAttribute, MediaLine, Same, Sdp, SdpError, SessionAttribute, TryClone,
-    assert_consistency, bundle_mids, ice_candidates, parse, sctp_init, sdp_parser, ssrc_info,
+    Bandwidth, Maybe, MediaAttribute, MediaLine, Same, Sdp, SdpAnswer, SdpError, SdpOffer,
+    SessionAttribute, TryClone, assert_consistency, bundle_mids, ice_candidates, parse, sctp_init,
+    sdp_parser, session_parser, ssrc_info,
 };
 use std::alloc::{AllocError, Global};
 use std::fmt::Write;
 
-/// What a session text has: session attributes, attributes and sources of each section, lines of a form that isn't
+/// `text NAME`: what a session text has: session attributes, attributes and sources of each section, lines of a form that isn't
 /// known, candidates, bytes that are left, whether another reading and a copy are the same, and whether what was read
 /// is printed as a text that is read and printed alike.
-pub(crate) fn put_text(
-    alloc: Global,
-    name: &str,
-    text: &str,
-    reply: &mut String,
-) -> Result<(), SdpError> {
-    write!(reply, "{name}: ")?;
+pub(crate) fn put_text(alloc: Global, text: &str, reply: &mut String) -> Result<(), SdpError> {
     let (sdp, rest) = sdp_parser(alloc, text)?;
-    put_session(&sdp, rest.len(), reply)?;
+    put_counts(&sdp, rest.len(), reply)?;
     for section in sdp.media_lines.as_slice() {
         put_section(alloc, section, reply)?;
     }
@@ -27,7 +22,7 @@ pub(crate) fn put_text(
     put_printed(alloc, text, sdp.to_sdp_string(alloc)?.as_str(), reply)
 }
 
-fn put_session(sdp: &Sdp, left: usize, reply: &mut String) -> Result<(), AllocError> {
+fn put_counts(sdp: &Sdp, left: usize, reply: &mut String) -> Result<(), AllocError> {
     let attributes = sdp.session.attrs.as_slice();
     let count = attributes.len();
     let mut unused = 0usize;
@@ -103,12 +98,21 @@ fn put_again(alloc: Global, text: &str, sdp: &Sdp, reply: &mut String) -> Result
     )?)
 }
 
-/// Lines of the printed text that stand in the text that was read.
+fn has_line(text: &str, line: &str) -> bool {
+    for other in text.lines() {
+        if other == line {
+            return true;
+        }
+    }
+    false
+}
+
+/// Lines of the printed text that are lines of the text that was read.
 fn kept_lines(text: &str, printed: &str) -> usize {
-    let mut kept = 0;
+    let mut kept = 0usize;
     for line in printed.lines() {
-        if text.contains(line) && kept < usize::MAX {
-            kept += 1;
+        if has_line(text, line) {
+            kept = kept.saturating_add(1);
         }
     }
     kept
@@ -133,13 +137,8 @@ fn put_printed(
     )?)
 }
 
-/// How many prefixes of a text, by bytes, are session texts, and how many not.
-pub(crate) fn put_prefixes(
-    alloc: Global,
-    name: &str,
-    text: &str,
-    reply: &mut String,
-) -> Result<(), SdpError> {
+/// `prefixes NAME`: how many prefixes of a text, by bytes, are session texts, and how many not.
+pub(crate) fn put_prefixes(alloc: Global, text: &str, reply: &mut String) -> Result<(), SdpError> {
     let (mut read, mut unread) = (0usize, 0usize);
     for end in 0..text.len().saturating_add(1) {
         let Some(prefix) = text.get(..end) else {
@@ -153,6 +152,45 @@ pub(crate) fn put_prefixes(
     }
     Ok(write!(
         reply,
-        "{name}: {read} prefixes are session texts, {unread} are none"
+        "{read} prefixes are session texts, {unread} are none"
     )?)
+}
+
+/// `session NAME`: what stands before the first section: number, bandwidth, attributes, and bytes behind it.
+pub(crate) fn put_session(alloc: Global, text: &str, reply: &mut String) -> Result<(), SdpError> {
+    let (session, rest) = session_parser(alloc, text)?;
+    let count = session.attrs.as_slice().len();
+    write!(reply, "session {}, ", session.id)?;
+    if let Some(Bandwidth { typ, val }) = &session.bw {
+        write!(reply, "bandwidth {typ}:{val}, ")?;
+    }
+    Ok(write!(reply, "{count} attributes, {} bytes left", rest.len())?)
+}
+
+/// `offer NAME`: whether the text is an offer, and the offer is printed as its session text is.
+pub(crate) fn put_offer(alloc: Global, text: &str, reply: &mut String) -> Result<(), SdpError> {
+    let offer = SdpOffer::from_sdp_string(alloc, text)?;
+    let count = offer.media_lines.as_slice().len();
+    let same = is_printed_as(alloc, text, offer.to_sdp_string(alloc)?.as_str())?;
+    Ok(write!(
+        reply,
+        "an offer of {count} sections, printed as its text {same}"
+    )?)
+}
+
+/// `answer NAME`: whether the text is an answer, and the answer is printed as its session text is.
+pub(crate) fn put_answer(alloc: Global, text: &str, reply: &mut String) -> Result<(), SdpError> {
+    let answer = SdpAnswer::from_sdp_string(alloc, text)?;
+    let count = answer.media_lines.as_slice().len();
+    let same = is_printed_as(alloc, text, answer.to_sdp_string(alloc)?.as_str())?;
+    Ok(write!(
+        reply,
+        "an answer of {count} sections, printed as its text {same}"
+    )?)
+}
+
+/// Whether what is read of a text is printed so.
+fn is_printed_as(alloc: Global, text: &str, printed: &str) -> Result<bool, SdpError> {
+    let (sdp, _) = sdp_parser(alloc, text)?;
+    Ok(sdp.to_sdp_string(alloc)?.as_str() == printed)
 }

@@ -1,0 +1,130 @@
+//! What texts say, by their accessors.
+
+use sdp_formats::lists::{extmaps, rids};
+use sdp_formats::{
+    Maybe, MediaAttribute, MediaLine, Sdp, SdpError, Session, Text, bundle_mids, ice_candidates,
+    sctp_init, sdp_parser, section, session, whole,
+};
+use std::alloc::{AllocError, Global};
+use std::fmt;
+use std::fmt::Write;
+
+// The name and the password of connectivity checks.
+#[derive(Drop)]
+struct Creds<'a>((&'a Text, &'a Text));
+
+impl fmt::Display for Creds<'_> {
+    fn fmt<W: fmt::Write>(&self, f: &mut fmt::Formatter<W>) -> fmt::Result {
+        let (ufrag, pass) = self.0;
+        write!(f, "{ufrag} {pass}")
+    }
+}
+
+/// `says NAME`: what each accessor answers of the session, of each section and of the whole text, a line for each that
+/// answers something.
+pub(crate) fn put_said(alloc: Global, text: &str, reply: &mut String) -> Result<(), SdpError> {
+    let (sdp, _) = sdp_parser(alloc, text)?;
+    let sections = sdp.media_lines.as_slice();
+    write!(reply, "{} sections", sections.len())?;
+    put_session(&sdp.session, reply)?;
+    for section in sections {
+        put_section(section, reply)?;
+        put_transport(section, reply)?;
+        put_lists(alloc, section, reply)?;
+    }
+    put_whole(alloc, &sdp, reply)?;
+    Ok(())
+}
+
+fn put_session(session: &Session, reply: &mut String) -> Result<(), AllocError> {
+    let creds = session::ice_creds(session).map(Creds);
+    let print = session::fingerprint(session);
+    let setup = session::setup(session);
+    let creds = Maybe("\n  session: ice ", &creds);
+    let print = Maybe("\n  session: fingerprint ", &print);
+    let setup = Maybe("\n  session: setup ", &setup);
+    write!(reply, "{creds}{print}{setup}")?;
+    if session::ice_lite(session) {
+        reply.push_str("\n  session: ice-lite")?;
+    }
+    if session::end_of_candidates(session) {
+        reply.push_str("\n  session: end-of-candidates")?;
+    }
+    Ok(())
+}
+
+/// What a section says of its name, its direction and its streams.
+fn put_section(section: &MediaLine, reply: &mut String) -> Result<(), AllocError> {
+    let mid = section.mid();
+    let msid = section.msid();
+    let mid = Maybe(" ", &mid);
+    let msid = Maybe("\n    msid ", &msid);
+    write!(
+        reply,
+        "\n  section{mid}: direction {}{msid}",
+        section.direction()
+    )?;
+    if let Some(simulcast) = section::simulcast(section) {
+        let (send, recv) = (&simulcast.send, &simulcast.recv);
+        write!(reply, "\n    simulcast send={send} recv={recv}")?;
+    }
+    Ok(())
+}
+
+/// What a section says of its transport.
+fn put_transport(section: &MediaLine, reply: &mut String) -> Result<(), AllocError> {
+    let creds = section::ice_creds(section).map(Creds);
+    let print = section::fingerprint(section);
+    let setup = section.setup();
+    let init = section::sctp_init(section);
+    let size = section::max_message_size(section);
+    let creds = Maybe("\n    ice ", &creds);
+    let print = Maybe("\n    fingerprint ", &print);
+    let setup = Maybe("\n    setup ", &setup);
+    let init = Maybe("\n    sctp-init ", &init);
+    let size = Maybe("\n    max-message-size ", &size);
+    write!(reply, "{creds}{print}{setup}{init}{size}")?;
+    if section::end_of_candidates(section) {
+        reply.push_str("\n    end-of-candidates")?;
+    }
+    Ok(())
+}
+
+/// The header extensions of a section, the names of its restricted streams, cut as packets have them, and whole.
+fn put_lists(alloc: Global, section: &MediaLine, reply: &mut String) -> Result<(), AllocError> {
+    for (id, ext) in extmaps(alloc, section)?.as_slice() {
+        write!(reply, "\n    extmap {id} {ext}")?;
+    }
+    for rid in rids(alloc, section)?.as_slice() {
+        write!(reply, "\n    rid {rid}")?;
+    }
+    for attribute in section.attrs.as_slice() {
+        if let MediaAttribute::Rid { id, .. } = attribute {
+            let name = id.to_sdp(alloc)?;
+            write!(reply, "\n    restricted {name}")?;
+        }
+    }
+    Ok(())
+}
+
+fn put_whole(alloc: Global, sdp: &Sdp, reply: &mut String) -> Result<(), AllocError> {
+    let creds = whole::ice_creds(sdp).map(Creds);
+    let print = whole::fingerprint(sdp);
+    let setup = whole::setup(sdp);
+    let init = sctp_init(sdp);
+    let creds = Maybe("\n  whole: ice ", &creds);
+    let print = Maybe("\n  whole: fingerprint ", &print);
+    let setup = Maybe("\n  whole: setup ", &setup);
+    let init = Maybe("\n  whole: sctp-init ", &init);
+    write!(reply, "{creds}{print}{setup}{init}")?;
+    if let Some(mids) = bundle_mids(sdp) {
+        reply.push_str("\n  whole: bundle")?;
+        for mid in mids {
+            write!(reply, " {mid}")?;
+        }
+    }
+    for candidate in ice_candidates(alloc, sdp)?.as_slice() {
+        write!(reply, "\n  whole: {candidate}")?;
+    }
+    Ok(())
+}
