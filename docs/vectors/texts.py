@@ -148,7 +148,7 @@ def said_directed(session, word):
     yield f"{len(session.sections)} sections"
     for s in session.sections:
         ways = directions(s)
-        ways[:1] = [word] * bool(ways)
+        ways[:1] = [word if word in DIRECTIONS else "inactive"] * bool(ways)
         yield "  section: " + " ".join([first(ways) or "inactive", *(f"a={way}" for way in ways)])
 
 

@@ -42,14 +42,12 @@ fn put_file(
     reply: &mut String,
 ) -> Answer {
     let text = fs::read_to_string(rt, name).ok()?;
-    if let Err(fault) = write!(reply, "{name}: ") {
-        return Some(Err(fault));
-    }
+    let mut told = String::new(rt.alloc());
     Some(
-        match of_text(rt.alloc(), command, word, text.as_str(), reply)? {
-            Ok(()) => Ok(()),
+        match of_text(rt.alloc(), command, word, text.as_str(), &mut told)? {
+            Ok(()) => write!(reply, "{name}: {told}"),
             Err(SdpError::Memory) => Err(AllocError),
-            Err(_) => reply.push_str("no session text"),
+            Err(_) => write!(reply, "{name}: no session text"),
         },
     )
 }

@@ -8,9 +8,9 @@ use sdp_formats::{
 use std::alloc::{AllocError, Global};
 use std::fmt::Write;
 
-/// `text NAME`: what a session text has: session attributes, attributes and sources of each section, lines of a form that isn't
-/// known, candidates, bytes that are left, whether another reading and a copy are the same, and whether what was read
-/// is printed as a text that is read and printed alike.
+/// `text NAME`: what a session text has: session attributes, attributes and sources of each section, lines of a form
+/// that isn't known, candidates, bytes that are left, whether another reading and a copy are the same, and whether what
+/// was read is printed as a text that is read and printed alike.
 pub(crate) fn put_text(alloc: Global, text: &str, reply: &mut String) -> Result<(), SdpError> {
     let (sdp, rest) = sdp_parser(alloc, text)?;
     put_counts(&sdp, rest.len(), reply)?;
@@ -98,6 +98,7 @@ fn put_again(alloc: Global, text: &str, sdp: &Sdp, reply: &mut String) -> Result
     )?)
 }
 
+/// Whether a text has such a line.
 fn has_line(text: &str, line: &str) -> bool {
     for other in text.lines() {
         if other == line {
