@@ -1,22 +1,25 @@
-"""A reader of session texts by regular expressions, from the lines' forms in the standards and in docs/SESSION_TEXTS.md
-alone: what each line says, as it is printed, and the rows of a section. It shares no code with the project."""
+"""A reader of session texts by regular expressions, a line a form, after RFC 8866 and the standards of each attribute,
+with the choices that docs/SESSION_TEXTS.md tells: what each line says, as it is printed, the faults of a section, and
+its rows. It shares no code with the project.
+"""
 
 import re
 import unicodedata
 from dataclasses import dataclass, field
 
 CODECS = {name.lower(): name for name in [
-    "opus", "PCMU", "PCMA", "G722", "CN", "AMR-WB", "H264", "H265", "H266", "VP8", "VP9", "AV1", "telephone-event", "rtx",
-    "red"]}
+    "opus", "PCMU", "PCMA", "G722", "CN", "AMR-WB", "H264", "H265", "H266", "VP8", "VP9", "AV1", "telephone-event",
+    "rtx", "red"]}
 AUDIO = ["opus", "PCMU", "PCMA", "G722", "CN", "AMR-WB"]
 VIDEO = ["H264", "H265", "H266", "VP8", "VP9", "AV1"]
 STATIC = {0: ("PCMU", 8000), 8: ("PCMA", 8000), 9: ("G722", 8000), 13: ("CN", 8000)}
 DIRECTIONS = ["sendrecv", "sendonly", "recvonly", "inactive"]
 FLAGS = ["stereo", "sprop-stereo", "useinbandfec", "usedtx", "level-asymmetry-allowed", "octet-align"]
 BYTES = ["minptime", "packetization-mode", "profile", "level-idx", "tier"]
-ORDER = ["minptime", "stereo", "sprop-stereo", "useinbandfec", "usedtx", "level-asymmetry-allowed", "packetization-mode",
-         "profile-level-id", "profile-id", "profile", "level-idx", "tier", "h265", "h266", "sprop-max-don-diff", "events",
-         "octet-align", "mode-set"]
+ORDER = ["minptime", "stereo", "sprop-stereo", "useinbandfec", "usedtx", "level-asymmetry-allowed",
+         "packetization-mode", "profile-level-id", "profile-id", "profile", "level-idx", "tier", "h265", "h266",
+         "sprop-max-don-diff", "events", "octet-align", "mode-set"]
+OF_LEVELS = ["profile-id", "tier-flag", "level-id"]
 LEVELS = {"h265": (range(1, 12), [30, 60, 63, 90, 93, 120, 123, 150, 153, 156, 180, 183, 186], 93),
           "h266": ([1, 33], [16, 32, 35, 48, 51, 64, 67, 80, 83, 86, 96, 99, 102, 105, 255], 51)}
 
@@ -198,19 +201,19 @@ def level(given):
     """A profile, tier and level of H.265, else of H.266, by their keys."""
     for name, (profiles, levels, usual) in LEVELS.items():
         read = [number(given.get(key, str(other)), 8)
-                for key, other in [("profile-id", 1), ("tier-flag", 0), ("level-id", usual)]]
+                for key, other in zip(OF_LEVELS, [1, 0, usual])]
         if read[0] in profiles and read[1] in (0, 1) and read[2] in levels:
             return [(name, tuple(read))]
     return []
 
 
 def params_of(pairs):
-    if not any(key.lower() in ("tier-flag", "level-id") for key, _ in pairs):
+    if not any(key.lower() in OF_LEVELS[1:] for key, _ in pairs):
         return [param(*pair) for pair in pairs]
     once = {}
     for key, value in pairs:
         once[key.lower()] = value
-    return level(once) + [param(*pair) for pair in once.items() if pair[0] not in ("profile-id", "tier-flag", "level-id")]
+    return level(once) + [param(*pair) for pair in once.items() if pair[0] not in OF_LEVELS]
 
 
 def param_text(given):
@@ -301,9 +304,10 @@ def ssrc(value):
 BOTH = {"ice-ufrag": whole("ice-ufrag"), "ice-pwd": whole("ice-pwd"), "ice-options": whole("ice-options"),
         "fingerprint": fingerprint, "setup": one_of("actpass", "active", "passive"), "candidate": candidate}
 OF_SESSION = {**BOTH, "group": group, "msid-semantic": msid_semantic}
-OF_SECTION = {**BOTH, "mid": mid, "sctp-port": sized("sctp-port", 16), "max-message-size": sized("max-message-size", 64),
-              "sctp-init": whole("sctp-init"), "extmap": extmap, "msid": msid, "rtcp": whole("rtcp"), "rtpmap": rtpmap,
-              "rtcp-fb": rtcp_fb, "fmtp": fmtp, "rid": rid, "simulcast": simulcast, "ssrc-group": ssrc_group, "ssrc": ssrc}
+OF_SECTION = {**BOTH, "mid": mid, "sctp-port": sized("sctp-port", 16), "sctp-init": whole("sctp-init"),
+              "max-message-size": sized("max-message-size", 64), "extmap": extmap, "msid": msid, "rtcp": whole("rtcp"),
+              "rtpmap": rtpmap, "rtcp-fb": rtcp_fb, "fmtp": fmtp, "rid": rid, "simulcast": simulcast,
+              "ssrc-group": ssrc_group, "ssrc": ssrc}
 WORDS_OF_SESSION = ["ice-lite", "end-of-candidates"]
 WORDS_OF_SECTION = [*DIRECTIONS, "rtcp-mux", "rtcp-mux-only", "rtcp-rsize", "end-of-candidates"]
 

@@ -12,8 +12,8 @@ mod words;
 use commands::{Rows, answer};
 use std::io;
 
-/// Answers each line by a line: a comment by itself, a command by what it gives, and a line that isn't understood by the
-/// word `fault`.
+/// Answers each line by a line: a comment by itself, a command by what it gives, and a line that isn't understood by
+/// the word `fault`.
 fn main(rt: HostRuntime) -> io::Result<()> {
     let alloc = rt.alloc();
     let mut rows = Rows::new(alloc);
