@@ -191,7 +191,7 @@ def param(key, value):
     if key == "sprop-max-don-diff":
         return (key, word) if word is not None and word <= 32767 else None
     if key == "mode-set":
-        modes = numbers(value.replace(" ", ""), ",", 8)
+        modes = numbers(",".join(mode.strip() for mode in value.split(",")), ",", 8)
         return (key, sum(1 << m for m in set(modes))) if modes is not None and max(modes) <= 8 else None
     unsupported = [("crc", "1"), ("robust-sorting", "1"), ("mode-change-period", "2")]
     return ("unsupported", 0) if (key, value) in unsupported or key == "interleaving" else None
