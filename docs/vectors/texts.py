@@ -1,7 +1,7 @@
 #!/usr/bin/env python3
-"""Writes what `crates/text_lines` reads and must answer: commands on session texts and their replies, which are kept by
-hand in `texts.txt` beside this script, each command behind `> ` and its reply below it, and copied. Before that each
-reply is compared with what the reader of `sessions.py`, which shares no code with the project, says of the text.
+"""Writes what `crates/text_lines` reads and must answer: commands on session texts and their replies, which are kept in
+`texts.txt` beside this script, each command behind `> ` and its reply below it, and copied. Before that each reply is
+compared with what the reader of `sessions.py`, which shares no code with the project, says of the text.
 
 Run it with `python3 docs/vectors/texts.py`. It tells which replies differ, and writes nothing then.
 """
@@ -126,7 +126,9 @@ def said_says(session):
     for s in session.sections:
         yield f"  section {s.of('mid')[0]}: direction {first(directions(s)) or 'inactive'}"
         yield from given("    ", [("msid", first(s.of("msid")))])
-        yield from [f"    simulcast send={send} recv={recv}" for send, recv in s.of("simulcast")[:1]]
+        for groups in s.of("simulcast")[:1]:
+            for way, layers in zip(("send", "recv"), groups):
+                yield from [f"    simulcast {way} {layer}" for layer in layers.split(";") if layer]
         yield from given("    ", [
             ("ice", creds(s)), ("fingerprint", preferred(s.of("fingerprint"))), ("setup", first(s.of("setup"))),
             ("sctp-init", first(s.of("sctp-init"))), ("max-message-size", first(s.of("max-message-size")))])

@@ -69,12 +69,17 @@ pub(crate) fn put_directed(
     let mut sections = sdp.media_lines.into_vec();
     write!(reply, "{} sections", sections.len())?;
     for section in sections.iter_mut() {
-        if has_direction(section) {
-            set_direction(alloc, section, Direction::from(word));
-        }
+        turn(alloc, section, Direction::from(word));
         put_direction(alloc, section, reply)?;
     }
     Ok(())
+}
+
+/// Gives a section another direction, where it gives one.
+fn turn(alloc: Global, section: &mut MediaLine, direction: Direction) {
+    if has_direction(section) {
+        set_direction(alloc, section, direction);
+    }
 }
 
 fn put_direction(alloc: Global, section: &MediaLine, reply: &mut String) -> Result<(), AllocError> {

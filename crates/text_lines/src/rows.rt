@@ -36,12 +36,17 @@ fn put_row(alloc: Global, row: &PayloadParams, reply: &mut String) -> Result<(),
         "\n    {pt} {codec} {clock_rate} {channels} {}",
         or_dash(format.as_str())
     )?;
+    put_feedback(row, reply)?;
+    let resend = OrDash(row.resend());
+    let red = OrDash(row.red());
+    write!(reply, " {resend} {red}")
+}
+
+fn put_feedback(row: &PayloadParams, reply: &mut String) -> Result<(), AllocError> {
     let cc = told("cc", row.fb_transport_cc());
     let nack = told("nack", row.fb_nack());
     let pli = told("pli", row.fb_pli());
     let fir = told("fir", row.fb_fir());
     let remb = told("remb", row.fb_remb());
-    let resend = OrDash(row.resend());
-    let red = OrDash(row.red());
-    write!(reply, " {cc} {nack} {pli} {fir} {remb} {resend} {red}")
+    write!(reply, " {cc} {nack} {pli} {fir} {remb}")
 }

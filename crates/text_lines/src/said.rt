@@ -2,8 +2,8 @@
 
 use sdp_formats::lists::{extmaps, rids};
 use sdp_formats::{
-    Maybe, MediaAttribute, MediaLine, Sdp, SdpError, Session, Text, bundle_mids, ice_candidates,
-    sctp_init, sdp_parser, section, session, whole,
+    Maybe, MediaAttribute, MediaLine, Sdp, SdpError, Session, SimulcastLayer, Text, bundle_mids,
+    ice_candidates, sctp_init, sdp_parser, section, session, whole,
 };
 use std::alloc::{AllocError, Global};
 use std::fmt;
@@ -28,12 +28,12 @@ pub(crate) fn put_said(alloc: Global, text: &str, reply: &mut String) -> Result<
     write!(reply, "{} sections", sections.len())?;
     put_session(&sdp.session, reply)?;
     for section in sections {
-        put_section(section, reply)?;
+        put_section(alloc, section, reply)?;
         put_transport(section, reply)?;
         put_lists(alloc, section, reply)?;
     }
-    put_whole(alloc, &sdp, reply)?;
-    Ok(())
+    put_whole(&sdp, reply)?;
+    Ok(put_bundle(alloc, &sdp, reply)?)
 }
 
 fn put_session(session: &Session, reply: &mut String) -> Result<(), AllocError> {
@@ -54,7 +54,7 @@ fn put_session(session: &Session, reply: &mut String) -> Result<(), AllocError> 
 }
 
 /// What a section says of its name, its direction and its streams.
-fn put_section(section: &MediaLine, reply: &mut String) -> Result<(), AllocError> {
+fn put_section(alloc: Global, section: &MediaLine, reply: &mut String) -> Result<(), AllocError> {
     let mid = section.mid();
     let msid = section.msid();
     let mid = Maybe(" ", &mid);
@@ -65,8 +65,22 @@ fn put_section(section: &MediaLine, reply: &mut String) -> Result<(), AllocError
         section.direction()
     )?;
     if let Some(simulcast) = section::simulcast(section) {
-        let (send, recv) = (&simulcast.send, &simulcast.recv);
-        write!(reply, "\n    simulcast send={send} recv={recv}")?;
+        put_layers(alloc, "send", &simulcast.send, reply)?;
+        put_layers(alloc, "recv", &simulcast.recv, reply)?;
+    }
+    Ok(())
+}
+
+/// The layers of one way of a simulcast, those that aren't active at first behind a tilde.
+fn put_layers(
+    alloc: Global,
+    way: &str,
+    layers: &[SimulcastLayer],
+    reply: &mut String,
+) -> Result<(), AllocError> {
+    for layer in layers {
+        let name = layer.restriction_id.to_sdp(alloc)?;
+        write!(reply, "\n    simulcast {way} {name}")?;
     }
     Ok(())
 }
@@ -107,7 +121,7 @@ fn put_lists(alloc: Global, section: &MediaLine, reply: &mut String) -> Result<(
     Ok(())
 }
 
-fn put_whole(alloc: Global, sdp: &Sdp, reply: &mut String) -> Result<(), AllocError> {
+fn put_whole(sdp: &Sdp, reply: &mut String) -> Result<(), AllocError> {
     let creds = whole::ice_creds(sdp).map(Creds);
     let print = whole::fingerprint(sdp);
     let setup = whole::setup(sdp);
@@ -116,7 +130,11 @@ fn put_whole(alloc: Global, sdp: &Sdp, reply: &mut String) -> Result<(), AllocEr
     let print = Maybe("\n  whole: fingerprint ", &print);
     let setup = Maybe("\n  whole: setup ", &setup);
     let init = Maybe("\n  whole: sctp-init ", &init);
-    write!(reply, "{creds}{print}{setup}{init}")?;
+    write!(reply, "{creds}{print}{setup}{init}")
+}
+
+/// The bundled sections of a text, and its candidates.
+fn put_bundle(alloc: Global, sdp: &Sdp, reply: &mut String) -> Result<(), AllocError> {
     if let Some(mids) = bundle_mids(sdp) {
         reply.push_str("\n  whole: bundle")?;
         for mid in mids {
