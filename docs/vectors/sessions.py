@@ -129,7 +129,7 @@ def candidate(value):
     text += f" raddr {raddr} rport {read[3]}" if raddr else ""
     text += f" tcptype {tcptype}" if tcptype else ""
     text += f" ufrag {ufrag}" if ufrag else ""
-    return text, (address, read[2], proto.lower(), tcptype or "-")
+    return text, (address, read[2], proto.lower(), tcptype or "-", ufrag or "-")
 
 
 def whole(name):

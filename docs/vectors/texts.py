@@ -123,10 +123,11 @@ def said_says(session):
     yield from given("  session: ", [("ice", creds(session)), ("fingerprint", preferred(session.of("fingerprint"))),
                                      ("setup", first(session.of("setup")))])
     yield from [f"  session: {word}" for word in ("ice-lite", "end-of-candidates") if session.of(word)]
+    yield from [f"  session: {n} candidates" for n in [len(session.of("candidate"))] if n]
     for s in session.sections:
         yield f"  section {s.of('mid')[0]}: direction {first(directions(s)) or 'inactive'}"
         yield from given("    ", [("msid", first(s.of("msid")))])
-        for groups in s.of("simulcast")[:1]:
+        for groups in s.of("simulcast")[-1:]:
             for way, layers in zip(("send", "recv"), groups):
                 yield from [f"    simulcast {way} {layer}" for layer in layers.split(";") if layer]
         yield from given("    ", [
@@ -136,6 +137,7 @@ def said_says(session):
         yield from [f"    extmap {n} {uri}" for n, uri in s.of("extmap")]
         yield from [f"    rid {sessions.cut_name(name, 8)}" for name in s.of("rid")]
         yield from [f"    restricted {name}" for name in s.of("rid")]
+        yield from [f"    {n} candidates" for n in [len(s.of("candidate"))] if n]
     prints = first([p.of("fingerprint") for p in [session, *session.sections] if p.of("fingerprint")]) or []
     parts = [session, *session.sections]
     yield from given("  whole: ", [
@@ -180,7 +182,7 @@ def of_text(command, word, text):
 def of_candidate(text):
     if (said := sessions.candidate(text)) is None:
         return "no candidate"
-    return "{}: at {}, port {}, by {}, opened {}".format(said[0], *said[1])
+    return "{}: at {}, port {}, by {}, opened {}, of {}".format(said[0], *said[1])
 
 
 def of_fingerprint(text):

@@ -26,7 +26,7 @@ pub(crate) fn put_said(alloc: Global, text: &str, reply: &mut String) -> Result<
     let (sdp, _) = sdp_parser(alloc, text)?;
     let sections = sdp.media_lines.as_slice();
     write!(reply, "{} sections", sections.len())?;
-    put_session(&sdp.session, reply)?;
+    put_session(alloc, &sdp.session, reply)?;
     for section in sections {
         put_section(alloc, section, reply)?;
         put_transport(section, reply)?;
@@ -36,7 +36,7 @@ pub(crate) fn put_said(alloc: Global, text: &str, reply: &mut String) -> Result<
     Ok(put_bundle(alloc, &sdp, reply)?)
 }
 
-fn put_session(session: &Session, reply: &mut String) -> Result<(), AllocError> {
+fn put_session(alloc: Global, session: &Session, reply: &mut String) -> Result<(), AllocError> {
     let creds = session::ice_creds(session).map(Creds);
     let print = session::fingerprint(session);
     let setup = session::setup(session);
@@ -50,7 +50,10 @@ fn put_session(session: &Session, reply: &mut String) -> Result<(), AllocError> 
     if session::end_of_candidates(session) {
         reply.push_str("\n  session: end-of-candidates")?;
     }
-    Ok(())
+    match session::ice_candidates(alloc, session)?.len() {
+        0 => Ok(()),
+        count => write!(reply, "\n  session: {count} candidates"),
+    }
 }
 
 /// What a section says of its name, its direction and its streams.
@@ -104,7 +107,8 @@ fn put_transport(section: &MediaLine, reply: &mut String) -> Result<(), AllocErr
     Ok(())
 }
 
-/// The header extensions of a section, the names of its restricted streams, cut as packets have them, and whole.
+/// The header extensions of a section, the names of its restricted streams, cut as packets have them, and whole, and
+/// how many candidates it has.
 fn put_lists(alloc: Global, section: &MediaLine, reply: &mut String) -> Result<(), AllocError> {
     for (id, ext) in extmaps(alloc, section)?.as_slice() {
         write!(reply, "\n    extmap {id} {ext}")?;
@@ -118,7 +122,10 @@ fn put_lists(alloc: Global, section: &MediaLine, reply: &mut String) -> Result<(
             write!(reply, "\n    restricted {name}")?;
         }
     }
-    Ok(())
+    match section::ice_candidates(alloc, section)?.len() {
+        0 => Ok(()),
+        count => write!(reply, "\n    {count} candidates"),
+    }
 }
 
 fn put_whole(sdp: &Sdp, reply: &mut String) -> Result<(), AllocError> {

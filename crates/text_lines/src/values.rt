@@ -25,9 +25,10 @@ pub(crate) fn put_candidate(
     let printed = candidate.to_sdp_string(alloc)?;
     let (addr, port) = (candidate.addr(), candidate.port());
     let (proto, tcptype) = (candidate.proto().as_str(), OrDash(candidate.tcptype()));
+    let ufrag = OrDash(candidate.ufrag());
     write!(
         reply,
-        "{printed}: at {addr}, port {port}, by {proto}, opened {tcptype}"
+        "{printed}: at {addr}, port {port}, by {proto}, opened {tcptype}, of {ufrag}"
     )
 }
 
