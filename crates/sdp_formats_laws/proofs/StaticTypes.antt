@@ -1,5 +1,5 @@
 -- Payload types with a meaning of their own.
-use Rattle.std.proofs.Common.{◌≡◌, ◌==◌, ◌||◌, Bool, true, false, Option, Some, None, if◌then◌else◌, refl}
+use Rattle.std.proofs.Common.{◌≡◌, ◌==◌, ◌||◌, Bool, true, false, Some, None, if◌then◌else◌, refl}
 use Rattle.std.specs.Prelude.{is_some}
 use Rattle.sdp_formats_laws.specs.StaticTypes.{StaticTypesAgree}
 

@@ -1,6 +1,6 @@
 -- What is read of a session that can be written.
-use Rattle.std.proofs.Common.{◌≡◌, ℕ, true, List, [], ◌∷◌, ◌++◌, Option, Some, None, codes, map, refl, sym, subst}
-use Rattle.std.proofs.Common.{append_assoc}
+use Rattle.std.proofs.Common.{◌≡◌, ℕ, Bool, true, false, List, [], ◌∷◌, ◌++◌, Option, Some, None, codes, map, refl, sym}
+use Rattle.std.proofs.Common.{subst, append_assoc, cond}
 use Rattle.std.specs.Prelude.{All, IfSome}
 use Rattle.std.proofs.lemmas.List.Elements.{All-head, All-tail}
 use Rattle.std.specs.Option.{option_map}
@@ -10,7 +10,7 @@ use Rattle.sdp_formats_forms.specs.Line.{LineOf}
 use Rattle.sdp_formats_forms.specs.Step.{Begins, Perhaps}
 use Rattle.sdp_formats_media_lines.specs.Choice.{attribute_line as media_attribute_line}
 use Rattle.sdp_formats_media_lines.specs.PrintedPairs.{RestrictionsComeBack}
-use Rattle.sdp_formats_predicates.specs.Writable.{ComesBack, IsWritableAttribute, IsWritableBandwidth, IsWritableSession}
+use Rattle.sdp_formats_predicates.specs.Writable.{ComesBack, IsWritableAttribute, IsWritableBandwidth}
 use Rattle.sdp_formats_session_lines.specs.Choice.{attribute_line}
 use Rattle.sdp_formats_session_lines.specs.Lines.{bandwidth_line}
 use Rattle.sdp_formats_types.specs.PrintedMedia.{bandwidth_text, named}
@@ -19,7 +19,7 @@ use Rattle.sdp_formats_types.specs.Printed.{words_text}
 use Rattle.sdp_formats_types.specs.declared.session.Bandwidth.{Bandwidth}
 use Rattle.sdp_formats_types.specs.declared.session.SessionAttribute.{SessionAttribute}
 use Rattle.sdp_formats_types.specs.declared.session.SessionAttribute.TheVariants as session
-use Rattle.sdp_formats_values.specs.Printed.{line_end, fingerprint_text}
+use Rattle.sdp_formats_values.specs.Printed.{line_end, fingerprint_text, is_empty}
 use Rattle.sdp_formats_values.specs.PrintedCandidates.{candidate_text}
 use Rattle.sdp_formats_values.specs.Setup.{setup_text}
 use Rattle.sdp_formats_laws.proofs.MoreBehind.{forth}
@@ -47,11 +47,14 @@ four_parts a b c d e = simp append_assoc
 ended_parts : (a b c d : List ℕ) → is_ended (a ++ (b ++ (c ++ (d ++ line_end)))) ≡ true
 ended_parts a b c d = subst (λ t. is_ended t ≡ true) (four_parts a b c d line_end) (ended_behind (a ++ (b ++ (c ++ d))))
 
+ended_either : (b : Bool) (x y : List ℕ) → is_ended x ≡ true → is_ended y ≡ true → is_ended (cond b x y) ≡ true
+ended_either true x y h k = h
+ended_either false x y h k = k
+
 ended : (a : SessionAttribute) → is_ended (attribute_text a) ≡ true
 unfolding attribute_text
-ended (session.Group typ []) = ended_named (codes "a=group:") typ
-ended (session.Group typ (mid ∷ mids)) =
-    ended_parts (codes "a=group:") typ (codes " ") (words_text (mid ∷ mids))
+ended (session.Group typ mids) = ended_either (is_empty mids) _ _ (ended_named (codes "a=group:") typ)
+    (ended_parts (codes "a=group:") typ (codes " ") (words_text mids))
 ended (session.MsidSemantic semantic streams) =
     ended_parts (codes "a=msid-semantic: ") semantic (codes " ") (words_text streams)
 ended session.AllowMixedExts = refl
