@@ -17,7 +17,8 @@ use Rattle.sdp_formats_laws.proofs.LineEnds.{lacking, one_cut}
 use Rattle.sdp_formats_laws.proofs.Sections.{no_bandwidth}
 use Rattle.sdp_formats_laws.proofs.Stopping.{other_start}
 use Rattle.sdp_formats_laws.proofs.WholeTexts.{LacksFirst, no_other}
-use Rattle.sdp_formats_laws.specs.LineEnds.{BeginsOtherwise, FitsNowhere, OthersFitNowhere, ReadsWithMoreBehind, is_ended}
+use Rattle.sdp_formats_laws.specs.LineEnds.{BeginsOtherwise, FitsNowhere, OthersFitNowhere, ReadsWithMoreBehind}
+use Rattle.sdp_formats_laws.specs.LineEnds.{is_ended}
 
 ended_tail : (c r : List ℕ) → is_ended (c ++ 10 ∷ r) ≡ true → is_ended r ≡ true
 ended_tail [] [] h = refl
@@ -41,7 +42,8 @@ module _ (more : List ℕ) where
   behind : List ℕ → List ℕ
   behind t = t ++ more
 
-  pub forth : (t c r : List ℕ) → is_ended t ≡ true → IsLine t c r → IsLine (t ++ more) c (r ++ more) × (is_ended r ≡ true)
+  pub forth : (t c r : List ℕ) → is_ended t ≡ true → IsLine t c r
+      → IsLine (t ++ more) c (r ++ more) × (is_ended r ≡ true)
   forth t c r ok h = ⊎_elim
       (λ (e : t ≡ c ++ 10 ∷ r). (
         (inl (ap (λ x. x ++ more) e ∙ append_assoc c (10 ∷ r) more), h.1, h.2, h.3),

@@ -39,7 +39,8 @@ ended_behind (x ∷ []) = refl
 ended_behind (x ∷ y ∷ xs) = ended_behind (y ∷ xs)
 
 ended_named : (name value : List ℕ) → is_ended (named name value) ≡ true
-ended_named name value = subst (λ t. is_ended t ≡ true) (append_assoc name value line_end) (ended_behind (name ++ value))
+ended_named name value =
+    subst (λ t. is_ended t ≡ true) (append_assoc name value line_end) (ended_behind (name ++ value))
 
 four_parts : (a b c d e : List ℕ) → (a ++ (b ++ (c ++ d))) ++ e ≡ a ++ (b ++ (c ++ (d ++ e)))
 four_parts a b c d e = simp append_assoc
