@@ -1,7 +1,5 @@
 //! Keys and values of an `a=fmtp` line.
 
-ghost use Rattle.std.specs.Prelude.{◌≡◌};
-
 use sdp_formats_forms::Text;
 use std::fmt;
 

@@ -1,9 +1,9 @@
 //! One format parameter.
 
-ghost use Rattle.std.specs.Prelude.{◌≡◌, codes};
-ghost use Rattle.std.specs.Str.{bytes_eq, str_eq_ignore_ascii_case};
-ghost use Rattle.sdp_formats_params.specs.Params.{flag, byte_param, word_param, value_param, other_param, param_of};
-ghost use Rattle.sdp_formats_params.specs.Params.{level_param, telephone_events};
+ghost use Rattle.std.specs.Prelude.{◌≡◌};
+ghost use Rattle.std.specs.Str.{str_eq_ignore_ascii_case};
+ghost use Rattle.sdp_formats_params.specs.Params.{flag, byte_param, value_param, other_param, param_of};
+ghost use Rattle.sdp_formats_params.specs.Params.{telephone_events};
 
 use crate::key::Key;
 use crate::numbers::{byte_of, don_diff_of, modes_of, profile_level_of, range_of, word_of};

@@ -1,6 +1,6 @@
 //! Format parameters as they are printed (RFC 8866 6.15).
 
-ghost use Rattle.std.specs.Prelude.{◌≡◌, ◌≤◌};
+ghost use Rattle.std.specs.Prelude.{◌≡◌};
 ghost use Rattle.std.specs.Fmt.{DisplaysOnOk};
 ghost use Rattle.sdp_formats_params.specs.Printed.{flag_digit, has_mode, name_before, named_output};
 

@@ -1,7 +1,6 @@
 //! Which kind of line an attribute is.
 
-ghost use Rattle.std.specs.Prelude.{◌≡◌};
-ghost use Rattle.sdp_formats_forms.specs.Refusals.{Gives, GivesBy};
+ghost use Rattle.sdp_formats_forms.specs.Refusals.{Gives};
 ghost use Rattle.sdp_formats_session_lines.specs.Choice.{session_attribute, later_attribute};
 
 use crate::kinds::{

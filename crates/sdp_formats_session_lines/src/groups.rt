@@ -3,7 +3,7 @@
 ghost use Rattle.std.specs.Prelude.{◌≡◌};
 ghost use Rattle.std.specs.Option.{option_copied};
 ghost use Rattle.sdp_formats_forms.specs.Form.{maybe, separated, told};
-ghost use Rattle.sdp_formats_forms.specs.Refusals.{Gives, GivesBy};
+ghost use Rattle.sdp_formats_forms.specs.Refusals.{Gives};
 ghost use Rattle.sdp_formats_session_lines.specs.Groups.{without_last, without_first, mid_word, mids_of, group};
 ghost use Rattle.sdp_formats_session_lines.specs.Groups.{msid_semantic};
 

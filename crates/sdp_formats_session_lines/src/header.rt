@@ -1,8 +1,5 @@
 //! The lines `o=` and `b=` (RFC 8866 5.2 and 5.8).
 
-ghost use Rattle.std.specs.Prelude.{◌≡◌};
-ghost use Rattle.sdp_formats_forms.specs.Refusals.{Gives, GivesBy};
-
 use crate::originator::origin;
 use sdp_formats_forms::{Lined, Refusal, Stepped, behind, line_of, split, text_of};
 use sdp_formats_types::Bandwidth;

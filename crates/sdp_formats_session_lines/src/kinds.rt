@@ -1,7 +1,7 @@
 //! Kinds of attributes of a session.
 
 ghost use Rattle.std.specs.Prelude.{◌≡◌};
-ghost use Rattle.sdp_formats_forms.specs.Refusals.{Gives, GivesBy};
+ghost use Rattle.sdp_formats_forms.specs.Refusals.{Gives};
 ghost use Rattle.sdp_formats_session_lines.specs.Kinds.{group_line, msid_semantic_line, ice_ufrag_line, ice_pwd_line};
 ghost use Rattle.sdp_formats_session_lines.specs.Kinds.{ice_options_line, fingerprint_line, setup_line};
 ghost use Rattle.sdp_formats_session_lines.specs.Kinds.{candidate_line, ice_lite, end_word};

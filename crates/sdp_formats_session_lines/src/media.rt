@@ -1,8 +1,7 @@
 //! The line `m=` (RFC 8866 5.14).
 
-ghost use Rattle.std.specs.Prelude.{◌≡◌, codes};
-ghost use Rattle.std.specs.Str.{bytes_eq};
-ghost use Rattle.sdp_formats_forms.specs.Refusals.{Gives, GivesBy};
+ghost use Rattle.std.specs.Prelude.{◌≡◌};
+ghost use Rattle.sdp_formats_forms.specs.Refusals.{Gives};
 ghost use Rattle.sdp_formats_session_lines.specs.Heads.{media_type, unknown_type, is_begun, proto, pt_number, formats};
 ghost use Rattle.sdp_formats_session_lines.specs.Heads.{media_line};
 

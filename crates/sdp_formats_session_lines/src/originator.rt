@@ -1,6 +1,6 @@
 //! The number of a session (RFC 8866 5.2).
 
-ghost use Rattle.sdp_formats_forms.specs.Refusals.{Gives, GivesBy};
+ghost use Rattle.sdp_formats_forms.specs.Refusals.{Gives};
 ghost use Rattle.sdp_formats_session_lines.specs.Heads.{origin, session_number};
 
 use sdp_formats_forms::{Refusal, has_digits_alone, number_64, some, split};

@@ -1,8 +1,8 @@
 //! Lines that are read and not kept (RFC 8866 5.1 to 5.13).
 
-ghost use Rattle.std.specs.Prelude.{◌≡◌, codes};
+ghost use Rattle.std.specs.Prelude.{◌≡◌};
 ghost use Rattle.sdp_formats_forms.specs.Form.{after};
-ghost use Rattle.sdp_formats_forms.specs.Refusals.{Gives, GivesBy};
+ghost use Rattle.sdp_formats_forms.specs.Refusals.{Gives};
 ghost use Rattle.sdp_formats_session_lines.specs.Lines.{exactly, something, passed_if, is_lettered, is_other};
 
 use sdp_formats_forms::{Lined, Refusal, Stepped, behind, line_of, stripped};

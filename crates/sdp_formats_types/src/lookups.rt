@@ -2,7 +2,7 @@
 
 ghost use Rattle.std.specs.Prelude.{◌≡◌};
 ghost use Rattle.std.specs.Option.{option_copied};
-ghost use Rattle.sdp_formats_types.specs.Lookups.{direction_in, direction_of, first_of, mid_in, msid_in, setup_in};
+ghost use Rattle.sdp_formats_types.specs.Lookups.{direction_of, first_of, mid_in, msid_in, setup_in};
 
 use crate::media::{MediaAttribute, MediaLine};
 use rtp_wire::{Direction, Mid};

@@ -1,9 +1,8 @@
 //! Candidates as they are read (RFC 8839 5.1).
 
-ghost use Rattle.std.specs.Prelude.{◌≡◌, ◌^◌, Some};
 ghost use Rattle.std.specs.Option.{option_copied};
 ghost use Rattle.sdp_formats_forms.specs.Form.{maybe};
-ghost use Rattle.sdp_formats_forms.specs.Refusals.{Gives, GivesBy, fielded};
+ghost use Rattle.sdp_formats_forms.specs.Refusals.{Gives, GivesBy};
 ghost use Rattle.sdp_formats_values.specs.Words.{tcptype_word};
 ghost use Rattle.sdp_formats_values.specs.Candidates.{related_in, related_field, with_rest, related_rest};
 ghost use Rattle.sdp_formats_values.specs.Candidates.{tcptype_field, tcptype_rest, ufrag_field};

@@ -1,7 +1,7 @@
 //! Fingerprints as they are read (RFC 8122 5).
 
 ghost use Rattle.std.specs.Prelude.{◌≡◌, ◌<◌, IfSome};
-ghost use Rattle.sdp_formats_forms.specs.Refusals.{Gives, GivesBy};
+ghost use Rattle.sdp_formats_forms.specs.Refusals.{Gives};
 ghost use Rattle.sdp_formats_values.specs.Digest.{hex_digit, hex_byte, fingerprint};
 
 use crate::fingerprint::Fingerprint;

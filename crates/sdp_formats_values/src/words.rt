@@ -1,6 +1,6 @@
 //! Words that stand for a choice.
 
-ghost use Rattle.std.specs.Prelude.{◌≡◌, ◌≢◌, codes, IfErr};
+ghost use Rattle.std.specs.Prelude.{◌≡◌, ◌≢◌, IfErr};
 ghost use Rattle.std.specs.Str.{str_eq_ignore_ascii_case};
 ghost use Rattle.sdp_formats_forms.specs.Refusals.{Gives};
 ghost use Rattle.sdp_formats_values.specs.Words.{setup_word, protocol_word, kind_word, tcptype_word};
