@@ -1,7 +1,5 @@
 //! Equality of sections and whole texts.
 
-ghost use Rattle.std.specs.Prelude.{◌≡◌, ◌↔◌, IsTrue};
-
 use crate::same::Same;
 use rtp_wire::Extension;
 use sdp_formats_types::{

@@ -1,7 +1,5 @@
 //! Equality of format parameters.
 
-ghost use Rattle.std.specs.Prelude.{◌≡◌, ◌↔◌, IsTrue};
-
 use crate::same::Same;
 use sdp_formats_types::FormatParam as Param;
 
