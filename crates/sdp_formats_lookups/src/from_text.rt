@@ -1,7 +1,6 @@
 //! Fingerprints out of texts of their own (RFC 8122 5).
 
-ghost use Rattle.std.specs.Prelude.{◌≡◌};
-ghost use Rattle.sdp_formats_forms.specs.Refusals.{Gives, GivesBy};
+ghost use Rattle.sdp_formats_forms.specs.Refusals.{Gives};
 ghost use Rattle.sdp_formats_lookups.specs.FromText.{IsFromText, print_in_text};
 
 use sdp_formats_forms::{Reads, Refusal, Text, list_of, split};

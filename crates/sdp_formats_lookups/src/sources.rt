@@ -1,6 +1,6 @@
 //! Which sources a section names.
 
-ghost use Rattle.std.specs.Prelude.{◌≡◌, ◌++◌, IfOk, OnOk, fold};
+ghost use Rattle.std.specs.Prelude.{◌≡◌, IfOk, OnOk, fold};
 ghost use Rattle.std.specs.List.{filter_map};
 ghost use Rattle.sdp_formats_lookups.specs.Distinct.{with_new, with_one};
 ghost use Rattle.sdp_formats_lookups.specs.Seen.{AreSeen};
