@@ -1,7 +1,6 @@
 -- The kinds are read exactly where they say a value.
 use Rattle.std.proofs.Common.{ℕ, ◌^◌, codes}
-use Rattle.sdp_formats_forms.specs.Form.{IsExact, some_text, told, any_text, number, made, after, either, cut}
-use Rattle.sdp_formats_forms.specs.Form.{cut_maybe, only, separated}
+use Rattle.sdp_formats_forms.specs.Form.{IsExact, some_text, any_text, number}
 use Rattle.sdp_formats_forms.specs.Numbers.{number_below}
 use Rattle.sdp_formats_forms.specs.Exact.{told-exact, made-exact, after-exact, cut-exact, cut_maybe-exact}
 use Rattle.sdp_formats_forms.specs.Exact.{separated-exact, either-exact, only-exact}

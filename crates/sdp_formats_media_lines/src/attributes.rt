@@ -1,7 +1,6 @@
 //! Attributes of payload types and streams.
 
-ghost use Rattle.std.specs.Prelude.{◌≡◌};
-ghost use Rattle.sdp_formats_forms.specs.Refusals.{Gives, GivesBy};
+ghost use Rattle.sdp_formats_forms.specs.Refusals.{Gives};
 ghost use Rattle.sdp_formats_media_lines.specs.Kinds.{extmap_line, msid_line, rtpmap_line, rtcp_fb_line, fmtp_line};
 ghost use Rattle.sdp_formats_media_lines.specs.Kinds.{rid_line, simulcast_line, ssrc_group_line, ssrc_line};
 

@@ -1,7 +1,7 @@
 //! Which kind of line an attribute is.
 
 ghost use Rattle.std.specs.Prelude.{◌≡◌};
-ghost use Rattle.sdp_formats_forms.specs.Refusals.{Gives, GivesBy};
+ghost use Rattle.sdp_formats_forms.specs.Refusals.{Gives};
 ghost use Rattle.sdp_formats_media_lines.specs.Kinds.{direction_word, mux_word, end_word};
 ghost use Rattle.sdp_formats_media_lines.specs.Choice.{media_attribute, second_attribute, third_attribute};
 ghost use Rattle.sdp_formats_media_lines.specs.Choice.{last_attribute};

@@ -4,7 +4,6 @@ ghost use Rattle.std.specs.Prelude.{◌≡◌};
 ghost use Rattle.std.specs.List.{list_all};
 ghost use Rattle.std.specs.Option.{option_copied};
 ghost use Rattle.sdp_formats_forms.specs.Refusals.{Gives, GivesBy};
-ghost use Rattle.sdp_formats_forms.specs.Split.{behind};
 ghost use Rattle.sdp_formats_media_lines.specs.Pairs.{word, is_word_byte, is_blank};
 ghost use Rattle.sdp_formats_media_lines.specs.Pairs.{behind_blank, unblanked, word_before};
 ghost use Rattle.sdp_formats_media_lines.specs.Pairs.{padded, pair_at, pairs_of, or_empty, whole, with_rest};

@@ -1,7 +1,7 @@
 //! Payload types, their codecs and their feedback.
 
-ghost use Rattle.std.specs.Prelude.{◌≡◌, ◌≢◌, ◌≤◌, ◌<◌, IfErr};
-ghost use Rattle.sdp_formats_forms.specs.Refusals.{Gives, GivesBy};
+ghost use Rattle.std.specs.Prelude.{◌≢◌, IfErr};
+ghost use Rattle.sdp_formats_forms.specs.Refusals.{Gives};
 ghost use Rattle.sdp_formats_media_lines.specs.Maps.{payload_type, clock_rate, rtcp_fb, rtpmap};
 
 use payload_core_base::Codec;

@@ -1,7 +1,7 @@
 //! Format parameters (RFC 8866 6.15).
 
-ghost use Rattle.std.specs.Prelude.{◌≡◌, ◌^◌, ◌∷◌, [], Some};
-ghost use Rattle.sdp_formats_forms.specs.Refusals.{Gives, GivesBy};
+ghost use Rattle.std.specs.Prelude.{◌^◌, ◌∷◌, [], Some};
+ghost use Rattle.sdp_formats_forms.specs.Refusals.{Gives};
 ghost use Rattle.sdp_formats_media_lines.specs.Parameters.{key_values, slash_list, range, parameters, listed_fmtp};
 ghost use Rattle.sdp_formats_media_lines.specs.Parameters.{bare_fmtp, fmtp};
 

@@ -3,7 +3,7 @@
 ghost use Rattle.std.specs.Prelude.{◌≡◌};
 ghost use Rattle.std.specs.Option.{option_copied};
 ghost use Rattle.sdp_formats_forms.specs.Form.{maybe};
-ghost use Rattle.sdp_formats_forms.specs.Refusals.{Gives, GivesBy};
+ghost use Rattle.sdp_formats_forms.specs.Refusals.{Gives};
 ghost use Rattle.sdp_formats_media_lines.specs.Rids.{way, no_limits, of_type};
 ghost use Rattle.sdp_formats_media_lines.specs.Rids.{later_limits, typed_limits, untyped_limits};
 ghost use Rattle.sdp_formats_media_lines.specs.Rids.{limits_of, maybe_limits, rid};

@@ -1,9 +1,9 @@
 //! Simulcasts (RFC 8853 5.1).
 
-ghost use Rattle.std.specs.Prelude.{◌≡◌, ◌∷◌, [], Some, false};
+ghost use Rattle.std.specs.Prelude.{◌≡◌};
 ghost use Rattle.std.specs.Option.{option_copied};
 ghost use Rattle.sdp_formats_forms.specs.Form.{maybe};
-ghost use Rattle.sdp_formats_forms.specs.Refusals.{Gives, GivesBy};
+ghost use Rattle.sdp_formats_forms.specs.Refusals.{Gives};
 ghost use Rattle.sdp_formats_media_lines.specs.Simulcasts.{layer_name, layer, first_layer, groups, direction_layers};
 ghost use Rattle.sdp_formats_media_lines.specs.Simulcasts.{is_other, other_layers, sent, simulcast};
 

@@ -1,7 +1,6 @@
 //! Header extensions, names of streams, and sources.
 
-ghost use Rattle.std.specs.Prelude.{◌≡◌};
-ghost use Rattle.sdp_formats_forms.specs.Refusals.{Gives, GivesBy};
+ghost use Rattle.sdp_formats_forms.specs.Refusals.{Gives};
 ghost use Rattle.sdp_formats_media_lines.specs.Sources.{extmap, msid, ssrc_number, ssrc, ssrc_group};
 
 use rtp_wire::{Extension, Ssrc};

@@ -1,7 +1,6 @@
 //! Attributes of transport and section.
 
-ghost use Rattle.std.specs.Prelude.{◌≡◌};
-ghost use Rattle.sdp_formats_forms.specs.Refusals.{Gives, GivesBy};
+ghost use Rattle.sdp_formats_forms.specs.Refusals.{Gives};
 ghost use Rattle.sdp_formats_media_lines.specs.Kinds.{ice_ufrag_line, ice_pwd_line, ice_options_line};
 ghost use Rattle.sdp_formats_media_lines.specs.Kinds.{fingerprint_line, setup_line, candidate_line, sctp_port_line};
 ghost use Rattle.sdp_formats_media_lines.specs.Kinds.{max_message_size_line, sctp_init_line, rtcp_line, mid_line};
