@@ -1,6 +1,6 @@
 //! What a section says of a payload type.
 
-ghost use Rattle.std.specs.Prelude.{◌≡◌, codes};
+ghost use Rattle.std.specs.Prelude.{◌≡◌};
 ghost use Rattle.std.specs.Option.{option_copied};
 ghost use Rattle.sdp_formats_section_rows.specs.Facts.{facts_of, feedback_given, find_facts};
 ghost use Rattle.sdp_formats_section_rows.specs.SectionRows.{has_feedback, is_feedback};

@@ -1,6 +1,6 @@
 //! The format that a section's parameters give a payload type.
 
-ghost use Rattle.std.specs.Prelude.{◌≡◌, ◌&&◌, fold};
+ghost use Rattle.std.specs.Prelude.{◌≡◌, fold};
 ghost use Rattle.payload_core_base.specs.declared.codec.Codec.TheVariants.{AmrWb};
 ghost use Rattle.std.specs.List.{list_any};
 ghost use Rattle.sdp_formats_rows.specs.Codecs.{is_codec};
@@ -8,7 +8,6 @@ ghost use Rattle.sdp_formats_section_rows.specs.Given.{events_after, events_in, 
 ghost use Rattle.sdp_formats_section_rows.specs.Given.{is_unsupported, most_of, with_attribute, with_events};
 ghost use Rattle.sdp_formats_section_rows.specs.Given.{with_line, with_param};
 ghost use Rattle.sdp_formats_section_rows.specs.declared.given.Events.TheVariants.{Default};
-ghost use Rattle.sdp_formats_format.specs.Formats.{no_format};
 
 use rtp_wire::Pt;
 use sdp_formats_rows::{Codec, FormatParams};

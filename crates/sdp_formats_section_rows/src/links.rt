@@ -1,6 +1,6 @@
 //! The type of retransmissions or of redundant audio of a payload type.
 
-ghost use Rattle.std.specs.Prelude.{◌≡◌, None, fold};
+ghost use Rattle.std.specs.Prelude.{◌≡◌};
 ghost use Rattle.std.specs.List.{list_any};
 ghost use Rattle.sdp_formats_section_rows.specs.Facts.{linked_by, linked_in};
 ghost use Rattle.sdp_formats_section_rows.specs.SectionRows.{names};

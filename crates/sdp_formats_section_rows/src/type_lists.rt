@@ -1,6 +1,6 @@
 //! Lists of payload types.
 
-ghost use Rattle.std.specs.Prelude.{◌≡◌, IfOk, OnOk, fold};
+ghost use Rattle.std.specs.Prelude.{◌≡◌, IfOk, OnOk};
 ghost use Rattle.sdp_formats_section_rows.specs.TypeLists.{is_listed, types_to, with_type};
 
 use crate::mapped::{Mapping, is_codec};
