@@ -1,9 +1,13 @@
 //! A list of values.
 
 ghost use Rattle.std.specs.Prelude.{◌≡◌, ◌++◌, ◌∷◌, [], OnOk, OnErr};
+ghost use Rattle.std.specs.Cmp.Lexicographic.{lists_equiv, lists_per, pointwise};
+ghost use Rattle.std.specs.Hash as fed;
+ghost use Rattle.std.specs.Hash.{items_Alike};
 ghost use Rattle.sdp_formats_forms.specs.Pieces.{head};
 
 use std::alloc::{AllocError, Global};
+use std::hash::{Hash, Hasher};
 use std::marker::Model;
 use std::ops::DerefSlice;
 
@@ -89,5 +93,29 @@ impl<T> DerefSlice for Listed<T> {
 
     fn deref(&self) -> &[T] {
         self.items.as_slice()
+    }
+}
+
+impl<T: PartialEq> PartialEq for Listed<T> {
+    ghost eq = { pointwise T.eq };
+
+    ghost laws = { lists_per T.laws };
+
+    fn eq(&self, other: &Listed<T>) -> bool {
+        self.items == other.items
+    }
+}
+
+impl<T: Eq> Eq for Listed<T> {
+    ghost laws = { lists_equiv T.Eq.laws };
+}
+
+impl<T: Hash> Hash for Listed<T> {
+    ghost hash_input = { fed.slice T.hash_input };
+
+    ghost respects_eq = { (items_Alike (record { fed = T.respects_eq })).fed };
+
+    fn hash<H: Hasher>(&self, state: &mut H) {
+        self.items.hash(state);
     }
 }

@@ -19,6 +19,7 @@ pub mod Consistent
 pub mod Carried
 pub mod LineEnds
 pub mod MoreBehind
+pub mod Behind
 pub mod FormatRanges
 pub mod Numerals
 pub mod ModeSets

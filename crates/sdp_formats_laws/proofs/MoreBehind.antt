@@ -26,7 +26,7 @@ ended_tail [] (y ∷ r) h = h
 ended_tail (x ∷ []) r h = ended_tail [] r h
 ended_tail (x ∷ y ∷ c) r h = ended_tail (y ∷ c) r h
 
-never_ended : (c : List ℕ) → c ≢ [] → Lacks 10 c → is_ended c ≡ true → ⊥
+pub never_ended : (c : List ℕ) → c ≢ [] → Lacks 10 c → is_ended c ≡ true → ⊥
 never_ended [] some h e = some refl
 never_ended (b ∷ []) some h e = h.0 ((Decides-eqb b 10).0 e)
 never_ended (b ∷ c ∷ t) some h e = never_ended (c ∷ t) (λ n. cc) h.1 e
@@ -55,7 +55,7 @@ module _ (more : List ℕ) where
       ))
       (λ (e : (t ≡ c) × (r ≡ [])). absurd (never_ended c h.3 h.1 (subst (λ x. is_ended x ≡ true) e.0 ok))) o) h.0
 
-  at_cut : (t front rest c r : List ℕ) → t ≡ front ++ 10 ∷ rest → Lacks 10 front → is_ended t ≡ true
+  pub at_cut : (t front rest c r : List ℕ) → t ≡ front ++ 10 ∷ rest → Lacks 10 front → is_ended t ≡ true
       → IsLine (t ++ more) c r → (s : List ℕ) × (r ≡ s ++ more) × IsLine t c s × (is_ended s ≡ true)
   at_cut t front rest c r whole lacks ok h =
       let shape : t ++ more ≡ front ++ 10 ∷ (rest ++ more) =

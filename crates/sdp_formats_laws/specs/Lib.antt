@@ -4,6 +4,7 @@ pub mod PrintableTexts
 pub mod AsReadLemmas
 pub mod ReadTexts
 pub mod LineEnds
+pub mod Behind
 pub mod Ranges
 pub mod Keyed
 pub mod Parameters

@@ -1,6 +1,7 @@
 //! Session texts that are read as they are printed.
 
 ghost use Rattle.std.specs.Prelude.{[]};
+ghost use Rattle.sdp_formats_laws.specs.Behind.{StaysWithWhatFitsNowhere};
 ghost use Rattle.sdp_formats_laws.specs.LineEnds.{OthersFitNowhere, ReadsByAnyEnd, ReadsWithMoreBehind};
 ghost use Rattle.sdp_formats_laws.specs.PrintableTexts.{IsPrintableText};
 ghost use Rattle.sdp_formats_laws.specs.ReadTexts.{text_as_read};
@@ -33,4 +34,12 @@ pub fn line_ends_law()
 pub fn more_behind_law()
     ensures more { ReadsWithMoreBehind }
     ensures letters { OthersFitNowhere }
+{}
+
+/// What is read of a whole text, the last line of which is ended, stays the same with another text behind it, which is
+/// left unread, exactly where that fits nowhere there: behind sections where it begins with no attribute of a section
+/// and with no section, as `b=AS:5` does; behind a session alone where it begins with no attribute of a session, no
+/// section and, where there is no attribute yet, no line `r=`.
+pub fn fits_nowhere_law()
+    ensures { StaysWithWhatFitsNowhere }
 {}

@@ -3,10 +3,7 @@
 ghost use Rattle.std.specs.Prelude.{◌≡◌, ◌↔◌, IsTrue};
 
 use crate::same::Same;
-use sdp_formats_types::{
-    Bandwidth, Candidate, CandidateKind, Fingerprint, Protocol, RelatedAddress,
-    SessionAttribute as Attribute, TcpType,
-};
+use sdp_formats_types::{Bandwidth, Candidate, Fingerprint, SessionAttribute as Attribute};
 
 impl Same for Bandwidth {
     fn is_same(&self, other: &Bandwidth) -> bool {
@@ -16,46 +13,13 @@ impl Same for Bandwidth {
 
 impl Same for Fingerprint {
     fn is_same(&self, other: &Fingerprint) -> bool {
-        self.hash_func.is_same(&other.hash_func) && self.bytes.is_same(&other.bytes)
-    }
-}
-
-impl Same for Protocol {
-    fn is_same(&self, other: &Protocol) -> bool {
         self == other
-    }
-}
-
-impl Same for CandidateKind {
-    fn is_same(&self, other: &CandidateKind) -> bool {
-        self == other
-    }
-}
-
-impl Same for TcpType {
-    fn is_same(&self, other: &TcpType) -> bool {
-        self == other
-    }
-}
-
-impl Same for RelatedAddress {
-    fn is_same(&self, other: &RelatedAddress) -> bool {
-        self.addr.is_same(&other.addr) && self.port == other.port
     }
 }
 
 impl Same for Candidate {
     fn is_same(&self, other: &Candidate) -> bool {
-        self.foundation.is_same(&other.foundation)
-            && self.component_id == other.component_id
-            && self.proto == other.proto
-            && self.prio == other.prio
-            && self.addr.is_same(&other.addr)
-            && self.port == other.port
-            && self.kind == other.kind
-            && self.related.is_same(&other.related)
-            && self.tcptype.is_same(&other.tcptype)
-            && self.ufrag.is_same(&other.ufrag)
+        self == other
     }
 }
 

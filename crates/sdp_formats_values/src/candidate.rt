@@ -10,7 +10,7 @@ use std::alloc::{AllocError, Global};
 use std::fmt;
 
 /// What transports a candidate's packets.
-#[derive(Clone, Copy, Debug, PartialEq, Eq, Drop)]
+#[derive(Clone, Copy, Debug, PartialEq, Eq, Hash, Drop)]
 pub enum Protocol {
     /// `udp`
     Udp,
@@ -23,7 +23,7 @@ pub enum Protocol {
 }
 
 /// How a candidate was found (RFC 8445 5.1.1).
-#[derive(Clone, Copy, Debug, PartialEq, Eq, Drop)]
+#[derive(Clone, Copy, Debug, PartialEq, Eq, Hash, Drop)]
 pub enum CandidateKind {
     /// `host`: an address of the machine itself.
     Host,
@@ -36,7 +36,7 @@ pub enum CandidateKind {
 }
 
 /// Which end opens the connection of a TCP candidate (RFC 6544 4.5).
-#[derive(Clone, Copy, Debug, PartialEq, Eq, Drop)]
+#[derive(Clone, Copy, Debug, PartialEq, Eq, Hash, Drop)]
 pub enum TcpType {
     /// `active`
     Active,
@@ -47,7 +47,7 @@ pub enum TcpType {
 }
 
 /// The address that a candidate was derived from.
-#[derive(Debug, Drop)]
+#[derive(Debug, PartialEq, Eq, Hash, Drop)]
 pub struct RelatedAddress {
     /// The address: a word, not checked to be one of IP.
     pub addr: Text,
@@ -56,7 +56,7 @@ pub struct RelatedAddress {
 }
 
 /// A candidate: an address that an end may be reached at (RFC 8839 5.1).
-#[derive(Debug, Drop)]
+#[derive(Debug, PartialEq, Eq, Hash, Drop)]
 pub struct Candidate {
     /// Its foundation: candidates of one base and kind have the same.
     pub foundation: Text,

@@ -4,7 +4,7 @@ use sdp_formats_forms::{FingerprintFmt, Listed, Text};
 use std::fmt;
 
 /// The fingerprint of a certificate: a hash function's name and its digest (RFC 8122 5).
-#[derive(Debug, Drop)]
+#[derive(Debug, PartialEq, Eq, Hash, Drop)]
 pub struct Fingerprint {
     /// The name of the hash function, as `sha-256`.
     pub hash_func: Text,

@@ -1,0 +1,30 @@
+-- What goes on with a whole text.
+use Rattle.std.specs.Prelude.{◌≡◌, ◌↔◌, ℕ, true, List, [], ◌∷◌, ◌++◌}
+use Rattle.sdp_formats_forms.specs.Line.{LineOf}
+use Rattle.sdp_formats_forms.specs.Step.{Stops}
+use Rattle.sdp_formats_media_lines.specs.Choice.{attribute_line as media_line}
+use Rattle.sdp_formats_session_lines.specs.Choice.{attribute_line as session_line}
+use Rattle.sdp_formats_session_lines.specs.Lines.{repeat_line}
+use Rattle.sdp_formats_reader.specs.Grammar.{SdpSays, SectionSays}
+use Rattle.sdp_formats_laws.specs.LineEnds.{is_ended}
+use Rattle.sdp_formats_types.specs.declared.media.MediaLine.{MediaLine}
+use Rattle.sdp_formats_types.specs.declared.session.Sdp.{Sdp}
+use Rattle.sdp_formats_types.specs.declared.session.SessionAttribute.{SessionAttribute}
+
+-- The text begins with no line that goes on with the last part of a session (RFC 8866 5): with no attribute of the
+-- last section; where there is no section, with no attribute of the session; and where there is none of these either,
+-- with no line `r=`.
+abbrev pub GoesOnWithNothing : List SessionAttribute → List MediaLine → List ℕ → Type 0
+GoesOnWithNothing attributes (m ∷ ms) more = Stops (LineOf media_line.Says) more
+GoesOnWithNothing (a ∷ as') [] more = Stops (LineOf session_line.Says) more
+GoesOnWithNothing [] [] more = Stops (LineOf session_line.Says) more × Stops (LineOf repeat_line.Says) more
+
+-- It fits nowhere behind a session: it doesn't go on with its last part, and is no further section.
+abbrev pub FitsNowhereBehind : Sdp → List ℕ → Type 0
+FitsNowhereBehind sdp more = GoesOnWithNothing sdp.session.attrs sdp.media_lines more × Stops SectionSays more
+
+-- What is read of a whole text, the last line of which is ended, stays the same with another text behind it, which is
+-- left unread, exactly where that fits nowhere behind it.
+abbrev pub StaysWithWhatFitsNowhere : Type 0
+StaysWithWhatFitsNowhere = (text more : List ℕ) (sdp : Sdp) → is_ended text ≡ true → SdpSays text sdp []
+    → FitsNowhereBehind sdp more ↔ SdpSays (text ++ more) sdp more
