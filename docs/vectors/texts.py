@@ -191,7 +191,7 @@ def of_fingerprint(text):
     if not blank or not all(re.fullmatch(r"\+?[0-9A-Fa-f]+", p) and int(p, 16) < 256 for p in parts):
         return "no fingerprint"
     is_line = fingerprint(text) is not None
-    tail = "the same as of a line true, by its key true" if is_line else "none of a line"
+    tail = "the same as of a line true, by its hash true" if is_line else "none of a line"
     return f"{name} {':'.join(f'{int(p, 16):02X}' for p in parts)}, place {preference(name)}, {tail}"
 
 

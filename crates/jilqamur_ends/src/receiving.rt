@@ -1,20 +1,12 @@
 //! Receiving streams: datagrams that come, and units that are ready.
 
-ghost use Rattle.std.specs.Prelude.{◌≡◌, ◌≢◌, true, length};
-ghost use Rattle.rtp_wire.specs.Name.{name_of};
-ghost use Rattle.rtp_media_streams.specs.Drains.{drained_receiver};
-ghost use Rattle.rtp_media_streams.specs.Receiving.{polled_receiver};
-ghost use Rattle.rtp_media_ends.specs.Arrivals.{verdict_of, after_datagram};
-ghost use Rattle.rtp_media_ends.specs.Ends.{is_receiver_at, receiver_at, with_receiver, after_open_receiver};
-ghost use Rattle.rtp_media_ends.specs.Ends.{refusal_of_open_receiver};
-ghost use Rattle.jilqamur_packets.specs.Codes.{ok, memory};
+ghost use Rattle.std.specs.Prelude.{◌≡◌, ◌≢◌};
+ghost use Rattle.jilqamur_packets.specs.Codes.{ok};
 ghost use Rattle.jilqamur_ends.specs.Answers.{AtEnd};
 ghost use Rattle.jilqamur_ends.specs.Exchanges.{WithText};
-ghost use Rattle.rtp_media_ends.specs.Stops.{PollStops};
 ghost use Rattle.jilqamur_ends.specs.Receiving.{OpensReceiver, Receives, Polls, Drains, IsTakenAs, open_code};
-ghost use Rattle.jilqamur_ends.specs.Receiving.{open_outcome, verdict_code, DrainStops};
-ghost use Rattle.rtp_media_streams.specs.Polls.{poll_result};
-ghost use Rattle.jilqamur_ends.specs.StreamAnswers.{poll_code, unit_behind, drain_result};
+ghost use Rattle.jilqamur_ends.specs.Receiving.{verdict_code};
+ghost use Rattle.jilqamur_ends.specs.StreamAnswers.{poll_code};
 
 use crate::peer::Peer;
 use crate::poll_code;

@@ -1,7 +1,6 @@
 //! The program of lines over two ends.
 
 ghost use Rattle.std.specs.Prelude.{◌≡◌, ℕ, List, [], ◌∷◌, IfOk, IfSome, OnErr, OnOk, None};
-ghost use Rattle.std.specs.Io.KnownBytes.{Appends, Consumes, IsAtEnd};
 ghost use Rattle.rtp_media.specs.Input.{lines_of};
 ghost use Rattle.rtp_media.specs.Runs.{Printed, ReadsAll};
 ghost use Rattle.rtp_media.specs.Stops.{WritesFront};

@@ -1,6 +1,6 @@
 //! Who answers the lines.
 
-ghost use Rattle.std.specs.Prelude.{◌≡◌, List, IfOk};
+ghost use Rattle.std.specs.Prelude.{List, IfOk};
 ghost use Rattle.rtp_media_lines.specs.declared.line.Command.{Command};
 ghost use Rattle.rtp_media_lines.specs.declared.reply.Reply.{Reply};
 

@@ -1,6 +1,6 @@
 //! How a run of the program ends.
 
-ghost use Rattle.std.specs.Prelude.{◌≡◌, ◌↔◌, IsTrue};
+ghost use Rattle.std.specs.Prelude.{◌≡◌};
 ghost use Rattle.rtp_media.specs.Statuses.{code_of, worse};
 ghost use Rattle.rtp_media.specs.declared.status.RunFault.TheVariants.{Memory, Write};
 

@@ -1,6 +1,6 @@
 //! Writing bytes in pieces.
 
-ghost use Rattle.std.specs.Prelude.{◌≡◌, ◌<◌, OnOk, IfOk, OnErr, length};
+ghost use Rattle.std.specs.Prelude.{◌<◌, OnOk, IfOk, OnErr, length};
 ghost use Rattle.std.specs.Io.KnownBytes.{Appends, Keeps};
 ghost use Rattle.rtp_media.specs.Writes.{AppendsFront, LeavesRest};
 

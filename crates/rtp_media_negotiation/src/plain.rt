@@ -1,6 +1,6 @@
 //! The rows and the map of extensions that an end can be made of.
 
-ghost use Rattle.std.specs.Prelude.{◌≡◌, ◌≢◌, None, Some, [], OnOk, IfErr, IfOk};
+ghost use Rattle.std.specs.Prelude.{◌≡◌, ◌≢◌, None, Some, [], OnOk, IfErr};
 ghost use Rattle.rtp_media_negotiation.specs.Refusals.{first_repeated, is_among, row_refusal, types_refusal};
 
 use crate::errors::EndError;

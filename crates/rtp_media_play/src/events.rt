@@ -1,6 +1,6 @@
 //! Single events of a schedule.
 
-ghost use Rattle.std.specs.Prelude.{◌≡◌, ℕ, List, true, IfOk, OnOk, OnErr, Some};
+ghost use Rattle.std.specs.Prelude.{◌≡◌, true, IfOk, OnOk, OnErr, Some};
 ghost use Rattle.rtp_media_ends.specs.Arrivals.{after_datagram, verdict_of};
 ghost use Rattle.rtp_media_ends.specs.Ends.{is_receiver_at, receiver_at, with_receiver};
 ghost use Rattle.rtp_media_streams.specs.Receiving.{polled_receiver};

@@ -1,6 +1,6 @@
 //! What an exchange agreed on.
 
-ghost use Rattle.std.specs.Prelude.{◌≡◌, ◌==◌, IfOk, find};
+ghost use Rattle.std.specs.Prelude.{◌≡◌, ◌==◌, IfOk};
 ghost use Rattle.std.specs.Str.{bytes_eq};
 ghost use Rattle.rtp_media_sections.specs.Agreement.{agreed, agreed_by_accept, agreed_by_answer, fixed_section};
 ghost use Rattle.rtp_media_sections.specs.Agreement.{is_named, row_in, shape_of_agreed};

@@ -1,6 +1,6 @@
 //! The sections of offers and answers.
 
-ghost use Rattle.std.specs.Prelude.{◌≡◌, ◌++◌, ◌∷◌, [], IfOk, OnOk, map, codes};
+ghost use Rattle.std.specs.Prelude.{◌≡◌, ◌++◌, IfOk, OnOk, map};
 ghost use Rattle.sdp_formats_round.specs.Types.{types_of, listed};
 ghost use Rattle.rtp_media_sections.specs.Lines.{offered_section, row_lines, section_line, ssrc_line, type_of};
 ghost use Rattle.rtp_media_sections.specs.Lines.{types_listed};

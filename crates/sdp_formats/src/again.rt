@@ -1,6 +1,6 @@
 //! Copies that may want memory.
 
-ghost use Rattle.std.specs.Prelude.{◌≡◌, ◌++◌, IfOk};
+ghost use Rattle.std.specs.Prelude.{◌≡◌, IfOk};
 
 use rtp_wire::{Extension, Mid, Pt, Ssrc};
 use sdp_formats_forms::{Listed, Text};

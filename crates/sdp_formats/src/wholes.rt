@@ -3,7 +3,6 @@
 ghost use Rattle.std.specs.Prelude.{◌≡◌};
 ghost use Rattle.std.specs.Option.{option_copied};
 ghost use Rattle.sdp_formats.specs.Texts.{ReadsText};
-ghost use Rattle.sdp_formats_types.specs.Lookups.{first_of};
 ghost use Rattle.sdp_formats.specs.Wholes.{bundle_in, bundle_of, init_of};
 
 use crate::{SdpError, sdp_parser};

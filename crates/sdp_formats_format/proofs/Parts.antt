@@ -1,39 +1,34 @@
--- The parameters of a format, one behind the other.
+-- The texts of a format's parameters, one behind the other.
 use Rattle.std.proofs.Common.{◌≡◌, ℕ, Bool, true, false, List, ◌∷◌, ◌++◌, map, refl, ◌∙◌, ap, Option, Some, None}
-use Rattle.std.proofs.Common.{append_assoc}
+use Rattle.std.proofs.Common.{append_assoc, codes}
 use Rattle.std.specs.List.{flat_map}
+use Rattle.std.specs.Option.{option_to_list}
+use Rattle.sdp_formats_forms.specs.Joined.{each_behind, joined}
 use Rattle.sdp_formats_params.specs.Printed.{param_text}
 use Rattle.sdp_formats_params.specs.declared.param.FormatParam.{FormatParam}
-use Rattle.sdp_formats_format.specs.Parameters.{given_param, listed_param, param_in}
-use Rattle.sdp_formats_format.specs.Texts.{part_text, texts_left}
-use Rattle.sdp_formats_format.specs.declared.format.FormatParams.{FormatParams}
-use Rattle.sdp_formats_format.specs.declared.parameters.Param.{Param}
+use Rattle.sdp_formats_format.specs.Texts.{part_text}
 
-abbrev texts_of : FormatParams → List Param → List (List ℕ)
-texts_of f all = map param_text (flat_map (given_param f) all)
+abbrev pub texts_of : List (Option FormatParam) → List (List ℕ)
+texts_of params = map param_text (flat_map option_to_list params)
 
-given_step : (f : FormatParams) (x : Param) (rest : List Param) (given : Option FormatParam) → param_in f x ≡ given
-    → texts_of f (x ∷ rest) ≡ map param_text (listed_param given ++ flat_map (given_param f) rest)
-unfolding given_param
-given_step f x rest given e = ap (λ o. map param_text (listed_param o ++ flat_map (given_param f) rest)) e
+-- what is left of the texts
+abbrev pub texts_left : Bool → List (List ℕ) → List ℕ
+texts_left true texts = joined (codes ";") texts
+texts_left false texts = each_behind (codes ";") texts
 
 left_step : (first : Bool) (text : List ℕ) (texts : List (List ℕ))
     → texts_left first (text ∷ texts) ≡ part_text first text ++ texts_left false texts
 left_step true text texts = refl
 left_step false text texts = refl
 
-pub part_written : (f : FormatParams) (x : Param) (given : FormatParam) (all rest : List Param)
-    (written whole : List ℕ) (first : Bool) → param_in f x ≡ Some given → all ≡ x ∷ rest
-    → whole ≡ written ++ texts_left first (texts_of f all)
-    → whole ≡ (written ++ part_text first (param_text given)) ++ texts_left false (texts_of f rest)
-part_written f x given all rest written whole first gives are h =
-    h ∙ ap (λ t. written ++ texts_left first (texts_of f t)) are
-    ∙ ap (λ t. written ++ texts_left first t) (given_step f x rest (Some given) gives)
-    ∙ ap (λ t. written ++ t) (left_step first (param_text given) (texts_of f rest)) ∙ simp append_assoc
+pub part_written : (param : FormatParam) (all rest : List (Option FormatParam)) (written whole : List ℕ)
+    (first : Bool) → all ≡ Some param ∷ rest → whole ≡ written ++ texts_left first (texts_of all)
+    → whole ≡ (written ++ part_text first (param_text param)) ++ texts_left false (texts_of rest)
+part_written param all rest written whole first are h =
+    h ∙ ap (λ t. written ++ texts_left first (texts_of t)) are
+    ∙ ap (λ t. written ++ t) (left_step first (param_text param) (texts_of rest)) ∙ simp append_assoc
 
-pub part_missing : (f : FormatParams) (x : Param) (all rest : List Param) (written whole : List ℕ) (first : Bool)
-    → param_in f x ≡ None → all ≡ x ∷ rest → whole ≡ written ++ texts_left first (texts_of f all)
-    → whole ≡ written ++ texts_left first (texts_of f rest)
-part_missing f x all rest written whole first gives are h =
-    h ∙ ap (λ t. written ++ texts_left first (texts_of f t)) are
-    ∙ ap (λ t. written ++ texts_left first t) (given_step f x rest None gives)
+pub part_missing : (all rest : List (Option FormatParam)) (written whole : List ℕ) (first : Bool)
+    → all ≡ None ∷ rest → whole ≡ written ++ texts_left first (texts_of all)
+    → whole ≡ written ++ texts_left first (texts_of rest)
+part_missing all rest written whole first are h = h ∙ ap (λ t. written ++ texts_left first (texts_of t)) are

@@ -8,7 +8,7 @@ use Rattle.h26x_payload_profiles.specs.H266Profile.{profile_id as profile_id_266
 use Rattle.h26x_payload_profiles.specs.declared.profile_tier_level.ProfileTierLevel.{ProfileTierLevel}
 use Rattle.h26x_payload_profiles.specs.H265ProfileTierLevel.{H265ProfileTierLevel as Level265}
 use Rattle.h26x_payload_profiles.specs.H266ProfileTierLevel.{H266ProfileTierLevel as Level266}
-use Rattle.sdp_formats_forms.specs.Joined.{joined, each_behind}
+use Rattle.sdp_formats_forms.specs.Joined.{joined}
 use Rattle.sdp_formats_params.specs.Printed.{param_text}
 use Rattle.sdp_formats_format.specs.Parameters.{params_of}
 use Rattle.sdp_formats_format.specs.declared.format.FormatParams.{FormatParams}
@@ -17,14 +17,10 @@ use Rattle.sdp_formats_format.specs.declared.format.FormatParams.{FormatParams}
 abbrev pub format_text : FormatParams → List ℕ
 format_text f = joined (codes ";") (map param_text (params_of f))
 
--- A text, behind a semicolon unless it is the first of all; and what is left of the texts.
+-- A text, behind a semicolon unless it is the first of all.
 abbrev pub part_text : Bool → List ℕ → List ℕ
 part_text true text = text
 part_text false text = codes ";" ++ text
-
-abbrev pub texts_left : Bool → List (List ℕ) → List ℕ
-texts_left true texts = joined (codes ";") texts
-texts_left false texts = each_behind (codes ";") texts
 
 -- The three numbers of a profile, tier and level (RFC 7798 7.1, RFC 9328 7.2).
 abbrev pub numbers_of : {P L : Type 0} → (P → ℕ) → (L → ℕ) → ProfileTierLevel P L → ℕ × ℕ × ℕ

@@ -1,7 +1,7 @@
 //! H.264.
 
 ghost use Rattle.std.specs.Prelude.{◌≡◌};
-ghost use Rattle.sdp_formats_format.specs.H264Score.{h264_score, known_score, level_given, place, profiles_score};
+ghost use Rattle.sdp_formats_format.specs.H264Score.{h264_score, known_score, level_given, profiles_score};
 ghost use Rattle.sdp_formats_format.specs.H264Score.{same_profile};
 
 use crate::points::{level_points, points_if};

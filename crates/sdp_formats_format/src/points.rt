@@ -1,6 +1,6 @@
 //! Points.
 
-ghost use Rattle.std.specs.Prelude.{◌≡◌, ◌≤◌};
+ghost use Rattle.std.specs.Prelude.{◌≡◌};
 ghost use Rattle.sdp_formats_format.specs.Points.{distance, level_points, points_if};
 
 pub(crate) fn distance(place: usize, other: usize) -> usize

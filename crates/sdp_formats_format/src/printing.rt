@@ -5,7 +5,7 @@ ghost use Rattle.std.specs.Option.{option_map};
 ghost use Rattle.sdp_formats_format.specs.Texts.{numbers_of};
 
 use crate::format::FormatParams;
-use crate::parameters::{all_params, param_in};
+use crate::parameters::each_param;
 use h26x_payload_profiles::{InTable, ProfileTierLevel};
 use sdp_formats_params::FormatParam;
 use std::fmt;
@@ -40,9 +40,9 @@ impl fmt::Display for FormatParams {
 
     fn fmt<W: fmt::Write>(&self, f: &mut fmt::Formatter<W>) -> fmt::Result {
         let mut is_first = true;
-        for param in all_params() {
-            if let Some(given) = param_in(self, param) {
-                let part = Part(is_first, given);
+        for param in &each_param(self) {
+            if let Some(given) = param {
+                let part = Part(is_first, *given);
                 write!(f, "{part}")?;
                 is_first = false;
             }

@@ -1,6 +1,5 @@
 //! A line of a form.
 
-ghost use Rattle.std.specs.Prelude.{◌≡◌};
 ghost use Rattle.sdp_formats_forms.specs.Form.{Form, IsExact};
 ghost use Rattle.sdp_formats_forms.specs.Refusals.{Gives};
 ghost use Rattle.sdp_formats_forms.specs.Step.{Steps, Shortens};

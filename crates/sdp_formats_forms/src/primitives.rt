@@ -1,6 +1,6 @@
 //! Pieces of a line.
 
-ghost use Rattle.std.specs.Prelude.{◌≡◌, ◌≢◌, ◌<◌, ◌≤◌, Some, IfErr};
+ghost use Rattle.std.specs.Prelude.{◌≡◌, ◌≢◌, ◌<◌, Some, IfErr};
 ghost use Rattle.std.specs.Option.{option_copied};
 ghost use Rattle.sdp_formats_forms.specs.Refusals.{Gives, GivesBy, parted, halved, fielded, fitted_of};
 ghost use Rattle.sdp_formats_forms.specs.Split.{split_first, behind, halves};

@@ -1,7 +1,7 @@
 //! Lists of words in a line.
 
 ghost use Rattle.std.specs.Prelude.{List, ℕ, Option};
-ghost use Rattle.sdp_formats_forms.specs.Refusals.{Gives, GivesBy};
+ghost use Rattle.sdp_formats_forms.specs.Refusals.{Gives};
 ghost use Rattle.sdp_formats_forms.specs.Split.{parts};
 ghost use Rattle.sdp_formats_forms.specs.Form.{each};
 ghost use Rattle.sdp_formats_forms.specs.Pieces.{parts_from};

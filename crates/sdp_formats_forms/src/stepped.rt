@@ -1,7 +1,7 @@
 //! Values one after the other.
 
-ghost use Rattle.std.specs.Prelude.{◌≡◌, List, ℕ};
-ghost use Rattle.sdp_formats_forms.specs.Step.{Step, Steps, Finds, Shortens, Many, Perhaps};
+ghost use Rattle.std.specs.Prelude.{List, ℕ};
+ghost use Rattle.sdp_formats_forms.specs.Step.{Steps, Finds, Shortens, Many, Perhaps};
 
 use crate::{Listed, Refusal, fitted};
 use std::alloc::Global;

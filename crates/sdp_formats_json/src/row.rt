@@ -2,7 +2,6 @@
 
 ghost use Rattle.std.specs.Prelude.{◌≡◌, IfOk, None, OnOk, false, true};
 ghost use Rattle.serde_json.specs.View.{view, members_view};
-ghost use Rattle.sdp_formats_rows.specs.Rows.{new_row};
 ghost use Rattle.sdp_formats_json.specs.Entries.{all_fit, put_all, read_all};
 ghost use Rattle.sdp_formats_json.specs.Rows.{blank_row, blank_spec, codec_entries, feedback_entries, lock_entries};
 ghost use Rattle.sdp_formats_json.specs.Rows.{row_data};

@@ -2,8 +2,7 @@
 
 ghost use Rattle.std.specs.Prelude.{◌≡◌, IfOk, true};
 ghost use Rattle.serde_json.specs.View.{view};
-ghost use Rattle.sdp_formats_json.specs.Shapes.{Shape, byte, half_word, word, rate, flag, tested};
-ghost use Rattle.sdp_formats_json.specs.Shapes.{or_refused};
+ghost use Rattle.sdp_formats_json.specs.Shapes.{Shape, byte, half_word, word, rate, flag};
 ghost use Rattle.sdp_formats_json.specs.declared.error.JsonError.TheVariants.{Unfit};
 
 use crate::error::{Field, JsonError};

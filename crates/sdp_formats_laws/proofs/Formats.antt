@@ -3,30 +3,29 @@ use Rattle.std.proofs.Common.{◌≡◌, ℕ, Bool, true, false, ◌||◌, List,
 use Rattle.std.proofs.Common.{Option, Some, None}
 use Rattle.std.specs.Prelude.{fold}
 use Rattle.std.specs.List.{flat_map, list_any}
-use Rattle.std.specs.Option.{option_map}
+use Rattle.std.specs.Option.{option_map, option_to_list}
 use Rattle.payload_core_base.specs.declared.codec.Codec.TheVariants as codec
 use Rattle.sdp_formats_params.specs.declared.param.FormatParam.{FormatParam}
 use Rattle.sdp_formats_params.specs.declared.param.FormatParam.TheVariants as param
 use Rattle.sdp_formats_format.specs.Formats.{no_format}
 use Rattle.sdp_formats_format.specs.declared.format.FormatParams.{FormatParams}
-use Rattle.sdp_formats_format.specs.Parameters.{all_params, given_param, listed_param, params_of}
+use Rattle.sdp_formats_format.specs.Parameters.{each_param, params_of}
 use Rattle.sdp_formats_section_rows.specs.Given.{is_unsupported, with_param}
 use Rattle.sdp_formats_section_rows.specs.SectionRows.{names}
 
 -- one parameter, given or not
 next : {V : Type 0} (b : Option V → FormatParams) (c : V → FormatParam)
     → ((v : V) → with_param (b None) (c v) ≡ b (Some v)) → (o : Option V) (rest : List FormatParam)
-    → fold with_param (b None) (listed_param (option_map c o) ++ rest) ≡ fold with_param (b o) rest
+    → fold with_param (b None) (option_to_list (option_map c o) ++ rest) ≡ fold with_param (b o) rest
 next b c h None rest = refl
 next b c h (Some v) rest = ap (λ f. fold with_param f rest) (h v)
 
 -- the parameters behind the first n
 abbrev left_of : FormatParams → ℕ → List FormatParam
-left_of f n = flat_map (given_param f) (drop n all_params)
+left_of f n = flat_map option_to_list (drop n (each_param f))
 
 -- the parameters of a format give it, but for telephone events
 pub params_back : (f : FormatParams) → fold with_param no_format (params_of f) ≡ record f { telephone_event_max = None }
-unfolding given_param
 params_back f =
     let g1 : FormatParams = record no_format { min_p_time = f.min_p_time } in
     let g2 : FormatParams = record g1 { stereo = f.stereo } in
@@ -78,12 +77,11 @@ is_other _ = false
 
 none_more : {V : Type 0} (c : V → FormatParam) → ((v : V) → is_other (c v) ≡ false) → (o : Option V)
     (rest : List FormatParam) → list_any is_other rest ≡ false
-    → list_any is_other (listed_param (option_map c o) ++ rest) ≡ false
+    → list_any is_other (option_to_list (option_map c o) ++ rest) ≡ false
 none_more c h None rest e = e
 none_more c h (Some v) rest e = ap (λ b. b || list_any is_other rest) (h v) ∙ e
 
 pub none_other : (f : FormatParams) → list_any is_other (params_of f) ≡ false
-unfolding given_param
 none_other f =
     let e17 : list_any is_other (left_of f 17) ≡ false =
     none_more param.ModeSet (λ v. refl) f.mode_set (left_of f 18) refl in

@@ -3,7 +3,7 @@ use Rattle.std.proofs.Common.{◌≡◌, ◌<◌, ◌≤◌, ◌^◌, ◌+◌, �
 use Rattle.std.proofs.Common.{refl, sym, ◌∙◌}
 use Rattle.std.proofs.Common.{subst, arith, ⊎_elim, lit≤, take, drop}
 use Rattle.std.specs.List.{flat_map}
-use Rattle.std.specs.Option.{option_map}
+use Rattle.std.specs.Option.{option_map, option_to_list}
 use Rattle.std.proofs.lemmas.Grind.{flat_map-append}
 use Rattle.h26x_payload_profiles.specs.H265ProfileTierLevel.{ComesBack as ComesBack265}
 use Rattle.h26x_payload_profiles.specs.H266ProfileTierLevel.{ComesBack as ComesBack266}
@@ -18,7 +18,7 @@ use Rattle.sdp_formats_media_lines.specs.PrintedPairs.{PairsComeBack}
 use Rattle.sdp_formats_params.specs.declared.param.FormatParam.{FormatParam}
 use Rattle.sdp_formats_params.specs.declared.param.FormatParam.TheVariants as param
 use Rattle.sdp_formats_format.specs.declared.format.FormatParams.{FormatParams}
-use Rattle.sdp_formats_format.specs.Parameters.{all_params, given_param, listed_param, params_of}
+use Rattle.sdp_formats_format.specs.Parameters.{each_param, params_of}
 use Rattle.sdp_formats_laws.proofs.KeyedLists.{keyed_on_line, keyed_read}
 use Rattle.sdp_formats_laws.proofs.LevelLists.{IsRising, level_back, weaker}
 use Rattle.sdp_formats_laws.proofs.KeyRanks.{rank_of}
@@ -42,14 +42,14 @@ any_flag (Some v) = tt
 
 -- one parameter more, given or not
 keyed_more : {V : Type 0} (c : V → FormatParam) (P : V → Type 0) → ((v : V) → P v → IsKeyed (c v)) → (o : Option V)
-    (rest : List FormatParam) → IfSome o P → AreKeyed rest → AreKeyed (listed_param (option_map c o) ++ rest)
+    (rest : List FormatParam) → IfSome o P → AreKeyed rest → AreKeyed (option_to_list (option_map c o) ++ rest)
 keyed_more c P h None rest k r = r
 keyed_more c P h (Some v) rest k r = (h v k, r)
 
 rising_more : {V : Type 0} (low more high : ℕ) (c : V → FormatParam) (P : V → Type 0)
     → ((v : V) → P v → IsOrdinary (c v)) → ((v : V) → P v → rank_of (c v) ≡ more) → low ≤ more → (o : Option V)
     (rest : List FormatParam) → IfSome o P → IsRising (more + 1) high rest
-    → IsRising low high (listed_param (option_map c o) ++ rest)
+    → IsRising low high (option_to_list (option_map c o) ++ rest)
 rising_more low more high c P h r l None rest k up = weaker low (more + 1) high rest (omega (l, arith)) up
 rising_more low more high c P h r l (Some v) rest k up = (
   h v k,
@@ -59,11 +59,10 @@ rising_more low more high c P h r l (Some v) rest k up = (
 
 -- the parameters from a place on, so many
 abbrev pub given : FormatParams → ℕ → ℕ → List FormatParam
-given f i n = flat_map (given_param f) (take n (drop i all_params))
+given f i n = flat_map option_to_list (take n (drop i (each_param f)))
 
 all_keyed : (f : FormatParams) → IsInRange f → f.h265_profile_tier_level ≡ None → f.h266_profile_tier_level ≡ None
     → f.telephone_event_max ≡ None → AreKeyed (params_of f)
-unfolding given_param
 all_keyed f h five six none =
     let k17 : AreKeyed (given f 17 1) =
     keyed_more param.ModeSet IsModes (λ v k. k) f.mode_set (given f 18 0) h.9 tt in
@@ -108,7 +107,6 @@ all_keyed f h five six none =
     keyed_more param.MinPTime (λ v. v < 2 ^ 8) (λ v k. k) f.min_p_time (given f 1 17) h.0 k1
 
 front_rising : (f : FormatParams) → IsInRange f → f.profile_id ≡ None → IsRising 1 13 (given f 0 12)
-unfolding given_param
 front_rising f h none =
     let r11 : IsRising 12 13 (given f 11 1) =
     rising_more 12 12 13 param.Tier (λ v. v < 2 ^ 8) (λ v k. k) (λ v k. refl) (lit≤ tt) f.tier (given f 18 0) h.6
@@ -147,7 +145,6 @@ front_rising f h none =
     (given f 1 11) h.0 r1
 
 back_rising : (f : FormatParams) → IsInRange f → f.telephone_event_max ≡ None → IsRising 16 20 (given f 14 4)
-unfolding given_param
 back_rising f h none =
     let r3 : IsRising 19 20 (given f 17 1) =
     rising_more 19 19 20 param.ModeSet IsModes (λ v k. k) (λ v k. refl) (lit≤ tt) f.mode_set (given f 18 0) h.9
@@ -167,12 +164,11 @@ keyed_back back (p ∷ ps) h = (keyed_on_line p ps h, keyed_read back p ps h)
 
 by_levels : (f : FormatParams) (a : Option Level265) (b : Option Level266) → f.h265_profile_tier_level ≡ a
     → f.h266_profile_tier_level ≡ b → params_of f ≡ given f 0 12
-    ++ (listed_param (option_map param.H265ProfileTierLevel a)
-    ++ (listed_param (option_map param.H266ProfileTierLevel b) ++ given f 14 4))
-unfolding given_param
-by_levels f a b five six = flat_map-append (given_param f) (take 12 all_params) (drop 12 all_params)
-    ∙ (λ i. given f 0 12 ++ (listed_param (option_map param.H265ProfileTierLevel (five i))
-    ++ (listed_param (option_map param.H266ProfileTierLevel (six i)) ++ given f 14 4)))
+    ++ (option_to_list (option_map param.H265ProfileTierLevel a)
+    ++ (option_to_list (option_map param.H266ProfileTierLevel b) ++ given f 14 4))
+by_levels f a b five six = flat_map-append option_to_list (take 12 (each_param f)) (drop 12 (each_param f))
+    ∙ (λ i. given f 0 12 ++ (option_to_list (option_map param.H265ProfileTierLevel (five i))
+    ++ (option_to_list (option_map param.H266ProfileTierLevel (six i)) ++ given f 14 4)))
 
 with_levels : PairsComeBack → ComesBack265 → ComesBack266 → (f : FormatParams) (a : Option Level265)
     (b : Option Level266) → f.h265_profile_tier_level ≡ a → f.h266_profile_tier_level ≡ b → IsInRange f

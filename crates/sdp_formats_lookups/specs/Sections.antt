@@ -1,5 +1,5 @@
 -- What the attributes of a section say.
-use Rattle.std.specs.Prelude.{ℕ, Bool, true, false, List, [], ◌∷◌, fold, map, Option, Some, None}
+use Rattle.std.specs.Prelude.{ℕ, Bool, true, false, List, [], ◌∷◌, map, Option, Some, None}
 use Rattle.std.specs.Borrow.{Bor}
 use Rattle.rtp_wire.specs.Name.{name_of}
 use Rattle.rtp_wire.specs.declared.Extension.{Extension}
@@ -29,14 +29,6 @@ fingerprint_in _ = None
 unfoldable pub simulcast_in : MediaAttribute → Option (simulcast.Simulcast)
 simulcast_in (a.Simulcast value) = Some value
 simulcast_in _ = None
-
--- What the last attribute says that says it: each that does replaces what was said before.
-abbrev pub replaced : {A : Type 0} → Option A → Option A → Option A
-replaced before None = before
-replaced before (Some a) = Some a
-
-abbrev pub last_of : {A : Type 0} → (MediaAttribute → Option A) → List MediaAttribute → Option A
-last_of f attrs = fold (λ before a. replaced before (f a)) None attrs
 
 unfoldable pub max_message_size_in : MediaAttribute → Option (ℕ)
 max_message_size_in (a.MaxMessageSize value) = Some value

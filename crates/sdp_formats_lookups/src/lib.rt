@@ -6,7 +6,6 @@ mod candidates;
 pub mod directions;
 pub mod from_text;
 pub mod infos;
-pub mod keys;
 mod known;
 pub mod lists;
 pub mod preference;

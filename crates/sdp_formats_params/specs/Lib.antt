@@ -2,3 +2,4 @@ pub mod Numbers
 pub mod Keys
 pub mod Params
 pub mod Printed
+pub mod Hashed

@@ -1,5 +1,8 @@
 //! How the keys of one line are hashed.
 
+ghost use Rattle.std.specs.Prelude.{◌≡◌};
+ghost use Rattle.sdp_formats_params.specs.Hashed.{with_keys};
+
 use crate::pairs::Pair;
 use std::hash::{BuildHasher, DefaultHasher, Hasher};
 
@@ -10,7 +13,9 @@ pub(crate) struct LineHasher(DefaultHasher);
 
 impl LineHasher {
     /// For the keys of these pairs.
-    pub(crate) fn of(pairs: &[Pair]) -> LineHasher {
+    pub(crate) fn of(pairs: &[Pair]) -> LineHasher
+        ensures { result.0 ≡ with_keys pairs.now }
+    {
         let mut hasher = DefaultHasher::new();
         for pair in pairs {
             hasher.write(pair.key.as_str().as_bytes());

@@ -1,10 +1,10 @@
 //! The rows that meet a row of the other end.
 
-ghost use Rattle.std.specs.Prelude.{◌≡◌, [], OnOk, IfErr, Ok, Err};
+ghost use Rattle.std.specs.Prelude.{◌≡◌, OnOk, IfErr, Ok, Err};
 ghost use Rattle.payload_core_base.specs.declared.codec.Codec.TheVariants.{AmrWb};
 ghost use Rattle.sdp_formats_rows.specs.Codecs.{is_codec};
-ghost use Rattle.sdp_formats_round.specs.Rounds.{fallback, instead_of, agreed_type, agreed_resend, agreed_red};
-ghost use Rattle.sdp_formats_round.specs.Rounds.{locked_as, matched_row, matched_if, best_open, first_above};
+ghost use Rattle.sdp_formats_round.specs.Rounds.{fallback, agreed_type, agreed_resend, agreed_red};
+ghost use Rattle.sdp_formats_round.specs.Rounds.{locked_as, matched_row, best_open, first_above};
 ghost use Rattle.sdp_formats_round.specs.Rounds.{open_best, restated, agreed_row, agreed_rows};
 
 use crate::best::{best_row, better};

@@ -1,6 +1,6 @@
 //! The rows that are left unlocked.
 
-ghost use Rattle.std.specs.Prelude.{◌≡◌, [], OnOk, IfErr, Ok, Err};
+ghost use Rattle.std.specs.Prelude.{◌≡◌, OnOk, IfErr, Ok, Err};
 ghost use Rattle.sdp_formats_round.specs.Rounds.{moved_type, moved_resend, moved_red, moved_row, settled_row};
 ghost use Rattle.sdp_formats_round.specs.Rounds.{settled_rows};
 

@@ -1,7 +1,7 @@
 //! The rows that are locked as a round begins.
 
-ghost use Rattle.std.specs.Prelude.{◌≡◌, [], OnOk, IfErr, Ok, Err};
-ghost use Rattle.sdp_formats_round.specs.Rounds.{unless_claimed, unclaimed, unclaimed_if_given, standing_types};
+ghost use Rattle.std.specs.Prelude.{◌≡◌, OnOk, IfErr, Ok, Err};
+ghost use Rattle.sdp_formats_round.specs.Rounds.{unclaimed, unclaimed_if_given, standing_types};
 ghost use Rattle.sdp_formats_round.specs.Rounds.{standing_row, standing_rows};
 
 use crate::claims::{Own, Role, given, none_given, number_of, taken, tested};

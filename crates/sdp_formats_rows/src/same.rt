@@ -1,7 +1,6 @@
 //! Whether what two formats give is the same.
 
 ghost use Rattle.std.specs.Prelude.{◌≡◌};
-ghost use Rattle.std.specs.Option.{option_map};
 ghost use Rattle.sdp_formats_rows.specs.Same.{alike, same, same_flag, same_format, same_h264, same_levels};
 ghost use Rattle.sdp_formats_rows.specs.Same.{same_numbers, same_opus, same_speech, same_video};
 

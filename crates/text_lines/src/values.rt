@@ -2,7 +2,6 @@
 
 use crate::dashes::{OrDash, or_dash};
 use sdp_formats::from_text::{FingerprintError, fingerprint_from_str};
-use sdp_formats::keys::{fingerprint_key, is_same_fingerprint};
 use sdp_formats::preference::hash_preference;
 use sdp_formats::{
     Fingerprint, FormatParams, Joined, Refusal, candidate_of, fingerprint_of, setup_of,
@@ -10,6 +9,7 @@ use sdp_formats::{
 };
 use std::alloc::{AllocError, Global};
 use std::fmt::Write;
+use std::hash::{DefaultHasher, Hash, Hasher};
 
 /// `candidate TEXT`: the candidate that stands behind `candidate:`, printed, and what its accessors answer.
 pub(crate) fn put_candidate(
@@ -52,14 +52,20 @@ pub(crate) fn put_fingerprint(
     }
 }
 
+fn hash_of(print: &Fingerprint) -> u64 {
+    let mut hasher = DefaultHasher::new();
+    print.hash(&mut hasher);
+    hasher.finish()
+}
+
 fn put_sameness(
     print: &Fingerprint,
     other: &Fingerprint,
     reply: &mut String,
 ) -> Result<(), AllocError> {
-    let same = is_same_fingerprint(print, other);
-    let alike = fingerprint_key(print) == fingerprint_key(other);
-    write!(reply, "the same as of a line {same}, by its key {alike}")
+    let same = print == other;
+    let alike = hash_of(print) == hash_of(other);
+    write!(reply, "the same as of a line {same}, by its hash {alike}")
 }
 
 /// `setup WORD WORD`: an end's choice, the same as seen from the other end, and what it is towards the other's choice.

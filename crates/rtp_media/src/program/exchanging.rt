@@ -1,12 +1,10 @@
 //! The commands that make ends and exchange texts.
 
-ghost use Rattle.std.specs.Prelude.{◌≡◌, [], ◌∷◌, None, Some, IfOk, IfSome, IfNone, true, false};
+ghost use Rattle.std.specs.Prelude.{◌≡◌, None, Some, IfOk, IfSome, IfNone, true, false};
 ghost use Rattle.std.specs.Str.{is_utf8};
-ghost use Rattle.sdp_formats_format.specs.Formats.{no_format};
-ghost use Rattle.rtp_media.specs.Exchanging.{Prints, WithText, wanted_of, wanted_in, drafted_row, format_for};
-ghost use Rattle.rtp_media.specs.Exchanging.{AnswersRow, AnswersExt, AnswersEnd, AnswersOffer, AnswersAnswer};
-ghost use Rattle.rtp_media.specs.Exchanging.{AnswersAccept, AnswersWithdraw, AnswersConnect, refusal_of_draft};
-ghost use Rattle.rtp_media.specs.Exchanging.{empty_draft};
+ghost use Rattle.rtp_media.specs.Exchanging.{WithText, wanted_of, wanted_in, drafted_row, format_for};
+ghost use Rattle.rtp_media.specs.Exchanging.{AnswersRow, AnswersExt, AnswersOffer, AnswersAnswer};
+ghost use Rattle.rtp_media.specs.Exchanging.{AnswersAccept, AnswersWithdraw};
 ghost use Rattle.rtp_media.specs.ProgramState.{AnswersAt, ConnectsEnds};
 ghost use Rattle.rtp_media_lines.specs.declared.line.Command.TheVariants as command_is;
 

@@ -1,7 +1,7 @@
 //! The commands of whole runs.
 
-ghost use Rattle.std.specs.Prelude.{◌≡◌, ◌≢◌, [], ◌∷◌, ◌++◌, true, map, IfOk, OnOk, IfErr};
-ghost use Rattle.rtp_media_ends.specs.Ends.{is_receiver_at, is_sender_at, sender_at};
+ghost use Rattle.std.specs.Prelude.{◌≡◌, [], ◌∷◌, ◌++◌, true, map, IfOk, OnOk};
+ghost use Rattle.rtp_media_ends.specs.Ends.{is_receiver_at, is_sender_at};
 ghost use Rattle.rtp_media.specs.Exchanging.{Prints};
 ghost use Rattle.rtp_media.specs.Playing.{AnswersPlay, PlaysEnds, event_of, played_reply, sample_at, samples_for};
 

@@ -1,7 +1,7 @@
 //! Datagrams that come, and the units that are ready.
 
 ghost use Rattle.std.specs.Prelude.{◌≡◌, ◌≢◌, ◌<◌, ℕ, length, true, Ok, Err, OnOk, OnErr, IfOk, IfErr, IfSome};
-ghost use Rattle.std.specs.Prelude.{IfNone, OnSome, false, [], ◌≤◌};
+ghost use Rattle.std.specs.Prelude.{IfNone, OnSome, [], ◌≤◌};
 ghost use Rattle.std.specs.Option.{ForSome};
 ghost use Rattle.payload_core_buffer.specs.Frames.{complete_frames};
 ghost use Rattle.rtp_media_streams.specs.Drains.{drain_answer, drained_receiver, holding};
@@ -12,7 +12,7 @@ ghost use Rattle.rtp_media_schedules.specs.Hearing.{poll_answer};
 ghost use Rattle.rtp_wire.specs.declared.ExtensionValues.{ExtensionValues};
 ghost use Rattle.rtp_media_ends.specs.Arrivals.{Own, NoPayload, own_of, stream_for, verdict_for, after_arrival};
 ghost use Rattle.rtp_media_ends.specs.Arrivals.{arrival_by, verdict_of, after_datagram};
-ghost use Rattle.rtp_media_ends.specs.Ends.{receiver_at, with_receiver, is_receiver_at, is_sending, nth_stream};
+ghost use Rattle.rtp_media_ends.specs.Ends.{receiver_at, with_receiver, is_receiver_at};
 
 use super::End;
 use crate::errors::ReceiveError;

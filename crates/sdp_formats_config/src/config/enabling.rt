@@ -1,6 +1,6 @@
 //! The default rows of a codec enabled and disabled.
 
-ghost use Rattle.std.specs.Prelude.{◌≡◌, ◌≤◌, [], ◌∷◌, ◌++◌, true, false, IsOk, OnOk, OnErr, vec_len};
+ghost use Rattle.std.specs.Prelude.{◌≡◌, ◌≤◌, [], ◌∷◌, ◌++◌, false, IsOk, OnOk, OnErr, vec_len};
 ghost use Rattle.std.specs.Prelude.{vec_capacity};
 ghost use Rattle.payload_core_base.specs.declared.codec.Codec.TheVariants.{Opus, PCMU, PCMA, G722, CN, AmrWb, Vp8};
 ghost use Rattle.payload_core_base.specs.declared.codec.Codec.TheVariants.{Vp9, Av1, H264, H265, H266};
