@@ -26,8 +26,8 @@ pub use rtp_wire::{Direction, Extension, Frequency, Mid, Pt, Rid, SessionId, Ssr
 pub use sdp_formats_config::{CodecConfig, RemoteSection};
 pub use sdp_formats_forms::{FingerprintFmt, Joined, Maybe, Refusal};
 pub use sdp_formats_lookups::{
-    directions, from_text, is_no_stream, lists, preference, section, session, sources_of, ssrc_info,
-    whole,
+    directions, from_text, is_no_stream, lists, preference, section, session, sources_of,
+    ssrc_info, whole,
 };
 pub use sdp_formats_predicates::same::Same;
 pub use sdp_formats_predicates::{

@@ -17,15 +17,18 @@ pub(crate) fn each_param(f: &FormatParams) -> [Option<FormatParam>; 18]
         f.sprop_stereo.map(FormatParam::SpropStereo),
         f.use_inband_fec.map(FormatParam::UseInbandFec),
         f.use_dtx.map(FormatParam::UseDtx),
-        f.level_asymmetry_allowed.map(FormatParam::LevelAsymmetryAllowed),
+        f.level_asymmetry_allowed
+            .map(FormatParam::LevelAsymmetryAllowed),
         f.packetization_mode.map(FormatParam::PacketizationMode),
         f.profile_level_id.map(FormatParam::ProfileLevelId),
         f.profile_id.map(FormatParam::ProfileId),
         f.profile.map(FormatParam::Profile),
         f.level_idx.map(FormatParam::LevelIdx),
         f.tier.map(FormatParam::Tier),
-        f.h265_profile_tier_level.map(FormatParam::H265ProfileTierLevel),
-        f.h266_profile_tier_level.map(FormatParam::H266ProfileTierLevel),
+        f.h265_profile_tier_level
+            .map(FormatParam::H265ProfileTierLevel),
+        f.h266_profile_tier_level
+            .map(FormatParam::H266ProfileTierLevel),
         f.sprop_max_don_diff.map(FormatParam::SpropMaxDonDiff),
         f.telephone_event_max.map(FormatParam::TelephoneEvents),
         f.octet_align.map(FormatParam::OctetAlign),

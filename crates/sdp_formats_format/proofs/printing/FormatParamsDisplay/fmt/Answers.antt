@@ -25,7 +25,7 @@ loop-param-preserved g c = λ plain.
     let below : at < length all = omega (c.loop-param-test.true, c.type_inv.param-items, arith) in
     let here = from_here all at c.param-item.result below c.param-item.is in
     elim c.match-param.branch [
-      in-Some+in_ok-write w ↦
+      | in-Some+in_ok-write w ↦
           let now : List ℕ = i.0 ++ part_text c.loop-param.is_first (param_text w.in-Some.given) in (
             now,
             subst (λ f. HasWritten g.W.Write.write_str_gives c.args.f.now now f) (sym w.f-is)
@@ -34,7 +34,7 @@ loop-param-preserved g c = λ plain.
                 (part_written w.in-Some.given (drop at all) rest i.0 _ c.loop-param.is_first
                 (here ∙ ap (λ (p : Option FormatParam). p ∷ rest) (c.param-item.is ∙ w.in-Some.is)) i.2),
           )
-    | in_default w ↦ (
+      | in_default w ↦ (
         i.0,
         subst (λ f. HasWritten g.W.Write.write_str_gives c.args.f.now i.0 f) (sym w.f-is) i.1,
         subst (λ first. format_text c.args.self.now ≡ i.0 ++ texts_left first (texts_of rest)) (sym w.is_first-is)
