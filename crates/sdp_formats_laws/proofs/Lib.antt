@@ -42,6 +42,9 @@ pub mod Back
 pub mod WholeRows
 pub mod RowsSame
 pub mod RowLines
+pub mod MappedOnce
+pub mod OneOriginal
+pub mod Faultless
 pub mod RowTexts
 pub mod WritableTexts
 pub mod SaysSame

@@ -47,7 +47,7 @@ line_links role pt row f = at (is_used row f)
 abbrev pub NamesNone : Codec → Type 0
 NamesNone role = (pt : ℕ) (p : FormatParam) → is_other p ≡ false → names role pt p ≡ false
 
-params_other : (spec : CodecSpec) → list_any is_other (params_in spec) ≡ false
+pub params_other : (spec : CodecSpec) → list_any is_other (params_in spec) ≡ false
 params_other spec = at (is_tele_codec spec.codec) refl
   where
     at : (b : Bool) → is_tele_codec spec.codec ≡ b → list_any is_other (params_in spec) ≡ false

@@ -2,9 +2,9 @@
 use Rattle.std.proofs.Common.{◌≡◌, ℕ, Bool, true, false, not, ◌&&◌, ◌||◌, ◌==◌, List, [], ◌∷◌, ◌++◌, refl, sym, ◌∙◌, ap}
 use Rattle.std.proofs.Common.{arith}
 use Rattle.std.specs.Prelude.{fold}
-use Rattle.std.specs.List.{flat_map, list_any}
+use Rattle.std.specs.List.{flat_map, list_all, list_any}
 use Rattle.std.proofs.lemmas.Grind.{common_steps}
-use Rattle.std.proofs.lemmas.List.Folds.{list_any-append}
+use Rattle.std.proofs.lemmas.List.Folds.{list_all-append, list_any-append}
 use Rattle.sdp_formats_round.specs.Laws.{is_among, is_distinct}
 
 pub neither : (a b : Bool) → (a || b) ≡ false → (a ≡ false) × (b ≡ false)
@@ -67,3 +67,24 @@ split_distinct (x ∷ xs) t ys e =
 
 pub or_same : (b c : Bool) → c ≡ false → (b || c) ≡ b
 or_same b c e = ap (λ d. b || d) e ∙ or_none b
+
+-- what holds of all that none of the others is
+pub all_past : {A : Type 0} (p q : A → Bool) → ((a : A) → p a ≡ false → q a ≡ true) → (xs : List A)
+    → list_any p xs ≡ false → list_all q xs ≡ true
+all_past p q h [] e = refl
+all_past p q h (x ∷ xs) e =
+    let s = neither (p x) (list_any p xs) e in
+    ap (λ b. b && list_all q xs) (h x s.0) ∙ all_past p q h xs s.1
+
+pub all_append : {A : Type 0} (p : A → Bool) (xs ys : List A) → list_all p xs ≡ true → list_all p ys ≡ true
+    → list_all p (xs ++ ys) ≡ true
+all_append p xs ys e f = list_all-append p xs ys ∙ ap (λ b. b && list_all p ys) e ∙ f
+
+pub all_flat : {X A : Type 0} (p : A → Bool) (g : X → List A) → ((x : X) → list_all p (g x) ≡ true) → (xs : List X)
+    → list_all p (flat_map g xs) ≡ true
+all_flat p g h [] = refl
+all_flat p g h (x ∷ xs) = all_append p (g x) (flat_map g xs) (h x) (all_flat p g h xs)
+
+pub or_yes : (b : Bool) → (b || true) ≡ true
+or_yes true = refl
+or_yes false = refl

@@ -23,7 +23,7 @@ use Rattle.sdp_formats_types.specs.declared.media.MediaAttribute.{MediaAttribute
 use Rattle.sdp_formats_types.specs.declared.media.MediaAttribute.TheVariants as attribute
 use Rattle.sdp_formats_types.specs.declared.media.RtpMap.{RtpMap}
 use Rattle.sdp_formats_laws.specs.RowsBack.{attributes_in, names_type, types_in}
-use Rattle.sdp_formats_laws.proofs.Lists.{neither}
+use Rattle.sdp_formats_laws.proofs.Lists.{neither, or_yes}
 use Rattle.sdp_formats_laws.proofs.Silent.{attributes_split}
 
 -- the lines `a=rtpmap` of a row
@@ -145,10 +145,6 @@ rows_have (row ∷ rows) t =
 
 pub same_number : (t : ℕ) → (t == t) ≡ true
 same_number t = grind (arith, common_steps)
-
-or_yes : (b : Bool) → (b || true) ≡ true
-or_yes true = refl
-or_yes false = refl
 
 one : (lines : List MediaAttribute) (t : ℕ) → is_mapped (mappings_in lines) t ≡ true
     → with_static (mappings_in lines) t ≡ mappings_in lines

@@ -4,8 +4,9 @@ use Rattle.sdp_formats_laws.specs.PrintableTexts.{IsEach, IsPrintableSection, Is
 use Rattle.sdp_formats_laws.specs.ReadTexts.{section_as_read, text_as_read}
 use Rattle.sdp_formats_reader.specs.Grammar.{SdpSays}
 use Rattle.sdp_formats_laws.specs.RowsBack.{PlainRowsComeBack, unlocked}
-use Rattle.sdp_formats_laws.specs.Rows.{EachListsRows, ListsRows, ReadRowsAreRows, RowTextsComeBack}
-use Rattle.sdp_formats_laws.specs.Rows.{RowsArePrintable, section_rows}
+use Rattle.sdp_formats_laws.specs.Rows.{EachListsRows, ListedRowsHaveNoFault, ListsRows, ReadRowsAreRows}
+use Rattle.sdp_formats_laws.specs.Rows.{RowTextsComeBack, RowsArePrintable, section_rows}
+use Rattle.sdp_formats_laws.proofs.Faultless.{none_at_fault}
 use Rattle.sdp_formats_rows.specs.Rows.{Row}
 use Rattle.sdp_formats_section_rows.specs.SectionRows.{rows_of}
 use Rattle.sdp_formats_types.specs.PrintedSession.{sdp_text}
@@ -36,8 +37,9 @@ sections_print print (m ∷ ms) [] h = absurd h
 abbrev pub TextsComeBack : Type 0
 TextsComeBack = (sdp : Sdp) → IsPrintableText sdp → SdpSays (sdp_text sdp) (text_as_read sdp) []
 
-pub texts_back : TextsComeBack → PlainRowsComeBack → RowsArePrintable → ReadRowsAreRows → RowTextsComeBack
-texts_back texts come print read sdp lists session each consistent = (
-  texts sdp (session, sections_print print sdp.media_lines lists each, consistent),
+pub texts_back : TextsComeBack → PlainRowsComeBack → RowsArePrintable → ListedRowsHaveNoFault → ReadRowsAreRows
+    → RowTextsComeBack
+texts_back texts come print fine read sdp lists session each one = (
+  texts sdp (session, sections_print print sdp.media_lines lists each, none_at_fault fine sdp.media_lines lists each one),
   sections_back come read sdp.media_lines lists each,
 )

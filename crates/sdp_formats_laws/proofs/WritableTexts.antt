@@ -28,7 +28,8 @@ use Rattle.sdp_formats_laws.proofs.Sections.{no_bandwidth}
 use Rattle.sdp_formats_laws.proofs.Stopping.{first, joined_behind}
 use Rattle.sdp_formats_laws.proofs.WholeTexts.{session_reads, text_reads}
 use Rattle.sdp_formats_laws.specs.LineEnds.{is_ended}
-use Rattle.sdp_formats_laws.specs.Rows.{AllComeBack, ReadRowsAreRows, RowsArePrintable}
+use Rattle.sdp_formats_laws.proofs.Faultless.{none_at_fault}
+use Rattle.sdp_formats_laws.specs.Rows.{AllComeBack, ListedRowsHaveNoFault, ReadRowsAreRows, RowsArePrintable}
 use Rattle.sdp_formats_laws.specs.Rows.{WritableRowTextsComeBack}
 use Rattle.sdp_formats_laws.specs.RowsBack.{PlainRowsComeBack}
 
@@ -110,8 +111,8 @@ bandwidth_reads (Some b) h t other =
     )
 
 pub writable_texts_back : RestrictionsComeBack → IsExact media_attribute_line → PlainRowsComeBack → RowsArePrintable
-    → ReadRowsAreRows → WritableRowTextsComeBack
-writable_texts_back back media_exact come print read sdp lists id writable each consistent =
+    → ListedRowsHaveNoFault → ReadRowsAreRows → WritableRowTextsComeBack
+writable_texts_back back media_exact come print fine read sdp lists id writable each one =
     let attrs = attributes_read sdp.session.attrs writable.1 (sections_text sdp.media_lines) in
     let begins = subst (λ t. Begins (LineOf attribute_line.Says) (t ++ sections_text sdp.media_lines) attrs.0
     (sections_text sdp.media_lines)) (sym (joined_behind (map attribute_text sdp.session.attrs))) attrs.1 in (
@@ -119,7 +120,7 @@ writable_texts_back back media_exact come print read sdp lists id writable each 
       text_reads back media_exact sdp (record sdp.session { attrs = attrs.0 })
           (λ tail. session_reads sdp.session attrs.0 (sections_text sdp.media_lines) id
           (bandwidth_reads sdp.session.bw writable.0) begins tail)
-          (sections_print print sdp.media_lines lists each) consistent,
+          (sections_print print sdp.media_lines lists each) (none_at_fault fine sdp.media_lines lists each one),
       attrs.2,
       sections_back come read sdp.media_lines lists each,
     )

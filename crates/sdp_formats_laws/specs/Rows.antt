@@ -1,6 +1,6 @@
 -- What holds of whole texts whose sections list plain rows.
-use Rattle.std.specs.Prelude.{◌≡◌, ◌≢◌, ◌<◌, ◌^◌, Bool, true, false, IsTrue, List, [], ◌∷◌, ◌++◌, map, filter, IfSome}
-use Rattle.std.specs.List.{flat_map, list_all, list_any}
+use Rattle.std.specs.Prelude.{◌≡◌, ◌≢◌, ◌<◌, ◌≤◌, ◌^◌, Bool, true, false, IsTrue, List, [], ◌∷◌, ◌++◌, map, filter, IfSome}
+use Rattle.std.specs.List.{count_by, flat_map, list_all, list_any}
 use Rattle.sdp_formats_laws.specs.Printable.{IsPrintable}
 use Rattle.sdp_formats_laws.specs.PrintableTexts.{IsEach, IsPrintableBandwidth, IsPrintableSection, IsPrintableSession}
 use Rattle.sdp_formats_laws.specs.ReadTexts.{section_as_read, text_as_read, text_read}
@@ -11,9 +11,10 @@ use Rattle.sdp_formats_laws.specs.RowsBack.{attributes_in, names_type, types_in,
 use Rattle.sdp_formats_rows.specs.Plain.{is_plain}
 use Rattle.sdp_formats_rows.specs.Rows.{Row}
 use Rattle.sdp_formats_section_rows.specs.SectionRows.{rows_of}
-use Rattle.sdp_formats_predicates.specs.Consistency.{is_consistent}
+use Rattle.sdp_formats_predicates.specs.Consistency.{is_consistent, is_direction_of, is_setup}
 use Rattle.sdp_formats_predicates.specs.Writable.{ComesBack, IsWritableSession}
 use Rattle.sdp_formats_types.specs.Lookups.{direction_of, first_of, mid_in, msid_in, setup_in}
+use Rattle.sdp_formats_types.specs.Media.{is_mid, is_rtp}
 use Rattle.sdp_formats_types.specs.PrintedSession.{sdp_text}
 use Rattle.sdp_formats_types.specs.declared.media.MediaAttribute.{MediaAttribute}
 use Rattle.sdp_formats_types.specs.declared.media.MediaAttribute.TheVariants.{Fmtp}
@@ -50,7 +51,18 @@ pub record ListsRows (m : MediaLine) (rows : List Row) : Type 0 where
   pub others_silent : list_any names_type others ≡ false
   pub behind_silent : list_any names_type behind ≡ false
 
--- Such a section can be printed: each attribute that lists a plain row is a printable one.
+-- A section with one name, at most one setup and, of RTP, one direction (RFC 8829 5.2).
+pub record HasOneOfEach (m : MediaLine) : Type 0 where
+  pub name : count_by is_mid m.attrs ≡ 1
+  pub setup : count_by is_setup m.attrs ≤ 1
+  pub direction : is_rtp m.proto ≡ true → count_by is_direction_of m.attrs ≡ 1
+
+-- Such a section that lists rows has no fault.
+abbrev pub ListedRowsHaveNoFault : Type 0
+ListedRowsHaveNoFault = (m : MediaLine) (rows : List Row) → ListsRows m rows → HasOneOfEach m
+    → IsTrue (is_consistent m)
+
+-- A section that lists rows can be printed: each attribute that lists a plain row is a printable one.
 abbrev pub RowsArePrintable : Type 0
 RowsArePrintable = (m : MediaLine) (rows : List Row) → ListsRows m rows → IsPrintableSection m
 
@@ -68,11 +80,11 @@ EachListsRows (m ∷ ms) (rows ∷ more) = ListsRows m rows × EachListsRows ms 
 EachListsRows [] (rows ∷ more) = ⊥
 EachListsRows (m ∷ ms) [] = ⊥
 
--- A text whose sections list plain rows and have no fault, in a printable session, is read whole; and the rows that
+-- A text whose sections list plain rows, in a printable session, is read whole; and the rows that
 -- are read of it are those rows, section by section and in their order, not locked.
 abbrev pub RowTextsComeBack : Type 0
 RowTextsComeBack = (sdp : Sdp) (rows : List (List Row)) → IsPrintableSession sdp.session
-    → EachListsRows sdp.media_lines rows → IsTrue (list_all is_consistent sdp.media_lines)
+    → EachListsRows sdp.media_lines rows → IsEach HasOneOfEach sdp.media_lines
     → SdpSays (sdp_text sdp) (text_as_read sdp) []
     × (map section_rows (text_as_read sdp).media_lines ≡ map (map unlocked) rows)
 
@@ -87,7 +99,7 @@ AllComeBack (a ∷ as') [] = ⊥
 abbrev pub WritableRowTextsComeBack : Type 0
 WritableRowTextsComeBack = (sdp : Sdp) (rows : List (List Row)) → (sdp.session.id < 2 ^ 64)
     → IsWritableSession sdp.session → EachListsRows sdp.media_lines rows
-    → IsTrue (list_all is_consistent sdp.media_lines)
+    → IsEach HasOneOfEach sdp.media_lines
     → (attrs : List SessionAttribute) × SdpSays (sdp_text sdp) (text_read sdp attrs) []
     × AllComeBack sdp.session.attrs attrs
     × (map section_rows (text_read sdp attrs).media_lines ≡ map (map unlocked) rows)

@@ -1,6 +1,7 @@
 //! Rows that are printed in a text and read of it.
 
-ghost use Rattle.sdp_formats_laws.specs.Rows.{ReadRowsAreRows, ReadSectionsSayTheSame, RowTextsComeBack};
+ghost use Rattle.sdp_formats_laws.specs.Rows.{ListedRowsHaveNoFault, ReadRowsAreRows, ReadSectionsSayTheSame};
+ghost use Rattle.sdp_formats_laws.specs.Rows.{RowTextsComeBack};
 ghost use Rattle.sdp_formats_laws.specs.Rows.{RowsArePrintable, WritableRowTextsComeBack};
 ghost use Rattle.sdp_formats_laws.specs.StaticTypes.{StaticTypesAgree};
 
@@ -18,6 +19,12 @@ pub fn row_lines_law()
     plain_parameters_law();
     links_law();
 }
+
+/// A section that lists plain rows of distinct types and has one name, at most one setup and, of RTP, one direction, has
+/// no fault: each of its types is mapped once, and each retransmits one other at most (RFC 4588 8.6).
+pub fn rows_without_fault_law()
+    ensures { ListedRowsHaveNoFault }
+{}
 
 /// The rows that a printed section is read to name are those that the section names, by any parameters.
 pub fn read_rows_law()
@@ -37,6 +44,7 @@ pub fn row_texts_law()
     printed_texts_law();
     plain_rows_come_back();
     row_lines_law();
+    rows_without_fault_law();
     read_rows_law();
 }
 
@@ -49,6 +57,7 @@ pub fn writable_row_texts_law()
     printed_pairs_law();
     plain_rows_come_back();
     row_lines_law();
+    rows_without_fault_law();
     read_rows_law();
 }
 
