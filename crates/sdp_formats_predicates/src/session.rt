@@ -3,7 +3,10 @@
 ghost use Rattle.std.specs.Prelude.{◌≡◌, ◌↔◌, IsTrue};
 
 use crate::same::Same;
-use sdp_formats_types::{Bandwidth, Candidate, Fingerprint, SessionAttribute as Attribute};
+use sdp_formats_types::{
+    Bandwidth, Candidate, CandidateKind, Fingerprint, Protocol, RelatedAddress,
+    SessionAttribute as Attribute, TcpType,
+};
 
 impl Same for Bandwidth {
     fn is_same(&self, other: &Bandwidth) -> bool {
@@ -17,9 +20,42 @@ impl Same for Fingerprint {
     }
 }
 
+impl Same for Protocol {
+    fn is_same(&self, other: &Protocol) -> bool {
+        self == other
+    }
+}
+
+impl Same for CandidateKind {
+    fn is_same(&self, other: &CandidateKind) -> bool {
+        self == other
+    }
+}
+
+impl Same for TcpType {
+    fn is_same(&self, other: &TcpType) -> bool {
+        self == other
+    }
+}
+
+impl Same for RelatedAddress {
+    fn is_same(&self, other: &RelatedAddress) -> bool {
+        self.addr.is_same(&other.addr) && self.port == other.port
+    }
+}
+
 impl Same for Candidate {
     fn is_same(&self, other: &Candidate) -> bool {
-        self == other
+        self.foundation.is_same(&other.foundation)
+            && self.component_id == other.component_id
+            && self.proto == other.proto
+            && self.prio == other.prio
+            && self.addr.is_same(&other.addr)
+            && self.port == other.port
+            && self.kind == other.kind
+            && self.related.is_same(&other.related)
+            && self.tcptype.is_same(&other.tcptype)
+            && self.ufrag.is_same(&other.ufrag)
     }
 }
 
