@@ -53,7 +53,7 @@ impl Write for Sink {
 
 /// Lines, how often they are read and whether reads fail behind them, how much is written and whether writes fail then,
 /// and what is to come of it.
-struct Run {
+pub(crate) struct Run {
     lines: &'static [u8],
     reads: usize,
     fails_to_read: bool,
@@ -63,8 +63,8 @@ struct Run {
     written: &'static [u8],
 }
 
-/// A read or a write that fails, or a write that takes nothing.
-const FAILING: [Run; 3] = [
+/// A read or a write that fails, or a write that takes nothing, ends a run; what was written before stays.
+pub(crate) static FAILING: [Run; 3] = [
     Run {
         lines: b"fixed a\nfixed b",
         reads: MANY,
@@ -94,8 +94,8 @@ const FAILING: [Run; 3] = [
     },
 ];
 
-/// Just the reads that are needed, and one less.
-const READS: [Run; 2] = [
+/// An input that takes more reads than it may ends a run as a read that fails does, and not one that takes just these.
+pub(crate) static READS: [Run; 2] = [
     Run {
         lines: b"fixed a\n",
         reads: 4,
@@ -117,37 +117,22 @@ const READS: [Run; 2] = [
 ];
 
 /// Whether what is to come of each run comes of it.
-fn all_go_so(alloc: Global, runs: &[Run]) -> bool {
+pub(crate) fn all_go_so(alloc: Global, runs: &[Run]) -> bool {
     for run in runs {
-        if !goes_so(alloc, run) {
+        let mut source = Source {
+            rest: run.lines,
+            fails: run.fails_to_read,
+        };
+        let mut sink = Sink {
+            taken: Vec::new(alloc),
+            room: run.room,
+            fails: run.fails_to_write,
+        };
+        let mut program = Program::new(alloc);
+        let result = run_within(alloc, run.reads, &mut source, &mut sink, &mut program);
+        if result != run.result || sink.taken.as_slice() != run.written {
             return false;
         }
     }
     true
-}
-
-/// Whether what is to come of a run comes of it.
-fn goes_so(alloc: Global, run: &Run) -> bool {
-    let mut source = Source {
-        rest: run.lines,
-        fails: run.fails_to_read,
-    };
-    let mut sink = Sink {
-        taken: Vec::new(alloc),
-        room: run.room,
-        fails: run.fails_to_write,
-    };
-    let mut program = Program::new(alloc);
-    let result = run_within(alloc, run.reads, &mut source, &mut sink, &mut program);
-    result == run.result && sink.taken.as_slice() == run.written
-}
-
-/// A read or a write that fails, or a write that takes nothing, ends a run; what was written before stays.
-pub(crate) fn reads_and_writes_that_fail(alloc: Global) -> bool {
-    all_go_so(alloc, &FAILING)
-}
-
-/// An input that takes more reads than it may ends a run as a read that fails does, and not one that takes just these.
-pub(crate) fn an_input_that_takes_more_reads(alloc: Global) -> bool {
-    all_go_so(alloc, &READS)
 }

@@ -15,12 +15,13 @@ mod rates;
 mod rows;
 mod samples;
 mod schedules;
+mod sent;
 mod sessions;
 mod silence;
 mod soak;
 mod stopped;
 
-use faults::{an_input_that_takes_more_reads, reads_and_writes_that_fail};
+use faults::{FAILING, READS, all_go_so};
 use proved::print_calls;
 use rows::{a_time_in_milliseconds, a_time_that_does_not_fit, receive_all_hands_out_in_order};
 use sessions::{
@@ -70,14 +71,8 @@ fn print_rows(rt: &HostRuntime) -> Result<bool, Stopped> {
             "lines that would be read otherwise",
             lines_that_would_be_read_otherwise_are_refused(alloc)?,
         ),
-        (
-            "reads and writes that fail",
-            reads_and_writes_that_fail(alloc),
-        ),
-        (
-            "an input that takes more reads",
-            an_input_that_takes_more_reads(alloc),
-        ),
+        ("reads and writes that fail", all_go_so(alloc, &FAILING)),
+        ("an input that takes more reads", all_go_so(alloc, &READS)),
     ];
     let mut all_are_right = true;
     for (name, is_right) in &rows {

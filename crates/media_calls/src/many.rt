@@ -1,6 +1,6 @@
 //! Ends with many streams, and samples of real sizes.
 
-use crate::calls::{connected, open_sender};
+use crate::calls::{Ends, open_sender};
 use crate::cases::{Case, TYPE};
 use crate::stopped::Stopped;
 use rtp_media::{Datagram, End, Received};
@@ -30,16 +30,28 @@ pub(crate) struct Times {
 
 /// Two ends whose section names the SSRCs from 1 to the number of streams: one receives the datagrams of all, the other
 /// sends those of the last.
-pub(crate) fn carry(rt: &HostRuntime, case: &Case, load: Load<'_>) -> Result<Times, Stopped> {
+pub(crate) fn carry(rt: &HostRuntime, case: &Case, load: &Load) -> Result<Times, Stopped> {
     let alloc = rt.alloc();
-    let ssrcs = (1..=load.streams).map(Ssrc::from).collect(alloc)?;
-    let (mut sender, mut receiver) = connected(alloc, case, ssrcs)?;
+    let mut ssrcs = Vec::new(alloc);
+    for ssrc in 1..=load.streams {
+        ssrcs.push(Ssrc::from(ssrc))?;
+    }
+    let mut ends = Ends::connected(alloc, case, &ssrcs)?;
+    carry_between(rt, case, load, &mut ends)
+}
+
+fn carry_between(
+    rt: &HostRuntime,
+    case: &Case,
+    load: &Load,
+    ends: &mut Ends,
+) -> Result<Times, Stopped> {
     let start = Instant::now(rt)?;
-    open_all(&mut receiver, load.streams)?;
+    open_all(&mut ends.b, load.streams)?;
     let opened = start.elapsed(rt)?;
-    let datagrams = datagrams_of(alloc, case, &mut sender, load)?;
+    let datagrams = datagrams_of(rt.alloc(), case, &mut ends.a, load)?;
     let sent = start.elapsed(rt)?;
-    if received(&mut receiver, &datagrams)? != load.count {
+    if received(&mut ends.b, &datagrams)? != load.count {
         return Err(Stopped::Missing);
     }
     let received = start.elapsed(rt)?;
@@ -55,15 +67,16 @@ fn datagrams_of(
     alloc: Global,
     case: &Case,
     sender: &mut End,
-    load: Load<'_>,
+    load: &Load,
 ) -> Result<Vec<Datagram>, Stopped> {
     let tx = open_sender(alloc, sender, case, Ssrc::from(load.streams), MTU)?;
+    let clock = case.row().spec().rtp_clock_rate();
     let mut datagrams = Vec::new(alloc);
     for place in 0..load.count {
         if !sender.is_sender(tx) {
             return Err(Stopped::Refused);
         }
-        let time = MediaTime::new(960 * u64::from(place), case.rtp_clock());
+        let time = MediaTime::new(960 * u64::from(place), clock);
         let mut sent = sender.push_sample(tx, time, load.sample, &ExtensionValues::absent())?;
         datagrams.append(&mut sent)?;
     }

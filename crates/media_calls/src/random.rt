@@ -4,18 +4,13 @@ ghost use Rattle.std.specs.Prelude.{◌<◌};
 
 use std::alloc::AllocError;
 
-/// A linear congruential generator.
+/// A linear congruential generator, whose first state is its seed.
 #[derive(Drop)]
 pub(crate) struct Random {
-    state: u64,
+    pub(crate) state: u64,
 }
 
 impl Random {
-    /// The generator of a seed.
-    pub(crate) fn new(seed: u64) -> Self {
-        Random { state: seed }
-    }
-
     /// The next number below `n`.
     pub(crate) fn below(&mut self, n: u64) -> u64
         requires { 0 < n }

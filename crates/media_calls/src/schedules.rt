@@ -10,31 +10,6 @@ use std::alloc::{AllocError, Global};
 /// How many datagrams change places with one another. With 128 none comes later than one that is numbered 128 above it.
 const BLOCK: usize = 128;
 
-/// The order in which the datagrams of a block come: place `k` has the one at `k * factor + turn`, modulo the block's
-/// length, so that an odd factor gives each of them one place.
-#[derive(Clone, Copy)]
-struct Order {
-    factor: usize,
-    turn: usize,
-}
-
-impl Order {
-    /// One block of two comes as it was sent.
-    fn draw(random: &mut Random) -> Self {
-        if random.one_in(2) {
-            return Order { factor: 1, turn: 0 };
-        }
-        Order {
-            factor: 2 * random.below(64) as usize + 1,
-            turn: random.below(128) as usize,
-        }
-    }
-
-    fn at(&self, place: usize) -> usize {
-        place.wrapping_mul(self.factor).wrapping_add(self.turn) % BLOCK
-    }
-}
-
 /// A schedule of so many datagrams, with so many polls and one more at the end. In a tame one every datagram comes,
 /// none later than one numbered 128 above it, some again, and behind the first block polls come at times. In a sane one
 /// datagrams are lost, and polls come at any time.
@@ -55,7 +30,8 @@ pub(crate) fn draw_schedule(
     Ok(schedule)
 }
 
-/// Puts the datagrams of a block, with polls among them.
+/// Puts the datagrams of a block, with polls among them. One block of two comes as it was sent. Of the others place `k`
+/// has the one at `k * factor + turn`, modulo the block's length, so that an odd factor gives each of them one place.
 fn put_block(
     alloc: Global,
     random: &mut Random,
@@ -63,9 +39,17 @@ fn put_block(
     block: usize,
     schedule: &mut Vec<Event>,
 ) -> Result<(), AllocError> {
-    let order = Order::draw(random);
+    let (factor, turn) = if random.one_in(2) {
+        (1, 0)
+    } else {
+        (2 * random.below(64) + 1, random.below(128))
+    };
+    let start = block.saturating_mul(BLOCK);
     for place in 0..BLOCK {
-        let number = block.saturating_mul(BLOCK).saturating_add(order.at(place));
+        let turned = place
+            .wrapping_mul(factor as usize)
+            .wrapping_add(turn as usize);
+        let number = start.saturating_add(turned % BLOCK);
         if is_tame || !random.one_in(24) {
             schedule.push(Event::Arrive(number))?;
         }
@@ -100,25 +84,22 @@ fn disturb(
     Ok(())
 }
 
-/// Bytes that aren't of the stream: of another version than 2, of another source, or of another payload type
-/// (RFC 3550 5.1).
+/// Bytes that aren't of the stream (RFC 3550 5.1): of another version than 2, or behind a header of any number and time
+/// that has another source or another payload type.
 fn other_bytes(alloc: Global, random: &mut Random) -> Result<Vec<u8>, AllocError> {
-    let mut bytes = match random.below(3) {
-        0 => vec![in alloc; random.below(128) as u8]?,
-        1 => header(alloc, random, TYPE, 45)?,
-        _ => header(alloc, random, 5, 44)?,
-    };
+    let mut bytes = Vec::new(alloc);
+    let kind = random.below(3);
+    if kind == 0 {
+        bytes.push(random.below(128) as u8)?;
+    } else {
+        let (pt, ssrc) = if kind == 1 { (TYPE, 45) } else { (5, 44) };
+        let mut header = [0x80, pt, 0, 0, 0, 0, 0, 0, 0, 0, 0, ssrc];
+        for place in 2..8 {
+            header[place] = random.byte();
+        }
+        bytes.extend_from_slice(&header)?;
+    }
     let count = random.below(40);
     random.put_bytes(&mut bytes, count)?;
-    Ok(bytes)
-}
-
-/// A header without extensions, of any number and time.
-fn header(alloc: Global, random: &mut Random, pt: u8, ssrc: u8) -> Result<Vec<u8>, AllocError> {
-    let mut bytes = vec![in alloc; 0x80, pt]?;
-    for _ in 0..6 {
-        bytes.push(random.byte())?;
-    }
-    bytes.extend_from_slice(&[0, 0, 0, ssrc])?;
     Ok(bytes)
 }

@@ -1,22 +1,29 @@
 //! Ends whose session has lines of its own.
 
-use crate::calls::sections_of;
+use crate::calls::sections;
 use crate::cases::OPUS;
 use crate::stopped::Stopped;
 use rtp_media::{
     Bandwidth, CodecConfig, End, EndError, ExtensionMap, Listed, Session, SessionAttribute,
-    SessionId, Text,
+    SessionId, Ssrc, Text,
 };
 use std::alloc::{AllocError, Global};
 
 /// An offer says the lines of its end's session, each at its place.
 pub(crate) fn offers_say_the_lines_of_the_session(alloc: Global) -> Result<bool, Stopped> {
     let mut end = end_with(alloc, SessionAttribute::IceLite)?;
-    let offer = end.offer(sections_of(alloc, &OPUS, 44)?)?;
+    let offer = end.offer(sections(alloc, &OPUS, &[Ssrc::from(44)])?)?;
     let front =
         "v=0\r\no=str0m-0.25.0 1 2 IN IP4 0.0.0.0\r\ns=-\r\nb=AS:500\r\nt=0 0\r\na=group:BUNDLE 0\r\na=ice-lite\r\n";
     Ok(offer.starts_with(front))
 }
+
+/// Lines that stand for no attribute of their own, and whether they would be read as others.
+static LINES: [(&str, bool); 3] = [
+    ("ice-lite", true),
+    ("x\r\na=ice-lite", true),
+    ("x-own:1", false),
+];
 
 /// Lines that would be read as others are refused, and no others are.
 pub(crate) fn lines_that_would_be_read_otherwise_are_refused(
@@ -26,17 +33,16 @@ pub(crate) fn lines_that_would_be_read_otherwise_are_refused(
         typ: text(alloc, "BUNDLE")?,
         mids: Listed::new(alloc),
     };
-    Ok(
-        is_refused(alloc, group)
-            && is_line_refused(alloc, "ice-lite")?
-            && is_line_refused(alloc, "x\r\na=ice-lite")?
-            && !is_line_refused(alloc, "x-own:1")?
-            && !is_refused(alloc, SessionAttribute::AllowMixedExts),
-    )
-}
-
-fn is_line_refused(alloc: Global, line: &str) -> Result<bool, AllocError> {
-    Ok(is_refused(alloc, SessionAttribute::Unused(text(alloc, line)?)))
+    if !is_refused(alloc, group) || is_refused(alloc, SessionAttribute::AllowMixedExts) {
+        return Ok(false);
+    }
+    for (line, is_other) in &LINES {
+        let line = text(alloc, line)?;
+        if is_refused(alloc, SessionAttribute::Unused(line)) != *is_other {
+            return Ok(false);
+        }
+    }
+    Ok(true)
 }
 
 /// Whether no end has this attribute.

@@ -2,36 +2,42 @@
 
 use rtp_media::{EndError, ExchangeError, OpenError, ReceiveError, SampleError};
 use std::alloc::{AllocError, AllocFailed};
-use std::io;
-use thiserror::Error;
+use std::{fmt, io};
 
 /// Why a call or a run did not come to its end.
-#[derive(Clone, Copy, Debug, Drop, Error)]
+#[derive(Clone, Copy)]
 pub(crate) enum Stopped {
     /// An end, an exchange, an opening or a sample was refused.
-    #[error("refused")]
     Refused,
     /// What was agreed on is none of Opus, G.711 and G.722.
-    #[error("another codec was agreed on")]
     OtherCodec,
     /// More came out than was sent.
-    #[error("the polls did not come to an end")]
     NotSilent,
     /// What was handed out isn't a unit that was sent, or not in order.
-    #[error("a unit is wrong")]
     WrongUnit,
     /// A poll answered a fault.
-    #[error("a poll answered a fault")]
     Fault,
     /// A unit is missing though every datagram came in time.
-    #[error("a unit is missing")]
     Missing,
     /// Out of memory.
-    #[error("out of memory")]
     Memory,
     /// The clock could not be read.
-    #[error("no clock")]
     Clock,
+}
+
+impl fmt::Display for Stopped {
+    fn fmt<W: fmt::Write>(&self, f: &mut fmt::Formatter<W>) -> fmt::Result {
+        f.write_str(match self {
+            Stopped::Refused => "refused",
+            Stopped::OtherCodec => "another codec was agreed on",
+            Stopped::NotSilent => "the polls did not come to an end",
+            Stopped::WrongUnit => "a unit is wrong",
+            Stopped::Fault => "a poll answered a fault",
+            Stopped::Missing => "a unit is missing",
+            Stopped::Memory => "out of memory",
+            Stopped::Clock => "no clock",
+        })
+    }
 }
 
 impl From<EndError> for Stopped {

@@ -1,11 +1,31 @@
 //! Samples that are their own unit: of audio, telephone events, VP8 and VP9.
 
+ghost use Rattle.std.specs.Prelude.{◌<◌};
+
 use crate::random::Random;
 use std::alloc::AllocError;
 
-/// A frame of sound that one packet has room for.
-pub(crate) fn put_sound(random: &mut Random, sample: &mut Vec<u8>) -> Result<(), AllocError> {
-    let count = random.below(80) + 1;
+/// The head of a VP8 key frame, with its start code and size, and that of another frame (RFC 6386 9.1).
+pub(crate) const VP8_KEY: &[u8] = &[0x50, 0x02, 0x00, 0x9d, 0x01, 0x2a, 0x40, 0x01, 0xf0, 0x00];
+
+pub(crate) const VP8_OTHER: &[u8] = &[0x51, 0x02, 0x00];
+
+/// The head of a VP9 key frame in profile 0, with its sync code, and that of another frame.
+pub(crate) const VP9_KEY: &[u8] = &[0x82, 0x49, 0x83, 0x42];
+
+pub(crate) const VP9_OTHER: &[u8] = &[0x86];
+
+/// A frame of sound or of a picture: its head, and at most `most` bytes behind it.
+pub(crate) fn put_frame(
+    random: &mut Random,
+    head: &[u8],
+    most: u64,
+    sample: &mut Vec<u8>,
+) -> Result<(), AllocError>
+    requires { 0 < most }
+{
+    sample.extend_from_slice(head)?;
+    let count = random.below(most) + 1;
     random.put_bytes(sample, count)
 }
 
@@ -31,39 +51,4 @@ pub(crate) fn put_event(random: &mut Random, sample: &mut Vec<u8>) -> Result<(),
     let end = if random.one_in(4) { 0x80 } else { 0 };
     let volume = random.below(64) as u8;
     sample.extend_from_slice(&[event, end + volume, random.byte(), random.byte()])
-}
-
-/// A frame of VP8: the tag of a key frame with its start code and size, or that of another frame (RFC 6386 9.1).
-pub(crate) fn put_vp8(
-    random: &mut Random,
-    is_key: bool,
-    sample: &mut Vec<u8>,
-) -> Result<(), AllocError> {
-    let head: &[u8] = if is_key {
-        &[0x50, 0x02, 0x00, 0x9d, 0x01, 0x2a, 0x40, 0x01, 0xf0, 0x00]
-    } else {
-        &[0x51, 0x02, 0x00]
-    };
-    put_picture(random, head, sample)
-}
-
-/// A frame of VP9 in profile 0: a key frame with its sync code, or another one.
-pub(crate) fn put_vp9(
-    random: &mut Random,
-    is_key: bool,
-    sample: &mut Vec<u8>,
-) -> Result<(), AllocError> {
-    let head: &[u8] = if is_key {
-        &[0x82, 0x49, 0x83, 0x42]
-    } else {
-        &[0x86]
-    };
-    put_picture(random, head, sample)
-}
-
-/// The head of a picture, and bytes behind it for several packets.
-fn put_picture(random: &mut Random, head: &[u8], sample: &mut Vec<u8>) -> Result<(), AllocError> {
-    sample.extend_from_slice(head)?;
-    let count = random.below(900) + 1;
-    random.put_bytes(sample, count)
 }

@@ -34,7 +34,8 @@ pub(crate) fn put_temporal_unit(
     Ok(())
 }
 
-/// Puts a unit with fewer than `most` bytes behind the others.
+/// Puts a unit with fewer than `most` bytes behind the others: its header, its size, which has seven bits a byte, the
+/// lowest first, and the bytes.
 fn put(random: &mut Random, drawn: &mut Drawn, header: u8, most: u64) -> Result<(), AllocError>
     requires some { 0 < most }
     requires few { most ≤ 16384 }
@@ -42,19 +43,14 @@ fn put(random: &mut Random, drawn: &mut Drawn, header: u8, most: u64) -> Result<
     let count = random.below(most);
     let start = drawn.unit.len();
     drawn.parts.push(start)?;
-    put_head(&mut drawn.unit, header, count)?;
+    if count < 128 {
+        drawn.unit.extend_from_slice(&[header, count as u8])?;
+    } else {
+        let size = [header, (count % 128) as u8 + 128, (count / 128) as u8];
+        drawn.unit.extend_from_slice(&size)?;
+    }
     random.put_bytes(&mut drawn.unit, count)?;
     drawn
         .bytes
         .extend_from_slice(drawn.unit.get(start..).unwrap_or(&[]))
-}
-
-/// A unit's header with its size, which has seven bits a byte, the lowest first.
-fn put_head(unit: &mut Vec<u8>, header: u8, size: u64) -> Result<(), AllocError>
-    requires { size < 16384 }
-{
-    if size < 128 {
-        return unit.extend_from_slice(&[header, size as u8]);
-    }
-    unit.extend_from_slice(&[header, (size % 128) as u8 + 128, (size / 128) as u8])
 }

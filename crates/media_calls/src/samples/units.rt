@@ -4,13 +4,11 @@ ghost use Rattle.std.specs.Prelude.{◌<◌};
 
 use super::Drawn;
 use crate::random::Random;
-use rtp_media::Codec;
 use std::alloc::AllocError;
 
 /// The headers of a codec's units: the delimiter, the parameter sets, the slices of a key picture and of others, and
 /// supplemental information.
-#[derive(Clone, Copy)]
-struct Headers {
+pub(crate) struct Headers {
     delimiter: &'static [u8],
     sets: [&'static [u8]; 3],
     key: &'static [u8],
@@ -19,7 +17,7 @@ struct Headers {
 }
 
 /// Those of RFC 6184 1.3, with an extension of the sets in third place.
-const H264: Headers = Headers {
+pub(crate) static H264: Headers = Headers {
     delimiter: &[0x09],
     sets: [&[0x67], &[0x68], &[0x6d]],
     key: &[0x65],
@@ -28,7 +26,7 @@ const H264: Headers = Headers {
 };
 
 /// Those of RFC 7798 1.1.4.
-const H265: Headers = Headers {
+pub(crate) static H265: Headers = Headers {
     delimiter: &[0x46, 0x01],
     sets: [&[0x40, 0x01], &[0x42, 0x01], &[0x44, 0x01]],
     key: &[0x26, 0x01],
@@ -37,7 +35,7 @@ const H265: Headers = Headers {
 };
 
 /// Those of RFC 9328 1.1.4.
-const H266: Headers = Headers {
+pub(crate) static H266: Headers = Headers {
     delimiter: &[0x00, 0xa1],
     sets: [&[0x00, 0x71], &[0x00, 0x79], &[0x00, 0x81]],
     key: &[0x00, 0x39],
@@ -45,23 +43,13 @@ const H266: Headers = Headers {
     information: &[0x00, 0xb9],
 };
 
-/// Those of a codec.
-fn headers_of(codec: Codec) -> Headers {
-    match codec {
-        Codec::H264 => H264,
-        Codec::H265 => H265,
-        _ => H266,
-    }
-}
-
 /// A delimiter, which isn't sent, in a key picture the parameter sets, at times supplemental information, and slices.
 pub(crate) fn put_access_unit(
     random: &mut Random,
-    codec: Codec,
+    headers: &Headers,
     is_key: bool,
     drawn: &mut Drawn,
 ) -> Result<(), AllocError> {
-    let headers = headers_of(codec);
     put(random, drawn, headers.delimiter, 3)?;
     drawn.unit.clear();
     drawn.parts.clear();
