@@ -1,12 +1,14 @@
--- What is read of a whole text, and of it with another behind it.
-use Rattle.std.proofs.Common.{◌≡◌, ◌≢◌, ℕ, Bool, true, false, ◌&&◌, List, [], ◌∷◌, ◌++◌, Option, Some, None, IsTrue, refl, sym, ◌∙◌}
-use Rattle.std.proofs.Common.{ap, subst}
+-- What is read of a text, and of it with another behind it.
+use Rattle.std.proofs.Common.{◌≡◌, ◌≢◌, ℕ, Bool, true, false, ◌&&◌, List, [], ◌∷◌, ◌++◌, Option, Some, None, IsTrue}
+use Rattle.std.proofs.Common.{refl, sym, ◌∙◌, ap, subst}
 use Rattle.std.specs.List.{list_all}
 use Rattle.sdp_formats_forms.specs.Cuts.{IsCut, somewhere, nowhere, cut_of}
+use Rattle.sdp_formats_forms.specs.Form.{IsExact}
 use Rattle.sdp_formats_forms.specs.Line.{LineOf}
 use Rattle.sdp_formats_forms.specs.Step.{Stops, Begins, Many, Perhaps}
 use Rattle.sdp_formats_media_lines.specs.Choice.{attribute_line as media_line}
 use Rattle.sdp_formats_session_lines.specs.Choice.{attribute_line as session_line}
+use Rattle.sdp_formats_session_lines.specs.declared.media.MediaHead.{MediaHead}
 use Rattle.sdp_formats_session_lines.specs.Lines.{version_line, origin_line, name_line, other_line, bandwidth_line}
 use Rattle.sdp_formats_session_lines.specs.Lines.{times_line, repeat_line, connection_line, head_line}
 use Rattle.sdp_formats_predicates.specs.Consistency.{is_consistent}
@@ -15,9 +17,12 @@ use Rattle.sdp_formats_types.specs.declared.media.MediaLine.{MediaLine}
 use Rattle.sdp_formats_types.specs.declared.session.Session.{Session}
 use Rattle.sdp_formats_types.specs.declared.session.SessionAttribute.{SessionAttribute}
 use Rattle.sdp_formats_laws.proofs.MoreBehind.{at_cut, forth, never_ended}
-use Rattle.sdp_formats_laws.proofs.Stopping.{first, line_first}
-use Rattle.sdp_formats_laws.specs.Behind.{GoesOnWithNothing, StaysWithWhatFitsNowhere}
 use Rattle.sdp_formats_laws.specs.LineEnds.{is_ended}
+use Rattle.sdp_formats_laws.proofs.Found.{as_many, perhaps_one}
+use Rattle.sdp_formats_laws.proofs.Heads.{bandwidth-exact, connection-exact}
+use Rattle.sdp_formats_laws.proofs.Stopping.{first, line_first}
+use Rattle.sdp_formats_laws.specs.Behind.{GoesOnWithNothing}
+use Rattle.sdp_formats_laws.specs.Behind.{StaysWithWhatFitsNowhere}
 
 abbrev IsEnded : List ℕ → Type 0
 IsEnded t = is_ended t ≡ true
@@ -137,7 +142,8 @@ module _ (more : List ℕ) where
       ((h.0 ++ more, one.0, h.2, h.3 ++ more, two.0, h.5 ++ more, three.0, h.7, h.8 ++ more, four.0, five.0), five.1)
 
   section : (t : List ℕ) (m : MediaLine) (r : List ℕ) → IsEnded t → IsTrue (is_consistent m)
-      → Stops (LineOf media_line.Says) more → SectionSays t m r → SectionSays (t ++ more) m (r ++ more) × IsEnded r
+      → (r ≡ [] → Stops (LineOf media_line.Says) more) → SectionSays t m r
+      → SectionSays (t ++ more) m (r ++ more) × IsEnded r
   unfolding SectionSays
   section t m r ok fine last h =
       let three_starts = some_starts media_line.Says h.7 m.attrs r h.9.0 (has_attribute m fine) in
@@ -146,34 +152,86 @@ module _ (more : List ℕ) where
       let one = line head_line.Says t h.0 h.1 ok h.2 in
       let two = perhaps connection_line.Says h.1 h.4 h.5 one.1 one_starts h.6 in
       let three = perhaps bandwidth_line.Says h.5 m.bw h.7 two.1 two_starts h.8 in
-      let four = many media_line.Says h.7 m.attrs r three.1 (λ e. last) h.9 in
+      let four = many media_line.Says h.7 m.attrs r three.1 last h.9 in
       ((h.0, h.1 ++ more, one.0, h.3, h.4, h.5 ++ more, two.0, h.7 ++ more, three.0, four.0), four.1)
-
-  sections : (t : List ℕ) (ms : List MediaLine) (r : List ℕ) → IsEnded t → IsTrue (list_all is_consistent ms)
-      → Stops (LineOf media_line.Says) more → Begins SectionSays t ms r → Begins SectionSays (t ++ more) ms (r ++ more)
-  sections t [] r ok fine last h = ap (λ x. x ++ more) h
-  sections t (m ∷ ms) r ok fine last h =
-      let each = both_of (is_consistent m) (list_all is_consistent ms) fine in
-      let one = section t m h.0 ok each.0 last h.1 in (h.0 ++ more, one.0, sections h.0 ms r one.1 each.1 last h.2)
 
   sections_start : (t : List ℕ) (m : MediaLine) (r : List ℕ) → SectionSays t m r → t ≢ []
   unfolding SectionSays
   sections_start t m r h = line_starts head_line.Says t h.0 h.1 h.2
 
-  session_alone : (t : List ℕ) (s : Session) (r : List ℕ) (attrs : List SessionAttribute) → s.attrs ≡ attrs → IsEnded t
-      → GoesOnWithNothing attrs [] more → SessionSays t s r → SessionSays (t ++ more) s (r ++ more) × IsEnded r
-  session_alone t s r [] e ok last h = session t s r ok (λ a b. last.1) (λ b. last.0) h
-  session_alone t s r (a ∷ as') e ok last h = session t s r ok (λ n. absurd (none_left (sym n ∙ e))) (λ b. last) h
+  -- of several sections only the last one can end with the text
+  last_only : (t : List ℕ) (ms : List MediaLine) (r : List ℕ) → (r ≡ [] → Stops (LineOf media_line.Says) more)
+      → Begins SectionSays t ms r → t ≡ [] → Stops (LineOf media_line.Says) more
+  last_only t [] r last h = λ e. last (h ∙ e)
+  last_only t (m ∷ ms) r last h = λ e. absurd (sections_start t m h.0 h.1 e)
 
-  both : (t one : List ℕ) (s : Session) (ms : List MediaLine) → IsEnded t → IsTrue (list_all is_consistent ms)
-      → GoesOnWithNothing s.attrs ms more → SessionSays t s one → Begins SectionSays one ms []
-      → SessionSays (t ++ more) s (one ++ more) × Begins SectionSays (one ++ more) ms more
-  both t one s [] ok fine last h b =
-      ((session_alone t s one s.attrs refl ok last h).0, ap (λ x. x ++ more) b)
-  both t one s (m ∷ ms) ok fine last h b =
+  sections : (t : List ℕ) (ms : List MediaLine) (r : List ℕ) → IsEnded t → IsTrue (list_all is_consistent ms)
+      → (r ≡ [] → Stops (LineOf media_line.Says) more) → Begins SectionSays t ms r
+      → Begins SectionSays (t ++ more) ms (r ++ more) × IsEnded r
+  sections t [] r ok fine last h = (ap (λ x. x ++ more) h, subst IsEnded (sym h) ok)
+  sections t (m ∷ ms) r ok fine last h =
+      let each = both_of (is_consistent m) (list_all is_consistent ms) fine in
+      let one = section t m h.0 ok each.0 (last_only h.0 ms r last h.2) h.1 in
+      let others = sections h.0 ms r one.1 each.1 last h.2 in
+      ((h.0 ++ more, one.0, others.0), others.1)
+
+  session_alone : (t : List ℕ) (s : Session) (r : List ℕ) (attrs : List SessionAttribute) → s.attrs ≡ attrs
+      → IsEnded t → (r ≡ [] → GoesOnWithNothing attrs [] more) → SessionSays t s r
+      → SessionSays (t ++ more) s (r ++ more) × IsEnded r
+  session_alone t s r [] e ok last h = session t s r ok (λ a b. (last b).1) (λ b. (last b).0) h
+  session_alone t s r (a ∷ as') e ok last h = session t s r ok (λ n. absurd (none_left (sym n ∙ e))) last h
+
+  both : (t one r : List ℕ) (s : Session) (ms : List MediaLine) → IsEnded t → IsTrue (list_all is_consistent ms)
+      → (r ≡ [] → GoesOnWithNothing s.attrs ms more) → SessionSays t s one → Begins SectionSays one ms r
+      → SessionSays (t ++ more) s (one ++ more) × Begins SectionSays (one ++ more) ms (r ++ more) × IsEnded r
+  both t one r s [] ok fine last h b =
+      let said = session_alone t s one s.attrs refl ok (λ e. last (b ∙ e)) h in
+      (said.0, ap (λ x. x ++ more) b, subst IsEnded (sym b) said.1)
+  both t one r s (m ∷ ms) ok fine last h b =
       let start = sections_start one m b.0 b.1 in
       let said = session t s one ok (λ a e. absurd (start e)) (λ e. absurd (start e)) h in
-      (said.0, sections one (m ∷ ms) [] said.1 fine last b)
+      let parts = sections one (m ∷ ms) r said.1 fine last b in
+      (said.0, parts.0, parts.1)
+
+  -- no section begins where something is left unread, whatever stands behind it
+  begun : IsExact media_line → (t : List ℕ) (head : MediaHead) (r : List ℕ) → LineOf head_line.Says t head r
+      → (m : MediaLine) × (s : List ℕ) × SectionSays t m s
+  unfolding SectionSays
+  begun exact t head r h =
+      let c = perhaps_one connection_line connection-exact r in
+      let b = perhaps_one bandwidth_line bandwidth-exact c.1 in
+      let attrs = as_many media_line exact b.1 in (
+        record {
+          typ = head.typ;
+          disabled = head.disabled;
+          proto = head.proto;
+          pts = head.pts;
+          bw = b.0;
+          attrs = attrs.0;
+        },
+        attrs.1,
+        (head, r, h, (refl, refl, refl, refl), c.0, c.1, c.2, b.1, b.2, attrs.2),
+      )
+
+  pub headed : (t : List ℕ) (m : MediaLine) (r : List ℕ) → SectionSays t m r
+      → (head : MediaHead) × (s : List ℕ) × LineOf head_line.Says t head s
+  unfolding SectionSays
+  headed t m r h = (h.0, h.1, h.2)
+
+  still_unread : IsExact media_line → (t : List ℕ) → IsCut 10 t → t ≢ [] → IsEnded t → Stops SectionSays t
+      → Stops SectionSays (t ++ more)
+  still_unread exact t (somewhere front rest whole lacks) some ok h = λ m r s.
+      let head = headed (t ++ more) m r s in
+      let one = at_cut more t front rest head.2.0 head.1 whole lacks ok head.2.1 in
+      let section = begun exact t head.0 one.0 (head.2.0, one.2, head.2.2) in
+      h section.0 section.1 section.2
+  still_unread exact [] (nowhere lacks) some ok h = absurd (some refl)
+  still_unread exact (b ∷ t) (nowhere lacks) some ok h = absurd (never_ended (b ∷ t) (λ e. cc) lacks ok)
+
+  no_section : IsExact media_line → (r : List ℕ) → IsEnded r → (r ≡ [] → Stops SectionSays more)
+      → Stops SectionSays r → Stops SectionSays (r ++ more)
+  no_section exact [] ok last h = last refl
+  no_section exact (b ∷ r) ok last h = still_unread exact (b ∷ r) (cut_of 10 (b ∷ r)) (λ e. cc) ok h
 
   -- what is left behind the text begins with none of what would go on with it
   last_section : (t : List ℕ) (m : MediaLine) (ms : List MediaLine) (r : List ℕ) → Begins SectionSays t (m ∷ ms) r
@@ -200,11 +258,16 @@ module _ (more : List ℕ) where
       subst (GoesOnWithNothing s.attrs []) (sym b) (last_of_session t s one s.attrs refl h)
   last_part t one s (m ∷ ms) r h b = last_section one m ms r b
 
-pub stays_with_what_fits_nowhere : StaysWithWhatFitsNowhere
+pub stays_with_what_fits_nowhere : IsExact media_line → StaysWithWhatFitsNowhere
 unfolding SdpSays
-stays_with_what_fits_nowhere text more sdp ok h = (
+stays_with_what_fits_nowhere exact text more rest sdp ok h = (
   λ fits.
-      let b = both more text h.0 sdp.session sdp.media_lines ok h.3 fits.0 h.1 h.2.0 in
-      (h.0 ++ more, b.0, (b.1, fits.1), h.3),
-  λ said. (last_part more (text ++ more) said.0 sdp.session sdp.media_lines more said.1 said.2.0, said.2.1),
+      let b = both more text h.0 rest sdp.session sdp.media_lines ok h.3 (λ e. (fits e).0) h.1 h.2.0 in
+      (h.0 ++ more, b.0, (b.1, no_section more exact rest b.2 (λ e. (fits e).1) h.2.1), h.3),
+  λ said e.
+      let left : rest ++ more ≡ more = ap (λ r. r ++ more) e in (
+        subst (GoesOnWithNothing sdp.session.attrs sdp.media_lines) left
+            (last_part more (text ++ more) said.0 sdp.session sdp.media_lines (rest ++ more) said.1 said.2.0),
+        subst (Stops SectionSays) left said.2.1,
+      ),
 )

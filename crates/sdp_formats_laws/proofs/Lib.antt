@@ -19,7 +19,9 @@ pub mod Consistent
 pub mod Carried
 pub mod LineEnds
 pub mod MoreBehind
+pub mod Found
 pub mod Behind
+pub mod OtherLetters
 pub mod FormatRanges
 pub mod Numerals
 pub mod ModeSets

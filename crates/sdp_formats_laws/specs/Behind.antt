@@ -1,6 +1,7 @@
--- What goes on with a whole text.
-use Rattle.std.specs.Prelude.{◌≡◌, ◌↔◌, ℕ, true, List, [], ◌∷◌, ◌++◌}
+-- What goes on with a text.
+use Rattle.std.specs.Prelude.{◌≡◌, ◌↔◌, ℕ, true, List, [], ◌∷◌, ◌++◌, codes}
 use Rattle.sdp_formats_forms.specs.Line.{LineOf}
+use Rattle.sdp_formats_forms.specs.Split.{Lacks}
 use Rattle.sdp_formats_forms.specs.Step.{Stops}
 use Rattle.sdp_formats_media_lines.specs.Choice.{attribute_line as media_line}
 use Rattle.sdp_formats_session_lines.specs.Choice.{attribute_line as session_line}
@@ -19,12 +20,20 @@ GoesOnWithNothing attributes (m ∷ ms) more = Stops (LineOf media_line.Says) mo
 GoesOnWithNothing (a ∷ as') [] more = Stops (LineOf session_line.Says) more
 GoesOnWithNothing [] [] more = Stops (LineOf session_line.Says) more × Stops (LineOf repeat_line.Says) more
 
--- It fits nowhere behind a session: it doesn't go on with its last part, and is no further section.
+-- It fits nowhere behind a session: it doesn't go on with its last part, and begins with no further section.
 abbrev pub FitsNowhereBehind : Sdp → List ℕ → Type 0
 FitsNowhereBehind sdp more = GoesOnWithNothing sdp.session.attrs sdp.media_lines more × Stops SectionSays more
 
--- What is read of a whole text, the last line of which is ended, stays the same with another text behind it, which is
--- left unread, exactly where that fits nowhere behind it.
+-- What is read of a text, the last line of which is ended, stays the same with another text behind it, but for the
+-- rest, exactly where the text leaves something unread, or the other one fits nowhere behind it.
 abbrev pub StaysWithWhatFitsNowhere : Type 0
-StaysWithWhatFitsNowhere = (text more : List ℕ) (sdp : Sdp) → is_ended text ≡ true → SdpSays text sdp []
-    → FitsNowhereBehind sdp more ↔ SdpSays (text ++ more) sdp more
+StaysWithWhatFitsNowhere = (text more rest : List ℕ) (sdp : Sdp) → is_ended text ≡ true → SdpSays text sdp rest
+    → (rest ≡ [] → FitsNowhereBehind sdp more) ↔ SdpSays (text ++ more) sdp (rest ++ more)
+
+-- What begins with none of the letters `a`, `m` and `r` fits nowhere behind any session.
+abbrev pub BeginsOtherwise : List ℕ → Type 0
+BeginsOtherwise [] = Unit {0}
+BeginsOtherwise (b ∷ t) = Lacks b (codes "amr")
+
+abbrev pub OthersFitNowhere : Type 0
+OthersFitNowhere = (more : List ℕ) → BeginsOtherwise more → (sdp : Sdp) → FitsNowhereBehind sdp more

@@ -11,8 +11,8 @@ mod texts;
 pub use lines::printed_lines_law;
 pub use parameters::{fallbacks_law, links_law, plain_parameters_law};
 pub use rows::{
-    read_rows_law, read_sections_law, row_lines_law, row_texts_law, static_types_law,
-    writable_row_texts_law,
+    read_rows_law, read_sections_law, row_lines_law, row_texts_law, rows_without_fault_law,
+    static_types_law, writable_row_texts_law,
 };
 pub use rows_back::plain_rows_come_back;
-pub use texts::{line_ends_law, more_behind_law, printed_texts_law};
+pub use texts::{fits_nowhere_law, line_ends_law, printed_texts_law};

@@ -1,8 +1,8 @@
 //! Session texts that are read as they are printed.
 
 ghost use Rattle.std.specs.Prelude.{[]};
-ghost use Rattle.sdp_formats_laws.specs.Behind.{StaysWithWhatFitsNowhere};
-ghost use Rattle.sdp_formats_laws.specs.LineEnds.{OthersFitNowhere, ReadsByAnyEnd, ReadsWithMoreBehind};
+ghost use Rattle.sdp_formats_laws.specs.Behind.{OthersFitNowhere, StaysWithWhatFitsNowhere};
+ghost use Rattle.sdp_formats_laws.specs.LineEnds.{ReadsByAnyEnd};
 ghost use Rattle.sdp_formats_laws.specs.PrintableTexts.{IsPrintableText};
 ghost use Rattle.sdp_formats_laws.specs.ReadTexts.{text_as_read};
 ghost use Rattle.sdp_formats_reader.specs.Grammar.{SdpSays};
@@ -29,17 +29,14 @@ pub fn line_ends_law()
     ensures { ReadsByAnyEnd }
 {}
 
-/// What is read of a text, the last line of which is ended, doesn't change, but for the rest, when a text is put
-/// behind it that begins with no line of any kind; as one does whose first byte is no letter of a kind of line.
-pub fn more_behind_law()
-    ensures more { ReadsWithMoreBehind }
-    ensures letters { OthersFitNowhere }
-{}
-
-/// What is read of a whole text, the last line of which is ended, stays the same with another text behind it, which is
-/// left unread, exactly where that fits nowhere there: behind sections where it begins with no attribute of a section
-/// and with no section, as `b=AS:5` does; behind a session alone where it begins with no attribute of a session, no
-/// section and, where there is no attribute yet, no line `r=`.
+/// What is read of a text, the last line of which is ended, stays the same with another text behind it, but for the rest,
+/// exactly where the text leaves something unread already, or the other one fits nowhere behind it: behind sections where
+/// it begins with no attribute of a section and with no section, as `b=AS:5` does; behind a session alone where it begins
+/// with no attribute of a session, no section and, where there is no attribute yet, no line `r=`. What begins with none
+/// of the letters `a`, `m` and `r` fits nowhere behind any session.
 pub fn fits_nowhere_law()
-    ensures { StaysWithWhatFitsNowhere }
-{}
+    ensures same { StaysWithWhatFitsNowhere }
+    ensures letters { OthersFitNowhere }
+{
+    MediaAttributeLine::exact_law();
+}
