@@ -48,7 +48,7 @@ pub then : {A B : Type 0} (o : Option A) (f : A → Option B) (a : A) (b : Optio
 then o f a b e h = ap (λ x. x >>= f) e ∙ h
 
 -- a field that is there
-field_there : (name w : List ℕ) (more : Option (List ℕ)) → w ≢ [] → Lacks 32 w
+pub field_there : (name w : List ℕ) (more : Option (List ℕ)) → w ≢ [] → Lacks 32 w
     → field name (Some (name ++ (w ++ behind_blank more))) ≡ Some (Some w, more)
 field_there name w more some h =
     ap (field_in (name ++ (w ++ behind_blank more))) (behind-append name (w ++ behind_blank more))

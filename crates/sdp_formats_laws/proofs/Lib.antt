@@ -13,6 +13,10 @@ pub mod WholeTexts
 pub mod Fingerprints
 pub mod Candidates
 pub mod CandidateLines
+pub mod CandidateTails
+pub mod CandidateFound
+pub mod CandidateSpelled
+pub mod CandidateWords
 pub mod Restrictions
 pub mod Simulcasts
 pub mod Consistent

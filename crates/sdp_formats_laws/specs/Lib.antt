@@ -5,6 +5,7 @@ pub mod AsReadLemmas
 pub mod ReadTexts
 pub mod LineEnds
 pub mod Behind
+pub mod CandidateWords
 pub mod Ranges
 pub mod Keyed
 pub mod Parameters

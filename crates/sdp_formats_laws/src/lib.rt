@@ -8,7 +8,7 @@ mod rows;
 mod rows_back;
 mod texts;
 
-pub use lines::printed_lines_law;
+pub use lines::{candidate_words_law, printed_lines_law};
 pub use parameters::{fallbacks_law, links_law, plain_parameters_law};
 pub use rows::{
     read_rows_law, read_sections_law, row_lines_law, row_texts_law, rows_without_fault_law,

@@ -1,6 +1,7 @@
 //! Lines of a section that are read as what they were printed of.
 
 ghost use Rattle.std.specs.Prelude.{List, ℕ, ◌++◌};
+ghost use Rattle.sdp_formats_laws.specs.CandidateWords.{CandidatesAreTheirWords};
 ghost use Rattle.sdp_formats_laws.specs.Printable.{IsPrintable};
 ghost use Rattle.sdp_formats_media_lines.specs.Choice.{attribute_line};
 ghost use Rattle.sdp_formats_media_lines.specs.AsRead.{as_read};
@@ -22,3 +23,10 @@ pub fn printed_lines_law()
     MediaAttributeLine::exact_law();
     printed_pairs_law();
 }
+
+/// A text is read as a candidate exactly where it is words for it, in their order, with a blank between each two
+/// (RFC 8839 5.1): foundation, component, protocol, priority, address, port, `typ` and kind; then, where they are given,
+/// `raddr` and `rport`, `tcptype`, `generation`, `network-id`, `ufrag` and `network-cost`, each with its word.
+pub fn candidate_words_law()
+    ensures { CandidatesAreTheirWords }
+{}
