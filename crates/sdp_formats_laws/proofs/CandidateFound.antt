@@ -19,7 +19,7 @@ use Rattle.sdp_formats_values.specs.declared.candidate.RelatedAddress.{RelatedAd
 use Rattle.sdp_formats_values.specs.declared.candidate.TcpType.{TcpType}
 use Rattle.sdp_formats_laws.proofs.Candidates.{behind_blank}
 use Rattle.sdp_formats_laws.proofs.Printed.{lacks}
-use Rattle.sdp_formats_laws.specs.CandidateWords.{IsSingle, Spelling}
+use Rattle.sdp_formats_laws.specs.CandidateWords.{IsOneWord, Spelling}
 use Rattle.sdp_formats_laws.proofs.CandidateTails.{AreWords, address_tail, generation_tail, named_tail}
 use Rattle.sdp_formats_laws.proofs.CandidateTails.{words_text}
 
@@ -37,7 +37,7 @@ some_single [] v h = cc
 some_single (b ∷ w) v h = (cc, λ e. cc)
 
 base_words : (t : List ℕ) (x : List ℕ × ℕ × List ℕ) → candidate_base t ≡ Some x
-    → (w : List ℕ) × (t ≡ x.0 ++ 32 ∷ (w ++ 32 ∷ x.2)) × IsSingle x.0 × Lacks 32 w
+    → (w : List ℕ) × (t ≡ x.0 ++ 32 ∷ (w ++ 32 ∷ x.2)) × IsOneWord x.0 × Lacks 32 w
     × (number_below (2 ^ 16) w ≡ Some x.1)
 unfolding candidate_base
 base_words t x h =
@@ -48,7 +48,7 @@ base_words t x h =
     let first = split_first-cuts 32 t a.0.0 a.0.1 a.1 in
     let second = split_first-cuts 32 a.0.1 c.0.0 c.0.1 c.1 in
     let word = some_single a.0.0 b.0 b.1 in
-    subst (λ (y : List ℕ × ℕ × List ℕ). (w : List ℕ) × (t ≡ y.0 ++ 32 ∷ (w ++ 32 ∷ y.2)) × IsSingle y.0 × Lacks 32 w
+    subst (λ (y : List ℕ × ℕ × List ℕ). (w : List ℕ) × (t ≡ y.0 ++ 32 ∷ (w ++ 32 ∷ y.2)) × IsOneWord y.0 × Lacks 32 w
     × (number_below (2 ^ 16) w ≡ Some y.1)) (the_same (b.0, d.0, c.0.1) x d.2) (
       c.0.0,
       first.0 ∙ (λ i. word.0 i ++ 32 ∷ second.0 i),
@@ -74,7 +74,7 @@ carrier_words t x h =
     (a.0.0, c.0.0, first.0 ∙ ap (λ r. a.0.0 ++ 32 ∷ r) second.0, first.1, b.1, second.1, d.1)
 
 place_words : (t : List ℕ) (x : List ℕ × ℕ × List ℕ) → candidate_place t ≡ Some x
-    → (w : List ℕ) × (t ≡ x.0 ++ 32 ∷ (w ++ 32 ∷ (codes "typ " ++ x.2))) × IsSingle x.0 × Lacks 32 w
+    → (w : List ℕ) × (t ≡ x.0 ++ 32 ∷ (w ++ 32 ∷ (codes "typ " ++ x.2))) × IsOneWord x.0 × Lacks 32 w
     × (number_below (2 ^ 16) w ≡ Some x.1)
 unfolding candidate_place
 place_words t x h =
@@ -88,7 +88,7 @@ place_words t x h =
     let word = some_single a.0.0 b.0 b.1 in
     let typ = behind-sound (codes "typ ") c.0.1 e.0 e.1 in
     subst (λ (y : List ℕ × ℕ × List ℕ). (w : List ℕ) × (t ≡ y.0 ++ 32 ∷ (w ++ 32 ∷ (codes "typ " ++ y.2)))
-    × IsSingle y.0 × Lacks 32 w × (number_below (2 ^ 16) w ≡ Some y.1)) (the_same (b.0, d.0, e.0) x e.2) (
+    × IsOneWord y.0 × Lacks 32 w × (number_below (2 ^ 16) w ≡ Some y.1)) (the_same (b.0, d.0, e.0) x e.2) (
       c.0.0,
       first.0 ∙ (λ i. word.0 i ++ 32 ∷ second.0 i) ∙ ap (λ r. b.0 ++ 32 ∷ (c.0.0 ++ 32 ∷ r)) typ,
       (subst (λ v. v ≢ []) word.0 word.1, subst (Lacks 32) word.0 first.1),
@@ -111,7 +111,7 @@ halves_words t (nowhere lacks) =
     )
 
 abbrev IsTail : List ℕ → Option (List ℕ) → Option (List ℕ) × Option (List ℕ) → Type 0
-IsTail name t x = (t ≡ named_tail name x.0 x.1) × IfSome x.0 IsSingle
+IsTail name t x = (t ≡ named_tail name x.0 x.1) × IfSome x.0 IsOneWord
 
 field_words : (name : List ℕ) (t : Option (List ℕ)) (x : Option (List ℕ) × Option (List ℕ)) → field name t ≡ Some x
     → IsTail name t x
@@ -133,11 +133,11 @@ field_words name (Some t) x h = at (behind name t) refl h
 -- the address that a candidate was derived from
 abbrev IsAddressTail : Option (List ℕ) → Option RelatedAddress × Option (List ℕ) → Type 0
 IsAddressTail t x = (port : List ℕ) × (t ≡ address_tail x.0 port x.1)
-    × IfSome x.0 (λ r. IsSingle r.addr × Lacks 32 port × (number_below (2 ^ 16) port ≡ Some r.port))
+    × IfSome x.0 (λ r. IsOneWord r.addr × Lacks 32 port × (number_below (2 ^ 16) port ≡ Some r.port))
 
 related_in_words : (t : List ℕ) (x : RelatedAddress × Option (List ℕ)) → related_in t ≡ Some x
     → (port : List ℕ) × (t ≡ x.0.addr ++ 32 ∷ (codes "rport " ++ (port ++ behind_blank x.1)))
-    × IsSingle x.0.addr × Lacks 32 port × (number_below (2 ^ 16) port ≡ Some x.0.port)
+    × IsOneWord x.0.addr × Lacks 32 port × (number_below (2 ^ 16) port ≡ Some x.0.port)
 unfolding related_in
 related_in_words t x h =
     let a = unbind (split_first 32 t) _ x h in
@@ -150,7 +150,7 @@ related_in_words t x h =
     let cut = halves_words c.0 (cut_of 32 c.0) in
     subst (λ (y : RelatedAddress × Option (List ℕ)). (port : List ℕ)
     × (t ≡ y.0.addr ++ 32 ∷ (codes "rport " ++ (port ++ behind_blank y.1)))
-    × IsSingle y.0.addr × Lacks 32 port × (number_below (2 ^ 16) port ≡ Some y.0.port))
+    × IsOneWord y.0.addr × Lacks 32 port × (number_below (2 ^ 16) port ≡ Some y.0.port))
     (the_same (record { addr = b.0; port = d.0 }, (halves 32 c.0).1) x d.2) (
       (halves 32 c.0).0,
       first.0 ∙ (λ i. word.0 i ++ 32 ∷ name i) ∙ ap (λ r. b.0 ++ 32 ∷ (codes "rport " ++ r)) cut.0,
@@ -170,12 +170,15 @@ related_words_of (Some t) x h = at (behind (codes "raddr ") t) refl h
     at (Some v) e h =
         let a = unbind (related_in v) _ x h in
         let one = related_in_words v a.0 a.1 in
-        subst (IsAddressTail (Some t)) (the_same (Some a.0.0, a.0.1) x a.2)
-        (one.0, ap Some (behind-sound (codes "raddr ") t v e ∙ ap (λ r. codes "raddr " ++ r) one.1), (one.2, one.3, one.4))
+        subst (IsAddressTail (Some t)) (the_same (Some a.0.0, a.0.1) x a.2) (
+          one.0,
+          ap Some (behind-sound (codes "raddr ") t v e ∙ ap (λ r. codes "raddr " ++ r) one.1),
+          (one.2, one.3, one.4),
+        )
 
 -- the fields behind the kind, from the first on
 tcptype_words : (t : Option (List ℕ)) (x : Option TcpType × Option (List ℕ)) → tcptype_field t ≡ Some x
-    → (w : Option (List ℕ)) × (t ≡ named_tail (codes "tcptype ") w x.1) × IfSome w IsSingle
+    → (w : Option (List ℕ)) × (t ≡ named_tail (codes "tcptype ") w x.1) × IfSome w IsOneWord
     × (maybe tcptype_word w ≡ Some x.0)
 unfolding tcptype_field
 tcptype_words t x h =
@@ -183,7 +186,7 @@ tcptype_words t x h =
     let b = unbind (maybe tcptype_word a.0.0) _ x a.2 in
     let one = field_words (codes "tcptype ") t a.0 a.1 in
     subst (λ (y : Option TcpType × Option (List ℕ)). (w : Option (List ℕ))
-    × (t ≡ named_tail (codes "tcptype ") w y.1) × IfSome w IsSingle × (maybe tcptype_word w ≡ Some y.0))
+    × (t ≡ named_tail (codes "tcptype ") w y.1) × IfSome w IsOneWord × (maybe tcptype_word w ≡ Some y.0))
     (the_same (b.0, a.0.1) x b.2) (a.0.0, one.0, one.1, b.1)
 
 all_read : {A : Type 0} (a b : A) (t : Option (List ℕ)) → ended a t ≡ Some b → (t ≡ None) × (a ≡ b)
@@ -192,7 +195,7 @@ all_read a b (Some t) h = cc
 
 ufrag_words : (t : Option (List ℕ)) (u : Option (List ℕ)) → ufrag_field t ≡ Some u
     → (generation network cost : Option (List ℕ)) × (t ≡ generation_tail generation network u cost)
-    × IfSome generation IsSingle × IfSome network IsSingle × IfSome u IsSingle × IfSome cost IsSingle
+    × IfSome generation IsOneWord × IfSome network IsOneWord × IfSome u IsOneWord × IfSome cost IsOneWord
 unfolding ufrag_field
 ufrag_words t u h =
     let a = unbind (field (codes "generation ") t) _ u h in
@@ -206,7 +209,7 @@ ufrag_words t u h =
     let last = all_read c.0.0 u d.0.1 d.2 in
     subst (λ (v : Option (List ℕ)). (generation network cost : Option (List ℕ))
     × (t ≡ generation_tail generation network v cost)
-    × IfSome generation IsSingle × IfSome network IsSingle × IfSome v IsSingle × IfSome cost IsSingle) last.1 (
+    × IfSome generation IsOneWord × IfSome network IsOneWord × IfSome v IsOneWord × IfSome cost IsOneWord) last.1 (
       a.0.0,
       b.0.0,
       d.0.0,
@@ -222,7 +225,7 @@ ufrag_words t u h =
 
 -- what is read is words for it
 each_port : (r : Option RelatedAddress) (port : List ℕ)
-    → IfSome r (λ a. IsSingle a.addr × Lacks 32 port × (number_below (2 ^ 16) port ≡ Some a.port))
+    → IfSome r (λ a. IsOneWord a.addr × Lacks 32 port × (number_below (2 ^ 16) port ≡ Some a.port))
     → IfSome r (λ a. number_below (2 ^ 16) port ≡ Some a.port)
 each_port None port h = tt
 each_port (Some r) port h = h.2
@@ -282,8 +285,8 @@ words_found t c h =
       related_port = address.0;
       tcptype = tcptype.0;
       generation = ufrag.0;
-      network = ufrag.1;
-      cost = ufrag.2;
+      network_id = ufrag.1;
+      network_cost = ufrag.2;
     } in
     let words : AreWords read s = record {
       spells = record {
@@ -305,9 +308,9 @@ words_found t c h =
       kind = cut.1;
       tcptype = tcptype.2;
       generation = ufrag.4;
-      network = ufrag.5;
+      network_id = ufrag.5;
       ufrag = ufrag.6;
-      cost = ufrag.7;
+      network_cost = ufrag.7;
     } in
     let whole = base.1 ∙ ap (λ r. a.0.0 ++ 32 ∷ (base.0 ++ 32 ∷ r)) (carrier.2
     ∙ ap (λ r. carrier.0 ++ 32 ∷ (carrier.1 ++ 32 ∷ r)) (place.1

@@ -13,8 +13,9 @@ use Rattle.sdp_formats_values.specs.declared.candidate.Candidate.{Candidate}
 use Rattle.sdp_formats_values.specs.declared.candidate.RelatedAddress.{RelatedAddress}
 use Rattle.sdp_formats_laws.proofs.Candidates.{behind_blank, field_there, halves-blank, then}
 use Rattle.sdp_formats_laws.proofs.Printed.{lacks, text_some}
-use Rattle.sdp_formats_laws.specs.CandidateWords.{IsSingle, Spelling}
-use Rattle.sdp_formats_laws.proofs.CandidateTails.{AreWords, address_tail, cost_tail, generation_tail, named_tail, network_tail}
+use Rattle.sdp_formats_laws.specs.CandidateWords.{IsOneWord, Spelling}
+use Rattle.sdp_formats_laws.proofs.CandidateTails.{AreWords, address_tail, cost_tail, generation_tail, named_tail}
+use Rattle.sdp_formats_laws.proofs.CandidateTails.{network_tail}
 use Rattle.sdp_formats_laws.proofs.CandidateTails.{tcptype_tail, ufrag_tail, words_text}
 
 -- words are read as what they are for
@@ -54,12 +55,12 @@ no_address None None (Some n) ufrag cost = refl
 no_address None (Some g) network ufrag cost = refl
 no_address (Some t) generation network ufrag cost = refl
 
-named_read : (name : List ℕ) (o more : Option (List ℕ)) → IfSome o IsSingle → field name more ≡ Some (None, more)
+named_read : (name : List ℕ) (o more : Option (List ℕ)) → IfSome o IsOneWord → field name more ≡ Some (None, more)
     → field name (named_tail name o more) ≡ Some (o, more)
 named_read name None more h absent = absent
 named_read name (Some w) more h absent = field_there name w more h.0 h.1
 
-address_there : (r : RelatedAddress) (port : List ℕ) (more : Option (List ℕ)) → IsSingle r.addr → Lacks 32 port
+address_there : (r : RelatedAddress) (port : List ℕ) (more : Option (List ℕ)) → IsOneWord r.addr → Lacks 32 port
     → number_below (2 ^ 16) port ≡ Some r.port
     → related_in (r.addr ++ 32 ∷ (codes "rport " ++ (port ++ behind_blank more))) ≡ Some (r, more)
 unfolding related_in
@@ -71,7 +72,7 @@ address_there r port more h lacks is =
     (ap (λ (x : List ℕ × Option (List ℕ)). Some (record { addr = r.addr; port = r.port }, x.1)) cut)))
 
 address_read : (r : Option RelatedAddress) (port : List ℕ) (tcptype generation network ufrag cost : Option (List ℕ))
-    → IfSome r (λ a. IsSingle a.addr × Lacks 32 port × (number_below (2 ^ 16) port ≡ Some a.port))
+    → IfSome r (λ a. IsOneWord a.addr × Lacks 32 port × (number_below (2 ^ 16) port ≡ Some a.port))
     → related_field (address_tail r port (tcptype_tail tcptype generation network ufrag cost))
     ≡ Some (r, tcptype_tail tcptype generation network ufrag cost)
 address_read None port tcptype generation network ufrag cost h =
@@ -81,28 +82,30 @@ address_read (Some r) port tcptype generation network ufrag cost h = then _ _ _ 
 
 fields_read : (c : Candidate) (s : Spelling) → AreWords c s
     → candidate_fields (address_tail c.related s.related_port
-    (tcptype_tail s.tcptype s.generation s.network c.ufrag s.cost))
+    (tcptype_tail s.tcptype s.generation s.network_id c.ufrag s.network_cost))
     ≡ Some (record { related = c.related; tcptype = c.tcptype; ufrag = c.ufrag })
 unfolding candidate_fields tcptype_field ufrag_field
 fields_read c s h =
-    let tail = generation_tail s.generation s.network c.ufrag s.cost in
+    let tail = generation_tail s.generation s.network_id c.ufrag s.network_cost in
     let tcptype = named_read (codes "tcptype ") s.tcptype tail h.tcptype
-    (no_tcptype s.generation s.network c.ufrag s.cost) in
-    then _ _ _ _ (address_read c.related s.related_port s.tcptype s.generation s.network c.ufrag s.cost h.address)
+    (no_tcptype s.generation s.network_id c.ufrag s.network_cost) in
+    then _ _ _ _ (address_read c.related s.related_port s.tcptype s.generation s.network_id c.ufrag s.network_cost
+    h.address)
     (then _ _ _ _ (then _ _ _ _ tcptype (then _ _ _ _ h.spells.tcptype refl))
     (then _ _ _ _
-    (then _ _ _ _ (named_read (codes "generation ") s.generation (network_tail s.network c.ufrag s.cost) h.generation
-    (no_generation s.network c.ufrag s.cost))
-    (then _ _ _ _ (named_read (codes "network-id ") s.network (ufrag_tail c.ufrag s.cost) h.network
-    (no_network c.ufrag s.cost))
-    (then _ _ _ _ (named_read (codes "ufrag ") c.ufrag (cost_tail s.cost) h.ufrag (no_ufrag s.cost))
-    (then _ _ _ _ (named_read (codes "network-cost ") s.cost None h.cost refl) refl)))) refl))
+    (then _ _ _ _ (named_read (codes "generation ") s.generation (network_tail s.network_id c.ufrag s.network_cost)
+    h.generation
+    (no_generation s.network_id c.ufrag s.network_cost))
+    (then _ _ _ _ (named_read (codes "network-id ") s.network_id (ufrag_tail c.ufrag s.network_cost) h.network_id
+    (no_network c.ufrag s.network_cost))
+    (then _ _ _ _ (named_read (codes "ufrag ") c.ufrag (cost_tail s.network_cost) h.ufrag (no_ufrag s.network_cost))
+    (then _ _ _ _ (named_read (codes "network-cost ") s.network_cost None h.network_cost refl) refl)))) refl))
 
 pub words_read : (c : Candidate) (s : Spelling) → AreWords c s → candidate (words_text c s) ≡ Some c
 unfolding candidate candidate_base candidate_carrier candidate_place words_text
 words_read c s h =
     let tail = address_tail c.related s.related_port
-    (tcptype_tail s.tcptype s.generation s.network c.ufrag s.cost) in
+    (tcptype_tail s.tcptype s.generation s.network_id c.ufrag s.network_cost) in
     let kind = halves-blank s.kind tail h.kind in
     then _ _ _ _ (then _ _ _ _ (split_first-at 32 c.foundation _ h.foundation.1)
     (then _ _ _ _ (text_some c.foundation h.foundation.0)

@@ -7,7 +7,7 @@ use Rattle.sdp_formats_forms.specs.Split.{Lacks}
 use Rattle.sdp_formats_values.specs.declared.candidate.Candidate.{Candidate}
 use Rattle.sdp_formats_values.specs.declared.candidate.RelatedAddress.{RelatedAddress}
 use Rattle.sdp_formats_laws.proofs.Candidates.{behind_blank}
-use Rattle.sdp_formats_laws.specs.CandidateWords.{IsSingle, Spelling, Spells, named_words}
+use Rattle.sdp_formats_laws.specs.CandidateWords.{IsOneWord, Spelling, Spells, named_words}
 use Rattle.sdp_formats_laws.specs.CandidateWords.{related_words, words_of}
 
 -- what stands behind the kind, from the last field on: a name and its word, where there is one
@@ -48,7 +48,8 @@ pub named_shape : (name : List ℕ) (o : Option (List ℕ)) (words : List (List 
 unfolding blanked
 named_shape name None words more h = h
 named_shape name (Some w) words more h =
-    ap (λ t. 32 ∷ (name ++ 32 ∷ (w ++ t))) h ∙ ap (λ t. 32 ∷ t) (sym (append_assoc name (32 ∷ []) (w ++ behind_blank more)))
+    ap (λ t. 32 ∷ (name ++ 32 ∷ (w ++ t))) h
+    ∙ ap (λ t. 32 ∷ t) (sym (append_assoc name (32 ∷ []) (w ++ behind_blank more)))
 
 pub address_shape : (r : Option RelatedAddress) (port : List ℕ) (words : List (List ℕ)) (more : Option (List ℕ))
     → blanked words ≡ behind_blank more
@@ -67,26 +68,26 @@ last_shape name (Some w) = ap (λ t. 32 ∷ t) (sym (append_assoc name (32 ∷ [
 -- which words of a candidate stand where it may have none
 pub record AreWords (c : Candidate) (s : Spelling) : Type 0 where
   pub spells : Spells c s
-  pub address : IfSome c.related (λ r. IsSingle r.addr × Lacks 32 s.related_port
+  pub address : IfSome c.related (λ r. IsOneWord r.addr × Lacks 32 s.related_port
       × (number_below (2 ^ 16) s.related_port ≡ Some r.port))
-  pub foundation : IsSingle c.foundation
-  pub addr : IsSingle c.addr
+  pub foundation : IsOneWord c.foundation
+  pub addr : IsOneWord c.addr
   pub component : Lacks 32 s.component
   pub protocol : Lacks 32 s.protocol
   pub priority : Lacks 32 s.priority
   pub port : Lacks 32 s.port
   pub kind : Lacks 32 s.kind
-  pub tcptype : IfSome s.tcptype IsSingle
-  pub generation : IfSome s.generation IsSingle
-  pub network : IfSome s.network IsSingle
-  pub ufrag : IfSome c.ufrag IsSingle
-  pub cost : IfSome s.cost IsSingle
+  pub tcptype : IfSome s.tcptype IsOneWord
+  pub generation : IfSome s.generation IsOneWord
+  pub network_id : IfSome s.network_id IsOneWord
+  pub ufrag : IfSome c.ufrag IsOneWord
+  pub network_cost : IfSome s.network_cost IsOneWord
 
 -- all words, and the text that they make
 unfoldable pub words_text : (c : Candidate) (s : Spelling) → List ℕ
 words_text c s = c.foundation ++ 32 ∷ (s.component ++ 32 ∷ (s.protocol ++ 32 ∷ (s.priority ++ 32 ∷ (c.addr
     ++ 32 ∷ (s.port ++ 32 ∷ (codes "typ " ++ (s.kind ++ behind_blank (address_tail c.related s.related_port
-    (tcptype_tail s.tcptype s.generation s.network c.ufrag s.cost)))))))))
+    (tcptype_tail s.tcptype s.generation s.network_id c.ufrag s.network_cost)))))))))
 
 pub words_shape : (c : Candidate) (s : Spelling) → joined (codes " ") (words_of c s) ≡ words_text c s
 unfolding words_text blanked
@@ -94,7 +95,7 @@ words_shape c s =
     let tail = address_shape c.related s.related_port _ _
     (named_shape (codes "tcptype") s.tcptype _ _
     (named_shape (codes "generation") s.generation _ _
-    (named_shape (codes "network-id") s.network _ _
-    (named_shape (codes "ufrag") c.ufrag _ _ (last_shape (codes "network-cost") s.cost))))) in
+    (named_shape (codes "network-id") s.network_id _ _
+    (named_shape (codes "ufrag") c.ufrag _ _ (last_shape (codes "network-cost") s.network_cost))))) in
     ap (λ t. c.foundation ++ 32 ∷ (s.component ++ 32 ∷ (s.protocol ++ 32 ∷ (s.priority ++ 32 ∷ (c.addr
     ++ 32 ∷ (s.port ++ 32 ∷ (codes "typ " ++ (s.kind ++ t)))))))) tail

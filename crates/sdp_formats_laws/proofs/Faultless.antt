@@ -1,6 +1,7 @@
 -- A section that lists plain rows has no fault.
 use Rattle.std.proofs.Common.{◌≡◌, ◌≢◌, ◌≤◌, ℕ, Bool, true, false, not, ◌&&◌, ◌==◌, List, [], ◌∷◌, ◌++◌}
-use Rattle.std.proofs.Common.{Option, Some, None, IsTrue, nat_lt, length, is_none, if◌then◌else◌, refl, suc, ◌∙◌, ap, arith}
+use Rattle.std.proofs.Common.{Option, Some, None, IsTrue, nat_lt, length, is_none, if◌then◌else◌, refl, suc, ◌∙◌}
+use Rattle.std.proofs.Common.{ap, arith}
 use Rattle.std.specs.List.{list_all}
 use Rattle.std.proofs.lemmas.Grind.{common_steps}
 use Rattle.sdp_formats_predicates.specs.Consistency.{apts_agree, are_mapped}

@@ -40,6 +40,10 @@ TextsComeBack = (sdp : Sdp) → IsPrintableText sdp → SdpSays (sdp_text sdp) (
 pub texts_back : TextsComeBack → PlainRowsComeBack → RowsArePrintable → ListedRowsHaveNoFault → ReadRowsAreRows
     → RowTextsComeBack
 texts_back texts come print fine read sdp lists session each one = (
-  texts sdp (session, sections_print print sdp.media_lines lists each, none_at_fault fine sdp.media_lines lists each one),
+  texts sdp (
+    session,
+    sections_print print sdp.media_lines lists each,
+    none_at_fault fine sdp.media_lines lists each one,
+  ),
   sections_back come read sdp.media_lines lists each,
 )

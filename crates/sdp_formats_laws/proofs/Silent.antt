@@ -87,7 +87,8 @@ attributes_split row = ap (λ l. attribute.RtpMap row.pt (map_of row.spec) ∷ l
     (regroup (feedback_lines row) (fmtp_of row.pt (params_in row.spec)) (resend_lines row row.resend)
     (red_lines row row.red))
 
-pub row_silent : (row : Row) (t : ℕ) → is_among (types_of row) t ≡ false → list_any (tells t) (attributes_of row) ≡ false
+pub row_silent : (row : Row) (t : ℕ) → is_among (types_of row) t ≡ false
+    → list_any (tells t) (attributes_of row) ≡ false
 row_silent row t e =
     let s = neither (row.pt == t) (is_among (listed row.resend ++ listed row.red) t) e in
     let more : list_any (tells t) (feedback_lines row ++ (fmtp_of row.pt (params_in row.spec)

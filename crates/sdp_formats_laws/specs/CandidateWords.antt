@@ -20,8 +20,8 @@ pub record Spelling : Type 0 where
   pub related_port : List ℕ
   pub tcptype : Option (List ℕ)
   pub generation : Option (List ℕ)
-  pub network : Option (List ℕ)
-  pub cost : Option (List ℕ)
+  pub network_id : Option (List ℕ)
+  pub network_cost : Option (List ℕ)
 
 -- They are words for what this candidate has.
 pub record Spells (c : Candidate) (s : Spelling) : Type 0 where
@@ -46,14 +46,14 @@ related_words (Some r) port = codes "raddr" ∷ r.addr ∷ codes "rport" ∷ por
 abbrev pub words_of : Candidate → Spelling → List (List ℕ)
 words_of c s = c.foundation ∷ s.component ∷ s.protocol ∷ s.priority ∷ c.addr ∷ s.port ∷ codes "typ" ∷ s.kind
     ∷ (related_words c.related s.related_port ++ (named_words (codes "tcptype") s.tcptype
-    ++ (named_words (codes "generation") s.generation ++ (named_words (codes "network-id") s.network
-    ++ (named_words (codes "ufrag") c.ufrag ++ named_words (codes "network-cost") s.cost)))))
+    ++ (named_words (codes "generation") s.generation ++ (named_words (codes "network-id") s.network_id
+    ++ (named_words (codes "ufrag") c.ufrag ++ named_words (codes "network-cost") s.network_cost)))))
 
 -- A word isn't empty and has no blank.
-abbrev pub IsSingle : List ℕ → Type 0
-IsSingle word = (word ≢ []) × Lacks 32 word
+abbrev pub IsOneWord : List ℕ → Type 0
+IsOneWord word = (word ≢ []) × Lacks 32 word
 
 -- A text is read as a candidate exactly where it is words for it.
 abbrev pub CandidatesAreTheirWords : Type 0
 CandidatesAreTheirWords = (text : List ℕ) (c : Candidate) → candidate text ≡ Some c
-    ↔ ((s : Spelling) × Spells c s × IsEach IsSingle (words_of c s) × (text ≡ joined (codes " ") (words_of c s)))
+    ↔ ((s : Spelling) × Spells c s × IsEach IsOneWord (words_of c s) × (text ≡ joined (codes " ") (words_of c s)))

@@ -1,5 +1,6 @@
 -- What holds of whole texts whose sections list plain rows.
-use Rattle.std.specs.Prelude.{◌≡◌, ◌≢◌, ◌<◌, ◌≤◌, ◌^◌, Bool, true, false, IsTrue, List, [], ◌∷◌, ◌++◌, map, filter, IfSome}
+use Rattle.std.specs.Prelude.{◌≡◌, ◌≢◌, ◌<◌, ◌≤◌, ◌^◌, Bool, true, false, IsTrue, List, [], ◌∷◌, ◌++◌, map, filter}
+use Rattle.std.specs.Prelude.{IfSome}
 use Rattle.std.specs.List.{count_by, flat_map, list_all, list_any}
 use Rattle.sdp_formats_laws.specs.Printable.{IsPrintable}
 use Rattle.sdp_formats_laws.specs.PrintableTexts.{IsEach, IsPrintableBandwidth, IsPrintableSection, IsPrintableSession}
@@ -51,7 +52,7 @@ pub record ListsRows (m : MediaLine) (rows : List Row) : Type 0 where
   pub others_silent : list_any names_type others ≡ false
   pub behind_silent : list_any names_type behind ≡ false
 
--- A section with one name, at most one setup and, of RTP, one direction (RFC 8829 5.2).
+-- A section with one name, at most one setup and, of RTP, one direction (RFC 8829 5.2.1).
 pub record HasOneOfEach (m : MediaLine) : Type 0 where
   pub name : count_by is_mid m.attrs ≡ 1
   pub setup : count_by is_setup m.attrs ≤ 1
@@ -80,8 +81,8 @@ EachListsRows (m ∷ ms) (rows ∷ more) = ListsRows m rows × EachListsRows ms 
 EachListsRows [] (rows ∷ more) = ⊥
 EachListsRows (m ∷ ms) [] = ⊥
 
--- A text whose sections list plain rows, in a printable session, is read whole; and the rows that
--- are read of it are those rows, section by section and in their order, not locked.
+-- A text whose sections list plain rows, in a printable session, is read whole; and the rows that are read of it are
+-- those rows, section by section and in their order, not locked.
 abbrev pub RowTextsComeBack : Type 0
 RowTextsComeBack = (sdp : Sdp) (rows : List (List Row)) → IsPrintableSession sdp.session
     → EachListsRows sdp.media_lines rows → IsEach HasOneOfEach sdp.media_lines

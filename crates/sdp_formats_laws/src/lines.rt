@@ -25,8 +25,8 @@ pub fn printed_lines_law()
 }
 
 /// A text is read as a candidate exactly where it is words for it, in their order, with a blank between each two
-/// (RFC 8839 5.1): foundation, component, protocol, priority, address, port, `typ` and kind; then, where they are given,
-/// `raddr` and `rport`, `tcptype`, `generation`, `network-id`, `ufrag` and `network-cost`, each with its word.
+/// (RFC 8839 5.1): foundation, component, protocol, priority, address, port, `typ` and kind; then, where they are
+/// given, `raddr` and `rport`, `tcptype`, `generation`, `network-id`, `ufrag` and `network-cost`, each with its word.
 pub fn candidate_words_law()
     ensures { CandidatesAreTheirWords }
 {}

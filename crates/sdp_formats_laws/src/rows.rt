@@ -20,8 +20,8 @@ pub fn row_lines_law()
     links_law();
 }
 
-/// A section that lists plain rows of distinct types and has one name, at most one setup and, of RTP, one direction, has
-/// no fault: each of its types is mapped once, and each retransmits one other at most (RFC 4588 8.6).
+/// A section that lists plain rows of distinct types and has one name, at most one setup and, of RTP, one direction,
+/// has no fault: each of its types is mapped once, and each retransmits one other at most (RFC 4588 8.6).
 pub fn rows_without_fault_law()
     ensures { ListedRowsHaveNoFault }
 {}

@@ -29,11 +29,11 @@ pub fn line_ends_law()
     ensures { ReadsByAnyEnd }
 {}
 
-/// What is read of a text, the last line of which is ended, stays the same with another text behind it, but for the rest,
-/// exactly where the text leaves something unread already, or the other one fits nowhere behind it: behind sections where
-/// it begins with no attribute of a section and with no section, as `b=AS:5` does; behind a session alone where it begins
-/// with no attribute of a session, no section and, where there is no attribute yet, no line `r=`. What begins with none
-/// of the letters `a`, `m` and `r` fits nowhere behind any session.
+/// What is read of a text, the last line of which is ended, stays the same with another text behind it, but for the
+/// rest, exactly where the text leaves something unread already, or the other one fits nowhere behind it (RFC 8866 5):
+/// behind sections where it begins with no attribute of a section and with no section, as `b=AS:5` does; behind a
+/// session alone where it begins with no attribute of a session, no section and, where there is no attribute yet, no
+/// line `r=`. What begins with none of the letters `a`, `m` and `r` fits nowhere behind any session.
 pub fn fits_nowhere_law()
     ensures same { StaysWithWhatFitsNowhere }
     ensures letters { OthersFitNowhere }
