@@ -9,7 +9,7 @@ use payload_core_audio::{
     AmrWbDepacketizer, ComfortNoiseDepacketizer, G711Depacketizer, OpusDepacketizer,
     TelephoneEventDepacketizer,
 };
-use payload_core_av1::Av1Depacketizer;
+use payload_core_av1_reader::Av1Depacketizer;
 use payload_core_base::{Codec, CodecExtra, Depacketizer, PacketError};
 use payload_core_vpx::{Vp8Depacketizer, Vp9Depacketizer};
 use rtp_wire::Frequency;

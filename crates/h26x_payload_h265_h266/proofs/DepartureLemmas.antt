@@ -11,7 +11,7 @@ use Rattle.h26x_payload_units.proofs.DepartureLemmas.{Each, departures-each}
 use Rattle.h26x_payload_units.specs.declared.layout.Layout.{Layout}
 use Rattle.h26x_payload_units.specs.Headers.{needs_vps}
 use Rattle.h26x_payload_h265_h266.specs.Coding.{AreSendable, IsSendable}
-use Rattle.h26x_payload_h265_h266.specs.Packing.{aggregate, can_join, can_leave, h265_h266_rules}
+use Rattle.h26x_payload_packing.specs.Packing.{aggregate, can_join, can_leave, h265_h266_rules}
 use Rattle.h26x_payload_units.proofs.ReadingLemmas.{HasByte}
 
 -- what leaves at a limit

@@ -26,9 +26,9 @@ use Rattle.h26x_payload_units.specs.Given.{GivesUnits, unit_of}
 use Rattle.h26x_payload_h265_h266.specs.Coding.{AreSendable, FullLaw, IsSendable, KeepsCodecLaw, UnitsLaw}
 use Rattle.h26x_payload_h265_h266.specs.Coding.{WithinLaw, h265_h266_units_sent}
 use Rattle.h26x_payload_units.specs.Numbers.{dond_bytes, donl_bytes, donl_size}
-use Rattle.h26x_payload_h265_h266.specs.Packing.{aggregate, can_leave, departure_packets, fragment, fragments_of}
-use Rattle.h26x_payload_h265_h266.specs.Packing.{h265_h266_packing, least_limit, leaving, packets_of, packets_sent}
-use Rattle.h26x_payload_h265_h266.specs.Packing.{parts_of, single}
+use Rattle.h26x_payload_packing.specs.Packing.{aggregate, can_leave, departure_packets, fragment, fragments_of}
+use Rattle.h26x_payload_packing.specs.Packing.{h265_h266_packing, least_limit, leaving, packets_of, packets_sent}
+use Rattle.h26x_payload_packing.specs.Packing.{parts_of, single}
 use Rattle.h26x_payload_h265_h266.specs.Reading.{h265_h266_format}
 use Rattle.h26x_payload_h265_h266.proofs.DepartureLemmas.{IsFitting, IsGood, departures-fit, departures-good}
 use Rattle.h26x_payload_h265_h266.proofs.RunLaw.{aggregate_given, aggregate_head, fragments_bundle, given-run}

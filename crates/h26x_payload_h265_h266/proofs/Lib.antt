@@ -1,4 +1,3 @@
-pub mod SendingLemmas
 pub mod DepartureLemmas
 pub mod RunLaw
 pub mod Law

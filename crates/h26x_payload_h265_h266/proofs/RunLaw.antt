@@ -25,7 +25,7 @@ use Rattle.h26x_payload_units.specs.Headers.{aggregate_high, aggregate_low, aggr
 use Rattle.h26x_payload_units.specs.Headers.{fu_type, has_end, has_f, has_start, high_with, kind_by, kind_of}
 use Rattle.h26x_payload_units.specs.Headers.{last_alone, layer_of, low_with, tid_of, type_of}
 use Rattle.h26x_payload_units.specs.Numbers.{dond_bytes, dond_size, donl_bytes, donl_size}
-use Rattle.h26x_payload_h265_h266.specs.Packing.{aggregate, fragment, least}
+use Rattle.h26x_payload_packing.specs.Packing.{aggregate, fragment, least}
 use Rattle.h26x_payload_h265_h266.specs.Reading.{aggregated_in, corrupted, ends_short, extra_after}
 use Rattle.h26x_payload_h265_h266.specs.Reading.{extra_of, given, given_by, given_from, given_units}
 use Rattle.h26x_payload_h265_h266.specs.Reading.{h265_h266_format, is_cut_short, shows_irap, was_keyframe}

@@ -10,8 +10,8 @@ use Rattle.h26x_payload_units.specs.Given.{GivesUnits, unit_of}
 use Rattle.h26x_payload_units.specs.declared.layout.Layout.{Layout}
 use Rattle.h26x_payload_units.specs.Headers.{last_alone, type_of}
 use Rattle.h26x_payload_units.specs.Numbers.{donl_size}
-use Rattle.h26x_payload_h265_h266.specs.Packing.{fragments_of, h265_h266_after, h265_h266_packing, h265_h266_rules}
-use Rattle.h26x_payload_h265_h266.specs.Packing.{least_limit, packets_sent}
+use Rattle.h26x_payload_packing.specs.Packing.{fragments_of, h265_h266_after, h265_h266_packing, h265_h266_rules}
+use Rattle.h26x_payload_packing.specs.Packing.{least_limit, packets_sent}
 use Rattle.h26x_payload_h265_h266.specs.Reading.{h265_h266_format}
 
 -- F, the topmost bit of its header, is clear, its type is one of those that stand alone, and it has a byte behind its

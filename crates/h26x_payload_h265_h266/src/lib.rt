@@ -2,13 +2,10 @@
 #![tactic(auto)]
 
 mod codecs;
-mod constants;
 mod keyframes;
 mod laws;
 mod packetizer;
-mod packets;
 mod receiver;
-mod sender;
 
 pub use codecs::{
     H265, H265Depacketizer, H265OrH266, H265Packetizer, H266, H266Depacketizer, H266Packetizer,

@@ -1,12 +1,10 @@
 //! Sending H.265 and H.266 payloads (RFC 7798 4.4, RFC 9328 4.3).
 
-ghost use Rattle.h26x_payload_h265_h266.specs.Packing.{h265_h266_packing};
+ghost use Rattle.h26x_payload_packing.specs.Packing.{h265_h266_packing};
 ghost use Rattle.std.specs.Prelude.{[], ◌∷◌, ◌≡◌, IfErr, IfOk, None, false, option_map};
 
 use crate::codecs::H265OrH266;
-use crate::constants::MAX_PACKET_SIZE;
-use crate::packets::Form;
-use crate::sender::{Kept, push_units};
+use h26x_payload_packing::{Form, Kept, MAX_PACKET_SIZE, push_units};
 use h26x_payload_units::{copy_of_set, set_of};
 use payload_core_base::{PacketError, Packetizer};
 use std::alloc::Global;

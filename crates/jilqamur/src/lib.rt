@@ -8,7 +8,7 @@ ghost use Rattle.rtp_wire.specs.Header.{header_in, spelled};
 ghost use Rattle.rtp_wire.specs.Padding.{unpadded};
 ghost use Rattle.rtp_wire.specs.Run.{reception_of};
 ghost use Rattle.rtp_wire.specs.Widening.{widened};
-ghost use Rattle.rtp_wire_extensions.specs.Maps.{empty_map};
+ghost use Rattle.rtp_wire_extension_maps.specs.Maps.{empty_map};
 ghost use Rattle.jilqamur_packets.specs.Codes.{ok, memory, in_use, closed, unreadable, damaged, unwritable};
 ghost use Rattle.jilqamur_packets.specs.Headers.{as_wire, as_header, write_outcome};
 ghost use Rattle.jilqamur_packets.specs.Windows.{ReceivedAs, behind, fresh};

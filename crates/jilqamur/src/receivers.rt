@@ -5,11 +5,11 @@ ghost use Rattle.jilqamur_packets.specs.Codes.{ok, memory, nothing, closed, in_u
 ghost use Rattle.jilqamur_packets.specs.Copies.{IsFetched};
 ghost use Rattle.jilqamur_packets.specs.Handles.{AtObject, answer_of};
 ghost use Rattle.jilqamur_packets.specs.Formats.{format_outcome};
-ghost use Rattle.jilqamur_ends.specs.Fetched.{IsToldOf, bytes_of};
-ghost use Rattle.jilqamur_ends.specs.Inboxes.{Polls, Drains, new_inbox, Takes};
+ghost use Rattle.jilqamur_streams.specs.Fetched.{IsToldOf, bytes_of};
+ghost use Rattle.jilqamur_streams.specs.Inboxes.{Polls, Drains, new_inbox, Takes};
 
-use jilqamur_ends::ReceiverHandle;
 use jilqamur_packets::{WireFormat, WireUnit, codes};
+use jilqamur_streams::ReceiverHandle;
 use std::alloc::Global;
 
 /// Opens a receiving stream by codec.

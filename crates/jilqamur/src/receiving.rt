@@ -6,7 +6,7 @@ ghost use Rattle.jilqamur_packets.specs.Handles.{AtObject};
 ghost use Rattle.jilqamur_ends.specs.Answers.{AtEnd};
 ghost use Rattle.jilqamur_ends.specs.Peers.{behind_end, behind_poll};
 ghost use Rattle.jilqamur_packets.specs.Copies.{IsFetched};
-ghost use Rattle.jilqamur_ends.specs.Fetched.{IsToldOf, bytes_of};
+ghost use Rattle.jilqamur_streams.specs.Fetched.{IsToldOf, bytes_of};
 ghost use Rattle.jilqamur_ends.specs.Receiving.{Receives, Polls, Drains, TellsValues};
 
 use jilqamur_ends::EndHandle;

@@ -5,10 +5,10 @@ ghost use Rattle.std.specs.List.{slice_get};
 ghost use Rattle.jilqamur_packets.specs.Codes.{ok, memory, nothing, closed, in_use};
 ghost use Rattle.jilqamur_packets.specs.Copies.{IsFetched};
 ghost use Rattle.jilqamur_packets.specs.Handles.{AtObject, answer_of};
-ghost use Rattle.jilqamur_ends.specs.Outboxes.{new_outbox, sender_outcome, Pushes};
+ghost use Rattle.jilqamur_streams.specs.Outboxes.{new_outbox, sender_outcome, Pushes};
 
-use jilqamur_ends::{SenderHandle, WireSender};
 use jilqamur_packets::{WireFormat, codes};
+use jilqamur_streams::{SenderHandle, WireSender};
 use std::alloc::Global;
 
 /// Opens a sending stream by codec.

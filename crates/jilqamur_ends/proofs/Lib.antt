@@ -1,4 +1,2 @@
 pub mod AsBox
 pub mod BareSession
-pub mod ReceiverBox
-pub mod SenderBox

@@ -1,15 +1,15 @@
 -- What calls answer that exchange texts.
 use Rattle.std.specs.Prelude.{ℕ, ◌≡◌, ◌⊎◌, List, Option, Some, None, is_some, if◌then◌else◌}
 use Rattle.std.specs.Str.{is_utf8}
-use Rattle.sdp_formats_types.specs.PrintedSession.{sdp_text}
-use Rattle.rtp_media_negotiation.specs.declared.errors.ExchangeError.{ExchangeError}
-use Rattle.rtp_media_negotiation.specs.declared.errors.ExchangeError.TheVariants as error
-use Rattle.rtp_media_negotiation.specs.Exchanges.{with_offer}
-use Rattle.rtp_media_negotiation.specs.Offers.{Accepts, Answers, offer_of}
-use Rattle.rtp_media_negotiation.specs.Refusals.{MayAccept, MayAnswer, Refuses, RefusesAccept, RefusesAnswer}
-use Rattle.rtp_media_negotiation.specs.Refusals.{refusal_of_offer}
-use Rattle.rtp_media_sections.specs.Sections.{Wanted}
-use Rattle.rtp_media_ends.specs.Ends.{EndState, with_exchange}
+use Rattle.sdp_formats_sessions.specs.PrintedSession.{sdp_text}
+use Rattle.rtp_media_exchange_steps.specs.declared.errors.ExchangeError.{ExchangeError}
+use Rattle.rtp_media_exchange_steps.specs.declared.errors.ExchangeError.TheVariants as error
+use Rattle.rtp_media_exchange_steps.specs.Exchanges.{with_offer}
+use Rattle.rtp_media_exchange_steps.specs.Offers.{Accepts, Answers, offer_of}
+use Rattle.rtp_media_exchange_steps.specs.Refusals.{MayAccept, MayAnswer, Refuses, RefusesAccept, RefusesAnswer}
+use Rattle.rtp_media_exchange_steps.specs.Refusals.{refusal_of_offer}
+use Rattle.rtp_media_section_texts.specs.Sections.{Wanted}
+use Rattle.rtp_media_open_streams.specs.Ends.{EndState, with_exchange}
 use Rattle.rtp_media_ends.specs.Stops.{Where}
 use Rattle.jilqamur_packets.specs.Codes.{ok, memory, not_text, text_unreadable, out_of_turn, not_media}
 use Rattle.jilqamur_packets.specs.Codes.{not_corresponding}

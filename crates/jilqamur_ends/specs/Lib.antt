@@ -5,10 +5,3 @@ pub mod Owned
 pub mod Peers
 pub mod Receiving
 pub mod Sending
-pub mod StreamAnswers
-pub mod Fetched
-pub mod Formats
-pub mod Inboxes
-pub mod OwnedReceiver
-pub mod OwnedSender
-pub mod Outboxes

@@ -14,7 +14,7 @@ use rtp_media_ends::{
     Codec, CodecConfig, CodecSpec, End, EndError, FormatParams, MediaKind, PayloadParams,
     SectionSpec, Session,
 };
-use rtp_media_sections::flow;
+use rtp_media_section_texts::flow;
 use rtp_wire::{Extension, ExtensionMap, Frequency, Mid, Pt, SessionId, Ssrc};
 use std::alloc::{AllocError, Global};
 use std::mem;

@@ -4,12 +4,12 @@ ghost use Rattle.std.specs.Prelude.{◌≡◌};
 ghost use Rattle.std.specs.List.{slice_get};
 ghost use Rattle.jilqamur_packets.specs.Codes.{nothing};
 ghost use Rattle.jilqamur_packets.specs.Copies.{IsCopied, IsFetched};
-ghost use Rattle.jilqamur_ends.specs.Fetched.{IsToldOf, bytes_of};
+ghost use Rattle.jilqamur_streams.specs.Fetched.{IsToldOf, bytes_of};
 ghost use Rattle.jilqamur_ends.specs.Receiving.{TellsValues};
 
 use crate::peer::Peer;
-use crate::{datagram_at, unit_at};
 use jilqamur_packets::{WireUnit, WireValues, codes, copy_out};
+use jilqamur_streams::{datagram_at, unit_at};
 
 impl Peer {
     /// Copies the text that the last offer or answer left, and answers `OK`, or `TOO_SMALL`, and the buffer is

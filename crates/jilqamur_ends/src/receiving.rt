@@ -6,12 +6,13 @@ ghost use Rattle.jilqamur_ends.specs.Answers.{AtEnd};
 ghost use Rattle.jilqamur_ends.specs.Exchanges.{WithText};
 ghost use Rattle.jilqamur_ends.specs.Receiving.{OpensReceiver, Receives, Polls, Drains, IsTakenAs, open_code};
 ghost use Rattle.jilqamur_ends.specs.Receiving.{verdict_code};
-ghost use Rattle.jilqamur_ends.specs.StreamAnswers.{poll_code};
+ghost use Rattle.jilqamur_streams.specs.StreamAnswers.{poll_code};
 
 use crate::peer::Peer;
-use crate::poll_code;
 use jilqamur_packets::{codes, text_in};
-use rtp_media_ends::{End, OpenError, Received, Unit};
+use jilqamur_streams::poll_code;
+use rtp_media_ends::{End, Unit};
+use rtp_media_open_streams::{OpenError, Received};
 use rtp_wire::{Mid, Pt, Ssrc};
 
 /// The number of a refusal to open a stream.

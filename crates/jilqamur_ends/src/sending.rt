@@ -9,9 +9,10 @@ ghost use Rattle.jilqamur_ends.specs.Sending.{mid_of};
 
 use crate::peer::Peer;
 use crate::receiving::open_code;
-use crate::sample_code;
 use jilqamur_packets::{WireValues, codes, number_given, text_in};
-use rtp_media_ends::{Datagram, Distances, End, StreamParams};
+use jilqamur_streams::sample_code;
+use rtp_media_ends::{Datagram, End};
+use rtp_media_open_streams::{Distances, StreamParams};
 use rtp_wire::{MediaTime, Mid, Pt, Ssrc};
 use std::alloc::{AllocError, Global};
 

@@ -1,7 +1,7 @@
 use Rattle.std.specs.Prelude.{ℕ, List, length, ◌||◌, nat_lt, if◌then◌else◌}
 use Rattle.rtp_wire.specs.Header.{spelled}
 use Rattle.rtp_wire.specs.declared.header.RtpHeader.{RtpHeader}
-use Rattle.rtp_wire_extensions.specs.Maps.{empty_map}
+use Rattle.rtp_wire_extension_maps.specs.Maps.{empty_map}
 use Rattle.rtp_wire_extensions.specs.Values.{absent}
 use Rattle.jilqamur_packets.specs.declared.header.WireHeader.{WireHeader}
 use Rattle.jilqamur_packets.specs.Codes.{ok, unwritable, too_small}

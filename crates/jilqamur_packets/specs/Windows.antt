@@ -4,7 +4,7 @@ use Rattle.rtp_wire.specs.declared.run.Reception.TheVariants.{Unreadable, Refuse
 use Rattle.jilqamur_packets.specs.Codes.{ok, unreadable, refused}
 use Rattle.rtp_wire.specs.Header.{header_in}
 use Rattle.rtp_wire.specs.Run.{window_behind}
-use Rattle.rtp_wire_extensions.specs.Maps.{empty_map}
+use Rattle.rtp_wire_extension_maps.specs.Maps.{empty_map}
 use Rattle.jilqamur_packets.specs.declared.replay.Replay.{Replay}
 
 -- A window before its first number.

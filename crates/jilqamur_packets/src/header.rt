@@ -3,7 +3,7 @@
 ghost use Rattle.std.specs.Prelude.{◌≡◌, ◌≢◌, ◌≤◌, ◌++◌, length, drop};
 ghost use Rattle.std.specs.Option.{option_map};
 ghost use Rattle.rtp_wire.specs.Header.{header_in, spelled};
-ghost use Rattle.rtp_wire_extensions.specs.Maps.{empty_map};
+ghost use Rattle.rtp_wire_extension_maps.specs.Maps.{empty_map};
 ghost use Rattle.jilqamur_packets.specs.Codes.{ok, too_small, unwritable};
 ghost use Rattle.jilqamur_packets.specs.Headers.{as_wire, as_header, write_outcome};
 

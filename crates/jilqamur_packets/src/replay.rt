@@ -3,7 +3,7 @@
 ghost use Rattle.std.specs.Prelude.{◌≡◌};
 ghost use Rattle.rtp_wire.specs.Header.{header_in};
 ghost use Rattle.rtp_wire.specs.Run.{reception_of};
-ghost use Rattle.rtp_wire_extensions.specs.Maps.{empty_map};
+ghost use Rattle.rtp_wire_extension_maps.specs.Maps.{empty_map};
 ghost use Rattle.jilqamur_packets.specs.Windows.{ReceivedAs, behind};
 
 use crate::codes;

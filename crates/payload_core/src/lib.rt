@@ -9,9 +9,9 @@ pub use payload_core_audio::{
     telephone_law,
 };
 pub use payload_core_av1::{
-    Av1Depacketizer, Av1Packetizer, av1_law, av1_layout_law, av1_open_law, av1_packets_law,
-    av1_size_law, detect_av1_keyframe,
+    Av1Packetizer, av1_law, av1_layout_law, av1_open_law, av1_packets_law, av1_size_law,
 };
+pub use payload_core_av1_reader::{Av1Depacketizer, detect_av1_keyframe};
 pub use payload_core_base::{
     Av1CodecExtra, Codec, CodecExtra, Depacketizer, H264CodecExtra, H265CodecExtra, H266CodecExtra,
     MediaKind, PacketError, PacketSink, Packetizer, TelephoneEvent, TelephoneEvents, Vp8CodecExtra,

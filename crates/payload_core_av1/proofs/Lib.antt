@@ -1,6 +1,3 @@
-pub mod KeepsLemmas
-pub mod Leb128Lemmas
-pub mod ReaderLemmas
 pub mod SizeLaw
 pub mod ElementsLaw
 pub mod ObuLaw

@@ -10,23 +10,23 @@ use Rattle.rtp_wire.specs.Name.{name_of}
 use Rattle.sdp_formats_format.specs.declared.format.FormatParams.{FormatParams}
 use Rattle.sdp_formats_format.specs.Formats.{format_of, no_format}
 use Rattle.sdp_formats_rows.specs.Rows.{Row, new_row}
-use Rattle.sdp_formats_types.specs.PrintedSession.{sdp_text}
-use Rattle.rtp_media_negotiation.specs.declared.errors.EndError.{EndError}
-use Rattle.rtp_media_negotiation.specs.declared.errors.ExchangeError.{ExchangeError}
-use Rattle.rtp_media_negotiation.specs.Exchanges.{bare_session, with_offer}
-use Rattle.rtp_media_negotiation.specs.Offers.{Accepts, Answers, offer_of}
-use Rattle.rtp_media_negotiation.specs.Refusals.{MayAccept, MayAnswer, Refuses, RefusesAccept, RefusesAnswer}
-use Rattle.rtp_media_negotiation.specs.Refusals.{refusal_of_new, refusal_of_offer}
-use Rattle.rtp_media_sections.specs.Sections.{Wanted}
+use Rattle.sdp_formats_sessions.specs.PrintedSession.{sdp_text}
+use Rattle.rtp_media_exchange_steps.specs.declared.errors.EndError.{EndError}
+use Rattle.rtp_media_exchange_steps.specs.declared.errors.ExchangeError.{ExchangeError}
+use Rattle.rtp_media_exchange_steps.specs.Exchanges.{bare_session, with_offer}
+use Rattle.rtp_media_exchange_steps.specs.Offers.{Accepts, Answers, offer_of}
+use Rattle.rtp_media_exchange_steps.specs.Refusals.{MayAccept, MayAnswer, Refuses, RefusesAccept, RefusesAnswer}
+use Rattle.rtp_media_exchange_steps.specs.Refusals.{refusal_of_new, refusal_of_offer}
+use Rattle.rtp_media_section_texts.specs.Sections.{Wanted}
 use Rattle.rtp_media_ends.specs.Connections.{Connects, IsRefused, offering}
-use Rattle.rtp_media_ends.specs.Ends.{EndState, new_end, with_exchange}
+use Rattle.rtp_media_open_streams.specs.Ends.{EndState, new_end, with_exchange}
 use Rattle.rtp_media_ends.specs.Stops.{Where}
 use Rattle.rtp_media_lines.specs.declared.exchange.RowCommand.{RowCommand}
 use Rattle.rtp_media_lines.specs.declared.exchange.ExtCommand.{ExtCommand}
 use Rattle.rtp_media_lines.specs.declared.exchange.EndCommand.{EndCommand}
-use Rattle.rtp_media_lines.specs.declared.sections.SectionWord.{SectionWord}
-use Rattle.rtp_media_lines.specs.declared.reply.Reply.{Reply}
-use Rattle.rtp_media_lines.specs.declared.reply.Reply.TheVariants as reply
+use Rattle.rtp_media_words.specs.declared.sections.SectionWord.{SectionWord}
+use Rattle.rtp_media_words.specs.declared.reply.Reply.{Reply}
+use Rattle.rtp_media_words.specs.declared.reply.Reply.TheVariants as reply
 use Rattle.rtp_media.specs.Names.{end_error_name, exchange_error_name}
 
 -- What a letter stands for: its end, where there is one, and the draft of the next one.

@@ -3,9 +3,3 @@ pub mod Names
 pub mod Exchanging
 pub mod Playing
 pub mod ProgramState
-pub mod Input
-pub mod Progress
-pub mod Runs
-pub mod Statuses
-pub mod Stops
-pub mod Writes

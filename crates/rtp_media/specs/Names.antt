@@ -1,15 +1,15 @@
 -- The names under which the program prints errors: that of the variant, without what it holds.
 use Rattle.std.specs.Prelude.{ℕ, List, codes}
-use Rattle.rtp_media_negotiation.specs.declared.errors.EndError.{EndError}
-use Rattle.rtp_media_negotiation.specs.declared.errors.EndError.TheVariants as end_error
-use Rattle.rtp_media_negotiation.specs.declared.errors.ExchangeError.{ExchangeError}
-use Rattle.rtp_media_negotiation.specs.declared.errors.ExchangeError.TheVariants as exchange_error
-use Rattle.rtp_media_ends.specs.declared.errors.OpenError.{OpenError}
-use Rattle.rtp_media_ends.specs.declared.errors.OpenError.TheVariants as open_error
-use Rattle.rtp_media_streams.specs.declared.errors.SampleError.{SampleError}
-use Rattle.rtp_media_streams.specs.declared.errors.SampleError.TheVariants as sample_error
-use Rattle.rtp_media_streams.specs.declared.errors.PollFault.{PollFault}
-use Rattle.rtp_media_streams.specs.declared.errors.PollFault.TheVariants as poll_fault
+use Rattle.rtp_media_exchange_steps.specs.declared.errors.EndError.{EndError}
+use Rattle.rtp_media_exchange_steps.specs.declared.errors.EndError.TheVariants as end_error
+use Rattle.rtp_media_exchange_steps.specs.declared.errors.ExchangeError.{ExchangeError}
+use Rattle.rtp_media_exchange_steps.specs.declared.errors.ExchangeError.TheVariants as exchange_error
+use Rattle.rtp_media_open_streams.specs.declared.errors.OpenError.{OpenError}
+use Rattle.rtp_media_open_streams.specs.declared.errors.OpenError.TheVariants as open_error
+use Rattle.rtp_media_payloads.specs.declared.errors.SampleError.{SampleError}
+use Rattle.rtp_media_payloads.specs.declared.errors.SampleError.TheVariants as sample_error
+use Rattle.rtp_media_payloads.specs.declared.errors.PollFault.{PollFault}
+use Rattle.rtp_media_payloads.specs.declared.errors.PollFault.TheVariants as poll_fault
 
 -- Out of memory has one name in all of them.
 abbrev pub memory : List ℕ

@@ -2,10 +2,10 @@
 use Rattle.std.specs.Prelude.{ℕ, ◌≡◌, ◌≢◌, ◌⊎◌, ◌&&◌, List, [], map, Option, Some, None, Ok, Err}
 use Rattle.rtp_wire.specs.Values.{absent}
 use Rattle.rtp_media_streams.specs.Sending.{Sample, datagrams_of}
-use Rattle.rtp_media_streams.specs.declared.errors.PollFault.TheVariants as poll_fault
-use Rattle.rtp_media_streams.specs.declared.errors.SampleError.{SampleError}
-use Rattle.rtp_media_streams.specs.declared.errors.SampleError.TheVariants as sample_error
-use Rattle.rtp_media_ends.specs.Ends.{EndState, is_receiver_at, is_sender_at, sender_at}
+use Rattle.rtp_media_payloads.specs.declared.errors.PollFault.TheVariants as poll_fault
+use Rattle.rtp_media_payloads.specs.declared.errors.SampleError.{SampleError}
+use Rattle.rtp_media_payloads.specs.declared.errors.SampleError.TheVariants as sample_error
+use Rattle.rtp_media_open_streams.specs.Ends.{EndState, is_receiver_at, is_sender_at, sender_at}
 use Rattle.rtp_media_play.specs.Pushing.{IsCutShort, IsRefusedAt, after_pushes, refusal_of_samples}
 use Rattle.rtp_media_play.specs.Schedules.{after_schedule, played}
 use Rattle.rtp_media_play.specs.declared.schedule.Event.{Event}
@@ -16,8 +16,8 @@ use Rattle.rtp_media_lines.specs.declared.playing.PlayCommand.{PlayCommand}
 use Rattle.rtp_media_lines.specs.declared.playing.PlayItem.{PlayItem}
 use Rattle.rtp_media_lines.specs.declared.playing.PlayItem.TheVariants as item
 use Rattle.rtp_media_lines.specs.declared.playing.QueueCommand.{QueueCommand}
-use Rattle.rtp_media_lines.specs.declared.reply.Reply.{Reply}
-use Rattle.rtp_media_lines.specs.declared.reply.Reply.TheVariants as reply
+use Rattle.rtp_media_words.specs.declared.reply.Reply.{Reply}
+use Rattle.rtp_media_words.specs.declared.reply.Reply.TheVariants as reply
 use Rattle.rtp_media_ends.specs.Stops.{Where}
 use Rattle.rtp_media.specs.Exchanging.{Prints}
 use Rattle.rtp_media.specs.Names.{fault_name, memory, sample_error_name}

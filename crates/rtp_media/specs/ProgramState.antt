@@ -1,16 +1,16 @@
 -- What the program does at each command.
 use Rattle.std.specs.Prelude.{◌≡◌, ◌⊎◌, List, [], ◌∷◌, ◌++◌, Option, Some, None}
-use Rattle.rtp_media_ends.specs.Ends.{EndState, fixed_end}
-use Rattle.rtp_media_lines.specs.declared.words.Letter.{Letter}
-use Rattle.rtp_media_lines.specs.declared.words.Letter.TheVariants.{A, B}
+use Rattle.rtp_media_open_streams.specs.Ends.{EndState, fixed_end}
+use Rattle.rtp_media_words.specs.declared.words.Letter.{Letter}
+use Rattle.rtp_media_words.specs.declared.words.Letter.TheVariants.{A, B}
 use Rattle.rtp_media_lines.specs.declared.line.Command.{Command}
 use Rattle.rtp_media_lines.specs.declared.line.Command.TheVariants.{Fixed, Send, Open, Sample, Receive, Poll, Row}
 use Rattle.rtp_media_lines.specs.declared.line.Command.TheVariants.{Ext, End, Offer, Answer, Accept, Withdraw}
 use Rattle.rtp_media_lines.specs.declared.line.Command.TheVariants.{Connect, Queue, Play}
 use Rattle.rtp_media_lines.specs.declared.playing.QueueCommand.{QueueCommand}
 use Rattle.rtp_media_lines.specs.declared.exchange.ConnectCommand.{ConnectCommand}
-use Rattle.rtp_media_lines.specs.declared.reply.Reply.{Reply}
-use Rattle.rtp_media_lines.specs.declared.reply.Reply.TheVariants as reply
+use Rattle.rtp_media_words.specs.declared.reply.Reply.{Reply}
+use Rattle.rtp_media_words.specs.declared.reply.Reply.TheVariants as reply
 use Rattle.rtp_media.specs.Names.{memory}
 use Rattle.rtp_media.specs.Exchanging.{EndAndDraft, empty_draft, Prints, AtEnd, WithText, wanted_in, AnswersRow}
 use Rattle.rtp_media.specs.Exchanging.{AnswersExt, AnswersEnd, AnswersOffer, AnswersAnswer, AnswersAccept}

@@ -1,9 +1,9 @@
 //! The program of lines over two ends.
 
 ghost use Rattle.std.specs.Prelude.{◌≡◌, ℕ, List, [], ◌∷◌, IfOk, IfSome, OnErr, OnOk, None};
-ghost use Rattle.rtp_media.specs.Input.{lines_of};
-ghost use Rattle.rtp_media.specs.Runs.{Printed, ReadsAll};
-ghost use Rattle.rtp_media.specs.Stops.{WritesFront};
+ghost use Rattle.rtp_media_line_runs.specs.Input.{lines_of};
+ghost use Rattle.rtp_media_line_runs.specs.Runs.{Printed, ReadsAll};
+ghost use Rattle.rtp_media_line_runs.specs.Stops.{WritesFront};
 ghost use Rattle.rtp_media_lines.specs.declared.line.Command.{Command};
 ghost use Rattle.rtp_media.specs.Exchanging.{AtEnd, empty_draft};
 ghost use Rattle.rtp_media.specs.Playing.{PlaysEnds};
@@ -15,14 +15,15 @@ mod names;
 mod playing;
 mod streams;
 
-use crate::{Respond, RunFault, Status, run_lines};
 use exchanging::{
     accept, answer_offer, connect_ends, draft_ext, draft_row, make_end, offer, withdraw,
 };
 use names::memory;
 use playing::{keep_sample, play_ends};
 use rtp_media_ends::{End, PayloadParams};
-use rtp_media_lines::{Command, ConnectCommand, Letter, PlayCommand, QueueCommand, Reply};
+use rtp_media_line_runs::{Respond, RunFault, Status, run_lines};
+use rtp_media_lines::{Command, ConnectCommand, PlayCommand, QueueCommand};
+use rtp_media_words::{Letter, Reply};
 use rtp_wire::ExtensionMap;
 use std::alloc::{AllocError, Global};
 use std::io::{Read, Write};

@@ -26,18 +26,18 @@ use Rattle.rtp_media_schedules.specs.Hearing.{Content, Comes, content_of}
 use Rattle.rtp_media_schedules.specs.SentSamples.{Timed, sent_or, timed}
 use Rattle.rtp_media_schedules.specs.Samples.{AreWellFormed, SentSample, contents_by, datagrams, packets_of, sent_by}
 use Rattle.rtp_media_schedules.specs.Sending.{no_content}
-use Rattle.rtp_media_streams.specs.Redundant.{primary_of, unwrapped, wrapped}
-use Rattle.rtp_media_streams.specs.Rows.{packing_of}
+use Rattle.rtp_media_payloads.specs.Redundant.{primary_of, unwrapped, wrapped}
+use Rattle.rtp_media_payloads.specs.Rows.{packing_of}
 use Rattle.rtp_media_streams.specs.Sending.{Sample, Sending, IsTypedBy, after_sample, carried, datagram_of}
 use Rattle.rtp_media_streams.specs.Sending.{datagrams_from, header_of, limit_of_packets, on_wire, packet_limit}
 use Rattle.rtp_media_streams.specs.Sending.{payloads_of_samples, samples_of, sent, sent_payloads, still_kept}
 use Rattle.rtp_media_streams.specs.Sending.{timestamp, with_next}
-use Rattle.rtp_media_streams.specs.Types.{has_type, is_type}
-use Rattle.rtp_media_streams.specs.declared.types.PayloadTypes.{PayloadTypes}
+use Rattle.rtp_media_payloads.specs.Types.{has_type, is_type}
+use Rattle.rtp_media_payloads.specs.declared.types.PayloadTypes.{PayloadTypes}
 use Rattle.rtp_media_streams.proofs.Sent.{writable}
 use Rattle.rtp_media_streams.proofs.Wrapping.{wrapped-brings}
-use Rattle.rtp_media_streams.specs.Receiving.{Receiving, is_own, media_payload, values_of_header, values_read}
-use Rattle.rtp_media_ends.specs.FullArrival.{coding_of, count_of, sent_samples}
+use Rattle.rtp_media_payloads.specs.Receiving.{Receiving, is_own, media_payload, values_of_header, values_read}
+use Rattle.rtp_media_open_streams.specs.FullArrival.{coding_of, count_of, sent_samples}
 use Rattle.rtp_media_ends.specs.OwnEvents.{content_event, event_by, event_in}
 
 eqb-same : (a : ℕ) → (a == a) ≡ true

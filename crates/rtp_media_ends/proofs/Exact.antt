@@ -21,20 +21,22 @@ use Rattle.rtp_media_schedules.specs.Turns.{Arrive, Ask, event_of, AreGoodArriva
 use Rattle.rtp_media_schedules.proofs.Full.{full-exact}
 use Rattle.rtp_media_schedules.proofs.Polls.{polls-end}
 use Rattle.rtp_media_schedules.proofs.Samples.{sent-as}
-use Rattle.rtp_media_streams.specs.Polls.{Answers, AreAnswered, IsPolled}
+use Rattle.rtp_media_payloads.specs.Polls.{Answers, AreAnswered, IsPolled}
 use Rattle.h26x_payload.specs.Codings.{forms_for}
-use Rattle.rtp_media_streams.specs.Rows.{format_of, settings_in}
+use Rattle.rtp_media_payloads.specs.Rows.{format_of, settings_in}
 use Rattle.rtp_media_streams.specs.Sending.{Sample, Sending, packet_limit}
 use Rattle.rtp_media_streams.specs.Sending.{payloads_of_samples, samples_of}
-use Rattle.rtp_media_streams.specs.Receiving.{Receiving, is_own, media_payload, opened_receiver, values_read}
-use Rattle.rtp_media_streams.specs.Receiving.{with_stream}
-use Rattle.rtp_media_streams.proofs.Configured.{same-reading}
+use Rattle.rtp_media_payloads.specs.Receiving.{Receiving, is_own, media_payload, opened_receiver, values_read}
+use Rattle.rtp_media_payloads.specs.Receiving.{with_stream}
+use Rattle.rtp_media_payloads.proofs.Configured.{same-reading}
 use Rattle.rtp_media_streams.proofs.Draining.{answered}
 use Rattle.rtp_media_streams.proofs.Sent.{datagrams_of-consecutive}
-use Rattle.rtp_media_ends.specs.Ends.{EndState, receiver_at}
-use Rattle.rtp_media_ends.specs.FullArrival.{AreSound, HasAllOf, IsPolledOut, IsSender, after_datagrams, coding_of}
-use Rattle.rtp_media_ends.specs.FullArrival.{count_of, is_header_of, is_own_datagram, sent_datagram, sent_samples}
-use Rattle.rtp_media_ends.specs.FullArrival.{units_of}
+use Rattle.rtp_media_open_streams.specs.Ends.{EndState, receiver_at}
+use Rattle.rtp_media_open_streams.specs.FullArrival.{AreSound, HasAllOf, IsPolledOut, IsSender, after_datagrams}
+use Rattle.rtp_media_open_streams.specs.FullArrival.{coding_of}
+use Rattle.rtp_media_open_streams.specs.FullArrival.{count_of, is_header_of, is_own_datagram, sent_datagram}
+use Rattle.rtp_media_open_streams.specs.FullArrival.{sent_samples}
+use Rattle.rtp_media_open_streams.specs.FullArrival.{units_of}
 use Rattle.rtp_media_ends.specs.OwnEvents.{content_event, event_by, event_in, own_events}
 use Rattle.rtp_media_ends.proofs.Datagrams.{AreTheirs, IsFor, sent-event, theirs}
 use Rattle.rtp_media_ends.proofs.Isolation.{isolated, same-after}

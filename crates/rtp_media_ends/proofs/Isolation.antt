@@ -13,16 +13,17 @@ use Rattle.rtp_wire.specs.declared.ExtensionValues.{ExtensionValues}
 use Rattle.rtp_wire.specs.declared.header.RtpHeader.{RtpHeader}
 use Rattle.payload_core_base.specs.Format.{Format}
 use Rattle.rtp_media_schedules.specs.Hearing.{Stream, Event, heard_step, after_events}
-use Rattle.rtp_media_streams.specs.Receiving.{Receiving, is_own, media_payload, values_read, with_stream}
-use Rattle.rtp_media_streams.specs.Rows.{format_of}
-use Rattle.rtp_media_streams.specs.Types.{is_type}
-use Rattle.rtp_media_ends.specs.declared.open_stream.OpenStream.{OpenStream}
-use Rattle.rtp_media_ends.specs.declared.open_stream.OpenStream.TheVariants.{Sender, Receiver}
-use Rattle.rtp_media_ends.specs.Ends.{EndState, is_sending, no_receiver, nth_receiver, nth_stream}
-use Rattle.rtp_media_ends.specs.Ends.{receiver_at, receiving_of}
-use Rattle.rtp_media_ends.specs.Arrivals.{own_of, arrival_for, arrival_by, stream_for, after_arrival, after_datagram}
-use Rattle.rtp_media_ends.specs.Arrivals.{takes}
-use Rattle.rtp_media_ends.specs.FullArrival.{IsFound, after_datagrams}
+use Rattle.rtp_media_payloads.specs.Receiving.{Receiving, is_own, media_payload, values_read, with_stream}
+use Rattle.rtp_media_payloads.specs.Rows.{format_of}
+use Rattle.rtp_media_payloads.specs.Types.{is_type}
+use Rattle.rtp_media_open_streams.specs.declared.open_stream.OpenStream.{OpenStream}
+use Rattle.rtp_media_open_streams.specs.declared.open_stream.OpenStream.TheVariants.{Sender, Receiver}
+use Rattle.rtp_media_open_streams.specs.Ends.{EndState, is_sending, no_receiver, nth_receiver, nth_stream}
+use Rattle.rtp_media_open_streams.specs.Ends.{receiver_at, receiving_of}
+use Rattle.rtp_media_open_streams.specs.Arrivals.{own_of, arrival_for, arrival_by, stream_for, after_arrival}
+use Rattle.rtp_media_open_streams.specs.Arrivals.{after_datagram}
+use Rattle.rtp_media_open_streams.specs.Arrivals.{takes}
+use Rattle.rtp_media_open_streams.specs.FullArrival.{IsFound, after_datagrams}
 use Rattle.rtp_media_ends.specs.OwnEvents.{content_event, event_by, event_in, own_events}
 
 abbrev pub after_event : Format → Stream → Option Event → Stream

@@ -2,13 +2,7 @@ pub mod Refusals
 pub mod Isolation
 pub mod Datagrams
 pub mod Exact
-pub mod Rising
 pub mod Transparent
 pub mod Opened
-pub mod MayOpen
-pub mod NewReceiver
 pub mod Stopping
 pub mod Numbers
-pub mod StreamKeys
-pub mod Looked
-pub mod Indexing

@@ -4,15 +4,16 @@ use Rattle.std.proofs.Common.{true, false, List, [], ◌∷◌, length, length-s
 use Rattle.std.proofs.lemmas.Bool.Decides.{nat_tests}
 use Rattle.std.proofs.lemmas.List.{get_or-set_same, get_or-set_other}
 use Rattle.std.specs.Prelude.{◌==◌, nat_lt, slice_index_or, slice_set}
-use Rattle.rtp_media_streams.specs.Polls.{Answers}
-use Rattle.rtp_media_streams.specs.Rows.{format_of}
+use Rattle.rtp_media_payloads.specs.Polls.{Answers}
+use Rattle.rtp_media_payloads.specs.Rows.{format_of}
 use Rattle.rtp_media_streams.proofs.Draining.{polled-some}
-use Rattle.rtp_media_ends.specs.Arrivals.{after_datagram}
-use Rattle.rtp_media_ends.specs.Ends.{EndState, is_sending, nth_stream, receiving_of}
-use Rattle.rtp_media_ends.specs.declared.open_stream.OpenStream.{OpenStream}
-use Rattle.rtp_media_ends.specs.declared.open_stream.OpenStream.TheVariants.{Sender, Receiver}
-use Rattle.rtp_media_ends.specs.FullArrival.{AnswersAll, AnswersSome, ArePolledSome, IsPolledOut, after_datagrams}
-use Rattle.rtp_media_ends.specs.FullArrival.{answers_at}
+use Rattle.rtp_media_open_streams.specs.Arrivals.{after_datagram}
+use Rattle.rtp_media_open_streams.specs.Ends.{EndState, is_sending, nth_stream, receiving_of}
+use Rattle.rtp_media_open_streams.specs.declared.open_stream.OpenStream.{OpenStream}
+use Rattle.rtp_media_open_streams.specs.declared.open_stream.OpenStream.TheVariants.{Sender, Receiver}
+use Rattle.rtp_media_open_streams.specs.FullArrival.{AnswersAll, AnswersSome, ArePolledSome, IsPolledOut}
+use Rattle.rtp_media_open_streams.specs.FullArrival.{after_datagrams}
+use Rattle.rtp_media_open_streams.specs.FullArrival.{answers_at}
 use Rattle.rtp_media_ends.proofs.Isolation.{nobody}
 
 -- one datagram more

@@ -11,11 +11,11 @@ use Rattle.rtp_media_schedules.specs.Hearing.{Event, Comes}
 use Rattle.rtp_media_schedules.specs.SentSamples.{Timed, timed}
 use Rattle.rtp_media_schedules.specs.Samples.{AreWellFormed, SentSample, datagrams, packets_of, sent_by}
 use Rattle.rtp_media_schedules.specs.Sending.{numbered}
-use Rattle.rtp_media_streams.specs.Receiving.{Receiving}
-use Rattle.rtp_media_streams.specs.Rows.{coding_in}
+use Rattle.rtp_media_payloads.specs.Receiving.{Receiving}
+use Rattle.rtp_media_payloads.specs.Rows.{coding_in}
 use Rattle.rtp_media_streams.specs.Sending.{Sample, Sending, carried, packet_limit, samples_of, timestamp}
-use Rattle.rtp_media_streams.specs.declared.row_format.RowFormat.{RowFormat}
-use Rattle.rtp_media_ends.specs.FullArrival.{AreSound, count_of, sent_datagram, sent_samples}
+use Rattle.rtp_media_payloads.specs.declared.row_format.RowFormat.{RowFormat}
+use Rattle.rtp_media_open_streams.specs.FullArrival.{AreSound, count_of, sent_datagram, sent_samples}
 use Rattle.rtp_media_ends.specs.OwnEvents.{event_in, own_events}
 use Rattle.rtp_media_ends.specs.Transparency.{AreSent, AreTwins, Receives}
 use Rattle.rtp_media_ends.proofs.Exact.{all-theirs, brings}

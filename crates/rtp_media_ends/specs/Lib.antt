@@ -1,11 +1,4 @@
-pub mod Params
 pub mod Stops
-pub mod Ends
-pub mod OpensAt
 pub mod Connections
-pub mod Arrivals
-pub mod FullArrival
 pub mod OwnEvents
 pub mod Transparency
-pub mod StreamIndex
-pub mod Indexed

@@ -5,7 +5,7 @@ use Rattle.rtp_wire.specs.Maps.{empty_map}
 use Rattle.rtp_wire.specs.declared.ExtensionValues.{ExtensionValues}
 use Rattle.rtp_wire.specs.declared.header.RtpHeader.{RtpHeader}
 use Rattle.rtp_media_schedules.specs.Hearing.{Event, Comes, content_of}
-use Rattle.rtp_media_streams.specs.Receiving.{Receiving, is_own, media_payload, values_read}
+use Rattle.rtp_media_payloads.specs.Receiving.{Receiving, is_own, media_payload, values_read}
 
 -- What a payload is to the stream: nothing, or the arrival of a number's low bits with its content.
 abbrev pub content_event : RtpHeader → ExtensionValues → Option (List ℕ) → Option Event

@@ -1,8 +1,8 @@
 -- One stream with redundancy and one without.
 use Rattle.std.specs.Prelude.{◌≡◌, ℕ, ◌+◌, ◌<◌, ◌≤◌, List, All, None}
 use Rattle.rtp_media_streams.specs.Sending.{Sample, Sending, packet_limit}
-use Rattle.rtp_media_streams.specs.Receiving.{Receiving}
-use Rattle.rtp_media_ends.specs.FullArrival.{AreSound, IsSender, count_of}
+use Rattle.rtp_media_payloads.specs.Receiving.{Receiving}
+use Rattle.rtp_media_open_streams.specs.FullArrival.{AreSound, IsSender, count_of}
 
 -- Two streams of one SSRC, types, map, row, forms, next number, limit of packets and state of the packetizer, of
 -- which the first adds no redundancy.

@@ -2,13 +2,13 @@
 
 ghost use Rattle.std.specs.Prelude.{◌≡◌, ◌↔◌, ℕ, List, map, None};
 ghost use Rattle.rtp_media_schedules.specs.Hearing.{after_events};
-ghost use Rattle.rtp_media_ends.specs.Ends.{EndState, receiver_at, refusal_of_open_receiver};
-ghost use Rattle.rtp_media_ends.specs.Ends.{refusal_of_open_sender};
-ghost use Rattle.rtp_media_ends.specs.OpensAt.{ReceivesAt, SendsAt};
-ghost use Rattle.rtp_media_ends.specs.FullArrival.{IsFound, after_datagrams, sent_datagram};
+ghost use Rattle.rtp_media_open_streams.specs.Ends.{EndState, receiver_at, refusal_of_open_receiver};
+ghost use Rattle.rtp_media_open_streams.specs.Ends.{refusal_of_open_sender};
+ghost use Rattle.rtp_media_open_streams.specs.OpensAt.{ReceivesAt, SendsAt};
+ghost use Rattle.rtp_media_open_streams.specs.FullArrival.{IsFound, after_datagrams, sent_datagram};
 ghost use Rattle.rtp_media_ends.specs.Transparency.{AreSent, AreTwins, Receives};
-ghost use Rattle.rtp_media_streams.specs.Receiving.{Receiving};
-ghost use Rattle.rtp_media_streams.specs.Rows.{format_of};
+ghost use Rattle.rtp_media_payloads.specs.Receiving.{Receiving};
+ghost use Rattle.rtp_media_payloads.specs.Rows.{format_of};
 ghost use Rattle.rtp_media_streams.specs.Sending.{Sample, Sending};
 ghost use Rattle.rtp_media_ends.specs.OwnEvents.{own_events};
 

@@ -2,22 +2,14 @@
 #![tactic(auto)]
 
 mod end;
-mod errors;
-mod finding;
 mod laws;
-mod open_stream;
-mod params;
-mod received;
-mod stream_index;
 
 pub use end::{End, Polls, ReceivedAll, connect};
-pub use errors::{OpenError, ReceiveError};
 pub use laws::{isolation_law, openings_law, transparency_law};
-pub use params::{Distances, StreamParams};
 pub use payload_core_base::PacketError;
-pub use received::Received;
+pub use rtp_media_exchange_steps::{EndError, ExchangeError};
 pub use rtp_media_negotiation::{
-    Bandwidth, Codec, CodecConfig, CodecSpec, EndError, ExchangeError, FormatParams, MediaKind,
-    PayloadParams, RoundError, SdpError, SectionSpec, Session, SessionAttribute,
+    Bandwidth, Codec, CodecConfig, CodecSpec, FormatParams, MediaKind, PayloadParams, RoundError,
+    SdpError, SectionSpec, Session, SessionAttribute,
 };
-pub use rtp_media_streams::{Datagram, PollFault, SampleError, Unit};
+pub use rtp_media_payloads::{Datagram, PollFault, SampleError, Unit};

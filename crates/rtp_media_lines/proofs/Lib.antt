@@ -1,10 +1,5 @@
-pub mod Behind
-pub mod Each
 pub mod CommandWords
 pub mod LineCases
-pub mod Numbers
-pub mod ReadBack
-pub mod Splits
 pub mod ReadSteps
 pub mod PlayWords
 pub mod ExchangeWords

@@ -3,7 +3,7 @@ use Rattle.std.proofs.Common.{◌≡◌, ℕ, ◌^◌, List, [], ◌∷◌, Some
 use Rattle.std.specs.Str.{bytes_eq}
 use Rattle.rtp_media_lines.specs.declared.line.Command.{Command}
 use Rattle.rtp_media_lines.specs.declared.line.Command.TheVariants.{Queue, Play}
-use Rattle.rtp_media_lines.specs.Words.{hex_of, number_below}
+use Rattle.rtp_media_words.specs.Words.{hex_of, number_below}
 use Rattle.rtp_media_lines.specs.PlayLines.{items_of, play_of, queue_of}
 use Rattle.rtp_media_lines.specs.Lines.{run_command_of}
 use Rattle.rtp_media_lines.specs.Says.{ArePlayWords, AreQueueWords, Says}

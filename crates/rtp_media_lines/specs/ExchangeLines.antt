@@ -3,9 +3,9 @@ use Rattle.std.specs.Prelude.{ℕ, ◌^◌, List, Option, Some}
 use Rattle.rtp_media_lines.specs.declared.line.Command.{Command}
 use Rattle.rtp_media_lines.specs.declared.line.Command.TheVariants.{Row, Ext, End, Offer, Answer, Accept, Withdraw}
 use Rattle.rtp_media_lines.specs.declared.line.Command.TheVariants.{Connect}
-use Rattle.rtp_media_lines.specs.declared.words.Letter.{Letter}
-use Rattle.rtp_media_lines.specs.Sections.{sections_of, sections_then_slash}
-use Rattle.rtp_media_lines.specs.Words.{letter_of, text_of, hex_of, dash_or, number_below, first, ended, ◌>>=◌}
+use Rattle.rtp_media_words.specs.declared.words.Letter.{Letter}
+use Rattle.rtp_media_words.specs.Sections.{sections_of, sections_then_slash}
+use Rattle.rtp_media_words.specs.Words.{letter_of, text_of, hex_of, dash_or, number_below, first, ended, ◌>>=◌}
 
 -- CODEC CLOCK CHANNELS FMTP, behind the end and the types of a row
 abbrev pub rest_of_row : Letter → ℕ → Option ℕ → Option ℕ → List (List ℕ) → Option Command

@@ -6,7 +6,7 @@ use Rattle.rtp_media_lines.specs.declared.line.Command.{Command}
 use Rattle.rtp_media_lines.specs.declared.line.Command.TheVariants.{Queue, Play}
 use Rattle.rtp_media_lines.specs.declared.playing.PlayItem.{PlayItem}
 use Rattle.rtp_media_lines.specs.declared.playing.PlayItem.TheVariants.{Arrive, Foreign, Poll}
-use Rattle.rtp_media_lines.specs.Words.{behind, each_of, ended, first, hex_of, number_below, ◌>>=◌}
+use Rattle.rtp_media_words.specs.Words.{behind, each_of, ended, first, hex_of, number_below, ◌>>=◌}
 
 -- What stands behind an `a`, or else behind an `f`.
 abbrev pub item_behind : Option (List ℕ) → Option (List ℕ) → Option PlayItem

@@ -19,8 +19,8 @@ use Rattle.rtp_media_lines.specs.declared.exchange.ConnectCommand.{ConnectComman
 use Rattle.rtp_media_lines.specs.declared.playing.PlayCommand.{PlayCommand}
 use Rattle.rtp_media_lines.specs.declared.playing.QueueCommand.{QueueCommand}
 use Rattle.rtp_media_lines.specs.PlayLines.{items_of}
-use Rattle.rtp_media_lines.specs.Sections.{sections_of}
-use Rattle.rtp_media_lines.specs.Words.{letter_of, text_of, hex_of, dash_or, numbers_of, number_below}
+use Rattle.rtp_media_words.specs.Sections.{sections_of}
+use Rattle.rtp_media_words.specs.Words.{letter_of, text_of, hex_of, dash_or, numbers_of, number_below}
 
 -- send E MID SSRC PT FIRST MTU LIMIT DISTANCES PICTUREID
 pub record AreSendWords (words : List (List ℕ)) (send : SendCommand) : Type 0 where

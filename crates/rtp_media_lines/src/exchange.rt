@@ -1,17 +1,14 @@
 //! The lines that make ends and exchange their texts.
 
-ghost use Rattle.rtp_media_lines.specs.Misreads.{Reads};
+ghost use Rattle.rtp_media_words.specs.Misreads.{Reads};
 ghost use Rattle.rtp_media_lines.specs.ExchangeLines.{row_of, ext_of, end_of, offer_of, answer_of, accept_of};
 ghost use Rattle.rtp_media_lines.specs.ExchangeLines.{withdraw_of, connect_of, rest_of_row};
 
-use crate::fields::{
-    hex_word, letter_word, number_or_dash_word, number_word, text_or_dash_word, text_word,
-};
 use crate::line::Command;
-use crate::misread::Misread;
-use crate::owned::{Bytes, Text};
-use crate::sections::{Sections, section_words, sections_before_slash};
-use crate::words::{Letter, Words};
+use rtp_media_words::{
+    Bytes, Letter, Misread, Sections, Text, Words, hex_word, letter_word, number_or_dash_word,
+    number_word, section_words, sections_before_slash, text_or_dash_word, text_word,
+};
 use std::alloc::Global;
 
 /// `row E PT RTX RED CODEC CLOCK CHANNELS FMTP`: put a row into the draft of an end.

@@ -1,14 +1,11 @@
 //! The lines of whole runs.
 
 ghost use Rattle.std.specs.Prelude.{◌≡◌, ℕ, List};
-ghost use Rattle.rtp_media_lines.specs.Misreads.{Reads};
+ghost use Rattle.rtp_media_words.specs.Misreads.{Reads};
 ghost use Rattle.rtp_media_lines.specs.PlayLines.{item_of, items_of, play_of, queue_of};
 
-use crate::fields::{behind, hex_of, hex_word, number_up_to, number_word};
 use crate::line::Command;
-use crate::misread::Misread;
-use crate::owned::Bytes;
-use crate::words::Words;
+use rtp_media_words::{Bytes, Misread, Words, behind, hex_of, hex_word, number_up_to, number_word};
 use std::alloc::Global;
 use std::marker::Model;
 

@@ -1,3 +1,2 @@
-pub mod Agreeing
 pub mod OneAgreement
 pub mod Refusing

@@ -1,18 +1,19 @@
 -- Refusals of what a text says.
 use Rattle.std.proofs.Common.{◌≡◌, ◌≢◌, ◌⊎◌, ℕ, List, map, Some, None, Option, false, inl, inr, ◌∙◌, ap}
 use Rattle.sdp_formats_types.specs.declared.media.MediaLine.{MediaLine}
-use Rattle.rtp_media_negotiation.specs.Exchanges.{Exchanged}
-use Rattle.rtp_media_negotiation.specs.Reading.{IsUnread}
-use Rattle.rtp_media_negotiation.specs.Refusals.{CannotSay, IsReason, IsUnwritable, MayAccept, MayAnswer}
-use Rattle.rtp_media_negotiation.specs.Refusals.{RefusesAccept, RefusesAnswer}
-use Rattle.rtp_media_negotiation.specs.Refusals.{refusal_of_accept, refusal_of_answer}
-use Rattle.rtp_media_negotiation.specs.Says.{Says, SaysOnly}
-use Rattle.rtp_media_negotiation.specs.declared.errors.ExchangeError.{ExchangeError}
-use Rattle.rtp_media_negotiation.specs.declared.errors.ExchangeError.TheVariants.{Unreadable, OutOfTurn, NotMedia}
-use Rattle.rtp_media_negotiation.specs.declared.errors.ExchangeError.TheVariants.{NotCorresponding, Round, NoCommonRow}
-use Rattle.rtp_media_negotiation.specs.declared.errors.ExchangeError.TheVariants.{NotWritable, Memory}
-use Rattle.rtp_media_sections.specs.Lines.{shape_of_line}
-use Rattle.rtp_media_sections.specs.Sections.{Wanted, correspond, shape_of}
+use Rattle.rtp_media_exchange_steps.specs.Exchanges.{Exchanged}
+use Rattle.rtp_media_exchange_steps.specs.Reading.{IsUnread}
+use Rattle.rtp_media_exchange_steps.specs.Refusals.{CannotSay, IsReason, IsUnwritable, MayAccept, MayAnswer}
+use Rattle.rtp_media_exchange_steps.specs.Refusals.{RefusesAccept, RefusesAnswer}
+use Rattle.rtp_media_exchange_steps.specs.Refusals.{refusal_of_accept, refusal_of_answer}
+use Rattle.rtp_media_exchange_steps.specs.Says.{Says, SaysOnly}
+use Rattle.rtp_media_exchange_steps.specs.declared.errors.ExchangeError.{ExchangeError}
+use Rattle.rtp_media_exchange_steps.specs.declared.errors.ExchangeError.TheVariants.{Unreadable, OutOfTurn, NotMedia}
+use Rattle.rtp_media_exchange_steps.specs.declared.errors.ExchangeError.TheVariants.{NotCorresponding, Round}
+use Rattle.rtp_media_exchange_steps.specs.declared.errors.ExchangeError.TheVariants.{NoCommonRow}
+use Rattle.rtp_media_exchange_steps.specs.declared.errors.ExchangeError.TheVariants.{NotWritable, Memory}
+use Rattle.rtp_media_section_texts.specs.Lines.{shape_of_line}
+use Rattle.rtp_media_section_texts.specs.Sections.{Wanted, correspond, shape_of}
 
 -- an error that isn't lack of memory has its reason
 by-reason : (text : List ℕ) (f : List MediaLine → Option ExchangeError) (lines : List MediaLine) → Says text lines

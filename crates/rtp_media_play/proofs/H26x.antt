@@ -9,7 +9,7 @@ use Rattle.h26x_payload_h264.specs.H264Packing.{h264_rules}
 use Rattle.h26x_payload_units.specs.declared.layout.Layout.{Layout}
 use Rattle.h26x_payload_units.specs.Headers.{needs_vps}
 use Rattle.h26x_payload_h265_h266.specs.Coding as h265_h266
-use Rattle.h26x_payload_h265_h266.specs.Packing.{h265_h266_rules, least_limit}
+use Rattle.h26x_payload_packing.specs.Packing.{h265_h266_rules, least_limit}
 use Rattle.rtp_media_play.specs.Again.{GivesAgain}
 use Rattle.rtp_media_play.specs.Kept.{AreKept, HasNone}
 use Rattle.rtp_media_play.proofs.AnnexB.{IsByRules, comes-again, joined-codes, texts}

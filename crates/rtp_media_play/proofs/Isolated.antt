@@ -11,14 +11,14 @@ use Rattle.rtp_wire.specs.declared.header.RtpHeader.{RtpHeader}
 use Rattle.payload_core_base.specs.Format.{Format}
 use Rattle.rtp_media_schedules.specs.Hearing as hearing
 use Rattle.rtp_media_schedules.specs.Hearing.{Answer, Comes, Content, Stream, heard, polled}
-use Rattle.rtp_media_streams.specs.Receiving.{Receiving, is_own, media_payload, polled_receiver, values_read}
-use Rattle.rtp_media_streams.specs.Receiving.{with_stream}
-use Rattle.rtp_media_streams.specs.Rows.{format_of}
-use Rattle.rtp_media_streams.specs.declared.row_format.RowFormat.{RowFormat}
-use Rattle.rtp_media_ends.specs.Arrivals.{after_datagram}
-use Rattle.rtp_media_ends.specs.Ends.{EndState, receiver_at, receiving_of, with_receiver}
-use Rattle.rtp_media_ends.specs.declared.open_stream.OpenStream.TheVariants.{Receiver}
-use Rattle.rtp_media_ends.specs.FullArrival.{IsFound}
+use Rattle.rtp_media_payloads.specs.Receiving.{Receiving, is_own, media_payload, polled_receiver, values_read}
+use Rattle.rtp_media_payloads.specs.Receiving.{with_stream}
+use Rattle.rtp_media_payloads.specs.Rows.{format_of}
+use Rattle.rtp_media_payloads.specs.declared.row_format.RowFormat.{RowFormat}
+use Rattle.rtp_media_open_streams.specs.Arrivals.{after_datagram}
+use Rattle.rtp_media_open_streams.specs.Ends.{EndState, receiver_at, receiving_of, with_receiver}
+use Rattle.rtp_media_open_streams.specs.declared.open_stream.OpenStream.TheVariants.{Receiver}
+use Rattle.rtp_media_open_streams.specs.FullArrival.{IsFound}
 use Rattle.rtp_media_ends.specs.OwnEvents.{content_event, event_by, event_in}
 use Rattle.rtp_media_ends.proofs.Isolation as isolation
 use Rattle.rtp_media_ends.proofs.Isolation.{is-receiving, is-there, known-again, nobody, same-again, stream-is}

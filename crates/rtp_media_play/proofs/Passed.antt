@@ -11,9 +11,9 @@ use Rattle.rtp_wire.specs.Values.{Numbering}
 use Rattle.rtp_wire.specs.declared.ExtensionValues.{ExtensionValues}
 use Rattle.rtp_media_schedules.specs.Hearing.{Answer, MediaUnit, handed_out}
 use Rattle.rtp_media_schedules.specs.SentSamples.{Timed, timed, timed_unit}
-use Rattle.rtp_media_streams.specs.Rows.{rtp_rate}
+use Rattle.rtp_media_payloads.specs.Rows.{rtp_rate}
 use Rattle.rtp_media_streams.specs.Sending.{Sample, Sending, carried, samples_of, timestamp}
-use Rattle.rtp_media_streams.specs.declared.row_format.RowFormat.{RowFormat}
+use Rattle.rtp_media_payloads.specs.declared.row_format.RowFormat.{RowFormat}
 use Rattle.rtp_media_play.specs.Units.{arriving, arriving_values}
 use Rattle.rtp_media_play.specs.Again.{IsKeptBy}
 use Rattle.rtp_media_play.specs.Hops.{as_samples, carried_again, unstamped, without_send_time}

@@ -1,7 +1,8 @@
 //! Schedules, and what they are answered.
 
 use payload_core_base::PacketError;
-use rtp_media_ends::{Datagram, Received, Unit};
+use rtp_media_ends::{Datagram, Unit};
+use rtp_media_open_streams::Received;
 
 /// What happens at the end that receives.
 #[derive(Drop)]

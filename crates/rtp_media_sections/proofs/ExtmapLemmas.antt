@@ -11,7 +11,7 @@ use Rattle.rtp_wire.specs.Maps.{empty_map}
 use Rattle.rtp_wire.specs.Values.{Numbering}
 use Rattle.sdp_formats_types.specs.declared.media.MediaAttribute.{MediaAttribute}
 use Rattle.sdp_formats_types.specs.declared.media.MediaAttribute.TheVariants.{ExtMap}
-use Rattle.rtp_media_sections.specs.Extensions.{LastLinesCount, given_to, is_numbered, with_line_of}
+use Rattle.rtp_media_section_texts.specs.Extensions.{LastLinesCount, given_to, is_numbered, with_line_of}
 
 -- a line's own number has its extension, another number keeps what it had
 with_line_at : (exts : Numbering) (id n : ℕ) (ext : Extension) → length exts ≡ 16 → 1 ≤ n → n ≤ 16

@@ -1,5 +1,1 @@
 pub mod Agreement
-pub mod Answered
-pub mod Extensions
-pub mod Lines
-pub mod Sections

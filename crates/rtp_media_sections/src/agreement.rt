@@ -5,11 +5,10 @@ ghost use Rattle.std.specs.Str.{bytes_eq};
 ghost use Rattle.rtp_media_sections.specs.Agreement.{agreed, agreed_by_accept, agreed_by_answer, fixed_section};
 ghost use Rattle.rtp_media_sections.specs.Agreement.{is_named, row_in, shape_of_agreed};
 
-use crate::extmaps::map_of_lines;
 use crate::read::{kind_of, mid_of, ssrcs_of};
-use crate::section::{SectionSpec, Shape};
 use crate::ssrc_list::SsrcList;
 use payload_core_base::MediaKind;
+use rtp_media_section_texts::{SectionSpec, Shape, map_of_lines};
 use rtp_wire::{ExtensionMap, Mid, Pt, Ssrc};
 use sdp_formats_config::CodecConfig;
 use sdp_formats_rows::PayloadParams;

@@ -3,4 +3,3 @@ pub mod Cutting
 pub mod Polling
 pub mod Draining
 pub mod Sent
-pub mod Configured

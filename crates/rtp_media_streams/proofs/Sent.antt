@@ -13,17 +13,17 @@ use Rattle.payload_core_base.specs.Outgoing.{Outgoing, outgoing}
 use Rattle.payload_core_base.specs.Packing.{Packing, Sender}
 use Rattle.payload_core_buffer.specs.Sending.{outgoing_from}
 use Rattle.payload_core_red.specs.RedHistory.{AreDistances, Redundancy, keeping}
-use Rattle.rtp_media_streams.specs.Rows.{packing_of, rtp_rate}
+use Rattle.rtp_media_payloads.specs.Rows.{packing_of, rtp_rate}
 use Rattle.rtp_media_streams.specs.Sending.{Sending, IsTyped, IsTypedBy, Sample, first_refusal, header_of}
 use Rattle.rtp_media_streams.specs.Sending.{longest_datagram, datagram_of, datagrams_from, limit_of_packets, on_wire}
 use Rattle.rtp_media_streams.specs.Sending.{packed, packet_limit, payload_refusal, payloads_of_samples}
 use Rattle.rtp_media_streams.specs.Sending.{refusal_before_payload, sent, sent_payloads, sent_datagrams, still_kept}
 use Rattle.rtp_media_streams.specs.Sending.{timestamp, wire_payloads, with_next, after_sample, datagrams_of}
 use Rattle.rtp_media_streams.specs.Sending.{refusal_of_sample}
-use Rattle.rtp_media_streams.specs.Redundant.{kept_after, wrapped, wraps}
-use Rattle.rtp_media_streams.specs.declared.types.PayloadTypes.{PayloadTypes}
-use Rattle.rtp_media_streams.specs.declared.errors.SampleError.{SampleError}
-use Rattle.rtp_media_streams.specs.declared.errors.SampleError.TheVariants.{StreamFailed, TimeTooLarge, LimitTooSmall}
+use Rattle.rtp_media_payloads.specs.Redundant.{kept_after, wrapped, wraps}
+use Rattle.rtp_media_payloads.specs.declared.types.PayloadTypes.{PayloadTypes}
+use Rattle.rtp_media_payloads.specs.declared.errors.SampleError.{SampleError}
+use Rattle.rtp_media_payloads.specs.declared.errors.SampleError.TheVariants.{StreamFailed, TimeTooLarge, LimitTooSmall}
 use Rattle.rtp_media_streams.proofs.Cutting.{datagrams_from-append, length-on_wire}
 use Rattle.rtp_media_streams.proofs.Wrapping.{wrapped-short}
 

@@ -15,8 +15,8 @@ use Rattle.payload_core_red.specs.RedWrapping.{IsLongestPrefix, IsWrap, bytes_of
 use Rattle.payload_core_red.proofs.LayoutLemmas.{red-read}
 use Rattle.payload_core_red.proofs.WrapLemmas.{All-reverse, levels-few, levels-room}
 use Rattle.payload_core_base.specs.Outgoing.{Outgoing}
-use Rattle.rtp_media_streams.specs.Redundant.{behind_older, fitting, primary_of, unwrapped, wrapped}
-use Rattle.rtp_media_streams.specs.declared.types.PayloadTypes.{PayloadTypes}
+use Rattle.rtp_media_payloads.specs.Redundant.{behind_older, fitting, primary_of, unwrapped, wrapped}
+use Rattle.rtp_media_payloads.specs.declared.types.PayloadTypes.{PayloadTypes}
 
 abbrev size_of : Block → ℕ
 size_of b = 4 + length b.payload

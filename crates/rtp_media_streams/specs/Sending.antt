@@ -14,14 +14,14 @@ use Rattle.rtp_wire.specs.Values.{Numbering}
 use Rattle.rtp_wire.specs.declared.ExtensionValues.{ExtensionValues}
 use Rattle.rtp_wire.specs.declared.header.RtpHeader.{RtpHeader}
 use Rattle.rtp_media_schedules.specs.SentSamples.{Timed, sent_or, timed}
-use Rattle.rtp_media_streams.specs.Redundant.{wraps, kept_after}
-use Rattle.rtp_media_streams.specs.Rows.{first_state, packing_of, rtp_rate}
-use Rattle.rtp_media_streams.specs.Types.{share_type}
-use Rattle.rtp_media_streams.specs.declared.row_format.RowFormat.{RowFormat}
-use Rattle.rtp_media_streams.specs.declared.types.PayloadTypes.{PayloadTypes}
-use Rattle.rtp_media_streams.specs.declared.errors.SampleError.{SampleError}
-use Rattle.rtp_media_streams.specs.declared.errors.SampleError.TheVariants.{StreamFailed, TimeTooLarge, LimitTooSmall}
-use Rattle.rtp_media_streams.specs.declared.errors.SampleError.TheVariants.{Payload}
+use Rattle.rtp_media_payloads.specs.Redundant.{wraps, kept_after}
+use Rattle.rtp_media_payloads.specs.Rows.{first_state, packing_of, rtp_rate}
+use Rattle.rtp_media_payloads.specs.Types.{share_type}
+use Rattle.rtp_media_payloads.specs.declared.row_format.RowFormat.{RowFormat}
+use Rattle.rtp_media_payloads.specs.declared.types.PayloadTypes.{PayloadTypes}
+use Rattle.rtp_media_payloads.specs.declared.errors.SampleError.{SampleError}
+use Rattle.rtp_media_payloads.specs.declared.errors.SampleError.TheVariants.{StreamFailed, TimeTooLarge, LimitTooSmall}
+use Rattle.rtp_media_payloads.specs.declared.errors.SampleError.TheVariants.{Payload}
 
 -- A sending stream: its SSRC, the payload types of its row and the one of its datagrams (RFC 3550 5.1),
 -- the numbers of its header extensions (RFC 8285 5), what its row says of its payloads and whether they have

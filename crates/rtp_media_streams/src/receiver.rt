@@ -10,22 +10,19 @@ ghost use Rattle.payload_core_buffer.specs.Frames.{complete_frames};
 ghost use Rattle.payload_core_buffer.specs.Packets.{packet_from};
 ghost use Rattle.rtp_media_schedules.specs.Hearing.{poll_answer};
 ghost use Rattle.rtp_media_streams.specs.Drains.{drain_answer, drained_receiver, holding};
-ghost use Rattle.rtp_media_streams.specs.Polls.{IsInterrupted, IsPolled, IsPolledSome, given};
-ghost use Rattle.rtp_media_streams.specs.Receiving.{arrived, conflicts_with, is_own, media_payload, opened_receiver};
-ghost use Rattle.rtp_media_streams.specs.Receiving.{polled_receiver, stream_of, taken_number, values_read};
-ghost use Rattle.rtp_media_streams.specs.Receiving.{with_stream};
-ghost use Rattle.rtp_media_streams.specs.Rows.{format_of};
+ghost use Rattle.rtp_media_payloads.specs.Polls.{IsInterrupted, IsPolled, IsPolledSome, given};
+ghost use Rattle.rtp_media_payloads.specs.Receiving.{arrived, conflicts_with, is_own, media_payload, opened_receiver};
+ghost use Rattle.rtp_media_payloads.specs.Receiving.{polled_receiver, stream_of, taken_number, values_read};
+ghost use Rattle.rtp_media_payloads.specs.Receiving.{with_stream};
+ghost use Rattle.rtp_media_payloads.specs.Rows.{format_of};
 
-use crate::codecs::depacketizer_for;
-use crate::errors::PollFault;
-use crate::media_unit::Unit;
-use crate::payload::media_payload;
 use crate::popping::{drain, pop};
-use crate::row_format::RowFormat;
-use crate::types::PayloadTypes;
 use h26x_payload::{CodecDepacketizer, NotBoxed};
 use payload_core_base::Depacketizer;
 use payload_core_buffer::{DepacketizingBuffer, RtpMeta};
+use rtp_media_payloads::{
+    PayloadTypes, PollFault, RowFormat, Unit, depacketizer_for, media_payload,
+};
 use rtp_wire::{
     ExtensionMap, ExtensionValues, Pt, RtpHeader, SeqNo, SeqNoWindow, Ssrc, extend_u16,
 };
@@ -60,8 +57,8 @@ impl Drop for ReceivingStream {
 
 impl Model for ReceivingStream {
     ghost use Rattle.std.specs.Prelude.{◌≡◌};
-    ghost use Rattle.rtp_media_streams.specs.Receiving.{Receiving, stream_of};
-    ghost use Rattle.rtp_media_streams.specs.Rows.{format_of};
+    ghost use Rattle.rtp_media_payloads.specs.Receiving.{Receiving, stream_of};
+    ghost use Rattle.rtp_media_payloads.specs.Rows.{format_of};
     ghost use Rattle.rtp_wire.specs.Replay.{window_code};
     ghost use Rattle.std.specs.Coded.{codes};
 

@@ -4,7 +4,7 @@ ghost use Rattle.std.specs.Prelude.{◌≡◌, ◌≢◌, ◌<◌, ◌≤◌, �
 ghost use Rattle.std.specs.Prelude.{length, is_some, unwrap_or};
 ghost use Rattle.h26x_payload.specs.Codings.{has_format};
 ghost use Rattle.rtp_wire.specs.Time.{rebased_ticks, checked_rebased};
-ghost use Rattle.rtp_media_streams.specs.Rows.{rtp_rate};
+ghost use Rattle.rtp_media_payloads.specs.Rows.{rtp_rate};
 ghost use Rattle.rtp_media_streams.specs.Sending.{HasFailed, opened_sender, redundant_sender, conflicts_with};
 ghost use Rattle.rtp_media_streams.specs.Sending.{longest_datagram, payload_refusal, packed, payloads_at, sent};
 ghost use Rattle.rtp_media_streams.specs.Sending.{timestamp, wire_payloads, still_kept, with_next, datagrams_from};
@@ -12,16 +12,14 @@ ghost use Rattle.rtp_media_streams.specs.Sending.{sent_datagrams, after_sample, 
 ghost use Rattle.rtp_media_streams.specs.Sending.{refusal_of_sample};
 ghost use Rattle.payload_core_red.specs.RedHistory.{AreDistances};
 
-use crate::codecs::packetizer_for;
-use crate::datagram::Datagram;
-use crate::errors::SampleError;
-use crate::row_format::{RowFormat, rtp_rate_of};
 use crate::sink::{DatagramSink, Stamp};
-use crate::types::PayloadTypes;
 use h26x_payload::{CodecPacketizer, NotBoxed};
 use payload_core_base::{PacketError, Packetizer};
 use payload_core_buffer::Payloader;
 use payload_core_red::{RedSender, RedSink};
+use rtp_media_payloads::{
+    Datagram, PayloadTypes, RowFormat, SampleError, packetizer_for, rtp_rate_of,
+};
 use rtp_wire::{ExtensionMap, ExtensionValues, Frequency, MediaTime, Pt, Ssrc};
 use std::alloc::{AllocError, Global};
 use std::marker::Model;
@@ -68,7 +66,7 @@ impl Drop for SendingStream {
 impl Model for SendingStream {
     ghost use Rattle.payload_core_buffer.specs.Payloaders.{packetizer_of};
     ghost use Rattle.std.specs.Prelude.{◌≡◌, ◌<◌};
-    ghost use Rattle.rtp_media_streams.specs.Rows.{packing_of};
+    ghost use Rattle.rtp_media_payloads.specs.Rows.{packing_of};
     ghost use Rattle.rtp_media_streams.specs.Sending.{Sending};
 
     ghost Value = { Sending };

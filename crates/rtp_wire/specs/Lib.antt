@@ -1,10 +1,10 @@
 pub use Rattle.rtp_wire_extensions.specs.Carried
 pub use Rattle.rtp_wire_extensions.specs.Elements
-pub use Rattle.rtp_wire_extensions.specs.Iteration
+pub use Rattle.rtp_wire_extension_maps.specs.Iteration
 pub use Rattle.rtp_wire_extensions.specs.Kinds
-pub use Rattle.rtp_wire_extensions.specs.Maps
+pub use Rattle.rtp_wire_extension_maps.specs.Maps
 pub use Rattle.rtp_wire_extensions.specs.Values
-pub use Rattle.rtp_wire_extensions.specs.Written
+pub use Rattle.rtp_wire_extension_maps.specs.Written
 pub use Rattle.rtp_wire_ids.specs.Direction
 pub use Rattle.rtp_wire_ids.specs.Name
 pub mod Default

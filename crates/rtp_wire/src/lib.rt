@@ -17,10 +17,10 @@ pub use header::RtpHeader;
 pub use laws::{header_laws, padding_laws, widening_laws, window_laws};
 pub use media_time::MediaTime;
 pub use padding::unpad_payload;
-pub use rtp_wire_extensions::{
-    AbsCaptureTime, Extension, ExtensionMap, ExtensionMapIter, ExtensionValues, ExtensionsForm,
-    MAX_ID, MAX_ID_ONE_BYTE_FORM, Uri, VideoOrientation,
+pub use rtp_wire_extension_maps::{
+    ExtensionMap, ExtensionMapIter, ExtensionsForm, MAX_ID, MAX_ID_ONE_BYTE_FORM,
 };
+pub use rtp_wire_extensions::{AbsCaptureTime, Extension, ExtensionValues, Uri, VideoOrientation};
 pub use rtp_wire_ids::{
     ClockRate, Direction, Mid, Pt, Rid, SeqNo, SessionId, Ssrc, direction_laws,
 };

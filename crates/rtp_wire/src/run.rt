@@ -6,7 +6,7 @@ ghost use Rattle.rtp_wire.specs.Run.{reception_of, window_behind, receptions};
 
 use crate::header::RtpHeader;
 use crate::window::SeqNoWindow;
-use rtp_wire_extensions::ExtensionMap;
+use rtp_wire_extension_maps::ExtensionMap;
 use rtp_wire_ids::SeqNo;
 use std::alloc::{AllocError, Global};
 

@@ -1,8 +1,1 @@
-pub mod BlockLaws
 pub mod CarriedLaws
-pub mod MapLaws
-pub mod EntryLaws
-pub mod LayoutLaws
-pub mod SeenLaws
-pub mod FullNames
-pub mod PatchedLaws

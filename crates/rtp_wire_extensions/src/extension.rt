@@ -184,7 +184,7 @@ impl Extension {
     }
 
     /// The number of a known kind; 0 for an unknown one.
-    pub(crate) fn kind(&self) -> u8
+    pub fn kind(&self) -> u8
         ensures value { result ≡ kind_of self.now }
         ensures few { result < 11 }
     {

@@ -107,7 +107,7 @@ impl ExtensionValues {
     }
 
     /// Whether each name that is there has a byte.
-    pub(crate) fn has_full_names(&self) -> bool
+    pub fn has_full_names(&self) -> bool
         ensures { result ≡ true → HasFullNames self.now }
     {
         !matches!(self.mid, Some(name) if name.as_bytes().is_empty())
@@ -116,7 +116,7 @@ impl ExtensionValues {
     }
 
     /// Reads each value, so that callers know the range of its type.
-    pub(crate) fn in_range(&self)
+    pub fn in_range(&self)
         ensures { AreValues self.now }
     {
         number_in_range(self.transport_cc);

@@ -1,5 +1,2 @@
 pub mod Read
-mod KeyOrder
-mod KeySets
-mod OneMore
 mod OneName

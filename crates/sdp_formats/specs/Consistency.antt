@@ -1,16 +1,17 @@
 -- Whole session texts whose parts go together.
 use Rattle.std.specs.Prelude.{◌≡◌, ℕ, Bool, true, false, not, ◌&&◌, ◌||◌, IsTrue, List, [], ◌∷◌}
-use Rattle.std.specs.Prelude.{Option, Some, None, Result, Ok, Err, nat_eq, if◌then◌else◌}
+use Rattle.std.specs.Prelude.{Option, Some, None, Result, Ok, Err, codes, nat_eq, if◌then◌else◌}
+use Rattle.std.specs.String.{string_bytes}
 use Rattle.std.specs.Cmp.Lexicographic.{pointwise}
 use Rattle.std.specs.List.{filter_map, list_all, list_any}
 use Rattle.sdp_formats.specs.declared.error.SdpError.{SdpError}
 use Rattle.sdp_formats.specs.declared.error.SdpError.TheVariants.{ParseError, Inconsistent, Memory}
-use Rattle.sdp_formats_predicates.specs.Consistency.{is_consistent}
+use Rattle.sdp_formats_faults.specs.Consistency.{is_consistent}
 use Rattle.sdp_formats_types.specs.Lookups.{first_of, mid_in}
 use Rattle.sdp_formats_types.specs.declared.MediaLine.{MediaLine}
-use Rattle.sdp_formats_types.specs.declared.Sdp.{Sdp}
-use Rattle.sdp_formats_types.specs.declared.SessionAttribute.{SessionAttribute}
-use Rattle.sdp_formats_types.specs.declared.SessionAttribute.TheVariants as a
+use Rattle.sdp_formats_sessions.specs.declared.Sdp.{Sdp}
+use Rattle.sdp_formats_sessions.specs.declared.SessionAttribute.{SessionAttribute}
+use Rattle.sdp_formats_sessions.specs.declared.SessionAttribute.TheVariants as a
 
 abbrev pub is_name : List ℕ → List ℕ → Bool
 is_name name other = pointwise nat_eq name other
@@ -48,9 +49,12 @@ pub record IsWhole (sdp : Sdp) : Type 0 where
   pub group : first_of group_in sdp.session.attrs ≡ Some mids
   pub grouped : mids ≡ filter_map (grouped_mid mids) sdp.media_lines
 
+abbrev pub whole_fault : List ℕ
+whole_fault = codes "a section with a fault, names that aren't apart, or another group"
+
 -- What a test of a text answers.
 abbrev pub AssertsWhole : Sdp → Result (Unit {0}) SdpError → Type 0
 AssertsWhole sdp (Ok x) = IsWhole sdp
-AssertsWhole sdp (Err (Inconsistent text)) = IsWhole sdp → ⊥
+AssertsWhole sdp (Err (Inconsistent text)) = (IsWhole sdp → ⊥) × (string_bytes text ≡ whole_fault)
 AssertsWhole sdp (Err Memory) = Unit {0}
 AssertsWhole sdp (Err (ParseError text)) = ⊥

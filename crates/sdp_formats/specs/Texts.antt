@@ -3,8 +3,8 @@ use Rattle.std.specs.Prelude.{◌≡◌, ℕ, List, Result, Ok, Err, codes}
 use Rattle.std.specs.String.{string_bytes}
 use Rattle.std.specs.Borrow.{Bor}
 use Rattle.sdp_formats_reader.specs.Grammar.{SdpSays, SessionSays}
-use Rattle.sdp_formats_types.specs.declared.session.Sdp.{Sdp}
-use Rattle.sdp_formats_types.specs.declared.session.Session.{Session}
+use Rattle.sdp_formats_sessions.specs.declared.session.Sdp.{Sdp}
+use Rattle.sdp_formats_sessions.specs.declared.session.Session.{Session}
 use Rattle.sdp_formats.specs.declared.error.SdpError.{SdpError}
 use Rattle.sdp_formats.specs.declared.error.SdpError.TheVariants.{ParseError, Inconsistent, Memory}
 
@@ -40,6 +40,7 @@ ParsesSession text (Err (Inconsistent t)) = ⊥
 -- The same of a text whose rest is passed over.
 abbrev pub ReadsText : List ℕ → Result Sdp SdpError → Type 0
 ReadsText text (Ok sdp) = (rest : List ℕ) × SdpSays text sdp rest
+    × ((other : Sdp) (left : List ℕ) → SdpSays text other left → other ≡ sdp)
 ReadsText text (Err Memory) = Unit {0}
 ReadsText text (Err (ParseError t)) = SaysNothing text × (string_bytes t ≡ text_fault)
 ReadsText text (Err (Inconsistent t)) = ⊥

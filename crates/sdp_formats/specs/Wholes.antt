@@ -6,9 +6,9 @@ use Rattle.sdp_formats_lookups.specs.Sections.{sctp_init_in}
 use Rattle.sdp_formats_types.specs.Lookups.{first_of}
 use Rattle.sdp_formats_types.specs.Media.{is_channel}
 use Rattle.sdp_formats_types.specs.declared.MediaLine.{MediaLine}
-use Rattle.sdp_formats_types.specs.declared.Sdp.{Sdp}
-use Rattle.sdp_formats_types.specs.declared.SessionAttribute.{SessionAttribute}
-use Rattle.sdp_formats_types.specs.declared.SessionAttribute.TheVariants as a
+use Rattle.sdp_formats_sessions.specs.declared.Sdp.{Sdp}
+use Rattle.sdp_formats_sessions.specs.declared.SessionAttribute.{SessionAttribute}
+use Rattle.sdp_formats_sessions.specs.declared.SessionAttribute.TheVariants as a
 
 -- The sections of a group of this meaning.
 unfoldable pub bundle_in : SessionAttribute → Option (List (List ℕ))

@@ -10,9 +10,10 @@ ghost use Rattle.sdp_formats.specs.Consistency.{grouped_mid, lists, mid_of};
 use crate::SdpError;
 use crate::name_set::NameSet;
 use rtp_wire::Mid;
-use sdp_formats_predicates::are_consistent;
-use sdp_formats_predicates::same::Same;
-use sdp_formats_types::{Listed, MediaLine, Sdp, SessionAttribute};
+use sdp_formats_equality::same::Same;
+use sdp_formats_faults::are_consistent;
+use sdp_formats_sessions::{Sdp, SessionAttribute};
+use sdp_formats_types::{Listed, MediaLine};
 use std::alloc::{AllocError, Global};
 
 fn are_apart(alloc: Global, names: &[Mid]) -> Result<bool, AllocError>

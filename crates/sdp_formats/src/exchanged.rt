@@ -2,12 +2,12 @@
 
 ghost use Rattle.std.specs.Prelude.{◌≡◌, IfOk};
 ghost use Rattle.std.specs.String.{string_bytes};
-ghost use Rattle.sdp_formats_types.specs.PrintedSession.{sdp_text};
+ghost use Rattle.sdp_formats_sessions.specs.PrintedSession.{sdp_text};
 ghost use Rattle.sdp_formats.specs.Texts.{ReadsText};
 
 use crate::error::SdpError;
 use crate::parser::sdp_parser;
-use sdp_formats_types::Sdp;
+use sdp_formats_sessions::Sdp;
 use std::alloc::{AllocError, Global};
 use std::fmt;
 use std::marker::Model;
@@ -27,7 +27,7 @@ impl Drop for SdpOffer {
 }
 
 impl Model for SdpOffer {
-    ghost use Rattle.sdp_formats_types.specs.declared.session.Sdp.{Sdp};
+    ghost use Rattle.sdp_formats_sessions.specs.declared.session.Sdp.{Sdp};
 
     ghost Value = { Sdp };
 
@@ -110,7 +110,7 @@ impl Drop for SdpAnswer {
 }
 
 impl Model for SdpAnswer {
-    ghost use Rattle.sdp_formats_types.specs.declared.session.Sdp.{Sdp};
+    ghost use Rattle.sdp_formats_sessions.specs.declared.session.Sdp.{Sdp};
 
     ghost Value = { Sdp };
 

@@ -4,47 +4,39 @@
 //! and their rounds stand here too, and so does what their calls name of the wire.
 #![tactic(auto)]
 
-mod again;
-mod attributes;
-mod candidate_keys;
-mod candidates;
 mod consistency;
 mod error;
 mod exchanged;
 mod name_set;
 mod parser;
-mod texts;
 mod wholes;
 
-pub use again::TryClone;
-pub use candidates::ice_candidates;
 pub use consistency::assert_consistency;
 pub use error::SdpError;
 pub use exchanged::{SdpAnswer, SdpOffer};
 pub use parser::{sdp_parser, session_parser};
 pub use rtp_wire::{Direction, Extension, Frequency, Mid, Pt, Rid, SessionId, Ssrc};
+pub use sdp_formats_candidates::ice_candidates;
 pub use sdp_formats_config::{CodecConfig, RemoteSection};
+pub use sdp_formats_copies::TryClone;
+pub use sdp_formats_equality::same::Same;
+pub use sdp_formats_faults::{Inconsistency, check_consistent, is_consistent};
 pub use sdp_formats_forms::{FingerprintFmt, Joined, Maybe, Refusal};
-pub use sdp_formats_lookups::{
-    directions, from_text, is_no_stream, lists, preference, section, session, sources_of,
-    ssrc_info, whole,
-};
-pub use sdp_formats_predicates::same::Same;
-pub use sdp_formats_predicates::{
-    Inconsistency, check_consistent, is_consistent, is_writable_session,
-};
+pub use sdp_formats_lookups::{directions, from_text, lists, preference, section, session, whole};
 pub use sdp_formats_round::{RoundError, best_row, round};
+pub use sdp_formats_row_attributes::{as_media_attrs, map_of, spec_of_map};
 pub use sdp_formats_rows::{
     Codec, CodecSpec, FormatParams, MediaKind, PayloadParams, scores_in_range, scores_symmetric,
 };
-pub use sdp_formats_section_rows::{
-    as_media_attrs, format_given, map_of, rtp_params, spec_of_map, to_format_param, with_param,
-};
+pub use sdp_formats_section_rows::{format_given, rtp_params, to_format_param, with_param};
+pub use sdp_formats_sessions::{Sdp, Session, SessionAttribute};
+pub use sdp_formats_sources::{is_no_stream, sources_of, ssrc_info};
 pub use sdp_formats_types::{
     Bandwidth, Candidate, CandidateKind, Fingerprint, FormatParam, H265ProfileTierLevel,
     H266ProfileTierLevel, IceCreds, Listed, MediaAttribute, MediaLine, MediaType, Msid, Pair,
-    Proto, Protocol, RelatedAddress, RestrictionId, RidDirection, RtpMap, Sdp, Session,
-    SessionAttribute, Setup, Simulcast, SimulcastGroups, SimulcastLayer, SsrcInfo, TcpType, Text,
+    Proto, Protocol, RelatedAddress, RestrictionId, RidDirection, RtpMap, Setup, Simulcast,
+    SimulcastGroups, SimulcastLayer, SsrcInfo, TcpType, Text,
 };
-pub use sdp_formats_values::{candidate_of, fingerprint_of, setup_of};
+pub use sdp_formats_value_reader::{candidate_of, fingerprint_of, setup_of};
+pub use sdp_formats_writable::is_writable_session;
 pub use wholes::{bundle_mids, parse, sctp_init};

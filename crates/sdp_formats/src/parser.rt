@@ -8,7 +8,7 @@ ghost use Rattle.sdp_formats.specs.Texts.{ParsesSdp, ParsesSession};
 use crate::error::SdpError;
 use sdp_formats_forms::Refusal;
 use sdp_formats_reader::{read_sdp, read_session};
-use sdp_formats_types::{Sdp, Session};
+use sdp_formats_sessions::{Sdp, Session};
 use std::alloc::Global;
 
 /// The text of an error.

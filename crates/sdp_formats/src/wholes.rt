@@ -8,7 +8,8 @@ ghost use Rattle.sdp_formats.specs.Wholes.{bundle_in, bundle_of, init_of};
 use crate::{SdpError, sdp_parser};
 use rtp_wire::Mid;
 use sdp_formats_lookups::section;
-use sdp_formats_types::{Sdp, SessionAttribute, Text};
+use sdp_formats_sessions::{Sdp, SessionAttribute};
+use sdp_formats_types::Text;
 use std::alloc::Global;
 
 /// The session text of a text. What stands from the first line on that fits nowhere is passed over.

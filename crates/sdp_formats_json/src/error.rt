@@ -135,6 +135,10 @@ impl fmt::Display for Field {
 
 /// Its name.
 impl fmt::Debug for Field {
+    ghost use Rattle.std.specs.Prelude.{Some};
+
+    ghost debug_output = { λ field. Some (field_name field) };
+
     fn fmt<W: fmt::Write>(&self, f: &mut fmt::Formatter<W>) -> fmt::Result {
         f.write_str(self.as_str())
     }

@@ -14,9 +14,9 @@ use Rattle.sdp_formats_rows.specs.Rows.{Row}
 use Rattle.sdp_formats_rows.specs.Same.{same, same_bool}
 use Rattle.sdp_formats_rows.specs.declared.spec.CodecSpec.{CodecSpec}
 use Rattle.sdp_formats_section_rows.specs.Given.{format_given}
-use Rattle.sdp_formats_section_rows.specs.Maps.{map_of, spec_of_map}
+use Rattle.sdp_formats_row_attributes.specs.Maps.{map_of, spec_of_map}
 use Rattle.sdp_formats_section_rows.specs.Mapped.{mapping_in, mappings_in}
-use Rattle.sdp_formats_section_rows.specs.Maps.{unless_one}
+use Rattle.sdp_formats_row_attributes.specs.Maps.{unless_one}
 use Rattle.sdp_formats_section_rows.specs.SectionRows.{has_row, row_of, rows_given}
 use Rattle.sdp_formats_section_rows.specs.SectionRows.{linked}
 use Rattle.sdp_formats_types.specs.declared.media.MediaAttribute.{MediaAttribute}

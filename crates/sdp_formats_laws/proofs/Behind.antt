@@ -7,15 +7,15 @@ use Rattle.sdp_formats_forms.specs.Form.{IsExact}
 use Rattle.sdp_formats_forms.specs.Line.{LineOf}
 use Rattle.sdp_formats_forms.specs.Step.{Stops, Begins, Many, Perhaps}
 use Rattle.sdp_formats_media_lines.specs.Choice.{attribute_line as media_line}
-use Rattle.sdp_formats_session_lines.specs.Choice.{attribute_line as session_line}
+use Rattle.sdp_formats_session_attributes.specs.Choice.{attribute_line as session_line}
 use Rattle.sdp_formats_session_lines.specs.declared.media.MediaHead.{MediaHead}
 use Rattle.sdp_formats_session_lines.specs.Lines.{version_line, origin_line, name_line, other_line, bandwidth_line}
 use Rattle.sdp_formats_session_lines.specs.Lines.{times_line, repeat_line, connection_line, head_line}
-use Rattle.sdp_formats_predicates.specs.Consistency.{is_consistent}
+use Rattle.sdp_formats_faults.specs.Consistency.{is_consistent}
 use Rattle.sdp_formats_reader.specs.Grammar.{OpeningSays, TimesSay, SessionSays, SectionSays, SdpSays}
 use Rattle.sdp_formats_types.specs.declared.media.MediaLine.{MediaLine}
-use Rattle.sdp_formats_types.specs.declared.session.Session.{Session}
-use Rattle.sdp_formats_types.specs.declared.session.SessionAttribute.{SessionAttribute}
+use Rattle.sdp_formats_sessions.specs.declared.session.Session.{Session}
+use Rattle.sdp_formats_sessions.specs.declared.session.SessionAttribute.{SessionAttribute}
 use Rattle.sdp_formats_laws.proofs.MoreBehind.{at_cut, forth, never_ended}
 use Rattle.sdp_formats_laws.specs.LineEnds.{is_ended}
 use Rattle.sdp_formats_laws.proofs.Found.{as_many, perhaps_one}

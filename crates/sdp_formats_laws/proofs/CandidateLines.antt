@@ -3,12 +3,13 @@ use Rattle.std.proofs.Common.{codes, refl, ap, lit<}
 use Rattle.std.specs.Option.{option_map}
 use Rattle.sdp_formats_media_lines.specs.Choice.{attribute_line}
 use Rattle.sdp_formats_media_lines.specs.Choice.{media_attribute, second_attribute, third_attribute, last_attribute}
-use Rattle.sdp_formats_session_lines.specs.Choice.{attribute_line as session_line, session_attribute, later_attribute}
+use Rattle.sdp_formats_session_attributes.specs.Choice.{attribute_line as session_line, session_attribute}
+use Rattle.sdp_formats_session_attributes.specs.Choice.{later_attribute}
 use Rattle.sdp_formats_types.specs.PrintedMedia.{attribute_text}
-use Rattle.sdp_formats_types.specs.PrintedSession.{attribute_text as session_text}
+use Rattle.sdp_formats_sessions.specs.PrintedSession.{attribute_text as session_text}
 use Rattle.sdp_formats_values.specs.declared.candidate.Candidate as candidate
 use Rattle.sdp_formats_types.specs.declared.media.MediaAttribute.TheVariants.{Candidate}
-use Rattle.sdp_formats_types.specs.declared.session.SessionAttribute.TheVariants as session
+use Rattle.sdp_formats_sessions.specs.declared.session.SessionAttribute.TheVariants as session
 use Rattle.sdp_formats_laws.proofs.Candidates.{candidate_body, candidate_named, candidate_read, lacks_candidate}
 use Rattle.sdp_formats_laws.proofs.Candidates.{feed, return}
 use Rattle.sdp_formats_laws.proofs.PlainKinds.{first_fits}

@@ -3,8 +3,8 @@ use Rattle.std.proofs.Common.{◌≡◌, ◌≢◌, ◌^◌, ℕ, List, [], ◌�
 use Rattle.std.proofs.Common.{ap}
 use Rattle.sdp_formats_forms.specs.Numbers.{number_below}
 use Rattle.sdp_formats_forms.specs.Split.{Lacks}
-use Rattle.sdp_formats_values.specs.Candidates.{candidate}
-use Rattle.sdp_formats_values.specs.Words.{kind_word, protocol_word}
+use Rattle.sdp_formats_value_reader.specs.Candidates.{candidate}
+use Rattle.sdp_formats_value_reader.specs.Words.{kind_word, protocol_word}
 use Rattle.sdp_formats_values.specs.declared.candidate.Candidate.{Candidate}
 use Rattle.sdp_formats_values.specs.declared.candidate.CandidateKind.{CandidateKind}
 use Rattle.sdp_formats_values.specs.declared.candidate.Protocol.{Protocol}

@@ -4,7 +4,7 @@ use Rattle.sdp_formats_session_lines.specs.Lines.{version_line, origin_line, nam
 use Rattle.sdp_formats_session_lines.specs.Lines.{times_line, repeat_line, connection_line, head_line}
 use Rattle.sdp_formats_media_lines.specs.Choice.{attribute_line as media_line}
 use Rattle.sdp_formats_reader.specs.Grammar.{OpeningSays, TimesSay, SessionSays, SectionSays, SdpSays}
-use Rattle.sdp_formats_session_lines.specs.Choice.{attribute_line as session_line}
+use Rattle.sdp_formats_session_attributes.specs.Choice.{attribute_line as session_line}
 use Rattle.sdp_formats_forms.specs.Line.{LineOf}
 use Rattle.sdp_formats_forms.specs.Step.{Stops, Begins, Many, Perhaps}
 

@@ -6,13 +6,13 @@ use Rattle.std.specs.Prelude.{is_none}
 use Rattle.sdp_formats_params.specs.declared.param.FormatParam.{FormatParam}
 use Rattle.sdp_formats_params.specs.declared.param.FormatParam.TheVariants as param
 use Rattle.sdp_formats_media_lines.specs.AsRead.{as_read, spelled_as}
-use Rattle.sdp_formats_predicates.specs.Consistency.{apt_differs, apts_agree, apts_agree_with, are_mapped}
-use Rattle.sdp_formats_predicates.specs.Consistency.{attribute_agrees, fault_of, gives_apt, is_consistent}
-use Rattle.sdp_formats_predicates.specs.Consistency.{is_direction_of, is_mapped, is_setup, is_static, maps_type}
-use Rattle.sdp_formats_predicates.specs.Consistency.{values_agree}
+use Rattle.sdp_formats_faults.specs.Consistency.{apt_differs, apts_agree, apts_agree_with, are_mapped}
+use Rattle.sdp_formats_faults.specs.Consistency.{attribute_agrees, fault_of, gives_apt, is_consistent}
+use Rattle.sdp_formats_faults.specs.Consistency.{is_direction_of, is_mapped, is_setup, is_static, maps_type}
+use Rattle.sdp_formats_faults.specs.Consistency.{values_agree}
 use Rattle.sdp_formats_types.specs.Media.{is_mid, is_rtp}
-use Rattle.sdp_formats_predicates.specs.declared.Inconsistency.{Inconsistency}
-use Rattle.sdp_formats_predicates.specs.declared.Inconsistency.TheVariants as fault
+use Rattle.sdp_formats_faults.specs.declared.Inconsistency.{Inconsistency}
+use Rattle.sdp_formats_faults.specs.declared.Inconsistency.TheVariants as fault
 use Rattle.sdp_formats_types.specs.declared.media.MediaAttribute.{MediaAttribute}
 use Rattle.sdp_formats_types.specs.declared.media.MediaAttribute.TheVariants.{Fmtp}
 use Rattle.sdp_formats_types.specs.declared.media.MediaLine.{MediaLine}

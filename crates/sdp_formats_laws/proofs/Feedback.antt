@@ -8,8 +8,8 @@ use Rattle.std.proofs.lemmas.Grind.{common_steps}
 use Rattle.std.proofs.lemmas.List.Folds.{list_any-append}
 use Rattle.sdp_formats_params.specs.declared.param.FormatParam.{FormatParam}
 use Rattle.sdp_formats_rows.specs.Rows.{Row}
-use Rattle.sdp_formats_section_rows.specs.Attributes.{all_feedback, feedback_line, feedback_lines}
-use Rattle.sdp_formats_section_rows.specs.Attributes.{fmtp_of, is_used, params_in, words_of}
+use Rattle.sdp_formats_row_attributes.specs.Attributes.{all_feedback, feedback_line, feedback_lines}
+use Rattle.sdp_formats_row_attributes.specs.Attributes.{fmtp_of, is_used, params_in, words_of}
 use Rattle.sdp_formats_section_rows.specs.SectionRows.{has_feedback, is_feedback}
 use Rattle.sdp_formats_types.specs.declared.media.MediaAttribute.{MediaAttribute}
 use Rattle.sdp_formats_types.specs.declared.media.MediaAttribute.TheVariants as attribute

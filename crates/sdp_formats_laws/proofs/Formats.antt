@@ -10,22 +10,23 @@ use Rattle.sdp_formats_params.specs.declared.param.FormatParam.TheVariants as pa
 use Rattle.sdp_formats_format.specs.Formats.{no_format}
 use Rattle.sdp_formats_format.specs.declared.format.FormatParams.{FormatParams}
 use Rattle.sdp_formats_format.specs.Parameters.{each_param, params_of}
-use Rattle.sdp_formats_section_rows.specs.Given.{is_unsupported, with_param}
+use Rattle.sdp_formats_section_rows.specs.Given.{is_unsupported, with_codec_param}
 use Rattle.sdp_formats_section_rows.specs.SectionRows.{names}
 
 -- one parameter, given or not
 next : {V : Type 0} (b : Option V → FormatParams) (c : V → FormatParam)
-    → ((v : V) → with_param (b None) (c v) ≡ b (Some v)) → (o : Option V) (rest : List FormatParam)
-    → fold with_param (b None) (option_to_list (option_map c o) ++ rest) ≡ fold with_param (b o) rest
+    → ((v : V) → with_codec_param (b None) (c v) ≡ b (Some v)) → (o : Option V) (rest : List FormatParam)
+    → fold with_codec_param (b None) (option_to_list (option_map c o) ++ rest) ≡ fold with_codec_param (b o) rest
 next b c h None rest = refl
-next b c h (Some v) rest = ap (λ f. fold with_param f rest) (h v)
+next b c h (Some v) rest = ap (λ f. fold with_codec_param f rest) (h v)
 
 -- the parameters behind the first n
 abbrev left_of : FormatParams → ℕ → List FormatParam
 left_of f n = flat_map option_to_list (drop n (each_param f))
 
 -- the parameters of a format give it, but for telephone events
-pub params_back : (f : FormatParams) → fold with_param no_format (params_of f) ≡ record f { telephone_event_max = None }
+pub params_back : (f : FormatParams)
+    → fold with_codec_param no_format (params_of f) ≡ record f { telephone_event_max = None }
 params_back f =
     let g1 : FormatParams = record no_format { min_p_time = f.min_p_time } in
     let g2 : FormatParams = record g1 { stereo = f.stereo } in

@@ -20,7 +20,7 @@ use Rattle.sdp_formats_session_lines.specs.Lines.{connection_line, passed, make_
 use Rattle.sdp_formats_values.specs.Printed.{line_end}
 use Rattle.sdp_formats_types.specs.Printed.{numbers_text}
 use Rattle.sdp_formats_types.specs.PrintedMedia.{named, bandwidth_text}
-use Rattle.sdp_formats_types.specs.declared.session.Bandwidth.{Bandwidth}
+use Rattle.sdp_formats_types.specs.declared.bandwidth.Bandwidth.{Bandwidth}
 use Rattle.sdp_formats_laws.proofs.Decimals.{own, number_below-decimal, Lacks-decimal}
 use Rattle.sdp_formats_laws.proofs.Printed.{IsPrintedAs, named_line, named_by, fixed_line, two_parts, at_text}
 use Rattle.sdp_formats_laws.proofs.Printed.{text_some}

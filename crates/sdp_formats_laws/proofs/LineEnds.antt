@@ -6,7 +6,7 @@ use Rattle.sdp_formats_forms.specs.Split.{Lacks, split_first}
 use Rattle.sdp_formats_session_lines.specs.Lines.{version_line, origin_line, name_line, other_line, bandwidth_line}
 use Rattle.sdp_formats_session_lines.specs.Lines.{times_line, repeat_line, connection_line, head_line}
 use Rattle.sdp_formats_media_lines.specs.Choice.{attribute_line}
-use Rattle.sdp_formats_session_lines.specs.Choice.{attribute_line as session_line}
+use Rattle.sdp_formats_session_attributes.specs.Choice.{attribute_line as session_line}
 use Rattle.sdp_formats_forms.specs.Line.{IsLine, LineOf}
 use Rattle.sdp_formats_laws.proofs.Carried.{Carries, CarriesLines, texts}
 use Rattle.sdp_formats_laws.specs.LineEnds.{ReadsByAnyEnd, with_returns}

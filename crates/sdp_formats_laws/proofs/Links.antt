@@ -10,9 +10,9 @@ use Rattle.payload_core_base.specs.declared.codec.Codec.TheVariants as codec
 use Rattle.sdp_formats_params.specs.declared.param.FormatParam.{FormatParam}
 use Rattle.sdp_formats_rows.specs.Rows.{Row}
 use Rattle.sdp_formats_rows.specs.declared.spec.CodecSpec.{CodecSpec}
-use Rattle.sdp_formats_section_rows.specs.Attributes.{all_feedback, attributes_of, feedback_line, feedback_lines}
-use Rattle.sdp_formats_section_rows.specs.Attributes.{fmtp_of, is_used, params_in, red_lines, resend_lines}
-use Rattle.sdp_formats_section_rows.specs.Attributes.{words_of}
+use Rattle.sdp_formats_row_attributes.specs.Attributes.{all_feedback, attributes_of, feedback_line, feedback_lines}
+use Rattle.sdp_formats_row_attributes.specs.Attributes.{fmtp_of, is_used, params_in, red_lines, resend_lines}
+use Rattle.sdp_formats_row_attributes.specs.Attributes.{words_of}
 use Rattle.sdp_formats_section_rows.specs.Mapped.{is_mapped_to}
 use Rattle.sdp_formats_section_rows.specs.SectionRows.{linked, linked_after, names}
 use Rattle.sdp_formats_types.specs.declared.media.MediaAttribute.{MediaAttribute}

@@ -5,16 +5,16 @@ use Rattle.std.specs.List.{list_all, list_any}
 use Rattle.std.proofs.lemmas.Grind.{common_steps}
 use Rattle.sdp_formats_params.specs.declared.param.FormatParam.{FormatParam}
 use Rattle.sdp_formats_params.specs.declared.param.FormatParam.TheVariants as param
-use Rattle.sdp_formats_predicates.specs.Consistency.{apt_differs, apts_agree, apts_agree_with}
-use Rattle.sdp_formats_predicates.specs.Consistency.{attribute_agrees, gives_apt}
-use Rattle.sdp_formats_predicates.specs.Consistency.{values_agree}
+use Rattle.sdp_formats_faults.specs.Consistency.{apt_differs, apts_agree, apts_agree_with}
+use Rattle.sdp_formats_faults.specs.Consistency.{attribute_agrees, gives_apt}
+use Rattle.sdp_formats_faults.specs.Consistency.{values_agree}
 use Rattle.sdp_formats_round.specs.Laws.{is_among, is_distinct}
 use Rattle.sdp_formats_round.specs.Types.{listed, types_of}
 use Rattle.sdp_formats_round.proofs.Apart.{among_append}
 use Rattle.sdp_formats_rows.specs.Rows.{Row}
-use Rattle.sdp_formats_section_rows.specs.Attributes.{all_feedback, attributes_of, feedback_line, feedback_lines}
-use Rattle.sdp_formats_section_rows.specs.Attributes.{fmtp_of, is_used, params_in, red_lines, resend_lines}
-use Rattle.sdp_formats_section_rows.specs.Attributes.{words_of}
+use Rattle.sdp_formats_row_attributes.specs.Attributes.{all_feedback, attributes_of, feedback_line, feedback_lines}
+use Rattle.sdp_formats_row_attributes.specs.Attributes.{fmtp_of, is_used, params_in, red_lines, resend_lines}
+use Rattle.sdp_formats_row_attributes.specs.Attributes.{words_of}
 use Rattle.sdp_formats_types.specs.declared.media.MediaAttribute.{MediaAttribute}
 use Rattle.sdp_formats_types.specs.declared.media.MediaAttribute.TheVariants as attribute
 use Rattle.sdp_formats_laws.proofs.Formats.{is_other}

@@ -15,7 +15,7 @@ use Rattle.sdp_formats_forms.specs.Form.{Form, IsExact, both, cut, each, either,
 use Rattle.sdp_formats_forms.specs.Numbers.{all_digits, number_below}
 use Rattle.sdp_formats_forms.specs.Split.{Lacks}
 use Rattle.sdp_formats_forms.specs.Steps.{none_if}
-use Rattle.sdp_formats_media_lines.specs.PairsSay.{PairSays, PairsSay, pair_list}
+use Rattle.sdp_formats_stream_lines.specs.PairsSay.{PairSays, PairsSay, pair_list}
 use Rattle.sdp_formats_media_lines.specs.PrintedPairs.{PairsComeBack}
 use Rattle.sdp_formats_params.specs.Keys.{key_named, is_name_of}
 use Rattle.sdp_formats_params.specs.Params.{params_of, word_param}
@@ -23,7 +23,7 @@ use Rattle.sdp_formats_params.specs.Printed.{param_text}
 use Rattle.sdp_formats_params.specs.declared.pairs.Pair.{Pair}
 use Rattle.sdp_formats_params.specs.declared.param.FormatParam.{FormatParam}
 use Rattle.sdp_formats_params.specs.declared.param.FormatParam.TheVariants as param
-use Rattle.sdp_formats_media_lines.specs.Parameters.{anything, key_values, parameters, plain_byte, range, slash_list}
+use Rattle.sdp_formats_source_lines.specs.Parameters.{anything, key_values, parameters, plain_byte, range, slash_list}
 use Rattle.sdp_formats_laws.proofs.KeyedLists.{pairs_on_line, pairs_read}
 use Rattle.sdp_formats_laws.proofs.KeyedParams.{key_of}
 use Rattle.sdp_formats_laws.proofs.Numerals.{accepted, decimal_read, decimal_value, lacks_digits, no_plus}

@@ -18,11 +18,11 @@ use Rattle.sdp_formats_rows.specs.Same.{same_opus, same_speech, same_video}
 use Rattle.sdp_formats_format.specs.Texts.{numbers_265, numbers_266}
 use Rattle.sdp_formats_format.specs.declared.format.FormatParams.{FormatParams}
 use Rattle.sdp_formats_rows.specs.declared.spec.CodecSpec.{CodecSpec}
-use Rattle.sdp_formats_section_rows.specs.Attributes.{all_feedback, feedback_line, feedback_lines}
-use Rattle.sdp_formats_section_rows.specs.Attributes.{fmtp_of, is_used, params_in, words_of}
+use Rattle.sdp_formats_row_attributes.specs.Attributes.{all_feedback, feedback_line, feedback_lines}
+use Rattle.sdp_formats_row_attributes.specs.Attributes.{fmtp_of, is_used, params_in, words_of}
 use Rattle.sdp_formats_format.specs.Parameters.{params_of}
 use Rattle.sdp_formats_section_rows.specs.Given.{events_after, format_given, is_declined, is_unsupported}
-use Rattle.sdp_formats_section_rows.specs.Given.{most_of, with_attribute, with_events, with_param}
+use Rattle.sdp_formats_section_rows.specs.Given.{most_of, with_attribute, with_events, with_codec_param}
 use Rattle.sdp_formats_types.specs.declared.media.MediaAttribute.{MediaAttribute}
 use Rattle.sdp_formats_types.specs.declared.media.MediaAttribute.TheVariants as attribute
 use Rattle.sdp_formats_laws.proofs.Lists.{any_fold, any_past, both, fold_past, none_flat, or_same}
@@ -142,7 +142,7 @@ own_declined pt (p ∷ ps) e =
     rw (same_number pt) (ap (λ b. b || false) (any_past is_other is_unsupported other_unsupported (p ∷ ps) e))
 
 own_with : (pt : ℕ) (ps : List FormatParam) → fold (with_attribute pt) no_format (fmtp_of pt ps)
-    ≡ fold with_param no_format ps
+    ≡ fold with_codec_param no_format ps
 unfolding with_attribute fmtp_of
 own_with pt [] = refl
 own_with pt (p ∷ ps) = rw (same_number pt) refl

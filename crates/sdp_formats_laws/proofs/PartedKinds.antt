@@ -13,10 +13,10 @@ use Rattle.sdp_formats_forms.specs.Split.{Lacks}
 use Rattle.sdp_formats_media_lines.specs.Choice.{attribute_line}
 use Rattle.sdp_formats_media_lines.specs.Choice.{media_attribute, second_attribute, third_attribute, last_attribute}
 use Rattle.sdp_formats_params.specs.declared.FormatParam.{FormatParam}
-use Rattle.sdp_formats_media_lines.specs.Maps.{payload_type, clock_rate, make_map}
+use Rattle.sdp_formats_stream_lines.specs.Maps.{payload_type, clock_rate, make_map}
 use Rattle.sdp_formats_media_lines.specs.AsRead.{params_as_read}
-use Rattle.sdp_formats_media_lines.specs.Parameters.{parameters}
-use Rattle.sdp_formats_media_lines.specs.Sources.{make_names, ssrc_number}
+use Rattle.sdp_formats_source_lines.specs.Parameters.{parameters}
+use Rattle.sdp_formats_source_lines.specs.Sources.{make_names, ssrc_number}
 use Rattle.sdp_formats_values.specs.Printed.{is_empty, line_end}
 use Rattle.sdp_formats_types.specs.Printed.{params_text, numbers_text}
 use Rattle.sdp_formats_types.specs.PrintedMedia.{attribute_text, listed_text, named, rtp_map_text}
@@ -28,7 +28,7 @@ use Rattle.sdp_formats_types.specs.declared.media.MediaAttribute.TheVariants.{Rt
 use Rattle.sdp_formats_types.specs.declared.media.MediaAttribute.TheVariants.{RtcpFb, Fmtp, SsrcGroup}
 use Rattle.sdp_formats_types.specs.declared.media.MediaAttribute.TheVariants.{Ssrc, Unused}
 use Rattle.sdp_formats_laws.proofs.Decimals.{number_below-decimal, Lacks-decimal}
-use Rattle.sdp_formats_values.specs.Fingerprints.{make_fingerprint}
+use Rattle.sdp_formats_value_reader.specs.Fingerprints.{make_fingerprint}
 use Rattle.sdp_formats_values.specs.declared.fingerprint.Fingerprint as print_of
 use Rattle.sdp_formats_types.specs.declared.media.MediaAttribute.TheVariants.{Fingerprint}
 use Rattle.sdp_formats_laws.proofs.Fingerprints.{digest_text, lacks_digest, fingerprint_reads}

@@ -7,7 +7,7 @@ use Rattle.h26x_payload_profiles.specs.H265ProfileTierLevel.{ComesBack as ComesB
 use Rattle.h26x_payload_profiles.specs.H266ProfileTierLevel.{ComesBack as ComesBack266}
 use Rattle.payload_core_base.specs.Codecs.{is_tele_codec}
 use Rattle.sdp_formats_forms.specs.Form.{IsExact}
-use Rattle.sdp_formats_media_lines.specs.PairsSay.{pair_list}
+use Rattle.sdp_formats_stream_lines.specs.PairsSay.{pair_list}
 use Rattle.sdp_formats_media_lines.specs.PrintedPairs.{PairsComeBack}
 use Rattle.sdp_formats_params.specs.declared.param.FormatParam.TheVariants as param
 use Rattle.sdp_formats_format.specs.Formats.{format_of}
@@ -19,7 +19,7 @@ use Rattle.sdp_formats_rows.specs.Same.{same, same_flag, same_format, same_h264,
 use Rattle.sdp_formats_rows.specs.Same.{same_speech, same_video}
 use Rattle.sdp_formats_format.specs.Texts.{format_text, numbers_265, numbers_266}
 use Rattle.sdp_formats_format.specs.declared.format.FormatParams.{FormatParams}
-use Rattle.sdp_formats_section_rows.specs.Attributes.{params_in}
+use Rattle.sdp_formats_row_attributes.specs.Attributes.{params_in}
 use Rattle.sdp_formats_format.specs.Parameters.{params_of}
 use Rattle.sdp_formats_laws.proofs.FormatRanges.{Apart, format_held}
 use Rattle.sdp_formats_laws.proofs.FormatsBack.{OneLevel, format_back}

@@ -10,7 +10,7 @@ use Rattle.sdp_formats_forms.specs.Form.{Form, both, both_maybe, maybe, cut, cut
 use Rattle.sdp_formats_forms.specs.Joined.{joined}
 use Rattle.sdp_formats_forms.specs.Numbers.{number_below}
 use Rattle.sdp_formats_forms.specs.Split.{Lacks, halves_of, parts}
-use Rattle.sdp_formats_media_lines.specs.Maps.{payload_type, clock_rate}
+use Rattle.sdp_formats_stream_lines.specs.Maps.{payload_type, clock_rate}
 use Rattle.sdp_formats_laws.proofs.Decimals.{number_below-decimal, Lacks-decimal}
 use Rattle.sdp_formats_laws.specs.Printable.{AreBelow}
 

@@ -11,14 +11,14 @@ use Rattle.sdp_formats_forms.specs.Joined.{each_behind}
 use Rattle.sdp_formats_forms.specs.Split.{Lacks, behind}
 use Rattle.sdp_formats_media_lines.specs.Choice.{attribute_line}
 use Rattle.sdp_formats_media_lines.specs.Choice.{media_attribute, second_attribute, third_attribute, last_attribute}
-use Rattle.sdp_formats_media_lines.specs.Pairs.{restrictions_of}
+use Rattle.sdp_formats_stream_lines.specs.Pairs.{restrictions_of}
 use Rattle.sdp_formats_media_lines.specs.PrintedPairs.{RestrictionsComeBack, pairs_text}
 use Rattle.sdp_formats_params.specs.Printed.{pair_text}
 use Rattle.sdp_formats_params.specs.declared.Pair.{Pair}
-use Rattle.sdp_formats_media_lines.specs.Maps.{payload_type}
-use Rattle.sdp_formats_media_lines.specs.Names.{has_name_chars, name}
-use Rattle.sdp_formats_media_lines.specs.Rids.{limits_of, later_limits, make_id, make_limits, make_rid, maybe_limits}
-use Rattle.sdp_formats_media_lines.specs.Rids.{typed_limits, limits_behind, way}
+use Rattle.sdp_formats_stream_lines.specs.Maps.{payload_type}
+use Rattle.sdp_formats_stream_lines.specs.Names.{has_name_chars, name}
+use Rattle.sdp_formats_stream_lines.specs.Rids.{limits_of, later_limits, make_id, make_limits, make_rid, maybe_limits}
+use Rattle.sdp_formats_stream_lines.specs.Rids.{typed_limits, limits_behind, way}
 use Rattle.sdp_formats_values.specs.Printed.{is_empty, line_end}
 use Rattle.sdp_formats_types.specs.Printed.{rid_types_text, rid_restrictions_text}
 use Rattle.sdp_formats_values.specs.Printed.{way_text}

@@ -21,9 +21,9 @@ use Rattle.sdp_formats_rows.specs.Plain.{has_plain_red}
 use Rattle.sdp_formats_rows.specs.Plain.{has_plain_types, is_media_codec, is_plain, is_plain_codec, is_plain_rate}
 use Rattle.sdp_formats_rows.specs.Plain.{is_type}
 use Rattle.sdp_formats_rows.specs.Rows.{Row}
-use Rattle.sdp_formats_section_rows.specs.Attributes.{attributes_of, feedback_line, feedback_lines, fmtp_of}
-use Rattle.sdp_formats_section_rows.specs.Attributes.{params_in, red_lines, resend_lines}
-use Rattle.sdp_formats_section_rows.specs.Maps.{map_of}
+use Rattle.sdp_formats_row_attributes.specs.Attributes.{attributes_of, feedback_line, feedback_lines, fmtp_of}
+use Rattle.sdp_formats_row_attributes.specs.Attributes.{params_in, red_lines, resend_lines}
+use Rattle.sdp_formats_row_attributes.specs.Maps.{map_of}
 use Rattle.sdp_formats_types.specs.declared.MediaAttribute.TheVariants as attribute
 use Rattle.sdp_formats_types.specs.declared.MediaLine.{MediaLine}
 use Rattle.sdp_formats_types.specs.declared.MediaType.{MediaType}

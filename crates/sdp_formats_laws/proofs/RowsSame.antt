@@ -16,8 +16,8 @@ use Rattle.sdp_formats_rows.specs.Codecs.{is_codec}
 use Rattle.sdp_formats_format.specs.Formats.{no_format}
 use Rattle.sdp_formats_format.specs.declared.format.FormatParams.{FormatParams}
 use Rattle.sdp_formats_section_rows.specs.Given.{events_after, events_in, format_given, is_declined, is_unsupported}
-use Rattle.sdp_formats_section_rows.specs.Given.{most_of, with_attribute, with_events, with_line, with_param}
-use Rattle.sdp_formats_section_rows.specs.Maps.{spec_of_map}
+use Rattle.sdp_formats_section_rows.specs.Given.{most_of, with_attribute, with_events, with_line, with_codec_param}
+use Rattle.sdp_formats_row_attributes.specs.Maps.{spec_of_map}
 use Rattle.sdp_formats_section_rows.specs.Mapped.{is_mapped_to, mapping_in, mappings, with_static}
 use Rattle.sdp_formats_section_rows.specs.SectionRows.{has_feedback, has_row, is_feedback, linked, linked_after, listed}
 use Rattle.sdp_formats_section_rows.specs.SectionRows.{names, row_of, rows_given}
@@ -157,27 +157,27 @@ declined_line pt (Fmtp t values) = declined_cond (t == pt) values
 declined_line pt _ = refl
 
 -- parameters, a profile, tier and level before the others
-spelled_given : (f : FormatParams) (p : FormatParam) → with_param f (spelled_as p) ≡ with_param f p
+spelled_given : (f : FormatParams) (p : FormatParam) → with_codec_param f (spelled_as p) ≡ with_codec_param f p
 spelled_given f (param.TelephoneEvents most) = refl
 spelled_given f (param.Red pt) = refl
 spelled_given f _ = refl
 
 turned_265 : (f : FormatParams) (v : _) (x : FormatParam) → is_level x ≡ false
-    → with_param (with_param f (param.H265ProfileTierLevel v)) x
-    ≡ with_param (with_param f x) (param.H265ProfileTierLevel v)
+    → with_codec_param (with_codec_param f (param.H265ProfileTierLevel v)) x
+    ≡ with_codec_param (with_codec_param f x) (param.H265ProfileTierLevel v)
 turned_265 f v (param.H265ProfileTierLevel w) e = cc
 turned_265 f v (param.H266ProfileTierLevel w) e = cc
 turned_265 f v _ e = refl
 
 turned_266 : (f : FormatParams) (v : _) (x : FormatParam) → is_level x ≡ false
-    → with_param (with_param f (param.H266ProfileTierLevel v)) x
-    ≡ with_param (with_param f x) (param.H266ProfileTierLevel v)
+    → with_codec_param (with_codec_param f (param.H266ProfileTierLevel v)) x
+    ≡ with_codec_param (with_codec_param f x) (param.H266ProfileTierLevel v)
 turned_266 f v (param.H265ProfileTierLevel w) e = cc
 turned_266 f v (param.H266ProfileTierLevel w) e = cc
 turned_266 f v _ e = refl
 
 turned : (f : FormatParams) (l x : FormatParam) → is_level l ≡ true → is_level x ≡ false
-    → with_param (with_param f l) x ≡ with_param (with_param f x) l
+    → with_codec_param (with_codec_param f l) x ≡ with_codec_param (with_codec_param f x) l
 turned f (param.H265ProfileTierLevel v) x h e = turned_265 f v x e
 turned f (param.H266ProfileTierLevel v) x h e = turned_266 f v x e
 turned f _ x h e = cc
@@ -196,36 +196,38 @@ only_levels [] = tt
 only_levels (x ∷ xs) = levels_cond x (filter is_level xs) (is_level x) refl (only_levels xs)
 
 moved : (f : FormatParams) (front : List FormatParam) (x : FormatParam) (back : List FormatParam) → AreLevels front
-    → is_level x ≡ false → fold with_param f (front ++ x ∷ back) ≡ fold with_param (with_param f x) (front ++ back)
+    → is_level x ≡ false
+    → fold with_codec_param f (front ++ x ∷ back) ≡ fold with_codec_param (with_codec_param f x) (front ++ back)
 moved f [] x back h e = refl
 moved f (l ∷ front) x back h e =
-    moved (with_param f l) front x back h.1 e
-    ∙ ap (λ g. fold with_param g (front ++ back)) (turned f l x h.0 e)
+    moved (with_codec_param f l) front x back h.1 e
+    ∙ ap (λ g. fold with_codec_param g (front ++ back)) (turned f l x h.0 e)
 
 step : (f : FormatParams) (x : FormatParam) (front back : List FormatParam) (b : Bool) → is_level x ≡ b
-    → AreLevels front → fold with_param f (cond b (x ∷ front) front ++ cond (not b) (x ∷ back) back)
-    ≡ fold with_param (with_param f x) (front ++ back)
+    → AreLevels front → fold with_codec_param f (cond b (x ∷ front) front ++ cond (not b) (x ∷ back) back)
+    ≡ fold with_codec_param (with_codec_param f x) (front ++ back)
 step f x front back true e h = refl
 step f x front back false e h = moved f front x back h e
 
 parted : (f : FormatParams) (xs : List FormatParam)
-    → fold with_param f (filter is_level xs ++ filter is_other xs) ≡ fold with_param f xs
+    → fold with_codec_param f (filter is_level xs ++ filter is_other xs) ≡ fold with_codec_param f xs
 parted f [] = refl
 parted f (x ∷ xs) = step f x (filter is_level xs) (filter is_other xs) (is_level x) refl (only_levels xs)
-    ∙ parted (with_param f x) xs
+    ∙ parted (with_codec_param f x) xs
 
 params_given : (f : FormatParams) (ps : List FormatParam)
-    → fold with_param f (params_as_read ps) ≡ fold with_param f ps
+    → fold with_codec_param f (params_as_read ps) ≡ fold with_codec_param f ps
 params_given f ps = parted f (map spelled_as ps) ∙ fold_spelled f ps
   where
     fold_spelled : (f : FormatParams) (ps : List FormatParam)
-        → fold with_param f (map spelled_as ps) ≡ fold with_param f ps
+        → fold with_codec_param f (map spelled_as ps) ≡ fold with_codec_param f ps
     fold_spelled f [] = refl
     fold_spelled f (p ∷ ps) =
-        ap (λ g. fold with_param g (map spelled_as ps)) (spelled_given f p) ∙ fold_spelled (with_param f p) ps
+        ap (λ g. fold with_codec_param g (map spelled_as ps)) (spelled_given f p)
+        ∙ fold_spelled (with_codec_param f p) ps
 
 given_cond : (b : Bool) (f : FormatParams) (values : List FormatParam)
-    → fold with_param f (cond b (params_as_read values) []) ≡ fold with_param f (cond b values [])
+    → fold with_codec_param f (cond b (params_as_read values) []) ≡ fold with_codec_param f (cond b values [])
 given_cond true f values = params_given f values
 given_cond false f values = refl
 

@@ -9,21 +9,21 @@ use Rattle.sdp_formats_forms.specs.Cuts.{other_byte}
 use Rattle.sdp_formats_forms.specs.Form.{any_text, some_text, cut_maybe, separated, told}
 use Rattle.sdp_formats_forms.specs.Joined.{joined, spelled}
 use Rattle.sdp_formats_forms.specs.Split.{Lacks}
-use Rattle.sdp_formats_session_lines.specs.Choice.{attribute_line, session_attribute, later_attribute}
-use Rattle.sdp_formats_session_lines.specs.Groups.{without_last, mid_word, mids_of}
+use Rattle.sdp_formats_session_attributes.specs.Choice.{attribute_line, session_attribute, later_attribute}
+use Rattle.sdp_formats_session_attributes.specs.Groups.{without_last, mid_word, mids_of}
 use Rattle.sdp_formats_values.specs.Printed.{line_end, is_empty}
 use Rattle.sdp_formats_types.specs.Printed.{words_text}
 use Rattle.sdp_formats_types.specs.PrintedMedia.{named}
-use Rattle.sdp_formats_types.specs.PrintedSession.{attribute_text}
+use Rattle.sdp_formats_sessions.specs.PrintedSession.{attribute_text}
 use Rattle.sdp_formats_values.specs.declared.setup.Setup as setup
 use Rattle.sdp_formats_values.specs.declared.setup.Setup.TheVariants as way
-use Rattle.sdp_formats_types.specs.declared.session.SessionAttribute.TheVariants.{Group, MsidSemantic, IceLite}
-use Rattle.sdp_formats_types.specs.declared.session.SessionAttribute.TheVariants.{IceUfrag}
-use Rattle.sdp_formats_types.specs.declared.session.SessionAttribute.TheVariants.{IcePwd, IceOptions, Setup}
-use Rattle.sdp_formats_types.specs.declared.session.SessionAttribute.TheVariants.{EndOfCandidates, Unused}
-use Rattle.sdp_formats_values.specs.Fingerprints.{make_fingerprint}
+use Rattle.sdp_formats_sessions.specs.declared.session.SessionAttribute.TheVariants.{Group, MsidSemantic, IceLite}
+use Rattle.sdp_formats_sessions.specs.declared.session.SessionAttribute.TheVariants.{IceUfrag}
+use Rattle.sdp_formats_sessions.specs.declared.session.SessionAttribute.TheVariants.{IcePwd, IceOptions, Setup}
+use Rattle.sdp_formats_sessions.specs.declared.session.SessionAttribute.TheVariants.{EndOfCandidates, Unused}
+use Rattle.sdp_formats_value_reader.specs.Fingerprints.{make_fingerprint}
 use Rattle.sdp_formats_values.specs.declared.fingerprint.Fingerprint as print_of
-use Rattle.sdp_formats_types.specs.declared.session.SessionAttribute.TheVariants.{Fingerprint}
+use Rattle.sdp_formats_sessions.specs.declared.session.SessionAttribute.TheVariants.{Fingerprint}
 use Rattle.sdp_formats_laws.proofs.Fingerprints.{digest_text, lacks_digest, fingerprint_reads}
 use Rattle.std.proofs.Common.{subst, lit<}
 use Rattle.sdp_formats_laws.proofs.Printed.{IsPrintedAs, named_line, named_by, fixed_line, two_parts, at_text}

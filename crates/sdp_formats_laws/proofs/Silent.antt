@@ -11,10 +11,10 @@ use Rattle.sdp_formats_rows.specs.Rows.{Row}
 use Rattle.sdp_formats_round.specs.Laws.{is_among}
 use Rattle.sdp_formats_round.specs.Types.{listed, types_of}
 use Rattle.sdp_formats_round.proofs.Apart.{among_append}
-use Rattle.sdp_formats_section_rows.specs.Attributes.{all_feedback, attributes_of, feedback_line, feedback_lines}
-use Rattle.sdp_formats_section_rows.specs.Attributes.{fmtp_of, is_used, params_in, red_lines, resend_lines}
-use Rattle.sdp_formats_section_rows.specs.Attributes.{words_of}
-use Rattle.sdp_formats_section_rows.specs.Maps.{map_of}
+use Rattle.sdp_formats_row_attributes.specs.Attributes.{all_feedback, attributes_of, feedback_line, feedback_lines}
+use Rattle.sdp_formats_row_attributes.specs.Attributes.{fmtp_of, is_used, params_in, red_lines, resend_lines}
+use Rattle.sdp_formats_row_attributes.specs.Attributes.{words_of}
+use Rattle.sdp_formats_row_attributes.specs.Maps.{map_of}
 use Rattle.sdp_formats_types.specs.declared.media.MediaAttribute.{MediaAttribute}
 use Rattle.sdp_formats_types.specs.declared.media.MediaAttribute.TheVariants as attribute
 use Rattle.sdp_formats_types.specs.declared.media.RtpMap.{RtpMap}

@@ -11,10 +11,10 @@ use Rattle.sdp_formats_forms.specs.Pieces.{head}
 use Rattle.sdp_formats_forms.specs.Split.{Lacks, behind}
 use Rattle.sdp_formats_media_lines.specs.Choice.{attribute_line}
 use Rattle.sdp_formats_media_lines.specs.Choice.{media_attribute, second_attribute, third_attribute, last_attribute}
-use Rattle.sdp_formats_media_lines.specs.Rids.{way}
-use Rattle.sdp_formats_media_lines.specs.Simulcasts.{direction_layers, first_layer, grouped, groups, is_other, layer}
-use Rattle.sdp_formats_media_lines.specs.Simulcasts.{make_id, make_layer, make_way, other_layers}
-use Rattle.sdp_formats_media_lines.specs.Simulcasts.{sent, simulcast, untilded}
+use Rattle.sdp_formats_stream_lines.specs.Rids.{way}
+use Rattle.sdp_formats_stream_lines.specs.Simulcasts.{direction_layers, first_layer, grouped, groups, is_other, layer}
+use Rattle.sdp_formats_stream_lines.specs.Simulcasts.{make_id, make_layer, make_way, other_layers}
+use Rattle.sdp_formats_stream_lines.specs.Simulcasts.{sent, simulcast, untilded}
 use Rattle.sdp_formats_values.specs.Printed.{is_empty, layer_text, layers_text, line_end, name_of, simulcast_text}
 use Rattle.sdp_formats_values.specs.Printed.{ways_text}
 use Rattle.sdp_formats_types.specs.PrintedMedia.{attribute_text}

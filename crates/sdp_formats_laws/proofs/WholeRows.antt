@@ -9,7 +9,7 @@ use Rattle.payload_core_base.specs.declared.codec.Codec.TheVariants as codec
 use Rattle.sdp_formats_rows.specs.Codecs.{is_codec}
 use Rattle.sdp_formats_rows.specs.Plain.{is_plain}
 use Rattle.sdp_formats_rows.specs.Rows.{Row}
-use Rattle.sdp_formats_section_rows.specs.Attributes.{attributes_of}
+use Rattle.sdp_formats_row_attributes.specs.Attributes.{attributes_of}
 use Rattle.sdp_formats_section_rows.specs.Mapped.{is_mapped_to, mapping_in, mappings_in}
 use Rattle.sdp_formats_section_rows.specs.SectionRows.{rows_given}
 use Rattle.sdp_formats_types.specs.declared.media.MediaAttribute.{MediaAttribute}

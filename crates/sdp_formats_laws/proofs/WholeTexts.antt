@@ -6,7 +6,7 @@ use Rattle.std.specs.Option.{option_map}
 use Rattle.sdp_formats_forms.specs.Form.{IsExact}
 use Rattle.sdp_formats_forms.specs.Joined.{each_behind, maybe_text}
 use Rattle.sdp_formats_forms.specs.Split.{Lacks}
-use Rattle.sdp_formats_predicates.specs.Consistency.{is_consistent}
+use Rattle.sdp_formats_faults.specs.Consistency.{is_consistent}
 use Rattle.sdp_formats_session_lines.specs.Lines.{version_line, origin_line, name_line, other_line, times_line}
 use Rattle.sdp_formats_session_lines.specs.Lines.{bandwidth_line}
 use Rattle.sdp_formats_session_lines.specs.Lines.{something, passed}
@@ -14,18 +14,18 @@ use Rattle.sdp_formats_session_lines.specs.Heads.{media_line}
 use Rattle.sdp_formats_media_lines.specs.Choice.{attribute_line as media_attribute_line}
 use Rattle.sdp_formats_media_lines.specs.PrintedPairs.{RestrictionsComeBack}
 use Rattle.sdp_formats_reader.specs.Grammar.{OpeningSays, TimesSay, SessionSays, SectionSays, SdpSays}
-use Rattle.sdp_formats_session_lines.specs.Choice.{attribute_line, session_attribute}
+use Rattle.sdp_formats_session_attributes.specs.Choice.{attribute_line, session_attribute}
 use Rattle.sdp_formats_forms.specs.Line.{LineOf}
 use Rattle.sdp_formats_forms.specs.Step.{Stops, Begins, Perhaps}
 use Rattle.sdp_formats_values.specs.Printed.{line_end}
 use Rattle.sdp_formats_types.specs.PrintedMedia.{named, bandwidth_text, section_text}
-use Rattle.sdp_formats_types.specs.PrintedSession.{attribute_text, attributes_text, session_text, sections_text}
-use Rattle.sdp_formats_types.specs.PrintedSession.{sdp_text}
+use Rattle.sdp_formats_sessions.specs.PrintedSession.{attribute_text, attributes_text, session_text, sections_text}
+use Rattle.sdp_formats_sessions.specs.PrintedSession.{sdp_text}
 use Rattle.sdp_formats_types.specs.declared.media.MediaLine.{MediaLine}
-use Rattle.sdp_formats_types.specs.declared.session.Bandwidth.{Bandwidth}
-use Rattle.sdp_formats_types.specs.declared.session.Sdp.{Sdp}
-use Rattle.sdp_formats_types.specs.declared.session.Session.{Session}
-use Rattle.sdp_formats_types.specs.declared.session.SessionAttribute.{SessionAttribute}
+use Rattle.sdp_formats_types.specs.declared.bandwidth.Bandwidth.{Bandwidth}
+use Rattle.sdp_formats_sessions.specs.declared.session.Sdp.{Sdp}
+use Rattle.sdp_formats_sessions.specs.declared.session.Session.{Session}
+use Rattle.sdp_formats_sessions.specs.declared.session.SessionAttribute.{SessionAttribute}
 use Rattle.sdp_formats_laws.proofs.Heads.{version, version-exact, originator, origin-exact, name, name-exact, times}
 use Rattle.sdp_formats_laws.proofs.Heads.{times-exact, after_number}
 use Rattle.sdp_formats_laws.proofs.Printed.{printed_line, lacks}

@@ -10,15 +10,15 @@ use Rattle.sdp_formats_forms.specs.Line.{LineOf}
 use Rattle.sdp_formats_forms.specs.Step.{Begins, Perhaps}
 use Rattle.sdp_formats_media_lines.specs.Choice.{attribute_line as media_attribute_line}
 use Rattle.sdp_formats_media_lines.specs.PrintedPairs.{RestrictionsComeBack}
-use Rattle.sdp_formats_predicates.specs.Writable.{ComesBack, IsWritableAttribute, IsWritableBandwidth}
-use Rattle.sdp_formats_session_lines.specs.Choice.{attribute_line}
+use Rattle.sdp_formats_writable.specs.Writable.{ComesBack, IsWritableAttribute, IsWritableBandwidth}
+use Rattle.sdp_formats_session_attributes.specs.Choice.{attribute_line}
 use Rattle.sdp_formats_session_lines.specs.Lines.{bandwidth_line}
 use Rattle.sdp_formats_types.specs.PrintedMedia.{bandwidth_text, named}
-use Rattle.sdp_formats_types.specs.PrintedSession.{attribute_text, sections_text}
+use Rattle.sdp_formats_sessions.specs.PrintedSession.{attribute_text, sections_text}
 use Rattle.sdp_formats_types.specs.Printed.{words_text}
-use Rattle.sdp_formats_types.specs.declared.session.Bandwidth.{Bandwidth}
-use Rattle.sdp_formats_types.specs.declared.session.SessionAttribute.{SessionAttribute}
-use Rattle.sdp_formats_types.specs.declared.session.SessionAttribute.TheVariants as session
+use Rattle.sdp_formats_types.specs.declared.bandwidth.Bandwidth.{Bandwidth}
+use Rattle.sdp_formats_sessions.specs.declared.session.SessionAttribute.{SessionAttribute}
+use Rattle.sdp_formats_sessions.specs.declared.session.SessionAttribute.TheVariants as session
 use Rattle.sdp_formats_values.specs.Printed.{line_end, fingerprint_text, is_empty}
 use Rattle.sdp_formats_values.specs.PrintedCandidates.{candidate_text}
 use Rattle.sdp_formats_values.specs.Setup.{setup_text}

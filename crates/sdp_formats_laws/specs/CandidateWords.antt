@@ -4,8 +4,8 @@ use Rattle.sdp_formats_forms.specs.Form.{maybe}
 use Rattle.sdp_formats_forms.specs.Joined.{joined}
 use Rattle.sdp_formats_forms.specs.Numbers.{number_below}
 use Rattle.sdp_formats_forms.specs.Split.{Lacks}
-use Rattle.sdp_formats_values.specs.Candidates.{candidate}
-use Rattle.sdp_formats_values.specs.Words.{kind_word, protocol_word, tcptype_word}
+use Rattle.sdp_formats_value_reader.specs.Candidates.{candidate}
+use Rattle.sdp_formats_value_reader.specs.Words.{kind_word, protocol_word, tcptype_word}
 use Rattle.sdp_formats_values.specs.declared.candidate.Candidate.{Candidate}
 use Rattle.sdp_formats_values.specs.declared.candidate.RelatedAddress.{RelatedAddress}
 use Rattle.sdp_formats_laws.specs.PrintableTexts.{IsEach}

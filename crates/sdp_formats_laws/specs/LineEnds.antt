@@ -2,7 +2,7 @@
 use Rattle.std.specs.Prelude.{◌≡◌, ◌==◌, ℕ, Bool, true, List, [], ◌∷◌, if◌then◌else◌}
 use Rattle.sdp_formats_forms.specs.Split.{Lacks}
 use Rattle.sdp_formats_reader.specs.Grammar.{SdpSays}
-use Rattle.sdp_formats_types.specs.declared.session.Sdp.{Sdp}
+use Rattle.sdp_formats_sessions.specs.declared.session.Sdp.{Sdp}
 
 -- A text with CR LF in the place of each LF.
 abbrev pub with_returns : List ℕ → List ℕ

@@ -3,10 +3,10 @@ use Rattle.std.specs.Prelude.{◌≡◌, ◌≤◌, ℕ, List, [], ◌∷◌, tr
 use Rattle.sdp_formats_params.specs.declared.param.FormatParam.{FormatParam}
 use Rattle.sdp_formats_params.specs.declared.param.FormatParam.TheVariants.{Apt, Red}
 use Rattle.sdp_formats_media_lines.specs.AsRead.{params_as_read}
-use Rattle.sdp_formats_media_lines.specs.Parameters.{parameters}
+use Rattle.sdp_formats_source_lines.specs.Parameters.{parameters}
 use Rattle.sdp_formats_rows.specs.Plain.{is_plain}
 use Rattle.sdp_formats_rows.specs.Rows.{Row}
-use Rattle.sdp_formats_section_rows.specs.Attributes.{params_in}
+use Rattle.sdp_formats_row_attributes.specs.Attributes.{params_in}
 use Rattle.sdp_formats_types.specs.Printed.{params_text}
 use Rattle.sdp_formats_laws.specs.Printable.{IsText}
 

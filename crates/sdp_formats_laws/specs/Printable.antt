@@ -8,8 +8,8 @@ use Rattle.sdp_formats_media_lines.specs.Choice.{media_attribute}
 use Rattle.sdp_formats_media_lines.specs.PrintedPairs.{ArePairs}
 use Rattle.sdp_formats_params.specs.declared.Pair.{Pair}
 use Rattle.sdp_formats_media_lines.specs.AsRead.{params_as_read}
-use Rattle.sdp_formats_media_lines.specs.Parameters.{parameters}
-use Rattle.sdp_formats_media_lines.specs.Names.{has_name_chars}
+use Rattle.sdp_formats_source_lines.specs.Parameters.{parameters}
+use Rattle.sdp_formats_stream_lines.specs.Names.{has_name_chars}
 use Rattle.sdp_formats_types.specs.Printed.{params_text}
 use Rattle.sdp_formats_values.specs.declared.candidate.Candidate as candidate
 use Rattle.sdp_formats_values.specs.declared.candidate.RelatedAddress.{RelatedAddress}

@@ -12,18 +12,18 @@ use Rattle.sdp_formats_laws.specs.RowsBack.{attributes_in, names_type, types_in,
 use Rattle.sdp_formats_rows.specs.Plain.{is_plain}
 use Rattle.sdp_formats_rows.specs.Rows.{Row}
 use Rattle.sdp_formats_section_rows.specs.SectionRows.{rows_of}
-use Rattle.sdp_formats_predicates.specs.Consistency.{is_consistent, is_direction_of, is_setup}
-use Rattle.sdp_formats_predicates.specs.Writable.{ComesBack, IsWritableSession}
+use Rattle.sdp_formats_faults.specs.Consistency.{is_consistent, is_direction_of, is_setup}
+use Rattle.sdp_formats_writable.specs.Writable.{ComesBack, IsWritableSession}
 use Rattle.sdp_formats_types.specs.Lookups.{direction_of, first_of, mid_in, msid_in, setup_in}
 use Rattle.sdp_formats_types.specs.Media.{is_mid, is_rtp}
-use Rattle.sdp_formats_types.specs.PrintedSession.{sdp_text}
+use Rattle.sdp_formats_sessions.specs.PrintedSession.{sdp_text}
 use Rattle.sdp_formats_types.specs.declared.media.MediaAttribute.{MediaAttribute}
 use Rattle.sdp_formats_types.specs.declared.media.MediaAttribute.TheVariants.{Fmtp}
 use Rattle.sdp_formats_types.specs.declared.media.MediaLine.{MediaLine}
 use Rattle.sdp_formats_types.specs.declared.media.MediaType.{MediaType}
 use Rattle.sdp_formats_types.specs.declared.media.MediaType.TheVariants.{Audio, Video}
-use Rattle.sdp_formats_types.specs.declared.session.Sdp.{Sdp}
-use Rattle.sdp_formats_types.specs.declared.session.SessionAttribute.{SessionAttribute}
+use Rattle.sdp_formats_sessions.specs.declared.session.Sdp.{Sdp}
+use Rattle.sdp_formats_sessions.specs.declared.session.SessionAttribute.{SessionAttribute}
 
 -- A clock rate of 32 bits above 0 and channels of 8 bits, as every row of the program has.
 abbrev pub IsSized : Row → Type 0

@@ -5,7 +5,7 @@ use Rattle.sdp_formats_round.specs.Laws.{is_distinct}
 use Rattle.sdp_formats_round.specs.Types.{types_of}
 use Rattle.sdp_formats_rows.specs.Plain.{is_plain}
 use Rattle.sdp_formats_rows.specs.Rows.{Row}
-use Rattle.sdp_formats_section_rows.specs.Attributes.{attributes_of}
+use Rattle.sdp_formats_row_attributes.specs.Attributes.{attributes_of}
 use Rattle.sdp_formats_section_rows.specs.SectionRows.{rows_of}
 use Rattle.sdp_formats_types.specs.declared.media.MediaAttribute.{MediaAttribute}
 use Rattle.sdp_formats_types.specs.declared.media.MediaAttribute.TheVariants.{RtpMap, RtcpFb, Fmtp}

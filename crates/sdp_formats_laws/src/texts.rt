@@ -6,12 +6,12 @@ ghost use Rattle.sdp_formats_laws.specs.LineEnds.{ReadsByAnyEnd};
 ghost use Rattle.sdp_formats_laws.specs.PrintableTexts.{IsPrintableText};
 ghost use Rattle.sdp_formats_laws.specs.ReadTexts.{text_as_read};
 ghost use Rattle.sdp_formats_reader.specs.Grammar.{SdpSays};
-ghost use Rattle.sdp_formats_types.specs.PrintedSession.{sdp_text};
-ghost use Rattle.sdp_formats_types.specs.declared.session.Sdp.{Sdp};
+ghost use Rattle.sdp_formats_sessions.specs.PrintedSession.{sdp_text};
+ghost use Rattle.sdp_formats_sessions.specs.declared.session.Sdp.{Sdp};
 
 use sdp_formats_forms::Lined;
 use sdp_formats_media_lines::{MediaAttributeLine, printed_pairs_law};
-use sdp_formats_session_lines::SessionAttributeLine;
+use sdp_formats_session_attributes::SessionAttributeLine;
 
 /// The printed text of a session is read whole as that session, where its texts can stand where they are printed and no
 /// section has a fault; of lines `a=fmtp` as `printed_lines_law` says.

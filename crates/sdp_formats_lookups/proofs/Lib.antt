@@ -1,4 +1,3 @@
 pub mod HexNumerals
 pub mod Preferred
 pub mod Turned
-mod EachOnce

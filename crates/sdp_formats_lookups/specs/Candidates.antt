@@ -6,9 +6,9 @@ use Rattle.sdp_formats_values.specs.declared.candidate.Candidate.{Candidate}
 use Rattle.sdp_formats_types.specs.declared.MediaAttribute.{MediaAttribute}
 use Rattle.sdp_formats_types.specs.declared.MediaAttribute.TheVariants as media
 use Rattle.sdp_formats_types.specs.declared.MediaLine.{MediaLine}
-use Rattle.sdp_formats_types.specs.declared.Session.{Session}
-use Rattle.sdp_formats_types.specs.declared.SessionAttribute.{SessionAttribute}
-use Rattle.sdp_formats_types.specs.declared.SessionAttribute.TheVariants as session
+use Rattle.sdp_formats_sessions.specs.declared.Session.{Session}
+use Rattle.sdp_formats_sessions.specs.declared.SessionAttribute.{SessionAttribute}
+use Rattle.sdp_formats_sessions.specs.declared.SessionAttribute.TheVariants as session
 
 unfoldable pub session_candidate : SessionAttribute → Option Candidate
 session_candidate (session.Candidate candidate) = Some candidate

@@ -6,8 +6,3 @@ pub mod Preference
 pub mod Sections
 pub mod Sessions
 pub mod Whole
-pub mod Distinct
-pub mod Known
-pub mod Said
-pub mod Seen
-pub mod Sources

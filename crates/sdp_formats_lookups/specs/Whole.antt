@@ -7,8 +7,8 @@ use Rattle.sdp_formats_lookups.specs.Sessions as session
 use Rattle.sdp_formats_types.specs.Lookups.{first_of, setup_in}
 use Rattle.sdp_formats_values.specs.declared.fingerprint.Fingerprint.{Fingerprint}
 use Rattle.sdp_formats_types.specs.declared.MediaLine.{MediaLine}
-use Rattle.sdp_formats_types.specs.declared.Sdp.{Sdp}
-use Rattle.sdp_formats_types.specs.declared.Session.{Session}
+use Rattle.sdp_formats_sessions.specs.declared.Sdp.{Sdp}
+use Rattle.sdp_formats_sessions.specs.declared.Session.{Session}
 use Rattle.sdp_formats_values.specs.declared.setup.Setup as setup
 
 abbrev pub session_prints : Session → List Fingerprint

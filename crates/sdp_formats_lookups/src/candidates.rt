@@ -4,7 +4,8 @@ ghost use Rattle.std.specs.Prelude.{◌≡◌, ◌++◌, OnOk};
 ghost use Rattle.std.specs.List.{filter_map};
 ghost use Rattle.sdp_formats_lookups.specs.Candidates.{borrowed, section_candidate, session_candidate};
 
-use sdp_formats_types::{Candidate, MediaAttribute, SessionAttribute};
+use sdp_formats_sessions::SessionAttribute;
+use sdp_formats_types::{Candidate, MediaAttribute};
 use std::alloc::AllocError;
 
 /// Adds the candidates that attributes of a session give behind others.

@@ -9,7 +9,7 @@ ghost use Rattle.sdp_formats_lookups.specs.Preference.{IsPreferred, best_of};
 ghost use Rattle.sdp_formats_lookups.specs.Sections.{creds_of, ends_candidates, fingerprint_in, ice_pwd_in};
 ghost use Rattle.sdp_formats_lookups.specs.Sections.{ice_ufrag_in, max_message_size_in, sctp_init_in};
 ghost use Rattle.sdp_formats_lookups.specs.Sections.{simulcast_in};
-ghost use Rattle.sdp_formats_lookups.specs.Sources.{last_of};
+ghost use Rattle.sdp_formats_sources.specs.Sources.{last_of};
 ghost use Rattle.sdp_formats_types.specs.Lookups.{first_of};
 
 use crate::candidates::push_of_section;

@@ -13,7 +13,8 @@ ghost use Rattle.sdp_formats_types.specs.Lookups.{first_of};
 use crate::candidates::push_of_session;
 use crate::preference::chosen;
 use sdp_formats_forms::Text;
-use sdp_formats_types::{Candidate, Fingerprint, Session, SessionAttribute, Setup};
+use sdp_formats_sessions::{Session, SessionAttribute};
+use sdp_formats_types::{Candidate, Fingerprint, Setup};
 use std::alloc::{AllocError, Global};
 
 /// Which end opens the connection, of the first `a=setup` (RFC 4145 4).

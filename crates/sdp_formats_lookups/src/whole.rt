@@ -10,7 +10,8 @@ ghost use Rattle.sdp_formats_types.specs.Lookups.{first_of};
 
 use crate::{section, session};
 use sdp_formats_forms::Text;
-use sdp_formats_types::{Fingerprint, MediaLine, Sdp, Setup};
+use sdp_formats_sessions::Sdp;
+use sdp_formats_types::{Fingerprint, MediaLine, Setup};
 
 fn first_fingerprint(sections: &[MediaLine]) -> Option<&Fingerprint>
     ensures { IsPreferred (first_listed (map section_prints sections.now)) (option_copied result) }

@@ -1,14 +1,4 @@
 pub mod Kinds
 pub mod Choice
-pub mod Maps
-pub mod Parameters
 pub mod AsRead
-pub mod Runs
-pub mod Pairs
-pub mod PairsSay
-pub mod PairLemmas
 pub mod PrintedPairs
-pub mod Names
-pub mod Sources
-pub mod Rids
-pub mod Simulcasts

@@ -8,7 +8,7 @@ ghost use Rattle.sdp_formats_media_lines.specs.Kinds.{max_message_size_line, sct
 use rtp_wire::Mid;
 use sdp_formats_forms::{Refusal, behind, number_16, number_64, some, text_of};
 use sdp_formats_types::MediaAttribute;
-use sdp_formats_values::{candidate_of, fingerprint_of, setup_of};
+use sdp_formats_value_reader::{candidate_of, fingerprint_of, setup_of};
 use std::alloc::Global;
 
 pub(crate) fn ice_ufrag_line(alloc: Global, text: &str) -> Result<MediaAttribute, Refusal>

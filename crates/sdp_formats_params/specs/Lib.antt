@@ -2,4 +2,3 @@ pub mod Numbers
 pub mod Keys
 pub mod Params
 pub mod Printed
-pub mod Hashed

@@ -124,6 +124,10 @@ impl Key {
 
 /// By its name.
 impl fmt::Debug for Key {
+    ghost use Rattle.std.specs.Prelude.{Some};
+
+    ghost debug_output = { λ key. Some (key_name key) };
+
     fn fmt<W: fmt::Write>(&self, f: &mut fmt::Formatter<W>) -> fmt::Result {
         f.write_str(self.as_str())
     }

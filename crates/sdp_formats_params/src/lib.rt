@@ -2,16 +2,14 @@
 #![tactic(auto)]
 
 mod key;
-mod line_hasher;
 mod numbers;
 mod pairs;
 mod param;
 mod printed;
-mod several;
 
 pub use h26x_payload_profiles::{H265ProfileTierLevel, H266ProfileTierLevel};
 pub use key::Key;
 pub use numbers::{bit_of, byte_of, don_diff_of, modes_of, profile_level_of, range_of, word_of};
 pub use pairs::Pair;
-pub use param::FormatParam;
+pub use param::{FormatParam, has_name};
 pub use printed::has_mode;

@@ -69,7 +69,7 @@ fn is_flag(value: &str) -> bool
     value == "1"
 }
 
-pub(crate) fn has_name(key: &str, name: &str) -> bool
+pub fn has_name(key: &str, name: &str) -> bool
     ensures { result ≡ str_eq_ignore_ascii_case name.now key.now }
 {
     name.eq_ignore_ascii_case(key)

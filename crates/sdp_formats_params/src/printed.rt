@@ -159,6 +159,11 @@ impl fmt::Display for FormatParam {
 
 /// As it is printed.
 impl fmt::Debug for FormatParam {
+    ghost use Rattle.std.specs.Prelude.{Some};
+    ghost use Rattle.sdp_formats_params.specs.Printed.{param_text};
+
+    ghost debug_output = { λ p. Some (param_text p) };
+
     fn fmt<W: fmt::Write>(&self, f: &mut fmt::Formatter<W>) -> fmt::Result {
         fmt::Display::fmt(self, f)
     }

@@ -9,13 +9,13 @@ use Rattle.sdp_formats_session_lines.specs.Lines.{times_line, repeat_line, conne
 use Rattle.sdp_formats_session_lines.specs.declared.media.MediaHead.{MediaHead}
 use Rattle.sdp_formats_session_lines.specs.declared.passed.Passed.{Passed}
 use Rattle.sdp_formats_media_lines.specs.Choice.{attribute_line as media_line}
-use Rattle.sdp_formats_session_lines.specs.Choice.{attribute_line as session_line}
+use Rattle.sdp_formats_session_attributes.specs.Choice.{attribute_line as session_line}
 use Rattle.sdp_formats_forms.specs.Line.{LineOf}
 use Rattle.sdp_formats_forms.specs.Step.{Many, Perhaps}
-use Rattle.sdp_formats_predicates.specs.Consistency.{is_consistent}
+use Rattle.sdp_formats_faults.specs.Consistency.{is_consistent}
 use Rattle.sdp_formats_types.specs.declared.media.MediaLine.{MediaLine}
-use Rattle.sdp_formats_types.specs.declared.session.Sdp.{Sdp}
-use Rattle.sdp_formats_types.specs.declared.session.Session.{Session}
+use Rattle.sdp_formats_sessions.specs.declared.session.Sdp.{Sdp}
+use Rattle.sdp_formats_sessions.specs.declared.session.Session.{Session}
 
 -- The lines `v=`, `o=` and `s=`: the session's number.
 unfoldable pub OpeningSays : List ℕ → ℕ → List ℕ → Type 0

@@ -3,7 +3,7 @@ use Rattle.std.specs.Prelude.{ℕ, min, Option, Some, unwrap_or}
 use Rattle.std.specs.Option.{option_or}
 use Rattle.payload_core_base.specs.declared.codec.Codec.{Codec}
 use Rattle.payload_core_base.specs.declared.codec.Codec.TheVariants.{AmrWb, H265, H266, Tele}
-use Rattle.sdp_formats_format.specs.LevelScore.{GivenH265, GivenH266, h265_agreed, h266_agreed}
+use Rattle.sdp_formats_level_scores.specs.LevelScore.{GivenH265, GivenH266, h265_agreed, h266_agreed}
 use Rattle.sdp_formats_format.specs.declared.format.FormatParams.{FormatParams}
 use Rattle.sdp_formats_rows.specs.declared.spec.CodecSpec.{CodecSpec}
 use Rattle.sdp_formats_rows.specs.Scores.{given_265, given_266}

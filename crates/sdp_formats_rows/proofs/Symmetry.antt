@@ -12,9 +12,9 @@ use Rattle.h26x_payload_profiles.specs.declared.profile_tier_level.ProfileTierLe
 use Rattle.payload_core_base.specs.declared.codec.Codec.{Codec}
 use Rattle.payload_core_base.specs.declared.codec.Codec.TheVariants.{Opus, AmrWb, H264, H265}
 use Rattle.payload_core_base.specs.declared.codec.Codec.TheVariants.{H266, Vp9, Av1, Tele}
-use Rattle.sdp_formats_format.specs.Points.{points_if, distance, level_points}
-use Rattle.sdp_formats_format.specs.H264Score as h264
-use Rattle.sdp_formats_format.specs.LevelScore as levels
+use Rattle.sdp_formats_level_scores.specs.Points.{points_if, distance, level_points}
+use Rattle.sdp_formats_level_scores.specs.H264Score as h264
+use Rattle.sdp_formats_level_scores.specs.LevelScore as levels
 use Rattle.sdp_formats_format.specs.declared.format.FormatParams.{FormatParams}
 use Rattle.sdp_formats_rows.specs.declared.spec.CodecSpec.{CodecSpec}
 use Rattle.sdp_formats_rows.specs.Codecs.{codec_number, is_codec}

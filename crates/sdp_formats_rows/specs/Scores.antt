@@ -3,10 +3,10 @@ use Rattle.std.specs.Prelude.{ℕ, ◌-◌, Bool, ◌&&◌, ◌==◌, Option, So
 use Rattle.payload_core_base.specs.declared.codec.Codec.{Codec}
 use Rattle.payload_core_base.specs.declared.codec.Codec.TheVariants.{Opus, AmrWb, H264, H265}
 use Rattle.payload_core_base.specs.declared.codec.Codec.TheVariants.{H266, Vp9, Av1, Tele}
-use Rattle.sdp_formats_format.specs.Points.{points_if}
-use Rattle.sdp_formats_format.specs.H264Score.{h264_score}
-use Rattle.sdp_formats_format.specs.LevelScore.{GivenH265, GivenH266, h265_score, h266_score}
-use Rattle.sdp_formats_format.specs.declared.h264.GivenH264.{GivenH264}
+use Rattle.sdp_formats_level_scores.specs.Points.{points_if}
+use Rattle.sdp_formats_level_scores.specs.H264Score.{h264_score}
+use Rattle.sdp_formats_level_scores.specs.LevelScore.{GivenH265, GivenH266, h265_score, h266_score}
+use Rattle.sdp_formats_level_scores.specs.declared.h264.GivenH264.{GivenH264}
 use Rattle.sdp_formats_format.specs.declared.format.FormatParams.{FormatParams}
 use Rattle.sdp_formats_rows.specs.declared.spec.CodecSpec.{CodecSpec}
 use Rattle.sdp_formats_rows.specs.Codecs.{is_codec}

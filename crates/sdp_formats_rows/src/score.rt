@@ -10,8 +10,9 @@ ghost use Rattle.sdp_formats_rows.specs.Scores.{score, settings_score, vp9_score
 use crate::same::{alike, same_byte, same_flag, same_format};
 use crate::spec::CodecSpec;
 use payload_core_base::Codec;
-use sdp_formats_format::{
-    FormatParams, GivenH264, GivenH265, GivenH266, h264_score, level_score, points_if,
+use sdp_formats_format::FormatParams;
+use sdp_formats_level_scores::{
+    GivenH264, GivenH265, GivenH266, h264_score, level_score, points_if,
 };
 
 /// What is taken off where values aren't the same.

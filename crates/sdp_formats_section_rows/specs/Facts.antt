@@ -13,7 +13,7 @@ use Rattle.sdp_formats_rows.specs.Rows.{Row}
 use Rattle.sdp_formats_types.specs.declared.media.MediaAttribute.{MediaAttribute}
 use Rattle.sdp_formats_types.specs.declared.media.MediaAttribute.TheVariants.{Fmtp}
 use Rattle.sdp_formats_section_rows.specs.Given.{events_after, is_declined, most_of, with_attribute, with_events}
-use Rattle.sdp_formats_section_rows.specs.Maps.{spec_of_map}
+use Rattle.sdp_formats_row_attributes.specs.Maps.{spec_of_map}
 use Rattle.sdp_formats_section_rows.specs.SectionRows.{has_feedback, listed, names}
 use Rattle.sdp_formats_section_rows.specs.TypeLists.{is_listed}
 use Rattle.sdp_formats_section_rows.specs.declared.facts.FeedbackGiven.{FeedbackGiven}

@@ -23,26 +23,31 @@ use Rattle.sdp_formats_types.specs.declared.media.MediaAttribute.TheVariants.{Fm
 use Rattle.sdp_formats_section_rows.specs.declared.given.Events.{Events}
 use Rattle.sdp_formats_section_rows.specs.declared.given.Events.TheVariants as events
 
--- The format with one more parameter. A range of telephone events is none of another codec's.
+-- The format of a codec with one more parameter. A range of telephone events is none of another codec's.
+abbrev pub with_codec_param : FormatParams → FormatParam → FormatParams
+with_codec_param f (MinPTime v) = record f { min_p_time = Some v }
+with_codec_param f (Stereo v) = record f { stereo = Some v }
+with_codec_param f (SpropStereo v) = record f { sprop_stereo = Some v }
+with_codec_param f (UseInbandFec v) = record f { use_inband_fec = Some v }
+with_codec_param f (UseDtx v) = record f { use_dtx = Some v }
+with_codec_param f (LevelAsymmetryAllowed v) = record f { level_asymmetry_allowed = Some v }
+with_codec_param f (PacketizationMode v) = record f { packetization_mode = Some v }
+with_codec_param f (ProfileLevelId v) = record f { profile_level_id = Some v }
+with_codec_param f (ProfileId v) = record f { profile_id = Some v }
+with_codec_param f (Profile v) = record f { profile = Some v }
+with_codec_param f (LevelIdx v) = record f { level_idx = Some v }
+with_codec_param f (Tier v) = record f { tier = Some v }
+with_codec_param f (H265ProfileTierLevel v) = record f { h265_profile_tier_level = Some v }
+with_codec_param f (H266ProfileTierLevel v) = record f { h266_profile_tier_level = Some v }
+with_codec_param f (SpropMaxDonDiff v) = record f { sprop_max_don_diff = Some v }
+with_codec_param f (OctetAlign v) = record f { octet_align = Some v }
+with_codec_param f (ModeSet v) = record f { mode_set = Some v }
+with_codec_param f _ = f
+
+-- The format with one more parameter, a range of telephone events included.
 abbrev pub with_param : FormatParams → FormatParam → FormatParams
-with_param f (MinPTime v) = record f { min_p_time = Some v }
-with_param f (Stereo v) = record f { stereo = Some v }
-with_param f (SpropStereo v) = record f { sprop_stereo = Some v }
-with_param f (UseInbandFec v) = record f { use_inband_fec = Some v }
-with_param f (UseDtx v) = record f { use_dtx = Some v }
-with_param f (LevelAsymmetryAllowed v) = record f { level_asymmetry_allowed = Some v }
-with_param f (PacketizationMode v) = record f { packetization_mode = Some v }
-with_param f (ProfileLevelId v) = record f { profile_level_id = Some v }
-with_param f (ProfileId v) = record f { profile_id = Some v }
-with_param f (Profile v) = record f { profile = Some v }
-with_param f (LevelIdx v) = record f { level_idx = Some v }
-with_param f (Tier v) = record f { tier = Some v }
-with_param f (H265ProfileTierLevel v) = record f { h265_profile_tier_level = Some v }
-with_param f (H266ProfileTierLevel v) = record f { h266_profile_tier_level = Some v }
-with_param f (SpropMaxDonDiff v) = record f { sprop_max_don_diff = Some v }
-with_param f (OctetAlign v) = record f { octet_align = Some v }
-with_param f (ModeSet v) = record f { mode_set = Some v }
-with_param f _ = f
+with_param f (TelephoneEvents v) = record f { telephone_event_max = Some v }
+with_param f p = with_codec_param f p
 
 -- The parameters that an attribute gives a payload type.
 abbrev pub values_for : ℕ → MediaAttribute → List FormatParam
@@ -50,7 +55,7 @@ values_for pt (Fmtp t values) = if t == pt then values else []
 values_for pt _ = []
 
 unfoldable pub with_attribute : ℕ → FormatParams → MediaAttribute → FormatParams
-with_attribute pt f a = fold with_param f (values_for pt a)
+with_attribute pt f a = fold with_codec_param f (values_for pt a)
 
 -- What AMR-WB isn't supported with (RFC 4867 8.2).
 abbrev pub is_unsupported : FormatParam → Bool

@@ -6,7 +6,7 @@ ghost use Rattle.std.specs.List.{list_any};
 ghost use Rattle.sdp_formats_rows.specs.Codecs.{is_codec};
 ghost use Rattle.sdp_formats_section_rows.specs.Given.{events_after, events_in, format_given, is_declined};
 ghost use Rattle.sdp_formats_section_rows.specs.Given.{is_unsupported, most_of, with_attribute, with_events};
-ghost use Rattle.sdp_formats_section_rows.specs.Given.{with_line, with_param};
+ghost use Rattle.sdp_formats_section_rows.specs.Given.{with_codec_param, with_line, with_param};
 ghost use Rattle.sdp_formats_section_rows.specs.declared.given.Events.TheVariants.{Default};
 
 use rtp_wire::Pt;
@@ -21,9 +21,22 @@ pub(crate) enum Events {
     Declined,
 }
 
-/// The format with one more parameter. A range of telephone events is none of another codec's, and changes nothing.
+/// The format with one more parameter, a range of telephone events included.
 pub fn with_param(format: FormatParams, param: &FormatParam) -> FormatParams
     ensures { result ≡ with_param format param.now }
+{
+    if let FormatParam::TelephoneEvents(most) = *param {
+        return FormatParams {
+            telephone_event_max: Some(most),
+            ..format
+        };
+    }
+    with_codec_param(format, param)
+}
+
+/// The format of a codec other than telephone events with one more parameter: a range of these changes nothing.
+fn with_codec_param(format: FormatParams, param: &FormatParam) -> FormatParams
+    ensures { result ≡ with_codec_param format param.now }
 {
     let mut f = format;
     match *param {
@@ -50,10 +63,10 @@ pub fn with_param(format: FormatParams, param: &FormatParam) -> FormatParams
 }
 
 fn with_params(mut format: FormatParams, params: &[FormatParam]) -> FormatParams
-    ensures { result ≡ fold with_param format params.now }
+    ensures { result ≡ fold with_codec_param format params.now }
 {
     for param in params {
-        format = with_param(format, param);
+        format = with_codec_param(format, param);
     }
     format
 }

@@ -1,20 +1,14 @@
 //! The rows that a section of a session text lists, and the attributes that list a row in it.
 #![tactic(auto)]
 
-mod attributes;
 mod facts;
-mod feedback;
 mod given;
 mod links;
 mod mapped;
-mod maps;
-mod params;
 mod section_rows;
 mod type_lists;
 
-pub use attributes::as_media_attrs;
 pub use given::{format_given, with_param};
-pub use maps::{map_of, spec_of_map};
 pub use sdp_formats_format::to_format_param;
 pub use sdp_formats_rows::{CodecSpec, FormatParams, PayloadParams};
 pub use sdp_formats_types::{MediaAttribute, MediaLine, RtpMap};

@@ -1,3 +1,1 @@
-pub mod Exactness
-pub mod Ends
 pub mod Passing

@@ -1,5 +1,2 @@
 pub mod Heads
 pub mod Lines
-pub mod Groups
-pub mod Kinds
-pub mod Choice

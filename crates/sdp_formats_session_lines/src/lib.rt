@@ -3,15 +3,11 @@
 //! (RFC 8866 5.13).
 #![tactic(auto)]
 
-mod choice;
-mod groups;
 mod header;
-mod kinds;
 mod media;
 mod originator;
 mod passed;
 
-pub use choice::SessionAttributeLine;
 pub use header::{BandwidthLine, OriginLine};
 pub use media::{HeadLine, MediaHead};
 pub use passed::{ConnectionLine, NameLine, OtherLine, Passed, RepeatLine, TimesLine, VersionLine};

@@ -1,5 +1,4 @@
 pub mod Media
 pub mod Printed
 pub mod PrintedMedia
-pub mod PrintedSession
 pub mod Lookups

@@ -12,7 +12,7 @@ use Rattle.sdp_formats_types.specs.Printed.{params_text}
 use Rattle.sdp_formats_values.specs.Printed.{is_empty, msid_text}
 use Rattle.sdp_formats_types.specs.Printed.{numbers_text, rid_types_text, rid_restrictions_text}
 use Rattle.sdp_formats_values.specs.PrintedCandidates.{candidate_text}
-use Rattle.sdp_formats_types.specs.declared.session.Bandwidth.{Bandwidth}
+use Rattle.sdp_formats_types.specs.declared.bandwidth.Bandwidth.{Bandwidth}
 use Rattle.sdp_formats_types.specs.declared.media.RtpMap as map_of
 use Rattle.sdp_formats_types.specs.declared.media.MediaLine.{MediaLine}
 use Rattle.sdp_formats_types.specs.declared.media.MediaType.{MediaType}

@@ -5,7 +5,7 @@ ghost use Rattle.sdp_formats_types.specs.Media.{proto_text};
 ghost use Rattle.sdp_formats_types.specs.declared.media.MediaType.TheVariants.{Audio};
 ghost use Rattle.sdp_formats_types.specs.declared.media.Proto.TheVariants.{Srtp};
 
-use crate::session::Bandwidth;
+use crate::bandwidth::Bandwidth;
 use payload_core_base::Codec;
 use rtp_wire::{Extension, Frequency, Mid, Pt, Ssrc};
 use sdp_formats_forms::{Listed, Maybe, Text};

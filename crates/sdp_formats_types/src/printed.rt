@@ -10,7 +10,7 @@ use std::fmt;
 use std::fmt::Display;
 
 /// Writes a line with a value behind its name.
-pub(crate) fn write_value<W: fmt::Write, T: fmt::Display>(
+pub fn write_value<W: fmt::Write, T: fmt::Display>(
     f: &mut fmt::Formatter<W>,
     name: &str,
     value: &T,
@@ -21,7 +21,7 @@ pub(crate) fn write_value<W: fmt::Write, T: fmt::Display>(
 }
 
 /// Writes a line with two values behind its name, a blank between them.
-pub(crate) fn write_both<W: fmt::Write, A: fmt::Display, B: fmt::Display>(
+pub fn write_both<W: fmt::Write, A: fmt::Display, B: fmt::Display>(
     f: &mut fmt::Formatter<W>,
     name: &str,
     first: &A,

@@ -52,6 +52,11 @@ impl fmt::Display for MediaAttribute {
 
 /// As it is printed.
 impl fmt::Debug for MediaAttribute {
+    ghost use Rattle.std.specs.Prelude.{Some};
+    ghost use Rattle.sdp_formats_types.specs.PrintedMedia.{attribute_text};
+
+    ghost debug_output = { λ a. Some (attribute_text a) };
+
     fn fmt<W: fmt::Write>(&self, f: &mut fmt::Formatter<W>) -> fmt::Result {
         fmt::Display::fmt(self, f)
     }

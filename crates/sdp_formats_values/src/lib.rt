@@ -3,19 +3,13 @@
 #![tactic(auto)]
 
 mod candidate;
-mod candidate_reader;
-mod digest;
 mod fingerprint;
 mod setup;
 mod streams;
-mod words;
 
 pub use candidate::{Candidate, CandidateKind, IceCreds, Protocol, RelatedAddress, TcpType};
-pub use candidate_reader::candidate_of;
-pub use digest::fingerprint_of;
 pub use fingerprint::Fingerprint;
 pub use setup::Setup;
 pub use streams::{
     Msid, RestrictionId, RidDirection, Simulcast, SimulcastGroups, SimulcastLayer, SsrcInfo,
 };
-pub use words::setup_of;

@@ -3,8 +3,9 @@
 use sdp_formats::lists::{extmaps, rids};
 use sdp_formats::{
     Maybe, MediaAttribute, MediaLine, Sdp, SdpError, Session, SimulcastLayer, Text, bundle_mids,
-    ice_candidates, sctp_init, sdp_parser, section, session, whole,
+    sctp_init, sdp_parser, section, session, whole,
 };
+use sdp_formats_candidates::ice_candidates;
 use std::alloc::{AllocError, Global};
 use std::fmt;
 use std::fmt::Write;

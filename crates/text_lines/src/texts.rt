@@ -2,9 +2,11 @@
 
 use sdp_formats::{
     Bandwidth, Maybe, MediaAttribute, MediaLine, Same, Sdp, SdpAnswer, SdpError, SdpOffer,
-    SessionAttribute, TryClone, assert_consistency, bundle_mids, ice_candidates, parse, sctp_init,
-    sdp_parser, session_parser, ssrc_info,
+    SessionAttribute, assert_consistency, bundle_mids, parse, sctp_init, sdp_parser,
+    session_parser, ssrc_info,
 };
+use sdp_formats_candidates::ice_candidates;
+use sdp_formats_copies::TryClone;
 use std::alloc::{AllocError, Global};
 use std::fmt::Write;
 

@@ -14,9 +14,9 @@ use rtp_media_ends::{
     Codec, CodecConfig, CodecSpec, End, FormatParams, PayloadParams, SectionSpec, Session, connect,
 };
 use rtp_media_lines::{
-    AcceptCommand, AnswerCommand, Bytes, ConnectCommand, EndCommand, ExtCommand, OfferCommand,
-    Reply, RowCommand, SectionWord, Text,
+    AcceptCommand, AnswerCommand, ConnectCommand, EndCommand, ExtCommand, OfferCommand, RowCommand,
 };
+use rtp_media_words::{Bytes, Reply, SectionWord, Text};
 use rtp_wire::{Extension, ExtensionMap, Frequency, Mid, Pt, SessionId, Ssrc};
 use std::alloc::{AllocError, Global};
 use std::mem;

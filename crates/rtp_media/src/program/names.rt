@@ -4,8 +4,9 @@ ghost use Rattle.std.specs.Prelude.{◌≡◌};
 ghost use Rattle.rtp_media.specs.Names.{memory, end_error_name, exchange_error_name, open_error_name};
 ghost use Rattle.rtp_media.specs.Names.{sample_error_name, fault_name};
 
-use rtp_media_ends::{EndError, ExchangeError, OpenError, PollFault, SampleError};
-use rtp_media_lines::ErrorName;
+use rtp_media_ends::{EndError, ExchangeError, PollFault, SampleError};
+use rtp_media_open_streams::OpenError;
+use rtp_media_words::ErrorName;
 
 /// Out of memory has one name in all of them.
 pub(super) fn memory() -> ErrorName

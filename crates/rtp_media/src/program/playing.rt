@@ -1,7 +1,7 @@
 //! The commands of whole runs.
 
 ghost use Rattle.std.specs.Prelude.{◌≡◌, [], ◌∷◌, ◌++◌, true, map, IfOk, OnOk};
-ghost use Rattle.rtp_media_ends.specs.Ends.{is_receiver_at, is_sender_at};
+ghost use Rattle.rtp_media_open_streams.specs.Ends.{is_receiver_at, is_sender_at};
 ghost use Rattle.rtp_media.specs.Exchanging.{Prints};
 ghost use Rattle.rtp_media.specs.Playing.{AnswersPlay, PlaysEnds, event_of, played_reply, sample_at, samples_for};
 
@@ -9,8 +9,9 @@ use super::names::{fault_name, memory, sample_error_name};
 use super::one;
 use super::streams::{unit_reply, verdict_reply};
 use rtp_media_ends::{Datagram, End, PollFault, SampleError};
-use rtp_media_lines::{PlayCommand, PlayItem, PlayItems, QueueCommand, Reply};
+use rtp_media_lines::{PlayCommand, PlayItem, PlayItems, QueueCommand};
 use rtp_media_play::{Event, Played, Sample, play};
+use rtp_media_words::Reply;
 use rtp_wire::{ExtensionValues, Frequency, MediaTime};
 use std::alloc::{AllocError, Global};
 use std::mem;

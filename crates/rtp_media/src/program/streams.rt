@@ -6,10 +6,10 @@ ghost use Rattle.rtp_media.specs.Program.{IsAnswered, params_of, verdict_reply, 
 
 use super::names::{fault_name, memory, open_error_name, sample_error_name};
 use super::one;
-use rtp_media_ends::{Datagram, Distances, End, Received, StreamParams, Unit};
-use rtp_media_lines::{
-    Bytes, OpenCommand, PollCommand, ReceiveCommand, Reply, SampleCommand, SendCommand, Text,
-};
+use rtp_media_ends::{Datagram, End, Unit};
+use rtp_media_lines::{OpenCommand, PollCommand, ReceiveCommand, SampleCommand, SendCommand};
+use rtp_media_open_streams::{Distances, Received, StreamParams};
+use rtp_media_words::{Bytes, Reply, Text};
 use rtp_wire::{ExtensionValues, MediaTime, Mid, Pt, Ssrc};
 use std::alloc::{AllocError, Global};
 

@@ -1,18 +1,17 @@
 //! Datagrams received one after the other, and then all units that are ready.
 
 ghost use Rattle.std.specs.Prelude.{◌≡◌, ℕ, List, OnOk, OnErr, IfOk};
-ghost use Rattle.rtp_media_streams.specs.Polls.{AreAnswered};
+ghost use Rattle.rtp_media_payloads.specs.Polls.{AreAnswered};
 ghost use Rattle.rtp_media_streams.specs.Sending.{Sample, Sending};
-ghost use Rattle.rtp_media_ends.specs.FullArrival.{verdicts_of, after_datagrams, AnswersAll, AnswersSome, ArePolledOut};
-ghost use Rattle.rtp_media_ends.specs.FullArrival.{answers_at, units_of, with_streams, ArePolledSome, HasAllOf};
-ghost use Rattle.rtp_media_ends.specs.FullArrival.{ReceivesAndPollsSome, ReceivesSome};
+ghost use Rattle.rtp_media_open_streams.specs.FullArrival.{verdicts_of, after_datagrams, AnswersAll, AnswersSome};
+ghost use Rattle.rtp_media_open_streams.specs.FullArrival.{ArePolledOut};
+ghost use Rattle.rtp_media_open_streams.specs.FullArrival.{answers_at, units_of, with_streams, ArePolledSome, HasAllOf};
+ghost use Rattle.rtp_media_open_streams.specs.FullArrival.{ReceivesAndPollsSome, ReceivesSome};
 
 use super::End;
-use crate::errors::ReceiveError;
-use crate::open_stream::OpenStream;
-use crate::received::Received;
 use h26x_payload::codec_law;
-use rtp_media_streams::{Datagram, PollFault, Unit};
+use rtp_media_open_streams::{OpenStream, ReceiveError, Received};
+use rtp_media_payloads::{Datagram, PollFault, Unit};
 use std::alloc::{AllocError, Global};
 use std::marker::Model;
 
@@ -23,7 +22,7 @@ pub struct Polls {
 }
 
 impl Model for Polls {
-    ghost use Rattle.rtp_media_streams.specs.Polls.{Answers};
+    ghost use Rattle.rtp_media_payloads.specs.Polls.{Answers};
 
     ghost Value = { Answers };
 

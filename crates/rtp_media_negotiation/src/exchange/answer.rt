@@ -3,23 +3,21 @@
 ghost use Rattle.std.specs.Prelude.{◌≡◌, ◌≢◌, None, Some, Ok, length, map, string_bytes, IfOk, IfErr, OnOk, OnErr};
 ghost use Rattle.std.specs.Prelude.{IsTrue};
 ghost use Rattle.sdp_formats_round.specs.Laws.{rounds};
-ghost use Rattle.rtp_media_negotiation.specs.Offers.{Accepts, Answers};
-ghost use Rattle.rtp_media_negotiation.specs.Refusals.{IsUnwritable, MayAccept, MayAnswer, RefusesAccept};
-ghost use Rattle.rtp_media_negotiation.specs.Refusals.{RefusesAnswer};
-ghost use Rattle.rtp_media_negotiation.specs.Refusals.{refusal_of_accept, refusal_of_answer, refusal_of_sections};
-ghost use Rattle.rtp_media_negotiation.specs.Says.{AgreesOnText, SaysOnly};
-ghost use Rattle.rtp_media_sections.specs.Lines.{remote_of, shape_of_line};
-ghost use Rattle.rtp_media_sections.specs.Sections.{correspond, shape_of};
+ghost use Rattle.rtp_media_exchange_steps.specs.Offers.{Accepts, Answers};
+ghost use Rattle.rtp_media_exchange_steps.specs.Refusals.{IsUnwritable, MayAccept, MayAnswer, RefusesAccept};
+ghost use Rattle.rtp_media_exchange_steps.specs.Refusals.{RefusesAnswer};
+ghost use Rattle.rtp_media_exchange_steps.specs.Refusals.{refusal_of_accept, refusal_of_answer, refusal_of_sections};
+ghost use Rattle.rtp_media_exchange_steps.specs.Says.{AgreesOnText, SaysOnly};
+ghost use Rattle.rtp_media_section_texts.specs.Lines.{remote_of, shape_of_line};
+ghost use Rattle.rtp_media_section_texts.specs.Sections.{correspond, shape_of};
 
 use super::Exchange;
-use crate::agree::{accepted_agreement, answered_agreement};
-use crate::errors::ExchangeError;
-use crate::print::answer_text;
-use crate::read::read;
-use crate::settle::{
-    check_accepted, check_answered, check_media, line_shapes, settled, wanted_shapes,
+use rtp_media_exchange_steps::read::read;
+use rtp_media_exchange_steps::{
+    ExchangeError, accepted_agreement, answer_text, answered_agreement, check_accepted,
+    check_answered, check_media, line_shapes, settled, wanted_shapes,
 };
-use rtp_media_sections::{SectionSpec, correspond};
+use rtp_media_section_texts::{SectionSpec, correspond};
 use sdp_formats_config::CodecConfig;
 use sdp_formats_types::MediaLine;
 use std::alloc::{AllocError, Global};
@@ -65,7 +63,7 @@ fn said_again(
 
 impl Exchange {
     /// The config after the rounds with the sections of a text, where these are exchanged for wanted ones.
-    #[tactic(auto, unfolding(crate::specs::Refusals::refusal_of_sections))]
+    #[tactic(auto, unfolding(rtp_media_exchange_steps::specs::Refusals::refusal_of_sections))]
     fn settle(
         &self,
         lines: &[MediaLine],
@@ -86,7 +84,7 @@ impl Exchange {
     }
 
     /// The config with which an offer is answered.
-    #[tactic(auto, unfolding(crate::specs::Refusals::refusal_of_answer))]
+    #[tactic(auto, unfolding(rtp_media_exchange_steps::specs::Refusals::refusal_of_answer))]
     fn settle_answer(
         &self,
         offer: &[MediaLine],
@@ -115,7 +113,7 @@ impl Exchange {
     ///
     /// The first that holds of `Unreadable`, `OutOfTurn`, `NotMedia`, `NotCorresponding`, `Round`, `NoCommonRow` and
     /// `NotWritable`; or `Memory`. Nothing has then changed.
-    #[tactic(auto, unfolding(crate::specs::Offers::answer_of), using(crate::proofs::Refusing::refuses_answer))]
+    #[tactic(auto, unfolding(rtp_media_exchange_steps::specs::Offers::answer_of), using(crate::proofs::Refusing::refuses_answer))]
     pub fn answer(
         &mut self,
         text: &str,
@@ -153,7 +151,7 @@ impl Exchange {
     }
 
     /// The config with which an answer is accepted.
-    #[tactic(auto, unfolding(crate::specs::Refusals::refusal_of_accept))]
+    #[tactic(auto, unfolding(rtp_media_exchange_steps::specs::Refusals::refusal_of_accept))]
     fn settle_accept(
         &self,
         answer: &[MediaLine],
@@ -180,7 +178,7 @@ impl Exchange {
     /// The first that holds of `Unreadable`, `OutOfTurn`, `NotMedia`, `NotCorresponding`, `Round` and `NoCommonRow` (no
     /// locked row has the type of a row of this section); or `Memory`. Nothing has then changed, and the offer is still
     /// pending.
-    #[tactic(auto, unfolding(crate::specs::Refusals::refusal_of_accept), using(crate::proofs::Refusing::not_accepted))]
+    #[tactic(auto, unfolding(rtp_media_exchange_steps::specs::Refusals::refusal_of_accept), using(crate::proofs::Refusing::not_accepted))]
     pub fn accept(&mut self, text: &str) -> Result<(), ExchangeError>
         ensures after { OnOk result (Accepts self.old text.now self.new) }
         ensures agreed { OnOk result (AgreesOnText text.now self.new.agreed) }

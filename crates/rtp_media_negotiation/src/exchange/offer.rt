@@ -2,17 +2,15 @@
 
 ghost use Rattle.std.specs.Prelude.{◌≡◌, ◌≢◌, None, Some, find, string_bytes, IfOk, IfErr, OnOk, OnErr};
 ghost use Rattle.std.specs.List.{list_any};
-ghost use Rattle.rtp_media_negotiation.specs.Exchanges.{with_offer};
-ghost use Rattle.rtp_media_negotiation.specs.Offers.{offer_of};
-ghost use Rattle.rtp_media_negotiation.specs.Refusals.{follows_agreed, is_nameless, lists_none, no_row_of};
-ghost use Rattle.rtp_media_negotiation.specs.Refusals.{Refuses, refusal_of_offer};
-ghost use Rattle.sdp_formats_types.specs.PrintedSession.{sdp_text};
+ghost use Rattle.rtp_media_exchange_steps.specs.Exchanges.{with_offer};
+ghost use Rattle.rtp_media_exchange_steps.specs.Offers.{offer_of};
+ghost use Rattle.rtp_media_exchange_steps.specs.Refusals.{follows_agreed, is_nameless, lists_none, no_row_of};
+ghost use Rattle.rtp_media_exchange_steps.specs.Refusals.{Refuses, refusal_of_offer};
+ghost use Rattle.sdp_formats_sessions.specs.PrintedSession.{sdp_text};
 
 use super::{Exchange, Pending};
-use crate::errors::ExchangeError;
-use crate::print::offer_text;
-use crate::settle::{agreed_shapes, wanted_shapes};
-use rtp_media_sections::{SectionSpec, may_follow};
+use rtp_media_exchange_steps::{ExchangeError, agreed_shapes, offer_text, wanted_shapes};
+use rtp_media_section_texts::{SectionSpec, may_follow};
 use sdp_formats_config::CodecConfig;
 use std::alloc::AllocError;
 
@@ -56,7 +54,7 @@ impl Exchange {
     }
 
     /// Why an offer of these sections is refused.
-    #[tactic(auto, unfolding(crate::specs::Refusals::refusal_of_offer))]
+    #[tactic(auto, unfolding(rtp_media_exchange_steps::specs::Refusals::refusal_of_offer))]
     fn check_offer(&self, sections: &[SectionSpec]) -> Result<(), ExchangeError>
         ensures ok { OnOk result (refusal_of_offer self.now sections.now ≡ None) }
         ensures refused { IfErr result (λ e. e ≢ ExchangeError.Memory
@@ -82,7 +80,7 @@ impl Exchange {
     ///
     /// The first that holds of `OutOfTurn`, `NotCorresponding`, `NoCommonRow` and `NotWritable`; or `Memory`. Nothing
     /// has then changed.
-    #[tactic(auto, unfolding(crate::specs::Offers::offer_of))]
+    #[tactic(auto, unfolding(rtp_media_exchange_steps::specs::Offers::offer_of))]
     pub fn offer(&mut self, sections: Vec<SectionSpec>) -> Result<String, ExchangeError>
         ensures text { IfOk result (λ text. string_bytes text ≡ sdp_text (offer_of self.old sections.items)) }
         ensures accepted { OnOk result (refusal_of_offer self.old sections.items ≡ None) }

@@ -1,6 +1,6 @@
 use Rattle.std.proofs.Common.{◌∙◌, sym, ap, false}
 use Rattle.rtp_media_schedules.specs.Hearing.{EndsSilent, handed_out}
-use Rattle.rtp_media_ends.specs.Ends.{sender_at}
+use Rattle.rtp_media_open_streams.specs.Ends.{sender_at}
 use Rattle.rtp_media_play.specs.Schedules.{poll_answers}
 use Rattle.media_calls.specs.Call.{silent_after}
 use Rattle.media_calls.proofs.Three.{bytes-out, ends-silent, tame-three}

@@ -1,4 +1,4 @@
-use Rattle.rtp_media_ends.proofs.MayOpen.{may-receive, may-send, receives-at, sends-at}
+use Rattle.rtp_media_open_streams.proofs.MayOpen.{may-receive, may-send, receives-at, sends-at}
 use Rattle.rtp_media_ends.proofs.laws.openings_law.Goals as goal
 
 pub returns-clause-sends : goal.returns-clause-sends

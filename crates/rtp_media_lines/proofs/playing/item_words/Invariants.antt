@@ -1,7 +1,7 @@
 use Rattle.std.proofs.Common.{◌≡◌, length}
-use Rattle.rtp_media_lines.specs.Words.{each_of}
+use Rattle.rtp_media_words.specs.Words.{each_of}
 use Rattle.rtp_media_lines.specs.PlayLines.{item_of}
-use Rattle.rtp_media_lines.proofs.Each.{with_front}
+use Rattle.rtp_media_words.proofs.Each.{with_front}
 use Rattle.rtp_media_lines.proofs.playing.item_words.Given as goal
 
 -- the items so far, and those of the words that are left, are those of all words

@@ -1,6 +1,6 @@
 use Rattle.std.proofs.Common.{◌≡◌, None, arith}
 use Rattle.std.proofs.lemmas.Grind.{common_steps}
-use Rattle.rtp_media_negotiation.specs.Refusals.{refusal_of_accept}
+use Rattle.rtp_media_exchange_steps.specs.Refusals.{refusal_of_accept}
 use Rattle.rtp_media_negotiation.proofs.Refusing.{may_accept}
 use Rattle.rtp_media_negotiation.proofs.exchange.Exchange.accept.Goals as goal
 

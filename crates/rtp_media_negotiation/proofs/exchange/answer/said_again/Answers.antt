@@ -1,7 +1,7 @@
 use Rattle.std.proofs.Common.{◌≡◌, false, map, refl, arith}
 use Rattle.std.proofs.lemmas.Grind.{common_steps}
-use Rattle.rtp_media_sections.specs.Lines.{shape_of_line}
-use Rattle.rtp_media_sections.specs.Sections.{correspond, shape_of}
+use Rattle.rtp_media_section_texts.specs.Lines.{shape_of_line}
+use Rattle.rtp_media_section_texts.specs.Sections.{correspond, shape_of}
 use Rattle.rtp_media_negotiation.proofs.Refusing.{other_said}
 use Rattle.rtp_media_negotiation.proofs.exchange.answer.said_again.Goals as goal
 

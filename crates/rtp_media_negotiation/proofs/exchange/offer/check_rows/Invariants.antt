@@ -1,6 +1,6 @@
 use Rattle.std.proofs.Common.{◌≡◌, drop}
 use Rattle.std.specs.Prelude.{find}
-use Rattle.rtp_media_negotiation.specs.Refusals.{lists_none}
+use Rattle.rtp_media_exchange_steps.specs.Refusals.{lists_none}
 use Rattle.rtp_media_negotiation.proofs.exchange.offer.check_rows.Given as goal
 
 -- the sections so far list a row: the rest decides

@@ -1,4 +1,5 @@
-use Rattle.std.proofs.Common.{◌≡◌, ◌∙◌, ◌++◌, ◌∷◌, ◌+◌, ◌<◌, ℕ, List, Option, ap, arith, drop, drop-cons, get_or, length}
+use Rattle.std.proofs.Common.{◌≡◌, ◌∙◌, ◌++◌, ◌∷◌, ◌+◌, ◌<◌, ℕ, List, Option, ap, arith, drop, drop-cons, get_or}
+use Rattle.std.proofs.Common.{length}
 use Rattle.std.proofs.Common.{refl, subst, suc, sym}
 use Rattle.std.proofs.Output.{has_written_append}
 use Rattle.std.specs.Fmt.{HasWritten}

@@ -1,0 +1,2 @@
+pub mod ReceiverBox
+pub mod SenderBox

@@ -1,0 +1,7 @@
+pub mod StreamAnswers
+pub mod Fetched
+pub mod Formats
+pub mod Inboxes
+pub mod OwnedReceiver
+pub mod OwnedSender
+pub mod Outboxes

@@ -1,0 +1,3 @@
+pub mod KeepsLemmas
+pub mod Leb128Lemmas
+pub mod ReaderLemmas

@@ -1,7 +1,0 @@
-use Rattle.rtp_media_ends.proofs.StreamKeys.{other-key}
-use Rattle.rtp_media_ends.proofs.stream_index.StreamIndex.set.Goals as goal
-
-pub returns-clause-others : goal.returns-clause-others
-returns-clause-others c s p n =
-    c.in_ok-insert.ensures.updates.2 _
-    (other-key c.get.result c.get-2.result s p (rw (c.get.ensures, c.get-2.ensures) n))

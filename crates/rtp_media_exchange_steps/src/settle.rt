@@ -1,0 +1,160 @@
+//! What the sections of a text and those of an end come to.
+
+ghost use Rattle.std.specs.Prelude.{◌≡◌, ◌≢◌, ◌&&◌, ◌==◌, None, Some, Ok, Err, not, find, map, OnOk, IfErr, IfOk};
+ghost use Rattle.std.specs.List.{list_any};
+ghost use Rattle.sdp_formats_config.specs.Sections.{section_of};
+ghost use Rattle.sdp_formats_round.specs.Laws.{rounds};
+ghost use Rattle.rtp_media_exchange_steps.specs.Refusals.{answers_none, no_acceptance, no_answer, not_media_of};
+ghost use Rattle.rtp_media_exchange_steps.specs.Refusals.{is_locked_at, round_refusal, shares_none};
+ghost use Rattle.rtp_media_sections.specs.Agreement.{shape_of_agreed};
+ghost use Rattle.rtp_media_section_texts.specs.Answered.{answered_rows};
+ghost use Rattle.rtp_media_section_texts.specs.Lines.{is_media_line, remote_of, shape_of_line};
+ghost use Rattle.rtp_media_section_texts.specs.Sections.{shape_of};
+
+use crate::errors::ExchangeError;
+use rtp_media_section_texts::{SectionSpec, Shape, answered_rows};
+use rtp_media_sections::{AgreedSection, is_media_line, mid_of, remote_of, shape_of_line};
+use sdp_formats_config::{CodecConfig, RemoteSection, RoundError};
+use sdp_formats_rows::PayloadParams;
+use sdp_formats_section_rows::rtp_params;
+use sdp_formats_types::MediaLine;
+use std::alloc::{AllocError, Global};
+
+/// Whether each section of a text is media.
+pub fn check_media(lines: &[MediaLine]) -> Result<(), ExchangeError>
+    ensures ok { OnOk result (not_media_of (find (λ m. not (is_media_line m)) lines.now) ≡ None) }
+    ensures refused { IfErr result (λ e. not_media_of (find (λ m. not (is_media_line m)) lines.now) ≡ Some e) }
+{
+    for line in lines {
+        if !is_media_line(line) {
+            return Err(ExchangeError::NotMedia(mid_of(line)));
+        }
+    }
+    Ok(())
+}
+
+/// The names and kinds of wanted sections.
+pub fn wanted_shapes(alloc: Global, sections: &[SectionSpec]) -> Result<Vec<Shape>, AllocError>
+    ensures { IfOk result (λ shapes. shapes.items ≡ map shape_of sections.now) }
+{
+    let mut shapes = Vec::new(alloc);
+    for section in sections {
+        shapes.push(section.shape())?;
+    }
+    Ok(shapes)
+}
+
+/// The names and kinds of agreed sections.
+pub fn agreed_shapes(alloc: Global, sections: &[AgreedSection]) -> Result<Vec<Shape>, AllocError>
+    ensures { IfOk result (λ shapes. shapes.items ≡ map shape_of_agreed sections.now) }
+{
+    let mut shapes = Vec::new(alloc);
+    for section in sections {
+        shapes.push(section.shape())?;
+    }
+    Ok(shapes)
+}
+
+/// The names and kinds of the sections of a text.
+pub fn line_shapes(alloc: Global, lines: &[MediaLine]) -> Result<Vec<Shape>, AllocError>
+    ensures { IfOk result (λ shapes. shapes.items ≡ map shape_of_line lines.now) }
+{
+    let mut shapes = Vec::new(alloc);
+    for line in lines {
+        shapes.push(shape_of_line(line))?;
+    }
+    Ok(shapes)
+}
+
+fn remotes(alloc: Global, lines: &[MediaLine]) -> Result<Vec<RemoteSection>, AllocError>
+    ensures { IfOk result (λ sections. map section_of sections.items ≡ map remote_of lines.now) }
+{
+    let mut sections = Vec::new(alloc);
+    for line in lines {
+        sections.push(remote_of(alloc, line)?)?;
+    }
+    Ok(sections)
+}
+
+/// The config after a round with each section of a text.
+pub fn settled(
+    alloc: Global,
+    config: &CodecConfig,
+    lines: &[MediaLine],
+) -> Result<CodecConfig, ExchangeError>
+    ensures rows { IfOk result (λ c. rounds (map remote_of lines.now) config.now.rows ≡ Ok c.rows) }
+    ensures distances { IfOk result (λ c. c.distances ≡ config.now.distances) }
+    ensures refused { IfErr result (λ e. e ≢ ExchangeError.Memory
+        → round_refusal (rounds (map remote_of lines.now) config.now.rows) ≡ Some e) }
+{
+    let sections = remotes(alloc, lines)?;
+    let mut config = config.clone()?;
+    match config.round_all(sections.as_slice()) {
+        Ok(()) => Ok(config),
+        Err(RoundError::Memory) => Err(ExchangeError::Memory),
+        Err(fault) => Err(ExchangeError::Round(fault)),
+    }
+}
+
+#[tactic(auto, unfolding(crate::specs::Refusals::answers_none))]
+fn answers_none(alloc: Global, config: &CodecConfig, line: &MediaLine) -> Result<bool, AllocError>
+    ensures { IfOk result (λ none. none ≡ answers_none config.now.rows line.now) }
+{
+    let rows = answered_rows(alloc, config, line)?;
+    Ok(rows.is_empty())
+}
+
+/// Whether the answer to each section would list a row.
+pub fn check_answered(
+    alloc: Global,
+    config: &CodecConfig,
+    lines: &[MediaLine],
+) -> Result<(), ExchangeError>
+    ensures ok { OnOk result (no_answer config.now.rows lines.now ≡ None) }
+    ensures refused { IfErr result (λ e. e ≢ ExchangeError.Memory → no_answer config.now.rows lines.now ≡ Some e) }
+{
+    for line in lines {
+        if answers_none(alloc, config, line)? {
+            return Err(ExchangeError::NoCommonRow(mid_of(line)));
+        }
+    }
+    Ok(())
+}
+
+fn is_locked_at(rows: &[PayloadParams], row: &PayloadParams) -> bool
+    ensures { result ≡ is_locked_at rows.now row.now }
+{
+    rows.iter()
+        .any(|own| own.is_locked() && own.pt().get() == row.pt().get())
+}
+
+fn is_any_locked_at(own: &[PayloadParams], rows: &[PayloadParams]) -> bool
+    ensures { result ≡ list_any (is_locked_at own.now) rows.now }
+{
+    rows.iter().any(|row| is_locked_at(own, row))
+}
+
+#[tactic(auto, unfolding(crate::specs::Refusals::shares_none))]
+fn shares_none(alloc: Global, config: &CodecConfig, line: &MediaLine) -> Result<bool, AllocError>
+    ensures { IfOk result (λ none. none ≡ shares_none config.now.rows line.now) }
+{
+    let rows = rtp_params(alloc, line)?;
+    Ok(!is_any_locked_at(config.params(), rows.as_slice()))
+}
+
+/// Whether each section of an answer has a row at the type of a locked one.
+pub fn check_accepted(
+    alloc: Global,
+    config: &CodecConfig,
+    lines: &[MediaLine],
+) -> Result<(), ExchangeError>
+    ensures ok { OnOk result (no_acceptance config.now.rows lines.now ≡ None) }
+    ensures refused { IfErr result (λ e. e ≢ ExchangeError.Memory → no_acceptance config.now.rows lines.now ≡ Some e) }
+{
+    for line in lines {
+        if shares_none(alloc, config, line)? {
+            return Err(ExchangeError::NoCommonRow(mid_of(line)));
+        }
+    }
+    Ok(())
+}

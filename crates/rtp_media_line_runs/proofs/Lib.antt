@@ -1,0 +1,4 @@
+pub mod InputLines
+pub mod Sent
+pub mod Steps
+pub mod Stopping

@@ -1,0 +1,6 @@
+pub mod Rising
+pub mod MayOpen
+pub mod NewReceiver
+pub mod StreamKeys
+pub mod Looked
+pub mod Indexing

@@ -1,0 +1,245 @@
+use Rattle.std.specs.Prelude.{ℕ, Bool, true, false, not, nat_le, nat_lt, ◌==◌, ◌&&◌, List, [], ◌∷◌, ◌++◌, length}
+use Rattle.std.specs.Prelude.{Option, Some, None, if◌then◌else◌, unwrap_or, slice_set, slice_index_or}
+use Rattle.std.specs.List.{list_any}
+use Rattle.rtp_wire.specs.Maps.{empty_map}
+use Rattle.rtp_wire.specs.Values.{Numbering}
+use Rattle.payload_core_base.specs.declared.codec.Codec.TheVariants.{Unknown}
+use Rattle.h26x_payload.specs.Codings.{has_format}
+use Rattle.rtp_media_streams.specs.Sending as sending
+use Rattle.rtp_media_streams.specs.Sending.{Sending, opened_sender, redundant_sender}
+use Rattle.rtp_media_payloads.specs.Receiving as receiving
+use Rattle.rtp_media_payloads.specs.Receiving.{Receiving, opened_receiver}
+use Rattle.rtp_media_payloads.specs.declared.row_format.RowFormat.{RowFormat}
+use Rattle.rtp_media_payloads.specs.declared.types.PayloadTypes.{PayloadTypes}
+use Rattle.sdp_formats_rows.specs.Rows.{Row}
+use Rattle.sdp_formats_config.specs.Configs.{Config}
+use Rattle.rtp_media_exchange_steps.specs.Exchanges.{Exchanged, fresh, fixed}
+use Rattle.sdp_formats_sessions.specs.declared.session.Session.{Session}
+use Rattle.rtp_media_sections.specs.Agreement.{Agreed, agreed_map_of, agreed_row_of, is_named, own_row_agrees, row_in}
+use Rattle.rtp_media_sections.specs.Agreement.{section_of}
+use Rattle.rtp_media_open_streams.specs.declared.open_stream.OpenStream.{OpenStream}
+use Rattle.rtp_media_open_streams.specs.declared.open_stream.OpenStream.TheVariants.{Sender, Receiver}
+use Rattle.rtp_media_open_streams.specs.declared.params.StreamParams.{StreamParams}
+use Rattle.rtp_media_open_streams.specs.declared.errors.OpenError.{OpenError}
+use Rattle.rtp_media_open_streams.specs.declared.errors.OpenError.TheVariants.{NoSection, RowNotAgreed, RowDiffers}
+use Rattle.rtp_media_open_streams.specs.declared.errors.OpenError.TheVariants.{WrongDirection, SsrcNotNamed}
+use Rattle.rtp_media_open_streams.specs.declared.errors.OpenError.TheVariants.{AlreadyOpen}
+
+-- What an end keeps: its exchanges, and its streams of both directions by number.
+pub record EndState : Type 0 where
+  pub exchange : Exchanged
+  pub streams : List OpenStream
+
+-- The end with this stream in place of its n-th.
+abbrev pub with_sender : EndState → ℕ → Sending → EndState
+with_sender e n s = record { exchange = e.exchange; streams = slice_set e.streams n (Sender s) }
+
+abbrev pub with_receiver : EndState → ℕ → Receiving → EndState
+with_receiver e n r = record { exchange = e.exchange; streams = slice_set e.streams n (Receiver r) }
+
+-- The end after an exchange: its streams stay.
+abbrev pub with_exchange : EndState → Exchanged → EndState
+with_exchange e x = record { exchange = x; streams = e.streams }
+
+-- The end with one stream more.
+abbrev pub with_new_sender : EndState → Sending → EndState
+with_new_sender e s = record { exchange = e.exchange; streams = e.streams ++ Sender s ∷ [] }
+
+abbrev pub with_new_receiver : EndState → Receiving → EndState
+with_new_receiver e r = record { exchange = e.exchange; streams = e.streams ++ Receiver r ∷ [] }
+
+-- The payload types of a row.
+abbrev pub types_of : Row → PayloadTypes
+types_of row = record { pt = row.pt; red = row.red }
+
+-- Those of no row.
+abbrev pub no_types : PayloadTypes
+no_types = record { pt = 0; red = None }
+
+-- What a row says of its payloads.
+abbrev pub row_format_of : Row → RowFormat
+row_format_of row = record {
+  codec = row.spec.codec;
+  clock_rate = row.spec.clock_rate;
+  octet_align = row.spec.format.octet_align;
+  sprop_max_don_diff = row.spec.format.sprop_max_don_diff;
+}
+
+-- That of no row.
+abbrev pub no_row_format : RowFormat
+no_row_format = record { codec = Unknown; clock_rate = 1; octet_align = None; sprop_max_don_diff = None }
+
+-- Streams of no row.
+abbrev pub no_sender : Sending
+no_sender = opened_sender 0 no_types empty_map no_row_format None false 0 1 0
+
+abbrev pub no_receiver : Receiving
+no_receiver = opened_receiver 0 no_types empty_map no_row_format 0
+
+-- A stream as one that sends, and as one that receives.
+abbrev pub sending_of : OpenStream → Sending
+sending_of (Sender s) = s
+sending_of (Receiver r) = no_sender
+
+abbrev pub receiving_of : OpenStream → Receiving
+receiving_of (Sender s) = no_receiver
+receiving_of (Receiver r) = r
+
+abbrev pub is_sending : OpenStream → Bool
+is_sending (Sender s) = true
+is_sending (Receiver r) = false
+
+-- The n-th stream.
+abbrev pub nth_stream : List OpenStream → ℕ → OpenStream
+nth_stream streams n = slice_index_or streams n (Receiver no_receiver)
+
+abbrev pub sender_at : EndState → ℕ → Sending
+sender_at e n = sending_of (nth_stream e.streams n)
+
+abbrev pub nth_receiver : List OpenStream → ℕ → Receiving
+nth_receiver streams n = receiving_of (nth_stream streams n)
+
+abbrev pub receiver_at : EndState → ℕ → Receiving
+receiver_at e n = nth_receiver e.streams n
+
+-- Whether a number is that of a stream that sends, and of one that receives.
+abbrev pub is_sender_at : EndState → ℕ → Bool
+is_sender_at e n = nat_lt n (length e.streams) && is_sending (nth_stream e.streams n)
+
+abbrev pub is_receiver_at : EndState → ℕ → Bool
+is_receiver_at e n = nat_lt n (length e.streams) && not (is_sending (nth_stream e.streams n))
+
+-- Whether a stream could send, or take, the datagrams of one of this SSRC and these payload types.
+abbrev pub sends_as : ℕ → PayloadTypes → OpenStream → Bool
+sends_as ssrc types (Sender s) = sending.conflicts_with s ssrc types
+sends_as ssrc types (Receiver r) = false
+
+abbrev pub receives_as : ℕ → PayloadTypes → OpenStream → Bool
+receives_as ssrc types (Sender s) = false
+receives_as ssrc types (Receiver r) = receiving.conflicts_with r ssrc types
+
+-- A RED type has 7 bits and is another than the row's.
+abbrev pub is_red_of : ℕ → Option ℕ → Bool
+is_red_of pt None = true
+is_red_of pt (Some red) = nat_le red 127 && not (red == pt)
+
+-- Whether a stream can carry a row: its codec has a payload format, and its types have 7 bits and are distinct.
+abbrev pub is_carried : Row → Bool
+is_carried row = has_format row.spec.codec && (nat_le row.pt 127 && is_red_of row.pt row.red)
+
+abbrev pub carried : Option Row → Option Row
+carried None = None
+carried (Some row) = if is_carried row then Some row else None
+
+-- The section's row of a type, where a stream can carry it.
+abbrev pub carried_row : Agreed → ℕ → Option Row
+carried_row a pt = carried (row_in a.rows pt)
+
+-- Why no stream of a section's row can be opened, by whether the end's own row agrees with it, the section flows this
+-- way, its sender names the SSRC in it, and such a stream is open: the first that holds.
+abbrev pub refusal_by : Bool → Bool → Bool → Bool → Option OpenError
+refusal_by agrees flows names is_open =
+    if not agrees then Some RowDiffers
+    else if not flows then Some WrongDirection
+    else if not names then Some SsrcNotNamed
+    else if is_open then Some AlreadyOpen
+    else None
+
+abbrev pub sender_refusal_of : List Row → Agreed → List OpenStream → ℕ → Option Row → Option OpenError
+sender_refusal_of own a streams ssrc None = Some RowNotAgreed
+sender_refusal_of own a streams ssrc (Some row) =
+    refusal_by (own_row_agrees own row) a.sends (is_named a.own_ssrcs ssrc)
+    (list_any (sends_as ssrc (types_of row)) streams)
+
+abbrev pub sender_refusal_in : List Row → Option Agreed → List OpenStream → ℕ → ℕ → Option OpenError
+sender_refusal_in own None streams ssrc pt = Some NoSection
+sender_refusal_in own (Some a) streams ssrc pt = sender_refusal_of own a streams ssrc (carried_row a pt)
+
+abbrev pub receiver_refusal_of : List Row → Agreed → List OpenStream → ℕ → Option Row → Option OpenError
+receiver_refusal_of own a streams ssrc None = Some RowNotAgreed
+receiver_refusal_of own a streams ssrc (Some row) =
+    refusal_by (own_row_agrees own row) a.receives (is_named a.remote_ssrcs ssrc)
+    (list_any (receives_as ssrc (types_of row)) streams)
+
+abbrev pub receiver_refusal_in : List Row → Option Agreed → List OpenStream → ℕ → ℕ → Option OpenError
+receiver_refusal_in own None streams ssrc pt = Some NoSection
+receiver_refusal_in own (Some a) streams ssrc pt = receiver_refusal_of own a streams ssrc (carried_row a pt)
+
+-- Why `open_sender` is refused, lack of memory aside.
+unfoldable pub refusal_of_open_sender : EndState → List ℕ → ℕ → ℕ → Option OpenError
+refusal_of_open_sender e mid ssrc pt =
+    sender_refusal_in e.exchange.config.rows (section_of e.exchange.agreed mid) e.streams ssrc pt
+
+-- Why `open_receiver` is refused, lack of memory aside.
+unfoldable pub refusal_of_open_receiver : EndState → List ℕ → ℕ → ℕ → Option OpenError
+refusal_of_open_receiver e mid ssrc pt =
+    receiver_refusal_in e.exchange.config.rows (section_of e.exchange.agreed mid) e.streams ssrc pt
+
+-- The map of header extensions of a new stream: the agreed one.
+abbrev pub stream_map : EndState → List ℕ → Numbering
+stream_map e mid = unwrap_or (agreed_map_of e.exchange.agreed mid) empty_map
+
+-- What the row of a new stream says of its payloads.
+abbrev pub row_format_in : Option Row → RowFormat
+row_format_in None = no_row_format
+row_format_in (Some row) = row_format_of row
+
+abbrev pub agreed_format : EndState → List ℕ → ℕ → RowFormat
+agreed_format e mid pt = row_format_in (agreed_row_of e.exchange.agreed mid pt)
+
+-- The payload types of a new stream, and its RED type.
+abbrev pub types_in : Option Row → PayloadTypes
+types_in None = no_types
+types_in (Some row) = types_of row
+
+abbrev pub red_in : Option Row → Option ℕ
+red_in None = None
+red_in (Some row) = row.red
+
+abbrev pub agreed_types : EndState → List ℕ → ℕ → PayloadTypes
+agreed_types e mid pt = types_in (agreed_row_of e.exchange.agreed mid pt)
+
+abbrev pub agreed_red : EndState → List ℕ → ℕ → Option ℕ
+agreed_red e mid pt = red_in (agreed_row_of e.exchange.agreed mid pt)
+
+-- A new stream, which adds redundancy under the RED type where distances are given.
+abbrev pub with_distances : Sending → Option ℕ → Option (List ℕ) → Sending
+with_distances s red None = s
+with_distances s red (Some distances) = redundant_sender s (unwrap_or red 0) distances
+
+-- A new stream that sends a row under a map.
+abbrev pub row_sender : ℕ → Row → Numbering → StreamParams → Sending
+row_sender ssrc row exts params =
+    with_distances
+    (opened_sender ssrc (types_of row) exts (row_format_of row) params.picture_id params.for_browsers params.first
+    params.mtu params.limit)
+    row.red params.red
+
+-- The stream that an end opens to send: the agreed row under the agreed map.
+abbrev pub new_sender : EndState → List ℕ → ℕ → ℕ → StreamParams → Sending
+new_sender e mid ssrc pt params =
+    with_distances
+    (opened_sender ssrc (agreed_types e mid pt) (stream_map e mid) (agreed_format e mid pt) params.picture_id
+    params.for_browsers params.first params.mtu params.limit)
+    (agreed_red e mid pt) params.red
+
+-- The stream that it opens to receive that row under that map.
+abbrev pub new_receiver : EndState → List ℕ → ℕ → ℕ → ℕ → Receiving
+new_receiver e mid ssrc pt hold_back =
+    opened_receiver ssrc (agreed_types e mid pt) (stream_map e mid) (agreed_format e mid pt) hold_back
+
+-- The end with a sending stream more.
+unfoldable pub after_open_sender : EndState → List ℕ → ℕ → ℕ → StreamParams → EndState
+after_open_sender e mid ssrc pt params = with_new_sender e (new_sender e mid ssrc pt params)
+
+-- The end with a receiving stream more.
+unfoldable pub after_open_receiver : EndState → List ℕ → ℕ → ℕ → ℕ → EndState
+after_open_receiver e mid ssrc pt hold_back = with_new_receiver e (new_receiver e mid ssrc pt hold_back)
+
+-- A fixed end without streams.
+abbrev pub fixed_end : EndState
+fixed_end = record { exchange = fixed; streams = [] }
+
+-- An end that has agreed on nothing.
+abbrev pub new_end : Session → Numbering → Config → EndState
+new_end session wanted config = record { exchange = fresh session wanted config; streams = [] }

@@ -1,0 +1,126 @@
+//! Streams by SSRC and payload type.
+
+ghost use Rattle.std.specs.Prelude.{◌≡◌, ◌<◌, ◌&&◌, length, false, nat_lt, IfSome};
+ghost use Rattle.std.specs.List.{list_any};
+ghost use Rattle.rtp_media_open_streams.specs.Arrivals.{stream_for, takes};
+ghost use Rattle.rtp_media_open_streams.specs.Ends.{is_sending, nth_stream, receives_as, sends_as};
+ghost use Rattle.rtp_media_open_streams.specs.Indexed.{IsIndexed, has_red, sends};
+
+use crate::open_stream::OpenStream;
+use crate::stream_index::StreamIndex;
+use rtp_media_payloads::PayloadTypes;
+use rtp_wire::{Pt, Ssrc};
+
+/// Whether the stream of this number takes datagrams of this SSRC and payload type.
+fn takes_at(streams: &[OpenStream], number: usize, ssrc: Ssrc, pt: Pt) -> bool
+    ensures { result ≡ (nat_lt number (length streams.now) && takes ssrc pt (nth_stream streams.now number)) }
+{
+    number < streams.len() && streams[number].takes(ssrc, pt)
+}
+
+/// Whether the stream of this number could send datagrams of this SSRC and payload type.
+fn sends_at(streams: &[OpenStream], number: usize, ssrc: Ssrc, pt: Pt) -> bool
+    ensures { result ≡ (nat_lt number (length streams.now) && sends ssrc pt (nth_stream streams.now number)) }
+{
+    number < streams.len() && streams[number].sends(ssrc, pt)
+}
+
+/// The number of the stream that takes this SSRC and payload type.
+pub fn stream_for(
+    streams: &[OpenStream],
+    receivers: &StreamIndex,
+    ssrc: Ssrc,
+    pt: Pt,
+) -> Option<usize>
+    requires { IsIndexed takes receivers.now streams.now }
+    ensures stream { result ≡ stream_for streams.now ssrc pt }
+    ensures within { IfSome result (λ n. n < length streams.now) }
+    ensures receives { IfSome result (λ n. is_sending (nth_stream streams.now n) ≡ false) }
+{
+    match receivers.number(ssrc, pt) {
+        Some(number) if takes_at(streams, number, ssrc, pt) => Some(number),
+        _ => None,
+    }
+}
+
+/// Whether one of the streams takes datagrams of this SSRC and payload type.
+fn is_taken(streams: &[OpenStream], receivers: &StreamIndex, ssrc: Ssrc, pt: Pt) -> bool
+    requires { IsIndexed takes receivers.now streams.now }
+    ensures { result ≡ list_any (takes ssrc pt) streams.now }
+{
+    match receivers.number(ssrc, pt) {
+        Some(number) => takes_at(streams, number, ssrc, pt),
+        None => false,
+    }
+}
+
+/// Whether one of the streams could send datagrams of this SSRC and payload type.
+fn is_sent(streams: &[OpenStream], senders: &StreamIndex, ssrc: Ssrc, pt: Pt) -> bool
+    requires { IsIndexed sends senders.now streams.now }
+    ensures { result ≡ list_any (sends ssrc pt) streams.now }
+{
+    match senders.number(ssrc, pt) {
+        Some(number) => sends_at(streams, number, ssrc, pt),
+        None => false,
+    }
+}
+
+/// Whether one of the streams takes datagrams of this SSRC and RED type, where there is one.
+fn is_taken_as_red(
+    streams: &[OpenStream],
+    receivers: &StreamIndex,
+    ssrc: Ssrc,
+    red: Option<Pt>,
+) -> bool
+    requires { IsIndexed takes receivers.now streams.now }
+    ensures { result ≡ list_any (has_red takes ssrc red) streams.now }
+{
+    match red {
+        Some(red) => is_taken(streams, receivers, ssrc, red),
+        None => false,
+    }
+}
+
+/// Whether one of the streams could take the datagrams of one of this SSRC and these payload types.
+pub fn could_receive(
+    streams: &[OpenStream],
+    receivers: &StreamIndex,
+    ssrc: Ssrc,
+    types: &PayloadTypes,
+) -> bool
+    requires { IsIndexed takes receivers.now streams.now }
+    ensures { result ≡ list_any (receives_as ssrc types.now) streams.now }
+{
+    let by_red = is_taken_as_red(streams, receivers, ssrc, types.red);
+    is_taken(streams, receivers, ssrc, types.pt) || by_red
+}
+
+/// Whether one of the streams could send datagrams of this SSRC and RED type, where there is one.
+fn is_sent_as_red(
+    streams: &[OpenStream],
+    senders: &StreamIndex,
+    ssrc: Ssrc,
+    red: Option<Pt>,
+) -> bool
+    requires { IsIndexed sends senders.now streams.now }
+    ensures { result ≡ list_any (has_red sends ssrc red) streams.now }
+{
+    match red {
+        Some(red) => is_sent(streams, senders, ssrc, red),
+        None => false,
+    }
+}
+
+/// Whether one of the streams could send the datagrams of one of this SSRC and these payload types.
+pub fn could_send(
+    streams: &[OpenStream],
+    senders: &StreamIndex,
+    ssrc: Ssrc,
+    types: &PayloadTypes,
+) -> bool
+    requires { IsIndexed sends senders.now streams.now }
+    ensures { result ≡ list_any (sends_as ssrc types.now) streams.now }
+{
+    let by_red = is_sent_as_red(streams, senders, ssrc, types.red);
+    is_sent(streams, senders, ssrc, types.pt) || by_red
+}

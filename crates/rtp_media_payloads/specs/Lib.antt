@@ -1,0 +1,5 @@
+pub mod Types
+pub mod Rows
+pub mod Redundant
+pub mod Receiving
+pub mod Polls

@@ -1,0 +1,4 @@
+pub mod Answered
+pub mod Extensions
+pub mod Lines
+pub mod Sections

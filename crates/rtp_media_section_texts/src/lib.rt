@@ -1,0 +1,12 @@
+//! Sections of offers and answers, as an end wants them and as texts list them.
+#![tactic(auto)]
+
+mod answered;
+mod extmaps;
+mod lines;
+mod section;
+
+pub use answered::{answered_rows, answered_section, flow};
+pub use extmaps::{is_writable, map_of_lines};
+pub use lines::{offered_section, types_listed};
+pub use section::{SectionSpec, Shape, begins_with, correspond, may_follow};

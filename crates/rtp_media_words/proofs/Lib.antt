@@ -1,0 +1,5 @@
+pub mod Behind
+pub mod Each
+pub mod Numbers
+pub mod ReadBack
+pub mod Splits

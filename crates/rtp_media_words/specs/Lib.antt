@@ -1,0 +1,4 @@
+pub mod Misreads
+pub mod Replies
+pub mod Sections
+pub mod Words

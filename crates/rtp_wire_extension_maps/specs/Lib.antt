@@ -1,0 +1,5 @@
+pub mod Written
+pub mod Iteration
+pub mod Maps
+pub mod BlockLayout
+pub mod Seen

@@ -1,7 +1,0 @@
-use Rattle.std.proofs.Common.{rules}
-use Rattle.sdp_formats_predicates.specs.Compound.{is_compound, is_source}
-use Rattle.sdp_formats.proofs.attributes.compound.Goals as goal
-
-pub source-requires : goal.source-requires
-unfolding is_compound is_source
-source-requires c = search rules

@@ -1,0 +1,3 @@
+mod KeyOrder
+mod KeySets
+mod OneMore

@@ -1,0 +1,3 @@
+pub mod H264Score
+pub mod LevelScore
+pub mod Points

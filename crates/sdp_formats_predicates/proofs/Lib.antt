@@ -1,3 +1,0 @@
-mod SameParams
-mod Reading
-mod Tables

@@ -1,0 +1,5 @@
+pub mod Distinct
+pub mod Known
+pub mod Said
+pub mod Seen
+pub mod Sources

@@ -1,0 +1,3 @@
+pub mod PairRounds
+pub mod Ends
+pub mod Characters

@@ -1,0 +1,4 @@
+pub mod Fingerprints
+pub mod Words
+pub mod Digest
+pub mod Candidates

@@ -1,0 +1,118 @@
+//! The text of a session and its sections, with an attribute before the session's own.
+
+use sdp_formats_forms::{Joined, Maybe};
+use sdp_formats_sessions::{Session, SessionAttribute};
+use sdp_formats_types::MediaLine;
+use std::fmt;
+use std::fmt::Display;
+
+// Attributes one behind the other.
+#[derive(Drop)]
+struct Attributes<'a>(&'a [SessionAttribute]);
+
+impl fmt::Display for Attributes<'_> {
+    ghost use Rattle.std.specs.Prelude.{Some};
+    ghost use Rattle.sdp_formats_sessions.specs.PrintedSession.{attributes_text};
+
+    ghost output = { λ a. Some (attributes_text a.0.now) };
+
+    fn fmt<W: fmt::Write>(&self, f: &mut fmt::Formatter<W>) -> fmt::Result {
+        Joined(self.0, "").fmt(f)
+    }
+}
+
+// An attribute, and others behind it.
+#[derive(Drop)]
+struct FirstAttributes<'a> {
+    first: &'a SessionAttribute,
+    others: &'a [SessionAttribute],
+}
+
+impl fmt::Display for FirstAttributes<'_> {
+    ghost use Rattle.std.specs.Prelude.{Some, ◌∷◌};
+    ghost use Rattle.sdp_formats_sessions.specs.PrintedSession.{attributes_text};
+
+    ghost output = { λ a. Some (attributes_text (a.first.now ∷ a.others.now)) };
+
+    fn fmt<W: fmt::Write>(&self, f: &mut fmt::Formatter<W>) -> fmt::Result {
+        let first = self.first;
+        let others = Attributes(self.others);
+        write!(f, "{first}{others}")
+    }
+}
+
+// Sections one behind the other.
+#[derive(Drop)]
+struct Sections<'a>(&'a [MediaLine]);
+
+impl fmt::Display for Sections<'_> {
+    ghost use Rattle.std.specs.Prelude.{Some};
+    ghost use Rattle.sdp_formats_sessions.specs.PrintedSession.{sections_text};
+
+    ghost output = { λ s. Some (sections_text s.0.now) };
+
+    fn fmt<W: fmt::Write>(&self, f: &mut fmt::Formatter<W>) -> fmt::Result {
+        Joined(self.0, "").fmt(f)
+    }
+}
+
+// A session with an attribute before its own.
+#[derive(Drop)]
+struct WithFirst<'a> {
+    session: &'a Session,
+    first: &'a SessionAttribute,
+}
+
+impl fmt::Display for WithFirst<'_> {
+    ghost use Rattle.std.specs.Prelude.{Some};
+    ghost use Rattle.sdp_formats_sessions.specs.PrintedSession.{session_text};
+    ghost use Rattle.sdp_formats_writable.specs.Texts.{with_first};
+
+    ghost output = { λ s. Some (session_text (with_first s.first.now s.session.now)) };
+
+    #[tactic(auto, unfolding(sdp_formats_sessions::specs::PrintedSession::session_text))]
+    fn fmt<W: fmt::Write>(&self, f: &mut fmt::Formatter<W>) -> fmt::Result {
+        let id = self.session.id;
+        let bandwidth = Maybe("", &self.session.bw);
+        let attributes = FirstAttributes {
+            first: self.first,
+            others: self.session.attrs.as_slice(),
+        };
+        write!(
+            f,
+            "v=0\r\no=str0m-0.25.0 {id} 2 IN IP4 0.0.0.0\r\ns=-\r\n{bandwidth}t=0 0\r\n{attributes}"
+        )
+    }
+}
+
+/// A whole text to be printed (RFC 8866 5): the session, with an attribute before its own, and the sections.
+#[derive(Drop)]
+pub struct WholeText<'a> {
+    /// The session.
+    pub session: &'a Session,
+    /// The attribute that stands before the session's own.
+    pub first: &'a SessionAttribute,
+    /// The sections.
+    pub sections: &'a [MediaLine],
+}
+
+/// Its lines with their ends.
+impl fmt::Display for WholeText<'_> {
+    ghost use Rattle.std.specs.Prelude.{Some};
+    ghost use Rattle.sdp_formats_sessions.specs.PrintedSession.{sdp_text};
+    ghost use Rattle.sdp_formats_writable.specs.Texts.{with_first};
+
+    ghost output = { λ t. Some (sdp_text (record {
+      session = with_first t.first.now t.session.now;
+      media_lines = t.sections.now;
+    })) };
+
+    fn fmt<W: fmt::Write>(&self, f: &mut fmt::Formatter<W>) -> fmt::Result {
+        let session = WithFirst {
+            session: self.session,
+            first: self.first,
+        };
+        let sections = Sections(self.sections);
+        write!(f, "{session}{sections}")
+    }
+}
