@@ -420,6 +420,58 @@ def enabled(*names):
     yield "rows", counted(list(default_rows(*names)))
 
 
+def of_level(codec, numbers):
+    """The parameters of a profile, tier and level by their numbers; where one is off its table (RFC 7798 7.1, RFC 9328
+    7.2 and the standards' annexes A), those of main profile and tier at level 3.1."""
+    profiles, usual = {"H265": (range(1, 12), (1, 0, 93)), "H266": ((1, 33), (1, 0, 51))}[codec]
+    profile, tier, level = numbers
+    is_known = profile in profiles and tier in (0, 1) and level in LEVELS[codec]
+    return {codec.lower(): numbers if is_known else usual}
+
+
+def numbered(codec, pt, rtx, *numbers):
+    """The line that adds a row of video by its numbers, and the row."""
+    if codec == "H264":
+        mode, number = numbers
+        return (f"video {codec} {pt} {dash(rtx)} {mode} {number:x}",
+                video(codec, pt, rtx, level_asymmetry_allowed=True, packetization_mode=mode, profile_level_id=number))
+    words = " ".join(map(str, numbers))
+    return f"video {codec} {pt} {dash(rtx)} {words}", video(codec, pt, rtx, **of_level(codec, numbers))
+
+
+def rows_of_numbers():
+    """Rows of video by their numbers, and a round with such rows."""
+    levels = {"H265": [(1, 0, 180), (2, 1, 93), (11, 1, 186), (1, 0, 30), (0, 0, 120), (12, 0, 120), (2, 2, 120),
+                       (2, 1, 94), (255, 255, 255)],
+              "H266": [(1, 0, 96), (33, 1, 255), (33, 0, 16), (0, 0, 80), (2, 0, 80), (1, 2, 80), (33, 1, 93),
+                       (34, 0, 80)]}
+    added = [numbered("H264", *given) for given in [
+        (127, 121, 1, 0x42001F), (125, None, 0, 0x64001F), (108, 108, 0, 0), (109, 200, 1, 0xF4000A),
+        (200, None, 1, 0xFFFFFFFF)]]
+    added += [numbered(codec, pt, pt + 16, *numbers)
+              for codec, listed in levels.items() for pt, numbers in enumerate(listed, 35)]
+    yield "# Rows of video by their numbers; where one is off its table, main profile and tier at level 3.1", None
+    yield "fresh", "ok"
+    yield from [(line, "ok") for line, _ in added]
+    yield "rows", counted([row for _, row in added])
+    added = [numbered("H265", 102, 103, 2, 1, 93), numbered("H266", 104, None, 7, 0, 96),
+             numbered("H264", 108, 109, 0, 0x42E01F)]
+    remote = [video("H265", 45, None, h265=(2, 0, 93)), video("H265", 46, 47, h265=(2, 1, 63)),
+              video("H266", 48, 49, h266=(1, 0, 48)), h264(50, 51, 0x42C01E, 0)]
+    yield "# Such rows meet others of their profile and tier", None
+    yield "fresh", "ok"
+    yield from [(line, "ok") for line, _ in added]
+    yield from [(f"remote {row_words(row)}", "ok") for row in remote]
+    after, answer = run_round([row for _, row in added], remote, "sendrecv")
+    yield "round sendrecv", answer + "".join(f" | {row_answer(row)}" for row in after)
+    yield "# Rows of other codecs aren't given by numbers, and each word has to be there and to fit", None
+    for line in ["video", "video VP8 96 97", "video H264 96 97 1", "video H264 96 97 1 42e01g",
+                 "video H264 96 97 1 100000000", "video H265 96 97 1 0", "video H265 96 97 1 0 256",
+                 "video H266 96 256 1 0 51", "video H266 - 97 1 0 51"]:
+        yield line, "fault"
+    yield "rows", counted(after)
+
+
 def configs():
     """Default rows of codecs, and the distances of redundancy."""
     opus, = default_rows("opus")
@@ -442,6 +494,7 @@ def configs():
     yield from enabled("H264", "VP9", "AV1")
     yield "add 126 telephone-event 8000 - -", "ok"
     yield "rows", counted([*default_rows("H264", "VP9", "AV1"), audio("telephone-event", 126, 8000)])
+    yield from rows_of_numbers()
     yield "# Distances are put in order", None
     yield "distances", "[1]"
     yield "distances 5 1 0 3 3 1 999", "[1, 3, 5]"

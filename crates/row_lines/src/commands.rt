@@ -1,6 +1,6 @@
 //! The commands.
 
-use crate::configs::{enable, put_distances};
+use crate::configs::{add_video, enable, put_distances};
 use crate::printing::{put_round, put_rows};
 use crate::row::{new_row, put_equality, put_feedback};
 use crate::words::{next_number, next_row, next_spec};
@@ -87,6 +87,7 @@ fn change(
         "own" | "locked" | "remote" => return push(rows, command, words),
         "enable" | "disable" => return enable(&mut rows.own, command == "enable", words),
         "add" => return add(&mut rows.own, words),
+        "video" => return add_video(&mut rows.own, words),
         "defaults" => match CodecConfig::new_with_defaults(alloc) {
             Ok(config) => rows.own = config,
             Err(fault) => return Some(Err(fault)),

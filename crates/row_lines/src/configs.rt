@@ -1,7 +1,9 @@
-//! Commands on the config of an end: default rows of a codec, and the distances of redundancy.
+//! Commands on the config of an end: default rows of a codec, rows of video by numbers, and the distances of
+//! redundancy.
 
 use crate::commands::Answer;
-use sdp_formats::{Codec, CodecConfig};
+use crate::words::{maybe_type, next_number};
+use sdp_formats::{Codec, CodecConfig, Pt};
 use std::alloc::{AllocError, Global};
 use std::fmt::Write;
 use std::str::SplitWhitespace;
@@ -30,6 +32,38 @@ pub(crate) fn enable(
         Codec::H266 => config.enable_h266(enabled),
         _ => return None,
     })
+}
+
+/// `video CODEC TYPE RESEND ..`: a row behind the others, of H.264 in packetization mode 1 or another and of a
+/// profile-level-id in hexadecimal, or of H.265 or H.266 of a profile, tier and level by their numbers.
+pub(crate) fn add_video(config: &mut CodecConfig, words: &mut SplitWhitespace<'_>) -> Answer {
+    let codec = Codec::from(words.next()?);
+    let pt = Pt::new_with_value(next_number(words)?);
+    let resend = maybe_type(words)?;
+    Some(match codec {
+        Codec::H264 => {
+            let mode = words.next()? == "1";
+            let profile_level_id = u32::from_str_radix(words.next()?, 16).ok()?;
+            config.add_h264(pt, resend, mode, profile_level_id)
+        }
+        Codec::H265 => {
+            let (profile_id, tier_flag, level_id) = next_level(words)?;
+            config.add_h265(pt, resend, profile_id, tier_flag, level_id)
+        }
+        Codec::H266 => {
+            let (profile_id, tier_flag, level_id) = next_level(words)?;
+            config.add_h266(pt, resend, profile_id, tier_flag, level_id)
+        }
+        _ => return None,
+    })
+}
+
+/// The numbers of a profile, a tier and a level.
+fn next_level(words: &mut SplitWhitespace<'_>) -> Option<(u8, u8, u8)> {
+    let profile_id = next_number(words)?;
+    let tier_flag = next_number(words)?;
+    let level_id = next_number(words)?;
+    Some((profile_id, tier_flag, level_id))
 }
 
 /// `distances N ..`: sets the distances of redundancy, where some are given, and tells those in force.

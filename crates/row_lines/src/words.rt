@@ -16,7 +16,8 @@ fn maybe_number(words: &mut SplitWhitespace<'_>) -> Option<Option<u8>> {
     }
 }
 
-fn maybe_type(words: &mut SplitWhitespace<'_>) -> Option<Option<Pt>> {
+/// The next word, a payload type, or none at a dash.
+pub(crate) fn maybe_type(words: &mut SplitWhitespace<'_>) -> Option<Option<Pt>> {
     match maybe_number(words)? {
         Some(number) => Some(Some(Pt::new_with_value(number))),
         None => Some(None),
