@@ -1,4 +1,4 @@
-//! The units of a text, one after the other.
+//! The units of a byte stream, one after the other.
 
 ghost use Rattle.std.specs.Prelude.{◌≡◌};
 ghost use Rattle.h26x_payload_units.specs.Units.{units_of};
@@ -6,25 +6,25 @@ ghost use Rattle.h26x_payload_units.specs.UnitsLeft.{units_left};
 
 use crate::places::{code_place, first_stretch};
 
-/// The NAL units of a text that are still to come, in order, each as the slice of the text where it stands. No
-/// unit is empty. It takes no memory.
+/// The NAL units of a byte stream that are still to come, in order, each as the slice where it stands. No unit is
+/// empty. It takes no memory.
 #[derive(Clone, Debug, Drop)]
 pub struct NalUnits<'a> {
-    // What stands behind the start code that was read last, or the whole text where it holds none.
+    // What stands behind the start code that was read last, or the whole byte stream where it holds none.
     rest: &'a [u8],
 }
 
-/// The NAL units of a text (ITU-T H.264 annex B): what stands between its start codes, and behind the last one.
-/// A start code is two or more zeros, as many as there are, and the 01 behind them. What stands before the first
-/// start code is none; a text without a start code is one unit, unless it is empty.
-pub fn nal_units(text: &[u8]) -> NalUnits<'_>
-    ensures { units_left result ≡ units_of text.now }
+/// The NAL units of a byte stream (ITU-T H.264 annex B): what stands between its start codes, and behind the last
+/// one. A start code is two or more zeros, as many as there are, and the 01 behind them. What stands before the first
+/// start code is none; a byte stream without a start code is one unit, unless it is empty.
+pub fn nal_units(stream: &[u8]) -> NalUnits<'_>
+    ensures { units_left result ≡ units_of stream.now }
 {
-    match code_place(text) {
+    match code_place(stream) {
         Some(place) => NalUnits {
-            rest: &text[place + 3..],
+            rest: &stream[place + 3..],
         },
-        None => NalUnits { rest: text },
+        None => NalUnits { rest: stream },
     }
 }
 

@@ -26,8 +26,9 @@ pub trait Depacketizer {
 
     /// Reads a packet: writes its bytes behind those of `out`, and tells what it knows in `extra`.
     ///
-    /// A refusal changes neither the depacketizer nor `out` nor `extra`. `Memory` comes only where `out`
-    /// or the fragment could not grow.
+    /// # Errors
+    /// Why the format refuses the packet, or `Memory`, which comes only where `out` or the fragment could not grow.
+    /// Either changes neither the depacketizer nor `out` nor `extra`.
     fn depacketize(
         &mut self,
         packet: &[u8],

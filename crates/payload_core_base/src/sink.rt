@@ -25,8 +25,10 @@ pub trait PacketSink {
     /// The sink before and after a payload was refused, which isn't sent.
     ghost keeps: { Self → Self → Type 0 };
 
-    /// Takes one payload, unaltered, with its marker, its RTP time and the values of its header
-    /// extensions. The only refusal is `Memory`, and then nothing was sent.
+    /// Takes one payload, unaltered, with its marker, its RTP time and the values of its header extensions.
+    ///
+    /// # Errors
+    /// `Memory` alone, and then nothing was sent.
     fn send(
         &mut self,
         payload: &[u8],

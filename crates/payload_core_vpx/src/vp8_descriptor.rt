@@ -167,8 +167,10 @@ fn described_in(shape: Shape, payload: &[u8]) -> Vp8Descriptor
 }
 
 impl Vp8Descriptor {
-    /// The descriptor of a payload: `ShortPayload` where there is no byte, `MalformedDescriptor` where it
-    /// passes the end or nothing stands behind it.
+    /// The descriptor of a payload (RFC 7741 4.2).
+    ///
+    /// # Errors
+    /// `ShortPayload` where there is no byte, `MalformedDescriptor` where it passes the end or nothing stands behind it.
     pub fn parse(payload: &[u8]) -> Result<Self, Vp8DescriptorError>
         ensures { result ≡ parsed payload.now }
     {

@@ -4,6 +4,7 @@
 
 mod program;
 
+pub use payload_core_base::CodecExtra;
 pub use program::{Program, run};
 pub use rtp_media_ends::{
     Bandwidth, Codec, CodecConfig, CodecSpec, Datagram, End, EndError, ExchangeError, FormatParams,
@@ -17,7 +18,7 @@ pub use rtp_media_line_runs::{
 pub use rtp_media_open_streams::{Distances, OpenError, ReceiveError, Received, StreamParams};
 pub use rtp_media_play::{Event, Played, Sample, headline, play};
 pub use rtp_wire::{
-    Direction, Extension, ExtensionMap, ExtensionValues, Frequency, MediaTime, Mid, Pt, SessionId,
-    Ssrc,
+    Direction, Extension, ExtensionMap, ExtensionValues, Frequency, MediaTime, Mid, Pt, SeqNo,
+    SessionId, Ssrc,
 };
 pub use sdp_formats_types::{Listed, Text};

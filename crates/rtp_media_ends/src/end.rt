@@ -130,6 +130,9 @@ impl End {
     /// under consecutive numbers, each with all values that the stream's map has a number for. A
     /// sample without packets has none and uses no number.
     ///
+    /// The bytes are a sample of the row's codec: what an encoder made, of AV1 the OBUs of a temporal unit, of H.264,
+    /// H.265 and H.266 an access unit with start codes (ITU-T H.264 annex B).
+    ///
     /// # Conditions
     /// The number is that of a sending stream: [`End::is_sender`].
     ///

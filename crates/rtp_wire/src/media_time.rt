@@ -204,6 +204,9 @@ fn ticks_at(ticks: u64, from: u32, to: u32) -> u128
 }
 
 /// The sum, at the greater clock rate.
+///
+/// # Conditions
+/// Both times and their sum fit 64 bits at the greater clock rate.
 impl Add for MediaTime {
     type Output = MediaTime;
 
@@ -222,6 +225,10 @@ impl Add for MediaTime {
     }
 }
 
+/// The sum, at the greater clock rate.
+///
+/// # Conditions
+/// Both times and their sum fit 64 bits at the greater clock rate.
 impl AddAssign for MediaTime {
     ghost can_add_assign = { λ a b. BothFit a b × (first_ticks a b + second_ticks a b < 2 ^ 64) };
 
@@ -233,6 +240,10 @@ impl AddAssign for MediaTime {
 }
 
 /// The difference, at the greater clock rate.
+///
+/// # Conditions
+/// Both times fit 64 bits at the greater clock rate, and the second is not above the first; `saturating_sub` and
+/// `checked_sub` ask for neither.
 impl Sub for MediaTime {
     type Output = MediaTime;
 
@@ -245,6 +256,11 @@ impl Sub for MediaTime {
     }
 }
 
+/// The difference, at the greater clock rate.
+///
+/// # Conditions
+/// Both times fit 64 bits at the greater clock rate, and the second is not above the first; `saturating_sub` and
+/// `checked_sub` ask for neither.
 impl SubAssign for MediaTime {
     ghost can_sub_assign = { λ a b. BothFit a b × (second_ticks a b ≤ first_ticks a b) };
 

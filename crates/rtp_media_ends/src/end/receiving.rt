@@ -18,7 +18,7 @@ use super::End;
 use rtp_media_open_streams::{OpenStream, ReceiveError, Received, stream_for};
 use rtp_media_payloads::{PollFault, Unit};
 use rtp_media_streams::ReceivingStream;
-use rtp_wire::{ExtensionMap, RtpHeader};
+use rtp_wire::RtpHeader;
 use std::alloc::AllocError;
 
 impl End {
@@ -33,8 +33,7 @@ impl End {
         ensures after { OnOk result (self.new ≡ after_datagram self.old datagram.now) }
         ensures unchanged { OnErr result (self.new ≡ self.old) }
     {
-        let exts = ExtensionMap::empty();
-        let header = RtpHeader::parse(datagram, &exts);
+        let header = RtpHeader::parse_without_values(datagram);
         self.receive_under(header, datagram)
     }
 
