@@ -24,7 +24,7 @@ use Rattle.sdp_formats_laws.proofs.CandidateTails.{AreWords, address_tail, gener
 use Rattle.sdp_formats_laws.proofs.CandidateTails.{words_text}
 
 -- what a reader that takes one step after the other has found
-unbind : {A B : Type 0} (o : Option A) (f : A → Option B) (b : B) → (o >>= f) ≡ Some b
+pub unbind : {A B : Type 0} (o : Option A) (f : A → Option B) (b : B) → (o >>= f) ≡ Some b
     → (a : A) × (o ≡ Some a) × (f a ≡ Some b)
 unbind (Some a) f b h = (a, refl, h)
 unbind None f b h = cc

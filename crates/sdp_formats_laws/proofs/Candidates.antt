@@ -31,7 +31,9 @@ use Rattle.sdp_formats_values.specs.declared.candidate.TcpType.TheVariants.{Acti
 use Rattle.sdp_formats_laws.proofs.Decimals.{number_below-decimal, Lacks-decimal}
 use Rattle.sdp_formats_laws.proofs.PlainKinds.{lacks_two}
 use Rattle.sdp_formats_laws.proofs.Printed.{lacks, lacks_both, text_some}
+use Rattle.sdp_formats_laws.specs.CandidateWords.{IsOneWord}
 use Rattle.sdp_formats_laws.specs.Printable.{IsWord, IsPrintableCandidate, IsPrintableRelated}
+use Rattle.sdp_formats_laws.specs.ValueTexts.{IsOfWords, IsRelatedOfWords}
 
 -- what stands behind a blank, if anything does
 abbrev pub behind_blank : Option (List ℕ) → List ℕ
@@ -96,13 +98,13 @@ parts_shape c =
     ∙ related_shape c.related (tcp_tail c.tcptype (ufrag_tail c.ufrag))
 
 -- the fields behind the kind
-related_there : (r : RelatedAddress) (more : Option (List ℕ)) → IsPrintableRelated r
+related_there : (r : RelatedAddress) (more : Option (List ℕ)) → IsRelatedOfWords r
     → related_in (r.addr ++ 32 ∷ (codes "rport " ++ (decimal r.port ++ behind_blank more))) ≡ Some (r, more)
 unfolding related_in
 related_there r more h =
     let port = halves-blank (decimal r.port) more (Lacks-decimal 32 r.port (lit< tt) (omega (h.1, arith))) in
     then _ _ _ _ (split_first-at 32 r.addr (codes "rport " ++ (decimal r.port ++ behind_blank more)) h.0.1)
-    (then _ _ _ _ (text_some r.addr h.0.0.0)
+    (then _ _ _ _ (text_some r.addr h.0.0)
     (then _ _ _ _ (ap (λ x. number_below (2 ^ 16) x.0) port ∙ number_below-decimal (2 ^ 16) r.port h.1 (lit≤ tt))
     (ap (λ (x : List ℕ × Option (List ℕ)). Some (record { addr = r.addr; port = r.port }, x.1)) port)))
 
@@ -112,7 +114,7 @@ related_none None None = refl
 related_none None (Some w) = refl
 related_none (Some t) u = refl
 
-related_read : (r : Option RelatedAddress) (t : Option TcpType) (u : Option (List ℕ)) → IfSome r IsPrintableRelated
+related_read : (r : Option RelatedAddress) (t : Option TcpType) (u : Option (List ℕ)) → IfSome r IsRelatedOfWords
     → related_field (related_tail r (tcp_tail t (ufrag_tail u))) ≡ Some (r, tcp_tail t (ufrag_tail u))
 related_read None t u h = related_none t u
 related_read (Some r) t u h =
@@ -146,24 +148,24 @@ network_none : (u : Option (List ℕ)) → field (codes "network-id ") (ufrag_ta
 network_none None = refl
 network_none (Some w) = refl
 
-ufrag_read : (u : Option (List ℕ)) → IfSome u IsWord → field (codes "ufrag ") (ufrag_tail u) ≡ Some (u, None)
+ufrag_read : (u : Option (List ℕ)) → IfSome u IsOneWord → field (codes "ufrag ") (ufrag_tail u) ≡ Some (u, None)
 ufrag_read None h = refl
-ufrag_read (Some w) h = field_there (codes "ufrag ") w None h.0.0 h.1
+ufrag_read (Some w) h = field_there (codes "ufrag ") w None h.0 h.1
 
 tcp_field_read : (t : Option TcpType) (u : Option (List ℕ))
     → tcptype_field (tcp_tail t (ufrag_tail u)) ≡ Some (t, ufrag_tail u)
 unfolding tcptype_field
 tcp_field_read t u = then _ _ _ _ (tcp_read t u) (then _ _ _ _ (tcp_back t) refl)
 
-ufrag_field_read : (u : Option (List ℕ)) → IfSome u IsWord → ufrag_field (ufrag_tail u) ≡ Some u
+ufrag_field_read : (u : Option (List ℕ)) → IfSome u IsOneWord → ufrag_field (ufrag_tail u) ≡ Some u
 unfolding ufrag_field
 ufrag_field_read u h =
     then _ _ _ _ (generation_none u)
     (then _ _ _ _ (network_none u)
     (then _ _ _ _ (ufrag_read u h) refl))
 
-fields_read : (r : Option RelatedAddress) (t : Option TcpType) (u : Option (List ℕ)) → IfSome r IsPrintableRelated
-    → IfSome u IsWord → candidate_fields (related_tail r (tcp_tail t (ufrag_tail u)))
+fields_read : (r : Option RelatedAddress) (t : Option TcpType) (u : Option (List ℕ)) → IfSome r IsRelatedOfWords
+    → IfSome u IsOneWord → candidate_fields (related_tail r (tcp_tail t (ufrag_tail u)))
     ≡ Some (record { related = r; tcptype = t; ufrag = u })
 unfolding candidate_fields
 fields_read r t u related ufrag =
@@ -194,12 +196,12 @@ carrier_text c tail = protocol_text c.proto ++ 32 ∷ (decimal c.prio ++ 32 ∷ 
 abbrev pub body_text : Candidate → List ℕ → List ℕ
 body_text c tail = c.foundation ++ 32 ∷ (decimal c.component_id ++ 32 ∷ carrier_text c tail)
 
-base_read : (c : Candidate) (tail : List ℕ) → IsWord c.foundation → c.component_id < 2 ^ 16
+base_read : (c : Candidate) (tail : List ℕ) → IsOneWord c.foundation → c.component_id < 2 ^ 16
     → candidate_base (body_text c tail) ≡ Some (c.foundation, c.component_id, carrier_text c tail)
 unfolding candidate_base
 base_read c tail h small =
     then _ _ _ _ (split_first-at 32 c.foundation (decimal c.component_id ++ 32 ∷ carrier_text c tail) h.1)
-    (then _ _ _ _ (text_some c.foundation h.0.0)
+    (then _ _ _ _ (text_some c.foundation h.0)
     (then _ _ _ _ (split_first-at 32 (decimal c.component_id) (carrier_text c tail)
     (Lacks-decimal 32 c.component_id (lit< tt) (omega (small, arith))))
     (then _ _ _ _ (number_below-decimal (2 ^ 16) c.component_id small (lit≤ tt)) refl)))
@@ -215,17 +217,17 @@ carrier_read c tail small =
     (Lacks-decimal 32 c.prio (lit< tt) (omega (small, arith))))
     (then _ _ _ _ (number_below-decimal (2 ^ 32) c.prio small (lit≤ tt)) refl)))
 
-place_read : (c : Candidate) (tail : List ℕ) → IsWord c.addr → c.port < 2 ^ 16
+place_read : (c : Candidate) (tail : List ℕ) → IsOneWord c.addr → c.port < 2 ^ 16
     → candidate_place (place_text c tail) ≡ Some (c.addr, c.port, kind_text c.kind ++ tail)
 unfolding candidate_place
 place_read c tail h small =
     then _ _ _ _ (split_first-at 32 c.addr (decimal c.port ++ 32 ∷ (codes "typ " ++ (kind_text c.kind ++ tail))) h.1)
-    (then _ _ _ _ (text_some c.addr h.0.0)
+    (then _ _ _ _ (text_some c.addr h.0)
     (then _ _ _ _ (split_first-at 32 (decimal c.port) (codes "typ " ++ (kind_text c.kind ++ tail))
     (Lacks-decimal 32 c.port (lit< tt) (omega (small, arith))))
     (then _ _ _ _ (number_below-decimal (2 ^ 16) c.port small (lit≤ tt)) refl)))
 
-body_read : (c : Candidate) → IsPrintableCandidate c
+body_read : (c : Candidate) → IsOfWords c
     → candidate (body_text c (behind_blank (tail_of c))) ≡ Some c
 unfolding candidate
 body_read c h =
@@ -247,9 +249,13 @@ pub candidate_named : (c : Candidate) → named (codes "a=") (candidate_text c)
 unfolding candidate_text candidate_body
 candidate_named c = ap (λ t. named (codes "a=candidate:") (body_text c t)) (parts_shape c)
 
-pub candidate_read : (c : Candidate) → IsPrintableCandidate c → candidate (candidate_body c) ≡ Some c
+pub candidate_read : (c : Candidate) → IsOfWords c → candidate (candidate_body c) ≡ Some c
 unfolding candidate_body
 candidate_read c h = body_read c h
+
+pub candidate_spelled : (c : Candidate) → candidate_text c ≡ codes "candidate:" ++ candidate_body c
+unfolding candidate_text candidate_body
+candidate_spelled c = ap (λ t. codes "candidate:" ++ body_text c t) (parts_shape c)
 
 -- no end of a line stands in it
 abbrev pub all_above : List ℕ → Bool

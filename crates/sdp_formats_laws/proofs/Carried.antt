@@ -103,7 +103,7 @@ module _ (f : List ℕ → List ℕ) (OK : List ℕ → Type 0) where
         (rs.0, rs.1, (one.0, one.2, h.2, rs.2), rs.3);
   }
 
-  session : CarriesLines → Carries f OK SessionSays
+  pub session : CarriesLines → Carries f OK SessionSays
   unfolding SessionSays
   session c = record {
     forth = λ t s r ok h.

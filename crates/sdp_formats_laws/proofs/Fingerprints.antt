@@ -17,7 +17,7 @@ use Rattle.sdp_formats_laws.proofs.Readings.{cut_reads, AreRead, list_reads}
 use Rattle.sdp_formats_laws.specs.Printable.{IsWord, AreBelow}
 
 -- two hexadecimal digits
-octet_shape : (b : ℕ) → b < 256 → octet_text b ≡ digit_glyph true (b / 16) ∷ digit_glyph true (b % 16) ∷ []
+pub octet_shape : (b : ℕ) → b < 256 → octet_text b ≡ digit_glyph true (b / 16) ∷ digit_glyph true (b % 16) ∷ []
 octet_shape b small = (λ i. hex_one_digit true (b / 16) (omega arith) i ++ hex_one_digit true (b % 16) (omega arith) i)
 
 glyph_read : (n : ℕ) → n < 16 → hex_digit (digit_glyph true n) ≡ Some n
@@ -33,7 +33,7 @@ octet_read b small = ap hex_byte (octet_shape b small)
     ∙ ap (λ o. o >>= λ low. Some (b / 16 * 16 + low)) (glyph_read (b % 16) (omega arith))
     ∙ ap Some (omega arith)
 
-lacks_octet : (c b : ℕ) → b < 256 → (c < 48) ⊎ (c ≡ 58) → Lacks c (octet_text b)
+pub lacks_octet : (c b : ℕ) → b < 256 → (c < 48) ⊎ (c ≡ 58) → Lacks c (octet_text b)
 lacks_octet c b small low = subst (Lacks c) (sym (octet_shape b small)) (
   other (b / 16) (omega arith),
   (
@@ -47,7 +47,7 @@ lacks_octet c b small low = subst (Lacks c) (sym (octet_shape b small)) (
     other n h e = ⊎_elim (λ l. let r = glyph_range n h in omega (r.0, e, l, arith))
         (λ s. let r = glyph_range n h in r.1 (e ∙ s)) low
 
-octets_read : (bytes : List ℕ) → AreBelow 256 bytes → AreRead 58 hex_byte octet_text bytes
+pub octets_read : (bytes : List ℕ) → AreBelow 256 bytes → AreRead 58 hex_byte octet_text bytes
 octets_read [] h = tt
 octets_read (b ∷ bs) h = (lacks_octet 58 b h.0 (inr refl), octet_read b h.0, octets_read bs h.1)
 

@@ -29,7 +29,7 @@ by_test : (n limit : ℕ) (b : Bool) → nat_lt n limit ≡ b → IfSome (cond b
 by_test n limit true e = grind (arith, nat_tests)
 by_test n limit false e = tt
 
-cond_in : (b : Bool) (n limit : ℕ) → IfSome (cond (b && nat_lt n limit) (Some n) None) (λ m. m < limit)
+pub cond_in : (b : Bool) (n limit : ℕ) → IfSome (cond (b && nat_lt n limit) (Some n) None) (λ m. m < limit)
 cond_in true n limit = by_test n limit (nat_lt n limit) refl
 cond_in false n limit = tt
 
@@ -86,7 +86,7 @@ first_in (text ∷ texts) h =
     more_in texts (with_mode (numeral_below (2 ^ 8) 10 (trim text)) 0) (mode_in (numeral_below (2 ^ 8) 10
     (trim text)) 0 (lit< tt))
 
-split_some : (c : ℕ) (text : List ℕ) → parts c text ≡ [] → ⊥
+pub split_some : (c : ℕ) (text : List ℕ) → parts c text ≡ [] → ⊥
 split_some c [] e = cc
 split_some c (b ∷ text) e = by_byte (b == c) (parts c text) e
   where

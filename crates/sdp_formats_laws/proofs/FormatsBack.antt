@@ -1,42 +1,26 @@
--- The parameters of a format are read as they are printed.
-use Rattle.std.proofs.Common.{◌≡◌, ◌<◌, ◌≤◌, ◌^◌, ◌+◌, ◌⊎◌, ℕ, Bool, List, [], ◌∷◌, ◌++◌, Option, Some, None, IfSome}
-use Rattle.std.proofs.Common.{refl, sym, ◌∙◌}
-use Rattle.std.proofs.Common.{subst, arith, ⊎_elim, lit≤, take, drop}
+-- The parameters of a format are such that they are read as they are printed.
+use Rattle.std.proofs.Common.{◌≡◌, ◌≢◌, ◌<◌, ◌≤◌, ◌^◌, ◌+◌, ℕ, Bool, List, [], ◌∷◌, ◌++◌, Option, Some, None}
+use Rattle.std.proofs.Common.{IfSome, map, refl, sym, ◌∙◌, ap, subst, arith, ⊎_elim, inl, inr, lit≤, take, drop}
+use Rattle.std.specs.Char.{to_ascii_lowercase}
 use Rattle.std.specs.List.{flat_map}
 use Rattle.std.specs.Option.{option_map, option_to_list}
 use Rattle.std.proofs.lemmas.Grind.{flat_map-append}
-use Rattle.h26x_payload_profiles.specs.H265ProfileTierLevel.{ComesBack as ComesBack265}
-use Rattle.h26x_payload_profiles.specs.H266ProfileTierLevel.{ComesBack as ComesBack266}
-use Rattle.h26x_payload_profiles.specs.H265Level.{level_id as level_265}
-use Rattle.h26x_payload_profiles.specs.H265Profile.{profile_id as profile_265}
-use Rattle.h26x_payload_profiles.specs.Tier.{tier_flag}
-use Rattle.h26x_payload_profiles.specs.H266Level.{level_id as level_266}
-use Rattle.h26x_payload_profiles.specs.H266Profile.{profile_id as profile_266}
 use Rattle.h26x_payload_profiles.specs.H265ProfileTierLevel.{H265ProfileTierLevel as Level265}
 use Rattle.h26x_payload_profiles.specs.H266ProfileTierLevel.{H266ProfileTierLevel as Level266}
-use Rattle.sdp_formats_media_lines.specs.PrintedPairs.{PairsComeBack}
 use Rattle.sdp_formats_params.specs.declared.param.FormatParam.{FormatParam}
 use Rattle.sdp_formats_params.specs.declared.param.FormatParam.TheVariants as param
 use Rattle.sdp_formats_format.specs.declared.format.FormatParams.{FormatParams}
 use Rattle.sdp_formats_format.specs.Parameters.{each_param, params_of}
-use Rattle.sdp_formats_laws.proofs.KeyedLists.{keyed_on_line, keyed_read}
-use Rattle.sdp_formats_laws.proofs.LevelLists.{IsRising, level_back, weaker}
-use Rattle.sdp_formats_laws.proofs.KeyRanks.{rank_of}
-use Rattle.sdp_formats_laws.proofs.LevelNumbers.{reads_265, reads_266}
-use Rattle.sdp_formats_laws.specs.Keyed.{AreKeyed, IsKeyed, IsOrdinary}
-use Rattle.sdp_formats_laws.specs.Parameters.{IsReadBack}
-use Rattle.sdp_formats_laws.specs.Ranges.{AtMostOne, IsInRange, IsModes}
-
--- a profile, tier and level, and no `profile-id` beside it
-abbrev pub OneLevel : FormatParams → Type 0
-OneLevel f = ((f.h265_profile_tier_level ≡ None) × (f.h266_profile_tier_level ≡ None))
-    ⊎ ((f.profile_id ≡ None) × AtMostOne f.h265_profile_tier_level f.h266_profile_tier_level)
+use Rattle.sdp_formats_laws.proofs.KeyRanks.{rank, rank_of, ranked}
+use Rattle.sdp_formats_laws.specs.Keyed.{AreKeyed, IsKeyed, IsOrdinary, pair_of}
+use Rattle.sdp_formats_laws.specs.ParameterLists.{AreOrdinary, AreReadable, LackKeyOf}
+use Rattle.sdp_formats_laws.specs.Ranges.{AtMostOne, IsInRange, IsModes, OneLevel}
 
 -- what isn't given
 absent : {V : Type 0} (o : Option V) → o ≡ None → IfSome o (λ v. ⊥)
 absent o e = subst (λ x. IfSome x (λ v. ⊥)) (sym e) tt
 
-any_flag : (o : Option Bool) → IfSome o (λ v. Unit {0})
+pub any_flag : (o : Option Bool) → IfSome o (λ v. Unit {0})
 any_flag None = tt
 any_flag (Some v) = tt
 
@@ -45,6 +29,40 @@ keyed_more : {V : Type 0} (c : V → FormatParam) (P : V → Type 0) → ((v : V
     (rest : List FormatParam) → IfSome o P → AreKeyed rest → AreKeyed (option_to_list (option_map c o) ++ rest)
 keyed_more c P h None rest k r = r
 keyed_more c P h (Some v) rest k r = (h v k, r)
+
+-- parameters in the order of printing, from one rank up to another
+abbrev pub IsRising : ℕ → ℕ → List FormatParam → Type 0
+IsRising low high [] = low ≤ high
+IsRising low high (p ∷ ps) = IsOrdinary p × (low ≤ rank_of p) × IsRising (rank_of p + 1) high ps
+
+weaker : (low more high : ℕ) (ps : List FormatParam) → low ≤ more → IsRising more high ps → IsRising low high ps
+weaker low more high [] h k = omega (h, k, arith)
+weaker low more high (p ∷ ps) h k = (k.0, omega (h, k.1, arith), k.2)
+
+rising_both : (low high more last : ℕ) (xs ys : List FormatParam) → high ≤ more → IsRising low high xs
+    → IsRising more last ys → IsRising low last (xs ++ ys)
+rising_both low high more last [] ys h k l = weaker low more last ys (omega (h, k, arith)) l
+rising_both low high more last (x ∷ xs) ys h k l =
+    (k.0, k.1, rising_both (rank_of x + 1) high more last xs ys h k.2 l)
+
+other_rank : (p q : FormatParam) → IsOrdinary p → IsOrdinary q → rank_of p < rank_of q
+    → (pair_of p).key ≢ (pair_of q).key
+other_rank p q h k less e =
+    let same : rank_of p ≡ rank_of q = sym (ranked p h) ∙ ap (λ t. rank (map to_ascii_lowercase t)) e ∙ ranked q k in
+    omega (less, same, arith)
+
+lack_rising : (p : FormatParam) (low high : ℕ) (ps : List FormatParam) → IsOrdinary p → rank_of p < low
+    → IsRising low high ps → LackKeyOf p ps
+lack_rising p low high [] h l k = tt
+lack_rising p low high (q ∷ qs) h l k = (
+  other_rank p q h k.0 (omega (l, k.1, arith)),
+  lack_rising p (rank_of q + 1) high qs h (omega (l, k.1, arith)) k.2,
+)
+
+rising_ordinary : (low high : ℕ) (ps : List FormatParam) → IsRising low high ps → AreOrdinary ps
+rising_ordinary low high [] h = tt
+rising_ordinary low high (p ∷ ps) h =
+    (h.0, lack_rising p (rank_of p + 1) high ps h.0 (omega arith) h.2, rising_ordinary (rank_of p + 1) high ps h.2)
 
 rising_more : {V : Type 0} (low more high : ℕ) (c : V → FormatParam) (P : V → Type 0)
     → ((v : V) → P v → IsOrdinary (c v)) → ((v : V) → P v → rank_of (c v) ≡ more) → low ≤ more → (o : Option V)
@@ -158,11 +176,7 @@ back_rising f h none =
     rising_more 16 16 20 param.SpropMaxDonDiff (λ v. v ≤ 32767) (λ v k. k) (λ v k. refl)
     (lit≤ tt) f.sprop_max_don_diff (given f 15 3) h.7 r1
 
-keyed_back : PairsComeBack → (ps : List FormatParam) → AreKeyed ps → IsReadBack ps
-keyed_back back [] h = tt
-keyed_back back (p ∷ ps) h = (keyed_on_line p ps h, keyed_read back p ps h)
-
-by_levels : (f : FormatParams) (a : Option Level265) (b : Option Level266) → f.h265_profile_tier_level ≡ a
+pub by_levels : (f : FormatParams) (a : Option Level265) (b : Option Level266) → f.h265_profile_tier_level ≡ a
     → f.h266_profile_tier_level ≡ b → params_of f ≡ given f 0 12
     ++ (option_to_list (option_map param.H265ProfileTierLevel a)
     ++ (option_to_list (option_map param.H266ProfileTierLevel b) ++ given f 14 4))
@@ -170,27 +184,39 @@ by_levels f a b five six = flat_map-append option_to_list (take 12 (each_param f
     ∙ (λ i. given f 0 12 ++ (option_to_list (option_map param.H265ProfileTierLevel (five i))
     ++ (option_to_list (option_map param.H266ProfileTierLevel (six i)) ++ given f 14 4)))
 
-with_levels : PairsComeBack → ComesBack265 → ComesBack266 → (f : FormatParams) (a : Option Level265)
-    (b : Option Level266) → f.h265_profile_tier_level ≡ a → f.h266_profile_tier_level ≡ b → IsInRange f
-    → f.profile_id ≡ None → AtMostOne a b → f.telephone_event_max ≡ None → IsReadBack (params_of f)
-with_levels pairs one other f None None five six h id apart none =
-    keyed_back pairs (params_of f) (all_keyed f h five six none)
-with_levels pairs one other f (Some v) None five six h id apart none =
-    subst IsReadBack (sym (by_levels f (Some v) None five six))
-    (level_back pairs (given f 0 12) (given f 14 4) (param.H265ProfileTierLevel v)
-    (profile_265 v.profile) (tier_flag v.tier) (level_265 v.level) (reads_265 one v) (front_rising f h id)
-    (back_rising f h none))
-with_levels pairs one other f None (Some v) five six h id apart none =
-    subst IsReadBack (sym (by_levels f None (Some v) five six))
-    (level_back pairs (given f 0 12) (given f 14 4) (param.H266ProfileTierLevel v)
-    (profile_266 v.profile) (tier_flag v.tier) (level_266 v.level) (reads_266 other v) (front_rising f h id)
-    (back_rising f h none))
-with_levels pairs one other f (Some v) (Some w) five six h id apart none = absurd apart
+-- the others than the profile, tier and level have distinct keys
+others_ordinary : (f : FormatParams) → IsInRange f → f.profile_id ≡ None → f.telephone_event_max ≡ None
+    → AreOrdinary (given f 0 12 ++ given f 14 4)
+others_ordinary f h id none = rising_ordinary 1 20 (given f 0 12 ++ given f 14 4)
+    (rising_both 1 13 16 20 (given f 0 12) (given f 14 4) (lit≤ tt) (front_rising f h id) (back_rising f h none))
 
-pub format_back : PairsComeBack → ComesBack265 → ComesBack266 → (f : FormatParams) → IsInRange f → OneLevel f
-    → f.telephone_event_max ≡ None → IsReadBack (params_of f)
-format_back pairs one other f h levels none = ⊎_elim
+with_levels : (f : FormatParams) (a : Option Level265) (b : Option Level266) → f.h265_profile_tier_level ≡ a
+    → f.h266_profile_tier_level ≡ b → IsInRange f → f.profile_id ≡ None → AtMostOne a b
+    → f.telephone_event_max ≡ None → AreReadable (params_of f)
+with_levels f None None five six h id apart none = inl (all_keyed f h five six none)
+with_levels f (Some v) None five six h id apart none = inr (inl (record {
+  front = given f 0 12;
+  level = param.H265ProfileTierLevel v;
+  behind = given f 14 4;
+  list = by_levels f (Some v) None five six;
+  is_one = refl;
+  others = others_ordinary f h id none;
+}))
+with_levels f None (Some v) five six h id apart none = inr (inl (record {
+  front = given f 0 12;
+  level = param.H266ProfileTierLevel v;
+  behind = given f 14 4;
+  list = by_levels f None (Some v) five six;
+  is_one = refl;
+  others = others_ordinary f h id none;
+}))
+with_levels f (Some v) (Some w) five six h id apart none = absurd apart
+
+-- so they are read as they are printed
+pub format_readable : (f : FormatParams) → IsInRange f → OneLevel f → f.telephone_event_max ≡ None
+    → AreReadable (params_of f)
+format_readable f h levels none = ⊎_elim
     (λ (k : (f.h265_profile_tier_level ≡ None) × (f.h266_profile_tier_level ≡ None)).
-    keyed_back pairs (params_of f) (all_keyed f h k.0 k.1 none))
-    (λ k. with_levels pairs one other f f.h265_profile_tier_level f.h266_profile_tier_level refl refl h k.0 k.1 none)
+    inl (all_keyed f h k.0 k.1 none))
+    (λ k. with_levels f f.h265_profile_tier_level f.h266_profile_tier_level refl refl h k.0 k.1 none)
     levels

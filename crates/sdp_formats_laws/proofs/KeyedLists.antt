@@ -101,7 +101,7 @@ spelled_same (param.TelephoneEvents v) h = absurd h
 spelled_same (param.BareRange v) h = absurd h
 spelled_same (param.BarePtList v) h = absurd h
 spelled_same param.AmrWbUnsupported h = absurd h
-spelled_same (param.Apt v) h = absurd h
+spelled_same (param.Apt v) h = refl
 spelled_same (param.Red v) h = absurd h
 spelled_same param.Unknown h = absurd h
 
@@ -127,7 +127,7 @@ not_level (param.TelephoneEvents v) h = absurd h
 not_level (param.BareRange v) h = absurd h
 not_level (param.BarePtList v) h = absurd h
 not_level param.AmrWbUnsupported h = absurd h
-not_level (param.Apt v) h = absurd h
+not_level (param.Apt v) h = refl
 not_level (param.Red v) h = absurd h
 not_level param.Unknown h = absurd h
 

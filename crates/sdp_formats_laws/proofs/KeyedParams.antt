@@ -41,27 +41,27 @@ text_is (param.TelephoneEvents v) h = absurd h
 text_is (param.BareRange v) h = absurd h
 text_is (param.BarePtList v) h = absurd h
 text_is param.AmrWbUnsupported h = absurd h
-text_is (param.Apt v) h = absurd h
+text_is (param.Apt v) h = refl
 text_is (param.Red v) h = absurd h
 text_is param.Unknown h = absurd h
 
 -- a flag is 1 or 0
-flag_back : (b : Bool) → flag (decimal (flag_digit b)) ≡ b
+pub flag_back : (b : Bool) → flag (decimal (flag_digit b)) ≡ b
 unfolding digits
 flag_back true = refl
 flag_back false = refl
 
-byte_back : (v : ℕ) → v < 2 ^ 8 → numeral_below (2 ^ 8) 10 (decimal v) ≡ Some v
+pub byte_back : (v : ℕ) → v < 2 ^ 8 → numeral_below (2 ^ 8) 10 (decimal v) ≡ Some v
 byte_back v h = decimal_read (2 ^ 8) v h (lit≤ tt)
 
 within : (n most : ℕ) → n ≤ most → cond (nat_le n most) (Some n) None ≡ Some n
 within n most h = grind (arith, nat_tests)
 
-don_back : (v : ℕ) → v ≤ 32767 → up_to 32767 (numeral_below (2 ^ 16) 10 (decimal v)) ≡ Some v
+pub don_back : (v : ℕ) → v ≤ 32767 → up_to 32767 (numeral_below (2 ^ 16) 10 (decimal v)) ≡ Some v
 don_back v h =
     ap (up_to 32767) (decimal_read (2 ^ 16) v (omega (h, arith)) (lit≤ tt)) ∙ within v 32767 h
 
-level_back : (v : ℕ) → v < 2 ^ 32 → profile_level (six_digits v) ≡ Some v
+pub level_back : (v : ℕ) → v < 2 ^ 32 → profile_level (six_digits v) ≡ Some v
 level_back v h = ap (λ o. or_else o (numeral_below (2 ^ 32) 10 (six_digits v))) (six_read v h)
 
 pub param_back : (p : FormatParam) → IsKeyed p → pair_param (pair_of p) ≡ p
@@ -87,7 +87,7 @@ param_back (param.TelephoneEvents v) h = absurd h
 param_back (param.BareRange v) h = absurd h
 param_back (param.BarePtList v) h = absurd h
 param_back param.AmrWbUnsupported h = absurd h
-param_back (param.Apt v) h = absurd h
+param_back (param.Apt v) h = ap (word_param param.Apt) (byte_back v h)
 param_back (param.Red v) h = absurd h
 param_back param.Unknown h = absurd h
 
@@ -114,7 +114,7 @@ no_level (param.TelephoneEvents v) h = absurd h
 no_level (param.BareRange v) h = absurd h
 no_level (param.BarePtList v) h = absurd h
 no_level param.AmrWbUnsupported h = absurd h
-no_level (param.Apt v) h = absurd h
+no_level (param.Apt v) h = refl
 no_level (param.Red v) h = absurd h
 no_level param.Unknown h = absurd h
 
@@ -144,7 +144,7 @@ value_is (param.TelephoneEvents v) h = absurd h
 value_is (param.BareRange v) h = absurd h
 value_is (param.BarePtList v) h = absurd h
 value_is param.AmrWbUnsupported h = absurd h
-value_is (param.Apt v) h = absurd h
+value_is (param.Apt v) h = decimal_value v (omega (h, arith))
 value_is (param.Red v) h = absurd h
 value_is param.Unknown h = absurd h
 
@@ -198,6 +198,6 @@ key_is (param.TelephoneEvents v) h = absurd h
 key_is (param.BareRange v) h = absurd h
 key_is (param.BarePtList v) h = absurd h
 key_is param.AmrWbUnsupported h = absurd h
-key_is (param.Apt v) h = absurd h
+key_is (param.Apt v) h = key_of (codes "apt") (λ e. cc) refl
 key_is (param.Red v) h = absurd h
 key_is param.Unknown h = absurd h

@@ -17,6 +17,7 @@ use Rattle.sdp_formats_stream_lines.specs.PairLemmas.{lacks-word}
 use Rattle.sdp_formats_params.specs.Numbers.{modes_of, numeral_below, with_mode, with_modes}
 use Rattle.sdp_formats_params.specs.Printed.{has_mode, modes_text}
 use Rattle.sdp_formats_laws.proofs.Numerals.{IsValue, decimal_read, lacks_digits}
+use Rattle.sdp_formats_laws.proofs.Trimmed.{AreGraphic, both_graphic, digits_graphic}
 use Rattle.sdp_formats_laws.specs.Ranges.{IsModes}
 
 -- modes, each 0 to 8
@@ -200,3 +201,21 @@ by_set m (x ∷ xs) some h same = (list_read x xs 0 h ∙ ap Some same, list_val
 pub modes_back : (m : ℕ) → IsModes m → (modes_of (modes_text m) ≡ Some m) × IsValue (modes_text m)
 modes_back m h = by_set m (set_of m) h.0 (low_left m (0 ∷ 1 ∷ 2 ∷ 3 ∷ 4 ∷ 5 ∷ 6 ∷ 7 ∷ 8 ∷ []) all_low)
     (all_gathered m h.1)
+
+-- and has no blanks
+list_graphic : (x : ℕ) (xs : List ℕ) → AreLow (x ∷ xs) → AreGraphic (list_text (x ∷ xs))
+list_graphic x [] h =
+    both_graphic (decimal x) [] (digits_graphic 10 (decimal x) (lit≤ tt) (decimal_is_IsNumeral x (omega
+    (h.0, arith))).0.1)
+    tt
+list_graphic x (y ∷ ys) h =
+    both_graphic (decimal x) (44 ∷ list_text (y ∷ ys))
+    (digits_graphic 10 (decimal x) (lit≤ tt) (decimal_is_IsNumeral x (omega (h.0, arith))).0.1)
+    (lit< tt, lit< tt, list_graphic y ys h.1)
+
+set_graphic : (xs : List ℕ) → AreLow xs → AreGraphic (list_text xs)
+set_graphic [] h = tt
+set_graphic (x ∷ xs) h = list_graphic x xs h
+
+pub modes_graphic : (m : ℕ) → IsModes m → AreGraphic (modes_text m)
+modes_graphic m h = set_graphic (set_of m) (low_left m (0 ∷ 1 ∷ 2 ∷ 3 ∷ 4 ∷ 5 ∷ 6 ∷ 7 ∷ 8 ∷ []) all_low)

@@ -107,7 +107,7 @@ zeros_length : (n : ℕ) (ds : List ℕ) → length ds ≤ length (replicate n 4
 zeros_length zero ds = omega arith
 zeros_length (suc n) ds = omega (zeros_length n ds, arith)
 
-six_numeral : (v : ℕ) → v < 2 ^ 32 → IsNumeral 16 (six_digits v) × (digits_value 16 (six_digits v) ≡ v)
+pub six_numeral : (v : ℕ) → v < 2 ^ 32 → IsNumeral 16 (six_digits v) × (digits_value 16 (six_digits v) ≡ v)
 six_numeral v small =
     let ds = digits 16 false v in
     let numeral = digits_is_IsNumeral 16 false (lit≤ tt) (lit≤ tt) v (wide v small) in

@@ -16,19 +16,14 @@ use Rattle.sdp_formats_forms.specs.Numbers.{all_digits, number_below}
 use Rattle.sdp_formats_forms.specs.Split.{Lacks}
 use Rattle.sdp_formats_forms.specs.Steps.{none_if}
 use Rattle.sdp_formats_stream_lines.specs.PairsSay.{PairSays, PairsSay, pair_list}
-use Rattle.sdp_formats_media_lines.specs.PrintedPairs.{PairsComeBack}
-use Rattle.sdp_formats_params.specs.Keys.{key_named, is_name_of}
-use Rattle.sdp_formats_params.specs.Params.{params_of, word_param}
+use Rattle.sdp_formats_params.specs.Params.{params_of}
 use Rattle.sdp_formats_params.specs.Printed.{param_text}
 use Rattle.sdp_formats_params.specs.declared.pairs.Pair.{Pair}
 use Rattle.sdp_formats_params.specs.declared.param.FormatParam.{FormatParam}
 use Rattle.sdp_formats_params.specs.declared.param.FormatParam.TheVariants as param
 use Rattle.sdp_formats_source_lines.specs.Parameters.{anything, key_values, parameters, plain_byte, range, slash_list}
-use Rattle.sdp_formats_laws.proofs.KeyedLists.{pairs_on_line, pairs_read}
-use Rattle.sdp_formats_laws.proofs.KeyedParams.{key_of}
-use Rattle.sdp_formats_laws.proofs.Numerals.{accepted, decimal_read, decimal_value, lacks_digits, no_plus}
+use Rattle.sdp_formats_laws.proofs.Numerals.{accepted, decimal_value, lacks_digits, no_plus}
 use Rattle.sdp_formats_laws.proofs.Numerals.{tested}
-use Rattle.sdp_formats_laws.specs.Keyed.{pair}
 use Rattle.sdp_formats_laws.specs.Parameters.{IsReadBack}
 use Rattle.sdp_formats_laws.specs.Printable.{IsText}
 
@@ -71,14 +66,14 @@ or_other o other e = ap (λ x. option_or x other) e
 or_first : {A : Type 0} (o other : Option A) (x : A) → o ≡ Some x → option_or o other ≡ Some x
 or_first o other x e = ap (λ y. option_or y other) e
 
-lacks_of : (c n : ℕ) → 10 ≤ digit_value c → n < 2 ^ 8 → Lacks c (decimal n)
+pub lacks_of : (c n : ℕ) → 10 ≤ digit_value c → n < 2 ^ 8 → Lacks c (decimal n)
 lacks_of c n far small = lacks_digits 10 c (decimal n) far (decimal_is_IsNumeral n (omega (small, arith))).0.1
 
 -- a range of events, `0-15`
 digit_test : (c : ℕ) (more : Bool) → 48 ≤ c → c ≤ 57 → more ≡ true → (is_ascii_digit c && more) ≡ true
 digit_test c more low high h = grind (arith, nat_tests)
 
-ascii_digits : (ds : List ℕ) → AllDigits 10 ds → list_all is_ascii_digit ds ≡ true
+pub ascii_digits : (ds : List ℕ) → AllDigits 10 ds → list_all is_ascii_digit ds ≡ true
 ascii_digits [] h = refl
 ascii_digits (c ∷ cs) h = let r = digit_from_value c h.0 in
     digit_test c (list_all is_ascii_digit cs) (omega arith) (omega arith) (ascii_digits cs h.1)
@@ -174,14 +169,10 @@ red_back exact n small = (
   ap parameters.reads (append-nil (decimal n ++ 47 ∷ decimal n)) ∙ list_read exact n small,
 )
 
--- the type that is retransmitted, `apt=96`
-pub apt_back : PairsComeBack → (n : ℕ) → n < 2 ^ 8 → IsReadBack (param.Apt n ∷ [])
-unfolding param_text key_named is_name_of
-apt_back back n small =
-    let key = key_of (codes "apt") (λ e. cc) refl in
-    let value = decimal_value n (omega (small, arith)) in
-    let q = pair (codes "apt") (decimal n) in (
-      pairs_on_line q [] (key.1, value.1, tt) (key.2, value.2, tt),
-      pairs_read back q [] ((key.0, value.0), tt)
-          ∙ ap (λ o. Some (word_param param.Apt o ∷ [])) (decimal_read (2 ^ 8) n small (lit≤ tt)),
-    )
+pub bare_range_back : IsExact pair_list → (n : ℕ) → n < 2 ^ 8 → IsReadBack (param.BareRange n ∷ [])
+unfolding param_text
+bare_range_back exact n small = events_back exact n small
+
+pub bare_list_back : IsExact pair_list → (n : ℕ) → n < 2 ^ 8 → IsReadBack (param.BarePtList n ∷ [])
+unfolding param_text
+bare_list_back exact n small = red_back exact n small

@@ -1,14 +1,9 @@
--- The parameters of a plain row are read as they are printed.
+-- The parameters of a plain row are such that they are read as they are printed.
 use Rattle.std.proofs.Common.{◌≡◌, ◌<◌, ◌^◌, ℕ, Bool, true, false, ◌&&◌, cond, [], ◌∷◌, Option, Some, None}
 use Rattle.std.proofs.Common.{IfSome, refl, subst, inl, inr, lit<, unwrap_or, is_none, is_some}
 use Rattle.std.specs.Option.{option_map}
 use Rattle.std.proofs.lemmas.Bool.Decides.{Decides-eqb}
-use Rattle.h26x_payload_profiles.specs.H265ProfileTierLevel.{ComesBack as ComesBack265}
-use Rattle.h26x_payload_profiles.specs.H266ProfileTierLevel.{ComesBack as ComesBack266}
 use Rattle.payload_core_base.specs.Codecs.{is_tele_codec}
-use Rattle.sdp_formats_forms.specs.Form.{IsExact}
-use Rattle.sdp_formats_stream_lines.specs.PairsSay.{pair_list}
-use Rattle.sdp_formats_media_lines.specs.PrintedPairs.{PairsComeBack}
 use Rattle.sdp_formats_params.specs.declared.param.FormatParam.TheVariants as param
 use Rattle.sdp_formats_format.specs.Formats.{format_of}
 use Rattle.sdp_formats_rows.specs.Plain.{comes_back, events_alone, has_plain_events, has_plain_feedback}
@@ -22,10 +17,9 @@ use Rattle.sdp_formats_format.specs.declared.format.FormatParams.{FormatParams}
 use Rattle.sdp_formats_row_attributes.specs.Attributes.{params_in}
 use Rattle.sdp_formats_format.specs.Parameters.{params_of}
 use Rattle.sdp_formats_laws.proofs.FormatRanges.{Apart, format_held}
-use Rattle.sdp_formats_laws.proofs.FormatsBack.{OneLevel, format_back}
-use Rattle.sdp_formats_laws.proofs.OtherParams.{events_back}
-use Rattle.sdp_formats_laws.specs.Parameters.{IsReadBack}
-use Rattle.sdp_formats_laws.specs.Ranges.{AtMostOne, IsInRange}
+use Rattle.sdp_formats_laws.proofs.FormatsBack.{format_readable}
+use Rattle.sdp_formats_laws.specs.ParameterLists.{AreReadable}
+use Rattle.sdp_formats_laws.specs.Ranges.{AtMostOne, IsInRange, OneLevel}
 
 two_true : (a b : Bool) → (a && b) ≡ true → (a ≡ true) × (b ≡ true)
 two_true true b h = (refl, h)
@@ -152,7 +146,7 @@ one_level last a f s h =
     )
 
 -- a plain row's format
-plain_format : (f : FormatParams) → comes_back f ≡ true → IsInRange f × OneLevel f
+pub plain_format : (f : FormatParams) → comes_back f ≡ true → IsInRange f × OneLevel f
 plain_format f h =
     let a = format_of (format_text f) in
     let held = format_held (format_text f) in
@@ -167,22 +161,19 @@ not_there : (o : Option ℕ) → is_none o ≡ true → o ≡ None
 not_there None h = refl
 not_there (Some n) h = absurd (cc)
 
-by_codec : IsExact pair_list → PairsComeBack → ComesBack265 → ComesBack266 → (f : FormatParams) (tele : Bool)
+by_codec : (f : FormatParams) (tele : Bool)
     → cond tele (is_some f.telephone_event_max && same_format f (events_alone f)) (is_none f.telephone_event_max) ≡ true
     → IsInRange f → OneLevel f
-    → IsReadBack (cond tele (param.TelephoneEvents (unwrap_or f.telephone_event_max 16) ∷ []) (params_of f))
-by_codec exact pairs one other f true e h levels =
-    events_back exact (unwrap_or f.telephone_event_max 16) (most_small f.telephone_event_max h.8)
-by_codec exact pairs one other f false e h levels =
-    format_back pairs one other f h levels (not_there f.telephone_event_max e)
+    → AreReadable (cond tele (param.TelephoneEvents (unwrap_or f.telephone_event_max 16) ∷ []) (params_of f))
+by_codec f true e h levels = inr (inr (most_small f.telephone_event_max h.8))
+by_codec f false e h levels = format_readable f h levels (not_there f.telephone_event_max e)
 
-pub row_back : IsExact pair_list → PairsComeBack → ComesBack265 → ComesBack266 → (row : Row) → is_plain row ≡ true
-    → IsReadBack (params_in row.spec)
-row_back exact pairs one other row h =
+pub row_readable : (row : Row) → is_plain row ≡ true → AreReadable (params_in row.spec)
+row_readable row h =
     let four = has_plain_types row && is_plain_codec row.spec && has_plain_feedback row && has_plain_red row in
     let back = two_true (four && has_plain_events row.spec && has_plain_level row.spec)
     (comes_back row.spec.format) h in
     let level = two_true (four && has_plain_events row.spec) (has_plain_level row.spec) back.0 in
     let events = two_true four (has_plain_events row.spec) level.0 in
     let plain = plain_format row.spec.format back.1 in
-    by_codec exact pairs one other row.spec.format (is_tele_codec row.spec.codec) events.1 plain.0 plain.1
+    by_codec row.spec.format (is_tele_codec row.spec.codec) events.1 plain.0 plain.1

@@ -1,14 +1,15 @@
 -- The attributes that list plain rows can be printed.
 use Rattle.std.proofs.Common.{◌≡◌, ◌≢◌, ◌<◌, ◌≤◌, ◌^◌, ◌==◌, ℕ, Bool, true, false, not, ◌&&◌, cond, if◌then◌else◌}
 use Rattle.std.proofs.Common.{nat_lt, List}
-use Rattle.std.proofs.Common.{[], ◌∷◌, ◌++◌, Option, Some, None, IfSome, codes, refl, sym, subst, arith, lit<}
+use Rattle.std.proofs.Common.{[], ◌∷◌, ◌++◌, Option, Some, None, IfSome, codes, refl, sym, subst, arith, inl, inr, lit<}
 use Rattle.std.specs.List.{list_all}
 use Rattle.std.proofs.lemmas.Bool.Decides.{nat_tests}
 use Rattle.payload_core_base.specs.Codecs.{codec_name, codec_named}
 use Rattle.payload_core_base.specs.declared.codec.Codec.{Codec}
 use Rattle.payload_core_base.specs.declared.codec.Codec.TheVariants as codec
 use Rattle.sdp_formats_forms.specs.Split.{Lacks}
-use Rattle.sdp_formats_laws.specs.Parameters.{IsReadBack, LinksComeBack, PlainParametersComeBack}
+use Rattle.sdp_formats_laws.specs.ParameterLists.{AreReadable}
+use Rattle.sdp_formats_laws.specs.Parameters.{PlainParametersAreReadable}
 use Rattle.sdp_formats_laws.specs.Printable.{AreBelow, IsPrintable, IsPrintableMap, IsText, IsWord}
 use Rattle.sdp_formats_laws.specs.PrintableTexts.{AreFormats, IsEach, IsPrintableSection}
 use Rattle.sdp_formats_params.specs.declared.FormatParam.{FormatParam}
@@ -107,10 +108,10 @@ map_printable row c channels h sized few =
     (h.0, h.1, h.2, rate.0, rate.1, few)
 
 -- lines of parameters
-fmtp_lines : (pt : ℕ) (ps : List FormatParam) → pt ≤ 127 → IsReadBack ps → IsEach IsPrintable (fmtp_of pt ps)
+fmtp_lines : (pt : ℕ) (ps : List FormatParam) → pt ≤ 127 → AreReadable ps → IsEach IsPrintable (fmtp_of pt ps)
 unfolding fmtp_of
 fmtp_lines pt [] low h = tt
-fmtp_lines pt (p ∷ ps) low h = ((low, h.0, h.1), tt)
+fmtp_lines pt (p ∷ ps) low h = ((low, h), tt)
 
 -- lines of feedback
 abbrev pub is_line : List ℕ → Bool
@@ -153,23 +154,23 @@ type_low : (t : ℕ) → nat_lt t 128 ≡ true → t ≤ 127
 type_low t h = grind (arith, nat_tests)
 
 -- a type of retransmissions and one of redundant audio
-resend_printable : LinksComeBack → (row : Row) (o : Option ℕ) → row.pt ≤ 127 → IsSized row → is_type o ≡ true
+resend_printable : (row : Row) (o : Option ℕ) → row.pt ≤ 127 → IsSized row → is_type o ≡ true
     → IsEach IsPrintable (resend_lines row o)
 unfolding resend_lines
-resend_printable links row None low sized h = tt
-resend_printable links row (Some t) low sized h =
-    let back = (links row.pt low).0 in
-    ((type_low t h, map_printable row codec.Rtx None rtx_named sized tt), ((type_low t h, back.0, back.1), tt))
+resend_printable row None low sized h = tt
+resend_printable row (Some t) low sized h = (
+  (type_low t h, map_printable row codec.Rtx None rtx_named sized tt),
+  ((type_low t h, inl (omega (low, arith), tt)), tt),
+)
 
-red_printable : LinksComeBack → (row : Row) (o : Option ℕ) → row.pt ≤ 127 → IsSized row → is_type o ≡ true
+red_printable : (row : Row) (o : Option ℕ) → row.pt ≤ 127 → IsSized row → is_type o ≡ true
     → IsEach IsPrintable (red_lines row o)
 unfolding red_lines
-red_printable links row None low sized h = tt
-red_printable links row (Some t) low sized h =
-    let back = (links row.pt low).1 in (
-      (type_low t h, map_printable row codec.Red row.spec.channels red_named sized sized.2),
-      ((type_low t h, back.0, back.1), tt),
-    )
+red_printable row None low sized h = tt
+red_printable row (Some t) low sized h = (
+  (type_low t h, map_printable row codec.Red row.spec.channels red_named sized sized.2),
+  ((type_low t h, inr (inr (omega (low, arith)))), tt),
+)
 
 -- what is plain of a row
 record PlainTypes (row : Row) : Type 0 where
@@ -201,9 +202,9 @@ plain_types row h =
       media = (two_true (is_media_codec row.spec.codec) (is_plain_rate row.spec) one.1).0;
     }
 
-row_printable : PlainParametersComeBack → LinksComeBack → (row : Row) → is_plain row ≡ true → IsSized row
+row_printable : PlainParametersAreReadable → (row : Row) → is_plain row ≡ true → IsSized row
     → IsEach IsPrintable (attributes_of row)
-row_printable params links row h sized =
+row_printable params row h sized =
     let p = plain_types row h in
     let map : IsEach IsPrintable (attribute.RtpMap row.pt (map_of row.spec) ∷ []) = (
       (
@@ -221,16 +222,16 @@ row_printable params links row h sized =
     (both_each IsPrintable (attribute.RtpMap row.pt (map_of row.spec) ∷ []) (feedback_lines row) map
     (all_lines row p.own))
     (fmtp_lines row.pt (params_in row.spec) p.own (params row h)))
-    (resend_printable links row row.resend p.own sized p.resend))
-    (red_printable links row row.red p.own sized p.red)
+    (resend_printable row row.resend p.own sized p.resend))
+    (red_printable row row.red p.own sized p.red)
 
-rows_printable : PlainParametersComeBack → LinksComeBack → (rows : List Row) → list_all is_plain rows ≡ true
+rows_printable : PlainParametersAreReadable → (rows : List Row) → list_all is_plain rows ≡ true
     → IsEach IsSized rows → IsEach IsPrintable (attributes_in rows)
-rows_printable params links [] h sized = tt
-rows_printable params links (row ∷ rows) h sized =
+rows_printable params [] h sized = tt
+rows_printable params (row ∷ rows) h sized =
     let two = two_true (is_plain row) (list_all is_plain rows) h in
-    both_each IsPrintable (attributes_of row) (attributes_in rows) (row_printable params links row two.0 sized.0)
-    (rows_printable params links rows two.1 sized.1)
+    both_each IsPrintable (attributes_of row) (attributes_in rows) (row_printable params row two.0 sized.0)
+    (rows_printable params rows two.1 sized.1)
 
 -- the list of types
 both_below : (limit : ℕ) (xs ys : List ℕ) → AreBelow limit xs → AreBelow limit ys → AreBelow limit (xs ++ ys)
@@ -264,14 +265,14 @@ types_there : (rows : List Row) → rows ≢ [] → types_in rows ≢ []
 types_there [] some = absurd (some refl)
 types_there (row ∷ rows) some = λ e. cc
 
-pub section_printable : PlainParametersComeBack → LinksComeBack → (m : MediaLine) (rows : List Row)
+pub section_printable : PlainParametersAreReadable → (m : MediaLine) (rows : List Row)
     → ListsRows m rows → IsPrintableSection m
-section_printable params links m rows h = (
+section_printable params m rows h = (
   subst (λ pts. AreFormats m.typ pts) (sym h.types)
       (are_formats m.typ (types_in rows) h.media (types_there rows h.some) (types_below rows h.plain)),
   h.bandwidth,
   subst (IsEach IsPrintable) (sym h.attributes)
       (both_each IsPrintable h.others (attributes_in rows ++ h.behind) h.others_printable
-      (both_each IsPrintable (attributes_in rows) h.behind (rows_printable params links rows h.plain h.sized)
+      (both_each IsPrintable (attributes_in rows) h.behind (rows_printable params rows h.plain h.sized)
       h.behind_printable)),
 )

@@ -13,7 +13,6 @@ use Rattle.sdp_formats_session_lines.specs.Heads.{media_type, proto, formats, ma
 use Rattle.sdp_formats_session_lines.specs.Lines.{connection_line, bandwidth_line, head_line, passed}
 use Rattle.sdp_formats_session_lines.specs.declared.media.MediaHead.{MediaHead}
 use Rattle.sdp_formats_media_lines.specs.Choice.{attribute_line, media_attribute}
-use Rattle.sdp_formats_media_lines.specs.PrintedPairs.{RestrictionsComeBack}
 use Rattle.sdp_formats_reader.specs.Grammar.{SectionSays}
 use Rattle.sdp_formats_media_lines.specs.AsRead.{as_read}
 use Rattle.sdp_formats_forms.specs.Line.{LineOf}
@@ -36,10 +35,11 @@ use Rattle.sdp_formats_laws.proofs.PlainKinds.{lacks_two}
 use Rattle.sdp_formats_laws.proofs.PartedKinds.{lacks_numbers}
 use Rattle.sdp_formats_laws.proofs.Readings.{cut_reads}
 use Rattle.sdp_formats_laws.proofs.Stopping.{first, stops, other_start, first_of, begins_as}
-use Rattle.sdp_formats_laws.proofs.Whole.{printed}
+use Rattle.sdp_formats_laws.proofs.Whole.{ListsComeBack, printed}
 use Rattle.sdp_formats_laws.specs.Printable.{IsPrintable, AreBelow}
 use Rattle.sdp_formats_laws.specs.ReadTexts.{section_as_read}
 use Rattle.sdp_formats_laws.specs.PrintableTexts.{IsEach, IsPrintableBandwidth, IsPrintableSection, AreFormats}
+use Rattle.sdp_formats_laws.specs.PrintableTexts.{LineComesBack, HasLinesThatComeBack}
 
 -- what may stand behind a section: another, or nothing
 abbrev pub IsTail : List ℕ → Type 0
@@ -166,15 +166,27 @@ section_spelled m rest = ap (λ t. codes "m=" ++ t)
     (codes "c=IN IP4 0.0.0.0") (maybe_text [] (option_map bandwidth_text m.bw)) (attributes_text m.attrs) rest line_end)
 
 -- attributes, up to another section or the end
-pub attributes_many : RestrictionsComeBack → IsExact attribute_line → (attrs : List MediaAttribute) (rest : List ℕ)
-    → IsEach IsPrintable attrs
-    → IsTail rest → Many (LineOf attribute_line.Says) (attributes_text attrs ++ rest) (map as_read attrs)
-    rest
-attributes_many back exact attrs rest h tail = (
-  begins_as (LineOf attribute_line.Says) attribute_text as_read IsPrintable
-      (λ x r p. printed_line attribute_line exact (as_read x) (attribute_text x) r (printed back x p)) attrs rest h,
+pub attributes_many : (attrs : List MediaAttribute) (rest : List ℕ) → IsEach LineComesBack attrs → IsTail rest
+    → Many (LineOf attribute_line.Says) (attributes_text attrs ++ rest) (map as_read attrs) rest
+attributes_many attrs rest h tail = (
+  begins_as (LineOf attribute_line.Says) attribute_text as_read LineComesBack (λ x r p. p r) attrs rest h,
   other_start 97 (61 ∷ []) media_attribute rest (tail 97 (λ e. omega (e, arith))),
 )
+
+-- printable ones
+each_printed : ListsComeBack → IsExact attribute_line → (attrs : List MediaAttribute) → IsEach IsPrintable attrs
+    → IsEach LineComesBack attrs
+each_printed back exact [] h = tt
+each_printed back exact (a ∷ attrs) h = (
+  λ rest. printed_line attribute_line exact (as_read a) (attribute_text a) rest (printed back a h.0),
+  each_printed back exact attrs h.1,
+)
+
+pub sections_printed : ListsComeBack → IsExact attribute_line → (ms : List MediaLine) → IsEach IsPrintableSection ms
+    → IsEach HasLinesThatComeBack ms
+sections_printed back exact [] h = tt
+sections_printed back exact (m ∷ ms) h =
+    ((h.0.0, h.0.1, each_printed back exact m.attrs h.0.2), sections_printed back exact ms h.1)
 
 -- what stands behind a bandwidth is an attribute or another section, or nothing
 not_98 : (attrs : List MediaAttribute) (t rest : List ℕ) → Begins (LineOf attribute_line.Says) t attrs rest
@@ -188,15 +200,14 @@ not_98 attrs t rest begins tail e = ⊎_elim
     letters : (a b : ℕ) → (a ≡ b → ⊥) → Some a ≡ Some b → ⊥
     letters a b other e = other (cc)
 
-pub section_says : RestrictionsComeBack → IsExact attribute_line → (m : MediaLine) (rest : List ℕ)
-    → IsPrintableSection m → IsTail rest
+pub section_says : (m : MediaLine) (rest : List ℕ) → HasLinesThatComeBack m → IsTail rest
     → SectionSays (section_text m ++ rest) (section_as_read m) rest
 unfolding SectionSays
-section_says back exact m rest h tail =
+section_says m rest h tail =
     let four = attributes_text m.attrs ++ rest in
     let three = maybe_text [] (option_map bandwidth_text m.bw) ++ four in
     let two = (codes "c=IN IP4 0.0.0.0" ++ line_end) ++ three in
-    let many = attributes_many back exact m.attrs rest h.2 tail in
+    let many = attributes_many m.attrs rest h.2 tail in
     subst (λ t. SectionSays t (section_as_read m) rest) (sym (section_spelled m rest)) (
       head_of m,
       two,

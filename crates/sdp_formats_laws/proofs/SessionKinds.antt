@@ -17,7 +17,9 @@ use Rattle.sdp_formats_types.specs.PrintedMedia.{named}
 use Rattle.sdp_formats_sessions.specs.PrintedSession.{attribute_text}
 use Rattle.sdp_formats_values.specs.declared.setup.Setup as setup
 use Rattle.sdp_formats_values.specs.declared.setup.Setup.TheVariants as way
-use Rattle.sdp_formats_sessions.specs.declared.session.SessionAttribute.TheVariants.{Group, MsidSemantic, IceLite}
+use Rattle.sdp_formats_sessions.specs.declared.session.SessionAttribute.TheVariants.{AllowMixedExts, Group}
+use Rattle.sdp_formats_sessions.specs.declared.session.SessionAttribute.TheVariants.{MsidSemantic}
+use Rattle.sdp_formats_sessions.specs.declared.session.SessionAttribute.TheVariants.{IceLite}
 use Rattle.sdp_formats_sessions.specs.declared.session.SessionAttribute.TheVariants.{IceUfrag}
 use Rattle.sdp_formats_sessions.specs.declared.session.SessionAttribute.TheVariants.{IcePwd, IceOptions, Setup}
 use Rattle.sdp_formats_sessions.specs.declared.session.SessionAttribute.TheVariants.{EndOfCandidates, Unused}
@@ -41,6 +43,11 @@ ice_lite = fixed_line attribute_line (codes "a=ice-lite") IceLite refl refl
 pub end_of_candidates : IsPrintedAs attribute_line (attribute_text EndOfCandidates) EndOfCandidates
 unfolding session_attribute later_attribute attribute_text
 end_of_candidates = fixed_line attribute_line (codes "a=end-of-candidates") EndOfCandidates refl refl
+
+-- a line that is read as one of no known kind
+pub allow_mixed : IsPrintedAs attribute_line (attribute_text AllowMixedExts) (Unused (codes "extmap-allow-mixed"))
+unfolding session_attribute later_attribute attribute_text
+allow_mixed = fixed_line attribute_line (codes "a=extmap-allow-mixed") (Unused (codes "extmap-allow-mixed")) refl refl
 
 pub ice_ufrag : (v : List ℕ) → IsText v → IsPrintedAs attribute_line (named (codes "a=ice-ufrag:") v) (IceUfrag v)
 unfolding session_attribute later_attribute

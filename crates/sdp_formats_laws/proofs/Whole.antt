@@ -15,9 +15,14 @@ use Rattle.sdp_formats_laws.proofs.PlainKinds.{max_message_size, setup_line, rec
 use Rattle.sdp_formats_laws.proofs.PlainKinds.{rtcp_mux, rtcp_mux_only, rtcp_rsize, end_of_candidates}
 use Rattle.sdp_formats_laws.proofs.PartedKinds.{rtcp_fb, msid, extmap_line, ssrc, ssrc_group, fmtp_line, rtpmap_line}
 use Rattle.sdp_formats_laws.proofs.PartedKinds.{fingerprint_line, unused}
+use Rattle.sdp_formats_laws.specs.Parameters.{ReadableListsComeBack}
 use Rattle.sdp_formats_laws.specs.Printable.{IsPrintable}
 
-pub printed : RestrictionsComeBack → (x : MediaAttribute) → IsPrintable x
+-- what is read of lists of restrictions and of parameters
+abbrev pub ListsComeBack : Type 0
+ListsComeBack = RestrictionsComeBack × ReadableListsComeBack
+
+pub printed : ListsComeBack → (x : MediaAttribute) → IsPrintable x
     → IsPrintedAs attribute_line (attribute_text x) (as_read x)
 unfolding attribute_text
 printed back (a.Rtcp v) h = rtcp v h
@@ -42,11 +47,12 @@ printed back a.RtcpRsize h = rtcp_rsize
 printed back a.EndOfCandidates h = end_of_candidates
 printed back (a.RtpMap pt m) h = rtpmap_line pt m h.0 h.1
 printed back (a.RtcpFb pt v) h = rtcp_fb pt v h.0 h.1
-printed back (a.Fmtp pt (p ∷ ps)) h = fmtp_line pt p ps h.0 h.1 h.2
+printed back (a.Fmtp pt (p ∷ ps)) h =
+    let list = back.1 (p ∷ ps) h.1 in fmtp_line pt p ps h.0 list.0 list.1
 printed back (a.SsrcGroup semantics (s ∷ ss)) h = ssrc_group semantics s ss h.0 h.1
 printed back (a.Ssrc s attr v) h = ssrc s attr v h.0 h.1 h.2 h.3
 printed back (a.Candidate c) h = candidate_line c h
-printed back (a.Rid id d pts rs) h = rid_line back id d pts rs h.0 h.1 h.2
+printed back (a.Rid id d pts rs) h = rid_line back.0 id d pts rs h.0 h.1 h.2
 printed back (a.Simulcast s) h = simulcast_line s h.0 h.1
 printed back (a.Unused v) h = unused v h.0 h.1
 printed back (a.Fmtp pt []) h = absurd h

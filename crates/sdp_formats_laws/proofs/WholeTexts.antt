@@ -1,6 +1,6 @@
 -- Whole session texts are read as they are printed.
 use Rattle.std.proofs.Common.{◌≡◌, ℕ, ◌<◌, ◌^◌, IsTrue, List, [], ◌∷◌, ◌++◌, Option, Some, None, codes, decimal, map}
-use Rattle.std.proofs.Common.{refl, sym, ◌∙◌, ap, subst, append_assoc, ⊎_elim, arith}
+use Rattle.std.proofs.Common.{refl, sym, ◌∙◌, ap, subst, append_assoc, append-nil, ⊎_elim, arith}
 use Rattle.std.specs.List.{list_all}
 use Rattle.std.specs.Option.{option_map}
 use Rattle.sdp_formats_forms.specs.Form.{IsExact}
@@ -12,7 +12,6 @@ use Rattle.sdp_formats_session_lines.specs.Lines.{bandwidth_line}
 use Rattle.sdp_formats_session_lines.specs.Lines.{something, passed}
 use Rattle.sdp_formats_session_lines.specs.Heads.{media_line}
 use Rattle.sdp_formats_media_lines.specs.Choice.{attribute_line as media_attribute_line}
-use Rattle.sdp_formats_media_lines.specs.PrintedPairs.{RestrictionsComeBack}
 use Rattle.sdp_formats_reader.specs.Grammar.{OpeningSays, TimesSay, SessionSays, SectionSays, SdpSays}
 use Rattle.sdp_formats_session_attributes.specs.Choice.{attribute_line, session_attribute}
 use Rattle.sdp_formats_forms.specs.Line.{LineOf}
@@ -26,16 +25,17 @@ use Rattle.sdp_formats_types.specs.declared.bandwidth.Bandwidth.{Bandwidth}
 use Rattle.sdp_formats_sessions.specs.declared.session.Sdp.{Sdp}
 use Rattle.sdp_formats_sessions.specs.declared.session.Session.{Session}
 use Rattle.sdp_formats_sessions.specs.declared.session.SessionAttribute.{SessionAttribute}
+use Rattle.sdp_formats_laws.proofs.Whole.{ListsComeBack}
 use Rattle.sdp_formats_laws.proofs.Heads.{version, version-exact, originator, origin-exact, name, name-exact, times}
 use Rattle.sdp_formats_laws.proofs.Heads.{times-exact, after_number}
 use Rattle.sdp_formats_laws.proofs.Printed.{printed_line, lacks}
-use Rattle.sdp_formats_laws.proofs.Sections.{IsTail, perhaps_bandwidth, section_says}
+use Rattle.sdp_formats_laws.proofs.Sections.{IsTail, perhaps_bandwidth, section_says, sections_printed}
 use Rattle.sdp_formats_laws.proofs.Stopping.{first, stops, other_start, first_of, begins_all, joined_behind}
 use Rattle.sdp_formats_laws.proofs.WholeSession.{printed}
 use Rattle.sdp_formats_laws.proofs.Consistent.{all_consistent}
 use Rattle.sdp_formats_laws.specs.PrintableSession.{IsPrintable}
 use Rattle.sdp_formats_laws.specs.ReadTexts.{section_as_read, text_as_read}
-use Rattle.sdp_formats_laws.specs.PrintableTexts.{IsEach, IsPrintableSection, IsPrintableSession}
+use Rattle.sdp_formats_laws.specs.PrintableTexts.{IsEach, IsPrintableSession, HasLinesThatComeBack}
 use Rattle.sdp_formats_laws.specs.PrintableTexts.{IsPrintableText}
 
 -- none of these letters comes first
@@ -135,6 +135,11 @@ session_says exact s rest h tail = session_reads s s.attrs rest h.0 (λ t other.
 nothing_left : IsTail []
 nothing_left = λ c other e. cc
 
+-- a session alone
+pub session_alone : IsExact attribute_line → (s : Session) → IsPrintableSession s → SessionSays (session_text s) s []
+session_alone exact s h =
+    subst (λ t. SessionSays t s []) (append-nil (session_text s)) (session_says exact s [] h nothing_left)
+
 -- sections, one behind the other
 no_section : Stops SectionSays []
 unfolding SectionSays
@@ -146,30 +151,29 @@ unfolding section_text
 section_tail m rest = λ c other e. other (cc)
 
 -- sections, one behind the other
-sections_begin : RestrictionsComeBack → IsExact media_attribute_line → (ms : List MediaLine)
-    → IsEach IsPrintableSection ms
+sections_begin : (ms : List MediaLine) → IsEach HasLinesThatComeBack ms
     → Begins SectionSays (each_behind [] (map section_text ms)) (map section_as_read ms) []
     × IsTail (each_behind [] (map section_text ms))
-sections_begin back exact [] h = (refl, nothing_left)
-sections_begin back exact (m ∷ ms) h =
-    let more = sections_begin back exact ms h.1 in (
+sections_begin [] h = (refl, nothing_left)
+sections_begin (m ∷ ms) h =
+    let more = sections_begin ms h.1 in (
       (
         each_behind [] (map section_text ms),
-        section_says back exact m (each_behind [] (map section_text ms)) h.0 more.1,
+        section_says m (each_behind [] (map section_text ms)) h.0 more.1,
         more.0,
       ),
       section_tail m (each_behind [] (map section_text ms)),
     )
 
 -- a text whose session is read so
-pub text_reads : RestrictionsComeBack → IsExact media_attribute_line → (sdp : Sdp) (read : Session)
+pub text_reads : (sdp : Sdp) (read : Session)
     → (IsTail (sections_text sdp.media_lines)
     → SessionSays (session_text sdp.session ++ sections_text sdp.media_lines) read (sections_text sdp.media_lines))
-    → IsEach IsPrintableSection sdp.media_lines → IsTrue (list_all is_consistent sdp.media_lines)
+    → IsEach HasLinesThatComeBack sdp.media_lines → IsTrue (list_all is_consistent sdp.media_lines)
     → SdpSays (sdp_text sdp) (record { session = read; media_lines = map section_as_read sdp.media_lines }) []
 unfolding SdpSays
-text_reads back media_exact sdp read says each consistent =
-    let sections = sections_begin back media_exact sdp.media_lines each in
+text_reads sdp read says each consistent =
+    let sections = sections_begin sdp.media_lines each in
     let same = joined_behind (map section_text sdp.media_lines) in
     let tail = subst IsTail (sym same) sections.1 in (
       sections_text sdp.media_lines,
@@ -178,8 +182,13 @@ text_reads back media_exact sdp read says each consistent =
       all_consistent sdp.media_lines consistent,
     )
 
-pub text_says : RestrictionsComeBack → IsExact attribute_line → IsExact media_attribute_line → (sdp : Sdp)
-    → IsPrintableText sdp
+pub lines_say : IsExact attribute_line → (sdp : Sdp) → IsPrintableSession sdp.session
+    → IsEach HasLinesThatComeBack sdp.media_lines → IsTrue (list_all is_consistent sdp.media_lines)
     → SdpSays (sdp_text sdp) (text_as_read sdp) []
-text_says back exact media_exact sdp h = text_reads back media_exact sdp sdp.session
-    (λ tail. session_says exact sdp.session (sections_text sdp.media_lines) h.0 tail) h.1 h.2
+lines_say exact sdp session lines consistent = text_reads sdp sdp.session
+    (λ tail. session_says exact sdp.session (sections_text sdp.media_lines) session tail) lines consistent
+
+pub text_says : ListsComeBack → IsExact attribute_line → IsExact media_attribute_line → (sdp : Sdp)
+    → IsPrintableText sdp → SdpSays (sdp_text sdp) (text_as_read sdp) []
+text_says back exact media_exact sdp h =
+    lines_say exact sdp h.0 (sections_printed back media_exact sdp.media_lines h.1) h.2

@@ -1,6 +1,7 @@
 -- What is read of a session that can be written.
 use Rattle.std.proofs.Common.{◌≡◌, ℕ, Bool, true, false, List, [], ◌∷◌, ◌++◌, Option, Some, None, codes, map, refl, sym}
-use Rattle.std.proofs.Common.{subst, append_assoc, cond}
+use Rattle.std.proofs.Common.{subst, append_assoc, append-nil, cond, inl, inr, ⊎_elim}
+use Rattle.sdp_formats_forms.specs.LineLemmas.{line-functional}
 use Rattle.std.specs.Prelude.{All, IfSome}
 use Rattle.std.proofs.lemmas.List.Elements.{All-head, All-tail}
 use Rattle.std.specs.Option.{option_map}
@@ -9,7 +10,6 @@ use Rattle.sdp_formats_forms.specs.Joined.{each_behind, maybe_text}
 use Rattle.sdp_formats_forms.specs.Line.{LineOf}
 use Rattle.sdp_formats_forms.specs.Step.{Begins, Perhaps}
 use Rattle.sdp_formats_media_lines.specs.Choice.{attribute_line as media_attribute_line}
-use Rattle.sdp_formats_media_lines.specs.PrintedPairs.{RestrictionsComeBack}
 use Rattle.sdp_formats_writable.specs.Writable.{ComesBack, IsWritableAttribute, IsWritableBandwidth}
 use Rattle.sdp_formats_session_attributes.specs.Choice.{attribute_line}
 use Rattle.sdp_formats_session_lines.specs.Lines.{bandwidth_line}
@@ -22,12 +22,27 @@ use Rattle.sdp_formats_sessions.specs.declared.session.SessionAttribute.TheVaria
 use Rattle.sdp_formats_values.specs.Printed.{line_end, fingerprint_text, is_empty}
 use Rattle.sdp_formats_values.specs.PrintedCandidates.{candidate_text}
 use Rattle.sdp_formats_values.specs.Setup.{setup_text}
+use Rattle.sdp_formats_laws.proofs.Whole.{ListsComeBack}
 use Rattle.sdp_formats_laws.proofs.MoreBehind.{forth}
 use Rattle.sdp_formats_laws.proofs.RowTexts.{sections_back, sections_print}
-use Rattle.sdp_formats_laws.proofs.Sections.{no_bandwidth}
+use Rattle.sdp_formats_laws.proofs.Printed.{lacks, printed_line}
+use Rattle.sdp_formats_laws.proofs.Sections.{no_bandwidth, perhaps_bandwidth, sections_printed}
+use Rattle.sdp_formats_laws.proofs.SessionKinds.{allow_mixed}
 use Rattle.sdp_formats_laws.proofs.Stopping.{first, joined_behind}
 use Rattle.sdp_formats_laws.proofs.WholeTexts.{session_reads, text_reads}
+use Rattle.sdp_formats_laws.proofs.WholeSession.{printed}
 use Rattle.sdp_formats_laws.specs.LineEnds.{is_ended}
+use Rattle.sdp_formats_laws.specs.Printable.{IsWord}
+use Rattle.sdp_formats_laws.specs.PrintableSession.{AreMids, IsPrintable}
+use Rattle.sdp_formats_laws.specs.PrintableTexts.{IsEach, IsPrintableBandwidth}
+use Rattle.sdp_formats_laws.specs.WrittenSession.{AllReadAs, GroupedRowTextsComeBack, IsReadAs, IsWritten}
+use Rattle.sdp_formats_laws.specs.WrittenSession.{PrintableIsWritable}
+use Rattle.sdp_formats_laws.specs.WrittenSession.{grouped}
+use Rattle.sdp_formats_reader.specs.Grammar.{SdpSays}
+use Rattle.sdp_formats_sessions.specs.PrintedSession.{sdp_text}
+use Rattle.sdp_formats_sessions.specs.declared.session.Sdp.{Sdp}
+use Rattle.sdp_formats_laws.specs.ReadTexts.{text_read}
+use Rattle.sdp_formats_laws.specs.WrittenSession.{UsualAttributesAreWritten, WrittenRowTextsComeBack}
 use Rattle.sdp_formats_laws.proofs.Faultless.{none_at_fault}
 use Rattle.sdp_formats_laws.specs.Rows.{AllComeBack, ListedRowsHaveNoFault, ReadRowsAreRows, RowsArePrintable}
 use Rattle.sdp_formats_laws.specs.Rows.{WritableRowTextsComeBack}
@@ -71,22 +86,42 @@ ended session.EndOfCandidates = refl
 ended (session.Unused value) = ended_named (codes "a=") value
 
 -- so it is read as it is alone, whatever stands behind it
-attribute_reads : (a : SessionAttribute) → IsWritableAttribute a → (rest : List ℕ)
+writable_reads : (a : SessionAttribute) → IsWritableAttribute a → (rest : List ℕ)
     → (b : SessionAttribute) × LineOf attribute_line.Says (attribute_text a ++ rest) b rest × ComesBack a b
 unfolding IsWritableAttribute
-attribute_reads a h rest =
+writable_reads a h rest =
     let line = h.1.1 in
     (h.1.0, (line.0, (forth rest (attribute_text a) line.0 [] (ended a) line.1).0, line.2), h.1.2)
 
-attributes_read : (attrs : List SessionAttribute) → All IsWritableAttribute attrs → (rest : List ℕ)
+-- a printable one as itself
+printed_reads : IsExact attribute_line → (a : SessionAttribute) → IsPrintable a → (rest : List ℕ)
+    → LineOf attribute_line.Says (attribute_text a ++ rest) a rest
+printed_reads exact a h rest = printed_line attribute_line exact a (attribute_text a) rest (printed a h)
+
+attribute_reads : IsExact attribute_line → (a : SessionAttribute) → IsWritten a → (rest : List ℕ)
+    → (b : SessionAttribute) × LineOf attribute_line.Says (attribute_text a ++ rest) b rest × IsReadAs a b
+attribute_reads exact a h rest = ⊎_elim
+    (λ (k : IsWritableAttribute a).
+    let one = writable_reads a k rest in (
+      one.0,
+      one.1,
+      (
+        one.2,
+        λ p. (line-functional attribute_line exact (attribute_text a ++ rest) one.0 a rest rest one.1
+            (printed_reads exact a p rest)).0,
+      ),
+    ))
+    (λ (k : IsPrintable a). (a, printed_reads exact a k rest, (inr refl, λ p. refl))) h
+
+attributes_read : IsExact attribute_line → (attrs : List SessionAttribute) → IsEach IsWritten attrs → (rest : List ℕ)
     → (bs : List SessionAttribute)
     × Begins (LineOf attribute_line.Says) (each_behind [] (map attribute_text attrs) ++ rest) bs rest
-    × AllComeBack attrs bs
-attributes_read [] h rest = ([], refl, tt)
-attributes_read (a ∷ attrs) h rest =
-    let more = attributes_read attrs (All-tail IsWritableAttribute a attrs h) rest in
+    × AllReadAs attrs bs
+attributes_read exact [] h rest = ([], refl, tt)
+attributes_read exact (a ∷ attrs) h rest =
+    let more = attributes_read exact attrs h.1 rest in
     let behind = each_behind [] (map attribute_text attrs) ++ rest in
-    let one = attribute_reads a (All-head IsWritableAttribute a attrs h) behind in (
+    let one = attribute_reads exact a h.0 behind in (
       one.0 ∷ more.0,
       (
         behind,
@@ -110,17 +145,96 @@ bandwidth_reads (Some b) h t other =
       line.2,
     )
 
-pub writable_texts_back : RestrictionsComeBack → IsExact media_attribute_line → PlainRowsComeBack → RowsArePrintable
-    → ListedRowsHaveNoFault → ReadRowsAreRows → WritableRowTextsComeBack
-writable_texts_back back media_exact come print fine read sdp lists id writable each one =
-    let attrs = attributes_read sdp.session.attrs writable.1 (sections_text sdp.media_lines) in
+pub written_texts_back : ListsComeBack → IsExact attribute_line → IsExact media_attribute_line → PlainRowsComeBack
+    → RowsArePrintable → ListedRowsHaveNoFault → ReadRowsAreRows → WrittenRowTextsComeBack
+written_texts_back back exact media_exact come print fine read sdp lists written each one =
+    let attrs = attributes_read exact sdp.session.attrs written.2 (sections_text sdp.media_lines) in
     let begins = subst (λ t. Begins (LineOf attribute_line.Says) (t ++ sections_text sdp.media_lines) attrs.0
     (sections_text sdp.media_lines)) (sym (joined_behind (map attribute_text sdp.session.attrs))) attrs.1 in (
       attrs.0,
-      text_reads back media_exact sdp (record sdp.session { attrs = attrs.0 })
-          (λ tail. session_reads sdp.session attrs.0 (sections_text sdp.media_lines) id
-          (bandwidth_reads sdp.session.bw writable.0) begins tail)
-          (sections_print print sdp.media_lines lists each) (none_at_fault fine sdp.media_lines lists each one),
+      text_reads sdp (record sdp.session { attrs = attrs.0 })
+          (λ tail. session_reads sdp.session attrs.0 (sections_text sdp.media_lines) written.0
+          (λ t other. ⊎_elim (λ (k : IfSome sdp.session.bw IsWritableBandwidth).
+          bandwidth_reads sdp.session.bw k t other) (λ (k : IsPrintableBandwidth sdp.session.bw).
+          perhaps_bandwidth sdp.session.bw t k other) written.1) begins tail)
+          (sections_printed back media_exact sdp.media_lines (sections_print print sdp.media_lines lists each))
+          (none_at_fault fine sdp.media_lines lists each one),
       attrs.2,
       sections_back come read sdp.media_lines lists each,
     )
+
+-- a session of which each attribute can be written
+all_written : (attrs : List SessionAttribute) → All IsWritableAttribute attrs → IsEach IsWritten attrs
+all_written [] h = tt
+all_written (a ∷ attrs) h = (
+  inl (All-head IsWritableAttribute a attrs h),
+  all_written attrs (All-tail IsWritableAttribute a attrs h),
+)
+
+all_come : (attrs bs : List SessionAttribute) → AllReadAs attrs bs → AllComeBack attrs bs
+all_come [] [] h = tt
+all_come (a ∷ attrs) (b ∷ bs) h = (h.0.0, all_come attrs bs h.1)
+all_come [] (b ∷ bs) h = absurd h
+all_come (a ∷ attrs) [] h = absurd h
+
+pub writable_texts_back : WrittenRowTextsComeBack → WritableRowTextsComeBack
+writable_texts_back back sdp lists id writable each one =
+    let whole = back sdp lists (id, inl writable.0, all_written sdp.session.attrs writable.1) each one in
+    (whole.0, whole.1, all_come sdp.session.attrs whole.0 whole.2, whole.3)
+
+-- a group in front of them
+one_more : (sdp : Sdp) (typ : List ℕ) (mids : List (List ℕ)) (attrs bs : List SessionAttribute)
+    → AllReadAs (session.Group typ mids ∷ attrs) bs → IsWord typ → AreMids mids
+    → SdpSays (sdp_text (grouped typ mids sdp)) (text_read (grouped typ mids sdp) bs) []
+    → (more : List SessionAttribute)
+    × SdpSays (sdp_text (grouped typ mids sdp)) (text_read (grouped typ mids sdp) (session.Group typ mids ∷ more)) []
+    × AllComeBack attrs more
+one_more sdp typ mids attrs [] h word names says = absurd h
+one_more sdp typ mids attrs (b ∷ bs) h word names says = (
+  bs,
+  subst (λ x. SdpSays (sdp_text (grouped typ mids sdp)) (text_read (grouped typ mids sdp) (x ∷ bs)) [])
+      (h.0.1 (word, names)) says,
+  all_come attrs bs h.1,
+)
+
+pub grouped_texts_back : WrittenRowTextsComeBack → GroupedRowTextsComeBack
+grouped_texts_back back sdp lists typ mids id writable word names each one =
+    let whole = back (grouped typ mids sdp) lists
+    (id, inl writable.0, (inr (word, names), all_written sdp.session.attrs writable.1)) each one in
+    let more = one_more sdp typ mids sdp.session.attrs whole.0 whole.2 word names whole.1 in
+    (more.0, more.1, more.2, whole.3)
+
+-- printable ones that are no groups
+pub printable_writable : IsExact attribute_line → PrintableIsWritable
+unfolding IsWritableAttribute
+printable_writable exact a h none = (
+  none,
+  (
+    a,
+    subst (λ t. LineOf attribute_line.Says t a []) (append-nil (attribute_text a)) (printed_reads exact a h []),
+    inr refl,
+  ),
+)
+
+mixed_writable : IsExact attribute_line → IsWritableAttribute session.AllowMixedExts
+unfolding IsWritableAttribute
+mixed_writable exact = (
+  refl,
+  (
+    session.Unused (codes "extmap-allow-mixed"),
+    subst (λ t. LineOf attribute_line.Says t (session.Unused (codes "extmap-allow-mixed")) [])
+        (append-nil (attribute_text session.AllowMixedExts))
+        (printed_line attribute_line exact (session.Unused (codes "extmap-allow-mixed"))
+        (attribute_text session.AllowMixedExts) [] allow_mixed),
+    inl refl,
+  ),
+)
+
+bundle : IsWord (codes "BUNDLE")
+bundle = (
+  ((λ e. cc), lacks 10 (codes "BUNDLE") refl, lacks 13 (codes "BUNDLE") refl),
+  lacks 32 (codes "BUNDLE") refl,
+)
+
+pub usual_written : IsExact attribute_line → UsualAttributesAreWritten
+usual_written exact mids h = (inr (bundle, h), (inl (mixed_writable exact), tt))

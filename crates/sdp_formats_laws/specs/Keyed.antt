@@ -24,6 +24,7 @@ IsKeyed (param.Tier v) = v < 2 ^ 8
 IsKeyed (param.SpropMaxDonDiff v) = v ≤ 32767
 IsKeyed (param.OctetAlign v) = Unit {0}
 IsKeyed (param.ModeSet v) = IsModes v
+IsKeyed (param.Apt v) = v < 2 ^ 8
 IsKeyed _ = ⊥
 
 abbrev pub AreKeyed : List FormatParam → Type 0
@@ -49,6 +50,7 @@ pair_of (param.Tier v) = pair (codes "tier") (decimal v)
 pair_of (param.SpropMaxDonDiff v) = pair (codes "sprop-max-don-diff") (decimal v)
 pair_of (param.OctetAlign v) = pair (codes "octet-align") (decimal (flag_digit v))
 pair_of (param.ModeSet v) = pair (codes "mode-set") (modes_text v)
+pair_of (param.Apt v) = pair (codes "apt") (decimal v)
 pair_of _ = pair [] []
 
 -- Of another key than those of a profile, tier and level (RFC 7798 7.1).
@@ -68,4 +70,5 @@ IsOrdinary (param.Tier v) = IsKeyed (param.Tier v)
 IsOrdinary (param.SpropMaxDonDiff v) = IsKeyed (param.SpropMaxDonDiff v)
 IsOrdinary (param.OctetAlign v) = IsKeyed (param.OctetAlign v)
 IsOrdinary (param.ModeSet v) = IsKeyed (param.ModeSet v)
+IsOrdinary (param.Apt v) = IsKeyed (param.Apt v)
 IsOrdinary _ = ⊥

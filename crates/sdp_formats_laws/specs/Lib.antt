@@ -6,9 +6,15 @@ pub mod ReadTexts
 pub mod LineEnds
 pub mod Behind
 pub mod CandidateWords
+pub mod ValueTexts
+pub mod RestrictionTexts
+pub mod Names
+pub mod OtherLines
 pub mod Ranges
 pub mod Keyed
+pub mod ParameterLists
 pub mod Parameters
 pub mod RowsBack
 pub mod Rows
+pub mod WrittenSession
 pub mod StaticTypes

@@ -1,20 +1,34 @@
 -- What holds of the parameters of rows.
-use Rattle.std.specs.Prelude.{◌≡◌, ◌≤◌, ℕ, List, [], ◌∷◌, true, Some}
+use Rattle.std.specs.Prelude.{◌≡◌, ◌≤◌, ◌↔◌, ◌&&◌, ℕ, Bool, List, [], ◌∷◌, true, Some}
 use Rattle.sdp_formats_params.specs.declared.param.FormatParam.{FormatParam}
 use Rattle.sdp_formats_params.specs.declared.param.FormatParam.TheVariants.{Apt, Red}
+use Rattle.sdp_formats_format.specs.Formats.{format_of}
+use Rattle.sdp_formats_format.specs.Texts.{format_text}
+use Rattle.sdp_formats_format.specs.declared.format.FormatParams.{FormatParams}
 use Rattle.sdp_formats_media_lines.specs.AsRead.{params_as_read}
 use Rattle.sdp_formats_source_lines.specs.Parameters.{parameters}
-use Rattle.sdp_formats_rows.specs.Plain.{is_plain}
+use Rattle.sdp_formats_rows.specs.Plain.{comes_back, has_plain_events, has_plain_feedback, has_plain_level}
+use Rattle.sdp_formats_rows.specs.Plain.{has_plain_red, has_plain_types, is_plain, is_plain_codec}
 use Rattle.sdp_formats_rows.specs.Rows.{Row}
 use Rattle.sdp_formats_row_attributes.specs.Attributes.{params_in}
 use Rattle.sdp_formats_types.specs.Printed.{params_text}
+use Rattle.sdp_formats_laws.specs.ParameterLists.{AreReadable}
 use Rattle.sdp_formats_laws.specs.Printable.{IsText}
+use Rattle.sdp_formats_laws.specs.Ranges.{IsInRange, OneLevel}
 
 -- Printed parameters can stand on a line and are read as themselves, or there are none.
 abbrev pub IsReadBack : List FormatParam → Type 0
 IsReadBack [] = Unit {0}
 IsReadBack (p ∷ ps) = IsText (params_text (p ∷ ps))
     × (parameters.reads (params_text (p ∷ ps)) ≡ Some (params_as_read (p ∷ ps)))
+
+-- So are lists of parameters that are readable.
+abbrev pub ReadableListsComeBack : Type 0
+ReadableListsComeBack = (ps : List FormatParam) → AreReadable ps → IsReadBack ps
+
+-- Those of a plain row are readable.
+abbrev pub PlainParametersAreReadable : Type 0
+PlainParametersAreReadable = (row : Row) → is_plain row ≡ true → AreReadable (params_in row.spec)
 
 -- The parameters of a plain row are read as they are printed.
 abbrev pub PlainParametersComeBack : Type 0
@@ -23,3 +37,23 @@ PlainParametersComeBack = (row : Row) → is_plain row ≡ true → IsReadBack (
 -- So are those of a type of retransmissions and of a type of redundant audio.
 abbrev pub LinksComeBack : Type 0
 LinksComeBack = (pt : ℕ) → pt ≤ 127 → IsReadBack (Apt pt ∷ []) × IsReadBack (Red pt ∷ [])
+
+-- A format whose numbers are of their widths, with one profile, tier and level at most and then no `profile-id`, is
+-- read of the text that it is printed as.
+abbrev pub FormatsComeBack : Type 0
+FormatsComeBack = (f : FormatParams) → IsInRange f → OneLevel f → format_of (format_text f) ≡ f
+
+-- So just these formats come back, as a plain row's does.
+abbrev pub PlainFormatsAreInRange : Type 0
+PlainFormatsAreInRange = (f : FormatParams) → comes_back f ≡ true ↔ (IsInRange f × OneLevel f)
+
+-- What a plain row has beside its format.
+abbrev pub has_plain_others : Row → Bool
+has_plain_others row =
+    has_plain_types row && is_plain_codec row.spec && has_plain_feedback row && has_plain_red row
+    && has_plain_events row.spec && has_plain_level row.spec
+
+-- A row with such a format is plain exactly where it has that.
+abbrev pub RowsAreAsPlainAsTheirOthers : Type 0
+RowsAreAsPlainAsTheirOthers = (row : Row) → IsInRange row.spec.format → OneLevel row.spec.format
+    → is_plain row ≡ has_plain_others row

@@ -7,10 +7,8 @@ use Rattle.sdp_formats_forms.specs.Split.{Lacks}
 use Rattle.sdp_formats_media_lines.specs.Choice.{media_attribute}
 use Rattle.sdp_formats_media_lines.specs.PrintedPairs.{ArePairs}
 use Rattle.sdp_formats_params.specs.declared.Pair.{Pair}
-use Rattle.sdp_formats_media_lines.specs.AsRead.{params_as_read}
-use Rattle.sdp_formats_source_lines.specs.Parameters.{parameters}
 use Rattle.sdp_formats_stream_lines.specs.Names.{has_name_chars}
-use Rattle.sdp_formats_types.specs.Printed.{params_text}
+use Rattle.sdp_formats_laws.specs.ParameterLists.{AreReadable}
 use Rattle.sdp_formats_values.specs.declared.candidate.Candidate as candidate
 use Rattle.sdp_formats_values.specs.declared.candidate.RelatedAddress.{RelatedAddress}
 use Rattle.sdp_formats_values.specs.declared.streams.SimulcastLayer.{SimulcastLayer}
@@ -91,9 +89,8 @@ AreWays [] [] = ⊥
 AreWays [] (r ∷ rs) = AreLayers (r ∷ rs)
 AreWays (s ∷ ss) rs = AreLayers (s ∷ ss) × AreLayers rs
 
--- An attribute whose texts can stand where they are printed. Of `a=fmtp` the parameters are such that their text is
--- read as themselves, a profile, tier and level in front; of a line of another kind the text is of no known kind. A
--- simulcast is one that is printed.
+-- An attribute whose texts can stand where they are printed. The parameters of `a=fmtp` are a readable list, and the
+-- text of a line of another kind is of no known kind. A simulcast is one that is printed.
 abbrev pub IsPrintable : MediaAttribute → Type 0
 IsPrintable (Rtcp v) = IsText v
 IsPrintable (IceUfrag v) = IsText v
@@ -118,8 +115,7 @@ IsPrintable (Candidate c) = IsPrintableCandidate c
 IsPrintable EndOfCandidates = Unit {0}
 IsPrintable (RtpMap pt m) = (pt ≤ 127) × IsPrintableMap m
 IsPrintable (RtcpFb pt v) = (pt ≤ 127) × IsText v
-IsPrintable (Fmtp pt (p ∷ ps)) = (pt ≤ 127) × IsText (params_text (p ∷ ps))
-    × (parameters.reads (params_text (p ∷ ps)) ≡ Some (params_as_read (p ∷ ps)))
+IsPrintable (Fmtp pt (p ∷ ps)) = (pt ≤ 127) × AreReadable (p ∷ ps)
 IsPrintable (Rid id direction pts restrictions) = (id.1 ≡ true) × IsName id.0 × AreLimits pts restrictions
 IsPrintable (Simulcast s) = (s.is_munged ≡ false) × AreWays s.send.0 s.recv.0
 IsPrintable (SsrcGroup semantics (s ∷ ss)) = IsWord semantics × AreBelow (2 ^ 32) (s ∷ ss)

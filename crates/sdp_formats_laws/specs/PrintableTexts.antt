@@ -1,7 +1,12 @@
 -- Session texts that are read as they are printed.
-use Rattle.std.specs.Prelude.{◌≡◌, ◌<◌, ◌^◌, ℕ, IsTrue, List, [], ◌∷◌, Option, Some, None}
+use Rattle.std.specs.Prelude.{◌≡◌, ◌<◌, ◌^◌, ◌++◌, ℕ, IsTrue, List, [], ◌∷◌, Option, Some, None}
 use Rattle.std.specs.List.{list_all}
+use Rattle.sdp_formats_forms.specs.Line.{LineOf}
 use Rattle.sdp_formats_forms.specs.Split.{Lacks}
+use Rattle.sdp_formats_media_lines.specs.AsRead.{as_read}
+use Rattle.sdp_formats_media_lines.specs.Choice.{attribute_line}
+use Rattle.sdp_formats_types.specs.PrintedMedia.{attribute_text}
+use Rattle.sdp_formats_types.specs.declared.media.MediaAttribute.{MediaAttribute}
 use Rattle.sdp_formats_session_lines.specs.Heads.{media_type}
 use Rattle.sdp_formats_faults.specs.Consistency.{is_consistent}
 use Rattle.sdp_formats_types.specs.declared.media.MediaLine.{MediaLine}
@@ -33,6 +38,14 @@ AreFormats (Unknown word) (pt ∷ pts) = IsWord word × (media_type word ≡ Som
 
 abbrev pub IsPrintableSection : MediaLine → Type 0
 IsPrintableSection m = AreFormats m.typ m.pts × IsPrintableBandwidth m.bw × IsEach IsPrintable m.attrs
+
+-- An attribute whose line is read as the attribute, whatever stands behind it, as a printable one's is; a section of
+-- such lines.
+abbrev pub LineComesBack : MediaAttribute → Type 0
+LineComesBack a = (rest : List ℕ) → LineOf attribute_line.Says (attribute_text a ++ rest) (as_read a) rest
+
+abbrev pub HasLinesThatComeBack : MediaLine → Type 0
+HasLinesThatComeBack m = AreFormats m.typ m.pts × IsPrintableBandwidth m.bw × IsEach LineComesBack m.attrs
 
 abbrev pub IsPrintableSession : Session → Type 0
 IsPrintableSession s = (s.id < 2 ^ 64) × IsPrintableBandwidth s.bw × IsEach IsPrintableInSession s.attrs

@@ -1,5 +1,5 @@
 -- Formats whose numbers are of their widths.
-use Rattle.std.specs.Prelude.{◌<◌, ◌≤◌, ◌^◌, ℕ, Option, Some, None, IfSome}
+use Rattle.std.specs.Prelude.{◌≡◌, ◌<◌, ◌≤◌, ◌^◌, ◌⊎◌, ℕ, Option, Some, None, IfSome}
 use Rattle.sdp_formats_format.specs.declared.format.FormatParams.{FormatParams}
 
 -- One of nine modes at least (RFC 4867 8.2).
@@ -12,9 +12,15 @@ AtMostOne (Some a) (Some b) = ⊥
 AtMostOne (Some a) None = Unit {0}
 AtMostOne None b = Unit {0}
 
+-- Each number of its width.
 abbrev pub IsInRange : FormatParams → Type 0
 IsInRange f = IfSome f.min_p_time (λ n. n < 2 ^ 8) × IfSome f.packetization_mode (λ n. n < 2 ^ 8)
     × IfSome f.profile_level_id (λ n. n < 2 ^ 32) × IfSome f.profile_id (λ n. n < 2 ^ 32)
     × IfSome f.profile (λ n. n < 2 ^ 8) × IfSome f.level_idx (λ n. n < 2 ^ 8) × IfSome f.tier (λ n. n < 2 ^ 8)
     × IfSome f.sprop_max_don_diff (λ n. n ≤ 32767) × IfSome f.telephone_event_max (λ n. n < 2 ^ 8)
     × IfSome f.mode_set IsModes
+
+-- One profile, tier and level at most, and no `profile-id` beside it.
+abbrev pub OneLevel : FormatParams → Type 0
+OneLevel f = ((f.h265_profile_tier_level ≡ None) × (f.h266_profile_tier_level ≡ None))
+    ⊎ ((f.profile_id ≡ None) × AtMostOne f.h265_profile_tier_level f.h266_profile_tier_level)

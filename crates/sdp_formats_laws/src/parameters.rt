@@ -3,17 +3,20 @@
 ghost use Rattle.std.specs.Prelude.{◌≡◌};
 ghost use Rattle.h26x_payload_profiles.specs.H265ProfileTierLevel.{fallback as h265_fallback};
 ghost use Rattle.h26x_payload_profiles.specs.H266ProfileTierLevel.{fallback as h266_fallback};
-ghost use Rattle.sdp_formats_laws.specs.Parameters.{LinksComeBack, PlainParametersComeBack};
+ghost use Rattle.sdp_formats_laws.specs.Parameters.{FormatsComeBack, LinksComeBack, PlainParametersAreReadable};
+ghost use Rattle.sdp_formats_laws.specs.Parameters.{PlainFormatsAreInRange, PlainParametersComeBack};
+ghost use Rattle.sdp_formats_laws.specs.Parameters.{ReadableListsComeBack, RowsAreAsPlainAsTheirOthers};
 
 use h26x_payload_profiles::{
     H265ProfileTierLevel, H266ProfileTierLevel, h265_tables_law, h266_tables_law,
 };
 use sdp_formats_media_lines::{pairs_law, printed_pairs_law};
 
-/// The parameters of a plain row, as its section lists them, are read as they are printed (RFC 8866 6.15): the same
-/// parameters, a profile, tier and level in front of the others.
-pub fn plain_parameters_law()
-    ensures { PlainParametersComeBack }
+/// Readable lists of parameters are read as they are printed (RFC 8866 6.15), a profile, tier and level in front of the
+/// others: lists of parameters of a key and a value, in any order; lists with one profile, tier and level, and others
+/// of distinct keys; and one parameter alone that has no key.
+pub fn parameter_lists_law()
+    ensures { ReadableListsComeBack }
 {
     pairs_law();
     printed_pairs_law();
@@ -21,13 +24,33 @@ pub fn plain_parameters_law()
     h266_tables_law();
 }
 
+/// The parameters of a plain row, as its section lists them, are such a list, so that they are read as they are
+/// printed.
+pub fn plain_parameters_law()
+    ensures readable { PlainParametersAreReadable }
+    ensures come_back { PlainParametersComeBack }
+{
+    parameter_lists_law();
+}
+
 /// The parameter of a type of retransmissions (RFC 4588 8.6) and that of a type of redundant audio (RFC 2198 5) are
 /// read as they are printed.
 pub fn links_law()
     ensures { LinksComeBack }
 {
-    pairs_law();
-    printed_pairs_law();
+    parameter_lists_law();
+}
+
+/// A format whose numbers are of their widths, with one profile, tier and level at most, is read of the text that it is
+/// printed as (RFC 8866 6.15), and no other format is: so a row with such a format is plain exactly where its types,
+/// its codec, its feedback and the rest are.
+pub fn formats_law()
+    ensures come_back { FormatsComeBack }
+    ensures in_range { PlainFormatsAreInRange }
+    ensures rows { RowsAreAsPlainAsTheirOthers }
+{
+    h265_tables_law();
+    h266_tables_law();
 }
 
 /// The constants `FALLBACK`, which stand where a session text says nothing: the numbers 1, 0 and 93 of H.265 (RFC 7798

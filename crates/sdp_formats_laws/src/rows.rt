@@ -4,12 +4,16 @@ ghost use Rattle.sdp_formats_laws.specs.Rows.{ListedRowsHaveNoFault, ReadRowsAre
 ghost use Rattle.sdp_formats_laws.specs.Rows.{RowTextsComeBack};
 ghost use Rattle.sdp_formats_laws.specs.Rows.{RowsArePrintable, WritableRowTextsComeBack};
 ghost use Rattle.sdp_formats_laws.specs.StaticTypes.{StaticTypesAgree};
+ghost use Rattle.sdp_formats_laws.specs.WrittenSession.{GroupedRowTextsComeBack, PrintableIsWritable};
+ghost use Rattle.sdp_formats_laws.specs.WrittenSession.{UsualAttributesAreWritten};
+ghost use Rattle.sdp_formats_laws.specs.WrittenSession.{WrittenRowTextsComeBack};
 
-use crate::parameters::{links_law, plain_parameters_law};
+use crate::parameters::{parameter_lists_law, plain_parameters_law};
 use crate::rows_back::plain_rows_come_back;
 use crate::texts::printed_texts_law;
 use sdp_formats_forms::Lined;
 use sdp_formats_media_lines::{MediaAttributeLine, printed_pairs_law};
+use sdp_formats_session_attributes::SessionAttributeLine;
 
 /// A section that lists plain rows, as `as_media_attrs` gives their attributes, can be printed: each of its lines is
 /// read as what it was printed of.
@@ -17,7 +21,6 @@ pub fn row_lines_law()
     ensures { RowsArePrintable }
 {
     plain_parameters_law();
-    links_law();
 }
 
 /// A section that lists plain rows of distinct types and has one name, at most one setup and, of RTP, one direction,
@@ -48,17 +51,32 @@ pub fn row_texts_law()
     read_rows_law();
 }
 
+/// The same of a session whose attributes can be written, as `is_writable_session` tells, or are printable, as a group
+/// of sections is: each printable one is read as itself, and each other one as itself or as one of no known kind. The
+/// group and `a=extmap-allow-mixed` of WebRTC's sessions are such, and a session that can be written with a group
+/// before its attributes, as `WholeText` prints it.
+pub fn written_row_texts_law()
+    ensures come_back { WrittenRowTextsComeBack }
+    ensures grouped { GroupedRowTextsComeBack }
+    ensures printable { PrintableIsWritable }
+    ensures usual { UsualAttributesAreWritten }
+{
+    SessionAttributeLine::exact_law();
+    MediaAttributeLine::exact_law();
+    printed_pairs_law();
+    parameter_lists_law();
+    plain_rows_come_back();
+    row_lines_law();
+    rows_without_fault_law();
+    read_rows_law();
+}
+
 /// The same of a session that can be written, as `is_writable_session` tells: each of its attributes is read as itself,
 /// or as one of no known kind.
 pub fn writable_row_texts_law()
     ensures { WritableRowTextsComeBack }
 {
-    MediaAttributeLine::exact_law();
-    printed_pairs_law();
-    plain_rows_come_back();
-    row_lines_law();
-    rows_without_fault_law();
-    read_rows_law();
+    written_row_texts_law();
 }
 
 /// The payload types that a section may list without a line `a=rtpmap` are those that have a codec of their own

@@ -1,9 +1,9 @@
-use Rattle.std.proofs.Common.{arith}
-use Rattle.sdp_formats_laws.proofs.OtherParams.{apt_back, red_back}
+use Rattle.std.proofs.Common.{[], ◌∷◌, arith, inl, inr}
+use Rattle.sdp_formats_params.specs.declared.param.FormatParam.TheVariants.{Apt, Red}
 use Rattle.sdp_formats_laws.proofs.parameters.links_law.Goals as goal
 
 pub returns : goal.returns
 returns c = λ pt h. (
-  apt_back c.printed_pairs_law.ensures.pairs pt (omega (h, arith)),
-  red_back c.pairs_law.ensures pt (omega (h, arith)),
+  c.parameter_lists_law.ensures (Apt pt ∷ []) (inl (omega (h, arith), tt)),
+  c.parameter_lists_law.ensures (Red pt ∷ []) (inr (inr (omega (h, arith)))),
 )

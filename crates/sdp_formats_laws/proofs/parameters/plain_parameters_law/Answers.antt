@@ -1,6 +1,9 @@
-use Rattle.sdp_formats_laws.proofs.PlainRows.{row_back}
+use Rattle.sdp_formats_laws.proofs.PlainRows.{row_readable}
+use Rattle.sdp_formats_row_attributes.specs.Attributes.{params_in}
 use Rattle.sdp_formats_laws.proofs.parameters.plain_parameters_law.Goals as goal
 
-pub returns : goal.returns
-returns c = row_back c.pairs_law.ensures c.printed_pairs_law.ensures.pairs c.h265_tables_law.ensures.comes_back
-    c.h266_tables_law.ensures.comes_back
+pub returns-clause-readable : goal.returns-clause-readable
+returns-clause-readable c = row_readable
+
+pub returns-clause-come_back : goal.returns-clause-come_back
+returns-clause-come_back c = λ row h. c.parameter_lists_law.ensures (params_in row.spec) (row_readable row h)

@@ -2,6 +2,4 @@ use Rattle.sdp_formats_laws.proofs.WritableTexts.{writable_texts_back}
 use Rattle.sdp_formats_laws.proofs.rows.writable_row_texts_law.Goals as goal
 
 pub returns : goal.returns
-returns c = writable_texts_back c.printed_pairs_law.ensures.restrictions c.exact_law.ensures
-    c.plain_rows_come_back.ensures c.row_lines_law.ensures
-    c.rows_without_fault_law.ensures c.read_rows_law.ensures
+returns c = writable_texts_back c.written_row_texts_law.ensures.come_back
