@@ -33,7 +33,8 @@ enum {
     JILQAMUR_IN_USE = 2,     /* the handle holds an object already */
     JILQAMUR_CLOSED = 3,     /* the handle holds no object */
     JILQAMUR_UNREADABLE = 4, /* no RTP header stands in front of the bytes */
-    JILQAMUR_DAMAGED = 5,    /* the padding does not fit, or an end finds no payload in the datagram */
+    JILQAMUR_DAMAGED = 5,    /* the padding does not fit; at an end also an empty payload, or redundancy that can't be
+                              * read or has another type */
     JILQAMUR_REFUSED = 6,    /* the number came before, or is 128 or more below the greatest */
     JILQAMUR_UNWRITABLE = 7, /* a payload type above 127, or more than 15 contributing sources */
     JILQAMUR_TOO_SMALL = 8,  /* the buffer is too small */
@@ -45,7 +46,7 @@ enum {
     JILQAMUR_NO_STREAM = 14,          /* no stream of that direction has this number */
     JILQAMUR_ROW_NOT_PLAIN = 15,      /* a row is of a kind that an end can't agree on */
     JILQAMUR_TYPES_NOT_DISTINCT = 16, /* a payload type stands for two things */
-    JILQAMUR_NOT_WRITABLE = 17,       /* an answer's text or a header extension's URI can't be written */
+    JILQAMUR_NOT_WRITABLE = 17,       /* the text of an offer or answer, or an extension's URI, can't be written */
     JILQAMUR_TEXT_UNREADABLE = 18,    /* the text isn't that of an offer or an answer */
     JILQAMUR_OUT_OF_TURN = 19,        /* an offer is pending, or none is */
     JILQAMUR_NOT_MEDIA = 20,          /* a section of the text is no media */
@@ -78,7 +79,7 @@ enum {
     JILQAMUR_AMR_WB_CORRUPTED = 46        /* an AMR-WB packet or sample breaks its format (RFC 4867 4.3) */
 };
 
-/* What an answer means, in words; never null. */
+/* What an answer means, in words; never null. Those of JILQAMUR_DAMAGED name its first cause alone. */
 static inline const char *jilqamur_error_text(uint32_t answer)
 {
     static const char *const texts[] = {
@@ -239,7 +240,10 @@ uint32_t jilqamur_packetizer_open(jilqamur_packetizer *packetizer, const jilqamu
 uint32_t jilqamur_packetizer_close(jilqamur_packetizer *packetizer);
 
 /* Cuts a sample of len bytes, a frame or an audio packet, into payloads of at most mtu bytes, which are left to be
- * fetched in place of those before, and writes how many there are into count. One of JILQAMUR_PACKET_TOO_SHORT to
+ * fetched in place of those before, and writes how many there are into count. Of AV1 the sample is the OBUs of a
+ * temporal unit, of which the last alone may have no size; of H.264, H.265 and H.266 an access unit with start codes,
+ * not lengths; of AMR-WB a header byte and the speech (RFC 4867 5.3); else the codec's bytes. Units come out in the
+ * same forms: each OBU with its size, each NAL unit behind 00 00 00 01. One of JILQAMUR_PACKET_TOO_SHORT to
  * JILQAMUR_AMR_WB_CORRUPTED where the codec refuses the sample, or JILQAMUR_MEMORY, and nothing has changed: count is
  * then how many were left before. */
 uint32_t jilqamur_packetizer_packetize(jilqamur_packetizer *packetizer, size_t mtu, const uint8_t *sample, size_t len,
@@ -422,13 +426,13 @@ typedef struct jilqamur_values {
     int64_t clock_offset;       /* how far the sender's clock is ahead, in seconds with 32 bits behind the point */
 } jilqamur_values;
 
-/* Sends a sample of sample_len bytes under a time in ticks of the row's clock: its datagrams are left to be fetched in
- * place of those before, and count is how many there are. They carry the values that are given, and the section's name
- * where mid_len is not 0, each if the agreed map has a number for it (RFC 8285, RFC 9143 15). JILQAMUR_NOT_TEXT,
- * JILQAMUR_NOT_MADE without an end, JILQAMUR_NO_STREAM; else the first that holds of JILQAMUR_STREAM_FAILED,
- * JILQAMUR_TIME_TOO_LARGE, JILQAMUR_LIMIT_TOO_SMALL and JILQAMUR_PAYLOAD, and the end is unchanged; or
- * JILQAMUR_MEMORY, and the stream sends no more. The datagrams that were left before stay then, and count is how many
- * those are. */
+/* Sends a sample of sample_len bytes, of the forms at jilqamur_packetizer_packetize, under a time in ticks of the row's
+ * clock: its datagrams are left to be fetched in place of those before, and count is how many there are. They carry the
+ * values that are given, and the section's name where mid_len is not 0, each if the agreed map has a number for it
+ * (RFC 8285, RFC 9143 15). JILQAMUR_NOT_TEXT, JILQAMUR_NOT_MADE without an end, JILQAMUR_NO_STREAM; else the first that
+ * holds of JILQAMUR_STREAM_FAILED, JILQAMUR_TIME_TOO_LARGE, JILQAMUR_LIMIT_TOO_SMALL and JILQAMUR_PAYLOAD, and the end
+ * is unchanged; or JILQAMUR_MEMORY, and the stream sends no more. The datagrams that were left before stay then, and
+ * count is how many those are. */
 uint32_t jilqamur_end_push_sample(jilqamur_end *end, size_t stream, uint64_t ticks, const jilqamur_values *values,
                                   const uint8_t *mid, size_t mid_len, const uint8_t *sample, size_t sample_len,
                                   size_t *count);
@@ -491,11 +495,12 @@ uint32_t jilqamur_sender_open(jilqamur_sender *sender, const jilqamur_sender_par
 /* Frees the stream: JILQAMUR_OK, or JILQAMUR_CLOSED where the handle is closed. It is closed afterwards. */
 uint32_t jilqamur_sender_close(jilqamur_sender *sender);
 
-/* Sends a sample of len bytes under a time in ticks of the stream's clock: its datagrams, of a header of 12 bytes and
- * a payload of at most mtu bytes, are left to be fetched in place of those before, and count is how many there are. The
- * first that holds of JILQAMUR_STREAM_FAILED, JILQAMUR_TIME_TOO_LARGE, JILQAMUR_LIMIT_TOO_SMALL and JILQAMUR_PAYLOAD,
- * and the stream is unchanged; or JILQAMUR_MEMORY, and it sends no more. The datagrams that were left before stay then,
- * and count is how many those are. */
+/* Sends a sample of len bytes, of the forms at jilqamur_packetizer_packetize, under a time in ticks of the stream's
+ * clock: its datagrams, of a header of 12 bytes and a payload of at most mtu bytes, are left to be fetched in place of
+ * those before, and count is how many there are. The first that holds of JILQAMUR_STREAM_FAILED,
+ * JILQAMUR_TIME_TOO_LARGE, JILQAMUR_LIMIT_TOO_SMALL and JILQAMUR_PAYLOAD, and the stream is unchanged; or
+ * JILQAMUR_MEMORY, and it sends no more. The datagrams that were left before stay then, and count is how many those
+ * are. */
 uint32_t jilqamur_sender_push_sample(jilqamur_sender *sender, uint64_t ticks, const uint8_t *sample, size_t len,
                                      size_t *count);
 

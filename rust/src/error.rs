@@ -18,7 +18,7 @@ pub enum EndError {
     RowNotPlain,
     /// A payload type stands for two things.
     TypesNotDistinct,
-    /// The session or the text can't be written.
+    /// The text of an offer or an answer, or a header extension's URI, can't be written.
     NotWritable,
     /// The text isn't that of an offer or an answer.
     TextUnreadable,

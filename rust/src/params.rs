@@ -160,7 +160,7 @@ pub struct Unit {
     pub first: u64,
     /// That of its last datagram.
     pub last: u64,
-    /// The RTP timestamp, in ticks of the row's clock.
+    /// The RTP timestamp, in ticks of the row's clock, of G.722 at 8,000 Hz.
     pub time: u32,
     /// Whether the codec says that it is a keyframe; VP9 and audio never do.
     pub is_keyframe: bool,
