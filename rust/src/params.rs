@@ -132,7 +132,7 @@ pub enum Received {
     Unreadable,
     /// No receiving stream has its SSRC and payload type.
     Foreign,
-    /// Its padding does not fit, or it has no payload.
+    /// Its padding does not fit, its payload is empty, or redundancy in it can't be read or has another type.
     Damaged,
     /// Its number was taken before, or is 128 or more below the greatest one taken.
     Refused,
