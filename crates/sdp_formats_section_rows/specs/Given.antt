@@ -44,10 +44,18 @@ with_codec_param f (OctetAlign v) = record f { octet_align = Some v }
 with_codec_param f (ModeSet v) = record f { mode_set = Some v }
 with_codec_param f _ = f
 
+-- How far a range of telephone events goes.
+abbrev pub range_in : FormatParam → Option ℕ
+range_in (TelephoneEvents most) = Some most
+range_in _ = None
+
+abbrev pub with_range : FormatParams → Option ℕ → FormatParams
+with_range f (Some most) = record f { telephone_event_max = Some most }
+with_range f None = f
+
 -- The format with one more parameter, a range of telephone events included.
 abbrev pub with_param : FormatParams → FormatParam → FormatParams
-with_param f (TelephoneEvents v) = record f { telephone_event_max = Some v }
-with_param f p = with_codec_param f p
+with_param f p = with_range (with_codec_param f p) (range_in p)
 
 -- The parameters that an attribute gives a payload type.
 abbrev pub values_for : ℕ → MediaAttribute → List FormatParam

@@ -6,7 +6,7 @@ ghost use Rattle.std.specs.List.{list_any};
 ghost use Rattle.sdp_formats_rows.specs.Codecs.{is_codec};
 ghost use Rattle.sdp_formats_section_rows.specs.Given.{events_after, events_in, format_given, is_declined};
 ghost use Rattle.sdp_formats_section_rows.specs.Given.{is_unsupported, most_of, with_attribute, with_events};
-ghost use Rattle.sdp_formats_section_rows.specs.Given.{with_codec_param, with_line, with_param};
+ghost use Rattle.sdp_formats_section_rows.specs.Given.{range_in, with_codec_param, with_line, with_param};
 ghost use Rattle.sdp_formats_section_rows.specs.declared.given.Events.TheVariants.{Default};
 
 use rtp_wire::Pt;
@@ -21,17 +21,25 @@ pub(crate) enum Events {
     Declined,
 }
 
+/// How far a parameter's range of telephone events goes.
+fn range_in(param: &FormatParam) -> Option<u8>
+    ensures { result ≡ range_in param.now }
+{
+    match *param {
+        FormatParam::TelephoneEvents(most) => Some(most),
+        _ => None,
+    }
+}
+
 /// The format with one more parameter, a range of telephone events included.
 pub fn with_param(format: FormatParams, param: &FormatParam) -> FormatParams
     ensures { result ≡ with_param format param.now }
 {
-    if let FormatParam::TelephoneEvents(most) = *param {
-        return FormatParams {
-            telephone_event_max: Some(most),
-            ..format
-        };
+    let mut f = with_codec_param(format, param);
+    if let Some(most) = range_in(param) {
+        f.telephone_event_max = Some(most);
     }
-    with_codec_param(format, param)
+    f
 }
 
 /// The format of a codec other than telephone events with one more parameter: a range of these changes nothing.
