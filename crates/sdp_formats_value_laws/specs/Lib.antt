@@ -1,0 +1,4 @@
+pub mod EachOnce
+pub mod Candidates
+pub mod Mapped
+pub mod Parameters
