@@ -8,7 +8,7 @@ use Rattle.rtp_media_lines.specs.declared.line.Command.TheVariants.{Ext, End, Of
 use Rattle.rtp_media_lines.specs.declared.line.Command.TheVariants.{Connect, Queue, Play}
 use Rattle.rtp_media_words.specs.Words.{letter_of, text_of, hex_of, dash_or, numbers_of, number_below, behind}
 use Rattle.rtp_media_words.specs.Words.{mid_value, ◌>>=◌}
-use Rattle.rtp_media_words.proofs.Behind.{behind-sound, behind-append}
+use Rattle.rtp_media_words.proofs.BehindLemmas.{behind-sound, behind-append}
 use Rattle.rtp_media_lines.specs.Lines.{command_of, fixed_of, send_of, open_of, sample_of, receive_of, poll_of}
 use Rattle.rtp_media_lines.proofs.ReadSteps.{dispatch, same, ended_some, read_on, glue, under}
 use Rattle.rtp_media_lines.proofs.ExchangeWords.{exchange_says, read_row, read_ext, read_end, read_offer, read_answer}

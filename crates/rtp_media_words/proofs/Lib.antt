@@ -1,4 +1,4 @@
-pub mod Behind
+pub mod BehindLemmas
 pub mod Each
 pub mod Numbers
 pub mod ReadBack

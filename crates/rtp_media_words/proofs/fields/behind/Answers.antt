@@ -1,4 +1,4 @@
-use Rattle.rtp_media_words.proofs.Behind.{behind-strip}
+use Rattle.rtp_media_words.proofs.BehindLemmas.{behind-strip}
 use Rattle.rtp_media_words.proofs.fields.behind.Goals as goal
 
 pub returns : goal.returns
