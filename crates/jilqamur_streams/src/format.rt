@@ -11,7 +11,7 @@ use rtp_media_payloads::RowFormat;
 
 /// What a stream of this format and codec goes by; else `OUT_OF_RANGE` for a clock rate of 0, `NOT_TEXT`, or
 /// `OUT_OF_RANGE` for a name that is none of a codec with a payload format.
-pub fn read_row(format: &WireFormat, codec: &[u8]) -> Result<RowFormat, u32>
+pub(crate) fn read_row(format: &WireFormat, codec: &[u8]) -> Result<RowFormat, u32>
     ensures row { IfOk result (λ row. row ≡ row_of format.now codec.now) }
     ensures format { IfOk result (λ row. has_format row.codec ≡ true) }
     ensures accepted { OnOk result (format_outcome format.now codec.now ≡ ok) }

@@ -170,7 +170,8 @@ impl Vp8Descriptor {
     /// The descriptor of a payload (RFC 7741 4.2).
     ///
     /// # Errors
-    /// `ShortPayload` where there is no byte, `MalformedDescriptor` where it passes the end or nothing stands behind it.
+    /// `ShortPayload` where there is no byte, `MalformedDescriptor` where it passes the end or nothing stands behind
+    /// it.
     pub fn parse(payload: &[u8]) -> Result<Self, Vp8DescriptorError>
         ensures { result ≡ parsed payload.now }
     {

@@ -13,7 +13,7 @@ pub const MAX_LINE_LENGTH: usize = 1_048_576;
 
 /// The bytes of a line so far, forgotten once there are too many.
 #[derive(Drop)]
-pub struct LineBuffer {
+pub(crate) struct LineBuffer {
     bytes: Vec<u8>,
     is_too_long: bool,
 }
@@ -27,7 +27,7 @@ impl Model for LineBuffer {
 }
 
 impl LineBuffer {
-    pub fn new(alloc: Global) -> LineBuffer
+    pub(crate) fn new(alloc: Global) -> LineBuffer
         ensures { result ≡ Some [] }
     {
         LineBuffer {
@@ -36,7 +36,7 @@ impl LineBuffer {
         }
     }
 
-    pub fn push(&mut self, byte: u8) -> Result<(), AllocError>
+    pub(crate) fn push(&mut self, byte: u8) -> Result<(), AllocError>
         ensures { OnOk result (self.new ≡ longer self.old byte) }
     {
         if self.is_too_long {
@@ -51,20 +51,20 @@ impl LineBuffer {
         Ok(())
     }
 
-    pub fn clear(&mut self)
+    pub(crate) fn clear(&mut self)
         ensures { self.new ≡ Some [] }
     {
         self.bytes.clear();
         self.is_too_long = false;
     }
 
-    pub fn is_empty(&self) -> bool
+    pub(crate) fn is_empty(&self) -> bool
         ensures { IsTrue result ↔ (self.now ≡ Some []) }
     {
         !self.is_too_long && self.bytes.is_empty()
     }
 
-    pub fn text(&self) -> Option<&[u8]>
+    pub(crate) fn text(&self) -> Option<&[u8]>
         ensures { option_copied result ≡ self.now }
     {
         if self.is_too_long {

@@ -1,4 +1,4 @@
-//! The lines of the program: what each says, and what each reply prints.
+//! The lines of the program: what each says.
 #![tactic(auto)]
 
 mod exchange;

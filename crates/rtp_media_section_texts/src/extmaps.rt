@@ -40,7 +40,10 @@ pub fn is_writable(exts: &ExtensionMap) -> bool
 }
 
 /// The lines of a map, in rising number (RFC 8285 8).
-pub fn extmap_lines(alloc: Global, exts: &ExtensionMap) -> Result<Vec<MediaAttribute>, AllocError>
+pub(crate) fn extmap_lines(
+    alloc: Global,
+    exts: &ExtensionMap,
+) -> Result<Vec<MediaAttribute>, AllocError>
     ensures { IfOk result (λ lines. lines.items ≡ extmap_lines exts.now) }
 {
     let mut lines = Vec::new(alloc);
@@ -77,7 +80,7 @@ fn push_answered(
 }
 
 /// The offered lines that an end with this map answers, in their order.
-pub fn answered_extmaps(
+pub(crate) fn answered_extmaps(
     alloc: Global,
     exts: &ExtensionMap,
     offered: &[MediaAttribute],

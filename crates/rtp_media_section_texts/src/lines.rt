@@ -90,7 +90,7 @@ fn push_ssrcs(
 }
 
 /// The section of a name and kind, with this direction, these extensions and these rows.
-pub fn section_line(
+pub(crate) fn section_line(
     alloc: Global,
     wanted: &SectionSpec,
     dir: Direction,

@@ -90,7 +90,7 @@ fn numbers_of(alloc: Global, word: &str) -> Result<Bytes, Misread>
 }
 
 /// The text before the first comma, and what stands behind that comma.
-pub fn split_comma(text: &str) -> (&str, Option<&str>)
+pub(crate) fn split_comma(text: &str) -> (&str, Option<&str>)
     ensures { comma_parts text.now ≡ result.0.now ∷ parts_in (option_copied result.1) }
 {
     match text.split_once(',') {

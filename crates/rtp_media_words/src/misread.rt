@@ -5,9 +5,12 @@ ghost use Rattle.rtp_media_words.specs.declared.misread.Misread.TheVariants.{Mem
 
 use std::alloc::{AllocError, AllocFailed};
 
+/// Why words could not be read as what a command takes there.
 #[derive(Drop)]
 pub enum Misread {
+    /// A word is missing, is left over, or is not of the form that stands there.
     NotUnderstood,
+    /// Out of memory.
     Memory,
 }
 

@@ -30,12 +30,18 @@ impl<'a> Model for Words<'a> {
 }
 
 impl<'a> Words<'a> {
+    /// The words of a line, with one blank between each two.
     pub fn new(line: &'a str) -> Words<'a>
         ensures { result ≡ words_of line.now }
     {
         Words { rest: Some(line) }
     }
 
+    /// The first word, and the words behind it.
+    ///
+    /// # Errors
+    ///
+    /// `NotUnderstood` where no word is left.
     pub fn next(self) -> Result<(&'a str, Words<'a>), Misread>
         ensures found { IfOk result (λ x. self.entry ≡ x.0.now ∷ x.1) }
         ensures none { IfErr result (λ e. (e ≡ Misread.NotUnderstood) × (self.entry ≡ [])) }
@@ -47,6 +53,11 @@ impl<'a> Words<'a> {
         Ok((word, Words { rest }))
     }
 
+    /// That no word is left.
+    ///
+    /// # Errors
+    ///
+    /// `NotUnderstood` where one is.
     pub fn end(self) -> Result<(), Misread>
         ensures { Reads result (ended self.entry tt) }
     {

@@ -19,7 +19,7 @@ use std::marker::Model;
 pub const MAX_ID_ONE_BYTE_FORM: u8 = 14;
 
 /// How many kinds of extensions there are, the unknown ones as one.
-pub const KINDS: usize = 11;
+pub(crate) const KINDS: usize = 11;
 
 /// The greatest number of a map.
 pub const MAX_ID: u8 = 16;

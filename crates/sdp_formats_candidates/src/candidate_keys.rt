@@ -10,7 +10,7 @@ use sdp_formats_values::{RelatedAddress, TcpType};
 
 /// A candidate by all of its fields. Keys are ordered and not hashed, since texts can be made that have one hash.
 #[derive(PartialEq, Eq, PartialOrd, Ord, Drop)]
-pub struct CandidateKey<'a> {
+pub(crate) struct CandidateKey<'a> {
     foundation: &'a str,
     component_id: u16,
     proto: &'a str,
@@ -51,7 +51,7 @@ fn ufrag_key(ufrag: &Option<Text>) -> Option<&str>
 }
 
 /// The key of a candidate.
-pub fn candidate_key(candidate: &Candidate) -> CandidateKey<'_>
+pub(crate) fn candidate_key(candidate: &Candidate) -> CandidateKey<'_>
     ensures { IsKeyOf result candidate.now }
 {
     CandidateKey {

@@ -61,7 +61,7 @@ fn is_known_mapped(attributes: &[MediaAttribute], known: &mut [bool], pt: Pt) ->
 }
 
 /// Is each of the payload types mapped so?
-pub fn are_mapped(attributes: &[MediaAttribute], pts: &[Pt]) -> bool
+pub(crate) fn are_mapped(attributes: &[MediaAttribute], pts: &[Pt]) -> bool
     ensures { result ≡ are_mapped attributes.now pts.now }
 {
     let mut known = [false; 256];

@@ -119,7 +119,7 @@ fn gives_apt(
 }
 
 /// Does each payload type retransmit one other at most?
-pub fn apts_agree(attributes: &[MediaAttribute]) -> bool
+pub(crate) fn apts_agree(attributes: &[MediaAttribute]) -> bool
     ensures { result ≡ apts_agree attributes.now }
 {
     let mut known = [None; 256];

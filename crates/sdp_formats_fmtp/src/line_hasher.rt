@@ -9,11 +9,11 @@ use std::hash::{BuildHasher, DefaultHasher, Hasher};
 // Makes hashers that have read all keys of a line already, so that keys whose hashes are the same can't be looked for
 // one by one: with each further key all hashes are others.
 #[derive(Clone, Copy, Drop)]
-pub struct LineHasher(DefaultHasher);
+pub(crate) struct LineHasher(DefaultHasher);
 
 impl LineHasher {
     /// For the keys of these pairs.
-    pub fn of(pairs: &[Pair]) -> LineHasher
+    pub(crate) fn of(pairs: &[Pair]) -> LineHasher
         ensures { result.0 ≡ with_keys pairs.now }
     {
         let mut hasher = DefaultHasher::new();

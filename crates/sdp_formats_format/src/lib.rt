@@ -1,6 +1,4 @@
 //! Format parameters of a codec, read from and printed as the text of `a=fmtp` (RFC 8866 6.15).
-//!
-//! How well two profiles and levels of H.264, H.265 and H.266 match, and what a match leaves of a level.
 #![tactic(auto)]
 
 mod fields;

@@ -3,7 +3,7 @@
 ghost use Rattle.std.specs.Prelude.{◌≡◌};
 ghost use Rattle.sdp_formats_level_scores.specs.Points.{distance, level_points, points_if};
 
-pub fn distance(place: usize, other: usize) -> usize
+pub(crate) fn distance(place: usize, other: usize) -> usize
     ensures { result ≡ distance place other }
 {
     place.abs_diff(other)
@@ -17,7 +17,7 @@ pub fn points_if(holds: bool, points: usize) -> Option<usize>
 }
 
 /// What levels at these places leave of 100 points.
-pub fn level_points(place: usize, other: usize) -> usize
+pub(crate) fn level_points(place: usize, other: usize) -> usize
     ensures { result ≡ level_points place other }
 {
     100usize.saturating_sub(distance(place, other))

@@ -1,5 +1,4 @@
-//! What sections and sessions say, by their attributes, beside the accessors of `MediaLine`, and what a
-//! section says of its sources (RFC 5576).
+//! What sections and sessions say by their attributes, beside the accessors of `MediaLine`.
 #![tactic(auto)]
 
 mod candidates;

@@ -1,8 +1,5 @@
-//! How the attributes of a section are read: the first kind of line that fits (RFC 8866 5.13).
-//!
-//! How the lines of streams are read: payload types with their parameters, header extensions, names of streams,
-//! sources, restrictions and simulcasts (RFC 8866 6.6 and 6.15, RFC 4585 4.2, RFC 8285 8, RFC 8830, RFC 5576, RFC 8851,
-//! RFC 8853).
+//! How the attributes of a section are read: the first kind of line that fits (RFC 8866 5.13), of those of transport
+//! (RFC 8839 5, RFC 8122 5, RFC 4145 4, RFC 8841 5 and 6) and those of streams.
 #![tactic(auto)]
 
 mod attributes;

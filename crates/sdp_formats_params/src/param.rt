@@ -69,6 +69,7 @@ fn is_flag(value: &str) -> bool
     value == "1"
 }
 
+/// Whether a key of `a=fmtp` is this name, whatever the case of its ASCII letters (RFC 4855 3).
 pub fn has_name(key: &str, name: &str) -> bool
     ensures { result ≡ str_eq_ignore_ascii_case name.now key.now }
 {

@@ -78,7 +78,7 @@ fn push_line(
 }
 
 /// Puts a line for each feedback that the row uses behind the attributes.
-pub fn push_feedback(
+pub(crate) fn push_feedback(
     alloc: Global,
     attributes: &mut Vec<MediaAttribute>,
     row: &PayloadParams,

@@ -10,7 +10,7 @@ use std::alloc::{AllocError, Global};
 
 /// The parameters of a codec: those of its format, or the range of telephone events, up to 16 where none is given
 /// (RFC 4733 2.4.1).
-pub fn params_in(alloc: Global, spec: &CodecSpec) -> Result<Vec<FormatParam>, AllocError>
+pub(crate) fn params_in(alloc: Global, spec: &CodecSpec) -> Result<Vec<FormatParam>, AllocError>
     ensures { IfOk result (λ params. params.items ≡ params_in spec.now) }
 {
     if !spec.codec.is_tele() {

@@ -1,4 +1,4 @@
-//! The rows that a section of a session text lists, and the attributes that list a row in it.
+//! The rows that a section of a session text lists (RFC 8866 6.6 and 6.15, RFC 4585 4.2, RFC 4588 8.1).
 #![tactic(auto)]
 
 mod facts;

@@ -79,7 +79,7 @@ fn mids_of(alloc: Global, mids: Option<Listed<Mid>>) -> Listed<Mid>
 }
 
 /// The value of an `a=group` line (RFC 5888 5).
-pub fn group(alloc: Global, value: &str) -> Result<SessionAttribute, Refusal>
+pub(crate) fn group(alloc: Global, value: &str) -> Result<SessionAttribute, Refusal>
     ensures { Gives result (group.reads value.now) }
 {
     let (word, more) = halves(without_last(value), ' ');
@@ -89,7 +89,7 @@ pub fn group(alloc: Global, value: &str) -> Result<SessionAttribute, Refusal>
 }
 
 /// The value of an `a=msid-semantic` line.
-pub fn msid_semantic(alloc: Global, value: &str) -> Result<SessionAttribute, Refusal>
+pub(crate) fn msid_semantic(alloc: Global, value: &str) -> Result<SessionAttribute, Refusal>
     ensures { Gives result (msid_semantic.reads value.now) }
 {
     let (word, streams) = split(without_first(value), ' ')?;

@@ -13,7 +13,7 @@ use sdp_formats_sessions::SessionAttribute;
 use sdp_formats_value_reader::{candidate_of, fingerprint_of, setup_of};
 use std::alloc::Global;
 
-pub fn ice_lite(text: &str) -> Option<SessionAttribute>
+pub(crate) fn ice_lite(text: &str) -> Option<SessionAttribute>
     ensures { result ≡ ice_lite text.now }
 {
     if text == "ice-lite" {
@@ -22,7 +22,7 @@ pub fn ice_lite(text: &str) -> Option<SessionAttribute>
     None
 }
 
-pub fn end_word(text: &str) -> Option<SessionAttribute>
+pub(crate) fn end_word(text: &str) -> Option<SessionAttribute>
     ensures { result ≡ end_word text.now }
 {
     if text == "end-of-candidates" {
@@ -31,56 +31,56 @@ pub fn end_word(text: &str) -> Option<SessionAttribute>
     None
 }
 
-pub fn group_line(alloc: Global, text: &str) -> Result<SessionAttribute, Refusal>
+pub(crate) fn group_line(alloc: Global, text: &str) -> Result<SessionAttribute, Refusal>
     ensures { Gives result (group_line.reads text.now) }
 {
     let value = behind(text, "group:")?;
     group(alloc, value)
 }
 
-pub fn msid_semantic_line(alloc: Global, text: &str) -> Result<SessionAttribute, Refusal>
+pub(crate) fn msid_semantic_line(alloc: Global, text: &str) -> Result<SessionAttribute, Refusal>
     ensures { Gives result (msid_semantic_line.reads text.now) }
 {
     let value = behind(text, "msid-semantic:")?;
     msid_semantic(alloc, value)
 }
 
-pub fn ice_ufrag_line(alloc: Global, text: &str) -> Result<SessionAttribute, Refusal>
+pub(crate) fn ice_ufrag_line(alloc: Global, text: &str) -> Result<SessionAttribute, Refusal>
     ensures { Gives result (ice_ufrag_line.reads text.now) }
 {
     let value = behind(text, "ice-ufrag:")?;
     Ok(SessionAttribute::IceUfrag(text_of(alloc, value)?))
 }
 
-pub fn ice_pwd_line(alloc: Global, text: &str) -> Result<SessionAttribute, Refusal>
+pub(crate) fn ice_pwd_line(alloc: Global, text: &str) -> Result<SessionAttribute, Refusal>
     ensures { Gives result (ice_pwd_line.reads text.now) }
 {
     let value = behind(text, "ice-pwd:")?;
     Ok(SessionAttribute::IcePwd(text_of(alloc, value)?))
 }
 
-pub fn ice_options_line(alloc: Global, text: &str) -> Result<SessionAttribute, Refusal>
+pub(crate) fn ice_options_line(alloc: Global, text: &str) -> Result<SessionAttribute, Refusal>
     ensures { Gives result (ice_options_line.reads text.now) }
 {
     let value = behind(text, "ice-options:")?;
     Ok(SessionAttribute::IceOptions(text_of(alloc, value)?))
 }
 
-pub fn fingerprint_line(alloc: Global, text: &str) -> Result<SessionAttribute, Refusal>
+pub(crate) fn fingerprint_line(alloc: Global, text: &str) -> Result<SessionAttribute, Refusal>
     ensures { Gives result (fingerprint_line.reads text.now) }
 {
     let value = behind(text, "fingerprint:")?;
     Ok(SessionAttribute::Fingerprint(fingerprint_of(alloc, value)?))
 }
 
-pub fn setup_line(text: &str) -> Result<SessionAttribute, Refusal>
+pub(crate) fn setup_line(text: &str) -> Result<SessionAttribute, Refusal>
     ensures { Gives result (setup_line.reads text.now) }
 {
     let value = behind(text, "setup:")?;
     Ok(SessionAttribute::Setup(setup_of(value)?))
 }
 
-pub fn candidate_line(alloc: Global, text: &str) -> Result<SessionAttribute, Refusal>
+pub(crate) fn candidate_line(alloc: Global, text: &str) -> Result<SessionAttribute, Refusal>
     ensures { Gives result (candidate_line.reads text.now) }
 {
     let value = behind(text, "candidate:")?;

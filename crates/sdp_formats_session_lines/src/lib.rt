@@ -1,6 +1,5 @@
-//! How the lines of a session are read: those before attributes, `v=`, `o=`, `s=`, `b=`, `t=`, `c=`, `m=` and those
-//! that are passed over (RFC 8866 5), and the attributes of a session, by the first kind of line that fits
-//! (RFC 8866 5.13).
+//! How lines that are no attributes are read: `v=`, `o=`, `s=`, `b=`, `t=`, `c=`, `m=` and those that are passed over
+//! (RFC 8866 5).
 #![tactic(auto)]
 
 mod header;

@@ -61,7 +61,7 @@ fn keep_repaired(
 /// The last that is said of each thing, under the source's number. The maps are sorted and not hashed: a remote peer
 /// chooses the numbers, and could choose ones whose hashes collide.
 #[derive(Drop)]
-pub struct Known<'a> {
+pub(crate) struct Known<'a> {
     repaired: BTreeMap<u32, Ssrc>,
     cnames: BTreeMap<u32, &'a str>,
     streams: BTreeMap<u32, &'a str>,
@@ -92,7 +92,7 @@ impl<'a> Known<'a> {
     }
 
     /// What attributes say of their sources.
-    pub fn from_attributes(
+    pub(crate) fn from_attributes(
         alloc: Global,
         attributes: &'a [MediaAttribute],
     ) -> Result<Known<'a>, AllocError>
@@ -106,7 +106,7 @@ impl<'a> Known<'a> {
     }
 
     /// What is known of a source.
-    pub fn info(&self, alloc: Global, source: Ssrc) -> Result<SsrcInfo, AllocError>
+    pub(crate) fn info(&self, alloc: Global, source: Ssrc) -> Result<SsrcInfo, AllocError>
         ensures { IfOk result (λ info. info ≡ info_with self.now [] source) }
     {
         Ok(SsrcInfo {

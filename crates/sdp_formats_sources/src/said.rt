@@ -29,7 +29,7 @@ fn name(alloc: Global, word: &str) -> Result<Option<Text>, AllocError>
 }
 
 /// The name that a word gives, where there is one.
-pub fn name_given(alloc: Global, word: Option<&str>) -> Result<Option<Text>, AllocError>
+pub(crate) fn name_given(alloc: Global, word: Option<&str>) -> Result<Option<Text>, AllocError>
     ensures { IfOk result (λ name. name ≡ name_given (option_copied word.entry)) }
 {
     match word {
@@ -55,7 +55,7 @@ fn value_said<'a>(word: &str, attribute: &'a MediaAttribute) -> Option<(u32, &'a
 }
 
 /// A source with the name of its end.
-pub fn cname_said(attribute: &MediaAttribute) -> Option<(u32, &str)>
+pub(crate) fn cname_said(attribute: &MediaAttribute) -> Option<(u32, &str)>
     ensures { (source : ℕ) → word_of source result ≡ value_in (codes "cname") source attribute.now }
 {
     value_said("cname", attribute)
@@ -76,7 +76,7 @@ fn track_word(value: &str) -> Option<&str>
 }
 
 /// A source with the word for its stream.
-pub fn stream_said(attribute: &MediaAttribute) -> Option<(u32, &str)>
+pub(crate) fn stream_said(attribute: &MediaAttribute) -> Option<(u32, &str)>
     ensures { (source : ℕ) → word_of source result ≡ stream_in source attribute.now }
 {
     let (source, value) = value_said("msid", attribute)?;
@@ -84,7 +84,7 @@ pub fn stream_said(attribute: &MediaAttribute) -> Option<(u32, &str)>
 }
 
 /// A source with the word for its track.
-pub fn track_said(attribute: &MediaAttribute) -> Option<(u32, &str)>
+pub(crate) fn track_said(attribute: &MediaAttribute) -> Option<(u32, &str)>
     ensures { (source : ℕ) → word_of source result ≡ track_in source attribute.now }
 {
     let (source, value) = value_said("msid", attribute)?;
@@ -102,7 +102,7 @@ fn pair_of(ssrcs: &[Ssrc]) -> Option<(Ssrc, Ssrc)>
 
 /// The repaired source and the one that repairs it, of a group of retransmission.
 #[tactic(auto, unfolding(crate::specs::Sources::repair_in))]
-pub fn repair_in(attribute: &MediaAttribute) -> Option<(Ssrc, Ssrc)>
+pub(crate) fn repair_in(attribute: &MediaAttribute) -> Option<(Ssrc, Ssrc)>
     ensures { result ≡ repair_in attribute.now }
 {
     match attribute {

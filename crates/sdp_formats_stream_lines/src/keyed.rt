@@ -25,7 +25,7 @@ fn has_word_bytes(text: &str) -> bool
         .all(|byte| *byte != b' ' && *byte != b'\t')
 }
 
-pub fn word(alloc: Global, text: &str) -> Result<Text, Refusal>
+pub(crate) fn word(alloc: Global, text: &str) -> Result<Text, Refusal>
     ensures { Gives result (word.reads text.now) }
 {
     let text = some(text)?;
@@ -55,7 +55,7 @@ fn behind_blank(text: &str) -> Option<&str>
 }
 
 /// The text behind the blanks and tabs that it begins with.
-pub fn unblanked(text: &str) -> &str
+pub(crate) fn unblanked(text: &str) -> &str
     ensures { result.now ≡ unblanked text.now }
 {
     let mut left = text;
@@ -87,7 +87,7 @@ fn padded(text: &str) -> Result<&str, Refusal>
     }
 }
 
-pub fn or_empty(text: Option<&str>) -> &str
+pub(crate) fn or_empty(text: Option<&str>) -> &str
     ensures { result.now ≡ or_empty (option_copied text.entry) }
 {
     match text {

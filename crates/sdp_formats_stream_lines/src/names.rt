@@ -30,7 +30,7 @@ fn has_name_chars(text: &str) -> bool
 }
 
 /// One or more letters and numbers.
-pub fn name(alloc: Global, text: &str) -> Result<Text, Refusal>
+pub(crate) fn name(alloc: Global, text: &str) -> Result<Text, Refusal>
     ensures { Gives result (name.reads text.now) }
 {
     let word = some(text)?;

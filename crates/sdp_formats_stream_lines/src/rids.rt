@@ -22,7 +22,7 @@ struct Limits {
     restriction: Listed<Pair>,
 }
 
-pub fn way(word: &str) -> Result<RidDirection, Refusal>
+pub(crate) fn way(word: &str) -> Result<RidDirection, Refusal>
     ensures { Gives result (way word.now) }
 {
     match word {

@@ -1,4 +1,4 @@
-//! What session texts say: the session, its media sections and their attributes (RFC 8866).
+//! What a media section of a session text says: its lines and its attributes (RFC 8866 5.14, 6).
 #![tactic(auto)]
 
 mod bandwidth;

@@ -31,7 +31,7 @@ fn is_word(text: &str, word: &str) -> bool
     word.eq_ignore_ascii_case(text)
 }
 
-pub fn protocol_of(word: &str) -> Result<Protocol, Refusal>
+pub(crate) fn protocol_of(word: &str) -> Result<Protocol, Refusal>
     ensures { Gives result (protocol_word word.now) }
 {
     if is_word(word, "udp") {
@@ -49,7 +49,7 @@ pub fn protocol_of(word: &str) -> Result<Protocol, Refusal>
     Err(Refusal::Unfit)
 }
 
-pub fn kind_of(word: &str) -> Result<CandidateKind, Refusal>
+pub(crate) fn kind_of(word: &str) -> Result<CandidateKind, Refusal>
     ensures { Gives result (kind_word word.now) }
 {
     match word {
@@ -61,7 +61,7 @@ pub fn kind_of(word: &str) -> Result<CandidateKind, Refusal>
     }
 }
 
-pub fn tcptype_of(word: &str) -> Result<TcpType, Refusal>
+pub(crate) fn tcptype_of(word: &str) -> Result<TcpType, Refusal>
     ensures { Gives result (tcptype_word word.now) }
 {
     match word {

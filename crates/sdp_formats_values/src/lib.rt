@@ -1,5 +1,5 @@
-//! Values of session texts that stand alone: candidates, fingerprints, setups, names and layers of streams; and how
-//! candidates, fingerprints and setups are read (RFC 8839 5.1, RFC 8122 5, RFC 4145 4).
+//! Values of session texts that stand alone: candidates, fingerprints, setups, names and layers of streams
+//! (RFC 8839 5.1, RFC 8122 5, RFC 4145 4, RFC 8851, RFC 8853).
 #![tactic(auto)]
 
 mod candidate;

@@ -1,6 +1,4 @@
-//! What is asked of values of session texts: whether two are equal, field by field; whether a session can be written,
-//! so that each of its lines is read as it was printed; and whether a section is free of faults (RFC 8866, RFC 9143,
-//! RFC 4588).
+//! Whether a session can be written, so that each of its lines is read as it was printed (RFC 8866).
 #![tactic(auto)]
 
 mod line;
