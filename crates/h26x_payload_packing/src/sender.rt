@@ -248,6 +248,10 @@ fn push_unit<'a>(
 }
 
 /// Sends what leaves of a sample's units; what is kept then.
+///
+/// # Errors
+///
+/// `AllocError` where memory runs out. Some of the packets may then stand behind the old ones.
 pub fn push_units<'a>(
     form: Form,
     sample: &'a [u8],

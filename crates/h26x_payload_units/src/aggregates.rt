@@ -19,6 +19,10 @@ pub enum AggregateFault {
 
 /// The first unit of an aggregate that is not empty, with `lead` bytes before its size, and what stands behind the
 /// unit.
+///
+/// # Errors
+///
+/// `CutShort` where the bytes end before a size does, `PastEnd` where a size passes the end.
 pub fn first_aggregated(lead: usize, body: &[u8]) -> Result<(&[u8], &[u8]), AggregateFault>
     ensures unit { IfOk result (λ cut. (later : ℕ) → aggregated lead later body.now
         ≡ with_first cut.0.now (aggregated later later cut.1.now)) }
@@ -63,6 +67,10 @@ pub fn aggregate_fault(lead: usize, later: usize, body: &[u8]) -> Option<Aggrega
 
 /// The whole units of an aggregate, each behind a start code, with `lead` bytes before the first size and `later`
 /// before each later one.
+///
+/// # Errors
+///
+/// `AllocError` where memory runs out.
 pub fn aggregated_units(
     alloc: Global,
     lead: usize,
@@ -90,6 +98,10 @@ pub fn aggregated_units(
 /// # Conditions
 ///
 /// The unit has at most 65,535 bytes.
+///
+/// # Errors
+///
+/// `AllocError` where memory runs out. A part of it may then stand behind the old bytes.
 pub fn push_sized(unit: &[u8], out: &mut Vec<u8>) -> Result<(), AllocError>
     requires { length unit.now ≤ 65535 }
     ensures { OnOk result (out.new.items ≡ out.old.items ++ sized unit.now) }

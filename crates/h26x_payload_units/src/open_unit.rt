@@ -10,6 +10,10 @@ use std::marker::Model;
 pub const ANNEXB_NALUSTART_CODE: [u8; 4] = [0, 0, 0, 1];
 
 /// Writes a unit behind its start code. Where memory runs out, `out` is as it was.
+///
+/// # Errors
+///
+/// `AllocError` where memory runs out.
 pub fn push_unit(unit: &[u8], out: &mut Vec<u8>) -> Result<(), AllocError>
     ensures written { OnOk result (out.new.items ≡ out.old.items ++ behind_code unit.now) }
     ensures unchanged { OnErr result (out.new.items ≡ out.old.items) }
@@ -24,6 +28,10 @@ pub fn push_unit(unit: &[u8], out: &mut Vec<u8>) -> Result<(), AllocError>
 }
 
 /// Writes a unit of a header and a body behind its start code. Where memory runs out, `out` is as it was.
+///
+/// # Errors
+///
+/// `AllocError` where memory runs out.
 pub fn push_unit_of(header: &[u8], body: &[u8], out: &mut Vec<u8>) -> Result<(), AllocError>
     ensures written { OnOk result (out.new.items ≡ out.old.items ++ behind_code (header.now ++ body.now)) }
     ensures unchanged { OnErr result (out.new.items ≡ out.old.items) }
@@ -84,6 +92,10 @@ impl OpenUnit {
     /// Takes a fragment: with `is_start` it begins a unit with this header, whatever was open; else it goes on with
     /// the open one, and is passed over where none is. With `is_end` the unit is then written behind its start code,
     /// and none is open. Where memory runs out, the open unit and `out` are as they were.
+    ///
+    /// # Errors
+    ///
+    /// `AllocError` where memory runs out.
     pub fn put(
         &mut self,
         is_start: bool,

@@ -56,6 +56,10 @@ pub fn number_given(has: bool, number: u16) -> Option<u16>
 
 /// The format of the codec of this name; else `OUT_OF_RANGE` for a clock rate of 0, `NOT_TEXT`, or `OUT_OF_RANGE` for a
 /// name that is none of a codec with a payload format.
+///
+/// # Errors
+///
+/// The first that holds of `OUT_OF_RANGE` for a clock rate of 0, `NOT_TEXT`, and `OUT_OF_RANGE` for a name.
 pub fn read_format(format: &WireFormat, codec: &[u8]) -> Result<PayloadFormat, u32>
     ensures format { IfOk result (λ read. read ≡ format_named format.now codec.now) }
     ensures codec { IfOk result (λ read. has_format read.codec ≡ true) }

@@ -71,6 +71,10 @@ fn pop_code(
 impl PacketInbox {
     /// A depacketizer that took nothing. Past a missing packet a unit is handed out only once more than `hold_back`
     /// frames are complete. Else why the format is none.
+    ///
+    /// # Errors
+    ///
+    /// Why the format is none, as `read_format` says it.
     pub fn new(
         alloc: Global,
         format: &WireFormat,

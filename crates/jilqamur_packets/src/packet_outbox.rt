@@ -91,6 +91,10 @@ fn marker_at(
 
 impl PacketOutbox {
     /// A packetizer that cut nothing; else `OUT_OF_RANGE` for a picture id off its range, or why the format is none.
+    ///
+    /// # Errors
+    ///
+    /// `OUT_OF_RANGE` for a picture id off its range; else why the format is none, as `read_format` says it.
     pub fn new(
         alloc: Global,
         params: &WirePacketizer,

@@ -39,6 +39,10 @@ impl Model for Inbox {
 impl Inbox {
     /// A stream that took nothing. Past a missing packet a unit is handed out only once more than `hold_back` frames
     /// are complete. Else why the format is none.
+    ///
+    /// # Errors
+    ///
+    /// Why the format is none, as `read_format` says it.
     pub fn new(
         alloc: Global,
         format: &WireFormat,

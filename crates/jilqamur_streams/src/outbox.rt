@@ -62,6 +62,10 @@ fn is_off_range(sender: &WireSender) -> bool
 impl Outbox {
     /// A stream that sent nothing, without header extensions; else `OUT_OF_RANGE` for numbers off their ranges, or why
     /// the format is none.
+    ///
+    /// # Errors
+    ///
+    /// `OUT_OF_RANGE` for numbers off their ranges; else why the format is none, as `read_format` says it.
     pub fn new(
         alloc: Global,
         sender: &WireSender,

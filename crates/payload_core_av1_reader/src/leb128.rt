@@ -43,6 +43,14 @@ pub fn sized_part(text: &[u8]) -> Option<(&[u8], &[u8])>
 }
 
 /// Writes a size in its shortest form behind the bytes of `out`.
+///
+/// # Conditions
+///
+/// The size is below the limit of its form, 2^56.
+///
+/// # Errors
+///
+/// `AllocError` where memory runs out. A part of it may then stand behind the old bytes.
 pub fn push_size(out: &mut Vec<u8>, size: usize) -> Result<(), AllocError>
     requires { size < size_limit }
     ensures written { IfOk result (λ _. out.new.items ≡ out.old.items ++ spelling size) }
@@ -58,6 +66,10 @@ pub fn push_size(out: &mut Vec<u8>, size: usize) -> Result<(), AllocError>
 }
 
 /// How many bytes a size has in its shortest form.
+///
+/// # Conditions
+///
+/// The size is below the limit of its form, 2^56.
 pub fn size_len(size: usize) -> usize
     requires { size < size_limit }
     ensures value { result ≡ length (spelling size) }

@@ -146,6 +146,14 @@ impl Obu<'_> {
 
     /// Writes the unit with S and its size in the shortest form. Where memory runs out, a part of it may stand
     /// behind the old bytes.
+    ///
+    /// # Conditions
+    ///
+    /// The payload is below the limit of units.
+    ///
+    /// # Errors
+    ///
+    /// `AllocError` where memory runs out.
     pub fn push_with_size(&self, out: &mut Vec<u8>) -> Result<(), AllocError>
         requires { length self.now.payload.now < payload_limit }
         ensures written { IfOk result (λ _. out.new.items ≡ out.old.items
@@ -166,6 +174,10 @@ impl Obu<'_> {
     }
 
     /// The bytes of the unit without S and size.
+    ///
+    /// # Errors
+    ///
+    /// `AllocError` where memory runs out.
     pub fn without_its_size(&self, alloc: Global) -> Result<Vec<u8>, AllocError>
         ensures { IfOk result (λ v. v.items
             ≡ without_its_size (obu self.now.header self.now.extension self.now.payload.now)) }

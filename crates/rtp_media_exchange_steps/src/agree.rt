@@ -10,6 +10,14 @@ use sdp_formats_types::MediaLine;
 use std::alloc::{AllocError, Global};
 
 /// What the end agrees on that answers sections, by the answer's own text.
+///
+/// # Conditions
+///
+/// The offer and the answer have as many sections as the end wants.
+///
+/// # Errors
+///
+/// `AllocError` where memory runs out.
 pub fn answered_agreement(
     alloc: Global,
     wanted: &[SectionSpec],
@@ -29,6 +37,14 @@ pub fn answered_agreement(
 }
 
 /// What the end agrees on that offered sections.
+///
+/// # Conditions
+///
+/// The answer has as many sections as the end wants.
+///
+/// # Errors
+///
+/// `AllocError` where memory runs out.
 pub fn accepted_agreement(
     alloc: Global,
     wanted: &[SectionSpec],

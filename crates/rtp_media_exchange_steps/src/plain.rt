@@ -9,7 +9,11 @@ use rtp_wire::Pt;
 use sdp_formats_rows::PayloadParams;
 use std::alloc::Global;
 
-/// Whether each row is plain.
+/// That each row is plain.
+///
+/// # Errors
+///
+/// `RowNotPlain` with the place of the first that isn't; or `Memory`.
 pub fn check_rows(alloc: Global, rows: &[PayloadParams]) -> Result<(), EndError>
     ensures ok { OnOk result (row_refusal 0 rows.now ≡ None) }
     ensures refused { IfErr result (λ e. e ≢ EndError.Memory → row_refusal 0 rows.now ≡ Some e) }
@@ -39,7 +43,11 @@ fn first_repeated(types: &[Pt]) -> Option<Pt>
     None
 }
 
-/// Whether each payload type stands for one thing.
+/// That each payload type stands for one thing.
+///
+/// # Errors
+///
+/// `TypesNotDistinct` with the first type that stands there twice; or `Memory`.
 pub fn check_types(alloc: Global, rows: &[PayloadParams]) -> Result<(), EndError>
     ensures ok { OnOk result (types_refusal rows.now ≡ None) }
     ensures refused { IfErr result (λ e. e ≢ EndError.Memory → types_refusal rows.now ≡ Some e) }

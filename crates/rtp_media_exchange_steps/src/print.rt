@@ -71,6 +71,10 @@ fn offered_lines(
 }
 
 /// The text of an offer of these sections.
+///
+/// # Errors
+///
+/// `AllocError` where memory runs out.
 pub fn offer_text(
     alloc: Global,
     session: &Session,
@@ -107,6 +111,14 @@ fn answered_lines(
 }
 
 /// The text of the answer to sections.
+///
+/// # Conditions
+///
+/// The offer has as many sections as the answer.
+///
+/// # Errors
+///
+/// `AllocError` where memory runs out.
 pub fn answer_text(
     alloc: Global,
     session: &Session,

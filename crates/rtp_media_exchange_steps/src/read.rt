@@ -10,6 +10,10 @@ use sdp_formats_types::MediaLine;
 use std::alloc::Global;
 
 /// The sections of a text; what stands from the first line on that fits nowhere is passed over.
+///
+/// # Errors
+///
+/// `Unreadable` with the reader's error; or `Memory`.
 pub fn read(alloc: Global, text: &str) -> Result<Vec<MediaLine>, ExchangeError>
     ensures says { IfOk result (λ lines. SaysOnly text.now lines.items) }
     ensures refused { IfErr result (λ e. IsUnread text.now e) }

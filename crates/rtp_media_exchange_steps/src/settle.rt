@@ -20,7 +20,11 @@ use sdp_formats_section_rows::rtp_params;
 use sdp_formats_types::MediaLine;
 use std::alloc::{AllocError, Global};
 
-/// Whether each section of a text is media.
+/// That each section of a text is media.
+///
+/// # Errors
+///
+/// `NotMedia` with the name of the first that isn't.
 pub fn check_media(lines: &[MediaLine]) -> Result<(), ExchangeError>
     ensures ok { OnOk result (not_media_of (find (λ m. not (is_media_line m)) lines.now) ≡ None) }
     ensures refused { IfErr result (λ e. not_media_of (find (λ m. not (is_media_line m)) lines.now) ≡ Some e) }
@@ -34,6 +38,10 @@ pub fn check_media(lines: &[MediaLine]) -> Result<(), ExchangeError>
 }
 
 /// The names and kinds of wanted sections.
+///
+/// # Errors
+///
+/// `AllocError` where memory runs out.
 pub fn wanted_shapes(alloc: Global, sections: &[SectionSpec]) -> Result<Vec<Shape>, AllocError>
     ensures { IfOk result (λ shapes. shapes.items ≡ map shape_of sections.now) }
 {
@@ -45,6 +53,10 @@ pub fn wanted_shapes(alloc: Global, sections: &[SectionSpec]) -> Result<Vec<Shap
 }
 
 /// The names and kinds of agreed sections.
+///
+/// # Errors
+///
+/// `AllocError` where memory runs out.
 pub fn agreed_shapes(alloc: Global, sections: &[AgreedSection]) -> Result<Vec<Shape>, AllocError>
     ensures { IfOk result (λ shapes. shapes.items ≡ map shape_of_agreed sections.now) }
 {
@@ -56,6 +68,10 @@ pub fn agreed_shapes(alloc: Global, sections: &[AgreedSection]) -> Result<Vec<Sh
 }
 
 /// The names and kinds of the sections of a text.
+///
+/// # Errors
+///
+/// `AllocError` where memory runs out.
 pub fn line_shapes(alloc: Global, lines: &[MediaLine]) -> Result<Vec<Shape>, AllocError>
     ensures { IfOk result (λ shapes. shapes.items ≡ map shape_of_line lines.now) }
 {
@@ -77,6 +93,10 @@ fn remotes(alloc: Global, lines: &[MediaLine]) -> Result<Vec<RemoteSection>, All
 }
 
 /// The config after a round with each section of a text.
+///
+/// # Errors
+///
+/// `Round` with the error of the first round that fails; or `Memory`.
 pub fn settled(
     alloc: Global,
     config: &CodecConfig,
@@ -104,7 +124,11 @@ fn answers_none(alloc: Global, config: &CodecConfig, line: &MediaLine) -> Result
     Ok(rows.is_empty())
 }
 
-/// Whether the answer to each section would list a row.
+/// That the answer to each section would list a row.
+///
+/// # Errors
+///
+/// `NoCommonRow` with the name of the first section whose answer would list none; or `Memory`.
 pub fn check_answered(
     alloc: Global,
     config: &CodecConfig,
@@ -142,7 +166,11 @@ fn shares_none(alloc: Global, config: &CodecConfig, line: &MediaLine) -> Result<
     Ok(!is_any_locked_at(config.params(), rows.as_slice()))
 }
 
-/// Whether each section of an answer has a row at the type of a locked one.
+/// That each section of an answer has a row at the type of a locked one.
+///
+/// # Errors
+///
+/// `NoCommonRow` with the name of the first section that has none; or `Memory`.
 pub fn check_accepted(
     alloc: Global,
     config: &CodecConfig,

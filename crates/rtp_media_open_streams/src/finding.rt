@@ -26,6 +26,10 @@ fn sends_at(streams: &[OpenStream], number: usize, ssrc: Ssrc, pt: Pt) -> bool
 }
 
 /// The number of the stream that takes this SSRC and payload type.
+///
+/// # Conditions
+///
+/// The index is that of the streams that receive.
 pub fn stream_for(
     streams: &[OpenStream],
     receivers: &StreamIndex,
@@ -82,6 +86,10 @@ fn is_taken_as_red(
 }
 
 /// Whether one of the streams could take the datagrams of one of this SSRC and these payload types.
+///
+/// # Conditions
+///
+/// The index is that of the streams that receive.
 pub fn could_receive(
     streams: &[OpenStream],
     receivers: &StreamIndex,
@@ -112,6 +120,10 @@ fn is_sent_as_red(
 }
 
 /// Whether one of the streams could send the datagrams of one of this SSRC and these payload types.
+///
+/// # Conditions
+///
+/// The index is that of the streams that send.
 pub fn could_send(
     streams: &[OpenStream],
     senders: &StreamIndex,

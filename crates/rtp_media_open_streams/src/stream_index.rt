@@ -44,6 +44,10 @@ impl StreamIndex {
     }
 
     /// Sets a number.
+    ///
+    /// # Errors
+    ///
+    /// `AllocError` where memory runs out.
     pub fn set(&mut self, ssrc: Ssrc, pt: Pt, number: usize) -> Result<(), AllocError>
         ensures set { OnOk result (number_at self.new ssrc pt ≡ Some number) }
         ensures others { (s p : ℕ) → is_key ssrc pt s p ≡ false
@@ -59,6 +63,10 @@ impl StreamIndex {
 
     /// Sets the number of a stream under its SSRC and each of its types. Where memory runs out it may be set under
     /// one of them.
+    ///
+    /// # Errors
+    ///
+    /// `AllocError` where memory runs out.
     pub fn set_types(
         &mut self,
         ssrc: Ssrc,

@@ -13,6 +13,10 @@ use std::alloc::Global;
 
 /// The packetizer of a row, with picture ids from this one on or without, and in the forms for browsers or the
 /// plain ones.
+///
+/// # Conditions
+///
+/// The codec has a payload format, and the picture id is below 32,768.
 pub fn packetizer_for(
     row: &RowFormat,
     picture_id: Option<u16>,
@@ -47,6 +51,10 @@ fn plain_packetizer_for(row: &RowFormat, picture_id: Option<u16>) -> CodecPacket
 }
 
 /// The depacketizer of a row, with no fragment open.
+///
+/// # Conditions
+///
+/// The codec has a payload format.
 pub fn depacketizer_for(alloc: Global, row: &RowFormat) -> CodecDepacketizer<NotBoxed>
     requires { has_format row.now.codec ≡ true }
     ensures format { ⟦<CodecDepacketizer<NotBoxed> as Depacketizer>⟧.format result ≡ format_of row.now }

@@ -41,6 +41,10 @@ fn unwrapped<'a>(types: &PayloadTypes, pt: Pt, payload: &'a [u8]) -> Option<&'a 
 }
 
 /// The payload of a datagram without its padding and redundancy.
+///
+/// # Conditions
+///
+/// The header was read from the datagram, and is no longer than it.
 pub fn media_payload<'a>(
     types: &PayloadTypes,
     header: &RtpHeader,

@@ -106,6 +106,10 @@ fn rows_answering(
 
 /// The rows that the answer to an offered section lists: in the offered order and each once, the locked rows under
 /// whose types offered rows are used (RFC 3264 6.1).
+///
+/// # Errors
+///
+/// `AllocError` where memory runs out.
 #[tactic(auto, unfolding(crate::specs::Answered::answered_rows))]
 pub fn answered_rows(
     alloc: Global,
@@ -119,6 +123,10 @@ pub fn answered_rows(
 }
 
 /// The section that answers an offered one: with the rows that answer the offered ones, after the round.
+///
+/// # Errors
+///
+/// `AllocError` where memory runs out.
 #[tactic(auto, unfolding(crate::specs::Answered::answered_section))]
 pub fn answered_section(
     alloc: Global,

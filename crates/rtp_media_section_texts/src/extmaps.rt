@@ -111,6 +111,10 @@ fn read_line(
 }
 
 /// The map that a section's lines say: of several lines of one number the last counts.
+///
+/// # Errors
+///
+/// `AllocError` where memory runs out.
 pub fn map_of_lines(alloc: Global, attrs: &[MediaAttribute]) -> Result<ExtensionMap, AllocError>
     ensures { IfOk result (λ exts. exts ≡ map_of_lines attrs.now) }
 {

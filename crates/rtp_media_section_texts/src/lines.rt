@@ -42,6 +42,10 @@ fn push_types(types: &mut Vec<Pt>, row: &PayloadParams) -> Result<(), AllocError
 }
 
 /// The types of rows, with those of their retransmissions and their RED types.
+///
+/// # Errors
+///
+/// `AllocError` where memory runs out.
 pub fn types_listed(alloc: Global, rows: &[PayloadParams]) -> Result<Vec<Pt>, AllocError>
     ensures { IfOk result (λ types. types.items ≡ types_listed rows.now) }
 {
@@ -117,6 +121,10 @@ pub(crate) fn section_line(
 }
 
 /// The section that an end offers: all extensions that it wants, and all rows of the kind (RFC 8829 5.2.1).
+///
+/// # Errors
+///
+/// `AllocError` where memory runs out.
 #[tactic(auto, unfolding(crate::specs::Lines::offered_section))]
 pub fn offered_section(
     alloc: Global,

@@ -53,6 +53,10 @@ pub fn is_media_line(line: &MediaLine) -> bool
 }
 
 /// What a round takes of a section: its rows and its direction.
+///
+/// # Errors
+///
+/// `AllocError` where memory runs out.
 #[tactic(auto, unfolding(rtp_media_section_texts::specs::Lines::remote_of))]
 pub fn remote_of(alloc: Global, line: &MediaLine) -> Result<RemoteSection, AllocError>
     ensures { IfOk result (λ section. section_of section ≡ remote_of line.now) }

@@ -54,6 +54,10 @@ pub fn number_up_to(word: &str, max: u64) -> Option<u64>
 }
 
 /// The bytes that hexadecimal digits write.
+///
+/// # Errors
+///
+/// `NotUnderstood` where it has another sign, or an odd number of them, or none; or `Memory`.
 pub fn hex_of(alloc: Global, word: &str) -> Result<Bytes, Misread>
     ensures { Reads result (hex_of word.now) }
 {
@@ -100,6 +104,10 @@ pub(crate) fn split_comma(text: &str) -> (&str, Option<&str>)
 }
 
 /// The end that the next word names.
+///
+/// # Errors
+///
+/// `NotUnderstood` where no word is left, or it names no end.
 pub fn letter_word(words: Words<'_>) -> Result<(Letter, Words<'_>), Misread>
     ensures { Reads result (first letter_of words.entry) }
 {
@@ -111,6 +119,10 @@ pub fn letter_word(words: Words<'_>) -> Result<(Letter, Words<'_>), Misread>
 }
 
 /// The next word as a number up to `max`.
+///
+/// # Errors
+///
+/// `NotUnderstood` where no word is left, or it is no such number.
 pub fn number_word(words: Words<'_>, max: u64) -> Result<(u64, Words<'_>), Misread>
     ensures value { Reads result (first (number_below (max + 1)) words.entry) }
     ensures bound { IfOk result (λ x. x.0 ≤ max) }
@@ -123,6 +135,10 @@ pub fn number_word(words: Words<'_>, max: u64) -> Result<(u64, Words<'_>), Misre
 }
 
 /// The next word as a text.
+///
+/// # Errors
+///
+/// `NotUnderstood` where no word is left, or it is empty; or `Memory`.
 pub fn text_word(alloc: Global, words: Words<'_>) -> Result<(Text, Words<'_>), Misread>
     ensures { Reads result (first text_of words.entry) }
 {
@@ -134,6 +150,10 @@ pub fn text_word(alloc: Global, words: Words<'_>) -> Result<(Text, Words<'_>), M
 }
 
 /// The bytes that the next word writes in hexadecimal digits.
+///
+/// # Errors
+///
+/// `NotUnderstood` where no word is left, or it isn't hexadecimal; or `Memory`.
 pub fn hex_word(alloc: Global, words: Words<'_>) -> Result<(Bytes, Words<'_>), Misread>
     ensures { Reads result (first hex_of words.entry) }
 {
@@ -143,6 +163,10 @@ pub fn hex_word(alloc: Global, words: Words<'_>) -> Result<(Bytes, Words<'_>), M
 }
 
 /// The distances of the next word, or none at a dash.
+///
+/// # Errors
+///
+/// `NotUnderstood` where no word is left, or it is neither a dash nor numbers; or `Memory`.
 pub fn distances_word(
     alloc: Global,
     words: Words<'_>,
@@ -158,6 +182,10 @@ pub fn distances_word(
 }
 
 /// The picture id of the next word, or none at a dash.
+///
+/// # Errors
+///
+/// `NotUnderstood` where no word is left, or it is neither a dash nor a number below 65,536.
 pub fn picture_id_word(words: Words<'_>) -> Result<(Option<u16>, Words<'_>), Misread>
     ensures { Reads result (first (dash_or (number_below (2 ^ 16))) words.entry) }
 {
@@ -172,6 +200,10 @@ pub fn picture_id_word(words: Words<'_>) -> Result<(Option<u16>, Words<'_>), Mis
 }
 
 /// The number below 256 of the next word, or none at a dash.
+///
+/// # Errors
+///
+/// `NotUnderstood` where no word is left, or it is neither a dash nor such a number.
 pub fn number_or_dash_word(words: Words<'_>) -> Result<(Option<u8>, Words<'_>), Misread>
     ensures { Reads result (first (dash_or (number_below (2 ^ 8))) words.entry) }
 {
@@ -186,6 +218,10 @@ pub fn number_or_dash_word(words: Words<'_>) -> Result<(Option<u8>, Words<'_>), 
 }
 
 /// The text of the next word, or none at a dash.
+///
+/// # Errors
+///
+/// `NotUnderstood` where no word is left, or it is empty; or `Memory`.
 pub fn text_or_dash_word(
     alloc: Global,
     words: Words<'_>,
@@ -211,6 +247,10 @@ pub fn behind<'a>(word: &'a str, letters: &str) -> Option<&'a str>
 }
 
 /// The text of the last word `mid=TEXT`; none where no word is left.
+///
+/// # Errors
+///
+/// `NotUnderstood` where the word begins with something else, or another stands behind it; or `Memory`.
 pub fn mid_value(alloc: Global, words: Words<'_>) -> Result<Option<Text>, Misread>
     ensures { Reads result (mid_value words.entry) }
 {

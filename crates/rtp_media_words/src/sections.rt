@@ -188,6 +188,10 @@ fn section_of(alloc: Global, word: &str) -> Result<SectionWord, Misread>
 }
 
 /// The sections of all words that are left.
+///
+/// # Errors
+///
+/// `NotUnderstood` where a word is no section; or `Memory`.
 pub fn section_words(alloc: Global, words: Words<'_>) -> Result<Sections, Misread>
     ensures { Reads result (sections_of words.entry) }
 {
@@ -201,6 +205,10 @@ pub fn section_words(alloc: Global, words: Words<'_>) -> Result<Sections, Misrea
 }
 
 /// The sections of the words before a slash, and the words behind it.
+///
+/// # Errors
+///
+/// `NotUnderstood` where there is no slash, or a word before it is no section; or `Memory`.
 pub fn sections_before_slash(
     alloc: Global,
     words: Words<'_>,

@@ -176,6 +176,10 @@ impl ExtensionMap {
 
     /// What a place carries a value of, which is then seen: an extension under its least number alone. Another one
     /// of a kind that was seen carries nothing, nor does an unknown one.
+    ///
+    /// # Conditions
+    ///
+    /// The place is below 16, and what is seen are the kinds of the places before it.
     pub fn carrier(&self, place: usize, seen: &mut [bool; KINDS]) -> Option<&Extension>
         requires place { place < 16 }
         requires seen { HasSeen seen.old self.now place }
@@ -195,6 +199,10 @@ impl ExtensionMap {
     }
 
     /// The bytes that a place carries of the values.
+    ///
+    /// # Conditions
+    ///
+    /// The place is below 16, and what is seen are the kinds of the places before it.
     pub fn carried(
         &self,
         place: usize,
@@ -216,6 +224,7 @@ impl ExtensionMap {
     pub fn ends_by_14(&self) -> bool
         ensures last { result ≡ true → slot self.now 14 ≡ None }
         ensures very_last { result ≡ true → slot self.now 15 ≡ None }
+        ensures always { slot self.now 14 ≡ None → slot self.now 15 ≡ None → result ≡ true }
     {
         self.entries[14].is_none() && self.entries[15].is_none()
     }

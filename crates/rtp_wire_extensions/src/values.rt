@@ -108,7 +108,8 @@ impl ExtensionValues {
 
     /// Whether each name that is there has a byte.
     pub fn has_full_names(&self) -> bool
-        ensures { result ≡ true → HasFullNames self.now }
+        ensures full { result ≡ true → HasFullNames self.now }
+        ensures always { HasFullNames self.now → result ≡ true }
     {
         !matches!(self.mid, Some(name) if name.as_bytes().is_empty())
             && !matches!(self.rid, Some(name) if name.as_bytes().is_empty())

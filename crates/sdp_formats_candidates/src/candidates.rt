@@ -6,7 +6,7 @@ ghost use Rattle.sdp_formats_candidates.specs.Keys.{HasKeysOf};
 ghost use Rattle.sdp_formats_lookups.specs.Candidates.{borrowed};
 
 use crate::candidate_keys::{CandidateKey, candidate_key};
-use sdp_formats_lookups::{push_of_section, push_of_session};
+use sdp_formats_lookups::{section, session};
 use sdp_formats_sessions::Sdp;
 use sdp_formats_types::Candidate;
 use std::alloc::{AllocError, Global};
@@ -16,11 +16,11 @@ use std::collections::BTreeSet;
 fn all_candidates(alloc: Global, sdp: &Sdp) -> Result<Vec<&Candidate>, AllocError>
     ensures { IfOk result (λ all. borrowed all.items ≡ candidates_of sdp.now) }
 {
-    let mut candidates = Vec::new(alloc);
-    push_of_session(&mut candidates, sdp.session.attrs.as_slice())?;
+    let mut candidates = session::ice_candidates(alloc, &sdp.session)?;
     let sections = sdp.media_lines.as_slice();
     for section in sections {
-        push_of_section(&mut candidates, section.attrs.as_slice())?;
+        let own = section::ice_candidates(alloc, section)?;
+        candidates.extend_from_slice(own.as_slice())?;
     }
     Ok(candidates)
 }

@@ -1,6 +1,6 @@
 //! Copies that may want memory.
 
-ghost use Rattle.std.specs.Prelude.{◌≡◌, IfOk};
+ghost use Rattle.std.specs.Prelude.{◌≡◌, IfOk, Ok};
 
 use rtp_wire::{Extension, Mid, Pt, Ssrc};
 use sdp_formats_forms::{Listed, Text};
@@ -31,31 +31,46 @@ impl TryClone for Extension {
 }
 
 impl TryClone for Mid {
-    fn try_clone(&self, _alloc: Global) -> Result<Mid, AllocError> {
+    fn try_clone(&self, _alloc: Global) -> Result<Mid, AllocError>
+        ensures copy { IfOk result (λ copy. copy ≡ self.now) }
+        ensures found { result ≡ Ok self.now }
+    {
         Ok(*self)
     }
 }
 
 impl TryClone for Pt {
-    fn try_clone(&self, _alloc: Global) -> Result<Pt, AllocError> {
+    fn try_clone(&self, _alloc: Global) -> Result<Pt, AllocError>
+        ensures copy { IfOk result (λ copy. copy ≡ self.now) }
+        ensures found { result ≡ Ok self.now }
+    {
         Ok(*self)
     }
 }
 
 impl TryClone for Ssrc {
-    fn try_clone(&self, _alloc: Global) -> Result<Ssrc, AllocError> {
+    fn try_clone(&self, _alloc: Global) -> Result<Ssrc, AllocError>
+        ensures copy { IfOk result (λ copy. copy ≡ self.now) }
+        ensures found { result ≡ Ok self.now }
+    {
         Ok(*self)
     }
 }
 
 impl TryClone for u8 {
-    fn try_clone(&self, _alloc: Global) -> Result<u8, AllocError> {
+    fn try_clone(&self, _alloc: Global) -> Result<u8, AllocError>
+        ensures copy { IfOk result (λ copy. copy ≡ self.now) }
+        ensures found { result ≡ Ok self.now }
+    {
         Ok(*self)
     }
 }
 
 impl TryClone for FormatParam {
-    fn try_clone(&self, _alloc: Global) -> Result<FormatParam, AllocError> {
+    fn try_clone(&self, _alloc: Global) -> Result<FormatParam, AllocError>
+        ensures copy { IfOk result (λ copy. copy ≡ self.now) }
+        ensures found { result ≡ Ok self.now }
+    {
         Ok(*self)
     }
 }

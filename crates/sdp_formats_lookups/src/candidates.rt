@@ -14,7 +14,7 @@ use std::alloc::AllocError;
 ///
 /// `AllocError` where memory runs out.
 #[tactic(auto, unfolding(crate::specs::Candidates::session_candidate))]
-pub fn push_of_session<'a>(
+pub(crate) fn push_of_session<'a>(
     candidates: &mut Vec<&'a Candidate>,
     attributes: &'a [SessionAttribute],
 ) -> Result<(), AllocError>
@@ -35,7 +35,7 @@ pub fn push_of_session<'a>(
 ///
 /// `AllocError` where memory runs out.
 #[tactic(auto, unfolding(crate::specs::Candidates::section_candidate))]
-pub fn push_of_section<'a>(
+pub(crate) fn push_of_section<'a>(
     candidates: &mut Vec<&'a Candidate>,
     attributes: &'a [MediaAttribute],
 ) -> Result<(), AllocError>

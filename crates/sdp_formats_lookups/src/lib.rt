@@ -9,5 +9,3 @@ pub mod preference;
 pub mod section;
 pub mod session;
 pub mod whole;
-
-pub use candidates::{push_of_section, push_of_session};

@@ -6,3 +6,4 @@ mod session;
 mod whole;
 
 pub use session::{Sdp, Session, SessionAttribute};
+pub use whole::{Sections, SessionAttributes};

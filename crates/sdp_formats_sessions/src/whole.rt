@@ -75,9 +75,9 @@ impl fmt::Display for Group<'_> {
     }
 }
 
-// Attributes one behind the other.
+/// Attributes to be printed, one behind the other.
 #[derive(Drop)]
-struct SessionAttributes<'a>(&'a [SessionAttribute]);
+pub struct SessionAttributes<'a>(pub &'a [SessionAttribute]);
 
 impl fmt::Display for SessionAttributes<'_> {
     ghost use Rattle.std.specs.Prelude.{Some};
@@ -90,9 +90,9 @@ impl fmt::Display for SessionAttributes<'_> {
     }
 }
 
-// Sections one behind the other.
+/// Sections to be printed, one behind the other.
 #[derive(Drop)]
-struct Sections<'a>(&'a [MediaLine]);
+pub struct Sections<'a>(pub &'a [MediaLine]);
 
 impl fmt::Display for Sections<'_> {
     ghost use Rattle.std.specs.Prelude.{Some};

@@ -1,25 +1,10 @@
 //! The text of a session and its sections, with an attribute before the session's own.
 
-use sdp_formats_forms::{Joined, Maybe};
-use sdp_formats_sessions::{Session, SessionAttribute};
+use sdp_formats_forms::Maybe;
+use sdp_formats_sessions::{Sections, Session, SessionAttribute, SessionAttributes};
 use sdp_formats_types::MediaLine;
 use std::fmt;
 use std::fmt::Display;
-
-// Attributes one behind the other.
-#[derive(Drop)]
-struct Attributes<'a>(&'a [SessionAttribute]);
-
-impl fmt::Display for Attributes<'_> {
-    ghost use Rattle.std.specs.Prelude.{Some};
-    ghost use Rattle.sdp_formats_sessions.specs.PrintedSession.{attributes_text};
-
-    ghost output = { λ a. Some (attributes_text a.0.now) };
-
-    fn fmt<W: fmt::Write>(&self, f: &mut fmt::Formatter<W>) -> fmt::Result {
-        Joined(self.0, "").fmt(f)
-    }
-}
 
 // An attribute, and others behind it.
 #[derive(Drop)]
@@ -36,23 +21,8 @@ impl fmt::Display for FirstAttributes<'_> {
 
     fn fmt<W: fmt::Write>(&self, f: &mut fmt::Formatter<W>) -> fmt::Result {
         let first = self.first;
-        let others = Attributes(self.others);
+        let others = SessionAttributes(self.others);
         write!(f, "{first}{others}")
-    }
-}
-
-// Sections one behind the other.
-#[derive(Drop)]
-struct Sections<'a>(&'a [MediaLine]);
-
-impl fmt::Display for Sections<'_> {
-    ghost use Rattle.std.specs.Prelude.{Some};
-    ghost use Rattle.sdp_formats_sessions.specs.PrintedSession.{sections_text};
-
-    ghost output = { λ s. Some (sections_text s.0.now) };
-
-    fn fmt<W: fmt::Write>(&self, f: &mut fmt::Formatter<W>) -> fmt::Result {
-        Joined(self.0, "").fmt(f)
     }
 }
 
