@@ -1,7 +1,15 @@
 pub mod EachOnce
 pub mod Decided
 pub mod SameCandidates
+pub mod Filtered
 pub mod MappedTypes
+pub mod DistinctSources
+pub mod NamedSources
 pub mod LastValues
 pub mod OtherEntries
 pub mod SettledPairs
+pub mod LastGiven
+pub mod FormatKeys
+pub mod PartValues
+pub mod FormatSteps
+pub mod FormatValues

@@ -17,34 +17,10 @@ use Rattle.sdp_formats_types.specs.declared.media.MediaAttribute.{MediaAttribute
 use Rattle.sdp_formats_types.specs.declared.media.MediaAttribute.TheVariants as attribute
 use Rattle.sdp_formats_value_laws.proofs.Decided.{numbers}
 use Rattle.sdp_formats_value_laws.proofs.EachOnce.{Adds, each_once, in_decided, one_list}
+use Rattle.sdp_formats_value_laws.proofs.Filtered.{filtered, let_through}
 use Rattle.sdp_formats_value_laws.specs.EachOnce.{AreDistinct, IsEachOnce, IsIn}
 use Rattle.sdp_formats_value_laws.specs.Mapped.{EachTypeIsMapped, StaticTypesAreBehind, is_static_alone}
 use Rattle.sdp_formats_value_laws.specs.Mapped.{map_of_codec, mapped_by_line, mapped_by_lines}
-
--- members of what a test lets through
-filtered : (p : ℕ → Bool) (t : ℕ) (ts : List ℕ) → IsIn t (filter p ts) → IsIn t ts × (p t ≡ true)
-filtered p t [] h = absurd h
-filtered p t (u ∷ us) h = at (cases_Bool (p u)) (filtered p t us)
-  where
-    at : (p u ≡ true) ⊎ (p u ≡ false) → (IsIn t (filter p us) → IsIn t us × (p t ≡ true))
-        → IsIn t (u ∷ us) × (p t ≡ true)
-    at (inl e) later = elim (subst (λ b. IsIn t (cond b (u ∷ filter p us) (filter p us))) e h) [
-      | inl s ↦ (inl s, ap p (sym s) ∙ e)
-      | inr i ↦ (inr (later i).0, (later i).1)
-    ]
-    at (inr e) later =
-        let i = subst (λ b. IsIn t (cond b (u ∷ filter p us) (filter p us))) e h in
-        (inr (later i).0, (later i).1)
-
-let_through : (p : ℕ → Bool) (t : ℕ) (ts : List ℕ) → IsIn t ts → p t ≡ true → IsIn t (filter p ts)
-let_through p t [] h e = absurd h
-let_through p t (u ∷ us) (inl s) e =
-    subst (λ b. IsIn t (cond b (u ∷ filter p us) (filter p us))) (sym (ap p s ∙ e)) (inl s)
-let_through p t (u ∷ us) (inr h) e = at (p u) (let_through p t us h e)
-  where
-    at : (b : Bool) → IsIn t (filter p us) → IsIn t (cond b (u ∷ filter p us) (filter p us))
-    at true later = inr later
-    at false later = later
 
 alone_parts : (a b : Bool) → (not a && b) ≡ true → (a ≡ false) × (b ≡ true)
 alone_parts true b e = absurd (false≢true e)
