@@ -1,6 +1,6 @@
 -- The format parameters of a line, each by itself.
 use Rattle.std.proofs.Common.{◌≡◌, ℕ, Bool, true, false, ◌||◌, ◌&&◌, List, [], ◌∷◌, Option, Some, None, filter_map}
-use Rattle.std.proofs.Common.{codes, cond, refl, sym, ◌∙◌, ap, subst, if◌then◌else◌, is_none, is_some}
+use Rattle.std.proofs.Common.{codes, refl, sym, ◌∙◌, ap, subst, if◌then◌else◌, is_none, is_some}
 use Rattle.std.proofs.Common.{option_and_then, option_map}
 use Rattle.std.specs.List.{cons_option, last_or, list_any}
 use Rattle.std.specs.Str.{bytes_eq, trim}
