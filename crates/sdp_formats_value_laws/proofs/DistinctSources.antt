@@ -3,7 +3,7 @@ use Rattle.std.proofs.Common.{◌≡◌, ◌⊎◌, inl, inr, ◌↔◌, ℕ, Bo
 use Rattle.std.proofs.Common.{filter, filter_map, refl, sym, ◌∙◌, ap, subst}
 use Rattle.std.proofs.lemmas.Bool.{eq-eqb, false≢true, ne_eqb}
 use Rattle.sdp_formats_sources.specs.Distinct.{distinct}
-use Rattle.sdp_formats_sources.specs.Sources.{repairing_in, source_in, sources_of}
+use Rattle.sdp_formats_sources.specs.Sources.{repairing_in, source_in}
 use Rattle.sdp_formats_value_laws.proofs.Decided.{numbers}
 use Rattle.sdp_formats_value_laws.proofs.EachOnce.{one_list}
 use Rattle.sdp_formats_value_laws.proofs.Filtered.{filtered, let_through}
