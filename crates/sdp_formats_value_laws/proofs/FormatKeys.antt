@@ -8,6 +8,7 @@ use Rattle.sdp_formats_format.specs.Formats.{has_level, is_key}
 use Rattle.sdp_formats_params.specs.Keys.{all_keys, is_name_of, key_name, key_named}
 use Rattle.sdp_formats_params.specs.declared.key.Key.{Key}
 use Rattle.sdp_formats_params.specs.declared.key.Key.TheVariants as key
+use Rattle.sdp_formats_value_laws.proofs.Options.{none_some, some_same}
 use Rattle.sdp_formats_value_laws.specs.Parameters.{lower}
 
 found : {A : Type 0} (test : A → Bool) (x : A) (xs : List A) → find test xs ≡ Some x → test x ≡ true
@@ -16,9 +17,8 @@ found {A} test x (y ∷ ys) e = at (cases_Bool (test y)) (found test x ys)
   where
     at : (test y ≡ true) ⊎ (test y ≡ false) → (find test ys ≡ Some x → test x ≡ true) → test x ≡ true
     at (inl t) later =
-        let same : Some y ≡ Some x = ap (λ (b : Bool). cond b (Some y) (find test ys)) (sym t) ∙ e in
-        let is : y ≡ x = cc in
-        ap test (sym is) ∙ t
+        let same : y ≡ x = some_same (ap (λ (b : Bool). cond b (Some y) (find test ys)) (sym t) ∙ e) in
+        ap test (sym same) ∙ t
     at (inr n) later = later (ap (λ (b : Bool). cond b (Some y) (find test ys)) (sym n) ∙ e)
 
 -- the names are different, in any ASCII case
@@ -61,14 +61,10 @@ key_same k text = at (key_named text) refl (cases_Bool (is_name_of k text))
     at : (o : Option Key) → key_named text ≡ o → (is_name_of k text ≡ true) ⊎ (is_name_of k text ≡ false)
         → is_key k o ≡ is_name_of k text
     at None e (inl t) = absurd (none_some (sym e ∙ named_so k text t))
-      where
-        none_some : None ≡ Some k → ⊥
-        none_some h = cc
     at None e (inr n) = sym n
     at (Some other) e (inl t) =
-        let same : Some other ≡ Some k = sym e ∙ named_so k text t in
-        let is : other ≡ k = cc in
-        ap (λ o. is_key k (Some o)) is ∙ (bytes_eq-Decides (key_name k) (key_name k)).1 refl ∙ sym t
+        let same : other ≡ k = some_same (sym e ∙ named_so k text t) in
+        ap (λ o. is_key k (Some o)) same ∙ (bytes_eq-Decides (key_name k) (key_name k)).1 refl ∙ sym t
     at (Some other) e (inr n) = elim (cases_Bool (is_key k (Some other))) [
       | inl h ↦ absurd (false≢true (sym n ∙ its_name k other text e h))
       | inr h ↦ h ∙ sym n

@@ -3,6 +3,7 @@ use Rattle.std.proofs.Common.{◌≡◌, ◌⊎◌, inl, inr, ℕ, List, [], ◌
 use Rattle.std.proofs.Common.{◌∙◌, ap, subst}
 use Rattle.std.specs.List.{cons_option, last_or}
 use Rattle.sdp_formats_forms.specs.Split.{parts}
+use Rattle.sdp_formats_value_laws.proofs.Options.{none_some, some_same}
 use Rattle.sdp_formats_value_laws.specs.EachOnce.{IsIn}
 use Rattle.sdp_formats_value_laws.specs.FormatParts.{GiveNone, IsLastGiven, IsLastOfLine}
 
@@ -48,12 +49,6 @@ module _ {A : Type 0} (given : List ℕ → Option A) where
         | inr j ↦ n q j
       ])
       at (Some x) e n = inl (x, ([], p, ps, refl, e, n))
-
-  some_same : {x y : A} → Some x ≡ Some y → x ≡ y
-  some_same e = cc
-
-  none_some : {x : A} → None ≡ Some x → ⊥
-  none_some e = cc
 
   pub last_of_line : (line : List ℕ) → IsLastOfLine given line
   last_of_line line = record {

@@ -1,4 +1,5 @@
 pub mod EachOnce
+pub mod Options
 pub mod Decided
 pub mod SameCandidates
 pub mod Filtered

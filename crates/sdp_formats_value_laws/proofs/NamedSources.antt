@@ -9,6 +9,7 @@ use Rattle.sdp_formats_types.specs.declared.media.MediaAttribute.{MediaAttribute
 use Rattle.sdp_formats_types.specs.declared.media.MediaAttribute.TheVariants as attribute
 use Rattle.sdp_formats_value_laws.proofs.DistinctSources.{distinct_once}
 use Rattle.sdp_formats_value_laws.proofs.EachOnce.{in_back, in_either, in_front}
+use Rattle.sdp_formats_value_laws.proofs.Options.{none_some, some_same}
 use Rattle.sdp_formats_value_laws.specs.EachOnce.{IsIn}
 use Rattle.sdp_formats_value_laws.specs.Parameters.{lower}
 use Rattle.sdp_formats_value_laws.specs.Sources.{IsLineOf, LetsRepair, SourcesAreNamed}
@@ -16,12 +17,6 @@ use Rattle.sdp_formats_value_laws.specs.Sources.{IsLineOf, LetsRepair, SourcesAr
 -- what some attribute gives
 abbrev IsGiven : (MediaAttribute → Option ℕ) → ℕ → List MediaAttribute → Type 0
 IsGiven given source attrs = (line : MediaAttribute) × IsIn line attrs × (given line ≡ Some source)
-
-some_same : {x y : ℕ} → Some x ≡ Some y → x ≡ y
-some_same e = cc
-
-none_some : {x : ℕ} → None ≡ Some x → ⊥
-none_some e = cc
 
 module _ (given : MediaAttribute → Option ℕ) (source : ℕ) where
   given_by : (attrs : List MediaAttribute) → IsIn source (filter_map given attrs) → IsGiven given source attrs

@@ -11,14 +11,9 @@ use Rattle.sdp_formats_params.specs.Keys.{is_name_of}
 use Rattle.sdp_formats_params.specs.Numbers.{range_of}
 use Rattle.sdp_formats_params.specs.declared.key.Key.{Key}
 use Rattle.sdp_formats_value_laws.proofs.FormatKeys.{name_in_lower}
+use Rattle.sdp_formats_value_laws.proofs.Options.{none_some, some_same}
 use Rattle.sdp_formats_value_laws.specs.FormatParts.{IsValueOf, PiecesAreJoined, RangesStandAlone, ValuesAreOfKeys}
 use Rattle.sdp_formats_value_laws.specs.FormatParts.{range_of_pieces, value_of_pieces}
-
-some_same : {A : Type 0} {x y : A} → Some x ≡ Some y → x ≡ y
-some_same e = cc
-
-none_some : {A : Type 0} {x : A} → None ≡ Some x → ⊥
-none_some e = cc
 
 -- a piece is any text
 abbrev piece : Form (List ℕ)
