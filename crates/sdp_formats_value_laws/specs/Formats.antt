@@ -31,6 +31,7 @@ number_of read key line =
     then option_and_then read (last_value key line)
     else last_given (λ part. option_and_then read (value_in key part)) line
 
+-- The number of `sprop-max-don-diff`, at most 32,767 (RFC 7798 7.1, RFC 9328 7.2).
 abbrev pub difference_value : List ℕ → Option ℕ
 difference_value value = up_to 32767 (numeral_below (2 ^ 16) 10 value)
 

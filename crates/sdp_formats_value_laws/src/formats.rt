@@ -21,8 +21,8 @@ pub fn format_parts_law()
 /// that of the last value of its key that is one; but where a part gives a tier or level of H.265 or H.266, that of the
 /// last value alone, and then it isn't given where that is none. The range of telephone events is the last that is
 /// given (RFC 4733 2.4.1). Where a part gives a tier or level, the last values of `profile-id`, `tier-flag` and
-/// `level-id` are the profile, tier and level of H.265, else of H.266 (RFC 7798 7.1, RFC 9328 7.2), and `profile-id` is
-/// no number; elsewhere no profile, tier and level is given.
+/// `level-id` are the profile, tier and level of H.265, else of H.266, if they mean one (RFC 7798 7.1, RFC 9328 7.2),
+/// and `profile-id` is no number; elsewhere no profile, tier and level is given.
 pub fn format_values_law()
     ensures { FormatsAreOfLines }
 {}
