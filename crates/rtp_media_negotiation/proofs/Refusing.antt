@@ -1,12 +1,11 @@
 -- Refusals of what a text says.
-use Rattle.std.proofs.Common.{◌≡◌, ◌≢◌, ◌⊎◌, ℕ, List, map, Some, None, Option, false, inl, inr, ◌∙◌, ap}
+use Rattle.std.proofs.Common.{◌≡◌, ◌≢◌, ℕ, List, map, Some, None, Option, false, inl, inr, ◌∙◌, ap}
 use Rattle.sdp_formats_types.specs.declared.media.MediaLine.{MediaLine}
 use Rattle.rtp_media_exchange_steps.specs.Exchanges.{Exchanged}
-use Rattle.rtp_media_exchange_steps.specs.Reading.{IsUnread}
 use Rattle.rtp_media_exchange_steps.specs.Refusals.{CannotSay, IsReason, IsUnwritable, MayAccept, MayAnswer}
-use Rattle.rtp_media_exchange_steps.specs.Refusals.{RefusesAccept, RefusesAnswer}
+use Rattle.rtp_media_exchange_steps.specs.Refusals.{RefusesAnswer}
 use Rattle.rtp_media_exchange_steps.specs.Refusals.{refusal_of_accept, refusal_of_answer}
-use Rattle.rtp_media_exchange_steps.specs.Says.{Says, SaysOnly}
+use Rattle.rtp_media_exchange_steps.specs.Says.{SaysOnly}
 use Rattle.rtp_media_exchange_steps.specs.declared.errors.ExchangeError.{ExchangeError}
 use Rattle.rtp_media_exchange_steps.specs.declared.errors.ExchangeError.TheVariants.{Unreadable, OutOfTurn, NotMedia}
 use Rattle.rtp_media_exchange_steps.specs.declared.errors.ExchangeError.TheVariants.{NotCorresponding, Round}
@@ -14,32 +13,6 @@ use Rattle.rtp_media_exchange_steps.specs.declared.errors.ExchangeError.TheVaria
 use Rattle.rtp_media_exchange_steps.specs.declared.errors.ExchangeError.TheVariants.{NotWritable, Memory}
 use Rattle.rtp_media_section_texts.specs.Lines.{shape_of_line}
 use Rattle.rtp_media_section_texts.specs.Sections.{Wanted, correspond, shape_of}
-
--- an error that isn't lack of memory has its reason
-by-reason : (text : List ℕ) (f : List MediaLine → Option ExchangeError) (lines : List MediaLine) → Says text lines
-    → (e : ExchangeError) → (e ≢ Memory → f lines ≡ Some e)
-    → IsUnread text e ⊎ ((ls : List MediaLine) × Says text ls × (f ls ≡ Some e))
-by-reason text f lines says (Unreadable t) h = inr (lines, says, h (λ eq. cc eq))
-by-reason text f lines says OutOfTurn h = inr (lines, says, h (λ eq. cc eq))
-by-reason text f lines says (NotMedia mid) h = inr (lines, says, h (λ eq. cc eq))
-by-reason text f lines says NotCorresponding h = inr (lines, says, h (λ eq. cc eq))
-by-reason text f lines says (Round r) h = inr (lines, says, h (λ eq. cc eq))
-by-reason text f lines says (NoCommonRow mid) h = inr (lines, says, h (λ eq. cc eq))
-by-reason text f lines says NotWritable h = inr (lines, says, h (λ eq. cc eq))
-by-reason text f lines says Memory h = inl tt
-
-pub refuses_answer : (x : Exchanged) (text : List ℕ) (wanted : List Wanted) (lines : List MediaLine) (e : ExchangeError)
-    → SaysOnly text lines → (e ≢ Memory → refusal_of_answer x lines wanted ≡ Some e) → RefusesAnswer x text wanted e
-refuses_answer x text wanted lines e says h =
-    go (by-reason text (λ ls. refusal_of_answer x ls wanted) lines says.says e h) where
-      go : IsUnread text e ⊎ ((ls : List MediaLine) × Says text ls × (refusal_of_answer x ls wanted ≡ Some e))
-          → RefusesAnswer x text wanted e
-      go (inl u) = inl u
-      go (inr r) = inr (record { lines = r.0; says = r.1; why = inl r.2 })
-
-pub not_accepted : (x : Exchanged) (text : List ℕ) (lines : List MediaLine) (e : ExchangeError)
-    → SaysOnly text lines → (e ≢ Memory → refusal_of_accept x lines ≡ Some e) → RefusesAccept x text e
-not_accepted x text lines e says h = by-reason text (refusal_of_accept x) lines says.says e h
 
 -- an answer that can't be written
 pub cannot_answer : (x : Exchanged) (text : List ℕ) (wanted : List Wanted) (lines : List MediaLine) (e : ExchangeError)

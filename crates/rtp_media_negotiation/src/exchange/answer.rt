@@ -63,7 +63,7 @@ fn said_again(
 
 impl Exchange {
     /// The config after the rounds with the sections of a text, where these are exchanged for wanted ones.
-    #[tactic(auto, unfolding(crate::specs::Refusals::refusal_of_sections))]
+    #[tactic(auto, unfolding(rtp_media_exchange_steps::specs::Refusals::refusal_of_sections))]
     fn settle(
         &self,
         lines: &[MediaLine],
@@ -84,7 +84,7 @@ impl Exchange {
     }
 
     /// The config with which an offer is answered.
-    #[tactic(auto, unfolding(crate::specs::Refusals::refusal_of_answer))]
+    #[tactic(auto, unfolding(rtp_media_exchange_steps::specs::Refusals::refusal_of_answer))]
     fn settle_answer(
         &self,
         offer: &[MediaLine],
@@ -113,7 +113,7 @@ impl Exchange {
     ///
     /// The first that holds of `Unreadable`, `OutOfTurn`, `NotMedia`, `NotCorresponding`, `Round`, `NoCommonRow` and
     /// `NotWritable`; or `Memory`. Nothing has then changed.
-    #[tactic(auto, unfolding(crate::specs::Offers::answer_of), using(crate::proofs::Refusing::refuses_answer))]
+    #[tactic(auto, unfolding(rtp_media_exchange_steps::specs::Offers::answer_of))]
     pub fn answer(
         &mut self,
         text: &str,
@@ -151,7 +151,7 @@ impl Exchange {
     }
 
     /// The config with which an answer is accepted.
-    #[tactic(auto, unfolding(crate::specs::Refusals::refusal_of_accept))]
+    #[tactic(auto, unfolding(rtp_media_exchange_steps::specs::Refusals::refusal_of_accept))]
     fn settle_accept(
         &self,
         answer: &[MediaLine],
@@ -178,7 +178,7 @@ impl Exchange {
     /// The first that holds of `Unreadable`, `OutOfTurn`, `NotMedia`, `NotCorresponding`, `Round` and `NoCommonRow` (no
     /// locked row has the type of a row of this section); or `Memory`. Nothing has then changed, and the offer is still
     /// pending.
-    #[tactic(auto, unfolding(crate::specs::Refusals::refusal_of_accept), using(crate::proofs::Refusing::not_accepted))]
+    #[tactic(auto, unfolding(rtp_media_exchange_steps::specs::Refusals::refusal_of_accept))]
     pub fn accept(&mut self, text: &str) -> Result<(), ExchangeError>
         ensures after { OnOk result (Accepts self.old text.now self.new) }
         ensures agreed { OnOk result (AgreesOnText text.now self.new.agreed) }

@@ -54,7 +54,7 @@ impl Exchange {
     }
 
     /// Why an offer of these sections is refused.
-    #[tactic(auto, unfolding(crate::specs::Refusals::refusal_of_offer))]
+    #[tactic(auto, unfolding(rtp_media_exchange_steps::specs::Refusals::refusal_of_offer))]
     fn check_offer(&self, sections: &[SectionSpec]) -> Result<(), ExchangeError>
         ensures ok { OnOk result (refusal_of_offer self.now sections.now ≡ None) }
         ensures refused { IfErr result (λ e. e ≢ ExchangeError.Memory
@@ -80,7 +80,7 @@ impl Exchange {
     ///
     /// The first that holds of `OutOfTurn`, `NotCorresponding`, `NoCommonRow` and `NotWritable`; or `Memory`. Nothing
     /// has then changed.
-    #[tactic(auto, unfolding(crate::specs::Offers::offer_of))]
+    #[tactic(auto, unfolding(rtp_media_exchange_steps::specs::Offers::offer_of))]
     pub fn offer(&mut self, sections: Vec<SectionSpec>) -> Result<String, ExchangeError>
         ensures text { IfOk result (λ text. string_bytes text ≡ sdp_text (offer_of self.old sections.items)) }
         ensures accepted { OnOk result (refusal_of_offer self.old sections.items ≡ None) }
