@@ -49,12 +49,12 @@ RangesStandAlone = (part : List ℕ) (event : ℕ)
     → (range_in part ≡ Some event) ↔ (Lacks 61 part × (range_of (trim part) ≡ Some event))
 
 -- No part gives any.
-abbrev pub GiveNone : {A : Type 0} → (List ℕ → Option A) → List (List ℕ) → Type 0
-GiveNone given ps = (part : List ℕ) → IsIn part ps → given part ≡ None
+abbrev pub GiveNone : {P A : Type 0} → (P → Option A) → List P → Type 0
+GiveNone {P} given ps = (part : P) → IsIn part ps → given part ≡ None
 
 -- A part gives it, and none behind that part gives any.
-abbrev pub IsLastGiven : {A : Type 0} → (List ℕ → Option A) → List (List ℕ) → A → Type 0
-IsLastGiven given ps x = (front : List (List ℕ)) × (part : List ℕ) × (back : List (List ℕ))
+abbrev pub IsLastGiven : {P A : Type 0} → (P → Option A) → List P → A → Type 0
+IsLastGiven {P} given ps x = (front : List P) × (part : P) × (back : List P)
     × (ps ≡ front ++ part ∷ back) × (given part ≡ Some x) × GiveNone given back
 
 pub record IsLastOfLine {A : Type 0} (given : List ℕ → Option A) (line : List ℕ) : Type 0 where

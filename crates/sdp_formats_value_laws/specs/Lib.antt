@@ -5,3 +5,4 @@ pub mod Parameters
 pub mod Sources
 pub mod FormatParts
 pub mod Formats
+pub mod Last
