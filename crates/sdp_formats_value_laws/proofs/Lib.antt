@@ -14,3 +14,6 @@ pub mod FormatKeys
 pub mod PartValues
 pub mod FormatSteps
 pub mod FormatValues
+pub mod AnyMember
+pub mod LastParameters
+pub mod SectionFormats

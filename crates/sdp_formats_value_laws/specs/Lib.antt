@@ -6,3 +6,4 @@ pub mod Sources
 pub mod FormatParts
 pub mod Formats
 pub mod Last
+pub mod SectionFormats
