@@ -17,3 +17,4 @@ pub mod FormatValues
 pub mod AnyMember
 pub mod LastParameters
 pub mod SectionFormats
+pub mod SectionLinks

@@ -7,3 +7,4 @@ pub mod FormatParts
 pub mod Formats
 pub mod Last
 pub mod SectionFormats
+pub mod SectionLinks

@@ -14,5 +14,5 @@ pub use candidates::candidates_once_law;
 pub use formats::{format_parts_law, format_values_law};
 pub use mapped::mapped_types_law;
 pub use parameters::{entry_values_law, last_value_law, other_parameters_law, settled_pairs_law};
-pub use sections::section_formats_law;
+pub use sections::{section_formats_law, section_links_law};
 pub use sources::sources_once_law;
