@@ -18,3 +18,4 @@ pub mod AnyMember
 pub mod LastParameters
 pub mod SectionFormats
 pub mod SectionLinks
+pub mod ModeBits

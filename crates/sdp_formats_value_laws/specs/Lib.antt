@@ -8,3 +8,4 @@ pub mod Formats
 pub mod Last
 pub mod SectionFormats
 pub mod SectionLinks
+pub mod Modes

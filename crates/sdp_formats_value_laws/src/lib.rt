@@ -1,11 +1,12 @@
 //! What holds of values of session texts: of candidates and of sources each once, of the types that a section maps, of
-//! the formats and links that it gives them, of format parameters of several keys, and of those that a format's line
-//! gives.
+//! the formats and links that it gives them, of format parameters of several keys, of those that a format's line gives,
+//! and of sets of modes.
 #![tactic(auto)]
 
 mod candidates;
 mod formats;
 mod mapped;
+mod modes;
 mod parameters;
 mod sections;
 mod sources;
@@ -13,6 +14,7 @@ mod sources;
 pub use candidates::candidates_once_law;
 pub use formats::{format_parts_law, format_values_law};
 pub use mapped::mapped_types_law;
+pub use modes::modes_law;
 pub use parameters::{entry_values_law, last_value_law, other_parameters_law, settled_pairs_law};
 pub use sections::{section_formats_law, section_links_law};
 pub use sources::sources_once_law;
