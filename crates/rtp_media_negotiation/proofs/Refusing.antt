@@ -1,5 +1,5 @@
 -- Refusals of what a text says.
-use Rattle.std.proofs.Common.{◌≡◌, ◌≢◌, ℕ, List, map, Some, None, Option, false, inl, inr, ◌∙◌, ap}
+use Rattle.std.proofs.Common.{◌≡◌, ◌≢◌, ℕ, List, map, None, false, inl, inr, ◌∙◌, ap}
 use Rattle.sdp_formats_types.specs.declared.media.MediaLine.{MediaLine}
 use Rattle.rtp_media_exchange_steps.specs.Exchanges.{Exchanged}
 use Rattle.rtp_media_exchange_steps.specs.Refusals.{CannotSay, IsReason, IsUnwritable, MayAccept, MayAnswer}

@@ -7,7 +7,7 @@ use Rattle.std.specs.Str.{bytes_eq, trim}
 use Rattle.h26x_payload_profiles.specs.H265ProfileTierLevel.{H265ProfileTierLevel as Level265, given as given_265}
 use Rattle.h26x_payload_profiles.specs.H266ProfileTierLevel.{H266ProfileTierLevel as Level266, given as given_266}
 use Rattle.sdp_formats_format.specs.Formats as format
-use Rattle.sdp_formats_format.specs.Formats.{format_of, is_key, no_format, replaced, with_level, word_value}
+use Rattle.sdp_formats_format.specs.Formats.{format_of, no_format, replaced, with_level, word_value}
 use Rattle.sdp_formats_format.specs.declared.format.FormatParams.{FormatParams}
 use Rattle.sdp_formats_forms.specs.Split.{parts}
 use Rattle.sdp_formats_params.specs.Keys.{is_name_of, key_named}
