@@ -127,7 +127,7 @@ def score(a, b):
     if a.codec == "telephone-event":
         return 100
     if a.codec == "AMR-WB":
-        if (a.channels or 1) != 1 or (b.channels or 1) != 1:
+        if not {a.channels, b.channels} <= {None, 1}:
             return None
         if f.get("octet-align", False) != g.get("octet-align", False):
             return None
@@ -325,6 +325,7 @@ def by_hand():
     yield "score H265 90000 - profile-id=257 H265 90000 - profile-id=1;tier-flag=1;level-id=30", "90"
     yield "score telephone-event 8000 1 0-15 telephone-event 8000 - 0-4", "100"
     yield "score AMR-WB 16000 1 octet-align=1 AMR-WB 16000 - octet-align=1;mode-set=1", "99"
+    yield "score AMR-WB 16000 0 - AMR-WB 16000 1 -", "none"
     yield "# H.264 is locked at 108 and 109, Opus meets one at 109: moved where the other end only sends", None
     yield "fresh", "ok"
     yield "locked 108 109 - cc H264 90000 - profile-level-id=42e01f", "ok"

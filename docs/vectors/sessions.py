@@ -20,6 +20,9 @@ ORDER = ["minptime", "stereo", "sprop-stereo", "useinbandfec", "usedtx", "level-
          "packetization-mode", "profile-level-id", "profile-id", "profile", "level-idx", "tier", "h265", "h266",
          "sprop-max-don-diff", "events", "octet-align", "mode-set"]
 OF_LEVELS = ["profile-id", "tier-flag", "level-id"]
+# Unicode's White_Space: `str.strip` alone takes U+001C to U+001F for blanks too
+BLANKS = "".join(map(chr, [*range(9, 14), 32, 0x85, 0xA0, 0x1680, *range(0x2000, 0x200B), 0x2028, 0x2029, 0x202F,
+                           0x205F, 0x3000]))
 LEVELS = {"h265": (range(1, 12), [30, 60, 63, 90, 93, 120, 123, 150, 153, 156, 180, 183, 186], 93),
           "h266": ([1, 33], [16, 32, 35, 48, 51, 64, 67, 80, 83, 86, 96, 99, 102, 105, 255], 51)}
 
@@ -60,10 +63,19 @@ class Session:
         return [a.value for a in self.attributes if a.kind == kind]
 
 
+def lower(text):
+    """Names are compared by small letters of ASCII: U+212A, which `str.lower` makes a `k`, is none."""
+    return re.sub("[A-Z]", lambda m: m[0].lower(), text)
+
+
+def trimmed(text):
+    return text.strip(BLANKS)
+
+
 def number(text, bits):
-    """A number as programs read it, a plus in front or not."""
-    fits = re.fullmatch(r"\+?[0-9]+", text) and int(text) < 1 << bits
-    return int(text) if fits else None
+    """A number as programs read it, a plus in front or not, and zeros, however many."""
+    m = re.fullmatch(r"\+?0*([0-9]{1,20})", text)
+    return int(m[1]) if m and int(m[1]) < 1 << bits else None
 
 
 def payload_type(text):
@@ -123,13 +135,13 @@ def candidate(value):
         return None
     foundation, component, proto, priority, address, port, kind, raddr, rport, tcptype, ufrag = m.groups()
     read = [number(component, 16), number(priority, 32), number(port, 16), number(rport or "0", 16)]
-    if None in read or proto.lower() not in ("udp", "tcp", "ssltcp", "tls"):
+    if None in read or lower(proto) not in ("udp", "tcp", "ssltcp", "tls"):
         return None
-    text = f"candidate:{foundation} {read[0]} {proto.lower()} {read[1]} {address} {read[2]} typ {kind}"
+    text = f"candidate:{foundation} {read[0]} {lower(proto)} {read[1]} {address} {read[2]} typ {kind}"
     text += f" raddr {raddr} rport {read[3]}" if raddr else ""
     text += f" tcptype {tcptype}" if tcptype else ""
     text += f" ufrag {ufrag}" if ufrag else ""
-    return text, (address, read[2], proto.lower(), tcptype or "-", ufrag or "-")
+    return text, (address, read[2], lower(proto), tcptype or "-", ufrag or "-")
 
 
 def whole(name):
@@ -165,7 +177,7 @@ def rtpmap(value):
     pt, rate, channels = payload_type(m[1]), number(m[3], 32), number(m[4] or "1", 8)
     if pt is None or not rate or channels is None:
         return None
-    codec = CODECS.get(m[2].lower(), "unknown")
+    codec = CODECS.get(lower(m[2]), "unknown")
     channels = None if m[4] is None else channels
     return f"rtpmap:{pt} {codec}/{rate}" + (f"/{channels}" if m[4] else ""), (pt, codec, rate, channels)
 
@@ -178,7 +190,7 @@ def rtcp_fb(value):
 
 def param(key, value):
     """A parameter by its key: the key and what it is, none where it says nothing that is known."""
-    key, byte, word = key.lower(), number(value, 8), number(value, 32)
+    key, byte, word = lower(key), number(value, 8), number(value, 32)
     if key in FLAGS:
         return key, int(value == "1")
     if key in BYTES or key == "apt":
@@ -191,7 +203,7 @@ def param(key, value):
     if key == "sprop-max-don-diff":
         return (key, word) if word is not None and word <= 32767 else None
     if key == "mode-set":
-        modes = numbers(",".join(mode.strip() for mode in value.split(",")), ",", 8)
+        modes = numbers(",".join(trimmed(mode) for mode in value.split(",")), ",", 8)
         return (key, sum(1 << m for m in set(modes))) if modes is not None and max(modes) <= 8 else None
     unsupported = [("crc", "1"), ("robust-sorting", "1"), ("mode-change-period", "2")]
     return ("unsupported", 0) if (key, value) in unsupported or key == "interleaving" else None
@@ -208,11 +220,11 @@ def level(given):
 
 
 def params_of(pairs):
-    if not any(key.lower() in OF_LEVELS[1:] for key, _ in pairs):
+    if not any(lower(key) in OF_LEVELS[1:] for key, _ in pairs):
         return [param(*pair) for pair in pairs]
     once = {}
     for key, value in pairs:
-        once[key.lower()] = value
+        once[lower(key)] = value
     return level(once) + [param(*pair) for pair in once.items() if pair[0] not in OF_LEVELS]
 
 
@@ -239,7 +251,7 @@ def fmtp_params(text):
     types = numbers(text, "/", 8)
     if "/" in text and types is not None:
         return [("red", types[0])]
-    m = re.fullmatch(r"0-([0-9]+)", text)
+    m = re.fullmatch(r"0-0*([0-9]{1,3})", text)
     return [("events", int(m[1]))] if m and int(m[1]) < 256 else [None]
 
 

@@ -11,7 +11,7 @@ import sys
 from pathlib import Path
 
 import sessions
-from sessions import DIRECTIONS, ORDER, fingerprint, param, param_text, printed, read
+from sessions import DIRECTIONS, ORDER, fingerprint, lower, param, param_text, printed, read, trimmed
 
 CRATE = Path(__file__).resolve().parents[2] / "crates/text_lines"
 TEXTS = Path(__file__).with_name("texts.txt")
@@ -22,7 +22,7 @@ def first(values):
 
 
 def preference(name):
-    return {"sha-256": 0, "sha-1": 1}.get(name.lower(), 2)
+    return {"sha-256": 0, "sha-1": 1}.get(lower(name), 2)
 
 
 def preferred(prints):
@@ -49,7 +49,8 @@ def bundled(session):
 
 
 def sctp_init(session):
-    return first([v for s in session.sections if s.typ == "application" for v in s.of("sctp-init")[:1]])
+    data = first([s for s in session.sections if s.typ == "application"])
+    return data and first(data.of("sctp-init"))
 
 
 def is_whole(session):
@@ -62,19 +63,19 @@ def is_whole(session):
 
 def sources(section):
     said = {source: {} for source, *_ in section.of("ssrc")}
-    repaired = [pair for word, pair in section.of("ssrc-group") if word.lower() == "fid" and len(pair) == 2]
+    repaired = [pair for word, pair in section.of("ssrc-group") if lower(word) == "fid" and len(pair) == 2]
     for source, word, value in section.of("ssrc"):
         words = value.split(" ")
-        if word.lower() == "cname":
+        if lower(word) == "cname":
             said[source]["of"] = value
-        if word.lower() == "msid":
+        if lower(word) == "msid":
             said[source]["in"] = words[0]
             said[source].update({"track": words[1]} if len(words) > 1 else {})
     for source, repairing in repaired:
         said.setdefault(repairing, {})["repairs"] = source
     for source, words in said.items():
         told = [(word, words.get(word)) for word in ("repairs", "of", "in", "track")]
-        given = [(word, v if word in ("repairs", "of") else v.strip()) for word, v in told if v is not None]
+        given = [(word, v if word in ("repairs", "of") else trimmed(v)) for word, v in told if v is not None]
         yield f"    source {source}" + "".join(
             f" {word} {v}" for word, v in given if v != "-" or word not in ("in", "track"))
 
@@ -205,15 +206,15 @@ def of_setup(own, other):
 
 
 def of_parameters(text):
-    pairs = [[word.strip() for word in part.split("=")][:2] for part in text.split(";")]
+    pairs = [[trimmed(word) for word in part.split("=")][:2] for part in text.split(";")]
     keyed = [pair for pair in pairs if len(pair) == 2]
     found = {}
-    if any(key.lower() in ("tier-flag", "level-id") for key, _ in keyed):
-        keyed = list({key.lower(): value for key, value in keyed}.items())
+    if any(lower(key) in ("tier-flag", "level-id") for key, _ in keyed):
+        keyed = list({lower(key): value for key, value in keyed}.items())
         found.update(sessions.level(dict(keyed)))
         keyed = [pair for pair in keyed if pair[0] != "profile-id"]
     for part in pairs:
-        if len(part) == 1 and (m := re.fullmatch("0-([0-9]+)", part[0])) and int(m[1]) < 256:
+        if len(part) == 1 and (m := re.fullmatch("0-0*([0-9]{1,3})", part[0])) and int(m[1]) < 256:
             found["events"] = int(m[1])
     found.update(p for key, value in keyed if (p := param(key, value)) and p[0] in ORDER)
     return " ".join(param_text((key, found[key])) for key in ORDER if key in found) or "-"

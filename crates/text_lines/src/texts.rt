@@ -121,6 +121,18 @@ fn kept_lines(text: &str, printed: &str) -> usize {
     kept
 }
 
+/// Whether a printed text is read whole, and printed as it stands. One of a section that isn't printable may be none.
+fn is_read_alike(alloc: Global, printed: &str) -> Result<bool, SdpError> {
+    match sdp_parser(alloc, printed) {
+        Ok((sdp, rest)) => {
+            let again = sdp.to_sdp_string(alloc)?;
+            Ok(rest.is_empty() && again.as_str() == printed)
+        }
+        Err(SdpError::Memory) => Err(SdpError::Memory),
+        Err(_) => Ok(false),
+    }
+}
+
 /// How many lines are printed as they stood, and whether the printed text is read whole, and printed as it stands.
 fn put_printed(
     alloc: Global,
@@ -130,9 +142,7 @@ fn put_printed(
 ) -> Result<(), SdpError> {
     let kept = kept_lines(text, printed);
     let lines = printed.lines().count();
-    let (sdp, rest) = sdp_parser(alloc, printed)?;
-    let again = sdp.to_sdp_string(alloc)?;
-    let is_alike = rest.is_empty() && again.as_str() == printed;
+    let is_alike = is_read_alike(alloc, printed)?;
     let answer = if is_alike { "alike" } else { "otherwise" };
     Ok(write!(
         reply,
