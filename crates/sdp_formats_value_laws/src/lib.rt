@@ -1,9 +1,10 @@
-//! What holds of values of session texts: of candidates and of sources each once, of the types that a section maps, of
-//! the formats and links that it gives them, of format parameters of several keys, of those that a format's line gives,
-//! and of sets of modes.
+//! What holds of values of session texts: equality of candidates, candidates and sources each once, the types that a
+//! section maps with the formats and links that it gives them, format parameters of several keys and of a line, and sets
+//! of modes.
 #![tactic(auto)]
 
 mod candidates;
+mod equality;
 mod formats;
 mod mapped;
 mod modes;
@@ -12,6 +13,7 @@ mod sections;
 mod sources;
 
 pub use candidates::candidates_once_law;
+pub use equality::candidate_equality_law;
 pub use formats::{format_parts_law, format_values_law};
 pub use mapped::mapped_types_law;
 pub use modes::modes_law;
