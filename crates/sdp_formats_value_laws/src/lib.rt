@@ -1,6 +1,6 @@
 //! What holds of values of session texts: equality of candidates, candidates and sources each once, the types that a
-//! section maps with the formats and links that it gives them, format parameters of several keys and of a line, and sets
-//! of modes.
+//! section maps with the formats and links that it gives them, format parameters of several keys and of a line, sets of
+//! modes.
 #![tactic(auto)]
 
 mod candidates;
