@@ -1,5 +1,5 @@
-//! How lines of format parameters (RFC 8866 6.15), header extensions (RFC 8285 5), streams' names (RFC 8830) and sources
-//! (RFC 5576) are read.
+//! How lines of format parameters (RFC 8866 6.15), header extensions (RFC 8285 5), streams' names (RFC 8830) and
+//! sources (RFC 5576) are read.
 #![tactic(auto)]
 
 mod parameters;
