@@ -17,10 +17,6 @@ profile_of id = with_number profile_id profiles id
 abbrev pub level_of : ℕ → Option H266Level
 level_of id = with_number level_id levels id
 
--- What three numbers mean, where each is in its table.
-abbrev pub known : ℕ → ℕ → ℕ → Option H266ProfileTierLevel
-known id flag level = ptl.known profile_of level_of id flag level
-
 -- What stands where nothing is said: the numbers 1, 0 and 51.
 abbrev pub fallback : H266ProfileTierLevel
 fallback = ptl.fallback fallback_profile fallback_level

@@ -5,7 +5,9 @@ use Rattle.std.specs.List.{list_any}
 use Rattle.serde.specs.Event.{Event, map_ends, seq_ends, struct_begins}
 use Rattle.serde.specs.Steps.{Begins, Gives, Picks, Stays}
 use Rattle.serde.specs.declared.deserializer.Deserializer.{Deserializer}
+use Rattle.serde.specs.declared.name.Case.TheVariants.{AsIs}
 use Rattle.serde.specs.declared.name.Name.{Name}
+use Rattle.serde.specs.declared.name.NameKind.TheVariants.{Field}
 
 -- What a step of a reader is with what it read: an event, or a name among some.
 abbrev pub GivesOf : Type 0 → Type 1
@@ -91,9 +93,13 @@ ReadsStruct {F} {E} {M} gives picks stays reads names required old new start val
     ⊎ (Begins gives stays old (struct_begins true) first
     × ReadsSequence gives stays reads names first new start value))
 
--- A struct begins, and its fields are read, which have these names.
+-- A key stands for this name where it is its text, and nothing else does.
+abbrev pub IsAsWritten : Name → Type 0
+IsAsWritten name = (name.kind ≡ Field) × (name.case ≡ AsIs) × (name.aliases.now ≡ []) × (name.skipped ≡ false)
+
+-- A struct begins, and its fields are read, whose keys are these texts.
 abbrev pub ReadsNamed : {F E M T : Type 0} → GivesOf F → PicksOf F → (F → F → Type 0) → ReadsOf T
     → List (List ℕ) → List ℕ → Deserializer F E M → Deserializer F E M → T → T → Type 0
 ReadsNamed {F} {E} {M} gives picks stays reads texts required old new start value =
-    (names : List Name) × (map (λ n. n.name.now) names ≡ texts)
+    (names : List Name) × (map (λ n. n.name.now) names ≡ texts) × All IsAsWritten names
     × ReadsStruct gives picks stays reads names required old new start value
