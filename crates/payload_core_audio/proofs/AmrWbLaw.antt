@@ -23,7 +23,7 @@ use Rattle.payload_core_audio.specs.AmrWb.{speech_of, speech_unit}
 use Rattle.payload_core_audio.proofs.AmrWbLemmas.{aligned_len, efficient_len, behind_none, frames_go, last_found}
 use Rattle.payload_core_audio.proofs.AmrWbLemmas.{next_entry}
 
-bit_small : (bytes : List ℕ) (i : ℕ) → bit_of bytes i < 2
+pub bit_small : (bytes : List ℕ) (i : ℕ) → bit_of bytes i < 2
 bit_small bytes i = omega arith
 
 byte_bit : (r a b c d e f g h : ℕ) → r < 8 → a < 2 → b < 2 → c < 2 → d < 2 → e < 2 → f < 2 → g < 2 → h < 2
@@ -54,7 +54,7 @@ eight bit k (suc (suc (suc (suc (suc (suc (suc zero))))))) lt = refl
 eight bit k (suc (suc (suc (suc (suc (suc (suc (suc r)))))))) lt = absurd (omega arith)
 
 -- the bits of bytes that are made from bits
-bit_from : (bit : ℕ → ℕ) (m i : ℕ) → i < 8 * m → ((j : ℕ) → bit j < 2) → bit_of (bytes_from bit m) i ≡ bit i
+pub bit_from : (bit : ℕ → ℕ) (m i : ℕ) → i < 8 * m → ((j : ℕ) → bit j < 2) → bit_of (bytes_from bit m) i ≡ bit i
 bit_from bit m i lt small =
     let k : ℕ = i / 8 in
     let r : ℕ = i % 8 in

@@ -47,26 +47,9 @@ pub next_entry : (o : Bool) (k : ℕ) → entry_place o k + entry_size o ≡ ent
 next_entry true k = omega arith
 next_entry false k = omega arith
 
-pub entry_below : (o : Bool) (k n : ℕ) → k < n → entry_place o k + 6 ≤ entry_place o n
-entry_below true k n lt = omega arith
-entry_below false k n lt = omega arith
-
-pub entry_size_few : (o : Bool) → entry_size o ≤ 8
-entry_size_few true = omega arith
-entry_size_few false = omega arith
-
-pub entry_size_some : (o : Bool) → 0 < entry_size o
-entry_size_some true = omega arith
-entry_size_some false = omega arith
-
 pub first_entry : (o : Bool) (place : ℕ) → place ≡ head_size o → place ≡ entry_place o 0
 first_entry true place e = omega arith
 first_entry false place e = omega arith
-
-pub head_room : (o : Bool) (bytes : List ℕ) (place : ℕ) → place ≡ head_size o → 0 < length bytes
-    → place ≤ 8 * length bytes
-head_room true bytes place e some = omega arith
-head_room false bytes place e some = omega arith
 
 in_room : (o : Bool) (bytes : List ℕ) (k place : ℕ) → place ≡ entry_place o k
     → place + entry_size o ≤ 8 * length bytes → k < entry_room o bytes

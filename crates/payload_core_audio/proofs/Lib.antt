@@ -2,4 +2,6 @@ pub mod PlainLemmas
 pub mod TelephoneLaw
 pub mod AmrWbLemmas
 pub mod AmrWbLaw
+pub mod AmrWbFrames
+pub mod AmrWbLayout
 pub mod BitLemmas

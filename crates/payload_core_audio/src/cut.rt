@@ -21,8 +21,8 @@ pub fn cut(alloc: Global, limit: usize, bytes: &[u8]) -> Result<Vec<Vec<u8>>, Al
     Ok(packets)
 }
 
-#[tactic(auto, using(crate::proofs::PlainLemmas::one_piece))]
 /// Whether a sample is its one piece at a limit: it has a byte, and fits.
+#[tactic(auto, using(crate::proofs::PlainLemmas::one_piece))]
 pub fn is_one_piece(limit: usize, bytes: &[u8]) -> bool
     ensures exactly { result ≡ is_one_piece limit bytes.now }
     ensures piece { result ≡ true → pieces limit bytes.now ≡ bytes.now ∷ [] }

@@ -14,6 +14,6 @@ mod telephone_event;
 pub use amr_wb::{AmrWbDepacketizer, AmrWbPacketizer};
 pub use comfort_noise::{ComfortNoiseDepacketizer, ComfortNoisePacketizer};
 pub use g7xx::{G7xxPacketizer, G711Depacketizer, G711Packetizer, G722Packetizer};
-pub use laws::{amr_wb_law, plain_laws, telephone_law};
+pub use laws::{amr_wb_law, amr_wb_layout_law, plain_laws, telephone_law};
 pub use opus::{OpusDepacketizer, OpusPacketizer};
 pub use telephone_event::{TelephoneEventDepacketizer, TelephoneEventPacketizer};

@@ -4,7 +4,6 @@ use Rattle.std.proofs.Common.{Option, Some, None, arith, if◌then◌else◌, is
 use Rattle.std.specs.List.{flat_map}
 use Rattle.std.proofs.lemmas.Grind.{common_steps, flat_map-append}
 use Rattle.payload_core_base.specs.Codecs.{is_audio_codec, is_tele_codec, is_video_codec}
-use Rattle.payload_core_base.specs.declared.codec.Codec.{Codec}
 use Rattle.payload_core_base.specs.declared.codec.Codec.TheVariants as codec
 use Rattle.sdp_formats_rows.specs.Codecs.{is_codec}
 use Rattle.sdp_formats_rows.specs.Plain.{comes_back, has_plain_events, has_plain_feedback, has_plain_level}
@@ -70,10 +69,6 @@ not_one (Some n) e = at (n == 1) refl
     at : (b : Bool) → (n == 1) ≡ b → (if n == 1 then None else Some n) ≡ Some n
     at true is = absurd (let no : not (n == 1) ≡ true = e in let bad : false ≡ true = rw is at no in cc)
     at false is = rw is refl
-
-codec_is : (c d : Codec) → is_codec c codec.G722 ≡ true → c ≡ codec.G722
-codec_is codec.G722 d e = refl
-codec_is _ d e = cc
 
 spec_back : (spec : CodecSpec) → is_plain_rate spec ≡ true → spec_of_map (map_of spec) spec.format ≡ spec
 spec_back spec e = at (is_codec spec.codec codec.G722) refl

@@ -42,11 +42,6 @@ some_first (b ∷ c) some e = cc
 line_starts : {A : Type 0} (F : List ℕ → A → Type 0) (t : List ℕ) (a : A) (r : List ℕ) → LineOf F t a r → t ≢ []
 line_starts F t a r h e = some_first h.0 h.1.3 (line_first t h.0 r h.1 ∙ ap first e)
 
-list_starts : {A : Type 0} (F : List ℕ → A → Type 0) (t : List ℕ) (as' : List A) (r : List ℕ)
-    → Begins (LineOf F) t as' r → r ≢ [] → t ≢ []
-list_starts F t [] r h some = λ e. some (h ∙ e)
-list_starts F t (a ∷ as') r h some = line_starts F t a h.0 h.1
-
 some_starts : {A : Type 0} (F : List ℕ → A → Type 0) (t : List ℕ) (as' : List A) (r : List ℕ)
     → Begins (LineOf F) t as' r → as' ≢ [] → t ≢ []
 some_starts F t [] r h some = absurd (some refl)

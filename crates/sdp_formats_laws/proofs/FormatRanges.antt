@@ -51,10 +51,6 @@ up_in : (most : ℕ) (o : Option ℕ) → IfSome (up_to most o) (λ m. m ≤ mos
 up_in most (Some n) = up_test n most (nat_le n most) refl
 up_in most None = tt
 
--- modes: some of nine bits
-abbrev pub below_modes : Option ℕ → Type 0
-below_modes o = IfSome o (λ m. m < 2 ^ 9)
-
 power_small : (mode : ℕ) → mode ≤ 8 → 2 ^ mode < 2 ^ 9
 power_small mode h = pow_below mode 9 (omega arith)
 

@@ -1,6 +1,6 @@
 -- The parameters of a format are such that they are read as they are printed.
 use Rattle.std.proofs.Common.{◌≡◌, ◌≢◌, ◌<◌, ◌≤◌, ◌^◌, ◌+◌, ℕ, Bool, List, [], ◌∷◌, ◌++◌, Option, Some, None}
-use Rattle.std.proofs.Common.{IfSome, map, refl, sym, ◌∙◌, ap, subst, arith, ⊎_elim, inl, inr, lit≤, take, drop}
+use Rattle.std.proofs.Common.{IfSome, map, refl, sym, ◌∙◌, ap, subst, arith, ◌⊎◌, ⊎_elim, inl, inr, lit≤, take, drop}
 use Rattle.std.specs.Char.{to_ascii_lowercase}
 use Rattle.std.specs.List.{flat_map}
 use Rattle.std.specs.Option.{option_map, option_to_list}
@@ -13,7 +13,7 @@ use Rattle.sdp_formats_format.specs.declared.format.FormatParams.{FormatParams}
 use Rattle.sdp_formats_format.specs.Parameters.{each_param, params_of}
 use Rattle.sdp_formats_laws.proofs.KeyRanks.{rank, rank_of, ranked}
 use Rattle.sdp_formats_laws.specs.Keyed.{AreKeyed, IsKeyed, IsOrdinary, pair_of}
-use Rattle.sdp_formats_laws.specs.ParameterLists.{AreOrdinary, AreReadable, LackKeyOf}
+use Rattle.sdp_formats_laws.specs.ParameterLists.{AreOrdinary, HasOneLevel, LackKeyOf}
 use Rattle.sdp_formats_laws.specs.Ranges.{AtMostOne, IsInRange, IsModes, OneLevel}
 
 -- what isn't given
@@ -192,29 +192,29 @@ others_ordinary f h id none = rising_ordinary 1 20 (given f 0 12 ++ given f 14 4
 
 with_levels : (f : FormatParams) (a : Option Level265) (b : Option Level266) → f.h265_profile_tier_level ≡ a
     → f.h266_profile_tier_level ≡ b → IsInRange f → f.profile_id ≡ None → AtMostOne a b
-    → f.telephone_event_max ≡ None → AreReadable (params_of f)
+    → f.telephone_event_max ≡ None → AreKeyed (params_of f) ⊎ HasOneLevel (params_of f)
 with_levels f None None five six h id apart none = inl (all_keyed f h five six none)
-with_levels f (Some v) None five six h id apart none = inr (inl (record {
+with_levels f (Some v) None five six h id apart none = inr (record {
   front = given f 0 12;
   level = param.H265ProfileTierLevel v;
   behind = given f 14 4;
   list = by_levels f (Some v) None five six;
   is_one = refl;
   others = others_ordinary f h id none;
-}))
-with_levels f None (Some v) five six h id apart none = inr (inl (record {
+})
+with_levels f None (Some v) five six h id apart none = inr (record {
   front = given f 0 12;
   level = param.H266ProfileTierLevel v;
   behind = given f 14 4;
   list = by_levels f None (Some v) five six;
   is_one = refl;
   others = others_ordinary f h id none;
-}))
+})
 with_levels f (Some v) (Some w) five six h id apart none = absurd apart
 
 -- so they are read as they are printed
 pub format_readable : (f : FormatParams) → IsInRange f → OneLevel f → f.telephone_event_max ≡ None
-    → AreReadable (params_of f)
+    → AreKeyed (params_of f) ⊎ HasOneLevel (params_of f)
 format_readable f h levels none = ⊎_elim
     (λ (k : (f.h265_profile_tier_level ≡ None) × (f.h266_profile_tier_level ≡ None)).
     inl (all_keyed f h k.0 k.1 none))

@@ -20,6 +20,7 @@ use Rattle.sdp_formats_laws.proofs.KeyedLists.{pairs_read}
 use Rattle.sdp_formats_laws.proofs.KeyedLists.{texts_are}
 use Rattle.sdp_formats_laws.proofs.KeyedParams.{key_of}
 use Rattle.sdp_formats_laws.proofs.Numerals.{decimal_value}
+use Rattle.sdp_formats_laws.proofs.TextBack.{text_back}
 use Rattle.sdp_formats_laws.specs.Parameters.{IsReadBack}
 use Rattle.sdp_formats_laws.specs.Printable.{IsText}
 use Rattle.sdp_formats_laws.specs.Keyed.{AreKeyed, pair, pair_of}
@@ -142,8 +143,8 @@ there_are (p ∷ front) id tier level back = (_, _, refl)
 as_cons : (front back : List FormatParam) (l : FormatParam) → IsText (params_text (front ++ l ∷ back))
     → parameters.reads (params_text (front ++ l ∷ back)) ≡ Some (params_as_read (front ++ l ∷ back))
     → IsReadBack (front ++ l ∷ back)
-as_cons [] back l h k = (h, k)
-as_cons (p ∷ front) back l h k = (h, k)
+as_cons [] back l h k = text_back l back h k
+as_cons (p ∷ front) back l h k = text_back p (front ++ l ∷ back) h k
 
 pub level_back : PairsComeBack → (front back : List FormatParam) (l : FormatParam) (id tier level : ℕ)
     → IsLevelOf l id tier level → AreOrdinary (front ++ back) → IsReadBack (front ++ l ∷ back)

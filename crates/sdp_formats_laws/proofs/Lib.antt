@@ -38,6 +38,7 @@ pub mod ModeSets
 pub mod KeyedParams
 pub mod KeyedLists
 pub mod KeyRanks
+pub mod TextBack
 pub mod LevelPairs
 pub mod LevelLists
 pub mod LevelNumbers

@@ -84,16 +84,6 @@ unfolding resend_lines
 resend_red pt row None = refl
 resend_red pt row (Some t) = refl
 
--- what stands before the lines of a row's further types
-abbrev front : Row → List MediaAttribute
-front row = feedback_lines row ++ fmtp_of row.pt (params_in row.spec)
-
-front_links : (role : Codec) → NamesNone role → (pt : ℕ) (row : Row) → list_any (links role pt) (front row) ≡ false
-front_links role none pt row =
-    none_append (links role pt) (feedback_lines row) (fmtp_of row.pt (params_in row.spec))
-    (none_flat (links role pt) (feedback_line row) (line_links role pt row) all_feedback)
-    (format_links role none pt row.pt (params_in row.spec) (params_other row.spec))
-
 -- the rows of other types
 abbrev LinksNone : Codec → ℕ → Row → Type 0
 LinksNone role pt row = list_any (links role pt) (resend_lines row row.resend ++ red_lines row row.red) ≡ false

@@ -1,4 +1,4 @@
--- Ranges of telephone events, and types of retransmissions and of redundant audio, are read as they are printed.
+-- Ranges of telephone events, types of redundant audio and a parameter that isn't known are read as they are printed.
 use Rattle.std.proofs.Common.{◌≡◌, ◌≢◌, ◌<◌, ◌≤◌, ◌^◌, ℕ, Bool, true, ◌&&◌, cond, nat_lt, List, [], ◌∷◌}
 use Rattle.std.proofs.Common.{◌++◌, length, codes, decimal, Option, Some, None, refl, sym, ◌∙◌, ap, subst, arith, lit≤}
 use Rattle.std.proofs.Common.{append-nil}
@@ -24,6 +24,7 @@ use Rattle.sdp_formats_params.specs.declared.param.FormatParam.TheVariants as pa
 use Rattle.sdp_formats_source_lines.specs.Parameters.{anything, key_values, parameters, plain_byte, range, slash_list}
 use Rattle.sdp_formats_laws.proofs.Numerals.{accepted, decimal_value, lacks_digits, no_plus}
 use Rattle.sdp_formats_laws.proofs.Numerals.{tested}
+use Rattle.sdp_formats_laws.proofs.TextBack.{text_back}
 use Rattle.sdp_formats_laws.specs.Parameters.{IsReadBack}
 use Rattle.sdp_formats_laws.specs.Printable.{IsText}
 
@@ -96,16 +97,25 @@ range_read exact n small =
     (split_first-nowhere 47 t slash))
     ∙ or_first _ _ _ (ap (option_map (λ x. param.BareRange x ∷ [])) (plain_back n small))
 
+range_on_line : (n : ℕ) → n < 2 ^ 8 → IsText ((codes "0-" ++ decimal n) ++ [])
+range_on_line n small = subst IsText (sym (append-nil (codes "0-" ++ decimal n))) (
+  (λ e. cc),
+  ((λ e. cc), ((λ e. cc), lacks_of 10 n (lit≤ tt) small)),
+  ((λ e. cc), ((λ e. cc), lacks_of 13 n (lit≤ tt) small)),
+)
+
+range_back : IsExact pair_list → (n : ℕ) → n < 2 ^ 8
+    → parameters.reads ((codes "0-" ++ decimal n) ++ []) ≡ Some (param.BareRange n ∷ [])
+range_back exact n small = ap parameters.reads (append-nil (codes "0-" ++ decimal n)) ∙ range_read exact n small
+
 pub events_back : IsExact pair_list → (n : ℕ) → n < 2 ^ 8 → IsReadBack (param.TelephoneEvents n ∷ [])
 unfolding param_text
-events_back exact n small = (
-  subst IsText (sym (append-nil (codes "0-" ++ decimal n))) (
-    (λ e. cc),
-    ((λ e. cc), ((λ e. cc), lacks_of 10 n (lit≤ tt) small)),
-    ((λ e. cc), ((λ e. cc), lacks_of 13 n (lit≤ tt) small)),
-  ),
-  ap parameters.reads (append-nil (codes "0-" ++ decimal n)) ∙ range_read exact n small,
-)
+events_back exact n small =
+    text_back (param.TelephoneEvents n) [] (range_on_line n small) (range_back exact n small)
+
+pub bare_range_back : IsExact pair_list → (n : ℕ) → n < 2 ^ 8 → IsReadBack (param.BareRange n ∷ [])
+unfolding param_text
+bare_range_back exact n small = text_back (param.BareRange n) [] (range_on_line n small) (range_back exact n small)
 
 -- a list of redundant types, `111/111`
 lacks_both : (c : ℕ) (xs ys : List ℕ) → Lacks c xs → Lacks c ys → Lacks c (xs ++ ys)
@@ -150,29 +160,32 @@ number_there n more small = some_front (decimal n) more (decimal_value n (omega 
     some_front [] ys some = absurd (some refl)
     some_front (x ∷ xs) ys some = λ e. cc
 
-pub red_back : IsExact pair_list → (n : ℕ) → n < 2 ^ 8 → IsReadBack (param.Red n ∷ [])
-unfolding param_text
-red_back exact n small = (
-  subst IsText (sym (append-nil (decimal n ++ 47 ∷ decimal n))) (
-    number_there n (47 ∷ decimal n) small,
-    lacks_both 10 (decimal n) (47 ∷ decimal n) (lacks_of 10 n (lit≤ tt) small) (
-      (λ e. cc),
-      lacks_of 10 n
-          (lit≤ tt) small,
-    ),
-    lacks_both 13 (decimal n) (47 ∷ decimal n) (lacks_of 13 n (lit≤ tt) small) (
-      (λ e. cc),
-      lacks_of 13 n
-          (lit≤ tt) small,
-    ),
-  ),
-  ap parameters.reads (append-nil (decimal n ++ 47 ∷ decimal n)) ∙ list_read exact n small,
+list_on_line : (n : ℕ) → n < 2 ^ 8 → IsText ((decimal n ++ 47 ∷ decimal n) ++ [])
+list_on_line n small = subst IsText (sym (append-nil (decimal n ++ 47 ∷ decimal n))) (
+  number_there n (47 ∷ decimal n) small,
+  lacks_both 10 (decimal n) (47 ∷ decimal n) (lacks_of 10 n (lit≤ tt) small)
+      ((λ e. cc), lacks_of 10 n (lit≤ tt) small),
+  lacks_both 13 (decimal n) (47 ∷ decimal n) (lacks_of 13 n (lit≤ tt) small)
+      ((λ e. cc), lacks_of 13 n (lit≤ tt) small),
 )
 
-pub bare_range_back : IsExact pair_list → (n : ℕ) → n < 2 ^ 8 → IsReadBack (param.BareRange n ∷ [])
+list_back : IsExact pair_list → (n : ℕ) → n < 2 ^ 8
+    → parameters.reads ((decimal n ++ 47 ∷ decimal n) ++ []) ≡ Some (param.BarePtList n ∷ [])
+list_back exact n small = ap parameters.reads (append-nil (decimal n ++ 47 ∷ decimal n)) ∙ list_read exact n small
+
+pub red_back : IsExact pair_list → (n : ℕ) → n < 2 ^ 8 → IsReadBack (param.Red n ∷ [])
 unfolding param_text
-bare_range_back exact n small = events_back exact n small
+red_back exact n small = text_back (param.Red n) [] (list_on_line n small) (list_back exact n small)
 
 pub bare_list_back : IsExact pair_list → (n : ℕ) → n < 2 ^ 8 → IsReadBack (param.BarePtList n ∷ [])
 unfolding param_text
-bare_list_back exact n small = red_back exact n small
+bare_list_back exact n small = text_back (param.BarePtList n) [] (list_on_line n small) (list_back exact n small)
+
+-- nothing behind the blank
+nothing_read : IsExact pair_list → parameters.reads [] ≡ Some (param.Unknown ∷ [])
+nothing_read exact = or_other (key_values.reads []) ((either slash_list (either range anything)).reads [])
+    (ap (option_map params_of) (no_pairs exact [] tt))
+
+pub unknown_back : IsExact pair_list → IsReadBack (param.Unknown ∷ [])
+unfolding param_text
+unknown_back exact = ((tt, tt), (λ other. absurd (other refl)), nothing_read exact)

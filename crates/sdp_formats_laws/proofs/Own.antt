@@ -54,10 +54,6 @@ format_alone f others before row after behind reads h apart b =
     (fold_past is_format f h b (feedback_lines row)
     (none_flat is_format (feedback_line row) (line_unformatted row) all_feedback))
 
-if_same : {A : Type 0} (b : Bool) (x y : A) → b ≡ false → (if b then x else y) ≡ y
-if_same true x y e = cc
-if_same false x y e = refl
-
 -- what is read of a format
 with_silent : (t : ℕ) (f : FormatParams) (a : MediaAttribute) → tells t a ≡ false → with_attribute t f a ≡ f
 unfolding with_attribute

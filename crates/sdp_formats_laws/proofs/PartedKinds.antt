@@ -37,7 +37,8 @@ use Rattle.sdp_formats_laws.proofs.Printed.{lacks_both}
 use Rattle.sdp_formats_laws.proofs.Readings.{cut_reads, cut_nowhere, cut_somewhere, type_reads, rate_reads}
 use Rattle.sdp_formats_laws.proofs.Readings.{numbers_read}
 use Rattle.sdp_formats_laws.proofs.PlainKinds.{first_fits, lacks_two, no_feed, no_return}
-use Rattle.sdp_formats_laws.specs.Printable.{IsPrintableDigest, IsText, IsWord, IsPrintableMap, AreBelow}
+use Rattle.sdp_formats_laws.specs.Printable.{AreBelow, IsPrintableDigest, IsPrintableMap, IsText, IsWord}
+use Rattle.sdp_formats_laws.specs.Printable.{LacksLineEnds}
 
 pub rtcp_fb : (pt : ℕ) (v : List ℕ) → pt ≤ 127 → IsText v
     → IsPrintedAs attribute_line (attribute_text (RtcpFb pt v)) (RtcpFb pt v)
@@ -101,8 +102,8 @@ some_there x xs = grind (arith, nat_tests)
 abbrev pub named_params : ℕ → List ℕ → List ℕ
 named_params pt params = spelled (codes "a=fmtp:" ∷ decimal pt ∷ codes " " ∷ params ∷ line_end ∷ [])
 
-pub fmtp_line : (pt : ℕ) (p : FormatParam) (ps : List FormatParam) → pt ≤ 127 → IsText (params_text (p ∷ ps))
-    → parameters.reads (params_text (p ∷ ps)) ≡ Some (params_as_read (p ∷ ps))
+pub fmtp_line : (pt : ℕ) (p : FormatParam) (ps : List FormatParam) → pt ≤ 127
+    → LacksLineEnds (params_text (p ∷ ps)) → parameters.reads (params_text (p ∷ ps)) ≡ Some (params_as_read (p ∷ ps))
     → IsPrintedAs attribute_line (attribute_text (Fmtp pt (p ∷ ps))) (Fmtp pt (params_as_read (p ∷ ps)))
 unfolding media_attribute second_attribute third_attribute last_attribute attribute_text listed_text
 fmtp_line pt p ps low h reads = at_text attribute_line _ _ _
@@ -111,8 +112,8 @@ fmtp_line pt p ps low h reads = at_text attribute_line _ _ _
     (named_line attribute_line (codes "a=fmtp:") (decimal pt ++ 32 ∷ params_text (p ∷ ps))
     (Fmtp pt (params_as_read (p ∷ ps)))
     (named_by (codes "a=fmtp:") refl)
-    (lacks_two 10 32 (decimal pt) (params_text (p ∷ ps)) (no_feed pt (omega arith)) (λ e. cc) h.1)
-    (lacks_two 13 32 (decimal pt) (params_text (p ∷ ps)) (no_return pt (omega arith)) (λ e. cc) h.2)
+    (lacks_two 10 32 (decimal pt) (params_text (p ∷ ps)) (no_feed pt (omega arith)) (λ e. cc) h.0)
+    (lacks_two 13 32 (decimal pt) (params_text (p ∷ ps)) (no_return pt (omega arith)) (λ e. cc) h.1)
     (first_fits _ _ _ (first_fits _ _ _ (ap (option_map (λ x. Fmtp x.0 x.1))
     (cut_reads 32 payload_type parameters (decimal pt) (params_text (p ∷ ps)) pt
     (params_as_read (p ∷ ps))

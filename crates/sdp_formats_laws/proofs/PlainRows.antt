@@ -1,9 +1,13 @@
 -- The parameters of a plain row are such that they are read as they are printed.
-use Rattle.std.proofs.Common.{◌≡◌, ◌<◌, ◌^◌, ℕ, Bool, true, false, ◌&&◌, cond, [], ◌∷◌, Option, Some, None}
+use Rattle.std.proofs.Common.{◌≡◌, ◌≢◌, ◌<◌, ◌^◌, ℕ, Bool, true, false, ◌&&◌, cond, List, [], ◌∷◌, ◌++◌}
+use Rattle.std.proofs.Common.{Option, Some, None, sym, ◌∙◌, ◌⊎◌, ⊎_elim}
 use Rattle.std.proofs.Common.{IfSome, refl, subst, inl, inr, lit<, unwrap_or, is_none, is_some}
 use Rattle.std.specs.Option.{option_map}
 use Rattle.std.proofs.lemmas.Bool.Decides.{Decides-eqb}
 use Rattle.payload_core_base.specs.Codecs.{is_tele_codec}
+use Rattle.sdp_formats_forms.specs.Steps.{cons_same}
+use Rattle.sdp_formats_media_lines.specs.AsRead.{is_level}
+use Rattle.sdp_formats_params.specs.declared.param.FormatParam.{FormatParam}
 use Rattle.sdp_formats_params.specs.declared.param.FormatParam.TheVariants as param
 use Rattle.sdp_formats_format.specs.Formats.{format_of}
 use Rattle.sdp_formats_rows.specs.Plain.{comes_back, events_alone, has_plain_events, has_plain_feedback}
@@ -18,7 +22,8 @@ use Rattle.sdp_formats_row_attributes.specs.Attributes.{params_in}
 use Rattle.sdp_formats_format.specs.Parameters.{params_of}
 use Rattle.sdp_formats_laws.proofs.FormatRanges.{Apart, format_held}
 use Rattle.sdp_formats_laws.proofs.FormatsBack.{format_readable}
-use Rattle.sdp_formats_laws.specs.ParameterLists.{AreReadable}
+use Rattle.sdp_formats_laws.specs.Keyed.{AreKeyed}
+use Rattle.sdp_formats_laws.specs.ParameterLists.{AreReadable, HasOneLevel}
 use Rattle.sdp_formats_laws.specs.Ranges.{AtMostOne, IsInRange, OneLevel}
 
 two_true : (a b : Bool) → (a && b) ≡ true → (a ≡ true) × (b ≡ true)
@@ -161,14 +166,42 @@ not_there : (o : Option ℕ) → is_none o ≡ true → o ≡ None
 not_there None h = refl
 not_there (Some n) h = absurd (cc)
 
+-- the two kinds of lists that a format gives, neither of them one parameter alone that isn't known
+abbrev pub IsKeyedOrLevel : List FormatParam → Type 0
+IsKeyedOrLevel ps = AreKeyed ps ⊎ HasOneLevel ps
+
+abbrev pub IsKnownReadable : List FormatParam → Type 0
+IsKnownReadable ps = AreReadable ps × (ps ≢ param.Unknown ∷ [])
+
+some_there : (front : List FormatParam) (p : FormatParam) (behind : List FormatParam) → front ++ p ∷ behind ≢ []
+some_there [] p behind = λ e. cc
+some_there (q ∷ front) p behind = λ e. cc
+
+level_known : (front : List FormatParam) (level : FormatParam) (behind : List FormatParam) → is_level level ≡ true
+    → front ++ level ∷ behind ≢ param.Unknown ∷ []
+level_known [] level behind h = λ e.
+    let one : false ≡ true = subst (λ l. is_level l ≡ true) (cons_same level param.Unknown behind [] e).0 h in
+    absurd (cc)
+level_known (p ∷ front) level behind h = λ e.
+    some_there front level behind (cons_same p param.Unknown (front ++ level ∷ behind) [] e).1
+
+known_list : (ps : List FormatParam) → IsKeyedOrLevel ps → ps ≢ param.Unknown ∷ []
+known_list ps h = λ e. ⊎_elim
+    (λ (k : AreKeyed ps). let one : AreKeyed (param.Unknown ∷ []) = subst AreKeyed e k in one.0)
+    (λ (l : HasOneLevel ps). level_known l.front l.level l.behind l.is_one (sym l.list ∙ e)) h
+
+readable_list : (ps : List FormatParam) → IsKeyedOrLevel ps → AreReadable ps
+readable_list ps h = ⊎_elim (λ (k : AreKeyed ps). inl k) (λ (l : HasOneLevel ps). inr (inl l)) h
+
 by_codec : (f : FormatParams) (tele : Bool)
     → cond tele (is_some f.telephone_event_max && same_format f (events_alone f)) (is_none f.telephone_event_max) ≡ true
     → IsInRange f → OneLevel f
-    → AreReadable (cond tele (param.TelephoneEvents (unwrap_or f.telephone_event_max 16) ∷ []) (params_of f))
-by_codec f true e h levels = inr (inr (most_small f.telephone_event_max h.8))
-by_codec f false e h levels = format_readable f h levels (not_there f.telephone_event_max e)
+    → IsKnownReadable (cond tele (param.TelephoneEvents (unwrap_or f.telephone_event_max 16) ∷ []) (params_of f))
+by_codec f true e h levels = (inr (inr (most_small f.telephone_event_max h.8)), (λ s. cc))
+by_codec f false e h levels = let list = format_readable f h levels (not_there f.telephone_event_max e) in
+    (readable_list (params_of f) list, known_list (params_of f) list)
 
-pub row_readable : (row : Row) → is_plain row ≡ true → AreReadable (params_in row.spec)
+pub row_readable : (row : Row) → is_plain row ≡ true → IsKnownReadable (params_in row.spec)
 row_readable row h =
     let four = has_plain_types row && is_plain_codec row.spec && has_plain_feedback row && has_plain_red row in
     let back = two_true (four && has_plain_events row.spec && has_plain_level row.spec)

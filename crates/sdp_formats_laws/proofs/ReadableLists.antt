@@ -17,13 +17,15 @@ use Rattle.sdp_formats_laws.proofs.KeyedLists.{keyed_on_line, keyed_read}
 use Rattle.sdp_formats_laws.proofs.LevelLists.{level_back}
 use Rattle.sdp_formats_laws.proofs.LevelNumbers.{reads_265, reads_266}
 use Rattle.sdp_formats_laws.proofs.OtherParams.{bare_list_back, bare_range_back, events_back, red_back}
+use Rattle.sdp_formats_laws.proofs.OtherParams.{unknown_back}
+use Rattle.sdp_formats_laws.proofs.TextBack.{text_back}
 use Rattle.sdp_formats_laws.specs.Keyed.{AreKeyed}
 use Rattle.sdp_formats_laws.specs.ParameterLists.{AreOrdinary, HasOneLevel, IsAlone}
 use Rattle.sdp_formats_laws.specs.Parameters.{IsReadBack, ReadableListsComeBack}
 
 keyed_back : PairsComeBack → (ps : List FormatParam) → AreKeyed ps → IsReadBack ps
 keyed_back back [] h = tt
-keyed_back back (p ∷ ps) h = (keyed_on_line p ps h, keyed_read back p ps h)
+keyed_back back (p ∷ ps) h = text_back p ps (keyed_on_line p ps h) (keyed_read back p ps h)
 
 by_level : PairsComeBack → ComesBack265 → ComesBack266 → (front behind : List FormatParam) (l : FormatParam)
     → is_level l ≡ true → AreOrdinary (front ++ behind) → IsReadBack (front ++ l ∷ behind)
@@ -41,6 +43,7 @@ alone_back exact (param.TelephoneEvents v ∷ []) h = events_back exact v h
 alone_back exact (param.BareRange v ∷ []) h = bare_range_back exact v h
 alone_back exact (param.Red v ∷ []) h = red_back exact v h
 alone_back exact (param.BarePtList v ∷ []) h = bare_list_back exact v h
+alone_back exact (param.Unknown ∷ []) h = unknown_back exact
 alone_back exact (_ ∷ []) h = absurd h
 alone_back exact (p ∷ q ∷ ps) h = absurd h
 

@@ -5,12 +5,12 @@ use Rattle.std.proofs.Common.{append-nil, arith}
 use Rattle.std.specs.List.{list_all}
 use Rattle.std.proofs.lemmas.Bool.Decides.{nat_tests}
 use Rattle.sdp_formats_forms.specs.Bind.{◌>>=◌}
-use Rattle.sdp_formats_forms.specs.Cuts.{IsCut, somewhere, nowhere, cut_of, split_first-at, split_first-cuts}
+use Rattle.sdp_formats_forms.specs.Cuts.{cut_of, split_first-at, split_first-cuts}
 use Rattle.sdp_formats_forms.specs.Form.{some_text}
 use Rattle.sdp_formats_forms.specs.Split.{Lacks, halves, split_first}
 use Rattle.sdp_formats_forms.specs.Step.{Begins, Stops}
 use Rattle.sdp_formats_forms.specs.Steps.{bind_some, none_some, some_same}
-use Rattle.sdp_formats_stream_lines.specs.PairLemmas.{at-cut, at-none, unblanked-word, word-complete}
+use Rattle.sdp_formats_stream_lines.specs.PairLemmas.{after_by, parted_halves, unblanked-word, word-complete}
 use Rattle.sdp_formats_stream_lines.specs.Pairs.{all_read, ends_open, is_blank, is_word_byte, make_pair, or_empty}
 use Rattle.sdp_formats_stream_lines.specs.Pairs.{restriction_at, restrictions_of, unblanked, word}
 use Rattle.sdp_formats_stream_lines.specs.PairsSay.{Blanks, IsParted, IsWord}
@@ -59,34 +59,6 @@ word_sound t w h =
       subst (λ x. list_all is_word_byte x ≡ true) two.1 two.0,
     )
 
--- up to a semicolon, or to the end
-parted : (t : List ℕ) → IsCut 59 t → (after : List ℕ) × (t ≡ (halves 59 t).0 ++ after)
-    × IsParted after (or_empty (halves 59 t).1) × Lacks 59 (halves 59 t).0
-parted t (somewhere front back whole lacks) =
-    let e = at-cut 59 t front back whole lacks in (
-      59 ∷ back,
-      whole ∙ sym (ap (λ (x : List ℕ × Option (List ℕ)). x.0 ++ 59 ∷ back) e),
-      inl (sym (ap (λ (x : List ℕ × Option (List ℕ)). 59 ∷ or_empty x.1) e)),
-      subst (Lacks 59) (sym (ap (λ (x : List ℕ × Option (List ℕ)). x.0) e)) lacks,
-    )
-parted t (nowhere lacks) =
-    let e = at-none 59 t lacks in (
-      [],
-      sym (append-nil t) ∙ sym (ap (λ (x : List ℕ × Option (List ℕ)). x.0 ++ []) e),
-      inr (refl, ap (λ (x : List ℕ × Option (List ℕ)). or_empty x.1) e),
-      subst (Lacks 59) (sym (ap (λ (x : List ℕ × Option (List ℕ)). x.0) e)) lacks,
-    )
-
-halves_parted : (front after rest : List ℕ) → Lacks 59 front → IsParted after rest
-    → ((halves 59 (front ++ after)).0 ≡ front) × (or_empty (halves 59 (front ++ after)).1 ≡ rest)
-halves_parted front after rest l (inl e) =
-    let at = at-cut 59 (front ++ after) front rest (ap (λ x. front ++ x) e) l in
-    (ap (λ (x : List ℕ × Option (List ℕ)). x.0) at, ap (λ (x : List ℕ × Option (List ℕ)). or_empty x.1) at)
-halves_parted front after rest l (inr e) =
-    let same : front ++ after ≡ front = ap (λ x. front ++ x) e.0 ∙ append-nil front in
-    let at : halves 59 (front ++ after) ≡ (front, None) = ap (halves 59) same ∙ at-none 59 front l in
-    (ap (λ (x : List ℕ × Option (List ℕ)). x.0) at, ap (λ (x : List ℕ × Option (List ℕ)). or_empty x.1) at ∙ sym e.1)
-
 -- one restriction and what stands behind it
 record Step (t : List ℕ) (p : Pair) (r : List ℕ) : Type 0 where
   front : List ℕ
@@ -108,7 +80,7 @@ step_sound t p r h =
     let cuts = split_first-cuts 61 (unblanked t) cut.0.0 cut.0.1 cut.1 in
     let w = word_sound cut.0.0 key.0 key.1 in
     let v = word_sound (halves 59 cut.0.1).0 value.0 value.1 in
-    let a = parted cut.0.1 (cut_of 59 cut.0.1) in
+    let a = after_by cut.0.1 (cut_of 59 cut.0.1) in
     let whole : t ≡ f.0 ++ (key.0 ++ 61 ∷ (value.0 ++ a.0)) =
     f.2 ∙ ap (λ x. f.0 ++ x) (cuts.0 ∙ ap (λ x. x ++ 61 ∷ cut.0.1) w.0
     ∙ ap (λ x. key.0 ++ 61 ∷ x) (a.1 ∙ ap (λ x. x ++ a.0) v.0)) in
@@ -129,7 +101,7 @@ step_complete t p r s =
     let start : unblanked t ≡ p.key ++ 61 ∷ behind_key =
     ap unblanked s.whole ∙ blanks_past s.front (p.key ++ 61 ∷ behind_key) s.blanks
     ∙ unblanked-word p.key (61 ∷ behind_key) s.key.0 s.key.1 in
-    let h = halves_parted p.value s.after r s.value.2 s.parts in
+    let h = parted_halves p.value s.after r s.value.2 s.parts in
     ap (λ o. o >>= λ cut. word.reads cut.0 >>= λ key. word.reads (halves 59 cut.1).0 >>= λ value. Some
     (make_pair (key, value), or_empty (halves 59 cut.1).1))
     (ap (split_first 61) start ∙ split_first-at 61 p.key behind_key s.key.2)

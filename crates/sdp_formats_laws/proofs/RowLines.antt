@@ -221,7 +221,7 @@ row_printable params row h sized =
     (both_each IsPrintable own (fmtp_of row.pt (params_in row.spec))
     (both_each IsPrintable (attribute.RtpMap row.pt (map_of row.spec) ∷ []) (feedback_lines row) map
     (all_lines row p.own))
-    (fmtp_lines row.pt (params_in row.spec) p.own (params row h)))
+    (fmtp_lines row.pt (params_in row.spec) p.own (params row h).0))
     (resend_printable row row.resend p.own sized p.resend))
     (red_printable row row.red p.own sized p.red)
 

@@ -1,7 +1,7 @@
 -- Where lines of one kind end, and what begins there.
 use Rattle.std.proofs.Common.{◌≡◌, ◌≢◌, ◌⊎◌, ℕ, List, [], ◌∷◌, ◌++◌, Option, Some, None, refl, sym, ◌∙◌, ap, inl, inr}
 use Rattle.std.proofs.Common.{⊎_elim, subst, map, append_assoc}
-use Rattle.sdp_formats_forms.specs.Form.{Form, after, either}
+use Rattle.sdp_formats_forms.specs.Form.{Form, after}
 use Rattle.sdp_formats_forms.specs.Joined.{joined, each_behind}
 use Rattle.sdp_formats_forms.specs.Line.{LineOf, IsLine}
 use Rattle.sdp_formats_forms.specs.Step.{Stops, Begins}
@@ -27,10 +27,6 @@ stops F t never = λ a r s. never s.0 a s.2 (line_first t s.0 r s.1)
 pub other_start : {A : Type 0} (c : ℕ) (name : List ℕ) (f : Form A) (t : List ℕ) → (first t ≡ Some c → ⊥)
     → Stops (LineOf (after (c ∷ name) f).Says) t
 other_start c name f t other = stops _ t (λ content a s same. other (sym same ∙ ap first s.1))
-
-pub either_way : {A : Type 0} (f g : Form A) (content : List ℕ) (a : A) (P : Type 0) → (f.Says content a → P)
-    → (g.Says content a → P) → (either f g).Says content a → P
-either_way f g content a P x y = ⊎_elim x (λ s. y s.1)
 
 -- lines of a kind begin with its letter, or there are none
 pub first_of : {A : Type 0} (c : ℕ) (name : List ℕ) (f : Form A) (t : List ℕ) (as' : List A) (r : List ℕ)

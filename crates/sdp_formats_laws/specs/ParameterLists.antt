@@ -6,12 +6,13 @@ use Rattle.sdp_formats_params.specs.declared.param.FormatParam.TheVariants as pa
 use Rattle.sdp_formats_laws.specs.Keyed.{AreKeyed, IsOrdinary, pair_of}
 
 -- A range of telephone events (RFC 4733 2.4.1) or a type of redundant audio (RFC 2198 5), which have no key and stand
--- alone.
+-- alone; or a parameter that isn't known, which prints nothing, alone behind the blank of its line (RFC 8866 6.15).
 abbrev pub StandsAlone : FormatParam → Type 0
 StandsAlone (param.TelephoneEvents v) = v < 2 ^ 8
 StandsAlone (param.BareRange v) = v < 2 ^ 8
 StandsAlone (param.Red v) = v < 2 ^ 8
 StandsAlone (param.BarePtList v) = v < 2 ^ 8
+StandsAlone param.Unknown = Unit {0}
 StandsAlone _ = ⊥
 
 abbrev pub IsAlone : List FormatParam → Type 0

@@ -1,7 +1,7 @@
 -- What holds of the parameters of rows.
-use Rattle.std.specs.Prelude.{◌≡◌, ◌≤◌, ◌↔◌, ◌&&◌, ℕ, Bool, List, [], ◌∷◌, true, Some}
+use Rattle.std.specs.Prelude.{◌≡◌, ◌≢◌, ◌≤◌, ◌↔◌, ◌&&◌, ℕ, Bool, List, [], ◌∷◌, true, Some}
 use Rattle.sdp_formats_params.specs.declared.param.FormatParam.{FormatParam}
-use Rattle.sdp_formats_params.specs.declared.param.FormatParam.TheVariants.{Apt, Red}
+use Rattle.sdp_formats_params.specs.declared.param.FormatParam.TheVariants.{Apt, Red, Unknown}
 use Rattle.sdp_formats_format.specs.Formats.{format_of}
 use Rattle.sdp_formats_format.specs.Texts.{format_text}
 use Rattle.sdp_formats_format.specs.declared.format.FormatParams.{FormatParams}
@@ -13,26 +13,32 @@ use Rattle.sdp_formats_rows.specs.Rows.{Row}
 use Rattle.sdp_formats_row_attributes.specs.Attributes.{params_in}
 use Rattle.sdp_formats_types.specs.Printed.{params_text}
 use Rattle.sdp_formats_laws.specs.ParameterLists.{AreReadable}
-use Rattle.sdp_formats_laws.specs.Printable.{IsText}
+use Rattle.sdp_formats_laws.specs.Printable.{LacksLineEnds}
 use Rattle.sdp_formats_laws.specs.Ranges.{IsInRange, OneLevel}
+
+-- Parameters print some text, but for one alone that isn't known.
+abbrev pub HasText : List FormatParam → Type 0
+HasText ps = ps ≢ Unknown ∷ [] → params_text ps ≢ []
 
 -- Printed parameters can stand on a line and are read as themselves, or there are none.
 abbrev pub IsReadBack : List FormatParam → Type 0
 IsReadBack [] = Unit {0}
-IsReadBack (p ∷ ps) = IsText (params_text (p ∷ ps))
+IsReadBack (p ∷ ps) = LacksLineEnds (params_text (p ∷ ps)) × HasText (p ∷ ps)
     × (parameters.reads (params_text (p ∷ ps)) ≡ Some (params_as_read (p ∷ ps)))
 
 -- So are lists of parameters that are readable.
 abbrev pub ReadableListsComeBack : Type 0
 ReadableListsComeBack = (ps : List FormatParam) → AreReadable ps → IsReadBack ps
 
--- Those of a plain row are readable.
+-- Those of a plain row are readable, and never one alone that isn't known.
 abbrev pub PlainParametersAreReadable : Type 0
-PlainParametersAreReadable = (row : Row) → is_plain row ≡ true → AreReadable (params_in row.spec)
+PlainParametersAreReadable = (row : Row) → is_plain row ≡ true
+    → AreReadable (params_in row.spec) × (params_in row.spec ≢ Unknown ∷ [])
 
--- The parameters of a plain row are read as they are printed.
+-- The parameters of a plain row, which are never one alone that isn't known, are read as they are printed.
 abbrev pub PlainParametersComeBack : Type 0
-PlainParametersComeBack = (row : Row) → is_plain row ≡ true → IsReadBack (params_in row.spec)
+PlainParametersComeBack = (row : Row) → is_plain row ≡ true
+    → IsReadBack (params_in row.spec) × (params_in row.spec ≢ Unknown ∷ [])
 
 -- So are those of a type of retransmissions and of a type of redundant audio.
 abbrev pub LinksComeBack : Type 0

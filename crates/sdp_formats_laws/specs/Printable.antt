@@ -23,6 +23,10 @@ use Rattle.sdp_formats_types.specs.declared.media.MediaAttribute.TheVariants.{Ca
 use Rattle.sdp_formats_types.specs.declared.media.MediaAttribute.TheVariants.{RtcpFb, Fmtp, Rid, Simulcast, SsrcGroup}
 use Rattle.sdp_formats_types.specs.declared.media.MediaAttribute.TheVariants.{Fingerprint, Ssrc, Unused}
 
+-- Bytes, or none, without the end of a line.
+abbrev pub LacksLineEnds : List ℕ → Type 0
+LacksLineEnds t = Lacks 10 t × Lacks 13 t
+
 -- A text of a line: some bytes, and no end of a line among them.
 abbrev pub IsText : List ℕ → Type 0
 IsText t = (t ≢ []) × Lacks 10 t × Lacks 13 t

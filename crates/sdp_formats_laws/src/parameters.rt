@@ -25,7 +25,7 @@ pub fn parameter_lists_law()
 }
 
 /// The parameters of a plain row, as its section lists them, are such a list, so that they are read as they are
-/// printed.
+/// printed; and they are never one alone that isn't known, which prints nothing.
 pub fn plain_parameters_law()
     ensures readable { PlainParametersAreReadable }
     ensures come_back { PlainParametersComeBack }

@@ -144,7 +144,7 @@ padded-sound t v h =
       subst (λ x. list_all is_word_byte x ≡ true) (one.0 ∙ two.1) (before-word t),
     )
 
-after_by : (t : List ℕ) → IsCut 59 t → (after : List ℕ) × (t ≡ (halves 59 t).0 ++ after)
+pub after_by : (t : List ℕ) → IsCut 59 t → (after : List ℕ) × (t ≡ (halves 59 t).0 ++ after)
     × IsParted after (or_empty (halves 59 t).1) × Lacks 59 (halves 59 t).0
 after_by t (somewhere front back whole lacks) =
     let e = at-cut 59 t front back whole lacks in (
@@ -236,7 +236,7 @@ padded-complete v tail n h b =
     ∙ ap (λ o. o >>= λ t. passed_tail v t) (behind-append v tail)
     ∙ ap (λ x. cond x (Some v) None) b
 
-parted_halves : (front after rest : List ℕ) → Lacks 59 front → IsParted after rest
+pub parted_halves : (front after rest : List ℕ) → Lacks 59 front → IsParted after rest
     → ((halves 59 (front ++ after)).0 ≡ front) × (or_empty (halves 59 (front ++ after)).1 ≡ rest)
 parted_halves front after rest l (inl e) =
     let at = at-cut 59 (front ++ after) front rest (ap (λ x. front ++ x) e) l in

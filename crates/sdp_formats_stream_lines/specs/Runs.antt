@@ -1,8 +1,8 @@
 -- As many values as a reader finds, by the length of the text.
 use Rattle.std.proofs.Common.{◌≡◌, ◌≤◌, ℕ, zero, suc, List, [], ◌∷◌, length, Option, Some, None, refl, sym}
 use Rattle.std.proofs.Common.{◌∙◌, ap, arith}
-use Rattle.sdp_formats_forms.specs.Steps.{none_some, some_same, none_if}
-use Rattle.sdp_formats_forms.specs.Step.{Step, Stops, Begins, Many, IsFunctional, IsShortening}
+use Rattle.sdp_formats_forms.specs.Steps.{none_some, none_if}
+use Rattle.sdp_formats_forms.specs.Step.{Step, Stops, Begins, Many, IsShortening}
 
 -- The step of a reader.
 abbrev pub At : {A : Type 0} → (List ℕ → Option (A × List ℕ)) → Step A
@@ -16,10 +16,6 @@ onto_run (Some x) t more = (x.0 ∷ (more x.1).0, (more x.1).1)
 abbrev pub run : {A : Type 0} → (List ℕ → Option (A × List ℕ)) → ℕ → List ℕ → List A × List ℕ
 run f zero t = ([], t)
 run f (suc n) t = onto_run (f t) t (run f n)
-
-pub At-functional : {A : Type 0} (f : List ℕ → Option (A × List ℕ)) → IsFunctional (At f)
-At-functional f t a b r s h k = let same : (a, r) ≡ (b, s) = some_same _ _ (sym h ∙ k) in
-    (ap (λ (x : _ × List ℕ). x.0) same, ap (λ (x : _ × List ℕ). x.1) same)
 
 pub run-complete : {A : Type 0} (f : List ℕ → Option (A × List ℕ)) → IsShortening (At f)
     → (n : ℕ) (t : List ℕ) (as' : List A) (r : List ℕ) → length t ≤ n

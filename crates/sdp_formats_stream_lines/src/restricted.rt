@@ -1,4 +1,4 @@
-//! Restrictions of a stream (RFC 8851 4).
+//! Keys and values of a stream's restrictions (RFC 8851 4).
 
 ghost use Rattle.std.specs.Prelude.{◌≡◌};
 ghost use Rattle.sdp_formats_forms.specs.Refusals.{Gives, GivesBy};

@@ -1,4 +1,4 @@
-//! Restrictions of streams (RFC 8851 4).
+//! Lines `a=rid` (RFC 8851 4).
 
 ghost use Rattle.std.specs.Prelude.{◌≡◌};
 ghost use Rattle.std.specs.Option.{option_copied};

@@ -14,4 +14,4 @@ returns-clause-printable c = λ a rest h. printed_line attribute_line c.exact_la
 
 pub returns-clause-parameters : goal.returns-clause-parameters
 returns-clause-parameters c = λ pt p ps rest low h. printed_line attribute_line c.exact_law.ensures
-    (as_read (Fmtp pt (p ∷ ps))) (attribute_text (Fmtp pt (p ∷ ps))) rest (fmtp_line pt p ps low h.0 h.1)
+    (as_read (Fmtp pt (p ∷ ps))) (attribute_text (Fmtp pt (p ∷ ps))) rest (fmtp_line pt p ps low h.0 h.2)

@@ -6,4 +6,5 @@ pub returns-clause-readable : goal.returns-clause-readable
 returns-clause-readable c = row_readable
 
 pub returns-clause-come_back : goal.returns-clause-come_back
-returns-clause-come_back c = λ row h. c.parameter_lists_law.ensures (params_in row.spec) (row_readable row h)
+returns-clause-come_back c = λ row h.
+    let plain = row_readable row h in (c.parameter_lists_law.ensures (params_in row.spec) plain.0, plain.1)

@@ -1,0 +1,4 @@
+pub mod Members
+pub mod DistinctNames
+pub mod RepeatedTypes
+pub mod AnsweredRows
