@@ -5,10 +5,6 @@ use Rattle.std.specs.Prelude.{Option, Some, None, if◌then◌else◌}
 use Rattle.h26x_payload_units.specs.declared.aggregates.AggregateFault.{AggregateFault}
 use Rattle.h26x_payload_units.specs.declared.aggregates.AggregateFault.TheVariants.{CutShort, PastEnd}
 
--- A number of 16 bits, the high byte first.
-abbrev pub two_bytes : ℕ → List ℕ
-two_bytes n = n / 256 ∷ n % 256 ∷ []
-
 -- A unit behind its size.
 abbrev pub sized : List ℕ → List ℕ
 sized unit = length unit / 256 ∷ length unit % 256 ∷ unit

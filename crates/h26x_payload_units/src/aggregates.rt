@@ -29,6 +29,7 @@ pub fn first_aggregated(lead: usize, body: &[u8]) -> Result<(&[u8], &[u8]), Aggr
     ensures shorter { IfOk result (λ cut. length cut.1.now < length body.now) }
     ensures fault { IfErr result (λ e. 0 < length body.now → (later : ℕ) → aggregated lead later body.now
         ≡ only_fault (Some e)) }
+    ensures empty { IfErr result (λ e. length body.now ≡ 0 → e ≡ AggregateFault.CutShort) }
 {
     if body.len() < lead {
         return Err(AggregateFault::CutShort);

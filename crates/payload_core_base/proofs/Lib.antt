@@ -1,3 +1,4 @@
 pub mod PieceLemmas
 pub mod FrameLemmas
 pub mod TelephoneLemmas
+pub mod Texts

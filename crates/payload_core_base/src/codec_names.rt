@@ -63,6 +63,10 @@ impl Named for Codec {
 
 /// The name of its variant.
 impl fmt::Debug for Codec {
+    ghost use Rattle.std.specs.Prelude.{Some};
+
+    ghost debug_output = { λ codec. Some (variant_name codec) };
+
     fn fmt<W: fmt::Write>(&self, f: &mut fmt::Formatter<W>) -> fmt::Result {
         f.write_str(self.name())
     }

@@ -4,3 +4,4 @@ pub mod NewReceiver
 pub mod StreamKeys
 pub mod Looked
 pub mod Indexing
+pub mod KeptOrSet

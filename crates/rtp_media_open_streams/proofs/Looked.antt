@@ -68,16 +68,3 @@ any-either p q r either (x ∷ xs) =
       by false true true d = refl
       by false true false d = refl
       by false false c d = refl
-
--- the test of none
-pub any-none : {X : Type 0} (xs : List X) → list_any (λ (x : X). false) xs ≡ false
-any-none [] = refl
-any-none (x ∷ xs) = any-none xs
-
--- with another element at a place, of whose kind nothing changed, elements still stand
-pub still-stands : {X : Type 0} (p : X → Bool) (xs ys : List X) (d : X) (index : Option ℕ) → length ys ≡ length xs
-    → ((n : ℕ) → n < length xs → p (slice_index_or ys n d) ≡ true → p (slice_index_or xs n d) ≡ true)
-    → Stands p xs d index → Stands p ys d index
-still-stands p xs ys d index as_many same stands n lt passes =
-    let before : n < length xs = omega (arith, lt, as_many) in
-    stands n before (same n before passes)

@@ -10,10 +10,10 @@ pub enum OpenError {
     #[error("no such section is agreed")]
     NoSection,
     /// The answer's section has no row of this type, or one that no stream can carry: of a codec without a payload
-    /// format, or whose RED type is its own type.
+    /// format, of a type above 127, or whose RED type is its own type.
     #[error("no row of this type is agreed")]
     RowNotAgreed,
-    /// The end's own row of this type is missing or means something else.
+    /// The end's own row of this type is missing, isn't locked, or means something else.
     #[error("the end's own row differs from the agreed one")]
     RowDiffers,
     /// The section does not flow this way.

@@ -2,7 +2,7 @@
 
 ghost use Rattle.std.specs.Prelude.{◌≡◌, ℕ, None, Some, false, true, OnOk};
 ghost use Rattle.rtp_media_payloads.specs.Types.{has_type};
-ghost use Rattle.rtp_media_open_streams.specs.StreamIndex.{is_key, is_key_of, number_at};
+ghost use Rattle.rtp_media_open_streams.specs.StreamIndex.{KeepsOrSets, is_key, is_key_of, number_at};
 
 use rtp_media_payloads::PayloadTypes;
 use rtp_wire::{Pt, Ssrc};
@@ -44,14 +44,11 @@ impl StreamIndex {
     }
 
     /// Sets a number.
-    ///
-    /// # Errors
-    ///
-    /// `AllocError` where memory runs out.
-    pub fn set(&mut self, ssrc: Ssrc, pt: Pt, number: usize) -> Result<(), AllocError>
+    fn set(&mut self, ssrc: Ssrc, pt: Pt, number: usize) -> Result<(), AllocError>
         ensures set { OnOk result (number_at self.new ssrc pt ≡ Some number) }
         ensures others { (s p : ℕ) → is_key ssrc pt s p ≡ false
             → number_at self.new s p ≡ number_at self.old s p }
+        ensures kept { KeepsOrSets number self.old self.new }
     {
         let key = StreamKey {
             ssrc: ssrc.get(),
@@ -77,6 +74,7 @@ impl StreamIndex {
             → number_at self.new ssrc pt ≡ Some number) }
         ensures others { (s p : ℕ) → is_key_of ssrc types.now s p ≡ false
             → number_at self.new s p ≡ number_at self.old s p }
+        ensures kept { KeepsOrSets number self.old self.new }
     {
         self.set(ssrc, types.pt, number)?;
         match types.red {

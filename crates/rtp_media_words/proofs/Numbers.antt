@@ -1,12 +1,12 @@
 -- Numbers in decimal digits.
-use Rattle.std.proofs.Common.{◌≡◌, ◌≢◌, ℕ, ◌^◌, ◌<◌, ◌≤◌, Bool, true, false, ◌&&◌, cond, List, [], ◌∷◌, length}
+use Rattle.std.proofs.Common.{◌≡◌, ◌≢◌, ℕ, ◌^◌, ◌<◌, ◌≤◌, Bool, true, false, ◌&&◌, cond, List, length}
 use Rattle.std.proofs.Common.{get_or, nat_lt, None, Some, Result, Ok, Err, refl, sym, ◌∙◌, ap, arith}
 use Rattle.std.specs.Result.{result_ok, OkIff}
 use Rattle.std.specs.Str.{all_ascii_digits}
 use Rattle.std.specs.Str.Parse.{ParsesUnsigned, digits_value}
 use Rattle.std.proofs.lemmas.Str.Parse.{IsNumeralModel, numerals_by_value, tells_all_ascii_digits, parse_plain}
 use Rattle.std.proofs.lemmas.Bool.Decides.{nat_tests}
-use Rattle.rtp_media_words.specs.Words.{number_below, is_number}
+use Rattle.rtp_media_words.specs.Words.{number_below}
 
 pub own : IsNumeralModel (λ ds. all_ascii_digits ds ≡ true) (digits_value 10)
 own = numerals_by_value _ tells_all_ascii_digits
@@ -33,14 +33,6 @@ number_below-parse bs r h plain = by_parse bs r (parse_plain own 64 bs r h plain
 pub and_false : (b : Bool) → (b && false) ≡ false
 and_false true = refl
 and_false false = refl
-
-signed : (bs : List ℕ) → get_or bs 0 0 ≡ 43 → is_number bs ≡ false
-signed [] h = refl
-signed (b ∷ bs) h = rw h (and_false _)
-
--- a sign is no digit
-pub number_below-plus : (limit : ℕ) (bs : List ℕ) → get_or bs 0 0 ≡ 43 → number_below limit bs ≡ None
-number_below-plus limit bs h = rw (signed bs h) refl
 
 narrow : (b : Bool) (value limit wide : ℕ) → limit ≤ wide
     → cond (b && nat_lt value limit) (Some value) None

@@ -1,6 +1,6 @@
 //! What single words say, and the readers of a line's next word.
 
-ghost use Rattle.std.specs.Prelude.{◌≡◌, ◌+◌, ◌^◌, ◌≤◌, ◌∷◌, IsTrue, IfSome, ◌↔◌, slice_index, IfOk};
+ghost use Rattle.std.specs.Prelude.{◌≡◌, ◌≢◌, ◌+◌, ◌^◌, ◌≤◌, ◌∷◌, IsTrue, IfErr, IfSome, ◌↔◌, slice_index, IfOk};
 ghost use Rattle.std.specs.Option.{option_copied};
 ghost use Rattle.rtp_media_words.specs.Words.{letter_of, number_below, text_of, hex_of, dash_or, numbers_of};
 ghost use Rattle.rtp_media_words.specs.Words.{comma_parts, parts_in, first, behind, mid_value};
@@ -109,7 +109,8 @@ pub(crate) fn split_comma(text: &str) -> (&str, Option<&str>)
 ///
 /// `NotUnderstood` where no word is left, or it names no end.
 pub fn letter_word(words: Words<'_>) -> Result<(Letter, Words<'_>), Misread>
-    ensures { Reads result (first letter_of words.entry) }
+    ensures value { Reads result (first letter_of words.entry) }
+    ensures never_memory { IfErr result (λ e. e ≢ Misread.Memory) }
 {
     let (word, rest) = words.next()?;
     match letter_of(word) {
@@ -126,6 +127,7 @@ pub fn letter_word(words: Words<'_>) -> Result<(Letter, Words<'_>), Misread>
 pub fn number_word(words: Words<'_>, max: u64) -> Result<(u64, Words<'_>), Misread>
     ensures value { Reads result (first (number_below (max + 1)) words.entry) }
     ensures bound { IfOk result (λ x. x.0 ≤ max) }
+    ensures never_memory { IfErr result (λ e. e ≢ Misread.Memory) }
 {
     let (word, rest) = words.next()?;
     match number_up_to(word, max) {
@@ -187,7 +189,8 @@ pub fn distances_word(
 ///
 /// `NotUnderstood` where no word is left, or it is neither a dash nor a number below 65,536.
 pub fn picture_id_word(words: Words<'_>) -> Result<(Option<u16>, Words<'_>), Misread>
-    ensures { Reads result (first (dash_or (number_below (2 ^ 16))) words.entry) }
+    ensures value { Reads result (first (dash_or (number_below (2 ^ 16))) words.entry) }
+    ensures never_memory { IfErr result (λ e. e ≢ Misread.Memory) }
 {
     let (word, rest) = words.next()?;
     if word == "-" {
@@ -205,7 +208,8 @@ pub fn picture_id_word(words: Words<'_>) -> Result<(Option<u16>, Words<'_>), Mis
 ///
 /// `NotUnderstood` where no word is left, or it is neither a dash nor such a number.
 pub fn number_or_dash_word(words: Words<'_>) -> Result<(Option<u8>, Words<'_>), Misread>
-    ensures { Reads result (first (dash_or (number_below (2 ^ 8))) words.entry) }
+    ensures value { Reads result (first (dash_or (number_below (2 ^ 8))) words.entry) }
+    ensures never_memory { IfErr result (λ e. e ≢ Misread.Memory) }
 {
     let (word, rest) = words.next()?;
     if word == "-" {

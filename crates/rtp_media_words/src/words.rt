@@ -1,6 +1,6 @@
 //! The words of a line, read one after the other.
 
-ghost use Rattle.std.specs.Prelude.{◌≡◌, ℕ, List, [], ◌∷◌, IfOk, IfErr};
+ghost use Rattle.std.specs.Prelude.{◌≡◌, ◌≢◌, ℕ, List, [], ◌∷◌, IfOk, IfErr};
 ghost use Rattle.std.specs.Option.{option_copied};
 ghost use Rattle.rtp_media_words.specs.Words.{words_in, words_of, ended};
 ghost use Rattle.rtp_media_words.specs.Misreads.{Reads};
@@ -59,7 +59,8 @@ impl<'a> Words<'a> {
     ///
     /// `NotUnderstood` where one is.
     pub fn end(self) -> Result<(), Misread>
-        ensures { Reads result (ended self.entry tt) }
+        ensures value { Reads result (ended self.entry tt) }
+        ensures never_memory { IfErr result (λ e. e ≢ Misread.Memory) }
     {
         match self.rest {
             None => Ok(()),

@@ -233,6 +233,10 @@ impl fmt::Display for Extension {
 
 /// As it is printed.
 impl fmt::Debug for Extension {
+    ghost use Rattle.std.specs.Prelude.{Some};
+
+    ghost debug_output = { λ ext. Some (uri_of ext) };
+
     fn fmt<W: fmt::Write>(&self, f: &mut fmt::Formatter<W>) -> fmt::Result {
         fmt::Display::fmt(self, f)
     }

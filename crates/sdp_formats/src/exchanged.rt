@@ -7,6 +7,7 @@ ghost use Rattle.sdp_formats.specs.Texts.{ReadsText};
 
 use crate::error::SdpError;
 use crate::parser::sdp_parser;
+use sdp_formats_equality::same::Same;
 use sdp_formats_sessions::Sdp;
 use std::alloc::{AllocError, Global};
 use std::fmt;
@@ -85,6 +86,12 @@ impl fmt::Display for SdpOffer {
     fn fmt<W: fmt::Write>(&self, f: &mut fmt::Formatter<W>) -> fmt::Result {
         let sdp = &self.sdp;
         write!(f, "{sdp}")
+    }
+}
+
+impl Same for SdpOffer {
+    fn is_same(&self, other: &SdpOffer) -> bool {
+        self.sdp.is_same(&other.sdp)
     }
 }
 
@@ -168,6 +175,12 @@ impl fmt::Display for SdpAnswer {
     fn fmt<W: fmt::Write>(&self, f: &mut fmt::Formatter<W>) -> fmt::Result {
         let sdp = &self.sdp;
         write!(f, "{sdp}")
+    }
+}
+
+impl Same for SdpAnswer {
+    fn is_same(&self, other: &SdpAnswer) -> bool {
+        self.sdp.is_same(&other.sdp)
     }
 }
 

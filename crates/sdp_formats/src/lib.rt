@@ -21,6 +21,7 @@ pub use sdp_formats_config::{CodecConfig, RemoteSection};
 pub use sdp_formats_copies::TryClone;
 pub use sdp_formats_equality::same::Same;
 pub use sdp_formats_faults::{Inconsistency, check_consistent, is_consistent};
+pub use sdp_formats_fmtp::parse_pairs;
 pub use sdp_formats_forms::{FingerprintFmt, Joined, Maybe, Refusal};
 pub use sdp_formats_lookups::{directions, from_text, lists, preference, section, session, whole};
 pub use sdp_formats_round::{RoundError, best_row, round};

@@ -1,7 +1,5 @@
 //! Equality of what stands before the first section.
 
-ghost use Rattle.std.specs.Prelude.{◌≡◌, ◌↔◌, IsTrue};
-
 use crate::same::Same;
 use sdp_formats_sessions::SessionAttribute as Attribute;
 use sdp_formats_types::{
@@ -88,18 +86,4 @@ impl Same for Attribute {
             _ => false,
         }
     }
-}
-
-/// Whether two bandwidths are the same: what they mean and their values.
-pub fn is_same_bandwidth(a: &Bandwidth, b: &Bandwidth) -> bool
-    ensures { IsTrue result ↔ (a.now ≡ b.now) }
-{
-    a.is_same(b)
-}
-
-/// Whether two attributes of the session are the same: of one kind, and with the same values.
-pub fn is_same_session_attribute(a: &Attribute, b: &Attribute) -> bool
-    ensures { IsTrue result ↔ (a.now ≡ b.now) }
-{
-    a.is_same(b)
 }

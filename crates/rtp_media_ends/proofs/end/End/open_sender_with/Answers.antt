@@ -27,6 +27,21 @@ returns-clause-sender c =
     subst IsSender (sym (let there : _ ≡ c.in_ok-stream.stream = grind (arith, common_steps) in
     there ∙ c.in_ok-stream.ensures)) opened
 
+pub returns-clause-after : goal.returns-clause-after
+unfolding after_open_sender
+returns-clause-after c =
+    let stream : c.in_ok-stream.stream ≡ new_sender c.args.self.now c.args.mid c.args.ssrc c.args.pt c.args.params.now =
+    c.in_ok-stream.ensures ∙ sender-of-row c.args.self.now c.args.mid c.args.ssrc c.args.pt c.args.params.now
+    c.in_ok-row.row c.in_ok-row.ensures.row in
+    grind (arith, common_steps)
+
+pub returns-clause-stream : goal.returns-clause-stream
+returns-clause-stream c =
+    let stream : c.in_ok-stream.stream ≡ new_sender c.args.self.now c.args.mid c.args.ssrc c.args.pt c.args.params.now =
+    c.in_ok-stream.ensures ∙ sender-of-row c.args.self.now c.args.mid c.args.ssrc c.args.pt c.args.params.now
+    c.in_ok-row.row c.in_ok-row.ensures.row in
+    grind (arith, common_steps)
+
 pub returns-clause-sends : goal.returns-clause-sends
 unfolding after_open_sender
 returns-clause-sends c =

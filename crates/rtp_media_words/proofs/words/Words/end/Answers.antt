@@ -4,7 +4,7 @@ use Rattle.rtp_media_words.specs.Words.{ended, words_in}
 use Rattle.rtp_media_words.proofs.Splits.{ended-words_of}
 use Rattle.rtp_media_words.proofs.words.Words.end.Goals as goal
 
-pub returns-in-Some : goal.returns-in-Some
-returns-in-Some c =
+pub returns-in-Some-clause-value : goal.returns-in-Some-clause-value
+returns-in-Some-clause-value c =
     ap (λ words. ended words tt) (sym c.self.view_is ∙ ap (λ rest. words_in (option_copied rest)) c.in-Some.is)
     ∙ ended-words_of c.in-Some.field-0.now tt
