@@ -18,7 +18,7 @@ use Rattle.h26x_payload_h264.specs.H264Coding.{h264_coding}
 use Rattle.h26x_payload_units.specs.declared.layout.Layout.{Layout}
 use Rattle.h26x_payload_units.specs.declared.layout.Layout.TheVariants as layouts
 use Rattle.h26x_payload_h265_h266.specs.Coding.{h265_h266_coding}
-use Rattle.h26x_payload.specs.Dispatch.{FirstIsReached, FormsKeepUnits, KeepCodecLaw, KeepCodecLawInForms}
+use Rattle.h26x_payload.specs.Dispatch.{FormsKeepUnits, KeepCodecLaw, KeepCodecLawInForms}
 use Rattle.h26x_payload.specs.Codings.{Forms, Settings, coding_in, coding_of, plain_forms}
 
 -- the laws of the codecs
@@ -54,25 +54,6 @@ keep_codec_law_in l f s has_id Unknown = λ sender limit sample reached well_for
 
 pub keep_codec_law : TheLaws → KeepCodecLaw
 keep_codec_law l s has_id codec = keep_codec_law_in l plain_forms s has_id codec
-
-pub first_is_reached : FirstIsReached
-first_is_reached s has_id Opus id is few = tt
-first_is_reached s has_id PCMU id is few = tt
-first_is_reached s has_id PCMA id is few = tt
-first_is_reached s has_id G722 id is few = tt
-first_is_reached s has_id CN id is few = tt
-first_is_reached s has_id AmrWb id is few = tt
-first_is_reached s has_id H264 id is few = tt
-first_is_reached s has_id H265 id is few = tt
-first_is_reached s has_id H266 id is few = tt
-first_is_reached s has_id Vp8 id is few = few
-first_is_reached s has_id Vp9 id is few = few
-first_is_reached s has_id Av1 id is few = tt
-first_is_reached s has_id Tele id is few = tt
-first_is_reached s has_id Rtx id is few = absurd (false≢true is)
-first_is_reached s has_id Red id is few = absurd (false≢true is)
-first_is_reached s has_id Null id is few = absurd (false≢true is)
-first_is_reached s has_id Unknown id is few = absurd (false≢true is)
 
 pub forms_keep_units : vpx.SameUnits → vp9.SameUnits → FormsKeepUnits
 forms_keep_units vp8 vp9 f s has_id Opus sender limit sample room = refl

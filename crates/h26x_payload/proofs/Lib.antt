@@ -1,3 +1,4 @@
 pub mod CodecLaws
 pub mod Runs
 pub mod Ids
+pub mod Configured

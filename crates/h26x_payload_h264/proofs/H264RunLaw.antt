@@ -103,12 +103,6 @@ fragments header first parts = in_fragments (fu_a header) first parts
 run_none : (run : Run) → run_behind [] run ≡ run
 run_none run = refl
 
-run_twice : (before after : List ℕ) (run : Run) → run_behind before (run_behind after run)
-    ≡ run_behind (before ++ after) run
-run_twice before after run = ap (λ w. record
-    { written = w; extra = run.extra; fragment = run.fragment; fault = run.fault })
-    (sym (append_assoc before after run.written))
-
 -- what the later fragments of a unit give, behind the bytes that are open
 later_run : (header : ℕ) (unit p : List ℕ) (ps : List (List ℕ)) (extra : CodecExtra) (qs : List (List ℕ)) → header < 128
     → (x : CodecExtra) × (read_all h264_format (Some unit) extra (fragments header false (p ∷ ps) ++ qs)

@@ -146,9 +146,6 @@ all_parts n [] = refl
 all_parts n (d ∷ ds) = ap (λ t. map behind_code (units_in d) ++ t) (all_parts (number_behind n d) ds)
     ∙ sym (map-append behind_code (units_in d) (flat_map units_in ds))
 
-abbrev IsPart : ℕ → List ℕ → Type 0
-IsPart size p = length p ≤ size
-
 fragment_size : (l : Layout) (donl : Bool) (n high low : ℕ) (first last : Bool) (part : List ℕ)
     → length (fragment l donl n high low first last part) ≡ 3 + donl_size (first && donl) + length part
 fragment_size l donl n high low first last part =

@@ -13,9 +13,13 @@ use std::alloc::{AllocError, Global};
 /// How units are sent: whose they are, with decoding order numbers or without, and the limit.
 #[derive(Clone, Copy, Drop)]
 pub struct Form {
+    /// Where packets are allocated.
     pub alloc: Global,
+    /// Whether units are of H.265 or of H.266.
     pub layout: Layout,
+    /// Whether decoding order numbers are sent.
     pub donl: bool,
+    /// The most bytes of a packet.
     pub limit: usize,
 }
 

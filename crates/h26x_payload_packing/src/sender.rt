@@ -26,9 +26,13 @@ const MAX_AGGREGATED: usize = 65_535;
 /// that wait.
 #[derive(Clone, Copy, Drop)]
 pub struct Kept<'a> {
+    /// The next decoding order number.
     pub number: u16,
+    /// The video parameter set that waits.
     pub vps: Option<&'a [u8]>,
+    /// The sequence parameter set that waits.
     pub sps: Option<&'a [u8]>,
+    /// The picture parameter set that waits.
     pub pps: Option<&'a [u8]>,
 }
 

@@ -1,2 +1,1 @@
 pub mod AsBox
-pub mod BareSession

@@ -157,7 +157,7 @@ impl Peer {
     /// Makes a new end of the draft, under this session number, in place of an end that was made, and answers `OK`; or
     /// the first that holds of `ROW_NOT_PLAIN`, `TYPES_NOT_DISTINCT` and `NOT_WRITABLE`, or `MEMORY`, and the
     /// end stays. The draft is then empty, refused or not.
-    #[tactic(auto, using(crate::proofs::BareSession::refused_bare))]
+    #[tactic(auto, using(rtp_media_exchange_steps::proofs::BareSession::refused_bare))]
     pub fn make(&mut self, alloc: Global, session: u64) -> u32
         ensures outcome { result ≢ memory → result ≡ make_outcome self.old }
         ensures made { result ≡ ok → self.new ≡ made self.old session }

@@ -1,4 +1,4 @@
-//! Ends, and streams by codec without an end, in the shapes that cross to C.
+//! Ends in the shapes that cross to C: their drafts, their exchanges and their streams.
 #![tactic(auto)]
 
 mod draft;

@@ -58,6 +58,7 @@ impl EndPlace {
 #[derive(Drop)]
 pub struct EndHandle {
     full: bool,
+    /// Where it is held.
     pub place: EndPlace,
     ghost sound: { full ≡ is_some place.object },
 }

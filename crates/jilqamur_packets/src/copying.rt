@@ -20,7 +20,7 @@ pub fn copy_out(bytes: &[u8], buffer: &mut [u8], needed: &mut usize) -> u32
 }
 
 /// The text that bytes are, where they are UTF-8.
-#[tactic(auto, using(crate::proofs::Texts::text, crate::proofs::Texts::no_text))]
+#[tactic(auto, using(payload_core_base::proofs::Texts::text, payload_core_base::proofs::Texts::no_text))]
 pub fn text_in(bytes: &[u8]) -> Option<&str>
     ensures some { IfSome result (λ text. (text.now ≡ bytes.now) × (is_utf8 bytes.now ≡ true)) }
     ensures none { IfNone result (is_utf8 bytes.now ≡ false) }

@@ -58,6 +58,7 @@ impl DepacketizerPlace {
 #[derive(Drop)]
 pub struct DepacketizerHandle {
     full: bool,
+    /// Where it is held.
     pub place: DepacketizerPlace,
     ghost sound: { full ≡ is_some place.object },
 }

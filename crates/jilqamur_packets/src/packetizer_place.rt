@@ -58,6 +58,7 @@ impl PacketizerPlace {
 #[derive(Drop)]
 pub struct PacketizerHandle {
     full: bool,
+    /// Where it is held.
     pub place: PacketizerPlace,
     ghost sound: { full ≡ is_some place.object },
 }

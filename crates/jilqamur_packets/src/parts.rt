@@ -8,7 +8,9 @@ use std::marker::Model;
 
 /// A box taken apart; it owns what the box owned.
 pub struct Parts<T, A: Allocator> {
+    /// Where the value stands.
     pub ptr: *mut T,
+    /// What gives its memory back.
     pub alloc: A,
     pub ghost value: { T },
 }

@@ -62,6 +62,7 @@ impl WindowPlace {
 #[derive(Drop)]
 pub struct WindowHandle {
     full: bool,
+    /// Where it is held.
     pub place: WindowPlace,
     ghost sound: { full ≡ is_some place.object },
 }

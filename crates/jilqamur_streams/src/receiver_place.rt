@@ -58,6 +58,7 @@ impl ReceiverPlace {
 #[derive(Drop)]
 pub struct ReceiverHandle {
     full: bool,
+    /// Where it is held.
     pub place: ReceiverPlace,
     ghost sound: { full ≡ is_some place.object },
 }

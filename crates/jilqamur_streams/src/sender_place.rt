@@ -58,6 +58,7 @@ impl SenderPlace {
 #[derive(Drop)]
 pub struct SenderHandle {
     full: bool,
+    /// Where it is held.
     pub place: SenderPlace,
     ghost sound: { full ≡ is_some place.object },
 }

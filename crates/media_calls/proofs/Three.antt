@@ -19,7 +19,8 @@ use Rattle.rtp_media_play.specs.declared.schedule.Event.{Event}
 use Rattle.rtp_media_play.specs.declared.schedule.Event.TheVariants.{Arrive, Poll}
 use Rattle.rtp_media_play.specs.declared.schedule.Played.{Played}
 use Rattle.rtp_media_play.specs.declared.schedule.Played.TheVariants.{Received, Polled}
-use Rattle.media_calls.specs.Call.{bytes_out, is_silent, sends_pieces, silent_after, IsShortSample}
+use Rattle.rtp_media_play.specs.OpusHops.{bytes_out}
+use Rattle.media_calls.specs.Call.{is_silent, sends_pieces, silent_after, IsShortSample}
 use Rattle.media_calls.proofs.Whole.{AreShort, plain-format, sent-whole, sent_whole}
 
 -- the first arrives and is polled, the third, and then the second

@@ -1,5 +1,5 @@
 -- Codecs that cut samples in pieces, short samples, what comes out of them, and polls that end.
-use Rattle.std.specs.Prelude.{ℕ, ◌≡◌, ◌<◌, ◌≤◌, Bool, true, false, List, [], ◌∷◌, length, Option, Some, None, Result}
+use Rattle.std.specs.Prelude.{◌≡◌, ◌<◌, ◌≤◌, Bool, true, false, List, [], ◌∷◌, length, Option, Some, None, Result}
 use Rattle.std.specs.Prelude.{Ok, Err}
 use Rattle.payload_core_base.specs.declared.codec.Codec.{Codec}
 use Rattle.payload_core_base.specs.declared.codec.Codec.TheVariants.{Opus, PCMU, PCMA, G722}
@@ -28,11 +28,6 @@ sends_pieces _ = false
 -- A row of one of them.
 abbrev pub SendsPieces : Row → Type 0
 SendsPieces row = sends_pieces row.spec.codec ≡ true
-
--- The bytes of what is handed out.
-abbrev pub bytes_out : Result MediaUnit PacketError → Result (List ℕ) PacketError
-bytes_out (Ok u) = Ok u.bytes
-bytes_out (Err e) = Err e
 
 -- Whether a poll answered None.
 abbrev pub is_silent : Result (Option MediaUnit) PacketError → Bool

@@ -7,7 +7,8 @@ ghost use Rattle.rtp_media_ends.specs.Connections.{HaveExchanged};
 ghost use Rattle.rtp_media_open_streams.specs.Ends.{is_receiver_at, is_sender_at, sender_at};
 ghost use Rattle.rtp_media_play.specs.Runs.{Hears};
 ghost use Rattle.rtp_media_play.specs.Schedules.{poll_answers};
-ghost use Rattle.media_calls.specs.Call.{IsShortSample, SendsPieces, bytes_out, sends_pieces};
+ghost use Rattle.media_calls.specs.Call.{IsShortSample, SendsPieces, sends_pieces};
+ghost use Rattle.rtp_media_play.specs.OpusHops.{bytes_out};
 
 use crate::silence::ends_silent;
 use crate::stopped::Stopped;

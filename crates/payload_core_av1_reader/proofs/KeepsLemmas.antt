@@ -1,12 +1,8 @@
 -- Bytes that stand in front of others.
 use Rattle.std.proofs.Common.{◌≡◌, ℕ, zero, suc, ◌≤◌, List, [], ◌∷◌, ◌++◌, length, take, refl, ap, sym}
 use Rattle.std.proofs.Common.{◌∙◌, arith}
-use Rattle.std.proofs.Math.Seq.{take-append_seam, take-length}
 use Rattle.std.proofs.lemmas.List.{length-take, take-append-le}
 use Rattle.payload_core_av1_reader.specs.Av1ReadingViews.{Keeps}
-
-pub keeps-same : (a b : List ℕ) → b ≡ a → Keeps a b
-keeps-same a b same = ap (take (length a)) same ∙ take-length a
 
 within : (a b : List ℕ) → Keeps a b → length a ≤ length b
 within a b kept = omega (arith, length-take (length a) b, ap length kept)
@@ -27,6 +23,3 @@ take_take (suc n) (suc m) (x ∷ xs) le = ap (λ ys. x ∷ ys) (take_take n m xs
 pub keeps-both : (a b c : List ℕ) → Keeps a b → Keeps b c → Keeps a c
 keeps-both a b c first second = let le : length a ≤ length b = within a b first in
     sym (take_take (length a) (length b) c le) ∙ ap (take (length a)) second ∙ first
-
-pub keeps-append : (a b : List ℕ) → Keeps a (a ++ b)
-keeps-append a b = take-append_seam a b

@@ -1,10 +1,8 @@
 -- The elements of a packet, one step at a time.
-use Rattle.std.proofs.Common.{◌≡◌, ℕ, zero, suc, ◌+◌, ◌-◌, ◌<◌, ◌≤◌, Bool, true, false, ltb, leb, eqb, Result, Ok}
-use Rattle.std.proofs.Common.{Err, List, [], ◌∷◌, ◌++◌, take, drop, length, get_or, None, Some, Option, if◌then◌else◌}
+use Rattle.std.proofs.Common.{◌≡◌, ℕ, zero, suc, ◌+◌, ◌-◌, ◌<◌, ◌≤◌, Bool, true, false, ltb, leb, eqb}
+use Rattle.std.proofs.Common.{List, [], ◌∷◌, ◌++◌, take, drop, length, get_or, None, Some, Option, if◌then◌else◌}
 use Rattle.std.proofs.Common.{refl, sym, ap, subst, ◌∙◌, append_assoc, arith}
-use Rattle.std.proofs.lemmas.List.{append-nil, length-drop, length-take}
-use Rattle.std.specs.Prelude.{is_some}
-use Rattle.std.specs.Result.{IfOk, IfErr}
+use Rattle.std.proofs.lemmas.List.{length-drop, length-take}
 use Rattle.std.proofs.lemmas.Bool.Decides.{nat_tests}
 use Rattle.payload_core_base.specs.Format.{Fragment}
 use Rattle.payload_core_av1_reader.specs.Leb128.{Cut, Sized, behind_byte, cut_by, size_in, size_within, sized_part}
@@ -101,16 +99,6 @@ sized-go [] cut es some is = absurd (omega arith)
 sized-go (b ∷ bs) cut es some is = sym (ap (all_in_front es) (sized_step b bs cut is)
     ∙ push_in_front es cut.part (sized_elements (length cut.rest) cut.rest))
 
-pub sized-stop : (text : List ℕ) (es : List (List ℕ)) → 0 < length text → sized_part text ≡ None
-    → all_in_front es (sized_elements (length text) text) ≡ None
-sized-stop [] es some is = absurd (omega arith)
-sized-stop (b ∷ bs) es some is = ap (λ o. all_in_front es (and_behind o (λ rest. sized_elements (length bs) rest))) is
-
-pub sized-end : (text : List ℕ) (es : List (List ℕ)) → length text ≡ 0
-    → all_in_front es (sized_elements (length text) text) ≡ Some es
-sized-end [] es none = ap Some (append-nil es)
-sized-end (b ∷ bs) es none = absurd (omega arith)
-
 -- what was given so far, and what the others give
 pub given-go : (before after : List ℕ) (e : List ℕ) (es : List (List ℕ)) → Gathers before (given e) after
     → joined_option (Some after) (all_given es) ≡ joined_option (Some before) (all_given (e ∷ es))
@@ -129,30 +117,6 @@ given-stop before e es is = ap (λ o. joined_option (Some before) (joined_option
 pub none_behind : (before : List ℕ) (o : Option (List ℕ)) → joined_option (Some before) o ≡ None → o ≡ None
 none_behind before None is = refl
 none_behind before (Some bytes) is = absurd (cc)
-
-pub some_behind : (before after : List ℕ) (o : Option (List ℕ)) → Some after ≡ joined_option (Some before) o
-    → Gathers before o after
-some_behind before after None is = absurd (cc)
-some_behind before after (Some bytes) is = cc
-
--- a unit in front decides nothing, and what is none decides
-pub some-go : (e : List ℕ) (es : List (List ℕ)) → is_some (given e) ≡ true → is_some (all_given (e ∷ es))
-    ≡ is_some (all_given es)
-some-go e es is = by_given (given e) is (all_given es)
-  where
-    by_given : (o : Option (List ℕ)) → is_some o ≡ true → (others : Option (List ℕ))
-        → is_some (joined_option o others) ≡ is_some others
-    by_given None some others = absurd (cc)
-    by_given (Some bytes) some None = refl
-    by_given (Some bytes) some (Some more) = refl
-
-pub some-stop : (e : List ℕ) (es : List (List ℕ)) → is_some (given e) ≡ false → is_some (all_given (e ∷ es)) ≡ false
-some-stop e es is = by_given (given e) is (all_given es)
-  where
-    by_given : (o : Option (List ℕ)) → is_some o ≡ false → (others : Option (List ℕ))
-        → is_some (joined_option o others) ≡ false
-    by_given None none others = refl
-    by_given (Some bytes) none others = absurd (cc)
 
 -- with others behind it the first element is complete, and the last is one of the others
 pub complete-more : (y : Bool) (e o : List ℕ) (os : List (List ℕ)) → complete y (e ∷ o ∷ os) ≡ e ∷ complete y (o ∷ os)
@@ -194,14 +158,6 @@ gathers-both before middle after e es first others = by_given (given e) (all_giv
 pub none-first : (e : List ℕ) (es : List (List ℕ)) → given e ≡ None → all_given (e ∷ es) ≡ None
 none-first e es is = ap (λ o. joined_option o (all_given es)) is
 
-pub none-later : (before middle e : List ℕ) (es : List (List ℕ)) → Gathers before (given e) middle → all_given es
-    ≡ None → all_given (e ∷ es) ≡ None
-none-later before middle e es first is = ap (joined_option (given e)) is ∙ by_given (given e) first
-  where
-    by_given : (o : Option (List ℕ)) → Gathers before o middle → joined_option o None ≡ None
-    by_given None g = refl
-    by_given (Some bytes) g = refl
-
 -- the first element goes on with what is open, and others stand behind it
 begun_joined : (f e : List ℕ) (es : List (List ℕ)) → 0 < length e → begun true (Some f) (e ∷ es) ≡ fresh ((f ++ e) ∷ es)
 begun_joined f [] es some = absurd (omega arith)
@@ -224,14 +180,6 @@ joined-both y f e fragment os before middle after is_open some others first behi
     let G : Option (List ℕ) → Type 0 = λ o. Gathers before o after in
     subst G (sym (ap (λ o. given_of y (begun true o (e ∷ os))) is_open ∙ given_joined y f e os some others))
     (gathers-both before middle after (f ++ e) (complete y os) first behind)
-
-pub if_ok : {T E : Type 0} → (r : Result T E) (P Q : T → Type 0) → ((x : T) → P x → Q x) → IfOk r P → IfOk r Q
-if_ok (Ok x) P Q step h = step x h
-if_ok (Err e) P Q step h = h
-
-pub if_err : {T E : Type 0} → (r : Result T E) (P Q : E → Type 0) → ((x : E) → P x → Q x) → IfErr r P → IfErr r Q
-if_err (Ok x) P Q step h = h
-if_err (Err e) P Q step h = step e h
 
 pub not_empty : (n : ℕ) (b : Bool) → b ≡ eqb n 0 → b ≡ false → 0 < n
 not_empty n b is e = grind (arith, nat_tests)

@@ -18,8 +18,11 @@ const PAYLOAD_LIMIT: usize = 72_057_594_037_927_934;
 /// A unit: its header, with X an extension byte, and its payload.
 #[derive(Clone, Copy, Drop)]
 pub struct Obu<'a> {
+    /// The byte of F, type, X, S and a reserved bit.
     pub header: u8,
+    /// The byte of temporal and spatial layer, where X is set.
     pub extension: Option<u8>,
+    /// What stands behind both and a size.
     pub payload: &'a [u8],
 }
 

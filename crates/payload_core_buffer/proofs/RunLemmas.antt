@@ -84,9 +84,6 @@ read_fault format fragment extra ps rest p w x f e after read is same =
     rw (read_all-append format (p ∷ rest) ps fragment extra w x f read)
     (fault_by f x w (format.read f x p) (λ g y. read_all format g y rest) e after is same)
 
-payload_of : Held → List ℕ
-payload_of h = h.payload.items
-
 -- the payloads up to one packet more, and those of all by one packet
 pub payloads_more : (hs : List Held) (i : ℕ) (h : Held) → i < length hs → h ≡ get_or hs i h
     → payloads_of (packets_of (take (i + 1) hs)) ≡ payloads_of (packets_of (take i hs)) ++ h.payload.items ∷ []

@@ -3,12 +3,10 @@ use Rattle.std.proofs.Common.{◌≡◌, ℕ, ◌-◌, List, [], ◌∷◌, map,
 use Rattle.std.specs.BTreeMap.{BTreeMap, values}
 use Rattle.std.specs.Map.{values_of}
 use Rattle.std.specs.Prelude.{slice_range}
-use Rattle.std.proofs.lemmas.List.{drop-map, length-drop, length-map, length-take, take-map}
-use Rattle.payload_core_base.specs.Format.{Format, Fragment}
+use Rattle.std.proofs.lemmas.List.{drop-map, length-drop, length-map, take-map}
 use Rattle.payload_core_buffer.specs.Buffered.{IsHeldByNumber}
-use Rattle.payload_core_buffer.specs.Frames.{IsFrame, packets_between}
-use Rattle.payload_core_buffer.specs.Packets.{Packet, metas_of, packet_of, packets_of}
-use Rattle.payload_core_buffer.specs.Pops.{ReadsPart}
+use Rattle.payload_core_buffer.specs.Frames.{packets_between}
+use Rattle.payload_core_buffer.specs.Packets.{metas_of, packet_of, packets_of}
 use Rattle.payload_core_buffer.specs.declared.frame.Frame.{Frame}
 use Rattle.payload_core_buffer.specs.declared.held.Held.{Held}
 use Rattle.payload_core_buffer.proofs.KeptLemmas.{drop_entries, keyed_drop, rising-drop}
@@ -43,19 +41,3 @@ module _ (n : ℕ) (m new : BTreeMap ℕ Held) (is : new.entries ≡ drop n m.en
     };
     keyed = rw is (keyed_drop n m.entries by_number.keyed);
   }
-
--- no packet of a frame was read
-pub stops_first : (format : Format) (before : Fragment) (ps : List Packet) (f : Frame) → IsFrame format ps f
-    → ReadsPart format before (packets_between ps f) before
-stops_first format before ps f frame = record {
-  count = 0;
-  stopped = omega (
-    arith,
-    frame.not_empty,
-    frame.in_range,
-    length-take (f.end - f.start) (drop f.start ps),
-    length-drop f.start ps,
-  );
-  no_fault = refl;
-  fragment = refl;
-}

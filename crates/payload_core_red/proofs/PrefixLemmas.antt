@@ -37,13 +37,3 @@ stops budget size left blocks i b lt is whole short = record {
     bytes-longer blocks (i + 1) m (omega arith),
   );
 }
-
--- all levels have room
-pub takes_all : (budget size left : ℕ) (blocks : List Block)
-    → 1 + bytes_of (take (length blocks) blocks) + size + left ≡ budget
-    → IsLongestPrefix budget size blocks (length blocks)
-takes_all budget size left blocks whole = record {
-  existing = omega arith;
-  within = omega (arith, whole);
-  longest = λ m more le. absurd (omega arith);
-}

@@ -68,12 +68,12 @@ bytes-spelled (b ∷ bs) =
     length-append b.payload (payloads_of bs) in
     omega (arith, whole, heads, bodies, bytes-spelled bs)
 
-bytes-masked : (bs : List Block) → bytes_of (map masked bs) ≡ bytes_of bs
+pub bytes-masked : (bs : List Block) → bytes_of (map masked bs) ≡ bytes_of bs
 bytes-masked [] = refl
 bytes-masked (b ∷ bs) = sum_by-cons size_of (masked b) (map masked bs)
     ∙ ap (λ n. 4 + length b.payload + n) (bytes-masked bs) ∙ sym (sum_by-cons size_of b bs)
 
-bytes-reverse : (bs : List Block) → bytes_of (reverse bs) ≡ bytes_of bs
+pub bytes-reverse : (bs : List Block) → bytes_of (reverse bs) ≡ bytes_of bs
 bytes-reverse [] = refl
 bytes-reverse (b ∷ bs) =
     let parts : bytes_of (reverse (b ∷ bs)) ≡ bytes_of (reverse bs) + bytes_of (b ∷ []) =
@@ -81,7 +81,7 @@ bytes-reverse (b ∷ bs) =
     let one : bytes_of (b ∷ []) ≡ 4 + length b.payload = omega arith in
     omega (arith, parts, one, bytes-reverse bs, sum_by-cons size_of b bs)
 
-spelled-length : (bs : List Block) (pt : ℕ) (primary : List ℕ) → length (spelled bs pt primary)
+pub spelled-length : (bs : List Block) (pt : ℕ) (primary : List ℕ) → length (spelled bs pt primary)
     ≡ 1 + bytes_of bs + length primary
 spelled-length bs pt primary = omega (
   arith,
@@ -104,7 +104,7 @@ wrap-read r pt payload time budget sent le is =
     (bs, red-read sent bs (pt % 128) payload w.is_red)
 
 -- there is one longest prefix
-longest-one : (budget size : ℕ) (bs : List Block) (m n : ℕ) → IsLongestPrefix budget size bs m
+pub longest-one : (budget size : ℕ) (bs : List Block) (m n : ℕ) → IsLongestPrefix budget size bs m
     → IsLongestPrefix budget size bs n → m ≡ n
 longest-one budget size bs m n is other = elim (cases_lt m n) [
   | inl less ↦ absurd (omega (arith, is.longest n less other.existing, other.within))

@@ -1,18 +1,18 @@
 -- Samples that are pushed one after the other.
-use Rattle.std.proofs.Common.{true, false, true≢false, ◌≡◌, ℕ, zero, suc, ◌+◌, ◌<◌, ◌≤◌, refl, sym, ◌∙◌}
+use Rattle.std.proofs.Common.{true, ◌≡◌, ℕ, zero, suc, ◌+◌, ◌<◌, ◌≤◌, refl, sym, ◌∙◌}
 use Rattle.std.proofs.Common.{ap, ap₂, subst, subst₂, arith, inl, inr}
-use Rattle.std.proofs.Common.{List, [], ◌∷◌, ◌++◌, length, length-set, take, append_assoc, append-nil, add-one}
-use Rattle.std.proofs.lemmas.List.{get_or-set_same, set-get_or, set-set}
+use Rattle.std.proofs.Common.{List, [], ◌∷◌, ◌++◌, length, take, append_assoc, append-nil, add-one}
+use Rattle.std.proofs.lemmas.List.{get_or-set_same, set-set}
 use Rattle.std.proofs.lemmas.Bool.Decides.{nat_tests}
-use Rattle.std.specs.Prelude.{Option, Some, None, nat_lt, slice_index_or, slice_set}
+use Rattle.std.specs.Prelude.{Option, Some, None, nat_lt, slice_index_or}
 use Rattle.rtp_media_streams.specs.Sending.{HasFailed, Sample, Sending, after_sample, after_samples, datagrams_of}
 use Rattle.rtp_media_streams.specs.Sending.{first_refusal, refusal_of_sample, sent_datagrams}
 use Rattle.rtp_media_payloads.specs.declared.errors.SampleError.{SampleError}
 use Rattle.rtp_media_open_streams.specs.declared.open_stream.OpenStream.{OpenStream}
 use Rattle.rtp_media_open_streams.specs.declared.open_stream.OpenStream.TheVariants.{Receiver, Sender}
-use Rattle.rtp_media_open_streams.specs.Ends.{EndState, is_sender_at, is_sending, no_receiver, nth_stream, sender_at}
+use Rattle.rtp_media_open_streams.specs.Ends.{EndState, is_sender_at, no_receiver, sender_at}
 use Rattle.rtp_media_open_streams.specs.Ends.{sending_of, with_sender}
-use Rattle.rtp_media_play.proofs.Both.{both, left, right}
+use Rattle.rtp_media_play.proofs.Both.{left}
 use Rattle.rtp_media_play.specs.Pushing.{IsRefusedAt, PushesSome, after_pushes, refusal_of_samples}
 
 -- the stream of no number
@@ -24,19 +24,6 @@ sender-within : (e : EndState) (tx : ℕ) → is_sender_at e tx ≡ true → tx 
 sender-within e tx h = lt-of tx (length e.streams) (left (nat_lt tx (length e.streams)) _ h) where
   lt-of : (a b : ℕ) → nat_lt a b ≡ true → a < b
   lt-of a b h = grind (arith, nat_tests)
-
-sender-is : (e : EndState) (tx : ℕ) → is_sender_at e tx ≡ true → Sender (sender_at e tx) ≡ nth_stream e.streams tx
-sender-is e tx h = by (nth_stream e.streams tx) (right (nat_lt tx (length e.streams)) _ h) where
-  by : (x : OpenStream) → is_sending x ≡ true → Sender (sending_of x) ≡ x
-  by (Sender s) is = refl
-  by (Receiver r) is = absurd (true≢false (sym is))
-
-sender-kept : (e : EndState) (tx : ℕ) (s : Sending) → is_sender_at e tx ≡ true
-    → is_sender_at (with_sender e tx s) tx ≡ true
-sender-kept e tx s h =
-    both (nat_lt tx (length (slice_set e.streams tx (Sender s)))) _
-    (ap (nat_lt tx) (length-set e.streams tx (Sender s)) ∙ left (nat_lt tx (length e.streams)) _ h)
-    (ap is_sending (get_or-set_same e.streams tx (Sender s) nobody (sender-within e tx h)))
 
 -- the stream after one sample, its datagrams, and why it is refused
 abbrev pub stepped : Sending → Sample → Sending
@@ -112,19 +99,6 @@ pub record IsPushed (before : EndState) (tx : ℕ) (samples : List Sample) (coun
   pub after : now ≡ after_pushes before tx (take count samples)
   pub sent : datagrams ≡ datagrams_of (sender_at before tx) (take count samples)
 
--- nothing was pushed
-pub none-pushed : (before : EndState) (tx : ℕ) (samples : List Sample) → is_sender_at before tx ≡ true
-    → IsPushed before tx samples 0 before []
-none-pushed before tx samples there = record {
-  there_is = there;
-  place = omega arith;
-  accepted = refl;
-  after = ap (λ (ss : List OpenStream). record before { streams = ss })
-      (sym (set-get_or before.streams tx nobody)
-      ∙ ap (slice_set before.streams tx) (sym (sender-is before tx there)));
-  sent = refl;
-}
-
 -- the stream after those that were pushed
 pub stream-pushed : (before now : EndState) (tx count : ℕ) (samples : List Sample) (datagrams : List (List ℕ))
     → IsPushed before tx samples count now datagrams →
@@ -134,12 +108,6 @@ stream-pushed before now tx count samples datagrams is =
     ∙ ap sending_of (get_or-set_same before.streams tx
     (Sender (after_samples (sender_at before tx) (take count samples))) nobody
     (sender-within before tx is.there_is))
-
-pub still-there : (before now : EndState) (tx count : ℕ) (samples : List Sample) (datagrams : List (List ℕ))
-    → IsPushed before tx samples count now datagrams → is_sender_at now tx ≡ true
-still-there before now tx count samples datagrams is =
-    ap (λ (e : EndState). is_sender_at e tx) is.after
-    ∙ sender-kept before tx (after_samples (sender_at before tx) (take count samples)) is.there_is
 
 -- another stream in its place
 replaced : (before now : EndState) (tx count : ℕ) (samples : List Sample) (datagrams : List (List ℕ)) (s : Sending)

@@ -1,68 +1,24 @@
 -- Speech of AMR-WB that is sent again.
-use Rattle.std.proofs.Common.{◌≡◌, ℕ, zero, suc, ◌+◌, ◌-◌, ◌*◌, ◌/◌, ◌%◌, ◌^◌, ◌<◌, Bool, true, false, ltb, eqb}
+use Rattle.std.proofs.Common.{◌≡◌, ℕ, suc, ◌+◌, ◌-◌, ◌*◌, ◌/◌, ◌%◌, ◌^◌, ◌<◌, Bool, true, false, ltb, eqb}
 use Rattle.std.proofs.Common.{List, [], ◌∷◌, length, get_or, Option, Some, None, if◌then◌else◌, refl, sym, ap, subst}
 use Rattle.std.proofs.Common.{◌∙◌, arith}
 use Rattle.std.proofs.lemmas.Bool.Decides.{nat_tests}
-use Rattle.std.proofs.lemmas.List.FromFn.{get_or-map-range_with_len, length-map-range_with_len}
+use Rattle.std.proofs.lemmas.List.FromFn.{length-map-range_with_len}
 use Rattle.payload_core_base.specs.Packing.{Sender}
 use Rattle.payload_core_audio.specs.AmrWb.{IsSized, amr_wb_coding, amr_wb_packet, bit_of, byte_from, bytes_from}
 use Rattle.payload_core_audio.specs.AmrWb.{field_of, header_at, sample_size, size_if, speech_bits, speech_of}
 use Rattle.payload_core_audio.specs.AmrWb.{speech_unit}
 use Rattle.payload_core_audio.specs.Plain.{unit_of_piece}
 use Rattle.payload_core_audio.proofs.AmrWbLemmas.{aligned_len, efficient_len}
+use Rattle.payload_core_audio.proofs.AmrWbLaw.{bit_from, bit_small}
 use Rattle.rtp_media_play.specs.Again.{AnySample, ComesAgain, GivesAgain, IsSame}
 use Rattle.rtp_media_play.proofs.Whole.{from-one, one-sent, part-bytes}
-
-bit-small : (bytes : List ℕ) (i : ℕ) → bit_of bytes i < 2
-bit-small bytes i = omega arith
-
-byte-bit : (r a b c d e f g h : ℕ) → r < 8 → a < 2 → b < 2 → c < 2 → d < 2 → e < 2 → f < 2 → g < 2 → h < 2
-    → (a * 128 + b * 64 + c * 32 + d * 16 + e * 8 + f * 4 + g * 2 + h) / 2 ^ (7 - r) % 2
-    ≡ get_or (a ∷ b ∷ c ∷ d ∷ e ∷ f ∷ g ∷ h ∷ []) r 0
-byte-bit zero a b c d e f g h lt pa pb pc pd pe pf pg ph = omega arith
-byte-bit (suc zero) a b c d e f g h lt pa pb pc pd pe pf pg ph = omega arith
-byte-bit (suc (suc zero)) a b c d e f g h lt pa pb pc pd pe pf pg ph = omega arith
-byte-bit (suc (suc (suc zero))) a b c d e f g h lt pa pb pc pd pe pf pg ph = omega arith
-byte-bit (suc (suc (suc (suc zero)))) a b c d e f g h lt pa pb pc pd pe pf pg ph = omega arith
-byte-bit (suc (suc (suc (suc (suc zero))))) a b c d e f g h lt pa pb pc pd pe pf pg ph = omega arith
-byte-bit (suc (suc (suc (suc (suc (suc zero)))))) a b c d e f g h lt pa pb pc pd pe pf pg ph = omega arith
-byte-bit (suc (suc (suc (suc (suc (suc (suc zero))))))) a b c d e f g h lt pa pb pc pd pe pf pg ph = omega arith
-byte-bit (suc (suc (suc (suc (suc (suc (suc (suc r)))))))) a b c d e f g h lt pa pb pc pd pe pf pg ph =
-    absurd (omega arith)
-
-eight : (bit : ℕ → ℕ) (k r : ℕ) → r < 8 → get_or
-    (bit (8 * k) ∷ bit (8 * k + 1) ∷ bit (8 * k + 2) ∷ bit (8 * k + 3) ∷ bit (8 * k + 4) ∷ bit (8 * k + 5)
-    ∷ bit (8 * k + 6) ∷ bit (8 * k + 7) ∷ []) r 0 ≡ bit (8 * k + r)
-eight bit k zero lt = let e : 8 * k ≡ 8 * k + 0 = omega arith in ap bit e
-eight bit k (suc zero) lt = refl
-eight bit k (suc (suc zero)) lt = refl
-eight bit k (suc (suc (suc zero))) lt = refl
-eight bit k (suc (suc (suc (suc zero)))) lt = refl
-eight bit k (suc (suc (suc (suc (suc zero))))) lt = refl
-eight bit k (suc (suc (suc (suc (suc (suc zero)))))) lt = refl
-eight bit k (suc (suc (suc (suc (suc (suc (suc zero))))))) lt = refl
-eight bit k (suc (suc (suc (suc (suc (suc (suc (suc r)))))))) lt = absurd (omega arith)
-
--- the bits of bytes that are made from bits
-bit-from : (bit : ℕ → ℕ) (m i : ℕ) → i < 8 * m → ((j : ℕ) → bit j < 2) → bit_of (bytes_from bit m) i ≡ bit i
-bit-from bit m i lt small =
-    let k : ℕ = i / 8 in
-    let r : ℕ = i % 8 in
-    let within : k < m = omega arith in
-    let few : r < 8 = omega arith in
-    let whole : 8 * k + r ≡ i = omega arith in
-    ap (λ b. b / 2 ^ (7 - r) % 2) (get_or-map-range_with_len (byte_from bit) 0 m k k 0 within (omega arith))
-    ∙ byte-bit r (bit (8 * k)) (bit (8 * k + 1)) (bit (8 * k + 2)) (bit (8 * k + 3)) (bit (8 * k + 4))
-    (bit (8 * k + 5)) (bit (8 * k + 6)) (bit (8 * k + 7)) few (small _) (small _) (small _) (small _) (small _)
-    (small _) (small _) (small _)
-    ∙ eight bit k r few
-    ∙ ap bit whole
 
 field-small : (bytes : List ℕ) (place size i : ℕ) → field_of bytes place size i < 2
 field-small bytes place size i = by_test (ltb i size)
   where
     by_test : (b : Bool) → (if b then bit_of bytes (place + i) else 0) < 2
-    by_test true = bit-small bytes (place + i)
+    by_test true = bit_small bytes (place + i)
     by_test false = omega arith
 
 speech-bit : (sample : List ℕ) (size i : ℕ) → i < size → bit_of (speech_of sample 8 size) i ≡ bit_of sample (8 + i)
@@ -70,7 +26,7 @@ unfolding speech_of
 speech-bit sample size i lt =
     let within : i < 8 * ((size + 7) / 8) = omega arith in
     let yes : ltb i size ≡ true = grind (arith, nat_tests) in
-    bit-from (field_of sample 8 size) ((size + 7) / 8) i within (field-small sample 8 size)
+    bit_from (field_of sample 8 size) ((size + 7) / 8) i within (field-small sample 8 size)
     ∙ ap (λ (b : Bool). if b then bit_of sample (8 + i) else 0) yes
 
 behind-byte : (x : ℕ) (bytes : List ℕ) (i : ℕ) → bit_of (x ∷ bytes) (8 + i) ≡ bit_of bytes i
@@ -101,8 +57,8 @@ header-back a b c d e pa pb pc pd pe = omega arith
 header-again : (sample rest : List ℕ) → header_at (header_at sample 0 ∷ rest) 0 ≡ header_at sample 0
 unfolding header_at
 header-again sample rest = header-back (bit_of sample 1) (bit_of sample 2) (bit_of sample 3) (bit_of sample 4)
-    (bit_of sample 5) (bit-small sample 1) (bit-small sample 2) (bit-small sample 3) (bit-small sample 4)
-    (bit-small sample 5)
+    (bit_of sample 5) (bit_small sample 1) (bit_small sample 2) (bit_small sample 3) (bit_small sample 4)
+    (bit_small sample 5)
 
 -- the packet is as long
 packet-size : (o : Bool) (x y : List ℕ) (size : ℕ) → length (amr_wb_packet o x size) ≡ length (amr_wb_packet o y size)

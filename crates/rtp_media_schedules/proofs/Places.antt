@@ -1,6 +1,6 @@
 -- Held packets as the numbers that came, from a place on.
 use Rattle.std.proofs.Common.{◌≡◌, ℕ, zero, suc, ◌+◌, ◌-◌, ◌<◌, ◌≤◌, ◌≢◌, refl, sym, ◌∙◌, ap, arith, Bool, true}
-use Rattle.std.proofs.Common.{false, cond, ◌||◌, List, [], ◌∷◌, length, map, drop, eq-or-lt_of_le, inl, inr, subst}
+use Rattle.std.proofs.Common.{false, cond, ◌||◌, List, ◌∷◌, length, map, drop, eq-or-lt_of_le, inl, inr, subst}
 use Rattle.std.specs.Cmp.{nat_cmp_is}
 use Rattle.std.specs.Ordering.{match_ordering}
 use Rattle.std.specs.Prelude.{nat_lt, ◌==◌, filter}
@@ -33,13 +33,6 @@ pub filter-below : (p : ℕ → Bool) (x lo m : ℕ) → x < lo → filter (or_t
     ≡ filter p (range_with_len lo m)
 filter-below p x lo zero h = refl
 filter-below p x lo (suc m) h = rw (eqb-no lo x (omega arith), filter-below p x (lo + 1) m (omega arith))
-
--- two tests that agree on the range
-pub filter-alike : (p q : ℕ → Bool) (lo m : ℕ) → ((y : ℕ) → lo ≤ y → y < lo + m → p y ≡ q y)
-    → filter p (range_with_len lo m) ≡ filter q (range_with_len lo m)
-filter-alike p q lo zero h = refl
-filter-alike p q lo (suc m) h =
-    rw (h lo (omega arith) (omega arith), filter-alike p q (lo + 1) m (λ y a b. h y (omega arith) (omega arith)))
 
 -- up to 4,096 packets stay
 pub limited-few : (ps : List Packet) → length ps ≤ 4096 → limited ps ≡ ps
@@ -110,19 +103,3 @@ length-filter-few p lo (suc m) (suc k) none =
     length-filter-few p (lo + 1) m k (λ y h. none y (omega arith)) in
     elim (p lo) as (λ b. length (cond b (lo ∷ filter p (range_with_len (lo + 1) m))
     (filter p (range_with_len (lo + 1) m))) ≤ suc k) [ true ↦ omega arith | false ↦ omega arith ]
-
-abbrev pub AllFrom : ℕ → List ℕ → Type 0
-AllFrom lo [] = Unit {0}
-AllFrom lo (x ∷ xs) = (lo ≤ x) × AllFrom lo xs
-
-AllFrom-less : (a b : ℕ) → a ≤ b → (xs : List ℕ) → AllFrom b xs → AllFrom a xs
-AllFrom-less a b h [] all = tt
-AllFrom-less a b h (x ∷ xs) all = (omega (arith, all.0), AllFrom-less a b h xs all.1)
-
-pub AllFrom-filter : (p : ℕ → Bool) (lo m : ℕ) → AllFrom lo (filter p (range_with_len lo m))
-AllFrom-filter p lo zero = tt
-AllFrom-filter p lo (suc m) =
-    let rest : AllFrom lo (filter p (range_with_len (lo + 1) m)) =
-    AllFrom-less lo (lo + 1) (omega arith) _ (AllFrom-filter p (lo + 1) m) in
-    elim (p lo) as (λ b. AllFrom lo (cond b (lo ∷ filter p (range_with_len (lo + 1) m))
-    (filter p (range_with_len (lo + 1) m)))) [ true ↦ (omega arith, rest) | false ↦ rest ]

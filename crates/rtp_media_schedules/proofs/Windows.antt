@@ -1,14 +1,13 @@
 -- The window of a stream under a good order of arrivals.
-use Rattle.std.proofs.Common.{◌≡◌, ℕ, ◌+◌, ◌%◌, ◌^◌, ◌<◌, ◌≤◌, sym, ◌∙◌, ap, arith, Bool, true, false, ◌&&◌, ◌||◌}
-use Rattle.std.proofs.Common.{List, [], ◌∷◌, max, true≢false}
-use Rattle.std.specs.Prelude.{Option, None, Some, nat_lt, ◌==◌}
+use Rattle.std.proofs.Common.{◌≡◌, ℕ, ◌+◌, ◌%◌, ◌^◌, ◌<◌, ◌≤◌, sym, ◌∙◌, arith, true, false}
+use Rattle.std.proofs.Common.{List, [], ◌∷◌, true≢false}
+use Rattle.std.specs.Prelude.{Option, None, Some}
 use Rattle.std.specs.Ordering.{nat_cmp}
 use Rattle.std.specs.FinSet as set
-use Rattle.std.specs.FinSet.{nat_cmp-IsAntisymmetric}
-use Rattle.std.specs.Ordering.{eq_by_cmp}
 use Rattle.std.specs.Cmp.{nat_cmp_total}
 use Rattle.std.proofs.lemmas.Bool.Decides.{nat_tests}
 use Rattle.rtp_wire.specs.Widening.{widened}
+use Rattle.rtp_wire.proofs.WindowLaws.{contains-window_with, eq_by_cmp-nat}
 use Rattle.rtp_wire.specs.Replay.{Window, accepts, window_with, window_at, greatest_in}
 use Rattle.rtp_media_schedules.specs.Turns.{is_among, greatest_of, IsGoodArrival}
 use Rattle.rtp_wire.proofs.WideningLaws.{widened-near}
@@ -28,18 +27,6 @@ WindowIs first (y ∷ ys) (Some w) = IsWindowOf first (y ∷ ys) w
 pub among-le-greatest : (past : List ℕ) (x : ℕ) → is_among past x ≡ true → x ≤ greatest_of past
 among-le-greatest [] x h = absurd (true≢false (sym h))
 among-le-greatest (y ∷ ys) x h = grind (arith, nat_tests, among-le-greatest ys x)
-
-pub eq_by_cmp-nat : (y x : ℕ) → eq_by_cmp nat_cmp y x ≡ (y == x)
-eq_by_cmp-nat y x = grind (arith, nat_tests)
-
--- what the step of the window's set contains
-pub contains-window_with : (w : Window) (x y : ℕ) → set.contains (window_with w x).recorded y
-    ≡ (((y == x) || set.contains w.recorded y) && nat_lt (max w.greatest x) (y + 128))
-contains-window_with w x y =
-    set.contains-retain (set.insert w.recorded x) (λ z. nat_lt (max w.greatest x) (z + 128)) y
-    (λ z e. rw (nat_cmp-IsAntisymmetric y z e))
-    ∙ ap (λ (b : Bool). b && nat_lt (max w.greatest x) (y + 128))
-    (rw (set.contains-insert nat_cmp_total w.recorded x y, eq_by_cmp-nat y x))
 
 -- widening gives the true number
 pub widened-true : (first count : ℕ) (past : List ℕ) (w : Option Window) (x : ℕ) → first + count ≤ 2 ^ 62

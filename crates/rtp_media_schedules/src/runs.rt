@@ -1,4 +1,4 @@
-//! What holds of every run.
+//! A run may be cut anywhere.
 
 ghost use Rattle.std.specs.Prelude.{◌≡◌, List, ◌++◌, Ok, None};
 ghost use Rattle.payload_core_base.specs.Format.{Format};

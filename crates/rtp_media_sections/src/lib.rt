@@ -1,5 +1,4 @@
-//! The sections of offers and answers: as an end wants them, as texts say them, and as an exchange left them
-//! (RFC 3264, RFC 8829).
+//! The sections of offers and answers: as texts say them, and as an exchange left them (RFC 3264, RFC 8829).
 #![tactic(auto)]
 
 mod agreement;

@@ -14,7 +14,7 @@ use sdp_formats_sources::sources_of;
 use sdp_formats_types::{MediaLine, MediaType, Proto};
 use std::alloc::{AllocError, Global};
 
-/// The name of a section that was read; each has one.
+/// The name of a section, which each that was read has; the empty name where there is none.
 pub fn mid_of(line: &MediaLine) -> Mid
     ensures { result ≡ mid_of line.now }
 {

@@ -35,9 +35,6 @@ polls-more : (format : Format) (n : ℕ) (s : Stream)
 polls-more format zero s = refl
 polls-more format (suc n) s = polls-more format n (polled format s)
 
-pub no-polls : (format : Format) (start : Stream) → ArePolls format start start
-no-polls format start = record { count = 0; reached = refl }
-
 pub one-more-poll : (format : Format) (start now next : Stream) → ArePolls format start now → next ≡ polled format now
     → ArePolls format start next
 one-more-poll format start now next is e = record {
@@ -47,13 +44,6 @@ one-more-poll format start now next is e = record {
 
 pub some-polls : (format : Format) (start now : Stream) → ArePolls format start now → IsPolledSome format start now
 some-polls format start now is = record { count = is.count; stops = inl is.reached }
-
-pub some-polls-short : (format : Format) (start now after : Stream) → ArePolls format start now
-    → IsInterrupted format now after → IsPolledSome format start after
-some-polls-short format start now after is short = record {
-  count = is.count;
-  stops = inr (subst (λ (s : Stream). IsInterrupted format s after) is.reached short);
-}
 
 -- polls until None or lack of memory are some polls
 pub polled-some : (format : Format) {s t : Stream} {os : Answers} → IsPolled format s os t → IsPolledSome format s t

@@ -1,18 +1,18 @@
 -- Payloads behind older ones.
 use Rattle.std.proofs.Common.{◌≡◌, ◌≢◌, ℕ, zero, suc, ◌+◌, ◌-◌, ◌%◌, ◌<◌, ◌≤◌, refl, sym, ◌∙◌, ap, subst, arith, Bool}
-use Rattle.std.proofs.Common.{true, false, List, [], ◌∷◌, ◌++◌, length, map, reverse, take, inl, inr}
-use Rattle.std.proofs.lemmas.Bool.{cases_lt}
+use Rattle.std.proofs.Common.{true, false, List, [], ◌∷◌, ◌++◌, length, map, reverse, take}
 use Rattle.std.proofs.lemmas.Bool.Decides.{nat_tests}
-use Rattle.std.proofs.lemmas.List.{length-map, length-reverse, length-append, reverse-append}
+use Rattle.std.proofs.lemmas.List.{length-map, length-reverse}
 use Rattle.std.proofs.lemmas.List.Elements.{All-map, All-take}
-use Rattle.std.proofs.lemmas.List.Sums.{sum_by-append, sum_by-cons}
-use Rattle.std.specs.Prelude.{All, Some, None, if◌then◌else◌, ◌==◌, flat_map, nat_le, option_and_then}
-use Rattle.payload_core_red.specs.Red.{Block, HasRoom, IsRed, header, spelled}
+use Rattle.std.proofs.lemmas.List.Sums.{sum_by-cons}
+use Rattle.std.specs.Prelude.{All, Some, None, if◌then◌else◌, ◌==◌, nat_le, option_and_then}
+use Rattle.payload_core_red.specs.Red.{Block, HasRoom, IsRed, spelled}
 use Rattle.payload_core_red.specs.RedHistory.{AreDistances, Redundancy}
 use Rattle.payload_core_red.specs.RedReading.{items_of, primary_item, read_red, redundant_item}
 use Rattle.payload_core_red.specs.RedSending.{masked}
 use Rattle.payload_core_red.specs.RedWrapping.{IsLongestPrefix, IsWrap, bytes_of, levels}
 use Rattle.payload_core_red.proofs.LayoutLemmas.{red-read}
+use Rattle.payload_core_red.proofs.RedLawLemmas.{bytes-masked, bytes-reverse, longest-one, spelled-length}
 use Rattle.payload_core_red.proofs.WrapLemmas.{All-reverse, levels-few, levels-room}
 use Rattle.payload_core_base.specs.Outgoing.{Outgoing}
 use Rattle.rtp_media_payloads.specs.Redundant.{behind_older, fitting, primary_of, unwrapped, wrapped}
@@ -79,17 +79,6 @@ fit-longest budget size bs le =
       within = omega (arith, f.within, ap bytes_of f.prefix);
       longest = λ m more le'. omega (arith, f.longest m more le');
     }
-
--- there is one longest prefix
-longest-one : (budget size : ℕ) (bs : List Block) (m n : ℕ) → IsLongestPrefix budget size bs m
-    → IsLongestPrefix budget size bs n → m ≡ n
-longest-one budget size bs m n is other = elim (cases_lt m n) [
-  | inl less ↦ absurd (omega (arith, is.longest n less other.existing, other.within))
-  | inr more ↦ elim (cases_lt n m) [
-    | inl less' ↦ absurd (omega (arith, other.longest m less' is.existing, is.within))
-    | inr more' ↦ omega arith
-  ]
-]
 
 -- the older payloads beside a payload
 abbrev pub older : ℕ → Redundancy → Outgoing → List Block
@@ -195,39 +184,6 @@ behind-brings types wire budget r p small other are =
       differ true h = cc
       differ false h = refl
 
--- the bytes of headers and payloads
-bytes-flat : (bs : List Block) → length (flat_map header bs) + length (flat_map (λ b. b.payload) bs) ≡ bytes_of bs
-bytes-flat [] = refl
-bytes-flat (b ∷ bs) =
-    let heads : length (flat_map header (b ∷ bs)) ≡ 4 + length (flat_map header bs) = omega arith in
-    let bodies : length (flat_map (λ b. b.payload) (b ∷ bs))
-    ≡ length b.payload + length (flat_map (λ b. b.payload) bs) =
-    length-append b.payload (flat_map (λ b. b.payload) bs) in
-    omega (arith, sum_by-cons size_of b bs, heads, bodies, bytes-flat bs)
-
-bytes-masked : (bs : List Block) → bytes_of (map masked bs) ≡ bytes_of bs
-bytes-masked [] = refl
-bytes-masked (b ∷ bs) = sum_by-cons size_of (masked b) (map masked bs)
-    ∙ ap (λ n. 4 + length b.payload + n) (bytes-masked bs) ∙ sym (sum_by-cons size_of b bs)
-
-bytes-reverse : (bs : List Block) → bytes_of (reverse bs) ≡ bytes_of bs
-bytes-reverse [] = refl
-bytes-reverse (b ∷ bs) =
-    let parts : bytes_of (reverse (b ∷ bs)) ≡ bytes_of (reverse bs) + bytes_of (b ∷ []) =
-    ap bytes_of (reverse-append (b ∷ []) bs) ∙ sum_by-append size_of (reverse bs) (b ∷ []) in
-    let one : bytes_of (b ∷ []) ≡ 4 + length b.payload = omega arith in
-    omega (arith, parts, one, bytes-reverse bs, sum_by-cons size_of b bs)
-
-length-spelled : (bs : List Block) (pt : ℕ) (primary : List ℕ) → length (spelled bs pt primary)
-    ≡ 1 + bytes_of bs + length primary
-length-spelled bs pt primary =
-    omega (
-      arith,
-      length-append (flat_map header bs) (pt ∷ (flat_map (λ b. b.payload) bs ++ primary)),
-      length-append (flat_map (λ b. b.payload) bs) primary,
-      bytes-flat bs,
-    )
-
 -- it stays within the budget
 behind-within : (pt budget : ℕ) (r : Redundancy) (p : Outgoing) → length p.payload + 1 ≤ budget
     → length (behind_older pt budget r p) ≤ budget
@@ -236,7 +192,7 @@ behind-within pt budget r p le =
     let f = fit (budget - (length p.payload + 1)) (levels r.history r.distances p.time) in
     omega (
       arith,
-      length-spelled (map masked (reverse os)) (pt % 128) p.payload,
+      spelled-length (map masked (reverse os)) (pt % 128) p.payload,
       bytes-masked (reverse os),
       bytes-reverse os,
       f.within,

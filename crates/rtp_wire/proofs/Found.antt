@@ -18,9 +18,6 @@ use Rattle.rtp_wire.proofs.Words.{length-words_in}
 IsBytes-drop : (n : ℕ) (bytes : List ℕ) → IsBytes bytes → IsBytes (drop n bytes)
 IsBytes-drop n bytes h i = rw get_or-drop (h (n + i))
 
-IsBytes-rest : (b : ℕ) (bytes : List ℕ) → IsBytes (b ∷ bytes) → IsBytes bytes
-IsBytes-rest b bytes h i = h (suc i)
-
 two : (a b : ℕ) → a < 256 → b < 256 → IsBytes (a ∷ b ∷ [])
 two a b h k zero = h
 two a b h k (suc zero) = k

@@ -22,7 +22,7 @@ eqb-no a b h = grind (arith, nat_tests)
 eqb-yes : (a b : ℕ) → a ≡ b → (a == b) ≡ true
 eqb-yes a b h = grind (arith, nat_tests)
 
-eq_by_cmp-nat : (y x : ℕ) → eq_by_cmp nat_cmp y x ≡ (y == x)
+pub eq_by_cmp-nat : (y x : ℕ) → eq_by_cmp nat_cmp y x ≡ (y == x)
 eq_by_cmp-nat y x = grind (arith, nat_tests)
 
 -- what the step of the window's set contains

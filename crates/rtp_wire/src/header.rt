@@ -40,7 +40,7 @@ impl Default for RtpHeader {
 
     ghost is_default = { λ h. h ≡ default_header };
 
-    /// Version 2, an extension block, type 1; the rest 0, false or absent.
+    /// Version 2, an extension block, type 1, 16 bytes as read; the rest 0, false or absent.
     fn default() -> RtpHeader {
         RtpHeader {
             version: 2,

@@ -83,10 +83,6 @@ on_step-same : {A : Type 0} (o : Option Step) (x : A) (f g : Step → A) → ((s
 on_step-same None x f g h = refl
 on_step-same (Some s) x f g h = h s refl
 
-pub step-none : (one : Bool) → step one [] ≡ None
-step-none true = refl
-step-none false = refl
-
 values_from-none : (one : Bool) (map : Numbering) (n : ℕ) (v : ExtensionValues) → values_from one map n [] v ≡ v
 values_from-none one map zero v = refl
 values_from-none true map (suc n) v = refl
@@ -531,27 +527,12 @@ fits-parts n (Some xs) bytes e h =
     let len = parts (nat_le 1 (length xs)) (nat_le (length xs) 16) id.1 in
     (omega (arith, le-of _ _ id.0), omega (arith, le-of _ _ len.0, ap length same))
 
--- a place that carries nothing, and one that carries so many bytes
-pub no_element : (n : ℕ) (o : Option (List ℕ)) → None ≡ option_map length o → element_if (suc n) o ≡ []
-no_element n None e = refl
-no_element n (Some bytes) e = absurd cc
-
 pub one_element-fits : (n len : ℕ) (o : Option (List ℕ)) → Some len ≡ option_map length o
     → are_one_byte (element_if (suc n) o) ≡ (nat_lt n 14 && (nat_le 1 len && nat_le len 16))
 one_element-fits n len None e = absurd cc
 one_element-fits n len (Some bytes) e =
     let same : len ≡ length bytes = cc in
     rw same (grind (arith, nat_tests))
-
-pub one_element-text : (one : Bool) (n len : ℕ) (o : Option (List ℕ)) → Some len ≡ option_map length o
-    → length (elements_text one (element_if (suc n) o)) ≡ (if one then 1 else 2) + len
-one_element-text one n len None e = absurd cc
-one_element-text true n len (Some bytes) e =
-    let same : len ≡ length bytes = cc in
-    omega (arith, length-append bytes [], same)
-one_element-text false n len (Some bytes) e =
-    let same : len ≡ length bytes = cc in
-    omega (arith, length-append bytes [], same)
 
 fill-zeros : (n : ℕ) → take (fill n) (zeros 3) ≡ zeros (fill n)
 fill-zeros n = take-replicate (fill n) 3 0 (omega arith)
@@ -573,18 +554,6 @@ pub block-profile : (map : Numbering) (v : ExtensionValues) (one : Bool) → one
     → profile_of one ≡ (block_of map v).profile
 unfolding block_of
 block-profile map v one e = ap profile_of e
-
--- the length of the block, by the count of its elements and the bytes of their values
-pub extent-length : (map : Numbering) (v : ExtensionValues) (one : Bool) (count bytes : ℕ)
-    → one ≡ are_one_byte (written_elements map v)
-    → count + bytes ≡ length (elements_text true (written_elements map v))
-    → 2 * count + bytes ≡ length (elements_text false (written_elements map v))
-    → ((if one then count else 2 * count) + bytes) + fill ((if one then count else 2 * count) + bytes)
-    ≡ length (block_of map v).content
-extent-length map v true count bytes e short long =
-    ap (λ (n : ℕ). n + fill n) short ∙ sym (content-length map v true e)
-extent-length map v false count bytes e short long =
-    ap (λ (n : ℕ). n + fill n) long ∙ sym (content-length map v false e)
 
 -- the elements and the zeros are the block's bytes
 pub content-is : (map : Numbering) (v : ExtensionValues) (one : Bool) (n d : ℕ) → one

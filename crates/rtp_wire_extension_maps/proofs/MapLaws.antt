@@ -3,12 +3,7 @@ use Rattle.std.proofs.Common.{◌≡◌, ℕ, zero, suc, ◌<◌, refl, sym, ◌
 use Rattle.std.specs.Prelude.{Option, None, Some, slice_set, slice_index_or}
 use Rattle.rtp_wire_extensions.specs.declared.extension.Extension.{Extension}
 use Rattle.rtp_wire_extension_maps.specs.Maps.{empty_map}
-use Rattle.std.proofs.lemmas.List.{get_or_past}
-use Rattle.rtp_wire_extensions.specs.Elements.{Numbering, lookup}
-
-pub lookup-past : (map : Numbering) (id : ℕ) → length map < id → lookup map id ≡ None
-lookup-past map zero h = refl
-lookup-past map (suc n) h = get_or_past map n None (omega arith)
+use Rattle.rtp_wire_extensions.specs.Elements.{Numbering}
 
 -- the first places of a map, and the others without an extension
 abbrev pub copied_to : Numbering → ℕ → Numbering

@@ -126,20 +126,16 @@ impl ExtensionMap {
         }
     }
 
-    #[tactic(auto, unfolding(rtp_wire_extensions::specs::Values::block_of))]
     /// The profile of the block for these values (RFC 8285 4.2 and 4.3).
+    #[tactic(auto, unfolding(rtp_wire_extensions::specs::Values::block_of))]
     pub fn block_profile(&self, values: &ExtensionValues) -> u16
         ensures { result ≡ (block_of self.now values.now).profile }
     {
-        if self.extent(values).fits {
-            0xBEDE
-        } else {
-            0x1000
-        }
+        profile_of(self.extent(values).fits)
     }
 
-    #[tactic(auto, unfolding(rtp_wire_extensions::specs::Values::block_of))]
     /// The length of the block's bytes for these values, behind profile and length.
+    #[tactic(auto, unfolding(rtp_wire_extensions::specs::Values::block_of))]
     pub fn block_len(&self, values: &ExtensionValues) -> usize
         ensures value { result ≡ length (block_of self.now values.now).content }
         ensures whole_words { result % 4 ≡ 0 }
@@ -151,9 +147,9 @@ impl ExtensionMap {
         extent.filled_len(extent.fits)
     }
 
-    #[tactic(auto, unfolding(rtp_wire_extensions::specs::Values::two_byte_block))]
     /// The length of the block's bytes for these values, behind profile and length, with each element
     /// in the two-byte form (RFC 8285 4.3); `block_len` never passes it.
+    #[tactic(auto, unfolding(rtp_wire_extensions::specs::Values::two_byte_block))]
     pub fn two_byte_len(&self, values: &ExtensionValues) -> usize
         ensures value { result ≡ length (two_byte_block self.now values.now).content }
         ensures bound { result ≤ 292 }

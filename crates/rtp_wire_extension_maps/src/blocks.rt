@@ -73,8 +73,8 @@ fn take_element(id: u8, count: usize, bytes: &[u8]) -> Option<(u8, &[u8], &[u8])
 }
 
 impl ExtensionMap {
-    #[tactic(auto, unfolding(rtp_wire_extensions::specs::Values::values_of))]
     /// The values that a block of this profile holds (RFC 8285 4.2 and 4.3).
+    #[tactic(auto, unfolding(rtp_wire_extensions::specs::Values::values_of))]
     pub fn read_block(&self, profile: u16, content: &[u8]) -> ExtensionValues
         ensures { result ≡ values_of self.now (record { profile = profile; content = content.now }) }
     {

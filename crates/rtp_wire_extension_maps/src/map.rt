@@ -97,11 +97,11 @@ impl ExtensionMap {
         }
     }
 
-    #[tactic(auto, using(crate::proofs::MapLaws::copied_more, crate::proofs::MapLaws::copied_none))]
     /// The same map again.
     ///
     /// # Errors
     /// `AllocError` where memory for the URI of an unknown extension runs out.
+    #[tactic(auto, using(crate::proofs::MapLaws::copied_more, crate::proofs::MapLaws::copied_none))]
     pub fn clone(&self, alloc: Global) -> Result<ExtensionMap, AllocError>
         ensures { IfOk result (λ map. map ≡ self.now) }
     {
@@ -175,12 +175,12 @@ impl ExtensionMap {
     }
 
     /// What a place carries a value of, which is then seen: an extension under its least number alone. Another one
-    /// of a kind that was seen carries nothing, nor does an unknown one.
+    /// of a kind that was seen carries nothing. An unknown one has no value.
     ///
     /// # Conditions
     ///
     /// The place is below 16, and what is seen are the kinds of the places before it.
-    pub fn carrier(&self, place: usize, seen: &mut [bool; KINDS]) -> Option<&Extension>
+    pub(crate) fn carrier(&self, place: usize, seen: &mut [bool; KINDS]) -> Option<&Extension>
         requires place { place < 16 }
         requires seen { HasSeen seen.old self.now place }
         ensures carried { (values : ExtensionValues) → MatchOption result (carried_at self.now place values ≡ None)
@@ -203,7 +203,7 @@ impl ExtensionMap {
     /// # Conditions
     ///
     /// The place is below 16, and what is seen are the kinds of the places before it.
-    pub fn carried(
+    pub(crate) fn carried(
         &self,
         place: usize,
         values: &ExtensionValues,

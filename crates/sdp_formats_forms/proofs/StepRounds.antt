@@ -4,7 +4,7 @@ use Rattle.std.proofs.Common.{subst}
 use Rattle.sdp_formats_forms.specs.Refusals.{fitted_of, parted}
 use Rattle.sdp_formats_forms.specs.declared.refusal.Refusal.{Refusal}
 use Rattle.sdp_formats_forms.specs.declared.refusal.Refusal.TheVariants.{Unfit, Memory}
-use Rattle.sdp_formats_forms.specs.Step.{Step, Steps, Stops}
+use Rattle.sdp_formats_forms.specs.Step.{Step, Steps}
 use Rattle.std.specs.Option.{option_map}
 use Rattle.sdp_formats_forms.specs.Steps.{none_some}
 use Rattle.sdp_formats_forms.specs.Form.{Form, IsExact}
@@ -26,22 +26,12 @@ unfit_some x h = cc
 memory_ok : {A : Type 0} (o : Option A) → fitted_of {A = A} (Err Memory) ≡ Ok o → ⊥
 memory_ok o h = cc
 
-ok_none : {A : Type 0} (x : A) → fitted_of (Ok x) ≡ Ok None → ⊥
-ok_none x h = cc
-
 -- a step that was made
 pub step-some : {A : Type 0} (S : Step A) (t : List ℕ) (r : Result (A × Bor (List ℕ)) Refusal) (x : A × Bor (List ℕ))
     → Steps S t r → fitted_of r ≡ Ok (Some x) → S t x.0 x.1.now
 step-some S t (Ok y) x h e = subst (λ (z : _ × Bor (List ℕ)). S t z.0 z.1.now) (ok_some y x e) h
 step-some S t (Err Unfit) x h e = absurd (unfit_some x e)
 step-some S t (Err Memory) x h e = absurd (memory_ok (Some x) e)
-
--- no step
-pub step-none : {A : Type 0} (S : Step A) (t : List ℕ) (r : Result (A × Bor (List ℕ)) Refusal) → Steps S t r
-    → fitted_of r ≡ Ok None → Stops S t
-step-none S t (Ok y) h e = absurd (ok_none y e)
-step-none S t (Err Unfit) h e = h
-step-none S t (Err Memory) h e = absurd (memory_ok None e)
 
 -- a line that is there, and says nothing
 pub line-err : {A : Type 0} (f : Form A) → IsExact f → (t c r : List ℕ) (e : Refusal) → IsLine t c r

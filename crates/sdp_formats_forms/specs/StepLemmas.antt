@@ -1,24 +1,13 @@
 -- Steps one after the other.
-use Rattle.std.proofs.Common.{◌≡◌, ◌≤◌, ℕ, List, [], ◌∷◌, ◌++◌, length, arith, Option, Some, None, refl, sym}
+use Rattle.std.proofs.Common.{◌≤◌, ℕ, List, [], ◌∷◌, ◌++◌, length, arith, Option, Some, None, refl, sym}
 use Rattle.std.proofs.Common.{◌∙◌, ap, subst}
-use Rattle.sdp_formats_forms.specs.Step.{Step, Stops, Begins, Many, Perhaps, IsFunctional, IsShortening}
+use Rattle.sdp_formats_forms.specs.Step.{Step, Begins, Many, Perhaps, IsFunctional, IsShortening}
 
 -- One more value behind some.
 pub begins-more : {A : Type 0} (S : Step A) (t : List ℕ) (as' : List A) (m : List ℕ) (a : A) (r : List ℕ)
     → Begins S t as' m → S m a r → Begins S t (as' ++ a ∷ []) r
 begins-more S t [] m a r h s = (r, subst (λ x. S x a r) h s, refl)
 begins-more S t (b ∷ as') m a r h s = (h.0, h.1, begins-more S h.0 as' m a r h.2 s)
-
--- Values at which a text stops, and others that it begins with: what is left over
-pub begins-rest : {A : Type 0} (S : Step A) → IsFunctional S
-    → (t : List ℕ) (as' : List A) (m : List ℕ) (bs : List A) (r : List ℕ)
-    → Begins S t as' m → Begins S t bs r → Stops S r → (more : List A) × (bs ≡ as' ++ more) × Begins S m more r
-begins-rest S f t [] m bs r h k stops = (bs, refl, subst (λ x. Begins S x bs r) (sym h) k)
-begins-rest S f t (a ∷ as') m [] r h k stops = absurd (stops a h.0 (subst (λ x. S x a h.0) (sym k) h.1))
-begins-rest S f t (a ∷ as') m (b ∷ bs) r h k stops =
-    let same = f t a b h.0 k.0 h.1 k.1 in
-    let later = begins-rest S f h.0 as' m bs r h.2 (subst (λ x. Begins S x bs r) (sym same.1) k.2) stops in
-    (later.0, (λ i. sym same.0 i ∷ later.1 i), later.2)
 
 pub many-functional : {A : Type 0} (S : Step A) → IsFunctional S → IsFunctional (Many S)
 many-functional S f t [] [] r s h k = (refl, h.0 ∙ sym k.0)
@@ -45,8 +34,3 @@ pub perhaps-shorter : {A : Type 0} (S : Step A) → IsShortening S → (t : List
     → Perhaps S t a r → length r ≤ length t
 perhaps-shorter S f t None r h = omega (arith, ap length h.0)
 perhaps-shorter S f t (Some a) r h = omega (arith, f t a r h)
-
--- Two lines, each of whose values is determined.
-pub first-stops : {A : Type 0} (S : Step A) → IsFunctional S → (t m : List ℕ) (a b : A) (n : List ℕ) → S t a m
-    → S t b n → n ≡ m
-first-stops S f t m a b n h k = sym (f t a b m n h k).1

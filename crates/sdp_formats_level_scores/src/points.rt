@@ -1,4 +1,4 @@
-//! Points.
+//! The points of a match.
 
 ghost use Rattle.std.specs.Prelude.{◌≡◌};
 ghost use Rattle.sdp_formats_level_scores.specs.Points.{distance, level_points, points_if};

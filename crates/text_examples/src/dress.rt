@@ -1,5 +1,5 @@
-//! Session texts with the transport's lines. Uses the crates `sdp_formats` and `sdp_formats_types`, the definitions of
-//! specs/Dressed.antt, and the invariants of two loops in proofs/texts/dress.
+//! Session texts with the transport's lines. Uses the crates `sdp_formats`, `sdp_formats_sessions` and
+//! `sdp_formats_types`, the definitions of specs/Dressed.antt, and the invariants of two loops in proofs/dress.
 
 ghost use Rattle.std.specs.Prelude.{◌≡◌, IfOk, OnOk, ◌++◌};
 ghost use Rattle.text_examples.specs.Dressed.{transport_lines, dressed_attribute, dressed_attributes};

@@ -79,7 +79,7 @@ pub(super) fn draft_ext(
 }
 
 /// Makes an end of a draft, which is emptied.
-#[tactic(auto, using(crate::proofs::BareSession::refused_bare))]
+#[tactic(auto, using(rtp_media_exchange_steps::proofs::BareSession::refused_bare))]
 pub(super) fn make_end(
     alloc: Global,
     kept: &mut EndAndDraft,
@@ -144,7 +144,7 @@ pub(super) fn offer(
 }
 
 /// The text that bytes are, where they are UTF-8.
-#[tactic(auto, using(crate::proofs::Texts::text, crate::proofs::Texts::no_text))]
+#[tactic(auto, using(payload_core_base::proofs::Texts::text, payload_core_base::proofs::Texts::no_text))]
 fn text_in(bytes: &[u8]) -> Option<&str>
     ensures some { IfSome result (λ text. (text.now ≡ bytes.now) × (is_utf8 bytes.now ≡ true)) }
     ensures none { IfNone result (is_utf8 bytes.now ≡ false) }

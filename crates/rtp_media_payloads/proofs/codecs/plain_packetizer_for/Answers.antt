@@ -2,7 +2,7 @@ use Rattle.std.proofs.Common.{◌∙◌, ap, is_some, unwrap_or}
 use Rattle.h26x_payload.specs.Codings.{first_settings}
 use Rattle.h26x_payload.specs.Packetizers.{sender_under}
 use Rattle.rtp_media_payloads.specs.Rows.{first_state, packing_of}
-use Rattle.rtp_media_payloads.proofs.Configured.{first-kept}
+use Rattle.h26x_payload.proofs.Configured.{first-kept}
 use Rattle.rtp_media_payloads.proofs.codecs.plain_packetizer_for.Goals as goal
 
 pub returns-clause-packing : goal.returns-clause-packing
