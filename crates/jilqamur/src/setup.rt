@@ -1,7 +1,7 @@
 //! Handles of ends: opened, given a draft, made and closed.
 
 ghost use Rattle.std.specs.Prelude.{◌≡◌, ◌≢◌, None, Some, IsSome};
-ghost use Rattle.sdp_formats_config.specs.Configs.{default_rows};
+ghost use Rattle.sdp_formats_default_rows.specs.DefaultRows.{default_rows};
 ghost use Rattle.jilqamur_packets.specs.Codes.{ok, memory, in_use};
 ghost use Rattle.jilqamur_packets.specs.Handles.{AtObject, answer_of};
 ghost use Rattle.jilqamur_ends.specs.Peers.{with_row, with_rows, with_section, with_extension, empty_peer};

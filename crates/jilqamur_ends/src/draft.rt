@@ -1,7 +1,7 @@
 //! What an end is made of, gathered call by call.
 
 ghost use Rattle.std.specs.Prelude.{◌≡◌, ◌≢◌, IfOk};
-ghost use Rattle.sdp_formats_config.specs.Configs.{default_rows};
+ghost use Rattle.sdp_formats_default_rows.specs.DefaultRows.{default_rows};
 ghost use Rattle.jilqamur_packets.specs.Codes.{ok, memory};
 ghost use Rattle.jilqamur_ends.specs.Peers.{with_row, with_rows, with_section, with_extension};
 ghost use Rattle.jilqamur_ends.specs.Drafts.{given, row_of, row_outcome, kind_of, section_of};

@@ -2,7 +2,8 @@
 use Rattle.std.specs.Prelude.{ℕ, true, false, List, [], ◌∷◌, map, zip, Option, None}
 use Rattle.rtp_wire.specs.Maps.{empty_map}
 use Rattle.rtp_wire.specs.Values.{Numbering}
-use Rattle.sdp_formats_config.specs.Configs.{Config, opus_row}
+use Rattle.sdp_formats_config.specs.Configs.{Config}
+use Rattle.sdp_formats_default_rows.specs.DefaultRows.{opus_row}
 use Rattle.sdp_formats_rows.specs.Rows.{Row}
 use Rattle.sdp_formats_types.specs.declared.media.MediaLine.{MediaLine}
 use Rattle.sdp_formats_sessions.specs.declared.session.Session.{Session}

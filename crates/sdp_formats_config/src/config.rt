@@ -1,7 +1,7 @@
 //! Configs of rows.
 
 ghost use Rattle.std.specs.Prelude.{◌≡◌, IfOk, []};
-ghost use Rattle.sdp_formats_config.specs.Configs.{default_rows};
+ghost use Rattle.sdp_formats_default_rows.specs.DefaultRows.{default_rows};
 
 mod adding;
 mod enabling;
@@ -10,8 +10,8 @@ mod matching;
 mod redundancy;
 mod rounds;
 
-use crate::rows;
 pub use rounds::RemoteSection;
+use sdp_formats_default_rows::rows;
 use sdp_formats_rows::PayloadParams;
 use std::alloc::{AllocError, Global};
 use std::marker::Model;

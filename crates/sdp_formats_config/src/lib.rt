@@ -2,7 +2,6 @@
 #![tactic(auto)]
 
 mod config;
-mod rows;
 
 pub use config::{CodecConfig, RemoteSection};
 pub use rtp_wire::Direction;

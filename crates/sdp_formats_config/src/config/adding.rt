@@ -4,10 +4,11 @@ ghost use Rattle.std.specs.Prelude.{◌≡◌, OnOk, OnErr};
 ghost use Rattle.payload_core_base.specs.declared.codec.Codec.TheVariants.{H264};
 ghost use Rattle.sdp_formats_rows.specs.Codecs.{full_spec, spec_of};
 ghost use Rattle.sdp_formats_rows.specs.Rows.{new_row};
-ghost use Rattle.sdp_formats_config.specs.Configs.{h264_format, h265_row, h266_row, with_row};
+ghost use Rattle.sdp_formats_config.specs.Configs.{with_row};
+ghost use Rattle.sdp_formats_default_rows.specs.DefaultRows.{h264_format, h265_row, h266_row};
 
 use super::CodecConfig;
-use crate::rows;
+use sdp_formats_default_rows::rows;
 use sdp_formats_rows::{Codec, CodecSpec, FormatParams, Frequency, PayloadParams, Pt};
 use std::alloc::AllocError;
 

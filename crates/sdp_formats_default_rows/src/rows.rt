@@ -2,10 +2,10 @@
 
 ghost use Rattle.std.specs.Prelude.{◌≡◌, None};
 ghost use Rattle.payload_core_base.specs.declared.codec.Codec.TheVariants.{H264};
-ghost use Rattle.sdp_formats_config.specs.Configs.{with_red_if, opus_row, pcmu_row, pcma_row, g722_row};
-ghost use Rattle.sdp_formats_config.specs.Configs.{comfort_noise_row, amr_wb_row, video_row, vp8_row, vp9_row};
-ghost use Rattle.sdp_formats_config.specs.Configs.{vp9_rows, av1_row, h264_format, h264_rows, h265_row, h266_row};
-ghost use Rattle.sdp_formats_config.specs.Configs.{h265_default, h266_default};
+ghost use Rattle.sdp_formats_default_rows.specs.DefaultRows.{with_red_if, opus_row, pcmu_row, pcma_row, g722_row};
+ghost use Rattle.sdp_formats_default_rows.specs.DefaultRows.{comfort_noise_row, amr_wb_row, video_row, vp8_row, vp9_row};
+ghost use Rattle.sdp_formats_default_rows.specs.DefaultRows.{vp9_rows, av1_row, h264_format, h264_rows, h265_row, h266_row};
+ghost use Rattle.sdp_formats_default_rows.specs.DefaultRows.{h265_default, h266_default};
 ghost use Rattle.sdp_formats_rows.specs.Codecs.{spec_of};
 ghost use Rattle.sdp_formats_rows.specs.Rows.{new_row};
 ghost use Rattle.sdp_formats_format.specs.Formats.{no_format};
@@ -41,7 +41,7 @@ fn with_red_if(row: PayloadParams, use_red: bool, red: u8) -> PayloadParams
     row
 }
 
-pub(crate) fn opus(use_red: bool) -> PayloadParams
+pub fn opus(use_red: bool) -> PayloadParams
     ensures { result ≡ opus_row use_red }
 {
     let spec = CodecSpec {
@@ -58,31 +58,31 @@ pub(crate) fn opus(use_red: bool) -> PayloadParams
     with_red_if(row, use_red, 63)
 }
 
-pub(crate) fn pcmu(use_red: bool) -> PayloadParams
+pub fn pcmu(use_red: bool) -> PayloadParams
     ensures { result ≡ pcmu_row use_red }
 {
     with_red_if(audio(0, Codec::PCMU, Frequency::EIGHT_KHZ), use_red, 61)
 }
 
-pub(crate) fn pcma(use_red: bool) -> PayloadParams
+pub fn pcma(use_red: bool) -> PayloadParams
     ensures { result ≡ pcma_row use_red }
 {
     with_red_if(audio(8, Codec::PCMA, Frequency::EIGHT_KHZ), use_red, 60)
 }
 
-pub(crate) fn g722(use_red: bool) -> PayloadParams
+pub fn g722(use_red: bool) -> PayloadParams
     ensures { result ≡ g722_row use_red }
 {
     with_red_if(audio(9, Codec::G722, Frequency::SIXTEEN_KHZ), use_red, 62)
 }
 
-pub(crate) fn comfort_noise() -> PayloadParams
+pub fn comfort_noise() -> PayloadParams
     ensures { result ≡ comfort_noise_row }
 {
     audio(13, Codec::CN, Frequency::EIGHT_KHZ)
 }
 
-pub(crate) fn amr_wb() -> PayloadParams
+pub fn amr_wb() -> PayloadParams
     ensures { result ≡ amr_wb_row }
 {
     let spec = CodecSpec {
@@ -116,7 +116,7 @@ fn video(number: u8, resend: u8, codec: Codec, format: FormatParams) -> PayloadP
     spec_row(Pt::new_with_value(number), resend, codec, format)
 }
 
-pub(crate) fn vp8() -> PayloadParams
+pub fn vp8() -> PayloadParams
     ensures { result ≡ vp8_row }
 {
     video(96, 97, Codec::Vp8, no_format())
@@ -132,13 +132,13 @@ fn vp9_profile(number: u8, resend: u8, profile: u32) -> PayloadParams
     video(number, resend, Codec::Vp9, format)
 }
 
-pub(crate) fn vp9() -> [PayloadParams; 2]
+pub fn vp9() -> [PayloadParams; 2]
     ensures { result ≡ vp9_rows }
 {
     [vp9_profile(98, 99, 0), vp9_profile(100, 101, 2)]
 }
 
-pub(crate) fn av1() -> PayloadParams
+pub fn av1() -> PayloadParams
     ensures { result ≡ av1_row }
 {
     video(45, 46, Codec::Av1, no_format())
@@ -152,12 +152,7 @@ fn h264_mode(number: u8, resend: u8, mode: bool, profile_level_id: u32) -> Paylo
 }
 
 /// In packetization mode 1 or 0.
-pub(crate) fn h264_row(
-    pt: Pt,
-    resend: Option<Pt>,
-    mode: bool,
-    profile_level_id: u32,
-) -> PayloadParams
+pub fn h264_row(pt: Pt, resend: Option<Pt>, mode: bool, profile_level_id: u32) -> PayloadParams
     ensures { result ≡ new_row pt resend (spec_of H264 90000 (h264_format mode profile_level_id)) }
 {
     let format = FormatParams {
@@ -169,7 +164,7 @@ pub(crate) fn h264_row(
     spec_row(pt, resend, Codec::H264, format)
 }
 
-pub(crate) fn h265_row(pt: Pt, resend: Option<Pt>, numbers: (u8, u8, u8)) -> PayloadParams
+pub fn h265_row(pt: Pt, resend: Option<Pt>, numbers: (u8, u8, u8)) -> PayloadParams
     ensures { result ≡ h265_row pt resend numbers }
 {
     let format = FormatParams {
@@ -179,7 +174,7 @@ pub(crate) fn h265_row(pt: Pt, resend: Option<Pt>, numbers: (u8, u8, u8)) -> Pay
     spec_row(pt, resend, Codec::H265, format)
 }
 
-pub(crate) fn h266_row(pt: Pt, resend: Option<Pt>, numbers: (u8, u8, u8)) -> PayloadParams
+pub fn h266_row(pt: Pt, resend: Option<Pt>, numbers: (u8, u8, u8)) -> PayloadParams
     ensures { result ≡ h266_row pt resend numbers }
 {
     let format = FormatParams {
@@ -189,21 +184,21 @@ pub(crate) fn h266_row(pt: Pt, resend: Option<Pt>, numbers: (u8, u8, u8)) -> Pay
     spec_row(pt, resend, Codec::H266, format)
 }
 
-pub(crate) fn h265() -> PayloadParams
+pub fn h265() -> PayloadParams
     ensures { result ≡ h265_default }
 {
     let resend = Some(Pt::new_with_value(103));
     h265_row(Pt::new_with_value(102), resend, (1, 0, 180))
 }
 
-pub(crate) fn h266() -> PayloadParams
+pub fn h266() -> PayloadParams
     ensures { result ≡ h266_default }
 {
     let resend = Some(Pt::new_with_value(105));
     h266_row(Pt::new_with_value(104), resend, (1, 0, 96))
 }
 
-pub(crate) fn h264() -> [PayloadParams; 7]
+pub fn h264() -> [PayloadParams; 7]
     ensures { result ≡ h264_rows }
 {
     [
