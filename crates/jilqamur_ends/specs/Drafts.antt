@@ -13,7 +13,7 @@ use Rattle.rtp_media_section_texts.specs.Answered.{flow}
 use Rattle.rtp_media_section_texts.specs.Sections.{Wanted}
 use Rattle.rtp_media_exchange_steps.specs.declared.errors.EndError.{EndError}
 use Rattle.rtp_media_exchange_steps.specs.declared.errors.EndError.TheVariants as end_error
-use Rattle.rtp_media_exchange_steps.specs.Exchanges.{bare_session}
+use Rattle.rtp_media_exchange_texts.specs.Exchanges.{bare_session}
 use Rattle.rtp_media_exchange_steps.specs.Refusals.{refusal_of_new}
 use Rattle.rtp_media_open_streams.specs.Ends.{new_end}
 use Rattle.jilqamur_packets.specs.Codes.{ok, memory, not_text, out_of_range}

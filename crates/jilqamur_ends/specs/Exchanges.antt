@@ -4,8 +4,8 @@ use Rattle.std.specs.Str.{is_utf8}
 use Rattle.sdp_formats_sessions.specs.PrintedSession.{sdp_text}
 use Rattle.rtp_media_exchange_steps.specs.declared.errors.ExchangeError.{ExchangeError}
 use Rattle.rtp_media_exchange_steps.specs.declared.errors.ExchangeError.TheVariants as error
-use Rattle.rtp_media_exchange_steps.specs.Exchanges.{with_offer}
-use Rattle.rtp_media_exchange_steps.specs.Offers.{Accepts, Answers, offer_of}
+use Rattle.rtp_media_exchange_texts.specs.Exchanges.{with_offer}
+use Rattle.rtp_media_exchange_texts.specs.Offers.{Accepts, Answers, offer_of}
 use Rattle.rtp_media_exchange_steps.specs.Refusals.{MayAccept, MayAnswer, Refuses, RefusesAccept, RefusesAnswer}
 use Rattle.rtp_media_exchange_steps.specs.Refusals.{refusal_of_offer}
 use Rattle.rtp_media_section_texts.specs.Sections.{Wanted}

@@ -1,11 +1,11 @@
 -- Two ends that exchange an offer and an answer.
 use Rattle.std.specs.Prelude.{◌≡◌, ℕ, List, Some, None}
 use Rattle.sdp_formats_sessions.specs.PrintedSession.{sdp_text}
-use Rattle.rtp_media_exchange_steps.specs.Exchanges.{with_offer}
-use Rattle.rtp_media_exchange_steps.specs.Offers.{Accepts, Answers, offer_of}
+use Rattle.rtp_media_exchange_texts.specs.Exchanges.{with_offer}
+use Rattle.rtp_media_exchange_texts.specs.Offers.{Accepts, Answers, offer_of}
 use Rattle.rtp_media_exchange_steps.specs.Refusals.{MayAccept, MayAnswer, Refuses, RefusesAccept, RefusesAnswer}
 use Rattle.rtp_media_exchange_steps.specs.Refusals.{refusal_of_offer}
-use Rattle.rtp_media_exchange_steps.specs.Says.{AgreesOnText}
+use Rattle.rtp_media_exchange_texts.specs.Says.{AgreesOnText}
 use Rattle.rtp_media_exchange_steps.specs.declared.errors.ExchangeError.{ExchangeError}
 use Rattle.rtp_media_sections.specs.Agreement.{Agreed, agreed_map_of, agreed_row_of}
 use Rattle.rtp_media_section_texts.specs.Sections.{Wanted}

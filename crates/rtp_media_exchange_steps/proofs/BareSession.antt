@@ -1,6 +1,6 @@
 -- A session with neither attributes nor bandwidth can be written, so that it is no reason to refuse an end.
 use Rattle.std.proofs.Common.{◌≡◌, ℕ, List, Some, inl, inr, arith}
-use Rattle.rtp_media_exchange_steps.specs.Exchanges.{bare_session}
+use Rattle.rtp_media_exchange_texts.specs.Exchanges.{bare_session}
 use Rattle.rtp_media_exchange_steps.specs.Refusals.{RefusesNew, refusal_of_new}
 use Rattle.rtp_media_exchange_steps.specs.declared.errors.EndError.{EndError}
 use Rattle.rtp_wire.specs.Values.{Numbering}

@@ -15,10 +15,10 @@ use Rattle.sdp_formats_sessions.specs.PrintedSession.{sdp_text}
 use Rattle.sdp_formats_types.specs.declared.media.MediaLine.{MediaLine}
 use Rattle.sdp_formats_sessions.specs.declared.session.Session.{Session}
 use Rattle.sdp_formats_writable.specs.Writable.{IsWritableSession}
-use Rattle.rtp_media_exchange_steps.specs.Exchanges.{Exchanged}
-use Rattle.rtp_media_exchange_steps.specs.Offers.{answer_of}
+use Rattle.rtp_media_exchange_texts.specs.Exchanges.{Exchanged}
+use Rattle.rtp_media_exchange_texts.specs.Offers.{answer_of}
 use Rattle.rtp_media_exchange_steps.specs.Reading.{IsUnread}
-use Rattle.rtp_media_exchange_steps.specs.Says.{Says}
+use Rattle.rtp_media_exchange_texts.specs.Says.{Says}
 use Rattle.rtp_media_exchange_steps.specs.declared.errors.EndError.{EndError}
 use Rattle.rtp_media_exchange_steps.specs.declared.errors.EndError.TheVariants as fault
 use Rattle.rtp_media_exchange_steps.specs.declared.errors.ExchangeError.{ExchangeError}

@@ -2,7 +2,7 @@
 
 ghost use Rattle.std.specs.Prelude.{IfErr, IfOk};
 ghost use Rattle.rtp_media_exchange_steps.specs.Reading.{IsUnread};
-ghost use Rattle.rtp_media_exchange_steps.specs.Says.{SaysOnly};
+ghost use Rattle.rtp_media_exchange_texts.specs.Says.{SaysOnly};
 
 use crate::errors::ExchangeError;
 use sdp_formats::{Sdp, SdpError, sdp_parser};

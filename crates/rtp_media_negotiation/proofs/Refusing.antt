@@ -1,11 +1,11 @@
 -- Refusals of what a text says.
 use Rattle.std.proofs.Common.{◌≡◌, ◌≢◌, ℕ, List, map, None, false, inl, inr, ◌∙◌, ap}
 use Rattle.sdp_formats_types.specs.declared.media.MediaLine.{MediaLine}
-use Rattle.rtp_media_exchange_steps.specs.Exchanges.{Exchanged}
+use Rattle.rtp_media_exchange_texts.specs.Exchanges.{Exchanged}
 use Rattle.rtp_media_exchange_steps.specs.Refusals.{CannotSay, IsReason, IsUnwritable, MayAccept, MayAnswer}
 use Rattle.rtp_media_exchange_steps.specs.Refusals.{RefusesAnswer}
 use Rattle.rtp_media_exchange_steps.specs.Refusals.{refusal_of_accept, refusal_of_answer}
-use Rattle.rtp_media_exchange_steps.specs.Says.{SaysOnly}
+use Rattle.rtp_media_exchange_texts.specs.Says.{SaysOnly}
 use Rattle.rtp_media_exchange_steps.specs.declared.errors.ExchangeError.{ExchangeError}
 use Rattle.rtp_media_exchange_steps.specs.declared.errors.ExchangeError.TheVariants.{Unreadable, OutOfTurn, NotMedia}
 use Rattle.rtp_media_exchange_steps.specs.declared.errors.ExchangeError.TheVariants.{NotCorresponding, Round}

@@ -2,7 +2,7 @@
 
 ghost use Rattle.std.specs.Prelude.{◌≡◌, ◌≢◌, None, is_some, IfOk, IfErr, OnOk};
 ghost use Rattle.std.specs.Option.{option_copied};
-ghost use Rattle.rtp_media_exchange_steps.specs.Exchanges.{fixed, fresh, with_offer};
+ghost use Rattle.rtp_media_exchange_texts.specs.Exchanges.{fixed, fresh, with_offer};
 ghost use Rattle.rtp_media_exchange_steps.specs.Refusals.{RefusesNew, refusal_of_new};
 ghost use Rattle.rtp_media_sections.specs.Agreement.{own_row_agrees, section_of};
 ghost use Rattle.sdp_formats_writable.specs.Writable.{IsWritableSession};
@@ -63,7 +63,7 @@ impl Model for Pending {
 }
 
 impl Model for Exchange {
-    ghost use Rattle.rtp_media_exchange_steps.specs.Exchanges.{Exchanged};
+    ghost use Rattle.rtp_media_exchange_texts.specs.Exchanges.{Exchanged};
 
     ghost Value = { Exchanged };
 
@@ -126,7 +126,7 @@ impl Exchange {
     /// # Errors
     ///
     /// `AllocError` where memory runs out.
-    #[tactic(auto, unfolding(rtp_media_exchange_steps::specs::Exchanges::fixed))]
+    #[tactic(auto, unfolding(rtp_media_exchange_texts::specs::Exchanges::fixed))]
     pub fn fixed(alloc: Global) -> Result<Self, AllocError>
         ensures { IfOk result (λ x. x ≡ fixed) }
     {

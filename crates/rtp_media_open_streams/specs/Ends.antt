@@ -13,7 +13,7 @@ use Rattle.rtp_media_payloads.specs.declared.row_format.RowFormat.{RowFormat}
 use Rattle.rtp_media_payloads.specs.declared.types.PayloadTypes.{PayloadTypes}
 use Rattle.sdp_formats_rows.specs.Rows.{Row}
 use Rattle.sdp_formats_config.specs.Configs.{Config}
-use Rattle.rtp_media_exchange_steps.specs.Exchanges.{Exchanged, fresh, fixed}
+use Rattle.rtp_media_exchange_texts.specs.Exchanges.{Exchanged, fresh, fixed}
 use Rattle.sdp_formats_sessions.specs.declared.session.Session.{Session}
 use Rattle.rtp_media_sections.specs.Agreement.{Agreed, agreed_map_of, agreed_row_of, is_named, own_row_agrees, row_in}
 use Rattle.rtp_media_sections.specs.Agreement.{section_of}

@@ -2,14 +2,15 @@
 
 ghost use Rattle.std.specs.Prelude.{◌≡◌, ◌≢◌, None, Some, find, string_bytes, IfOk, IfErr, OnOk, OnErr};
 ghost use Rattle.std.specs.List.{list_any};
-ghost use Rattle.rtp_media_exchange_steps.specs.Exchanges.{with_offer};
-ghost use Rattle.rtp_media_exchange_steps.specs.Offers.{offer_of};
+ghost use Rattle.rtp_media_exchange_texts.specs.Exchanges.{with_offer};
+ghost use Rattle.rtp_media_exchange_texts.specs.Offers.{offer_of};
 ghost use Rattle.rtp_media_exchange_steps.specs.Refusals.{follows_agreed, is_nameless, lists_none, no_row_of};
 ghost use Rattle.rtp_media_exchange_steps.specs.Refusals.{Refuses, refusal_of_offer};
 ghost use Rattle.sdp_formats_sessions.specs.PrintedSession.{sdp_text};
 
 use super::{Exchange, Pending};
-use rtp_media_exchange_steps::{ExchangeError, agreed_shapes, offer_text, wanted_shapes};
+use rtp_media_exchange_steps::{ExchangeError, agreed_shapes, wanted_shapes};
+use rtp_media_exchange_texts::offer_text;
 use rtp_media_section_texts::{SectionSpec, may_follow};
 use sdp_formats_config::CodecConfig;
 use std::alloc::AllocError;
@@ -80,7 +81,7 @@ impl Exchange {
     ///
     /// The first that holds of `OutOfTurn`, `NotCorresponding`, `NoCommonRow` and `NotWritable`; or `Memory`. Nothing
     /// has then changed.
-    #[tactic(auto, unfolding(rtp_media_exchange_steps::specs::Offers::offer_of))]
+    #[tactic(auto, unfolding(rtp_media_exchange_texts::specs::Offers::offer_of))]
     pub fn offer(&mut self, sections: Vec<SectionSpec>) -> Result<String, ExchangeError>
         ensures text { IfOk result (λ text. string_bytes text ≡ sdp_text (offer_of self.old sections.items)) }
         ensures accepted { OnOk result (refusal_of_offer self.old sections.items ≡ None) }

@@ -2,7 +2,7 @@
 
 ghost use Rattle.std.specs.Prelude.{◌≡◌, length, map, zip, string_bytes, IfOk};
 ghost use Rattle.sdp_formats_sessions.specs.PrintedSession.{sdp_text};
-ghost use Rattle.rtp_media_exchange_steps.specs.Offers.{bundle_of, bundled};
+ghost use Rattle.rtp_media_exchange_texts.specs.Offers.{bundle_of, bundled};
 ghost use Rattle.rtp_media_section_texts.specs.Answered.{answered_section};
 ghost use Rattle.rtp_media_section_texts.specs.Lines.{offered_section};
 

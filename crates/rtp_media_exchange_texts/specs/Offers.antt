@@ -8,8 +8,8 @@ use Rattle.sdp_formats_sessions.specs.declared.session.Sdp.{Sdp}
 use Rattle.sdp_formats_sessions.specs.declared.session.Session.{Session}
 use Rattle.sdp_formats_sessions.specs.declared.session.SessionAttribute.{SessionAttribute}
 use Rattle.sdp_formats_sessions.specs.declared.session.SessionAttribute.TheVariants.{Group}
-use Rattle.rtp_media_exchange_steps.specs.Exchanges.{Exchanged, accepted_agreement, answered_agreement, with_agreement}
-use Rattle.rtp_media_exchange_steps.specs.Says.{SaysOnly}
+use Rattle.rtp_media_exchange_texts.specs.Exchanges.{Exchanged, accepted_agreement, answered_agreement, with_agreement}
+use Rattle.rtp_media_exchange_texts.specs.Says.{SaysOnly}
 use Rattle.rtp_media_section_texts.specs.Answered.{answered_section}
 use Rattle.rtp_media_section_texts.specs.Lines.{offered_section, remote_of, shape_of_line}
 use Rattle.rtp_media_section_texts.specs.Sections.{Wanted, correspond, shape_of}

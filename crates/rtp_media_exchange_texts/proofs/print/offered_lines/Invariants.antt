@@ -1,6 +1,6 @@
 use Rattle.std.proofs.Common.{◌≡◌, ◌++◌, drop, map}
 use Rattle.rtp_media_section_texts.specs.Lines.{offered_section}
-use Rattle.rtp_media_exchange_steps.proofs.print.offered_lines.Given as goal
+use Rattle.rtp_media_exchange_texts.proofs.print.offered_lines.Given as goal
 
 -- the sections so far, and the rest
 abbrev pub invariant-loop-section : goal.invariant-loop-section

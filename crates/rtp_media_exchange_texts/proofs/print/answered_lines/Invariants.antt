@@ -1,7 +1,7 @@
 use Rattle.std.proofs.Common.{◌≡◌, ◌++◌, drop, map}
 use Rattle.std.specs.Prelude.{zip}
 use Rattle.rtp_media_section_texts.specs.Answered.{answered_section}
-use Rattle.rtp_media_exchange_steps.proofs.print.answered_lines.Given as goal
+use Rattle.rtp_media_exchange_texts.proofs.print.answered_lines.Given as goal
 
 -- the sections so far, and the rest
 abbrev pub invariant-loop-place : goal.invariant-loop-place

@@ -1,6 +1,6 @@
 use Rattle.std.proofs.Common.{◌≡◌, ◌++◌, drop}
-use Rattle.rtp_media_exchange_steps.specs.Exchanges.{answered_agreement}
-use Rattle.rtp_media_exchange_steps.proofs.agree.answered_agreement.Given as goal
+use Rattle.rtp_media_exchange_texts.specs.Exchanges.{answered_agreement}
+use Rattle.rtp_media_exchange_texts.proofs.agree.answered_agreement.Given as goal
 
 -- what is agreed on so far, and of the rest
 abbrev pub invariant-loop-place : goal.invariant-loop-place

@@ -1,5 +1,5 @@
 use Rattle.std.proofs.Common.{◌≡◌, ◌++◌, drop, map}
-use Rattle.rtp_media_exchange_steps.proofs.print.mids_of.Given as goal
+use Rattle.rtp_media_exchange_texts.proofs.print.mids_of.Given as goal
 
 -- the names so far, and those of the rest
 abbrev pub invariant-loop-section : goal.invariant-loop-section

@@ -5,7 +5,7 @@ use Rattle.std.specs.Prelude.{if◌then◌else◌}
 use Rattle.std.specs.Option.{option_map}
 use Rattle.std.specs.Str.{bytes_eq}
 use Rattle.sdp_formats_types.specs.declared.media.MediaLine.{MediaLine}
-use Rattle.rtp_media_exchange_steps.specs.Exchanges.{accepted_agreement, answered_agreement}
+use Rattle.rtp_media_exchange_texts.specs.Exchanges.{accepted_agreement, answered_agreement}
 use Rattle.rtp_media_sections.specs.Agreement.{Agreed, AgreesOn, agreed_by_accept, agreed_by_answer, line_of}
 use Rattle.rtp_media_sections.specs.Agreement.{row_of_line, row_of_section, section_of}
 use Rattle.rtp_media_section_texts.specs.Extensions.{map_of_lines}

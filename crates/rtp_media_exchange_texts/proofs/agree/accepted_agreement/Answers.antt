@@ -1,9 +1,9 @@
 use Rattle.std.proofs.Common.{◌≡◌, arith, sym, subst}
 use Rattle.std.proofs.lemmas.Grind.{common_steps}
 use Rattle.rtp_media_sections.specs.Agreement.{AgreesOn}
-use Rattle.rtp_media_exchange_steps.specs.Exchanges.{accepted_agreement}
-use Rattle.rtp_media_exchange_steps.proofs.Agreeing.{accepted_agrees}
-use Rattle.rtp_media_exchange_steps.proofs.agree.accepted_agreement.Goals as goal
+use Rattle.rtp_media_exchange_texts.specs.Exchanges.{accepted_agreement}
+use Rattle.rtp_media_exchange_texts.proofs.Agreeing.{accepted_agrees}
+use Rattle.rtp_media_exchange_texts.proofs.agree.accepted_agreement.Goals as goal
 
 pub returns-clause-agrees : goal.returns-clause-agrees
 returns-clause-agrees c =

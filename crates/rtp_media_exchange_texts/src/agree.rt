@@ -2,7 +2,7 @@
 
 ghost use Rattle.std.specs.Prelude.{◌≡◌, length, IfOk};
 ghost use Rattle.rtp_media_sections.specs.Agreement.{AgreesOn};
-ghost use Rattle.rtp_media_exchange_steps.specs.Exchanges.{accepted_agreement, answered_agreement};
+ghost use Rattle.rtp_media_exchange_texts.specs.Exchanges.{accepted_agreement, answered_agreement};
 
 use rtp_media_section_texts::SectionSpec;
 use rtp_media_sections::{AgreedSection, agreed_by_accept, agreed_by_answer};

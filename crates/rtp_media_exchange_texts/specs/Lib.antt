@@ -1,0 +1,3 @@
+pub mod Exchanges
+pub mod Offers
+pub mod Says
