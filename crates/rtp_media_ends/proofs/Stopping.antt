@@ -14,7 +14,7 @@ use Rattle.rtp_media_open_streams.specs.declared.open_stream.OpenStream.TheVaria
 use Rattle.rtp_media_open_streams.specs.FullArrival.{AnswersAll, AnswersSome, ArePolledSome, IsPolledOut}
 use Rattle.rtp_media_open_streams.specs.FullArrival.{after_datagrams}
 use Rattle.rtp_media_open_streams.specs.FullArrival.{answers_at}
-use Rattle.rtp_media_ends.proofs.Isolation.{nobody}
+use Rattle.rtp_media_stream_laws.proofs.Isolation.{nobody}
 
 -- one datagram more
 pub after-more : (ds : List (List ℕ)) (e : EndState) (i : ℕ) (d : List ℕ) → i < length ds

@@ -1,4 +1,2 @@
 pub mod Stops
 pub mod Connections
-pub mod OwnEvents
-pub mod Transparency

@@ -2,10 +2,8 @@
 #![tactic(auto)]
 
 mod end;
-mod laws;
 
 pub use end::{End, Polls, ReceivedAll, connect};
-pub use laws::{isolation_law, openings_law, transparency_law};
 pub use payload_core_base::PacketError;
 pub use rtp_media_exchange_steps::{EndError, ExchangeError};
 pub use rtp_media_negotiation::{

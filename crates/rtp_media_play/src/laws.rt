@@ -17,7 +17,7 @@ ghost use Rattle.rtp_media_play.specs.Schedules.{own_events};
 ghost use Rattle.rtp_media_play.specs.declared.schedule.Event.{Event};
 
 use h26x_payload::codec_law;
-use rtp_media_ends::openings_law;
+use rtp_media_stream_laws::openings_law;
 
 /// After two ends have exchanged an offer and an answer text, each opens a stream exactly where the answer's row and
 /// its own agree (`sends`, `receives`), and for every sane schedule of losses, reorderings, repeats, foreign bytes

@@ -3,9 +3,9 @@ use Rattle.rtp_media_payloads.specs.Receiving.{Receiving, opened_receiver, with_
 use Rattle.rtp_media_open_streams.specs.declared.open_stream.OpenStream.{OpenStream}
 use Rattle.rtp_media_open_streams.specs.Ends.{EndState, receiver_at}
 use Rattle.rtp_media_open_streams.specs.FullArrival.{after_datagrams, ArePolledOut}
-use Rattle.rtp_media_ends.proofs.Exact.{exact}
+use Rattle.rtp_media_stream_laws.proofs.Exact.{exact}
 use Rattle.rtp_media_open_streams.proofs.Indexing.{polled-out, polled-some}
-use Rattle.rtp_media_ends.proofs.Isolation.{found-after}
+use Rattle.rtp_media_stream_laws.proofs.Isolation.{found-after}
 use Rattle.rtp_media_ends.proofs.Stopping.{out-of}
 use Rattle.rtp_media_ends.proofs.end.End.receive_all.Goals as goal
 

@@ -24,7 +24,7 @@ use Rattle.rtp_media_open_streams.specs.Arrivals.{own_of, arrival_for, arrival_b
 use Rattle.rtp_media_open_streams.specs.Arrivals.{after_datagram}
 use Rattle.rtp_media_open_streams.specs.Arrivals.{takes}
 use Rattle.rtp_media_open_streams.specs.FullArrival.{IsFound, after_datagrams}
-use Rattle.rtp_media_ends.specs.OwnEvents.{content_event, event_by, event_in, own_events}
+use Rattle.rtp_media_stream_laws.specs.OwnEvents.{content_event, event_by, event_in, own_events}
 
 abbrev pub after_event : Format → Stream → Option Event → Stream
 after_event format s None = s

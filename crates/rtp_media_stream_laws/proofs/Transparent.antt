@@ -16,9 +16,9 @@ use Rattle.rtp_media_payloads.specs.Rows.{coding_in}
 use Rattle.rtp_media_streams.specs.Sending.{Sample, Sending, carried, packet_limit, samples_of, timestamp}
 use Rattle.rtp_media_payloads.specs.declared.row_format.RowFormat.{RowFormat}
 use Rattle.rtp_media_open_streams.specs.FullArrival.{AreSound, count_of, sent_datagram, sent_samples}
-use Rattle.rtp_media_ends.specs.OwnEvents.{event_in, own_events}
-use Rattle.rtp_media_ends.specs.Transparency.{AreSent, AreTwins, Receives}
-use Rattle.rtp_media_ends.proofs.Exact.{all-theirs, brings}
+use Rattle.rtp_media_stream_laws.specs.OwnEvents.{event_in, own_events}
+use Rattle.rtp_media_stream_laws.specs.Transparency.{AreSent, AreTwins, Receives}
+use Rattle.rtp_media_stream_laws.proofs.Exact.{all-theirs, brings}
 
 -- samples arrive alike where the map and the row are alike
 samples-alike : (s t : Sending) (xs : List Sample) → samples_of (record t { map = s.map; row = s.row }) xs

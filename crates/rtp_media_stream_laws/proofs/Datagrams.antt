@@ -38,7 +38,7 @@ use Rattle.rtp_media_streams.proofs.Sent.{writable}
 use Rattle.rtp_media_streams.proofs.Wrapping.{wrapped-brings}
 use Rattle.rtp_media_payloads.specs.Receiving.{Receiving, is_own, media_payload, values_of_header, values_read}
 use Rattle.rtp_media_open_streams.specs.FullArrival.{coding_of, count_of, sent_samples}
-use Rattle.rtp_media_ends.specs.OwnEvents.{content_event, event_by, event_in}
+use Rattle.rtp_media_stream_laws.specs.OwnEvents.{content_event, event_by, event_in}
 
 eqb-same : (a : ℕ) → (a == a) ≡ true
 eqb-same a = grind (arith, nat_tests)

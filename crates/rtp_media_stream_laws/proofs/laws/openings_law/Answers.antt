@@ -1,5 +1,5 @@
 use Rattle.rtp_media_open_streams.proofs.MayOpen.{may-receive, may-send, receives-at, sends-at}
-use Rattle.rtp_media_ends.proofs.laws.openings_law.Goals as goal
+use Rattle.rtp_media_stream_laws.proofs.laws.openings_law.Goals as goal
 
 pub returns-clause-sends : goal.returns-clause-sends
 returns-clause-sends c = λ end mid ssrc pt. (sends-at end mid ssrc pt, may-send end mid ssrc pt)

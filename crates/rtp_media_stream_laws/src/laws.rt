@@ -6,11 +6,11 @@ ghost use Rattle.rtp_media_open_streams.specs.Ends.{EndState, receiver_at, refus
 ghost use Rattle.rtp_media_open_streams.specs.Ends.{refusal_of_open_sender};
 ghost use Rattle.rtp_media_open_streams.specs.OpensAt.{ReceivesAt, SendsAt};
 ghost use Rattle.rtp_media_open_streams.specs.FullArrival.{IsFound, after_datagrams, sent_datagram};
-ghost use Rattle.rtp_media_ends.specs.Transparency.{AreSent, AreTwins, Receives};
+ghost use Rattle.rtp_media_stream_laws.specs.Transparency.{AreSent, AreTwins, Receives};
 ghost use Rattle.rtp_media_payloads.specs.Receiving.{Receiving};
 ghost use Rattle.rtp_media_payloads.specs.Rows.{format_of};
 ghost use Rattle.rtp_media_streams.specs.Sending.{Sample, Sending};
-ghost use Rattle.rtp_media_ends.specs.OwnEvents.{own_events};
+ghost use Rattle.rtp_media_stream_laws.specs.OwnEvents.{own_events};
 
 use h26x_payload::codec_law;
 

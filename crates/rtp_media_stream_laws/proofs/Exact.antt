@@ -37,9 +37,9 @@ use Rattle.rtp_media_open_streams.specs.FullArrival.{coding_of}
 use Rattle.rtp_media_open_streams.specs.FullArrival.{count_of, is_header_of, is_own_datagram, sent_datagram}
 use Rattle.rtp_media_open_streams.specs.FullArrival.{sent_samples}
 use Rattle.rtp_media_open_streams.specs.FullArrival.{units_of}
-use Rattle.rtp_media_ends.specs.OwnEvents.{content_event, event_by, event_in, own_events}
-use Rattle.rtp_media_ends.proofs.Datagrams.{AreTheirs, IsFor, sent-event, theirs}
-use Rattle.rtp_media_ends.proofs.Isolation.{isolated, same-after}
+use Rattle.rtp_media_stream_laws.specs.OwnEvents.{content_event, event_by, event_in, own_events}
+use Rattle.rtp_media_stream_laws.proofs.Datagrams.{AreTheirs, IsFor, sent-event, theirs}
+use Rattle.rtp_media_stream_laws.proofs.Isolation.{isolated, same-after}
 
 -- what the datagram of a number brings
 pub brings : (s : Sending) (r : Receiving) (samples : List Sample) (x : ℕ) → IsFor r s → IsSender s

@@ -1,0 +1,4 @@
+pub mod Datagrams
+pub mod Exact
+pub mod Isolation
+pub mod Transparent

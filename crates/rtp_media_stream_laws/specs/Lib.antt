@@ -1,0 +1,2 @@
+pub mod OwnEvents
+pub mod Transparency
