@@ -1,5 +1,5 @@
 -- The default rows of each codec: their types, clock rates, channels and formats.
-use Rattle.std.specs.Prelude.{ℕ, Bool, true, Option, Some, None, List, [], ◌∷◌, ◌++◌, if◌then◌else◌}
+use Rattle.std.specs.Prelude.{ℕ, Bool, true, false, Option, Some, None, List, [], ◌∷◌, ◌++◌, if◌then◌else◌}
 use Rattle.payload_core_base.specs.declared.codec.Codec.{Codec}
 use Rattle.payload_core_base.specs.declared.codec.Codec.TheVariants.{PCMU, PCMA, G722, CN, AmrWb, H264, Vp8, Vp9, Av1}
 use Rattle.payload_core_base.specs.declared.codec.Codec.TheVariants.{H265, H266}

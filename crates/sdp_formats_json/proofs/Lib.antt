@@ -1,2 +1,1 @@
-pub mod Sound
 pub mod Tables

@@ -2,59 +2,19 @@
 
 ghost use Rattle.std.specs.Prelude.{◌≡◌, IfOk, None, OnOk, false, true};
 ghost use Rattle.serde_json.specs.View.{view, members_view};
-ghost use Rattle.sdp_formats_json.specs.Entries.{all_fit, put_all, read_all};
-ghost use Rattle.sdp_formats_json.specs.Rows.{blank_row, blank_spec, codec_entries, feedback_entries, lock_entries};
-ghost use Rattle.sdp_formats_json.specs.Rows.{row_data};
-ghost use Rattle.sdp_formats_json.specs.Rows.{row_of_data, row_shape, spec};
+ghost use Rattle.sdp_formats_spec_json.specs.Entries.{all_fit, put_all, read_all};
+ghost use Rattle.sdp_formats_json.specs.Rows.{blank_row, codec_entries, feedback_entries, lock_entries, row_data};
+ghost use Rattle.sdp_formats_json.specs.Rows.{row_of_data, row_shape};
 
-use crate::error::{Field, JsonError};
-use crate::members::{member, named_member, optional_member, put, put_name, put_optional};
-use crate::shaped::Shaped;
-use payload_core_base::{CODECS, Codec};
-use rtp_wire::{Frequency, Pt};
-use sdp_formats_rows::{CodecSpec, FormatParams, PayloadParams};
+use rtp_wire::Pt;
+use sdp_formats_rows::PayloadParams;
+use sdp_formats_spec_json::{
+    Field, JsonError, blank_spec, member, optional_member, put, put_optional,
+};
 use serde_json::{Map, Value};
 use std::alloc::{AllocError, Global};
 
-/// A codec to be filled in.
-fn blank_spec() -> CodecSpec
-    ensures { result ≡ blank_spec }
-{
-    CodecSpec {
-        codec: Codec::Null,
-        clock_rate: Frequency::EIGHT_KHZ,
-        channels: None,
-        format: FormatParams::default(),
-    }
-}
-
-#[tactic(auto, unfolding(crate::specs::Rows::spec, crate::specs::Entries::open_fields))]
-impl Shaped for CodecSpec {
-    ghost shape = { spec };
-
-    fn write(self, alloc: Global) -> Result<Value, AllocError> {
-        let mut map = Map::new(alloc);
-        put_name(&mut map, alloc, Field::Codec, self.codec)?;
-        put(&mut map, alloc, Field::ClockRate, self.clock_rate)?;
-        put_optional(&mut map, alloc, Field::Channels, self.channels)?;
-        put(&mut map, alloc, Field::Format, self.format)?;
-        Ok(Value::Object(map))
-    }
-
-    fn read(value: &Value, field: Field) -> Result<Self, JsonError> {
-        if !value.is_object() {
-            return Err(JsonError::Unfit(field));
-        }
-        let mut spec = blank_spec();
-        spec.codec = named_member(value, Field::Codec, &CODECS)?;
-        spec.clock_rate = member(value, Field::ClockRate)?;
-        spec.channels = optional_member(value, Field::Channels)?;
-        spec.format = member(value, Field::Format)?;
-        Ok(spec)
-    }
-}
-
-#[tactic(auto, unfolding(crate::specs::Rows::feedback_entries, crate::specs::Entries::open_fields))]
+#[tactic(auto, unfolding(crate::specs::Rows::feedback_entries, sdp_formats_spec_json::specs::Entries::open_fields))]
 fn put_feedback(
     map: &mut Map<String, Value>,
     alloc: Global,
@@ -71,7 +31,7 @@ fn put_feedback(
     put(map, alloc, Field::FbRemb, row.fb_remb())
 }
 
-#[tactic(auto, unfolding(crate::specs::Rows::codec_entries, crate::specs::Entries::open_fields))]
+#[tactic(auto, unfolding(crate::specs::Rows::codec_entries, sdp_formats_spec_json::specs::Entries::open_fields))]
 fn put_codec(
     map: &mut Map<String, Value>,
     alloc: Global,
@@ -86,7 +46,7 @@ fn put_codec(
     put(map, alloc, Field::Spec, row.spec())
 }
 
-#[tactic(auto, unfolding(crate::specs::Rows::lock_entries, crate::specs::Entries::open_fields))]
+#[tactic(auto, unfolding(crate::specs::Rows::lock_entries, sdp_formats_spec_json::specs::Entries::open_fields))]
 fn put_lock(
     map: &mut Map<String, Value>,
     alloc: Global,
@@ -120,7 +80,7 @@ fn blank_row() -> PayloadParams
     PayloadParams::new(Pt::from(0), None, blank_spec())
 }
 
-#[tactic(auto, unfolding(crate::specs::Rows::codec_entries, crate::specs::Entries::open_fields))]
+#[tactic(auto, unfolding(crate::specs::Rows::codec_entries, sdp_formats_spec_json::specs::Entries::open_fields))]
 fn with_codec(row: PayloadParams, value: &Value) -> Result<PayloadParams, JsonError>
     ensures read { result ≡ read_all codec_entries (view value.now) row }
     ensures lock { IfOk result (λ r. r.locked ≡ row.locked) }
@@ -131,7 +91,7 @@ fn with_codec(row: PayloadParams, value: &Value) -> Result<PayloadParams, JsonEr
     Ok(row.with_types(pt, resend, row.red()).with_spec(spec))
 }
 
-#[tactic(auto, unfolding(crate::specs::Rows::feedback_entries, crate::specs::Entries::open_fields))]
+#[tactic(auto, unfolding(crate::specs::Rows::feedback_entries, sdp_formats_spec_json::specs::Entries::open_fields))]
 fn with_feedback(mut row: PayloadParams, value: &Value) -> Result<PayloadParams, JsonError>
     ensures read { result ≡ read_all feedback_entries (view value.now) row }
     ensures lock { IfOk result (λ r. r.locked ≡ row.locked) }
@@ -144,7 +104,7 @@ fn with_feedback(mut row: PayloadParams, value: &Value) -> Result<PayloadParams,
     Ok(row)
 }
 
-#[tactic(auto, unfolding(crate::specs::Rows::lock_entries, crate::specs::Entries::open_fields))]
+#[tactic(auto, unfolding(crate::specs::Rows::lock_entries, sdp_formats_spec_json::specs::Entries::open_fields))]
 fn with_lock(row: PayloadParams, value: &Value) -> Result<PayloadParams, JsonError>
     requires { row.locked ≡ false }
     ensures { result ≡ read_all lock_entries (view value.now) row }

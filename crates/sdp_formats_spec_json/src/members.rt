@@ -4,9 +4,9 @@ ghost use Rattle.std.specs.Prelude.{◌≡◌, OnOk, true};
 ghost use Rattle.serde_json.specs.Data.{put as with_member, string};
 ghost use Rattle.serde_json.specs.Find.{as_str, get};
 ghost use Rattle.serde_json.specs.View.{view, members_view};
-ghost use Rattle.sdp_formats_json.specs.Names.{field_name};
-ghost use Rattle.sdp_formats_json.specs.Shapes.{given_read, member_read, name_read, optional_data, optional_fits};
-ghost use Rattle.sdp_formats_json.specs.Shapes.{optional_read, word_of};
+ghost use Rattle.sdp_formats_spec_json.specs.Names.{field_name};
+ghost use Rattle.sdp_formats_spec_json.specs.Shapes.{given_read, member_read, name_read, optional_data, optional_fits};
+ghost use Rattle.sdp_formats_spec_json.specs.Shapes.{optional_read, word_of};
 
 use crate::error::{Field, JsonError};
 use crate::shaped::Shaped;
@@ -15,7 +15,7 @@ use serde_json::{Map, Value};
 use std::alloc::{AllocError, Global};
 
 /// Puts a field into an object.
-pub(crate) fn put<T: Shaped>(
+pub fn put<T: Shaped>(
     map: &mut Map<String, Value>,
     alloc: Global,
     field: Field,
@@ -29,7 +29,7 @@ pub(crate) fn put<T: Shaped>(
 }
 
 /// Puts a field that may be missing into an object.
-pub(crate) fn put_optional<T: Shaped>(
+pub fn put_optional<T: Shaped>(
     map: &mut Map<String, Value>,
     alloc: Global,
     field: Field,
@@ -46,7 +46,7 @@ pub(crate) fn put_optional<T: Shaped>(
 }
 
 /// Puts a field by its name into an object.
-pub(crate) fn put_name<T: Named>(
+pub fn put_name<T: Named>(
     map: &mut Map<String, Value>,
     alloc: Global,
     field: Field,
@@ -60,7 +60,7 @@ pub(crate) fn put_name<T: Named>(
 }
 
 /// The field of an object.
-pub(crate) fn member<T: Shaped>(value: &Value, field: Field) -> Result<T, JsonError>
+pub fn member<T: Shaped>(value: &Value, field: Field) -> Result<T, JsonError>
     ensures { result ≡ member_read T.shape field (get (field_name field) (view value.now)) }
 {
     match value.get(field.as_str()) {
@@ -70,10 +70,7 @@ pub(crate) fn member<T: Shaped>(value: &Value, field: Field) -> Result<T, JsonEr
 }
 
 /// The field of an object, which may be missing.
-pub(crate) fn optional_member<T: Shaped>(
-    value: &Value,
-    field: Field,
-) -> Result<Option<T>, JsonError>
+pub fn optional_member<T: Shaped>(value: &Value, field: Field) -> Result<Option<T>, JsonError>
     ensures { result ≡ optional_read T.shape field (get (field_name field) (view value.now)) }
 {
     match value.get(field.as_str()) {
@@ -93,11 +90,7 @@ fn given<T: Shaped>(value: &Value, field: Field) -> Result<Option<T>, JsonError>
 
 /// The field of an object, by its name in a table.
 #[tactic(auto, unfolding(crate::specs::Shapes::word_of))]
-pub(crate) fn named_member<T: Named>(
-    value: &Value,
-    field: Field,
-    table: &[T],
-) -> Result<T, JsonError>
+pub fn named_member<T: Named>(value: &Value, field: Field, table: &[T]) -> Result<T, JsonError>
     ensures { result ≡ member_read (word_of T.name table.now) field (get (field_name field) (view value.now)) }
 {
     match value.get(field.as_str()) {

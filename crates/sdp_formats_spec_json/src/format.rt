@@ -3,8 +3,8 @@
 ghost use Rattle.std.specs.Prelude.{◌≡◌, OnOk, true};
 ghost use Rattle.serde_json.specs.View.{view, members_view};
 ghost use Rattle.sdp_formats_format.specs.Formats.{no_format};
-ghost use Rattle.sdp_formats_json.specs.Entries.{all_fit, put_all, read_all};
-ghost use Rattle.sdp_formats_json.specs.Formats.{format, opus_entries, other_entries, video_entries};
+ghost use Rattle.sdp_formats_spec_json.specs.Entries.{all_fit, put_all, read_all};
+ghost use Rattle.sdp_formats_spec_json.specs.Formats.{format, opus_entries, other_entries, video_entries};
 
 use crate::error::{Field, JsonError};
 use crate::members::{optional_member, put_optional};

@@ -2,8 +2,8 @@
 
 ghost use Rattle.std.specs.Prelude.{◌≡◌, IfOk, true};
 ghost use Rattle.serde_json.specs.View.{view};
-ghost use Rattle.sdp_formats_json.specs.Shapes.{Shape, byte, half_word, word, rate, flag};
-ghost use Rattle.sdp_formats_json.specs.declared.error.JsonError.TheVariants.{Unfit};
+ghost use Rattle.sdp_formats_spec_json.specs.Shapes.{Shape, byte, half_word, word, rate, flag};
+ghost use Rattle.sdp_formats_spec_json.specs.declared.error.JsonError.TheVariants.{Unfit};
 
 use crate::error::{Field, JsonError};
 use rtp_wire::{Frequency, Pt};
@@ -11,7 +11,7 @@ use serde_json::Value;
 use std::alloc::{AllocError, Global};
 
 /// A type whose values stand in JSON.
-pub(crate) trait Shaped: Copy + Drop {
+pub trait Shaped: Copy + Drop {
     ghost shape: { Shape Self };
 
     /// The value in JSON.

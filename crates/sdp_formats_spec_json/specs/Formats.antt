@@ -2,10 +2,10 @@
 use Rattle.std.specs.Prelude.{List, [], ◌∷◌}
 use Rattle.sdp_formats_format.specs.declared.format.FormatParams.{FormatParams}
 use Rattle.sdp_formats_format.specs.Formats.{no_format}
-use Rattle.sdp_formats_json.specs.Shapes.{Shape, byte, half_word, word, flag}
-use Rattle.sdp_formats_json.specs.Entries.{Entry, optional, object_in}
-use Rattle.sdp_formats_json.specs.Levels.{h265, h266}
-use Rattle.sdp_formats_json.specs.declared.error.Field.TheVariants as field
+use Rattle.sdp_formats_spec_json.specs.Shapes.{Shape, byte, half_word, word, flag}
+use Rattle.sdp_formats_spec_json.specs.Entries.{Entry, optional, object_in}
+use Rattle.sdp_formats_spec_json.specs.Levels.{h265, h266}
+use Rattle.sdp_formats_spec_json.specs.declared.error.Field.TheVariants as field
 
 -- The fields of Opus.
 unfoldable pub opus_entries : List (Entry FormatParams)

@@ -1,6 +1,6 @@
 //! Profiles, tiers and levels in JSON.
 
-ghost use Rattle.sdp_formats_json.specs.Levels.{level_of};
+ghost use Rattle.sdp_formats_spec_json.specs.Levels.{level_of};
 
 use crate::error::{Field, JsonError};
 use crate::members::{named_member, put_name};
