@@ -3,8 +3,8 @@ use Rattle.std.specs.Prelude.{◌&&◌, Bool, true, List, [], ◌∷◌, Option,
 use Rattle.serde_json.specs.Data.{Data, object, Members, no_members, put}
 use Rattle.serde_json.specs.Find.{get, as_object}
 use Rattle.sdp_formats_spec_json.specs.Names.{field_name}
-use Rattle.sdp_formats_spec_json.specs.Shapes.{Shape, and_then, member_read, optional_data, optional_fits, optional_read}
-use Rattle.sdp_formats_spec_json.specs.Shapes.{word_of}
+use Rattle.sdp_formats_spec_json.specs.Shapes.{Shape, and_then, member_read, optional_data, optional_fits}
+use Rattle.sdp_formats_spec_json.specs.Shapes.{optional_read, word_of}
 use Rattle.sdp_formats_spec_json.specs.declared.error.Field.{Field}
 use Rattle.sdp_formats_spec_json.specs.declared.error.JsonError.{JsonError}
 use Rattle.sdp_formats_spec_json.specs.declared.error.JsonError.TheVariants.{Unfit}

@@ -7,8 +7,8 @@ ghost use Rattle.payload_core_base.specs.declared.codec.Codec.TheVariants.{Vp9, 
 ghost use Rattle.sdp_formats_rows.specs.Codecs.{is_codec};
 ghost use Rattle.sdp_formats_config.specs.Configs.{rows_without, with_rows, rows_if};
 ghost use Rattle.sdp_formats_default_rows.specs.DefaultRows.{opus_row, pcmu_row, pcma_row, g722_row, comfort_noise_row};
-ghost use Rattle.sdp_formats_default_rows.specs.DefaultRows.{amr_wb_row, vp8_row, vp9_rows, av1_row, h264_rows, h265_default};
-ghost use Rattle.sdp_formats_default_rows.specs.DefaultRows.{h266_default};
+ghost use Rattle.sdp_formats_default_rows.specs.DefaultRows.{amr_wb_row, vp8_row, vp9_rows, av1_row, h264_rows};
+ghost use Rattle.sdp_formats_default_rows.specs.DefaultRows.{h265_default, h266_default};
 
 use super::CodecConfig;
 use sdp_formats_default_rows::rows;
