@@ -4,7 +4,7 @@ use crate::buffers::Buffering;
 use crate::formats::{
     Copying, LIMIT, ReadingRed, SendingRed, measure_codec, measure_packets, refused,
 };
-use crate::measured::{measure, repeat};
+use benchmark_rounds::{measure, repeat};
 use payload_core::{
     Av1Packetizer, Codec, DepacketizingBuffer, OpusDepacketizer, Packetizer, RedEncoder, RedSender,
     RedundantBlock,

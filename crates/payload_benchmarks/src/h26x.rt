@@ -1,9 +1,8 @@
 //! H.264, H.265 and H.266, and texts cut into units.
 
 use crate::formats::measure_codec;
-use crate::measured::{Round, measure};
 use crate::samples::access_unit;
-use crate::tally::Tally;
+use benchmark_rounds::{Round, Tally, measure};
 use h26x_payload::{Codec, nal_units};
 use std::alloc::Global;
 use std::io;

@@ -4,14 +4,14 @@ ghost use Rattle.std.specs.Prelude.{◌≡◌, ◌+◌, ◌%◌, ◌^◌};
 
 /// How many payloads there were, and how many bytes; both wrap at 64 bits.
 #[derive(Clone, Copy, Drop)]
-pub(crate) struct Tally {
-    pub(crate) packets: u64,
-    pub(crate) bytes: u64,
+pub struct Tally {
+    pub packets: u64,
+    pub bytes: u64,
 }
 
 impl Tally {
     /// Nothing was counted.
-    pub(crate) fn new() -> Self
+    pub fn new() -> Self
         ensures packets { result.packets ≡ 0 }
         ensures bytes { result.bytes ≡ 0 }
     {
@@ -22,7 +22,7 @@ impl Tally {
     }
 
     /// Counts so many payloads, which have so many bytes together.
-    pub(crate) fn add(&mut self, packets: usize, bytes: usize)
+    pub fn add(&mut self, packets: usize, bytes: usize)
         ensures packets { self.new.packets ≡ (self.old.packets + packets) % 2 ^ 64 }
         ensures bytes { self.new.bytes ≡ (self.old.bytes + bytes) % 2 ^ 64 }
     {

@@ -1,7 +1,6 @@
 //! Packets through a buffer.
 
-use crate::measured::Round;
-use crate::tally::Tally;
+use benchmark_rounds::{Round, Tally};
 use payload_core::{Depacketizer, DepacketizingBuffer, RtpMeta};
 use rtp_wire::{ExtensionValues, SeqNo};
 use std::alloc::Global;

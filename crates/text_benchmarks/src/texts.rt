@@ -1,7 +1,6 @@
 //! Session texts read and printed.
 
-use crate::measured::{Round, measure};
-use crate::tally::Tally;
+use benchmark_rounds::{Round, Tally, measure};
 use sdp_formats::{Sdp, sdp_parser};
 use std::alloc::Global;
 use std::io;

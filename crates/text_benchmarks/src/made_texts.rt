@@ -1,7 +1,6 @@
 //! Session texts that are made to cost time: few lines over and over, which name each other.
 
-use crate::measured::{Round, measure};
-use crate::tally::Tally;
+use benchmark_rounds::{Round, Tally, measure};
 use sdp_formats::{rtp_params, sdp_parser};
 use std::alloc::Global;
 use std::io;

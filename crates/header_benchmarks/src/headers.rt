@@ -2,8 +2,7 @@
 
 ghost use Rattle.std.specs.Prelude.{◌≤◌, ◌<◌};
 
-use crate::measured::{Round, measure};
-use crate::tally::Tally;
+use benchmark_rounds::{Round, Tally, measure};
 use rtp_wire::{
     Extension, ExtensionMap, ExtensionValues, Mid, RtpHeader, SeqNo, SeqNoWindow, VideoOrientation,
 };
@@ -111,12 +110,18 @@ impl Round for Copying {
     }
 }
 
-/// A window is handed rising numbers, every third one twice; counts those that it takes.
-impl Round for SeqNoWindow {
+/// A window that is handed rising numbers, every third one twice.
+#[derive(Drop)]
+struct Updating {
+    window: SeqNoWindow,
+}
+
+/// Counts the numbers that it takes.
+impl Round for Updating {
     fn round(&mut self, _alloc: Global, number: u32, tally: &mut Tally) {
         let number = SeqNo::from((number - number % 3 / 2) as u64);
-        if self.accepts(number) {
-            self.update(number);
+        if self.window.accepts(number) {
+            self.window.update(number);
             tally.add(1, 0);
         }
     }
@@ -141,7 +146,7 @@ pub(crate) fn measure_all(rt: &HostRuntime) -> io::Result<()> {
     println!(*rt; "copies of {COPIED} bytes: {greatest}\ncopied: {copied}")?;
     both_ways(rt, "without extensions", &Extensions::none())?;
     both_ways(rt, "with four extensions", &Extensions::four())?;
-    let mut window = SeqNoWindow::new(SeqNo::from(0));
-    let taken = measure(rt, "window", "updated", &mut window, ROUNDS)?;
+    let window = SeqNoWindow::new(SeqNo::from(0));
+    let taken = measure(rt, "window", "updated", &mut Updating { window }, ROUNDS)?;
     println!(*rt; "window updates: {}", taken.packets)
 }

@@ -2,8 +2,7 @@
 
 use crate::buffers::Buffering;
 use crate::line::Line;
-use crate::measured::{Round, measure};
-use crate::tally::Tally;
+use benchmark_rounds::{Round, Tally, measure};
 use h26x_payload::{CodecDepacketizer, CodecPacketizer, NotBoxed};
 use payload_core::{
     Codec, CodecExtra, Depacketizer, DepacketizingBuffer, PacketError, Packetizer, Payloader,

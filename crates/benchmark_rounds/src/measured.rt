@@ -6,13 +6,13 @@ use std::io;
 use std::time::Instant;
 
 /// What is done over and over.
-pub(crate) trait Round {
+pub trait Round {
     /// Does it once more, and counts what came of it. Where something fails, less is counted.
     fn round(&mut self, alloc: Global, number: u32, tally: &mut Tally);
 }
 
 /// Does it so often; answers what was counted.
-pub(crate) fn repeat<R: Round>(alloc: Global, round: &mut R, rounds: u32) -> Tally {
+pub fn repeat<R: Round>(alloc: Global, round: &mut R, rounds: u32) -> Tally {
     let mut tally = Tally::new();
     for number in 0..rounds {
         round.round(alloc, number, &mut tally);
@@ -21,7 +21,7 @@ pub(crate) fn repeat<R: Round>(alloc: Global, round: &mut R, rounds: u32) -> Tal
 }
 
 /// Does it so often, and prints the time that it took; answers what was counted.
-pub(crate) fn measure<R: Round>(
+pub fn measure<R: Round>(
     rt: &HostRuntime,
     what: &str,
     way: &str,

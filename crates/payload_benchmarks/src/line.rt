@@ -1,7 +1,7 @@
 //! A sink that takes payloads as a transport does.
 
 use crate::formats::LIMIT;
-use crate::tally::Tally;
+use benchmark_rounds::Tally;
 use payload_core::{PacketError, PacketSink};
 use rtp_wire::ExtensionValues;
 
