@@ -7,7 +7,6 @@ mod calls;
 mod carrying;
 mod cases;
 mod counts;
-mod faults;
 mod many;
 mod proved;
 mod random;
@@ -21,7 +20,6 @@ mod silence;
 mod soak;
 mod stopped;
 
-use faults::{FAILING, READS, all_go_so};
 use proved::print_calls;
 use rows::{a_time_in_milliseconds, a_time_that_does_not_fit, receive_all_hands_out_in_order};
 use sessions::{
@@ -71,8 +69,6 @@ fn print_rows(rt: &HostRuntime) -> Result<bool, Stopped> {
             "lines that would be read otherwise",
             lines_that_would_be_read_otherwise_are_refused(alloc)?,
         ),
-        ("reads and writes that fail", all_go_so(alloc, &FAILING)),
-        ("an input that takes more reads", all_go_so(alloc, &READS)),
     ];
     let mut all_are_right = true;
     for (name, is_right) in &rows {

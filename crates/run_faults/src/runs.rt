@@ -1,12 +1,26 @@
-//! Runs of the program's lines whose reader or writer fails, or whose input takes more reads than it may.
+//! Runs of lines, and what is to come of each.
 
-use rtp_media::{Program, RunFault, Status, run_within};
-use std::alloc::Global;
+use rtp_media_line_runs::{Respond, RunFault, Status, run_within};
+use rtp_media_lines::Command;
+use rtp_media_words::Reply;
+use std::alloc::{AllocError, Global};
 use std::io;
 use std::io::{ErrorKind, Read, Write};
 
 /// More reads than a run here takes.
 const MANY: usize = 1_000;
+
+/// Replies `ok` to each command.
+#[derive(Drop)]
+struct Agreeing;
+
+impl Respond for Agreeing {
+    ghost gives = { λ _ _ _ _. Unit {0} };
+
+    fn respond(&mut self, alloc: Global, _command: Command) -> Result<Vec<Reply>, AllocError> {
+        Ok(vec![in alloc; Reply::Done]?)
+    }
+}
 
 /// Gives its bytes in pieces of 3, and then ends, or fails.
 #[derive(Drop)]
@@ -128,8 +142,7 @@ pub(crate) fn all_go_so(alloc: Global, runs: &[Run]) -> bool {
             room: run.room,
             fails: run.fails_to_write,
         };
-        let mut program = Program::new(alloc);
-        let result = run_within(alloc, run.reads, &mut source, &mut sink, &mut program);
+        let result = run_within(alloc, run.reads, &mut source, &mut sink, &mut Agreeing);
         if result != run.result || sink.taken.as_slice() != run.written {
             return false;
         }
