@@ -1,19 +1,26 @@
 //! A packetizer and a depacketizer that are boxed by their caller.
 
 use crate::formats::Format;
-use crate::line::Line;
 use crate::samples::{meta_of, packed, unit};
+use command_lines::Line;
 use h26x_payload::{CodecDepacketizer, CodecPacketizer};
 use payload_core::{Depacketizer, DepacketizingBuffer, Packetizer, Payloader, SentPacket};
 use std::alloc::AllocError;
 
 /// `boxed LIMIT SAMPLE`: the payloads of a sample through a boxed packetizer, and the unit that they give through a
 /// boxed depacketizer.
-pub(crate) fn carried(line: &mut Line<'_>, format: &Format) -> Result<(), AllocError> {
+pub(crate) fn boxed(line: &mut Line<'_>, format: &Format) {
+    if carried(line, format).is_err() {
+        line.refuse("out of memory");
+    }
+}
+
+/// The same, where there is memory for the boxes.
+fn carried(line: &mut Line<'_>, format: &Format) -> Result<(), AllocError> {
     let Some(packetizer) = format.packetizer() else {
         return Ok(());
     };
-    let boxed: Box<dyn Packetizer + Drop> = Box::new(line.alloc, packetizer)?;
+    let boxed: Box<dyn Packetizer + Drop> = Box::new(line.alloc(), packetizer)?;
     let packetizer: CodecPacketizer = CodecPacketizer::Boxed(boxed);
     let sink = packed(line, &mut Payloader::new(packetizer));
     receive(line, format, sink.packets())
@@ -21,12 +28,12 @@ pub(crate) fn carried(line: &mut Line<'_>, format: &Format) -> Result<(), AllocE
 
 /// The unit of packets.
 fn receive(line: &mut Line<'_>, format: &Format, packets: &[SentPacket]) -> Result<(), AllocError> {
-    let Some(depacketizer) = format.depacketizer(line.alloc) else {
+    let Some(depacketizer) = format.depacketizer(line.alloc()) else {
         return Ok(());
     };
-    let boxed: Box<dyn Depacketizer + Drop> = Box::new(line.alloc, depacketizer)?;
+    let boxed: Box<dyn Depacketizer + Drop> = Box::new(line.alloc(), depacketizer)?;
     let depacketizer: CodecDepacketizer = CodecDepacketizer::Boxed(boxed);
-    let mut buffer = DepacketizingBuffer::new(line.alloc, depacketizer, 0);
+    let mut buffer = DepacketizingBuffer::new(line.alloc(), depacketizer, 0);
     let mut number: u64 = 7;
     for packet in packets {
         let meta = meta_of(number, 6000, packet.marker);

@@ -1,6 +1,6 @@
 //! What is read, as text.
 
-use crate::line::Line;
+use command_lines::Line;
 use rtp_wire::{ExtensionMap, ExtensionValues, Reception, RtpHeader, receive_run, unpad_payload};
 
 /// The fields, each as the words of a header that is written say it.
@@ -70,16 +70,16 @@ pub(crate) fn payload_text(line: &mut Line<'_>, has_padding: bool) {
 /// `run HEX ..`: what becomes of each datagram of a list at a new window, the number under which it is taken, or why
 /// it isn't.
 pub(crate) fn run_text(line: &mut Line<'_>, map: &ExtensionMap) {
-    let mut datagrams = Vec::new(line.alloc);
-    for word in line.rest.split_whitespace() {
+    let mut datagrams = Vec::new(line.alloc());
+    for word in line.rest().split_whitespace() {
         let datagram = line.bytes_of(word);
         line.keep(&mut datagrams, datagram);
     }
-    let mut slices = Vec::new(line.alloc);
+    let mut slices = Vec::new(line.alloc());
     for datagram in &datagrams {
         line.keep(&mut slices, datagram.as_slice());
     }
-    match receive_run(line.alloc, &slices, map) {
+    match receive_run(line.alloc(), &slices, map) {
         Ok(verdicts) => put_verdicts(line, &verdicts),
         Err(fault) => line.refuse(fault),
     }
