@@ -1,7 +1,7 @@
 -- A line of commands: the words of it, and the answer to it.
 use Rattle.std.specs.Prelude.{◌≡◌, ℕ, ◌==◌, nat_le, if◌then◌else◌, Bool, true, false, List, [], ◌∷◌, ◌++◌}
 use Rattle.std.specs.Prelude.{length, take, codes, decimal, Option, None, Some, Result, Ok, Err, IfSome, ◌⊎◌}
-use Rattle.std.specs.Fmt.{◌++?◌, AppendsText}
+use Rattle.std.specs.Fmt.{◌++?◌, AppendsText, debug_str}
 use Rattle.hex.specs.Hex.{encode_lower}
 use Rattle.command_lines.specs.Bytes.{before_sign, behind_sign, bytes_of}
 
@@ -78,16 +78,22 @@ bytes_text bytes =
 abbrev pub Missing : LineState → LineState → Type 0
 Missing old new = Refuses (passed old) (Some (codes "a word is missing")) new
 
--- What a word says, by a relation of what a text is read as; or it is refused.
-abbrev pub Reads : {T E : Type 0} → (List ℕ → Result T E → Type 0) → List ℕ → LineState → T → LineState → Type 0
-Reads {T} {E} gives word old value new =
-    (gives word (Ok value) × (new ≡ old)) ⊎ ((e : E) × gives word (Err e) × Refuses old None new)
+-- Why a word is refused that says no value: the word stands behind, as Rust's `{:?}` shows it.
+abbrev pub no_such_value : List ℕ → Option (List ℕ)
+no_such_value word = Some (codes "no such value ") ++? debug_str word
+
+-- What a word says, by a relation of what a text is read as; or it is refused, and another value stands for it.
+abbrev pub Reads : {T E : Type 0} → (List ℕ → Result T E → Type 0) → (T → Type 0) → List ℕ → LineState → T → LineState
+    → Type 0
+Reads {T} {E} gives StandsForNone word old value new =
+    (gives word (Ok value) × (new ≡ old))
+    ⊎ ((e : E) × gives word (Err e) × StandsForNone value × Refuses old (no_such_value word) new)
 
 -- The bytes of a word; or it is refused, or memory runs out.
 abbrev pub ReadsBytes : List ℕ → LineState → List ℕ → LineState → Type 0
 ReadsBytes word old bytes new =
     ((bytes_of word ≡ Some bytes) × (new ≡ old))
-    ⊎ ((bytes_of word ≡ None) × (bytes ≡ []) × Refuses old None new)
+    ⊎ ((bytes_of word ≡ None) × (bytes ≡ []) × Refuses old (no_such_value word) new)
     ⊎ ((bytes ≡ []) × Refuses old (Some (codes "out of memory")) new)
 
 -- A value stands behind others, unless memory runs out.

@@ -43,7 +43,7 @@ impl<'a> Line<'a> {
     pub fn value_or<T: FromStr + Drop>(&mut self, word: &str, otherwise: T) -> T
     where
         T::Err: Drop,
-        ensures { Reads T.from_str_gives word.now self.old result self.new }
+        ensures { Reads T.from_str_gives (λ v. v ≡ otherwise) word.now self.old result self.new }
     {
         if let Ok(value) = word.parse::<T>() {
             return value;
@@ -56,7 +56,7 @@ impl<'a> Line<'a> {
     pub fn value<T: FromStr + Default + Drop>(&mut self, word: &str) -> T
     where
         T::Err: Drop,
-        ensures { Reads T.from_str_gives word.now self.old result self.new }
+        ensures { Reads T.from_str_gives T.is_default word.now self.old result self.new }
     {
         self.value_or(word, T::default())
     }
@@ -67,7 +67,7 @@ impl<'a> Line<'a> {
     where
         T::Err: Drop,
         ensures found { word_of self.old.rest ≢ []
-            → Reads T.from_str_gives (word_of self.old.rest) (passed self.old) result self.new }
+            → Reads T.from_str_gives T.is_default (word_of self.old.rest) (passed self.old) result self.new }
         ensures missing { word_of self.old.rest ≡ [] → Missing self.old self.new }
     {
         let word = self.word();
@@ -80,6 +80,7 @@ impl<'a> Line<'a> {
         ensures found { word_of self.old.rest ≢ []
             → ReadsBytes (word_of self.old.rest) (passed self.old) result.items self.new }
         ensures missing { word_of self.old.rest ≡ [] → Missing self.old self.new }
+        ensures none { word_of self.old.rest ≡ [] → result.items ≡ [] }
     {
         let word = self.word();
         self.bytes_of(word)
