@@ -5,12 +5,12 @@ use rtp_wire::{ExtensionMap, ExtensionValues, Reception, RtpHeader, receive_run,
 
 /// The fields, each as the words of a header that is written say it.
 fn put_fields(line: &mut Line<'_>, header: &RtpHeader) {
-    line.put(format_args!(
-        "type={} number={} time={} ssrc={} ",
-        header.payload_type, header.sequence_number, header.timestamp, header.ssrc
-    ));
+    line.put_field("type", Some(header.payload_type));
+    line.put_field("number", Some(header.sequence_number));
+    line.put_field("time", Some(header.timestamp));
+    line.put_field("ssrc", Some(header.ssrc));
     for source in header.csrc.iter().take(header.csrc_count) {
-        line.put(format_args!("csrc={source} "));
+        line.put_field("csrc", Some(*source));
     }
     line.put_where(header.marker, "marker ");
     line.put_where(header.has_padding, "padding ");
@@ -18,14 +18,6 @@ fn put_fields(line: &mut Line<'_>, header: &RtpHeader) {
 }
 
 fn put_values(line: &mut Line<'_>, values: &ExtensionValues) {
-    let orientation = match values.video_orientation {
-        Some(orientation) => Some(orientation.get()),
-        None => None,
-    };
-    let (captured, offset) = match values.abs_capture_time {
-        Some(time) => (Some(time.capture_time), time.clock_offset),
-        None => (None, None),
-    };
     line.put_field("audio-level", values.audio_level);
     line.put_field("voice", values.voice_activity);
     line.put_field("send-time", values.abs_send_time);
@@ -33,12 +25,16 @@ fn put_values(line: &mut Line<'_>, values: &ExtensionValues) {
     line.put_field("mid", values.mid);
     line.put_field("rid", values.rid);
     line.put_field("repaired", values.rid_repair);
-    line.put_field("orientation", orientation);
+    if let Some(orientation) = values.video_orientation {
+        line.put_field("orientation", Some(orientation.get()));
+    }
     line.put_field("delay-min", values.play_delay_min);
     line.put_field("delay-max", values.play_delay_max);
     line.put_field("content", values.video_content_type);
-    line.put_field("captured", captured);
-    line.put_field("offset", offset);
+    if let Some(time) = values.abs_capture_time {
+        line.put_field("captured", Some(time.capture_time));
+        line.put_field("offset", time.clock_offset);
+    }
 }
 
 /// `read-header HEX`: the header in front of a datagram, its length, and the payload behind it.

@@ -93,6 +93,13 @@ fn set_value(line: &mut Line<'_>, values: &mut ExtensionValues, name: &str, valu
             let orientation = line.value::<u8>(value);
             values.video_orientation = Some(VideoOrientation::from(orientation));
         }
+        _ => set_time(line, values, name, value),
+    }
+}
+
+/// When a frame was captured, and behind it the offset of the capturing clock.
+fn set_time(line: &mut Line<'_>, values: &mut ExtensionValues, name: &str, value: &str) {
+    match name {
         "captured" => {
             values.abs_capture_time = Some(AbsCaptureTime {
                 capture_time: line.value::<u64>(value),
