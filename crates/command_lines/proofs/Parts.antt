@@ -1,5 +1,6 @@
 -- Parting a text at a byte.
-use Rattle.std.proofs.Common.{◌≡◌, ◌≢◌, ℕ, suc, ◌+◌, ◌-◌, ◌<◌, ◌==◌, Bool, true, false, not, cond, List, [], ◌∷◌, ◌++◌, length}
+use Rattle.std.proofs.Common.{◌≡◌, ◌≢◌, ℕ, suc, ◌+◌, ◌-◌, ◌<◌, ◌==◌, Bool, true, false, not, cond, List, [], ◌∷◌}
+use Rattle.std.proofs.Common.{◌++◌, length}
 use Rattle.std.proofs.Common.{None, Some, Option, refl, sym, ◌∙◌, ap, arith, Bor, lit<}
 use Rattle.std.specs.List.{slice_split, onto_first, position_or_len, repeat}
 use Rattle.std.specs.Option.{option_map}

@@ -1,10 +1,10 @@
 //! The bytes of a word.
 
 ghost use Rattle.std.specs.Prelude.{◌≡◌, ◌<◌, ◌^◌, ◌∷◌, IfOk};
-ghost use Rattle.std.specs.Option.{option_copied, option_map};
-ghost use Rattle.command_lines.specs.Bytes.{before_sign, behind_sign, without_star, plus_parts, parts_in, digits_bytes};
 ghost use Rattle.std.specs.List.{repeat};
+ghost use Rattle.std.specs.Option.{option_copied, option_map};
 ghost use Rattle.rtp_media_words.specs.Words.{number_below};
+ghost use Rattle.command_lines.specs.Bytes.{before_sign, behind_sign, without_star, plus_parts, parts_in, digits_bytes};
 ghost use Rattle.command_lines.specs.Bytes.{count_word, part_bytes, bytes_of};
 
 use rtp_media_words::{Misread, hex_of, number_up_to};

@@ -12,7 +12,7 @@ use std::marker::Model;
 const IN_FULL: usize = 2000;
 
 /// A line that is read word after word, each behind one blank. A word that is missing or says no value is refused, and
-/// stands for nothing, or 0: the first refusal is the answer, whatever else is written.
+/// a default stands for it: the first refusal is the answer, whatever else is written.
 pub struct Line<'a> {
     pub(crate) alloc: Global,
     /// What is left.

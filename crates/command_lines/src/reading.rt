@@ -1,8 +1,8 @@
 //! What the words of a line say.
 
-ghost use Rattle.std.specs.Prelude.{◌≡◌, ◌≢◌, ◌++◌, ◌∷◌, [], true, false, Some, None, IsTrue, codes};
+ghost use Rattle.std.specs.Prelude.{◌≡◌, ◌≢◌, [], false, Some, None, IsTrue};
 ghost use Rattle.std.specs.Option.{option_copied};
-ghost use Rattle.command_lines.specs.Lines.{word_of, behind_word, passed, is_comment, Refuses, Answers, Reads};
+ghost use Rattle.command_lines.specs.Lines.{word_of, passed, is_comment, Answers, Reads};
 ghost use Rattle.command_lines.specs.Lines.{Missing, Kept, ReadsBytes};
 
 use crate::bytes::{decoded, part};

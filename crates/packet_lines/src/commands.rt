@@ -5,8 +5,8 @@ use crate::formats::{Formats, take_up};
 use crate::samples::{head, keyframe, pack, pushed, read, short_packets, unit};
 use command_lines::Line;
 
-/// Answers a line: `codec NAME ..` takes up a payload format, and the other commands are about the one that was taken up
-/// last.
+/// Answers a line: `codec NAME ..` takes up a payload format, and the other commands are about the one that was taken
+/// up last.
 pub(crate) fn answer(line: &mut Line<'_>, formats: &mut Option<Formats>) {
     let Some(command) = line.command() else {
         return;

@@ -1,5 +1,5 @@
-//! Packs samples and reads packets of each codec, a line of standard input after the other. Its transcript holds what was
-//! made outside, beside what it gives.
+//! Packs samples and reads packets of each codec, a line of standard input after the other. Its transcript holds what
+//! was made outside, beside what it gives.
 #![tactic(auto)]
 
 mod boxed;

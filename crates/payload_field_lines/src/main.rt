@@ -1,5 +1,5 @@
-//! Answers what is asked of fields inside payloads, a line of standard input after the other: payloads beside older ones,
-//! reports of telephone events, and ids of VP8. Its transcript holds what was made outside, beside what it gives.
+//! Answers what is asked of fields inside payloads, a line of standard input after the other: payloads beside older
+//! ones, reports of telephone events, and ids of VP8. Its transcript holds what was made outside, beside what it gives.
 #![tactic(auto)]
 
 mod events;
