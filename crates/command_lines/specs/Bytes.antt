@@ -21,11 +21,15 @@ abbrev pub parts_in : Option (List ℕ) → List (List ℕ)
 parts_in None = []
 parts_in (Some rest) = plus_parts rest
 
--- A word without the star at its end.
-abbrev pub without_star : List ℕ → List ℕ
-without_star [] = []
-without_star (b ∷ []) = if b == 42 then [] else b ∷ []
-without_star (b ∷ c ∷ more) = b ∷ without_star (c ∷ more)
+-- A sign before what is left behind it: a star goes where nothing is left.
+abbrev pub before_left : ℕ → List ℕ → List ℕ
+before_left b [] = if b == 42 then [] else b ∷ []
+before_left b (c ∷ more) = b ∷ c ∷ more
+
+-- A word without the stars at its end.
+abbrev pub without_stars : List ℕ → List ℕ
+without_stars [] = []
+without_stars (b ∷ more) = before_left b (without_stars more)
 
 -- The bytes of hexadecimal digits; a dash, or no digit, stands for none.
 abbrev pub digits_bytes : List ℕ → Option (List ℕ)
@@ -51,6 +55,6 @@ joined_bytes (part ∷ parts) = do
   more ← joined_bytes parts
   Some (bytes ++ more)
 
--- The bytes of a word: parts that plus signs join, before a star or none.
+-- The bytes of a word: parts that plus signs join, before stars or none.
 abbrev pub bytes_of : List ℕ → Option (List ℕ)
-bytes_of word = joined_bytes (plus_parts (without_star word))
+bytes_of word = joined_bytes (plus_parts (without_stars word))

@@ -1,10 +1,10 @@
 //! The bytes of a word.
 
-ghost use Rattle.std.specs.Prelude.{◌≡◌, ◌<◌, ◌^◌, ◌∷◌, IfOk};
+ghost use Rattle.std.specs.Prelude.{◌≡◌, ◌<◌, ◌^◌, ◌∷◌, length, IfOk, IfSome, IfNone};
 ghost use Rattle.std.specs.List.{repeat};
 ghost use Rattle.std.specs.Option.{option_copied, option_map};
 ghost use Rattle.rtp_media_words.specs.Words.{number_below};
-ghost use Rattle.command_lines.specs.Bytes.{before_sign, behind_sign, without_star, plus_parts, parts_in, digits_bytes};
+ghost use Rattle.command_lines.specs.Bytes.{before_sign, behind_sign, without_stars, plus_parts, parts_in, digits_bytes};
 ghost use Rattle.command_lines.specs.Bytes.{count_word, part_bytes, bytes_of};
 
 use rtp_media_words::{Misread, hex_of, number_up_to};
@@ -18,7 +18,7 @@ pub fn part(word: &str, sign: char) -> (&str, &str)
     word.split_once(sign).unwrap_or((word, ""))
 }
 
-/// The bytes that a word says: parts that `+` joins, and a star behind all is passed over. None where it says none.
+/// The bytes that a word says: parts that `+` joins, and stars behind all are passed over. None where it says none.
 pub(crate) fn decoded(alloc: Global, word: &str) -> Result<Option<Vec<u8>>, AllocError>
     ensures { IfOk result (λ said. option_map (λ v. v.items) said ≡ bytes_of word.now) }
 {
@@ -35,13 +35,26 @@ pub(crate) fn decoded(alloc: Global, word: &str) -> Result<Option<Vec<u8>>, Allo
     Ok(Some(bytes))
 }
 
-/// A word without the star at its end.
+/// A word without the stars at its end.
 fn unstarred(word: &str) -> &str
-    ensures { result.now ≡ without_star word.now }
+    ensures { result.now ≡ without_stars word.now }
+{
+    let mut left = word;
+    while let Some(front) = before_star(left) {
+        left = front;
+    }
+    left
+}
+
+/// What stands before the star at the end of a word.
+fn before_star(word: &str) -> Option<&str>
+    ensures star { IfSome result (λ front. without_stars front.now ≡ without_stars word.now) }
+    ensures shorter { IfSome result (λ front. length front.now < length word.now) }
+    ensures plain { IfNone result (without_stars word.now ≡ word.now) }
 {
     match word.strip_suffix('*') {
-        Some(front) => front,
-        None => word,
+        Some(front) => Some(front),
+        None => None,
     }
 }
 

@@ -87,7 +87,7 @@ impl<'a> Line<'a> {
     }
 
     /// The bytes of a word: hexadecimal parts that `+` joins, and `:N` behind a part repeats it so often. A dash stands
-    /// for none, and a star behind all is passed over.
+    /// for none, and stars behind all are passed over.
     pub fn bytes_of(&mut self, word: &str) -> Vec<u8>
         ensures { ReadsBytes word.now self.old result.items self.new }
     {
