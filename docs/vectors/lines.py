@@ -1,6 +1,6 @@
 #!/usr/bin/env python3
-"""Writes what `crates/packet_lines`, `payload_field_lines`, `h26x_lines` and `header_lines` read and must answer: samples
-and packets that were packed from the layouts of the standards alone, beside rows that were put together by hand.
+"""Writes what `crates/packet_lines`, `payload_field_lines`, `h26x_lines` and `header_lines` read and must answer:
+samples and packets that were packed from the layouts of the standards alone, beside rows that were put together by hand.
 
 Run it with `python3 docs/vectors/lines.py`. A row is a line and its answer; a row without one answers itself. The
 packers are `h26x.py`, `av1.py` and `payloads.py`, headers and tables stand in `headers.py`, rows by hand in `rows.py`,

@@ -1,6 +1,6 @@
 use Rattle.std.proofs.Common.{None, Some, lit<}
 use Rattle.std.proofs.lemmas.Str.Pattern.{strip_suffix_char}
-use Rattle.command_lines.proofs.Parts.{without_stars-starred, without_stars-plain, length-starred}
+use Rattle.command_lines.proofs.Stars.{without_stars-starred, without_stars-plain, length-starred}
 use Rattle.command_lines.proofs.bytes.before_star.Goals as goal
 
 pub returns-in-Some-clause-star : goal.returns-in-Some-clause-star

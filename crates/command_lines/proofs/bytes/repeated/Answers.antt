@@ -1,4 +1,4 @@
-use Rattle.command_lines.proofs.Parts.{repeated-more}
+use Rattle.command_lines.proofs.Repeats.{repeated-more}
 use Rattle.command_lines.proofs.bytes.repeated.Goals as goal
 
 pub loop-preserved : goal.loop-preserved
