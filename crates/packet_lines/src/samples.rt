@@ -116,19 +116,16 @@ pub(crate) fn pushed(line: &mut Line<'_>, formats: &mut Formats) {
     }
 }
 
-/// The numbers of a unit's first and last packet, its time, its bytes and what is told of it.
-fn put_unit(line: &mut Line<'_>, unit: &Depacketized) {
-    let range = unit.seq_range();
-    let (first, last) = (range.start().get(), range.end().get());
-    line.put(format_args!("{first}..={last} at {}: ", unit.time()));
-    line.put_bytes(unit.bytes.as_slice());
-    line.put(format_args!(" {:?}", unit.extra))
-}
-
-/// A unit, or that there is none.
+/// The numbers of a unit's first and last packet, its time, its bytes and what is told of it; or that there is none.
 pub(crate) fn unit(line: &mut Line<'_>, unit: Result<Option<Depacketized>, PacketError>) {
     match unit {
-        Ok(Some(unit)) => put_unit(line, &unit),
+        Ok(Some(unit)) => {
+            let range = unit.seq_range();
+            let (first, last) = (range.start().get(), range.end().get());
+            line.put(format_args!("{first}..={last} at {}: ", unit.time()));
+            line.put_bytes(unit.bytes.as_slice());
+            line.put(format_args!(" {:?}", unit.extra))
+        }
         Ok(None) => line.put("none"),
         Err(fault) => line.refuse(fault),
     }
