@@ -1,6 +1,6 @@
 #!/usr/bin/env python3
-"""Writes what `crates/packet_lines` reads and must answer: samples and packets that were packed from the layouts of
-the standards alone, beside rows that were put together by hand, those of headers and numbers at the end.
+"""Writes what `crates/packet_lines`, `payload_field_lines`, `h26x_lines` and `header_lines` read and must answer:
+samples and packets that were packed from the layouts of the standards alone, beside rows that were put together by hand.
 
 Run it with `python3 docs/vectors/lines.py`. A row is a line and its answer; a row without one answers itself. The
 packers are `h26x.py`, `av1.py` and `payloads.py`, headers and tables stand in `headers.py`, rows by hand in `rows.py`,
@@ -13,12 +13,12 @@ import av1
 import h26x
 import headers
 import payloads
-from parts import PARTS
+from parts import FIELDS, WHOLES
 from rows import BY_HAND, told
 from wire import WIRE
 
 HERE = Path(__file__).parent
-CRATE = HERE.parents[1] / "crates/packet_lines"
+CRATES = HERE.parents[1] / "crates"
 
 
 def spelled(packets, marker=True):
@@ -66,9 +66,10 @@ def of_frames(cases):
         yield f"read {spelled(packets, is_video)}", f"{given.hex()} {extra.removeprefix('first ')}"
 
 
-def rows():
+def of_packets():
+    """Samples and packets of each codec."""
     yield from BY_HAND
-    yield from PARTS
+    yield from WHOLES
     idr, irap, h266_irap = [5], range(16, 24), range(7, 10)
     yield from of_units("H264", h26x.H264, idr, h26x.h264())
     yield from of_units("H265", h26x.H265, irap, h26x.h265())
@@ -79,11 +80,16 @@ def rows():
     yield from av1.encoded(HERE / "av1_units.txt")
     for cases in (payloads.vp8, payloads.vp9, payloads.amr_wb, payloads.telephone, payloads.plain):
         yield from of_frames(cases())
-    yield from headers.rows()
-    yield from WIRE
+
+
+def write(crate, rows):
+    rows = list(rows)
+    (CRATES / crate / "stdin").write_text("".join(f"{line}\n" for line, _ in rows))
+    (CRATES / crate / "stdout").write_text("".join(f"{line if answer is None else answer}\n" for line, answer in rows))
 
 
 if __name__ == "__main__":
-    written = list(rows())
-    (CRATE / "stdin").write_text("".join(line + "\n" for line, _ in written))
-    (CRATE / "stdout").write_text("".join((line if answer is None else answer) + "\n" for line, answer in written))
+    write("packet_lines", of_packets())
+    write("payload_field_lines", FIELDS)
+    write("h26x_lines", headers.rows())
+    write("header_lines", WIRE)

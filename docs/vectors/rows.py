@@ -86,6 +86,8 @@ BY_HAND = [
     ("read 1078ee", f"- {told('Av1', False)}"),
     ("read 200278ee30aa", f"3201aa {told('Av1', False)}"),
     ("# VP8 (RFC 7741): only a packet with S and PID 0 whose frame begins with the low bit clear begins a keyframe", None),
+    ("codec VP8", None),
+    ("keyframe 9080", "no"),
     ("codec VP8 id=200", None),
     ("keyframe 1000", "yes"),
     ("keyframe 1001", "no"),

@@ -1,6 +1,6 @@
 //! The payload format that the next lines are about.
 
-use crate::line::{Line, part};
+use command_lines::{Line, part};
 use h26x_payload::{CodecDepacketizer, CodecPacketizer, NotBoxed};
 use payload_core::{Codec, DepacketizingBuffer, Payloader};
 use rtp_wire::Frequency;
@@ -31,7 +31,7 @@ impl Format {
             for_browsers: false,
             hold_back: 127,
         };
-        for word in line.rest.split_whitespace() {
+        for word in line.rest().split_whitespace() {
             let (name, number) = part(word, '=');
             match name {
                 "aligned" => format.octet_align = Some(true),
@@ -90,11 +90,11 @@ impl Formats {
 
 /// `codec NAME [aligned] [numbers=N] [id=N] [browsers] [hold=N] [16kHz]`: takes up a payload format.
 pub(crate) fn take_up(line: &mut Line<'_>, formats: &mut Option<Formats>) {
-    let whole = line.rest;
+    let whole = line.rest();
     let format = Format::of(line);
     let codec = format.codec;
-    match Formats::new(line.alloc, format) {
-        _ if line.is_refused => {}
+    match Formats::new(line.alloc(), format) {
+        _ if line.is_refused() => {}
         None => line.refuse(format_args!("no payload format of {codec}")),
         taken_up => {
             *formats = taken_up;

@@ -1,7 +1,7 @@
 //! Samples that are packed, and packets that are read and held.
 
 use crate::formats::{Format, Formats};
-use crate::line::Line;
+use command_lines::Line;
 use h26x_payload::{detect_h264_keyframe, detect_h265_keyframe, detect_h266_keyframe};
 use payload_core::{
     Codec, CodecExtra, Depacketized, Depacketizer, PacketError, PacketList, Packetizer, Payloader,
@@ -13,7 +13,7 @@ use std::alloc::Global;
 /// `head PACKET`: whether a packet is the head of a frame.
 pub(crate) fn head(line: &mut Line<'_>, format: &Format) {
     let packet = line.bytes();
-    if let Some(reader) = format.depacketizer(line.alloc) {
+    if let Some(reader) = format.depacketizer(line.alloc()) {
         line.put_whether(reader.is_partition_head(&packet));
     }
 }
@@ -42,18 +42,23 @@ fn put_payloads(line: &mut Line<'_>, packets: &[SentPacket]) {
 }
 
 /// `pack LIMIT SAMPLE`: the payloads that a sample is sent as.
+pub(crate) fn pack<P: Packetizer>(line: &mut Line<'_>, payloader: &mut Payloader<P>) {
+    let _packets = packed(line, payloader);
+}
+
+/// The payloads that the sample of the next two words, `LIMIT SAMPLE`, is sent as.
 pub(crate) fn packed<P: Packetizer>(
     line: &mut Line<'_>,
     payloader: &mut Payloader<P>,
 ) -> PacketList {
     let limit = line.number::<usize>();
     let sample = line.bytes();
-    let mut sink = PacketList::new(line.alloc);
-    if line.is_refused {
+    let mut sink = PacketList::new(line.alloc());
+    if line.is_refused() {
         return sink;
     }
     let values = ExtensionValues::absent();
-    match payloader.push_sample(line.alloc, &mut sink, limit, 6000, &sample, &values) {
+    match payloader.push_sample(line.alloc(), &mut sink, limit, 6000, &sample, &values) {
         Ok(()) => put_payloads(line, sink.packets()),
         Err(fault) => line.refuse(fault),
     }
@@ -62,7 +67,7 @@ pub(crate) fn packed<P: Packetizer>(
 
 /// `read PACKET ..`: the bytes that packets give, one after the other from no open fragment on, and what is told then.
 pub(crate) fn read(line: &mut Line<'_>, format: &Format) {
-    let mut bytes = Vec::new(line.alloc);
+    let mut bytes = Vec::new(line.alloc());
     let mut extra = CodecExtra::None;
     let read = read_all(line, format, &mut bytes, &mut extra);
     line.put_bytes(&bytes);
@@ -78,10 +83,10 @@ fn read_all(
     bytes: &mut Vec<u8>,
     extra: &mut CodecExtra,
 ) -> Result<(), PacketError> {
-    let Some(mut reader) = format.depacketizer(line.alloc) else {
+    let Some(mut reader) = format.depacketizer(line.alloc()) else {
         return Ok(());
     };
-    for word in line.rest.split_whitespace() {
+    for word in line.rest().split_whitespace() {
         reader.depacketize(&line.bytes_of(word), bytes, extra)?;
     }
     Ok(())
@@ -100,9 +105,9 @@ pub(crate) fn meta_of(number: u64, time: u32, marker: bool) -> RtpMeta {
 /// `push NUMBER TIME PACKET`: the packet is held, with the marker where a star stands behind it.
 pub(crate) fn pushed(line: &mut Line<'_>, formats: &mut Formats) {
     let (number, time) = (line.number::<u64>(), line.number::<u32>());
-    let meta = meta_of(number, time, line.rest.ends_with('*'));
+    let meta = meta_of(number, time, line.rest().ends_with('*'));
     let packet = line.bytes();
-    if line.is_refused {
+    if line.is_refused() {
         return;
     }
     match formats.buffer.push(meta, &packet) {
@@ -138,13 +143,13 @@ fn is_read(alloc: Global, format: &Format, packet: &[u8]) -> bool {
 
 /// `short`: how many of the packets of no byte, one and two bytes are read.
 pub(crate) fn short_packets(line: &mut Line<'_>, format: &Format) {
-    let none = u32::from(is_read(line.alloc, format, &[]));
+    let none = u32::from(is_read(line.alloc(), format, &[]));
     let mut ones: u32 = 0;
     let mut twos: u32 = 0;
     for a in 0..=255u8 {
-        ones = ones.saturating_add(u32::from(is_read(line.alloc, format, &[a])));
+        ones = ones.saturating_add(u32::from(is_read(line.alloc(), format, &[a])));
         for b in 0..=255u8 {
-            twos = twos.saturating_add(u32::from(is_read(line.alloc, format, &[a, b])));
+            twos = twos.saturating_add(u32::from(is_read(line.alloc(), format, &[a, b])));
         }
     }
     line.put(format_args!("{none} of none, {ones} of one byte, {twos} of two"))

@@ -1,7 +1,7 @@
 //! Payloads beside older ones (RFC 2198).
 
-use crate::line::{Line, part};
-use payload_core::{RedDecoder, RedEncoder, RedSender, RedundantBlock};
+use command_lines::{Line, part};
+use payload_core_red::{RedDecoder, RedEncoder, RedSender, RedundantBlock};
 
 /// What `new DISTANCES`, `sync DISTANCES`, `wrap`, `write` and `read PACKET` give.
 pub(crate) fn answer(line: &mut Line<'_>, sender: &mut RedSender) {
@@ -17,7 +17,7 @@ pub(crate) fn answer(line: &mut Line<'_>, sender: &mut RedSender) {
 
 /// Forgets what was sent, and takes the distances of the next word, if they are some.
 fn renewed(line: &mut Line<'_>, sender: &mut RedSender) {
-    match RedSender::new(line.alloc, &[]) {
+    match RedSender::new(line.alloc(), &[]) {
         Ok(other) => {
             *sender = other;
             synced(line, sender);
@@ -28,7 +28,7 @@ fn renewed(line: &mut Line<'_>, sender: &mut RedSender) {
 
 /// Takes the distances of the next word, if they are some: numbers that commas part, or a dash for none.
 fn synced(line: &mut Line<'_>, sender: &mut RedSender) {
-    let mut distances = Vec::new(line.alloc);
+    let mut distances = Vec::new(line.alloc());
     let word = line.word();
     for part in if word == "-" { "" } else { word }.split_terminator(',') {
         let distance = line.value::<u32>(part);
@@ -47,7 +47,7 @@ fn wrapped(line: &mut Line<'_>, sender: &mut RedSender) {
     let (pt, time) = (line.number::<u8>(), line.number::<u32>());
     let budget = line.number::<usize>();
     let payload = line.bytes();
-    if line.is_refused {
+    if line.is_refused() {
         return;
     }
     match sender.wrap(pt, &payload, time, budget) {
@@ -71,12 +71,12 @@ fn block_of(line: &mut Line<'_>, word: &str) -> RedundantBlock {
 fn written(line: &mut Line<'_>) {
     let pt = line.number::<u8>();
     let payload = line.bytes();
-    let mut blocks = Vec::new(line.alloc);
-    for word in line.rest.split_whitespace() {
+    let mut blocks = Vec::new(line.alloc());
+    for word in line.rest().split_whitespace() {
         let block = block_of(line, word);
         line.keep(&mut blocks, block);
     }
-    match RedEncoder::encode(line.alloc, pt, &payload, &blocks) {
+    match RedEncoder::encode(line.alloc(), pt, &payload, &blocks) {
         Ok(packet) => line.put_bytes(&packet),
         Err(fault) => line.refuse(fault),
     }

@@ -1,11 +1,7 @@
-//! Numbers, windows and times.
+//! Numbers and windows.
 
-use crate::line::Line;
-use rtp_wire::{
-    Frequency, SeqNo, SeqNoWindow, extend_u7, extend_u8, extend_u15, extend_u16, extend_u32,
-};
-use std::cmp::Ordering;
-
+use command_lines::Line;
+use rtp_wire::{SeqNo, SeqNoWindow, extend_u7, extend_u8, extend_u15, extend_u16, extend_u32};
 /// `extend BITS PREVIOUS LOW`: a number of few bits, widened by the one before it, or by none where a dash stands.
 pub(crate) fn extended(line: &mut Line<'_>) {
     let (bits, previous, low) = (line.word(), line.word(), line.number::<u32>());
@@ -28,39 +24,11 @@ pub(crate) fn extended(line: &mut Line<'_>) {
 pub(crate) fn of_window(line: &mut Line<'_>, window: &mut SeqNoWindow, command: &str) {
     let number = SeqNo::from(line.number::<u64>());
     match command {
-        _ if line.is_refused => {}
+        _ if line.is_refused() => {}
         "accepts" => return line.put_whether(window.accepts(number)),
         "window" => *window = SeqNoWindow::new(number),
         "window-after" => *window = SeqNoWindow::new_after(number),
         _ => window.update(number),
     }
     line.put(window.max_seq())
-}
-
-/// `micros TIME`: its whole microseconds.
-pub(crate) fn micros(line: &mut Line<'_>) {
-    let time = line.time();
-    match time.checked_rebase(Frequency::MICROS) {
-        Some(_) => line.put(time.as_micros()),
-        None => line.refuse("more than 64 bits of microseconds"),
-    }
-}
-
-/// `compare TIME TIME`: how the first stands to the second.
-pub(crate) fn comparison(line: &mut Line<'_>) {
-    let (first, second) = (line.time(), line.time());
-    line.put(match first.cmp(&second) {
-        Ordering::Less => "less",
-        Ordering::Equal => "equal",
-        Ordering::Greater => "greater",
-    })
-}
-
-/// `minus TIME TIME`: the difference, where there is one.
-pub(crate) fn difference(line: &mut Line<'_>) {
-    let (first, second) = (line.time(), line.time());
-    match first.checked_sub(second) {
-        Some(time) => line.put(format_args!("{}/{}", time.numer(), time.denom())),
-        None => line.put("none"),
-    }
 }

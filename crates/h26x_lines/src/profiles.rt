@@ -1,7 +1,7 @@
 //! Profiles and levels of H.264, H.265 and H.266, from their numbers and from the values of a session text.
 
-use crate::line::Line;
-use h26x_payload::{
+use command_lines::Line;
+use h26x_payload_profiles::{
     H264LevelIdc, H264ProfileIdc, H264ProfileLevel, H265ProfileTierLevel, H266ProfileTierLevel,
 };
 use std::fmt::Debug;
@@ -11,7 +11,7 @@ use std::fmt::Debug;
 pub(crate) fn profile(line: &mut Line<'_>) {
     match line.word() {
         "H264" => {
-            let number = u32::from_str_radix(line.rest, 16).unwrap_or(0);
+            let number = u32::from_str_radix(line.rest(), 16).unwrap_or(0);
             match H264ProfileLevel::try_from(number) {
                 Ok(read) => line.put(format_args!("{:?} {:?}", read.profile(), read.level())),
                 Err(fault) => line.refuse(fault),

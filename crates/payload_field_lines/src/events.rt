@@ -1,12 +1,13 @@
 //! Reports of telephone events (RFC 4733 2.3).
 
-use crate::line::Line;
-use payload_core::{Frequency, TelephoneEvent};
+use command_lines::Line;
+use payload_core_base::TelephoneEvent;
+use rtp_wire::Frequency;
 
 /// What `read RATE PACKET` and `write RATE EVENT VOLUME NANOSECONDS [end]` give.
 pub(crate) fn answer(line: &mut Line<'_>) {
     let (command, rate) = (line.word(), line.word());
-    let rate = line.rate(rate);
+    let rate = line.value_or(rate, Frequency::MICROS);
     if command == "read" {
         return read(line, rate);
     }
@@ -14,7 +15,7 @@ pub(crate) fn answer(line: &mut Line<'_>) {
         event: line.number::<u8>(),
         volume: line.number::<u8>(),
         duration: line.number::<u64>(),
-        end: line.rest == "end",
+        end: line.rest() == "end",
     };
     match event.to_bytes(rate) {
         Some(report) => line.put_bytes(&report),

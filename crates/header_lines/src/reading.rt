@@ -1,16 +1,16 @@
 //! What is read, as text.
 
-use crate::line::Line;
+use command_lines::Line;
 use rtp_wire::{ExtensionMap, ExtensionValues, Reception, RtpHeader, receive_run, unpad_payload};
 
 /// The fields, each as the words of a header that is written say it.
 fn put_fields(line: &mut Line<'_>, header: &RtpHeader) {
-    line.put(format_args!(
-        "type={} number={} time={} ssrc={} ",
-        header.payload_type, header.sequence_number, header.timestamp, header.ssrc
-    ));
+    line.put_field("type", Some(header.payload_type));
+    line.put_field("number", Some(header.sequence_number));
+    line.put_field("time", Some(header.timestamp));
+    line.put_field("ssrc", Some(header.ssrc));
     for source in header.csrc.iter().take(header.csrc_count) {
-        line.put(format_args!("csrc={source} "));
+        line.put_field("csrc", Some(*source));
     }
     line.put_where(header.marker, "marker ");
     line.put_where(header.has_padding, "padding ");
@@ -18,14 +18,6 @@ fn put_fields(line: &mut Line<'_>, header: &RtpHeader) {
 }
 
 fn put_values(line: &mut Line<'_>, values: &ExtensionValues) {
-    let orientation = match values.video_orientation {
-        Some(orientation) => Some(orientation.get()),
-        None => None,
-    };
-    let (captured, offset) = match values.abs_capture_time {
-        Some(time) => (Some(time.capture_time), time.clock_offset),
-        None => (None, None),
-    };
     line.put_field("audio-level", values.audio_level);
     line.put_field("voice", values.voice_activity);
     line.put_field("send-time", values.abs_send_time);
@@ -33,12 +25,16 @@ fn put_values(line: &mut Line<'_>, values: &ExtensionValues) {
     line.put_field("mid", values.mid);
     line.put_field("rid", values.rid);
     line.put_field("repaired", values.rid_repair);
-    line.put_field("orientation", orientation);
+    if let Some(orientation) = values.video_orientation {
+        line.put_field("orientation", Some(orientation.get()));
+    }
     line.put_field("delay-min", values.play_delay_min);
     line.put_field("delay-max", values.play_delay_max);
     line.put_field("content", values.video_content_type);
-    line.put_field("captured", captured);
-    line.put_field("offset", offset);
+    if let Some(time) = values.abs_capture_time {
+        line.put_field("captured", Some(time.capture_time));
+        line.put_field("offset", time.clock_offset);
+    }
 }
 
 /// `read-header HEX`: the header in front of a datagram, its length, and the payload behind it.
@@ -70,16 +66,16 @@ pub(crate) fn payload_text(line: &mut Line<'_>, has_padding: bool) {
 /// `run HEX ..`: what becomes of each datagram of a list at a new window, the number under which it is taken, or why
 /// it isn't.
 pub(crate) fn run_text(line: &mut Line<'_>, map: &ExtensionMap) {
-    let mut datagrams = Vec::new(line.alloc);
-    for word in line.rest.split_whitespace() {
+    let mut datagrams = Vec::new(line.alloc());
+    for word in line.rest().split_whitespace() {
         let datagram = line.bytes_of(word);
         line.keep(&mut datagrams, datagram);
     }
-    let mut slices = Vec::new(line.alloc);
+    let mut slices = Vec::new(line.alloc());
     for datagram in &datagrams {
         line.keep(&mut slices, datagram.as_slice());
     }
-    match receive_run(line.alloc, &slices, map) {
+    match receive_run(line.alloc(), &slices, map) {
         Ok(verdicts) => put_verdicts(line, &verdicts),
         Err(fault) => line.refuse(fault),
     }

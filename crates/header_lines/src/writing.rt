@@ -1,6 +1,6 @@
 //! Headers that are written, and their extensions.
 
-use crate::line::{Line, part};
+use command_lines::{Line, part};
 use rtp_wire::{
     AbsCaptureTime, Extension, ExtensionMap, ExtensionValues, Mid, Pt, Rid, RtpHeader, Ssrc,
     VideoOrientation,
@@ -9,7 +9,7 @@ use rtp_wire::{
 /// `map NUMBER=NAME ..`: which number each header extension has from now on.
 pub(crate) fn set_map(line: &mut Line<'_>, map: &mut ExtensionMap) {
     map.clear();
-    for word in line.rest.split_whitespace() {
+    for word in line.rest().split_whitespace() {
         let (id, name) = part(word, '=');
         let id = line.value::<u8>(id);
         match extension_of(name) {
@@ -40,13 +40,13 @@ fn extension_of(name: &str) -> Option<Extension> {
 /// `write-header type=33 number=47000 marker ..`: the bytes of the default header with the fields that words name.
 pub(crate) fn written(line: &mut Line<'_>, map: &ExtensionMap) {
     let mut header = RtpHeader::default();
-    for word in line.rest.split_whitespace() {
+    for word in line.rest().split_whitespace() {
         set_field(line, &mut header, word);
     }
     if header.payload_type.get() > 127 || header.csrc_count > 15 {
         return line.refuse("a type above 127, or more than 15 sources");
     }
-    match vec![in line.alloc; 0; header.wire_len(map)] {
+    match vec![in line.alloc(); 0; header.wire_len(map)] {
         Ok(mut bytes) => {
             let _len = header.write_to(&mut bytes, map);
             line.put_bytes(&bytes);
@@ -93,6 +93,13 @@ fn set_value(line: &mut Line<'_>, values: &mut ExtensionValues, name: &str, valu
             let orientation = line.value::<u8>(value);
             values.video_orientation = Some(VideoOrientation::from(orientation));
         }
+        _ => set_time(line, values, name, value),
+    }
+}
+
+/// When a frame was captured, and behind it the offset of the capturing clock.
+fn set_time(line: &mut Line<'_>, values: &mut ExtensionValues, name: &str, value: &str) {
+    match name {
         "captured" => {
             values.abs_capture_time = Some(AbsCaptureTime {
                 capture_time: line.value::<u64>(value),

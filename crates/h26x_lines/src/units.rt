@@ -1,9 +1,10 @@
 //! Units and headers of H.264, H.265 and H.266.
 
-use crate::line::Line;
-use h26x_payload::{
+use command_lines::Line;
+use h26x_payload_h264::detect_h264_nalu;
+use h26x_payload_units::{
     H265FragmentationUnitHeader, H265NALUHeader, H266FragmentationUnitHeader, H266NALUHeader,
-    detect_h264_nalu, nal_units,
+    nal_units,
 };
 
 /// `units TEXT`: the units of a text (ITU-T H.264 annex B), parted by blanks; a dash stands for none.
@@ -13,7 +14,7 @@ pub(crate) fn units(line: &mut Line<'_>) {
         line.put_bytes(unit);
         line.put(" ");
     }
-    let has_none = line.answer.is_empty();
+    let has_none = line.answer().is_empty();
     line.put_where(has_none, "-");
 }
 

@@ -1,7 +1,7 @@
 //! Ids in VP8 payload descriptors (RFC 7741 4.2).
 
-use crate::line::{Line, part};
-use payload_core::{Vp8Descriptor, Vp8Patch};
+use command_lines::{Line, part};
+use payload_core_vpx::{Vp8Descriptor, Vp8Patch};
 
 // A payload of so many bytes reaches each id that a descriptor can have.
 const REACHES_IDS: usize = 6;
@@ -27,7 +27,7 @@ pub(crate) fn answer(line: &mut Line<'_>) {
 /// A payload with the ids that words say, each by its name, in place of its own.
 fn patched(line: &mut Line<'_>, descriptor: &Vp8Descriptor, payload: &[u8]) {
     let mut builder = descriptor.patch();
-    for word in line.rest.split_whitespace() {
+    for word in line.rest().split_whitespace() {
         let (name, number) = part(word, '=');
         builder = match name {
             "id" => builder.picture_id(line.value::<u16>(number)),
@@ -47,7 +47,7 @@ fn copied(line: &mut Line<'_>, payload: &[u8], patch: &Vp8Patch) {
     if payload.len() < REACHES_IDS {
         return line.refuse("a payload of fewer than six bytes");
     }
-    match vec![in line.alloc; 0; payload.len()] {
+    match vec![in line.alloc(); 0; payload.len()] {
         Ok(mut out) => {
             patch.copy_to(payload, &mut out);
             line.put_bytes(&out);

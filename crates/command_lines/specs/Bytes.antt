@@ -1,0 +1,60 @@
+-- The bytes that a word says.
+use Rattle.std.specs.Prelude.{ℕ, ◌==◌, ◌^◌, nat_lt, if◌then◌else◌, List, [], ◌∷◌, ◌++◌, length, codes, Option, None}
+use Rattle.std.specs.Prelude.{Some}
+use Rattle.std.specs.List.{slice_split, before_first, after_first, position_or_len, repeat}
+use Rattle.rtp_media_words.specs.Words.{number_below, hex_of, ◌>>=◌}
+
+-- What stands before the first such sign, or all where there is none.
+abbrev pub before_sign : ℕ → List ℕ → List ℕ
+before_sign sign word = before_first (λ b. b == sign) word
+
+-- What stands behind it, or nothing where there is none.
+abbrev pub behind_sign : ℕ → List ℕ → List ℕ
+behind_sign sign word = after_first (λ b. b == sign) word
+
+-- What stands between single plus signs.
+abbrev pub plus_parts : List ℕ → List (List ℕ)
+plus_parts word = slice_split (λ b. b == 43) word
+
+-- The parts of what is left of a word, none where its last part has been read.
+abbrev pub parts_in : Option (List ℕ) → List (List ℕ)
+parts_in None = []
+parts_in (Some rest) = plus_parts rest
+
+-- A sign before what is left behind it: a star goes where nothing is left.
+abbrev pub before_left : ℕ → List ℕ → List ℕ
+before_left b [] = if b == 42 then [] else b ∷ []
+before_left b (c ∷ more) = b ∷ c ∷ more
+
+-- A word without the stars at its end.
+abbrev pub without_stars : List ℕ → List ℕ
+without_stars [] = []
+without_stars (b ∷ more) = before_left b (without_stars more)
+
+-- The bytes of hexadecimal digits; a dash, or no digit, stands for none.
+abbrev pub digits_bytes : List ℕ → Option (List ℕ)
+digits_bytes digits = if length digits == 0 then Some [] else hex_of digits
+
+-- How often the digits of a part stand there: once, or as often as the number behind the colon says.
+abbrev pub count_word : List ℕ → List ℕ
+count_word part =
+    if nat_lt (position_or_len (λ b. b == 58) part) (length part) then behind_sign 58 part else codes "1"
+
+-- The bytes of a part, DIGITS or DIGITS:COUNT.
+abbrev pub part_bytes : List ℕ → Option (List ℕ)
+part_bytes part = do
+  count ← number_below (2 ^ 32) (count_word part)
+  once ← digits_bytes (before_sign 58 part)
+  Some (repeat count once)
+
+-- The bytes of all parts, where each says some.
+abbrev pub joined_bytes : List (List ℕ) → Option (List ℕ)
+joined_bytes [] = Some []
+joined_bytes (part ∷ parts) = do
+  bytes ← part_bytes part
+  more ← joined_bytes parts
+  Some (bytes ++ more)
+
+-- The bytes of a word: parts that plus signs join, before stars or none.
+abbrev pub bytes_of : List ℕ → Option (List ℕ)
+bytes_of word = joined_bytes (plus_parts (without_stars word))

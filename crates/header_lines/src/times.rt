@@ -1,0 +1,50 @@
+//! Clock rates and times.
+
+use command_lines::{Line, part};
+use rtp_wire::{Frequency, MediaTime};
+use std::cmp::Ordering;
+
+/// `frequency RATE`: a clock rate again.
+pub(crate) fn frequency(line: &mut Line<'_>) {
+    let rate = rate_of(line, line.rest());
+    line.put(rate)
+}
+
+/// The clock rate that a word says.
+fn rate_of(line: &mut Line<'_>, word: &str) -> Frequency {
+    line.value_or(word, Frequency::MICROS)
+}
+
+/// The next word, a time: `TICKS/RATE`.
+fn time_of(line: &mut Line<'_>) -> MediaTime {
+    let (ticks, rate) = part(line.word(), '/');
+    MediaTime::new(line.value::<u64>(ticks), rate_of(line, rate))
+}
+
+/// `micros TIME`: its whole microseconds.
+pub(crate) fn micros(line: &mut Line<'_>) {
+    let time = time_of(line);
+    match time.checked_rebase(Frequency::MICROS) {
+        Some(_) => line.put(time.as_micros()),
+        None => line.refuse("more than 64 bits of microseconds"),
+    }
+}
+
+/// `compare TIME TIME`: how the first stands to the second.
+pub(crate) fn comparison(line: &mut Line<'_>) {
+    let (first, second) = (time_of(line), time_of(line));
+    line.put(match first.cmp(&second) {
+        Ordering::Less => "less",
+        Ordering::Equal => "equal",
+        Ordering::Greater => "greater",
+    })
+}
+
+/// `minus TIME TIME`: the difference, where there is one.
+pub(crate) fn difference(line: &mut Line<'_>) {
+    let (first, second) = (time_of(line), time_of(line));
+    match first.checked_sub(second) {
+        Some(time) => line.put(format_args!("{}/{}", time.numer(), time.denom())),
+        None => line.put("none"),
+    }
+}
