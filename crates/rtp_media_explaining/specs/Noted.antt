@@ -49,12 +49,14 @@ makes_end line reply = is_making line && bytes_eq reply (codes "ok")
 abbrev pub opens_stream : List ℕ → Bool
 opens_stream reply = bytes_eq (word_at reply 0) (codes "sender") || bytes_eq (word_at reply 0) (codes "receiver")
 
+abbrev pub with_opened : KnownEnd → List ℕ → List ℕ → KnownEnd
+with_opened e line reply = record e { streams = e.streams ++ opened (number_or_zero reply 1) line ∷ [] }
+
 -- A line that makes the end forgets what was known of it, one that opens a stream adds it, and others change neither.
 abbrev pub noted_end : KnownEnd → List ℕ → List ℕ → KnownEnd
 noted_end e line reply =
     if makes_end line reply then made
-    else if opens_stream reply then
-    record e { streams = e.streams ++ opened (number_or_zero reply 1) line ∷ [] }
+    else if opens_stream reply then with_opened e line reply
     else e
 
 -- The end of a letter.

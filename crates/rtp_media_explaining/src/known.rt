@@ -2,7 +2,8 @@
 
 ghost use Rattle.std.specs.Prelude.{◌≡◌, ◌||◌, is_some, IfSome, OnErr, OnOk};
 ghost use Rattle.rtp_media_explaining.specs.Lines.{word_at};
-ghost use Rattle.rtp_media_explaining.specs.Noted.{end_of, made, makes_end, none_made, noted, noted_end, unmade};
+ghost use Rattle.rtp_media_explaining.specs.Noted.{end_of, made, makes_end, none_made, noted, noted_end};
+ghost use Rattle.rtp_media_explaining.specs.Noted.{opens_stream, unmade, with_opened};
 ghost use Rattle.rtp_media_explaining.specs.Replies.{is_error_line, says_no};
 
 use crate::lines::{number_at, number_or_zero_at, word_at};
@@ -89,16 +90,30 @@ impl KnownEnd {
             self.begin();
             return Ok(());
         }
-        let word = word_at(reply, 0);
-        if word == "sender" || word == "receiver" {
-            let number = number_or_zero_at(reply, 1);
-            self.streams.push(Stream::new(alloc, number, line))?;
-            return Ok(());
+        if opens_stream(reply) {
+            return self.open(alloc, line, reply);
         }
-        match word {
+        self.count(alloc, line, reply)
+    }
+
+    /// The line opened a stream.
+    fn open(&mut self, alloc: Global, line: &str, reply: &str) -> Result<(), AllocError>
+        ensures opened { OnOk result (self.new ≡ with_opened self.old line.now reply.now) }
+        ensures unchanged { OnErr result (self.new ≡ self.old) }
+    {
+        let stream = Stream::new(alloc, number_or_zero_at(reply, 1), line);
+        self.streams.push(stream)?;
+        Ok(())
+    }
+
+    /// Counts what was said of the line.
+    fn count(&mut self, alloc: Global, line: &str, reply: &str) -> Result<(), AllocError>
+        ensures { self.new ≡ self.old }
+    {
+        match word_at(reply, 0) {
             "foreign" => self.foreign = self.foreign.saturating_add(1),
             "unreadable" => self.unreadable = self.unreadable.saturating_add(1),
-            _ => self.note_stream(alloc, line, reply)?,
+            _ => return self.count_at_stream(alloc, line, reply),
         }
         Ok(())
     }
@@ -113,9 +128,9 @@ impl KnownEnd {
         self.unreadable = 0;
     }
 
-    /// Notes what was said of a sample, a datagram or a poll, at the stream that the reply or the line names, or that
+    /// Counts what was said of a sample, a datagram or a poll, at the stream that the reply or the line names, or that
     /// the datagram is for.
-    fn note_stream(&mut self, alloc: Global, line: &str, reply: &str) -> Result<(), AllocError>
+    fn count_at_stream(&mut self, alloc: Global, line: &str, reply: &str) -> Result<(), AllocError>
         ensures { self.new ≡ self.old }
     {
         let number = if word_at(reply, 0) == "taken" {
@@ -129,7 +144,7 @@ impl KnownEnd {
             return Ok(());
         };
         match self.streams.get_mut(number as usize) {
-            Some(stream) => stream.note(reply),
+            Some(stream) => stream.count(reply),
             None => Ok(()),
         }
     }
@@ -152,6 +167,14 @@ fn makes_end(line: &str, reply: &str) -> bool
     ensures { result ≡ makes_end line.now reply.now }
 {
     (line.starts_with("fixed ") || line.starts_with("end ")) && reply == "ok"
+}
+
+/// Whether the line opened a stream.
+fn opens_stream(reply: &str) -> bool
+    ensures { result ≡ opens_stream reply.now }
+{
+    let word = word_at(reply, 0);
+    word == "sender" || word == "receiver"
 }
 
 /// The SSRC and the type of a datagram in hexadecimal digits.

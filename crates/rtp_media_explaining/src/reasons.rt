@@ -40,17 +40,11 @@ pub(crate) fn error_of<'a>(known: &Known, line: &'a [u8]) -> Reason<'a> {
 /// The first word that doesn't fit the form, is left over, or is missing. Slashes may stand between the sections of
 /// `connect`.
 fn unfit_word<'a>(form: &'static str, line: &'a str) -> Option<Reason<'a>> {
-    let further = match form.rsplit_once(' ') {
-        Some((_, last)) if last.ends_with("..") => last,
-        _ => "",
-    };
     let mut names = form.split(' ');
     for word in line.split(' ') {
-        let name = names.next().unwrap_or(further);
-        if name.is_empty() {
-            let parts = ["`", word, "` is one word too many: `", form, "`", "", ""];
-            return Some(Reason { parts });
-        }
+        let Some(name) = names.next().or(further_name(form)) else {
+            return Some(left_over(form, word));
+        };
         if word == "/" && form.starts_with("connect ") {
             continue;
         }
@@ -58,8 +52,27 @@ fn unfit_word<'a>(form: &'static str, line: &'a str) -> Option<Reason<'a>> {
             return Some(reason);
         }
     }
-    let name = names.next().unwrap_or("");
-    if name.is_empty() || name.ends_with("..") || name.ends_with(']') {
+    missing(form, names.next()?)
+}
+
+/// The name of a form's further words, where it has one.
+fn further_name(form: &str) -> Option<&str> {
+    let (_, last) = form.rsplit_once(' ')?;
+    if last.ends_with("..") {
+        return Some(last);
+    }
+    None
+}
+
+/// A word for which the form has no name.
+fn left_over<'a>(form: &'a str, word: &'a str) -> Reason<'a> {
+    let parts = ["`", word, "` is one word too many: `", form, "`", "", ""];
+    Reason { parts }
+}
+
+/// No word stands for a name of the form, where it needs one.
+fn missing<'a>(form: &'a str, name: &'a str) -> Option<Reason<'a>> {
+    if name.ends_with("..") || name.ends_with(']') {
         return None;
     }
     let parts = [name, " is missing: `", form, "`", "", "", ""];

@@ -82,8 +82,8 @@ impl Stream {
         }
     }
 
-    /// Notes what was said of a sample, a datagram, or a poll.
-    pub(crate) fn note(&mut self, reply: &str) -> Result<(), AllocError>
+    /// Counts what was said of a sample, a datagram, or a poll.
+    pub(crate) fn count(&mut self, reply: &str) -> Result<(), AllocError>
         ensures { self.new ≡ self.old }
     {
         match word_at(reply, 0) {
