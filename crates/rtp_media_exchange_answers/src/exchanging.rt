@@ -1,9 +1,9 @@
 //! The commands that exchange texts.
 
-ghost use Rattle.std.specs.Prelude.{◌≡◌, IfOk, IfSome, IfNone, true, false};
+ghost use Rattle.std.specs.Prelude.{◌≡◌, [], ◌∷◌, IfOk, IfSome, IfNone, string_bytes, true, false};
 ghost use Rattle.std.specs.Str.{is_utf8};
-ghost use Rattle.rtp_media_exchange_answers.specs.Exchanging.{AnswersAccept, AnswersAnswer, AnswersOffer};
-ghost use Rattle.rtp_media_exchange_answers.specs.Exchanging.{AnswersWithdraw, ConnectsEnds, WithText};
+ghost use Rattle.rtp_media_exchange_answers.specs.Exchanging.{AnswersAccept, AnswersAnswer, AnswersConnect};
+ghost use Rattle.rtp_media_exchange_answers.specs.Exchanging.{AnswersOffer, AnswersWithdraw, ConnectsEnds, WithText};
 ghost use Rattle.rtp_media_exchange_answers.specs.Exchanging.{wanted_in, wanted_of};
 
 use crate::names::exchange_error_name;
@@ -52,7 +52,7 @@ pub fn offer(alloc: Global, end: &mut End, command: OfferCommand) -> Result<Vec<
 {
     let sections = wanted_in(alloc, command.sections.as_slice())?;
     match end.offer(sections) {
-        Ok(text) => one(alloc, Reply::Text(Bytes::from_vec(text.into_bytes()))),
+        Ok(text) => one(alloc, text_reply(text)),
         Err(error) => one(alloc, Reply::Refused(exchange_error_name(&error))),
     }
 }
@@ -97,7 +97,7 @@ fn answer_text(
 {
     let sections = wanted_in(alloc, sections)?;
     match end.answer(text, sections) {
-        Ok(text) => one(alloc, Reply::Text(Bytes::from_vec(text.into_bytes()))),
+        Ok(text) => one(alloc, text_reply(text)),
         Err(error) => one(alloc, Reply::Refused(exchange_error_name(&error))),
     }
 }
@@ -161,14 +161,41 @@ pub fn connect_ends(
     let Some(b) = b else {
         return one(alloc, Reply::ErrorLine);
     };
-    let sections_a = wanted_in(alloc, command.offered.as_slice())?;
-    let sections_b = wanted_in(alloc, command.answered.as_slice())?;
-    match connect(a, b, sections_a, sections_b) {
-        Ok((offer, answer)) => {
-            let mut replies = one(alloc, Reply::Text(Bytes::from_vec(offer.into_bytes())))?;
-            replies.push(Reply::Text(Bytes::from_vec(answer.into_bytes())))?;
-            Ok(replies)
-        }
+    let offered = wanted_in(alloc, command.offered.as_slice())?;
+    let answered = wanted_in(alloc, command.answered.as_slice())?;
+    connect_made(alloc, a, b, offered, answered)
+}
+
+/// The same where both ends are there.
+fn connect_made(
+    alloc: Global,
+    a: &mut End,
+    b: &mut End,
+    offered: Vec<SectionSpec>,
+    answered: Vec<SectionSpec>,
+) -> Result<Vec<Reply>, AllocError>
+    ensures { IfOk result (λ replies. AnswersConnect a.old b.old offered.items answered.items a.new b.new
+        replies.items) }
+{
+    match connect(a, b, offered, answered) {
+        Ok((offer, answer)) => both_texts(alloc, offer, answer),
         Err(error) => one(alloc, Reply::Refused(exchange_error_name(&error))),
     }
+}
+
+/// A line for each text.
+fn both_texts(alloc: Global, offer: String, answer: String) -> Result<Vec<Reply>, AllocError>
+    ensures { IfOk result (λ replies. replies.items ≡ Reply.Text (string_bytes offer)
+        ∷ Reply.Text (string_bytes answer) ∷ []) }
+{
+    let mut replies = one(alloc, text_reply(offer))?;
+    replies.push(text_reply(answer))?;
+    Ok(replies)
+}
+
+/// The line for a text.
+fn text_reply(text: String) -> Reply
+    ensures { result ≡ Reply.Text (string_bytes text) }
+{
+    Reply::Text(Bytes::from_vec(text.into_bytes()))
 }
