@@ -1,5 +1,1 @@
-pub mod Program
-pub mod Names
-pub mod Exchanging
-pub mod Playing
 pub mod ProgramState

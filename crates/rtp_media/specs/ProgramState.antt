@@ -1,6 +1,6 @@
 -- What the program does at each command.
-use Rattle.std.specs.Prelude.{◌≡◌, ◌⊎◌, List, [], ◌∷◌, ◌++◌, Option, Some, None}
-use Rattle.rtp_media_open_streams.specs.Ends.{EndState, fixed_end}
+use Rattle.std.specs.Prelude.{◌≡◌, List, [], ◌∷◌, ◌++◌, None}
+use Rattle.rtp_media_open_streams.specs.Ends.{EndState}
 use Rattle.rtp_media_words.specs.declared.words.Letter.{Letter}
 use Rattle.rtp_media_words.specs.declared.words.Letter.TheVariants.{A, B}
 use Rattle.rtp_media_lines.specs.declared.line.Command.{Command}
@@ -8,15 +8,13 @@ use Rattle.rtp_media_lines.specs.declared.line.Command.TheVariants.{Fixed, Send,
 use Rattle.rtp_media_lines.specs.declared.line.Command.TheVariants.{Ext, End, Offer, Answer, Accept, Withdraw}
 use Rattle.rtp_media_lines.specs.declared.line.Command.TheVariants.{Connect, Queue, Play}
 use Rattle.rtp_media_lines.specs.declared.playing.QueueCommand.{QueueCommand}
-use Rattle.rtp_media_lines.specs.declared.exchange.ConnectCommand.{ConnectCommand}
 use Rattle.rtp_media_words.specs.declared.reply.Reply.{Reply}
 use Rattle.rtp_media_words.specs.declared.reply.Reply.TheVariants as reply
-use Rattle.rtp_media.specs.Names.{memory}
-use Rattle.rtp_media.specs.Exchanging.{EndAndDraft, empty_draft, Prints, AtEnd, WithText, wanted_in, AnswersRow}
-use Rattle.rtp_media.specs.Exchanging.{AnswersExt, AnswersEnd, AnswersOffer, AnswersAnswer, AnswersAccept}
-use Rattle.rtp_media.specs.Exchanging.{AnswersWithdraw, AnswersConnect, refusal_of_draft}
-use Rattle.rtp_media.specs.Playing.{PlaysEnds}
-use Rattle.rtp_media.specs.Program.{IsAnswered}
+use Rattle.rtp_media_exchange_answers.specs.Exchanging.{AnswersAccept, AnswersAnswer, AnswersExt, AnswersFixed}
+use Rattle.rtp_media_exchange_answers.specs.Exchanging.{AnswersOffer, AnswersRow, AnswersWithdraw, AtEnd, ConnectsEnds}
+use Rattle.rtp_media_exchange_answers.specs.Exchanging.{EndAndDraft, MakesEnd, Prints, WithText, empty_draft, wanted_in}
+use Rattle.rtp_media_stream_answers.specs.Playing.{PlaysEnds}
+use Rattle.rtp_media_stream_answers.specs.Streams.{IsAnswered}
 
 -- What the two letters of the program stand for, and the samples that are kept for a run.
 pub record ProgramState : Type 0 where
@@ -58,19 +56,11 @@ AnswersAtEnd e (Accept c) after replies = WithText c.text e after replies (Answe
 AnswersAtEnd e (Withdraw letter) after replies = AnswersWithdraw e after replies
 AnswersAtEnd e command after replies = IsAnswered e command after replies
 
--- fixed E: an end of one row, or memory ran out
-abbrev pub AnswersFixed : Option EndState → Option EndState → List Reply → Type 0
-AnswersFixed old new replies =
-    ((new ≡ Some fixed_end) × Prints replies reply.Done)
-    ⊎ ((new ≡ old) × Prints replies (reply.Refused memory))
-
 -- What a command does to what its letter stands for.
 abbrev pub AnswersAt : EndAndDraft → Command → EndAndDraft → List Reply → Type 0
 AnswersAt old (Row c) new replies = AnswersRow old c new replies
 AnswersAt old (Ext c) new replies = AnswersExt old c new replies
-AnswersAt old (End c) new replies =
-    AnswersEnd old c (refusal_of_draft old) new replies
-    ⊎ ((new ≡ empty_draft old.end) × Prints replies (reply.Refused memory))
+AnswersAt old (End c) new replies = MakesEnd old c new replies
 AnswersAt old (Fixed letter) new replies = AnswersFixed old.end new.end replies × KeepsDraft old new
 AnswersAt old command new replies =
     AtEnd old.end new.end replies (λ e after. AnswersAtEnd e command after replies) × KeepsDraft old new
@@ -79,13 +69,6 @@ AnswersAt old command new replies =
 abbrev pub IsAnsweredAt : Letter → ProgramState → Command → ProgramState → List Reply → Type 0
 IsAnsweredAt A old command new replies = AnswersAt old.a command new.a replies × (new.b ≡ old.b)
 IsAnsweredAt B old command new replies = AnswersAt old.b command new.b replies × (new.a ≡ old.a)
-
--- Both ends are connected, where both are there.
-abbrev pub ConnectsEnds : Option EndState → Option EndState → ConnectCommand → Option EndState → Option EndState
-    → List Reply → Type 0
-ConnectsEnds (Some a) (Some b) c (Some after_a) (Some after_b) replies =
-    AnswersConnect a b (wanted_in c.offered) (wanted_in c.answered) after_a after_b replies
-ConnectsEnds a b c after_a after_b replies = (after_a ≡ a) × (after_b ≡ b) × Prints replies reply.ErrorLine
 
 -- What the program does at a command.
 unfoldable pub AnswersCommand : ProgramState → Command → ProgramState → List Reply → Type 0

@@ -1,66 +1,27 @@
 //! The program of lines over two ends.
 
-ghost use Rattle.std.specs.Prelude.{◌≡◌, ℕ, List, [], ◌∷◌, IfOk, IfSome, OnErr, OnOk, None};
+ghost use Rattle.std.specs.Prelude.{◌≡◌, ℕ, List, IfOk, IfSome, OnErr, OnOk};
 ghost use Rattle.rtp_media_line_runs.specs.Input.{lines_of};
 ghost use Rattle.rtp_media_line_runs.specs.Runs.{Printed, ReadsAll};
 ghost use Rattle.rtp_media_line_runs.specs.Stops.{WritesFront};
 ghost use Rattle.rtp_media_lines.specs.declared.line.Command.{Command};
-ghost use Rattle.rtp_media.specs.Exchanging.{AtEnd, empty_draft};
-ghost use Rattle.rtp_media.specs.Playing.{PlaysEnds};
-ghost use Rattle.rtp_media.specs.ProgramState.{AnswersAt, AnswersAtEnd, AnswersCommand, AnswersFixed, ConnectsEnds};
+ghost use Rattle.rtp_media_exchange_answers.specs.Exchanging.{AtEnd, ConnectsEnds};
+ghost use Rattle.rtp_media_stream_answers.specs.Playing.{PlaysEnds};
+ghost use Rattle.rtp_media.specs.ProgramState.{AnswersAt, AnswersAtEnd, AnswersCommand};
 ghost use Rattle.rtp_media.specs.ProgramState.{KeepsDraft, initial_state, letter_of};
 
-mod exchanging;
-mod names;
-mod playing;
-mod streams;
-
-use exchanging::{
-    accept, answer_offer, connect_ends, draft_ext, draft_row, make_end, offer, withdraw,
+use rtp_media_ends::End;
+use rtp_media_exchange_answers::{
+    EndAndDraft, accept, answer_offer, connect_ends, draft_ext, draft_row, fix, make_end, offer,
+    one, withdraw,
 };
-use names::memory;
-use playing::{keep_sample, play_ends};
-use rtp_media_ends::{End, PayloadParams};
 use rtp_media_line_runs::{Respond, RunFault, Status, run_lines};
 use rtp_media_lines::{Command, ConnectCommand, PlayCommand, QueueCommand};
+use rtp_media_stream_answers::{keep_sample, open, play_ends, poll, receive, sample, send};
 use rtp_media_words::{Letter, Reply};
-use rtp_wire::ExtensionMap;
 use std::alloc::{AllocError, Global};
 use std::io::{Read, Write};
 use std::marker::Model;
-use streams::{open, poll, receive, sample, send};
-
-/// What a letter stands for: its end, and the draft of the next one.
-#[derive(Drop)]
-struct EndAndDraft {
-    end: Option<End>,
-    rows: Vec<PayloadParams>,
-    exts: ExtensionMap,
-}
-
-impl Model for EndAndDraft {
-    ghost use Rattle.rtp_media.specs.Exchanging.{EndAndDraft as Kept};
-    ghost use Rattle.rtp_wire.specs.Replay.{window_code};
-    ghost use Rattle.std.specs.Coded.{codes};
-
-    ghost Value = { Kept };
-
-    ghost coded = { Prim.hlevel (codes, window_code) };
-
-    ghost view = { λ d. record { end = d.end; rows = d.rows.items; exts = d.exts } };
-}
-
-impl EndAndDraft {
-    fn clear(alloc: Global) -> EndAndDraft
-        ensures { result ≡ empty_draft None }
-    {
-        EndAndDraft {
-            end: None,
-            rows: Vec::new(alloc),
-            exts: ExtensionMap::empty(),
-        }
-    }
-}
 
 /// What the program answers its lines over: what the two letters stand for, and the samples that are kept for a run.
 pub struct Program {
@@ -223,28 +184,6 @@ fn answer_at(alloc: Global, end: &mut End, command: Command) -> Result<Vec<Reply
         Command::Accept(command) => accept(alloc, end, command),
         Command::Withdraw(_) => withdraw(alloc, end),
         _ => one(alloc, Reply::ErrorLine),
-    }
-}
-
-/// One reply.
-pub(crate) fn one(alloc: Global, reply: Reply) -> Result<Vec<Reply>, AllocError>
-    ensures { IfOk result (λ replies. replies.items ≡ reply ∷ []) }
-{
-    let mut replies = Vec::new(alloc);
-    replies.push(reply)?;
-    Ok(replies)
-}
-
-/// Makes the end of one row.
-fn fix(alloc: Global, end: &mut Option<End>) -> Result<Vec<Reply>, AllocError>
-    ensures { IfOk result (λ replies. AnswersFixed end.old end.new replies.items) }
-{
-    match End::fixed(alloc) {
-        Ok(fixed) => {
-            *end = Some(fixed);
-            one(alloc, Reply::Done)
-        }
-        Err(_) => one(alloc, Reply::Refused(memory())),
     }
 }
 

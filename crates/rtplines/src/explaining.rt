@@ -1,23 +1,13 @@
 //! What came of each line, in words.
 
-mod forms;
-mod known;
-mod lines;
-mod reason;
-mod reasons;
-mod refusals;
-mod replies;
-mod streams;
-
-use forms::FORMS;
-use known::Known;
-use lines::{is_comment, is_line_feed, text_of};
-use reasons::error_of;
-use refusals::refusal_of;
-use replies::replies_to;
-use rtp_media::{Program, Status};
+use crate::replies::replies_to;
+use rtp_media::{MAX_LINE_LENGTH, Program, Status};
+use rtp_media_explaining::{FORMS, Known, LONGEST_LINE, is_comment, text_of};
 use std::io;
 use std::io::Read;
+
+/// The reason for a line that is too long names the number that the program tests.
+const _: () = prove!(MAX_LINE_LENGTH == LONGEST_LINE);
 
 /// Prints each line with its number, what the program replies to it, and why where it is an `error line` or refused; at
 /// the end what became of each stream. The status is that of the program.
@@ -32,8 +22,13 @@ pub(crate) fn explain(rt: &HostRuntime) -> anyhow::Result<Status> {
         let of_line = explain_line(rt, &mut program, &mut known, number, line)?;
         status = status.and(of_line);
     }
-    known.report(rt)?;
+    print!(*rt; "at the end\n{known}")?;
     Ok(status)
+}
+
+/// Whether a byte ends a line.
+fn is_line_feed(byte: &u8) -> bool {
+    *byte == b'\n'
 }
 
 /// Prints a line, the replies to it, and why where they say no.
@@ -59,7 +54,8 @@ fn explain_line(
     Ok(status)
 }
 
-/// Prints a reply to a line, and why where it says no, and notes it.
+/// Prints a reply to a line, and why where it says no, and notes it. Where the line makes an end anew, prints what
+/// became of it before.
 fn explain_reply(
     rt: &HostRuntime,
     known: &mut Known,
@@ -68,15 +64,14 @@ fn explain_reply(
     reply: &str,
 ) -> anyhow::Result<()> {
     print_reply(rt, reply)?;
-    let reason = if reply == "error line" {
-        Some(error_of(known, line))
-    } else {
-        refusal_of(reply)
-    };
-    if let Some(reason) = reason {
+    if let Some(reason) = known.reason(line, reply) {
         println!(*rt; "  line {number}: {reason}")?;
     }
-    Ok(known.note(rt, text_of(line), reply)?)
+    let line = text_of(line);
+    if let Some(end) = known.replaced(line, reply) {
+        print!(*rt; "{end}")?;
+    }
+    Ok(known.note(rt.alloc(), line, reply)?)
 }
 
 /// Prints a reply, and the text of an offer or an answer line by line.

@@ -3,6 +3,7 @@
 #![tactic(auto)]
 
 mod explaining;
+mod replies;
 
 use anyhow::bail;
 use explaining::explain;

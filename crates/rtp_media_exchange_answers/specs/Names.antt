@@ -1,0 +1,26 @@
+-- The names under which the program prints errors of ends and of exchanges: that of the variant, without what it holds.
+use Rattle.std.specs.Prelude.{ℕ, List, codes}
+use Rattle.rtp_media_exchange_steps.specs.declared.errors.EndError.{EndError}
+use Rattle.rtp_media_exchange_steps.specs.declared.errors.EndError.TheVariants as end_error
+use Rattle.rtp_media_exchange_steps.specs.declared.errors.ExchangeError.{ExchangeError}
+use Rattle.rtp_media_exchange_steps.specs.declared.errors.ExchangeError.TheVariants as exchange_error
+
+-- Out of memory has one name in all of them.
+abbrev pub memory : List ℕ
+memory = codes "Memory"
+
+abbrev pub end_error_name : EndError → List ℕ
+end_error_name (end_error.RowNotPlain index) = codes "RowNotPlain"
+end_error_name (end_error.TypesNotDistinct pt) = codes "TypesNotDistinct"
+end_error_name end_error.NotWritable = codes "NotWritable"
+end_error_name end_error.Memory = memory
+
+abbrev pub exchange_error_name : ExchangeError → List ℕ
+exchange_error_name (exchange_error.Unreadable error) = codes "Unreadable"
+exchange_error_name exchange_error.OutOfTurn = codes "OutOfTurn"
+exchange_error_name (exchange_error.NotMedia mid) = codes "NotMedia"
+exchange_error_name exchange_error.NotCorresponding = codes "NotCorresponding"
+exchange_error_name (exchange_error.Round error) = codes "Round"
+exchange_error_name (exchange_error.NoCommonRow mid) = codes "NoCommonRow"
+exchange_error_name exchange_error.NotWritable = codes "NotWritable"
+exchange_error_name exchange_error.Memory = memory

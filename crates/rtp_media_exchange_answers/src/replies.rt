@@ -1,0 +1,18 @@
+//! Replies.
+
+ghost use Rattle.std.specs.Prelude.{◌≡◌, [], ◌∷◌, IfOk};
+
+use rtp_media_words::Reply;
+use std::alloc::{AllocError, Global};
+
+/// One reply.
+///
+/// # Errors
+/// Where memory runs out.
+pub fn one(alloc: Global, reply: Reply) -> Result<Vec<Reply>, AllocError>
+    ensures { IfOk result (λ replies. replies.items ≡ reply ∷ []) }
+{
+    let mut replies = Vec::new(alloc);
+    replies.push(reply)?;
+    Ok(replies)
+}

@@ -1,0 +1,3 @@
+pub mod Lines
+pub mod Noted
+pub mod Replies

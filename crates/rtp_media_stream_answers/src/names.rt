@@ -1,0 +1,47 @@
+//! The names under which errors of streams are printed.
+
+ghost use Rattle.std.specs.Prelude.{◌≡◌};
+ghost use Rattle.rtp_media_stream_answers.specs.Names.{open_error_name, sample_error_name, fault_name};
+
+use rtp_media_ends::{PollFault, SampleError};
+use rtp_media_exchange_answers::memory;
+use rtp_media_open_streams::OpenError;
+use rtp_media_words::ErrorName;
+
+/// The name of a refused opening.
+pub(crate) fn open_error_name(error: OpenError) -> ErrorName
+    ensures { result ≡ open_error_name error }
+{
+    match error {
+        OpenError::NoSection => ErrorName::new("NoSection"),
+        OpenError::RowNotAgreed => ErrorName::new("RowNotAgreed"),
+        OpenError::RowDiffers => ErrorName::new("RowDiffers"),
+        OpenError::WrongDirection => ErrorName::new("WrongDirection"),
+        OpenError::SsrcNotNamed => ErrorName::new("SsrcNotNamed"),
+        OpenError::AlreadyOpen => ErrorName::new("AlreadyOpen"),
+        OpenError::Memory => memory(),
+    }
+}
+
+/// The name of a refused sample.
+pub(crate) fn sample_error_name(error: SampleError) -> ErrorName
+    ensures { result ≡ sample_error_name error }
+{
+    match error {
+        SampleError::StreamFailed => ErrorName::new("StreamFailed"),
+        SampleError::TimeTooLarge => ErrorName::new("TimeTooLarge"),
+        SampleError::LimitTooSmall => ErrorName::new("LimitTooSmall"),
+        SampleError::Payload(_) => ErrorName::new("Payload"),
+        SampleError::Memory => memory(),
+    }
+}
+
+/// The name of a fault of a poll.
+pub(crate) fn fault_name(fault: PollFault) -> ErrorName
+    ensures { result ≡ fault_name fault }
+{
+    match fault {
+        PollFault::Payload(_) => ErrorName::new("Payload"),
+        PollFault::Memory => memory(),
+    }
+}
