@@ -1,78 +1,85 @@
 //! The attributes of sessions and sections, and directions that are changed.
 
-use crate::dashes::or_dash;
+use crate::reply::Reply;
 use sdp_formats::directions::{has_direction, set_direction};
 use sdp_formats::{
-    Direction, MediaAttribute, MediaLine, SdpError, Session, SessionAttribute, sdp_parser,
+    Direction, MediaAttribute, MediaLine, Sdp, Session, SessionAttribute, sdp_parser,
 };
 use std::alloc::{AllocError, Global};
-use std::fmt::Write;
 
 /// `attributes NAME`: each attribute of the session and of the sections as it is printed, with `unused` in front where
 /// it is of no known kind, and a section's line `m=` in front of its attributes.
-pub(crate) fn put_attributes(
-    alloc: Global,
-    text: &str,
-    reply: &mut String,
-) -> Result<(), SdpError> {
-    let (sdp, _) = sdp_parser(alloc, text)?;
-    let sections = sdp.media_lines.as_slice();
-    write!(reply, "{} sections", sections.len())?;
-    put_session(alloc, &sdp.session, reply)?;
-    for section in sections {
-        put_section(alloc, section, reply)?;
+pub(crate) fn put_attributes(alloc: Global, text: &str, reply: &mut Reply) {
+    match sdp_parser(alloc, text) {
+        Ok((sdp, _)) => put_listed(alloc, &sdp, reply),
+        Err(error) => reply.refuse(error),
     }
-    Ok(())
 }
 
-fn put_session(alloc: Global, session: &Session, reply: &mut String) -> Result<(), AllocError> {
+fn put_listed(alloc: Global, sdp: &Sdp, reply: &mut Reply) {
+    let sections = sdp.media_lines.as_slice();
+    reply.say("", &sections.len());
+    reply.put(" sections");
+    put_session(alloc, &sdp.session, reply);
+    for section in sections {
+        put_head(section.to_string(alloc), reply);
+        put_section(alloc, section, reply);
+    }
+}
+
+fn put_session(alloc: Global, session: &Session, reply: &mut Reply) {
     for attribute in session.attrs.as_slice() {
         let is_unused = matches!(attribute, SessionAttribute::Unused(_));
-        let line = attribute.to_string(alloc)?;
-        put_line(is_unused, line.as_str(), reply)?;
+        put_line(is_unused, attribute.to_string(alloc), reply);
     }
-    Ok(())
 }
 
-fn put_section(alloc: Global, section: &MediaLine, reply: &mut String) -> Result<(), AllocError> {
-    let printed = section.to_string(alloc)?;
-    if let Some(head) = printed.as_str().lines().next() {
-        write!(reply, "\n  {head}")?;
+/// The first line of a section.
+fn put_head(section: Result<String, AllocError>, reply: &mut Reply) {
+    match section {
+        Ok(section) => reply.say_some("\n  ", &section.as_str().lines().next()),
+        Err(_) => reply.fail(),
     }
+}
+
+fn put_section(alloc: Global, section: &MediaLine, reply: &mut Reply) {
     for attribute in section.attrs.as_slice() {
         let is_unused = matches!(attribute, MediaAttribute::Unused(_));
-        let line = attribute.to_string(alloc)?;
-        put_line(is_unused, line.as_str(), reply)?;
+        put_line(is_unused, attribute.to_string(alloc), reply);
     }
-    Ok(())
 }
 
 /// Writes an attribute without its line end.
-fn put_line(is_unused: bool, line: &str, reply: &mut String) -> Result<(), AllocError> {
-    let before = if is_unused { "unused " } else { "" };
-    let line = match line.strip_suffix("\r\n") {
+fn put_line(is_unused: bool, line: Result<String, AllocError>, reply: &mut Reply) {
+    reply.put(if is_unused { "\n    unused " } else { "\n    " });
+    match line {
+        Ok(line) => reply.put_or_dash(without_end(line.as_str())),
+        Err(_) => reply.fail(),
+    }
+}
+
+fn without_end(line: &str) -> &str {
+    match line.strip_suffix("\r\n") {
         Some(line) => line,
         None => line,
-    };
-    write!(reply, "\n    {before}{}", or_dash(line))
+    }
 }
 
 /// `directed NAME DIRECTION`: the directions of the sections, and the lines that give them, once each section that has
 /// such a line was given this direction.
-pub(crate) fn put_directed(
-    alloc: Global,
-    text: &str,
-    word: &str,
-    reply: &mut String,
-) -> Result<(), SdpError> {
-    let (sdp, _) = sdp_parser(alloc, text)?;
-    let mut sections = sdp.media_lines.into_vec();
-    write!(reply, "{} sections", sections.len())?;
-    for section in sections.iter_mut() {
-        turn(alloc, section, Direction::from(word));
-        put_direction(alloc, section, reply)?;
+pub(crate) fn put_directed(alloc: Global, text: &str, word: &str, reply: &mut Reply) {
+    match sdp_parser(alloc, text) {
+        Ok((sdp, _)) => {
+            let mut sections = sdp.media_lines.into_vec();
+            reply.say("", &sections.len());
+            reply.put(" sections");
+            for section in sections.iter_mut() {
+                turn(alloc, section, Direction::from(word));
+                put_direction(alloc, section, reply);
+            }
+        }
+        Err(error) => reply.refuse(error),
     }
-    Ok(())
 }
 
 /// Gives a section another direction, where it gives one.
@@ -82,13 +89,14 @@ fn turn(alloc: Global, section: &mut MediaLine, direction: Direction) {
     }
 }
 
-fn put_direction(alloc: Global, section: &MediaLine, reply: &mut String) -> Result<(), AllocError> {
-    write!(reply, "\n  section: {}", section.direction())?;
+fn put_direction(alloc: Global, section: &MediaLine, reply: &mut Reply) {
+    reply.say("\n  section: ", &section.direction());
     for attribute in section.attrs.as_slice() {
         if attribute.is_direction() {
-            let line = attribute.to_string(alloc)?;
-            write!(reply, " {}", line.as_str().trim_end())?;
+            match attribute.to_string(alloc) {
+                Ok(line) => reply.say(" ", &line.as_str().trim_end()),
+                Err(_) => reply.fail(),
+            }
         }
     }
-    Ok(())
 }
