@@ -1,11 +1,11 @@
 //! Commands on the config of an end: default rows of a codec, rows of video by numbers, and the distances of
 //! redundancy.
 
-use crate::commands::Answer;
+use crate::commands::Change;
+use crate::reply::Reply;
 use crate::words::{maybe_type, next_number};
-use sdp_formats::{Codec, CodecConfig, Pt};
-use std::alloc::{AllocError, Global};
-use std::fmt::Write;
+use sdp_formats::{Codec, CodecConfig, Joined, Pt};
+use std::alloc::Global;
 use std::str::SplitWhitespace;
 
 /// `enable CODEC RED` and `disable CODEC RED`: the default rows of a codec in place of all that it has, or none; RED is
@@ -14,7 +14,7 @@ pub(crate) fn enable(
     config: &mut CodecConfig,
     enabled: bool,
     words: &mut SplitWhitespace<'_>,
-) -> Answer {
+) -> Change {
     let codec = Codec::from(words.next()?);
     let red = words.next()? == "red";
     Some(match codec {
@@ -36,7 +36,7 @@ pub(crate) fn enable(
 
 /// `video CODEC TYPE RESEND ..`: a row behind the others, of H.264 in packetization mode 1 or another and of a
 /// profile-level-id in hexadecimal, or of H.265 or H.266 of a profile, tier and level by their numbers.
-pub(crate) fn add_video(config: &mut CodecConfig, words: &mut SplitWhitespace<'_>) -> Answer {
+pub(crate) fn add_video(config: &mut CodecConfig, words: &mut SplitWhitespace<'_>) -> Change {
     let codec = Codec::from(words.next()?);
     let pt = Pt::new_with_value(next_number(words)?);
     let resend = maybe_type(words)?;
@@ -71,16 +71,18 @@ pub(crate) fn put_distances(
     alloc: Global,
     config: &mut CodecConfig,
     words: &mut SplitWhitespace<'_>,
-    reply: &mut String,
-) -> Answer {
+    reply: &mut Reply,
+) -> Option<()> {
     let mut given = Vec::new(alloc);
     for word in words {
         if given.push(word.parse::<u32>().ok()?).is_err() {
-            return Some(Err(AllocError));
+            reply.fail();
         }
     }
     if !given.is_empty() && config.set_red_distances(given.as_slice()).is_err() {
-        return Some(Err(AllocError));
+        reply.fail();
     }
-    Some(write!(reply, "{:?}", config.red_distances()))
+    reply.say("[", &Joined(config.red_distances(), ", "));
+    reply.put("]");
+    Some(())
 }

@@ -6,6 +6,7 @@
 mod commands;
 mod configs;
 mod printing;
+mod reply;
 mod row;
 mod words;
 
@@ -15,15 +16,10 @@ use std::io;
 /// Answers each line by a line: a comment by itself, a command by what it gives, and a line that isn't understood by
 /// the word `fault`.
 fn main(rt: HostRuntime) -> io::Result<()> {
-    let alloc = rt.alloc();
-    let mut rows = Rows::new(alloc);
-    let text = io::read_to_string(alloc, rt.reader())?;
+    let mut rows = Rows::new(rt.alloc());
+    let text = io::read_to_string(rt.alloc(), rt.reader())?;
     for line in text.as_str().lines() {
-        let mut reply = String::new(alloc);
-        match answer(alloc, &mut rows, line, &mut reply) {
-            Some(done) => done?,
-            None => reply.push_str("fault")?,
-        }
+        let reply = answer(rt.alloc(), &mut rows, line)?;
         println!(rt; "{reply}")?;
     }
     Ok(())

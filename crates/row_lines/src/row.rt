@@ -1,9 +1,8 @@
 //! Commands on one row: its feedback, and what it equals.
 
-use crate::commands::Answer;
+use crate::reply::Reply;
 use crate::words::{next_row, next_spec};
 use sdp_formats::{PayloadParams, Pt};
-use std::fmt::Write;
 use std::str::SplitWhitespace;
 
 /// A new row of the codec that the words give.
@@ -13,7 +12,7 @@ pub(crate) fn new_row(words: &mut SplitWhitespace<'_>) -> Option<PayloadParams> 
 }
 
 /// `feedback FLAG SPEC`: the feedback of a new row, once one flag is off, or none at a dash.
-pub(crate) fn put_feedback(words: &mut SplitWhitespace<'_>, reply: &mut String) -> Answer {
+pub(crate) fn put_feedback(words: &mut SplitWhitespace<'_>, reply: &mut Reply) -> Option<()> {
     let flag = words.next()?;
     let mut row = new_row(words)?;
     match flag {
@@ -25,24 +24,20 @@ pub(crate) fn put_feedback(words: &mut SplitWhitespace<'_>, reply: &mut String) 
         "-" => {}
         _ => return None,
     }
-    let cc = told("cc", row.fb_transport_cc());
-    let nack = told("nack", row.fb_nack());
-    let pli = told("pli", row.fb_pli());
-    let fir = told("fir", row.fb_fir());
-    let remb = told("remb", row.fb_remb());
-    Some(write!(reply, "{cc} {nack} {pli} {fir} {remb}"))
-}
-
-/// The flag's name, or a dash where it is off.
-pub(crate) fn told(name: &'static str, is_on: bool) -> &'static str {
-    if is_on { name } else { "-" }
+    reply.put_flag("", "cc", row.fb_transport_cc());
+    reply.put_flag(" ", "nack", row.fb_nack());
+    reply.put_flag(" ", "pli", row.fb_pli());
+    reply.put_flag(" ", "fir", row.fb_fir());
+    reply.put_flag(" ", "remb", row.fb_remb());
+    Some(())
 }
 
 /// `equal LOCK ROW LOCK ROW`: whether two rows are equal, where LOCK is `locked` or `open`.
-pub(crate) fn put_equality(words: &mut SplitWhitespace<'_>, reply: &mut String) -> Answer {
+pub(crate) fn put_equality(words: &mut SplitWhitespace<'_>, reply: &mut Reply) -> Option<()> {
     let one = next_lock_and_row(words)?;
     let other = next_lock_and_row(words)?;
-    Some(reply.push_str(if one == other { "equal" } else { "unequal" }))
+    reply.put(if one == other { "equal" } else { "unequal" });
+    Some(())
 }
 
 fn next_lock_and_row(words: &mut SplitWhitespace<'_>) -> Option<PayloadParams> {
