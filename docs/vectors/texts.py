@@ -1,8 +1,9 @@
 #!/usr/bin/env python3
-"""Writes what `crates/text_lines` and `crates/value_lines` read and must answer: commands on session texts and their
-replies, which are kept in `texts.txt` beside this script, each command behind `> ` and its reply below it, and copied,
-each to the program that answers it, with the comment above it. Before that each reply is compared with what the reader
-of `sessions.py`, which shares no code with the project, says of the text.
+"""Writes what `text_lines`, `section_lines` and `value_lines` in `crates` read and must answer: commands on session texts
+and their replies, which are kept in `texts.txt` beside this script, each command behind `> ` and its reply below it, and
+copied, each to the program that answers it, with the comment above it. Before that each reply is compared with what the
+reader of `sessions.py`, which shares no code with the project, says of the text. Behind them `value_lines` reads rows
+and formats that come alone (`rounds.py`).
 
 Run it with `python3 docs/vectors/texts.py`. It tells which replies differ, and writes nothing then.
 """
@@ -12,12 +13,14 @@ import shutil
 import sys
 from pathlib import Path
 
+import rounds
 import sessions
 from sessions import DIRECTIONS, ORDER, fingerprint, lower, param, param_text, printed, read, trimmed
 
 CRATES = Path(__file__).resolve().parents[2] / "crates"
-READ = CRATES / "text_lines/data"  # each text; `value_lines` has those that its commands name as well
-VALUES = ("says", "rows", "candidate", "fingerprint", "setup", "parameters")  # what `value_lines` answers
+READ = CRATES / "text_lines/data"  # each text; `section_lines` has those that its commands name as well
+PROGRAMS = {"section_lines": ("attributes", "directed", "rows", "says"),
+            "value_lines": ("candidate", "fingerprint", "setup", "parameters")}  # `text_lines` answers all others
 TEXTS = Path(__file__).with_name("texts.txt")
 
 
@@ -225,7 +228,7 @@ def of_parameters(text):
 
 
 def program(command):
-    return CRATES / ("value_lines" if command in VALUES else "text_lines")
+    return next((name for name, commands in PROGRAMS.items() if command in commands), "text_lines")
 
 
 def reply(line):
@@ -247,14 +250,14 @@ def reply(line):
     return [f"{name}: {told[0]}", *told[1:]]
 
 
-def commands_of(crate, kept):
+def commands_of(name, kept):
     """The commands that a program answers, each comment in front of the first one that stands below it."""
     comment = None
     for line, told in kept:
         word = line.split(" ")[0]
         if word == "#":
             comment = line, told
-        elif program(word) == crate:
+        elif program(word) == name:
             yield from [comment] if comment else []
             yield line, told
             comment = None
@@ -273,10 +276,12 @@ def main():
               *(f"  read {line}" for line in wanted if line not in told), sep="\n")
     if differing:
         sys.exit(1)
-    for name in ("text_lines", "value_lines"):
-        own = list(commands_of(CRATES / name, kept))
+    for name in ("text_lines", *PROGRAMS):
+        own = list(commands_of(name, kept))
+        if name == "value_lines":
+            own += [(line, [line if answer is None else answer]) for line, answer in rounds.alone()]
         for path in {READ / word for line, _ in own for word in line.split(" ")[1:2]}:
-            if name != "text_lines" and path.is_file():
+            if name == "section_lines" and path.is_file():
                 shutil.copyfile(path, CRATES / name / "data" / path.name)
         (CRATES / name / "stdin").write_text("".join(f"{command}\n" for command, _ in own))
         (CRATES / name / "stdout").write_text("".join(f"{line}\n" for _, told in own for line in told))

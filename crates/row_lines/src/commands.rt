@@ -3,11 +3,9 @@
 use crate::configs::{add_video, enable, put_distances};
 use crate::printing::{put_own_rows, put_round};
 use crate::reply::Reply;
-use crate::row::{new_row, put_equality, put_feedback};
-use crate::words::{next_number, next_row, next_spec};
-use sdp_formats::{CodecConfig, Direction, FormatParams, Pt};
+use crate::words::{row_of, spec_of, type_of};
+use sdp_formats::{CodecConfig, Direction};
 use std::alloc::{AllocError, Global};
-use std::str::SplitWhitespace;
 
 /// Whether there was memory for a change of rows; none where the line isn't understood.
 pub(crate) type Change = Option<Result<(), AllocError>>;
@@ -36,15 +34,11 @@ pub(crate) fn answer(alloc: Global, rows: &mut Rows, line: &str) -> Result<Strin
         Some(parts) => parts,
         None => (line, ""),
     };
-    match command {
-        "" | "#" => reply.put(line),
-        "format" => reply.put_printed("", FormatParams::parse_line(rest).to_string(alloc)),
-        _ => {
-            let words = &mut rest.split_whitespace();
-            if put_answer(alloc, rows, command, words, &mut reply).is_none() {
-                reply.put("fault");
-            }
-        }
+    let words: Vec<&str> = rest.split_whitespace().collect(alloc)?;
+    if command.is_empty() || command == "#" {
+        reply.put(line);
+    } else if put_answer(alloc, rows, command, words.as_slice(), &mut reply).is_none() {
+        reply.put("fault");
     }
     reply.finish()
 }
@@ -54,32 +48,23 @@ fn put_answer(
     alloc: Global,
     rows: &mut Rows,
     command: &str,
-    words: &mut SplitWhitespace<'_>,
+    words: &[&str],
     reply: &mut Reply,
 ) -> Option<()> {
     match command {
-        "score" => put_score(words, reply)?,
-        "feedback" => put_feedback(words, reply)?,
-        "equal" => put_equality(words, reply)?,
-        "distances" => put_distances(alloc, &mut rows.own, words, reply)?,
-        "find" => put_found(&rows.own, words, reply)?,
-        "rows" => put_own_rows(alloc, rows.own.params(), reply),
+        "distances" => put_distances(alloc, &mut rows.own, words, reply),
+        "find" => put_found(&rows.own, words, reply),
+        "rows" => Some(put_own_rows(alloc, rows.own.params(), reply)),
         "round" => {
-            let dir = Direction::from(words.next()?);
-            put_round(alloc, &mut rows.own, rows.remote.params(), dir, reply);
+            let dir = Direction::from(*words.first()?);
+            Some(put_round(alloc, &mut rows.own, rows.remote.params(), dir, reply))
         }
-        _ => reply.put_done(change(alloc, rows, command, words)?),
+        _ => Some(reply.put_done(change(alloc, rows, command, words)?)),
     }
-    Some(())
 }
 
 /// Rows put behind the others or in place of some, or none left.
-fn change(
-    alloc: Global,
-    rows: &mut Rows,
-    command: &str,
-    words: &mut SplitWhitespace<'_>,
-) -> Change {
+fn change(alloc: Global, rows: &mut Rows, command: &str, words: &[&str]) -> Change {
     match command {
         "own" | "locked" | "remote" => return push(rows, command, words),
         "enable" | "disable" => return enable(&mut rows.own, command == "enable", words),
@@ -98,8 +83,8 @@ fn change(
 }
 
 /// `own ROW`, `locked ROW` and `remote ROW`: a row behind the own ones, locked or not, or behind the other end's.
-fn push(rows: &mut Rows, command: &str, words: &mut SplitWhitespace<'_>) -> Change {
-    let mut row = next_row(words)?;
+fn push(rows: &mut Rows, command: &str, words: &[&str]) -> Change {
+    let mut row = row_of(words)?;
     if command == "locked" {
         row.lock();
     }
@@ -111,9 +96,12 @@ fn push(rows: &mut Rows, command: &str, words: &mut SplitWhitespace<'_>) -> Chan
 }
 
 /// `add TYPE SPEC`: a new row of a codec behind the others.
-fn add(config: &mut CodecConfig, words: &mut SplitWhitespace<'_>) -> Change {
-    let pt = Pt::new_with_value(next_number(words)?);
-    let spec = next_spec(words)?;
+fn add(config: &mut CodecConfig, words: &[&str]) -> Change {
+    let [pt, spec @ ..] = words else {
+        return None;
+    };
+    let pt = type_of(pt)?;
+    let spec = spec_of(spec)?;
     Some(config.add_config(
         pt,
         None,
@@ -124,24 +112,9 @@ fn add(config: &mut CodecConfig, words: &mut SplitWhitespace<'_>) -> Change {
     ))
 }
 
-/// `score SPEC SPEC`: how well two rows match.
-fn put_score(words: &mut SplitWhitespace<'_>, reply: &mut Reply) -> Option<()> {
-    let one = new_row(words)?;
-    let other = new_row(words)?;
-    match one.match_score(&other) {
-        Some(points) => reply.say("", &points),
-        None => reply.put("none"),
-    }
-    Some(())
-}
-
 /// `find TYPE`: the codec of the first own row of a type.
-fn put_found(
-    config: &CodecConfig,
-    words: &mut SplitWhitespace<'_>,
-    reply: &mut Reply,
-) -> Option<()> {
-    let pt = Pt::new_with_value(next_number(words)?);
+fn put_found(config: &CodecConfig, words: &[&str], reply: &mut Reply) -> Option<()> {
+    let pt = type_of(words.first()?)?;
     match config.find(|row| row.pt() == pt) {
         Some(row) => reply.say("", &row.spec().codec),
         None => reply.put("none"),

@@ -1,13 +1,12 @@
-//! Answers commands on rows, scores, rounds, formats, feedback and configs, a line of standard input after the other.
-//! Its transcript holds rows and what rounds leave of them, which a model that shares no code with the project worked
-//! out, beside rows, formats and configs by hand.
+//! Answers commands on rows, rounds and configs, a line of standard input after the other. Its transcript holds rows and
+//! what rounds leave of them, which a model that shares no code with the project worked out, beside rows and configs by
+//! hand. What single rows give is asked of `value_lines`.
 #![tactic(auto)]
 
 mod commands;
 mod configs;
 mod printing;
 mod reply;
-mod row;
 mod words;
 
 use commands::{Rows, answer};

@@ -11,7 +11,7 @@ fn put_row(alloc: Global, row: &PayloadParams, reply: &mut Reply) {
     reply.say_or_dash(" ", &row.resend());
     reply.say_or_dash(" ", &row.red());
     reply.put(if row.is_locked() { " locked" } else { " open" });
-    reply.put_flag(" ", "cc", row.fb_transport_cc());
+    reply.put(if row.fb_transport_cc() { " cc" } else { " -" });
     reply.say(" ", &spec.codec);
     reply.say_or_dash(" ", &spec.channels);
     reply.put_printed(" ", spec.format.to_string(alloc));

@@ -42,12 +42,6 @@ impl Reply {
         }
     }
 
-    /// Writes a flag's name behind a text, or a dash where it is off.
-    pub(crate) fn put_flag(&mut self, before: &str, name: &str, is_on: bool) {
-        self.put(before);
-        self.put(if is_on { name } else { "-" });
-    }
-
     /// Writes what was printed behind a text.
     pub(crate) fn put_printed(&mut self, before: &str, printed: Result<String, AllocError>) {
         match printed {

@@ -1,6 +1,5 @@
 //! The commands.
 
-use crate::attributes::{put_attributes, put_directed};
 use crate::exchanged::{put_answer, put_offer};
 use crate::reply::Reply;
 use crate::texts::{put_prefixes, put_session, put_text};
@@ -20,33 +19,31 @@ pub(crate) fn answer(rt: &HostRuntime, line: &str) -> Result<String, AllocError>
     let mut reply = Reply::new(rt.alloc());
     match parted(line) {
         ("" | "#", _) => reply.put(line),
-        (command, rest) => put_file(rt, command, parted(rest), &mut reply),
+        (command, rest) => put_file(rt, command, parted(rest).0, &mut reply),
     }
     reply.finish()
 }
 
 /// `COMMAND NAME ..`: the name, and what a command on the session text in the file of that name gives.
-fn put_file(rt: &HostRuntime, command: &str, (name, word): (&str, &str), reply: &mut Reply) {
+fn put_file(rt: &HostRuntime, command: &str, name: &str, reply: &mut Reply) {
     match fs::read_to_string(rt, name) {
         Ok(text) => {
             reply.put(name);
             reply.put(": ");
-            put_command(rt.alloc(), command, word, text.as_str(), reply);
+            put_command(rt.alloc(), command, text.as_str(), reply);
         }
         Err(_) => reply.fault(),
     }
 }
 
 /// Writes what a command on a session text gives.
-fn put_command(alloc: Global, command: &str, word: &str, text: &str, reply: &mut Reply) {
+fn put_command(alloc: Global, command: &str, text: &str, reply: &mut Reply) {
     match command {
         "text" => put_text(alloc, text, reply),
         "prefixes" => put_prefixes(alloc, text, reply),
         "session" => put_session(alloc, text, reply),
         "offer" => put_offer(alloc, text, reply),
         "answer" => put_answer(alloc, text, reply),
-        "attributes" => put_attributes(alloc, text, reply),
-        "directed" => put_directed(alloc, text, word, reply),
         _ => reply.fault(),
     }
 }

@@ -28,11 +28,6 @@ impl Reply {
         }
     }
 
-    /// Writes a text, or a dash where it is empty.
-    pub(crate) fn put_or_dash(&mut self, text: &str) {
-        self.put(if text.is_empty() { "-" } else { text });
-    }
-
     /// Writes a value behind a text.
     pub(crate) fn say<T: fmt::Display>(&mut self, before: &str, value: &T) {
         if self.written.is_ok() {

@@ -34,13 +34,6 @@ impl Reply {
         }
     }
 
-    /// Writes a value behind a text, or nothing where there is none.
-    pub(crate) fn say_some<T: fmt::Display>(&mut self, before: &str, value: &Option<T>) {
-        if let Some(value) = value {
-            self.say(before, value);
-        }
-    }
-
     /// Writes a value behind a text, or a dash where there is none.
     pub(crate) fn say_or_dash<T: fmt::Display>(&mut self, before: &str, value: &Option<T>) {
         match value {
@@ -49,11 +42,15 @@ impl Reply {
         }
     }
 
-    /// Writes a printed value behind a text, or a dash where it is empty.
-    pub(crate) fn put_printed(&mut self, before: &str, printed: Result<String, AllocError>) {
+    /// Writes a flag's name behind a text, or a dash where it is off.
+    pub(crate) fn put_flag(&mut self, before: &str, name: &str, is_on: bool) {
         self.put(before);
+        self.put(if is_on { name } else { "-" });
+    }
+
+    /// Writes what was printed.
+    pub(crate) fn put_printed(&mut self, printed: Result<String, AllocError>) {
         match printed {
-            Ok(text) if text.is_empty() => self.put("-"),
             Ok(text) => self.put(text.as_str()),
             Err(_) => self.fail(),
         }

@@ -1,51 +1,68 @@
-//! The rows that sections list.
+//! Commands on rows alone: how well they match, their feedback, and what they equal.
 
 use crate::reply::Reply;
-use sdp_formats::{MediaLine, PayloadParams, Sdp, rtp_params};
-use std::alloc::Global;
+use crate::words::{row_of, spec_of};
+use sdp_formats::{PayloadParams, Pt};
 
-/// `rows NAME`: of each section its rows, each with its type, codec, clock rate, channels, format, feedback, and the
-/// types of its retransmissions and of its redundancy.
-pub(crate) fn put_rows(alloc: Global, sdp: &Sdp, reply: &mut Reply) {
-    for section in sdp.media_lines.as_slice() {
-        put_section(alloc, section, reply);
+/// A new row of the codec at the front.
+fn new_row(words: &[&str]) -> Option<PayloadParams> {
+    let spec = spec_of(words)?;
+    Some(PayloadParams::new(Pt::new_with_value(96), None, spec))
+}
+
+/// `score SPEC SPEC`: how well two rows match.
+pub(crate) fn put_score(words: &[&str], reply: &mut Reply) -> Option<()> {
+    let one = new_row(words)?;
+    let other = new_row(words.get(4..)?)?;
+    match one.match_score(&other) {
+        Some(points) => reply.say("", &points),
+        None => reply.put("none"),
     }
+    Some(())
 }
 
-fn put_section(alloc: Global, section: &MediaLine, reply: &mut Reply) {
-    match rtp_params(alloc, section) {
-        Ok(rows) => {
-            reply.say("\n  section: ", &rows.len());
-            reply.put(" rows");
-            for row in rows.as_slice() {
-                put_row(alloc, row, reply);
-            }
-        }
-        Err(_) => reply.fail(),
+/// `feedback FLAG SPEC`: the feedback of a new row, once one flag is off, or none at a dash.
+pub(crate) fn put_feedback(words: &[&str], reply: &mut Reply) -> Option<()> {
+    let [flag, spec @ ..] = words else {
+        return None;
+    };
+    let mut row = new_row(spec)?;
+    match *flag {
+        "cc" => row.set_fb_transport_cc(false),
+        "nack" => row.set_fb_nack(false),
+        "pli" => row.set_fb_pli(false),
+        "fir" => row.set_fb_fir(false),
+        "remb" => row.set_fb_remb(false),
+        "-" => {}
+        _ => return None,
     }
+    put_flags(&row, reply);
+    Some(())
 }
 
-fn put_row(alloc: Global, row: &PayloadParams, reply: &mut Reply) {
-    let spec = row.spec();
-    reply.say("\n    ", &row.pt());
-    reply.say(" ", &spec.codec);
-    reply.say(" ", &spec.clock_rate);
-    reply.say_or_dash(" ", &spec.channels);
-    reply.put_printed(" ", spec.format.to_string(alloc));
-    put_feedback(row, reply);
-    reply.say_or_dash(" ", &row.resend());
-    reply.say_or_dash(" ", &row.red());
+fn put_flags(row: &PayloadParams, reply: &mut Reply) {
+    reply.put_flag("", "cc", row.fb_transport_cc());
+    reply.put_flag(" ", "nack", row.fb_nack());
+    reply.put_flag(" ", "pli", row.fb_pli());
+    reply.put_flag(" ", "fir", row.fb_fir());
+    reply.put_flag(" ", "remb", row.fb_remb());
 }
 
-fn put_feedback(row: &PayloadParams, reply: &mut Reply) {
-    put_flag(" cc", row.fb_transport_cc(), reply);
-    put_flag(" nack", row.fb_nack(), reply);
-    put_flag(" pli", row.fb_pli(), reply);
-    put_flag(" fir", row.fb_fir(), reply);
-    put_flag(" remb", row.fb_remb(), reply);
+/// `equal LOCK ROW LOCK ROW`: whether two rows are equal, where LOCK is `locked` or `open`.
+pub(crate) fn put_equality(words: &[&str], reply: &mut Reply) -> Option<()> {
+    let one = locked_or_open(words)?;
+    let other = locked_or_open(words.get(9..)?)?;
+    reply.put(if one == other { "equal" } else { "unequal" });
+    Some(())
 }
 
-/// Writes the flag's name, or a dash where it is off.
-fn put_flag(name: &str, is_on: bool, reply: &mut Reply) {
-    reply.put(if is_on { name } else { " -" });
+fn locked_or_open(words: &[&str]) -> Option<PayloadParams> {
+    let [lock, row @ ..] = words else {
+        return None;
+    };
+    let mut row = row_of(row)?;
+    if *lock == "locked" {
+        row.lock();
+    }
+    Some(row)
 }

@@ -20,7 +20,7 @@ pub(crate) fn put_candidate(alloc: Global, text: &str, reply: &mut Reply) {
 }
 
 fn put_parts(alloc: Global, candidate: &Candidate, reply: &mut Reply) {
-    reply.put_printed("", candidate.to_sdp_string(alloc));
+    reply.put_printed(candidate.to_sdp_string(alloc));
     reply.say(": at ", &candidate.addr());
     reply.say(", port ", &candidate.port());
     reply.say(", by ", &candidate.proto().as_str());
@@ -71,10 +71,16 @@ pub(crate) fn put_setup((own, other): (&str, &str), reply: &mut Reply) {
     reply.say_or_dash(" ", &own.compare_to_remote(other));
 }
 
-/// `parameters TEXT`: the parameters of the format that a text gives, one by one.
+/// `format TEXT`: the parameters that a text gives, blanks and all, printed again.
+pub(crate) fn put_format(alloc: Global, text: &str, reply: &mut Reply) {
+    reply.put_printed(FormatParams::parse_line(text).to_string(alloc));
+}
+
+/// `parameters TEXT`: the parameters of the format that a text gives, one by one, or a dash where there are none.
 pub(crate) fn put_parameters(alloc: Global, text: &str, reply: &mut Reply) {
     match to_format_param(alloc, &FormatParams::parse_line(text)) {
-        Ok(params) => reply.put_printed("", Joined(params.as_slice(), " ").to_string(alloc)),
+        Ok(params) if params.is_empty() => reply.put("-"),
+        Ok(params) => reply.say("", &Joined(params.as_slice(), " ")),
         Err(_) => reply.fail(),
     }
 }

@@ -2,26 +2,14 @@
 
 use crate::reply::Reply;
 use sdp_formats::directions::{has_direction, set_direction};
-use sdp_formats::{
-    Direction, MediaAttribute, MediaLine, Sdp, Session, SessionAttribute, sdp_parser,
-};
+use sdp_formats::{Direction, MediaAttribute, MediaLine, Sdp, Session, SessionAttribute};
 use std::alloc::{AllocError, Global};
 
 /// `attributes NAME`: each attribute of the session and of the sections as it is printed, with `unused` in front where
 /// it is of no known kind, and a section's line `m=` in front of its attributes.
-pub(crate) fn put_attributes(alloc: Global, text: &str, reply: &mut Reply) {
-    match sdp_parser(alloc, text) {
-        Ok((sdp, _)) => put_listed(alloc, &sdp, reply),
-        Err(error) => reply.refuse(error),
-    }
-}
-
-fn put_listed(alloc: Global, sdp: &Sdp, reply: &mut Reply) {
-    let sections = sdp.media_lines.as_slice();
-    reply.say("", &sections.len());
-    reply.put(" sections");
+pub(crate) fn put_attributes(alloc: Global, sdp: &Sdp, reply: &mut Reply) {
     put_session(alloc, &sdp.session, reply);
-    for section in sections {
+    for section in sdp.media_lines.as_slice() {
         put_head(section.to_string(alloc), reply);
         put_section(alloc, section, reply);
     }
@@ -49,7 +37,7 @@ fn put_section(alloc: Global, section: &MediaLine, reply: &mut Reply) {
     }
 }
 
-/// Writes an attribute without its line end.
+/// Writes an attribute without its line end, or a dash for one of nothing.
 fn put_line(is_unused: bool, line: Result<String, AllocError>, reply: &mut Reply) {
     reply.put(if is_unused { "\n    unused " } else { "\n    " });
     match line {
@@ -67,18 +55,10 @@ fn without_end(line: &str) -> &str {
 
 /// `directed NAME DIRECTION`: the directions of the sections, and the lines that give them, once each section that has
 /// such a line was given this direction.
-pub(crate) fn put_directed(alloc: Global, text: &str, word: &str, reply: &mut Reply) {
-    match sdp_parser(alloc, text) {
-        Ok((sdp, _)) => {
-            let mut sections = sdp.media_lines.into_vec();
-            reply.say("", &sections.len());
-            reply.put(" sections");
-            for section in sections.iter_mut() {
-                turn(alloc, section, Direction::from(word));
-                put_direction(alloc, section, reply);
-            }
-        }
-        Err(error) => reply.refuse(error),
+pub(crate) fn put_directed(alloc: Global, sdp: Sdp, direction: Direction, reply: &mut Reply) {
+    for section in sdp.media_lines.into_vec().iter_mut() {
+        turn(alloc, section, direction);
+        put_direction(alloc, section, reply);
     }
 }
 
