@@ -18,7 +18,7 @@ pub(crate) fn put_attributes(alloc: Global, sdp: &Sdp, reply: &mut Reply) {
 fn put_session(alloc: Global, session: &Session, reply: &mut Reply) {
     for attribute in session.attrs.as_slice() {
         let is_unused = matches!(attribute, SessionAttribute::Unused(_));
-        put_line(is_unused, attribute.to_string(alloc), reply);
+        put_line(indent(is_unused), attribute.to_string(alloc), reply);
     }
 }
 
@@ -33,13 +33,18 @@ fn put_head(section: Result<String, AllocError>, reply: &mut Reply) {
 fn put_section(alloc: Global, section: &MediaLine, reply: &mut Reply) {
     for attribute in section.attrs.as_slice() {
         let is_unused = matches!(attribute, MediaAttribute::Unused(_));
-        put_line(is_unused, attribute.to_string(alloc), reply);
+        put_line(indent(is_unused), attribute.to_string(alloc), reply);
     }
 }
 
-/// Writes an attribute without its line end, or a dash for one of nothing.
-fn put_line(is_unused: bool, line: Result<String, AllocError>, reply: &mut Reply) {
-    reply.put(if is_unused { "\n    unused " } else { "\n    " });
+/// What stands in front of an attribute, of a known kind or not.
+fn indent(is_unused: bool) -> &'static str {
+    if is_unused { "\n    unused " } else { "\n    " }
+}
+
+/// Writes an attribute without its line end behind a text, or a dash for one of nothing.
+fn put_line(before: &str, line: Result<String, AllocError>, reply: &mut Reply) {
+    reply.put(before);
     match line {
         Ok(line) => reply.put_or_dash(without_end(line.as_str())),
         Err(_) => reply.fail(),
@@ -73,10 +78,7 @@ fn put_direction(alloc: Global, section: &MediaLine, reply: &mut Reply) {
     reply.say("\n  section: ", &section.direction());
     for attribute in section.attrs.as_slice() {
         if attribute.is_direction() {
-            match attribute.to_string(alloc) {
-                Ok(line) => reply.say(" ", &line.as_str().trim_end()),
-                Err(_) => reply.fail(),
-            }
+            put_line(" ", attribute.to_string(alloc), reply);
         }
     }
 }

@@ -52,10 +52,11 @@ fn put_session(alloc: Global, session: &Session, reply: &mut Reply) {
 /// Writes how many candidates there are, where there are some.
 fn put_count(before: &str, candidates: Result<Vec<&Candidate>, AllocError>, reply: &mut Reply) {
     match candidates {
-        Ok(candidates) if candidates.is_empty() => {}
         Ok(candidates) => {
-            reply.say(before, &candidates.len());
-            reply.put(" candidates");
+            if !candidates.is_empty() {
+                reply.say(before, &candidates.len());
+                reply.put(" candidates");
+            }
         }
         Err(_) => reply.fail(),
     }
