@@ -1,6 +1,6 @@
-//! Answers commands on rows, rounds and configs, a line of standard input after the other. Its transcript holds rows and
-//! what rounds leave of them, which a model that shares no code with the project worked out, beside rows and configs by
-//! hand. What single rows give is asked of `value_lines`.
+//! Answers commands on rows, rounds and configs, a line of standard input after the other. Its transcript holds rows
+//! and what rounds leave of them, which a model that shares no code with the project worked out, beside rows and
+//! configs by hand. What single rows give is asked of `value_lines`.
 #![tactic(auto)]
 
 mod commands;
