@@ -1,6 +1,6 @@
 #!/usr/bin/env python3
 """Writes what `crates/row_lines` reads and must answer: rounds of rows, worked out with an array of marks from the
-rules of negotiation alone, beside rounds that were put together by hand, and rows, formats and configs by hand.
+rules of negotiation alone, beside rounds that were put together by hand, and rows and configs by hand.
 
 Run it with `python3 docs/vectors/rounds.py`. Random rounds come from a fixed seed.
 """
@@ -315,8 +315,8 @@ def audio(codec, pt, clock, red=None, channels=None, locked=False, rtx=None, cc=
     return Row(pt, rtx, red, cc, spec, locked)
 
 
-def by_hand():
-    """Worked rounds, with answers by hand."""
+def scores():
+    """How well two rows match, by hand."""
     one, other = "H264 90000 - packetization-mode=1;profile-level-id=", "opus 48000 2 "
     yield "# Scores", None
     yield f"score {one}42e01f {one}42e028", "98"
@@ -326,6 +326,10 @@ def by_hand():
     yield "score telephone-event 8000 1 0-15 telephone-event 8000 - 0-4", "100"
     yield "score AMR-WB 16000 1 octet-align=1 AMR-WB 16000 - octet-align=1;mode-set=1", "99"
     yield "score AMR-WB 16000 0 - AMR-WB 16000 1 -", "none"
+
+
+def by_hand():
+    """Worked rounds, with answers by hand."""
     yield "# H.264 is locked at 108 and 109, Opus meets one at 109: moved where the other end only sends", None
     yield "fresh", "ok"
     yield "locked 108 109 - cc H264 90000 - profile-level-id=42e01f", "ok"
@@ -408,6 +412,11 @@ def feedback_and_equality():
     row, with_red = "96 - - cc VP8 90000 - -", "96 - 63 cc VP8 90000 - -"
     yield f"equal open {row} locked {row}", "equal"
     yield f"equal open {row} open {with_red}", "unequal"
+
+
+def alone():
+    """What `crates/value_lines` reads and must answer of rows and formats that come alone; `texts.py` writes it."""
+    return [*scores(), *formats(), *feedback_and_equality()]
 
 
 def counted(rows):
@@ -606,8 +615,7 @@ def random_rounds(seed, count):
 
 
 def main():
-    rows = [*by_hand(), *formats(), *feedback_and_equality(), *configs(), *rows_move_away(), *no_type_is_left(),
-            *random_rounds(1, 300)]
+    rows = [*by_hand(), *configs(), *rows_move_away(), *no_type_is_left(), *random_rounds(1, 300)]
     (CRATE / "stdin").write_text("".join(f"{line}\n" for line, _ in rows))
     (CRATE / "stdout").write_text("".join((line if answer is None else answer) + "\n" for line, answer in rows))
     answers = [a.split(" ")[0] for l, a in rows if l.startswith("round")]

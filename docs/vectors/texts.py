@@ -1,19 +1,26 @@
 #!/usr/bin/env python3
-"""Writes what `crates/text_lines` reads and must answer: commands on session texts and their replies, which are kept in
-`texts.txt` beside this script, each command behind `> ` and its reply below it, and copied. Before that each reply is
-compared with what the reader of `sessions.py`, which shares no code with the project, says of the text.
+"""Writes what `text_lines`, `section_lines` and `value_lines` in `crates` read and must answer: commands on session texts
+and their replies, which are kept in `texts.txt` beside this script, each command behind `> ` and its reply below it, and
+copied, each to the program that answers it, with the comment above it. Before that each reply is compared with what the
+reader of `sessions.py`, which shares no code with the project, says of the text. Behind them `value_lines` reads rows
+and formats that come alone (`rounds.py`).
 
 Run it with `python3 docs/vectors/texts.py`. It tells which replies differ, and writes nothing then.
 """
 
 import re
+import shutil
 import sys
 from pathlib import Path
 
+import rounds
 import sessions
 from sessions import DIRECTIONS, ORDER, fingerprint, lower, param, param_text, printed, read, trimmed
 
-CRATE = Path(__file__).resolve().parents[2] / "crates/text_lines"
+CRATES = Path(__file__).resolve().parents[2] / "crates"
+READ = CRATES / "text_lines/data"  # each text; `section_lines` has those that its commands name as well
+PROGRAMS = {"section_lines": ("attributes", "directed", "rows", "says"),
+            "value_lines": ("candidate", "fingerprint", "setup", "parameters")}  # `text_lines` answers all others
 TEXTS = Path(__file__).with_name("texts.txt")
 
 
@@ -220,6 +227,10 @@ def of_parameters(text):
     return " ".join(param_text((key, found[key])) for key in ORDER if key in found) or "-"
 
 
+def program(command):
+    return next((name for name, commands in PROGRAMS.items() if command in commands), "text_lines")
+
+
 def reply(line):
     """What a line is answered by, after the standards; a comment by itself."""
     command, _, rest = line.partition(" ")
@@ -231,12 +242,25 @@ def reply(line):
     name, _, word = rest.partition(" ")
     if command == "setup":
         return [of_setup(name, word)]
-    path = CRATE / "data" / name
+    path = READ / name
     if command not in ("text", "prefixes", "session", "offer", "answer", "attributes", "directed", "rows", "says") or \
             not path.is_file():
         return ["fault"]
     told = of_text(command, word, path.read_bytes().decode())
     return [f"{name}: {told[0]}", *told[1:]]
+
+
+def commands_of(name, kept):
+    """The commands that a program answers, each comment in front of the first one that stands below it."""
+    comment = None
+    for line, told in kept:
+        word = line.split(" ")[0]
+        if word == "#":
+            comment = line, told
+        elif program(word) == name:
+            yield from [comment] if comment else []
+            yield line, told
+            comment = None
 
 
 def main():
@@ -252,9 +276,16 @@ def main():
               *(f"  read {line}" for line in wanted if line not in told), sep="\n")
     if differing:
         sys.exit(1)
-    (CRATE / "stdin").write_text("".join(f"{command}\n" for command, _ in kept))
-    (CRATE / "stdout").write_text("".join(f"{line}\n" for _, told in kept for line in told))
-    print(len(kept), "commands")
+    for name in ("text_lines", *PROGRAMS):
+        own = list(commands_of(name, kept))
+        if name == "value_lines":
+            own += [(line, [line if answer is None else answer]) for line, answer in rounds.alone()]
+        for path in {READ / word for line, _ in own for word in line.split(" ")[1:2]}:
+            if name == "section_lines" and path.is_file():
+                shutil.copyfile(path, CRATES / name / "data" / path.name)
+        (CRATES / name / "stdin").write_text("".join(f"{command}\n" for command, _ in own))
+        (CRATES / name / "stdout").write_text("".join(f"{line}\n" for _, told in own for line in told))
+        print(name, len(own), "lines")
 
 
 if __name__ == "__main__":

@@ -1,59 +1,41 @@
 //! What rounds give, as text.
 
-use crate::row::told;
+use crate::reply::Reply;
 use sdp_formats::{CodecConfig, Direction, PayloadParams, RoundError};
-use std::alloc::{AllocError, Global};
-use std::fmt;
-use std::fmt::Write;
-
-/// A value to be printed, or a dash where there is none.
-#[derive(Drop)]
-struct OrDash<T>(Option<T>);
-
-impl<T: fmt::Display> fmt::Display for OrDash<T> {
-    fn fmt<W: fmt::Write>(&self, f: &mut fmt::Formatter<W>) -> fmt::Result {
-        match &self.0 {
-            Some(value) => write!(f, "{value}"),
-            None => f.write_str("-"),
-        }
-    }
-}
+use std::alloc::Global;
 
 /// Writes a row: its types, whether it is locked and uses transport-wide feedback, its codec, channels and format.
-fn put_row(alloc: Global, row: &PayloadParams, reply: &mut String) -> Result<(), AllocError> {
+fn put_row(alloc: Global, row: &PayloadParams, reply: &mut Reply) {
     let spec = row.spec();
-    let pt = row.pt();
-    let resend = OrDash(row.resend());
-    let red = OrDash(row.red());
-    let lock = if row.is_locked() { "locked" } else { "open" };
-    let feedback = told("cc", row.fb_transport_cc());
-    let codec = spec.codec;
-    let channels = OrDash(spec.channels);
-    let format = spec.format.to_string(alloc)?;
-    write!(
-        reply,
-        " | {pt} {resend} {red} {lock} {feedback} {codec} {channels} {format}"
-    )
+    reply.say(" | ", &row.pt());
+    reply.say_or_dash(" ", &row.resend());
+    reply.say_or_dash(" ", &row.red());
+    reply.put(if row.is_locked() { " locked" } else { " open" });
+    reply.put(if row.fb_transport_cc() { " cc" } else { " -" });
+    reply.say(" ", &spec.codec);
+    reply.say_or_dash(" ", &spec.channels);
+    reply.put_printed(" ", spec.format.to_string(alloc));
 }
 
 /// Writes the rows, each behind a bar.
-pub(crate) fn put_rows(
-    alloc: Global,
-    rows: &[PayloadParams],
-    reply: &mut String,
-) -> Result<(), AllocError> {
+fn put_rows(alloc: Global, rows: &[PayloadParams], reply: &mut Reply) {
     for row in rows {
-        put_row(alloc, row, reply)?;
+        put_row(alloc, row, reply);
     }
-    Ok(())
 }
 
-fn put_refusal(refusal: RoundError, reply: &mut String) -> Result<(), AllocError> {
+/// `rows`: how many own rows there are, and which.
+pub(crate) fn put_own_rows(alloc: Global, rows: &[PayloadParams], reply: &mut Reply) {
+    reply.say("", &rows.len());
+    put_rows(alloc, rows, reply);
+}
+
+fn put_refusal(refusal: RoundError, reply: &mut Reply) {
     match refusal {
-        RoundError::TypeTaken(pt) => write!(reply, "TypeTaken {pt}"),
-        RoundError::ResendTaken(pt) => write!(reply, "ResendTaken {pt}"),
-        RoundError::NoFreeType => reply.push_str("NoFreeType"),
-        RoundError::Memory => Err(AllocError),
+        RoundError::TypeTaken(pt) => reply.say("TypeTaken ", &pt),
+        RoundError::ResendTaken(pt) => reply.say("ResendTaken ", &pt),
+        RoundError::NoFreeType => reply.put("NoFreeType"),
+        RoundError::Memory => reply.fail(),
     }
 }
 
@@ -63,11 +45,11 @@ pub(crate) fn put_round(
     config: &mut CodecConfig,
     remote: &[PayloadParams],
     dir: Direction,
-    reply: &mut String,
-) -> Result<(), AllocError> {
+    reply: &mut Reply,
+) {
     match config.round(remote, dir) {
-        Ok(()) => reply.push_str("ok")?,
-        Err(refusal) => put_refusal(refusal, reply)?,
+        Ok(()) => reply.put("ok"),
+        Err(refusal) => put_refusal(refusal, reply),
     }
-    put_rows(alloc, config.params(), reply)
+    put_rows(alloc, config.params(), reply);
 }

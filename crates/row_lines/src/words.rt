@@ -1,54 +1,62 @@
-//! The words of a line: none where one is missing, or isn't what has to stand there.
+//! What the words of a line say: none where one is missing, or isn't what has to stand there.
 
 use sdp_formats::{Codec, CodecSpec, FormatParams, Frequency, PayloadParams, Pt};
-use std::str::SplitWhitespace;
 
-/// The next word, a number of 8 bits.
-pub(crate) fn next_number(words: &mut SplitWhitespace<'_>) -> Option<u8> {
-    words.next()?.parse::<u8>().ok()
+/// A number of 8 bits.
+pub(crate) fn number_of(word: &str) -> Option<u8> {
+    word.parse::<u8>().ok()
 }
 
 /// A number, or none at a dash.
-fn maybe_number(words: &mut SplitWhitespace<'_>) -> Option<Option<u8>> {
-    match words.next()? {
+fn maybe_number(word: &str) -> Option<Option<u8>> {
+    match word {
         "-" => Some(None),
-        word => Some(Some(word.parse::<u8>().ok()?)),
+        word => Some(Some(number_of(word)?)),
     }
 }
 
-/// The next word, a payload type, or none at a dash.
-pub(crate) fn maybe_type(words: &mut SplitWhitespace<'_>) -> Option<Option<Pt>> {
-    match maybe_number(words)? {
-        Some(number) => Some(Some(Pt::new_with_value(number))),
-        None => Some(None),
+/// A payload type.
+pub(crate) fn type_of(word: &str) -> Option<Pt> {
+    Some(Pt::new_with_value(number_of(word)?))
+}
+
+/// A payload type, or none at a dash.
+pub(crate) fn maybe_type(word: &str) -> Option<Option<Pt>> {
+    match word {
+        "-" => Some(None),
+        word => Some(Some(type_of(word)?)),
     }
 }
 
-/// A codec: its name, clock rate, channels and format.
-pub(crate) fn next_spec(words: &mut SplitWhitespace<'_>) -> Option<CodecSpec> {
-    let codec = Codec::from(words.next()?);
-    let clock_rate = Frequency::new(words.next()?.parse::<u32>().ok()?)?;
-    let channels = maybe_number(words)?;
-    let format = match words.next()? {
-        "-" => FormatParams::default(),
-        word => FormatParams::parse_line(word),
+/// A codec at the front: its name, clock rate, channels and format.
+pub(crate) fn spec_of(words: &[&str]) -> Option<CodecSpec> {
+    let [codec, clock_rate, channels, format, ..] = words else {
+        return None;
     };
     Some(CodecSpec {
-        codec,
-        clock_rate,
-        channels,
-        format,
+        codec: Codec::from(*codec),
+        clock_rate: Frequency::new(clock_rate.parse::<u32>().ok()?)?,
+        channels: maybe_number(channels)?,
+        format: format_of(format),
     })
 }
 
-/// A row: its types, whether it uses transport-wide feedback, and its codec.
-pub(crate) fn next_row(words: &mut SplitWhitespace<'_>) -> Option<PayloadParams> {
-    let pt = Pt::new_with_value(next_number(words)?);
-    let resend = maybe_type(words)?;
-    let red = maybe_type(words)?;
-    let transport_cc = words.next()? == "cc";
-    let row = PayloadParams::new(pt, resend, next_spec(words)?);
+/// The format that a text gives, none at a dash.
+fn format_of(word: &str) -> FormatParams {
+    match word {
+        "-" => FormatParams::default(),
+        word => FormatParams::parse_line(word),
+    }
+}
+
+/// A row at the front: its types, whether it uses transport-wide feedback, and its codec.
+pub(crate) fn row_of(words: &[&str]) -> Option<PayloadParams> {
+    let [pt, resend, red, transport_cc, spec @ ..] = words else {
+        return None;
+    };
+    let (pt, resend, red) = (type_of(pt)?, maybe_type(resend)?, maybe_type(red)?);
+    let row = PayloadParams::new(pt, resend, spec_of(spec)?);
     let mut row = row.with_types(pt, resend, red);
-    row.set_fb_transport_cc(transport_cc);
+    row.set_fb_transport_cc(*transport_cc == "cc");
     Some(row)
 }

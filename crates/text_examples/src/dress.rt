@@ -1,12 +1,13 @@
 //! Session texts with the transport's lines. Uses the crates `sdp_formats`, `sdp_formats_sessions` and
-//! `sdp_formats_types`, the definitions of specs/Dressed.antt, and the invariants of two loops in proofs/dress.
+//! `sdp_formats_types`, the definitions of specs/Dressed.antt, and the invariants and answers of two loops in
+//! proofs/dress.
 
 ghost use Rattle.std.specs.Prelude.{◌≡◌, IfOk, OnOk, ◌++◌};
 ghost use Rattle.text_examples.specs.Dressed.{transport_lines, dressed_attribute, dressed_attributes};
 ghost use Rattle.text_examples.specs.Dressed.{dressed_section, dressed};
 ghost use Rattle.sdp_formats_types.specs.Media.{is_mid};
 
-use sdp_formats::{Fingerprint, IceCreds, Listed, MediaAttribute, MediaLine, Sdp, Setup};
+use sdp_formats::{Fingerprint, IceCreds, Listed, MediaAttribute, MediaLine, Sdp, Setup, TryClone};
 use std::alloc::{AllocError, Global};
 use std::mem;
 
@@ -31,9 +32,7 @@ fn push_transport(
 {
     attributes.push(MediaAttribute::IceUfrag(transport.creds.ufrag.clone(alloc)?))?;
     attributes.push(MediaAttribute::IcePwd(transport.creds.pass.clone(alloc)?))?;
-    let hash_func = transport.fingerprint.hash_func.clone(alloc)?;
-    let bytes = Listed::of(Vec::from_slice(alloc, transport.fingerprint.bytes.as_slice())?);
-    attributes.push(MediaAttribute::Fingerprint(Fingerprint { hash_func, bytes }))?;
+    attributes.push(MediaAttribute::Fingerprint(transport.fingerprint.try_clone(alloc)?))?;
     attributes.push(MediaAttribute::Setup(transport.setup))?;
     attributes.push(MediaAttribute::RtcpMux)
 }

@@ -4,15 +4,11 @@
 //!
 //! - `offer`: an offer, into its sections with their rows and candidates (`offer`)
 //! - `browser`: an end's text, which gets the transport's lines (`transport`)
-//! - `rows`: rows in JSON, a line each, read and written (`rows_json`)
-//! - `track`: nothing; a tuple of the program's own, of what rows hold, written and read by serde (`values_json`)
 #![tactic(auto)]
 
 mod dress;
 mod offer;
-mod rows_json;
 mod transport;
-mod values_json;
 
 use anyhow::bail;
 use std::io;
@@ -32,8 +28,6 @@ fn run(rt: &HostRuntime, part: &str) -> anyhow::Result<()> {
     match name {
         "offer" => offer::print_offer(rt, lines),
         "browser" => transport::print_dressed(rt, lines),
-        "rows" => rows_json::print_rows(rt, lines),
-        "track" => values_json::print_track(rt),
         _ => bail!("no example of this name"),
     }
 }

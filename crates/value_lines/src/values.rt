@@ -1,0 +1,86 @@
+//! Commands on values that come alone: candidates, fingerprints, setups and parameters of formats.
+
+use crate::reply::Reply;
+use sdp_formats::from_text::{FingerprintError, fingerprint_from_str};
+use sdp_formats::preference::hash_preference;
+use sdp_formats::{
+    Candidate, Fingerprint, FormatParams, Joined, Refusal, candidate_of, fingerprint_of, setup_of,
+    to_format_param,
+};
+use std::alloc::Global;
+use std::hash::{DefaultHasher, Hash, Hasher};
+
+/// `candidate TEXT`: the candidate that stands behind `candidate:`, printed, and what its accessors answer.
+pub(crate) fn put_candidate(alloc: Global, text: &str, reply: &mut Reply) {
+    match candidate_of(alloc, text) {
+        Ok(candidate) => put_parts(alloc, &candidate, reply),
+        Err(Refusal::Unfit) => reply.put("no candidate"),
+        Err(Refusal::Memory) => reply.fail(),
+    }
+}
+
+fn put_parts(alloc: Global, candidate: &Candidate, reply: &mut Reply) {
+    reply.put_printed(candidate.to_sdp_string(alloc));
+    reply.say(": at ", &candidate.addr());
+    reply.say(", port ", &candidate.port());
+    reply.say(", by ", &candidate.proto().as_str());
+    reply.say_or_dash(", opened ", &candidate.tcptype());
+    reply.say_or_dash(", of ", &candidate.ufrag());
+}
+
+/// `fingerprint TEXT`: the fingerprint of a text of its own, printed, the place of its hash function, and whether it is
+/// the one that `a=fingerprint` would give.
+pub(crate) fn put_fingerprint(alloc: Global, text: &str, reply: &mut Reply) {
+    match fingerprint_from_str(alloc, text) {
+        Ok(print) => {
+            reply.say("", &print);
+            reply.say(", place ", &hash_preference(&print));
+            put_of_line(alloc, text, &print, reply);
+        }
+        Err(FingerprintError::Malformed) => reply.put("no fingerprint"),
+        Err(FingerprintError::Memory) => reply.fail(),
+    }
+}
+
+/// Whether a fingerprint is the one of a line of this text.
+fn put_of_line(alloc: Global, text: &str, print: &Fingerprint, reply: &mut Reply) {
+    match fingerprint_of(alloc, text) {
+        Ok(other) => {
+            reply.say(", the same as of a line ", &(*print == other));
+            reply.say(", by its hash ", &(hash_of(print) == hash_of(&other)));
+        }
+        Err(Refusal::Unfit) => reply.put(", none of a line"),
+        Err(Refusal::Memory) => reply.fail(),
+    }
+}
+
+fn hash_of(print: &Fingerprint) -> u64 {
+    let mut hasher = DefaultHasher::new();
+    print.hash(&mut hasher);
+    hasher.finish()
+}
+
+/// `setup WORD WORD`: an end's choice, the same as seen from the other end, and what it is towards the other's choice.
+pub(crate) fn put_setup((own, other): (&str, &str), reply: &mut Reply) {
+    let (Ok(own), Ok(other)) = (setup_of(own), setup_of(other)) else {
+        return reply.put("no setup");
+    };
+    reply.say("", &own);
+    reply.say(", inverted ", &own.invert());
+    reply.say(", towards ", &other);
+    reply.say_or_dash(" ", &own.compare_to_remote(other));
+}
+
+/// `format TEXT`: the parameters that a text gives, blanks and all, printed again.
+pub(crate) fn put_format(alloc: Global, text: &str, reply: &mut Reply) {
+    reply.put_printed(FormatParams::parse_line(text).to_string(alloc));
+}
+
+/// `parameters TEXT`: the parameters of the format that a text gives, one by one, or a dash where there are none.
+pub(crate) fn put_parameters(alloc: Global, text: &str, reply: &mut Reply) {
+    match to_format_param(alloc, &FormatParams::parse_line(text)) {
+        Ok(params) if params.is_empty() => reply.put("-"),
+        Ok(params) => reply.say("", &Joined(params.as_slice(), " ")),
+        Err(_) => reply.fail(),
+    }
+}
