@@ -41,9 +41,17 @@ fn forward(rt: &HostRuntime, lines: &str) -> anyhow::Result<()> {
     let alloc = rt.alloc();
     let mut forwarder = Forwarder::new(End::fixed(alloc)?, End::fixed(alloc)?)?;
     for line in lines.lines() {
-        for sent in &forwarder.forward(alloc, &hex::decode(alloc, line)?)? {
-            println!(*rt; "{}", hex::encode(alloc, sent.as_slice())?)?;
-        }
+        forward_line(rt, &mut forwarder, line)?;
+    }
+    Ok(())
+}
+
+/// The same of one datagram.
+fn forward_line(rt: &HostRuntime, forwarder: &mut Forwarder, line: &str) -> anyhow::Result<()> {
+    let alloc = rt.alloc();
+    let datagram = hex::decode(alloc, line)?;
+    for sent in &forwarder.forward(alloc, &datagram)? {
+        println!(*rt; "{}", hex::encode(alloc, sent.as_slice())?)?;
     }
     Ok(())
 }
