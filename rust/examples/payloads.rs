@@ -1,7 +1,7 @@
 //! Reads a capture through replay window and depacketizer, a line `MS HEX` for each datagram, and prints what came of
-//! each stream of one payload type, as crates/packet_examples does; then each unit is packetized and read again, and what
-//! came of that is printed too. The arguments are FILE CODEC TYPE; the clock rate is 48,000, which telephone events
-//! alone go by.
+//! each stream of one payload type, as crates/capture_examples does; then each unit is packetized and read again, and
+//! what came of that is printed too. The arguments are FILE CODEC TYPE; the clock rate is 48,000, which telephone
+//! events alone go by.
 
 use jilqamur::{Depacketizer, Error, Fault, Format, Header, Packetizer, PacketizerParams, Unit, Window};
 use std::io::{self, BufRead};

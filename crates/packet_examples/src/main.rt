@@ -5,14 +5,10 @@
 //! - `recorder`: datagrams in hexadecimal, a line each, of which those of SSRC 44 and payload type 96 are VP8, into
 //!   frames (`recorder`)
 //! - `lossy link`: nothing; frames over a link that loses packets (`lossy_link`)
-//! - `captures`: captures of browsers in data/, a line each, `FILE CODEC TYPE [REDTYPE]`, into units (`captures`)
 #![tactic(auto)]
 
-mod capture;
-mod captures;
 mod lossy_link;
 mod recorder;
-mod stream;
 
 use anyhow::bail;
 use payload_core::Depacketized;
@@ -35,7 +31,6 @@ fn run(rt: &HostRuntime, part: &str) -> anyhow::Result<()> {
     match name {
         "recorder" => record(rt, lines),
         "lossy link" => lossy_link::lossy_link(rt),
-        "captures" => captures::report(rt, lines),
         _ => bail!("no example of this name"),
     }
 }
