@@ -1,7 +1,6 @@
 //! Codecs with their clock rates, channels and formats in JSON.
 
-ghost use Rattle.std.specs.Prelude.{◌≡◌, IfOk, true};
-ghost use Rattle.serde_json.specs.View.{view};
+ghost use Rattle.std.specs.Prelude.{◌≡◌};
 ghost use Rattle.sdp_formats_spec_json.specs.Specs.{blank_spec, spec};
 
 use crate::error::{Field, JsonError};
