@@ -2,8 +2,8 @@
 
 use crate::configs::{add_video, enable, put_distances};
 use crate::printing::{put_own_rows, put_round};
-use crate::reply::Reply;
 use crate::words::{row_of, spec_of, type_of};
+use line_replies::{Reply, parted};
 use sdp_formats::{CodecConfig, Direction};
 use std::alloc::{AllocError, Global};
 
@@ -30,10 +30,7 @@ impl Rows {
 /// What a line gives.
 pub(crate) fn answer(alloc: Global, rows: &mut Rows, line: &str) -> Result<String, AllocError> {
     let mut reply = Reply::new(alloc);
-    let (command, rest) = match line.split_once(' ') {
-        Some(parts) => parts,
-        None => (line, ""),
-    };
+    let (command, rest) = parted(line);
     let words: Vec<&str> = rest.split_whitespace().collect(alloc)?;
     if command.is_empty() || command == "#" {
         reply.put(line);
@@ -59,7 +56,15 @@ fn put_answer(
             let dir = Direction::from(*words.first()?);
             Some(put_round(alloc, &mut rows.own, rows.remote.params(), dir, reply))
         }
-        _ => Some(reply.put_done(change(alloc, rows, command, words)?)),
+        _ => Some(put_change(change(alloc, rows, command, words)?, reply)),
+    }
+}
+
+/// Writes that a change was made, where there was memory for it.
+fn put_change(change: Result<(), AllocError>, reply: &mut Reply) {
+    match change {
+        Ok(()) => reply.put("ok"),
+        Err(_) => reply.fail(),
     }
 }
 

@@ -2,8 +2,8 @@
 //! redundancy.
 
 use crate::commands::Change;
-use crate::reply::Reply;
 use crate::words::{maybe_type, number_of, type_of};
+use line_replies::Reply;
 use sdp_formats::{Codec, CodecConfig, Joined, Pt};
 use std::alloc::Global;
 

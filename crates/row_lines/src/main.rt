@@ -6,7 +6,6 @@
 mod commands;
 mod configs;
 mod printing;
-mod reply;
 mod words;
 
 use commands::{Rows, answer};

@@ -1,6 +1,6 @@
 //! What rounds give, as text.
 
-use crate::reply::Reply;
+use line_replies::Reply;
 use sdp_formats::{CodecConfig, Direction, PayloadParams, RoundError};
 use std::alloc::Global;
 

@@ -15,7 +15,7 @@ use Rattle.sdp_formats_default_rows.specs.DefaultRows.{opus_row}
 use Rattle.sdp_formats_format.specs.declared.format.FormatParams.{FormatParams}
 use Rattle.sdp_formats_rows.specs.declared.spec.CodecSpec.{CodecSpec}
 use Rattle.sdp_formats_rows.specs.Rows.{Row}
-use Rattle.sdp_formats_rows.specs.Same.{same, same_flag}
+use Rattle.sdp_formats_scores.specs.Same.{same, same_flag}
 use Rattle.sdp_formats_section_rows.specs.SectionRows.{rows_of}
 use Rattle.sdp_formats_types.specs.Lookups.{direction_of}
 use Rattle.sdp_formats_types.specs.declared.media.MediaLine.{MediaLine}

@@ -1,7 +1,7 @@
 //! What rows mean to streams.
 
 ghost use Rattle.std.specs.Prelude.{◌≡◌};
-ghost use Rattle.sdp_formats_rows.specs.Same.{same, same_flag};
+ghost use Rattle.sdp_formats_scores.specs.Same.{same, same_flag};
 ghost use Rattle.rtp_media_sections.specs.Agreement.{means_same, own_row_agrees, same_codec, same_layout};
 
 use rtp_wire::Pt;

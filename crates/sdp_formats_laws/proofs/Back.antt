@@ -10,7 +10,7 @@ use Rattle.sdp_formats_rows.specs.Plain.{comes_back, has_plain_events, has_plain
 use Rattle.sdp_formats_rows.specs.Plain.{has_plain_red}
 use Rattle.sdp_formats_rows.specs.Plain.{has_plain_types, is_media_codec, is_plain, is_plain_codec, is_plain_rate}
 use Rattle.sdp_formats_rows.specs.Rows.{Row}
-use Rattle.sdp_formats_rows.specs.Same.{same, same_bool}
+use Rattle.sdp_formats_scores.specs.Same.{same, same_bool}
 use Rattle.sdp_formats_rows.specs.declared.spec.CodecSpec.{CodecSpec}
 use Rattle.sdp_formats_section_rows.specs.Given.{format_given}
 use Rattle.sdp_formats_row_attributes.specs.Maps.{map_of, spec_of_map}

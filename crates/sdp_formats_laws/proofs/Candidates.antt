@@ -18,7 +18,7 @@ use Rattle.sdp_formats_value_reader.specs.Words.{kind_word, protocol_word, tcpty
 use Rattle.sdp_formats_values.specs.PrintedCandidates.{candidate_text, kind_text, parts_text, protocol_text}
 use Rattle.sdp_formats_values.specs.PrintedCandidates.{related_text}
 use Rattle.sdp_formats_values.specs.PrintedCandidates.{tcp_type_text}
-use Rattle.sdp_formats_types.specs.PrintedMedia.{named}
+use Rattle.sdp_formats_values.specs.Lists.{named}
 use Rattle.sdp_formats_values.specs.declared.candidate.Candidate.{Candidate}
 use Rattle.sdp_formats_values.specs.declared.candidate.CandidateKind.{CandidateKind}
 use Rattle.sdp_formats_values.specs.declared.candidate.CandidateKind.TheVariants.{Host, PeerReflexive}

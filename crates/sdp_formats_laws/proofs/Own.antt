@@ -13,8 +13,8 @@ use Rattle.sdp_formats_rows.specs.Codecs.{is_codec}
 use Rattle.sdp_formats_format.specs.Formats.{no_format}
 use Rattle.sdp_formats_rows.specs.Plain.{events_alone, has_plain_events}
 use Rattle.sdp_formats_rows.specs.Rows.{Row}
-use Rattle.sdp_formats_rows.specs.Same.{same, same_flag, same_format, same_h264, same_levels, same_numbers}
-use Rattle.sdp_formats_rows.specs.Same.{same_opus, same_speech, same_video}
+use Rattle.sdp_formats_scores.specs.Same.{same, same_flag, same_format, same_h264, same_levels, same_numbers}
+use Rattle.sdp_formats_scores.specs.Same.{same_opus, same_speech, same_video}
 use Rattle.sdp_formats_format.specs.Texts.{numbers_265, numbers_266}
 use Rattle.sdp_formats_format.specs.declared.format.FormatParams.{FormatParams}
 use Rattle.sdp_formats_rows.specs.declared.spec.CodecSpec.{CodecSpec}

@@ -6,7 +6,8 @@ use Rattle.rtp_wire.specs.Name.{name_of}
 use Rattle.sdp_formats_forms.specs.Split.{Lacks}
 use Rattle.sdp_formats_media_lines.specs.Choice.{attribute_line}
 use Rattle.sdp_formats_media_lines.specs.Choice.{media_attribute, second_attribute, third_attribute, last_attribute}
-use Rattle.sdp_formats_types.specs.PrintedMedia.{attribute_text, named}
+use Rattle.sdp_formats_types.specs.PrintedMedia.{attribute_text}
+use Rattle.sdp_formats_values.specs.Lists.{named}
 use Rattle.sdp_formats_values.specs.declared.setup.Setup as setup
 use Rattle.sdp_formats_values.specs.declared.setup.Setup.TheVariants as way
 use Rattle.sdp_formats_types.specs.declared.media.MediaAttribute.TheVariants.{Rtcp, IceUfrag, IcePwd, IceOptions}

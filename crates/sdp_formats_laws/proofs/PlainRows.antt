@@ -14,8 +14,8 @@ use Rattle.sdp_formats_rows.specs.Plain.{comes_back, events_alone, has_plain_eve
 use Rattle.sdp_formats_rows.specs.Plain.{has_plain_level}
 use Rattle.sdp_formats_rows.specs.Plain.{has_plain_red, has_plain_types, is_plain, is_plain_codec}
 use Rattle.sdp_formats_rows.specs.Rows.{Row}
-use Rattle.sdp_formats_rows.specs.Same.{same, same_flag, same_format, same_h264, same_levels, same_numbers, same_opus}
-use Rattle.sdp_formats_rows.specs.Same.{same_speech, same_video}
+use Rattle.sdp_formats_scores.specs.Same.{same, same_flag, same_format, same_h264, same_levels, same_numbers, same_opus}
+use Rattle.sdp_formats_scores.specs.Same.{same_speech, same_video}
 use Rattle.sdp_formats_format.specs.Texts.{format_text, numbers_265, numbers_266}
 use Rattle.sdp_formats_format.specs.declared.format.FormatParams.{FormatParams}
 use Rattle.sdp_formats_row_attributes.specs.Attributes.{params_in}

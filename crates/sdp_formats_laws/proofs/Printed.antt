@@ -8,7 +8,7 @@ use Rattle.sdp_formats_forms.specs.Split.{Lacks}
 use Rattle.sdp_formats_forms.specs.Joined.{spelled}
 use Rattle.sdp_formats_forms.specs.Line.{LineOf}
 use Rattle.sdp_formats_values.specs.Printed.{line_end}
-use Rattle.sdp_formats_types.specs.PrintedMedia.{named}
+use Rattle.sdp_formats_values.specs.Lists.{named}
 use Rattle.sdp_formats_laws.specs.Printable.{IsText}
 
 pub lacks_both : (c : ℕ) (xs ys : List ℕ) → Lacks c xs → Lacks c ys → Lacks c (xs ++ ys)

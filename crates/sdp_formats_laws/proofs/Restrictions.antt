@@ -20,7 +20,7 @@ use Rattle.sdp_formats_stream_lines.specs.Names.{has_name_chars, name}
 use Rattle.sdp_formats_stream_lines.specs.Rids.{limits_of, later_limits, make_id, make_limits, make_rid, maybe_limits}
 use Rattle.sdp_formats_stream_lines.specs.Rids.{typed_limits, limits_behind, way}
 use Rattle.sdp_formats_values.specs.Printed.{is_empty, line_end}
-use Rattle.sdp_formats_types.specs.Printed.{rid_types_text, rid_restrictions_text}
+use Rattle.sdp_formats_values.specs.Lists.{rid_types_text, rid_restrictions_text}
 use Rattle.sdp_formats_values.specs.Printed.{way_text}
 use Rattle.sdp_formats_types.specs.PrintedMedia.{attribute_text, listed_text}
 use Rattle.sdp_formats_types.specs.declared.media.MediaAttribute.TheVariants.{Rid}

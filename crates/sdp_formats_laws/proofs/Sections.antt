@@ -19,8 +19,8 @@ use Rattle.sdp_formats_forms.specs.Line.{LineOf}
 use Rattle.sdp_formats_forms.specs.Step.{Stops, Begins, Many, Perhaps}
 use Rattle.sdp_formats_types.specs.Media.{proto_text, is_channel}
 use Rattle.sdp_formats_values.specs.Printed.{line_end, is_empty}
-use Rattle.sdp_formats_types.specs.Printed.{numbers_text}
-use Rattle.sdp_formats_types.specs.PrintedMedia.{named, bandwidth_text, section_text, attribute_text, attributes_text}
+use Rattle.sdp_formats_values.specs.Lists.{numbers_text, named}
+use Rattle.sdp_formats_types.specs.PrintedMedia.{bandwidth_text, section_text, attribute_text, attributes_text}
 use Rattle.sdp_formats_types.specs.PrintedMedia.{formats_text, media_type_text}
 use Rattle.sdp_formats_types.specs.declared.media.MediaAttribute.{MediaAttribute}
 use Rattle.sdp_formats_types.specs.declared.media.MediaLine.{MediaLine}

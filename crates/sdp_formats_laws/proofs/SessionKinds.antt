@@ -12,8 +12,7 @@ use Rattle.sdp_formats_forms.specs.Split.{Lacks}
 use Rattle.sdp_formats_session_attributes.specs.Choice.{attribute_line, session_attribute, later_attribute}
 use Rattle.sdp_formats_session_attributes.specs.Groups.{without_last, mid_word, mids_of}
 use Rattle.sdp_formats_values.specs.Printed.{line_end, is_empty}
-use Rattle.sdp_formats_types.specs.Printed.{words_text}
-use Rattle.sdp_formats_types.specs.PrintedMedia.{named}
+use Rattle.sdp_formats_values.specs.Lists.{words_text, named}
 use Rattle.sdp_formats_sessions.specs.PrintedSession.{attribute_text}
 use Rattle.sdp_formats_values.specs.declared.setup.Setup as setup
 use Rattle.sdp_formats_values.specs.declared.setup.Setup.TheVariants as way

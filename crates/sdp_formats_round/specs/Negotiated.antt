@@ -3,10 +3,10 @@ use Rattle.std.specs.Prelude.{ℕ, min, Option, Some, unwrap_or}
 use Rattle.std.specs.Option.{option_or}
 use Rattle.payload_core_base.specs.declared.codec.Codec.{Codec}
 use Rattle.payload_core_base.specs.declared.codec.Codec.TheVariants.{AmrWb, H265, H266, Tele}
-use Rattle.sdp_formats_level_scores.specs.LevelScore.{GivenH265, GivenH266, h265_agreed, h266_agreed}
+use Rattle.sdp_formats_scores.specs.LevelScore.{GivenH265, GivenH266, h265_agreed, h266_agreed}
 use Rattle.sdp_formats_format.specs.declared.format.FormatParams.{FormatParams}
 use Rattle.sdp_formats_rows.specs.declared.spec.CodecSpec.{CodecSpec}
-use Rattle.sdp_formats_rows.specs.Scores.{given_265, given_266}
+use Rattle.sdp_formats_scores.specs.FormatScores.{given_265, given_266}
 
 -- Telephone events: the lower of both ranges, up to 16 where none is given (RFC 4733 2.4.1 has 15).
 abbrev pub events_of : FormatParams → ℕ

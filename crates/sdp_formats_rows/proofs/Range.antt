@@ -17,15 +17,17 @@ use Rattle.h26x_payload_profiles.specs.declared.profile_tier_level.ProfileTierLe
 use Rattle.payload_core_base.specs.declared.codec.Codec.{Codec}
 use Rattle.payload_core_base.specs.declared.codec.Codec.TheVariants.{Opus, AmrWb, H264, H265}
 use Rattle.payload_core_base.specs.declared.codec.Codec.TheVariants.{H266, Vp9, Av1, Tele}
-use Rattle.sdp_formats_level_scores.specs.Points.{points_if, level_points}
-use Rattle.sdp_formats_level_scores.specs.H264Score as h264
-use Rattle.sdp_formats_level_scores.specs.LevelScore as levels
+use Rattle.sdp_formats_scores.specs.Points.{points_if, level_points}
+use Rattle.sdp_formats_scores.specs.H264Score as h264
+use Rattle.sdp_formats_scores.specs.LevelScore as levels
 use Rattle.sdp_formats_format.specs.declared.format.FormatParams.{FormatParams}
 use Rattle.sdp_formats_rows.specs.declared.spec.CodecSpec.{CodecSpec}
 use Rattle.sdp_formats_rows.specs.Codecs.{is_codec}
-use Rattle.sdp_formats_rows.specs.Same.{same, same_flag, alike, same_format}
-use Rattle.sdp_formats_rows.specs.Scores.{penalty, opus_score, modes_score, is_mono, amr_wb_score, given_264}
-use Rattle.sdp_formats_rows.specs.Scores.{format_score, settings_score, codec_score, score}
+use Rattle.sdp_formats_scores.specs.Same.{same, same_flag, alike, same_format}
+use Rattle.sdp_formats_scores.specs.FormatScores.{penalty, opus_score, modes_score, given_264}
+use Rattle.sdp_formats_rows.specs.Scores.{is_mono, amr_wb_score}
+use Rattle.sdp_formats_scores.specs.FormatScores.{format_score}
+use Rattle.sdp_formats_rows.specs.Scores.{settings_score, codec_score, score}
 
 abbrev InRange : Option ℕ → Type 0
 InRange o = IfSome o (λ points. (1 ≤ points) × (points ≤ 100))

@@ -12,17 +12,19 @@ use Rattle.h26x_payload_profiles.specs.declared.profile_tier_level.ProfileTierLe
 use Rattle.payload_core_base.specs.declared.codec.Codec.{Codec}
 use Rattle.payload_core_base.specs.declared.codec.Codec.TheVariants.{Opus, AmrWb, H264, H265}
 use Rattle.payload_core_base.specs.declared.codec.Codec.TheVariants.{H266, Vp9, Av1, Tele}
-use Rattle.sdp_formats_level_scores.specs.Points.{points_if, distance, level_points}
-use Rattle.sdp_formats_level_scores.specs.H264Score as h264
-use Rattle.sdp_formats_level_scores.specs.LevelScore as levels
+use Rattle.sdp_formats_scores.specs.Points.{points_if, distance, level_points}
+use Rattle.sdp_formats_scores.specs.H264Score as h264
+use Rattle.sdp_formats_scores.specs.LevelScore as levels
 use Rattle.sdp_formats_format.specs.declared.format.FormatParams.{FormatParams}
 use Rattle.sdp_formats_rows.specs.declared.spec.CodecSpec.{CodecSpec}
 use Rattle.sdp_formats_rows.specs.Codecs.{codec_number, is_codec}
 use Rattle.sdp_formats_format.specs.Texts.{numbers_265, numbers_266}
-use Rattle.sdp_formats_rows.specs.Same.{same, same_bool, same_flag, same_numbers, alike, same_opus, same_speech}
-use Rattle.sdp_formats_rows.specs.Same.{same_h264, same_video, same_levels, same_format}
-use Rattle.sdp_formats_rows.specs.Scores.{opus_score, modes_score, is_mono, amr_wb_score, vp9_score, av1_score}
-use Rattle.sdp_formats_rows.specs.Scores.{given_264, format_score, settings_score, codec_score}
+use Rattle.sdp_formats_scores.specs.Same.{same, same_bool, same_flag, same_numbers, alike, same_opus, same_speech}
+use Rattle.sdp_formats_scores.specs.Same.{same_h264, same_video, same_levels, same_format}
+use Rattle.sdp_formats_scores.specs.FormatScores.{opus_score, modes_score, vp9_score, av1_score}
+use Rattle.sdp_formats_rows.specs.Scores.{is_mono, amr_wb_score}
+use Rattle.sdp_formats_scores.specs.FormatScores.{given_264, format_score}
+use Rattle.sdp_formats_rows.specs.Scores.{settings_score, codec_score}
 use Rattle.sdp_formats_rows.specs.Scores.{score}
 
 eq_sym : (a b : ℕ) → (a == b) ≡ (b == a)

@@ -1,6 +1,5 @@
 pub mod Rows
 pub mod Codecs
-pub mod Same
 pub mod Scores
 pub mod Laws
 pub mod Plain

@@ -5,7 +5,6 @@ mod fields;
 mod plain;
 mod reading;
 mod row;
-mod same;
 mod score;
 mod spec;
 

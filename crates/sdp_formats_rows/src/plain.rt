@@ -8,11 +8,11 @@ ghost use Rattle.sdp_formats_rows.specs.Plain.{is_plain};
 ghost use Rattle.sdp_formats_rows.specs.Plain.{is_plain_codec, is_plain_rate, is_type};
 
 use crate::row::PayloadParams;
-use crate::same::{same_byte, same_format};
 use crate::spec::CodecSpec;
 use payload_core_base::Codec;
 use rtp_wire::Pt;
 use sdp_formats_format::FormatParams;
+use sdp_formats_scores::{same_byte, same_format};
 use std::alloc::{AllocError, Global};
 
 /// Is it a type of seven bits, if it is given?

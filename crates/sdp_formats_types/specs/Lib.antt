@@ -1,4 +1,3 @@
 pub mod Media
-pub mod Printed
 pub mod PrintedMedia
 pub mod Lookups

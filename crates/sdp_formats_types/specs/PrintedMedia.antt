@@ -1,5 +1,5 @@
 -- Sections as they are printed (RFC 8866 5.13, 5.14).
-use Rattle.std.specs.Prelude.{ℕ, not, List, [], ◌∷◌, Option, None, Some, map, codes, if◌then◌else◌}
+use Rattle.std.specs.Prelude.{ℕ, not, List, [], ◌∷◌, map, codes, if◌then◌else◌}
 use Rattle.std.specs.Fmt.{decimal}
 use Rattle.std.specs.Option.{option_map}
 use Rattle.sdp_formats_forms.specs.Joined.{spelled, joined, maybe_text}
@@ -8,9 +8,9 @@ use Rattle.rtp_wire.specs.Kinds.{uri_of}
 use Rattle.sdp_formats_types.specs.Media.{proto_text, is_channel}
 use Rattle.sdp_formats_values.specs.Setup.{setup_text}
 use Rattle.sdp_formats_values.specs.Printed.{line_end, fingerprint_text, way_text, simulcast_text}
-use Rattle.sdp_formats_types.specs.Printed.{params_text}
 use Rattle.sdp_formats_values.specs.Printed.{is_empty, msid_text}
-use Rattle.sdp_formats_types.specs.Printed.{numbers_text, rid_types_text, rid_restrictions_text}
+use Rattle.sdp_formats_values.specs.Lists.{both, named, numbers_text, params_text, rid_types_text}
+use Rattle.sdp_formats_values.specs.Lists.{rid_restrictions_text}
 use Rattle.sdp_formats_values.specs.PrintedCandidates.{candidate_text}
 use Rattle.sdp_formats_types.specs.declared.bandwidth.Bandwidth.{Bandwidth}
 use Rattle.sdp_formats_types.specs.declared.media.RtpMap as map_of
@@ -47,24 +47,6 @@ listed_text (Rid id direction pt restriction) = spelled (codes "a=rid:" ∷ id.0
 listed_text (SsrcGroup semantics ssrcs) = spelled (codes "a=ssrc-group:" ∷ semantics ∷ codes " "
     ∷ numbers_text (codes " ") ssrcs ∷ line_end ∷ [])
 listed_text _ = []
-
--- A line with a value behind its name.
-abbrev pub named : List ℕ → List ℕ → List ℕ
-named name value = spelled (name ∷ value ∷ line_end ∷ [])
-
--- The same of a value that may have a text.
-abbrev pub named_output : List ℕ → Option (List ℕ) → Option (List ℕ)
-named_output name None = None
-named_output name (Some value) = Some (named name value)
-
--- A line with two values behind its name, a blank between them.
-abbrev pub both : List ℕ → List ℕ → List ℕ → List ℕ
-both name first second = spelled (name ∷ first ∷ codes " " ∷ second ∷ line_end ∷ [])
-
--- The same of values that may have a text.
-abbrev pub both_output : List ℕ → Option (List ℕ) → Option (List ℕ) → Option (List ℕ)
-both_output name (Some first) (Some second) = Some (both name first second)
-both_output name _ _ = None
 
 -- What stands before the text of an attribute that is one text.
 abbrev pub name_before : MediaAttribute → List ℕ

@@ -6,15 +6,14 @@ mod direction;
 mod lookups;
 mod media;
 mod media_type;
-mod printed;
 mod section;
 
 pub use bandwidth::Bandwidth;
 pub use media::{MediaAttribute, MediaLine, MediaType, Proto, RtpMap};
-pub use printed::{Mids, Words, write_both, write_value};
 pub use sdp_formats_forms::{Listed, Text};
 pub use sdp_formats_params::{FormatParam, H265ProfileTierLevel, H266ProfileTierLevel, Pair};
 pub use sdp_formats_values::{
-    Candidate, CandidateKind, Fingerprint, IceCreds, Msid, Protocol, RelatedAddress, RestrictionId,
-    RidDirection, Setup, Simulcast, SimulcastGroups, SimulcastLayer, SsrcInfo, TcpType,
+    Candidate, CandidateKind, Fingerprint, IceCreds, Mids, Msid, Protocol, RelatedAddress,
+    RestrictionId, RidDirection, Setup, Simulcast, SimulcastGroups, SimulcastLayer, SsrcInfo,
+    TcpType, Words, write_both, write_value,
 };

@@ -4,8 +4,10 @@ ghost use Rattle.std.specs.Prelude.{◌≡◌};
 ghost use Rattle.sdp_formats_types.specs.PrintedMedia.{flag_text, name_before, port_of};
 
 use crate::media::{MediaAttribute, MediaLine};
-use crate::printed::{Params, RidRestrictions, RidTypes, Sources, Types, write_both, write_value};
 use sdp_formats_forms::{Joined, Maybe};
+use sdp_formats_values::{
+    Params, RidRestrictions, RidTypes, Sources, Types, write_both, write_value,
+};
 use std::fmt;
 use std::fmt::Display;
 

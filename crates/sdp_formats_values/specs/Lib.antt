@@ -2,3 +2,4 @@ pub mod Setup
 pub mod Streams
 pub mod PrintedCandidates
 pub mod Printed
+pub mod Lists

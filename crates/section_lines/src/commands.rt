@@ -1,20 +1,12 @@
 //! The commands.
 
 use crate::attributes::{put_attributes, put_directed};
-use crate::reply::Reply;
 use crate::rows::put_rows;
 use crate::said::put_said;
+use line_replies::{Reply, parted};
 use sdp_formats::{Direction, Sdp, SdpError, parse};
 use std::alloc::{AllocError, Global};
 use std::fs;
-
-/// A text's first word, and what stands behind it.
-fn parted(text: &str) -> (&str, &str) {
-    match text.split_once(' ') {
-        Some(parts) => parts,
-        None => (text, ""),
-    }
-}
 
 /// What a line gives.
 pub(crate) fn answer(rt: &HostRuntime, line: &str) -> Result<String, AllocError> {

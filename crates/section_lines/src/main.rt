@@ -5,7 +5,6 @@
 
 mod attributes;
 mod commands;
-mod reply;
 mod rows;
 mod said;
 

@@ -1,6 +1,6 @@
 //! The rows that sections list.
 
-use crate::reply::Reply;
+use line_replies::Reply;
 use sdp_formats::{MediaLine, PayloadParams, Sdp, rtp_params};
 use std::alloc::Global;
 
@@ -31,21 +31,16 @@ fn put_row(alloc: Global, row: &PayloadParams, reply: &mut Reply) {
     reply.say(" ", &spec.codec);
     reply.say(" ", &spec.clock_rate);
     reply.say_or_dash(" ", &spec.channels);
-    reply.put_printed(" ", spec.format.to_string(alloc));
+    reply.put_printed_or_dash(" ", spec.format.to_string(alloc));
     put_feedback(row, reply);
     reply.say_or_dash(" ", &row.resend());
     reply.say_or_dash(" ", &row.red());
 }
 
 fn put_feedback(row: &PayloadParams, reply: &mut Reply) {
-    put_flag(" cc", row.fb_transport_cc(), reply);
-    put_flag(" nack", row.fb_nack(), reply);
-    put_flag(" pli", row.fb_pli(), reply);
-    put_flag(" fir", row.fb_fir(), reply);
-    put_flag(" remb", row.fb_remb(), reply);
-}
-
-/// Writes the flag's name, or a dash where it is off.
-fn put_flag(name: &str, is_on: bool, reply: &mut Reply) {
-    reply.put(if is_on { name } else { " -" });
+    reply.put_flag(" ", "cc", row.fb_transport_cc());
+    reply.put_flag(" ", "nack", row.fb_nack());
+    reply.put_flag(" ", "pli", row.fb_pli());
+    reply.put_flag(" ", "fir", row.fb_fir());
+    reply.put_flag(" ", "remb", row.fb_remb());
 }

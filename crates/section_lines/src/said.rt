@@ -1,6 +1,6 @@
 //! What texts say, by their accessors.
 
-use crate::reply::Reply;
+use line_replies::Reply;
 use sdp_formats::lists::{extmaps, rids};
 use sdp_formats::{
     Candidate, MediaAttribute, MediaLine, Sdp, Session, SimulcastLayer, Text, bundle_mids,
@@ -77,7 +77,7 @@ fn put_section(alloc: Global, section: &MediaLine, reply: &mut Reply) {
 /// The layers of one way of a simulcast, those that aren't active at first behind a tilde.
 fn put_layers(alloc: Global, before: &str, layers: &[SimulcastLayer], reply: &mut Reply) {
     for layer in layers {
-        reply.put_printed(before, layer.restriction_id.to_sdp(alloc));
+        reply.put_printed_or_dash(before, layer.restriction_id.to_sdp(alloc));
     }
 }
 
@@ -109,7 +109,7 @@ fn put_lists(alloc: Global, section: &MediaLine, reply: &mut Reply) {
     }
     for attribute in section.attrs.as_slice() {
         if let MediaAttribute::Rid { id, .. } = attribute {
-            reply.put_printed("\n    restricted ", id.to_sdp(alloc));
+            reply.put_printed_or_dash("\n    restricted ", id.to_sdp(alloc));
         }
     }
 }

@@ -1,18 +1,10 @@
 //! The commands.
 
 use crate::exchanged::{put_answer, put_offer};
-use crate::reply::Reply;
 use crate::texts::{put_prefixes, put_session, put_text};
+use line_replies::{Reply, parted};
 use std::alloc::{AllocError, Global};
 use std::fs;
-
-/// A text's first word, and what stands behind it.
-fn parted(text: &str) -> (&str, &str) {
-    match text.split_once(' ') {
-        Some(parts) => parts,
-        None => (text, ""),
-    }
-}
 
 /// What a line gives.
 pub(crate) fn answer(rt: &HostRuntime, line: &str) -> Result<String, AllocError> {

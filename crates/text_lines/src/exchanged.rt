@@ -1,6 +1,7 @@
 //! Commands on offers and answers.
 
-use crate::reply::Reply;
+use crate::texts::put_refusal;
+use line_replies::Reply;
 use sdp_formats::{SdpAnswer, SdpError, SdpOffer, parse};
 use std::alloc::Global;
 
@@ -14,7 +15,7 @@ pub(crate) fn put_offer(alloc: Global, text: &str, reply: &mut Reply) {
                 Err(_) => reply.fail(),
             }
         }
-        Err(error) => reply.refuse(error),
+        Err(error) => put_refusal(error, reply),
     }
 }
 
@@ -28,7 +29,7 @@ pub(crate) fn put_answer(alloc: Global, text: &str, reply: &mut Reply) {
                 Err(_) => reply.fail(),
             }
         }
-        Err(error) => reply.refuse(error),
+        Err(error) => put_refusal(error, reply),
     }
 }
 
@@ -38,7 +39,7 @@ fn put_sameness(alloc: Global, text: &str, printed: &str, reply: &mut Reply) {
             " sections, printed as its text ",
             &(same.as_str() == printed),
         ),
-        Err(error) => reply.refuse(error),
+        Err(error) => put_refusal(error, reply),
     }
 }
 

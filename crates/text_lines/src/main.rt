@@ -6,7 +6,6 @@
 
 mod commands;
 mod exchanged;
-mod reply;
 mod texts;
 
 use commands::answer;

@@ -1,6 +1,6 @@
 //! Commands on whole session texts.
 
-use crate::reply::Reply;
+use line_replies::Reply;
 use sdp_formats::{
     Bandwidth, MediaAttribute, MediaLine, Same, Sdp, SdpError, Session, SessionAttribute, SsrcInfo,
     assert_consistency, bundle_mids, parse, sctp_init, sdp_parser, session_parser, ssrc_info,
@@ -18,7 +18,15 @@ pub(crate) fn put_text(alloc: Global, text: &str, reply: &mut Reply) {
             put_counts(&sdp.session, rest.len(), reply);
             put_parts(alloc, text, &sdp, reply);
         }
-        Err(error) => reply.refuse(error),
+        Err(error) => put_refusal(error, reply),
+    }
+}
+
+/// Writes why a text isn't read.
+pub(crate) fn put_refusal(error: SdpError, reply: &mut Reply) {
+    match error {
+        SdpError::Memory => reply.fail(),
+        _ => reply.put("no session text"),
     }
 }
 
@@ -104,7 +112,7 @@ fn put_whole(alloc: Global, sdp: &Sdp, reply: &mut Reply) {
 fn put_again(alloc: Global, text: &str, sdp: &Sdp, reply: &mut Reply) {
     match parse(alloc, text) {
         Ok(again) => reply.say("\n  again: the same ", &again.is_same(sdp)),
-        Err(error) => reply.refuse(error),
+        Err(error) => put_refusal(error, reply),
     }
     match sdp.try_clone(alloc) {
         Ok(copy) => reply.say(", a copy the same ", &copy.is_same(sdp)),
@@ -188,7 +196,7 @@ pub(crate) fn put_prefixes(alloc: Global, text: &str, reply: &mut Reply) {
 pub(crate) fn put_session(alloc: Global, text: &str, reply: &mut Reply) {
     match session_parser(alloc, text) {
         Ok((session, rest)) => put_header(&session, rest.len(), reply),
-        Err(error) => reply.refuse(error),
+        Err(error) => put_refusal(error, reply),
     }
 }
 

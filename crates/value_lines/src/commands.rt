@@ -1,17 +1,9 @@
 //! The commands.
 
-use crate::reply::Reply;
 use crate::rows::{put_equality, put_feedback, put_score};
 use crate::values::{put_candidate, put_fingerprint, put_format, put_parameters, put_setup};
+use line_replies::{Reply, parted};
 use std::alloc::{AllocError, Global};
-
-/// A text's first word, and what stands behind it.
-fn parted(text: &str) -> (&str, &str) {
-    match text.split_once(' ') {
-        Some(parts) => parts,
-        None => (text, ""),
-    }
-}
 
 /// What a line gives.
 pub(crate) fn answer(alloc: Global, line: &str) -> Result<String, AllocError> {

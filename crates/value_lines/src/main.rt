@@ -4,7 +4,6 @@
 #![tactic(auto)]
 
 mod commands;
-mod reply;
 mod rows;
 mod values;
 mod words;

@@ -1,6 +1,6 @@
 //! Commands on values that come alone: candidates, fingerprints, setups and parameters of formats.
 
-use crate::reply::Reply;
+use line_replies::Reply;
 use sdp_formats::from_text::{FingerprintError, fingerprint_from_str};
 use sdp_formats::preference::hash_preference;
 use sdp_formats::{
@@ -20,7 +20,7 @@ pub(crate) fn put_candidate(alloc: Global, text: &str, reply: &mut Reply) {
 }
 
 fn put_parts(alloc: Global, candidate: &Candidate, reply: &mut Reply) {
-    reply.put_printed(candidate.to_sdp_string(alloc));
+    reply.put_printed("", candidate.to_sdp_string(alloc));
     reply.say(": at ", &candidate.addr());
     reply.say(", port ", &candidate.port());
     reply.say(", by ", &candidate.proto().as_str());
@@ -73,7 +73,7 @@ pub(crate) fn put_setup((own, other): (&str, &str), reply: &mut Reply) {
 
 /// `format TEXT`: the parameters that a text gives, blanks and all, printed again.
 pub(crate) fn put_format(alloc: Global, text: &str, reply: &mut Reply) {
-    reply.put_printed(FormatParams::parse_line(text).to_string(alloc));
+    reply.put_printed("", FormatParams::parse_line(text).to_string(alloc));
 }
 
 /// `parameters TEXT`: the parameters of the format that a text gives, one by one, or a dash where there are none.

@@ -1,3 +1,0 @@
-pub mod H264Score
-pub mod LevelScore
-pub mod Points
