@@ -23,7 +23,7 @@ pub use sdp_formats_equality::same::Same;
 pub use sdp_formats_faults::{Inconsistency, check_consistent, is_consistent};
 pub use sdp_formats_fmtp::parse_pairs;
 pub use sdp_formats_forms::{FingerprintFmt, Joined, Maybe, Refusal};
-pub use sdp_formats_lookups::{directions, from_text, lists, preference, section, session, whole};
+pub use sdp_formats_lookups::{directions, lists, preference, section, session, whole};
 pub use sdp_formats_round::{RoundError, best_row, round};
 pub use sdp_formats_row_attributes::{as_media_attrs, map_of, spec_of_map};
 pub use sdp_formats_rows::{
@@ -38,6 +38,6 @@ pub use sdp_formats_types::{
     Proto, Protocol, RelatedAddress, RestrictionId, RidDirection, RtpMap, Setup, Simulcast,
     SimulcastGroups, SimulcastLayer, SsrcInfo, TcpType, Text,
 };
-pub use sdp_formats_value_reader::{candidate_of, fingerprint_of, setup_of};
+pub use sdp_formats_value_reader::{candidate_of, fingerprint_of, from_text, setup_of};
 pub use sdp_formats_writable::is_writable_session;
 pub use wholes::{bundle_mids, parse, sctp_init};

@@ -12,7 +12,7 @@ use Rattle.sdp_formats_forms.specs.Form.{any_text, each, separated, some_text, t
 use Rattle.sdp_formats_forms.specs.Joined.{octet_text}
 use Rattle.sdp_formats_forms.specs.Numbers.{all_digits, number_below}
 use Rattle.sdp_formats_forms.specs.Split.{Lacks, parts, split_first}
-use Rattle.sdp_formats_lookups.specs.FromText.{all_hex, hex_number, print_in_text}
+use Rattle.sdp_formats_value_reader.specs.FromText.{all_hex, hex_number, print_in_text}
 use Rattle.sdp_formats_value_reader.specs.Digest.{fingerprint, hex_byte, hex_digit}
 use Rattle.sdp_formats_value_reader.specs.Fingerprints.{make_fingerprint}
 use Rattle.sdp_formats_values.specs.Printed.{fingerprint_text}

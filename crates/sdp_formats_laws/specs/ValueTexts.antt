@@ -1,7 +1,7 @@
 -- Values with texts of their own: candidates (RFC 8839 5.1) and fingerprints (RFC 8122 5).
 use Rattle.std.specs.Prelude.{◌≡◌, ◌<◌, ◌↔◌, ◌^◌, ℕ, List, [], ◌∷◌, ◌++◌, codes, Some, IfSome}
 use Rattle.sdp_formats_forms.specs.Split.{Lacks}
-use Rattle.sdp_formats_lookups.specs.FromText.{print_in_text}
+use Rattle.sdp_formats_value_reader.specs.FromText.{print_in_text}
 use Rattle.sdp_formats_value_reader.specs.Candidates.{candidate}
 use Rattle.sdp_formats_value_reader.specs.Digest.{fingerprint}
 use Rattle.sdp_formats_values.specs.Printed.{fingerprint_text}

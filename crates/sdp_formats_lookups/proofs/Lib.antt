@@ -1,3 +1,2 @@
-pub mod HexNumerals
 pub mod Preferred
 pub mod Turned

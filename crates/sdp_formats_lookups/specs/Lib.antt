@@ -1,7 +1,6 @@
 pub mod Candidates
 pub mod Creds
 pub mod Directions
-pub mod FromText
 pub mod Preference
 pub mod Sections
 pub mod Sessions

@@ -3,7 +3,6 @@
 
 mod candidates;
 pub mod directions;
-pub mod from_text;
 pub mod lists;
 pub mod preference;
 pub mod section;

@@ -1,10 +1,10 @@
 //! Fingerprints out of texts of their own (RFC 8122 5).
 
 ghost use Rattle.sdp_formats_forms.specs.Refusals.{Gives};
-ghost use Rattle.sdp_formats_lookups.specs.FromText.{IsFromText, print_in_text};
+ghost use Rattle.sdp_formats_value_reader.specs.FromText.{IsFromText, print_in_text};
 
 use sdp_formats_forms::{Reads, Refusal, Text, list_of, split};
-use sdp_formats_types::Fingerprint;
+use sdp_formats_values::Fingerprint;
 use std::alloc::Global;
 use std::error::Error;
 use std::fmt;
@@ -20,7 +20,7 @@ pub enum FingerprintError {
 
 impl fmt::Display for FingerprintError {
     ghost use Rattle.std.specs.Prelude.{Some};
-    ghost use Rattle.sdp_formats_lookups.specs.FromText.{error_text};
+    ghost use Rattle.sdp_formats_value_reader.specs.FromText.{error_text};
 
     ghost output = { λ e. Some (error_text e) };
 
@@ -38,7 +38,7 @@ impl Error for FingerprintError {}
 struct HexNumber;
 
 impl Reads<u8> for HexNumber {
-    ghost use Rattle.sdp_formats_lookups.specs.FromText.{hex_number};
+    ghost use Rattle.sdp_formats_value_reader.specs.FromText.{hex_number};
 
     ghost reads = { hex_number };
 

@@ -4,8 +4,8 @@ use Rattle.std.specs.Prelude.{Result, Ok, Err, if◌then◌else◌, codes}
 use Rattle.std.specs.Char.{digit_value}
 use Rattle.std.specs.Str.Parse.{without_leading_plus, digits_value}
 use Rattle.sdp_formats_forms.specs.Form.{Form, told, made, cut, separated}
-use Rattle.sdp_formats_lookups.specs.declared.from_text.FingerprintError.{FingerprintError}
-use Rattle.sdp_formats_lookups.specs.declared.from_text.FingerprintError.TheVariants.{Malformed, Memory}
+use Rattle.sdp_formats_value_reader.specs.declared.from_text.FingerprintError.{FingerprintError}
+use Rattle.sdp_formats_value_reader.specs.declared.from_text.FingerprintError.TheVariants.{Malformed, Memory}
 use Rattle.sdp_formats_value_reader.specs.Fingerprints.{make_fingerprint}
 use Rattle.sdp_formats_values.specs.declared.fingerprint.Fingerprint.{Fingerprint}
 

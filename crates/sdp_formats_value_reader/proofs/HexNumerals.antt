@@ -7,7 +7,7 @@ use Rattle.std.specs.Result.{result_ok}
 use Rattle.std.specs.Str.Parse.{ParsesUnsigned, AllDigits, digits_value, without_leading_plus}
 use Rattle.std.proofs.lemmas.Bool.Decides.{nat_tests}
 use Rattle.sdp_formats_forms.specs.declared.refusal.Refusal.TheVariants.{Unfit}
-use Rattle.sdp_formats_lookups.specs.FromText.{all_hex, hex_number}
+use Rattle.sdp_formats_value_reader.specs.FromText.{all_hex, hex_number}
 use Rattle.sdp_formats_forms.specs.Refusals.{Gives}
 
 tested : (digit : ℕ) (others : Bool) → digit < 16 → others ≡ true → (nat_lt digit 16 && others) ≡ true
