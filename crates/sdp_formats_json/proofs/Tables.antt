@@ -8,7 +8,7 @@ use Rattle.sdp_formats_format.specs.declared.format.FormatParams.{FormatParams}
 use Rattle.sdp_formats_rows.specs.declared.spec.CodecSpec.{CodecSpec}
 use Rattle.sdp_formats_rows.specs.Rows.{Row}
 use Rattle.sdp_formats_format.specs.Formats.{no_format}
-use Rattle.sdp_formats_spec_json.specs.Names.{field_name}
+use Rattle.sdp_formats_json_errors.specs.Names.{field_name}
 use Rattle.sdp_formats_spec_json.specs.Entries.{entry, optional, put_all, put_groups}
 use Rattle.sdp_formats_json.specs.NamedLaws.{codec_known, h265_profile_known, h265_level_known}
 use Rattle.sdp_formats_json.specs.NamedLaws.{h266_profile_known, h266_level_known, tier_known}

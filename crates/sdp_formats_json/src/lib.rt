@@ -4,6 +4,6 @@
 mod row;
 mod text;
 
+pub use sdp_formats_json_errors::{Field, JsonError};
 pub use sdp_formats_rows::{Codec, CodecSpec, FormatParams, Frequency, PayloadParams, Pt};
-pub use sdp_formats_spec_json::{Field, JsonError};
 pub use text::{row_from_json, row_to_json};

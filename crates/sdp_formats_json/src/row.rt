@@ -7,10 +7,9 @@ ghost use Rattle.sdp_formats_json.specs.Rows.{blank_row, codec_entries, feedback
 ghost use Rattle.sdp_formats_json.specs.Rows.{row_of_data, row_shape};
 
 use rtp_wire::Pt;
+use sdp_formats_json_errors::{Field, JsonError};
 use sdp_formats_rows::PayloadParams;
-use sdp_formats_spec_json::{
-    Field, JsonError, blank_spec, member, optional_member, put, put_optional,
-};
+use sdp_formats_spec_json::{blank_spec, member, optional_member, put, put_optional};
 use serde_json::{Map, Value};
 use std::alloc::{AllocError, Global};
 

@@ -13,7 +13,7 @@ use Rattle.sdp_formats_params.specs.declared.param.FormatParam.{FormatParam}
 use Rattle.sdp_formats_params.specs.declared.param.FormatParam.TheVariants as param
 use Rattle.sdp_formats_media_lines.specs.AsRead.{is_level, is_other, params_as_read, spelled_as}
 use Rattle.sdp_formats_source_lines.specs.Parameters.{parameters}
-use Rattle.sdp_formats_values.specs.Lists.{params_text}
+use Rattle.sdp_formats_types.specs.PrintedMedia.{params_text}
 use Rattle.sdp_formats_laws.proofs.KeyedParams.{key_is, no_level, param_back, text_is, value_is}
 use Rattle.sdp_formats_laws.specs.Printable.{IsText}
 use Rattle.sdp_formats_laws.specs.Keyed.{AreKeyed, IsKeyed, pair_of}

@@ -13,7 +13,7 @@ use Rattle.sdp_formats_params.specs.declared.pairs.Pair.{Pair}
 use Rattle.sdp_formats_params.specs.declared.param.FormatParam.{FormatParam}
 use Rattle.sdp_formats_media_lines.specs.AsRead.{is_level, is_other, params_as_read, spelled_as}
 use Rattle.sdp_formats_source_lines.specs.Parameters.{parameters}
-use Rattle.sdp_formats_values.specs.Lists.{params_text}
+use Rattle.sdp_formats_types.specs.PrintedMedia.{params_text}
 use Rattle.sdp_formats_laws.proofs.KeyedLists.{AllLack, all_spelled, are_pairs, lack_feed, lack_return}
 use Rattle.sdp_formats_laws.proofs.KeyedLists.{levels_none, not_level, others_all, pairs_on_line}
 use Rattle.sdp_formats_laws.proofs.KeyedLists.{pairs_read}

@@ -18,7 +18,8 @@ use Rattle.sdp_formats_media_lines.specs.AsRead.{params_as_read}
 use Rattle.sdp_formats_source_lines.specs.Parameters.{parameters}
 use Rattle.sdp_formats_source_lines.specs.Sources.{make_names, ssrc_number}
 use Rattle.sdp_formats_values.specs.Printed.{is_empty, line_end}
-use Rattle.sdp_formats_values.specs.Lists.{params_text, numbers_text, named}
+use Rattle.sdp_formats_types.specs.PrintedMedia.{params_text}
+use Rattle.sdp_formats_values.specs.Lists.{numbers_text, named}
 use Rattle.sdp_formats_types.specs.PrintedMedia.{attribute_text, listed_text, rtp_map_text}
 use Rattle.sdp_formats_values.specs.declared.streams.Msid as names
 use Rattle.sdp_formats_types.specs.declared.media.RtpMap as map_of

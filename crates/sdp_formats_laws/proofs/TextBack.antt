@@ -3,7 +3,7 @@ use Rattle.std.proofs.Common.{◌≡◌, List, ◌∷◌, Some}
 use Rattle.sdp_formats_media_lines.specs.AsRead.{params_as_read}
 use Rattle.sdp_formats_params.specs.declared.param.FormatParam.{FormatParam}
 use Rattle.sdp_formats_source_lines.specs.Parameters.{parameters}
-use Rattle.sdp_formats_values.specs.Lists.{params_text}
+use Rattle.sdp_formats_types.specs.PrintedMedia.{params_text}
 use Rattle.sdp_formats_laws.specs.Parameters.{IsReadBack}
 use Rattle.sdp_formats_laws.specs.Printable.{IsText}
 

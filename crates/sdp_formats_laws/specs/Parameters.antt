@@ -11,7 +11,7 @@ use Rattle.sdp_formats_rows.specs.Plain.{comes_back, has_plain_events, has_plain
 use Rattle.sdp_formats_rows.specs.Plain.{has_plain_red, has_plain_types, is_plain, is_plain_codec}
 use Rattle.sdp_formats_rows.specs.Rows.{Row}
 use Rattle.sdp_formats_row_attributes.specs.Attributes.{params_in}
-use Rattle.sdp_formats_values.specs.Lists.{params_text}
+use Rattle.sdp_formats_types.specs.PrintedMedia.{params_text}
 use Rattle.sdp_formats_laws.specs.ParameterLists.{AreReadable}
 use Rattle.sdp_formats_laws.specs.Printable.{LacksLineEnds}
 use Rattle.sdp_formats_laws.specs.Ranges.{IsInRange, OneLevel}

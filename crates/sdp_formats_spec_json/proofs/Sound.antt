@@ -10,15 +10,15 @@ use Rattle.serde_json.specs.Data.{Data, object, Members, no_members, member}
 use Rattle.serde_json.specs.Data.{put, depth, members_depth}
 use Rattle.serde_json.specs.Find.{get, as_null}
 use Rattle.serde_json.specs.Written.{has_float, members_have_float}
-use Rattle.sdp_formats_spec_json.specs.Names.{field_name}
+use Rattle.sdp_formats_json_errors.specs.Names.{field_name}
 use Rattle.sdp_formats_spec_json.specs.Shapes.{Shape, and_then, or_refused, tested, number_where, byte, half_word, word}
 use Rattle.sdp_formats_spec_json.specs.Shapes.{rate, flag, word_of}
 use Rattle.payload_core_tables.specs.Names.{with_name}
 use Rattle.sdp_formats_spec_json.specs.Shapes.{optional_data, optional_fits, optional_read}
 use Rattle.sdp_formats_spec_json.specs.Entries.{Entry, entry, optional, put_all, read_all, all_fit, object_of}
 use Rattle.sdp_formats_spec_json.specs.Entries.{put_groups, read_groups, groups_fit, object_in}
-use Rattle.sdp_formats_spec_json.specs.declared.error.Field.{Field}
-use Rattle.sdp_formats_spec_json.specs.declared.error.JsonError.{JsonError}
+use Rattle.sdp_formats_json_errors.specs.declared.error.Field.{Field}
+use Rattle.sdp_formats_json_errors.specs.declared.error.JsonError.{JsonError}
 
 pub record Sound {A : Type 0} (shape : Shape A) (n : ℕ) : Type 0 where
   pub back : (field : Field) (a : A) → shape.fits a ≡ true → shape.reads field (shape.writes a) ≡ Ok a

@@ -2,12 +2,12 @@
 use Rattle.std.specs.Prelude.{◌&&◌, Bool, true, List, [], ◌∷◌, Option, Result, Ok, Err, is_some, if◌then◌else◌, ⊤}
 use Rattle.serde_json.specs.Data.{Data, object, Members, no_members, put}
 use Rattle.serde_json.specs.Find.{get, as_object}
-use Rattle.sdp_formats_spec_json.specs.Names.{field_name}
+use Rattle.sdp_formats_json_errors.specs.Names.{field_name}
 use Rattle.sdp_formats_spec_json.specs.Shapes.{Shape, and_then, member_read, optional_data, optional_fits}
 use Rattle.sdp_formats_spec_json.specs.Shapes.{optional_read, word_of}
-use Rattle.sdp_formats_spec_json.specs.declared.error.Field.{Field}
-use Rattle.sdp_formats_spec_json.specs.declared.error.JsonError.{JsonError}
-use Rattle.sdp_formats_spec_json.specs.declared.error.JsonError.TheVariants.{Unfit}
+use Rattle.sdp_formats_json_errors.specs.declared.error.Field.{Field}
+use Rattle.sdp_formats_json_errors.specs.declared.error.JsonError.{JsonError}
+use Rattle.sdp_formats_json_errors.specs.declared.error.JsonError.TheVariants.{Unfit}
 
 -- A field of a struct: its name, what is written of it, what is read into it, whether its value comes back, and how
 -- it is copied from one struct into another.

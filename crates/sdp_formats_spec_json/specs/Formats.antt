@@ -5,7 +5,7 @@ use Rattle.sdp_formats_format.specs.Formats.{no_format}
 use Rattle.sdp_formats_spec_json.specs.Shapes.{Shape, byte, half_word, word, flag}
 use Rattle.sdp_formats_spec_json.specs.Entries.{Entry, optional, object_in}
 use Rattle.sdp_formats_spec_json.specs.Levels.{h265, h266}
-use Rattle.sdp_formats_spec_json.specs.declared.error.Field.TheVariants as field
+use Rattle.sdp_formats_json_errors.specs.declared.error.Field.TheVariants as field
 
 -- The fields of Opus.
 unfoldable pub opus_entries : List (Entry FormatParams)

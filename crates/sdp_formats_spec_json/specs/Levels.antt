@@ -13,7 +13,7 @@ use Rattle.h26x_payload_profiles.specs.Tier.{tier_name, tiers}
 use Rattle.h26x_payload_profiles.specs.declared.profile_tier_level.ProfileTierLevel.{ProfileTierLevel}
 use Rattle.sdp_formats_spec_json.specs.Shapes.{Shape, word_of}
 use Rattle.sdp_formats_spec_json.specs.Entries.{Entry, entry, object_of}
-use Rattle.sdp_formats_spec_json.specs.declared.error.Field.TheVariants as field
+use Rattle.sdp_formats_json_errors.specs.declared.error.Field.TheVariants as field
 
 -- A profile, tier and level is an object of its three names.
 abbrev pub level_entries : {P L : Type 0} → (P → List ℕ) → List P → (L → List ℕ) → List L

@@ -1,6 +1,5 @@
 pub mod Entries
 pub mod Formats
 pub mod Levels
-pub mod Names
 pub mod Shapes
 pub mod Specs

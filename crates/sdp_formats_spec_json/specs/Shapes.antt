@@ -5,9 +5,9 @@ use Rattle.serde_json.specs.Data.{Data, null, boolean, number, string, unsigned}
 use Rattle.serde_json.specs.Find.{as_bool, as_null, as_number, as_str, as_u64}
 use Rattle.rtp_wire.specs.Time.{frequency_of}
 use Rattle.payload_core_tables.specs.Names.{with_name}
-use Rattle.sdp_formats_spec_json.specs.declared.error.Field.{Field}
-use Rattle.sdp_formats_spec_json.specs.declared.error.JsonError.{JsonError}
-use Rattle.sdp_formats_spec_json.specs.declared.error.JsonError.TheVariants.{Missing, Unfit, Unknown}
+use Rattle.sdp_formats_json_errors.specs.declared.error.Field.{Field}
+use Rattle.sdp_formats_json_errors.specs.declared.error.JsonError.{JsonError}
+use Rattle.sdp_formats_json_errors.specs.declared.error.JsonError.TheVariants.{Missing, Unfit, Unknown}
 
 -- How values of a type stand in JSON: what is written of a value, what the data of a field are read as, and which
 -- values come back.

@@ -8,7 +8,7 @@ use Rattle.sdp_formats_rows.specs.declared.spec.CodecSpec.{CodecSpec}
 use Rattle.sdp_formats_spec_json.specs.Shapes.{Shape, byte, rate, word_of}
 use Rattle.sdp_formats_spec_json.specs.Entries.{Entry, entry, optional, object_of}
 use Rattle.sdp_formats_spec_json.specs.Formats.{format}
-use Rattle.sdp_formats_spec_json.specs.declared.error.Field.TheVariants as field
+use Rattle.sdp_formats_json_errors.specs.declared.error.Field.TheVariants as field
 
 -- A codec with its clock rate, channels and format is an object of these four.
 abbrev pub spec_entries : List (Entry CodecSpec)

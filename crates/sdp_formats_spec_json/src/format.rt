@@ -6,9 +6,9 @@ ghost use Rattle.sdp_formats_format.specs.Formats.{no_format};
 ghost use Rattle.sdp_formats_spec_json.specs.Entries.{all_fit, put_all, read_all};
 ghost use Rattle.sdp_formats_spec_json.specs.Formats.{format, opus_entries, other_entries, video_entries};
 
-use crate::error::{Field, JsonError};
 use crate::members::{optional_member, put_optional};
 use crate::shaped::Shaped;
+use sdp_formats_json_errors::{Field, JsonError};
 use sdp_formats_rows::FormatParams;
 use serde_json::{Map, Value};
 use std::alloc::{AllocError, Global};

@@ -2,10 +2,10 @@
 
 ghost use Rattle.sdp_formats_spec_json.specs.Levels.{level_of};
 
-use crate::error::{Field, JsonError};
 use crate::members::{named_member, put_name};
 use crate::shaped::Shaped;
 use h26x_payload_profiles::{InTable, ProfileTierLevel, TIERS};
+use sdp_formats_json_errors::{Field, JsonError};
 use serde_json::{Map, Value};
 use std::alloc::{AllocError, Global};
 

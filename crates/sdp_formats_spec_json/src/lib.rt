@@ -1,14 +1,12 @@
 //! The JSON of what rows have inside: numbers, names, formats, and codecs with their formats.
 #![tactic(auto)]
 
-mod error;
 mod format;
 mod levels;
 mod members;
 mod shaped;
 mod spec;
 
-pub use error::{Field, JsonError};
 pub use members::{member, optional_member, put, put_optional};
 pub use shaped::Shaped;
 pub use spec::blank_spec;

@@ -4,13 +4,13 @@ ghost use Rattle.std.specs.Prelude.{◌≡◌, OnOk, true};
 ghost use Rattle.serde_json.specs.Data.{put as with_member, string};
 ghost use Rattle.serde_json.specs.Find.{as_str, get};
 ghost use Rattle.serde_json.specs.View.{view, members_view};
-ghost use Rattle.sdp_formats_spec_json.specs.Names.{field_name};
+ghost use Rattle.sdp_formats_json_errors.specs.Names.{field_name};
 ghost use Rattle.sdp_formats_spec_json.specs.Shapes.{given_read, member_read, name_read, optional_data, optional_fits};
 ghost use Rattle.sdp_formats_spec_json.specs.Shapes.{optional_read, word_of};
 
-use crate::error::{Field, JsonError};
 use crate::shaped::Shaped;
 use payload_core_tables::{Named, find_named};
+use sdp_formats_json_errors::{Field, JsonError};
 use serde_json::{Map, Value};
 use std::alloc::{AllocError, Global};
 

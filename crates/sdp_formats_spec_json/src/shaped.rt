@@ -3,10 +3,10 @@
 ghost use Rattle.std.specs.Prelude.{◌≡◌, IfOk, true};
 ghost use Rattle.serde_json.specs.View.{view};
 ghost use Rattle.sdp_formats_spec_json.specs.Shapes.{Shape, byte, half_word, word, rate, flag};
-ghost use Rattle.sdp_formats_spec_json.specs.declared.error.JsonError.TheVariants.{Unfit};
+ghost use Rattle.sdp_formats_json_errors.specs.declared.error.JsonError.TheVariants.{Unfit};
 
-use crate::error::{Field, JsonError};
 use rtp_wire::{Frequency, Pt};
+use sdp_formats_json_errors::{Field, JsonError};
 use serde_json::Value;
 use std::alloc::{AllocError, Global};
 

@@ -4,13 +4,14 @@ use Rattle.std.specs.Fmt.{decimal}
 use Rattle.std.specs.Option.{option_map}
 use Rattle.sdp_formats_forms.specs.Joined.{spelled, joined, maybe_text}
 use Rattle.payload_core_base.specs.Codecs.{codec_name}
+use Rattle.sdp_formats_params.specs.Printed.{param_text}
+use Rattle.sdp_formats_params.specs.declared.FormatParam.{FormatParam}
 use Rattle.rtp_wire.specs.Kinds.{uri_of}
 use Rattle.sdp_formats_types.specs.Media.{proto_text, is_channel}
 use Rattle.sdp_formats_values.specs.Setup.{setup_text}
 use Rattle.sdp_formats_values.specs.Printed.{line_end, fingerprint_text, way_text, simulcast_text}
 use Rattle.sdp_formats_values.specs.Printed.{is_empty, msid_text}
-use Rattle.sdp_formats_values.specs.Lists.{both, named, numbers_text, params_text, rid_types_text}
-use Rattle.sdp_formats_values.specs.Lists.{rid_restrictions_text}
+use Rattle.sdp_formats_values.specs.Lists.{both, named, numbers_text, rid_types_text, rid_restrictions_text}
 use Rattle.sdp_formats_values.specs.PrintedCandidates.{candidate_text}
 use Rattle.sdp_formats_types.specs.declared.bandwidth.Bandwidth.{Bandwidth}
 use Rattle.sdp_formats_types.specs.declared.media.RtpMap as map_of
@@ -37,6 +38,10 @@ media_type_text (media.Unknown word) = word
 abbrev pub rtp_map_text : map_of.RtpMap → List ℕ
 rtp_map_text m = spelled (codec_name m.codec ∷ codes "/" ∷ decimal m.clock_rate
     ∷ maybe_text (codes "/") (option_map decimal m.channels) ∷ [])
+
+-- Parameters with semicolons between (RFC 8866 6.15).
+abbrev pub params_text : List FormatParam → List ℕ
+params_text params = joined (codes ";") (map param_text params)
 
 -- An attribute with a list.
 unfoldable pub listed_text : MediaAttribute → List ℕ

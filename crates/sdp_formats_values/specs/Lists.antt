@@ -3,14 +3,10 @@ use Rattle.std.specs.Prelude.{ℕ, Bool, List, [], ◌∷◌, ◌++◌, map, cod
 use Rattle.std.specs.Fmt.{decimal}
 use Rattle.sdp_formats_forms.specs.Joined.{joined, spelled}
 use Rattle.sdp_formats_params.specs.declared.Pair.{Pair}
-use Rattle.sdp_formats_params.specs.declared.FormatParam.{FormatParam}
-use Rattle.sdp_formats_params.specs.Printed.{param_text, pair_text}
+use Rattle.sdp_formats_params.specs.Printed.{pair_text}
 use Rattle.sdp_formats_values.specs.Printed.{is_empty, line_end}
 
--- Parameters with semicolons between (RFC 8866 6.15).
-abbrev pub params_text : List FormatParam → List ℕ
-params_text params = joined (codes ";") (map param_text params)
-
+-- Numbers with a text between each two.
 abbrev pub numbers_text : List ℕ → List ℕ → List ℕ
 numbers_text separator numbers = joined separator (map decimal numbers)
 

@@ -11,8 +11,7 @@ mod streams;
 pub use candidate::{Candidate, CandidateKind, IceCreds, Protocol, RelatedAddress, TcpType};
 pub use fingerprint::Fingerprint;
 pub use lists::{
-    Mids, Params, Restrictions, RidRestrictions, RidTypes, Sources, Types, Words, write_both,
-    write_value,
+    Mids, Restrictions, RidRestrictions, RidTypes, Sources, Types, Words, write_both, write_value,
 };
 pub use setup::Setup;
 pub use streams::{

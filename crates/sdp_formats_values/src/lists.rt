@@ -5,7 +5,7 @@ ghost use Rattle.sdp_formats_values.specs.Lists.{both_output, named_output};
 
 use rtp_wire_ids::{Mid, Pt, Ssrc};
 use sdp_formats_forms::{Joined, Text};
-use sdp_formats_params::{FormatParam, Pair};
+use sdp_formats_params::Pair;
 use std::fmt;
 use std::fmt::Display;
 
@@ -31,21 +31,6 @@ pub fn write_both<W: fmt::Write, A: fmt::Display, B: fmt::Display>(
         (both_output name.now (A.Display.output first.now) (B.Display.output second.now)) f.new }
 {
     write!(f, "{name}{first} {second}\r\n")
-}
-
-/// Format parameters with semicolons between.
-#[derive(Drop)]
-pub struct Params<'a>(pub &'a [FormatParam]);
-
-impl fmt::Display for Params<'_> {
-    ghost use Rattle.std.specs.Prelude.{Some};
-    ghost use Rattle.sdp_formats_values.specs.Lists.{params_text};
-
-    ghost output = { λ p. Some (params_text p.0.now) };
-
-    fn fmt<W: fmt::Write>(&self, f: &mut fmt::Formatter<W>) -> fmt::Result {
-        Joined(self.0, ";").fmt(f)
-    }
 }
 
 /// Payload types with a text between each two.

@@ -1,7 +1,7 @@
 -- Names of fields.
 use Rattle.std.specs.Prelude.{ℕ, List, codes}
-use Rattle.sdp_formats_spec_json.specs.declared.error.Field.{Field}
-use Rattle.sdp_formats_spec_json.specs.declared.error.Field.TheVariants as field
+use Rattle.sdp_formats_json_errors.specs.declared.error.Field.{Field}
+use Rattle.sdp_formats_json_errors.specs.declared.error.Field.TheVariants as field
 
 -- The name of a field, as JSON has it.
 unfoldable pub field_name : Field → List ℕ

@@ -1,8 +1,8 @@
 //! Fields, and why a text is no row.
 
 ghost use Rattle.std.specs.Prelude.{◌≡◌};
-ghost use Rattle.sdp_formats_spec_json.specs.Names.{field_name};
-ghost use Rattle.sdp_formats_spec_json.specs.declared.error.JsonError.TheVariants.{Memory};
+ghost use Rattle.sdp_formats_json_errors.specs.Names.{field_name};
+ghost use Rattle.sdp_formats_json_errors.specs.declared.error.JsonError.TheVariants.{Memory};
 
 use std::alloc::{AllocError, AllocFailed};
 use std::fmt;
