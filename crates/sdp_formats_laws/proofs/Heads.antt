@@ -18,9 +18,8 @@ use Rattle.sdp_formats_session_lines.specs.Heads.{session_number, formats, pt_nu
 use Rattle.sdp_formats_session_lines.specs.Lines.{version_line, origin_line, name_line, bandwidth_line, times_line}
 use Rattle.sdp_formats_session_lines.specs.Lines.{connection_line, passed, make_bandwidth}
 use Rattle.sdp_formats_values.specs.Printed.{line_end}
-use Rattle.sdp_formats_values.specs.Lists.{numbers_text, named}
-use Rattle.sdp_formats_types.specs.PrintedMedia.{bandwidth_text}
-use Rattle.sdp_formats_types.specs.declared.bandwidth.Bandwidth.{Bandwidth}
+use Rattle.sdp_formats_values.specs.Lists.{bandwidth_text, numbers_text, named}
+use Rattle.sdp_formats_values.specs.declared.bandwidth.Bandwidth.{Bandwidth}
 use Rattle.sdp_formats_laws.proofs.Decimals.{own, number_below-decimal, Lacks-decimal}
 use Rattle.sdp_formats_laws.proofs.Printed.{IsPrintedAs, named_line, named_by, fixed_line, two_parts, at_text}
 use Rattle.sdp_formats_laws.proofs.Printed.{text_some}

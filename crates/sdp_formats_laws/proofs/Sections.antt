@@ -19,8 +19,8 @@ use Rattle.sdp_formats_forms.specs.Line.{LineOf}
 use Rattle.sdp_formats_forms.specs.Step.{Stops, Begins, Many, Perhaps}
 use Rattle.sdp_formats_types.specs.Media.{proto_text, is_channel}
 use Rattle.sdp_formats_values.specs.Printed.{line_end, is_empty}
-use Rattle.sdp_formats_values.specs.Lists.{numbers_text, named}
-use Rattle.sdp_formats_types.specs.PrintedMedia.{bandwidth_text, section_text, attribute_text, attributes_text}
+use Rattle.sdp_formats_values.specs.Lists.{bandwidth_text, numbers_text, named}
+use Rattle.sdp_formats_types.specs.PrintedMedia.{section_text, attribute_text, attributes_text}
 use Rattle.sdp_formats_types.specs.PrintedMedia.{formats_text, media_type_text}
 use Rattle.sdp_formats_types.specs.declared.media.MediaAttribute.{MediaAttribute}
 use Rattle.sdp_formats_types.specs.declared.media.MediaLine.{MediaLine}
@@ -28,7 +28,7 @@ use Rattle.sdp_formats_types.specs.declared.media.MediaType.{MediaType}
 use Rattle.sdp_formats_types.specs.declared.media.MediaType.TheVariants.{Audio, Video, Application, Unknown}
 use Rattle.sdp_formats_types.specs.declared.media.Proto.{Proto}
 use Rattle.sdp_formats_types.specs.declared.media.Proto.TheVariants.{Srtp, Sctp}
-use Rattle.sdp_formats_types.specs.declared.bandwidth.Bandwidth.{Bandwidth}
+use Rattle.sdp_formats_values.specs.declared.bandwidth.Bandwidth.{Bandwidth}
 use Rattle.sdp_formats_laws.proofs.Heads.{bandwidth, bandwidth-exact, connection, connection-exact, formats_read}
 use Rattle.sdp_formats_laws.proofs.Printed.{IsPrintedAs, named_line, named_by, printed_line, lacks}
 use Rattle.sdp_formats_laws.proofs.PlainKinds.{lacks_two}

@@ -17,12 +17,12 @@ use Rattle.sdp_formats_session_attributes.specs.Choice.{attribute_line, session_
 use Rattle.sdp_formats_forms.specs.Line.{LineOf}
 use Rattle.sdp_formats_forms.specs.Step.{Stops, Begins, Perhaps}
 use Rattle.sdp_formats_values.specs.Printed.{line_end}
-use Rattle.sdp_formats_types.specs.PrintedMedia.{bandwidth_text, section_text}
-use Rattle.sdp_formats_values.specs.Lists.{named}
+use Rattle.sdp_formats_types.specs.PrintedMedia.{section_text}
+use Rattle.sdp_formats_values.specs.Lists.{bandwidth_text, named}
 use Rattle.sdp_formats_sessions.specs.PrintedSession.{attribute_text, attributes_text, session_text, sections_text}
 use Rattle.sdp_formats_sessions.specs.PrintedSession.{sdp_text}
 use Rattle.sdp_formats_types.specs.declared.media.MediaLine.{MediaLine}
-use Rattle.sdp_formats_types.specs.declared.bandwidth.Bandwidth.{Bandwidth}
+use Rattle.sdp_formats_values.specs.declared.bandwidth.Bandwidth.{Bandwidth}
 use Rattle.sdp_formats_sessions.specs.declared.session.Sdp.{Sdp}
 use Rattle.sdp_formats_sessions.specs.declared.session.Session.{Session}
 use Rattle.sdp_formats_sessions.specs.declared.session.SessionAttribute.{SessionAttribute}

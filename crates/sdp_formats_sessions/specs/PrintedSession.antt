@@ -5,9 +5,9 @@ use Rattle.std.specs.Option.{option_map}
 use Rattle.sdp_formats_forms.specs.Joined.{spelled, joined, maybe_text}
 use Rattle.sdp_formats_values.specs.Setup.{setup_text}
 use Rattle.sdp_formats_values.specs.Printed.{line_end, fingerprint_text, is_empty}
-use Rattle.sdp_formats_values.specs.Lists.{words_text, named}
+use Rattle.sdp_formats_values.specs.Lists.{bandwidth_text, words_text, named}
 use Rattle.sdp_formats_values.specs.PrintedCandidates.{candidate_text}
-use Rattle.sdp_formats_types.specs.PrintedMedia.{bandwidth_text, section_text}
+use Rattle.sdp_formats_types.specs.PrintedMedia.{section_text}
 use Rattle.sdp_formats_types.specs.declared.media.MediaLine.{MediaLine}
 use Rattle.sdp_formats_sessions.specs.declared.session.Sdp.{Sdp}
 use Rattle.sdp_formats_sessions.specs.declared.session.Session.{Session}

@@ -11,9 +11,9 @@ use Rattle.sdp_formats_types.specs.Media.{proto_text, is_channel}
 use Rattle.sdp_formats_values.specs.Setup.{setup_text}
 use Rattle.sdp_formats_values.specs.Printed.{line_end, fingerprint_text, way_text, simulcast_text}
 use Rattle.sdp_formats_values.specs.Printed.{is_empty, msid_text}
-use Rattle.sdp_formats_values.specs.Lists.{both, named, numbers_text, rid_types_text, rid_restrictions_text}
+use Rattle.sdp_formats_values.specs.Lists.{bandwidth_text, named, numbers_text, rid_types_text}
+use Rattle.sdp_formats_values.specs.Lists.{rid_restrictions_text}
 use Rattle.sdp_formats_values.specs.PrintedCandidates.{candidate_text}
-use Rattle.sdp_formats_types.specs.declared.bandwidth.Bandwidth.{Bandwidth}
 use Rattle.sdp_formats_types.specs.declared.media.RtpMap as map_of
 use Rattle.sdp_formats_types.specs.declared.media.MediaLine.{MediaLine}
 use Rattle.sdp_formats_types.specs.declared.media.MediaType.{MediaType}
@@ -119,10 +119,6 @@ attribute_text a = listed_text a
 
 abbrev pub attributes_text : List MediaAttribute → List ℕ
 attributes_text attributes = joined [] (map attribute_text attributes)
-
--- `b=TYPE:VALUE` (RFC 8866 5.8)
-abbrev pub bandwidth_text : Bandwidth → List ℕ
-bandwidth_text b = spelled (codes "b=" ∷ b.typ ∷ codes ":" ∷ b.val ∷ line_end ∷ [])
 
 -- The formats of a line `m=`.
 unfoldable pub formats_text : MediaLine → List ℕ

@@ -1,19 +1,18 @@
 //! What a media section of a session text says: its lines and its attributes (RFC 8866 5.14, 6).
 #![tactic(auto)]
 
-mod bandwidth;
 mod direction;
 mod lookups;
 mod media;
 mod media_type;
+mod printed;
 mod section;
 
-pub use bandwidth::Bandwidth;
 pub use media::{MediaAttribute, MediaLine, MediaType, Proto, RtpMap};
 pub use sdp_formats_forms::{Listed, Text};
 pub use sdp_formats_params::{FormatParam, H265ProfileTierLevel, H266ProfileTierLevel, Pair};
 pub use sdp_formats_values::{
-    Candidate, CandidateKind, Fingerprint, IceCreds, Mids, Msid, Protocol, RelatedAddress,
-    RestrictionId, RidDirection, Setup, Simulcast, SimulcastGroups, SimulcastLayer, SsrcInfo,
-    TcpType, Words, write_both, write_value,
+    Bandwidth, Candidate, CandidateKind, Fingerprint, IceCreds, Mids, Msid, Protocol,
+    RelatedAddress, RestrictionId, RidDirection, Setup, Simulcast, SimulcastGroups, SimulcastLayer,
+    SsrcInfo, TcpType, Words, write_both, write_value,
 };

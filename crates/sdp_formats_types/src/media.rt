@@ -5,13 +5,12 @@ ghost use Rattle.sdp_formats_types.specs.Media.{proto_text};
 ghost use Rattle.sdp_formats_types.specs.declared.media.MediaType.TheVariants.{Audio};
 ghost use Rattle.sdp_formats_types.specs.declared.media.Proto.TheVariants.{Srtp};
 
-use crate::bandwidth::Bandwidth;
 use payload_core_base::Codec;
 use rtp_wire::{Extension, Frequency, Mid, Pt, Ssrc};
 use sdp_formats_forms::{Listed, Maybe, Text};
 use sdp_formats_params::{FormatParam, Pair};
 use sdp_formats_values::{
-    Candidate, Fingerprint, Msid, RestrictionId, RidDirection, Setup, Simulcast,
+    Bandwidth, Candidate, Fingerprint, Msid, RestrictionId, RidDirection, Setup, Simulcast,
 };
 use std::alloc::Global;
 use std::fmt;

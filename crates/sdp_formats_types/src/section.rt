@@ -4,9 +4,9 @@ ghost use Rattle.std.specs.Prelude.{◌≡◌};
 ghost use Rattle.sdp_formats_types.specs.PrintedMedia.{flag_text, name_before, port_of};
 
 use crate::media::{MediaAttribute, MediaLine};
+use crate::printed::{Params, RidTypes, Types};
 use sdp_formats_forms::{Joined, Maybe};
-use sdp_formats_params::FormatParam;
-use sdp_formats_values::{RidRestrictions, RidTypes, Sources, Types, write_both, write_value};
+use sdp_formats_values::{RidRestrictions, Sources, write_both, write_value};
 use std::fmt;
 use std::fmt::Display;
 
@@ -115,21 +115,6 @@ impl fmt::Display for PartedAttribute<'_> {
             }
             _ => Ok(()),
         }
-    }
-}
-
-// Format parameters with semicolons between.
-#[derive(Drop)]
-struct Params<'a>(&'a [FormatParam]);
-
-impl fmt::Display for Params<'_> {
-    ghost use Rattle.std.specs.Prelude.{Some};
-    ghost use Rattle.sdp_formats_types.specs.PrintedMedia.{params_text};
-
-    ghost output = { λ p. Some (params_text p.0.now) };
-
-    fn fmt<W: fmt::Write>(&self, f: &mut fmt::Formatter<W>) -> fmt::Result {
-        Joined(self.0, ";").fmt(f)
     }
 }
 

@@ -5,6 +5,7 @@ use Rattle.sdp_formats_forms.specs.Joined.{joined, spelled}
 use Rattle.sdp_formats_params.specs.declared.Pair.{Pair}
 use Rattle.sdp_formats_params.specs.Printed.{pair_text}
 use Rattle.sdp_formats_values.specs.Printed.{is_empty, line_end}
+use Rattle.sdp_formats_values.specs.declared.bandwidth.Bandwidth.{Bandwidth}
 
 -- Numbers with a text between each two.
 abbrev pub numbers_text : List ℕ → List ℕ → List ℕ
@@ -42,3 +43,7 @@ both name first second = spelled (name ∷ first ∷ codes " " ∷ second ∷ li
 abbrev pub both_output : List ℕ → Option (List ℕ) → Option (List ℕ) → Option (List ℕ)
 both_output name (Some first) (Some second) = Some (both name first second)
 both_output name _ _ = None
+
+-- `b=TYPE:VALUE` (RFC 8866 5.8)
+abbrev pub bandwidth_text : Bandwidth → List ℕ
+bandwidth_text b = spelled (codes "b=" ∷ b.typ ∷ codes ":" ∷ b.val ∷ line_end ∷ [])

@@ -2,17 +2,17 @@
 //! (RFC 8839 5.1, RFC 8122 5, RFC 4145 4, RFC 8851, RFC 8853).
 #![tactic(auto)]
 
+mod bandwidth;
 mod candidate;
 mod fingerprint;
 mod lists;
 mod setup;
 mod streams;
 
+pub use bandwidth::Bandwidth;
 pub use candidate::{Candidate, CandidateKind, IceCreds, Protocol, RelatedAddress, TcpType};
 pub use fingerprint::Fingerprint;
-pub use lists::{
-    Mids, Restrictions, RidRestrictions, RidTypes, Sources, Types, Words, write_both, write_value,
-};
+pub use lists::{Mids, Restrictions, RidRestrictions, Sources, Words, write_both, write_value};
 pub use setup::Setup;
 pub use streams::{
     Msid, RestrictionId, RidDirection, Simulcast, SimulcastGroups, SimulcastLayer, SsrcInfo,

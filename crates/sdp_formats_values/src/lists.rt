@@ -3,7 +3,7 @@
 ghost use Rattle.std.specs.Fmt.{DisplaysOnOk};
 ghost use Rattle.sdp_formats_values.specs.Lists.{both_output, named_output};
 
-use rtp_wire_ids::{Mid, Pt, Ssrc};
+use rtp_wire_ids::{Mid, Ssrc};
 use sdp_formats_forms::{Joined, Text};
 use sdp_formats_params::Pair;
 use std::fmt;
@@ -31,41 +31,6 @@ pub fn write_both<W: fmt::Write, A: fmt::Display, B: fmt::Display>(
         (both_output name.now (A.Display.output first.now) (B.Display.output second.now)) f.new }
 {
     write!(f, "{name}{first} {second}\r\n")
-}
-
-/// Payload types with a text between each two.
-#[derive(Drop)]
-pub struct Types<'a>(pub &'a [Pt], pub &'a str);
-
-impl fmt::Display for Types<'_> {
-    ghost use Rattle.std.specs.Prelude.{Some};
-    ghost use Rattle.sdp_formats_values.specs.Lists.{numbers_text};
-
-    ghost output = { λ p. Some (numbers_text p.1.now p.0.now) };
-
-    fn fmt<W: fmt::Write>(&self, f: &mut fmt::Formatter<W>) -> fmt::Result {
-        Joined(self.0, self.1).fmt(f)
-    }
-}
-
-/// The payload types of an `a=rid` line, ` pt=111,112`; nothing where there is none.
-#[derive(Drop)]
-pub struct RidTypes<'a>(pub &'a [Pt]);
-
-impl fmt::Display for RidTypes<'_> {
-    ghost use Rattle.std.specs.Prelude.{Some};
-    ghost use Rattle.sdp_formats_values.specs.Lists.{rid_types_text};
-
-    ghost output = { λ p. Some (rid_types_text p.0.now) };
-
-    #[tactic(auto, unfolding(crate::specs::Lists::rid_types_text))]
-    fn fmt<W: fmt::Write>(&self, f: &mut fmt::Formatter<W>) -> fmt::Result {
-        if self.0.is_empty() {
-            return Ok(());
-        }
-        let types = Types(self.0, ",");
-        write!(f, " pt={types}")
-    }
 }
 
 /// Restrictions with semicolons between.

@@ -15,7 +15,7 @@ pub struct Bandwidth {
 /// Its line with its end.
 impl fmt::Display for Bandwidth {
     ghost use Rattle.std.specs.Prelude.{Some};
-    ghost use Rattle.sdp_formats_types.specs.PrintedMedia.{bandwidth_text};
+    ghost use Rattle.sdp_formats_values.specs.Lists.{bandwidth_text};
 
     ghost output = { λ b. Some (bandwidth_text b) };
 
