@@ -5,8 +5,8 @@ ghost use Rattle.payload_core_base.specs.declared.codec.Codec.TheVariants.{AmrWb
 ghost use Rattle.sdp_formats_round.specs.Negotiated.{negotiated, negotiated_channels, negotiated_format, with_h265};
 ghost use Rattle.sdp_formats_round.specs.Negotiated.{with_h266};
 
-use sdp_formats_scores::{GivenH265, GivenH266, level_agreed};
 use sdp_formats_rows::{Codec, CodecSpec, FormatParams};
+use sdp_formats_scores::{GivenH265, GivenH266, level_agreed};
 
 fn with_events(ours: FormatParams, theirs: &FormatParams) -> FormatParams
     ensures { result ≡ negotiated_format Tele ours theirs.now }
