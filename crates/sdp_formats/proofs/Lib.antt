@@ -1,2 +1,1 @@
 pub mod Read
-mod OneName

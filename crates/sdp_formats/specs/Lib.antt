@@ -1,5 +1,4 @@
 pub mod Texts
 pub mod Printed
 pub mod Consistency
-pub mod NameSets
 pub mod Wholes

@@ -7,7 +7,6 @@
 mod consistency;
 mod error;
 mod exchanged;
-mod name_set;
 mod parser;
 mod wholes;
 

@@ -1,1 +1,2 @@
 mod Tables
+mod OneName

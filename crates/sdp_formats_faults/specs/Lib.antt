@@ -1,2 +1,4 @@
 pub mod Consistency
 pub mod Known
+pub mod NameSets
+pub mod Whole

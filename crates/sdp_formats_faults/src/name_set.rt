@@ -2,7 +2,7 @@
 
 ghost use Rattle.std.specs.Prelude.{◌≡◌, IfOk};
 ghost use Rattle.std.specs.List.{list_any};
-ghost use Rattle.sdp_formats.specs.Consistency.{are_apart, is_name};
+ghost use Rattle.sdp_formats_faults.specs.Whole.{are_apart, is_name};
 
 use rtp_wire::Mid;
 use std::alloc::{AllocError, Global};
@@ -19,7 +19,7 @@ pub(crate) struct NameSet<'a> {
 
 impl<'a> Model for NameSet<'a> {
     ghost use Rattle.std.specs.Prelude.{List, ℕ};
-    ghost use Rattle.sdp_formats.specs.NameSets.{IsSetOf};
+    ghost use Rattle.sdp_formats_faults.specs.NameSets.{IsSetOf};
 
     ghost Value = { List (List ℕ) };
 

@@ -1,7 +1,7 @@
 use Rattle.std.proofs.Common.{◌≡◌, ◌++◌, drop}
 use Rattle.std.specs.List.{filter_map}
-use Rattle.sdp_formats.specs.Consistency.{grouped_mid}
-use Rattle.sdp_formats.proofs.consistency.grouped.Given as goal
+use Rattle.sdp_formats_faults.specs.Whole.{grouped_mid}
+use Rattle.sdp_formats_faults.proofs.whole.grouped.Given as goal
 
 -- the names so far and those of the sections that are left
 abbrev pub invariant-loop-section : goal.invariant-loop-section

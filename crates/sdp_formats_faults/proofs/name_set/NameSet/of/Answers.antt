@@ -1,6 +1,6 @@
 use Rattle.std.proofs.Common.{arith}
-use Rattle.sdp_formats.proofs.OneName.{one_name}
-use Rattle.sdp_formats.proofs.name_set.NameSet.of.Goals as goal
+use Rattle.sdp_formats_faults.proofs.OneName.{one_name}
+use Rattle.sdp_formats_faults.proofs.name_set.NameSet.of.Goals as goal
 
 pub loop-place-preserved : goal.loop-place-preserved
 loop-place-preserved c =

@@ -1,7 +1,7 @@
 use Rattle.std.proofs.Common.{◌≡◌, drop}
 use Rattle.sdp_formats_types.specs.Lookups.{first_of}
-use Rattle.sdp_formats.specs.Consistency.{group_in}
-use Rattle.sdp_formats.proofs.consistency.first_group.Given as goal
+use Rattle.sdp_formats_faults.specs.Whole.{group_in}
+use Rattle.sdp_formats_faults.proofs.whole.first_group.Given as goal
 
 -- the attributes so far are no groups
 abbrev pub invariant-loop-attribute : goal.invariant-loop-attribute

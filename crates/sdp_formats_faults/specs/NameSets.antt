@@ -6,7 +6,7 @@ use Rattle.std.specs.Cmp.Lexicographic.{slice_cmp}
 use Rattle.std.specs.List.{list_any}
 use Rattle.std.specs.Ordering.{nat_cmp}
 use Rattle.std.specs.declared.cmp.Ordering.{Ordering}
-use Rattle.sdp_formats.specs.Consistency.{are_apart, is_name}
+use Rattle.sdp_formats_faults.specs.Whole.{are_apart, is_name}
 
 abbrev pub name_cmp : Bor (List ℕ) → Bor (List ℕ) → Ordering
 name_cmp a b = slice_cmp nat_cmp a.now b.now

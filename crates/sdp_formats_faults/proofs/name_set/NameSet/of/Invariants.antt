@@ -1,6 +1,6 @@
 use Rattle.std.proofs.Common.{drop}
-use Rattle.sdp_formats.specs.NameSets.{IsSetOf}
-use Rattle.sdp_formats.proofs.name_set.NameSet.of.Given as goal
+use Rattle.sdp_formats_faults.specs.NameSets.{IsSetOf}
+use Rattle.sdp_formats_faults.proofs.name_set.NameSet.of.Given as goal
 
 -- the set is of the names from this place on
 abbrev pub invariant-loop-place : goal.invariant-loop-place

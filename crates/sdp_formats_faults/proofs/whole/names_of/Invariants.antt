@@ -1,7 +1,7 @@
 use Rattle.std.proofs.Common.{◌≡◌, ◌++◌, drop}
 use Rattle.std.specs.List.{filter_map}
-use Rattle.sdp_formats.specs.Consistency.{mid_of}
-use Rattle.sdp_formats.proofs.consistency.names_of.Given as goal
+use Rattle.sdp_formats_faults.specs.Whole.{mid_of}
+use Rattle.sdp_formats_faults.proofs.whole.names_of.Given as goal
 
 -- the names so far and those of the sections that are left
 abbrev pub invariant-loop-section : goal.invariant-loop-section

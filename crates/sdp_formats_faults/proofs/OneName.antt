@@ -5,8 +5,8 @@ use Rattle.std.specs.BTreeMap.{is_at}
 use Rattle.std.specs.BTreeSet.{contains}
 use Rattle.std.specs.Cmp.Lexicographic.{nat_list_eq_equiv, slice_cmp, texts_ties}
 use Rattle.std.specs.List.{list_any}
-use Rattle.sdp_formats.specs.Consistency.{is_name}
-use Rattle.sdp_formats.specs.NameSets.{IsSetOf, name_cmp}
+use Rattle.sdp_formats_faults.specs.Whole.{is_name}
+use Rattle.sdp_formats_faults.specs.NameSets.{IsSetOf, name_cmp}
 
 in_front : (a b : Bool) → cond a true b ≡ (a || b)
 in_front true b = refl

@@ -1,7 +1,7 @@
 use Rattle.std.proofs.Common.{◌∙◌}
 use Rattle.std.specs.List.{list_any}
-use Rattle.sdp_formats.specs.Consistency.{is_name}
-use Rattle.sdp_formats.proofs.name_set.NameSet.has.Goals as goal
+use Rattle.sdp_formats_faults.specs.Whole.{is_name}
+use Rattle.sdp_formats_faults.proofs.name_set.NameSet.has.Goals as goal
 
 pub returns : goal.returns
 returns c = c.contains.ensures ∙ c.self.invariant.has c.as_str.result
