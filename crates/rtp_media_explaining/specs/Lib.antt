@@ -1,3 +1,1 @@
-pub mod Lines
-pub mod Noted
 pub mod Replies

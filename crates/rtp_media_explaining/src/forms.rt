@@ -1,7 +1,7 @@
 //! The forms of lines, and which words fit them.
 
-use crate::lines::word_at;
 use crate::reason::Reason;
+use rtp_media_known_ends::word_at;
 use rtp_media_words::number_up_to;
 
 /// The forms of all lines, as a user may ask for them.

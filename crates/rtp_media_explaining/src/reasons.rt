@@ -1,16 +1,29 @@
 //! Why a line is an `error line`, or was refused.
 
+ghost use Rattle.std.specs.Prelude.{◌≡◌, ◌||◌, is_some};
+ghost use Rattle.rtp_media_explaining.specs.Replies.{is_error_line, says_no};
+
 use crate::forms::{form_of, misfit};
-use crate::known::{Known, KnownEnd};
-use crate::lines::{number_or_zero_at, word_at};
 use crate::reason::Reason;
+use crate::refusals::refusal_of;
+use rtp_media_known_ends::{Known, KnownEnd, number_or_zero_at, word_at};
 use rtp_media_words::number_up_to;
 
 /// The most bytes of a line; the reason for a longer one names this number.
 pub const LONGEST_LINE: usize = 1_048_576;
 
+/// Why the reply to a line says no, where it does.
+pub fn reason_for<'a>(known: &Known, line: &'a [u8], reply: &str) -> Option<Reason<'a>>
+    ensures { is_some result ≡ (is_error_line reply.now || says_no reply.now) }
+{
+    if reply == "error line" {
+        return Some(error_of(known, line));
+    }
+    refusal_of(reply)
+}
+
 /// Why a line isn't understood, or its conditions fail.
-pub(crate) fn error_of<'a>(known: &Known, line: &'a [u8]) -> Reason<'a> {
+fn error_of<'a>(known: &Known, line: &'a [u8]) -> Reason<'a> {
     if line.len() > LONGEST_LINE {
         return Reason::words("the line is longer than 1048576 bytes");
     }
@@ -110,7 +123,7 @@ fn unmet<'a>(known: &Known, line: &'a str) -> Option<Reason<'a>> {
 fn unmet_ends<'a>(known: &Known, verb: &str, letter: &'a str) -> Option<Reason<'a>> {
     match verb {
         "row" | "ext" => None,
-        "connect" | "play" => unmade(&known.a, "a").or(unmade(&known.b, "b")),
+        "connect" | "play" => unmade(known.end("a"), "a").or(unmade(known.end("b"), "b")),
         _ => unmade(known.end(letter), letter),
     }
 }
@@ -123,7 +136,12 @@ fn unmet_streams<'a>(
     second: &'a str,
 ) -> Option<Reason<'a>> {
     match verb {
-        "play" => unopened(&known.a, true, first, "a").or(unopened(&known.b, false, second, "b")),
+        "play" => unopened(known.end("a"), true, first, "a").or(unopened(
+            known.end("b"),
+            false,
+            second,
+            "b",
+        )),
         "sample" => unopened(known.end(first), true, second, first),
         "poll" => unopened(known.end(first), false, second, first),
         _ => None,
@@ -132,7 +150,7 @@ fn unmet_streams<'a>(
 
 /// An end that isn't there.
 fn unmade<'a>(end: &KnownEnd, letter: &'a str) -> Option<Reason<'a>> {
-    if end.is_made {
+    if end.is_made() {
         return None;
     }
     let parts = [
@@ -155,8 +173,7 @@ fn unopened<'a>(
     letter: &'a str,
 ) -> Option<Reason<'a>> {
     if let Some(number) = number_up_to(stream, u64::MAX)
-        && let Some(found) = end.streams.get(number as usize)
-        && found.is_sender == is_sender
+        && end.has_stream(number, is_sender)
     {
         return None;
     }

@@ -2,7 +2,8 @@
 
 use crate::replies::replies_to;
 use rtp_media::{MAX_LINE_LENGTH, Program, Status};
-use rtp_media_explaining::{FORMS, Known, LONGEST_LINE, is_comment, text_of};
+use rtp_media_explaining::{FORMS, LONGEST_LINE, reason_for};
+use rtp_media_known_ends::{Known, is_comment, text_of};
 use std::io;
 use std::io::Read;
 
@@ -64,7 +65,7 @@ fn explain_reply(
     reply: &str,
 ) -> anyhow::Result<()> {
     print_reply(rt, reply)?;
-    if let Some(reason) = known.reason(line, reply) {
+    if let Some(reason) = reason_for(known, line, reply) {
         println!(*rt; "  line {number}: {reason}")?;
     }
     let line = text_of(line);

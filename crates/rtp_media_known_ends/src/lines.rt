@@ -1,8 +1,8 @@
 //! The lines that are read, and their words.
 
 ghost use Rattle.std.specs.Prelude.{◌≡◌};
-ghost use Rattle.rtp_media_explaining.specs.Lines.{is_comment, number_at, text_of, word_at};
-ghost use Rattle.rtp_media_explaining.specs.Noted.{number_or_zero};
+ghost use Rattle.rtp_media_known_ends.specs.Lines.{is_comment, number_at, text_of, word_at};
+ghost use Rattle.rtp_media_known_ends.specs.Noted.{number_or_zero};
 
 use rtp_media_words::number_up_to;
 
@@ -25,21 +25,21 @@ pub fn text_of(line: &[u8]) -> &str
 }
 
 /// The word of this place in a line, counted from 0; an empty one where there is none.
-pub(crate) fn word_at(line: &str, place: usize) -> &str
+pub fn word_at(line: &str, place: usize) -> &str
     ensures { result.now ≡ word_at line.now place }
 {
     line.split(' ').nth(place).unwrap_or("")
 }
 
 /// The number of this place in a line, where there is one.
-pub(crate) fn number_at(line: &str, place: usize) -> Option<u64>
+pub fn number_at(line: &str, place: usize) -> Option<u64>
     ensures { result ≡ number_at line.now place }
 {
     number_up_to(word_at(line, place), u64::MAX)
 }
 
 /// The number of this place in a line, and 0 where there is none.
-pub(crate) fn number_or_zero_at(line: &str, place: usize) -> u64
+pub fn number_or_zero_at(line: &str, place: usize) -> u64
     ensures { result ≡ number_or_zero line.now place }
 {
     number_at(line, place).unwrap_or(0)

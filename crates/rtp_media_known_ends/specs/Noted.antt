@@ -1,8 +1,9 @@
 -- What is known of the ends and their streams, from the lines and the replies to them.
-use Rattle.std.specs.Prelude.{ℕ, ◌||◌, ◌&&◌, Bool, true, false, if◌then◌else◌, List, [], ◌∷◌, ◌++◌, codes}
-use Rattle.std.specs.Option.{unwrap_or}
+use Rattle.std.specs.Prelude.{ℕ, ◌||◌, ◌&&◌, not, Bool, true, false, if◌then◌else◌, List, [], ◌∷◌, ◌++◌, codes}
+use Rattle.std.specs.List.{slice_get}
+use Rattle.std.specs.Option.{option_map_or, unwrap_or}
 use Rattle.std.specs.Str.{bytes_eq}
-use Rattle.rtp_media_explaining.specs.Lines.{is_making, number_at, word_at}
+use Rattle.rtp_media_known_ends.specs.Lines.{is_making, number_at, word_at}
 
 pub record KnownStream : Type 0 where
   pub number : ℕ
@@ -58,6 +59,14 @@ noted_end e line reply =
     if makes_end line reply then made
     else if opens_stream reply then with_opened e line reply
     else e
+
+-- A stream of this number was opened, which sends or doesn't.
+abbrev pub is_way : Bool → KnownStream → Bool
+is_way true stream = stream.is_sender
+is_way false stream = not stream.is_sender
+
+abbrev pub has_stream : KnownEnd → ℕ → Bool → Bool
+has_stream e number is_sender = option_map_or (is_way is_sender) (slice_get e.streams number) false
 
 -- The end of a letter.
 abbrev pub end_of : Known → List ℕ → KnownEnd

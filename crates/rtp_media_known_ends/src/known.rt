@@ -1,15 +1,11 @@
 //! What is known of the ends, from the lines and the replies to them.
 
-ghost use Rattle.std.specs.Prelude.{◌≡◌, ◌||◌, is_some, IfSome, OnErr, OnOk};
-ghost use Rattle.rtp_media_explaining.specs.Lines.{word_at};
-ghost use Rattle.rtp_media_explaining.specs.Noted.{end_of, made, makes_end, none_made, noted, noted_end};
-ghost use Rattle.rtp_media_explaining.specs.Noted.{opens_stream, unmade, with_opened};
-ghost use Rattle.rtp_media_explaining.specs.Replies.{is_error_line, says_no};
+ghost use Rattle.std.specs.Prelude.{◌≡◌, is_some, IfSome, OnErr, OnOk};
+ghost use Rattle.rtp_media_known_ends.specs.Lines.{word_at};
+ghost use Rattle.rtp_media_known_ends.specs.Noted.{end_of, has_stream, made, makes_end, none_made};
+ghost use Rattle.rtp_media_known_ends.specs.Noted.{noted, noted_end, opens_stream, unmade, with_opened};
 
 use crate::lines::{number_at, number_or_zero_at, word_at};
-use crate::reason::Reason;
-use crate::reasons::error_of;
-use crate::refusals::refusal_of;
 use crate::streams::Stream;
 use rtp_wire::{ExtensionMap, RtpHeader};
 use std::alloc::{AllocError, Global};
@@ -19,8 +15,8 @@ use std::marker::Model;
 /// What is known of an end, and of its streams in the order of their numbers.
 pub struct KnownEnd {
     letter: &'static str,
-    pub(crate) is_made: bool,
-    pub(crate) streams: Vec<Stream>,
+    is_made: bool,
+    streams: Vec<Stream>,
     foreign: u64,
     unreadable: u64,
 }
@@ -39,7 +35,7 @@ impl Drop for KnownEnd {
 }
 
 impl Model for KnownEnd {
-    ghost use Rattle.rtp_media_explaining.specs.Noted.{KnownEnd as Noted};
+    ghost use Rattle.rtp_media_known_ends.specs.Noted.{KnownEnd as Noted};
 
     ghost Value = { Noted };
 
@@ -78,6 +74,23 @@ impl KnownEnd {
             streams: Vec::new(alloc),
             foreign: 0,
             unreadable: 0,
+        }
+    }
+
+    /// Whether it was made.
+    pub fn is_made(&self) -> bool
+        ensures { result ≡ self.now.is_made }
+    {
+        self.is_made
+    }
+
+    /// Whether a stream of this number was opened, which sends, or receives where `is_sender` doesn't hold.
+    pub fn has_stream(&self, number: u64, is_sender: bool) -> bool
+        ensures { result ≡ has_stream self.now number is_sender }
+    {
+        match self.streams.get(number as usize) {
+            Some(found) => found.is_sender == is_sender,
+            None => false,
         }
     }
 
@@ -194,12 +207,12 @@ fn source_in(alloc: Global, digits: &str) -> Option<(u64, u64)> {
 /// What is known of both ends.
 #[derive(Drop)]
 pub struct Known {
-    pub(crate) a: KnownEnd,
-    pub(crate) b: KnownEnd,
+    a: KnownEnd,
+    b: KnownEnd,
 }
 
 impl Model for Known {
-    ghost use Rattle.rtp_media_explaining.specs.Noted.{Known as Noted};
+    ghost use Rattle.rtp_media_known_ends.specs.Noted.{Known as Noted};
 
     ghost Value = { Noted };
 
@@ -224,21 +237,11 @@ impl Known {
         }
     }
 
-    /// The end of a letter.
-    pub(crate) fn end(&self, letter: &str) -> &KnownEnd
+    /// The end of a letter, `a` or `b`.
+    pub fn end(&self, letter: &str) -> &KnownEnd
         ensures { result.now ≡ end_of self.now letter.now }
     {
         if letter == "a" { &self.a } else { &self.b }
-    }
-
-    /// Why the reply to a line says no, where it does.
-    pub fn reason<'a>(&self, line: &'a [u8], reply: &str) -> Option<Reason<'a>>
-        ensures { is_some result ≡ (is_error_line reply.now || says_no reply.now) }
-    {
-        if reply == "error line" {
-            return Some(error_of(self, line));
-        }
-        refusal_of(reply)
     }
 
     /// What is known of an end that a line makes anew, from before the line.
