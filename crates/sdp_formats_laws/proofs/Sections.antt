@@ -28,7 +28,7 @@ use Rattle.sdp_formats_types.specs.declared.media.MediaType.{MediaType}
 use Rattle.sdp_formats_types.specs.declared.media.MediaType.TheVariants.{Audio, Video, Application, Unknown}
 use Rattle.sdp_formats_types.specs.declared.media.Proto.{Proto}
 use Rattle.sdp_formats_types.specs.declared.media.Proto.TheVariants.{Srtp, Sctp}
-use Rattle.sdp_formats_values.specs.declared.bandwidth.Bandwidth.{Bandwidth}
+use Rattle.sdp_formats_types.specs.declared.Bandwidth.{Bandwidth}
 use Rattle.sdp_formats_laws.proofs.Heads.{bandwidth, bandwidth-exact, connection, connection-exact, formats_read}
 use Rattle.sdp_formats_laws.proofs.Printed.{IsPrintedAs, named_line, named_by, printed_line, lacks}
 use Rattle.sdp_formats_laws.proofs.PlainKinds.{lacks_two}

@@ -15,7 +15,7 @@ use Rattle.sdp_formats_session_attributes.specs.Choice.{attribute_line}
 use Rattle.sdp_formats_session_lines.specs.Lines.{bandwidth_line}
 use Rattle.sdp_formats_values.specs.Lists.{bandwidth_text, named, words_text}
 use Rattle.sdp_formats_sessions.specs.PrintedSession.{attribute_text, sections_text}
-use Rattle.sdp_formats_values.specs.declared.bandwidth.Bandwidth.{Bandwidth}
+use Rattle.sdp_formats_types.specs.declared.Bandwidth.{Bandwidth}
 use Rattle.sdp_formats_sessions.specs.declared.session.SessionAttribute.{SessionAttribute}
 use Rattle.sdp_formats_sessions.specs.declared.session.SessionAttribute.TheVariants as session
 use Rattle.sdp_formats_values.specs.Printed.{line_end, fingerprint_text, is_empty}

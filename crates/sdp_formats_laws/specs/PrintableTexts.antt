@@ -12,7 +12,7 @@ use Rattle.sdp_formats_faults.specs.Consistency.{is_consistent}
 use Rattle.sdp_formats_types.specs.declared.media.MediaLine.{MediaLine}
 use Rattle.sdp_formats_types.specs.declared.media.MediaType.{MediaType}
 use Rattle.sdp_formats_types.specs.declared.media.MediaType.TheVariants.{Audio, Video, Application, Unknown}
-use Rattle.sdp_formats_values.specs.declared.bandwidth.Bandwidth.{Bandwidth}
+use Rattle.sdp_formats_types.specs.declared.Bandwidth.{Bandwidth}
 use Rattle.sdp_formats_sessions.specs.declared.session.Sdp.{Sdp}
 use Rattle.sdp_formats_sessions.specs.declared.session.Session.{Session}
 use Rattle.sdp_formats_laws.specs.Printable.{IsText, IsWord, IsPrintable, AreBelow}

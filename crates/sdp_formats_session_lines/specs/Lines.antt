@@ -6,7 +6,7 @@ use Rattle.sdp_formats_forms.specs.Split.{behind}
 use Rattle.sdp_formats_session_lines.specs.Heads.{origin, media_line}
 use Rattle.sdp_formats_session_lines.specs.declared.media.MediaHead.{MediaHead}
 use Rattle.sdp_formats_session_lines.specs.declared.passed.Passed.{Passed}
-use Rattle.sdp_formats_values.specs.declared.bandwidth.Bandwidth.{Bandwidth}
+use Rattle.sdp_formats_types.specs.declared.Bandwidth.{Bandwidth}
 
 abbrev pub passed : Passed
 passed = record {}

@@ -4,7 +4,7 @@ use Rattle.sdp_formats_session_lines.specs.Lines.{bandwidth_line}
 use Rattle.sdp_formats_session_attributes.specs.Choice.{attribute_line}
 use Rattle.sdp_formats_values.specs.Lists.{bandwidth_text}
 use Rattle.sdp_formats_sessions.specs.PrintedSession.{attribute_text}
-use Rattle.sdp_formats_values.specs.declared.bandwidth.Bandwidth.{Bandwidth}
+use Rattle.sdp_formats_types.specs.declared.Bandwidth.{Bandwidth}
 use Rattle.sdp_formats_sessions.specs.declared.session.Session.{Session}
 use Rattle.sdp_formats_sessions.specs.declared.session.SessionAttribute.{SessionAttribute}
 use Rattle.sdp_formats_sessions.specs.declared.session.SessionAttribute.TheVariants.{Group, Unused}

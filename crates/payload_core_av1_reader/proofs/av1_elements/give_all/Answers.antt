@@ -3,6 +3,8 @@ use Rattle.std.proofs.lemmas.List.{drop_more}
 use Rattle.payload_core_av1_reader.specs.Av1Reading.{all_given, joined_option}
 use Rattle.payload_core_av1_reader.proofs.KeepsLemmas.{keeps-both}
 use Rattle.payload_core_av1_reader.proofs.ReaderLemmas.{given-go, given-stop, none_behind}
+use Rattle.std.proofs.Common.{arith}
+use Rattle.std.proofs.lemmas.Grind.{common_steps}
 use Rattle.payload_core_av1_reader.proofs.av1_elements.give_all.Goals as goal
 
 pub loop-element-preserved : goal.loop-element-preserved
@@ -35,3 +37,18 @@ returns-in-Err-clause-refused c =
           ∙ given-stop c.loop-element.out.items (get_or all i none).now
           (map (λ (e : Bor (List ℕ)). e.now) (drop (i + 1) all)) (c.in-Err.ensures.refused other).1),
     )
+
+pub returns-in-Err-clause-given : goal.returns-in-Err-clause-given
+returns-in-Err-clause-given c = grind (arith, common_steps)
+
+pub returns-in-Err-clause-kept : goal.returns-in-Err-clause-kept
+returns-in-Err-clause-kept c = grind (arith, common_steps)
+
+pub returns-clause-given : goal.returns-clause-given
+returns-clause-given c = grind (arith, common_steps)
+
+pub returns-clause-kept : goal.returns-clause-kept
+returns-clause-kept c = grind (arith, common_steps)
+
+pub returns-clause-refused : goal.returns-clause-refused
+returns-clause-refused c = grind (arith, common_steps)
