@@ -4,7 +4,7 @@ ghost use Rattle.std.specs.Prelude.{◌≡◌, ◌≢◌, ◌≤◌, ◌++◌, l
 ghost use Rattle.std.specs.Option.{option_map};
 ghost use Rattle.rtp_wire.specs.Header.{header_in, spelled};
 ghost use Rattle.rtp_wire_extension_maps.specs.Maps.{empty_map};
-ghost use Rattle.jilqamur_packets.specs.Codes.{ok, too_small, unwritable};
+ghost use Rattle.jilqamur_packets.specs.Codes.{ok, unwritable};
 ghost use Rattle.jilqamur_packets.specs.Headers.{as_wire, as_header, write_outcome};
 
 use crate::codes;

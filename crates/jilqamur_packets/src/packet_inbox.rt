@@ -1,6 +1,6 @@
 //! A depacketizer of a codec, behind a buffer.
 
-ghost use Rattle.std.specs.Prelude.{◌≡◌, ◌≢◌, true, IfOk, IfErr, OnOk};
+ghost use Rattle.std.specs.Prelude.{◌≡◌, ◌≢◌, IfOk, IfErr, OnOk};
 ghost use Rattle.jilqamur_packets.specs.Codes.{ok, memory, nothing};
 ghost use Rattle.jilqamur_packets.specs.Copies.{IsFetched};
 ghost use Rattle.jilqamur_packets.specs.Formats.{format_of, format_outcome};

@@ -1,6 +1,6 @@
 //! A packetizer of a codec.
 
-ghost use Rattle.std.specs.Prelude.{◌≡◌, ◌≢◌, ◌+◌, ◌==◌, length, true, map, IfOk, IfErr, OnOk, MatchOption};
+ghost use Rattle.std.specs.Prelude.{◌≡◌, ◌≢◌, ◌+◌, ◌==◌, length, map, IfOk, IfErr, OnOk, MatchOption};
 ghost use Rattle.std.specs.List.{slice_get};
 ghost use Rattle.h26x_payload.specs.Codings.{has_format};
 ghost use Rattle.jilqamur_packets.specs.Codes.{ok, memory, nothing};

@@ -1,6 +1,6 @@
 //! The calls whose units the contract of `carry` says.
 
-ghost use Rattle.std.specs.Prelude.{◌≡◌, ◌<◌, ◌≤◌, length, All, IfOk};
+ghost use Rattle.std.specs.Prelude.{◌≡◌, ◌<◌, length, All, IfOk};
 ghost use Rattle.media_calls.specs.Call.{IsShortSample};
 
 use crate::calls::{Ends, distances, sections};

@@ -1,5 +1,6 @@
 -- Names that are matched as they are written, by a test.
 use Rattle.std.proofs.Common.{◌≡◌, zero, suc, arith, Bool, true, false, not, ◌&&◌, List, [], ◌∷◌, refl}
+use Rattle.std.proofs.lemmas.Bool.{and_parts, not-true}
 use Rattle.std.specs.Prelude.{All}
 use Rattle.std.specs.List.{list_all}
 use Rattle.serde.specs.declared.name.Case.{Case}
@@ -24,10 +25,6 @@ is_none (x ∷ xs) = false
 abbrev pub is_as_written : Name → Bool
 is_as_written name = is_field name.kind && (is_as_is name.case && (is_none name.aliases.now && not name.skipped))
 
-both : (a b : Bool) → (a && b) ≡ true → (a ≡ true) × (b ≡ true)
-both true b e = (refl, e)
-both false b e = absurd (cc)
-
 field : (kind : NameKind) → is_field kind ≡ true → kind ≡ Field
 field Field e = refl
 field _ e = cc
@@ -40,20 +37,16 @@ none : {A : Type 0} (xs : List A) → is_none xs ≡ true → xs ≡ []
 none [] e = refl
 none (x ∷ xs) e = absurd (cc)
 
-no : (b : Bool) → not b ≡ true → b ≡ false
-no true e = cc
-no false e = refl
-
 written : (name : Name) → is_as_written name ≡ true → IsAsWritten name
 written name e =
-    let kind = both (is_field name.kind) _ e in
-    let case = both (is_as_is name.case) _ kind.1 in
-    let others = both (is_none name.aliases.now) _ case.1 in
-    (field name.kind kind.0, as_is name.case case.0, none name.aliases.now others.0, no name.skipped others.1)
+    let kind = and_parts (is_field name.kind) _ e in
+    let case = and_parts (is_as_is name.case) _ kind.1 in
+    let others = and_parts (is_none name.aliases.now) _ case.1 in
+    (field name.kind kind.0, as_is name.case case.0, none name.aliases.now others.0, not-true name.skipped others.1)
 
 pub all_written : (names : List Name) → list_all is_as_written names ≡ true → All IsAsWritten names
 all_written [] e k d lt = absurd (omega arith)
 all_written (name ∷ names) e zero d lt =
-    written name (both (is_as_written name) (list_all is_as_written names) e).0
+    written name (and_parts (is_as_written name) (list_all is_as_written names) e).0
 all_written (name ∷ names) e (suc k) d lt =
-    all_written names (both (is_as_written name) (list_all is_as_written names) e).1 k d (omega (arith, lt))
+    all_written names (and_parts (is_as_written name) (list_all is_as_written names) e).1 k d (omega (arith, lt))
