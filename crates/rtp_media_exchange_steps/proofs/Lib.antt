@@ -1,1 +1,2 @@
 pub mod BareSession
+pub mod Saying

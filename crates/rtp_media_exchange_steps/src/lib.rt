@@ -2,12 +2,12 @@
 #![tactic(auto)]
 
 mod errors;
+mod offered;
 mod plain;
 pub mod read;
 mod settle;
 
 pub use errors::{EndError, ExchangeError};
+pub use offered::{check_listed, is_any_nameless};
 pub use plain::{check_rows, check_types};
-pub use settle::{
-    agreed_shapes, check_accepted, check_answered, check_media, line_shapes, settled, wanted_shapes,
-};
+pub use settle::{check_accepted, check_answered, check_media, settled};

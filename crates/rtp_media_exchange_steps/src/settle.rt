@@ -6,14 +6,12 @@ ghost use Rattle.sdp_formats_config.specs.Sections.{section_of};
 ghost use Rattle.sdp_formats_round.specs.Laws.{rounds};
 ghost use Rattle.rtp_media_exchange_steps.specs.Refusals.{answers_none, no_acceptance, no_answer, not_media_of};
 ghost use Rattle.rtp_media_exchange_steps.specs.Refusals.{is_locked_at, round_refusal, shares_none};
-ghost use Rattle.rtp_media_sections.specs.Agreement.{shape_of_agreed};
 ghost use Rattle.rtp_media_section_texts.specs.Answered.{answered_rows};
-ghost use Rattle.rtp_media_section_texts.specs.Lines.{is_media_line, remote_of, shape_of_line};
-ghost use Rattle.rtp_media_section_texts.specs.Sections.{shape_of};
+ghost use Rattle.rtp_media_section_texts.specs.Lines.{is_media_line, remote_of};
 
 use crate::errors::ExchangeError;
-use rtp_media_section_texts::{SectionSpec, Shape, answered_rows};
-use rtp_media_sections::{AgreedSection, is_media_line, mid_of, remote_of, shape_of_line};
+use rtp_media_section_texts::answered_rows;
+use rtp_media_sections::{is_media_line, mid_of, remote_of};
 use sdp_formats_config::{CodecConfig, RemoteSection, RoundError};
 use sdp_formats_rows::PayloadParams;
 use sdp_formats_section_rows::rtp_params;
@@ -35,51 +33,6 @@ pub fn check_media(lines: &[MediaLine]) -> Result<(), ExchangeError>
         }
     }
     Ok(())
-}
-
-/// The names and kinds of wanted sections.
-///
-/// # Errors
-///
-/// `AllocError` where memory runs out.
-pub fn wanted_shapes(alloc: Global, sections: &[SectionSpec]) -> Result<Vec<Shape>, AllocError>
-    ensures { IfOk result (λ shapes. shapes.items ≡ map shape_of sections.now) }
-{
-    let mut shapes = Vec::new(alloc);
-    for section in sections {
-        shapes.push(section.shape())?;
-    }
-    Ok(shapes)
-}
-
-/// The names and kinds of agreed sections.
-///
-/// # Errors
-///
-/// `AllocError` where memory runs out.
-pub fn agreed_shapes(alloc: Global, sections: &[AgreedSection]) -> Result<Vec<Shape>, AllocError>
-    ensures { IfOk result (λ shapes. shapes.items ≡ map shape_of_agreed sections.now) }
-{
-    let mut shapes = Vec::new(alloc);
-    for section in sections {
-        shapes.push(section.shape())?;
-    }
-    Ok(shapes)
-}
-
-/// The names and kinds of the sections of a text.
-///
-/// # Errors
-///
-/// `AllocError` where memory runs out.
-pub fn line_shapes(alloc: Global, lines: &[MediaLine]) -> Result<Vec<Shape>, AllocError>
-    ensures { IfOk result (λ shapes. shapes.items ≡ map shape_of_line lines.now) }
-{
-    let mut shapes = Vec::new(alloc);
-    for line in lines {
-        shapes.push(shape_of_line(line))?;
-    }
-    Ok(shapes)
 }
 
 fn remotes(alloc: Global, lines: &[MediaLine]) -> Result<Vec<RemoteSection>, AllocError>

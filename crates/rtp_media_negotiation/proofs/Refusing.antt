@@ -1,8 +1,8 @@
 -- Refusals of what a text says.
-use Rattle.std.proofs.Common.{◌≡◌, ◌≢◌, ℕ, List, map, None, false, inl, inr, ◌∙◌, ap}
+use Rattle.std.proofs.Common.{◌≡◌, ◌≢◌, ℕ, List, None, inl, inr, ◌∙◌, ap}
 use Rattle.sdp_formats_types.specs.declared.media.MediaLine.{MediaLine}
 use Rattle.rtp_media_exchange_texts.specs.Exchanges.{Exchanged}
-use Rattle.rtp_media_exchange_steps.specs.Refusals.{CannotSay, IsReason, IsUnwritable, MayAccept, MayAnswer}
+use Rattle.rtp_media_exchange_steps.specs.Refusals.{CannotSay, IsReason, MayAccept, MayAnswer}
 use Rattle.rtp_media_exchange_steps.specs.Refusals.{RefusesAnswer}
 use Rattle.rtp_media_exchange_steps.specs.Refusals.{refusal_of_accept, refusal_of_answer}
 use Rattle.rtp_media_exchange_texts.specs.Says.{SaysOnly}
@@ -11,8 +11,7 @@ use Rattle.rtp_media_exchange_steps.specs.declared.errors.ExchangeError.TheVaria
 use Rattle.rtp_media_exchange_steps.specs.declared.errors.ExchangeError.TheVariants.{NotCorresponding, Round}
 use Rattle.rtp_media_exchange_steps.specs.declared.errors.ExchangeError.TheVariants.{NoCommonRow}
 use Rattle.rtp_media_exchange_steps.specs.declared.errors.ExchangeError.TheVariants.{NotWritable, Memory}
-use Rattle.rtp_media_section_texts.specs.Lines.{shape_of_line}
-use Rattle.rtp_media_section_texts.specs.Sections.{Wanted, correspond, shape_of}
+use Rattle.rtp_media_section_texts.specs.Sections.{Wanted}
 
 -- an answer that can't be written
 pub cannot_answer : (x : Exchanged) (text : List ℕ) (wanted : List Wanted) (lines : List MediaLine) (e : ExchangeError)
@@ -41,9 +40,3 @@ may_answer x text wanted lines says none others s =
 pub may_accept : (x : Exchanged) (text : List ℕ) (lines : List MediaLine)
     → SaysOnly text lines → refusal_of_accept x lines ≡ None → MayAccept x text
 may_accept x text lines says none others s = ap (refusal_of_accept x) (says.only others s) ∙ none
-
--- a text that says other sections, or none, is not that of wanted ones
-pub other_said : (text : List ℕ) (wanted : List Wanted) (lines : List MediaLine) → SaysOnly text lines
-    → correspond (map shape_of_line lines) (map shape_of wanted) ≡ false → IsUnwritable text wanted
-other_said text wanted lines says other others s =
-    ap (λ (ls : List MediaLine). correspond (map shape_of_line ls) (map shape_of wanted)) (says.only others s) ∙ other

@@ -11,6 +11,7 @@ mod answer;
 mod offer;
 
 use rtp_media_exchange_steps::{EndError, ExchangeError, check_rows, check_types};
+use rtp_media_exchange_texts::fixed_config;
 use rtp_media_section_texts::{SectionSpec, is_writable};
 use rtp_media_sections::{AgreedSection, own_row_agrees};
 use rtp_wire::{ExtensionMap, Mid, SessionId};
@@ -130,19 +131,14 @@ impl Exchange {
     pub fn fixed(alloc: Global) -> Result<Self, AllocError>
         ensures { IfOk result (λ x. x ≡ fixed) }
     {
-        let mut config = CodecConfig::empty(alloc);
-        config.enable_opus(true, false)?;
-        let mut row = config.params()[0];
-        row.lock();
-        let mut rows = Vec::new(alloc);
-        rows.push(row)?;
+        let config = fixed_config(alloc)?;
         let mut agreed = Vec::new(alloc);
         agreed.push(AgreedSection::fixed(alloc)?)?;
         Ok(Exchange {
             alloc,
             session: Session::new(alloc, SessionId::from(0)),
             exts: ExtensionMap::empty(),
-            config: CodecConfig::new_from_payload_params(rows),
+            config,
             pending: None,
             agreed,
         })

@@ -1,65 +1,23 @@
 //! Answers to offers, and their acceptance.
 
 ghost use Rattle.std.specs.Prelude.{◌≡◌, ◌≢◌, None, Some, Ok, length, map, string_bytes, IfOk, IfErr, OnOk, OnErr};
-ghost use Rattle.std.specs.Prelude.{IsTrue};
 ghost use Rattle.sdp_formats_round.specs.Laws.{rounds};
 ghost use Rattle.rtp_media_exchange_texts.specs.Offers.{Accepts, Answers};
-ghost use Rattle.rtp_media_exchange_steps.specs.Refusals.{IsUnwritable, MayAccept, MayAnswer, RefusesAccept};
+ghost use Rattle.rtp_media_exchange_steps.specs.Refusals.{MayAccept, MayAnswer, RefusesAccept};
 ghost use Rattle.rtp_media_exchange_steps.specs.Refusals.{RefusesAnswer};
 ghost use Rattle.rtp_media_exchange_steps.specs.Refusals.{refusal_of_accept, refusal_of_answer, refusal_of_sections};
-ghost use Rattle.rtp_media_exchange_texts.specs.Says.{AgreesOnText, SaysOnly};
-ghost use Rattle.rtp_media_section_texts.specs.Lines.{remote_of, shape_of_line};
-ghost use Rattle.rtp_media_section_texts.specs.Sections.{correspond, shape_of};
+ghost use Rattle.rtp_media_exchange_texts.specs.Says.{AgreesOnText};
+ghost use Rattle.rtp_media_section_texts.specs.Lines.{remote_of};
 
 use super::Exchange;
-use rtp_media_exchange_steps::read::read;
+use rtp_media_exchange_steps::read::{read, said_again};
 use rtp_media_exchange_steps::{
-    ExchangeError, check_accepted, check_answered, check_media, line_shapes, settled, wanted_shapes,
+    ExchangeError, check_accepted, check_answered, check_media, settled,
 };
-use rtp_media_exchange_texts::{accepted_agreement, answer_text, answered_agreement};
-use rtp_media_section_texts::{SectionSpec, correspond};
+use rtp_media_exchange_texts::{accepted_agreement, answer_text, answered_agreement, corresponds};
+use rtp_media_section_texts::SectionSpec;
 use sdp_formats_config::CodecConfig;
 use sdp_formats_types::MediaLine;
-use std::alloc::{AllocError, Global};
-
-/// Whether the sections of a text have the names and kinds of wanted ones.
-fn corresponds(
-    alloc: Global,
-    lines: &[MediaLine],
-    sections: &[SectionSpec],
-) -> Result<bool, AllocError>
-    ensures same { IfOk result (λ same. same ≡ correspond (map shape_of_line lines.now) (map shape_of sections.now)) }
-    ensures length { IfOk result (λ same. IsTrue same → length sections.now ≡ length lines.now) }
-{
-    let said = line_shapes(alloc, lines)?;
-    let wanted = wanted_shapes(alloc, sections)?;
-    Ok(correspond(said.as_slice(), wanted.as_slice()))
-}
-
-/// The sections that the text of an answer says again.
-#[tactic(auto, using(crate::proofs::Refusing::other_said))]
-fn said_again(
-    alloc: Global,
-    text: &str,
-    sections: &[SectionSpec],
-) -> Result<Vec<MediaLine>, ExchangeError>
-    ensures says { IfOk result (λ lines. SaysOnly text.now lines.items) }
-    ensures length { IfOk result (λ lines. length sections.now ≡ length lines.items) }
-    ensures same { IfOk result (λ lines. IsTrue (correspond (map shape_of_line lines.items)
-        (map shape_of sections.now))) }
-    ensures refused { IfErr result (λ e. e ≢ ExchangeError.Memory → (e ≡ ExchangeError.NotWritable)
-        × IsUnwritable text.now sections.now) }
-{
-    let lines = match read(alloc, text) {
-        Ok(lines) => lines,
-        Err(ExchangeError::Memory) => return Err(ExchangeError::Memory),
-        Err(_) => return Err(ExchangeError::NotWritable),
-    };
-    if !corresponds(alloc, lines.as_slice(), sections)? {
-        return Err(ExchangeError::NotWritable);
-    }
-    Ok(lines)
-}
 
 impl Exchange {
     /// The config after the rounds with the sections of a text, where these are exchanged for wanted ones.

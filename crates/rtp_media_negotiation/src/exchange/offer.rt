@@ -1,48 +1,17 @@
 //! Offers.
 
-ghost use Rattle.std.specs.Prelude.{◌≡◌, ◌≢◌, None, Some, find, string_bytes, IfOk, IfErr, OnOk, OnErr};
-ghost use Rattle.std.specs.List.{list_any};
+ghost use Rattle.std.specs.Prelude.{◌≡◌, ◌≢◌, None, Some, string_bytes, IfOk, IfErr, OnOk, OnErr};
 ghost use Rattle.rtp_media_exchange_texts.specs.Exchanges.{with_offer};
 ghost use Rattle.rtp_media_exchange_texts.specs.Offers.{offer_of};
-ghost use Rattle.rtp_media_exchange_steps.specs.Refusals.{follows_agreed, is_nameless, lists_none, no_row_of};
+ghost use Rattle.rtp_media_exchange_steps.specs.Refusals.{follows_agreed};
 ghost use Rattle.rtp_media_exchange_steps.specs.Refusals.{Refuses, refusal_of_offer};
 ghost use Rattle.sdp_formats_sessions.specs.PrintedSession.{sdp_text};
 
 use super::{Exchange, Pending};
-use rtp_media_exchange_steps::{ExchangeError, agreed_shapes, wanted_shapes};
-use rtp_media_exchange_texts::offer_text;
+use rtp_media_exchange_steps::{ExchangeError, check_listed, is_any_nameless};
+use rtp_media_exchange_texts::{agreed_shapes, offer_text, wanted_shapes};
 use rtp_media_section_texts::{SectionSpec, may_follow};
-use sdp_formats_config::CodecConfig;
 use std::alloc::AllocError;
-
-fn lists_none(config: &CodecConfig, section: &SectionSpec) -> Result<bool, AllocError>
-    ensures { IfOk result (λ none. none ≡ lists_none config.now.rows section.now) }
-{
-    let rows = config.all_for_kind(section.kind, true)?;
-    Ok(rows.is_empty())
-}
-
-/// Whether each section would list a row.
-fn check_rows(config: &CodecConfig, sections: &[SectionSpec]) -> Result<(), ExchangeError>
-    ensures ok { OnOk result (no_row_of (find (lists_none config.now.rows) sections.now) ≡ None) }
-    ensures refused { IfErr result (λ e. e ≢ ExchangeError.Memory
-        → no_row_of (find (lists_none config.now.rows) sections.now) ≡ Some e) }
-{
-    for section in sections {
-        if lists_none(config, section)? {
-            return Err(ExchangeError::NoCommonRow(section.mid));
-        }
-    }
-    Ok(())
-}
-
-fn is_any_nameless(sections: &[SectionSpec]) -> bool
-    ensures { result ≡ list_any is_nameless sections.now }
-{
-    sections
-        .iter()
-        .any(|section| section.mid.as_str().is_empty())
-}
 
 impl Exchange {
     /// Whether sections may follow those that were agreed.
@@ -67,7 +36,7 @@ impl Exchange {
         if !self.follows_agreed(sections)? {
             return Err(ExchangeError::NotCorresponding);
         }
-        check_rows(&self.config, sections)?;
+        check_listed(&self.config, sections)?;
         if is_any_nameless(sections) {
             return Err(ExchangeError::NotWritable);
         }

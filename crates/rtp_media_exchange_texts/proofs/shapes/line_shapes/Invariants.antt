@@ -1,6 +1,6 @@
 use Rattle.std.proofs.Common.{◌≡◌, ◌++◌, drop, map}
 use Rattle.rtp_media_section_texts.specs.Lines.{shape_of_line}
-use Rattle.rtp_media_exchange_steps.proofs.settle.line_shapes.Given as goal
+use Rattle.rtp_media_exchange_texts.proofs.shapes.line_shapes.Given as goal
 
 -- the names and kinds so far, and those of the rest
 abbrev pub invariant-loop-line : goal.invariant-loop-line

@@ -1,6 +1,6 @@
 use Rattle.std.proofs.Common.{◌≡◌, ◌++◌, drop, map}
 use Rattle.rtp_media_sections.specs.Agreement.{shape_of_agreed}
-use Rattle.rtp_media_exchange_steps.proofs.settle.agreed_shapes.Given as goal
+use Rattle.rtp_media_exchange_texts.proofs.shapes.agreed_shapes.Given as goal
 
 -- the names and kinds so far, and those of the rest
 abbrev pub invariant-loop-section : goal.invariant-loop-section

@@ -1,6 +1,6 @@
 use Rattle.std.proofs.Common.{◌≡◌, ◌++◌, drop, map}
 use Rattle.rtp_media_section_texts.specs.Sections.{shape_of}
-use Rattle.rtp_media_exchange_steps.proofs.settle.wanted_shapes.Given as goal
+use Rattle.rtp_media_exchange_texts.proofs.shapes.wanted_shapes.Given as goal
 
 -- the names and kinds so far, and those of the rest
 abbrev pub invariant-loop-section : goal.invariant-loop-section

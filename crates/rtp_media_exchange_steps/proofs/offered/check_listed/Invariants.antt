@@ -1,7 +1,7 @@
 use Rattle.std.proofs.Common.{◌≡◌, drop}
 use Rattle.std.specs.Prelude.{find}
 use Rattle.rtp_media_exchange_steps.specs.Refusals.{lists_none}
-use Rattle.rtp_media_negotiation.proofs.exchange.offer.check_rows.Given as goal
+use Rattle.rtp_media_exchange_steps.proofs.offered.check_listed.Given as goal
 
 -- the sections so far list a row: the rest decides
 abbrev pub invariant-loop-section : goal.invariant-loop-section
