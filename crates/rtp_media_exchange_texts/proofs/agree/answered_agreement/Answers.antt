@@ -11,3 +11,21 @@ returns-clause-agrees c =
     grind (arith, common_steps) in
     subst (λ agreed. AgreesOn c.args.answer.now agreed) (sym value)
     (answered_agrees c.args.wanted.now c.args.offer.now c.args.answer.now c.requires.offer c.requires.answer)
+
+pub returns-in_err-agreed_by_answer-clause-value : goal.returns-in_err-agreed_by_answer-clause-value
+returns-in_err-agreed_by_answer-clause-value c = grind (arith, common_steps)
+
+pub returns-in_err-agreed_by_answer-clause-agrees : goal.returns-in_err-agreed_by_answer-clause-agrees
+returns-in_err-agreed_by_answer-clause-agrees c = grind (arith, common_steps)
+
+pub returns-in_err-push-clause-value : goal.returns-in_err-push-clause-value
+returns-in_err-push-clause-value c = grind (arith, common_steps)
+
+pub returns-in_err-push-clause-agrees : goal.returns-in_err-push-clause-agrees
+returns-in_err-push-clause-agrees c = grind (arith, common_steps)
+
+pub loop-place-preserved : goal.loop-place-preserved
+loop-place-preserved c = grind (arith, common_steps)
+
+pub returns-clause-value : goal.returns-clause-value
+returns-clause-value c = grind (arith, common_steps)

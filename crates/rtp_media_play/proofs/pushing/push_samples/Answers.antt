@@ -4,6 +4,8 @@ use Rattle.rtp_media_payloads.specs.declared.errors.SampleError.TheVariants.{Mem
 use Rattle.rtp_media_open_streams.specs.Ends.{sender_at, with_sender}
 use Rattle.rtp_media_play.proofs.Pushes.{datagrams_for, fails-at, pushed-more, refusal_for, refused-at, stepped}
 use Rattle.rtp_media_play.proofs.Pushes.{stops-behind}
+use Rattle.std.proofs.Common.{arith}
+use Rattle.std.proofs.lemmas.Grind.{common_steps}
 use Rattle.rtp_media_play.proofs.pushing.push_samples.Goals as goal
 
 whatever : {A : Type 0} {X : Type 0} (r : Result A SampleError) → X → IfErr r (λ e. e ≡ Memory → X)
@@ -45,3 +47,39 @@ loop-sample-preserved c =
     rw (c.time.ensures, c.values.ensures, c.bytes.ensures) at c.in-Ok.ensures.sent in
     pushed-more _ _ _ _ _ _ _ _ c.sample-item.result c.loop-sample.invariant c.loop-sample-test.true c.sample-item.is
     ok after (c.in_ok-append-in-Ok.ensures ∙ ap (λ ds. c.loop-sample.datagrams.items ++ ds) sent)
+
+pub returns-in_err-append-in-Ok-clause-sent : goal.returns-in_err-append-in-Ok-clause-sent
+returns-in_err-append-in-Ok-clause-sent c = grind (arith, common_steps)
+
+pub returns-in_err-append-in-Ok-clause-accepted : goal.returns-in_err-append-in-Ok-clause-accepted
+returns-in_err-append-in-Ok-clause-accepted c = grind (arith, common_steps)
+
+pub returns-in_err-append-in-Ok-clause-after : goal.returns-in_err-append-in-Ok-clause-after
+returns-in_err-append-in-Ok-clause-after c = grind (arith, common_steps)
+
+pub returns-in_err-append-in-Ok-clause-refused : goal.returns-in_err-append-in-Ok-clause-refused
+returns-in_err-append-in-Ok-clause-refused c = grind (arith, common_steps)
+
+pub returns-in-Err-clause-sent : goal.returns-in-Err-clause-sent
+returns-in-Err-clause-sent c = grind (arith, common_steps)
+
+pub returns-in-Err-clause-accepted : goal.returns-in-Err-clause-accepted
+returns-in-Err-clause-accepted c = grind (arith, common_steps)
+
+pub returns-in-Err-clause-after : goal.returns-in-Err-clause-after
+returns-in-Err-clause-after c = grind (arith, common_steps)
+
+pub returns-clause-sent : goal.returns-clause-sent
+returns-clause-sent c = grind (arith, common_steps)
+
+pub returns-clause-accepted : goal.returns-clause-accepted
+returns-clause-accepted c = grind (arith, common_steps)
+
+pub returns-clause-after : goal.returns-clause-after
+returns-clause-after c = grind (arith, common_steps)
+
+pub returns-clause-refused : goal.returns-clause-refused
+returns-clause-refused c = grind (arith, common_steps)
+
+pub returns-clause-memory : goal.returns-clause-memory
+returns-clause-memory c = grind (arith, common_steps)

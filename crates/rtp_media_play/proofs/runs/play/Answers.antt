@@ -8,6 +8,8 @@ use Rattle.rtp_media_play.specs.Runs.{IsTameSchedule, canonical_of}
 use Rattle.rtp_media_play.specs.Schedules.{played, poll_answers}
 use Rattle.rtp_media_play.proofs.Isolated.{isolated}
 use Rattle.rtp_media_play.proofs.WholeRuns.{exact-run, legal-run}
+use Rattle.std.proofs.Common.{arith}
+use Rattle.std.proofs.lemmas.Grind.{common_steps}
 use Rattle.rtp_media_play.proofs.runs.play.Goals as goal
 
 pub returns-in-Ok-play_schedule-clause-isolated : goal.returns-in-Ok-play_schedule-clause-isolated
@@ -47,3 +49,84 @@ returns-in-Ok-play_schedule-clause-exact c = λ hold_back hears tame.
     c.args.samples.now hears c.args.schedule.now
     (subst (λ (os : List Answer). IsTameSchedule (sender_at c.args.a.now c.args.tx) c.args.samples.now hold_back
     c.args.schedule.now os) all tame)
+
+pub returns-in-Err-clause-accepted : goal.returns-in-Err-clause-accepted
+returns-in-Err-clause-accepted c = grind (arith, common_steps)
+
+pub returns-in-Err-clause-pushed : goal.returns-in-Err-clause-pushed
+returns-in-Err-clause-pushed c = grind (arith, common_steps)
+
+pub returns-in-Err-clause-answers : goal.returns-in-Err-clause-answers
+returns-in-Err-clause-answers c = grind (arith, common_steps)
+
+pub returns-in-Err-clause-after : goal.returns-in-Err-clause-after
+returns-in-Err-clause-after c = grind (arith, common_steps)
+
+pub returns-in-Err-clause-refused : goal.returns-in-Err-clause-refused
+returns-in-Err-clause-refused c = grind (arith, common_steps)
+
+pub returns-in-Err-clause-unplayed : goal.returns-in-Err-clause-unplayed
+returns-in-Err-clause-unplayed c = grind (arith, common_steps)
+
+pub returns-in-Err-clause-memory : goal.returns-in-Err-clause-memory
+returns-in-Err-clause-memory c = grind (arith, common_steps)
+
+pub returns-in-Err-clause-isolated : goal.returns-in-Err-clause-isolated
+returns-in-Err-clause-isolated c = grind (arith, common_steps)
+
+pub returns-in-Err-clause-legal : goal.returns-in-Err-clause-legal
+returns-in-Err-clause-legal c = grind (arith, common_steps)
+
+pub returns-in-Err-clause-exact : goal.returns-in-Err-clause-exact
+returns-in-Err-clause-exact c = grind (arith, common_steps)
+
+pub returns-in-Ok-play_schedule-clause-accepted : goal.returns-in-Ok-play_schedule-clause-accepted
+returns-in-Ok-play_schedule-clause-accepted c = grind (arith, common_steps)
+
+pub returns-in-Ok-play_schedule-clause-pushed : goal.returns-in-Ok-play_schedule-clause-pushed
+returns-in-Ok-play_schedule-clause-pushed c = grind (arith, common_steps)
+
+pub returns-in-Ok-play_schedule-clause-answers : goal.returns-in-Ok-play_schedule-clause-answers
+returns-in-Ok-play_schedule-clause-answers c = grind (arith, common_steps)
+
+pub returns-in-Ok-play_schedule-clause-after : goal.returns-in-Ok-play_schedule-clause-after
+returns-in-Ok-play_schedule-clause-after c = grind (arith, common_steps)
+
+pub returns-in-Ok-play_schedule-clause-refused : goal.returns-in-Ok-play_schedule-clause-refused
+returns-in-Ok-play_schedule-clause-refused c = grind (arith, common_steps)
+
+pub returns-in-Ok-play_schedule-clause-unplayed : goal.returns-in-Ok-play_schedule-clause-unplayed
+returns-in-Ok-play_schedule-clause-unplayed c = grind (arith, common_steps)
+
+pub returns-in-Ok-play_schedule-clause-memory : goal.returns-in-Ok-play_schedule-clause-memory
+returns-in-Ok-play_schedule-clause-memory c = grind (arith, common_steps)
+
+pub returns-clause-accepted : goal.returns-clause-accepted
+returns-clause-accepted c = grind (arith, common_steps)
+
+pub returns-clause-pushed : goal.returns-clause-pushed
+returns-clause-pushed c = grind (arith, common_steps)
+
+pub returns-clause-answers : goal.returns-clause-answers
+returns-clause-answers c = grind (arith, common_steps)
+
+pub returns-clause-after : goal.returns-clause-after
+returns-clause-after c = grind (arith, common_steps)
+
+pub returns-clause-refused : goal.returns-clause-refused
+returns-clause-refused c = grind (arith, common_steps)
+
+pub returns-clause-unplayed : goal.returns-clause-unplayed
+returns-clause-unplayed c = grind (arith, common_steps)
+
+pub returns-clause-memory : goal.returns-clause-memory
+returns-clause-memory c = grind (arith, common_steps)
+
+pub returns-clause-isolated : goal.returns-clause-isolated
+returns-clause-isolated c = grind (arith, common_steps)
+
+pub returns-clause-legal : goal.returns-clause-legal
+returns-clause-legal c = grind (arith, common_steps)
+
+pub returns-clause-exact : goal.returns-clause-exact
+returns-clause-exact c = grind (arith, common_steps)

@@ -13,3 +13,30 @@ invariant_of-self c =
     kept-receiver c.self.inside.senders c.self.inside.receivers c.self.inside.streams.items c.args.stream
     c.in-Receiver.receiver c.drain.new.self is (ap (λ (r : Receiving). r.ssrc) c.drain.ensures.same)
     (ap (λ (r : Receiving). r.types) c.drain.ensures.same) c.self.invariant
+
+pub returns-clause-answer : goal.returns-clause-answer
+returns-clause-answer c = grind (arith, common_steps)
+
+pub returns-clause-after : goal.returns-clause-after
+returns-clause-after c = grind (arith, common_steps)
+
+pub returns-clause-none : goal.returns-clause-none
+returns-clause-none c = grind (arith, common_steps)
+
+pub returns-clause-fault : goal.returns-clause-fault
+returns-clause-fault c = grind (arith, common_steps)
+
+pub returns-clause-behind : goal.returns-clause-behind
+returns-clause-behind c = grind (arith, common_steps)
+
+pub returns-clause-memory : goal.returns-clause-memory
+returns-clause-memory c = grind (arith, common_steps)
+
+pub returns-clause-hold_back : goal.returns-clause-hold_back
+returns-clause-hold_back c = grind (arith, common_steps)
+
+pub returns-clause-others : goal.returns-clause-others
+returns-clause-others c = grind (arith, common_steps)
+
+pub returns-clause-fewer : goal.returns-clause-fewer
+returns-clause-fewer c = grind (arith, common_steps)

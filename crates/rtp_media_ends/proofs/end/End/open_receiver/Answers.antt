@@ -69,3 +69,99 @@ invariant_of-self-2 c =
     c.args.ssrc
     c.types_of-types.result c.len-number.result (ap (λ (r : Receiving). r.ssrc) c.new-stream.ensures)
     (ap (λ (r : Receiving). r.types) c.new-stream.ensures) number indexed c.in_ok-set_types.ensures.set)
+
+pub returns-in_err-row-clause-number : goal.returns-in_err-row-clause-number
+returns-in_err-row-clause-number c = grind (arith, common_steps)
+
+pub returns-in_err-row-clause-opens : goal.returns-in_err-row-clause-opens
+returns-in_err-row-clause-opens c = grind (arith, common_steps)
+
+pub returns-in_err-row-clause-after : goal.returns-in_err-row-clause-after
+returns-in_err-row-clause-after c = grind (arith, common_steps)
+
+pub returns-in_err-row-clause-receiver : goal.returns-in_err-row-clause-receiver
+returns-in_err-row-clause-receiver c = grind (arith, common_steps)
+
+pub returns-in_err-row-clause-receives : goal.returns-in_err-row-clause-receives
+returns-in_err-row-clause-receives c = grind (arith, common_steps)
+
+pub returns-in_err-row-clause-refused : goal.returns-in_err-row-clause-refused
+returns-in_err-row-clause-refused c = grind (arith, common_steps)
+
+pub returns-in_err-row-clause-unchanged : goal.returns-in_err-row-clause-unchanged
+returns-in_err-row-clause-unchanged c = grind (arith, common_steps)
+
+pub returns-in_err-exts-clause-number : goal.returns-in_err-exts-clause-number
+returns-in_err-exts-clause-number c = grind (arith, common_steps)
+
+pub returns-in_err-exts-clause-opens : goal.returns-in_err-exts-clause-opens
+returns-in_err-exts-clause-opens c = grind (arith, common_steps)
+
+pub returns-in_err-exts-clause-after : goal.returns-in_err-exts-clause-after
+returns-in_err-exts-clause-after c = grind (arith, common_steps)
+
+pub returns-in_err-exts-clause-receiver : goal.returns-in_err-exts-clause-receiver
+returns-in_err-exts-clause-receiver c = grind (arith, common_steps)
+
+pub returns-in_err-exts-clause-receives : goal.returns-in_err-exts-clause-receives
+returns-in_err-exts-clause-receives c = grind (arith, common_steps)
+
+pub returns-in_err-exts-clause-refused : goal.returns-in_err-exts-clause-refused
+returns-in_err-exts-clause-refused c = grind (arith, common_steps)
+
+pub returns-in_err-exts-clause-unchanged : goal.returns-in_err-exts-clause-unchanged
+returns-in_err-exts-clause-unchanged c = grind (arith, common_steps)
+
+pub returns-in_err-set_types-clause-number : goal.returns-in_err-set_types-clause-number
+returns-in_err-set_types-clause-number c = grind (arith, common_steps)
+
+pub returns-in_err-set_types-clause-opens : goal.returns-in_err-set_types-clause-opens
+returns-in_err-set_types-clause-opens c = grind (arith, common_steps)
+
+pub returns-in_err-set_types-clause-after : goal.returns-in_err-set_types-clause-after
+returns-in_err-set_types-clause-after c = grind (arith, common_steps)
+
+pub returns-in_err-set_types-clause-receiver : goal.returns-in_err-set_types-clause-receiver
+returns-in_err-set_types-clause-receiver c = grind (arith, common_steps)
+
+pub returns-in_err-set_types-clause-receives : goal.returns-in_err-set_types-clause-receives
+returns-in_err-set_types-clause-receives c = grind (arith, common_steps)
+
+pub returns-in_err-set_types-clause-refused : goal.returns-in_err-set_types-clause-refused
+returns-in_err-set_types-clause-refused c = grind (arith, common_steps)
+
+pub returns-in_err-set_types-clause-unchanged : goal.returns-in_err-set_types-clause-unchanged
+returns-in_err-set_types-clause-unchanged c = grind (arith, common_steps)
+
+pub returns-in_err-push-clause-number : goal.returns-in_err-push-clause-number
+returns-in_err-push-clause-number c = grind (arith, common_steps)
+
+pub returns-in_err-push-clause-opens : goal.returns-in_err-push-clause-opens
+returns-in_err-push-clause-opens c = grind (arith, common_steps)
+
+pub returns-in_err-push-clause-after : goal.returns-in_err-push-clause-after
+returns-in_err-push-clause-after c = grind (arith, common_steps)
+
+pub returns-in_err-push-clause-receiver : goal.returns-in_err-push-clause-receiver
+returns-in_err-push-clause-receiver c = grind (arith, common_steps)
+
+pub returns-in_err-push-clause-receives : goal.returns-in_err-push-clause-receives
+returns-in_err-push-clause-receives c = grind (arith, common_steps)
+
+pub returns-in_err-push-clause-refused : goal.returns-in_err-push-clause-refused
+returns-in_err-push-clause-refused c = grind (arith, common_steps)
+
+pub returns-in_err-push-clause-unchanged : goal.returns-in_err-push-clause-unchanged
+returns-in_err-push-clause-unchanged c = grind (arith, common_steps)
+
+pub returns-clause-number : goal.returns-clause-number
+returns-clause-number c = grind (arith, common_steps)
+
+pub returns-clause-opens : goal.returns-clause-opens
+returns-clause-opens c = grind (arith, common_steps)
+
+pub returns-clause-refused : goal.returns-clause-refused
+returns-clause-refused c = grind (arith, common_steps)
+
+pub returns-clause-unchanged : goal.returns-clause-unchanged
+returns-clause-unchanged c = grind (arith, common_steps)

@@ -95,3 +95,111 @@ invariant_of-self-2 c =
     (ap (λ (x : Sending). x.types) stream ∙ same-types opened c.in_ok-row.row.red c.args.params.now.red
     ∙ sym c.types_of-types.ensures) number indexed
     c.in_ok-set_types.ensures.set)
+
+pub returns-in_err-row-clause-number : goal.returns-in_err-row-clause-number
+returns-in_err-row-clause-number c = grind (arith, common_steps)
+
+pub returns-in_err-row-clause-opens : goal.returns-in_err-row-clause-opens
+returns-in_err-row-clause-opens c = grind (arith, common_steps)
+
+pub returns-in_err-row-clause-after : goal.returns-in_err-row-clause-after
+returns-in_err-row-clause-after c = grind (arith, common_steps)
+
+pub returns-in_err-row-clause-stream : goal.returns-in_err-row-clause-stream
+returns-in_err-row-clause-stream c = grind (arith, common_steps)
+
+pub returns-in_err-row-clause-sender : goal.returns-in_err-row-clause-sender
+returns-in_err-row-clause-sender c = grind (arith, common_steps)
+
+pub returns-in_err-row-clause-sends : goal.returns-in_err-row-clause-sends
+returns-in_err-row-clause-sends c = grind (arith, common_steps)
+
+pub returns-in_err-row-clause-refused : goal.returns-in_err-row-clause-refused
+returns-in_err-row-clause-refused c = grind (arith, common_steps)
+
+pub returns-in_err-row-clause-unchanged : goal.returns-in_err-row-clause-unchanged
+returns-in_err-row-clause-unchanged c = grind (arith, common_steps)
+
+pub returns-in_err-stream-clause-number : goal.returns-in_err-stream-clause-number
+returns-in_err-stream-clause-number c = grind (arith, common_steps)
+
+pub returns-in_err-stream-clause-opens : goal.returns-in_err-stream-clause-opens
+returns-in_err-stream-clause-opens c = grind (arith, common_steps)
+
+pub returns-in_err-stream-clause-after : goal.returns-in_err-stream-clause-after
+returns-in_err-stream-clause-after c = grind (arith, common_steps)
+
+pub returns-in_err-stream-clause-stream : goal.returns-in_err-stream-clause-stream
+returns-in_err-stream-clause-stream c = grind (arith, common_steps)
+
+pub returns-in_err-stream-clause-sender : goal.returns-in_err-stream-clause-sender
+returns-in_err-stream-clause-sender c = grind (arith, common_steps)
+
+pub returns-in_err-stream-clause-sends : goal.returns-in_err-stream-clause-sends
+returns-in_err-stream-clause-sends c = grind (arith, common_steps)
+
+pub returns-in_err-stream-clause-refused : goal.returns-in_err-stream-clause-refused
+returns-in_err-stream-clause-refused c = grind (arith, common_steps)
+
+pub returns-in_err-stream-clause-unchanged : goal.returns-in_err-stream-clause-unchanged
+returns-in_err-stream-clause-unchanged c = grind (arith, common_steps)
+
+pub returns-in_err-set_types-clause-number : goal.returns-in_err-set_types-clause-number
+returns-in_err-set_types-clause-number c = grind (arith, common_steps)
+
+pub returns-in_err-set_types-clause-opens : goal.returns-in_err-set_types-clause-opens
+returns-in_err-set_types-clause-opens c = grind (arith, common_steps)
+
+pub returns-in_err-set_types-clause-after : goal.returns-in_err-set_types-clause-after
+returns-in_err-set_types-clause-after c = grind (arith, common_steps)
+
+pub returns-in_err-set_types-clause-stream : goal.returns-in_err-set_types-clause-stream
+returns-in_err-set_types-clause-stream c = grind (arith, common_steps)
+
+pub returns-in_err-set_types-clause-sender : goal.returns-in_err-set_types-clause-sender
+returns-in_err-set_types-clause-sender c = grind (arith, common_steps)
+
+pub returns-in_err-set_types-clause-sends : goal.returns-in_err-set_types-clause-sends
+returns-in_err-set_types-clause-sends c = grind (arith, common_steps)
+
+pub returns-in_err-set_types-clause-refused : goal.returns-in_err-set_types-clause-refused
+returns-in_err-set_types-clause-refused c = grind (arith, common_steps)
+
+pub returns-in_err-set_types-clause-unchanged : goal.returns-in_err-set_types-clause-unchanged
+returns-in_err-set_types-clause-unchanged c = grind (arith, common_steps)
+
+pub returns-in_err-push-clause-number : goal.returns-in_err-push-clause-number
+returns-in_err-push-clause-number c = grind (arith, common_steps)
+
+pub returns-in_err-push-clause-opens : goal.returns-in_err-push-clause-opens
+returns-in_err-push-clause-opens c = grind (arith, common_steps)
+
+pub returns-in_err-push-clause-after : goal.returns-in_err-push-clause-after
+returns-in_err-push-clause-after c = grind (arith, common_steps)
+
+pub returns-in_err-push-clause-stream : goal.returns-in_err-push-clause-stream
+returns-in_err-push-clause-stream c = grind (arith, common_steps)
+
+pub returns-in_err-push-clause-sender : goal.returns-in_err-push-clause-sender
+returns-in_err-push-clause-sender c = grind (arith, common_steps)
+
+pub returns-in_err-push-clause-sends : goal.returns-in_err-push-clause-sends
+returns-in_err-push-clause-sends c = grind (arith, common_steps)
+
+pub returns-in_err-push-clause-refused : goal.returns-in_err-push-clause-refused
+returns-in_err-push-clause-refused c = grind (arith, common_steps)
+
+pub returns-in_err-push-clause-unchanged : goal.returns-in_err-push-clause-unchanged
+returns-in_err-push-clause-unchanged c = grind (arith, common_steps)
+
+pub returns-clause-number : goal.returns-clause-number
+returns-clause-number c = grind (arith, common_steps)
+
+pub returns-clause-opens : goal.returns-clause-opens
+returns-clause-opens c = grind (arith, common_steps)
+
+pub returns-clause-refused : goal.returns-clause-refused
+returns-clause-refused c = grind (arith, common_steps)
+
+pub returns-clause-unchanged : goal.returns-clause-unchanged
+returns-clause-unchanged c = grind (arith, common_steps)

@@ -39,3 +39,24 @@ invariant_of-self c =
     c.args.bytes.now c.push_sample.ensures.after c.push_sample.ensures.unchanged c.push_sample.ensures.failed in
     kept-sender c.self.inside.senders c.self.inside.receivers c.self.inside.streams.items c.args.stream
     c.in-Sender.sender c.push_sample.new.self is kept.0 kept.1 c.self.invariant
+
+pub returns-clause-sent : goal.returns-clause-sent
+returns-clause-sent c = grind (arith, common_steps)
+
+pub returns-clause-accepted : goal.returns-clause-accepted
+returns-clause-accepted c = grind (arith, common_steps)
+
+pub returns-clause-after : goal.returns-clause-after
+returns-clause-after c = grind (arith, common_steps)
+
+pub returns-clause-refused : goal.returns-clause-refused
+returns-clause-refused c = grind (arith, common_steps)
+
+pub returns-clause-unchanged : goal.returns-clause-unchanged
+returns-clause-unchanged c = grind (arith, common_steps)
+
+pub returns-clause-failed : goal.returns-clause-failed
+returns-clause-failed c = grind (arith, common_steps)
+
+pub returns-clause-others : goal.returns-clause-others
+returns-clause-others c = grind (arith, common_steps)

@@ -28,3 +28,24 @@ loop-datagram-preserved c = record {
   so_far = received-more _ _ _ _ _ c.datagram-item.result _ c.loop-datagram.invariant.so_far c.loop-datagram-test.true
       c.datagram-item.is c.as_slice.ensures c.in_ok-verdict.ensures.after;
 }
+
+pub returns-in_err-verdict-clause-verdicts : goal.returns-in_err-verdict-clause-verdicts
+returns-in_err-verdict-clause-verdicts c = grind (arith, common_steps)
+
+pub returns-in_err-verdict-clause-after : goal.returns-in_err-verdict-clause-after
+returns-in_err-verdict-clause-after c = grind (arith, common_steps)
+
+pub returns-in_err-push-clause-verdicts : goal.returns-in_err-push-clause-verdicts
+returns-in_err-push-clause-verdicts c = grind (arith, common_steps)
+
+pub returns-in_err-push-clause-after : goal.returns-in_err-push-clause-after
+returns-in_err-push-clause-after c = grind (arith, common_steps)
+
+pub returns-clause-verdicts : goal.returns-clause-verdicts
+returns-clause-verdicts c = grind (arith, common_steps)
+
+pub returns-clause-after : goal.returns-clause-after
+returns-clause-after c = grind (arith, common_steps)
+
+pub returns-clause-some : goal.returns-clause-some
+returns-clause-some c = grind (arith, common_steps)

@@ -35,3 +35,18 @@ returns-in_err-push-clause-some c =
     whatever _ (stopped-at c.args.streams.now.items c.loop-number.streams.items c.loop-number.polls.items
     c.loop-number.number c.loop-number.invariant.streams c.loop-number.invariant.done c.loop-number.invariant.ahead
     c.poll_out.new.stream lt was)
+
+pub returns-in_err-answers-clause-out : goal.returns-in_err-answers-clause-out
+returns-in_err-answers-clause-out c = grind (arith, common_steps)
+
+pub returns-in_err-push-clause-out : goal.returns-in_err-push-clause-out
+returns-in_err-push-clause-out c = grind (arith, common_steps)
+
+pub loop-number-preserved : goal.loop-number-preserved
+loop-number-preserved c = grind (arith, common_steps)
+
+pub returns-clause-out : goal.returns-clause-out
+returns-clause-out c = grind (arith, common_steps)
+
+pub returns-clause-some : goal.returns-clause-some
+returns-clause-some c = grind (arith, common_steps)

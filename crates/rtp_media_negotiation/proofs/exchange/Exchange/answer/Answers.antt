@@ -81,3 +81,84 @@ returns-clause-text c =
           (map shape_of wanted))) sections c.in-Ok.ensures.same;
       after_is = grind (arith, common_steps);
     }
+
+pub returns-in_err-offer-clause-text : goal.returns-in_err-offer-clause-text
+returns-in_err-offer-clause-text c = grind (arith, common_steps)
+
+pub returns-in_err-offer-clause-agreed : goal.returns-in_err-offer-clause-agreed
+returns-in_err-offer-clause-agreed c = grind (arith, common_steps)
+
+pub returns-in_err-offer-clause-accepted : goal.returns-in_err-offer-clause-accepted
+returns-in_err-offer-clause-accepted c = grind (arith, common_steps)
+
+pub returns-in_err-offer-clause-refused : goal.returns-in_err-offer-clause-refused
+returns-in_err-offer-clause-refused c = grind (arith, common_steps)
+
+pub returns-in_err-offer-clause-unchanged : goal.returns-in_err-offer-clause-unchanged
+returns-in_err-offer-clause-unchanged c = grind (arith, common_steps)
+
+pub returns-in_err-config-clause-text : goal.returns-in_err-config-clause-text
+returns-in_err-config-clause-text c = grind (arith, common_steps)
+
+pub returns-in_err-config-clause-agreed : goal.returns-in_err-config-clause-agreed
+returns-in_err-config-clause-agreed c = grind (arith, common_steps)
+
+pub returns-in_err-config-clause-accepted : goal.returns-in_err-config-clause-accepted
+returns-in_err-config-clause-accepted c = grind (arith, common_steps)
+
+pub returns-in_err-config-clause-refused : goal.returns-in_err-config-clause-refused
+returns-in_err-config-clause-refused c = grind (arith, common_steps)
+
+pub returns-in_err-config-clause-unchanged : goal.returns-in_err-config-clause-unchanged
+returns-in_err-config-clause-unchanged c = grind (arith, common_steps)
+
+pub returns-in_err-answer-clause-text : goal.returns-in_err-answer-clause-text
+returns-in_err-answer-clause-text c = grind (arith, common_steps)
+
+pub returns-in_err-answer-clause-agreed : goal.returns-in_err-answer-clause-agreed
+returns-in_err-answer-clause-agreed c = grind (arith, common_steps)
+
+pub returns-in_err-answer-clause-accepted : goal.returns-in_err-answer-clause-accepted
+returns-in_err-answer-clause-accepted c = grind (arith, common_steps)
+
+pub returns-in_err-answer-clause-refused : goal.returns-in_err-answer-clause-refused
+returns-in_err-answer-clause-refused c = grind (arith, common_steps)
+
+pub returns-in_err-answer-clause-unchanged : goal.returns-in_err-answer-clause-unchanged
+returns-in_err-answer-clause-unchanged c = grind (arith, common_steps)
+
+pub returns-in-Err-clause-text : goal.returns-in-Err-clause-text
+returns-in-Err-clause-text c = grind (arith, common_steps)
+
+pub returns-in-Err-clause-agreed : goal.returns-in-Err-clause-agreed
+returns-in-Err-clause-agreed c = grind (arith, common_steps)
+
+pub returns-in-Err-clause-accepted : goal.returns-in-Err-clause-accepted
+returns-in-Err-clause-accepted c = grind (arith, common_steps)
+
+pub returns-in-Err-clause-unchanged : goal.returns-in-Err-clause-unchanged
+returns-in-Err-clause-unchanged c = grind (arith, common_steps)
+
+pub returns-in_err-agreed-clause-text : goal.returns-in_err-agreed-clause-text
+returns-in_err-agreed-clause-text c = grind (arith, common_steps)
+
+pub returns-in_err-agreed-clause-agreed : goal.returns-in_err-agreed-clause-agreed
+returns-in_err-agreed-clause-agreed c = grind (arith, common_steps)
+
+pub returns-in_err-agreed-clause-accepted : goal.returns-in_err-agreed-clause-accepted
+returns-in_err-agreed-clause-accepted c = grind (arith, common_steps)
+
+pub returns-in_err-agreed-clause-refused : goal.returns-in_err-agreed-clause-refused
+returns-in_err-agreed-clause-refused c = grind (arith, common_steps)
+
+pub returns-in_err-agreed-clause-unchanged : goal.returns-in_err-agreed-clause-unchanged
+returns-in_err-agreed-clause-unchanged c = grind (arith, common_steps)
+
+pub returns-clause-agreed : goal.returns-clause-agreed
+returns-clause-agreed c = grind (arith, common_steps)
+
+pub returns-clause-refused : goal.returns-clause-refused
+returns-clause-refused c = grind (arith, common_steps)
+
+pub returns-clause-unchanged : goal.returns-clause-unchanged
+returns-clause-unchanged c = grind (arith, common_steps)
