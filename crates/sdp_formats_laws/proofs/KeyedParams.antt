@@ -5,8 +5,8 @@ use Rattle.std.proofs.Common.{None, Some, refl, ◌∙◌, ap, arith, lit<, lit�
 use Rattle.std.specs.Fmt.{digits}
 use Rattle.std.proofs.lemmas.Bool.Decides.{nat_tests}
 use Rattle.sdp_formats_forms.specs.Split.{Lacks}
-use Rattle.sdp_formats_stream_lines.specs.PairLemmas.{lacks-word}
-use Rattle.sdp_formats_stream_lines.specs.PairsSay.{IsWord}
+use Rattle.sdp_formats_pairs.specs.PairLemmas.{lacks-word}
+use Rattle.sdp_formats_pairs.specs.PairsSay.{IsWord}
 use Rattle.sdp_formats_params.specs.Keys.{key_named, is_name_of}
 use Rattle.sdp_formats_params.specs.Numbers.{numeral_below, or_else, profile_level, up_to}
 use Rattle.sdp_formats_params.specs.Params.{byte_param, flag, gives_level, pair_param, word_param}

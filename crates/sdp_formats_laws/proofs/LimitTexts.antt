@@ -9,8 +9,8 @@ use Rattle.sdp_formats_forms.specs.Split.{Lacks, behind, halves}
 use Rattle.sdp_formats_forms.specs.Steps.{bind_some, map_some, none_some, some_same}
 use Rattle.sdp_formats_forms.specs.Words.{behind-append, behind-sound}
 use Rattle.sdp_formats_stream_lines.specs.Maps.{payload_type}
-use Rattle.sdp_formats_stream_lines.specs.PairLemmas.{at-cut, at-none}
-use Rattle.sdp_formats_stream_lines.specs.Pairs.{restrictions_of}
+use Rattle.sdp_formats_pairs.specs.PairLemmas.{at-cut, at-none}
+use Rattle.sdp_formats_pairs.specs.Pairs.{restrictions_of}
 use Rattle.sdp_formats_stream_lines.specs.Rids.{later_limits, limits_behind, limits_of, make_limits, of_type}
 use Rattle.sdp_formats_stream_lines.specs.Rids.{typed_limits, untyped_limits}
 use Rattle.sdp_formats_params.specs.declared.Pair.{Pair}

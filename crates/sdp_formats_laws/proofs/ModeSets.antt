@@ -13,7 +13,7 @@ use Rattle.std.proofs.Math.Nat.{mod-eq_of_lt}
 use Rattle.sdp_formats_forms.specs.Cuts.{other_byte}
 use Rattle.sdp_formats_forms.specs.Joined.{joined, each_behind}
 use Rattle.sdp_formats_forms.specs.Split.{Lacks, parts}
-use Rattle.sdp_formats_stream_lines.specs.PairLemmas.{lacks-word}
+use Rattle.sdp_formats_pairs.specs.PairLemmas.{lacks-word}
 use Rattle.sdp_formats_params.specs.Numbers.{modes_of, numeral_below, with_mode, with_modes}
 use Rattle.sdp_formats_params.specs.Printed.{has_mode, modes_text}
 use Rattle.sdp_formats_laws.proofs.Numerals.{IsValue, decimal_read, lacks_digits}

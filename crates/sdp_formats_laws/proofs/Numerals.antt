@@ -9,8 +9,8 @@ use Rattle.std.proofs.lemmas.Bool.Decides.{nat_tests}
 use Rattle.std.proofs.lemmas.Fmt.{decimal_is_IsNumeral, digits_is_IsNumeral}
 use Rattle.sdp_formats_forms.specs.Cuts.{other_byte}
 use Rattle.sdp_formats_forms.specs.Split.{Lacks}
-use Rattle.sdp_formats_stream_lines.specs.PairLemmas.{lacks-word}
-use Rattle.sdp_formats_stream_lines.specs.PairsSay.{IsWord}
+use Rattle.sdp_formats_pairs.specs.PairLemmas.{lacks-word}
+use Rattle.sdp_formats_pairs.specs.PairsSay.{IsWord}
 use Rattle.sdp_formats_params.specs.Numbers.{are_digits, numeral_below}
 use Rattle.sdp_formats_params.specs.Printed.{six_digits}
 

@@ -15,7 +15,7 @@ use Rattle.sdp_formats_forms.specs.Form.{Form, IsExact, both, cut, each, either,
 use Rattle.sdp_formats_forms.specs.Numbers.{all_digits, number_below}
 use Rattle.sdp_formats_forms.specs.Split.{Lacks}
 use Rattle.sdp_formats_forms.specs.Steps.{none_if}
-use Rattle.sdp_formats_stream_lines.specs.PairsSay.{PairSays, PairsSay, pair_list}
+use Rattle.sdp_formats_pairs.specs.PairsSay.{PairSays, PairsSay, pair_list}
 use Rattle.sdp_formats_params.specs.Params.{params_of}
 use Rattle.sdp_formats_params.specs.Printed.{param_text}
 use Rattle.sdp_formats_params.specs.declared.pairs.Pair.{Pair}

@@ -9,7 +9,7 @@ use Rattle.h26x_payload_profiles.specs.H266Level.{level_id as level_266}
 use Rattle.h26x_payload_profiles.specs.H266Profile.{profile_id as profile_266}
 use Rattle.sdp_formats_forms.specs.Form.{IsExact}
 use Rattle.sdp_formats_media_lines.specs.AsRead.{is_level}
-use Rattle.sdp_formats_stream_lines.specs.PairsSay.{pair_list}
+use Rattle.sdp_formats_pairs.specs.PairsSay.{pair_list}
 use Rattle.sdp_formats_media_lines.specs.PrintedPairs.{PairsComeBack}
 use Rattle.sdp_formats_params.specs.declared.param.FormatParam.{FormatParam}
 use Rattle.sdp_formats_params.specs.declared.param.FormatParam.TheVariants as param

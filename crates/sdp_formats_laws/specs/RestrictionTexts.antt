@@ -2,8 +2,8 @@
 use Rattle.std.specs.Prelude.{◌≡◌, ◌≢◌, ◌⊎◌, ◌↔◌, ◌++◌, ℕ, List, [], ◌∷◌, Some, codes}
 use Rattle.sdp_formats_forms.specs.Split.{Lacks}
 use Rattle.sdp_formats_stream_lines.specs.Maps.{payload_type}
-use Rattle.sdp_formats_stream_lines.specs.Pairs.{restrictions_of}
-use Rattle.sdp_formats_stream_lines.specs.PairsSay.{Blanks, IsWord}
+use Rattle.sdp_formats_pairs.specs.Pairs.{restrictions_of}
+use Rattle.sdp_formats_pairs.specs.PairsSay.{Blanks, IsWord}
 use Rattle.sdp_formats_stream_lines.specs.Rids.{limits_of, make_limits}
 use Rattle.sdp_formats_params.specs.declared.Pair.{Pair}
 

@@ -6,16 +6,16 @@ use Rattle.sdp_formats_forms.specs.Cuts.{split_first-at}
 use Rattle.sdp_formats_forms.specs.Joined.{each_behind}
 use Rattle.sdp_formats_forms.specs.Split.{Lacks, split_first, halves}
 use Rattle.sdp_formats_forms.specs.Step.{Begins, Stops}
-use Rattle.sdp_formats_stream_lines.specs.PairLemmas.{unblanked-word, word-complete, at-cut, at-none}
-use Rattle.sdp_formats_stream_lines.specs.Pairs.{word, unblanked, make_pair, or_empty, restriction_at, ends_open}
-use Rattle.sdp_formats_stream_lines.specs.Pairs.{restrictions_of}
-use Rattle.sdp_formats_stream_lines.specs.PairsSay.{PairSays, pair_list}
+use Rattle.sdp_formats_pairs.specs.PairLemmas.{unblanked-word, word-complete, at-cut, at-none}
+use Rattle.sdp_formats_pairs.specs.Pairs.{word, unblanked, make_pair, or_empty, restriction_at, ends_open}
+use Rattle.sdp_formats_pairs.specs.Pairs.{restrictions_of}
+use Rattle.sdp_formats_pairs.specs.PairsSay.{PairSays, pair_list}
 use Rattle.sdp_formats_media_lines.specs.PrintedPairs.{IsPair, ArePairs, pairs_text}
-use Rattle.sdp_formats_stream_lines.specs.Runs.{At}
+use Rattle.sdp_formats_pairs.specs.Runs.{At}
 use Rattle.sdp_formats_params.specs.Printed.{pair_text}
 use Rattle.sdp_formats_params.specs.declared.Pair.{Pair}
-use Rattle.sdp_formats_stream_lines.proofs.Ends.{not_equal}
-use Rattle.sdp_formats_stream_lines.proofs.PairRounds.{pairs-exact, restrictions-read}
+use Rattle.sdp_formats_pairs.proofs.Ends.{not_equal}
+use Rattle.sdp_formats_pairs.proofs.PairRounds.{pairs-exact, restrictions-read}
 
 -- a pair and what stands behind it
 said : (p : Pair) (after rest : List ℕ) → IsPair p → (after ≡ 59 ∷ rest) → PairSays (pair_text p ++ after) p rest

@@ -1,8 +1,8 @@
 -- Pairs as they are printed: keys and values with `=` between, and semicolons between pairs.
 use Rattle.std.specs.Prelude.{◌≡◌, ℕ, List, [], ◌∷◌, map, codes, Some}
 use Rattle.sdp_formats_forms.specs.Joined.{joined}
-use Rattle.sdp_formats_stream_lines.specs.Pairs.{restrictions_of}
-use Rattle.sdp_formats_stream_lines.specs.PairsSay.{IsWord, pair_list}
+use Rattle.sdp_formats_pairs.specs.Pairs.{restrictions_of}
+use Rattle.sdp_formats_pairs.specs.PairsSay.{IsWord, pair_list}
 use Rattle.sdp_formats_params.specs.Printed.{pair_text}
 use Rattle.sdp_formats_params.specs.declared.Pair.{Pair}
 

@@ -1,6 +1,6 @@
 //! What holds of keys and values.
 
-ghost use Rattle.sdp_formats_stream_lines.specs.PairsSay.{PairsAreExact};
+ghost use Rattle.sdp_formats_pairs.specs.PairsSay.{PairsAreExact};
 ghost use Rattle.sdp_formats_media_lines.specs.PrintedPairs.{PairsComeBack, RestrictionsComeBack};
 
 /// A list of keys and values is read exactly where it says one, and says at most one.

@@ -2,7 +2,7 @@
 use Rattle.std.specs.Prelude.{ℕ, ◌^◌, List, [], ◌∷◌, Option, Some, None, codes, if◌then◌else◌}
 use Rattle.sdp_formats_forms.specs.Form.{Form, told, number, made, after, cut, separated, either}
 use Rattle.sdp_formats_forms.specs.Numbers.{has_digits_alone, number_below}
-use Rattle.sdp_formats_stream_lines.specs.PairsSay.{pair_list}
+use Rattle.sdp_formats_pairs.specs.PairsSay.{pair_list}
 use Rattle.sdp_formats_params.specs.Params.{params_of}
 use Rattle.sdp_formats_params.specs.declared.param.FormatParam.{FormatParam}
 use Rattle.sdp_formats_params.specs.declared.param.FormatParam.TheVariants.{BarePtList, BareRange, Unknown}

@@ -10,8 +10,9 @@ use sdp_formats_fmtp::parse_pairs;
 use sdp_formats_forms::{
     Listed, Reads, Refusal, behind, has_digits_alone, list_of, number_8, split,
 };
+use sdp_formats_pairs::pairs;
 use sdp_formats_params::FormatParam;
-use sdp_formats_stream_lines::{pairs, payload_type};
+use sdp_formats_stream_lines::payload_type;
 use sdp_formats_types::MediaAttribute;
 use std::alloc::Global;
 

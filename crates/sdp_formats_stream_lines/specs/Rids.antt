@@ -5,7 +5,7 @@ use Rattle.std.specs.Str.{bytes_eq}
 use Rattle.sdp_formats_forms.specs.Bind.{◌>>=◌}
 use Rattle.sdp_formats_forms.specs.Form.{Form, told, some_text, made, cut, cut_maybe}
 use Rattle.sdp_formats_forms.specs.Split.{halves, behind}
-use Rattle.sdp_formats_stream_lines.specs.Pairs.{restrictions_of}
+use Rattle.sdp_formats_pairs.specs.Pairs.{restrictions_of}
 use Rattle.sdp_formats_params.specs.declared.Pair.{Pair}
 use Rattle.sdp_formats_stream_lines.specs.Maps.{payload_type}
 use Rattle.sdp_formats_stream_lines.specs.Names.{name}

@@ -9,9 +9,10 @@ ghost use Rattle.sdp_formats_stream_lines.specs.Rids.{later_limits, typed_limits
 ghost use Rattle.sdp_formats_stream_lines.specs.Rids.{limits_of, maybe_limits, rid};
 
 use crate::names::name;
-use crate::{payload_type, restrictions};
+use crate::payload_type;
 use rtp_wire::Pt;
 use sdp_formats_forms::{Listed, Refusal, halves, some, split, stripped};
+use sdp_formats_pairs::restrictions;
 use sdp_formats_types::{MediaAttribute, Pair, RestrictionId, RidDirection};
 use std::alloc::Global;
 

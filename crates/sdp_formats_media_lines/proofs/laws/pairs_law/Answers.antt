@@ -1,4 +1,4 @@
-use Rattle.sdp_formats_stream_lines.proofs.PairRounds.{pairs-exact}
+use Rattle.sdp_formats_pairs.proofs.PairRounds.{pairs-exact}
 use Rattle.sdp_formats_media_lines.proofs.laws.pairs_law.Goals as goal
 
 pub returns : goal.returns

@@ -1,0 +1,2 @@
+pub mod PairRounds
+pub mod Ends

@@ -1,0 +1,4 @@
+pub mod Runs
+pub mod Pairs
+pub mod PairsSay
+pub mod PairLemmas
