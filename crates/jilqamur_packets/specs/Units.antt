@@ -2,7 +2,7 @@
 use Rattle.std.specs.Prelude.{ℕ, ◌-◌, Bool, false, List, length, Option, Some, None, is_some, unwrap_or}
 use Rattle.payload_core_base.specs.declared.extra.CodecExtra.{CodecExtra}
 use Rattle.payload_core_base.specs.declared.extra.CodecExtra.TheVariants as extra
-use Rattle.payload_core_base.specs.declared.telephone_event.TelephoneEvent.{TelephoneEvent}
+use Rattle.payload_core_telephone.specs.declared.telephone_event.TelephoneEvent.{TelephoneEvent}
 use Rattle.payload_core_buffer.specs.Frames.{meta_at}
 use Rattle.payload_core_buffer.specs.declared.held.RtpMeta.{RtpMeta}
 use Rattle.jilqamur_packets.specs.declared.payload_unit.WireUnit.{WireUnit}

@@ -1,4 +1,3 @@
 pub mod PieceLemmas
 pub mod FrameLemmas
-pub mod TelephoneLemmas
 pub mod Texts

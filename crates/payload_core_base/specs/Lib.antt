@@ -1,3 +1,4 @@
+pub use Rattle.payload_core_telephone.specs.Telephone
 pub mod Bytes
 pub mod CodecNames
 pub mod Codecs
@@ -6,6 +7,4 @@ pub mod Frames
 pub mod Outgoing
 pub mod Packing
 pub mod Pieces
-pub mod Telephone
-pub mod TelephoneReports
 pub mod Law

@@ -11,7 +11,6 @@ mod error;
 mod extra;
 mod packetizer;
 mod sink;
-mod telephone_event;
 
 pub use bytes::{behind, byte_at, has_bit};
 pub use codec::{Codec, MediaKind};
@@ -23,5 +22,5 @@ pub use extra::{
     Vp9CodecExtra,
 };
 pub use packetizer::Packetizer;
+pub use payload_core_telephone::{TelephoneEvent, TelephoneEvents, telephone_event_law};
 pub use sink::PacketSink;
-pub use telephone_event::{TelephoneEvent, TelephoneEvents, telephone_event_law};

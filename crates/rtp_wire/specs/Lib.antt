@@ -7,13 +7,12 @@ pub use Rattle.rtp_wire_extensions.specs.Values
 pub use Rattle.rtp_wire_extension_maps.specs.Written
 pub use Rattle.rtp_wire_ids.specs.Direction
 pub use Rattle.rtp_wire_ids.specs.Name
+pub use Rattle.rtp_wire_numbers.specs.Replay
+pub use Rattle.rtp_wire_numbers.specs.Widening
 pub mod Default
 pub mod Fractions
 pub mod Header
 pub mod Layout
 pub mod Padding
-pub mod Replay
-pub mod Ring
 pub mod Run
 pub mod Time
-pub mod Widening

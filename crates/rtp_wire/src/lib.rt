@@ -8,13 +8,11 @@ mod media_time;
 mod padding;
 mod reading;
 mod run;
-mod widening;
-mod window;
 mod writing;
 
 pub use frequency::{Frequency, ParseFrequencyError};
 pub use header::RtpHeader;
-pub use laws::{header_laws, padding_laws, widening_laws, window_laws};
+pub use laws::{header_laws, padding_laws};
 pub use media_time::MediaTime;
 pub use padding::unpad_payload;
 pub use rtp_wire_extension_maps::{
@@ -24,6 +22,8 @@ pub use rtp_wire_extensions::{AbsCaptureTime, Extension, ExtensionValues, Uri, V
 pub use rtp_wire_ids::{
     ClockRate, Direction, Mid, Pt, Rid, SeqNo, SessionId, Ssrc, direction_laws,
 };
+pub use rtp_wire_numbers::{
+    SeqNoWindow, extend_u7, extend_u8, extend_u15, extend_u16, extend_u32, widening_laws,
+    window_laws,
+};
 pub use run::{Reception, receive_one, receive_run};
-pub use widening::{extend_u7, extend_u8, extend_u15, extend_u16, extend_u32};
-pub use window::SeqNoWindow;

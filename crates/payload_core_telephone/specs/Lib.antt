@@ -1,0 +1,2 @@
+pub mod Telephone
+pub mod TelephoneReports

@@ -1,5 +1,0 @@
-use Rattle.rtp_wire.proofs.WindowLaws.{ring-new}
-use Rattle.rtp_wire.proofs.window.SeqNoWindow.new.Goals as goal
-
-pub returns : goal.returns
-returns c = rw (← c.get-number.ensures) (ring-new c.get-number.result)

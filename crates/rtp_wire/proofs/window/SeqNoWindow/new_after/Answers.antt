@@ -1,5 +1,0 @@
-use Rattle.rtp_wire.proofs.WindowLaws.{ring-after}
-use Rattle.rtp_wire.proofs.window.SeqNoWindow.new_after.Goals as goal
-
-pub returns : goal.returns
-returns c = rw (← c.get.ensures) (ring-after c.get.result)
