@@ -1,13 +1,14 @@
 //! Depacketizers by codec.
 
 ghost use Rattle.std.specs.Prelude.{◌≡◌, ◌≢◌, None, Some, IsSome};
-ghost use Rattle.jilqamur_packets.specs.Codes.{ok, memory, nothing, closed, in_use};
-ghost use Rattle.jilqamur_packets.specs.Copies.{IsFetched};
-ghost use Rattle.jilqamur_packets.specs.Handles.{AtObject, answer_of};
+ghost use Rattle.jilqamur_headers.specs.Codes.{ok, memory, nothing, closed, in_use};
+ghost use Rattle.jilqamur_headers.specs.Copies.{IsFetched};
+ghost use Rattle.jilqamur_headers.specs.Handles.{AtObject, answer_of};
 ghost use Rattle.jilqamur_packets.specs.Formats.{format_outcome};
 ghost use Rattle.jilqamur_packets.specs.PacketInboxes.{new_packet_inbox, behind_push, PopsAt, bytes_of, IsToldOf};
 
-use jilqamur_packets::{DepacketizerHandle, WireFormat, WireUnit, codes};
+use jilqamur_headers::codes;
+use jilqamur_packets::{DepacketizerHandle, WireFormat, WireUnit};
 use std::alloc::Global;
 
 /// Opens a depacketizer by codec.

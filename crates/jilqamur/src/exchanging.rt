@@ -1,15 +1,15 @@
 //! Offers and answers of the end of a handle.
 
 ghost use Rattle.std.specs.Prelude.{◌≡◌, ◌≢◌, Some};
-ghost use Rattle.jilqamur_packets.specs.Codes.{ok, closed};
-ghost use Rattle.jilqamur_packets.specs.Handles.{AtObject};
+ghost use Rattle.jilqamur_headers.specs.Codes.{ok, closed};
+ghost use Rattle.jilqamur_headers.specs.Handles.{AtObject};
 ghost use Rattle.jilqamur_ends.specs.Answers.{AtEnd};
 ghost use Rattle.jilqamur_ends.specs.Peers.{behind_end, behind_text};
 ghost use Rattle.jilqamur_ends.specs.Exchanges.{AnswersOffer, AnswersAnswer, AnswersAccept, AnswersWithdraw, WithText};
-ghost use Rattle.jilqamur_packets.specs.Copies.{IsCopied};
+ghost use Rattle.jilqamur_headers.specs.Copies.{IsCopied};
 
 use jilqamur_ends::EndHandle;
-use jilqamur_packets::codes;
+use jilqamur_headers::codes;
 use std::alloc::Global;
 
 /// The offer of the gathered sections.

@@ -9,10 +9,10 @@ ghost use Rattle.rtp_wire.specs.Padding.{unpadded};
 ghost use Rattle.rtp_wire.specs.Run.{reception_of};
 ghost use Rattle.rtp_wire.specs.Widening.{widened};
 ghost use Rattle.rtp_wire_extension_maps.specs.Maps.{empty_map};
-ghost use Rattle.jilqamur_packets.specs.Codes.{ok, memory, in_use, closed, unreadable, damaged, unwritable};
-ghost use Rattle.jilqamur_packets.specs.Headers.{as_wire, as_header, write_outcome};
-ghost use Rattle.jilqamur_packets.specs.Windows.{ReceivedAs, behind, fresh};
-ghost use Rattle.jilqamur_packets.specs.Handles.{answer_of};
+ghost use Rattle.jilqamur_headers.specs.Codes.{ok, memory, in_use, closed, unreadable, damaged, unwritable};
+ghost use Rattle.jilqamur_headers.specs.Headers.{as_wire, as_header, write_outcome};
+ghost use Rattle.jilqamur_headers.specs.Windows.{ReceivedAs, behind, fresh};
+ghost use Rattle.jilqamur_headers.specs.Handles.{answer_of};
 
 mod depacketizers;
 mod exchanging;
@@ -23,7 +23,7 @@ mod senders;
 mod setup;
 mod streams;
 
-use jilqamur_packets::{
+use jilqamur_headers::{
     WindowHandle, WireHeader, codes, read_header, reception_code, write_header,
 };
 use rtp_wire::{extend_u16, unpad_payload};

@@ -1,14 +1,15 @@
 //! Receiving streams by codec, without an end.
 
 ghost use Rattle.std.specs.Prelude.{◌≡◌, ◌≢◌, None, Some, IsSome};
-ghost use Rattle.jilqamur_packets.specs.Codes.{ok, memory, nothing, closed, in_use};
-ghost use Rattle.jilqamur_packets.specs.Copies.{IsFetched};
-ghost use Rattle.jilqamur_packets.specs.Handles.{AtObject, answer_of};
+ghost use Rattle.jilqamur_headers.specs.Codes.{ok, memory, nothing, closed, in_use};
+ghost use Rattle.jilqamur_headers.specs.Copies.{IsFetched};
+ghost use Rattle.jilqamur_headers.specs.Handles.{AtObject, answer_of};
 ghost use Rattle.jilqamur_packets.specs.Formats.{format_outcome};
 ghost use Rattle.jilqamur_streams.specs.Fetched.{IsToldOf, bytes_of};
 ghost use Rattle.jilqamur_streams.specs.Inboxes.{Polls, Drains, new_inbox, Takes};
 
-use jilqamur_packets::{WireFormat, WireUnit, codes};
+use jilqamur_headers::codes;
+use jilqamur_packets::{WireFormat, WireUnit};
 use jilqamur_streams::ReceiverHandle;
 use std::alloc::Global;
 

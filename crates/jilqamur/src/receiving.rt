@@ -1,16 +1,17 @@
 //! Receiving streams.
 
 ghost use Rattle.std.specs.Prelude.{◌≡◌, ◌≢◌, Some};
-ghost use Rattle.jilqamur_packets.specs.Codes.{ok, nothing, closed};
-ghost use Rattle.jilqamur_packets.specs.Handles.{AtObject};
+ghost use Rattle.jilqamur_headers.specs.Codes.{ok, nothing, closed};
+ghost use Rattle.jilqamur_headers.specs.Handles.{AtObject};
 ghost use Rattle.jilqamur_ends.specs.Answers.{AtEnd};
 ghost use Rattle.jilqamur_ends.specs.Peers.{behind_end, behind_poll};
-ghost use Rattle.jilqamur_packets.specs.Copies.{IsFetched};
+ghost use Rattle.jilqamur_headers.specs.Copies.{IsFetched};
 ghost use Rattle.jilqamur_streams.specs.Fetched.{IsToldOf, bytes_of};
 ghost use Rattle.jilqamur_ends.specs.Receiving.{Receives, Polls, Drains, TellsValues};
 
 use jilqamur_ends::EndHandle;
-use jilqamur_packets::{WireUnit, WireValues, codes};
+use jilqamur_headers::{WireValues, codes};
+use jilqamur_packets::WireUnit;
 use std::alloc::Global;
 
 /// Takes a datagram in.

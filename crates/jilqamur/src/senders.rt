@@ -2,12 +2,13 @@
 
 ghost use Rattle.std.specs.Prelude.{◌≡◌, ◌≢◌, length, None, Some, IsSome};
 ghost use Rattle.std.specs.List.{slice_get};
-ghost use Rattle.jilqamur_packets.specs.Codes.{ok, memory, nothing, closed, in_use};
-ghost use Rattle.jilqamur_packets.specs.Copies.{IsFetched};
-ghost use Rattle.jilqamur_packets.specs.Handles.{AtObject, answer_of};
+ghost use Rattle.jilqamur_headers.specs.Codes.{ok, memory, nothing, closed, in_use};
+ghost use Rattle.jilqamur_headers.specs.Copies.{IsFetched};
+ghost use Rattle.jilqamur_headers.specs.Handles.{AtObject, answer_of};
 ghost use Rattle.jilqamur_streams.specs.Outboxes.{new_outbox, sender_outcome, Pushes};
 
-use jilqamur_packets::{WireFormat, codes};
+use jilqamur_headers::codes;
+use jilqamur_packets::WireFormat;
 use jilqamur_streams::{SenderHandle, WireSender};
 use std::alloc::Global;
 

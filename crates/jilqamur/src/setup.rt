@@ -2,14 +2,14 @@
 
 ghost use Rattle.std.specs.Prelude.{◌≡◌, ◌≢◌, None, Some, IsSome};
 ghost use Rattle.sdp_formats_default_rows.specs.DefaultRows.{default_rows};
-ghost use Rattle.jilqamur_packets.specs.Codes.{ok, memory, in_use};
-ghost use Rattle.jilqamur_packets.specs.Handles.{AtObject, answer_of};
+ghost use Rattle.jilqamur_headers.specs.Codes.{ok, memory, in_use};
+ghost use Rattle.jilqamur_headers.specs.Handles.{AtObject, answer_of};
 ghost use Rattle.jilqamur_ends.specs.Peers.{with_row, with_rows, with_section, with_extension, empty_peer};
 ghost use Rattle.jilqamur_ends.specs.Drafts.{row_of, row_outcome, section_of, section_outcome, extension_outcome};
 ghost use Rattle.jilqamur_ends.specs.Drafts.{make_outcome, made, without_draft};
 
 use jilqamur_ends::{EndHandle, WireRow};
-use jilqamur_packets::codes;
+use jilqamur_headers::codes;
 use std::alloc::Global;
 
 /// Opens a handle: it holds no end, an empty draft, and nothing that is left.

@@ -2,16 +2,16 @@
 
 ghost use Rattle.std.specs.Prelude.{◌≡◌, ◌≢◌, length, Some};
 ghost use Rattle.std.specs.List.{slice_get};
-ghost use Rattle.jilqamur_packets.specs.Codes.{ok, memory, nothing, closed};
-ghost use Rattle.jilqamur_packets.specs.Handles.{AtObject};
+ghost use Rattle.jilqamur_headers.specs.Codes.{ok, memory, nothing, closed};
+ghost use Rattle.jilqamur_headers.specs.Handles.{AtObject};
 ghost use Rattle.jilqamur_ends.specs.Peers.{behind_end, behind_sample};
 ghost use Rattle.jilqamur_ends.specs.Exchanges.{WithText};
-ghost use Rattle.jilqamur_packets.specs.Copies.{IsFetched};
+ghost use Rattle.jilqamur_headers.specs.Copies.{IsFetched};
 ghost use Rattle.jilqamur_ends.specs.Sending.{AnswersSender, AnswersSample, params_of};
 ghost use Rattle.jilqamur_ends.specs.Receiving.{OpensReceiver};
 
 use jilqamur_ends::{EndHandle, WireStream};
-use jilqamur_packets::{WireValues, codes};
+use jilqamur_headers::{WireValues, codes};
 use std::alloc::Global;
 
 /// Opens a sending stream.

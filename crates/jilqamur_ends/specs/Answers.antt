@@ -1,6 +1,6 @@
 use Rattle.std.specs.Prelude.{ℕ, ◌≡◌, Option, Some, None}
 use Rattle.rtp_media_open_streams.specs.Ends.{EndState}
-use Rattle.jilqamur_packets.specs.Codes.{not_made}
+use Rattle.jilqamur_headers.specs.Codes.{not_made}
 
 -- A call that needs an end, where none is made, says so; else the end's answer counts.
 abbrev pub AtEnd : Option EndState → Option EndState → ℕ → (EndState → EndState → Type 0) → Type 0

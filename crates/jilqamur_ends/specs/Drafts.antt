@@ -16,8 +16,8 @@ use Rattle.rtp_media_exchange_steps.specs.declared.errors.EndError.TheVariants a
 use Rattle.rtp_media_exchange_texts.specs.Exchanges.{bare_session}
 use Rattle.rtp_media_exchange_steps.specs.Refusals.{refusal_of_new}
 use Rattle.rtp_media_open_streams.specs.Ends.{new_end}
-use Rattle.jilqamur_packets.specs.Codes.{ok, memory, not_text, out_of_range}
-use Rattle.jilqamur_packets.specs.Codes.{row_not_plain, types_not_distinct, not_writable}
+use Rattle.jilqamur_headers.specs.Codes.{ok, memory, not_text, out_of_range}
+use Rattle.jilqamur_headers.specs.Codes.{row_not_plain, types_not_distinct, not_writable}
 use Rattle.jilqamur_ends.specs.declared.draft.WireRow.{WireRow}
 use Rattle.jilqamur_ends.specs.Peers.{PeerState}
 

@@ -11,9 +11,9 @@ use Rattle.rtp_media_exchange_steps.specs.Refusals.{refusal_of_offer}
 use Rattle.rtp_media_section_texts.specs.Sections.{Wanted}
 use Rattle.rtp_media_open_streams.specs.Ends.{EndState, with_exchange}
 use Rattle.rtp_media_ends.specs.Stops.{Where}
-use Rattle.jilqamur_packets.specs.Codes.{ok, memory, not_text, text_unreadable, out_of_turn, not_media}
-use Rattle.jilqamur_packets.specs.Codes.{not_corresponding}
-use Rattle.jilqamur_packets.specs.Codes.{round, no_common_row, not_writable, nothing}
+use Rattle.jilqamur_headers.specs.Codes.{ok, memory, not_text, text_unreadable, out_of_turn, not_media}
+use Rattle.jilqamur_headers.specs.Codes.{not_corresponding}
+use Rattle.jilqamur_headers.specs.Codes.{round, no_common_row, not_writable, nothing}
 use Rattle.jilqamur_ends.specs.Answers.{AtEnd}
 
 -- The number of a refused exchange.

@@ -14,11 +14,11 @@ use Rattle.rtp_media_open_streams.specs.declared.errors.OpenError.TheVariants as
 use Rattle.rtp_media_open_streams.specs.declared.received.Received.{Received}
 use Rattle.rtp_media_open_streams.specs.declared.received.Received.TheVariants as received
 use Rattle.jilqamur_streams.specs.StreamAnswers.{drain_result, poll_code, unit_behind}
-use Rattle.jilqamur_packets.specs.Codes.{ok, memory, nothing, unreadable, foreign, damaged, refused}
-use Rattle.jilqamur_packets.specs.Codes.{no_stream, no_section, row_not_agreed, row_differs, wrong_direction}
-use Rattle.jilqamur_packets.specs.Codes.{ssrc_not_named, already_open}
-use Rattle.jilqamur_packets.specs.Values.{values_told}
-use Rattle.jilqamur_packets.specs.declared.values.WireValues.{WireValues}
+use Rattle.jilqamur_headers.specs.Codes.{ok, memory, nothing, unreadable, foreign, damaged, refused}
+use Rattle.jilqamur_headers.specs.Codes.{no_stream, no_section, row_not_agreed, row_differs, wrong_direction}
+use Rattle.jilqamur_headers.specs.Codes.{ssrc_not_named, already_open}
+use Rattle.jilqamur_headers.specs.Values.{values_told}
+use Rattle.jilqamur_headers.specs.declared.values.WireValues.{WireValues}
 use Rattle.rtp_media_ends.specs.Stops.{PollStops, Where}
 
 -- The number of a refusal to open a stream.

@@ -8,9 +8,9 @@ use Rattle.rtp_media_open_streams.specs.Ends.{EndState, agreed_red, after_open_s
 use Rattle.rtp_media_open_streams.specs.Ends.{is_sender_at, sender_at, with_sender}
 use Rattle.rtp_media_open_streams.specs.Params.{is_sound_params}
 use Rattle.rtp_media_open_streams.specs.declared.params.StreamParams.{StreamParams}
-use Rattle.jilqamur_packets.specs.Codes.{ok, memory, out_of_range, no_stream}
-use Rattle.jilqamur_packets.specs.Values.{values_given}
-use Rattle.jilqamur_packets.specs.declared.values.WireValues.{WireValues}
+use Rattle.jilqamur_headers.specs.Codes.{ok, memory, out_of_range, no_stream}
+use Rattle.jilqamur_headers.specs.Values.{values_given}
+use Rattle.jilqamur_headers.specs.declared.values.WireValues.{WireValues}
 use Rattle.jilqamur_packets.specs.Formats.{number_given}
 use Rattle.jilqamur_streams.specs.StreamAnswers.{sample_outcome}
 use Rattle.jilqamur_ends.specs.declared.sending.WireStream.{WireStream}

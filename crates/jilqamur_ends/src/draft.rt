@@ -2,14 +2,14 @@
 
 ghost use Rattle.std.specs.Prelude.{◌≡◌, ◌≢◌, IfOk};
 ghost use Rattle.sdp_formats_default_rows.specs.DefaultRows.{default_rows};
-ghost use Rattle.jilqamur_packets.specs.Codes.{ok, memory};
+ghost use Rattle.jilqamur_headers.specs.Codes.{ok, memory};
 ghost use Rattle.jilqamur_ends.specs.Peers.{with_row, with_rows, with_section, with_extension};
 ghost use Rattle.jilqamur_ends.specs.Drafts.{given, row_of, row_outcome, kind_of, section_of};
 ghost use Rattle.jilqamur_ends.specs.Drafts.{section_outcome, extension_outcome, end_code, make_outcome};
 ghost use Rattle.jilqamur_ends.specs.Drafts.{made, without_draft};
 
 use crate::peer::Peer;
-use jilqamur_packets::{codes, text_in};
+use jilqamur_headers::{codes, text_in};
 use rtp_media_ends::{
     Codec, CodecConfig, CodecSpec, End, EndError, FormatParams, MediaKind, PayloadParams,
     SectionSpec, Session,

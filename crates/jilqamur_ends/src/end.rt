@@ -1,13 +1,13 @@
 //! Handles of ends, opened and closed.
 
 ghost use Rattle.std.specs.Prelude.{◌≡◌, ◌≢◌, None, Some, IsSome};
-ghost use Rattle.jilqamur_packets.specs.Codes.{ok, memory, in_use};
-ghost use Rattle.jilqamur_packets.specs.Handles.{answer_of};
+ghost use Rattle.jilqamur_headers.specs.Codes.{ok, memory, in_use};
+ghost use Rattle.jilqamur_headers.specs.Handles.{answer_of};
 ghost use Rattle.jilqamur_ends.specs.Peers.{empty_peer};
 
 use crate::peer::Peer;
 use crate::place::EndHandle;
-use jilqamur_packets::codes;
+use jilqamur_headers::codes;
 use std::alloc::Global;
 
 impl EndHandle {

@@ -1,13 +1,13 @@
 //! Texts of offers and answers.
 
 ghost use Rattle.std.specs.Prelude.{◌≡◌, ◌≢◌, []};
-ghost use Rattle.jilqamur_packets.specs.Codes.{ok};
+ghost use Rattle.jilqamur_headers.specs.Codes.{ok};
 ghost use Rattle.jilqamur_ends.specs.Answers.{AtEnd};
 ghost use Rattle.jilqamur_ends.specs.Exchanges.{AnswersOffer, AnswersAnswer, AnswersAccept, AnswersWithdraw};
 ghost use Rattle.jilqamur_ends.specs.Exchanges.{WithText, exchange_code};
 
 use crate::peer::Peer;
-use jilqamur_packets::{codes, text_in};
+use jilqamur_headers::{codes, text_in};
 use rtp_media_ends::{End, ExchangeError, SectionSpec};
 use std::alloc::Global;
 use std::mem;

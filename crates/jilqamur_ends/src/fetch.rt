@@ -2,13 +2,14 @@
 
 ghost use Rattle.std.specs.Prelude.{◌≡◌};
 ghost use Rattle.std.specs.List.{slice_get};
-ghost use Rattle.jilqamur_packets.specs.Codes.{nothing};
-ghost use Rattle.jilqamur_packets.specs.Copies.{IsCopied, IsFetched};
+ghost use Rattle.jilqamur_headers.specs.Codes.{nothing};
+ghost use Rattle.jilqamur_headers.specs.Copies.{IsCopied, IsFetched};
 ghost use Rattle.jilqamur_streams.specs.Fetched.{IsToldOf, bytes_of};
 ghost use Rattle.jilqamur_ends.specs.Receiving.{TellsValues};
 
 use crate::peer::Peer;
-use jilqamur_packets::{WireUnit, WireValues, codes, copy_out};
+use jilqamur_headers::{WireValues, codes, copy_out};
+use jilqamur_packets::WireUnit;
 use jilqamur_streams::{datagram_at, unit_at};
 
 impl Peer {

@@ -6,7 +6,7 @@ ghost use Rattle.jilqamur_ends.specs.Owned.{owned, object_coded};
 ghost use Rattle.jilqamur_ends.specs.Peers.{PeerState};
 
 use crate::peer::Peer;
-use jilqamur_packets::Parts;
+use jilqamur_headers::Parts;
 use std::alloc::Global;
 use std::marker::Model;
 use std::{mem, ptr};

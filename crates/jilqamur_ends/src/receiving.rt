@@ -1,7 +1,7 @@
 //! Receiving streams: datagrams that come, and units that are ready.
 
 ghost use Rattle.std.specs.Prelude.{◌≡◌, ◌≢◌};
-ghost use Rattle.jilqamur_packets.specs.Codes.{ok};
+ghost use Rattle.jilqamur_headers.specs.Codes.{ok};
 ghost use Rattle.jilqamur_ends.specs.Answers.{AtEnd};
 ghost use Rattle.jilqamur_ends.specs.Exchanges.{WithText};
 ghost use Rattle.jilqamur_ends.specs.Receiving.{OpensReceiver, Receives, Polls, Drains, IsTakenAs, open_code};
@@ -9,7 +9,7 @@ ghost use Rattle.jilqamur_ends.specs.Receiving.{verdict_code};
 ghost use Rattle.jilqamur_streams.specs.StreamAnswers.{poll_code};
 
 use crate::peer::Peer;
-use jilqamur_packets::{codes, text_in};
+use jilqamur_headers::{codes, text_in};
 use jilqamur_streams::poll_code;
 use rtp_media_ends::{End, Unit};
 use rtp_media_open_streams::{OpenError, Received};

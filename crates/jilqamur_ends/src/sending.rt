@@ -1,7 +1,7 @@
 //! Sending streams: samples that become datagrams.
 
 ghost use Rattle.std.specs.Prelude.{◌≡◌, ◌≢◌, IfOk, length};
-ghost use Rattle.jilqamur_packets.specs.Codes.{ok, memory};
+ghost use Rattle.jilqamur_headers.specs.Codes.{ok, memory};
 ghost use Rattle.jilqamur_ends.specs.Answers.{AtEnd};
 ghost use Rattle.jilqamur_ends.specs.Exchanges.{WithText};
 ghost use Rattle.jilqamur_ends.specs.Sending.{params_of, distances_of, AnswersSender, AnswersSample};
@@ -9,7 +9,8 @@ ghost use Rattle.jilqamur_ends.specs.Sending.{mid_of};
 
 use crate::peer::Peer;
 use crate::receiving::open_code;
-use jilqamur_packets::{WireValues, codes, number_given, text_in};
+use jilqamur_headers::{WireValues, codes, text_in};
+use jilqamur_packets::number_given;
 use jilqamur_streams::sample_code;
 use rtp_media_ends::{Datagram, End};
 use rtp_media_open_streams::{Distances, StreamParams};

@@ -8,7 +8,7 @@ use Rattle.std.specs.contracts.impls.GlobalAllocator.TheImpl.{ghosts, dict}
 use Rattle.std.proofs.alloc.Global.TheLaws as heap
 use Rattle.jilqamur_packets.specs.contracts.packet_inbox.PacketInbox as Object
 use Rattle.jilqamur_packets.proofs.packet_inbox.PacketInbox.TheLaws as object
-use Rattle.jilqamur_packets.specs.contracts.parts.Parts as Parts
+use Rattle.jilqamur_headers.specs.contracts.parts.Parts as Parts
 use Rattle.jilqamur_packets.specs.contracts.depacketizer_place.DepacketizerPlace as Place
 
 abbrev pub E : Bx

@@ -1,4 +1,3 @@
-pub mod AsBox
 pub mod Cutting
 pub mod DepacketizerBox
 pub mod PacketizerBox

@@ -2,10 +2,10 @@
 use Rattle.std.specs.Prelude.{ℕ}
 use Rattle.payload_core_base.specs.declared.error.PacketError.{PacketError}
 use Rattle.payload_core_base.specs.declared.error.PacketError.TheVariants as error
-use Rattle.jilqamur_packets.specs.Codes.{memory, packet_too_short, sample_too_large, too_many_references}
-use Rattle.jilqamur_packets.specs.Codes.{h265_corrupted, h266_corrupted, aggregate_cut_short, unit_type_not_handled}
-use Rattle.jilqamur_packets.specs.Codes.{vp8_corrupted, vp9_corrupted, av1_corrupted, red_corrupted, event_invalid}
-use Rattle.jilqamur_packets.specs.Codes.{amr_wb_corrupted}
+use Rattle.jilqamur_headers.specs.Codes.{memory, packet_too_short, sample_too_large, too_many_references}
+use Rattle.jilqamur_headers.specs.Codes.{h265_corrupted, h266_corrupted, aggregate_cut_short, unit_type_not_handled}
+use Rattle.jilqamur_headers.specs.Codes.{vp8_corrupted, vp9_corrupted, av1_corrupted, red_corrupted, event_invalid}
+use Rattle.jilqamur_headers.specs.Codes.{amr_wb_corrupted}
 
 abbrev pub fault_code : PacketError → ℕ
 fault_code error.ErrShortPacket = packet_too_short

@@ -7,7 +7,7 @@ use Rattle.payload_core_base.specs.Law.{Coding}
 use Rattle.payload_core_base.specs.Packing.{Packing, Sender}
 use Rattle.h26x_payload.specs.Codings as codings
 use Rattle.h26x_payload.specs.Codings.{Settings, first_sender, forms_for, has_format, settings_of}
-use Rattle.jilqamur_packets.specs.Codes.{ok, not_text, out_of_range}
+use Rattle.jilqamur_headers.specs.Codes.{ok, not_text, out_of_range}
 use Rattle.jilqamur_packets.specs.declared.format.PayloadFormat.{PayloadFormat}
 use Rattle.jilqamur_packets.specs.declared.format.WireFormat.{WireFormat}
 

@@ -1,10 +1,3 @@
-pub mod Codes
-pub mod Copies
-pub mod Handles
-pub mod Headers
-pub mod Owned
-pub mod Values
-pub mod Windows
 pub mod Faults
 pub mod Formats
 pub mod OwnedDepacketizer

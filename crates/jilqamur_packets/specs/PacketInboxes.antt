@@ -9,7 +9,7 @@ use Rattle.payload_core_buffer.specs.Pops.{PopState, Pops, pop_state}
 use Rattle.payload_core_buffer.specs.declared.depacketized.Depacketized.{Depacketized}
 use Rattle.payload_core_buffer.specs.declared.held.RtpMeta.{RtpMeta}
 use Rattle.rtp_wire_extensions.specs.Values.{absent}
-use Rattle.jilqamur_packets.specs.Codes.{ok, nothing}
+use Rattle.jilqamur_headers.specs.Codes.{ok, nothing}
 use Rattle.jilqamur_packets.specs.Faults.{fault_code}
 use Rattle.jilqamur_packets.specs.Formats.{format_named, format_of}
 use Rattle.jilqamur_packets.specs.Units.{UnitState, told_of, unit_from}

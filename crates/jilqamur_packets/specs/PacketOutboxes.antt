@@ -2,7 +2,7 @@
 use Rattle.std.specs.Prelude.{ℕ, Bool, nat_lt, List, [], Result, Ok, Err, is_some, if◌then◌else◌}
 use Rattle.payload_core_base.specs.Packing.{Packing, Sender, Sent}
 use Rattle.payload_core_base.specs.declared.error.PacketError.{PacketError}
-use Rattle.jilqamur_packets.specs.Codes.{ok, out_of_range}
+use Rattle.jilqamur_headers.specs.Codes.{ok, out_of_range}
 use Rattle.jilqamur_packets.specs.Faults.{fault_code}
 use Rattle.jilqamur_packets.specs.Formats.{first_state, format_named, format_outcome, number_given, packing_of}
 use Rattle.jilqamur_packets.specs.declared.format.PayloadFormat.{PayloadFormat}

@@ -1,15 +1,15 @@
 //! Handles of depacketizers, opened and closed.
 
 ghost use Rattle.std.specs.Prelude.{◌≡◌, ◌≢◌, None, Some, IsSome};
-ghost use Rattle.jilqamur_packets.specs.Codes.{ok, memory, in_use};
-ghost use Rattle.jilqamur_packets.specs.Handles.{answer_of};
+ghost use Rattle.jilqamur_headers.specs.Codes.{ok, memory, in_use};
+ghost use Rattle.jilqamur_headers.specs.Handles.{answer_of};
 ghost use Rattle.jilqamur_packets.specs.Formats.{format_outcome};
 ghost use Rattle.jilqamur_packets.specs.PacketInboxes.{new_packet_inbox};
 
-use crate::codes;
 use crate::depacketizer_place::DepacketizerHandle;
 use crate::format::WireFormat;
 use crate::packet_inbox::PacketInbox;
+use jilqamur_headers::codes;
 use std::alloc::Global;
 
 impl DepacketizerHandle {

@@ -6,7 +6,7 @@ ghost use Rattle.jilqamur_packets.specs.OwnedDepacketizer.{owned, object_coded};
 ghost use Rattle.jilqamur_packets.specs.PacketInboxes.{PacketInboxState};
 
 use crate::packet_inbox::PacketInbox;
-use crate::parts::Parts;
+use jilqamur_headers::Parts;
 use std::alloc::Global;
 use std::marker::Model;
 use std::{mem, ptr};

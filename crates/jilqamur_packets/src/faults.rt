@@ -3,7 +3,7 @@
 ghost use Rattle.std.specs.Prelude.{◌≡◌};
 ghost use Rattle.jilqamur_packets.specs.Faults.{fault_code};
 
-use crate::codes;
+use jilqamur_headers::codes;
 use payload_core_base::PacketError;
 
 /// The number of a refusal; the sizes of an aggregated unit and the type of a unit are not told.

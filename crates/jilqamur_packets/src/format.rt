@@ -2,12 +2,11 @@
 
 ghost use Rattle.std.specs.Prelude.{◌≡◌, ◌≢◌, true, IfOk, IfErr, OnOk};
 ghost use Rattle.h26x_payload.specs.Codings.{has_format};
-ghost use Rattle.jilqamur_packets.specs.Codes.{ok};
+ghost use Rattle.jilqamur_headers.specs.Codes.{ok};
 ghost use Rattle.jilqamur_packets.specs.Formats.{flag_given, number_given, format_named, format_outcome};
 
-use crate::codes;
-use crate::copying::text_in;
 use h26x_payload::has_format;
+use jilqamur_headers::{codes, text_in};
 use payload_core_base::Codec;
 use rtp_wire::Frequency;
 

@@ -1,19 +1,18 @@
 //! A depacketizer of a codec, behind a buffer.
 
 ghost use Rattle.std.specs.Prelude.{◌≡◌, ◌≢◌, IfOk, IfErr, OnOk};
-ghost use Rattle.jilqamur_packets.specs.Codes.{ok, memory, nothing};
-ghost use Rattle.jilqamur_packets.specs.Copies.{IsFetched};
+ghost use Rattle.jilqamur_headers.specs.Codes.{ok, memory, nothing};
+ghost use Rattle.jilqamur_headers.specs.Copies.{IsFetched};
 ghost use Rattle.jilqamur_packets.specs.Formats.{format_of, format_outcome};
 ghost use Rattle.jilqamur_packets.specs.PacketInboxes.{new_packet_inbox, behind_push, PopsAt, pop_code, unit_behind};
 ghost use Rattle.jilqamur_packets.specs.PacketInboxes.{bytes_of, IsToldOf};
 
 use crate::codecs::depacketizer_for;
-use crate::codes;
-use crate::copying::copy_out;
 use crate::faults::fault_code;
 use crate::format::{PayloadFormat, WireFormat, read_format};
 use crate::payload_unit::{PayloadUnit, WireUnit};
 use h26x_payload::{CodecDepacketizer, NotBoxed};
+use jilqamur_headers::{codes, copy_out};
 use payload_core_base::{Depacketizer, PacketError};
 use payload_core_buffer::{Depacketized, DepacketizingBuffer, RtpMeta};
 use rtp_wire_extensions::ExtensionValues;

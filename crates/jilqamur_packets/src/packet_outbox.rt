@@ -3,18 +3,17 @@
 ghost use Rattle.std.specs.Prelude.{◌≡◌, ◌≢◌, ◌+◌, ◌==◌, length, map, IfOk, IfErr, OnOk, MatchOption};
 ghost use Rattle.std.specs.List.{slice_get};
 ghost use Rattle.h26x_payload.specs.Codings.{has_format};
-ghost use Rattle.jilqamur_packets.specs.Codes.{ok, memory, nothing};
-ghost use Rattle.jilqamur_packets.specs.Copies.{IsFetched};
+ghost use Rattle.jilqamur_headers.specs.Codes.{ok, memory, nothing};
+ghost use Rattle.jilqamur_headers.specs.Copies.{IsFetched};
 ghost use Rattle.jilqamur_packets.specs.Formats.{number_given, packing_of};
 ghost use Rattle.jilqamur_packets.specs.PacketOutboxes.{new_packet_outbox, is_off_range, packetizer_outcome, cut};
 ghost use Rattle.jilqamur_packets.specs.PacketOutboxes.{after_cut, cut_outcome, packing_in};
 
 use crate::codecs::packetizer_for;
-use crate::codes;
-use crate::copying::copy_out;
 use crate::faults::fault_code;
 use crate::format::{PayloadFormat, WireFormat, number_given, read_format};
 use h26x_payload::{CodecPacketizer, NotBoxed};
+use jilqamur_headers::{codes, copy_out};
 use payload_core_base::Packetizer;
 use std::alloc::Global;
 use std::marker::Model;

@@ -1,14 +1,14 @@
 //! Handles of packetizers, opened and closed.
 
 ghost use Rattle.std.specs.Prelude.{◌≡◌, ◌≢◌, None, Some, IsSome};
-ghost use Rattle.jilqamur_packets.specs.Codes.{ok, memory, in_use};
-ghost use Rattle.jilqamur_packets.specs.Handles.{answer_of};
+ghost use Rattle.jilqamur_headers.specs.Codes.{ok, memory, in_use};
+ghost use Rattle.jilqamur_headers.specs.Handles.{answer_of};
 ghost use Rattle.jilqamur_packets.specs.PacketOutboxes.{new_packet_outbox, packetizer_outcome};
 
-use crate::codes;
 use crate::format::WireFormat;
 use crate::packet_outbox::{PacketOutbox, WirePacketizer};
 use crate::packetizer_place::PacketizerHandle;
+use jilqamur_headers::codes;
 use std::alloc::Global;
 
 impl PacketizerHandle {

@@ -6,7 +6,7 @@ ghost use Rattle.jilqamur_packets.specs.OwnedPacketizer.{owned, object_coded};
 ghost use Rattle.jilqamur_packets.specs.PacketOutboxes.{PacketOutboxState};
 
 use crate::packet_outbox::PacketOutbox;
-use crate::parts::Parts;
+use jilqamur_headers::Parts;
 use std::alloc::Global;
 use std::marker::Model;
 use std::{mem, ptr};

@@ -8,7 +8,7 @@ use Rattle.std.specs.contracts.impls.GlobalAllocator.TheImpl.{ghosts, dict}
 use Rattle.std.proofs.alloc.Global.TheLaws as heap
 use Rattle.jilqamur_streams.specs.contracts.outbox.Outbox as Object
 use Rattle.jilqamur_streams.proofs.outbox.Outbox.TheLaws as object
-use Rattle.jilqamur_packets.specs.contracts.parts.Parts as Parts
+use Rattle.jilqamur_headers.specs.contracts.parts.Parts as Parts
 use Rattle.jilqamur_streams.specs.contracts.sender_place.SenderPlace as Place
 
 abbrev pub E : Bx

@@ -8,7 +8,7 @@ use Rattle.rtp_media_payloads.specs.Polls.{IsInterrupted, PollResult, poll_resul
 use Rattle.rtp_media_payloads.specs.Receiving.{Receiving, arrived, opened_receiver, polled_receiver, taken_number}
 use Rattle.rtp_media_payloads.specs.Receiving.{with_stream}
 use Rattle.rtp_media_payloads.specs.Rows.{format_of}
-use Rattle.jilqamur_packets.specs.Codes.{ok, memory, refused}
+use Rattle.jilqamur_headers.specs.Codes.{ok, memory, refused}
 use Rattle.jilqamur_streams.specs.StreamAnswers.{poll_code, unit_behind, drain_result}
 use Rattle.jilqamur_streams.specs.Formats.{row_of}
 use Rattle.jilqamur_streams.specs.Outboxes.{type_alone}

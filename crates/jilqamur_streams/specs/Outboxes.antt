@@ -7,7 +7,7 @@ use Rattle.rtp_wire.specs.Values.{absent}
 use Rattle.rtp_media_streams.specs.Sending.{HasFailed, Sending, opened_sender, sent_datagrams, after_sample}
 use Rattle.rtp_media_streams.specs.Sending.{refusal_of_sample}
 use Rattle.rtp_media_payloads.specs.declared.types.PayloadTypes.{PayloadTypes}
-use Rattle.jilqamur_packets.specs.Codes.{ok, memory, out_of_range}
+use Rattle.jilqamur_headers.specs.Codes.{ok, memory, out_of_range}
 use Rattle.jilqamur_streams.specs.StreamAnswers.{sample_outcome}
 use Rattle.jilqamur_packets.specs.Formats.{format_outcome, number_given}
 use Rattle.jilqamur_streams.specs.Formats.{row_of}

@@ -8,7 +8,7 @@ use Rattle.rtp_media_payloads.specs.Rows.{format_of}
 use Rattle.rtp_media_payloads.specs.declared.errors.PollFault.TheVariants as fault
 use Rattle.rtp_media_payloads.specs.declared.errors.SampleError.{SampleError}
 use Rattle.rtp_media_payloads.specs.declared.errors.SampleError.TheVariants as sample_error
-use Rattle.jilqamur_packets.specs.Codes.{ok, memory, nothing, stream_failed, time_too_large, limit_too_small, payload}
+use Rattle.jilqamur_headers.specs.Codes.{ok, memory, nothing, stream_failed, time_too_large, limit_too_small, payload}
 
 -- The number of a refused sample.
 abbrev pub sample_code : SampleError → ℕ

@@ -3,7 +3,7 @@
 ghost use Rattle.std.specs.Prelude.{◌≡◌};
 ghost use Rattle.jilqamur_streams.specs.StreamAnswers.{sample_code, poll_code, unit_behind};
 
-use jilqamur_packets::codes;
+use jilqamur_headers::codes;
 use rtp_media_payloads::{PollFault, SampleError, Unit};
 
 /// The number of a refused sample.

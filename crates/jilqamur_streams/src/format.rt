@@ -2,7 +2,7 @@
 
 ghost use Rattle.std.specs.Prelude.{◌≡◌, ◌≢◌, true, IfOk, IfErr, OnOk};
 ghost use Rattle.h26x_payload.specs.Codings.{has_format};
-ghost use Rattle.jilqamur_packets.specs.Codes.{ok};
+ghost use Rattle.jilqamur_headers.specs.Codes.{ok};
 ghost use Rattle.jilqamur_packets.specs.Formats.{format_outcome};
 ghost use Rattle.jilqamur_streams.specs.Formats.{row_of};
 

@@ -1,8 +1,8 @@
 //! Handles of streams, opened and closed.
 
 ghost use Rattle.std.specs.Prelude.{◌≡◌, ◌≢◌, None, Some, IsSome};
-ghost use Rattle.jilqamur_packets.specs.Codes.{ok, memory, in_use};
-ghost use Rattle.jilqamur_packets.specs.Handles.{answer_of};
+ghost use Rattle.jilqamur_headers.specs.Codes.{ok, memory, in_use};
+ghost use Rattle.jilqamur_headers.specs.Handles.{answer_of};
 ghost use Rattle.jilqamur_packets.specs.Formats.{format_outcome};
 ghost use Rattle.jilqamur_streams.specs.Inboxes.{new_inbox};
 ghost use Rattle.jilqamur_streams.specs.Outboxes.{new_outbox, sender_outcome};
@@ -11,7 +11,8 @@ use crate::inbox::Inbox;
 use crate::outbox::{Outbox, WireSender};
 use crate::receiver_place::ReceiverHandle;
 use crate::sender_place::SenderHandle;
-use jilqamur_packets::{WireFormat, codes};
+use jilqamur_headers::codes;
+use jilqamur_packets::WireFormat;
 use std::alloc::Global;
 
 impl SenderHandle {

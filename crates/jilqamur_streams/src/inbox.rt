@@ -1,8 +1,8 @@
 //! A receiving stream by codec.
 
 ghost use Rattle.std.specs.Prelude.{◌≡◌, ◌≢◌, IfOk, IfErr, OnOk};
-ghost use Rattle.jilqamur_packets.specs.Codes.{ok, nothing};
-ghost use Rattle.jilqamur_packets.specs.Copies.{IsFetched};
+ghost use Rattle.jilqamur_headers.specs.Codes.{ok, nothing};
+ghost use Rattle.jilqamur_headers.specs.Copies.{IsFetched};
 ghost use Rattle.jilqamur_streams.specs.Fetched.{IsToldOf, bytes_of};
 ghost use Rattle.jilqamur_packets.specs.Formats.{format_outcome};
 ghost use Rattle.jilqamur_streams.specs.Inboxes.{new_inbox, Takes, Polls, Drains};
@@ -10,7 +10,8 @@ ghost use Rattle.jilqamur_streams.specs.Inboxes.{new_inbox, Takes, Polls, Drains
 use crate::answers::poll_code;
 use crate::format::read_row;
 use crate::stream_fetch::unit_at;
-use jilqamur_packets::{WireFormat, WireUnit, codes};
+use jilqamur_headers::codes;
+use jilqamur_packets::{WireFormat, WireUnit};
 use rtp_media_payloads::{PayloadTypes, Unit};
 use rtp_media_streams::ReceivingStream;
 use rtp_wire::{ExtensionMap, ExtensionValues, Pt, Ssrc};

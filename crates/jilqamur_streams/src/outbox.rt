@@ -2,14 +2,15 @@
 
 ghost use Rattle.std.specs.Prelude.{◌≡◌, ◌≢◌, length, IfOk, IfErr, OnOk};
 ghost use Rattle.std.specs.List.{slice_get};
-ghost use Rattle.jilqamur_packets.specs.Codes.{ok, nothing};
-ghost use Rattle.jilqamur_packets.specs.Copies.{IsFetched};
+ghost use Rattle.jilqamur_headers.specs.Codes.{ok, nothing};
+ghost use Rattle.jilqamur_headers.specs.Copies.{IsFetched};
 ghost use Rattle.jilqamur_streams.specs.Outboxes.{new_outbox, is_off_range, sender_outcome, Pushes};
 
 use crate::answers::sample_code;
 use crate::format::read_row;
 use crate::stream_fetch::datagram_at;
-use jilqamur_packets::{WireFormat, codes, number_given};
+use jilqamur_headers::codes;
+use jilqamur_packets::{WireFormat, number_given};
 use rtp_media_payloads::{Datagram, PayloadTypes};
 use rtp_media_streams::SendingStream;
 use rtp_wire::{ExtensionMap, ExtensionValues, MediaTime, Pt, Ssrc};

@@ -6,7 +6,7 @@ ghost use Rattle.jilqamur_streams.specs.OwnedReceiver.{owned, object_coded};
 ghost use Rattle.jilqamur_streams.specs.Inboxes.{InboxState};
 
 use crate::inbox::Inbox;
-use jilqamur_packets::Parts;
+use jilqamur_headers::Parts;
 use std::alloc::Global;
 use std::marker::Model;
 use std::{mem, ptr};

@@ -6,7 +6,7 @@ ghost use Rattle.jilqamur_streams.specs.OwnedSender.{owned, object_coded};
 ghost use Rattle.jilqamur_streams.specs.Outboxes.{OutboxState};
 
 use crate::outbox::Outbox;
-use jilqamur_packets::Parts;
+use jilqamur_headers::Parts;
 use std::alloc::Global;
 use std::marker::Model;
 use std::{mem, ptr};

@@ -2,11 +2,12 @@
 
 ghost use Rattle.std.specs.Prelude.{◌≡◌};
 ghost use Rattle.std.specs.List.{slice_get};
-ghost use Rattle.jilqamur_packets.specs.Codes.{nothing};
-ghost use Rattle.jilqamur_packets.specs.Copies.{IsFetched};
+ghost use Rattle.jilqamur_headers.specs.Codes.{nothing};
+ghost use Rattle.jilqamur_headers.specs.Copies.{IsFetched};
 ghost use Rattle.jilqamur_streams.specs.Fetched.{IsToldOf, bytes_of};
 
-use jilqamur_packets::{WireUnit, codes, copy_out, wire_unit};
+use jilqamur_headers::{codes, copy_out};
+use jilqamur_packets::{WireUnit, wire_unit};
 use rtp_media_payloads::{Datagram, Unit};
 
 /// Copies the bytes of a unit to the front of a buffer, and tells what is told beside; `NOTHING` where there is none.

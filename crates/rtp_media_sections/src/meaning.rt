@@ -1,32 +1,15 @@
 //! What rows mean to streams.
 
 ghost use Rattle.std.specs.Prelude.{◌≡◌};
-ghost use Rattle.sdp_formats_scores.specs.Same.{same, same_flag};
+ghost use Rattle.sdp_formats_scores.specs.Same.{same};
 ghost use Rattle.rtp_media_sections.specs.Agreement.{means_same, own_row_agrees, same_codec, same_layout};
 
 use rtp_wire::Pt;
 use sdp_formats_rows::{CodecSpec, FormatParams, PayloadParams};
-
-fn same_channels(a: Option<u8>, b: Option<u8>) -> bool
-    ensures { result ≡ same a b }
-{
-    a == b
-}
-
-fn same_order(a: Option<u16>, b: Option<u16>) -> bool
-    ensures { result ≡ same a b }
-{
-    a == b
-}
+use sdp_formats_scores::{same_byte, same_flag, same_half_word};
 
 fn same_type(a: Option<Pt>, b: Option<Pt>) -> bool
     ensures { result ≡ same a b }
-{
-    a == b
-}
-
-fn same_flag(a: Option<bool>, b: Option<bool>) -> bool
-    ensures { result ≡ same_flag a b }
 {
     a == b
 }
@@ -36,14 +19,14 @@ fn same_codec(a: &CodecSpec, b: &CodecSpec) -> bool
 {
     a.codec == b.codec
         && a.clock_rate.get() == b.clock_rate.get()
-        && same_channels(a.channels, b.channels)
+        && same_byte(a.channels, b.channels)
 }
 
 fn same_layout(a: &FormatParams, b: &FormatParams) -> bool
     ensures { result ≡ same_layout a.now b.now }
 {
     same_flag(a.octet_align, b.octet_align)
-        && same_order(a.sprop_max_don_diff, b.sprop_max_don_diff)
+        && same_half_word(a.sprop_max_don_diff, b.sprop_max_don_diff)
 }
 
 /// Whether two rows mean the same to a stream.

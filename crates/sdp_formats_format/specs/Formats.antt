@@ -13,10 +13,11 @@ use Rattle.sdp_formats_params.specs.declared.key.Key.TheVariants.{LevelAsymmetry
 use Rattle.sdp_formats_params.specs.declared.key.Key.TheVariants.{ProfileLevelId, ProfileId, Profile, LevelIdx, Tier}
 use Rattle.sdp_formats_params.specs.declared.key.Key.TheVariants.{SpropMaxDonDiff, OctetAlign, ModeSet, TierFlag}
 use Rattle.sdp_formats_params.specs.declared.key.Key.TheVariants.{LevelId}
-use Rattle.sdp_formats_params.specs.Keys.{key_name, key_named, is_level_key}
+use Rattle.sdp_formats_params.specs.Keys.{key_named}
 use Rattle.sdp_formats_params.specs.Numbers.{numeral_below, profile_level, up_to, modes_of, range_of}
 use Rattle.sdp_formats_params.specs.Params.{byte_value}
 use Rattle.sdp_formats_forms.specs.Split.{parts}
+use Rattle.sdp_formats_line_values.specs.LineValues.{gives_level, last_value}
 
 -- No parameter given.
 abbrev pub no_format : FormatParams
@@ -99,34 +100,6 @@ with_fields last (key ∷ value ∷ others) f = with_key last (key_named (trim k
 abbrev pub with_parts : Bool → List (List ℕ) → FormatParams → FormatParams
 with_parts last [] f = f
 with_parts last (part ∷ rest) f = with_parts last rest (with_fields last (parts 61 part) f)
-
--- Whether a part gives a tier or level.
-abbrev pub has_level : Option Key → Bool
-has_level None = false
-has_level (Some key) = is_level_key key
-
-abbrev pub fields_give_level : List (List ℕ) → Bool
-fields_give_level [] = false
-fields_give_level (word ∷ []) = false
-fields_give_level (key ∷ value ∷ others) = has_level (key_named (trim key))
-
-abbrev pub gives_level : List ℕ → Bool
-gives_level part = fields_give_level (parts 61 part)
-
--- The last value of a key, blanks round it dropped.
-abbrev pub is_key : Key → Option Key → Bool
-is_key key None = false
-is_key key (Some other) = bytes_eq (key_name other) (key_name key)
-
-abbrev pub field_value : Key → List (List ℕ) → Option (List ℕ) → Option (List ℕ)
-field_value key [] before = before
-field_value key (word ∷ []) before = before
-field_value key (name ∷ value ∷ others) before =
-    if is_key key (key_named (trim name)) then Some (trim value) else before
-
-abbrev pub last_value : Key → List (List ℕ) → Option (List ℕ) → Option (List ℕ)
-last_value key [] before = before
-last_value key (part ∷ rest) before = last_value key rest (field_value key (parts 61 part) before)
 
 -- The profile, tier and level that the last values of three keys mean: of H.265, else of H.266 (RFC 7798 7.1, RFC 9328
 -- 7.2).

@@ -3,9 +3,10 @@
 ghost use Rattle.std.specs.Prelude.{◌≡◌};
 ghost use Rattle.sdp_formats_format.specs.Formats.{no_format, format_of};
 
-use crate::levels::{gives_level, level_format};
+use crate::levels::level_format;
 use crate::values::with_part;
 use sdp_formats_forms::first_part;
+use sdp_formats_line_values::gives_level;
 use sdp_formats_params::{H265ProfileTierLevel, H266ProfileTierLevel};
 
 /// Format parameters of a codec, as `a=fmtp` gives them (RFC 8866 6.15); None is not given.

@@ -5,7 +5,8 @@ use Rattle.std.specs.Str.{trim}
 use Rattle.std.proofs.lemmas.Fmt.{decimal_is_IsNumeral}
 use Rattle.sdp_formats_forms.specs.Cuts.{parts-at, parts-whole}
 use Rattle.sdp_formats_forms.specs.Split.{Lacks, parts}
-use Rattle.sdp_formats_format.specs.Formats.{field_value, gives_level, has_level, is_key, replaced, with_fields}
+use Rattle.sdp_formats_format.specs.Formats.{replaced, with_fields}
+use Rattle.sdp_formats_line_values.specs.LineValues.{field_value, gives_level, has_level, is_key}
 use Rattle.sdp_formats_format.specs.Formats.{with_key, with_range}
 use Rattle.sdp_formats_format.specs.declared.format.FormatParams.{FormatParams}
 use Rattle.sdp_formats_params.specs.Keys.{key_named, is_name_of}

@@ -6,7 +6,8 @@ use Rattle.std.specs.Prelude.{fold}
 use Rattle.std.specs.List.{list_any}
 use Rattle.sdp_formats_forms.specs.Joined.{joined}
 use Rattle.sdp_formats_forms.specs.Split.{Lacks, parts}
-use Rattle.sdp_formats_format.specs.Formats.{format_of, gives_level, is_key, last_value}
+use Rattle.sdp_formats_format.specs.Formats.{format_of}
+use Rattle.sdp_formats_line_values.specs.LineValues.{gives_level, is_key, last_value}
 use Rattle.sdp_formats_format.specs.Formats.{no_format, with_parts, with_values}
 use Rattle.sdp_formats_format.specs.declared.format.FormatParams.{FormatParams}
 use Rattle.sdp_formats_params.specs.Keys.{key_named, is_name_of}

@@ -20,7 +20,8 @@ use Rattle.sdp_formats_params.specs.declared.key.Key.{Key}
 use Rattle.sdp_formats_params.specs.declared.key.Key.TheVariants as key
 use Rattle.sdp_formats_format.specs.Formats.{no_format, replaced, with_value, with_key, with_range, with_fields}
 use Rattle.sdp_formats_format.specs.Formats.{with_parts}
-use Rattle.sdp_formats_format.specs.Formats.{gives_level, last_value, with_level, with_values, level_format, format_of}
+use Rattle.sdp_formats_format.specs.Formats.{with_level, with_values, level_format, format_of}
+use Rattle.sdp_formats_line_values.specs.LineValues.{gives_level, last_value}
 use Rattle.sdp_formats_format.specs.declared.format.FormatParams.{FormatParams}
 use Rattle.sdp_formats_laws.specs.Ranges.{IsModes, IsInRange, AtMostOne}
 

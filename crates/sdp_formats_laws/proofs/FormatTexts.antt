@@ -8,7 +8,8 @@ use Rattle.std.specs.Str.{trim, trim_start, trim_end, chars}
 use Rattle.sdp_formats_forms.specs.Cuts.{parts-at, parts-whole}
 use Rattle.sdp_formats_forms.specs.Joined.{joined}
 use Rattle.sdp_formats_forms.specs.Split.{Lacks, parts}
-use Rattle.sdp_formats_format.specs.Formats.{field_value, format_of, gives_level, has_level, is_key, last_value}
+use Rattle.sdp_formats_format.specs.Formats.{format_of}
+use Rattle.sdp_formats_line_values.specs.LineValues.{field_value, gives_level, has_level, is_key, last_value}
 use Rattle.sdp_formats_format.specs.Formats.{level_format}
 use Rattle.sdp_formats_format.specs.Formats.{no_format, with_parts, with_values}
 use Rattle.sdp_formats_format.specs.declared.format.FormatParams.{FormatParams}

@@ -9,4 +9,4 @@ mod same;
 
 pub use format_scores::{format_score, modes_score};
 pub use level_scores::{GivenH265, GivenH266, GivenLevel, level_agreed};
-pub use same::{alike, same_byte, same_format};
+pub use same::{alike, same_byte, same_flag, same_format, same_half_word};

@@ -14,7 +14,7 @@ pub fn same_byte(a: Option<u8>, b: Option<u8>) -> bool
 }
 
 /// Is it the same number of sixteen bits, or none at both?
-fn same_half_word(a: Option<u16>, b: Option<u16>) -> bool
+pub fn same_half_word(a: Option<u16>, b: Option<u16>) -> bool
     ensures { result ≡ same a b }
 {
     a == b
@@ -28,7 +28,7 @@ fn same_word(a: Option<u32>, b: Option<u32>) -> bool
 }
 
 /// Is it the same flag, or none at both?
-pub(crate) fn same_flag(a: Option<bool>, b: Option<bool>) -> bool
+pub fn same_flag(a: Option<bool>, b: Option<bool>) -> bool
     ensures { result ≡ same_flag a b }
 {
     a == b

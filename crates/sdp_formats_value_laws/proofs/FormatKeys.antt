@@ -4,7 +4,7 @@ use Rattle.std.proofs.Common.{find, cond, refl, sym, ◌∙◌, ap, subst}
 use Rattle.std.specs.Str.{bytes_eq}
 use Rattle.std.proofs.lemmas.Bool.{cases_Bool, false≢true}
 use Rattle.std.proofs.lemmas.Slice.Eq.{bytes_eq-Decides}
-use Rattle.sdp_formats_format.specs.Formats.{has_level, is_key}
+use Rattle.sdp_formats_line_values.specs.LineValues.{has_level, is_key}
 use Rattle.sdp_formats_params.specs.Keys.{all_keys, is_name_of, key_name, key_named}
 use Rattle.sdp_formats_params.specs.declared.key.Key.{Key}
 use Rattle.sdp_formats_params.specs.declared.key.Key.TheVariants as key

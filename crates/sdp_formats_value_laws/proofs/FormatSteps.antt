@@ -3,7 +3,8 @@ use Rattle.std.proofs.Common.{◌≡◌, ℕ, Bool, true, false, List, [], ◌�
 use Rattle.std.proofs.Common.{if◌then◌else◌}
 use Rattle.std.specs.List.{cons_option, last_or}
 use Rattle.std.specs.Str.{trim}
-use Rattle.sdp_formats_format.specs.Formats.{is_key, is_on, replaced, with_fields, with_key, with_parts, with_range}
+use Rattle.sdp_formats_format.specs.Formats.{is_on, replaced, with_fields, with_key, with_parts, with_range}
+use Rattle.sdp_formats_line_values.specs.LineValues.{is_key}
 use Rattle.sdp_formats_format.specs.Formats.{word_value}
 use Rattle.sdp_formats_format.specs.declared.format.FormatParams.{FormatParams}
 use Rattle.sdp_formats_forms.specs.Split.{parts}

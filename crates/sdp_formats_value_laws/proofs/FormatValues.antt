@@ -7,6 +7,7 @@ use Rattle.std.specs.Str.{bytes_eq, trim}
 use Rattle.h26x_payload_profiles.specs.H265ProfileTierLevel.{H265ProfileTierLevel as Level265, given as given_265}
 use Rattle.h26x_payload_profiles.specs.H266ProfileTierLevel.{H266ProfileTierLevel as Level266, given as given_266}
 use Rattle.sdp_formats_format.specs.Formats as format
+use Rattle.sdp_formats_line_values.specs.LineValues as keyed
 use Rattle.sdp_formats_format.specs.Formats.{format_of, no_format, replaced, with_level, word_value}
 use Rattle.sdp_formats_format.specs.declared.format.FormatParams.{FormatParams}
 use Rattle.sdp_formats_forms.specs.Split.{parts}
@@ -62,7 +63,7 @@ flags_last before (v ∷ vs) = flags_last (Some v) vs
 
 -- the last value of a key
 piece_last : (k : Key) (pieces : List (List ℕ)) (before : Option (List ℕ)) (vs : List (List ℕ))
-    → last_or (format.field_value k pieces before) vs ≡ last_or before (cons_option (value_of_pieces k pieces) vs)
+    → last_or (keyed.field_value k pieces before) vs ≡ last_or before (cons_option (value_of_pieces k pieces) vs)
 piece_last k [] before vs = refl
 piece_last k (word ∷ []) before vs = refl
 piece_last k (name ∷ value ∷ others) before vs =
@@ -75,10 +76,10 @@ piece_last k (name ∷ value ∷ others) before vs =
     at false = refl
 
 values_last : (k : Key) (ps : List (List ℕ)) (before : Option (List ℕ))
-    → format.last_value k ps before ≡ last_or before (values_of ps k)
+    → keyed.last_value k ps before ≡ last_or before (values_of ps k)
 values_last k [] before = refl
 values_last k (p ∷ ps) before =
-    values_last k ps (format.field_value k (parts 61 p) before)
+    values_last k ps (keyed.field_value k (parts 61 p) before)
     ∙ piece_last k (parts 61 p) before (values_of ps k)
 
 -- whether a part gives a tier or level
@@ -86,7 +87,7 @@ some_if : (b : Bool) (v : List ℕ) → is_some (if b then Some v else None) ≡
 some_if true v = refl
 some_if false v = refl
 
-level_piece : (pieces : List (List ℕ)) → format.fields_give_level pieces
+level_piece : (pieces : List (List ℕ)) → keyed.fields_give_level pieces
     ≡ (is_some (value_of_pieces key.TierFlag pieces) || is_some (value_of_pieces key.LevelId pieces))
 level_piece [] = refl
 level_piece (word ∷ []) = refl
@@ -105,11 +106,11 @@ or_true : (b : Bool) → (b || true) ≡ true
 or_true true = refl
 or_true false = refl
 
-level_given : (ps : List (List ℕ)) → list_any format.gives_level ps
+level_given : (ps : List (List ℕ)) → list_any keyed.gives_level ps
     ≡ (is_some (last_or None (values_of ps key.TierFlag)) || is_some (last_or None (values_of ps key.LevelId)))
 level_given [] = refl
 level_given (p ∷ ps) =
-    ap (λ b. b || list_any format.gives_level ps) (level_piece (parts 61 p))
+    ap (λ b. b || list_any keyed.gives_level ps) (level_piece (parts 61 p))
     ∙ at (value_in key.TierFlag p) (value_in key.LevelId p) (level_given ps)
   where
     tiers : List (List ℕ)
@@ -119,8 +120,8 @@ level_given (p ∷ ps) =
     levels = values_of ps key.LevelId
 
     at : (t l : Option (List ℕ))
-        → list_any format.gives_level ps ≡ (is_some (last_or None tiers) || is_some (last_or None levels))
-        → ((is_some t || is_some l) || list_any format.gives_level ps)
+        → list_any keyed.gives_level ps ≡ (is_some (last_or None tiers) || is_some (last_or None levels))
+        → ((is_some t || is_some l) || list_any keyed.gives_level ps)
         ≡ (is_some (last_or None (cons_option t tiers)) || is_some (last_or None (cons_option l levels)))
     at None None h = h
     at (Some v) l h =
@@ -210,7 +211,7 @@ module _ (line : List ℕ) where
       ≡ behind (has_level line) (values_of ps) (filter_map range_in ps) (base (has_level line))
   unfolding format_of
   read_line =
-      read_parts (list_any format.gives_level ps) ps (format.level_format ps)
+      read_parts (list_any keyed.gives_level ps) ps (format.level_format ps)
       ∙ (λ i. behind (level_given ps i) (values_of ps) (filter_map range_in ps)
       (if level_given ps i
       then format.with_values (values_last key.ProfileId ps None i) (values_last key.TierFlag ps None i)
