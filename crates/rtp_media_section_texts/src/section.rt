@@ -1,13 +1,14 @@
 //! Sections as an end wants them, and how lists of sections correspond.
 
-ghost use Rattle.std.specs.Prelude.{◌≡◌, ◌≤◌, [], length, zip};
-ghost use Rattle.std.specs.List.{list_all, list_any};
+ghost use Rattle.std.specs.Prelude.{◌≡◌, ◌≤◌, [], length, zip, IfOk};
+ghost use Rattle.std.specs.List.{list_all};
 ghost use Rattle.rtp_media_section_texts.specs.Sections.{shape_of, same_kind, same_shape, begins_with, correspond};
-ghost use Rattle.rtp_media_section_texts.specs.Sections.{has_mid};
 ghost use Rattle.rtp_media_section_texts.specs.Sections.{are_distinct, may_follow};
 
 use payload_core_base::MediaKind;
 use rtp_wire::{Direction, Mid, Ssrc};
+use std::alloc::{AllocError, Global};
+use std::collections::BTreeSet;
 use std::marker::Model;
 
 /// A section as an end wants it.
@@ -95,27 +96,26 @@ pub fn correspond(some: &[Shape], others: &[Shape]) -> bool
     some.len() == others.len() && are_same(some, others)
 }
 
-fn has_mid(shapes: &[Shape], mid: Mid) -> bool
-    ensures { result ≡ list_any (has_mid mid) shapes.now }
+fn are_distinct(alloc: Global, shapes: &[Shape]) -> Result<bool, AllocError>
+    ensures { IfOk result (λ distinct. distinct ≡ are_distinct [] shapes.now) }
 {
-    shapes.iter().any(|s| s.mid.as_str() == mid.as_str())
-}
-
-fn are_distinct(shapes: &[Shape]) -> bool
-    ensures { result ≡ are_distinct [] shapes.now }
-{
-    for place in 0..shapes.len() {
-        if has_mid(&shapes[..place], shapes[place].mid) {
-            return false;
+    let mut names = BTreeSet::new(alloc);
+    for shape in shapes {
+        if !names.insert(shape.mid.as_str())? {
+            return Ok(false);
         }
     }
-    true
+    Ok(true)
 }
 
 /// Whether sections may be exchanged behind the agreed ones: there is one, no name stands twice, and they begin with
 /// the agreed ones.
-pub fn may_follow(agreed: &[Shape], wanted: &[Shape]) -> bool
-    ensures { result ≡ may_follow agreed.now wanted.now }
+///
+/// # Errors
+///
+/// `AllocError` where memory runs out.
+pub fn may_follow(alloc: Global, agreed: &[Shape], wanted: &[Shape]) -> Result<bool, AllocError>
+    ensures { IfOk result (λ follows. follows ≡ may_follow agreed.now wanted.now) }
 {
-    !wanted.is_empty() && are_distinct(wanted) && begins_with(wanted, agreed)
+    Ok(!wanted.is_empty() && are_distinct(alloc, wanted)? && begins_with(wanted, agreed))
 }

@@ -20,7 +20,7 @@ impl Exchange {
     {
         let agreed = agreed_shapes(self.alloc, self.agreed.as_slice())?;
         let wanted = wanted_shapes(self.alloc, sections)?;
-        Ok(may_follow(agreed.as_slice(), wanted.as_slice()))
+        may_follow(self.alloc, agreed.as_slice(), wanted.as_slice())
     }
 
     /// Why an offer of these sections is refused.

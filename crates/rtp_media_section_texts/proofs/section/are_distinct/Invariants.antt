@@ -1,8 +1,11 @@
 use Rattle.std.proofs.Common.{◌≡◌, [], drop, take}
 use Rattle.rtp_media_section_texts.specs.Sections.{are_distinct}
+use Rattle.rtp_media_section_texts.proofs.SectionNames.{IsSetOf}
 use Rattle.rtp_media_section_texts.proofs.section.are_distinct.Given as goal
 
--- the names so far are distinct: the rest decides
-abbrev pub invariant-loop-place : goal.invariant-loop-place
-invariant-loop-place l =
-    are_distinct (take l.place l.shapes) (drop l.place l.shapes) ≡ are_distinct [] l.shapes
+-- the names so far are distinct, and in the set: the rest decides
+abbrev pub invariant-loop-shape : goal.invariant-loop-shape
+invariant-loop-shape l = record {
+  set : IsSetOf (take l.shape-index l.shapes) l.names;
+  rest : are_distinct (take l.shape-index l.shapes) (drop l.shape-index l.shapes) ≡ are_distinct [] l.shapes;
+}
