@@ -11,8 +11,8 @@ use Rattle.sdp_formats_format.specs.Formats.{format_of}
 use Rattle.sdp_formats_rows.specs.Rows.{Row, new_row}
 use Rattle.rtp_media_section_texts.specs.Answered.{flow}
 use Rattle.rtp_media_section_texts.specs.Sections.{Wanted}
-use Rattle.rtp_media_exchange_steps.specs.declared.errors.EndError.{EndError}
-use Rattle.rtp_media_exchange_steps.specs.declared.errors.EndError.TheVariants as end_error
+use Rattle.rtp_media_exchange_steps.specs.declared.EndError.{EndError}
+use Rattle.rtp_media_exchange_steps.specs.declared.EndError.TheVariants as end_error
 use Rattle.rtp_media_exchange_texts.specs.Exchanges.{bare_session}
 use Rattle.rtp_media_exchange_steps.specs.Refusals.{refusal_of_new}
 use Rattle.rtp_media_open_streams.specs.Ends.{new_end}

@@ -2,8 +2,8 @@
 use Rattle.std.specs.Prelude.{ℕ, ◌≡◌, ◌⊎◌, List, Option, Some, None, is_some, if◌then◌else◌}
 use Rattle.std.specs.Str.{is_utf8}
 use Rattle.sdp_formats_sessions.specs.PrintedSession.{sdp_text}
-use Rattle.rtp_media_exchange_steps.specs.declared.errors.ExchangeError.{ExchangeError}
-use Rattle.rtp_media_exchange_steps.specs.declared.errors.ExchangeError.TheVariants as error
+use Rattle.rtp_media_exchange_steps.specs.declared.ExchangeError.{ExchangeError}
+use Rattle.rtp_media_exchange_steps.specs.declared.ExchangeError.TheVariants as error
 use Rattle.rtp_media_exchange_texts.specs.Exchanges.{with_offer}
 use Rattle.rtp_media_exchange_texts.specs.Offers.{Accepts, Answers, offer_of}
 use Rattle.rtp_media_exchange_steps.specs.Refusals.{MayAccept, MayAnswer, Refuses, RefusesAccept, RefusesAnswer}

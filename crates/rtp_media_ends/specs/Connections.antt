@@ -6,7 +6,7 @@ use Rattle.rtp_media_exchange_texts.specs.Offers.{Accepts, Answers, offer_of}
 use Rattle.rtp_media_exchange_steps.specs.Refusals.{MayAccept, MayAnswer, Refuses, RefusesAccept, RefusesAnswer}
 use Rattle.rtp_media_exchange_steps.specs.Refusals.{refusal_of_offer}
 use Rattle.rtp_media_exchange_texts.specs.Says.{AgreesOnText}
-use Rattle.rtp_media_exchange_steps.specs.declared.errors.ExchangeError.{ExchangeError}
+use Rattle.rtp_media_exchange_steps.specs.declared.ExchangeError.{ExchangeError}
 use Rattle.rtp_media_sections.specs.Agreement.{Agreed, agreed_map_of, agreed_row_of}
 use Rattle.rtp_media_section_texts.specs.Sections.{Wanted}
 use Rattle.rtp_media_open_streams.specs.Ends.{EndState, with_exchange}

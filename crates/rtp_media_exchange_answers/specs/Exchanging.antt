@@ -11,8 +11,8 @@ use Rattle.sdp_formats_format.specs.declared.format.FormatParams.{FormatParams}
 use Rattle.sdp_formats_format.specs.Formats.{format_of, no_format}
 use Rattle.sdp_formats_rows.specs.Rows.{Row, new_row}
 use Rattle.sdp_formats_sessions.specs.PrintedSession.{sdp_text}
-use Rattle.rtp_media_exchange_steps.specs.declared.errors.EndError.{EndError}
-use Rattle.rtp_media_exchange_steps.specs.declared.errors.ExchangeError.{ExchangeError}
+use Rattle.rtp_media_exchange_steps.specs.declared.EndError.{EndError}
+use Rattle.rtp_media_exchange_steps.specs.declared.ExchangeError.{ExchangeError}
 use Rattle.rtp_media_exchange_texts.specs.Exchanges.{bare_session, with_offer}
 use Rattle.rtp_media_exchange_texts.specs.Offers.{Accepts, Answers, offer_of}
 use Rattle.rtp_media_exchange_steps.specs.Refusals.{MayAccept, MayAnswer, Refuses, RefusesAccept, RefusesAnswer}

@@ -2,7 +2,7 @@
 use Rattle.std.proofs.Common.{◌≡◌, ℕ, List, Some, inl, inr, arith}
 use Rattle.rtp_media_exchange_texts.specs.Exchanges.{bare_session}
 use Rattle.rtp_media_exchange_steps.specs.Refusals.{RefusesNew, refusal_of_new}
-use Rattle.rtp_media_exchange_steps.specs.declared.errors.EndError.{EndError}
+use Rattle.rtp_media_exchange_errors.specs.declared.errors.EndError.{EndError}
 use Rattle.rtp_wire.specs.Values.{Numbering}
 use Rattle.sdp_formats_rows.specs.Rows.{Row}
 use Rattle.sdp_formats_writable.specs.Writable.{IsWritableSession}

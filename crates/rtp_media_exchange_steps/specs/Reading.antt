@@ -3,8 +3,8 @@ use Rattle.std.specs.Prelude.{◌≡◌, ℕ, List}
 use Rattle.std.specs.String.{string_bytes}
 use Rattle.sdp_formats.specs.Texts.{SaysNothing, text_fault}
 use Rattle.sdp_formats.specs.declared.error.SdpError.TheVariants as sdp
-use Rattle.rtp_media_exchange_steps.specs.declared.errors.ExchangeError.{ExchangeError}
-use Rattle.rtp_media_exchange_steps.specs.declared.errors.ExchangeError.TheVariants as error
+use Rattle.rtp_media_exchange_errors.specs.declared.errors.ExchangeError.{ExchangeError}
+use Rattle.rtp_media_exchange_errors.specs.declared.errors.ExchangeError.TheVariants as error
 
 -- The text says nothing and is unreadable, and the error says so in these words; or memory runs out.
 abbrev pub IsUnread : List ℕ → ExchangeError → Type 0

@@ -19,10 +19,10 @@ use Rattle.rtp_media_exchange_texts.specs.Exchanges.{Exchanged}
 use Rattle.rtp_media_exchange_texts.specs.Offers.{answer_of}
 use Rattle.rtp_media_exchange_steps.specs.Reading.{IsUnread}
 use Rattle.rtp_media_exchange_texts.specs.Says.{Says}
-use Rattle.rtp_media_exchange_steps.specs.declared.errors.EndError.{EndError}
-use Rattle.rtp_media_exchange_steps.specs.declared.errors.EndError.TheVariants as fault
-use Rattle.rtp_media_exchange_steps.specs.declared.errors.ExchangeError.{ExchangeError}
-use Rattle.rtp_media_exchange_steps.specs.declared.errors.ExchangeError.TheVariants as error
+use Rattle.rtp_media_exchange_errors.specs.declared.errors.EndError.{EndError}
+use Rattle.rtp_media_exchange_errors.specs.declared.errors.EndError.TheVariants as fault
+use Rattle.rtp_media_exchange_errors.specs.declared.errors.ExchangeError.{ExchangeError}
+use Rattle.rtp_media_exchange_errors.specs.declared.errors.ExchangeError.TheVariants as error
 use Rattle.rtp_media_sections.specs.Agreement.{shape_of_agreed}
 use Rattle.rtp_media_section_texts.specs.Answered.{answered_rows}
 use Rattle.rtp_media_section_texts.specs.Extensions.{is_writable_map}

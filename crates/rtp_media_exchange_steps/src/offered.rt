@@ -4,7 +4,7 @@ ghost use Rattle.std.specs.Prelude.{◌≡◌, ◌≢◌, None, Some, find, IfOk
 ghost use Rattle.std.specs.List.{list_any};
 ghost use Rattle.rtp_media_exchange_steps.specs.Refusals.{is_nameless, lists_none, no_row_of};
 
-use crate::errors::ExchangeError;
+use rtp_media_exchange_errors::ExchangeError;
 use rtp_media_section_texts::SectionSpec;
 use sdp_formats_config::CodecConfig;
 use std::alloc::AllocError;

@@ -7,7 +7,7 @@ ghost use Rattle.rtp_media_exchange_texts.specs.Says.{SaysOnly};
 ghost use Rattle.rtp_media_section_texts.specs.Lines.{shape_of_line};
 ghost use Rattle.rtp_media_section_texts.specs.Sections.{correspond, shape_of};
 
-use crate::errors::ExchangeError;
+use rtp_media_exchange_errors::ExchangeError;
 use rtp_media_exchange_texts::corresponds;
 use rtp_media_section_texts::SectionSpec;
 use sdp_formats::{Sdp, SdpError, sdp_parser};

@@ -9,7 +9,7 @@ ghost use Rattle.rtp_media_exchange_steps.specs.Refusals.{is_locked_at, round_re
 ghost use Rattle.rtp_media_section_texts.specs.Answered.{answered_rows};
 ghost use Rattle.rtp_media_section_texts.specs.Lines.{is_media_line, remote_of};
 
-use crate::errors::ExchangeError;
+use rtp_media_exchange_errors::ExchangeError;
 use rtp_media_section_texts::answered_rows;
 use rtp_media_sections::{is_media_line, mid_of, remote_of};
 use sdp_formats_config::{CodecConfig, RemoteSection, RoundError};

@@ -6,11 +6,11 @@ use Rattle.rtp_media_exchange_steps.specs.Refusals.{CannotSay, IsReason, MayAcce
 use Rattle.rtp_media_exchange_steps.specs.Refusals.{RefusesAnswer}
 use Rattle.rtp_media_exchange_steps.specs.Refusals.{refusal_of_accept, refusal_of_answer}
 use Rattle.rtp_media_exchange_texts.specs.Says.{SaysOnly}
-use Rattle.rtp_media_exchange_steps.specs.declared.errors.ExchangeError.{ExchangeError}
-use Rattle.rtp_media_exchange_steps.specs.declared.errors.ExchangeError.TheVariants.{Unreadable, OutOfTurn, NotMedia}
-use Rattle.rtp_media_exchange_steps.specs.declared.errors.ExchangeError.TheVariants.{NotCorresponding, Round}
-use Rattle.rtp_media_exchange_steps.specs.declared.errors.ExchangeError.TheVariants.{NoCommonRow}
-use Rattle.rtp_media_exchange_steps.specs.declared.errors.ExchangeError.TheVariants.{NotWritable, Memory}
+use Rattle.rtp_media_exchange_steps.specs.declared.ExchangeError.{ExchangeError}
+use Rattle.rtp_media_exchange_steps.specs.declared.ExchangeError.TheVariants.{Unreadable, OutOfTurn, NotMedia}
+use Rattle.rtp_media_exchange_steps.specs.declared.ExchangeError.TheVariants.{NotCorresponding, Round}
+use Rattle.rtp_media_exchange_steps.specs.declared.ExchangeError.TheVariants.{NoCommonRow}
+use Rattle.rtp_media_exchange_steps.specs.declared.ExchangeError.TheVariants.{NotWritable, Memory}
 use Rattle.rtp_media_section_texts.specs.Sections.{Wanted}
 
 -- an answer that can't be written

@@ -14,15 +14,16 @@ use Rattle.sdp_formats_rows.specs.Rows.{Row}
 use Rattle.sdp_formats_row_attributes.specs.Attributes.{attributes_of}
 use Rattle.sdp_formats_section_rows.specs.SectionRows.{rows_of}
 use Rattle.sdp_formats_sources.specs.Sources.{sources_of}
-use Rattle.sdp_formats_types.specs.Media.{is_rtp}
+use Rattle.sdp_formats_types.specs.MediaTypes.{is_rtp}
 use Rattle.sdp_formats_types.specs.Lookups.{direction_of, first_of, mid_in}
-use Rattle.sdp_formats_types.specs.Media.{direction_attribute, is_media}
+use Rattle.sdp_formats_types.specs.Media.{direction_attribute}
+use Rattle.sdp_formats_types.specs.MediaTypes.{is_media}
 use Rattle.sdp_formats_types.specs.declared.media.MediaAttribute.{MediaAttribute}
 use Rattle.sdp_formats_types.specs.declared.media.MediaAttribute.TheVariants as line
 use Rattle.sdp_formats_types.specs.declared.media.MediaLine.{MediaLine}
-use Rattle.sdp_formats_types.specs.declared.media.MediaType as typ
-use Rattle.sdp_formats_types.specs.declared.media.MediaType.TheVariants.{Audio, Video}
-use Rattle.sdp_formats_types.specs.declared.media.Proto.TheVariants.{Srtp}
+use Rattle.sdp_formats_types.specs.declared.MediaType as typ
+use Rattle.sdp_formats_types.specs.declared.MediaType.TheVariants.{Audio, Video}
+use Rattle.sdp_formats_types.specs.declared.Proto.TheVariants.{Srtp}
 use Rattle.rtp_media_section_texts.specs.Extensions.{extmap_lines}
 use Rattle.rtp_media_section_texts.specs.Sections.{Wanted}
 use Rattle.rtp_media_section_texts.specs.declared.section.Shape.{Shape}

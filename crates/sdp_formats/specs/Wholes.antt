@@ -4,7 +4,7 @@ use Rattle.std.specs.Cmp.Lexicographic.{pointwise}
 use Rattle.std.specs.Option.{option_flatten, option_map}
 use Rattle.sdp_formats_lookups.specs.Sections.{sctp_init_in}
 use Rattle.sdp_formats_types.specs.Lookups.{first_of}
-use Rattle.sdp_formats_types.specs.Media.{is_channel}
+use Rattle.sdp_formats_types.specs.MediaTypes.{is_channel}
 use Rattle.sdp_formats_types.specs.declared.MediaLine.{MediaLine}
 use Rattle.sdp_formats_sessions.specs.declared.Sdp.{Sdp}
 use Rattle.sdp_formats_sessions.specs.declared.SessionAttribute.{SessionAttribute}

@@ -4,7 +4,8 @@ use Rattle.std.specs.Prelude.{count_by, nat_lt, length, if◌then◌else◌}
 use Rattle.std.specs.List.{list_all, list_any}
 use Rattle.sdp_formats_params.specs.declared.FormatParam.{FormatParam}
 use Rattle.sdp_formats_params.specs.declared.FormatParam.TheVariants.{Apt}
-use Rattle.sdp_formats_types.specs.Media.{is_direction, is_mid, is_rtp}
+use Rattle.sdp_formats_types.specs.Media.{is_direction, is_mid}
+use Rattle.sdp_formats_types.specs.MediaTypes.{is_rtp}
 use Rattle.sdp_formats_faults.specs.declared.faults.Counted.{Counted}
 use Rattle.sdp_formats_faults.specs.declared.faults.Counted.TheVariants as counted
 use Rattle.sdp_formats_faults.specs.declared.faults.Inconsistency.{Inconsistency}

@@ -10,7 +10,8 @@ use Rattle.sdp_formats_faults.specs.Consistency.{apt_differs, apts_agree, apts_a
 use Rattle.sdp_formats_faults.specs.Consistency.{attribute_agrees, fault_of, gives_apt, is_consistent}
 use Rattle.sdp_formats_faults.specs.Consistency.{is_direction_of, is_mapped, is_setup, is_static, maps_type}
 use Rattle.sdp_formats_faults.specs.Consistency.{values_agree}
-use Rattle.sdp_formats_types.specs.Media.{is_mid, is_rtp}
+use Rattle.sdp_formats_types.specs.Media.{is_mid}
+use Rattle.sdp_formats_types.specs.MediaTypes.{is_rtp}
 use Rattle.sdp_formats_faults.specs.declared.Inconsistency.{Inconsistency}
 use Rattle.sdp_formats_faults.specs.declared.Inconsistency.TheVariants as fault
 use Rattle.sdp_formats_types.specs.declared.media.MediaAttribute.{MediaAttribute}

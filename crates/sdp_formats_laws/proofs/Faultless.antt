@@ -10,7 +10,7 @@ use Rattle.sdp_formats_faults.specs.declared.Inconsistency.{Inconsistency}
 use Rattle.sdp_formats_faults.specs.declared.Inconsistency.TheVariants as fault
 use Rattle.sdp_formats_round.specs.Types.{listed}
 use Rattle.sdp_formats_rows.specs.Rows.{Row}
-use Rattle.sdp_formats_types.specs.Media.{is_rtp}
+use Rattle.sdp_formats_types.specs.MediaTypes.{is_rtp}
 use Rattle.sdp_formats_types.specs.declared.media.MediaLine.{MediaLine}
 use Rattle.sdp_formats_laws.specs.PrintableTexts.{IsEach}
 use Rattle.sdp_formats_laws.specs.Rows.{EachListsRows, HasOneOfEach, ListedRowsHaveNoFault}

@@ -17,17 +17,18 @@ use Rattle.sdp_formats_reader.specs.Grammar.{SectionSays}
 use Rattle.sdp_formats_media_lines.specs.AsRead.{as_read}
 use Rattle.sdp_formats_forms.specs.Line.{LineOf}
 use Rattle.sdp_formats_forms.specs.Step.{Stops, Begins, Many, Perhaps}
-use Rattle.sdp_formats_types.specs.Media.{proto_text, is_channel}
+use Rattle.sdp_formats_types.specs.MediaTypes.{proto_text, is_channel}
 use Rattle.sdp_formats_values.specs.Printed.{line_end, is_empty}
 use Rattle.sdp_formats_values.specs.Lists.{bandwidth_text, numbers_text, named}
 use Rattle.sdp_formats_types.specs.PrintedMedia.{section_text, attribute_text, attributes_text}
-use Rattle.sdp_formats_types.specs.PrintedMedia.{formats_text, media_type_text}
+use Rattle.sdp_formats_types.specs.PrintedMedia.{formats_text}
+use Rattle.sdp_formats_types.specs.MediaTypes.{media_type_text}
 use Rattle.sdp_formats_types.specs.declared.media.MediaAttribute.{MediaAttribute}
 use Rattle.sdp_formats_types.specs.declared.media.MediaLine.{MediaLine}
-use Rattle.sdp_formats_types.specs.declared.media.MediaType.{MediaType}
-use Rattle.sdp_formats_types.specs.declared.media.MediaType.TheVariants.{Audio, Video, Application, Unknown}
-use Rattle.sdp_formats_types.specs.declared.media.Proto.{Proto}
-use Rattle.sdp_formats_types.specs.declared.media.Proto.TheVariants.{Srtp, Sctp}
+use Rattle.sdp_formats_types.specs.declared.MediaType.{MediaType}
+use Rattle.sdp_formats_types.specs.declared.MediaType.TheVariants.{Audio, Video, Application, Unknown}
+use Rattle.sdp_formats_types.specs.declared.Proto.{Proto}
+use Rattle.sdp_formats_types.specs.declared.Proto.TheVariants.{Srtp, Sctp}
 use Rattle.sdp_formats_types.specs.declared.Bandwidth.{Bandwidth}
 use Rattle.sdp_formats_laws.proofs.Heads.{bandwidth, bandwidth-exact, connection, connection-exact, formats_read}
 use Rattle.sdp_formats_laws.proofs.Printed.{IsPrintedAs, named_line, named_by, printed_line, lacks}

@@ -10,8 +10,8 @@ use Rattle.sdp_formats_types.specs.declared.media.MediaAttribute.{MediaAttribute
 use Rattle.sdp_formats_session_lines.specs.Heads.{media_type}
 use Rattle.sdp_formats_faults.specs.Consistency.{is_consistent}
 use Rattle.sdp_formats_types.specs.declared.media.MediaLine.{MediaLine}
-use Rattle.sdp_formats_types.specs.declared.media.MediaType.{MediaType}
-use Rattle.sdp_formats_types.specs.declared.media.MediaType.TheVariants.{Audio, Video, Application, Unknown}
+use Rattle.sdp_formats_types.specs.declared.MediaType.{MediaType}
+use Rattle.sdp_formats_types.specs.declared.MediaType.TheVariants.{Audio, Video, Application, Unknown}
 use Rattle.sdp_formats_types.specs.declared.Bandwidth.{Bandwidth}
 use Rattle.sdp_formats_sessions.specs.declared.session.Sdp.{Sdp}
 use Rattle.sdp_formats_sessions.specs.declared.session.Session.{Session}

@@ -15,13 +15,14 @@ use Rattle.sdp_formats_section_rows.specs.SectionRows.{rows_of}
 use Rattle.sdp_formats_faults.specs.Consistency.{is_consistent, is_direction_of, is_setup}
 use Rattle.sdp_formats_writable.specs.Writable.{ComesBack, IsWritableSession}
 use Rattle.sdp_formats_types.specs.Lookups.{direction_of, first_of, mid_in, msid_in, setup_in}
-use Rattle.sdp_formats_types.specs.Media.{is_mid, is_rtp}
+use Rattle.sdp_formats_types.specs.Media.{is_mid}
+use Rattle.sdp_formats_types.specs.MediaTypes.{is_rtp}
 use Rattle.sdp_formats_sessions.specs.PrintedSession.{sdp_text}
 use Rattle.sdp_formats_types.specs.declared.media.MediaAttribute.{MediaAttribute}
 use Rattle.sdp_formats_types.specs.declared.media.MediaAttribute.TheVariants.{Fmtp}
 use Rattle.sdp_formats_types.specs.declared.media.MediaLine.{MediaLine}
-use Rattle.sdp_formats_types.specs.declared.media.MediaType.{MediaType}
-use Rattle.sdp_formats_types.specs.declared.media.MediaType.TheVariants.{Audio, Video}
+use Rattle.sdp_formats_types.specs.declared.MediaType.{MediaType}
+use Rattle.sdp_formats_types.specs.declared.MediaType.TheVariants.{Audio, Video}
 use Rattle.sdp_formats_sessions.specs.declared.session.Sdp.{Sdp}
 use Rattle.sdp_formats_sessions.specs.declared.session.SessionAttribute.{SessionAttribute}
 

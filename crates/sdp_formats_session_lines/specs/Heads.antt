@@ -7,10 +7,10 @@ use Rattle.sdp_formats_forms.specs.Form.{Form, told, any_text, some_text, made, 
 use Rattle.sdp_formats_forms.specs.Numbers.{has_digits_alone, number_below}
 use Rattle.sdp_formats_forms.specs.Split.{behind, parts}
 use Rattle.sdp_formats_session_lines.specs.declared.media.MediaHead.{MediaHead}
-use Rattle.sdp_formats_types.specs.declared.media.MediaType.{MediaType}
-use Rattle.sdp_formats_types.specs.declared.media.MediaType.TheVariants.{Audio, Video, Application, Unknown}
-use Rattle.sdp_formats_types.specs.declared.media.Proto.{Proto}
-use Rattle.sdp_formats_types.specs.declared.media.Proto.TheVariants.{Srtp, Sctp}
+use Rattle.sdp_formats_types.specs.declared.MediaType.{MediaType}
+use Rattle.sdp_formats_types.specs.declared.MediaType.TheVariants.{Audio, Video, Application, Unknown}
+use Rattle.sdp_formats_types.specs.declared.Proto.{Proto}
+use Rattle.sdp_formats_types.specs.declared.Proto.TheVariants.{Srtp, Sctp}
 
 -- Digits alone, no plus.
 abbrev pub session_number : List ℕ → Option ℕ

@@ -7,7 +7,7 @@ use Rattle.payload_core_base.specs.Codecs.{codec_name}
 use Rattle.sdp_formats_params.specs.Printed.{param_text}
 use Rattle.sdp_formats_params.specs.declared.FormatParam.{FormatParam}
 use Rattle.rtp_wire.specs.Kinds.{uri_of}
-use Rattle.sdp_formats_types.specs.Media.{proto_text, is_channel}
+use Rattle.sdp_formats_values.specs.MediaTypes.{is_channel, media_type_text, proto_text}
 use Rattle.sdp_formats_values.specs.Setup.{setup_text}
 use Rattle.sdp_formats_values.specs.Printed.{line_end, fingerprint_text, way_text, simulcast_text}
 use Rattle.sdp_formats_values.specs.Printed.{is_empty, msid_text}
@@ -16,8 +16,6 @@ use Rattle.sdp_formats_values.specs.Lists.{rid_restrictions_text}
 use Rattle.sdp_formats_values.specs.PrintedCandidates.{candidate_text}
 use Rattle.sdp_formats_types.specs.declared.media.RtpMap as map_of
 use Rattle.sdp_formats_types.specs.declared.media.MediaLine.{MediaLine}
-use Rattle.sdp_formats_types.specs.declared.media.MediaType.{MediaType}
-use Rattle.sdp_formats_types.specs.declared.media.MediaType.TheVariants as media
 use Rattle.sdp_formats_types.specs.declared.media.MediaAttribute.{MediaAttribute}
 use Rattle.sdp_formats_types.specs.declared.media.MediaAttribute.TheVariants.{Rtcp, IceUfrag, IcePwd, IceOptions}
 use Rattle.sdp_formats_types.specs.declared.media.MediaAttribute.TheVariants.{Fingerprint, Setup, Mid, SctpPort}
@@ -27,12 +25,6 @@ use Rattle.sdp_formats_types.specs.declared.media.MediaAttribute.TheVariants.{Ms
 use Rattle.sdp_formats_types.specs.declared.media.MediaAttribute.TheVariants.{Candidate, EndOfCandidates, RtpMap}
 use Rattle.sdp_formats_types.specs.declared.media.MediaAttribute.TheVariants.{RtcpFb, Fmtp, Rid, Simulcast, SsrcGroup}
 use Rattle.sdp_formats_types.specs.declared.media.MediaAttribute.TheVariants.{Ssrc, Unused}
-
-abbrev pub media_type_text : MediaType → List ℕ
-media_type_text media.Audio = codes "audio"
-media_type_text media.Video = codes "video"
-media_type_text media.Application = codes "application"
-media_type_text (media.Unknown word) = word
 
 -- `CODEC/RATE[/CHANNELS]` (RFC 8866 6.6)
 abbrev pub rtp_map_text : map_of.RtpMap → List ℕ

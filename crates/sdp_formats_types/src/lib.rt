@@ -4,15 +4,14 @@
 mod direction;
 mod lookups;
 mod media;
-mod media_type;
 mod printed;
 mod section;
 
-pub use media::{MediaAttribute, MediaLine, MediaType, Proto, RtpMap};
+pub use media::{MediaAttribute, MediaLine, RtpMap};
 pub use sdp_formats_forms::{Listed, Text};
 pub use sdp_formats_params::{FormatParam, H265ProfileTierLevel, H266ProfileTierLevel, Pair};
 pub use sdp_formats_values::{
-    Bandwidth, Candidate, CandidateKind, Fingerprint, IceCreds, Mids, Msid, Protocol,
-    RelatedAddress, RestrictionId, RidDirection, Setup, Simulcast, SimulcastGroups, SimulcastLayer,
-    SsrcInfo, TcpType, Words, write_both, write_value,
+    Bandwidth, Candidate, CandidateKind, Fingerprint, IceCreds, MediaType, Mids, Msid, Proto,
+    Protocol, RelatedAddress, RestrictionId, RidDirection, Setup, Simulcast, SimulcastGroups,
+    SimulcastLayer, SsrcInfo, TcpType, Words, write_both, write_value,
 };

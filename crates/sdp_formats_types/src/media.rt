@@ -1,81 +1,19 @@
 //! Media sections.
 
 ghost use Rattle.std.specs.Prelude.{◌≡◌, [], None, false};
-ghost use Rattle.sdp_formats_types.specs.Media.{proto_text};
-ghost use Rattle.sdp_formats_types.specs.declared.media.MediaType.TheVariants.{Audio};
-ghost use Rattle.sdp_formats_types.specs.declared.media.Proto.TheVariants.{Srtp};
+ghost use Rattle.sdp_formats_values.specs.declared.media_type.MediaType.TheVariants.{Audio};
+ghost use Rattle.sdp_formats_values.specs.declared.media_type.Proto.TheVariants.{Srtp};
 
 use payload_core_base::Codec;
 use rtp_wire::{Extension, Frequency, Mid, Pt, Ssrc};
 use sdp_formats_forms::{Listed, Maybe, Text};
 use sdp_formats_params::{FormatParam, Pair};
 use sdp_formats_values::{
-    Bandwidth, Candidate, Fingerprint, Msid, RestrictionId, RidDirection, Setup, Simulcast,
+    Bandwidth, Candidate, Fingerprint, MediaType, Msid, Proto, RestrictionId, RidDirection, Setup,
+    Simulcast,
 };
 use std::alloc::Global;
 use std::fmt;
-
-/// What a section carries (RFC 8866 5.14).
-#[derive(Debug, Default, Drop)]
-pub enum MediaType {
-    /// `audio`
-    #[default]
-    Audio,
-    /// `video`
-    Video,
-    /// `application`: a channel of data.
-    Application,
-    /// Anything else.
-    Unknown(Text),
-}
-
-/// How a section is carried (RFC 8866 5.14).
-#[derive(Clone, Copy, Debug, PartialEq, Eq, Default, Drop)]
-pub enum Proto {
-    /// `UDP/TLS/RTP/SAVPF`: RTP with feedback, encrypted (RFC 5764 8).
-    #[default]
-    Srtp,
-    /// `UDP/DTLS/SCTP`: data channels (RFC 8841 4).
-    Sctp,
-}
-
-impl Proto {
-    /// The word for it in a session text.
-    pub fn proto_line(&self) -> &'static str
-        ensures { result.now ≡ proto_text self.now }
-    {
-        match self {
-            Proto::Srtp => "UDP/TLS/RTP/SAVPF",
-            Proto::Sctp => "UDP/DTLS/SCTP",
-        }
-    }
-}
-
-impl fmt::Display for Proto {
-    ghost use Rattle.std.specs.Prelude.{Some};
-
-    ghost output = { λ p. Some (proto_text p) };
-
-    fn fmt<W: fmt::Write>(&self, f: &mut fmt::Formatter<W>) -> fmt::Result {
-        f.write_str(self.proto_line())
-    }
-}
-
-impl fmt::Display for MediaType {
-    ghost use Rattle.std.specs.Prelude.{Some};
-    ghost use Rattle.sdp_formats_types.specs.PrintedMedia.{media_type_text};
-
-    ghost output = { λ t. Some (media_type_text t) };
-
-    fn fmt<W: fmt::Write>(&self, f: &mut fmt::Formatter<W>) -> fmt::Result {
-        match self {
-            MediaType::Audio => f.write_str("audio"),
-            MediaType::Video => f.write_str("video"),
-            MediaType::Application => f.write_str("application"),
-            MediaType::Unknown(word) => write!(f, "{word}"),
-        }
-    }
-}
 
 /// A section: its line `m=` and what follows up to the next (RFC 8866 5.14).
 #[derive(Debug)]

@@ -3,3 +3,4 @@ pub mod Streams
 pub mod PrintedCandidates
 pub mod Printed
 pub mod Lists
+pub mod MediaTypes

@@ -2,7 +2,7 @@
 
 use rtp_wire::{Mid, Pt};
 use sdp_formats::SdpError;
-use sdp_formats_config::RoundError;
+use sdp_formats_round::RoundError;
 use std::alloc::AllocError;
 use thiserror::Error;
 
@@ -27,7 +27,7 @@ pub enum EndError {
 
 impl From<AllocError> for EndError {
     ghost use Rattle.std.specs.Prelude.{◌≡◌};
-    ghost use Rattle.rtp_media_exchange_steps.specs.declared.errors.EndError.TheVariants.{Memory};
+    ghost use Rattle.rtp_media_exchange_errors.specs.declared.errors.EndError.TheVariants.{Memory};
 
     ghost from_gives = { λ _ e. e ≡ Memory };
 
@@ -68,7 +68,7 @@ pub enum ExchangeError {
 
 impl From<AllocError> for ExchangeError {
     ghost use Rattle.std.specs.Prelude.{◌≡◌};
-    ghost use Rattle.rtp_media_exchange_steps.specs.declared.errors.ExchangeError.TheVariants.{Memory};
+    ghost use Rattle.rtp_media_exchange_errors.specs.declared.errors.ExchangeError.TheVariants.{Memory};
 
     ghost from_gives = { λ _ e. e ≡ Memory };
 
