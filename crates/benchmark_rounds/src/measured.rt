@@ -1,5 +1,10 @@
 //! What is done over and over, and the time that it takes.
 
+ghost use Rattle.std.specs.Prelude.{ℕ, IfOk, OnErr};
+ghost use Rattle.benchmark_rounds.specs.declared.tally.Tally.{Tally};
+ghost use Rattle.benchmark_rounds.specs.Rounds.{Repeats, RepeatsOrKeeps};
+ghost use Rattle.benchmark_rounds.specs.Tallies.{empty_tally};
+
 use crate::tally::Tally;
 use std::alloc::Global;
 use std::io;
@@ -7,12 +12,18 @@ use std::time::Instant;
 
 /// What is done over and over.
 pub trait Round {
+    /// What one round counts: the state before it, its number, the tally before it, and the state and tally after it.
+    ghost counts: { Self → ℕ → Tally → Self → Tally → Type 0 };
+
     /// Does it once more, and counts what came of it. Where something fails, less is counted.
-    fn round(&mut self, alloc: Global, number: u32, tally: &mut Tally);
+    fn round(&mut self, alloc: Global, number: u32, tally: &mut Tally)
+        ensures { counts self.old number tally.old self.new tally.new };
 }
 
 /// Does it so often; answers what was counted.
-pub fn repeat<R: Round>(alloc: Global, round: &mut R, rounds: u32) -> Tally {
+pub fn repeat<R: Round>(alloc: Global, round: &mut R, rounds: u32) -> Tally
+    ensures { Repeats R.counts rounds round.old empty_tally round.new result }
+{
     let mut tally = Tally::new();
     for number in 0..rounds {
         round.round(alloc, number, &mut tally);
@@ -27,7 +38,10 @@ pub fn measure<R: Round>(
     way: &str,
     round: &mut R,
     rounds: u32,
-) -> io::Result<Tally> {
+) -> io::Result<Tally>
+    ensures counted { IfOk result (λ tally. Repeats R.counts rounds round.old empty_tally round.new tally) }
+    ensures failed { OnErr result (RepeatsOrKeeps R.counts rounds round.old round.new) }
+{
     let start = Instant::now(rt)?;
     let tally = repeat(rt.alloc(), round, rounds);
     put_times(rt, what, way, start.elapsed(rt)?.as_micros(), tally)?;

@@ -1,7 +1,5 @@
 //! Payloads counted.
 
-ghost use Rattle.std.specs.Prelude.{◌≡◌, ◌+◌, ◌%◌, ◌^◌};
-
 /// How many payloads there were, and how many bytes; both wrap at 64 bits.
 #[derive(Clone, Copy, Drop)]
 pub struct Tally {
@@ -10,10 +8,12 @@ pub struct Tally {
 }
 
 impl Tally {
+    ghost use Rattle.std.specs.Prelude.{◌≡◌};
+    ghost use Rattle.benchmark_rounds.specs.Tallies.{empty_tally, tally_with};
+
     /// Nothing was counted.
     pub fn new() -> Self
-        ensures packets { result.packets ≡ 0 }
-        ensures bytes { result.bytes ≡ 0 }
+        ensures { result ≡ empty_tally }
     {
         Tally {
             packets: 0,
@@ -23,8 +23,7 @@ impl Tally {
 
     /// Counts so many payloads, which have so many bytes together.
     pub fn add(&mut self, packets: usize, bytes: usize)
-        ensures packets { self.new.packets ≡ (self.old.packets + packets) % 2 ^ 64 }
-        ensures bytes { self.new.bytes ≡ (self.old.bytes + bytes) % 2 ^ 64 }
+        ensures { self.new ≡ tally_with self.old packets bytes }
     {
         self.packets = self.packets.wrapping_add(packets as u64);
         self.bytes = self.bytes.wrapping_add(bytes as u64);

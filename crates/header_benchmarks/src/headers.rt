@@ -1,7 +1,5 @@
 //! Headers written and read, beside plain copies, and numbers that a replay window takes.
 
-ghost use Rattle.std.specs.Prelude.{◌≤◌, ◌<◌};
-
 use benchmark_rounds::{Round, Tally, measure};
 use rtp_wire::{
     Extension, ExtensionMap, ExtensionValues, Mid, RtpHeader, SeqNo, SeqNoWindow, VideoOrientation,
@@ -23,6 +21,9 @@ struct Extensions {
 }
 
 impl Extensions {
+    ghost use Rattle.std.specs.Prelude.{◌≡◌};
+    ghost use Rattle.header_benchmarks.specs.Extensions.{header_with};
+
     /// No extension.
     fn none() -> Self {
         Extensions {
@@ -49,8 +50,7 @@ impl Extensions {
 
     /// A header of this number with these extensions.
     fn header(&self, number: u16) -> RtpHeader
-        ensures payload_type { result.payload_type < 128 }
-        ensures csrc_count { result.csrc_count ≤ 15 }
+        ensures { result ≡ header_with self.now number }
     {
         RtpHeader {
             sequence_number: number,
@@ -70,6 +70,10 @@ struct Writing<'a> {
 
 /// Counts headers, and their bytes.
 impl Round for Writing<'_> {
+    ghost use Rattle.header_benchmarks.specs.Rounds.{CountsWritten};
+
+    ghost counts = { CountsWritten };
+
     fn round(&mut self, _alloc: Global, number: u32, tally: &mut Tally) {
         let header = self.extensions.header((number % 65536) as u16);
         let map = &self.extensions.map;
@@ -88,6 +92,10 @@ struct Reading<'a> {
 
 /// Counts headers, and their bytes.
 impl Round for Reading<'_> {
+    ghost use Rattle.header_benchmarks.specs.Rounds.{CountsRead};
+
+    ghost counts = { CountsRead };
+
     fn round(&mut self, _alloc: Global, _number: u32, tally: &mut Tally) {
         if let Some(header) = RtpHeader::parse(&self.buf, self.map) {
             tally.add(1, header.header_len);
@@ -103,6 +111,10 @@ struct Copying {
 
 /// Counts copies, and how many of the written bytes are the greatest.
 impl Round for Copying {
+    ghost use Rattle.header_benchmarks.specs.Rounds.{CountsCopied};
+
+    ghost counts = { CountsCopied };
+
     fn round(&mut self, _alloc: Global, number: u32, tally: &mut Tally) {
         self.to[..COPIED].copy_from_slice(&[255; COPIED]);
         self.to[2] = (number % 256) as u8;
@@ -118,6 +130,10 @@ struct Updating {
 
 /// Counts the numbers that it takes.
 impl Round for Updating {
+    ghost use Rattle.header_benchmarks.specs.Rounds.{CountsAccepted};
+
+    ghost counts = { CountsAccepted };
+
     fn round(&mut self, _alloc: Global, number: u32, tally: &mut Tally) {
         let number = SeqNo::from((number - number % 3 / 2) as u64);
         if self.window.accepts(number) {

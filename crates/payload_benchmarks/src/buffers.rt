@@ -1,7 +1,9 @@
 //! Packets through a buffer.
 
+ghost use Rattle.payload_benchmarks.specs.Buffered.{CountsUnit};
+
 use benchmark_rounds::{Round, Tally};
-use payload_core::{Depacketizer, DepacketizingBuffer, RtpMeta};
+use payload_core::{Depacketized, Depacketizer, DepacketizingBuffer, PacketError, RtpMeta};
 use rtp_wire::{ExtensionValues, SeqNo};
 use std::alloc::Global;
 
@@ -15,24 +17,35 @@ pub(crate) struct Buffering<'a, D> {
     pub(crate) step: u64,
 }
 
+/// Counts a unit and its bytes, if one was handed out.
+fn count_unit(popped: Result<Option<Depacketized>, PacketError>, tally: &mut Tally)
+    ensures { CountsUnit popped tally.old tally.new }
+{
+    match popped {
+        Ok(Some(unit)) => tally.add(1, unit.bytes.len()),
+        Ok(None) => {}
+        Err(_) => {}
+    }
+}
+
 /// Counts units, and their bytes.
 impl<D: Depacketizer + Drop> Round for Buffering<'_, D> {
+    ghost use Rattle.payload_benchmarks.specs.Buffered.{CountsPopped};
+
+    ghost counts = { CountsPopped D.format D.fragment };
+
     fn round(&mut self, _alloc: Global, time: u32, tally: &mut Tally) {
         let packets = self.packets;
-        let mut behind = packets.len();
-        for packet in packets {
-            behind = behind.saturating_sub(1);
+        for (i, packet) in packets.iter().enumerate() {
             let meta = RtpMeta {
                 seq_no: SeqNo::from(self.number),
                 time,
-                marker: behind == 0,
+                marker: i + 1 == packets.len(),
                 ext_vals: ExtensionValues::absent(),
             };
             let _ = self.buffer.push(meta, packet);
             self.number = self.number.saturating_add(self.step);
         }
-        if let Ok(Some(unit)) = self.buffer.pop() {
-            tally.add(1, unit.bytes.len());
-        }
+        count_unit(self.buffer.pop(), tally);
     }
 }

@@ -26,7 +26,12 @@ struct Sending<'a, P> {
 
 /// Counts what the line took.
 impl<P: Packetizer> Round for Sending<'_, P> {
+    ghost use Rattle.payload_benchmarks.specs.Sent.{CountsSent};
+
+    ghost counts = { CountsSent P.packing P.sender };
+
     fn round(&mut self, alloc: Global, number: u32, tally: &mut Tally) {
+        self.line.tally = *tally;
         let line = &mut self.line;
         let _ = self
             .payloader
@@ -45,6 +50,10 @@ struct Reading<'a, D> {
 
 /// Counts packets, and the bytes that they give.
 impl<D: Depacketizer> Round for Reading<'_, D> {
+    ghost use Rattle.payload_benchmarks.specs.Read.{CountsRead};
+
+    ghost counts = { CountsRead D.format D.fragment };
+
     fn round(&mut self, _alloc: Global, _number: u32, tally: &mut Tally) {
         self.out.clear();
         let packets = self.packets;
@@ -69,6 +78,10 @@ pub(crate) struct Copying<'a> {
 
 /// Counts packets, and the bytes that they give.
 impl Round for Copying<'_> {
+    ghost use Rattle.payload_benchmarks.specs.Read.{CountsCopied};
+
+    ghost counts = { CountsCopied };
+
     fn round(&mut self, _alloc: Global, _number: u32, tally: &mut Tally) {
         self.fragment.clear();
         self.out.clear();
@@ -89,6 +102,10 @@ pub(crate) struct SendingRed {
 
 /// Counts packets, and their bytes.
 impl Round for SendingRed {
+    ghost use Rattle.payload_benchmarks.specs.Redundant.{CountsWrapped};
+
+    ghost counts = { CountsWrapped };
+
     fn round(&mut self, _alloc: Global, time: u32, tally: &mut Tally) {
         if let Ok(packet) = self.sender.wrap(111, &[7; 120], time, LIMIT) {
             tally.add(1, packet.len());
@@ -104,6 +121,10 @@ pub(crate) struct ReadingRed<'a> {
 
 /// Counts payloads, and their bytes.
 impl Round for ReadingRed<'_> {
+    ghost use Rattle.payload_benchmarks.specs.Redundant.{CountsPayloads};
+
+    ghost counts = { CountsPayloads };
+
     fn round(&mut self, _alloc: Global, _number: u32, tally: &mut Tally) {
         if let Ok(blocks) = RedDecoder::decode(self.packet) {
             for block in blocks {

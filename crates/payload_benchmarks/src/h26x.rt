@@ -30,6 +30,10 @@ struct Cutting<'a> {
 
 /// Counts units, and their bytes.
 impl Round for Cutting<'_> {
+    ghost use Rattle.payload_benchmarks.specs.Cut.{CountsUnits};
+
+    ghost counts = { CountsUnits };
+
     fn round(&mut self, _alloc: Global, _number: u32, tally: &mut Tally) {
         for unit in nal_units(self.sample) {
             tally.add(1, unit.len());

@@ -29,7 +29,8 @@ impl Line {
 impl PacketSink for Line {
     ghost use Rattle.std.proofs.Common.{ap, sym, ◌∙◌};
     ghost use Rattle.std.proofs.lemmas.List.{replicate-append-replicate};
-    ghost use Rattle.std.specs.Prelude.{◌≡◌, ◌+◌, replicate};
+    ghost use Rattle.std.specs.Prelude.{replicate};
+    ghost use Rattle.payload_benchmarks.specs.Lines.{Refuses, Takes};
 
     ghost Entry = { Unit {0} };
 
@@ -40,15 +41,15 @@ impl PacketSink for Line {
     ghost one_more = { λ old o new taken. (
       tt,
       tt,
-      ap (λ n. replicate n tt) taken
+      ap (λ n. replicate n tt) taken.one_more
           ∙ sym (replicate-append-replicate old.tally.packets 1 tt),
     ) };
 
-    ghost none_more = { λ old new kept. ap (λ n. replicate n tt) kept };
+    ghost none_more = { λ old new kept. ap (λ l. replicate l.tally.packets tt) kept.same };
 
-    ghost takes = { λ old o new. new.tally.packets ≡ old.tally.packets + 1 };
+    ghost takes = { Takes };
 
-    ghost keeps = { λ old new. new.tally.packets ≡ old.tally.packets };
+    ghost keeps = { Refuses };
 
     fn send(
         &mut self,

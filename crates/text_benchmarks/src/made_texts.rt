@@ -19,6 +19,10 @@ struct Reading<'a> {
 
 /// Counts rows, and the bytes of the text with each section.
 impl Round for Reading<'_> {
+    ghost use Rattle.text_benchmarks.specs.MadeTexts.{CountsRows};
+
+    ghost counts = { CountsRows };
+
     fn round(&mut self, alloc: Global, _number: u32, tally: &mut Tally) {
         if let Ok((sdp, _)) = sdp_parser(alloc, self.text) {
             for section in sdp.media_lines.as_slice() {

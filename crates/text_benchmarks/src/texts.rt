@@ -3,6 +3,7 @@
 use benchmark_rounds::{Round, Tally, measure};
 use sdp_formats::{Sdp, sdp_parser};
 use std::alloc::Global;
+use std::fmt::Display;
 use std::io;
 
 /// How often each thing is done.
@@ -16,6 +17,10 @@ struct Reading<'a> {
 
 /// Counts sections, and the bytes of the text.
 impl Round for Reading<'_> {
+    ghost use Rattle.text_benchmarks.specs.Texts.{CountsSections};
+
+    ghost counts = { CountsSections };
+
     fn round(&mut self, alloc: Global, _number: u32, tally: &mut Tally) {
         if let Ok((sdp, _)) = sdp_parser(alloc, self.text) {
             tally.add(sdp.media_lines.as_slice().len(), self.text.len());
@@ -31,6 +36,10 @@ struct Printing<'a> {
 
 /// Counts texts, and their bytes.
 impl Round for Printing<'_> {
+    ghost use Rattle.text_benchmarks.specs.Texts.{CountsPrinted};
+
+    ghost counts = { CountsPrinted ⟦<Sdp as Display>⟧.output };
+
     fn round(&mut self, alloc: Global, _number: u32, tally: &mut Tally) {
         if let Ok(text) = self.sdp.to_sdp_string(alloc) {
             tally.add(1, text.len());

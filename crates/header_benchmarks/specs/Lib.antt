@@ -1,0 +1,2 @@
+pub mod Extensions
+pub mod Rounds

@@ -1,0 +1,4 @@
+mod BufferLemmas
+mod LineLemmas
+mod ReadLemmas
+mod SentLemmas

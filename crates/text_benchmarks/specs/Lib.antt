@@ -1,0 +1,2 @@
+pub mod MadeTexts
+pub mod Texts
