@@ -67,8 +67,8 @@ impl<D: Depacketizer> Round for Reading<'_, D> {
     }
 }
 
-/// The simplest reader, beside which others are measured: what the packets hold is put into one fragment, and that into
-/// what is handed out.
+/// The simplest reader, beside which others are measured: what the packets hold is put into one fragment, and that
+/// into what is handed out.
 #[derive(Drop)]
 pub(crate) struct Copying<'a> {
     pub(crate) packets: &'a [Vec<u8>],
