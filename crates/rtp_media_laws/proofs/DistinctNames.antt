@@ -6,7 +6,7 @@ use Rattle.std.proofs.lemmas.Bool.{and_from, and_parts, both_ways, false_from_ne
 use Rattle.std.proofs.lemmas.List.{map-append}
 use Rattle.std.proofs.lemmas.Slice.Eq.{bytes_eq-Decides}
 use Rattle.rtp_media_section_texts.specs.Sections.{are_distinct, has_mid}
-use Rattle.rtp_media_section_texts.specs.declared.section.Shape.{Shape}
+use Rattle.rtp_media_section_texts.specs.declared.Shape.{Shape}
 use Rattle.sdp_formats_value_laws.proofs.AnyMember.{any_in, in_any}
 use Rattle.sdp_formats_value_laws.proofs.EachOnce.{distinct_more}
 use Rattle.sdp_formats_value_laws.specs.EachOnce.{AreDistinct, IsIn}

@@ -1,7 +1,7 @@
 -- The names of sections (RFC 5888 4).
 use Rattle.std.specs.Prelude.{◌≡◌, ◌↔◌, ℕ, true, List, [], map}
 use Rattle.rtp_media_section_texts.specs.Sections.{are_distinct}
-use Rattle.rtp_media_section_texts.specs.declared.section.Shape.{Shape}
+use Rattle.rtp_media_section_texts.specs.declared.Shape.{Shape}
 use Rattle.sdp_formats_value_laws.specs.EachOnce.{AreDistinct}
 
 abbrev pub names_of : List Shape → List (List ℕ)

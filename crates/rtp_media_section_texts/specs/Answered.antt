@@ -14,7 +14,7 @@ use Rattle.sdp_formats_types.specs.Lookups.{direction_of}
 use Rattle.sdp_formats_types.specs.declared.media.MediaLine.{MediaLine}
 use Rattle.rtp_media_section_texts.specs.Extensions.{answered_extmaps}
 use Rattle.rtp_media_section_texts.specs.Lines.{section_line}
-use Rattle.rtp_media_section_texts.specs.Sections.{Wanted}
+use Rattle.rtp_media_section_specs.specs.Sections.{Wanted}
 
 -- The direction that sends and receives so.
 abbrev pub flow : Bool → Bool → Direction

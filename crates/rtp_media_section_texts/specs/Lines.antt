@@ -25,8 +25,8 @@ use Rattle.sdp_formats_types.specs.declared.MediaType as typ
 use Rattle.sdp_formats_types.specs.declared.MediaType.TheVariants.{Audio, Video}
 use Rattle.sdp_formats_types.specs.declared.Proto.TheVariants.{Srtp}
 use Rattle.rtp_media_section_texts.specs.Extensions.{extmap_lines}
-use Rattle.rtp_media_section_texts.specs.Sections.{Wanted}
-use Rattle.rtp_media_section_texts.specs.declared.section.Shape.{Shape}
+use Rattle.rtp_media_section_specs.specs.Sections.{Wanted}
+use Rattle.rtp_media_section_specs.specs.declared.section.Shape.{Shape}
 
 abbrev pub type_of : kind.MediaKind → typ.MediaType
 type_of kinds.Audio = Audio

@@ -8,7 +8,7 @@ ghost use Rattle.rtp_media_section_texts.specs.Answered.{locked_row, row_answeri
 
 use crate::extmaps::answered_extmaps;
 use crate::lines::section_line;
-use crate::section::SectionSpec;
+use rtp_media_section_specs::SectionSpec;
 use rtp_wire::{Direction, ExtensionMap, Pt};
 use sdp_formats_config::CodecConfig;
 use sdp_formats_rows::PayloadParams;

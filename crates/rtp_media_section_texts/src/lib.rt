@@ -4,9 +4,8 @@
 mod answered;
 mod extmaps;
 mod lines;
-mod section;
 
 pub use answered::{answered_rows, answered_section, flow};
 pub use extmaps::{is_writable, map_of_lines};
 pub use lines::{offered_section, types_listed};
-pub use section::{SectionSpec, Shape, begins_with, correspond, may_follow};
+pub use rtp_media_section_specs::{SectionSpec, Shape, begins_with, correspond, may_follow};

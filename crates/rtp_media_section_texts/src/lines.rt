@@ -6,8 +6,8 @@ ghost use Rattle.rtp_media_section_texts.specs.Lines.{offered_section, row_lines
 ghost use Rattle.rtp_media_section_texts.specs.Lines.{types_listed};
 
 use crate::extmaps::extmap_lines;
-use crate::section::SectionSpec;
 use payload_core_base::MediaKind;
+use rtp_media_section_specs::SectionSpec;
 use rtp_wire::{Direction, ExtensionMap, Pt, Ssrc};
 use sdp_formats_config::CodecConfig;
 use sdp_formats_row_attributes::as_media_attrs;

@@ -22,7 +22,7 @@ use Rattle.sdp_formats_types.specs.declared.media.MediaLine.{MediaLine}
 use Rattle.rtp_media_section_texts.specs.Extensions.{map_of_lines}
 use Rattle.rtp_media_section_texts.specs.Lines.{kind_of, mid_of, ssrcs_of}
 use Rattle.rtp_media_section_texts.specs.Sections.{Wanted}
-use Rattle.rtp_media_section_texts.specs.declared.section.Shape.{Shape}
+use Rattle.rtp_media_section_texts.specs.declared.Shape.{Shape}
 
 -- A section as an exchange left it: its name and kind, the answer's rows and its map of header extensions, the SSRCs
 -- that this end and the other one name in it, and whether it flows from this end and to it.

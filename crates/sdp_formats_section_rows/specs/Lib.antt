@@ -1,4 +1,4 @@
-pub mod Given
+pub use Rattle.sdp_formats_given_formats.specs.Given
 pub mod Mapped
 pub mod SectionRows
 pub mod TypeLists

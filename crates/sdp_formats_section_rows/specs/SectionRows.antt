@@ -13,7 +13,7 @@ use Rattle.sdp_formats_rows.specs.Rows.{Row}
 use Rattle.sdp_formats_format.specs.declared.format.FormatParams.{FormatParams}
 use Rattle.sdp_formats_types.specs.declared.media.MediaAttribute.{MediaAttribute}
 use Rattle.sdp_formats_types.specs.declared.media.MediaAttribute.TheVariants.{Fmtp, RtcpFb}
-use Rattle.sdp_formats_section_rows.specs.Given.{format_given}
+use Rattle.sdp_formats_given_formats.specs.Given.{format_given}
 use Rattle.sdp_formats_row_attributes.specs.Maps.{spec_of_map}
 use Rattle.sdp_formats_section_rows.specs.Mapped.{is_mapped_to, mappings}
 use Rattle.sdp_formats_section_rows.specs.declared.mapped.Mapping.{Mapping}

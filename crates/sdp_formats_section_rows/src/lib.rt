@@ -2,14 +2,13 @@
 #![tactic(auto)]
 
 mod facts;
-mod given;
 mod links;
 mod mapped;
 mod section_rows;
 mod type_lists;
 
-pub use given::{format_given, with_param};
 pub use sdp_formats_format::to_format_param;
+pub use sdp_formats_given_formats::{format_given, with_param};
 pub use sdp_formats_rows::{CodecSpec, FormatParams, PayloadParams};
 pub use sdp_formats_types::{MediaAttribute, MediaLine, RtpMap};
 pub use section_rows::rtp_params;

@@ -4,20 +4,23 @@ ghost use Rattle.std.specs.Prelude.{◌≡◌, fold};
 ghost use Rattle.payload_core_base.specs.declared.codec.Codec.TheVariants.{AmrWb};
 ghost use Rattle.std.specs.List.{list_any};
 ghost use Rattle.sdp_formats_rows.specs.Codecs.{is_codec};
-ghost use Rattle.sdp_formats_section_rows.specs.Given.{events_after, events_in, format_given, is_declined};
-ghost use Rattle.sdp_formats_section_rows.specs.Given.{is_unsupported, most_of, with_attribute, with_events};
-ghost use Rattle.sdp_formats_section_rows.specs.Given.{range_in, with_codec_param, with_line, with_param};
-ghost use Rattle.sdp_formats_section_rows.specs.declared.given.Events.TheVariants.{Default};
+ghost use Rattle.sdp_formats_given_formats.specs.Given.{events_after, events_in, format_given, is_declined};
+ghost use Rattle.sdp_formats_given_formats.specs.Given.{is_unsupported, most_of, with_attribute, with_events};
+ghost use Rattle.sdp_formats_given_formats.specs.Given.{range_in, with_codec_param, with_line, with_param};
+ghost use Rattle.sdp_formats_given_formats.specs.declared.given.Events.TheVariants.{Default};
 
 use rtp_wire::Pt;
 use sdp_formats_rows::{Codec, FormatParams};
 use sdp_formats_types::{FormatParam, MediaAttribute};
 
-// What was given so far of a range of telephone events.
+/// What the lines of a payload type give of telephone events (RFC 4733 2.4.1).
 #[derive(Clone, Copy, Drop)]
-pub(crate) enum Events {
+pub enum Events {
+    /// No line is of the type.
     Default,
+    /// One line is, and it holds one range, up to this event.
     UpTo(u8),
+    /// Other lines are.
     Declined,
 }
 
@@ -94,7 +97,8 @@ fn with_attribute(pt: Pt, format: FormatParams, attribute: &MediaAttribute) -> F
     }
 }
 
-pub(crate) fn with_attributes(
+/// The format with the parameters of each line of a payload type, one after the other (RFC 8866 6.15).
+pub fn with_attributes(
     pt: Pt,
     mut format: FormatParams,
     attributes: &[MediaAttribute],
@@ -162,7 +166,8 @@ fn events_after(pt: Pt, events: Events, attribute: &MediaAttribute) -> Events
     }
 }
 
-pub(crate) fn events_given(pt: Pt, attributes: &[MediaAttribute]) -> Events
+/// What a section's lines give of telephone events under a payload type.
+pub fn events_given(pt: Pt, attributes: &[MediaAttribute]) -> Events
     ensures { result ≡ fold (events_after pt) Default attributes.now }
 {
     let mut events = Events::Default;
@@ -172,7 +177,8 @@ pub(crate) fn events_given(pt: Pt, attributes: &[MediaAttribute]) -> Events
     events
 }
 
-pub(crate) fn most_of(events: Events) -> Option<u8>
+/// The highest event: 16 where no line is of the type; None where the lines decline.
+pub fn most_of(events: Events) -> Option<u8>
     ensures { result ≡ most_of events }
 {
     match events {
@@ -182,7 +188,8 @@ pub(crate) fn most_of(events: Events) -> Option<u8>
     }
 }
 
-pub(crate) fn with_events(most: u8) -> FormatParams
+/// The format of telephone events up to this one.
+pub fn with_events(most: u8) -> FormatParams
     ensures { result ≡ with_events most }
 {
     FormatParams {
@@ -191,7 +198,8 @@ pub(crate) fn with_events(most: u8) -> FormatParams
     }
 }
 
-pub(crate) fn any_declined(pt: Pt, attributes: &[MediaAttribute]) -> bool
+/// Whether a line of a payload type has a parameter of AMR-WB that isn't supported (RFC 4867 8.2).
+pub fn any_declined(pt: Pt, attributes: &[MediaAttribute]) -> bool
     ensures { result ≡ list_any (is_declined pt) attributes.now }
 {
     attributes
@@ -199,7 +207,8 @@ pub(crate) fn any_declined(pt: Pt, attributes: &[MediaAttribute]) -> bool
         .any(|attribute| is_declined(pt, attribute))
 }
 
-pub(crate) fn is_amr_wb(codec: Codec) -> bool
+/// Whether it is AMR-WB.
+pub fn is_amr_wb(codec: Codec) -> bool
     ensures { result ≡ is_codec codec AmrWb }
 {
     codec == Codec::AmrWb

@@ -2,8 +2,8 @@
 
 ghost use Rattle.std.specs.Prelude.{◌≡◌, ◌≤◌, [], length, zip, IfOk};
 ghost use Rattle.std.specs.List.{list_all};
-ghost use Rattle.rtp_media_section_texts.specs.Sections.{shape_of, same_kind, same_shape, begins_with, correspond};
-ghost use Rattle.rtp_media_section_texts.specs.Sections.{are_distinct, may_follow};
+ghost use Rattle.rtp_media_section_specs.specs.Sections.{shape_of, same_kind, same_shape, begins_with, correspond};
+ghost use Rattle.rtp_media_section_specs.specs.Sections.{are_distinct, may_follow};
 
 use payload_core_base::MediaKind;
 use rtp_wire::{Direction, Mid, Ssrc};
@@ -25,7 +25,7 @@ pub struct SectionSpec {
 }
 
 impl Model for SectionSpec {
-    ghost use Rattle.rtp_media_section_texts.specs.Sections.{Wanted};
+    ghost use Rattle.rtp_media_section_specs.specs.Sections.{Wanted};
 
     ghost Value = { Wanted };
 

@@ -1,5 +1,5 @@
-use Rattle.rtp_media_section_texts.proofs.SectionNames.{one_more, still_distinct}
-use Rattle.rtp_media_section_texts.proofs.section.are_distinct.Goals as goal
+use Rattle.rtp_media_section_specs.proofs.SectionNames.{one_more, still_distinct}
+use Rattle.rtp_media_section_specs.proofs.section.are_distinct.Goals as goal
 
 pub loop-shape-preserved : goal.loop-shape-preserved
 loop-shape-preserved c = record {

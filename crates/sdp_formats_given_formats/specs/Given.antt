@@ -20,8 +20,8 @@ use Rattle.sdp_formats_format.specs.Formats.{no_format}
 use Rattle.sdp_formats_format.specs.declared.format.FormatParams.{FormatParams}
 use Rattle.sdp_formats_types.specs.declared.media.MediaAttribute.{MediaAttribute}
 use Rattle.sdp_formats_types.specs.declared.media.MediaAttribute.TheVariants.{Fmtp}
-use Rattle.sdp_formats_section_rows.specs.declared.given.Events.{Events}
-use Rattle.sdp_formats_section_rows.specs.declared.given.Events.TheVariants as events
+use Rattle.sdp_formats_given_formats.specs.declared.given.Events.{Events}
+use Rattle.sdp_formats_given_formats.specs.declared.given.Events.TheVariants as events
 
 -- The format of a codec with one more parameter. A range of telephone events is none of another codec's.
 abbrev pub with_codec_param : FormatParams → FormatParam → FormatParams

@@ -6,7 +6,7 @@ use Rattle.payload_core_base.specs.Codecs.{is_audio_kind, is_video_kind}
 use Rattle.payload_core_base.specs.declared.codec.MediaKind.{MediaKind}
 use Rattle.payload_core_base.specs.declared.codec.MediaKind.TheVariants.{Audio, Video}
 use Rattle.rtp_wire.specs.declared.Direction.{Direction}
-use Rattle.rtp_media_section_texts.specs.declared.section.Shape.{Shape}
+use Rattle.rtp_media_section_specs.specs.declared.section.Shape.{Shape}
 
 -- A section as an end wants it: its name, its kind, which way media shall flow, and the SSRCs that the end sends under.
 pub record Wanted : Type 0 where

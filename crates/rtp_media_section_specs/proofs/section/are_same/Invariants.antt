@@ -1,8 +1,8 @@
 use Rattle.std.proofs.Common.{◌≡◌, drop}
 use Rattle.std.specs.Prelude.{zip}
 use Rattle.std.specs.List.{list_all}
-use Rattle.rtp_media_section_texts.specs.Sections.{same_shape}
-use Rattle.rtp_media_section_texts.proofs.section.are_same.Given as goal
+use Rattle.rtp_media_section_specs.specs.Sections.{same_shape}
+use Rattle.rtp_media_section_specs.proofs.section.are_same.Given as goal
 
 -- the sections so far are the same: the rest decides
 abbrev pub invariant-loop-place : goal.invariant-loop-place

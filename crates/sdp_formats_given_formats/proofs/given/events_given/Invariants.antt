@@ -1,8 +1,8 @@
 use Rattle.std.proofs.Common.{◌≡◌, drop}
 use Rattle.std.specs.Prelude.{fold}
-use Rattle.sdp_formats_section_rows.specs.Given.{events_after}
-use Rattle.sdp_formats_section_rows.specs.declared.given.Events.TheVariants.{Default}
-use Rattle.sdp_formats_section_rows.proofs.given.events_given.Given as goal
+use Rattle.sdp_formats_given_formats.specs.Given.{events_after}
+use Rattle.sdp_formats_given_formats.specs.declared.given.Events.TheVariants.{Default}
+use Rattle.sdp_formats_given_formats.proofs.given.events_given.Given as goal
 
 -- what was given so far with the attributes that are left
 abbrev pub invariant-loop-attribute : goal.invariant-loop-attribute

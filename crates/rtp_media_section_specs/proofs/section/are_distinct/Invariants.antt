@@ -1,7 +1,7 @@
 use Rattle.std.proofs.Common.{◌≡◌, [], drop, take}
-use Rattle.rtp_media_section_texts.specs.Sections.{are_distinct}
-use Rattle.rtp_media_section_texts.proofs.SectionNames.{IsSetOf}
-use Rattle.rtp_media_section_texts.proofs.section.are_distinct.Given as goal
+use Rattle.rtp_media_section_specs.specs.Sections.{are_distinct}
+use Rattle.rtp_media_section_specs.proofs.SectionNames.{IsSetOf}
+use Rattle.rtp_media_section_specs.proofs.section.are_distinct.Given as goal
 
 -- the names so far are distinct, and in the set: the rest decides
 abbrev pub invariant-loop-shape : goal.invariant-loop-shape

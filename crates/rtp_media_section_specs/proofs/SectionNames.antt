@@ -10,8 +10,8 @@ use Rattle.std.specs.Cmp.Lexicographic.{slice_cmp, texts_ties}
 use Rattle.std.specs.List.{list_any}
 use Rattle.std.specs.Str.{bytes_eq}
 use Rattle.std.specs.declared.cmp.Ordering.{Ordering}
-use Rattle.rtp_media_section_texts.specs.Sections.{are_distinct, has_mid}
-use Rattle.rtp_media_section_texts.specs.declared.section.Shape.{Shape}
+use Rattle.rtp_media_section_specs.specs.Sections.{are_distinct, has_mid}
+use Rattle.rtp_media_section_specs.specs.declared.section.Shape.{Shape}
 
 abbrev pub name_cmp : Bor (List ℕ) → Bor (List ℕ) → Ordering
 name_cmp a b = slice_cmp nat_cmp a.now b.now
