@@ -5,7 +5,7 @@ use Rattle.std.specs.Prelude.{◌∷◌, ◌++◌, Option, Some, None, is_some, 
 use Rattle.std.specs.List.{list_any}
 use Rattle.std.specs.Option.{option_map}
 use Rattle.rtp_wire.specs.Values.{Numbering}
-use Rattle.sdp_formats_config.specs.Matching.{rows_of_kind}
+use Rattle.sdp_formats_config.specs.Kinds.{rows_of_kind}
 use Rattle.sdp_formats_round.specs.Laws.{rounds}
 use Rattle.sdp_formats_round.specs.declared.error.RoundError.{RoundError}
 use Rattle.sdp_formats_rows.specs.Plain.{is_plain}

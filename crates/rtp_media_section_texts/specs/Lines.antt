@@ -7,7 +7,7 @@ use Rattle.payload_core_base.specs.declared.codec.MediaKind.TheVariants as kinds
 use Rattle.rtp_wire.specs.declared.Direction.{Direction}
 use Rattle.rtp_wire.specs.Direction.{receives}
 use Rattle.rtp_wire.specs.Values.{Numbering}
-use Rattle.sdp_formats_config.specs.Matching.{rows_of_kind}
+use Rattle.sdp_formats_config.specs.Kinds.{rows_of_kind}
 use Rattle.sdp_formats_round.specs.Laws.{Section}
 use Rattle.sdp_formats_round.specs.Types.{types_of}
 use Rattle.sdp_formats_rows.specs.Rows.{Row}

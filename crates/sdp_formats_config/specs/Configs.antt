@@ -1,18 +1,14 @@
 -- Configs: rows in order.
-use Rattle.std.specs.Prelude.{ℕ, Bool, true, false, not, ◌||◌, ◌==◌, List, [], ◌∷◌, ◌++◌, filter}
+use Rattle.std.specs.Prelude.{ℕ, Bool, true, false, ◌||◌, ◌==◌, List, [], ◌∷◌, ◌++◌, filter}
 use Rattle.std.specs.List.{list_any}
 use Rattle.payload_core_base.specs.declared.codec.Codec.{Codec}
-use Rattle.sdp_formats_rows.specs.Codecs.{is_codec}
+use Rattle.sdp_formats_row_lists.specs.Replaced.{rows_without}
 use Rattle.sdp_formats_rows.specs.Rows.{Row}
 
 -- A config: its rows in order, and the redundancy distances that were set (RFC 2198), none where they weren't.
 pub record Config : Type 0 where
   pub rows : List Row
   pub distances : List ℕ
-
--- The rows of other codecs, in their order.
-abbrev pub rows_without : Codec → List Row → List Row
-rows_without codec rows = filter (λ row. not (is_codec row.spec.codec codec)) rows
 
 -- The rows with those of a codec replaced by these behind all others.
 abbrev pub with_rows : Codec → List Row → Config → Config

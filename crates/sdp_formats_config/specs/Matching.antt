@@ -1,10 +1,5 @@
--- Which rows of a config match, and which are of a kind.
-use Rattle.std.specs.Prelude.{ℕ, Bool, true, false, not, ◌&&◌, ◌||◌, ◌==◌, List, Option, Some, None, filter}
-use Rattle.std.specs.List.{list_any}
-use Rattle.payload_core_base.specs.Codecs.{is_audio_codec, is_tele_codec, is_video_codec}
-use Rattle.payload_core_base.specs.declared.codec.MediaKind.{MediaKind}
-use Rattle.payload_core_base.specs.declared.codec.MediaKind.TheVariants.{Audio, Video}
-use Rattle.sdp_formats_rows.specs.Codecs.{rtp_clock_rate}
+-- Which type a row of the other end is used under.
+use Rattle.std.specs.Prelude.{ℕ, Bool, true, false, Option, Some, None}
 use Rattle.sdp_formats_rows.specs.Rows.{Row}
 
 -- The type under which a row of the other end is used, by the own row that matches it best: its own type where the
@@ -13,23 +8,3 @@ abbrev pub type_for : Bool → Row → Option Row → Option ℕ
 type_for receives remote None = None
 type_for true remote (Some own) = Some remote.pt
 type_for false remote (Some own) = Some own.pt
-
--- Whether an audio row has the clock rate of these telephone events.
-abbrev pub matches_clock : List Row → Row → Bool
-matches_clock rows events =
-    list_any (λ row. is_audio_codec row.spec.codec && rtp_clock_rate row.spec == rtp_clock_rate events.spec) rows
-
--- Whether there are telephone events at the clock rate of an audio row.
-abbrev pub has_events : List Row → Bool
-has_events rows = list_any (λ row. is_tele_codec row.spec.codec && matches_clock rows row) rows
-
--- Whether a row counts for a kind. In a new offer telephone events count at the clock rate of an audio row, if there
--- are such ones.
-unfoldable pub is_of_kind : MediaKind → Bool → List Row → Row → Bool
-is_of_kind Video for_new_offer rows row = is_video_codec row.spec.codec
-is_of_kind Audio for_new_offer rows row =
-    is_audio_codec row.spec.codec
-    || (is_tele_codec row.spec.codec && (not for_new_offer || not (has_events rows) || matches_clock rows row))
-
-abbrev pub rows_of_kind : MediaKind → Bool → List Row → List Row
-rows_of_kind kind for_new_offer rows = filter (is_of_kind kind for_new_offer rows) rows

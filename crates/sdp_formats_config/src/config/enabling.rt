@@ -1,50 +1,20 @@
 //! The default rows of a codec enabled and disabled.
 
-ghost use Rattle.std.specs.Prelude.{◌≡◌, ◌≤◌, [], ◌∷◌, ◌++◌, false, IsOk, OnOk, OnErr, vec_len};
-ghost use Rattle.std.specs.Prelude.{vec_capacity};
+ghost use Rattle.std.specs.Prelude.{◌≡◌, [], ◌∷◌, false, IsOk, OnOk, OnErr};
 ghost use Rattle.payload_core_base.specs.declared.codec.Codec.TheVariants.{Opus, PCMU, PCMA, G722, CN, AmrWb, Vp8};
 ghost use Rattle.payload_core_base.specs.declared.codec.Codec.TheVariants.{Vp9, Av1, H264, H265, H266};
-ghost use Rattle.sdp_formats_rows.specs.Codecs.{is_codec};
-ghost use Rattle.sdp_formats_config.specs.Configs.{rows_without, with_rows, rows_if};
+ghost use Rattle.sdp_formats_config.specs.Configs.{with_rows, rows_if};
 ghost use Rattle.sdp_formats_default_rows.specs.DefaultRows.{opus_row, pcmu_row, pcma_row, g722_row, comfort_noise_row};
 ghost use Rattle.sdp_formats_default_rows.specs.DefaultRows.{amr_wb_row, vp8_row, vp9_rows, av1_row, h264_rows};
 ghost use Rattle.sdp_formats_default_rows.specs.DefaultRows.{h265_default, h266_default};
 
 use super::CodecConfig;
 use sdp_formats_default_rows::rows;
+use sdp_formats_row_lists::{drop_rows, put_rows};
 use sdp_formats_rows::{Codec, PayloadParams};
 use std::alloc::AllocError;
 
 /// Whether both are one codec.
-fn is_same_codec(codec: Codec, other: Codec) -> bool
-    ensures { result ≡ is_codec codec other }
-{
-    codec == other
-}
-
-/// Drops the rows of a codec.
-fn drop_rows(rows: &mut Vec<PayloadParams>, codec: Codec)
-    ensures rows { rows.new.items ≡ rows_without codec rows.old.items }
-    ensures len { vec_len rows.new ≤ vec_len rows.old }
-    ensures capacity { vec_capacity rows.new ≡ vec_capacity rows.old }
-{
-    rows.retain(|row| !is_same_codec(row.spec().codec, codec));
-}
-
-/// Drops the rows of a codec and puts these behind all others; where memory runs out nothing changes.
-fn put_rows(
-    rows: &mut Vec<PayloadParams>,
-    codec: Codec,
-    added: &[PayloadParams],
-) -> Result<(), AllocError>
-    ensures ok { OnOk result (rows.new.items ≡ rows_without codec rows.old.items ++ added.now) }
-    ensures err { OnErr result (rows.new.items ≡ rows.old.items) }
-{
-    rows.reserve(added.len())?;
-    drop_rows(rows, codec);
-    rows.extend_from_slice(added)
-}
-
 impl CodecConfig {
     /// Drops the rows of Opus and, where enabled, adds the default one behind all others: type 111,
     /// 48,000 Hz, two channels, `minptime=10;useinbandfec=1` (RFC 7587 7), with `use_red` under the

@@ -7,64 +7,15 @@ ghost use Rattle.payload_core_base.specs.Codecs.{is_tele_codec};
 ghost use Rattle.rtp_wire.specs.Direction.{receives};
 ghost use Rattle.sdp_formats_round.specs.Best.{best_row};
 ghost use Rattle.sdp_formats_round.specs.Negotiated.{events_of};
-ghost use Rattle.sdp_formats_config.specs.Matching.{has_events, is_of_kind, matches_clock, rows_of_kind, type_for};
+ghost use Rattle.sdp_formats_config.specs.Matching.{type_for};
+ghost use Rattle.sdp_formats_row_lists.specs.Kinds.{rows_of_kind};
 
 use super::CodecConfig;
 use rtp_wire::Direction;
 use sdp_formats_round::best_row;
+use sdp_formats_row_lists::rows_of_kind;
 use sdp_formats_rows::{MediaKind, PayloadParams, Pt};
 use std::alloc::{AllocError, Global};
-
-/// Whether an audio row has the clock rate of these telephone events.
-fn matches_clock(rows: &[PayloadParams], events: &PayloadParams) -> bool
-    ensures { result ≡ matches_clock rows.now events.now }
-{
-    let rate = events.spec().rtp_clock_rate().get();
-    rows.iter().any(|row| row.spec().codec.is_audio() && row.spec().rtp_clock_rate().get() == rate)
-}
-
-fn has_events(rows: &[PayloadParams]) -> bool
-    ensures { result ≡ has_events rows.now }
-{
-    rows.iter().any(|row| row.spec().codec.is_tele() && matches_clock(rows, row))
-}
-
-#[tactic(auto, unfolding(crate::specs::Matching::is_of_kind))]
-fn is_of_kind(
-    kind: MediaKind,
-    for_new_offer: bool,
-    rows: &[PayloadParams],
-    row: &PayloadParams,
-) -> bool
-    ensures { result ≡ is_of_kind kind for_new_offer rows.now row.now }
-{
-    let codec = row.spec().codec;
-    match kind {
-        MediaKind::Video => codec.is_video(),
-        MediaKind::Audio => {
-            codec.is_audio()
-                || codec.is_tele()
-                    && (!for_new_offer || !has_events(rows) || matches_clock(rows, row))
-        }
-    }
-}
-
-fn rows_of_kind(
-    alloc: Global,
-    kind: MediaKind,
-    for_new_offer: bool,
-    rows: &[PayloadParams],
-) -> Result<Vec<PayloadParams>, AllocError>
-    ensures { IfOk result (λ kept. kept.items ≡ rows_of_kind kind for_new_offer rows.now) }
-{
-    let mut kept = Vec::new(alloc);
-    for row in rows {
-        if is_of_kind(kind, for_new_offer, rows, row) {
-            kept.push(*row)?;
-        }
-    }
-    Ok(kept)
-}
 
 impl CodecConfig {
     /// The own row that matches a row best, the last of the greatest score; None where none matches.

@@ -3,7 +3,7 @@ use Rattle.std.proofs.Common.{rules}
 use Rattle.std.proofs.lemmas.Fn.{filter_same}
 use Rattle.std.specs.Prelude.{not}
 use Rattle.sdp_formats_rows.specs.Codecs.{is_codec}
-use Rattle.sdp_formats_config.proofs.config.enabling.drop_rows.Goals as goal
+use Rattle.sdp_formats_row_lists.proofs.replaced.drop_rows.Goals as goal
 
 pub returns-clause-rows : goal.returns-clause-rows
 returns-clause-rows c =

@@ -1,7 +1,7 @@
 use Rattle.std.proofs.Common.{◌≡◌, ◌++◌, drop}
 use Rattle.std.specs.Prelude.{filter}
-use Rattle.sdp_formats_config.specs.Matching.{is_of_kind}
-use Rattle.sdp_formats_config.proofs.config.matching.rows_of_kind.Given as goal
+use Rattle.sdp_formats_row_lists.specs.Kinds.{is_of_kind}
+use Rattle.sdp_formats_row_lists.proofs.kinds.rows_of_kind.Given as goal
 
 -- what was kept so far, and then what is kept of the rest, is what is kept of all
 abbrev pub invariant-loop-row : goal.invariant-loop-row

@@ -1,6 +1,6 @@
 use Rattle.std.proofs.Common.{arith}
 use Rattle.std.proofs.lemmas.Grind.{common_steps}
-use Rattle.sdp_formats_config.proofs.config.matching.rows_of_kind.Goals as goal
+use Rattle.sdp_formats_row_lists.proofs.kinds.rows_of_kind.Goals as goal
 
 pub returns-in_err-push : goal.returns-in_err-push
 returns-in_err-push c = grind (arith, common_steps)
