@@ -19,7 +19,7 @@ use Rattle.h26x_payload_units.specs.declared.layout.Layout.{Layout}
 use Rattle.h26x_payload_units.specs.declared.layout.Layout.TheVariants as layouts
 use Rattle.h26x_payload_h265_h266.specs.Coding.{h265_h266_coding}
 use Rattle.h26x_payload.specs.Dispatch.{FormsKeepUnits, KeepCodecLaw, KeepCodecLawInForms}
-use Rattle.h26x_payload.specs.Codings.{Forms, Settings, coding_in, coding_of, plain_forms}
+use Rattle.h26x_payload_codecs.specs.Codings.{Forms, Settings, coding_in, coding_of, plain_forms}
 
 -- the laws of the codecs
 pub record TheLaws : Type 0 where

@@ -1,7 +1,7 @@
 //! One packetizer over all codecs.
 
-ghost use Rattle.h26x_payload.specs.Codings.{Settings, coding_of, first_sender, first_settings, has_format};
-ghost use Rattle.h26x_payload.specs.Codings.{Forms, coding_in, settings_of, with_prediction, with_zero_id};
+ghost use Rattle.h26x_payload_codecs.specs.Codings.{Settings, coding_of, first_sender, first_settings, has_format};
+ghost use Rattle.h26x_payload_codecs.specs.Codings.{Forms, coding_in, settings_of, with_prediction, with_zero_id};
 ghost use Rattle.std.specs.Prelude.{◌≡◌, ◌<◌, Bool, Contains, IfSome, false, is_some, unwrap_or};
 
 use h26x_payload_h264::H264Packetizer;

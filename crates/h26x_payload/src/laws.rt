@@ -4,8 +4,8 @@ ghost use Rattle.h26x_payload.specs.Dispatch.{FillPackets, FillPacketsInForms, F
 ghost use Rattle.h26x_payload.specs.Dispatch.{KeepCodecLaw, KeepCodecLawInForms, PairKeepsCodecLaw};
 ghost use Rattle.h26x_payload.specs.Dispatch.{PairKeepsCodecLawInForms};
 
-use crate::codec_depacketizer::CodecDepacketizer;
 use crate::codec_packetizer::CodecPacketizer;
+use h26x_payload_codecs::CodecDepacketizer;
 use h26x_payload_h264::h264_law;
 use h26x_payload_h265_h266::h265_h266_law;
 use payload_core_audio::{amr_wb_law, plain_laws, telephone_law};

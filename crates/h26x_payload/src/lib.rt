@@ -3,15 +3,13 @@
 //! buffer.
 #![tactic(auto)]
 
-mod codec_depacketizer;
 mod codec_packetizer;
-mod formats;
 mod laws;
-mod not_boxed;
 
-pub use codec_depacketizer::CodecDepacketizer;
 pub use codec_packetizer::CodecPacketizer;
-pub use formats::has_format;
+pub use h26x_payload_codecs::CodecDepacketizer;
+pub use h26x_payload_codecs::NotBoxed;
+pub use h26x_payload_codecs::has_format;
 pub use h26x_payload_h264::ANNEXB_NALUSTART_CODE;
 pub use h26x_payload_h264::AUD_NALU_TYPE;
 pub use h26x_payload_h264::FILLER_NALU_TYPE;
@@ -72,7 +70,6 @@ pub use h26x_payload_units::nal_units;
 pub use h26x_payload_units::nal_units_law;
 pub use laws::codec_law;
 pub use laws::pair_law;
-pub use not_boxed::NotBoxed;
 pub use payload_core_audio::AmrWbDepacketizer;
 pub use payload_core_audio::AmrWbPacketizer;
 pub use payload_core_audio::ComfortNoiseDepacketizer;

@@ -1,6 +1,6 @@
 //! One depacketizer over all codecs.
 
-ghost use Rattle.h26x_payload.specs.Codings.{Settings, coding_of, first_settings, has_format, settings_of};
+ghost use Rattle.h26x_payload_codecs.specs.Codings.{Settings, coding_of, first_settings, has_format, settings_of};
 ghost use Rattle.std.specs.Prelude.{◌≡◌, Bool, Contains, IfSome, None, false, is_some};
 
 use h26x_payload_h264::H264Depacketizer;
@@ -67,7 +67,7 @@ impl<B: Drop> Drop for CodecDepacketizer<B> {
 }
 
 impl<B: Depacketizer> CodecDepacketizer<B> {
-    ghost use Rattle.h26x_payload.specs.Depacketizers.{codecs_of, format_under, is_set};
+    ghost use Rattle.h26x_payload_codecs.specs.Depacketizers.{codecs_of, format_under, is_set};
 
     /// The depacketizer of a codec with no fragment open, which takes memory from `alloc` for the one that it keeps;
     /// None for Rtx, Red, Null and Unknown.
@@ -138,7 +138,7 @@ impl<B: Depacketizer> CodecDepacketizer<B> {
 }
 
 impl<B: Depacketizer> Depacketizer for CodecDepacketizer<B> {
-    ghost use Rattle.h26x_payload.specs.declared.codec_depacketizer.CodecDepacketizer.{CodecDepacketizer};
+    ghost use Rattle.h26x_payload_codecs.specs.declared.codec_depacketizer.CodecDepacketizer.{CodecDepacketizer};
 
     ghost format = { λ d. elim d [
       | CodecDepacketizer.G711 d ↦ ⟦<G711Depacketizer as Depacketizer>⟧.format d

@@ -8,7 +8,7 @@ use std::alloc::Global;
 pub struct NotBoxed;
 
 impl Packetizer for NotBoxed {
-    ghost use Rattle.h26x_payload.specs.Nothing.{no_packing};
+    ghost use Rattle.h26x_payload_codecs.specs.Nothing.{no_packing};
     ghost use Rattle.payload_core_audio.specs.Plain.{idle_sender};
 
     ghost packing = { λ _. no_packing };
@@ -30,7 +30,7 @@ impl Packetizer for NotBoxed {
 }
 
 impl Depacketizer for NotBoxed {
-    ghost use Rattle.h26x_payload.specs.Nothing.{no_format};
+    ghost use Rattle.h26x_payload_codecs.specs.Nothing.{no_format};
     ghost use Rattle.std.specs.Prelude.{None};
 
     ghost format = { λ _. no_format };

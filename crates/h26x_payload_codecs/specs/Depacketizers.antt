@@ -7,12 +7,12 @@ use Rattle.payload_core_audio.specs.AmrWb.{amr_wb_format}
 use Rattle.payload_core_audio.specs.Telephone.{telephone_format}
 use Rattle.h26x_payload_units.specs.declared.layout.Layout.TheVariants as layouts
 use Rattle.h26x_payload_h265_h266.specs.Reading.{h265_h266_format}
-use Rattle.h26x_payload.specs.Codings.{Settings}
-use Rattle.h26x_payload.specs.declared.codec_depacketizer.CodecDepacketizer.{CodecDepacketizer}
-use Rattle.h26x_payload.specs.declared.codec_depacketizer.CodecDepacketizer.TheVariants.{G711, G722, Opus}
-use Rattle.h26x_payload.specs.declared.codec_depacketizer.CodecDepacketizer.TheVariants.{ComfortNoise, AmrWb}
-use Rattle.h26x_payload.specs.declared.codec_depacketizer.CodecDepacketizer.TheVariants.{Telephone, Vp8, Vp9, Av1}
-use Rattle.h26x_payload.specs.declared.codec_depacketizer.CodecDepacketizer.TheVariants.{H264, H265, H266, Boxed}
+use Rattle.h26x_payload_codecs.specs.Codings.{Settings}
+use Rattle.h26x_payload_codecs.specs.declared.codec_depacketizer.CodecDepacketizer.{CodecDepacketizer}
+use Rattle.h26x_payload_codecs.specs.declared.codec_depacketizer.CodecDepacketizer.TheVariants.{G711, G722, Opus}
+use Rattle.h26x_payload_codecs.specs.declared.codec_depacketizer.CodecDepacketizer.TheVariants.{ComfortNoise, AmrWb}
+use Rattle.h26x_payload_codecs.specs.declared.codec_depacketizer.CodecDepacketizer.TheVariants.{Telephone, Vp8, Vp9, Av1}
+use Rattle.h26x_payload_codecs.specs.declared.codec_depacketizer.CodecDepacketizer.TheVariants.{H264, H265, H266, Boxed}
 
 -- The codecs that a depacketizer is for: one that a caller boxed is for none that is known.
 abbrev pub codecs_of : {B : Type 0} → CodecDepacketizer B → List Codec

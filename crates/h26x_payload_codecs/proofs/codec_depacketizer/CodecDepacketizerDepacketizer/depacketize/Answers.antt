@@ -1,6 +1,6 @@
 use Rattle.std.proofs.Common.{arith}
 use Rattle.std.proofs.lemmas.Grind.{common_steps}
-use Rattle.h26x_payload.proofs.codec_depacketizer.CodecDepacketizerDepacketizer.depacketize.Goals as goal
+use Rattle.h26x_payload_codecs.proofs.codec_depacketizer.CodecDepacketizerDepacketizer.depacketize.Goals as goal
 
 pub returns-in-G711-clause-format : goal.returns-in-G711-clause-format
 returns-in-G711-clause-format g c = grind (arith, common_steps)

@@ -1,7 +1,7 @@
 //! Which codecs have a payload format.
 
 ghost use Rattle.std.specs.Prelude.{◌≡◌};
-ghost use Rattle.h26x_payload.specs.Codings.{has_format};
+ghost use Rattle.h26x_payload_codecs.specs.Codings.{has_format};
 
 use payload_core_base::Codec;
 
