@@ -5,7 +5,7 @@ use Rattle.std.specs.Prelude.{filter, is_none}
 use Rattle.sdp_formats_rows.specs.Rows.{Row}
 use Rattle.payload_core_base.specs.declared.codec.Codec.TheVariants.{AmrWb}
 use Rattle.sdp_formats_rows.specs.Codecs.{is_codec}
-use Rattle.sdp_formats_round.specs.Best.{best_row}
+use Rattle.sdp_formats_matches.specs.Best.{best_row}
 use Rattle.sdp_formats_rows.specs.Scores.{score}
 use Rattle.sdp_formats_round.specs.Types.{locked_types, is_locked_type}
 use Rattle.sdp_formats_round.specs.Turns.{and_then}
@@ -14,7 +14,7 @@ use Rattle.sdp_formats_round.specs.Rounds.{best_open, first_above, unless_above,
 use Rattle.sdp_formats_round.specs.Laws.{is_distinct, Along, Becomes, LockedTypesDistinct, RowsBecome, rounds, Keeps}
 use Rattle.sdp_formats_round.specs.Laws.{KeepsFeedback, LockedRowsKeepTypes}
 use Rattle.sdp_formats_round.proofs.Split.{split_ok, ok_same, turns_along, along_join}
-use Rattle.sdp_formats_round.proofs.Bests.{best_matches, fewer_none}
+use Rattle.sdp_formats_matches.proofs.Bests.{best_matches, fewer_none}
 use Rattle.sdp_formats_round.proofs.Locks.{standing_distinct, standing_same}
 use Rattle.sdp_formats_round.proofs.Matches.{Way, stood, matched, left, way_of, agreed_distinct}
 use Rattle.sdp_formats_round.proofs.Settles.{Moves, moves_types, same_feedback, settled_along}

@@ -5,8 +5,6 @@ pub mod Fresh
 pub mod Locked
 pub mod Locks
 pub mod Matches
-pub mod Bests
-pub mod Greatest
 pub mod Settles
 pub mod Left
 pub mod Suggested

@@ -7,8 +7,8 @@ use Rattle.payload_core_base.specs.Codecs.{is_audio_codec}
 use Rattle.sdp_formats_rows.specs.Rows.{Row}
 use Rattle.sdp_formats_round.specs.declared.claims.Own.{Own}
 use Rattle.sdp_formats_round.specs.declared.claims.Role.TheVariants.{Main, Resend}
-use Rattle.sdp_formats_round.specs.Best.{best_row}
-use Rattle.sdp_formats_round.specs.Negotiated.{negotiated}
+use Rattle.sdp_formats_matches.specs.Best.{best_row}
+use Rattle.sdp_formats_matches.specs.Negotiated.{negotiated}
 use Rattle.sdp_formats_round.specs.Types.{locked_types}
 use Rattle.sdp_formats_round.specs.Turns.{and_then}
 use Rattle.sdp_formats_round.specs.Rounds.{none_given, given, agreed_type, agreed_resend, agreed_red, locked_as}

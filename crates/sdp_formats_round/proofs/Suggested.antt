@@ -7,7 +7,7 @@ use Rattle.std.proofs.lemmas.List.Folds.{list_any-append}
 use Rattle.sdp_formats_rows.specs.Rows.{Row}
 use Rattle.payload_core_base.specs.Codecs.{is_audio_codec}
 use Rattle.sdp_formats_round.specs.declared.claims.Role.TheVariants.{Main}
-use Rattle.sdp_formats_round.specs.Best.{best_row}
+use Rattle.sdp_formats_matches.specs.Best.{best_row}
 use Rattle.sdp_formats_round.specs.Types.{has_type, is_claimed, is_locked_type, locked_types}
 use Rattle.sdp_formats_round.specs.Turns.{and_then, in_turn}
 use Rattle.sdp_formats_round.specs.Rounds.{agreed_red, agreed_resend, agreed_row, agreed_rows, agreed_type, given}

@@ -5,8 +5,8 @@ use Rattle.payload_core_base.specs.declared.codec.Codec.TheVariants.{AmrWb}
 use Rattle.payload_core_base.specs.Codecs.{is_audio_codec}
 use Rattle.sdp_formats_rows.specs.Rows.{Row}
 use Rattle.sdp_formats_rows.specs.Codecs.{is_codec}
-use Rattle.sdp_formats_round.specs.Best.{best_row}
-use Rattle.sdp_formats_round.specs.Negotiated.{negotiated}
+use Rattle.sdp_formats_matches.specs.Best.{best_row}
+use Rattle.sdp_formats_matches.specs.Negotiated.{negotiated}
 use Rattle.sdp_formats_round.specs.declared.error.RoundError.{RoundError}
 use Rattle.sdp_formats_round.specs.declared.error.RoundError.TheVariants.{TypeTaken, ResendTaken, NoFreeType}
 use Rattle.sdp_formats_round.specs.declared.claims.Own.{Own}

@@ -7,13 +7,12 @@ ghost use Rattle.sdp_formats_round.specs.Rounds.{fallback, agreed_type, agreed_r
 ghost use Rattle.sdp_formats_round.specs.Rounds.{locked_as, matched_row, best_open, first_above};
 ghost use Rattle.sdp_formats_round.specs.Rounds.{open_best, restated, agreed_row, agreed_rows};
 
-use crate::best::{best_row, better};
 use crate::claims::{
     Own, Role, found, free_type, given, is_locked_type, none_given, number_of, taken, tested,
     with_types,
 };
 use crate::error::RoundError;
-use crate::negotiated::negotiated;
+use sdp_formats_matches::{best_row, better, negotiated};
 use sdp_formats_rows::{Codec, PayloadParams};
 
 /// The row's own type where it is unclaimed, else a free one.

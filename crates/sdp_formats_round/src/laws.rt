@@ -1,6 +1,5 @@
 //! What holds of rounds.
 
-ghost use Rattle.sdp_formats_round.specs.Best.{BestIsBest, NoneMatches};
 ghost use Rattle.sdp_formats_round.specs.Laws.{LockedTypesDistinct, RowsBecome, LockedRowsKeepTypes, UnlockedRowsApart};
 ghost use Rattle.sdp_formats_round.specs.Laws.{SuggestedTypesTaken};
 
@@ -17,12 +16,6 @@ pub fn rows_become()
 /// In whatever rounds follow, a locked row stays locked under its types.
 pub fn locked_rows_keep_types()
     ensures { LockedRowsKeepTypes }
-{}
-
-/// The best row is the last of the greatest score; there is none just where no row matches.
-pub fn best_is_best()
-    ensures best { BestIsBest }
-    ensures none { NoneMatches }
 {}
 
 /// After an answered round the rows that are left unlocked have no type of a locked row.

@@ -1,7 +1,7 @@
 use Rattle.std.proofs.Common.{◌≡◌, drop}
 use Rattle.std.specs.Option.{option_copied}
 use Rattle.std.specs.Prelude.{fold, None, filter, not}
-use Rattle.sdp_formats_round.specs.Best.{better}
+use Rattle.sdp_formats_matches.specs.Best.{better}
 use Rattle.sdp_formats_round.specs.Types.{is_locked_type}
 use Rattle.sdp_formats_round.proofs.agreed.best_open.Given as goal
 

@@ -5,7 +5,7 @@ use Rattle.std.specs.Prelude.{fold, filter}
 use Rattle.sdp_formats_rows.specs.declared.spec.CodecSpec.{CodecSpec}
 use Rattle.sdp_formats_rows.specs.Rows.{Row}
 use Rattle.sdp_formats_rows.specs.Scores.{score}
-use Rattle.sdp_formats_round.specs.Best.{is_reached, points_of, better, best_row}
+use Rattle.sdp_formats_matches.specs.Best.{is_reached, points_of, better, best_row}
 
 -- one step: the row so far, or this one, which then matches
 step_at : (spec : CodecSpec) (o : Option Row) (r : Row) (b : Row) (reached : Bool)

@@ -1,5 +1,5 @@
-use Rattle.sdp_formats_round.proofs.Greatest.{best_is_best, none_matches}
-use Rattle.sdp_formats_round.proofs.laws.best_is_best.Goals as goal
+use Rattle.sdp_formats_matches.proofs.Greatest.{best_is_best, none_matches}
+use Rattle.sdp_formats_matches.proofs.laws.best_is_best.Goals as goal
 
 pub returns-clause-best : goal.returns-clause-best
 returns-clause-best c = best_is_best

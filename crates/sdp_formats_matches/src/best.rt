@@ -2,7 +2,7 @@
 
 ghost use Rattle.std.specs.Prelude.{◌≡◌};
 ghost use Rattle.std.specs.Option.{option_copied};
-ghost use Rattle.sdp_formats_round.specs.Best.{best_row, better, is_reached, points_of};
+ghost use Rattle.sdp_formats_matches.specs.Best.{best_row, better, is_reached, points_of};
 
 use sdp_formats_rows::PayloadParams;
 
@@ -27,7 +27,7 @@ fn points_of(row: &PayloadParams, best: Option<&PayloadParams>) -> Option<usize>
 }
 
 /// The best match of a row so far with one more.
-pub(crate) fn better<'a>(
+pub fn better<'a>(
     row: &PayloadParams,
     best: Option<&'a PayloadParams>,
     other: &'a PayloadParams,

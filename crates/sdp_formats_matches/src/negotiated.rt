@@ -2,8 +2,8 @@
 
 ghost use Rattle.std.specs.Prelude.{◌≡◌};
 ghost use Rattle.payload_core_base.specs.declared.codec.Codec.TheVariants.{AmrWb, H265, H266, Tele};
-ghost use Rattle.sdp_formats_round.specs.Negotiated.{negotiated, negotiated_channels, negotiated_format, with_h265};
-ghost use Rattle.sdp_formats_round.specs.Negotiated.{with_h266};
+ghost use Rattle.sdp_formats_matches.specs.Negotiated.{negotiated, negotiated_channels, negotiated_format, with_h265};
+ghost use Rattle.sdp_formats_matches.specs.Negotiated.{with_h266};
 
 use sdp_formats_rows::{Codec, CodecSpec, FormatParams};
 use sdp_formats_scores::{GivenH265, GivenH266, level_agreed};
@@ -102,7 +102,7 @@ fn negotiated_channels(codec: Codec, ours: Option<u8>, theirs: Option<u8>) -> Op
 
 /// What a match with `theirs` leaves of a row's codec settings.
 #[tactic(auto, unfolding(crate::specs::Negotiated::negotiated))]
-pub(crate) fn negotiated(ours: CodecSpec, theirs: &CodecSpec) -> CodecSpec
+pub fn negotiated(ours: CodecSpec, theirs: &CodecSpec) -> CodecSpec
     ensures { result ≡ negotiated ours theirs.now }
 {
     CodecSpec {

@@ -1,8 +1,8 @@
 use Rattle.std.proofs.Common.{◌≡◌, drop}
 use Rattle.std.specs.Prelude.{fold, None}
 use Rattle.std.specs.Option.{option_copied}
-use Rattle.sdp_formats_round.specs.Best.{better}
-use Rattle.sdp_formats_round.proofs.best.best_row.Given as goal
+use Rattle.sdp_formats_matches.specs.Best.{better}
+use Rattle.sdp_formats_matches.proofs.best.best_row.Given as goal
 
 -- the best so far, and then the rest, is the best of all
 abbrev pub invariant-loop-other : goal.invariant-loop-other

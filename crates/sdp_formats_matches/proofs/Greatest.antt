@@ -8,9 +8,9 @@ use Rattle.std.proofs.lemmas.List.Folds.{list_all-append}
 use Rattle.sdp_formats_rows.specs.declared.spec.CodecSpec.{CodecSpec}
 use Rattle.sdp_formats_rows.specs.Rows.{Row}
 use Rattle.sdp_formats_rows.specs.Scores.{score}
-use Rattle.sdp_formats_round.specs.Best.{is_reached, points_of, better, best_row, is_at_most, is_below, IsBest}
-use Rattle.sdp_formats_round.specs.Best.{BestIsBest, NoneMatches}
-use Rattle.sdp_formats_round.proofs.Bests.{some_stays}
+use Rattle.sdp_formats_matches.specs.Best.{is_reached, points_of, better, best_row, is_at_most, is_below, IsBest}
+use Rattle.sdp_formats_matches.specs.Best.{BestIsBest, NoneMatches}
+use Rattle.sdp_formats_matches.proofs.Bests.{some_stays}
 
 abbrev AtMost : CodecSpec → ℕ → Row → Bool
 AtMost spec n row = is_at_most n (score spec row.spec)

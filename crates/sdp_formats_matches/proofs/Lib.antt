@@ -1,0 +1,2 @@
+pub mod Bests
+pub mod Greatest
