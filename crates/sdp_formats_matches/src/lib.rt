@@ -3,8 +3,8 @@
 
 mod best;
 mod laws;
-mod negotiated;
+mod settings;
 
 pub use best::{best_row, better};
 pub use laws::best_is_best;
-pub use negotiated::negotiated;
+pub use settings::negotiated;
