@@ -11,7 +11,8 @@ use Rattle.h26x_payload_codecs.specs.Codings.{Settings}
 use Rattle.h26x_payload_codecs.specs.declared.codec_depacketizer.CodecDepacketizer.{CodecDepacketizer}
 use Rattle.h26x_payload_codecs.specs.declared.codec_depacketizer.CodecDepacketizer.TheVariants.{G711, G722, Opus}
 use Rattle.h26x_payload_codecs.specs.declared.codec_depacketizer.CodecDepacketizer.TheVariants.{ComfortNoise, AmrWb}
-use Rattle.h26x_payload_codecs.specs.declared.codec_depacketizer.CodecDepacketizer.TheVariants.{Telephone, Vp8, Vp9, Av1}
+use Rattle.h26x_payload_codecs.specs.declared.codec_depacketizer.CodecDepacketizer.TheVariants.{Telephone, Vp8, Vp9}
+use Rattle.h26x_payload_codecs.specs.declared.codec_depacketizer.CodecDepacketizer.TheVariants.{Av1}
 use Rattle.h26x_payload_codecs.specs.declared.codec_depacketizer.CodecDepacketizer.TheVariants.{H264, H265, H266, Boxed}
 
 -- The codecs that a depacketizer is for: one that a caller boxed is for none that is known.

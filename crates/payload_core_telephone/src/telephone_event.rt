@@ -2,7 +2,8 @@
 
 ghost use Rattle.std.specs.Int.NonZero.{non_zero_u32_get};
 ghost use Rattle.std.specs.Prelude.{◌≡◌, MatchOption, false, true};
-ghost use Rattle.payload_core_telephone.specs.Telephone.{ReportsComeBack, events_of, first_event, is_reports, report_of};
+ghost use Rattle.payload_core_telephone.specs.Telephone.{ReportsComeBack, events_of, first_event, is_reports};
+ghost use Rattle.payload_core_telephone.specs.Telephone.{report_of};
 
 use rtp_wire_ids::ClockRate;
 use std::num::NonZeroU32;

@@ -1,6 +1,7 @@
 -- The names of sections as a set, with one more.
 use Rattle.std.proofs.Common.{◌≡◌, ◌∙◌, ℕ, ◌+◌, ◌<◌, Bool, true, false, cond, not, ◌||◌, List, ◌∷◌, BTreeSet, Bor, take}
-use Rattle.std.proofs.Common.{[], ◌++◌, ap, arith, drop, drop-cons, get_or, length, nat_cmp, refl, suc, sym, is_eq, ◌&&◌}
+use Rattle.std.proofs.Common.{[], ◌++◌, ◌&&◌, ap, arith, drop, drop-cons, get_or, is_eq, length, nat_cmp, refl, suc}
+use Rattle.std.proofs.Common.{sym}
 use Rattle.std.proofs.Math.Seq.{take-suc}
 use Rattle.std.proofs.lemmas.Bool.{not-true}
 use Rattle.std.proofs.lemmas.List.Folds.{list_any_more}
