@@ -1,5 +1,5 @@
 use Rattle.std.specs.Prelude.{ℕ, ◌≡◌, Option, Some, None}
-use Rattle.rtp_media_open_streams.specs.Ends.{EndState}
+use Rattle.rtp_media_ends.specs.Ends.{EndState}
 use Rattle.jilqamur_headers.specs.Codes.{not_made}
 
 -- A call that needs an end, where none is made, says so; else the end's answer counts.

@@ -8,14 +8,14 @@ use Rattle.payload_core_base.specs.declared.codec.MediaKind.TheVariants.{Audio, 
 use Rattle.rtp_wire.specs.Maps.{empty_map}
 use Rattle.rtp_wire.specs.Name.{name_of}
 use Rattle.sdp_formats_format.specs.Formats.{format_of}
-use Rattle.sdp_formats_rows.specs.Rows.{Row, new_row}
-use Rattle.rtp_media_section_texts.specs.Answered.{flow}
-use Rattle.rtp_media_section_texts.specs.Sections.{Wanted}
-use Rattle.rtp_media_exchange_steps.specs.declared.EndError.{EndError}
-use Rattle.rtp_media_exchange_steps.specs.declared.EndError.TheVariants as end_error
-use Rattle.rtp_media_exchange_texts.specs.Exchanges.{bare_session}
-use Rattle.rtp_media_exchange_steps.specs.Refusals.{refusal_of_new}
-use Rattle.rtp_media_open_streams.specs.Ends.{new_end}
+use Rattle.rtp_media_ends.specs.Rows.{Row, new_row}
+use Rattle.rtp_media_ends.specs.Answered.{flow}
+use Rattle.rtp_media_ends.specs.Sections.{Wanted}
+use Rattle.rtp_media_ends.specs.declared.EndError.{EndError}
+use Rattle.rtp_media_ends.specs.declared.EndError.TheVariants as end_error
+use Rattle.rtp_media_ends.specs.Exchanges.{bare_session}
+use Rattle.rtp_media_ends.specs.Refusals.{refusal_of_new}
+use Rattle.rtp_media_ends.specs.Ends.{new_end}
 use Rattle.jilqamur_headers.specs.Codes.{ok, memory, not_text, out_of_range}
 use Rattle.jilqamur_headers.specs.Codes.{row_not_plain, types_not_distinct, not_writable}
 use Rattle.jilqamur_ends.specs.declared.draft.WireRow.{WireRow}

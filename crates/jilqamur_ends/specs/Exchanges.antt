@@ -2,14 +2,14 @@
 use Rattle.std.specs.Prelude.{ℕ, ◌≡◌, ◌⊎◌, List, Option, Some, None, is_some, if◌then◌else◌}
 use Rattle.std.specs.Str.{is_utf8}
 use Rattle.sdp_formats_sessions.specs.PrintedSession.{sdp_text}
-use Rattle.rtp_media_exchange_steps.specs.declared.ExchangeError.{ExchangeError}
-use Rattle.rtp_media_exchange_steps.specs.declared.ExchangeError.TheVariants as error
-use Rattle.rtp_media_exchange_texts.specs.Exchanges.{with_offer}
-use Rattle.rtp_media_exchange_texts.specs.Offers.{Accepts, Answers, offer_of}
-use Rattle.rtp_media_exchange_steps.specs.Refusals.{MayAccept, MayAnswer, Refuses, RefusesAccept, RefusesAnswer}
-use Rattle.rtp_media_exchange_steps.specs.Refusals.{refusal_of_offer}
-use Rattle.rtp_media_section_texts.specs.Sections.{Wanted}
-use Rattle.rtp_media_open_streams.specs.Ends.{EndState, with_exchange}
+use Rattle.rtp_media_ends.specs.declared.ExchangeError.{ExchangeError}
+use Rattle.rtp_media_ends.specs.declared.ExchangeError.TheVariants as error
+use Rattle.rtp_media_ends.specs.Exchanges.{with_offer}
+use Rattle.rtp_media_ends.specs.Offers.{Accepts, Answers, offer_of}
+use Rattle.rtp_media_ends.specs.Refusals.{MayAccept, MayAnswer, Refuses, RefusesAccept, RefusesAnswer}
+use Rattle.rtp_media_ends.specs.Refusals.{refusal_of_offer}
+use Rattle.rtp_media_ends.specs.Sections.{Wanted}
+use Rattle.rtp_media_ends.specs.Ends.{EndState, with_exchange}
 use Rattle.rtp_media_ends.specs.Stops.{Where}
 use Rattle.jilqamur_headers.specs.Codes.{ok, memory, not_text, text_unreadable, out_of_turn, not_media}
 use Rattle.jilqamur_headers.specs.Codes.{not_corresponding}

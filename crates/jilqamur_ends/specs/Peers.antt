@@ -2,10 +2,10 @@ use Rattle.std.specs.Prelude.{ℕ, ◌-◌, List, [], ◌∷◌, ◌++◌, slice
 use Rattle.rtp_wire.specs.Elements.{Numbering}
 use Rattle.rtp_wire.specs.Kinds.{extension_of}
 use Rattle.rtp_wire.specs.Maps.{empty_map}
-use Rattle.sdp_formats_rows.specs.Rows.{Row}
-use Rattle.rtp_media_section_texts.specs.Sections.{Wanted}
+use Rattle.rtp_media_ends.specs.Rows.{Row}
+use Rattle.rtp_media_ends.specs.Sections.{Wanted}
 use Rattle.rtp_media_schedules.specs.Hearing.{MediaUnit}
-use Rattle.rtp_media_open_streams.specs.Ends.{EndState}
+use Rattle.rtp_media_ends.specs.Ends.{EndState}
 
 -- What a handle of an end holds: the end, once it is made; the rows and the map of the next end, and the sections of
 -- the next offer or answer; and what calls left to be fetched.

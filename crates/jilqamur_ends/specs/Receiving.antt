@@ -6,13 +6,13 @@ use Rattle.rtp_media_streams.specs.Drains.{drained_receiver, holding}
 use Rattle.rtp_media_payloads.specs.Polls.{IsInterrupted, PollResult, poll_result}
 use Rattle.rtp_media_payloads.specs.Receiving.{Receiving, polled_receiver, with_stream}
 use Rattle.rtp_media_payloads.specs.Rows.{format_of}
-use Rattle.rtp_media_open_streams.specs.Arrivals.{verdict_of, after_datagram}
-use Rattle.rtp_media_open_streams.specs.Ends.{EndState, is_receiver_at, receiver_at, with_receiver, after_open_receiver}
-use Rattle.rtp_media_open_streams.specs.Ends.{refusal_of_open_receiver}
-use Rattle.rtp_media_open_streams.specs.declared.errors.OpenError.{OpenError}
-use Rattle.rtp_media_open_streams.specs.declared.errors.OpenError.TheVariants as open_error
-use Rattle.rtp_media_open_streams.specs.declared.received.Received.{Received}
-use Rattle.rtp_media_open_streams.specs.declared.received.Received.TheVariants as received
+use Rattle.rtp_media_ends.specs.Arrivals.{verdict_of, after_datagram}
+use Rattle.rtp_media_ends.specs.Ends.{EndState, is_receiver_at, receiver_at, with_receiver, after_open_receiver}
+use Rattle.rtp_media_ends.specs.Ends.{refusal_of_open_receiver}
+use Rattle.rtp_media_ends.specs.declared.OpenError.{OpenError}
+use Rattle.rtp_media_ends.specs.declared.OpenError.TheVariants as open_error
+use Rattle.rtp_media_ends.specs.declared.Received.{Received}
+use Rattle.rtp_media_ends.specs.declared.Received.TheVariants as received
 use Rattle.jilqamur_streams.specs.StreamAnswers.{drain_result, poll_code, unit_behind}
 use Rattle.jilqamur_headers.specs.Codes.{ok, memory, nothing, unreadable, foreign, damaged, refused}
 use Rattle.jilqamur_headers.specs.Codes.{no_stream, no_section, row_not_agreed, row_differs, wrong_direction}

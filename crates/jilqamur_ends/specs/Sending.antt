@@ -4,10 +4,10 @@ use Rattle.rtp_wire.specs.Name.{name_of}
 use Rattle.rtp_wire.specs.Time.{Time}
 use Rattle.rtp_wire.specs.declared.ExtensionValues.{ExtensionValues}
 use Rattle.rtp_media_streams.specs.Sending.{sent_datagrams, after_sample, refusal_of_sample}
-use Rattle.rtp_media_open_streams.specs.Ends.{EndState, agreed_red, after_open_sender, refusal_of_open_sender}
-use Rattle.rtp_media_open_streams.specs.Ends.{is_sender_at, sender_at, with_sender}
-use Rattle.rtp_media_open_streams.specs.Params.{is_sound_params}
-use Rattle.rtp_media_open_streams.specs.declared.params.StreamParams.{StreamParams}
+use Rattle.rtp_media_ends.specs.Ends.{EndState, agreed_red, after_open_sender, refusal_of_open_sender}
+use Rattle.rtp_media_ends.specs.Ends.{is_sender_at, sender_at, with_sender}
+use Rattle.rtp_media_ends.specs.Params.{is_sound_params}
+use Rattle.rtp_media_ends.specs.declared.StreamParams.{StreamParams}
 use Rattle.jilqamur_headers.specs.Codes.{ok, memory, out_of_range, no_stream}
 use Rattle.jilqamur_headers.specs.Values.{values_given}
 use Rattle.jilqamur_headers.specs.declared.values.WireValues.{WireValues}

@@ -12,9 +12,8 @@ use crate::peer::Peer;
 use jilqamur_headers::{codes, text_in};
 use rtp_media_ends::{
     Codec, CodecConfig, CodecSpec, End, EndError, FormatParams, MediaKind, PayloadParams,
-    SectionSpec, Session,
+    SectionSpec, Session, flow,
 };
-use rtp_media_section_texts::flow;
 use rtp_wire::{Extension, ExtensionMap, Frequency, Mid, Pt, SessionId, Ssrc};
 use std::alloc::{AllocError, Global};
 use std::mem;
@@ -157,7 +156,7 @@ impl Peer {
     /// Makes a new end of the draft, under this session number, in place of an end that was made, and answers `OK`; or
     /// the first that holds of `ROW_NOT_PLAIN`, `TYPES_NOT_DISTINCT` and `NOT_WRITABLE`, or `MEMORY`, and the
     /// end stays. The draft is then empty, refused or not.
-    #[tactic(auto, using(rtp_media_exchange_steps::proofs::BareSession::refused_bare))]
+    #[tactic(auto, using(rtp_media_ends::proofs::BareSession::refused_bare))]
     pub fn make(&mut self, alloc: Global, session: u64) -> u32
         ensures outcome { result ≢ memory → result ≡ make_outcome self.old }
         ensures made { result ≡ ok → self.new ≡ made self.old session }

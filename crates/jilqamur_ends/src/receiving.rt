@@ -11,8 +11,7 @@ ghost use Rattle.jilqamur_streams.specs.StreamAnswers.{poll_code};
 use crate::peer::Peer;
 use jilqamur_headers::{codes, text_in};
 use jilqamur_streams::poll_code;
-use rtp_media_ends::{End, Unit};
-use rtp_media_open_streams::{OpenError, Received};
+use rtp_media_ends::{End, OpenError, Received, Unit};
 use rtp_wire::{Mid, Pt, Ssrc};
 
 /// The number of a refusal to open a stream.

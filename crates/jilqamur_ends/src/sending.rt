@@ -12,8 +12,7 @@ use crate::receiving::open_code;
 use jilqamur_headers::{WireValues, codes, text_in};
 use jilqamur_packets::number_given;
 use jilqamur_streams::sample_code;
-use rtp_media_ends::{Datagram, End};
-use rtp_media_open_streams::{Distances, StreamParams};
+use rtp_media_ends::{Datagram, Distances, End, StreamParams};
 use rtp_wire::{MediaTime, Mid, Pt, Ssrc};
 use std::alloc::{AllocError, Global};
 

@@ -1,6 +1,6 @@
 -- What the program does at each command.
 use Rattle.std.specs.Prelude.{◌≡◌, List, [], ◌∷◌, ◌++◌, None}
-use Rattle.rtp_media_open_streams.specs.Ends.{EndState}
+use Rattle.rtp_media_play.specs.Ends.{EndState}
 use Rattle.rtp_media_words.specs.declared.words.Letter.{Letter}
 use Rattle.rtp_media_words.specs.declared.words.Letter.TheVariants.{A, B}
 use Rattle.rtp_media_lines.specs.declared.line.Command.{Command}

@@ -6,17 +6,16 @@ mod program;
 
 pub use payload_core_base::CodecExtra;
 pub use program::{Program, run};
-pub use rtp_media_ends::{
-    Bandwidth, Codec, CodecConfig, CodecSpec, Datagram, End, EndError, ExchangeError, FormatParams,
-    MediaKind, PacketError, PayloadParams, PollFault, Polls, ReceivedAll, RoundError, SampleError,
-    SdpError, SectionSpec, Session, SessionAttribute, Unit, connect,
-};
 pub use rtp_media_line_runs::{
     MAX_LINE_LENGTH, MAX_READS, Respond, RunFault, Status, WriteFault, lines_are_what_was_ended,
     run_lines, run_within, write_whole,
 };
-pub use rtp_media_open_streams::{Distances, OpenError, ReceiveError, Received, StreamParams};
-pub use rtp_media_play::{Event, Played, Sample, headline, play};
+pub use rtp_media_play::{
+    Bandwidth, Codec, CodecConfig, CodecSpec, Datagram, Distances, End, EndError, Event,
+    ExchangeError, FormatParams, MediaKind, OpenError, PacketError, PayloadParams, Played,
+    PollFault, Polls, ReceiveError, Received, ReceivedAll, RoundError, Sample, SampleError,
+    SdpError, SectionSpec, Session, SessionAttribute, StreamParams, Unit, connect, headline, play,
+};
 pub use rtp_wire::{
     Direction, Extension, ExtensionMap, ExtensionValues, Frequency, MediaTime, Mid, Pt, SeqNo,
     SessionId, Ssrc,

@@ -1,3 +1,11 @@
+pub use Rattle.rtp_media_negotiation.proofs.BareSession
+pub use Rattle.rtp_media_stream_laws.proofs.Datagrams
+pub use Rattle.rtp_media_stream_laws.proofs.Exact
+pub use Rattle.rtp_media_stream_laws.proofs.Isolation
+pub use Rattle.rtp_media_stream_laws.proofs.MayOpen
+pub use Rattle.rtp_media_stream_laws.proofs.NewReceiver
+pub use Rattle.rtp_media_negotiation.proofs.OneAgreement
+pub use Rattle.rtp_media_stream_laws.proofs.Transparent
 pub mod Refusals
 pub mod Opened
 pub mod Stopping

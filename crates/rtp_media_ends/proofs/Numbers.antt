@@ -5,11 +5,11 @@ use Rattle.std.proofs.lemmas.List.{get_or_push}
 use Rattle.std.specs.Prelude.{nat_lt, not}
 use Rattle.rtp_media_payloads.specs.Receiving.{Receiving}
 use Rattle.rtp_media_streams.specs.Sending.{Sending}
-use Rattle.rtp_media_open_streams.specs.declared.open_stream.OpenStream.{OpenStream}
-use Rattle.rtp_media_open_streams.specs.declared.open_stream.OpenStream.TheVariants.{Sender, Receiver}
-use Rattle.rtp_media_open_streams.specs.Ends.{EndState, is_receiver_at, is_sender_at, is_sending, no_receiver}
-use Rattle.rtp_media_open_streams.specs.Ends.{nth_stream}
-use Rattle.rtp_media_open_streams.specs.Ends.{with_new_receiver, with_new_sender}
+use Rattle.rtp_media_stream_laws.specs.declared.OpenStream.{OpenStream}
+use Rattle.rtp_media_stream_laws.specs.declared.OpenStream.TheVariants.{Sender, Receiver}
+use Rattle.rtp_media_stream_laws.specs.Ends.{EndState, is_receiver_at, is_sender_at, is_sending, no_receiver}
+use Rattle.rtp_media_stream_laws.specs.Ends.{nth_stream}
+use Rattle.rtp_media_stream_laws.specs.Ends.{with_new_receiver, with_new_sender}
 
 within : (ss : List OpenStream) (x : OpenStream) → nat_lt (length ss) (length (ss ++ x ∷ [])) ≡ true
 within ss x = let more : length (ss ++ x ∷ []) ≡ length ss + 1 = length-append ss (x ∷ []) in

@@ -7,13 +7,13 @@ use Rattle.std.specs.Prelude.{◌==◌, nat_lt, slice_index_or, slice_set}
 use Rattle.rtp_media_payloads.specs.Polls.{Answers}
 use Rattle.rtp_media_payloads.specs.Rows.{format_of}
 use Rattle.rtp_media_streams.proofs.Draining.{polled-some}
-use Rattle.rtp_media_open_streams.specs.Arrivals.{after_datagram}
-use Rattle.rtp_media_open_streams.specs.Ends.{EndState, is_sending, nth_stream, receiving_of}
-use Rattle.rtp_media_open_streams.specs.declared.open_stream.OpenStream.{OpenStream}
-use Rattle.rtp_media_open_streams.specs.declared.open_stream.OpenStream.TheVariants.{Sender, Receiver}
-use Rattle.rtp_media_open_streams.specs.FullArrival.{AnswersAll, AnswersSome, ArePolledSome, IsPolledOut}
-use Rattle.rtp_media_open_streams.specs.FullArrival.{after_datagrams}
-use Rattle.rtp_media_open_streams.specs.FullArrival.{answers_at}
+use Rattle.rtp_media_stream_laws.specs.Arrivals.{after_datagram}
+use Rattle.rtp_media_stream_laws.specs.Ends.{EndState, is_sending, nth_stream, receiving_of}
+use Rattle.rtp_media_stream_laws.specs.declared.OpenStream.{OpenStream}
+use Rattle.rtp_media_stream_laws.specs.declared.OpenStream.TheVariants.{Sender, Receiver}
+use Rattle.rtp_media_stream_laws.specs.FullArrival.{AnswersAll, AnswersSome, ArePolledSome, IsPolledOut}
+use Rattle.rtp_media_stream_laws.specs.FullArrival.{after_datagrams}
+use Rattle.rtp_media_stream_laws.specs.FullArrival.{answers_at}
 use Rattle.rtp_media_stream_laws.proofs.Isolation.{nobody}
 
 -- one datagram more

@@ -1,2 +1,16 @@
+pub use Rattle.rtp_media_negotiation.specs.Agreement
+pub use Rattle.rtp_media_negotiation.specs.Answered
+pub use Rattle.rtp_media_negotiation.specs.Exchanges
+pub use Rattle.rtp_media_negotiation.specs.Offers
+pub use Rattle.rtp_media_negotiation.specs.Refusals
+pub use Rattle.rtp_media_negotiation.specs.Rows
+pub use Rattle.rtp_media_negotiation.specs.Sections
+pub use Rattle.rtp_media_stream_laws.specs.Arrivals
+pub use Rattle.rtp_media_stream_laws.specs.Ends
+pub use Rattle.rtp_media_stream_laws.specs.FullArrival
+pub use Rattle.rtp_media_stream_laws.specs.OpensAt
+pub use Rattle.rtp_media_stream_laws.specs.OwnEvents
+pub use Rattle.rtp_media_stream_laws.specs.Params
+pub use Rattle.rtp_media_stream_laws.specs.Transparency
 pub mod Stops
 pub mod Connections

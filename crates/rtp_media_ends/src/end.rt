@@ -2,9 +2,9 @@
 
 ghost use Rattle.std.specs.Prelude.{◌≡◌, ◌≢◌, ◌<◌, Some, None, true, OnOk, IfOk, IfErr};
 ghost use Rattle.rtp_media_streams.specs.Sending.{HasFailed, sent_datagrams, after_sample, refusal_of_sample};
-ghost use Rattle.rtp_media_sections.specs.Agreement.{agreed_row_of};
-ghost use Rattle.rtp_media_open_streams.specs.Ends.{agreed_red, fixed_end, sender_at, with_sender, is_receiver_at};
-ghost use Rattle.rtp_media_open_streams.specs.Ends.{is_sender_at};
+ghost use Rattle.rtp_media_negotiation.specs.Agreement.{agreed_row_of};
+ghost use Rattle.rtp_media_stream_laws.specs.Ends.{agreed_red, fixed_end, sender_at, with_sender, is_receiver_at};
+ghost use Rattle.rtp_media_stream_laws.specs.Ends.{is_sender_at};
 
 mod exchanges;
 mod openings;
@@ -13,10 +13,9 @@ mod receiving;
 
 pub use exchanges::connect;
 pub use receive_all::{Polls, ReceivedAll};
-use rtp_media_exchange_steps::EndError;
-use rtp_media_negotiation::{Exchange, PayloadParams};
-use rtp_media_open_streams::{OpenStream, StreamIndex};
+use rtp_media_negotiation::{EndError, Exchange, PayloadParams};
 use rtp_media_payloads::{Datagram, SampleError};
+use rtp_media_stream_laws::{OpenStream, StreamIndex};
 use rtp_wire::{ExtensionValues, Frequency, MediaTime, Mid, Pt};
 use std::alloc::Global;
 use std::marker::Model;
@@ -46,7 +45,7 @@ impl Drop for End {
 }
 
 impl Model for End {
-    ghost use Rattle.rtp_media_open_streams.specs.Ends.{EndState};
+    ghost use Rattle.rtp_media_stream_laws.specs.Ends.{EndState};
     ghost use Rattle.rtp_wire.specs.Replay.{window_code};
     ghost use Rattle.std.specs.Coded.{codes};
 
@@ -59,7 +58,7 @@ impl Model for End {
       streams = e.streams.items;
     } };
 
-    ghost use Rattle.rtp_media_open_streams.specs.Indexed.{AreIndexed};
+    ghost use Rattle.rtp_media_stream_laws.specs.Indexed.{AreIndexed};
 
     ghost invariant = { λ e. AreIndexed e.senders e.receivers e.streams.items };
 }

@@ -5,9 +5,11 @@ mod end;
 
 pub use end::{End, Polls, ReceivedAll, connect};
 pub use payload_core_base::PacketError;
-pub use rtp_media_exchange_steps::{EndError, ExchangeError};
 pub use rtp_media_negotiation::{
-    Bandwidth, Codec, CodecConfig, CodecSpec, FormatParams, MediaKind, PayloadParams, RoundError,
-    SdpError, SectionSpec, Session, SessionAttribute,
+    Bandwidth, Codec, CodecConfig, CodecSpec, EndError, ExchangeError, FormatParams, MediaKind,
+    PayloadParams, RoundError, SdpError, SectionSpec, Session, SessionAttribute, flow,
 };
 pub use rtp_media_payloads::{Datagram, PollFault, SampleError, Unit};
+pub use rtp_media_stream_laws::{
+    Distances, OpenError, OpenStream, ReceiveError, Received, StreamParams, openings_law,
+};

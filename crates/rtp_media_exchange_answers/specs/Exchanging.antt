@@ -9,17 +9,17 @@ use Rattle.rtp_wire.specs.Maps.{empty_map}
 use Rattle.rtp_wire.specs.Name.{name_of}
 use Rattle.sdp_formats_format.specs.declared.format.FormatParams.{FormatParams}
 use Rattle.sdp_formats_format.specs.Formats.{format_of, no_format}
-use Rattle.sdp_formats_rows.specs.Rows.{Row, new_row}
+use Rattle.rtp_media_ends.specs.Rows.{Row, new_row}
 use Rattle.sdp_formats_sessions.specs.PrintedSession.{sdp_text}
-use Rattle.rtp_media_exchange_steps.specs.declared.EndError.{EndError}
-use Rattle.rtp_media_exchange_steps.specs.declared.ExchangeError.{ExchangeError}
-use Rattle.rtp_media_exchange_texts.specs.Exchanges.{bare_session, with_offer}
-use Rattle.rtp_media_exchange_texts.specs.Offers.{Accepts, Answers, offer_of}
-use Rattle.rtp_media_exchange_steps.specs.Refusals.{MayAccept, MayAnswer, Refuses, RefusesAccept, RefusesAnswer}
-use Rattle.rtp_media_exchange_steps.specs.Refusals.{refusal_of_new, refusal_of_offer}
-use Rattle.rtp_media_section_texts.specs.Sections.{Wanted}
+use Rattle.rtp_media_ends.specs.declared.EndError.{EndError}
+use Rattle.rtp_media_ends.specs.declared.ExchangeError.{ExchangeError}
+use Rattle.rtp_media_ends.specs.Exchanges.{bare_session, with_offer}
+use Rattle.rtp_media_ends.specs.Offers.{Accepts, Answers, offer_of}
+use Rattle.rtp_media_ends.specs.Refusals.{MayAccept, MayAnswer, Refuses, RefusesAccept, RefusesAnswer}
+use Rattle.rtp_media_ends.specs.Refusals.{refusal_of_new, refusal_of_offer}
+use Rattle.rtp_media_ends.specs.Sections.{Wanted}
 use Rattle.rtp_media_ends.specs.Connections.{Connects, IsRefused, offering}
-use Rattle.rtp_media_open_streams.specs.Ends.{EndState, fixed_end, new_end, with_exchange}
+use Rattle.rtp_media_ends.specs.Ends.{EndState, fixed_end, new_end, with_exchange}
 use Rattle.rtp_media_ends.specs.Stops.{Where}
 use Rattle.rtp_media_lines.specs.declared.exchange.RowCommand.{RowCommand}
 use Rattle.rtp_media_lines.specs.declared.exchange.ExtCommand.{ExtCommand}

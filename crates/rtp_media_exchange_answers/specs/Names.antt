@@ -1,9 +1,9 @@
 -- The names under which the program prints errors of ends and of exchanges: that of the variant, without what it holds.
 use Rattle.std.specs.Prelude.{ℕ, List, codes}
-use Rattle.rtp_media_exchange_steps.specs.declared.EndError.{EndError}
-use Rattle.rtp_media_exchange_steps.specs.declared.EndError.TheVariants as end_error
-use Rattle.rtp_media_exchange_steps.specs.declared.ExchangeError.{ExchangeError}
-use Rattle.rtp_media_exchange_steps.specs.declared.ExchangeError.TheVariants as exchange_error
+use Rattle.rtp_media_ends.specs.declared.EndError.{EndError}
+use Rattle.rtp_media_ends.specs.declared.EndError.TheVariants as end_error
+use Rattle.rtp_media_ends.specs.declared.ExchangeError.{ExchangeError}
+use Rattle.rtp_media_ends.specs.declared.ExchangeError.TheVariants as exchange_error
 
 -- Out of memory has one name in all of them.
 abbrev pub memory : List ℕ

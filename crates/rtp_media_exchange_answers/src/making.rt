@@ -83,7 +83,7 @@ pub fn draft_ext(
 ///
 /// # Errors
 /// Where memory for the reply runs out; a refusal is a reply.
-#[tactic(auto, using(rtp_media_exchange_steps::proofs::BareSession::refused_bare))]
+#[tactic(auto, using(rtp_media_ends::proofs::BareSession::refused_bare))]
 pub fn make_end(
     alloc: Global,
     kept: &mut EndAndDraft,

@@ -1,7 +1,7 @@
 //! Why calls are refused.
 
 use rtp_wire::{Mid, Pt};
-use sdp_formats::SdpError;
+use sdp_formats_reader::SdpError;
 use sdp_formats_round::RoundError;
 use std::alloc::AllocError;
 use thiserror::Error;

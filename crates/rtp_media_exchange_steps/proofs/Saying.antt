@@ -3,8 +3,8 @@ use Rattle.std.proofs.Common.{◌≡◌, ℕ, List, map, false, ◌∙◌, ap}
 use Rattle.sdp_formats_types.specs.declared.media.MediaLine.{MediaLine}
 use Rattle.rtp_media_exchange_steps.specs.Refusals.{IsUnwritable}
 use Rattle.rtp_media_exchange_texts.specs.Says.{SaysOnly}
-use Rattle.rtp_media_section_texts.specs.Lines.{shape_of_line}
-use Rattle.rtp_media_section_texts.specs.Sections.{Wanted, correspond, shape_of}
+use Rattle.rtp_media_exchange_texts.specs.Lines.{shape_of_line}
+use Rattle.rtp_media_exchange_texts.specs.Sections.{Wanted, correspond, shape_of}
 
 -- a text that says other sections, or none, is not that of wanted ones
 pub other_said : (text : List ℕ) (wanted : List Wanted) (lines : List MediaLine) → SaysOnly text lines

@@ -1,2 +1,12 @@
+pub use Rattle.rtp_media_exchange_texts.specs.Agreement
+pub use Rattle.rtp_media_exchange_texts.specs.Answered
+pub use Rattle.rtp_media_exchange_texts.specs.Exchanges
+pub use Rattle.rtp_media_exchange_texts.specs.Laws
+pub use Rattle.rtp_media_exchange_texts.specs.Lines
+pub use Rattle.rtp_media_exchange_texts.specs.Offers
+pub use Rattle.rtp_media_exchange_texts.specs.Rows
+pub use Rattle.rtp_media_exchange_texts.specs.Says
+pub use Rattle.rtp_media_exchange_texts.specs.Sections
+pub use Rattle.rtp_media_exchange_texts.specs.Writable
 pub mod Reading
 pub mod Refusals

@@ -1,8 +1,8 @@
 -- Why a text isn't read.
 use Rattle.std.specs.Prelude.{◌≡◌, ℕ, List}
 use Rattle.std.specs.String.{string_bytes}
-use Rattle.sdp_formats.specs.Texts.{SaysNothing, text_fault}
-use Rattle.sdp_formats.specs.declared.error.SdpError.TheVariants as sdp
+use Rattle.rtp_media_exchange_texts.specs.Texts.{SaysNothing, text_fault}
+use Rattle.rtp_media_exchange_texts.specs.declared.SdpError.TheVariants as sdp
 use Rattle.rtp_media_exchange_errors.specs.declared.errors.ExchangeError.{ExchangeError}
 use Rattle.rtp_media_exchange_errors.specs.declared.errors.ExchangeError.TheVariants as error
 

@@ -5,16 +5,16 @@ use Rattle.std.specs.Prelude.{◌∷◌, ◌++◌, Option, Some, None, is_some, 
 use Rattle.std.specs.List.{list_any}
 use Rattle.std.specs.Option.{option_map}
 use Rattle.rtp_wire.specs.Values.{Numbering}
-use Rattle.sdp_formats_config.specs.Kinds.{rows_of_kind}
-use Rattle.sdp_formats_round.specs.Laws.{rounds}
-use Rattle.sdp_formats_round.specs.declared.error.RoundError.{RoundError}
-use Rattle.sdp_formats_rows.specs.Plain.{is_plain}
-use Rattle.sdp_formats_rows.specs.Rows.{Row}
-use Rattle.sdp_formats_section_rows.specs.SectionRows.{rows_of}
+use Rattle.rtp_media_exchange_texts.specs.Kinds.{rows_of_kind}
+use Rattle.rtp_media_exchange_texts.specs.Laws.{rounds}
+use Rattle.rtp_media_exchange_texts.specs.declared.RoundError.{RoundError}
+use Rattle.rtp_media_exchange_texts.specs.Plain.{is_plain}
+use Rattle.rtp_media_exchange_texts.specs.Rows.{Row}
+use Rattle.rtp_media_exchange_texts.specs.SectionRows.{rows_of}
 use Rattle.sdp_formats_sessions.specs.PrintedSession.{sdp_text}
 use Rattle.sdp_formats_types.specs.declared.media.MediaLine.{MediaLine}
 use Rattle.sdp_formats_sessions.specs.declared.session.Session.{Session}
-use Rattle.sdp_formats_writable.specs.Writable.{IsWritableSession}
+use Rattle.rtp_media_exchange_texts.specs.Writable.{IsWritableSession}
 use Rattle.rtp_media_exchange_texts.specs.Exchanges.{Exchanged}
 use Rattle.rtp_media_exchange_texts.specs.Offers.{answer_of}
 use Rattle.rtp_media_exchange_steps.specs.Reading.{IsUnread}
@@ -23,11 +23,11 @@ use Rattle.rtp_media_exchange_errors.specs.declared.errors.EndError.{EndError}
 use Rattle.rtp_media_exchange_errors.specs.declared.errors.EndError.TheVariants as fault
 use Rattle.rtp_media_exchange_errors.specs.declared.errors.ExchangeError.{ExchangeError}
 use Rattle.rtp_media_exchange_errors.specs.declared.errors.ExchangeError.TheVariants as error
-use Rattle.rtp_media_sections.specs.Agreement.{shape_of_agreed}
-use Rattle.rtp_media_section_texts.specs.Answered.{answered_rows}
-use Rattle.rtp_media_section_texts.specs.Extensions.{is_writable_map}
-use Rattle.rtp_media_section_texts.specs.Lines.{is_media_line, mid_of, remote_of, shape_of_line, types_listed}
-use Rattle.rtp_media_section_texts.specs.Sections.{Wanted, correspond, may_follow, shape_of}
+use Rattle.rtp_media_exchange_texts.specs.Agreement.{shape_of_agreed}
+use Rattle.rtp_media_exchange_texts.specs.Answered.{answered_rows}
+use Rattle.rtp_media_exchange_texts.specs.Extensions.{is_writable_map}
+use Rattle.rtp_media_exchange_texts.specs.Lines.{is_media_line, mid_of, remote_of, shape_of_line, types_listed}
+use Rattle.rtp_media_exchange_texts.specs.Sections.{Wanted, correspond, may_follow, shape_of}
 
 -- What is refused next, where nothing was refused yet.
 abbrev pub else_refused : {A : Type 0} → Option A → Option A → Option A

@@ -5,8 +5,7 @@ ghost use Rattle.std.specs.List.{list_any};
 ghost use Rattle.rtp_media_exchange_steps.specs.Refusals.{is_nameless, lists_none, no_row_of};
 
 use rtp_media_exchange_errors::ExchangeError;
-use rtp_media_section_texts::SectionSpec;
-use sdp_formats_config::CodecConfig;
+use rtp_media_exchange_texts::{CodecConfig, SectionSpec};
 use std::alloc::AllocError;
 
 fn lists_none(config: &CodecConfig, section: &SectionSpec) -> Result<bool, AllocError>

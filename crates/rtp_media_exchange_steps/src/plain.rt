@@ -4,9 +4,8 @@ ghost use Rattle.std.specs.Prelude.{◌≡◌, ◌≢◌, None, Some, [], OnOk, 
 ghost use Rattle.rtp_media_exchange_steps.specs.Refusals.{first_repeated, is_among, row_refusal, types_refusal};
 
 use rtp_media_exchange_errors::EndError;
-use rtp_media_section_texts::types_listed;
+use rtp_media_exchange_texts::{PayloadParams, types_listed};
 use rtp_wire::Pt;
-use sdp_formats_rows::PayloadParams;
 use std::alloc::Global;
 
 /// That each row is plain.

@@ -4,13 +4,12 @@ ghost use Rattle.std.specs.Prelude.{◌≡◌, ◌≢◌, length, map, IfErr, If
 ghost use Rattle.rtp_media_exchange_steps.specs.Reading.{IsUnread};
 ghost use Rattle.rtp_media_exchange_steps.specs.Refusals.{IsUnwritable};
 ghost use Rattle.rtp_media_exchange_texts.specs.Says.{SaysOnly};
-ghost use Rattle.rtp_media_section_texts.specs.Lines.{shape_of_line};
-ghost use Rattle.rtp_media_section_texts.specs.Sections.{correspond, shape_of};
+ghost use Rattle.rtp_media_exchange_texts.specs.Lines.{shape_of_line};
+ghost use Rattle.rtp_media_exchange_texts.specs.Sections.{correspond, shape_of};
 
 use rtp_media_exchange_errors::ExchangeError;
-use rtp_media_exchange_texts::corresponds;
-use rtp_media_section_texts::SectionSpec;
-use sdp_formats::{Sdp, SdpError, sdp_parser};
+use rtp_media_exchange_texts::{SdpError, SectionSpec, corresponds, sdp_parser};
+use sdp_formats_sessions::Sdp;
 use sdp_formats_types::MediaLine;
 use std::alloc::Global;
 

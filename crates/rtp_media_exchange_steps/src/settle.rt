@@ -2,19 +2,18 @@
 
 ghost use Rattle.std.specs.Prelude.{◌≡◌, ◌≢◌, ◌&&◌, ◌==◌, None, Some, Ok, Err, not, find, map, OnOk, IfErr, IfOk};
 ghost use Rattle.std.specs.List.{list_any};
-ghost use Rattle.sdp_formats_config.specs.Sections.{section_of};
-ghost use Rattle.sdp_formats_round.specs.Laws.{rounds};
+ghost use Rattle.rtp_media_exchange_texts.specs.RemoteSections.{section_of};
+ghost use Rattle.rtp_media_exchange_texts.specs.Laws.{rounds};
 ghost use Rattle.rtp_media_exchange_steps.specs.Refusals.{answers_none, no_acceptance, no_answer, not_media_of};
 ghost use Rattle.rtp_media_exchange_steps.specs.Refusals.{is_locked_at, round_refusal, shares_none};
-ghost use Rattle.rtp_media_section_texts.specs.Answered.{answered_rows};
-ghost use Rattle.rtp_media_section_texts.specs.Lines.{is_media_line, remote_of};
+ghost use Rattle.rtp_media_exchange_texts.specs.Answered.{answered_rows};
+ghost use Rattle.rtp_media_exchange_texts.specs.Lines.{is_media_line, remote_of};
 
 use rtp_media_exchange_errors::ExchangeError;
-use rtp_media_section_texts::answered_rows;
-use rtp_media_sections::{is_media_line, mid_of, remote_of};
-use sdp_formats_config::{CodecConfig, RemoteSection, RoundError};
-use sdp_formats_rows::PayloadParams;
-use sdp_formats_section_rows::rtp_params;
+use rtp_media_exchange_texts::{
+    CodecConfig, PayloadParams, RemoteSection, RoundError, answered_rows, is_media_line, mid_of,
+    remote_of, rtp_params,
+};
 use sdp_formats_types::MediaLine;
 use std::alloc::{AllocError, Global};
 

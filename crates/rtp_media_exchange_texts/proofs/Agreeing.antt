@@ -8,9 +8,9 @@ use Rattle.sdp_formats_types.specs.declared.media.MediaLine.{MediaLine}
 use Rattle.rtp_media_exchange_texts.specs.Exchanges.{accepted_agreement, answered_agreement}
 use Rattle.rtp_media_sections.specs.Agreement.{Agreed, AgreesOn, agreed_by_accept, agreed_by_answer, line_of}
 use Rattle.rtp_media_sections.specs.Agreement.{row_of_line, row_of_section, section_of}
-use Rattle.rtp_media_section_texts.specs.Extensions.{map_of_lines}
-use Rattle.rtp_media_section_texts.specs.Lines.{mid_of}
-use Rattle.rtp_media_section_texts.specs.Sections.{Wanted}
+use Rattle.rtp_media_sections.specs.Extensions.{map_of_lines}
+use Rattle.rtp_media_sections.specs.Lines.{mid_of}
+use Rattle.rtp_media_sections.specs.Sections.{Wanted}
 
 less : {A B : Type 0} (x : A) (xs : List A) (y : B) (ys : List B) → length (x ∷ xs) ≡ length (y ∷ ys)
     → length xs ≡ length ys

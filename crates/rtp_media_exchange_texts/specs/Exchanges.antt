@@ -2,13 +2,13 @@
 use Rattle.std.specs.Prelude.{ℕ, true, false, List, [], ◌∷◌, map, zip, Option, None}
 use Rattle.rtp_wire.specs.Maps.{empty_map}
 use Rattle.rtp_wire.specs.Values.{Numbering}
-use Rattle.sdp_formats_config.specs.Configs.{Config}
-use Rattle.sdp_formats_default_rows.specs.DefaultRows.{opus_row}
-use Rattle.sdp_formats_rows.specs.Rows.{Row}
+use Rattle.rtp_media_sections.specs.Configs.{Config}
+use Rattle.rtp_media_sections.specs.DefaultRows.{opus_row}
+use Rattle.rtp_media_sections.specs.Rows.{Row}
 use Rattle.sdp_formats_types.specs.declared.media.MediaLine.{MediaLine}
 use Rattle.sdp_formats_sessions.specs.declared.session.Session.{Session}
 use Rattle.rtp_media_sections.specs.Agreement.{Agreed, agreed_by_accept, agreed_by_answer, fixed_section}
-use Rattle.rtp_media_section_texts.specs.Sections.{Wanted}
+use Rattle.rtp_media_sections.specs.Sections.{Wanted}
 
 -- What an end keeps of its exchanges: its session, the header extensions that it wants, its rows with their locks, the
 -- sections of an offer that waits for its answer, and the sections that were agreed last.

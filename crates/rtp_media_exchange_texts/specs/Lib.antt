@@ -1,3 +1,17 @@
+pub use Rattle.rtp_media_sections.specs.Agreement
+pub use Rattle.rtp_media_sections.specs.Answered
+pub use Rattle.rtp_media_sections.specs.Configs
+pub use Rattle.rtp_media_sections.specs.Extensions
+pub use Rattle.rtp_media_sections.specs.Kinds
+pub use Rattle.rtp_media_sections.specs.Laws
+pub use Rattle.rtp_media_sections.specs.Lines
+pub use Rattle.rtp_media_sections.specs.Plain
+pub use Rattle.rtp_media_sections.specs.RemoteSections
+pub use Rattle.rtp_media_sections.specs.Rows
+pub use Rattle.rtp_media_sections.specs.SectionRows
+pub use Rattle.rtp_media_sections.specs.Sections
+pub use Rattle.sdp_formats_reader.specs.Texts
+pub use Rattle.sdp_formats_writable.specs.Writable
 pub mod Exchanges
 pub mod Offers
 pub mod Says

@@ -1,7 +1,7 @@
 -- What offers and answers say.
 use Rattle.std.specs.Prelude.{◌≡◌, ℕ, IsTrue, List, ◌∷◌, map, zip, codes, Some, Ok}
-use Rattle.sdp_formats_round.specs.Laws.{rounds}
-use Rattle.sdp_formats_rows.specs.Rows.{Row}
+use Rattle.rtp_media_sections.specs.Laws.{rounds}
+use Rattle.rtp_media_sections.specs.Rows.{Row}
 use Rattle.sdp_formats_sessions.specs.PrintedSession.{sdp_text}
 use Rattle.sdp_formats_types.specs.declared.media.MediaLine.{MediaLine}
 use Rattle.sdp_formats_sessions.specs.declared.session.Sdp.{Sdp}
@@ -10,9 +10,9 @@ use Rattle.sdp_formats_sessions.specs.declared.session.SessionAttribute.{Session
 use Rattle.sdp_formats_sessions.specs.declared.session.SessionAttribute.TheVariants.{Group}
 use Rattle.rtp_media_exchange_texts.specs.Exchanges.{Exchanged, accepted_agreement, answered_agreement, with_agreement}
 use Rattle.rtp_media_exchange_texts.specs.Says.{SaysOnly}
-use Rattle.rtp_media_section_texts.specs.Answered.{answered_section}
-use Rattle.rtp_media_section_texts.specs.Lines.{offered_section, remote_of, shape_of_line}
-use Rattle.rtp_media_section_texts.specs.Sections.{Wanted, correspond, shape_of}
+use Rattle.rtp_media_sections.specs.Answered.{answered_section}
+use Rattle.rtp_media_sections.specs.Lines.{offered_section, remote_of, shape_of_line}
+use Rattle.rtp_media_sections.specs.Sections.{Wanted, correspond, shape_of}
 
 -- These sections are one bundle (RFC 9143 7.2).
 abbrev pub bundle_of : List Wanted → SessionAttribute

@@ -4,8 +4,7 @@ ghost use Rattle.std.specs.Prelude.{◌≡◌, length, IfOk};
 ghost use Rattle.rtp_media_sections.specs.Agreement.{AgreesOn};
 ghost use Rattle.rtp_media_exchange_texts.specs.Exchanges.{accepted_agreement, answered_agreement};
 
-use rtp_media_section_texts::SectionSpec;
-use rtp_media_sections::{AgreedSection, agreed_by_accept, agreed_by_answer};
+use rtp_media_sections::{AgreedSection, SectionSpec, agreed_by_accept, agreed_by_answer};
 use sdp_formats_types::MediaLine;
 use std::alloc::{AllocError, Global};
 

@@ -3,12 +3,11 @@
 ghost use Rattle.std.specs.Prelude.{◌≡◌, length, map, zip, string_bytes, IfOk};
 ghost use Rattle.sdp_formats_sessions.specs.PrintedSession.{sdp_text};
 ghost use Rattle.rtp_media_exchange_texts.specs.Offers.{bundle_of, bundled};
-ghost use Rattle.rtp_media_section_texts.specs.Answered.{answered_section};
-ghost use Rattle.rtp_media_section_texts.specs.Lines.{offered_section};
+ghost use Rattle.rtp_media_sections.specs.Answered.{answered_section};
+ghost use Rattle.rtp_media_sections.specs.Lines.{offered_section};
 
-use rtp_media_section_texts::{SectionSpec, answered_section, offered_section};
+use rtp_media_sections::{CodecConfig, SectionSpec, answered_section, offered_section};
 use rtp_wire::{ExtensionMap, Mid};
-use sdp_formats_config::CodecConfig;
 use sdp_formats_sessions::{Session, SessionAttribute};
 use sdp_formats_types::{Listed, MediaLine, Text};
 use sdp_formats_writable::WholeText;

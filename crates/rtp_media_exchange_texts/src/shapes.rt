@@ -1,12 +1,11 @@
 //! The names and kinds of sections.
 
 ghost use Rattle.std.specs.Prelude.{◌≡◌, length, map, IfOk, IsTrue};
-ghost use Rattle.rtp_media_section_texts.specs.Lines.{shape_of_line};
-ghost use Rattle.rtp_media_section_texts.specs.Sections.{correspond, shape_of};
+ghost use Rattle.rtp_media_sections.specs.Lines.{shape_of_line};
+ghost use Rattle.rtp_media_sections.specs.Sections.{correspond, shape_of};
 ghost use Rattle.rtp_media_sections.specs.Agreement.{shape_of_agreed};
 
-use rtp_media_section_texts::{SectionSpec, Shape, correspond};
-use rtp_media_sections::{AgreedSection, shape_of_line};
+use rtp_media_sections::{AgreedSection, SectionSpec, Shape, correspond, shape_of_line};
 use sdp_formats_types::MediaLine;
 use std::alloc::{AllocError, Global};
 

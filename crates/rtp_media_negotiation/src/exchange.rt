@@ -2,23 +2,20 @@
 
 ghost use Rattle.std.specs.Prelude.{◌≡◌, ◌≢◌, None, is_some, IfOk, IfErr, OnOk};
 ghost use Rattle.std.specs.Option.{option_copied};
-ghost use Rattle.rtp_media_exchange_texts.specs.Exchanges.{fixed, fresh, with_offer};
+ghost use Rattle.rtp_media_exchange_steps.specs.Exchanges.{fixed, fresh, with_offer};
 ghost use Rattle.rtp_media_exchange_steps.specs.Refusals.{RefusesNew, refusal_of_new};
-ghost use Rattle.rtp_media_sections.specs.Agreement.{own_row_agrees, section_of};
-ghost use Rattle.sdp_formats_writable.specs.Writable.{IsWritableSession};
+ghost use Rattle.rtp_media_exchange_steps.specs.Agreement.{own_row_agrees, section_of};
+ghost use Rattle.rtp_media_exchange_steps.specs.Writable.{IsWritableSession};
 
 mod answer;
 mod offer;
 
-use rtp_media_exchange_steps::{EndError, ExchangeError, check_rows, check_types};
-use rtp_media_exchange_texts::fixed_config;
-use rtp_media_section_texts::{SectionSpec, is_writable};
-use rtp_media_sections::{AgreedSection, own_row_agrees};
+use rtp_media_exchange_steps::{
+    AgreedSection, CodecConfig, EndError, ExchangeError, PayloadParams, SectionSpec, check_rows,
+    check_types, fixed_config, is_writable, is_writable_session, own_row_agrees,
+};
 use rtp_wire::{ExtensionMap, Mid, SessionId};
-use sdp_formats::Session;
-use sdp_formats_config::CodecConfig;
-use sdp_formats_rows::PayloadParams;
-use sdp_formats_writable::is_writable_session;
+use sdp_formats_sessions::Session;
 use std::alloc::{AllocError, Global};
 use std::marker::Model;
 
@@ -56,7 +53,7 @@ pub(crate) struct Pending {
 
 impl Model for Pending {
     ghost use Rattle.std.specs.Prelude.{List};
-    ghost use Rattle.rtp_media_section_texts.specs.Sections.{Wanted};
+    ghost use Rattle.rtp_media_exchange_steps.specs.Sections.{Wanted};
 
     ghost Value = { List Wanted };
 
@@ -64,7 +61,7 @@ impl Model for Pending {
 }
 
 impl Model for Exchange {
-    ghost use Rattle.rtp_media_exchange_texts.specs.Exchanges.{Exchanged};
+    ghost use Rattle.rtp_media_exchange_steps.specs.Exchanges.{Exchanged};
 
     ghost Value = { Exchanged };
 
@@ -127,7 +124,7 @@ impl Exchange {
     /// # Errors
     ///
     /// `AllocError` where memory runs out.
-    #[tactic(auto, unfolding(rtp_media_exchange_texts::specs::Exchanges::fixed))]
+    #[tactic(auto, unfolding(rtp_media_exchange_steps::specs::Exchanges::fixed))]
     pub fn fixed(alloc: Global) -> Result<Self, AllocError>
         ensures { IfOk result (λ x. x ≡ fixed) }
     {

@@ -7,8 +7,9 @@ mod laws;
 pub use exchange::Exchange;
 pub use laws::one_agreement_law;
 pub use payload_core_base::MediaKind;
-pub use rtp_media_section_texts::SectionSpec;
-pub use rtp_media_sections::{AgreedSection, own_row_agrees};
-pub use sdp_formats::{Bandwidth, SdpError, Session, SessionAttribute};
-pub use sdp_formats_config::{CodecConfig, RoundError};
-pub use sdp_formats_rows::{Codec, CodecSpec, FormatParams, PayloadParams};
+pub use rtp_media_exchange_steps::{
+    AgreedSection, Codec, CodecConfig, CodecSpec, EndError, ExchangeError, FormatParams,
+    PayloadParams, RoundError, SdpError, SectionSpec, flow, own_row_agrees,
+};
+pub use sdp_formats_sessions::{Session, SessionAttribute};
+pub use sdp_formats_types::Bandwidth;

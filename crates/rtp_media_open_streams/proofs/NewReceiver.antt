@@ -5,8 +5,8 @@ use Rattle.std.proofs.lemmas.Bool.Decides.{nat_tests}
 use Rattle.std.proofs.lemmas.List.{get_or_push}
 use Rattle.std.specs.Prelude.{◌==◌, not, nat_lt, Option, Some, None, if◌then◌else◌}
 use Rattle.std.specs.List.{list_any, position_or_len}
-use Rattle.rtp_media_sections.specs.Agreement.{Agreed, row_in, row_of_section, section_of}
-use Rattle.sdp_formats_rows.specs.Rows.{Row}
+use Rattle.rtp_media_exchange_texts.specs.Agreement.{Agreed, row_in, row_of_section, section_of}
+use Rattle.rtp_media_exchange_texts.specs.Rows.{Row}
 use Rattle.rtp_media_payloads.specs.Receiving.{Receiving, conflicts_with, is_own}
 use Rattle.rtp_media_payloads.specs.Types.{has_red_type, has_type, is_type, share_type}
 use Rattle.rtp_media_payloads.specs.declared.types.PayloadTypes.{PayloadTypes}

@@ -4,19 +4,19 @@ use Rattle.std.specs.List.{list_any}
 use Rattle.rtp_wire.specs.Maps.{empty_map}
 use Rattle.rtp_wire.specs.Values.{Numbering}
 use Rattle.payload_core_base.specs.declared.codec.Codec.TheVariants.{Unknown}
-use Rattle.h26x_payload.specs.Codings.{has_format}
+use Rattle.rtp_media_payloads.specs.Codings.{has_format}
 use Rattle.rtp_media_streams.specs.Sending as sending
 use Rattle.rtp_media_streams.specs.Sending.{Sending, opened_sender, redundant_sender}
 use Rattle.rtp_media_payloads.specs.Receiving as receiving
 use Rattle.rtp_media_payloads.specs.Receiving.{Receiving, opened_receiver}
 use Rattle.rtp_media_payloads.specs.declared.row_format.RowFormat.{RowFormat}
 use Rattle.rtp_media_payloads.specs.declared.types.PayloadTypes.{PayloadTypes}
-use Rattle.sdp_formats_rows.specs.Rows.{Row}
-use Rattle.sdp_formats_config.specs.Configs.{Config}
+use Rattle.rtp_media_exchange_texts.specs.Rows.{Row}
+use Rattle.rtp_media_exchange_texts.specs.Configs.{Config}
 use Rattle.rtp_media_exchange_texts.specs.Exchanges.{Exchanged, fresh, fixed}
 use Rattle.sdp_formats_sessions.specs.declared.session.Session.{Session}
-use Rattle.rtp_media_sections.specs.Agreement.{Agreed, agreed_map_of, agreed_row_of, is_named, own_row_agrees, row_in}
-use Rattle.rtp_media_sections.specs.Agreement.{section_of}
+use Rattle.rtp_media_exchange_texts.specs.Agreement.{Agreed, agreed_map_of, agreed_row_of, is_named, own_row_agrees, row_in}
+use Rattle.rtp_media_exchange_texts.specs.Agreement.{section_of}
 use Rattle.rtp_media_open_streams.specs.declared.open_stream.OpenStream.{OpenStream}
 use Rattle.rtp_media_open_streams.specs.declared.open_stream.OpenStream.TheVariants.{Sender, Receiver}
 use Rattle.rtp_media_open_streams.specs.declared.params.StreamParams.{StreamParams}

@@ -1,8 +1,8 @@
 -- Where an end may open a stream.
 use Rattle.std.specs.Prelude.{◌≡◌, ℕ, true, false, List, Some}
 use Rattle.std.specs.List.{list_any}
-use Rattle.rtp_media_sections.specs.Agreement.{Agreed, is_named, own_row_agrees, row_in, section_of}
-use Rattle.sdp_formats_rows.specs.Rows.{Row}
+use Rattle.rtp_media_exchange_texts.specs.Agreement.{Agreed, is_named, own_row_agrees, row_in, section_of}
+use Rattle.rtp_media_exchange_texts.specs.Rows.{Row}
 use Rattle.rtp_media_open_streams.specs.Ends.{EndState, is_carried, receives_as, sends_as, types_of}
 
 -- An end may send at a section's name, SSRC and payload type: the section is agreed, its first row of the type is one

@@ -1,3 +1,4 @@
+pub use Rattle.h26x_payload.specs.Codings
 pub mod Types
 pub mod Rows
 pub mod Redundant

@@ -12,6 +12,7 @@ mod types;
 pub use codecs::{depacketizer_for, packetizer_for};
 pub use datagram::Datagram;
 pub use errors::{PollFault, SampleError};
+pub use h26x_payload::{CodecDepacketizer, CodecPacketizer, NotBoxed};
 pub use media_unit::Unit;
 pub use payload::media_payload;
 pub use row_format::{RowFormat, rtp_rate_of};

@@ -5,7 +5,7 @@ use Rattle.std.specs.Prelude.{unwrap_or, is_some}
 use Rattle.h26x_payload.specs.Dispatch.{FirstIsReached, KeepCodecLawInForms}
 use Rattle.rtp_wire.specs.Maps.{empty_map}
 use Rattle.rtp_wire.specs.Values.{Numbering}
-use Rattle.sdp_formats_rows.specs.Rows.{Row}
+use Rattle.rtp_media_ends.specs.Rows.{Row}
 use Rattle.payload_core_base.specs.Packing.{Sender}
 use Rattle.rtp_media_schedules.specs.Hearing.{Stream, fresh, heard}
 use Rattle.rtp_media_schedules.specs.SentSamples.{Timed, timed}
@@ -18,17 +18,17 @@ use Rattle.rtp_media_streams.specs.Sending.{samples_of}
 use Rattle.rtp_media_streams.specs.Sending.{timestamp}
 use Rattle.rtp_media_payloads.specs.declared.row_format.RowFormat.{RowFormat}
 use Rattle.rtp_media_payloads.specs.declared.types.PayloadTypes.{PayloadTypes}
-use Rattle.rtp_media_negotiation.proofs.OneAgreement.{same_maps, same_rows}
-use Rattle.rtp_media_sections.specs.Agreement.{agreed_map_of, agreed_row_of}
-use Rattle.rtp_media_open_streams.specs.Ends.{EndState, after_open_receiver, agreed_format, agreed_red, agreed_types}
-use Rattle.rtp_media_open_streams.specs.Ends.{new_receiver, new_sender, red_in, row_format_in, stream_map}
-use Rattle.rtp_media_open_streams.specs.Ends.{receiver_at, types_in, with_distances}
-use Rattle.rtp_media_open_streams.specs.FullArrival.{HasReceiver, IsSender, coding_of, count_of}
-use Rattle.rtp_media_open_streams.specs.OpensAt.{SendsAt}
-use Rattle.rtp_media_open_streams.specs.Params as params
-use Rattle.rtp_media_open_streams.specs.declared.params.StreamParams.{StreamParams}
-use Rattle.rtp_media_open_streams.proofs.MayOpen.{may-receive}
-use Rattle.rtp_media_open_streams.proofs.NewReceiver.{opened-receiver}
+use Rattle.rtp_media_ends.proofs.OneAgreement.{same_maps, same_rows}
+use Rattle.rtp_media_ends.specs.Agreement.{agreed_map_of, agreed_row_of}
+use Rattle.rtp_media_ends.specs.Ends.{EndState, after_open_receiver, agreed_format, agreed_red, agreed_types}
+use Rattle.rtp_media_ends.specs.Ends.{new_receiver, new_sender, red_in, row_format_in, stream_map}
+use Rattle.rtp_media_ends.specs.Ends.{receiver_at, types_in, with_distances}
+use Rattle.rtp_media_ends.specs.FullArrival.{HasReceiver, IsSender, coding_of, count_of}
+use Rattle.rtp_media_ends.specs.OpensAt.{SendsAt}
+use Rattle.rtp_media_ends.specs.Params as params
+use Rattle.rtp_media_ends.specs.declared.StreamParams.{StreamParams}
+use Rattle.rtp_media_ends.proofs.MayOpen.{may-receive}
+use Rattle.rtp_media_ends.proofs.NewReceiver.{opened-receiver}
 use Rattle.rtp_media_ends.proofs.Opened.{carried-fits, opened-sound}
 use Rattle.rtp_media_ends.proofs.Refusals.{row-agreed}
 use Rattle.rtp_media_play.specs.Headline.{SendsTo, answers_of, units}

@@ -15,14 +15,14 @@ use Rattle.rtp_media_payloads.specs.Receiving.{Receiving, is_own, media_payload,
 use Rattle.rtp_media_payloads.specs.Receiving.{with_stream}
 use Rattle.rtp_media_payloads.specs.Rows.{format_of}
 use Rattle.rtp_media_payloads.specs.declared.row_format.RowFormat.{RowFormat}
-use Rattle.rtp_media_open_streams.specs.Arrivals.{after_datagram}
-use Rattle.rtp_media_open_streams.specs.Ends.{EndState, receiver_at, receiving_of, with_receiver}
-use Rattle.rtp_media_open_streams.specs.declared.open_stream.OpenStream.TheVariants.{Receiver}
-use Rattle.rtp_media_open_streams.specs.FullArrival.{IsFound}
-use Rattle.rtp_media_stream_laws.specs.OwnEvents.{content_event, event_by, event_in}
-use Rattle.rtp_media_stream_laws.proofs.Isolation as isolation
-use Rattle.rtp_media_stream_laws.proofs.Isolation.{is-receiving, is-there, known-again, nobody, same-again, stream-is}
-use Rattle.rtp_media_stream_laws.proofs.Isolation.{stream_for-set}
+use Rattle.rtp_media_ends.specs.Arrivals.{after_datagram}
+use Rattle.rtp_media_ends.specs.Ends.{EndState, receiver_at, receiving_of, with_receiver}
+use Rattle.rtp_media_ends.specs.declared.OpenStream.TheVariants.{Receiver}
+use Rattle.rtp_media_ends.specs.FullArrival.{IsFound}
+use Rattle.rtp_media_ends.specs.OwnEvents.{content_event, event_by, event_in}
+use Rattle.rtp_media_ends.proofs.Isolation as isolation
+use Rattle.rtp_media_ends.proofs.Isolation.{is-receiving, is-there, known-again, nobody, same-again, stream-is}
+use Rattle.rtp_media_ends.proofs.Isolation.{stream_for-set}
 use Rattle.rtp_media_play.specs.Schedules.{after_bytes, own_events}
 use Rattle.rtp_media_play.specs.Schedules.{played, poll_answers, verdicts_on}
 use Rattle.rtp_media_play.specs.declared.schedule.Event.{Event}

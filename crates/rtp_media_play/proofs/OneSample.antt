@@ -27,9 +27,9 @@ use Rattle.rtp_media_payloads.specs.Rows.{format_of, settings_in}
 use Rattle.rtp_media_streams.specs.Sending.{Sample, Sending, carried, datagrams_of, opened_sender, packet_limit}
 use Rattle.rtp_media_streams.specs.Sending.{samples_of, timestamp}
 use Rattle.rtp_media_payloads.specs.declared.row_format.RowFormat.{RowFormat}
-use Rattle.rtp_media_open_streams.specs.Ends.{agreed_types, new_receiver}
-use Rattle.rtp_media_open_streams.specs.FullArrival.{AreSound, count_of, sent_samples}
-use Rattle.rtp_media_stream_laws.specs.OwnEvents.{event_in}
+use Rattle.rtp_media_ends.specs.Ends.{agreed_types, new_receiver}
+use Rattle.rtp_media_ends.specs.FullArrival.{AreSound, count_of, sent_samples}
+use Rattle.rtp_media_ends.specs.OwnEvents.{event_in}
 use Rattle.rtp_media_play.specs.Runs.{sizes_at}
 use Rattle.rtp_media_play.specs.Schedules.{turns_of}
 use Rattle.rtp_media_play.specs.declared.schedule.Event.TheVariants.{Arrive, Poll}

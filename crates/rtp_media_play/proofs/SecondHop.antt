@@ -14,8 +14,8 @@ use Rattle.h26x_payload.specs.Codings.{forms_for}
 use Rattle.rtp_media_payloads.specs.Rows.{coding_in, first_state, rtp_rate, settings_in}
 use Rattle.rtp_media_streams.specs.Sending.{Sample, Sending, opened_sender, packet_limit, samples_of}
 use Rattle.rtp_media_payloads.specs.declared.row_format.RowFormat.{RowFormat}
-use Rattle.rtp_media_open_streams.specs.Ends.{agreed_types}
-use Rattle.rtp_media_open_streams.specs.FullArrival.{coding_of}
+use Rattle.rtp_media_ends.specs.Ends.{agreed_types}
+use Rattle.rtp_media_ends.specs.FullArrival.{coding_of}
 use Rattle.rtp_media_play.specs.Units.{arriving, units_by, units_for}
 use Rattle.rtp_media_play.specs.declared.schedule.Event.{Event}
 use Rattle.rtp_media_play.proofs.Exchanged.{IsPlain, plain}

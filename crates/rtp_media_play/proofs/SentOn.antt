@@ -20,7 +20,7 @@ use Rattle.h26x_payload.specs.Codings.{forms_for}
 use Rattle.rtp_media_payloads.specs.Rows.{first_state, rtp_rate, settings_in}
 use Rattle.rtp_media_streams.specs.Sending.{Sample}
 use Rattle.rtp_media_payloads.specs.declared.row_format.RowFormat.{RowFormat}
-use Rattle.rtp_media_open_streams.specs.FullArrival.{count_of}
+use Rattle.rtp_media_ends.specs.FullArrival.{count_of}
 use Rattle.rtp_media_play.specs.Units.{arriving_values, units_for}
 use Rattle.rtp_media_play.specs.Hops.{Hop, IsAlike, IsTame, SendsOn, answers_over, limit_over, map_over}
 use Rattle.rtp_media_play.specs.Hops.{passed_on, row_over, sender_over, units_over, unstamped}

@@ -19,15 +19,15 @@ use Rattle.rtp_media_streams.specs.Sending.{payloads_of_samples, wire_payloads}
 use Rattle.rtp_media_payloads.specs.declared.row_format.RowFormat.{RowFormat}
 use Rattle.rtp_media_streams.proofs.Cutting.{length-datagrams_from, length-on_wire}
 use Rattle.rtp_media_streams.proofs.Sent.{datagrams_of-consecutive}
-use Rattle.rtp_media_open_streams.specs.Ends.{EndState, after_open_receiver, agreed_red, agreed_types, receiver_at}
-use Rattle.rtp_media_open_streams.specs.Ends.{with_distances}
-use Rattle.rtp_media_open_streams.specs.FullArrival.{AreSound, IsFound, IsSender, coding_of, count_of, sent_samples}
-use Rattle.rtp_media_stream_laws.specs.OwnEvents.{event_in}
-use Rattle.rtp_media_stream_laws.specs.Transparency.{AreTwins, Receives}
-use Rattle.rtp_media_open_streams.specs.declared.params.StreamParams.{StreamParams}
-use Rattle.rtp_media_stream_laws.proofs.Datagrams.{AreTheirs}
-use Rattle.rtp_media_stream_laws.proofs.Exact.{all-theirs}
-use Rattle.rtp_media_stream_laws.proofs.Transparent.{transparent}
+use Rattle.rtp_media_ends.specs.Ends.{EndState, after_open_receiver, agreed_red, agreed_types, receiver_at}
+use Rattle.rtp_media_ends.specs.Ends.{with_distances}
+use Rattle.rtp_media_ends.specs.FullArrival.{AreSound, IsFound, IsSender, coding_of, count_of, sent_samples}
+use Rattle.rtp_media_ends.specs.OwnEvents.{event_in}
+use Rattle.rtp_media_ends.specs.Transparency.{AreTwins, Receives}
+use Rattle.rtp_media_ends.specs.declared.StreamParams.{StreamParams}
+use Rattle.rtp_media_ends.proofs.Datagrams.{AreTheirs}
+use Rattle.rtp_media_ends.proofs.Exact.{all-theirs}
+use Rattle.rtp_media_ends.proofs.Transparent.{transparent}
 use Rattle.rtp_media_play.specs.Runs.{Hears}
 use Rattle.rtp_media_play.specs.Schedules.{own_events, played, poll_answers}
 use Rattle.rtp_media_play.specs.Units.{arriving}

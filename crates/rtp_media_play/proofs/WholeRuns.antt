@@ -24,12 +24,12 @@ use Rattle.rtp_media_payloads.specs.Rows.{format_of}
 use Rattle.rtp_media_streams.specs.Sending.{Sample, Sending, datagrams_of, payloads_of_samples, wire_payloads}
 use Rattle.rtp_media_streams.proofs.Cutting.{length-datagrams_from, length-on_wire}
 use Rattle.rtp_media_streams.proofs.Sent.{datagrams_of-consecutive}
-use Rattle.rtp_media_open_streams.specs.Ends.{EndState, receiver_at}
-use Rattle.rtp_media_open_streams.specs.FullArrival.{count_of, is_header_of, sent_samples}
-use Rattle.rtp_media_open_streams.specs.FullArrival.{units_of}
-use Rattle.rtp_media_stream_laws.specs.OwnEvents.{event_by, event_in}
-use Rattle.rtp_media_stream_laws.proofs.Datagrams.{AreTheirs}
-use Rattle.rtp_media_stream_laws.proofs.Exact.{all-theirs, brings, sent-as-read, units-are}
+use Rattle.rtp_media_ends.specs.Ends.{EndState, receiver_at}
+use Rattle.rtp_media_ends.specs.FullArrival.{count_of, is_header_of, sent_samples}
+use Rattle.rtp_media_ends.specs.FullArrival.{units_of}
+use Rattle.rtp_media_ends.specs.OwnEvents.{event_by, event_in}
+use Rattle.rtp_media_ends.proofs.Datagrams.{AreTheirs}
+use Rattle.rtp_media_ends.proofs.Exact.{all-theirs, brings, sent-as-read, units-are}
 use Rattle.rtp_media_play.specs.Runs.{AreForeign, Hears, IsSaneSchedule, IsTameSchedule, canonical_of, sizes_at}
 use Rattle.rtp_media_play.specs.Runs.{turns_at}
 use Rattle.rtp_media_play.specs.Schedules.{own_events, played, poll_answers, turns_of}

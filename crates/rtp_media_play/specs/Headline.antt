@@ -4,12 +4,12 @@ use Rattle.rtp_media_schedules.specs.Hearing.{Answer}
 use Rattle.rtp_media_schedules.specs.SentSamples.{Timed}
 use Rattle.rtp_media_streams.specs.Sending.{Sample, datagrams_of}
 use Rattle.rtp_media_ends.specs.Connections.{HaveExchanged}
-use Rattle.rtp_media_open_streams.specs.Ends.{EndState, after_open_receiver, agreed_format, agreed_red, new_sender}
-use Rattle.rtp_media_open_streams.specs.Ends.{stream_map}
-use Rattle.rtp_media_open_streams.specs.FullArrival.{AreSound, count_of}
-use Rattle.rtp_media_open_streams.specs.OpensAt.{ReceivesAt, SendsAt}
-use Rattle.rtp_media_open_streams.specs.Params.{IsSound}
-use Rattle.rtp_media_open_streams.specs.declared.params.StreamParams.{StreamParams}
+use Rattle.rtp_media_ends.specs.Ends.{EndState, after_open_receiver, agreed_format, agreed_red, new_sender}
+use Rattle.rtp_media_ends.specs.Ends.{stream_map}
+use Rattle.rtp_media_ends.specs.FullArrival.{AreSound, count_of}
+use Rattle.rtp_media_ends.specs.OpensAt.{ReceivesAt, SendsAt}
+use Rattle.rtp_media_ends.specs.Params.{IsSound}
+use Rattle.rtp_media_ends.specs.declared.StreamParams.{StreamParams}
 use Rattle.rtp_media_play.specs.Schedules.{played, poll_answers}
 use Rattle.rtp_media_play.specs.Units.{packet_limit_of, units_for}
 use Rattle.rtp_media_play.specs.declared.schedule.Event.{Event}

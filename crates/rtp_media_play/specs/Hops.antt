@@ -9,9 +9,9 @@ use Rattle.rtp_media_schedules.specs.SentSamples.{Timed, timed}
 use Rattle.rtp_media_payloads.specs.Rows.{rtp_rate, settings_in}
 use Rattle.rtp_media_streams.specs.Sending.{Sample, Sending}
 use Rattle.rtp_media_payloads.specs.declared.row_format.RowFormat.{RowFormat}
-use Rattle.rtp_media_open_streams.specs.Ends.{EndState, agreed_format, new_sender, stream_map}
-use Rattle.rtp_media_open_streams.specs.FullArrival.{count_of}
-use Rattle.rtp_media_open_streams.specs.declared.params.StreamParams.{StreamParams}
+use Rattle.rtp_media_ends.specs.Ends.{EndState, agreed_format, new_sender, stream_map}
+use Rattle.rtp_media_ends.specs.FullArrival.{count_of}
+use Rattle.rtp_media_ends.specs.declared.StreamParams.{StreamParams}
 use Rattle.rtp_media_play.specs.Headline.{SendsTo, answers_of, units}
 use Rattle.rtp_media_play.specs.Runs.{IsTameSchedule}
 use Rattle.rtp_media_play.specs.Units.{arriving_values, packet_limit_of}

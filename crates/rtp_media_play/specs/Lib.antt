@@ -1,3 +1,7 @@
+pub use Rattle.rtp_media_ends.specs.Arrivals
+pub use Rattle.rtp_media_ends.specs.Ends
+pub use Rattle.rtp_media_ends.specs.Params
+pub use Rattle.rtp_media_ends.specs.Stops
 pub mod Schedules
 pub mod Runs
 pub mod Pushing

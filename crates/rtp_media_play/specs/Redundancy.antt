@@ -1,8 +1,8 @@
 -- One stream between two ends, opened without redundancy and with it.
 use Rattle.std.specs.Prelude.{◌≡◌, None}
-use Rattle.rtp_media_open_streams.specs.Ends.{agreed_red}
-use Rattle.rtp_media_open_streams.specs.Params.{IsSound}
-use Rattle.rtp_media_open_streams.specs.declared.params.StreamParams.{StreamParams}
+use Rattle.rtp_media_ends.specs.Ends.{agreed_red}
+use Rattle.rtp_media_ends.specs.Params.{IsSound}
+use Rattle.rtp_media_ends.specs.declared.StreamParams.{StreamParams}
 use Rattle.rtp_media_play.specs.Units.{packet_limit_of}
 use Rattle.rtp_media_play.specs.Hops.{Hop}
 

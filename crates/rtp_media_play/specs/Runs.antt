@@ -9,9 +9,9 @@ use Rattle.rtp_media_payloads.specs.Receiving.{opened_receiver}
 use Rattle.rtp_media_payloads.specs.Rows.{format_of}
 use Rattle.rtp_media_streams.specs.Sending.{Sample, Sending}
 use Rattle.rtp_media_payloads.specs.declared.types.PayloadTypes.{PayloadTypes}
-use Rattle.rtp_media_open_streams.specs.Ends.{EndState}
-use Rattle.rtp_media_open_streams.specs.FullArrival.{AreSound, HasReceiver, IsSender, count_of, is_own_datagram}
-use Rattle.rtp_media_open_streams.specs.FullArrival.{sent_samples}
+use Rattle.rtp_media_ends.specs.Ends.{EndState}
+use Rattle.rtp_media_ends.specs.FullArrival.{AreSound, HasReceiver, IsSender, count_of, is_own_datagram}
+use Rattle.rtp_media_ends.specs.FullArrival.{sent_samples}
 use Rattle.rtp_media_play.specs.Schedules.{turns_of}
 use Rattle.rtp_media_play.specs.declared.schedule.Event.{Event}
 use Rattle.rtp_media_play.specs.declared.schedule.Event.TheVariants.{Arrive, Foreign, Poll}

@@ -8,9 +8,9 @@ use Rattle.rtp_media_schedules.specs.Turns.{Turn, Ask}
 use Rattle.rtp_media_schedules.specs.Turns as turns
 use Rattle.rtp_media_payloads.specs.Receiving.{Receiving, polled_receiver}
 use Rattle.rtp_media_payloads.specs.Rows.{format_of}
-use Rattle.rtp_media_open_streams.specs.Arrivals.{after_datagram, verdict_of}
-use Rattle.rtp_media_open_streams.specs.Ends.{EndState, receiver_at, with_receiver}
-use Rattle.rtp_media_stream_laws.specs.OwnEvents.{event_in}
+use Rattle.rtp_media_ends.specs.Arrivals.{after_datagram, verdict_of}
+use Rattle.rtp_media_ends.specs.Ends.{EndState, receiver_at, with_receiver}
+use Rattle.rtp_media_ends.specs.OwnEvents.{event_in}
 use Rattle.rtp_media_play.specs.declared.schedule.Event.{Event}
 use Rattle.rtp_media_play.specs.declared.schedule.Event.TheVariants.{Arrive, Foreign, Poll}
 use Rattle.rtp_media_play.specs.declared.schedule.Played.{Played}

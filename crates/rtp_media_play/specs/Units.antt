@@ -10,7 +10,7 @@ use Rattle.rtp_media_schedules.specs.SentSamples.{Timed, timed}
 use Rattle.rtp_media_payloads.specs.Rows.{coding_in, first_state, rtp_rate}
 use Rattle.rtp_media_streams.specs.Sending.{Sample, stamped}
 use Rattle.rtp_media_payloads.specs.declared.row_format.RowFormat.{RowFormat}
-use Rattle.rtp_media_open_streams.specs.declared.params.StreamParams.{StreamParams}
+use Rattle.rtp_media_ends.specs.declared.StreamParams.{StreamParams}
 
 -- The values that arrive under a map of header extensions, where these are sent: those of the wire image.
 abbrev pub arriving_values : Numbering → ExtensionValues → ExtensionValues

@@ -7,17 +7,17 @@ ghost use Rattle.rtp_media_schedules.specs.Legal.{IsLegal};
 ghost use Rattle.rtp_media_schedules.specs.Samples.{whole_unit};
 ghost use Rattle.rtp_media_payloads.specs.Rows.{format_of};
 ghost use Rattle.rtp_media_streams.specs.Sending.{Sample, datagrams_of};
-ghost use Rattle.rtp_media_open_streams.specs.Ends.{EndState, after_open_receiver, new_receiver, new_sender};
-ghost use Rattle.rtp_media_open_streams.specs.Ends.{refusal_of_open_receiver, refusal_of_open_sender};
-ghost use Rattle.rtp_media_open_streams.specs.OpensAt.{ReceivesAt, SendsAt};
-ghost use Rattle.rtp_media_open_streams.specs.declared.params.StreamParams.{StreamParams};
+ghost use Rattle.rtp_media_ends.specs.Ends.{EndState, after_open_receiver, new_receiver, new_sender};
+ghost use Rattle.rtp_media_ends.specs.Ends.{refusal_of_open_receiver, refusal_of_open_sender};
+ghost use Rattle.rtp_media_ends.specs.OpensAt.{ReceivesAt, SendsAt};
+ghost use Rattle.rtp_media_ends.specs.declared.StreamParams.{StreamParams};
 ghost use Rattle.rtp_media_play.specs.Headline.{SendsTo, answers_of, units};
 ghost use Rattle.rtp_media_play.specs.Runs.{Hears, IsSaneSchedule, IsTameSchedule, canonical_of};
 ghost use Rattle.rtp_media_play.specs.Schedules.{own_events};
 ghost use Rattle.rtp_media_play.specs.declared.schedule.Event.{Event};
 
 use h26x_payload::codec_law;
-use rtp_media_stream_laws::openings_law;
+use rtp_media_ends::openings_law;
 
 /// After two ends have exchanged an offer and an answer text, each opens a stream exactly where the answer's row and
 /// its own agree (`sends`, `receives`), and for every sane schedule of losses, reorderings, repeats, foreign bytes

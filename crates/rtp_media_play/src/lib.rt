@@ -19,6 +19,12 @@ pub use again::again_law;
 pub use laws::headline;
 pub use opus::opus_over_two_hops;
 pub use redundancy::redundancy_law;
+pub use rtp_media_ends::{
+    Bandwidth, Codec, CodecConfig, CodecSpec, Datagram, Distances, End, EndError, ExchangeError,
+    FormatParams, MediaKind, OpenError, PacketError, PayloadParams, PollFault, Polls, ReceiveError,
+    Received, ReceivedAll, RoundError, SampleError, SdpError, SectionSpec, Session,
+    SessionAttribute, StreamParams, Unit, connect,
+};
 pub use runs::play;
 pub use sample::Sample;
 pub use schedule::{Event, Played};

@@ -1,7 +1,7 @@
 //! Samples pushed one after the other.
 
 ghost use Rattle.std.specs.Prelude.{◌≡◌, ◌≢◌, ◌++◌, true, None, IfOk, IfErr, OnOk};
-ghost use Rattle.rtp_media_open_streams.specs.Ends.{is_sender_at, sender_at};
+ghost use Rattle.rtp_media_ends.specs.Ends.{is_sender_at, sender_at};
 ghost use Rattle.rtp_media_streams.specs.Sending.{datagrams_of};
 ghost use Rattle.rtp_media_play.specs.Pushing.{IsRefusedAt, PushesSome, after_pushes, refusal_of_samples};
 

@@ -2,10 +2,10 @@
 
 ghost use Rattle.std.specs.Prelude.{◌≡◌, ℕ, List};
 ghost use Rattle.rtp_media_streams.specs.Sending.{Sample, Sending, datagrams_of};
-ghost use Rattle.rtp_media_open_streams.specs.Ends.{EndState, receiver_at};
-ghost use Rattle.rtp_media_open_streams.specs.FullArrival.{AreSound, IsFound};
-ghost use Rattle.rtp_media_stream_laws.specs.Transparency.{AreTwins, Receives};
-ghost use Rattle.rtp_media_open_streams.specs.declared.params.StreamParams.{StreamParams};
+ghost use Rattle.rtp_media_ends.specs.Ends.{EndState, receiver_at};
+ghost use Rattle.rtp_media_ends.specs.FullArrival.{AreSound, IsFound};
+ghost use Rattle.rtp_media_ends.specs.Transparency.{AreTwins, Receives};
+ghost use Rattle.rtp_media_ends.specs.declared.StreamParams.{StreamParams};
 ghost use Rattle.rtp_media_play.specs.Schedules.{played, poll_answers};
 ghost use Rattle.rtp_media_play.specs.declared.schedule.Event.{Event};
 ghost use Rattle.rtp_media_play.specs.Hops.{Carries, Hop, answers_over};

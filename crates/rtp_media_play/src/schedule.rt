@@ -1,8 +1,7 @@
 //! Schedules, and what they are answered.
 
 use payload_core_base::PacketError;
-use rtp_media_ends::{Datagram, Unit};
-use rtp_media_open_streams::Received;
+use rtp_media_ends::{Datagram, Received, Unit};
 
 /// What happens at the end that receives.
 #[derive(Drop)]

@@ -7,8 +7,8 @@ use Rattle.rtp_wire.specs.declared.Direction.TheVariants.{SendOnly, RecvOnly, Se
 use Rattle.rtp_wire.specs.Direction.{sends, receives}
 use Rattle.rtp_wire.specs.Values.{Numbering}
 use Rattle.sdp_formats_config.specs.Matching.{type_for}
-use Rattle.sdp_formats_round.specs.Best.{best_row}
-use Rattle.sdp_formats_rows.specs.Rows.{Row}
+use Rattle.sdp_formats_config.specs.Best.{best_row}
+use Rattle.sdp_formats_config.specs.Rows.{Row}
 use Rattle.sdp_formats_section_rows.specs.SectionRows.{listed, rows_of}
 use Rattle.sdp_formats_types.specs.Lookups.{direction_of}
 use Rattle.sdp_formats_types.specs.declared.media.MediaLine.{MediaLine}

@@ -1,3 +1,11 @@
+pub use Rattle.sdp_formats_config.specs.Codecs
+pub use Rattle.sdp_formats_config.specs.Configs
+pub use Rattle.sdp_formats_config.specs.Kinds
+pub use Rattle.sdp_formats_config.specs.Laws
+pub use Rattle.sdp_formats_config.specs.Plain
+pub use Rattle.sdp_formats_config.specs.RemoteSections
+pub use Rattle.sdp_formats_config.specs.Rows
+pub use Rattle.sdp_formats_section_rows.specs.SectionRows
 pub use Rattle.rtp_media_section_specs.specs.Sections
 pub mod Answered
 pub mod Extensions

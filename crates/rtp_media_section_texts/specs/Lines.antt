@@ -8,10 +8,10 @@ use Rattle.rtp_wire.specs.declared.Direction.{Direction}
 use Rattle.rtp_wire.specs.Direction.{receives}
 use Rattle.rtp_wire.specs.Values.{Numbering}
 use Rattle.sdp_formats_config.specs.Kinds.{rows_of_kind}
-use Rattle.sdp_formats_round.specs.Laws.{Section}
-use Rattle.sdp_formats_round.specs.Types.{types_of}
-use Rattle.sdp_formats_rows.specs.Rows.{Row}
-use Rattle.sdp_formats_row_attributes.specs.Attributes.{attributes_of}
+use Rattle.sdp_formats_config.specs.Laws.{Section}
+use Rattle.sdp_formats_config.specs.Types.{types_of}
+use Rattle.sdp_formats_config.specs.Rows.{Row}
+use Rattle.sdp_formats_section_rows.specs.Attributes.{attributes_of}
 use Rattle.sdp_formats_section_rows.specs.SectionRows.{rows_of}
 use Rattle.sdp_formats_sources.specs.Sources.{sources_of}
 use Rattle.sdp_formats_types.specs.MediaTypes.{is_rtp}

@@ -1,7 +1,7 @@
 //! The sections of offers and answers.
 
 ghost use Rattle.std.specs.Prelude.{◌≡◌, ◌++◌, IfOk, OnOk, map};
-ghost use Rattle.sdp_formats_round.specs.Types.{types_of, listed};
+ghost use Rattle.sdp_formats_config.specs.Types.{types_of, listed};
 ghost use Rattle.rtp_media_section_texts.specs.Lines.{offered_section, row_lines, section_line, ssrc_line, type_of};
 ghost use Rattle.rtp_media_section_texts.specs.Lines.{types_listed};
 
@@ -9,9 +9,8 @@ use crate::extmaps::extmap_lines;
 use payload_core_base::MediaKind;
 use rtp_media_section_specs::SectionSpec;
 use rtp_wire::{Direction, ExtensionMap, Pt, Ssrc};
-use sdp_formats_config::CodecConfig;
-use sdp_formats_row_attributes::as_media_attrs;
-use sdp_formats_rows::PayloadParams;
+use sdp_formats_config::{CodecConfig, PayloadParams};
+use sdp_formats_section_rows::as_media_attrs;
 use sdp_formats_types::{Listed, MediaAttribute, MediaLine, MediaType, Proto, Text};
 use std::alloc::{AllocError, Global};
 

@@ -10,13 +10,13 @@ use Rattle.rtp_wire.specs.Direction.{sends, receives}
 use Rattle.rtp_wire.specs.Maps.{empty_map}
 use Rattle.rtp_wire.specs.Values.{Numbering}
 use Rattle.payload_core_base.specs.declared.codec.MediaKind.TheVariants.{Audio}
-use Rattle.sdp_formats_rows.specs.Codecs.{is_codec}
+use Rattle.rtp_media_section_texts.specs.Codecs.{is_codec}
 use Rattle.sdp_formats_default_rows.specs.DefaultRows.{opus_row}
 use Rattle.sdp_formats_format.specs.declared.format.FormatParams.{FormatParams}
-use Rattle.sdp_formats_rows.specs.declared.spec.CodecSpec.{CodecSpec}
-use Rattle.sdp_formats_rows.specs.Rows.{Row}
+use Rattle.rtp_media_section_texts.specs.declared.CodecSpec.{CodecSpec}
+use Rattle.rtp_media_section_texts.specs.Rows.{Row}
 use Rattle.sdp_formats_scores.specs.Same.{same, same_flag}
-use Rattle.sdp_formats_section_rows.specs.SectionRows.{rows_of}
+use Rattle.rtp_media_section_texts.specs.SectionRows.{rows_of}
 use Rattle.sdp_formats_types.specs.Lookups.{direction_of}
 use Rattle.sdp_formats_types.specs.declared.media.MediaLine.{MediaLine}
 use Rattle.rtp_media_section_texts.specs.Extensions.{map_of_lines}

@@ -1,1 +1,13 @@
+pub use Rattle.rtp_media_section_texts.specs.Answered
+pub use Rattle.rtp_media_section_texts.specs.Configs
+pub use Rattle.rtp_media_section_texts.specs.Extensions
+pub use Rattle.rtp_media_section_texts.specs.Kinds
+pub use Rattle.rtp_media_section_texts.specs.Laws
+pub use Rattle.rtp_media_section_texts.specs.Lines
+pub use Rattle.rtp_media_section_texts.specs.Plain
+pub use Rattle.rtp_media_section_texts.specs.RemoteSections
+pub use Rattle.rtp_media_section_texts.specs.Rows
+pub use Rattle.rtp_media_section_texts.specs.SectionRows
+pub use Rattle.rtp_media_section_texts.specs.Sections
+pub use Rattle.sdp_formats_default_rows.specs.DefaultRows
 pub mod Agreement

@@ -8,11 +8,10 @@ ghost use Rattle.rtp_media_sections.specs.Agreement.{is_named, row_in, shape_of_
 use crate::read::{kind_of, mid_of, ssrcs_of};
 use crate::ssrc_list::SsrcList;
 use payload_core_base::MediaKind;
-use rtp_media_section_texts::{SectionSpec, Shape, map_of_lines};
+use rtp_media_section_texts::{
+    CodecConfig, PayloadParams, SectionSpec, Shape, map_of_lines, rtp_params,
+};
 use rtp_wire::{ExtensionMap, Mid, Pt, Ssrc};
-use sdp_formats_config::CodecConfig;
-use sdp_formats_rows::PayloadParams;
-use sdp_formats_section_rows::rtp_params;
 use sdp_formats_types::MediaLine;
 use std::alloc::{AllocError, Global};
 use std::marker::Model;

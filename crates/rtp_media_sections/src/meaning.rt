@@ -4,8 +4,8 @@ ghost use Rattle.std.specs.Prelude.{◌≡◌};
 ghost use Rattle.sdp_formats_scores.specs.Same.{same};
 ghost use Rattle.rtp_media_sections.specs.Agreement.{means_same, own_row_agrees, same_codec, same_layout};
 
+use rtp_media_section_texts::{CodecSpec, FormatParams, PayloadParams};
 use rtp_wire::Pt;
-use sdp_formats_rows::{CodecSpec, FormatParams, PayloadParams};
 use sdp_formats_scores::{same_byte, same_flag, same_half_word};
 
 fn same_type(a: Option<Pt>, b: Option<Pt>) -> bool

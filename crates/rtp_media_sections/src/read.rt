@@ -1,15 +1,13 @@
 //! What the sections of a text say to an exchange.
 
 ghost use Rattle.std.specs.Prelude.{◌≡◌, IfOk};
-ghost use Rattle.sdp_formats_config.specs.Sections.{section_of};
+ghost use Rattle.rtp_media_section_texts.specs.RemoteSections.{section_of};
 ghost use Rattle.rtp_media_section_texts.specs.Lines.{is_media_line, kind_of, mid_of, remote_of, shape_of_line};
 ghost use Rattle.rtp_media_section_texts.specs.Lines.{ssrcs_of};
 
 use payload_core_base::MediaKind;
-use rtp_media_section_texts::Shape;
+use rtp_media_section_texts::{RemoteSection, Shape, rtp_params};
 use rtp_wire::{Mid, Ssrc};
-use sdp_formats_config::RemoteSection;
-use sdp_formats_section_rows::rtp_params;
 use sdp_formats_sources::sources_of;
 use sdp_formats_types::{MediaLine, MediaType, Proto};
 use std::alloc::{AllocError, Global};

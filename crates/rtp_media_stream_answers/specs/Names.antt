@@ -1,7 +1,7 @@
 -- The names under which the program prints errors of streams: that of the variant, without what it holds.
 use Rattle.std.specs.Prelude.{ℕ, List, codes}
-use Rattle.rtp_media_open_streams.specs.declared.errors.OpenError.{OpenError}
-use Rattle.rtp_media_open_streams.specs.declared.errors.OpenError.TheVariants as open_error
+use Rattle.rtp_media_play.specs.declared.OpenError.{OpenError}
+use Rattle.rtp_media_play.specs.declared.OpenError.TheVariants as open_error
 use Rattle.rtp_media_payloads.specs.declared.errors.SampleError.{SampleError}
 use Rattle.rtp_media_payloads.specs.declared.errors.SampleError.TheVariants as sample_error
 use Rattle.rtp_media_payloads.specs.declared.errors.PollFault.{PollFault}

@@ -5,7 +5,7 @@ use Rattle.rtp_media_streams.specs.Sending.{Sample, datagrams_of}
 use Rattle.rtp_media_payloads.specs.declared.errors.PollFault.TheVariants as poll_fault
 use Rattle.rtp_media_payloads.specs.declared.errors.SampleError.{SampleError}
 use Rattle.rtp_media_payloads.specs.declared.errors.SampleError.TheVariants as sample_error
-use Rattle.rtp_media_open_streams.specs.Ends.{EndState, is_receiver_at, is_sender_at, sender_at}
+use Rattle.rtp_media_play.specs.Ends.{EndState, is_receiver_at, is_sender_at, sender_at}
 use Rattle.rtp_media_play.specs.Pushing.{IsCutShort, IsRefusedAt, after_pushes, refusal_of_samples}
 use Rattle.rtp_media_play.specs.Schedules.{after_schedule, played}
 use Rattle.rtp_media_play.specs.declared.schedule.Event.{Event}
@@ -18,7 +18,7 @@ use Rattle.rtp_media_lines.specs.declared.playing.PlayItem.TheVariants as item
 use Rattle.rtp_media_lines.specs.declared.playing.QueueCommand.{QueueCommand}
 use Rattle.rtp_media_words.specs.declared.reply.Reply.{Reply}
 use Rattle.rtp_media_words.specs.declared.reply.Reply.TheVariants as reply
-use Rattle.rtp_media_ends.specs.Stops.{Where}
+use Rattle.rtp_media_play.specs.Stops.{Where}
 use Rattle.rtp_media_exchange_answers.specs.Exchanging.{Prints}
 use Rattle.rtp_media_exchange_answers.specs.Names.{memory}
 use Rattle.rtp_media_stream_answers.specs.Names.{fault_name, sample_error_name}

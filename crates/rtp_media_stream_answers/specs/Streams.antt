@@ -11,17 +11,17 @@ use Rattle.rtp_media_payloads.specs.Polls.{PollResult, poll_result}
 use Rattle.rtp_media_streams.specs.Sending.{sent_datagrams, after_sample, refusal_of_sample}
 use Rattle.rtp_media_payloads.specs.Receiving.{polled_receiver}
 use Rattle.rtp_media_payloads.specs.declared.errors.SampleError.{SampleError}
-use Rattle.rtp_media_open_streams.specs.declared.errors.OpenError.{OpenError}
-use Rattle.rtp_media_open_streams.specs.declared.params.StreamParams.{StreamParams}
-use Rattle.rtp_media_open_streams.specs.declared.received.Received.{Received}
-use Rattle.rtp_media_open_streams.specs.declared.received.Received.TheVariants as received
-use Rattle.rtp_media_open_streams.specs.Ends.{EndState, agreed_red, refusal_of_open_sender}
-use Rattle.rtp_media_open_streams.specs.Ends.{refusal_of_open_receiver, after_open_sender, after_open_receiver}
-use Rattle.rtp_media_open_streams.specs.Ends.{with_sender}
-use Rattle.rtp_media_open_streams.specs.Ends.{is_receiver_at, is_sender_at, with_receiver, sender_at, receiver_at}
-use Rattle.rtp_media_open_streams.specs.Params.{is_sound_params}
-use Rattle.rtp_media_ends.specs.Stops.{PollStops, SenderFails}
-use Rattle.rtp_media_open_streams.specs.Arrivals.{verdict_of, after_datagram}
+use Rattle.rtp_media_play.specs.declared.OpenError.{OpenError}
+use Rattle.rtp_media_play.specs.declared.StreamParams.{StreamParams}
+use Rattle.rtp_media_play.specs.declared.Received.{Received}
+use Rattle.rtp_media_play.specs.declared.Received.TheVariants as received
+use Rattle.rtp_media_play.specs.Ends.{EndState, agreed_red, refusal_of_open_sender}
+use Rattle.rtp_media_play.specs.Ends.{refusal_of_open_receiver, after_open_sender, after_open_receiver}
+use Rattle.rtp_media_play.specs.Ends.{with_sender}
+use Rattle.rtp_media_play.specs.Ends.{is_receiver_at, is_sender_at, with_receiver, sender_at, receiver_at}
+use Rattle.rtp_media_play.specs.Params.{is_sound_params}
+use Rattle.rtp_media_play.specs.Stops.{PollStops, SenderFails}
+use Rattle.rtp_media_play.specs.Arrivals.{verdict_of, after_datagram}
 use Rattle.rtp_media_lines.specs.declared.line.Command.{Command}
 use Rattle.rtp_media_lines.specs.declared.line.Command.TheVariants.{Send, Open, Sample, Receive, Poll}
 use Rattle.rtp_media_lines.specs.declared.line.SendCommand.{SendCommand}

@@ -3,9 +3,8 @@
 ghost use Rattle.std.specs.Prelude.{◌≡◌};
 ghost use Rattle.rtp_media_stream_answers.specs.Names.{open_error_name, sample_error_name, fault_name};
 
-use rtp_media_ends::{PollFault, SampleError};
 use rtp_media_exchange_answers::memory;
-use rtp_media_open_streams::OpenError;
+use rtp_media_play::{OpenError, PollFault, SampleError};
 use rtp_media_words::ErrorName;
 
 /// The name of a refused opening.

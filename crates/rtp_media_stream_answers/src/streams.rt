@@ -6,10 +6,9 @@ ghost use Rattle.rtp_media_stream_answers.specs.Streams.{IsAnswered, params_of, 
 ghost use Rattle.rtp_media_stream_answers.specs.Streams.{values_given};
 
 use crate::names::{fault_name, open_error_name, sample_error_name};
-use rtp_media_ends::{Datagram, End, Unit};
 use rtp_media_exchange_answers::{memory, one};
 use rtp_media_lines::{OpenCommand, PollCommand, ReceiveCommand, SampleCommand, SendCommand};
-use rtp_media_open_streams::{Distances, Received, StreamParams};
+use rtp_media_play::{Datagram, Distances, End, Received, StreamParams, Unit};
 use rtp_media_words::{Bytes, Reply, Text};
 use rtp_wire::{ExtensionValues, MediaTime, Mid, Pt, Ssrc};
 use std::alloc::{AllocError, Global};

@@ -1,3 +1,6 @@
+pub use Rattle.rtp_media_open_streams.proofs.Indexing
+pub use Rattle.rtp_media_open_streams.proofs.MayOpen
+pub use Rattle.rtp_media_open_streams.proofs.NewReceiver
 pub mod Datagrams
 pub mod Exact
 pub mod Isolation

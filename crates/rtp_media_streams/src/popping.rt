@@ -8,10 +8,9 @@ ghost use Rattle.rtp_media_streams.specs.Drains.{drain_answer, drained, holding}
 ghost use Rattle.rtp_media_payloads.specs.Polls.{IsInterrupted, given};
 ghost use Rattle.rtp_media_payloads.specs.Receiving.{stream_of};
 
-use h26x_payload::{CodecDepacketizer, NotBoxed};
 use payload_core_base::Depacketizer;
 use payload_core_buffer::DepacketizingBuffer;
-use rtp_media_payloads::{PollFault, Unit};
+use rtp_media_payloads::{CodecDepacketizer, NotBoxed, PollFault, Unit};
 
 /// Hands out the next frame as a unit.
 pub(crate) fn pop(

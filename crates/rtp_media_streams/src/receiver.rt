@@ -2,7 +2,7 @@
 
 ghost use Rattle.std.specs.Prelude.{◌≡◌, ◌≢◌, ◌<◌, ◌≤◌, IfErr, IfNone, IfOk, MatchOption, OnErr, OnOk, OnSome};
 ghost use Rattle.std.specs.Prelude.{[], Err, None, Ok, Some, length, true};
-ghost use Rattle.h26x_payload.specs.Codings.{has_format};
+ghost use Rattle.rtp_media_payloads.specs.Codings.{has_format};
 ghost use Rattle.rtp_wire.specs.Replay.{greatest_in, is_accepted, recorded_in};
 ghost use Rattle.rtp_wire.specs.Widening.{widened};
 ghost use Rattle.payload_core_buffer.specs.Buffered.{pushed};
@@ -17,11 +17,11 @@ ghost use Rattle.rtp_media_payloads.specs.Receiving.{with_stream};
 ghost use Rattle.rtp_media_payloads.specs.Rows.{format_of};
 
 use crate::popping::{drain, pop};
-use h26x_payload::{CodecDepacketizer, NotBoxed};
 use payload_core_base::Depacketizer;
 use payload_core_buffer::{DepacketizingBuffer, RtpMeta};
 use rtp_media_payloads::{
-    PayloadTypes, PollFault, RowFormat, Unit, depacketizer_for, media_payload,
+    CodecDepacketizer, NotBoxed, PayloadTypes, PollFault, RowFormat, Unit, depacketizer_for,
+    media_payload,
 };
 use rtp_wire::{
     ExtensionMap, ExtensionValues, Pt, RtpHeader, SeqNo, SeqNoWindow, Ssrc, extend_u16,

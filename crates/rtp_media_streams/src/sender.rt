@@ -2,7 +2,7 @@
 
 ghost use Rattle.std.specs.Prelude.{◌≡◌, ◌≢◌, ◌<◌, ◌≤◌, ◌+◌, ◌%◌, ◌^◌, Some, None, true, OnOk, OnErr, IfOk, IfErr};
 ghost use Rattle.std.specs.Prelude.{length, is_some, unwrap_or};
-ghost use Rattle.h26x_payload.specs.Codings.{has_format};
+ghost use Rattle.rtp_media_payloads.specs.Codings.{has_format};
 ghost use Rattle.rtp_wire.specs.Time.{rebased_ticks, checked_rebased};
 ghost use Rattle.rtp_media_payloads.specs.Rows.{rtp_rate};
 ghost use Rattle.rtp_media_streams.specs.Sending.{HasFailed, opened_sender, redundant_sender, conflicts_with};
@@ -13,12 +13,12 @@ ghost use Rattle.rtp_media_streams.specs.Sending.{refusal_of_sample};
 ghost use Rattle.payload_core_red.specs.RedHistory.{AreDistances};
 
 use crate::sink::{DatagramSink, Stamp};
-use h26x_payload::{CodecPacketizer, NotBoxed};
 use payload_core_base::{PacketError, Packetizer};
 use payload_core_buffer::Payloader;
 use payload_core_red::{RedSender, RedSink};
 use rtp_media_payloads::{
-    Datagram, PayloadTypes, RowFormat, SampleError, packetizer_for, rtp_rate_of,
+    CodecPacketizer, Datagram, NotBoxed, PayloadTypes, RowFormat, SampleError, packetizer_for,
+    rtp_rate_of,
 };
 use rtp_wire::{ExtensionMap, ExtensionValues, Frequency, MediaTime, Pt, Ssrc};
 use std::alloc::{AllocError, Global};

@@ -1,8 +1,8 @@
 -- What a test answers whether the parts of a whole session text go together.
 use Rattle.std.specs.Prelude.{◌≡◌, ℕ, List, Result, Ok, Err, codes}
 use Rattle.std.specs.String.{string_bytes}
-use Rattle.sdp_formats.specs.declared.error.SdpError.{SdpError}
-use Rattle.sdp_formats.specs.declared.error.SdpError.TheVariants.{ParseError, Inconsistent, Memory}
+use Rattle.sdp_formats_reader.specs.declared.error.SdpError.{SdpError}
+use Rattle.sdp_formats_reader.specs.declared.error.SdpError.TheVariants.{ParseError, Inconsistent, Memory}
 use Rattle.sdp_formats_faults.specs.Whole.{IsWhole}
 use Rattle.sdp_formats_sessions.specs.declared.Sdp.{Sdp}
 

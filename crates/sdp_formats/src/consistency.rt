@@ -2,8 +2,8 @@
 
 ghost use Rattle.sdp_formats.specs.Consistency.{AssertsWhole};
 
-use crate::SdpError;
 use sdp_formats_faults::is_whole;
+use sdp_formats_reader::SdpError;
 use sdp_formats_sessions::Sdp;
 use std::alloc::Global;
 

@@ -3,11 +3,10 @@
 ghost use Rattle.std.specs.Prelude.{◌≡◌, IfOk};
 ghost use Rattle.std.specs.String.{string_bytes};
 ghost use Rattle.sdp_formats_sessions.specs.PrintedSession.{sdp_text};
-ghost use Rattle.sdp_formats.specs.Texts.{ReadsText};
+ghost use Rattle.sdp_formats_reader.specs.Texts.{ReadsText};
 
-use crate::error::SdpError;
-use crate::parser::sdp_parser;
 use sdp_formats_equality::same::Same;
+use sdp_formats_reader::{SdpError, sdp_parser};
 use sdp_formats_sessions::Sdp;
 use std::alloc::{AllocError, Global};
 use std::fmt;

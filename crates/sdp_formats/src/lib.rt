@@ -5,15 +5,11 @@
 #![tactic(auto)]
 
 mod consistency;
-mod error;
 mod exchanged;
-mod parser;
 mod wholes;
 
 pub use consistency::assert_consistency;
-pub use error::SdpError;
 pub use exchanged::{SdpAnswer, SdpOffer};
-pub use parser::{sdp_parser, session_parser};
 pub use rtp_wire::{Direction, Extension, Frequency, Mid, Pt, Rid, SessionId, Ssrc};
 pub use sdp_formats_candidates::ice_candidates;
 pub use sdp_formats_config::{CodecConfig, RemoteSection};
@@ -23,6 +19,7 @@ pub use sdp_formats_faults::{Inconsistency, check_consistent, is_consistent};
 pub use sdp_formats_fmtp::parse_pairs;
 pub use sdp_formats_forms::{FingerprintFmt, Joined, Maybe, Refusal};
 pub use sdp_formats_lookups::{directions, lists, preference, section, session, whole};
+pub use sdp_formats_reader::{SdpError, sdp_parser, session_parser};
 pub use sdp_formats_round::{RoundError, best_row, round};
 pub use sdp_formats_row_attributes::{as_media_attrs, map_of, spec_of_map};
 pub use sdp_formats_rows::{

@@ -2,12 +2,12 @@
 
 ghost use Rattle.std.specs.Prelude.{◌≡◌};
 ghost use Rattle.std.specs.Option.{option_copied};
-ghost use Rattle.sdp_formats.specs.Texts.{ReadsText};
+ghost use Rattle.sdp_formats_reader.specs.Texts.{ReadsText};
 ghost use Rattle.sdp_formats.specs.Wholes.{bundle_in, bundle_of, init_of};
 
-use crate::{SdpError, sdp_parser};
 use rtp_wire::Mid;
 use sdp_formats_lookups::section;
+use sdp_formats_reader::{SdpError, sdp_parser};
 use sdp_formats_sessions::{Sdp, SessionAttribute};
 use sdp_formats_types::Text;
 use std::alloc::Global;

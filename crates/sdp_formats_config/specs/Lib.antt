@@ -1,6 +1,12 @@
+pub use Rattle.sdp_formats_round.specs.Best
+pub use Rattle.sdp_formats_round.specs.Laws
+pub use Rattle.sdp_formats_round.specs.Types
+pub use Rattle.sdp_formats_rows.specs.Codecs
+pub use Rattle.sdp_formats_rows.specs.Plain
+pub use Rattle.sdp_formats_rows.specs.Rows
 pub use Rattle.sdp_formats_row_lists.specs.Kinds
 pub use Rattle.sdp_formats_row_lists.specs.Replaced
 pub mod Configs
 pub mod Finding
 pub mod Matching
-pub mod Sections
+pub mod RemoteSections

@@ -5,7 +5,7 @@ use Rattle.sdp_formats_forms.specs.Numbers.{number_below}
 use Rattle.sdp_formats_forms.specs.Exact.{told-exact, made-exact, after-exact, cut-exact, cut_maybe-exact}
 use Rattle.sdp_formats_forms.specs.Exact.{separated-exact, either-exact, only-exact}
 use Rattle.sdp_formats_pairs.specs.PairsSay.{pair_list}
-use Rattle.sdp_formats_stream_lines.specs.Maps.{payload_type, clock_rate}
+use Rattle.sdp_formats_source_lines.specs.Maps.{payload_type, clock_rate}
 use Rattle.sdp_formats_media_lines.specs.Kinds.{ice_ufrag_line, ice_pwd_line, ice_options_line, fingerprint_line}
 use Rattle.sdp_formats_media_lines.specs.Kinds.{setup_line, mid_line, sctp_port_line, max_message_size_line}
 use Rattle.sdp_formats_media_lines.specs.Kinds.{sctp_init_line, extmap_line, msid_line, rtcp_line, candidate_line}

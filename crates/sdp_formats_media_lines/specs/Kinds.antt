@@ -6,10 +6,10 @@ use Rattle.sdp_formats_forms.specs.Form.{Form, told, any_text, number, made, aft
 use Rattle.sdp_formats_value_reader.specs.Candidates.{candidate}
 use Rattle.sdp_formats_value_reader.specs.Digest.{fingerprint}
 use Rattle.sdp_formats_value_reader.specs.Words.{setup_word}
-use Rattle.sdp_formats_stream_lines.specs.Maps.{rtpmap, rtcp_fb}
+use Rattle.sdp_formats_source_lines.specs.Maps.{rtpmap, rtcp_fb}
 use Rattle.sdp_formats_source_lines.specs.Parameters.{fmtp}
-use Rattle.sdp_formats_stream_lines.specs.Rids.{rid}
-use Rattle.sdp_formats_stream_lines.specs.Simulcasts.{simulcast}
+use Rattle.sdp_formats_source_lines.specs.Rids.{rid}
+use Rattle.sdp_formats_source_lines.specs.Simulcasts.{simulcast}
 use Rattle.sdp_formats_source_lines.specs.Sources.{extmap, msid, ssrc, ssrc_group}
 use Rattle.sdp_formats_types.specs.declared.media.MediaAttribute.{MediaAttribute}
 use Rattle.sdp_formats_types.specs.declared.media.MediaAttribute.TheVariants.{Candidate, EndOfCandidates, Fingerprint}

@@ -1,1 +1,3 @@
 pub mod Grammar
+pub mod Texts
+pub mod Printed

@@ -9,6 +9,7 @@ mod type_lists;
 
 pub use sdp_formats_format::to_format_param;
 pub use sdp_formats_given_formats::{format_given, with_param};
+pub use sdp_formats_row_attributes::as_media_attrs;
 pub use sdp_formats_rows::{CodecSpec, FormatParams, PayloadParams};
 pub use sdp_formats_types::{MediaAttribute, MediaLine, RtpMap};
 pub use section_rows::rtp_params;

@@ -3,10 +3,10 @@ use Rattle.std.specs.Prelude.{ℕ, List, [], ◌∷◌, ◌++◌, map, codes, if
 use Rattle.std.specs.Fmt.{decimal}
 use Rattle.std.specs.Option.{option_map}
 use Rattle.sdp_formats_forms.specs.Joined.{spelled, joined, maybe_text}
-use Rattle.sdp_formats_values.specs.Setup.{setup_text}
-use Rattle.sdp_formats_values.specs.Printed.{line_end, fingerprint_text, is_empty}
-use Rattle.sdp_formats_values.specs.Lists.{bandwidth_text, words_text, named}
-use Rattle.sdp_formats_values.specs.PrintedCandidates.{candidate_text}
+use Rattle.sdp_formats_types.specs.Setup.{setup_text}
+use Rattle.sdp_formats_types.specs.Printed.{line_end, fingerprint_text, is_empty}
+use Rattle.sdp_formats_types.specs.Lists.{bandwidth_text, words_text, named}
+use Rattle.sdp_formats_types.specs.PrintedCandidates.{candidate_text}
 use Rattle.sdp_formats_types.specs.PrintedMedia.{section_text}
 use Rattle.sdp_formats_types.specs.declared.media.MediaLine.{MediaLine}
 use Rattle.sdp_formats_sessions.specs.declared.session.Sdp.{Sdp}

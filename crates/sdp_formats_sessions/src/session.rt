@@ -2,10 +2,8 @@
 
 ghost use Rattle.std.specs.Prelude.{◌≡◌, [], None};
 
-use rtp_wire::{Mid, SessionId};
 use sdp_formats_forms::{Listed, Text};
-use sdp_formats_types::{Bandwidth, MediaLine};
-use sdp_formats_values::{Candidate, Fingerprint, Setup};
+use sdp_formats_types::{Bandwidth, Candidate, Fingerprint, MediaLine, Mid, SessionId, Setup};
 use std::alloc::Global;
 use std::fmt;
 

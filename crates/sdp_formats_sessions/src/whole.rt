@@ -5,9 +5,8 @@ ghost use Rattle.std.specs.String.{string_bytes};
 ghost use Rattle.sdp_formats_sessions.specs.PrintedSession.{sdp_text};
 
 use crate::session::{Sdp, Session, SessionAttribute};
-use rtp_wire::Mid;
 use sdp_formats_forms::{Joined, Maybe, Text};
-use sdp_formats_types::{MediaLine, Mids, Words, write_both, write_value};
+use sdp_formats_types::{MediaLine, Mid, Mids, Words, write_both, write_value};
 use std::alloc::{AllocError, Global};
 use std::fmt;
 use std::fmt::Display;

@@ -6,4 +6,5 @@ mod parameters;
 mod sources;
 
 pub use parameters::fmtp;
+pub use sdp_formats_stream_lines::{rid, rtcp_fb, rtpmap, simulcast};
 pub use sources::{extmap, msid, ssrc, ssrc_group};

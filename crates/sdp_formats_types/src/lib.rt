@@ -8,6 +8,7 @@ mod printed;
 mod section;
 
 pub use media::{MediaAttribute, MediaLine, RtpMap};
+pub use rtp_wire::{Mid, SessionId};
 pub use sdp_formats_forms::{Listed, Text};
 pub use sdp_formats_params::{FormatParam, H265ProfileTierLevel, H266ProfileTierLevel, Pair};
 pub use sdp_formats_values::{

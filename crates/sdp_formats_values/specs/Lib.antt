@@ -1,3 +1,4 @@
+pub use Rattle.payload_core_base.specs.Codecs
 pub mod Setup
 pub mod Streams
 pub mod PrintedCandidates

@@ -6,7 +6,7 @@ use Rattle.benchmark_rounds.specs.declared.tally.Tally.{Tally}
 use Rattle.sdp_formats.specs.Texts.{ParsesSdp}
 use Rattle.sdp_formats.specs.declared.MediaLine.{MediaLine}
 use Rattle.sdp_formats.specs.declared.Sdp.{Sdp}
-use Rattle.sdp_formats.specs.declared.error.SdpError.{SdpError}
+use Rattle.sdp_formats.specs.declared.SdpError.{SdpError}
 use Rattle.sdp_formats_section_rows.specs.SectionRows.{rows_of}
 use Rattle.text_benchmarks.specs.declared.made_texts.Reading.{Reading}
 

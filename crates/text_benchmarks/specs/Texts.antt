@@ -5,7 +5,7 @@ use Rattle.benchmark_rounds.specs.Tallies.{tally_with}
 use Rattle.benchmark_rounds.specs.declared.tally.Tally.{Tally}
 use Rattle.sdp_formats.specs.Texts.{ParsesSdp}
 use Rattle.sdp_formats.specs.declared.Sdp.{Sdp}
-use Rattle.sdp_formats.specs.declared.error.SdpError.{SdpError}
+use Rattle.sdp_formats.specs.declared.SdpError.{SdpError}
 use Rattle.text_benchmarks.specs.declared.texts.Printing.{Printing}
 use Rattle.text_benchmarks.specs.declared.texts.Reading.{Reading}
 

@@ -5,24 +5,24 @@ ghost use Rattle.std.specs.Prelude.{IsSome, IsSomeAnd};
 ghost use Rattle.std.specs.List.{list_any};
 ghost use Rattle.std.specs.Option.{option_map};
 ghost use Rattle.payload_core_red.specs.RedHistory.{AreDistances};
-ghost use Rattle.rtp_media_sections.specs.Agreement.{agreed_row_of, row_in, section_of};
-ghost use Rattle.rtp_media_open_streams.specs.Ends.{agreed_red, carried_row, is_carried, is_red_of, refusal_by};
-ghost use Rattle.rtp_media_open_streams.specs.Ends.{refusal_of_open_receiver, refusal_of_open_sender};
-ghost use Rattle.rtp_media_open_streams.specs.Ends.{after_open_sender};
-ghost use Rattle.rtp_media_open_streams.specs.Ends.{after_open_receiver, row_format_of, stream_map, types_of};
-ghost use Rattle.rtp_media_open_streams.specs.Ends.{with_distances};
-ghost use Rattle.rtp_media_open_streams.specs.Ends.{sender_at, is_receiver_at, is_sender_at, new_sender, new_receiver};
-ghost use Rattle.rtp_media_open_streams.specs.Ends.{receives_as, row_sender, sends_as};
-ghost use Rattle.rtp_media_open_streams.specs.FullArrival.{HasReceiver, IsSender};
-ghost use Rattle.rtp_media_open_streams.specs.Params.{IsSound};
+ghost use Rattle.rtp_media_negotiation.specs.Agreement.{agreed_row_of, row_in, section_of};
+ghost use Rattle.rtp_media_stream_laws.specs.Ends.{agreed_red, carried_row, is_carried, is_red_of, refusal_by};
+ghost use Rattle.rtp_media_stream_laws.specs.Ends.{refusal_of_open_receiver, refusal_of_open_sender};
+ghost use Rattle.rtp_media_stream_laws.specs.Ends.{after_open_sender};
+ghost use Rattle.rtp_media_stream_laws.specs.Ends.{after_open_receiver, row_format_of, stream_map, types_of};
+ghost use Rattle.rtp_media_stream_laws.specs.Ends.{with_distances};
+ghost use Rattle.rtp_media_stream_laws.specs.Ends.{sender_at, is_receiver_at, is_sender_at, new_sender, new_receiver};
+ghost use Rattle.rtp_media_stream_laws.specs.Ends.{receives_as, row_sender, sends_as};
+ghost use Rattle.rtp_media_stream_laws.specs.FullArrival.{HasReceiver, IsSender};
+ghost use Rattle.rtp_media_stream_laws.specs.Params.{IsSound};
 
 use super::End;
 use h26x_payload::{codec_law, has_format};
 use rtp_media_negotiation::{AgreedSection, Exchange, PayloadParams};
-use rtp_media_open_streams::{
+use rtp_media_payloads::{PayloadTypes, RowFormat};
+use rtp_media_stream_laws::{
     Distances, OpenError, OpenStream, StreamParams, could_receive, could_send,
 };
-use rtp_media_payloads::{PayloadTypes, RowFormat};
 use rtp_media_streams::{ReceivingStream, SendingStream};
 use rtp_wire::{ExtensionMap, Mid, Pt, Ssrc};
 use std::alloc::{AllocError, Global};
@@ -68,7 +68,7 @@ impl End {
     /// # Errors
     /// As [`End::open_sender`]; `SsrcNotNamed` where the section of the other end doesn't name the
     /// SSRC.
-    #[tactic(auto, unfolding(rtp_media_open_streams::specs::Ends::after_open_receiver))]
+    #[tactic(auto, unfolding(rtp_media_stream_laws::specs::Ends::after_open_receiver))]
     pub fn open_receiver(
         &mut self,
         mid: Mid,
@@ -97,7 +97,7 @@ impl End {
     }
 
     /// Opens a sending stream with these parameters.
-    #[tactic(auto, unfolding(rtp_media_open_streams::specs::Ends::after_open_sender))]
+    #[tactic(auto, unfolding(rtp_media_stream_laws::specs::Ends::after_open_sender))]
     fn open_sender_with(
         &mut self,
         mid: Mid,
@@ -154,7 +154,7 @@ impl End {
     }
 
     /// The row that a new sending stream sends, or why there is none.
-    #[tactic(auto, unfolding(rtp_media_open_streams::specs::Ends::refusal_of_open_sender))]
+    #[tactic(auto, unfolding(rtp_media_stream_laws::specs::Ends::refusal_of_open_sender))]
     fn sender_row(&self, mid: Mid, ssrc: Ssrc, pt: Pt) -> Result<PayloadParams, OpenError>
         ensures row { IfOk result (λ r. agreed_row_of self.now.exchange.agreed mid pt ≡ Some r) }
         ensures carried { IfOk result (λ r. is_carried r ≡ true) }
@@ -177,7 +177,7 @@ impl End {
     }
 
     /// The row that a new receiving stream takes, or why there is none.
-    #[tactic(auto, unfolding(rtp_media_open_streams::specs::Ends::refusal_of_open_receiver))]
+    #[tactic(auto, unfolding(rtp_media_stream_laws::specs::Ends::refusal_of_open_receiver))]
     fn receiver_row(&self, mid: Mid, ssrc: Ssrc, pt: Pt) -> Result<PayloadParams, OpenError>
         ensures row { IfOk result (λ r. agreed_row_of self.now.exchange.agreed mid pt ≡ Some r) }
         ensures carried { IfOk result (λ r. is_carried r ≡ true) }

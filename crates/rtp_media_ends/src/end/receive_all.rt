@@ -3,15 +3,15 @@
 ghost use Rattle.std.specs.Prelude.{◌≡◌, ℕ, List, OnOk, OnErr, IfOk};
 ghost use Rattle.rtp_media_payloads.specs.Polls.{AreAnswered};
 ghost use Rattle.rtp_media_streams.specs.Sending.{Sample, Sending};
-ghost use Rattle.rtp_media_open_streams.specs.FullArrival.{verdicts_of, after_datagrams, AnswersAll, AnswersSome};
-ghost use Rattle.rtp_media_open_streams.specs.FullArrival.{ArePolledOut};
-ghost use Rattle.rtp_media_open_streams.specs.FullArrival.{answers_at, units_of, with_streams, ArePolledSome, HasAllOf};
-ghost use Rattle.rtp_media_open_streams.specs.FullArrival.{ReceivesAndPollsSome, ReceivesSome};
+ghost use Rattle.rtp_media_stream_laws.specs.FullArrival.{verdicts_of, after_datagrams, AnswersAll, AnswersSome};
+ghost use Rattle.rtp_media_stream_laws.specs.FullArrival.{ArePolledOut};
+ghost use Rattle.rtp_media_stream_laws.specs.FullArrival.{answers_at, units_of, with_streams, ArePolledSome, HasAllOf};
+ghost use Rattle.rtp_media_stream_laws.specs.FullArrival.{ReceivesAndPollsSome, ReceivesSome};
 
 use super::End;
 use h26x_payload::codec_law;
-use rtp_media_open_streams::{OpenStream, ReceiveError, Received};
 use rtp_media_payloads::{Datagram, PollFault, Unit};
+use rtp_media_stream_laws::{OpenStream, ReceiveError, Received};
 use std::alloc::{AllocError, Global};
 use std::marker::Model;
 

@@ -10,13 +10,13 @@ ghost use Rattle.rtp_media_payloads.specs.Receiving.{media_payload, polled_recei
 ghost use Rattle.rtp_media_payloads.specs.Rows.{format_of};
 ghost use Rattle.rtp_media_schedules.specs.Hearing.{poll_answer};
 ghost use Rattle.rtp_wire.specs.declared.ExtensionValues.{ExtensionValues};
-ghost use Rattle.rtp_media_open_streams.specs.Arrivals.{Own, NoPayload, own_of, stream_for, verdict_for, after_arrival};
-ghost use Rattle.rtp_media_open_streams.specs.Arrivals.{arrival_by, verdict_of, after_datagram};
-ghost use Rattle.rtp_media_open_streams.specs.Ends.{receiver_at, with_receiver, is_receiver_at};
+ghost use Rattle.rtp_media_stream_laws.specs.Arrivals.{Own, NoPayload, own_of, stream_for, verdict_for, after_arrival};
+ghost use Rattle.rtp_media_stream_laws.specs.Arrivals.{arrival_by, verdict_of, after_datagram};
+ghost use Rattle.rtp_media_stream_laws.specs.Ends.{receiver_at, with_receiver, is_receiver_at};
 
 use super::End;
-use rtp_media_open_streams::{OpenStream, ReceiveError, Received, stream_for};
 use rtp_media_payloads::{PollFault, Unit};
+use rtp_media_stream_laws::{OpenStream, ReceiveError, Received, stream_for};
 use rtp_media_streams::ReceivingStream;
 use rtp_wire::RtpHeader;
 use std::alloc::AllocError;

@@ -1,22 +1,20 @@
 //! Answers to offers, and their acceptance.
 
 ghost use Rattle.std.specs.Prelude.{◌≡◌, ◌≢◌, None, Some, Ok, length, map, string_bytes, IfOk, IfErr, OnOk, OnErr};
-ghost use Rattle.sdp_formats_round.specs.Laws.{rounds};
-ghost use Rattle.rtp_media_exchange_texts.specs.Offers.{Accepts, Answers};
+ghost use Rattle.rtp_media_exchange_steps.specs.Laws.{rounds};
+ghost use Rattle.rtp_media_exchange_steps.specs.Offers.{Accepts, Answers};
 ghost use Rattle.rtp_media_exchange_steps.specs.Refusals.{MayAccept, MayAnswer, RefusesAccept};
 ghost use Rattle.rtp_media_exchange_steps.specs.Refusals.{RefusesAnswer};
 ghost use Rattle.rtp_media_exchange_steps.specs.Refusals.{refusal_of_accept, refusal_of_answer, refusal_of_sections};
-ghost use Rattle.rtp_media_exchange_texts.specs.Says.{AgreesOnText};
-ghost use Rattle.rtp_media_section_texts.specs.Lines.{remote_of};
+ghost use Rattle.rtp_media_exchange_steps.specs.Says.{AgreesOnText};
+ghost use Rattle.rtp_media_exchange_steps.specs.Lines.{remote_of};
 
 use super::Exchange;
 use rtp_media_exchange_steps::read::{read, said_again};
 use rtp_media_exchange_steps::{
-    ExchangeError, check_accepted, check_answered, check_media, settled,
+    CodecConfig, ExchangeError, SectionSpec, accepted_agreement, answer_text, answered_agreement,
+    check_accepted, check_answered, check_media, corresponds, settled,
 };
-use rtp_media_exchange_texts::{accepted_agreement, answer_text, answered_agreement, corresponds};
-use rtp_media_section_texts::SectionSpec;
-use sdp_formats_config::CodecConfig;
 use sdp_formats_types::MediaLine;
 
 impl Exchange {
@@ -71,7 +69,7 @@ impl Exchange {
     ///
     /// The first that holds of `Unreadable`, `OutOfTurn`, `NotMedia`, `NotCorresponding`, `Round`, `NoCommonRow` and
     /// `NotWritable`; or `Memory`. Nothing has then changed.
-    #[tactic(auto, unfolding(rtp_media_exchange_texts::specs::Offers::answer_of))]
+    #[tactic(auto, unfolding(rtp_media_exchange_steps::specs::Offers::answer_of))]
     pub fn answer(
         &mut self,
         text: &str,

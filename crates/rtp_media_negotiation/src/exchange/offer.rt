@@ -1,16 +1,17 @@
 //! Offers.
 
 ghost use Rattle.std.specs.Prelude.{◌≡◌, ◌≢◌, None, Some, string_bytes, IfOk, IfErr, OnOk, OnErr};
-ghost use Rattle.rtp_media_exchange_texts.specs.Exchanges.{with_offer};
-ghost use Rattle.rtp_media_exchange_texts.specs.Offers.{offer_of};
+ghost use Rattle.rtp_media_exchange_steps.specs.Exchanges.{with_offer};
+ghost use Rattle.rtp_media_exchange_steps.specs.Offers.{offer_of};
 ghost use Rattle.rtp_media_exchange_steps.specs.Refusals.{follows_agreed};
 ghost use Rattle.rtp_media_exchange_steps.specs.Refusals.{Refuses, refusal_of_offer};
 ghost use Rattle.sdp_formats_sessions.specs.PrintedSession.{sdp_text};
 
 use super::{Exchange, Pending};
-use rtp_media_exchange_steps::{ExchangeError, check_listed, is_any_nameless};
-use rtp_media_exchange_texts::{agreed_shapes, offer_text, wanted_shapes};
-use rtp_media_section_texts::{SectionSpec, may_follow};
+use rtp_media_exchange_steps::{
+    ExchangeError, SectionSpec, agreed_shapes, check_listed, is_any_nameless, may_follow,
+    offer_text, wanted_shapes,
+};
 use std::alloc::AllocError;
 
 impl Exchange {
@@ -50,7 +51,7 @@ impl Exchange {
     ///
     /// The first that holds of `OutOfTurn`, `NotCorresponding`, `NoCommonRow` and `NotWritable`; or `Memory`. Nothing
     /// has then changed.
-    #[tactic(auto, unfolding(rtp_media_exchange_texts::specs::Offers::offer_of))]
+    #[tactic(auto, unfolding(rtp_media_exchange_steps::specs::Offers::offer_of))]
     pub fn offer(&mut self, sections: Vec<SectionSpec>) -> Result<String, ExchangeError>
         ensures text { IfOk result (λ text. string_bytes text ≡ sdp_text (offer_of self.old sections.items)) }
         ensures accepted { OnOk result (refusal_of_offer self.old sections.items ≡ None) }

@@ -5,7 +5,7 @@ ghost use Rattle.rtp_wire.specs.Direction.{receives};
 ghost use Rattle.sdp_formats_round.specs.declared.error.RoundError.TheVariants.{Memory};
 ghost use Rattle.sdp_formats_round.specs.Laws.{rounds};
 ghost use Rattle.sdp_formats_round.specs.Rounds.{round};
-ghost use Rattle.sdp_formats_config.specs.Sections.{section_of};
+ghost use Rattle.sdp_formats_config.specs.RemoteSections.{section_of};
 
 use super::CodecConfig;
 use rtp_wire::Direction;

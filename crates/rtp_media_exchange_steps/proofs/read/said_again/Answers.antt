@@ -1,7 +1,7 @@
 use Rattle.std.proofs.Common.{◌≡◌, false, map, refl, arith}
 use Rattle.std.proofs.lemmas.Grind.{common_steps}
-use Rattle.rtp_media_section_texts.specs.Lines.{shape_of_line}
-use Rattle.rtp_media_section_texts.specs.Sections.{correspond, shape_of}
+use Rattle.rtp_media_exchange_texts.specs.Lines.{shape_of_line}
+use Rattle.rtp_media_exchange_texts.specs.Sections.{correspond, shape_of}
 use Rattle.rtp_media_exchange_steps.proofs.Saying.{other_said}
 use Rattle.rtp_media_exchange_steps.proofs.read.said_again.Goals as goal
 

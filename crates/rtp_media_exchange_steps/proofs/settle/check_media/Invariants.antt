@@ -1,6 +1,6 @@
 use Rattle.std.proofs.Common.{◌≡◌, drop}
 use Rattle.std.specs.Prelude.{find, not}
-use Rattle.rtp_media_section_texts.specs.Lines.{is_media_line}
+use Rattle.rtp_media_exchange_texts.specs.Lines.{is_media_line}
 use Rattle.rtp_media_exchange_steps.proofs.settle.check_media.Given as goal
 
 -- the sections so far are media: the rest decides

@@ -1,6 +1,6 @@
 use Rattle.std.proofs.Common.{◌≡◌, ◌++◌, drop, map}
-use Rattle.sdp_formats_config.specs.Sections.{section_of}
-use Rattle.rtp_media_section_texts.specs.Lines.{remote_of}
+use Rattle.rtp_media_exchange_texts.specs.RemoteSections.{section_of}
+use Rattle.rtp_media_exchange_texts.specs.Lines.{remote_of}
 use Rattle.rtp_media_exchange_steps.proofs.settle.remotes.Given as goal
 
 -- what rounds take so far, and of the rest

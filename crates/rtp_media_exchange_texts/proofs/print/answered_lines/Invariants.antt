@@ -1,6 +1,6 @@
 use Rattle.std.proofs.Common.{◌≡◌, ◌++◌, drop, map}
 use Rattle.std.specs.Prelude.{zip}
-use Rattle.rtp_media_section_texts.specs.Answered.{answered_section}
+use Rattle.rtp_media_sections.specs.Answered.{answered_section}
 use Rattle.rtp_media_exchange_texts.proofs.print.answered_lines.Given as goal
 
 -- the sections so far, and the rest

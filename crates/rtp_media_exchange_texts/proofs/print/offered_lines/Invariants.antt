@@ -1,5 +1,5 @@
 use Rattle.std.proofs.Common.{◌≡◌, ◌++◌, drop, map}
-use Rattle.rtp_media_section_texts.specs.Lines.{offered_section}
+use Rattle.rtp_media_sections.specs.Lines.{offered_section}
 use Rattle.rtp_media_exchange_texts.proofs.print.offered_lines.Given as goal
 
 -- the sections so far, and the rest

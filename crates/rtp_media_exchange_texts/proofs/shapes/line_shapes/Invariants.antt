@@ -1,5 +1,5 @@
 use Rattle.std.proofs.Common.{◌≡◌, ◌++◌, drop, map}
-use Rattle.rtp_media_section_texts.specs.Lines.{shape_of_line}
+use Rattle.rtp_media_sections.specs.Lines.{shape_of_line}
 use Rattle.rtp_media_exchange_texts.proofs.shapes.line_shapes.Given as goal
 
 -- the names and kinds so far, and those of the rest

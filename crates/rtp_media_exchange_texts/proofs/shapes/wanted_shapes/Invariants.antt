@@ -1,5 +1,5 @@
 use Rattle.std.proofs.Common.{◌≡◌, ◌++◌, drop, map}
-use Rattle.rtp_media_section_texts.specs.Sections.{shape_of}
+use Rattle.rtp_media_sections.specs.Sections.{shape_of}
 use Rattle.rtp_media_exchange_texts.proofs.shapes.wanted_shapes.Given as goal
 
 -- the names and kinds so far, and those of the rest

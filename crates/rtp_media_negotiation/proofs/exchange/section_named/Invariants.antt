@@ -1,5 +1,5 @@
 use Rattle.std.proofs.Common.{◌≡◌, drop}
-use Rattle.rtp_media_sections.specs.Agreement.{section_of}
+use Rattle.rtp_media_exchange_steps.specs.Agreement.{section_of}
 use Rattle.rtp_media_negotiation.proofs.exchange.section_named.Given as goal
 
 -- none so far has the name: the rest decides

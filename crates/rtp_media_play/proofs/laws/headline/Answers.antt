@@ -1,6 +1,6 @@
 use Rattle.std.proofs.Common.{◌∙◌, ap, map, Ok, List, length}
 use Rattle.rtp_media_schedules.specs.SentSamples.{Timed}
-use Rattle.rtp_media_open_streams.specs.Ends.{after_open_receiver, new_sender}
+use Rattle.rtp_media_ends.specs.Ends.{after_open_receiver, new_sender}
 use Rattle.rtp_media_play.proofs.Exchanged.{alone, hears, units-are-alone}
 use Rattle.rtp_media_play.proofs.WholeRuns.{exact-run, legal-run}
 use Rattle.rtp_media_play.proofs.laws.headline.Goals as goal

@@ -1,5 +1,5 @@
 use Rattle.std.proofs.Common.{refl}
-use Rattle.rtp_media_open_streams.specs.Ends.{receiver_at}
+use Rattle.rtp_media_ends.specs.Ends.{receiver_at}
 use Rattle.rtp_media_play.proofs.Twins.{same-answers, same-over}
 use Rattle.rtp_media_play.proofs.redundancy.redundancy_law.Goals as goal
 

@@ -3,7 +3,7 @@ use Rattle.rtp_media_schedules.specs.Hearing.{Answer, handed_out}
 use Rattle.rtp_media_schedules.specs.SentSamples.{timed_unit}
 use Rattle.rtp_media_schedules.specs.Legal.{IsLegal}
 use Rattle.rtp_media_streams.specs.Sending.{datagrams_of}
-use Rattle.rtp_media_open_streams.specs.Ends.{receiver_at, sender_at}
+use Rattle.rtp_media_ends.specs.Ends.{receiver_at, sender_at}
 use Rattle.rtp_media_play.specs.Runs.{IsTameSchedule, canonical_of}
 use Rattle.rtp_media_play.specs.Schedules.{played, poll_answers}
 use Rattle.rtp_media_play.proofs.Isolated.{isolated}

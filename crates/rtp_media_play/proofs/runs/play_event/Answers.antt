@@ -1,5 +1,5 @@
 use Rattle.std.proofs.Common.{◌≡◌, ◌∙◌, ap, sym, IfOk, OnOk, List, ℕ, Option, Some, Result, Ok, Err, option_to_list}
-use Rattle.rtp_media_open_streams.specs.Ends.{EndState}
+use Rattle.rtp_media_ends.specs.Ends.{EndState}
 use Rattle.rtp_media_play.specs.Schedules.{after_bytes, after_event, answers_to, verdicts_on}
 use Rattle.rtp_media_play.specs.declared.schedule.Played.{Played}
 use Rattle.rtp_media_play.proofs.Plays.{get-none, get-some}

@@ -3,12 +3,12 @@ use Rattle.std.proofs.lemmas.Grind.{common_steps}
 use Rattle.std.specs.List.{list_any}
 use Rattle.rtp_media_payloads.specs.Receiving.{Receiving}
 use Rattle.rtp_media_payloads.specs.declared.types.PayloadTypes.{PayloadTypes}
-use Rattle.rtp_media_open_streams.specs.declared.open_stream.OpenStream.{OpenStream}
-use Rattle.rtp_media_open_streams.specs.Ends.{EndState, after_open_receiver, is_receiver_at, new_receiver, receives_as}
-use Rattle.rtp_media_open_streams.specs.Indexed.{AreIndexed}
-use Rattle.rtp_media_open_streams.proofs.Indexing.{may-receive, receiver-added}
-use Rattle.rtp_media_open_streams.specs.FullArrival.{HasReceiver}
-use Rattle.rtp_media_open_streams.proofs.NewReceiver.{opened-receiver}
+use Rattle.rtp_media_stream_laws.specs.declared.OpenStream.{OpenStream}
+use Rattle.rtp_media_stream_laws.specs.Ends.{EndState, after_open_receiver, is_receiver_at, new_receiver, receives_as}
+use Rattle.rtp_media_stream_laws.specs.Indexed.{AreIndexed}
+use Rattle.rtp_media_stream_laws.proofs.Indexing.{may-receive, receiver-added}
+use Rattle.rtp_media_stream_laws.specs.FullArrival.{HasReceiver}
+use Rattle.rtp_media_stream_laws.proofs.NewReceiver.{opened-receiver}
 use Rattle.rtp_media_ends.proofs.Numbers.{new-receiver-receives}
 use Rattle.rtp_media_ends.proofs.end.End.open_receiver.Goals as goal
 

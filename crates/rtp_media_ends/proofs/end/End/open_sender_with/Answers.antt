@@ -2,17 +2,17 @@ use Rattle.std.proofs.Common.{◌≡◌, ℕ, ◌∙◌, length, sym, subst, sub
 use Rattle.std.proofs.lemmas.Grind.{common_steps}
 use Rattle.std.specs.Prelude.{Option}
 use Rattle.std.specs.List.{list_any}
-use Rattle.sdp_formats_rows.specs.Rows.{Row}
+use Rattle.rtp_media_negotiation.specs.Rows.{Row}
 use Rattle.rtp_media_streams.specs.Sending.{Sending, opened_sender}
 use Rattle.rtp_media_payloads.specs.declared.types.PayloadTypes.{PayloadTypes}
-use Rattle.rtp_media_open_streams.specs.declared.open_stream.OpenStream.{OpenStream}
-use Rattle.rtp_media_open_streams.specs.Ends.{EndState, after_open_sender, is_sender_at, new_sender, red_in}
-use Rattle.rtp_media_open_streams.specs.Ends.{row_format_of}
-use Rattle.rtp_media_open_streams.specs.Ends.{sends_as, stream_map, types_of, with_distances}
-use Rattle.rtp_media_open_streams.specs.Indexed.{AreIndexed}
-use Rattle.rtp_media_open_streams.proofs.Indexing.{may-send, same-ssrc, same-types, sender-added}
-use Rattle.rtp_media_open_streams.specs.FullArrival.{IsSender}
-use Rattle.rtp_media_open_streams.specs.Params.{IsSound}
+use Rattle.rtp_media_stream_laws.specs.declared.OpenStream.{OpenStream}
+use Rattle.rtp_media_stream_laws.specs.Ends.{EndState, after_open_sender, is_sender_at, new_sender, red_in}
+use Rattle.rtp_media_stream_laws.specs.Ends.{row_format_of}
+use Rattle.rtp_media_stream_laws.specs.Ends.{sends_as, stream_map, types_of, with_distances}
+use Rattle.rtp_media_stream_laws.specs.Indexed.{AreIndexed}
+use Rattle.rtp_media_stream_laws.proofs.Indexing.{may-send, same-ssrc, same-types, sender-added}
+use Rattle.rtp_media_stream_laws.specs.FullArrival.{IsSender}
+use Rattle.rtp_media_stream_laws.specs.Params.{IsSound}
 use Rattle.rtp_media_ends.proofs.Numbers.{new-sender-sends}
 use Rattle.rtp_media_ends.proofs.Opened.{carried-fits, opened-sound, sender-of-row}
 use Rattle.rtp_media_ends.proofs.end.End.open_sender_with.Goals as goal

@@ -1,10 +1,10 @@
 use Rattle.std.proofs.Common.{◌≡◌, ◌∙◌, ap, sym, subst, List}
 use Rattle.rtp_media_payloads.specs.Receiving.{Receiving, opened_receiver, with_stream}
-use Rattle.rtp_media_open_streams.specs.declared.open_stream.OpenStream.{OpenStream}
-use Rattle.rtp_media_open_streams.specs.Ends.{EndState, receiver_at}
-use Rattle.rtp_media_open_streams.specs.FullArrival.{after_datagrams, ArePolledOut}
+use Rattle.rtp_media_stream_laws.specs.declared.OpenStream.{OpenStream}
+use Rattle.rtp_media_stream_laws.specs.Ends.{EndState, receiver_at}
+use Rattle.rtp_media_stream_laws.specs.FullArrival.{after_datagrams, ArePolledOut}
 use Rattle.rtp_media_stream_laws.proofs.Exact.{exact}
-use Rattle.rtp_media_open_streams.proofs.Indexing.{polled-out, polled-some}
+use Rattle.rtp_media_stream_laws.proofs.Indexing.{polled-out, polled-some}
 use Rattle.rtp_media_stream_laws.proofs.Isolation.{found-after}
 use Rattle.rtp_media_ends.proofs.Stopping.{out-of}
 use Rattle.rtp_media_ends.proofs.end.End.receive_all.Goals as goal

@@ -1,7 +1,7 @@
 use Rattle.std.proofs.Common.{◌≡◌, ◌∙◌, ap, sym, arith}
 use Rattle.std.proofs.lemmas.Grind.{common_steps}
 use Rattle.std.specs.List.{list_any}
-use Rattle.rtp_media_open_streams.specs.Ends.{receives_as, refusal_of_open_receiver}
+use Rattle.rtp_media_stream_laws.specs.Ends.{receives_as, refusal_of_open_receiver}
 use Rattle.rtp_media_ends.proofs.Refusals.{receiver-refusal}
 use Rattle.rtp_media_ends.proofs.end.End.receiver_row.Goals as goal
 

@@ -1,7 +1,7 @@
 use Rattle.std.proofs.Common.{◌≡◌, ◌∙◌, ap, sym, arith}
 use Rattle.std.proofs.lemmas.Grind.{common_steps}
 use Rattle.std.specs.List.{list_any}
-use Rattle.rtp_media_open_streams.specs.Ends.{refusal_of_open_sender, sends_as}
+use Rattle.rtp_media_stream_laws.specs.Ends.{refusal_of_open_sender, sends_as}
 use Rattle.rtp_media_ends.proofs.Refusals.{sender-refusal}
 use Rattle.rtp_media_ends.proofs.end.End.sender_row.Goals as goal
 

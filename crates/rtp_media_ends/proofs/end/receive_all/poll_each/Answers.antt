@@ -1,8 +1,8 @@
 use Rattle.std.proofs.Common.{◌≡◌, ◌<◌, ◌∙◌, arith, length, subst, Result, Ok, Err, OnErr}
 use Rattle.std.proofs.lemmas.Grind.{common_steps}
-use Rattle.rtp_media_open_streams.specs.declared.open_stream.OpenStream.{OpenStream}
-use Rattle.rtp_media_open_streams.specs.Ends.{nth_stream}
-use Rattle.rtp_media_open_streams.specs.FullArrival.{AnswersSome}
+use Rattle.rtp_media_stream_laws.specs.declared.OpenStream.{OpenStream}
+use Rattle.rtp_media_stream_laws.specs.Ends.{nth_stream}
+use Rattle.rtp_media_stream_laws.specs.FullArrival.{AnswersSome}
 use Rattle.rtp_media_ends.proofs.Stopping.{out-some, stopped-at}
 use Rattle.rtp_media_ends.proofs.end.receive_all.poll_each.Goals as goal
 

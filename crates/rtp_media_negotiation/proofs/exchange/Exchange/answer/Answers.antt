@@ -2,17 +2,17 @@ use Rattle.std.proofs.Common.{◌≡◌, ◌∙◌, ℕ, List, None, Ok, map, ap
 use Rattle.std.proofs.lemmas.Grind.{common_steps}
 use Rattle.std.specs.Prelude.{IsTrue, string_bytes}
 use Rattle.rtp_wire.specs.Values.{Numbering}
-use Rattle.sdp_formats_round.specs.Laws.{rounds}
-use Rattle.sdp_formats_rows.specs.Rows.{Row}
+use Rattle.rtp_media_exchange_steps.specs.Laws.{rounds}
+use Rattle.rtp_media_exchange_steps.specs.Rows.{Row}
 use Rattle.sdp_formats_sessions.specs.PrintedSession.{sdp_text}
 use Rattle.sdp_formats_types.specs.declared.media.MediaLine.{MediaLine}
 use Rattle.sdp_formats_sessions.specs.declared.session.Session.{Session}
-use Rattle.rtp_media_section_texts.specs.Lines.{remote_of, shape_of_line}
-use Rattle.rtp_media_section_texts.specs.Sections.{Wanted, correspond, shape_of}
-use Rattle.rtp_media_exchange_texts.specs.Exchanges.{Exchanged}
-use Rattle.rtp_media_exchange_texts.specs.Offers.{answer_of}
+use Rattle.rtp_media_exchange_steps.specs.Lines.{remote_of, shape_of_line}
+use Rattle.rtp_media_exchange_steps.specs.Sections.{Wanted, correspond, shape_of}
+use Rattle.rtp_media_exchange_steps.specs.Exchanges.{Exchanged}
+use Rattle.rtp_media_exchange_steps.specs.Offers.{answer_of}
 use Rattle.rtp_media_exchange_steps.specs.Refusals.{IsUnwritable, refusal_of_answer}
-use Rattle.rtp_media_exchange_texts.specs.Says.{SaysOnly}
+use Rattle.rtp_media_exchange_steps.specs.Says.{SaysOnly}
 use Rattle.rtp_media_negotiation.proofs.Refusing.{cannot_answer, may_answer}
 use Rattle.rtp_media_negotiation.proofs.exchange.Exchange.answer.Goals as goal
 

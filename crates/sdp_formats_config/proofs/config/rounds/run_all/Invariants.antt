@@ -1,7 +1,7 @@
 use Rattle.std.proofs.Common.{◌≡◌, drop}
 use Rattle.std.specs.Prelude.{map}
 use Rattle.sdp_formats_round.specs.Laws.{rounds}
-use Rattle.sdp_formats_config.specs.Sections.{section_of}
+use Rattle.sdp_formats_config.specs.RemoteSections.{section_of}
 use Rattle.sdp_formats_config.proofs.config.rounds.run_all.Given as goal
 
 -- the rounds of what is left, on the rows so far, are those of all

@@ -4,7 +4,7 @@ use Rattle.sdp_formats_forms.specs.declared.refusal.Refusal.TheVariants.{Unfit}
 use Rattle.sdp_formats_reader.specs.Grammar.{ReadsSdp, ReadsSession, SessionSays}
 use Rattle.sdp_formats_sessions.specs.declared.session.Sdp.{Sdp}
 use Rattle.sdp_formats_sessions.specs.declared.session.Session.{Session}
-use Rattle.sdp_formats.specs.Texts.{ParsesSdp, ParsesSession, SaysNothing}
+use Rattle.sdp_formats_reader.specs.Texts.{ParsesSdp, ParsesSession, SaysNothing}
 
 pub read : (t : List ℕ) (r : Sdp × Bor (List ℕ)) → ReadsSdp t (Ok r) → ParsesSdp t (Ok r)
 unfolding ReadsSdp

@@ -1,5 +1,5 @@
-use Rattle.sdp_formats.proofs.Read.{session-read, session-unread}
-use Rattle.sdp_formats.proofs.parser.session_parser.Goals as goal
+use Rattle.sdp_formats_reader.proofs.Read.{session-read, session-unread}
+use Rattle.sdp_formats_reader.proofs.parser.session_parser.Goals as goal
 
 pub returns-in-Ok : goal.returns-in-Ok
 returns-in-Ok c = session-read c.args.text.now _ c.in-Ok.ensures

@@ -17,7 +17,7 @@ pub enum SdpError {
 
 impl From<AllocError> for SdpError {
     ghost use Rattle.std.specs.Prelude.{◌≡◌};
-    ghost use Rattle.sdp_formats.specs.declared.error.SdpError.TheVariants.{Memory};
+    ghost use Rattle.sdp_formats_reader.specs.declared.error.SdpError.TheVariants.{Memory};
 
     ghost from_gives = { λ _ e. e ≡ Memory };
 
@@ -28,7 +28,7 @@ impl From<AllocError> for SdpError {
 
 impl<T: Drop> From<AllocFailed<T>> for SdpError {
     ghost use Rattle.std.specs.Prelude.{◌≡◌};
-    ghost use Rattle.sdp_formats.specs.declared.error.SdpError.TheVariants.{Memory};
+    ghost use Rattle.sdp_formats_reader.specs.declared.error.SdpError.TheVariants.{Memory};
 
     ghost from_gives = { λ _ e. e ≡ Memory };
 
@@ -39,7 +39,7 @@ impl<T: Drop> From<AllocFailed<T>> for SdpError {
 
 impl fmt::Display for SdpError {
     ghost use Rattle.std.specs.Prelude.{Some};
-    ghost use Rattle.sdp_formats.specs.Printed.{error_text};
+    ghost use Rattle.sdp_formats_reader.specs.Printed.{error_text};
 
     ghost output = { λ e. Some (error_text e) };
 

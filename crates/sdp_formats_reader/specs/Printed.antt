@@ -1,8 +1,8 @@
 -- Errors as they are printed.
 use Rattle.std.specs.Prelude.{ℕ, List, ◌++◌, codes}
 use Rattle.std.specs.String.{string_bytes}
-use Rattle.sdp_formats.specs.declared.error.SdpError.{SdpError}
-use Rattle.sdp_formats.specs.declared.error.SdpError.TheVariants.{ParseError, Inconsistent, Memory}
+use Rattle.sdp_formats_reader.specs.declared.error.SdpError.{SdpError}
+use Rattle.sdp_formats_reader.specs.declared.error.SdpError.TheVariants.{ParseError, Inconsistent, Memory}
 
 -- What kind of fault it is, and what the error says of it.
 abbrev pub error_text : SdpError → List ℕ

@@ -1,0 +1,58 @@
+//! A whole session text.
+
+ghost use Rattle.std.specs.Prelude.{◌≡◌};
+ghost use Rattle.std.specs.List.{list_all};
+ghost use Rattle.sdp_formats_faults.specs.Consistency.{is_consistent};
+ghost use Rattle.sdp_formats_reader.specs.Grammar.{ReadsSdp, ReadsSession};
+
+use crate::header::session;
+use crate::section::SectionStep;
+use sdp_formats_faults::is_consistent;
+use sdp_formats_forms::{Lined, Refusal, many};
+use sdp_formats_media_lines::MediaAttributeLine;
+use sdp_formats_session_attributes::SessionAttributeLine;
+use sdp_formats_sessions::{Sdp, Session, SessionAttribute};
+use sdp_formats_types::{MediaAttribute, MediaLine};
+use std::alloc::Global;
+
+fn are_consistent(sections: &[MediaLine]) -> bool
+    ensures { result ≡ list_all is_consistent sections.now }
+{
+    sections.iter().all(|section| is_consistent(section))
+}
+
+/// What stands before the first section of a text, and the text behind it (RFC 8866 5).
+///
+/// # Errors
+///
+/// `Unfit` where the text has no good header, `Memory` where memory runs out.
+pub(crate) fn read_session(alloc: Global, text: &str) -> Result<(Session, &str), Refusal>
+    ensures { ReadsSession text.now result }
+{
+    <SessionAttributeLine as Lined<SessionAttribute>>::exact_law();
+    session(alloc, text)
+}
+
+/// What a text says, and what is left of it from the first line on that fits nowhere (RFC 8866 5).
+///
+/// # Errors
+///
+/// `Unfit` where the text has no good header, or a section with a fault; `Memory` where memory runs out.
+pub(crate) fn read_sdp(alloc: Global, text: &str) -> Result<(Sdp, &str), Refusal>
+    ensures { ReadsSdp text.now result }
+{
+    <SessionAttributeLine as Lined<SessionAttribute>>::exact_law();
+    <MediaAttributeLine as Lined<MediaAttribute>>::exact_law();
+    let (session, rest) = session(alloc, text)?;
+    let (media_lines, rest) = many::<MediaLine, SectionStep>(alloc, rest)?;
+    if !are_consistent(media_lines.as_slice()) {
+        return Err(Refusal::Unfit);
+    }
+    Ok((
+        Sdp {
+            session,
+            media_lines,
+        },
+        rest,
+    ))
+}
