@@ -1,3 +1,4 @@
+mod DueLemmas
 pub mod KeptLemmas
 pub mod FrameLemmas
 pub mod CompleteLemmas

@@ -1,12 +1,13 @@
 //! Complete frames among held packets.
 
-ghost use Rattle.payload_core_buffer.specs.Frames.{IsFrame, complete_frames, due_frame, frame_of_run, goes_on};
-ghost use Rattle.payload_core_buffer.specs.Frames.{is_joined_to, is_next, kept_run, lowest_of, number_at};
+ghost use Rattle.payload_core_buffer.specs.Frames.{IsFrame, begins_next, due_frame, frame_of_run, goes_on};
+ghost use Rattle.payload_core_buffer.specs.Frames.{is_joined_to, is_next, kept_run, number_at};
 ghost use Rattle.payload_core_buffer.specs.Frames.{run_or_head};
 ghost use Rattle.payload_core_buffer.specs.Packets.{packet_of, packets_of};
 ghost use Rattle.std.specs.BTreeMap.{btree_map_len, values};
-ghost use Rattle.std.specs.Option.{ForSome, option_map, option_to_list};
-ghost use Rattle.std.specs.Prelude.{◌≡◌, ◌+◌, ◌-◌, ◌<◌, ◌≤◌, ◌^◌, IfSome, if◌then◌else◌, is_some, length};
+ghost use Rattle.std.specs.Option.{option_map, option_to_list};
+ghost use Rattle.std.specs.Prelude.{◌≡◌, ◌+◌, ◌-◌, ◌<◌, ◌≤◌, ◌^◌, ◌||◌, IfSome, None, if◌then◌else◌, is_some, length};
+ghost use Rattle.std.specs.Prelude.{nat_lt};
 
 use crate::held::Held;
 use payload_core_base::Depacketizer;
@@ -77,50 +78,6 @@ fn frame_of_run(is_tail: bool, run: Option<usize>, end: usize) -> Option<Frame>
     }
 }
 
-// The lowest of the frames so far, and how many there are.
-#[derive(Clone, Copy, Drop)]
-struct Found {
-    lowest: Option<Frame>,
-    count: usize,
-}
-
-/// The frames so far and perhaps one more.
-fn found_with(found: Found, frame: Option<Frame>) -> Found
-    requires { found.count < 2 ^ 64 - 1 }
-    ensures lowest { result.lowest ≡ (if is_some found.lowest then found.lowest else frame) }
-    ensures count { result.count ≡ found.count + length (option_to_list frame) }
-{
-    let Some(frame) = frame else {
-        return found;
-    };
-    Found {
-        lowest: found.lowest.or(Some(frame)),
-        count: found.count + 1,
-    }
-}
-
-/// The complete frames.
-fn complete_frames<D: Depacketizer>(depacketizer: &D, held: &BTreeMap<u64, Held>) -> Found
-    ensures lowest { result.lowest ≡ lowest_of
-        (complete_frames (D.format depacketizer.now) (packets_of (values held.now))) }
-    ensures count { result.count ≡ length (complete_frames (D.format depacketizer.now) (packets_of (values held.now))) }
-    ensures frame { ForSome result.lowest (IsFrame (D.format depacketizer.now) (packets_of (values held.now))) }
-{
-    let mut before = None;
-    let mut run = None;
-    let mut found = Found {
-        lowest: None,
-        count: 0,
-    };
-    for (i, h) in held.values().enumerate() {
-        run = run_at(depacketizer, before, h, run, i);
-        let is_tail = depacketizer.is_partition_tail(h.meta.marker, &h.payload);
-        found = found_with(found, frame_of_run(is_tail, run, i + 1));
-        before = Some(h);
-    }
-    found
-}
-
 /// Whether the number is right behind the cutoff, or there is none.
 fn is_next(cutoff: Option<SeqNo>, number: SeqNo) -> bool
     ensures { result ≡ is_next cutoff number }
@@ -142,8 +99,54 @@ pub fn number_at(held: &BTreeMap<u64, Held>, i: usize) -> SeqNo
     }
 }
 
+// The cutoff, the lowest of the frames so far, whether that begins right behind the cutoff, and how many there are.
+#[derive(Clone, Copy, Drop)]
+struct Found {
+    cutoff: Option<SeqNo>,
+    lowest: Option<Frame>,
+    is_next: bool,
+    count: usize,
+}
+
+/// The frames so far and perhaps one more.
+fn found_with(held: &BTreeMap<u64, Held>, found: Found, frame: Option<Frame>) -> Found
+    requires room { found.count < 2 ^ 64 - 1 }
+    requires start { IfSome frame (λ f. f.start < btree_map_len held.now) }
+    ensures cutoff { result.cutoff ≡ found.cutoff }
+    ensures lowest { result.lowest ≡ (if is_some found.lowest then found.lowest else frame) }
+    ensures next { found.is_next ≡ begins_next found.cutoff (packets_of (values held.now)) found.lowest
+        → result.is_next ≡ begins_next found.cutoff (packets_of (values held.now)) result.lowest }
+    ensures count { result.count ≡ found.count + length (option_to_list frame) }
+{
+    let Some(frame) = frame else {
+        return found;
+    };
+    let count = found.count + 1;
+    if found.lowest.is_some() {
+        return Found { count, ..found };
+    }
+    Found {
+        cutoff: found.cutoff,
+        lowest: Some(frame),
+        is_next: is_next(found.cutoff, number_at(held, frame.start)),
+        count,
+    }
+}
+
+/// The lowest frame, where it is next or more than `hold_back` are complete.
+fn due_among(found: &Found, hold_back: usize) -> Option<Frame>
+    ensures { result ≡ (if found.now.is_next || nat_lt hold_back found.now.count then found.now.lowest
+        else None) }
+{
+    if found.is_next || found.count > hold_back {
+        found.lowest
+    } else {
+        None
+    }
+}
+
 /// The frame that is handed on: the lowest, where it begins right behind the cutoff, or there is none, or
-/// more than `hold_back` are complete.
+/// more than `hold_back` are complete. What is held behind the packet that says so isn't looked at.
 pub fn due_frame<D: Depacketizer>(
     depacketizer: &D,
     held: &BTreeMap<u64, Held>,
@@ -153,10 +156,23 @@ pub fn due_frame<D: Depacketizer>(
     ensures due { result ≡ due_frame (D.format depacketizer.now) cutoff hold_back (packets_of (values held.now)) }
     ensures frame { IfSome result (IsFrame (D.format depacketizer.now) (packets_of (values held.now))) }
 {
-    let found = complete_frames(depacketizer, held);
-    let Some(lowest) = found.lowest else {
-        return None;
+    let mut before = None;
+    let mut run = None;
+    let mut found = Found {
+        cutoff,
+        lowest: None,
+        is_next: false,
+        count: 0,
     };
-    let number = number_at(held, lowest.start);
-    (is_next(cutoff, number) || found.count > hold_back).then_some(lowest)
+    for (i, h) in held.values().enumerate() {
+        run = run_at(depacketizer, before, h, run, i);
+        let is_tail = depacketizer.is_partition_tail(h.meta.marker, &h.payload);
+        found = found_with(held, found, frame_of_run(is_tail, run, i + 1));
+        let due = due_among(&found, hold_back);
+        if due.is_some() {
+            return due;
+        }
+        before = Some(h);
+    }
+    None
 }
