@@ -24,9 +24,11 @@ fn has_events(rows: &[PayloadParams]) -> bool
 fn is_of_kind(
     kind: MediaKind,
     for_new_offer: bool,
+    are_events: bool,
     rows: &[PayloadParams],
     row: &PayloadParams,
 ) -> bool
+    requires { are_events ≡ has_events rows.now }
     ensures { result ≡ is_of_kind kind for_new_offer rows.now row.now }
 {
     let codec = row.spec().codec;
@@ -34,8 +36,7 @@ fn is_of_kind(
         MediaKind::Video => codec.is_video(),
         MediaKind::Audio => {
             codec.is_audio()
-                || codec.is_tele()
-                    && (!for_new_offer || !has_events(rows) || matches_clock(rows, row))
+                || codec.is_tele() && (!for_new_offer || !are_events || matches_clock(rows, row))
         }
     }
 }
@@ -55,8 +56,9 @@ pub fn rows_of_kind(
     ensures { IfOk result (λ kept. kept.items ≡ rows_of_kind kind for_new_offer rows.now) }
 {
     let mut kept = Vec::new(alloc);
+    let are_events = has_events(rows);
     for row in rows {
-        if is_of_kind(kind, for_new_offer, rows, row) {
+        if is_of_kind(kind, for_new_offer, are_events, rows, row) {
             kept.push(*row)?;
         }
     }
