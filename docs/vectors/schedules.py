@@ -1,0 +1,277 @@
+#!/usr/bin/env python3
+"""Writes the last part of what `crates/rtplines` reads and must print: ends of each codec and layout under schedules
+that are drawn from seeds.
+
+    python3 docs/vectors/schedules.py write                        # anew into stdin and stdout of crates/rtplines
+    python3 docs/vectors/schedules.py compare SEED.. [-- PROGRAM]  # draws others, runs the program, and compares
+
+PROGRAM is a built `rtplines`; without one `rt try` runs it. A run is a pair of ends that agree by texts, samples, and
+a `play` of them: of every codec one that is tame and one that is sane. Behind it two more samples are sent and
+received line by line.
+
+All replies are worked out here, from the standards and docs/DEFINITIONS.md, by no code of the project: the texts of
+offer and answer, the payloads of each sample (the layouts are those of `payloads.py`, `h26x.py` and `av1.py`; which
+picture id or decoding order number stands in a packet, which parameter sets wait and what redundancy a packet has is
+worked out here) and the headers before them, the receiver's numbers and window, its buffer, and the bytes of each
+unit. The model asserts of itself that a tame run gives every unit, and a sane one a legal selection. What it never
+makes: bytes of others that read as a datagram of the stream, extensions of headers, and values for browsers.
+"""
+
+import random
+import re
+import subprocess
+import sys
+from pathlib import Path
+
+from ends import Receiver, Sender, check
+from samples import CASES, draw_samples
+
+CRATE = Path(__file__).parents[2] / "crates" / "rtplines"
+MARK = "# Schedules drawn by docs/vectors/schedules.py"
+REASONS = {
+    "refused": "its number came before, or is 128 or more below the greatest",
+    "foreign": "no receiving stream has this SSRC and payload type",
+    "unreadable": "no RTP header stands in front",
+}
+
+
+class Page:
+    """The lines, and what is printed of them, from a line number on; what became of each end."""
+
+    def __init__(self, number, ends):
+        self.number, self.ends, self.lines, self.printed = number, ends, [], []
+
+    def line(self, text, *replies):
+        self.lines.append(text)
+        self.printed.append(f"{self.number} {text}")
+        for reply in replies:
+            self.printed.append(f"  {reply}")
+            if reply in REASONS:
+                self.printed.append(f"  line {self.number}: {REASONS[reply]}")
+        self.number += 1
+
+    def make(self, end, text, told):
+        """The line makes an end anew; `told` is what is to be said of it in the end."""
+        self.line(text, "ok")
+        self.printed += [f"  {line}" for line in self.ends[end]]
+        self.ends[end] = told
+
+
+class Told:
+    """What became of the stream of a pair of ends; sender and receiver are known once they are opened."""
+
+    def __init__(self, end):
+        self.end, self.tx, self.rx, self.printed = end, None, None, 0
+
+    def __iter__(self):
+        stream = f"of {self.end}: SSRC 44, type 111,"
+        if self.tx:
+            yield f"sender 0 {stream} {self.printed} datagrams printed"
+        if self.rx:
+            counts = [f"{self.rx.counts[word]} {word}" for word in ("taken", "refused")]
+            held = f"{self.rx.counts['unit']} units, 0 faults, {len(self.rx.held)} packets held"
+            yield f"receiver 0 {stream} {', '.join(counts)}, 0 damaged, {held}"
+        others = self.rx.counts if self.rx else {"foreign": 0, "unreadable": 0}
+        yield f"end {self.end}: {others['foreign']} foreign, {others['unreadable']} unreadable"
+
+
+def feedback(case):
+    """What is asked of a row's feedback: of video all that is known, of audio the congestion control's."""
+    return ["transport-cc"] + (["goog-remb", "ccm fir", "nack", "nack pli"] if case.kind == "video" else [])
+
+
+def session_text(case, number, ssrc):
+    """The lines of an offer or answer with one section of one row (docs/SESSION_TEXTS.md)."""
+    channels = f"/{case.channels}" if case.channels != "-" else ""
+    types = "111 63" if case.red else "111"
+    yield from ["v=0", f"o=str0m-0.25.0 {number} 2 IN IP4 0.0.0.0", "s=-", "t=0 0", "a=group:BUNDLE 0"]
+    yield from [f"m={case.kind} 9 UDP/TLS/RTP/SAVPF {types}", "c=IN IP4 0.0.0.0", "a=mid:0", "a=sendrecv"]
+    yield f"a=rtpmap:111 {case.codec}/{case.rtp_clock}{channels}"
+    yield from [f"a=rtcp-fb:111 {words}" for words in feedback(case)]
+    if case.fmtp != "-":
+        yield f"a=fmtp:111 {case.fmtp}"
+    if case.red:
+        yield from [f"a=rtpmap:63 red/{case.rtp_clock}{channels}", "a=fmtp:63 111/111"]
+    yield f"a=ssrc:{ssrc} cname:str0m"
+
+
+def agree(page, case):
+    """Lines that make two ends, and have them agree."""
+    told = {}
+    for end, number in ("a", 1), ("b", 2):
+        page.line(f"row {end} 111 - {63 if case.red else '-'} {case.row}", "ok")
+        told[end] = Told(end)
+        page.make(end, f"end {end} {number}", told[end])
+    section = f"0:{case.kind}:sendrecv"
+    texts = []
+    for number, ssrc in (1, 44), (2, 45):
+        texts += ["text", *[f"  {line}" for line in session_text(case, number, ssrc)]]
+    page.line(f"connect {section}:44 / {section}:45", *texts)
+    return told
+
+
+def open_streams(page, draw, case, told, hold_back):
+    first = draw.choice([0, 1, 32767, draw.randrange(32768)])
+    distances = draw.choice(["1", "1,3", "2,4,8"]) if case.red else "-"
+    picture = draw.choice(["-", "126", "32766", "5"]) if case.codec in ("VP8", "VP9") else "-"
+    tx = Sender(case, first, draw.randint(*case.limits), distances, picture)
+    rx = Receiver(hold_back)
+    page.line(f"send a 0 44 111 {first} {tx.limit} 1400 {distances} {picture}", "sender 0")
+    page.line(f"open b 0 44 111 {hold_back}", "receiver 0")
+    told["a"].tx, told["b"].rx = tx, rx
+    return tx, rx
+
+
+def other_bytes(draw):
+    """Bytes that aren't of the stream: none of SSRC 44 and type 111 or 63."""
+    kind = draw.randrange(4)
+    if kind == 0:
+        return bytes([draw.randrange(128)]) + draw.randbytes(draw.randrange(20))
+    if kind == 1:
+        return bytes([draw.randrange(128, 192), 111]) + draw.randbytes(draw.randrange(10))
+    pt, ssrc = (draw.choice([111, 63, 239]), 45) if kind == 2 else (draw.choice([5, 127, 133]), 44)
+    head = bytes([draw.choice([0x80, 0x80, 0x81, 0x8F, 0x90, 0xA0]), pt]) + draw.randbytes(6)
+    return head + ssrc.to_bytes(4, "big") + draw.randbytes(draw.randrange(20))
+
+
+def orders(draw, count):
+    """Blocks of at most 128 places, in order or shuffled: none is later than one that is 128 above it."""
+    start = 0
+    while start < count:
+        block = list(range(start, min(count, start + draw.randint(1, 128))))
+        if draw.randrange(3):
+            draw.shuffle(block)
+        yield from block
+        start += len(block)
+
+
+def tame_items(draw, count, opening, polls_last):
+    """Every place, some again, other bytes, and polls behind the first unit."""
+    came = set()
+    for place in orders(draw, count):
+        yield place
+        came.add(place)
+        if draw.randrange(12) == 0:
+            yield draw.choice(sorted(came))
+        if draw.randrange(20) == 0:
+            yield other_bytes(draw)
+        if not polls_last and came >= set(range(opening)) and draw.randrange(2):
+            yield "p"
+
+
+def sane_items(draw, count):
+    """Places that are lost alone and in a row, that come again and late, other bytes, and polls at any time."""
+    lost = {place for place in range(count) if draw.randrange(24) == 0}
+    gap = draw.randrange(count)
+    lost |= set(range(gap, min(count, gap + draw.randrange(12))))
+    for place in orders(draw, count):
+        if place not in lost:
+            yield place
+        if draw.randrange(10) == 0:
+            yield max(0, place - draw.randrange(300))
+        if draw.randrange(20) == 0:
+            yield other_bytes(draw)
+        if draw.randrange(3) == 0:
+            yield "p"
+
+
+def play(page, tx, rx, samples, items):
+    """The line of a schedule, with polls until two in a row answer None at the end."""
+    for time, sample in samples:
+        page.line(f"queue {time} {sample.bytes.hex()}", "ok")
+    sent = [datagram for time, sample in samples for datagram in tx.push(time, sample)]
+    words, replies = [], []
+
+    def step(word, reply):
+        words.append(word)
+        replies.append(reply)
+
+    for item in items(len(sent)):
+        if item == "p":
+            step("p", rx.poll())
+        elif isinstance(item, bytes):
+            step(f"f{item.hex()}", rx.other(item))
+        else:
+            step(f"a{item}", rx.arrive(sent[item]))
+    while replies[-2:] != ["none", "none"]:
+        step("p", rx.poll())
+    page.line(f"play 0 0 {' '.join(words)}", *replies)
+    return sent
+
+
+def by_lines(page, told, tx, rx, samples):
+    """The same line by line: each datagram to the byte, received and polled."""
+    for time, sample in samples:
+        sent = tx.push(time, sample)
+        page.line(f"sample a 0 {time} {sample.bytes.hex()}", *[f"datagram {d.bytes.hex()}" for d in sent], "ok")
+        told["a"].printed += len(sent)
+        for datagram in sent:
+            page.line(f"receive b {datagram.bytes.hex()}", rx.arrive(datagram))
+            page.line("poll b 0", rx.poll())
+
+
+def run(page, case, kind, seed, size):
+    draw = random.Random(f"{case.name} {kind} {seed}")
+    page.line("", *[])
+    page.line(f"# {case.name}, {kind}, seed {seed}")
+    told = agree(page, case)
+    polls_last = kind == "tame" and draw.randrange(4) == 0
+    hold_back = draw.randrange(128 if polls_last else 12) if polls_last or kind == "sane" else 127
+    tx, rx = open_streams(page, draw, case, told, hold_back)
+    samples = draw_samples(draw, case, int(case.count * size) + 2)
+
+    def items(count):
+        if kind == "sane":
+            return sane_items(draw, count)
+        return tame_items(draw, count, tx.canonical[0].size, polls_last)
+
+    play(page, tx, rx, samples[:-2], items)
+    check(tx.canonical, rx.units, kind == "tame")
+    by_lines(page, told, tx, rx, samples[-2:])
+
+
+def runs(page, seeds, size=1.0):
+    page.line(MARK)
+    for seed in seeds:
+        for case in CASES:
+            for kind in ("tame", "sane"):
+                run(page, case, kind, seed, size)
+    tail = [f"  {line}" for end in "ab" for line in page.ends[end]]
+    return "\n".join(page.lines) + "\n", "\n".join([*page.printed, "at the end", *tail]) + "\n"
+
+
+def told_before(printed, end):
+    """What became of an end of the lines by hand, which is said at its next making, or at the end."""
+    found = re.search(rf"(  (sender|receiver) \d+ of {end}: .*\n)*  end {end}: .*\n", printed)
+    return [line[2:] for line in found[0].splitlines()] if found else []
+
+
+def write():
+    stdin, stdout = ((CRATE / name).read_text() for name in ("stdin", "stdout"))
+    by_hand = stdin.partition(MARK)[0]
+    front = re.split(rf"^\d+ {MARK}\n|^at the end\n", stdout, maxsplit=1, flags=re.M)[0]
+    ends = {end: told_before(stdout[len(front):], end) for end in "ab"}
+    lines, printed = runs(Page(by_hand.count("\n") + 1, ends), [1])
+    (CRATE / "stdin").write_text(by_hand + lines)
+    (CRATE / "stdout").write_text(front + printed)
+
+
+def compare(words):
+    seeds, _, program = " ".join(words).partition("--")
+    command = program.split() or ["rt", "try", "--"]
+    for seed in seeds.split():
+        lines, printed = runs(Page(1, {"a": [], "b": []}), [seed])
+        found = subprocess.run([*command, "explain"], cwd=CRATE, input=lines, capture_output=True, text=True).stdout
+        pairs = zip(printed.splitlines(), found.splitlines())
+        differ = next((f"line {n} of the output is {got!r}, not {want!r}"
+                       for n, (want, got) in enumerate(pairs, 1) if want != got), "one output is longer")
+        print(f"seed {seed}: {'as the model says' if printed == found else differ}", flush=True)
+
+
+if __name__ == "__main__":
+    if sys.argv[1:] == ["write"]:
+        write()
+    elif sys.argv[1:2] == ["compare"] and len(sys.argv) > 2:
+        compare(sys.argv[2:])
+    else:
+        sys.exit(__doc__)
