@@ -87,7 +87,8 @@ def has_header(text):
 class Receiver:
     """Stream 0 of the other end."""
 
-    def __init__(self, hold_back):
+    def __init__(self, case, hold_back):
+        self.types = (111, 63) if case.red else (111,)
         self.hold_back, self.greatest, self.taken = hold_back, None, set()
         self.held, self.cutoff, self.units, self.counts = {}, None, [], Counter()
 
@@ -96,7 +97,11 @@ class Receiver:
         return reply
 
     def other(self, text):
-        return self.said("foreign" if has_header(text) else "unreadable")
+        """Bytes that bring no payload: of this stream's SSRC and types, of others, or no datagram at all."""
+        if not has_header(text):
+            return self.said("unreadable")
+        is_own = text[1] & 127 in self.types and text[8:12] == bytes([0, 0, 0, 44])
+        return self.said("damaged" if is_own else "foreign")
 
     def widened(self, low):
         """The number with these 16 bits that is nearest to the greatest; of two as near the one of its 65,536."""

@@ -21,10 +21,11 @@ import random
 import re
 import subprocess
 import sys
+from collections import Counter
 from pathlib import Path
 
 from ends import Receiver, Sender, check
-from samples import CASES, draw_samples
+from samples import CASES, Sample, draw_samples
 
 CRATE = Path(__file__).parents[2] / "crates" / "rtplines"
 MARK = "# Schedules drawn by docs/vectors/schedules.py"
@@ -32,6 +33,7 @@ REASONS = {
     "refused": "its number came before, or is 128 or more below the greatest",
     "foreign": "no receiving stream has this SSRC and payload type",
     "unreadable": "no RTP header stands in front",
+    "damaged": "its padding doesn't fit, or it has no payload",
 }
 
 
@@ -68,10 +70,10 @@ class Told:
         if self.tx:
             yield f"sender 0 {stream} {self.printed} datagrams printed"
         if self.rx:
-            counts = [f"{self.rx.counts[word]} {word}" for word in ("taken", "refused")]
+            counts = ", ".join(f"{self.rx.counts[word]} {word}" for word in ("taken", "refused", "damaged"))
             held = f"{self.rx.counts['unit']} units, 0 faults, {len(self.rx.held)} packets held"
-            yield f"receiver 0 {stream} {', '.join(counts)}, 0 damaged, {held}"
-        others = self.rx.counts if self.rx else {"foreign": 0, "unreadable": 0}
+            yield f"receiver 0 {stream} {counts}, {held}"
+        others = self.rx.counts if self.rx else Counter()
         yield f"end {self.end}: {others['foreign']} foreign, {others['unreadable']} unreadable"
 
 
@@ -115,7 +117,7 @@ def open_streams(page, draw, case, told, hold_back):
     distances = draw.choice(["1", "1,3", "2,4,8"]) if case.red else "-"
     picture = draw.choice(["-", "126", "32766", "5"]) if case.codec in ("VP8", "VP9") else "-"
     tx = Sender(case, first, draw.randint(*case.limits), distances, picture)
-    rx = Receiver(hold_back)
+    rx = Receiver(case, hold_back)
     page.line(f"send a 0 44 111 {first} {tx.limit} 1400 {distances} {picture}", "sender 0")
     page.line(f"open b 0 44 111 {hold_back}", "receiver 0")
     told["a"].tx, told["b"].rx = tx, rx
@@ -132,6 +134,20 @@ def other_bytes(draw):
     pt, ssrc = (draw.choice([111, 63, 239]), 45) if kind == 2 else (draw.choice([5, 127, 133]), 44)
     head = bytes([draw.choice([0x80, 0x80, 0x81, 0x8F, 0x90, 0xA0]), pt]) + draw.randbytes(6)
     return head + ssrc.to_bytes(4, "big") + draw.randbytes(draw.randrange(20))
+
+
+def damaged_bytes(draw, case):
+    """A datagram of the stream that brings no payload: none is there, the padding doesn't fit (RFC 3550 5.1), or, with
+    redundancy, a block passes the end or the primary payload is of another type (RFC 2198 3)."""
+    number, time = draw.randbytes(2), draw.randbytes(4)
+    first, pt, payload = draw.choice([
+        (0x80, 111, b""),
+        (0xA0, 111, draw.randbytes(draw.randrange(9)) + bytes([draw.choice([0, 10, 255])])),
+        (0xA0, 239, draw.randbytes(4) + bytes([5])),
+        (0x80, 63, bytes([0x80 + 111, 0, 0, 9, 111, 1])) if case.red else (0xA0, 111, b""),
+        (0x80, 63, bytes([5]) + draw.randbytes(3)) if case.red else (0x80, 239, b""),
+    ])
+    return bytes([first, pt]) + number + time + (44).to_bytes(4, "big") + payload
 
 
 def orders(draw, count):
@@ -159,8 +175,8 @@ def tame_items(draw, count, opening, polls_last):
             yield "p"
 
 
-def sane_items(draw, count):
-    """Places that are lost alone and in a row, that come again and late, other bytes, and polls at any time."""
+def sane_items(draw, case, count):
+    """Places that are lost alone and in a row, that come again and late, other and damaged bytes, polls at any time."""
     lost = {place for place in range(count) if draw.randrange(24) == 0}
     gap = draw.randrange(count)
     lost |= set(range(gap, min(count, gap + draw.randrange(12))))
@@ -170,7 +186,17 @@ def sane_items(draw, count):
         if draw.randrange(10) == 0:
             yield max(0, place - draw.randrange(300))
         if draw.randrange(20) == 0:
-            yield other_bytes(draw)
+            yield other_bytes(draw) if draw.randrange(3) else damaged_bytes(draw, case)
+        if draw.randrange(3) == 0:
+            yield "p"
+
+
+def far_items(draw, count):
+    """Leaps over 32,767 numbers, onto 65,536 and past it, places around it in any order, and late ones."""
+    near = list(range(32745, 32795))
+    draw.shuffle(near)
+    for place in [1, 0, 2, 32769, *near, 32800, 33, 40, 32760, 32900, 133, 32773, 32772, count - 1]:
+        yield place
         if draw.randrange(3) == 0:
             yield "p"
 
@@ -212,7 +238,7 @@ def by_lines(page, told, tx, rx, samples):
 
 def run(page, case, kind, seed, size):
     draw = random.Random(f"{case.name} {kind} {seed}")
-    page.line("", *[])
+    page.line("")
     page.line(f"# {case.name}, {kind}, seed {seed}")
     told = agree(page, case)
     polls_last = kind == "tame" and draw.randrange(4) == 0
@@ -222,12 +248,27 @@ def run(page, case, kind, seed, size):
 
     def items(count):
         if kind == "sane":
-            return sane_items(draw, count)
+            return sane_items(draw, case, count)
         return tame_items(draw, count, tx.canonical[0].size, polls_last)
 
     play(page, tx, rx, samples[:-2], items)
     check(tx.canonical, rx.units, kind == "tame")
     by_lines(page, told, tx, rx, samples[-2:])
+
+
+def far_run(page, seed):
+    """A sample of PCMU whose packets have a byte each, from number 32,767 on, which is the greatest FIRST."""
+    draw = random.Random(f"far {seed}")
+    case = next(case for case in CASES if case.name == "PCMU")
+    page.line("")
+    page.line(f"# Numbers past 65,536, seed {seed}")
+    told = agree(page, case)
+    tx, rx = Sender(case, 32767, 1, "-", "-"), Receiver(case, 4)
+    page.line("send a 0 44 111 32767 1 1400 - -", "sender 0")
+    page.line("open b 0 44 111 4", "receiver 0")
+    told["a"].tx, told["b"].rx = tx, rx
+    play(page, tx, rx, [(960, Sample(draw.randbytes(32950)))], lambda count: far_items(draw, count))
+    check(tx.canonical, rx.units, False)
 
 
 def runs(page, seeds, size=1.0):
@@ -236,6 +277,7 @@ def runs(page, seeds, size=1.0):
         for case in CASES:
             for kind in ("tame", "sane"):
                 run(page, case, kind, seed, size)
+        far_run(page, seed)
     tail = [f"  {line}" for end in "ab" for line in page.ends[end]]
     return "\n".join(page.lines) + "\n", "\n".join([*page.printed, "at the end", *tail]) + "\n"
 
@@ -247,13 +289,14 @@ def told_before(printed, end):
 
 
 def write():
-    stdin, stdout = ((CRATE / name).read_text() for name in ("stdin", "stdout"))
+    # by bytes, since a line by hand ends with a carriage return
+    stdin, stdout = ((CRATE / name).read_bytes().decode() for name in ("stdin", "stdout"))
     by_hand = stdin.partition(MARK)[0]
     front = re.split(rf"^\d+ {MARK}\n|^at the end\n", stdout, maxsplit=1, flags=re.M)[0]
     ends = {end: told_before(stdout[len(front):], end) for end in "ab"}
     lines, printed = runs(Page(by_hand.count("\n") + 1, ends), [1])
-    (CRATE / "stdin").write_text(by_hand + lines)
-    (CRATE / "stdout").write_text(front + printed)
+    (CRATE / "stdin").write_bytes((by_hand + lines).encode())
+    (CRATE / "stdout").write_bytes((front + printed).encode())
 
 
 def compare(words):
