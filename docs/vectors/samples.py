@@ -20,7 +20,7 @@ class Case:
     channels: str = "-"
     fmtp: str = "-"
     red: bool = False
-    count: int = 110
+    count: int = 92
     limits: tuple = (4, 24)
 
     @property
@@ -37,7 +37,7 @@ class Case:
         return f"{self.codec} {self.clock} {self.channels} {self.fmtp}"
 
 
-def video(name, codec, fmtp="-", count=24, limits=(20, 60)):
+def video(name, codec, fmtp="-", count=20, limits=(20, 60)):
     return Case(name, codec, 90000, "-", fmtp, False, count, limits)
 
 
