@@ -22,6 +22,7 @@ import re
 import subprocess
 import sys
 from collections import Counter
+from itertools import zip_longest
 from pathlib import Path
 
 from ends import Receiver, Sender, check
@@ -304,11 +305,17 @@ def compare(words):
     command = program.split() or ["rt", "try", "--"]
     for seed in seeds.split():
         lines, printed = runs(Page(1, {"a": [], "b": []}), [seed])
-        found = subprocess.run([*command, "explain"], cwd=CRATE, input=lines, capture_output=True, text=True).stdout
-        pairs = zip(printed.splitlines(), found.splitlines())
-        differ = next((f"line {n} of the output is {got!r}, not {want!r}"
-                       for n, (want, got) in enumerate(pairs, 1) if want != got), "one output is longer")
-        print(f"seed {seed}: {'as the model says' if printed == found else differ}", flush=True)
+        found = subprocess.run([*command, "explain"], cwd=CRATE, input=lines, capture_output=True, text=True)
+        print(f"seed {seed}: {difference(printed, found.stdout) or 'as the model says'}", flush=True)
+        if found.returncode != 0:
+            print(f"status {found.returncode}: {found.stderr}", flush=True)
+
+
+def difference(wanted, found):
+    """The first line in which the output differs."""
+    pairs = zip_longest(wanted.splitlines(), found.splitlines())
+    told = (f"line {n} of the output is {got!r}, not {want!r}" for n, (want, got) in enumerate(pairs, 1) if want != got)
+    return next(told, None)
 
 
 if __name__ == "__main__":
