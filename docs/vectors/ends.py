@@ -72,16 +72,41 @@ class Sender:
         return b"".join([*heads, joined([(0, 1), (111, 7)]), *[older for _, older in blocks], payload])
 
 
-def has_header(text):
-    """Version 2, and the CSRC words and the extension's words don't pass the end (RFC 3550 5.1, 5.3.1)."""
+def header_size(text):
+    """Of version 2, with CSRC words and the extension's words; none where these pass the end (RFC 3550 5.1, 5.3.1)."""
     if len(text) < 12 or text[0] >> 6 != 2:
-        return False
+        return None
     size = 12 + 4 * (text[0] & 15)
     if text[0] & 16:
         if len(text) < size + 4:
-            return False
+            return None
         size += 4 + 4 * int.from_bytes(text[size + 2 : size + 4], "big")
-    return len(text) >= size
+    return size if len(text) >= size else None
+
+
+def primary(payload):
+    """The primary payload of RED, where it is of type 111 (RFC 2198 3); at most 32 older ones are read."""
+    lengths = []
+    while payload and payload[0] & 128:
+        if len(payload) < 4 or len(lengths) == 32:
+            return None
+        lengths.append((payload[2] & 3) << 8 | payload[3])
+        payload = payload[4:]
+    if len(payload) < 1 + sum(lengths) or payload[0] != 111:
+        return None
+    return payload[1 + sum(lengths) :]
+
+
+def payload_of(text):
+    """What a datagram of the stream brings behind its header, or nothing where it is damaged."""
+    payload = text[header_size(text) :]
+    if text[0] & 32:
+        # the last byte says how many bytes of padding there are, itself among them
+        count = payload[-1] if payload else 0
+        if not 0 < count <= len(payload):
+            return None
+        payload = payload[: len(payload) - count]
+    return (primary(payload) if text[1] & 127 == 63 else payload) or None
 
 
 class Receiver:
@@ -97,11 +122,17 @@ class Receiver:
         return reply
 
     def other(self, text):
-        """Bytes that bring no payload: of this stream's SSRC and types, of others, or no datagram at all."""
-        if not has_header(text):
+        """Bytes that the sender didn't send. A payload that they bring is a unit of its own, as of most audio."""
+        if header_size(text) is None:
             return self.said("unreadable")
-        is_own = text[1] & 127 in self.types and text[8:12] == bytes([0, 0, 0, 44])
-        return self.said("damaged" if is_own else "foreign")
+        if text[1] & 127 not in self.types or text[8:12] != bytes([0, 0, 0, 44]):
+            return self.said("foreign")
+        payload = payload_of(text)
+        if payload is None:
+            return self.said("damaged")
+        packet = Packet(payload, True, text[1] > 127, True, [payload])
+        low, time = int.from_bytes(text[2:4], "big"), int.from_bytes(text[4:8], "big")
+        return self.arrive(Datagram(low, time, packet, text))
 
     def widened(self, low):
         """The number with these 16 bits that is nearest to the greatest; of two as near the one of its 65,536."""

@@ -28,6 +28,11 @@ class Case:
         return "video" if self.codec in ("VP8", "VP9", "AV1", "H264", "H265", "H266") else "audio"
 
     @property
+    def is_plain(self):
+        """Whether each payload is a unit, whatever its bytes are."""
+        return self.codec in ("opus", "PCMU", "PCMA", "G722", "CN")
+
+    @property
     def rtp_clock(self):
         """G.722 is sampled at 16,000 Hz and counted at 8,000 (RFC 3551 4.5.2)."""
         return 8000 if self.codec == "G722" else self.clock

@@ -13,8 +13,11 @@ All replies are worked out here, from the standards and docs/DEFINITIONS.md, by 
 offer and answer, the payloads of each sample (the layouts are those of `payloads.py`, `h26x.py` and `av1.py`; which
 picture id or decoding order number stands in a packet, which parameter sets wait and what redundancy a packet has is
 worked out here) and the headers before them, the receiver's numbers and window, its buffer, and the bytes of each
-unit. The model asserts of itself that a tame run gives every unit, and a sane one a legal selection. What it never
-makes: bytes of others that read as a datagram of the stream, extensions of headers, and values for browsers.
+unit. The model asserts of itself that a tame run gives every unit, and a sane one a legal selection. To sane runs come
+datagrams of the stream that are damaged, which change nothing, and one run of many short packets has leaps over nearly
+32,768 numbers past 65,536. Audio whose units are its payloads has a wild run besides, of arrivals in any order and of
+datagrams under the stream's SSRC and types that it didn't send, with any numbers. What is never made: such datagrams
+of other codecs, header extensions that are agreed on, and forms for browsers.
 """
 
 import random
@@ -26,6 +29,7 @@ from itertools import zip_longest
 from pathlib import Path
 
 from ends import Receiver, Sender, check
+from payloads import joined
 from samples import CASES, Sample, draw_samples
 
 CRATE = Path(__file__).parents[2] / "crates" / "rtplines"
@@ -151,6 +155,36 @@ def damaged_bytes(draw, case):
     return bytes([first, pt]) + number + time + (44).to_bytes(4, "big") + payload
 
 
+def forged_bytes(draw, case, greatest):
+    """A datagram of the stream's SSRC and a type of its own, with CSRC words, an extension or padding at times; its
+    number is near the greatest mostly."""
+    low = (greatest + draw.randint(-200, 200)) % 65536 if draw.randrange(8) else draw.randrange(65536)
+    csrcs, extension, padding = draw.choice([0, 0, 2]), draw.choice([b"", b"", b"\xbe\xde\0\1\x10\xff\0\0"]), b""
+    payload = draw.randbytes(draw.randint(1, 9))
+    is_red = case.red and draw.randrange(2)
+    if is_red:
+        older = draw.randbytes(draw.randrange(6))
+        head = joined([(1, 1), (draw.choice([111, 0]), 7), (draw.randrange(1 << 14), 14), (len(older), 10)])
+        payload = draw.choice([bytes([111]) + payload, head + bytes([111]) + older + payload])
+    if draw.randrange(4) == 0:
+        padding = bytes(draw.randrange(4))
+        padding += bytes([len(padding) + 1])
+    fields = [(2, 2), (int(padding != b""), 1), (int(extension != b""), 1), (csrcs, 4), (draw.randrange(2), 1)]
+    fields += [(63 if is_red else 111, 7), (low, 16), (draw.randrange(1 << 32), 32), (44, 32)]
+    return joined(fields) + draw.randbytes(4 * csrcs) + extension + payload + padding
+
+
+def wild_items(draw, case, count, rx):
+    """Datagrams of the sender in any order, forged and damaged ones and other bytes, and polls."""
+    for _ in range(count):
+        yield draw.randrange(count)
+        if draw.randrange(2) == 0:
+            forged = forged_bytes(draw, case, rx.greatest or 0)
+            yield draw.choice([forged, forged, forged, damaged_bytes(draw, case), other_bytes(draw)])
+        if draw.randrange(2):
+            yield "p"
+
+
 def orders(draw, count):
     """Blocks of at most 128 places, in order or shuffled: none is later than one that is 128 above it."""
     start = 0
@@ -243,17 +277,20 @@ def run(page, case, kind, seed, size):
     page.line(f"# {case.name}, {kind}, seed {seed}")
     told = agree(page, case)
     polls_last = kind == "tame" and draw.randrange(4) == 0
-    hold_back = draw.randrange(128 if polls_last else 12) if polls_last or kind == "sane" else 127
+    hold_back = draw.randrange(128 if polls_last else 12) if polls_last or kind != "tame" else 127
     tx, rx = open_streams(page, draw, case, told, hold_back)
-    samples = draw_samples(draw, case, int(case.count * size) + 2)
+    samples = draw_samples(draw, case, int(case.count * size * (0.4 if kind == "wild" else 1)) + 2)
 
     def items(count):
+        if kind == "wild":
+            return wild_items(draw, case, count, rx)
         if kind == "sane":
             return sane_items(draw, case, count)
         return tame_items(draw, count, tx.canonical[0].size, polls_last)
 
     play(page, tx, rx, samples[:-2], items)
-    check(tx.canonical, rx.units, kind == "tame")
+    if kind != "wild":
+        check(tx.canonical, rx.units, kind == "tame")
     by_lines(page, told, tx, rx, samples[-2:])
 
 
@@ -276,7 +313,7 @@ def runs(page, seeds, size=1.0):
     page.line(MARK)
     for seed in seeds:
         for case in CASES:
-            for kind in ("tame", "sane"):
+            for kind in ("tame", "sane", "wild") if case.is_plain else ("tame", "sane"):
                 run(page, case, kind, seed, size)
         far_run(page, seed)
     tail = [f"  {line}" for end in "ab" for line in page.ends[end]]
