@@ -6,6 +6,7 @@ from dataclasses import dataclass
 
 from packers import PACKERS, Packet, Pieces
 from payloads import joined
+from readers import READERS, Audio, Fault
 
 
 @dataclass
@@ -113,7 +114,7 @@ class Receiver:
     """Stream 0 of the other end."""
 
     def __init__(self, case, hold_back):
-        self.types = (111, 63) if case.red else (111,)
+        self.types, self.reader = (111, 63) if case.red else (111,), READERS.get(case.codec, Audio)(case)
         self.hold_back, self.greatest, self.taken = hold_back, None, set()
         self.held, self.cutoff, self.units, self.counts = {}, None, [], Counter()
 
@@ -122,7 +123,7 @@ class Receiver:
         return reply
 
     def other(self, text):
-        """Bytes that the sender didn't send. A payload that they bring is a unit of its own, as of most audio."""
+        """Bytes that the sender didn't send, which may bring a payload."""
         if header_size(text) is None:
             return self.said("unreadable")
         if text[1] & 127 not in self.types or text[8:12] != bytes([0, 0, 0, 44]):
@@ -130,7 +131,7 @@ class Receiver:
         payload = payload_of(text)
         if payload is None:
             return self.said("damaged")
-        packet = Packet(payload, True, text[1] > 127, True, [payload])
+        packet = Packet(payload, text[1] > 127, False, [])
         low, time = int.from_bytes(text[2:4], "big"), int.from_bytes(text[4:8], "big")
         return self.arrive(Datagram(low, time, packet, text))
 
@@ -156,15 +157,14 @@ class Receiver:
 
     def frames(self):
         """The complete frames: to each tail the longest run of one time from a head on, in which no other tail is."""
-        for last in sorted(self.held):
-            if not self.held[last].packet.tail:
-                continue
+        tails = {number for number, d in self.held.items() if self.reader.tail(d.packet.marker)}
+        for last in sorted(tails):
             run = [last]
             while (before := self.held.get(run[0] - 1)) and before.time == self.held[last].time:
-                if before.packet.tail:
+                if run[0] - 1 in tails:
                     break
                 run.insert(0, run[0] - 1)
-            heads = [number for number in run if self.held[number].packet.head]
+            heads = [number for number in run if self.reader.head(self.held[number].packet.payload)]
             if heads:
                 yield heads[0], last
 
@@ -175,21 +175,24 @@ class Receiver:
         first, last = frames[0]
         if self.cutoff not in (None, first - 1) and len(frames) <= self.hold_back:
             return self.said("none")
-        parts = [part for number in range(first, last + 1) for part in self.held[number].packet.parts]
-        time, self.cutoff = self.held[first].time, last
+        frame, self.cutoff = [self.held[number] for number in range(first, last + 1)], last
         self.held = {number: datagram for number, datagram in self.held.items() if number > last}
-        self.units.append((first, last, time, parts))
-        return self.said(f"unit {first} {last} {time} {b''.join(parts).hex() or '-'}")
+        try:
+            unit = b"".join([self.reader.read(datagram.packet.payload) for datagram in frame])
+        except Fault:
+            return self.said("fault Payload")
+        self.units.append((first, last, frame[0].time, unit))
+        return self.said(f"unit {first} {last} {frame[0].time} {unit.hex() or '-'}")
 
 
 def check(canonical, units, is_tame):
     """What the headline says of the units of a run: all of them, or of some a final run of their parts, in order."""
     left = list(canonical)
-    for first, last, time, parts in units:
+    for first, last, time, unit in units:
         while left and left[0].first + left[0].size <= first:
             left.pop(0)
         sent = left.pop(0)
-        assert (last + 1, time) == (sent.first + sent.size, sent.time) and parts
-        assert parts == sent.parts[len(sent.parts) - len(parts):]
-        assert not is_tame or (first, parts) == (sent.first, sent.parts)
+        assert (last + 1, time) == (sent.first + sent.size, sent.time)
+        assert unit in [b"".join(sent.parts[k:]) for k in range(len(sent.parts))]
+        assert not is_tame or (first, unit) == (sent.first, b"".join(sent.parts))
     assert not is_tame or len(units) == len(canonical)

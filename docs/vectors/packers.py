@@ -11,11 +11,9 @@ from payloads import joined
 
 @dataclass
 class Packet:
-    """A payload; whether a unit may begin with it; the marker; whether a unit ends with it; and the parts of the unit
-    that begin in it."""
+    """A payload, its marker, whether a unit ends with it, and the parts of the unit that begin in it."""
 
     payload: bytes
-    head: bool
     marker: bool
     tail: bool
     parts: list
@@ -23,13 +21,13 @@ class Packet:
 
 def of_audio(packets, units):
     """Each is a unit of its own, without a marker."""
-    return [Packet(payload, True, False, True, [unit]) for payload, unit in zip(packets, units)]
+    return [Packet(payload, False, True, [unit]) for payload, unit in zip(packets, units)]
 
 
 def of_picture(packets):
-    """A unit ends with the marker, which the last packet has; each is (payload, head, parts)."""
+    """A unit ends with the marker, which the last packet has; each is (payload, parts)."""
     last = len(packets) - 1
-    return [Packet(payload, head, i == last, i == last, parts) for i, (payload, head, parts) in enumerate(packets)]
+    return [Packet(payload, i == last, i == last, parts) for i, (payload, parts) in enumerate(packets)]
 
 
 class Pieces:
@@ -71,7 +69,7 @@ class Vp8:
         described = {"picture": (self.id, self.id >= 128)} if self.tells and self.id else {}
         packets = payloads.vp8_packets(sample.bytes, self.limit, **described)
         self.id = (self.id + 1) % 32768
-        return of_picture([(p, i == 0, [sample.bytes] if i == 0 else []) for i, p in enumerate(packets)])
+        return of_picture([(p, [] if i else [sample.bytes]) for i, p in enumerate(packets)])
 
 
 class Vp9(Vp8):
@@ -80,7 +78,7 @@ class Vp9(Vp8):
     def pack(self, sample):
         packets = payloads.vp9_packets(sample.bytes, self.limit, flexible=True, picture=(self.id, True))
         self.id = (self.id + 1) % 32768
-        return of_picture([(p, i == 0, [sample.bytes] if i == 0 else []) for i, p in enumerate(packets)])
+        return of_picture([(p, [] if i else [sample.bytes]) for i, p in enumerate(packets)])
 
 
 class Av1:
@@ -103,7 +101,7 @@ class Av1:
             # Z Y W N and three reserved bits
             fields = [(begun, 1), (is_cut, 1), (count, 2), (is_key and not packets, 1), (0, 3)]
             payload = joined([(int(value), width) for value, width in fields]) + self.body(elements)
-            packets.append((payload, not begun, [part for _, parts in elements for part in parts]))
+            packets.append((payload, [part for _, parts in elements for part in parts]))
         return of_picture(packets)
 
     @staticmethod
@@ -169,16 +167,16 @@ class H26x:
         if len(packet) > self.limit:
             self.don = before
             return []
-        return [(packet, True, [h26x.START + unit for unit in sets])]
+        return [(packet, [h26x.START + unit for unit in sets])]
 
     def alone(self, unit):
         numbers = self.numbers(1)
         don = numbers and numbers[0]
         packet = h26x.single(self.codec, unit, don)
         if len(packet) <= self.limit:
-            return [(packet, True, [h26x.START + unit])]
+            return [(packet, [h26x.START + unit])]
         packets = h26x.fragments(self.codec, unit, h26x.full(self.codec, unit, self.limit, don), don)
-        return [(p, i == 0, [h26x.START + unit] if i == 0 else []) for i, p in enumerate(packets)]
+        return [(p, [] if i else [h26x.START + unit]) for i, p in enumerate(packets)]
 
 
 PACKERS = {"AMR-WB": AmrWb, "telephone-event": Events, "VP8": Vp8, "VP9": Vp9, "AV1": Av1,

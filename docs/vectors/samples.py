@@ -20,7 +20,7 @@ class Case:
     channels: str = "-"
     fmtp: str = "-"
     red: bool = False
-    count: int = 92
+    count: int = 62
     limits: tuple = (4, 24)
 
     @property
@@ -28,9 +28,9 @@ class Case:
         return "video" if self.codec in ("VP8", "VP9", "AV1", "H264", "H265", "H266") else "audio"
 
     @property
-    def is_plain(self):
-        """Whether each payload is a unit, whatever its bytes are."""
-        return self.codec in ("opus", "PCMU", "PCMA", "G722", "CN")
+    def wild(self):
+        """Which part of so many samples a wild run has."""
+        return 1 if self.kind == "video" else 0.4
 
     @property
     def rtp_clock(self):
@@ -42,7 +42,7 @@ class Case:
         return f"{self.codec} {self.clock} {self.channels} {self.fmtp}"
 
 
-def video(name, codec, fmtp="-", count=20, limits=(20, 60)):
+def video(name, codec, fmtp="-", count=15, limits=(20, 60)):
     return Case(name, codec, 90000, "-", fmtp, False, count, limits)
 
 

@@ -6,18 +6,18 @@ that are drawn from seeds.
     python3 docs/vectors/schedules.py compare SEED.. [-- PROGRAM]  # draws others, runs the program, and compares
 
 PROGRAM is a built `rtplines`; without one `rt try` runs it. A run is a pair of ends that agree by texts, samples, and
-a `play` of them: of every codec one that is tame and one that is sane. Behind it two more samples are sent and
-received line by line.
+a `play` of them: of every codec one that is tame, one that is sane, and one that is neither. Behind it two more
+samples are sent and received line by line.
 
 All replies are worked out here, from the standards and docs/DEFINITIONS.md, by no code of the project: the texts of
 offer and answer, the payloads of each sample (the layouts are those of `payloads.py`, `h26x.py` and `av1.py`; which
 picture id or decoding order number stands in a packet, which parameter sets wait and what redundancy a packet has is
-worked out here) and the headers before them, the receiver's numbers and window, its buffer, and the bytes of each
-unit. The model asserts of itself that a tame run gives every unit, and a sane one a legal selection. To sane runs come
-datagrams of the stream that are damaged, which change nothing, and one run of many short packets has leaps over nearly
-32,768 numbers past 65,536. Audio whose units are its payloads has a wild run besides, of arrivals in any order and of
-datagrams under the stream's SSRC and types that it didn't send, with any numbers. What is never made: such datagrams
-of other codecs, header extensions that are agreed on, and forms for browsers.
+worked out in `packers.py` and `ends.py`) and the headers before them, the receiver's numbers and window, its buffer,
+and the bytes of each unit, as `readers.py` reads them. The model asserts of itself that a tame run gives every unit,
+and a sane one a legal selection. To sane runs come datagrams of the stream that are damaged, which change nothing, and
+one run of many short packets has leaps over nearly 32,768 numbers past 65,536. To the third run of each codec come
+datagrams under the stream's SSRC and types that it didn't send, with any numbers and payloads. What is never made:
+header extensions that are agreed on, and forms for browsers.
 """
 
 import random
@@ -39,6 +39,7 @@ REASONS = {
     "foreign": "no receiving stream has this SSRC and payload type",
     "unreadable": "no RTP header stands in front",
     "damaged": "its padding doesn't fit, or it has no payload",
+    "fault Payload": "a packet of the frame isn't of its format; the frame is done with",
 }
 
 
@@ -76,8 +77,9 @@ class Told:
             yield f"sender 0 {stream} {self.printed} datagrams printed"
         if self.rx:
             counts = ", ".join(f"{self.rx.counts[word]} {word}" for word in ("taken", "refused", "damaged"))
-            held = f"{self.rx.counts['unit']} units, 0 faults, {len(self.rx.held)} packets held"
-            yield f"receiver 0 {stream} {counts}, {held}"
+            faults = self.rx.counts["fault"]
+            held = "" if faults else f", {len(self.rx.held)} packets held"
+            yield f"receiver 0 {stream} {counts}, {self.rx.counts['unit']} units, {faults} faults{held}"
         others = self.rx.counts if self.rx else Counter()
         yield f"end {self.end}: {others['foreign']} foreign, {others['unreadable']} unreadable"
 
@@ -117,8 +119,8 @@ def agree(page, case):
     return told
 
 
-def open_streams(page, draw, case, told, hold_back):
-    first = draw.choice([0, 1, 32767, draw.randrange(32768)])
+def open_streams(page, draw, case, told, least, hold_back):
+    first = max(least, draw.choice([0, 1, 32767, draw.randrange(32768)]))
     distances = draw.choice(["1", "1,3", "2,4,8"]) if case.red else "-"
     picture = draw.choice(["-", "126", "32766", "5"]) if case.codec in ("VP8", "VP9") else "-"
     tx = Sender(case, first, draw.randint(*case.limits), distances, picture)
@@ -155,12 +157,25 @@ def damaged_bytes(draw, case):
     return bytes([first, pt]) + number + time + (44).to_bytes(4, "big") + payload
 
 
-def forged_bytes(draw, case, greatest):
-    """A datagram of the stream's SSRC and a type of its own, with CSRC words, an extension or padding at times; its
-    number is near the greatest mostly."""
-    low = (greatest + draw.randint(-200, 200)) % 65536 if draw.randrange(8) else draw.randrange(65536)
+def changed(draw, payload):
+    """A payload with other bits in front, without its end, with more behind it, or another one."""
+    count = draw.randint(1, 4)
+    mask = bytes(draw.choice([0, 1 << draw.randrange(8), draw.randrange(256)]) for _ in range(count))
+    front = bytes(byte ^ bits for byte, bits in zip(payload, mask))
+    return draw.choice([front + payload[count:], payload[: draw.randint(1, 12)], payload + draw.randbytes(3),
+                        draw.randbytes(draw.randint(1, 9)), payload])
+
+
+def forged_bytes(draw, case, sent, place, greatest):
+    """A datagram of the stream's SSRC and a type of its own, with CSRC words, an extension or padding at times: in
+    place of one of the next, or with another time and a number around the greatest, or, in the last third, with any."""
+    model = draw.choice(sent[place : place + 3])
+    low, time, payload = model.number % 65536, model.time, changed(draw, model.packet.payload)
+    if draw.randrange(6) == 0:
+        low, time = (greatest + draw.randint(-150, 2)) % 65536, draw.randrange(1 << 32)
+    if 3 * place > 2 * len(sent) and draw.randrange(12) == 0:
+        low = draw.randrange(65536)
     csrcs, extension, padding = draw.choice([0, 0, 2]), draw.choice([b"", b"", b"\xbe\xde\0\1\x10\xff\0\0"]), b""
-    payload = draw.randbytes(draw.randint(1, 9))
     is_red = case.red and draw.randrange(2)
     if is_red:
         older = draw.randbytes(draw.randrange(6))
@@ -169,18 +184,23 @@ def forged_bytes(draw, case, greatest):
     if draw.randrange(4) == 0:
         padding = bytes(draw.randrange(4))
         padding += bytes([len(padding) + 1])
-    fields = [(2, 2), (int(padding != b""), 1), (int(extension != b""), 1), (csrcs, 4), (draw.randrange(2), 1)]
-    fields += [(63 if is_red else 111, 7), (low, 16), (draw.randrange(1 << 32), 32), (44, 32)]
+    marker = model.packet.marker if draw.randrange(3) else not model.packet.marker
+    fields = [(2, 2), (int(padding != b""), 1), (int(extension != b""), 1), (csrcs, 4), (int(marker), 1)]
+    fields += [(63 if is_red else 111, 7), (low, 16), (time, 32), (44, 32)]
     return joined(fields) + draw.randbytes(4 * csrcs) + extension + payload + padding
 
 
-def wild_items(draw, case, count, rx):
-    """Datagrams of the sender in any order, forged and damaged ones and other bytes, and polls."""
-    for _ in range(count):
-        yield draw.randrange(count)
-        if draw.randrange(2) == 0:
-            forged = forged_bytes(draw, case, rx.greatest or 0)
-            yield draw.choice([forged, forged, forged, damaged_bytes(draw, case), other_bytes(draw)])
+def wild_items(draw, case, sent, rx):
+    """Datagrams of the sender nearly in order, some lost, some from anywhere; forged and damaged ones and other bytes
+    before them and behind; and polls."""
+    for place in range(len(sent)):
+        if draw.randrange(2):
+            forged = forged_bytes(draw, case, sent, place, rx.greatest or sent[0].number)
+            yield draw.choice([*[forged] * 6, damaged_bytes(draw, case), other_bytes(draw)])
+        if draw.randrange(16):
+            yield place
+        if draw.randrange(8) == 0:
+            yield min(len(sent) - 1, place + draw.randrange(4)) if draw.randrange(9) else draw.randrange(len(sent))
         if draw.randrange(2):
             yield "p"
 
@@ -247,7 +267,7 @@ def play(page, tx, rx, samples, items):
         words.append(word)
         replies.append(reply)
 
-    for item in items(len(sent)):
+    for item in items(sent):
         if item == "p":
             step("p", rx.poll())
         elif isinstance(item, bytes):
@@ -278,15 +298,17 @@ def run(page, case, kind, seed, size):
     told = agree(page, case)
     polls_last = kind == "tame" and draw.randrange(4) == 0
     hold_back = draw.randrange(128 if polls_last else 12) if polls_last or kind != "tame" else 127
-    tx, rx = open_streams(page, draw, case, told, hold_back)
-    samples = draw_samples(draw, case, int(case.count * size * (0.4 if kind == "wild" else 1)) + 2)
+    # what is less than 0 is nearly 2^64, and all later numbers are refused then
+    least = 200 if kind == "wild" and draw.randrange(6) else 0
+    tx, rx = open_streams(page, draw, case, told, least, hold_back)
+    samples = draw_samples(draw, case, int(case.count * size * (case.wild if kind == "wild" else 1)) + 2)
 
-    def items(count):
+    def items(sent):
         if kind == "wild":
-            return wild_items(draw, case, count, rx)
+            return wild_items(draw, case, sent, rx)
         if kind == "sane":
-            return sane_items(draw, case, count)
-        return tame_items(draw, count, tx.canonical[0].size, polls_last)
+            return sane_items(draw, case, len(sent))
+        return tame_items(draw, len(sent), tx.canonical[0].size, polls_last)
 
     play(page, tx, rx, samples[:-2], items)
     if kind != "wild":
@@ -305,7 +327,7 @@ def far_run(page, seed):
     page.line("send a 0 44 111 32767 1 1400 - -", "sender 0")
     page.line("open b 0 44 111 4", "receiver 0")
     told["a"].tx, told["b"].rx = tx, rx
-    play(page, tx, rx, [(960, Sample(draw.randbytes(32950)))], lambda count: far_items(draw, count))
+    play(page, tx, rx, [(960, Sample(draw.randbytes(32950)))], lambda sent: far_items(draw, len(sent)))
     check(tx.canonical, rx.units, False)
 
 
@@ -313,7 +335,7 @@ def runs(page, seeds, size=1.0):
     page.line(MARK)
     for seed in seeds:
         for case in CASES:
-            for kind in ("tame", "sane", "wild") if case.is_plain else ("tame", "sane"):
+            for kind in ("tame", "sane", "wild"):
                 run(page, case, kind, seed, size)
         far_run(page, seed)
     tail = [f"  {line}" for end in "ab" for line in page.ends[end]]
