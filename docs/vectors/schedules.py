@@ -277,7 +277,6 @@ def play(page, tx, rx, samples, items):
     while replies[-2:] != ["none", "none"]:
         step("p", rx.poll())
     page.line(f"play 0 0 {' '.join(words)}", *replies)
-    return sent
 
 
 def by_lines(page, told, tx, rx, samples):
