@@ -20,7 +20,7 @@ class Case:
     channels: str = "-"
     fmtp: str = "-"
     red: bool = False
-    count: int = 62
+    count: int = 52
     limits: tuple = (4, 24)
 
     @property
@@ -49,7 +49,7 @@ def video(name, codec, fmtp="-", count=15, limits=(20, 60)):
 CASES = [
     Case("opus", "opus", 48000, "2", "minptime=10;useinbandfec=1"),
     Case("opus with redundancy", "opus", 48000, "2", "minptime=10;useinbandfec=1", True, limits=(8, 50)),
-    Case("PCMU", "PCMU", 8000),
+    Case("PCMU", "PCMU", 8000, count=170),
     Case("PCMA", "PCMA", 8000),
     Case("PCMA with redundancy", "PCMA", 8000, red=True, limits=(8, 50)),
     Case("G722", "G722", 16000),

@@ -206,13 +206,15 @@ def wild_items(draw, case, sent, rx):
 
 
 def orders(draw, count):
-    """Blocks of at most 128 places, in order or shuffled: none is later than one that is 128 above it."""
+    """Blocks of at most 128 places, in order, shuffled, or with the first one last: none is later than one that is 128
+    above it."""
     start = 0
     while start < count:
-        block = list(range(start, min(count, start + draw.randint(1, 128))))
-        if draw.randrange(3):
+        block = list(range(start, min(count, start + draw.choice([128, draw.randint(1, 128)]))))
+        way = draw.randrange(3)
+        if way == 0:
             draw.shuffle(block)
-        yield from block
+        yield from block[1:] + block[:1] if way == 1 else block
         start += len(block)
 
 
@@ -247,10 +249,11 @@ def sane_items(draw, case, count):
 
 
 def far_items(draw, count):
-    """Leaps over 32,767 numbers, onto 65,536 and past it, places around it in any order, and late ones."""
+    """Leaps over 32,767 numbers, onto 65,536 and past it, places around it in any order, and late ones, of which one is
+    128 below the greatest and one 127."""
     near = list(range(32745, 32795))
     draw.shuffle(near)
-    for place in [1, 0, 2, 32769, *near, 32800, 33, 40, 32760, 32900, 133, 32773, 32772, count - 1]:
+    for place in [1, 0, 2, 32769, *near, 32800, 32672, 32673, 33, 40, 32760, 32900, 133, 32773, 32772, count - 1]:
         yield place
         if draw.randrange(3) == 0:
             yield "p"
