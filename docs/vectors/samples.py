@@ -170,5 +170,5 @@ def draw_samples(draw, case, count):
         sample = draw_sample(draw, case)
         if sample.bytes:
             for_each.append((time, sample))
-        time += draw.choice([160, 160, 160, 960, 960, 3000, 0, 20000])
+        time += draw.choice([160, 160, 160, 960, 960, 3000, 0, draw.choice([16383, 16384, 20000])])
     return for_each

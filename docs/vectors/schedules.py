@@ -7,7 +7,7 @@ that are drawn from seeds.
 
 PROGRAM is a built `rtplines`; without one `rt try` runs it. A run is a pair of ends that agree by texts, samples, and
 a `play` of them: of every codec one that is tame, one that is sane, and one that is neither. Behind it two more
-samples are sent and received line by line.
+samples, or ten with redundancy, are sent and received line by line.
 
 All replies are worked out here, from the standards and docs/DEFINITIONS.md, by no code of the project: the texts of
 offer and answer, the payloads of each sample (the layouts are those of `payloads.py`, `h26x.py` and `av1.py`; which
@@ -303,7 +303,8 @@ def run(page, case, kind, seed, size):
     # what is less than 0 is nearly 2^64, and all later numbers are refused then
     least = 200 if kind == "wild" and draw.randrange(6) else 0
     tx, rx = open_streams(page, draw, case, told, least, hold_back)
-    samples = draw_samples(draw, case, int(case.count * size * (case.wild if kind == "wild" else 1)) + 2)
+    behind = 10 if case.red else 2
+    samples = draw_samples(draw, case, int(case.count * size * (case.wild if kind == "wild" else 1)) + behind)
 
     def items(sent):
         if kind == "wild":
@@ -312,10 +313,10 @@ def run(page, case, kind, seed, size):
             return sane_items(draw, case, len(sent))
         return tame_items(draw, len(sent), tx.canonical[0].size, polls_last)
 
-    play(page, tx, rx, samples[:-2], items)
+    play(page, tx, rx, samples[:-behind], items)
     if kind != "wild":
         check(tx.canonical, rx.units, kind == "tame")
-    by_lines(page, told, tx, rx, samples[-2:])
+    by_lines(page, told, tx, rx, samples[-behind:])
 
 
 def far_run(page, seed):
