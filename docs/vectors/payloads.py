@@ -159,7 +159,8 @@ def vp9():
 
 # AMR-WB: RFC 4867 4.3 and 4.4. A frame in a file is a header byte and its speech bits in whole bytes (5.3).
 
-AMR_WB_BITS = {0: 132, 1: 177, 2: 253, 9: 40, 14: 0, 15: 0}
+# The speech bits of each frame type (3GPP TS 26.201); 10 to 13 are for later use.
+AMR_WB_BITS = {0: 132, 1: 177, 2: 253, 3: 285, 4: 317, 5: 365, 6: 397, 7: 461, 8: 477, 9: 40, 14: 0, 15: 0}
 
 
 def speech(frame_type, seed):

@@ -1,23 +1,15 @@
 //! Calls between two ends. First ones that are proved: they agree on Opus, G.711 or G.722, one sends three samples, and
-//! the other hands out just these, in order, though the second arrives last. Then worked rows, and long runs of every
-//! codec under drawn schedules, which are compared and not proved.
+//! the other hands out just these, in order, though the second arrives last. Then worked rows, which are compared and
+//! not proved.
 #![tactic(auto)]
 
 mod calls;
 mod carrying;
 mod cases;
-mod counts;
-mod many;
 mod proved;
-mod random;
-mod rates;
 mod rows;
-mod samples;
-mod schedules;
-mod sent;
 mod sessions;
 mod silence;
-mod soak;
 mod stopped;
 
 use proved::print_calls;
@@ -25,12 +17,10 @@ use rows::{a_time_in_milliseconds, a_time_that_does_not_fit, receive_all_hands_o
 use sessions::{
     lines_that_would_be_read_otherwise_are_refused, offers_say_the_lines_of_the_session,
 };
-use soak::soak_all;
 use std::process::ExitCode;
 use stopped::Stopped;
 
-/// Prints what comes out of the proved calls, a line for each worked row, and a line for each run; status 1 where
-/// something is wrong.
+/// Prints what comes out of the proved calls, and a line for each worked row; status 1 where something is wrong.
 fn main(rt: HostRuntime) -> ExitCode {
     match are_all_right(&rt) {
         Ok(true) => ExitCode::from(0),
@@ -42,14 +32,9 @@ fn main(rt: HostRuntime) -> ExitCode {
     }
 }
 
-/// Prints them, up to the first part in which something is wrong, and answers whether there is none.
+/// Prints them, and answers whether all rows that the program's lines can't say are as they must be.
 fn are_all_right(rt: &HostRuntime) -> Result<bool, Stopped> {
     print_calls(rt)?;
-    Ok(print_rows(rt)? && soak_all(rt))
-}
-
-/// A line for each row that the program's lines can't say, and whether all are as they must be.
-fn print_rows(rt: &HostRuntime) -> Result<bool, Stopped> {
     let alloc = rt.alloc();
     let rows = [
         (

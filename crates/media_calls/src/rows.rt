@@ -1,10 +1,9 @@
 //! Worked rows that the program's lines can't say: datagrams handed in as one list, and samples whose time is at
 //! another clock than their stream's.
 
-use crate::calls::open_sender;
-use crate::cases::{OPUS, TYPE};
+use crate::cases::TYPE;
 use crate::stopped::Stopped;
-use rtp_media::{Datagram, End, Polls, Received, ReceivedAll, SampleError};
+use rtp_media::{Datagram, End, Polls, Received, ReceivedAll, SampleError, StreamParams};
 use rtp_wire::{ExtensionValues, Frequency, MediaTime, Mid, Pt, SeqNo, Ssrc};
 use std::alloc::Global;
 
@@ -47,7 +46,19 @@ fn sent(
     sample: &[u8],
 ) -> Result<Result<Vec<Datagram>, SampleError>, Stopped> {
     let mut end = End::fixed(alloc)?;
-    let _ = open_sender(alloc, &mut end, &OPUS, Ssrc::from(44), 1200)?;
+    let (mid, pt) = (Mid::from("0"), Pt::from(TYPE));
+    let params = StreamParams {
+        first: 0,
+        mtu: 1200,
+        limit: 1400,
+        red: None,
+        picture_id: None,
+        for_browsers: false,
+    };
+    if !params.is_sound(end.agreed_red(mid, pt)) {
+        return Err(Stopped::Refused);
+    }
+    let _ = end.open_sender(mid, Ssrc::from(44), pt, params)?;
     if !end.is_sender(0) {
         return Err(Stopped::Refused);
     }

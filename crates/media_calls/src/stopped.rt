@@ -1,10 +1,10 @@
-//! Why a call or a run did not come to its end.
+//! Why a call did not come to its end.
 
 use rtp_media::{EndError, ExchangeError, OpenError, ReceiveError, SampleError};
 use std::alloc::{AllocError, AllocFailed};
-use std::{fmt, io};
+use std::fmt;
 
-/// Why a call or a run did not come to its end.
+/// Why a call did not come to its end.
 #[derive(Clone, Copy)]
 pub(crate) enum Stopped {
     /// An end, an exchange, an opening or a sample was refused.
@@ -13,16 +13,8 @@ pub(crate) enum Stopped {
     OtherCodec,
     /// More came out than was sent.
     NotSilent,
-    /// What was handed out isn't a unit that was sent, or not in order.
-    WrongUnit,
-    /// A poll answered a fault.
-    Fault,
-    /// A unit is missing though every datagram came in time.
-    Missing,
     /// Out of memory.
     Memory,
-    /// The clock could not be read.
-    Clock,
 }
 
 impl fmt::Display for Stopped {
@@ -31,11 +23,7 @@ impl fmt::Display for Stopped {
             Stopped::Refused => "refused",
             Stopped::OtherCodec => "another codec was agreed on",
             Stopped::NotSilent => "the polls did not come to an end",
-            Stopped::WrongUnit => "a unit is wrong",
-            Stopped::Fault => "a poll answered a fault",
-            Stopped::Missing => "a unit is missing",
             Stopped::Memory => "out of memory",
-            Stopped::Clock => "no clock",
         })
     }
 }
@@ -67,12 +55,6 @@ impl From<SampleError> for Stopped {
 impl From<ReceiveError> for Stopped {
     fn from(_error: ReceiveError) -> Stopped {
         Stopped::Memory
-    }
-}
-
-impl From<io::Error> for Stopped {
-    fn from(_error: io::Error) -> Stopped {
-        Stopped::Clock
     }
 }
 
