@@ -1,4 +1,4 @@
-pub use Rattle.rtp_media_negotiation.proofs.BareSession
+pub mod BareSession
 pub use Rattle.rtp_media_stream_laws.proofs.Datagrams
 pub use Rattle.rtp_media_stream_laws.proofs.Exact
 pub use Rattle.rtp_media_stream_laws.proofs.Isolation

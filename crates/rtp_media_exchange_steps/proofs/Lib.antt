@@ -1,2 +1,1 @@
-pub mod BareSession
 pub mod Saying

@@ -124,7 +124,7 @@ impl Exchange {
     /// # Errors
     ///
     /// `AllocError` where memory runs out.
-    #[tactic(auto, unfolding(rtp_media_exchange_steps::specs::Exchanges::fixed))]
+    #[tactic(auto, unfolding(rtp_media_exchange_texts::specs::Exchanges::fixed))]
     pub fn fixed(alloc: Global) -> Result<Self, AllocError>
         ensures { IfOk result (λ x. x ≡ fixed) }
     {

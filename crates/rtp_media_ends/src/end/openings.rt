@@ -68,7 +68,7 @@ impl End {
     /// # Errors
     /// As [`End::open_sender`]; `SsrcNotNamed` where the section of the other end doesn't name the
     /// SSRC.
-    #[tactic(auto, unfolding(rtp_media_stream_laws::specs::Ends::after_open_receiver))]
+    #[tactic(auto, unfolding(rtp_media_open_streams::specs::Ends::after_open_receiver))]
     pub fn open_receiver(
         &mut self,
         mid: Mid,
@@ -97,7 +97,7 @@ impl End {
     }
 
     /// Opens a sending stream with these parameters.
-    #[tactic(auto, unfolding(rtp_media_stream_laws::specs::Ends::after_open_sender))]
+    #[tactic(auto, unfolding(rtp_media_open_streams::specs::Ends::after_open_sender))]
     fn open_sender_with(
         &mut self,
         mid: Mid,
@@ -154,7 +154,7 @@ impl End {
     }
 
     /// The row that a new sending stream sends, or why there is none.
-    #[tactic(auto, unfolding(rtp_media_stream_laws::specs::Ends::refusal_of_open_sender))]
+    #[tactic(auto, unfolding(rtp_media_open_streams::specs::Ends::refusal_of_open_sender))]
     fn sender_row(&self, mid: Mid, ssrc: Ssrc, pt: Pt) -> Result<PayloadParams, OpenError>
         ensures row { IfOk result (λ r. agreed_row_of self.now.exchange.agreed mid pt ≡ Some r) }
         ensures carried { IfOk result (λ r. is_carried r ≡ true) }
@@ -177,7 +177,7 @@ impl End {
     }
 
     /// The row that a new receiving stream takes, or why there is none.
-    #[tactic(auto, unfolding(rtp_media_stream_laws::specs::Ends::refusal_of_open_receiver))]
+    #[tactic(auto, unfolding(rtp_media_open_streams::specs::Ends::refusal_of_open_receiver))]
     fn receiver_row(&self, mid: Mid, ssrc: Ssrc, pt: Pt) -> Result<PayloadParams, OpenError>
         ensures row { IfOk result (λ r. agreed_row_of self.now.exchange.agreed mid pt ≡ Some r) }
         ensures carried { IfOk result (λ r. is_carried r ≡ true) }

@@ -69,7 +69,7 @@ impl Exchange {
     ///
     /// The first that holds of `Unreadable`, `OutOfTurn`, `NotMedia`, `NotCorresponding`, `Round`, `NoCommonRow` and
     /// `NotWritable`; or `Memory`. Nothing has then changed.
-    #[tactic(auto, unfolding(rtp_media_exchange_steps::specs::Offers::answer_of))]
+    #[tactic(auto, unfolding(rtp_media_exchange_texts::specs::Offers::answer_of))]
     pub fn answer(
         &mut self,
         text: &str,

@@ -51,7 +51,7 @@ impl Exchange {
     ///
     /// The first that holds of `OutOfTurn`, `NotCorresponding`, `NoCommonRow` and `NotWritable`; or `Memory`. Nothing
     /// has then changed.
-    #[tactic(auto, unfolding(rtp_media_exchange_steps::specs::Offers::offer_of))]
+    #[tactic(auto, unfolding(rtp_media_exchange_texts::specs::Offers::offer_of))]
     pub fn offer(&mut self, sections: Vec<SectionSpec>) -> Result<String, ExchangeError>
         ensures text { IfOk result (λ text. string_bytes text ≡ sdp_text (offer_of self.old sections.items)) }
         ensures accepted { OnOk result (refusal_of_offer self.old sections.items ≡ None) }
