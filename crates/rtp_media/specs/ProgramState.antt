@@ -1,6 +1,6 @@
 -- What the program does at each command.
 use Rattle.std.specs.Prelude.{◌≡◌, List, [], ◌∷◌, ◌++◌, None}
-use Rattle.rtp_media_play.specs.Ends.{EndState}
+use Rattle.rtp_media_play_answers.specs.Ends.{EndState}
 use Rattle.rtp_media_words.specs.declared.words.Letter.{Letter}
 use Rattle.rtp_media_words.specs.declared.words.Letter.TheVariants.{A, B}
 use Rattle.rtp_media_lines.specs.declared.line.Command.{Command}
@@ -10,11 +10,13 @@ use Rattle.rtp_media_lines.specs.declared.line.Command.TheVariants.{Connect, Que
 use Rattle.rtp_media_lines.specs.declared.playing.QueueCommand.{QueueCommand}
 use Rattle.rtp_media_words.specs.declared.reply.Reply.{Reply}
 use Rattle.rtp_media_words.specs.declared.reply.Reply.TheVariants as reply
-use Rattle.rtp_media_exchange_answers.specs.Exchanging.{AnswersAccept, AnswersAnswer, AnswersExt, AnswersFixed}
-use Rattle.rtp_media_exchange_answers.specs.Exchanging.{AnswersOffer, AnswersRow, AnswersWithdraw, AtEnd, ConnectsEnds}
-use Rattle.rtp_media_exchange_answers.specs.Exchanging.{EndAndDraft, MakesEnd, Prints, WithText, empty_draft, wanted_in}
-use Rattle.rtp_media_stream_answers.specs.Playing.{PlaysEnds}
-use Rattle.rtp_media_stream_answers.specs.Streams.{IsAnswered}
+use Rattle.rtp_media_replies.specs.Replies.{Prints}
+use Rattle.rtp_media_making_answers.specs.Making.{AnswersExt, AnswersFixed, AnswersRow, EndAndDraft, MakesEnd}
+use Rattle.rtp_media_making_answers.specs.Making.{empty_draft}
+use Rattle.rtp_media_exchange_answers.specs.Exchanging.{AnswersAccept, AnswersAnswer, AnswersOffer, AnswersWithdraw}
+use Rattle.rtp_media_exchange_answers.specs.Exchanging.{AtEnd, ConnectsEnds, WithText, wanted_in}
+use Rattle.rtp_media_play_answers.specs.Playing.{PlaysEnds}
+use Rattle.rtp_media_play_answers.specs.Streams.{IsAnswered}
 
 -- What the two letters of the program stand for, and the samples that are kept for a run.
 pub record ProgramState : Type 0 where

@@ -10,7 +10,7 @@ pub use rtp_media_line_runs::{
     MAX_LINE_LENGTH, MAX_READS, Respond, RunFault, Status, WriteFault, lines_are_what_was_ended,
     run_lines, run_within, write_whole,
 };
-pub use rtp_media_play::{
+pub use rtp_media_play_answers::{
     Bandwidth, Codec, CodecConfig, CodecSpec, Datagram, Distances, End, EndError, Event,
     ExchangeError, FormatParams, MediaKind, OpenError, PacketError, PayloadParams, Played,
     PollFault, Polls, ReceiveError, Received, ReceivedAll, RoundError, Sample, SampleError,

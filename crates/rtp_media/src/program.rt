@@ -6,18 +6,16 @@ ghost use Rattle.rtp_media_line_runs.specs.Runs.{Printed, ReadsAll};
 ghost use Rattle.rtp_media_line_runs.specs.Stops.{WritesFront};
 ghost use Rattle.rtp_media_lines.specs.declared.line.Command.{Command};
 ghost use Rattle.rtp_media_exchange_answers.specs.Exchanging.{AtEnd, ConnectsEnds};
-ghost use Rattle.rtp_media_stream_answers.specs.Playing.{PlaysEnds};
+ghost use Rattle.rtp_media_play_answers.specs.Playing.{PlaysEnds};
 ghost use Rattle.rtp_media.specs.ProgramState.{AnswersAt, AnswersAtEnd, AnswersCommand};
 ghost use Rattle.rtp_media.specs.ProgramState.{KeepsDraft, initial_state, letter_of};
 
-use rtp_media_exchange_answers::{
-    EndAndDraft, accept, answer_offer, connect_ends, draft_ext, draft_row, fix, make_end, offer,
-    one, withdraw,
-};
+use rtp_media_exchange_answers::{accept, answer_offer, connect_ends, offer, withdraw};
 use rtp_media_line_runs::{Respond, RunFault, Status, run_lines};
 use rtp_media_lines::{Command, ConnectCommand, PlayCommand, QueueCommand};
-use rtp_media_play::End;
-use rtp_media_stream_answers::{keep_sample, open, play_ends, poll, receive, sample, send};
+use rtp_media_making_answers::{EndAndDraft, draft_ext, draft_row, fix, make_end};
+use rtp_media_play_answers::{End, keep_sample, open, play_ends, poll, receive, sample, send};
+use rtp_media_replies::one;
 use rtp_media_words::{Letter, Reply};
 use std::alloc::{AllocError, Global};
 use std::io::{Read, Write};

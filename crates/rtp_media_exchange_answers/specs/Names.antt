@@ -1,19 +1,8 @@
--- The names under which the program prints errors of ends and of exchanges: that of the variant, without what it holds.
+-- The names under which the program prints errors of exchanges: that of the variant, without what it holds.
 use Rattle.std.specs.Prelude.{ℕ, List, codes}
-use Rattle.rtp_media_ends.specs.declared.EndError.{EndError}
-use Rattle.rtp_media_ends.specs.declared.EndError.TheVariants as end_error
 use Rattle.rtp_media_ends.specs.declared.ExchangeError.{ExchangeError}
 use Rattle.rtp_media_ends.specs.declared.ExchangeError.TheVariants as exchange_error
-
--- Out of memory has one name in all of them.
-abbrev pub memory : List ℕ
-memory = codes "Memory"
-
-abbrev pub end_error_name : EndError → List ℕ
-end_error_name (end_error.RowNotPlain index) = codes "RowNotPlain"
-end_error_name (end_error.TypesNotDistinct pt) = codes "TypesNotDistinct"
-end_error_name end_error.NotWritable = codes "NotWritable"
-end_error_name end_error.Memory = memory
+use Rattle.rtp_media_replies.specs.Replies.{memory}
 
 abbrev pub exchange_error_name : ExchangeError → List ℕ
 exchange_error_name (exchange_error.Unreadable error) = codes "Unreadable"

@@ -7,9 +7,9 @@ ghost use Rattle.rtp_media_exchange_answers.specs.Exchanging.{AnswersOffer, Answ
 ghost use Rattle.rtp_media_exchange_answers.specs.Exchanging.{wanted_in, wanted_of};
 
 use crate::names::exchange_error_name;
-use crate::replies::one;
 use rtp_media_ends::{End, SectionSpec, connect};
 use rtp_media_lines::{AcceptCommand, AnswerCommand, ConnectCommand, OfferCommand};
+use rtp_media_replies::one;
 use rtp_media_words::{Bytes, Reply, SectionWord};
 use rtp_wire::{Mid, Ssrc};
 use std::alloc::{AllocError, Global};

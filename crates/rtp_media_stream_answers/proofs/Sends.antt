@@ -2,9 +2,9 @@
 use Rattle.std.proofs.Common.{◌≡◌, ℕ, sym, ◌∙◌, ap, Bool, true, List, [], ◌∷◌, Some, None, length, inl, inr, ◌≢◌}
 use Rattle.std.specs.Prelude.{if◌then◌else◌}
 use Rattle.rtp_wire.specs.Name.{name_of}
-use Rattle.rtp_media_play.specs.declared.OpenError.{OpenError}
-use Rattle.rtp_media_play.specs.declared.OpenError.TheVariants as open_error
-use Rattle.rtp_media_play.specs.Ends.{EndState, after_open_sender, refusal_of_open_sender}
+use Rattle.rtp_media_ends.specs.declared.OpenError.{OpenError}
+use Rattle.rtp_media_ends.specs.declared.OpenError.TheVariants as open_error
+use Rattle.rtp_media_ends.specs.Ends.{EndState, after_open_sender, refusal_of_open_sender}
 use Rattle.rtp_media_lines.specs.declared.line.Command.TheVariants.{Send}
 use Rattle.rtp_media_lines.specs.declared.line.SendCommand.{SendCommand}
 use Rattle.rtp_media_words.specs.declared.reply.Reply.{Reply}

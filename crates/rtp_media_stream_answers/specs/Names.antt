@@ -1,12 +1,12 @@
 -- The names under which the program prints errors of streams: that of the variant, without what it holds.
 use Rattle.std.specs.Prelude.{ℕ, List, codes}
-use Rattle.rtp_media_play.specs.declared.OpenError.{OpenError}
-use Rattle.rtp_media_play.specs.declared.OpenError.TheVariants as open_error
+use Rattle.rtp_media_ends.specs.declared.OpenError.{OpenError}
+use Rattle.rtp_media_ends.specs.declared.OpenError.TheVariants as open_error
 use Rattle.rtp_media_payloads.specs.declared.errors.SampleError.{SampleError}
 use Rattle.rtp_media_payloads.specs.declared.errors.SampleError.TheVariants as sample_error
 use Rattle.rtp_media_payloads.specs.declared.errors.PollFault.{PollFault}
 use Rattle.rtp_media_payloads.specs.declared.errors.PollFault.TheVariants as poll_fault
-use Rattle.rtp_media_exchange_answers.specs.Names.{memory}
+use Rattle.rtp_media_replies.specs.Replies.{memory}
 
 abbrev pub open_error_name : OpenError → List ℕ
 open_error_name open_error.NoSection = codes "NoSection"

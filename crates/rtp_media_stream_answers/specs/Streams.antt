@@ -11,17 +11,17 @@ use Rattle.rtp_media_payloads.specs.Polls.{PollResult, poll_result}
 use Rattle.rtp_media_streams.specs.Sending.{sent_datagrams, after_sample, refusal_of_sample}
 use Rattle.rtp_media_payloads.specs.Receiving.{polled_receiver}
 use Rattle.rtp_media_payloads.specs.declared.errors.SampleError.{SampleError}
-use Rattle.rtp_media_play.specs.declared.OpenError.{OpenError}
-use Rattle.rtp_media_play.specs.declared.StreamParams.{StreamParams}
-use Rattle.rtp_media_play.specs.declared.Received.{Received}
-use Rattle.rtp_media_play.specs.declared.Received.TheVariants as received
-use Rattle.rtp_media_play.specs.Ends.{EndState, agreed_red, refusal_of_open_sender}
-use Rattle.rtp_media_play.specs.Ends.{refusal_of_open_receiver, after_open_sender, after_open_receiver}
-use Rattle.rtp_media_play.specs.Ends.{with_sender}
-use Rattle.rtp_media_play.specs.Ends.{is_receiver_at, is_sender_at, with_receiver, sender_at, receiver_at}
-use Rattle.rtp_media_play.specs.Params.{is_sound_params}
-use Rattle.rtp_media_play.specs.Stops.{PollStops, SenderFails}
-use Rattle.rtp_media_play.specs.Arrivals.{verdict_of, after_datagram}
+use Rattle.rtp_media_ends.specs.declared.OpenError.{OpenError}
+use Rattle.rtp_media_ends.specs.declared.StreamParams.{StreamParams}
+use Rattle.rtp_media_ends.specs.declared.Received.{Received}
+use Rattle.rtp_media_ends.specs.declared.Received.TheVariants as received
+use Rattle.rtp_media_ends.specs.Ends.{EndState, agreed_red, refusal_of_open_sender}
+use Rattle.rtp_media_ends.specs.Ends.{refusal_of_open_receiver, after_open_sender, after_open_receiver}
+use Rattle.rtp_media_ends.specs.Ends.{with_sender}
+use Rattle.rtp_media_ends.specs.Ends.{is_receiver_at, is_sender_at, with_receiver, sender_at, receiver_at}
+use Rattle.rtp_media_ends.specs.Params.{is_sound_params}
+use Rattle.rtp_media_ends.specs.Stops.{PollStops, SenderFails}
+use Rattle.rtp_media_ends.specs.Arrivals.{verdict_of, after_datagram}
 use Rattle.rtp_media_lines.specs.declared.line.Command.{Command}
 use Rattle.rtp_media_lines.specs.declared.line.Command.TheVariants.{Send, Open, Sample, Receive, Poll}
 use Rattle.rtp_media_lines.specs.declared.line.SendCommand.{SendCommand}
@@ -31,7 +31,7 @@ use Rattle.rtp_media_lines.specs.declared.line.ReceiveCommand.{ReceiveCommand}
 use Rattle.rtp_media_lines.specs.declared.line.PollCommand.{PollCommand}
 use Rattle.rtp_media_words.specs.declared.reply.Reply.{Reply}
 use Rattle.rtp_media_words.specs.declared.reply.Reply.TheVariants as reply
-use Rattle.rtp_media_exchange_answers.specs.Names.{memory}
+use Rattle.rtp_media_replies.specs.Replies.{memory}
 use Rattle.rtp_media_stream_answers.specs.Names.{fault_name, open_error_name, sample_error_name}
 
 -- An end, and what is printed.

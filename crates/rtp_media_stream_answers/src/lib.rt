@@ -1,9 +1,8 @@
-//! The program's lines that open streams, send, receive, poll and play, answered: what each does, and what is printed.
+//! The program's lines that open streams, send, receive and poll, answered: what each does, and what is printed.
 #![tactic(auto)]
 
 mod names;
-mod playing;
 mod streams;
 
-pub use playing::{keep_sample, play_ends};
-pub use streams::{open, poll, receive, sample, send};
+pub use names::{fault_name, sample_error_name};
+pub use streams::{open, poll, receive, sample, send, unit_reply, verdict_reply};

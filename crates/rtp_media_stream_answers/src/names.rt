@@ -3,8 +3,8 @@
 ghost use Rattle.std.specs.Prelude.{◌≡◌};
 ghost use Rattle.rtp_media_stream_answers.specs.Names.{open_error_name, sample_error_name, fault_name};
 
-use rtp_media_exchange_answers::memory;
-use rtp_media_play::{OpenError, PollFault, SampleError};
+use rtp_media_ends::{OpenError, PollFault, SampleError};
+use rtp_media_replies::memory;
 use rtp_media_words::ErrorName;
 
 /// The name of a refused opening.
@@ -23,7 +23,7 @@ pub(crate) fn open_error_name(error: OpenError) -> ErrorName
 }
 
 /// The name of a refused sample.
-pub(crate) fn sample_error_name(error: SampleError) -> ErrorName
+pub fn sample_error_name(error: SampleError) -> ErrorName
     ensures { result ≡ sample_error_name error }
 {
     match error {
@@ -36,7 +36,7 @@ pub(crate) fn sample_error_name(error: SampleError) -> ErrorName
 }
 
 /// The name of a fault of a poll.
-pub(crate) fn fault_name(fault: PollFault) -> ErrorName
+pub fn fault_name(fault: PollFault) -> ErrorName
     ensures { result ≡ fault_name fault }
 {
     match fault {

@@ -6,9 +6,9 @@ ghost use Rattle.rtp_media_stream_answers.specs.Streams.{IsAnswered, params_of, 
 ghost use Rattle.rtp_media_stream_answers.specs.Streams.{values_given};
 
 use crate::names::{fault_name, open_error_name, sample_error_name};
-use rtp_media_exchange_answers::{memory, one};
+use rtp_media_ends::{Datagram, Distances, End, Received, StreamParams, Unit};
 use rtp_media_lines::{OpenCommand, PollCommand, ReceiveCommand, SampleCommand, SendCommand};
-use rtp_media_play::{Datagram, Distances, End, Received, StreamParams, Unit};
+use rtp_media_replies::{memory, one};
 use rtp_media_words::{Bytes, Reply, Text};
 use rtp_wire::{ExtensionValues, MediaTime, Mid, Pt, Ssrc};
 use std::alloc::{AllocError, Global};
@@ -164,7 +164,7 @@ pub fn poll(alloc: Global, end: &mut End, command: PollCommand) -> Result<Vec<Re
 }
 
 /// The line for what is said of a datagram.
-pub(crate) fn verdict_reply(received: Received) -> Reply
+pub fn verdict_reply(received: Received) -> Reply
     ensures { result ≡ verdict_reply received }
 {
     match received {
@@ -180,7 +180,7 @@ pub(crate) fn verdict_reply(received: Received) -> Reply
 }
 
 /// The line for what a poll hands out.
-pub(crate) fn unit_reply(unit: Option<Unit>) -> Reply
+pub fn unit_reply(unit: Option<Unit>) -> Reply
     ensures { result ≡ unit_reply unit }
 {
     match unit {

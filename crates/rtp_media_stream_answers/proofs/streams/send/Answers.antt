@@ -3,12 +3,12 @@ use Rattle.std.proofs.Common.{None, Some, Result, [], ◌∷◌, ◌≢◌, Ok, 
 use Rattle.std.specs.Prelude.{Option}
 use Rattle.std.proofs.lemmas.Grind.{common_steps}
 use Rattle.rtp_wire.specs.Name.{name_of}
-use Rattle.rtp_media_play.specs.Ends.{after_open_sender, agreed_red, refusal_of_open_sender}
-use Rattle.rtp_media_play.specs.declared.OpenError.TheVariants as open_error
+use Rattle.rtp_media_ends.specs.Ends.{after_open_sender, agreed_red, refusal_of_open_sender}
+use Rattle.rtp_media_ends.specs.declared.OpenError.TheVariants as open_error
 use Rattle.rtp_media_words.specs.declared.reply.Reply.{Reply}
 use Rattle.rtp_media_words.specs.declared.reply.Reply.TheVariants as reply
-use Rattle.rtp_media_play.specs.Params.{is_sound_params}
-use Rattle.rtp_media_play.specs.declared.StreamParams.{StreamParams}
+use Rattle.rtp_media_ends.specs.Params.{is_sound_params}
+use Rattle.rtp_media_ends.specs.declared.StreamParams.{StreamParams}
 use Rattle.rtp_media_stream_answers.specs.Streams.{is_sound_send, params_of}
 use Rattle.rtp_media_stream_answers.proofs.Sends.{answered, refused}
 use Rattle.rtp_media_stream_answers.proofs.streams.send.Goals as goal

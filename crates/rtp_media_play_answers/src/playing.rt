@@ -2,15 +2,14 @@
 
 ghost use Rattle.std.specs.Prelude.{◌≡◌, [], ◌∷◌, ◌++◌, true, map, IfOk, OnOk};
 ghost use Rattle.rtp_media_play.specs.Ends.{is_receiver_at, is_sender_at};
-ghost use Rattle.rtp_media_exchange_answers.specs.Exchanging.{Prints};
-ghost use Rattle.rtp_media_stream_answers.specs.Playing.{AnswersPlay, PlaysEnds, event_of, played_reply};
-ghost use Rattle.rtp_media_stream_answers.specs.Playing.{sample_at, samples_for};
+ghost use Rattle.rtp_media_replies.specs.Replies.{Prints};
+ghost use Rattle.rtp_media_play_answers.specs.Playing.{AnswersPlay, PlaysEnds, event_of, played_reply};
+ghost use Rattle.rtp_media_play_answers.specs.Playing.{sample_at, samples_for};
 
-use crate::names::{fault_name, sample_error_name};
-use crate::streams::{unit_reply, verdict_reply};
-use rtp_media_exchange_answers::{memory, one};
 use rtp_media_lines::{PlayCommand, PlayItem, PlayItems, QueueCommand};
 use rtp_media_play::{Datagram, End, Event, Played, PollFault, Sample, SampleError, play};
+use rtp_media_replies::{memory, one};
+use rtp_media_stream_answers::{fault_name, sample_error_name, unit_reply, verdict_reply};
 use rtp_media_words::Reply;
 use rtp_wire::{ExtensionValues, Frequency, MediaTime};
 use std::alloc::{AllocError, Global};

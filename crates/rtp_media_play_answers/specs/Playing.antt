@@ -19,8 +19,7 @@ use Rattle.rtp_media_lines.specs.declared.playing.QueueCommand.{QueueCommand}
 use Rattle.rtp_media_words.specs.declared.reply.Reply.{Reply}
 use Rattle.rtp_media_words.specs.declared.reply.Reply.TheVariants as reply
 use Rattle.rtp_media_play.specs.Stops.{Where}
-use Rattle.rtp_media_exchange_answers.specs.Exchanging.{Prints}
-use Rattle.rtp_media_exchange_answers.specs.Names.{memory}
+use Rattle.rtp_media_replies.specs.Replies.{Prints, memory}
 use Rattle.rtp_media_stream_answers.specs.Names.{fault_name, sample_error_name}
 use Rattle.rtp_media_stream_answers.specs.Streams.{unit_reply, verdict_reply}
 

@@ -1,6 +1,7 @@
 //! Replies.
 
-ghost use Rattle.std.specs.Prelude.{◌≡◌, [], ◌∷◌, IfOk};
+ghost use Rattle.std.specs.Prelude.{IfOk};
+ghost use Rattle.rtp_media_replies.specs.Replies.{Prints};
 
 use rtp_media_words::Reply;
 use std::alloc::{AllocError, Global};
@@ -10,7 +11,7 @@ use std::alloc::{AllocError, Global};
 /// # Errors
 /// Where memory runs out.
 pub fn one(alloc: Global, reply: Reply) -> Result<Vec<Reply>, AllocError>
-    ensures { IfOk result (λ replies. replies.items ≡ reply ∷ []) }
+    ensures { IfOk result (λ replies. Prints replies.items reply) }
 {
     let mut replies = Vec::new(alloc);
     replies.push(reply)?;

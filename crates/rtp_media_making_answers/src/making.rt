@@ -1,14 +1,14 @@
 //! The commands that make ends.
 
 ghost use Rattle.std.specs.Prelude.{◌≡◌, IfOk};
-ghost use Rattle.rtp_media_exchange_answers.specs.Exchanging.{AnswersExt, AnswersFixed, AnswersRow, MakesEnd};
-ghost use Rattle.rtp_media_exchange_answers.specs.Exchanging.{drafted_row, format_for};
+ghost use Rattle.rtp_media_making_answers.specs.Making.{AnswersExt, AnswersFixed, AnswersRow, MakesEnd};
+ghost use Rattle.rtp_media_making_answers.specs.Making.{drafted_row, format_for};
 
 use crate::draft::EndAndDraft;
-use crate::names::{end_error_name, memory};
-use crate::replies::one;
+use crate::names::end_error_name;
 use rtp_media_ends::{Codec, CodecConfig, CodecSpec, End, FormatParams, PayloadParams, Session};
 use rtp_media_lines::{EndCommand, ExtCommand, RowCommand};
+use rtp_media_replies::{memory, one};
 use rtp_media_words::{Reply, Text};
 use rtp_wire::{Extension, ExtensionMap, Frequency, Pt, SessionId};
 use std::alloc::{AllocError, Global};
