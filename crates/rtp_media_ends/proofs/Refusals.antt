@@ -3,7 +3,8 @@ use Rattle.std.proofs.Common.{◌≡◌, ℕ, Bool, List, refl, ◌∙◌, ap}
 use Rattle.std.specs.Prelude.{Option, Some}
 use Rattle.std.specs.List.{list_any}
 use Rattle.rtp_media_negotiation.specs.Rows.{Row}
-use Rattle.rtp_media_negotiation.specs.Agreement.{Agreed, agreed_row_of, is_named, own_row_agrees, row_in, row_of_section}
+use Rattle.rtp_media_negotiation.specs.Agreement.{Agreed, agreed_row_of, is_named, own_row_agrees, row_in}
+use Rattle.rtp_media_negotiation.specs.Agreement.{row_of_section}
 use Rattle.rtp_media_negotiation.specs.Agreement.{section_of}
 use Rattle.rtp_media_stream_laws.specs.declared.OpenStream.{OpenStream}
 use Rattle.rtp_media_stream_laws.specs.Ends.{carried_row, receiver_refusal_in, receives_as, refusal_by}

@@ -15,7 +15,8 @@ use Rattle.rtp_media_exchange_texts.specs.Rows.{Row}
 use Rattle.rtp_media_exchange_texts.specs.Configs.{Config}
 use Rattle.rtp_media_exchange_texts.specs.Exchanges.{Exchanged, fresh, fixed}
 use Rattle.sdp_formats_sessions.specs.declared.session.Session.{Session}
-use Rattle.rtp_media_exchange_texts.specs.Agreement.{Agreed, agreed_map_of, agreed_row_of, is_named, own_row_agrees, row_in}
+use Rattle.rtp_media_exchange_texts.specs.Agreement.{Agreed, agreed_map_of, agreed_row_of, is_named, own_row_agrees}
+use Rattle.rtp_media_exchange_texts.specs.Agreement.{row_in}
 use Rattle.rtp_media_exchange_texts.specs.Agreement.{section_of}
 use Rattle.rtp_media_open_streams.specs.declared.open_stream.OpenStream.{OpenStream}
 use Rattle.rtp_media_open_streams.specs.declared.open_stream.OpenStream.TheVariants.{Sender, Receiver}
