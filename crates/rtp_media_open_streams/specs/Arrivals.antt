@@ -5,7 +5,7 @@ use Rattle.rtp_wire.specs.declared.ExtensionValues.{ExtensionValues}
 use Rattle.rtp_wire.specs.declared.header.RtpHeader.{RtpHeader}
 use Rattle.rtp_media_payloads.specs.Receiving.{is_own, media_payload, taken_number, arrived, values_read}
 use Rattle.rtp_media_payloads.specs.Receiving.{with_stream}
-use Rattle.rtp_media_open_streams.specs.Ends.{EndState, nth_receiver, receiver_at, with_receiver}
+use Rattle.rtp_media_open_streams.specs.Ends.{EndState, nth_receiver, set_receiver, with_streams}
 use Rattle.rtp_media_open_streams.specs.declared.open_stream.OpenStream.{OpenStream}
 use Rattle.rtp_media_open_streams.specs.declared.open_stream.OpenStream.TheVariants.{Sender, Receiver}
 use Rattle.rtp_media_open_streams.specs.declared.received.Received.{Received}
@@ -56,25 +56,29 @@ abbrev pub verdict_on : ℕ → Option ℕ → Received
 verdict_on stream None = Refused
 verdict_on stream (Some number) = Taken stream number
 
--- What `receive` answers.
-abbrev pub verdict_for : EndState → Arrival → Received
-verdict_for e NoHeader = Unreadable
-verdict_for e NoStream = Foreign
-verdict_for e NoPayload = Damaged
-verdict_for e (Own stream low time marker values payload) =
-    verdict_on stream (taken_number (receiver_at e stream).stream low)
+-- What `receive` answers at these streams.
+abbrev pub verdict_in : List OpenStream → Arrival → Received
+verdict_in streams NoHeader = Unreadable
+verdict_in streams NoStream = Foreign
+verdict_in streams NoPayload = Damaged
+verdict_in streams (Own stream low time marker values payload) =
+    verdict_on stream (taken_number (nth_receiver streams stream).stream low)
 
--- The end after `receive`: one step of the stream whose own it is, and else as it was.
+-- The streams after `receive`: one step of the stream whose own it is, and else as they were.
+abbrev pub streams_after : List OpenStream → Arrival → List OpenStream
+streams_after streams NoHeader = streams
+streams_after streams NoStream = streams
+streams_after streams NoPayload = streams
+streams_after streams (Own stream low time marker values payload) =
+    set_receiver streams stream (with_stream (nth_receiver streams stream)
+    (arrived (nth_receiver streams stream).stream low time marker values payload))
+
+-- The end after it.
 abbrev pub after_arrival : EndState → Arrival → EndState
-after_arrival e NoHeader = e
-after_arrival e NoStream = e
-after_arrival e NoPayload = e
-after_arrival e (Own stream low time marker values payload) =
-    with_receiver e stream (with_stream (receiver_at e stream)
-    (arrived (receiver_at e stream).stream low time marker values payload))
+after_arrival e arrival = with_streams e (streams_after e.streams arrival)
 
 abbrev pub verdict_of : EndState → List ℕ → Received
-verdict_of e datagram = verdict_for e (arrival_at e.streams datagram)
+verdict_of e datagram = verdict_in e.streams (arrival_at e.streams datagram)
 
 abbrev pub after_datagram : EndState → List ℕ → EndState
 after_datagram e datagram = after_arrival e (arrival_at e.streams datagram)

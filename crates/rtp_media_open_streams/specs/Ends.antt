@@ -31,12 +31,23 @@ pub record EndState : Type 0 where
   pub exchange : Exchanged
   pub streams : List OpenStream
 
+-- Streams with this one in place of the n-th.
+abbrev pub set_sender : List OpenStream → ℕ → Sending → List OpenStream
+set_sender streams n s = slice_set streams n (Sender s)
+
+abbrev pub set_receiver : List OpenStream → ℕ → Receiving → List OpenStream
+set_receiver streams n r = slice_set streams n (Receiver r)
+
+-- The end with these streams.
+abbrev pub with_streams : EndState → List OpenStream → EndState
+with_streams e streams = record { exchange = e.exchange; streams = streams }
+
 -- The end with this stream in place of its n-th.
 abbrev pub with_sender : EndState → ℕ → Sending → EndState
-with_sender e n s = record { exchange = e.exchange; streams = slice_set e.streams n (Sender s) }
+with_sender e n s = with_streams e (set_sender e.streams n s)
 
 abbrev pub with_receiver : EndState → ℕ → Receiving → EndState
-with_receiver e n r = record { exchange = e.exchange; streams = slice_set e.streams n (Receiver r) }
+with_receiver e n r = with_streams e (set_receiver e.streams n r)
 
 -- The end after an exchange: its streams stay.
 abbrev pub with_exchange : EndState → Exchanged → EndState
@@ -94,21 +105,31 @@ is_sending (Receiver r) = false
 abbrev pub nth_stream : List OpenStream → ℕ → OpenStream
 nth_stream streams n = slice_index_or streams n (Receiver no_receiver)
 
-abbrev pub sender_at : EndState → ℕ → Sending
-sender_at e n = sending_of (nth_stream e.streams n)
+abbrev pub nth_sender : List OpenStream → ℕ → Sending
+nth_sender streams n = sending_of (nth_stream streams n)
 
 abbrev pub nth_receiver : List OpenStream → ℕ → Receiving
 nth_receiver streams n = receiving_of (nth_stream streams n)
 
+-- Whether the n-th of these streams is one that sends, and whether it is one that receives.
+abbrev pub is_nth_sender : List OpenStream → ℕ → Bool
+is_nth_sender streams n = nat_lt n (length streams) && is_sending (nth_stream streams n)
+
+abbrev pub is_nth_receiver : List OpenStream → ℕ → Bool
+is_nth_receiver streams n = nat_lt n (length streams) && not (is_sending (nth_stream streams n))
+
+-- The same of an end's streams.
+abbrev pub sender_at : EndState → ℕ → Sending
+sender_at e n = nth_sender e.streams n
+
 abbrev pub receiver_at : EndState → ℕ → Receiving
 receiver_at e n = nth_receiver e.streams n
 
--- Whether a number is that of a stream that sends, and of one that receives.
 abbrev pub is_sender_at : EndState → ℕ → Bool
-is_sender_at e n = nat_lt n (length e.streams) && is_sending (nth_stream e.streams n)
+is_sender_at e n = is_nth_sender e.streams n
 
 abbrev pub is_receiver_at : EndState → ℕ → Bool
-is_receiver_at e n = nat_lt n (length e.streams) && not (is_sending (nth_stream e.streams n))
+is_receiver_at e n = is_nth_receiver e.streams n
 
 -- Whether a stream could send, or take, the datagrams of one of this SSRC and these payload types.
 abbrev pub sends_as : ℕ → PayloadTypes → OpenStream → Bool

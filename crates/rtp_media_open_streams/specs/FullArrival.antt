@@ -15,7 +15,7 @@ use Rattle.rtp_media_streams.specs.Sending.{Sample, Sending, IsTyped, datagrams_
 use Rattle.rtp_media_payloads.specs.Receiving.{Receiving, opened_receiver, with_stream}
 use Rattle.rtp_media_payloads.specs.Types.{has_type}
 use Rattle.rtp_media_payloads.specs.declared.types.PayloadTypes.{PayloadTypes}
-use Rattle.rtp_media_open_streams.specs.Ends.{EndState, nth_stream, receiver_at, receiving_of}
+use Rattle.rtp_media_open_streams.specs.Ends.{EndState, nth_stream, receiver_at, receiving_of, with_streams}
 use Rattle.rtp_media_open_streams.specs.Arrivals.{verdict_of, after_datagram, stream_for}
 use Rattle.rtp_media_open_streams.specs.declared.open_stream.OpenStream.{OpenStream}
 use Rattle.rtp_media_open_streams.specs.declared.open_stream.OpenStream.TheVariants.{Sender, Receiver}
@@ -30,10 +30,6 @@ verdicts_of e (d ∷ ds) = verdict_of e d ∷ verdicts_of (after_datagram e d) d
 abbrev pub after_datagrams : EndState → List (List ℕ) → EndState
 after_datagrams e [] = e
 after_datagrams e (d ∷ ds) = after_datagrams (after_datagram e d) ds
-
--- The end with these streams.
-abbrev pub with_streams : EndState → List OpenStream → EndState
-with_streams e streams = record { exchange = e.exchange; streams = streams }
 
 -- A receiving stream was polled until None or lack of memory: its answers, and the stream after them.
 pub record IsPolledOut (before : Receiving) (answers : Answers) (after : Receiving) : Type 0 where

@@ -1,7 +1,7 @@
 use Rattle.std.proofs.Common.{◌≡◌, ℕ, ◌<◌, ◌≤◌, length}
-use Rattle.rtp_media_stream_laws.specs.Ends.{nth_stream}
-use Rattle.rtp_media_stream_laws.specs.FullArrival.{AnswersAll, answers_at}
-use Rattle.rtp_media_ends.proofs.end.receive_all.poll_each.Given as goal
+use Rattle.rtp_media_open_streams.specs.Ends.{nth_stream}
+use Rattle.rtp_media_open_streams.specs.FullArrival.{AnswersAll, answers_at}
+use Rattle.rtp_media_stream_table.proofs.stream_table.polls.poll_each.Given as goal
 
 -- the streams below this one are polled out, and the others are as they were
 abbrev pub invariant-loop-number : goal.invariant-loop-number

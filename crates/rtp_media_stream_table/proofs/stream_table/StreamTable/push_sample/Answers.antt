@@ -6,10 +6,10 @@ use Rattle.rtp_media_streams.specs.Sending.{HasFailed, Sending, after_sample}
 use Rattle.rtp_media_payloads.specs.declared.errors.SampleError.{SampleError}
 use Rattle.rtp_media_payloads.specs.declared.errors.SampleError.TheVariants.{StreamFailed, TimeTooLarge, LimitTooSmall}
 use Rattle.rtp_media_payloads.specs.declared.errors.SampleError.TheVariants.{Payload, Memory}
-use Rattle.rtp_media_stream_laws.specs.declared.OpenStream.TheVariants.{Sender}
-use Rattle.rtp_media_stream_laws.specs.Ends.{nth_stream}
-use Rattle.rtp_media_stream_laws.proofs.Indexing.{kept-sender}
-use Rattle.rtp_media_ends.proofs.end.End.push_sample.Goals as goal
+use Rattle.rtp_media_open_streams.specs.declared.open_stream.OpenStream.TheVariants.{Sender}
+use Rattle.rtp_media_open_streams.specs.Ends.{nth_stream}
+use Rattle.rtp_media_open_streams.proofs.Indexing.{kept-sender}
+use Rattle.rtp_media_stream_table.proofs.stream_table.StreamTable.push_sample.Goals as goal
 
 -- what a stream is found by stays, whatever comes of a sample
 abbrev Same : Sending → Sending → Type 0

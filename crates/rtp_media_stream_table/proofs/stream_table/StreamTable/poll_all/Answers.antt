@@ -1,10 +1,10 @@
 use Rattle.std.proofs.Common.{◌≡◌, arith, ap}
 use Rattle.std.proofs.lemmas.Grind.{common_steps}
 use Rattle.rtp_media_payloads.specs.Receiving.{Receiving}
-use Rattle.rtp_media_stream_laws.specs.declared.OpenStream.TheVariants.{Receiver}
-use Rattle.rtp_media_stream_laws.specs.Ends.{nth_stream}
-use Rattle.rtp_media_stream_laws.proofs.Indexing.{kept-receiver}
-use Rattle.rtp_media_ends.proofs.end.End.poll_all.Goals as goal
+use Rattle.rtp_media_open_streams.specs.declared.open_stream.OpenStream.TheVariants.{Receiver}
+use Rattle.rtp_media_open_streams.specs.Ends.{nth_stream}
+use Rattle.rtp_media_open_streams.proofs.Indexing.{kept-receiver}
+use Rattle.rtp_media_stream_table.proofs.stream_table.StreamTable.poll_all.Goals as goal
 
 pub invariant_of-self : goal.invariant_of-self
 invariant_of-self c =

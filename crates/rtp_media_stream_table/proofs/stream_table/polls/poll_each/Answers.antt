@@ -1,10 +1,10 @@
 use Rattle.std.proofs.Common.{◌≡◌, ◌<◌, ◌∙◌, arith, length, subst, Result, Ok, Err, OnErr}
 use Rattle.std.proofs.lemmas.Grind.{common_steps}
-use Rattle.rtp_media_stream_laws.specs.declared.OpenStream.{OpenStream}
-use Rattle.rtp_media_stream_laws.specs.Ends.{nth_stream}
-use Rattle.rtp_media_stream_laws.specs.FullArrival.{AnswersSome}
-use Rattle.rtp_media_ends.proofs.Stopping.{out-some, stopped-at}
-use Rattle.rtp_media_ends.proofs.end.receive_all.poll_each.Goals as goal
+use Rattle.rtp_media_open_streams.specs.declared.open_stream.OpenStream.{OpenStream}
+use Rattle.rtp_media_open_streams.specs.Ends.{nth_stream}
+use Rattle.rtp_media_open_streams.specs.FullArrival.{AnswersSome}
+use Rattle.rtp_media_stream_table.proofs.PolledSome.{out-some, stopped-at}
+use Rattle.rtp_media_stream_table.proofs.stream_table.polls.poll_each.Goals as goal
 
 whatever : {A E : Type 0} {X : Type 0} (r : Result A E) → X → OnErr r X
 whatever (Ok a) x = tt
