@@ -38,9 +38,13 @@ set_sender streams n s = slice_set streams n (Sender s)
 abbrev pub set_receiver : List OpenStream → ℕ → Receiving → List OpenStream
 set_receiver streams n r = slice_set streams n (Receiver r)
 
+-- An end of these exchanges and these streams.
+abbrev pub end_of : Exchanged → List OpenStream → EndState
+end_of exchange streams = record { exchange = exchange; streams = streams }
+
 -- The end with these streams.
 abbrev pub with_streams : EndState → List OpenStream → EndState
-with_streams e streams = record { exchange = e.exchange; streams = streams }
+with_streams e streams = end_of e.exchange streams
 
 -- The end with this stream in place of its n-th.
 abbrev pub with_sender : EndState → ℕ → Sending → EndState
@@ -51,14 +55,14 @@ with_receiver e n r = with_streams e (set_receiver e.streams n r)
 
 -- The end after an exchange: its streams stay.
 abbrev pub with_exchange : EndState → Exchanged → EndState
-with_exchange e x = record { exchange = x; streams = e.streams }
+with_exchange e x = end_of x e.streams
 
 -- The end with one stream more.
 abbrev pub with_new_sender : EndState → Sending → EndState
-with_new_sender e s = record { exchange = e.exchange; streams = e.streams ++ Sender s ∷ [] }
+with_new_sender e s = with_streams e (e.streams ++ Sender s ∷ [])
 
 abbrev pub with_new_receiver : EndState → Receiving → EndState
-with_new_receiver e r = record { exchange = e.exchange; streams = e.streams ++ Receiver r ∷ [] }
+with_new_receiver e r = with_streams e (e.streams ++ Receiver r ∷ [])
 
 -- The payload types of a row.
 abbrev pub types_of : Row → PayloadTypes
@@ -260,8 +264,8 @@ after_open_receiver e mid ssrc pt hold_back = with_new_receiver e (new_receiver 
 
 -- A fixed end without streams.
 abbrev pub fixed_end : EndState
-fixed_end = record { exchange = fixed; streams = [] }
+fixed_end = end_of fixed []
 
 -- An end that has agreed on nothing.
 abbrev pub new_end : Session → Numbering → Config → EndState
-new_end session wanted config = record { exchange = fresh session wanted config; streams = [] }
+new_end session wanted config = end_of (fresh session wanted config) []

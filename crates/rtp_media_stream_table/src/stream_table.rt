@@ -1,10 +1,13 @@
 //! Streams by number.
 
-ghost use Rattle.std.specs.Prelude.{◌≡◌, ◌≢◌, ◌++◌, ◌∷◌, [], None, Some, false, true, length, OnErr, OnOk, IfErr, IfOk};
+ghost use Rattle.std.specs.Prelude.{◌≡◌, ◌≢◌, ◌++◌, ◌∷◌, [], ℕ, None, Some, false, true, length};
+ghost use Rattle.std.specs.Prelude.{OnErr, OnOk, IfErr, IfOk};
 ghost use Rattle.std.specs.List.{list_any};
 ghost use Rattle.rtp_media_streams.specs.Sending.{HasFailed, after_sample, refusal_of_sample, sent_datagrams};
-ghost use Rattle.rtp_media_open_streams.specs.Ends.{is_nth_receiver, is_nth_sender, nth_sender, receives_as, sends_as};
-ghost use Rattle.rtp_media_open_streams.specs.Ends.{set_sender};
+ghost use Rattle.rtp_media_payloads.specs.Types.{has_type};
+ghost use Rattle.rtp_media_open_streams.specs.Arrivals.{stream_for};
+ghost use Rattle.rtp_media_open_streams.specs.Ends.{is_nth_receiver, is_nth_sender, nth_receiver, nth_sender};
+ghost use Rattle.rtp_media_open_streams.specs.Ends.{receives_as, sends_as, set_sender};
 ghost use Rattle.rtp_media_open_streams.specs.declared.open_stream.OpenStream.TheVariants.{Receiver, Sender};
 
 mod polls;
@@ -98,54 +101,49 @@ impl StreamTable {
         could_receive(&self.streams, &self.receivers, ssrc, types)
     }
 
-    /// Adds a sending stream of this SSRC and these payload types behind the others, and answers its number.
+    /// Adds a sending stream behind the others, and answers its number.
     ///
     /// # Conditions
-    /// The stream has them, and no other one could send its datagrams: [`StreamTable::could_send`].
+    /// No other one could send its datagrams: [`StreamTable::could_send`].
     ///
     /// # Errors
     /// `AllocError` where memory runs out; nothing has changed.
-    pub fn add_sender(
-        &mut self,
-        ssrc: Ssrc,
-        types: &PayloadTypes,
-        stream: SendingStream,
-    ) -> Result<usize, AllocError>
-        requires ssrc { stream.ssrc ≡ ssrc }
-        requires types { stream.types ≡ types.now }
-        requires apart { list_any (sends_as ssrc types.now) self.old ≡ false }
+    pub fn add_sender(&mut self, stream: SendingStream) -> Result<usize, AllocError>
+        requires { list_any (sends_as stream.ssrc stream.types) self.old ≡ false }
         ensures number { IfOk result (λ n. n ≡ length self.old) }
         ensures added { OnOk result (self.new ≡ self.old ++ Sender stream ∷ []) }
+        ensures stream { IfOk result (λ n. nth_sender self.new n ≡ stream) }
+        ensures sends { IfOk result (λ n. is_nth_sender self.new n ≡ true) }
         ensures unchanged { OnErr result (self.new ≡ self.old) }
     {
         let number = self.streams.len();
-        self.senders.set_types(ssrc, types, number)?;
+        self.senders
+            .set_types(stream.ssrc(), &stream.types(), number)?;
         self.streams.push(OpenStream::Sender(stream))?;
         Ok(number)
     }
 
-    /// Adds a receiving stream of this SSRC and these payload types behind the others, and answers its number.
+    /// Adds a receiving stream behind the others, and answers its number. The datagrams of its SSRC and one of its
+    /// types are then its own.
     ///
     /// # Conditions
-    /// The stream has them, and no other one could take its datagrams: [`StreamTable::could_receive`].
+    /// No other one could take its datagrams: [`StreamTable::could_receive`].
     ///
     /// # Errors
     /// `AllocError` where memory runs out; nothing has changed.
-    pub fn add_receiver(
-        &mut self,
-        ssrc: Ssrc,
-        types: &PayloadTypes,
-        stream: ReceivingStream,
-    ) -> Result<usize, AllocError>
-        requires ssrc { stream.ssrc ≡ ssrc }
-        requires types { stream.types ≡ types.now }
-        requires apart { list_any (receives_as ssrc types.now) self.old ≡ false }
+    pub fn add_receiver(&mut self, stream: ReceivingStream) -> Result<usize, AllocError>
+        requires { list_any (receives_as stream.ssrc stream.types) self.old ≡ false }
         ensures number { IfOk result (λ n. n ≡ length self.old) }
         ensures added { OnOk result (self.new ≡ self.old ++ Receiver stream ∷ []) }
+        ensures stream { IfOk result (λ n. nth_receiver self.new n ≡ stream) }
+        ensures receives { IfOk result (λ n. is_nth_receiver self.new n ≡ true) }
+        ensures found { (pt : ℕ) → has_type stream.types pt ≡ true
+            → IfOk result (λ n. stream_for self.new stream.ssrc pt ≡ Some n) }
         ensures unchanged { OnErr result (self.new ≡ self.old) }
     {
         let number = self.streams.len();
-        self.receivers.set_types(ssrc, types, number)?;
+        self.receivers
+            .set_types(stream.ssrc(), &stream.types(), number)?;
         self.streams.push(OpenStream::Receiver(stream))?;
         Ok(number)
     }

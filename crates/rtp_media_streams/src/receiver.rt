@@ -152,6 +152,20 @@ impl ReceivingStream {
         }
     }
 
+    /// Its SSRC.
+    pub fn ssrc(&self) -> Ssrc
+        ensures { result ≡ self.now.ssrc }
+    {
+        self.ssrc
+    }
+
+    /// Its payload types.
+    pub fn types(&self) -> PayloadTypes
+        ensures { result ≡ self.now.types }
+    {
+        self.types
+    }
+
     /// Whether datagrams of this SSRC and payload type are its own.
     pub fn is_own(&self, ssrc: Ssrc, pt: Pt) -> bool
         ensures { result ≡ is_own self.now ssrc pt }

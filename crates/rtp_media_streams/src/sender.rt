@@ -156,6 +156,20 @@ impl SendingStream {
         Ok(stream)
     }
 
+    /// Its SSRC.
+    pub fn ssrc(&self) -> Ssrc
+        ensures { result ≡ self.now.ssrc }
+    {
+        self.stamp.ssrc
+    }
+
+    /// Its payload types.
+    pub fn types(&self) -> PayloadTypes
+        ensures { result ≡ self.now.types }
+    {
+        self.types
+    }
+
     /// Whether its datagrams could be those of another stream of this SSRC and these payload types.
     pub fn conflicts_with(&self, ssrc: Ssrc, types: &PayloadTypes) -> bool
         ensures { result ≡ conflicts_with self.now ssrc types.now }

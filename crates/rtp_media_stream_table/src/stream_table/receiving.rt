@@ -11,14 +11,14 @@ ghost use Rattle.rtp_media_payloads.specs.Rows.{format_of};
 ghost use Rattle.rtp_media_schedules.specs.Hearing.{poll_answer};
 ghost use Rattle.rtp_wire.specs.declared.ExtensionValues.{ExtensionValues};
 ghost use Rattle.rtp_media_open_streams.specs.Arrivals.{NoPayload, Own, arrival_at, arrival_by, own_of, streams_after};
-ghost use Rattle.rtp_media_open_streams.specs.Arrivals.{stream_for, verdict_in};
+ghost use Rattle.rtp_media_open_streams.specs.Arrivals.{stream_for, verdict_in, verdict_on};
 ghost use Rattle.rtp_media_open_streams.specs.Ends.{is_nth_receiver, nth_receiver, set_receiver};
 
 use super::StreamTable;
 use rtp_media_open_streams::{OpenStream, ReceiveError, Received, stream_for};
 use rtp_media_payloads::{PollFault, Unit};
 use rtp_media_streams::ReceivingStream;
-use rtp_wire::RtpHeader;
+use rtp_wire::{RtpHeader, SeqNo};
 use std::alloc::AllocError;
 
 impl StreamTable {
@@ -74,10 +74,7 @@ impl StreamTable {
             values,
             payload,
         )?;
-        match taken {
-            None => Ok(Received::Refused),
-            Some(number) => Ok(Received::Taken(stream, number)),
-        }
+        Ok(verdict_on(stream, taken))
     }
 
     /// The next unit of a receiving stream, where one is ready, as [`ReceivingStream::poll`] says.
@@ -171,6 +168,16 @@ impl StreamTable {
             OpenStream::Receiver(receiver) => receiver.poll_all(),
             OpenStream::Sender(_) => unreachable!(),
         }
+    }
+}
+
+/// What is said of a datagram of a stream's own that brings a payload, by the number that it was taken under.
+fn verdict_on(stream: usize, taken: Option<SeqNo>) -> Received
+    ensures { result ≡ verdict_on stream taken }
+{
+    match taken {
+        None => Received::Refused,
+        Some(number) => Received::Taken(stream, number),
     }
 }
 

@@ -1,36 +1,68 @@
-use Rattle.std.proofs.Common.{◌≡◌, length, arith, false}
+use Rattle.std.proofs.Common.{◌≡◌, ℕ, List, ◌∷◌, ◌++◌, [], length, sym, ap, subst₂, arith, true, false}
 use Rattle.std.proofs.lemmas.Grind.{common_steps}
 use Rattle.std.specs.List.{list_any}
-use Rattle.rtp_media_open_streams.specs.Ends.{receives_as}
+use Rattle.rtp_media_open_streams.specs.declared.open_stream.OpenStream.{OpenStream}
+use Rattle.rtp_media_open_streams.specs.declared.open_stream.OpenStream.TheVariants.{Receiver}
+use Rattle.rtp_media_open_streams.specs.Ends.{is_nth_receiver, nth_receiver, receives_as, receiving_of}
 use Rattle.rtp_media_open_streams.specs.Indexed.{AreIndexed}
 use Rattle.rtp_media_open_streams.proofs.Indexing.{may-receive, receiver-added}
+use Rattle.rtp_media_open_streams.specs.Arrivals.{stream_for}
+use Rattle.std.specs.Prelude.{Some}
+use Rattle.rtp_media_open_streams.proofs.NewReceiver.{found-new}
+use Rattle.rtp_media_stream_table.proofs.Added.{last-is, receives-at-end}
 use Rattle.rtp_media_stream_table.proofs.stream_table.StreamTable.add_receiver.Goals as goal
 
 pub invariant_of-self : goal.invariant_of-self
 invariant_of-self c =
-    let free : list_any (receives_as c.args.ssrc c.args.types.now) c.self.inside.streams.items ≡ false =
+    let free : list_any (receives_as c.ssrc.result c.types.result) c.self.inside.streams.items ≡ false =
     grind (arith, common_steps) in
     may-receive c.self.inside.senders c.self.inside.receivers c.set_types.new.self c.self.inside.streams.items
-    c.args.ssrc c.args.types.now c.set_types.ensures.others free c.self.invariant
+    c.ssrc.result c.types.result c.set_types.ensures.others free c.self.invariant
 
 pub invariant_of-self-in_err-push : goal.invariant_of-self-in_err-push
 invariant_of-self-in_err-push c =
-    let free : list_any (receives_as c.args.ssrc c.args.types.now) c.self.inside.streams.items ≡ false =
+    let free : list_any (receives_as c.ssrc.result c.types.result) c.self.inside.streams.items ≡ false =
     grind (arith, common_steps) in
     let same : c.push.new.self.items ≡ c.self.inside.streams.items = grind (arith, common_steps) in
     rw same
     (may-receive c.self.inside.senders c.self.inside.receivers c.set_types.new.self c.self.inside.streams.items
-    c.args.ssrc c.args.types.now c.set_types.ensures.others free c.self.invariant)
+    c.ssrc.result c.types.result c.set_types.ensures.others free c.self.invariant)
 
 pub invariant_of-self-2 : goal.invariant_of-self-2
 invariant_of-self-2 c =
-    let free : list_any (receives_as c.args.ssrc c.args.types.now) c.self.inside.streams.items ≡ false =
+    let free : list_any (receives_as c.ssrc.result c.types.result) c.self.inside.streams.items ≡ false =
     grind (arith, common_steps) in
     let indexed : AreIndexed c.self.inside.senders c.set_types.new.self c.self.inside.streams.items =
     may-receive c.self.inside.senders c.self.inside.receivers c.set_types.new.self c.self.inside.streams.items
-    c.args.ssrc c.args.types.now c.set_types.ensures.others free c.self.invariant in
+    c.ssrc.result c.types.result c.set_types.ensures.others free c.self.invariant in
     let number : c.len-number.result ≡ length c.self.inside.streams.items = grind (arith, common_steps) in
     rw c.in_ok-push.ensures.items
     (receiver-added c.self.inside.senders c.set_types.new.self c.self.inside.streams.items c.args.stream
-    c.args.ssrc c.args.types.now c.len-number.result c.requires.ssrc c.requires.types number indexed
+    c.ssrc.result c.types.result c.len-number.result (sym c.ssrc.ensures) (sym c.types.ensures) number indexed
     c.in_ok-set_types.ensures.set)
+
+pub returns-clause-stream : goal.returns-clause-stream
+returns-clause-stream c =
+    let items : c.self.inside.streams.items ++ Receiver c.args.stream ∷ [] ≡ c.push.new.self.items =
+    grind (arith, common_steps) in
+    let number : length c.self.inside.streams.items ≡ c.len-number.result = grind (arith, common_steps) in
+    subst₂ (λ (ss : List OpenStream) (n : ℕ). nth_receiver ss n ≡ c.args.stream) items number
+    (ap receiving_of (last-is c.self.inside.streams.items (Receiver c.args.stream)))
+
+pub returns-clause-receives : goal.returns-clause-receives
+returns-clause-receives c =
+    let items : c.self.inside.streams.items ++ Receiver c.args.stream ∷ [] ≡ c.push.new.self.items =
+    grind (arith, common_steps) in
+    let number : length c.self.inside.streams.items ≡ c.len-number.result = grind (arith, common_steps) in
+    subst₂ (λ (ss : List OpenStream) (n : ℕ). is_nth_receiver ss n ≡ true) items number
+    (receives-at-end c.self.inside.streams.items c.args.stream)
+
+pub returns-clause-found : goal.returns-clause-found
+returns-clause-found c pt has =
+    let items : c.self.inside.streams.items ++ Receiver c.args.stream ∷ [] ≡ c.push.new.self.items =
+    grind (arith, common_steps) in
+    let number : length c.self.inside.streams.items ≡ c.len-number.result = grind (arith, common_steps) in
+    let free : list_any (receives_as c.args.stream.ssrc c.args.stream.types) c.self.inside.streams.items ≡ false =
+    grind (arith, common_steps) in
+    subst₂ (λ (ss : List OpenStream) (n : ℕ). stream_for ss c.args.stream.ssrc pt ≡ Some n) items number
+    (found-new c.self.inside.streams.items c.args.stream free pt has)

@@ -1,36 +1,55 @@
-use Rattle.std.proofs.Common.{◌≡◌, length, arith, false}
+use Rattle.std.proofs.Common.{◌≡◌, ℕ, List, ◌∷◌, ◌++◌, [], length, sym, ap, subst₂, arith, true, false}
 use Rattle.std.proofs.lemmas.Grind.{common_steps}
 use Rattle.std.specs.List.{list_any}
-use Rattle.rtp_media_open_streams.specs.Ends.{sends_as}
+use Rattle.rtp_media_open_streams.specs.declared.open_stream.OpenStream.{OpenStream}
+use Rattle.rtp_media_open_streams.specs.declared.open_stream.OpenStream.TheVariants.{Sender}
+use Rattle.rtp_media_open_streams.specs.Ends.{is_nth_sender, nth_sender, sending_of, sends_as}
 use Rattle.rtp_media_open_streams.specs.Indexed.{AreIndexed}
 use Rattle.rtp_media_open_streams.proofs.Indexing.{may-send, sender-added}
+use Rattle.rtp_media_stream_table.proofs.Added.{last-is, sends-at-end}
 use Rattle.rtp_media_stream_table.proofs.stream_table.StreamTable.add_sender.Goals as goal
 
 pub invariant_of-self : goal.invariant_of-self
 invariant_of-self c =
-    let free : list_any (sends_as c.args.ssrc c.args.types.now) c.self.inside.streams.items ≡ false =
+    let free : list_any (sends_as c.ssrc.result c.types.result) c.self.inside.streams.items ≡ false =
     grind (arith, common_steps) in
     may-send c.self.inside.senders c.set_types.new.self c.self.inside.receivers c.self.inside.streams.items
-    c.args.ssrc c.args.types.now c.set_types.ensures.others free c.self.invariant
+    c.ssrc.result c.types.result c.set_types.ensures.others free c.self.invariant
 
 pub invariant_of-self-in_err-push : goal.invariant_of-self-in_err-push
 invariant_of-self-in_err-push c =
-    let free : list_any (sends_as c.args.ssrc c.args.types.now) c.self.inside.streams.items ≡ false =
+    let free : list_any (sends_as c.ssrc.result c.types.result) c.self.inside.streams.items ≡ false =
     grind (arith, common_steps) in
     let same : c.push.new.self.items ≡ c.self.inside.streams.items = grind (arith, common_steps) in
     rw same
     (may-send c.self.inside.senders c.set_types.new.self c.self.inside.receivers c.self.inside.streams.items
-    c.args.ssrc c.args.types.now c.set_types.ensures.others free c.self.invariant)
+    c.ssrc.result c.types.result c.set_types.ensures.others free c.self.invariant)
 
 pub invariant_of-self-2 : goal.invariant_of-self-2
 invariant_of-self-2 c =
-    let free : list_any (sends_as c.args.ssrc c.args.types.now) c.self.inside.streams.items ≡ false =
+    let free : list_any (sends_as c.ssrc.result c.types.result) c.self.inside.streams.items ≡ false =
     grind (arith, common_steps) in
     let indexed : AreIndexed c.set_types.new.self c.self.inside.receivers c.self.inside.streams.items =
     may-send c.self.inside.senders c.set_types.new.self c.self.inside.receivers c.self.inside.streams.items
-    c.args.ssrc c.args.types.now c.set_types.ensures.others free c.self.invariant in
+    c.ssrc.result c.types.result c.set_types.ensures.others free c.self.invariant in
     let number : c.len-number.result ≡ length c.self.inside.streams.items = grind (arith, common_steps) in
     rw c.in_ok-push.ensures.items
     (sender-added c.set_types.new.self c.self.inside.receivers c.self.inside.streams.items c.args.stream
-    c.args.ssrc c.args.types.now c.len-number.result c.requires.ssrc c.requires.types number indexed
+    c.ssrc.result c.types.result c.len-number.result (sym c.ssrc.ensures) (sym c.types.ensures) number indexed
     c.in_ok-set_types.ensures.set)
+
+pub returns-clause-stream : goal.returns-clause-stream
+returns-clause-stream c =
+    let items : c.self.inside.streams.items ++ Sender c.args.stream ∷ [] ≡ c.push.new.self.items =
+    grind (arith, common_steps) in
+    let number : length c.self.inside.streams.items ≡ c.len-number.result = grind (arith, common_steps) in
+    subst₂ (λ (ss : List OpenStream) (n : ℕ). nth_sender ss n ≡ c.args.stream) items number
+    (ap sending_of (last-is c.self.inside.streams.items (Sender c.args.stream)))
+
+pub returns-clause-sends : goal.returns-clause-sends
+returns-clause-sends c =
+    let items : c.self.inside.streams.items ++ Sender c.args.stream ∷ [] ≡ c.push.new.self.items =
+    grind (arith, common_steps) in
+    let number : length c.self.inside.streams.items ≡ c.len-number.result = grind (arith, common_steps) in
+    subst₂ (λ (ss : List OpenStream) (n : ℕ). is_nth_sender ss n ≡ true) items number
+    (sends-at-end c.self.inside.streams.items c.args.stream)
