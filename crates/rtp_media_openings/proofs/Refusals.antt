@@ -6,10 +6,10 @@ use Rattle.rtp_media_negotiation.specs.Rows.{Row}
 use Rattle.rtp_media_negotiation.specs.Agreement.{Agreed, agreed_row_of, is_named, own_row_agrees, row_in}
 use Rattle.rtp_media_negotiation.specs.Agreement.{row_of_section}
 use Rattle.rtp_media_negotiation.specs.Agreement.{section_of}
-use Rattle.rtp_media_stream_laws.specs.declared.OpenStream.{OpenStream}
-use Rattle.rtp_media_stream_laws.specs.Ends.{carried_row, receiver_refusal_in, receives_as, refusal_by}
-use Rattle.rtp_media_stream_laws.specs.Ends.{sender_refusal_in}
-use Rattle.rtp_media_stream_laws.specs.Ends.{sends_as, types_of}
+use Rattle.rtp_media_open_streams.specs.declared.open_stream.OpenStream.{OpenStream}
+use Rattle.rtp_media_open_streams.specs.Ends.{carried_row, receiver_refusal_in, receives_as, refusal_by}
+use Rattle.rtp_media_open_streams.specs.Ends.{sender_refusal_in}
+use Rattle.rtp_media_open_streams.specs.Ends.{sends_as, types_of}
 
 pub row-agreed : (agreed : List Agreed) (mid : List ℕ) (pt : ℕ) (a : Agreed) (row : Row)
     → section_of agreed mid ≡ Some a → row_in a.rows pt ≡ Some row → agreed_row_of agreed mid pt ≡ Some row

@@ -12,11 +12,11 @@ use Rattle.rtp_media_payloads.specs.Rows.{coding_in, first_state, settings_in}
 use Rattle.rtp_media_streams.specs.Sending.{opened_sender}
 use Rattle.rtp_media_payloads.proofs.Configured.{reached-in-forms}
 use Rattle.rtp_media_negotiation.specs.Agreement.{agreed_row_of}
-use Rattle.rtp_media_stream_laws.specs.Ends.{EndState, is_carried, is_red_of, new_sender, red_in, row_format_in}
-use Rattle.rtp_media_stream_laws.specs.Ends.{row_format_of, row_sender, stream_map, types_in, types_of, with_distances}
-use Rattle.rtp_media_stream_laws.specs.FullArrival.{IsSender}
-use Rattle.rtp_media_stream_laws.specs.Params.{IsRedundancy, IsSound}
-use Rattle.rtp_media_stream_laws.specs.declared.StreamParams.{StreamParams}
+use Rattle.rtp_media_open_streams.specs.Ends.{EndState, is_carried, is_red_of, new_sender, red_in, row_format_in}
+use Rattle.rtp_media_open_streams.specs.Ends.{row_format_of, row_sender, stream_map, types_in, types_of, with_distances}
+use Rattle.rtp_media_open_streams.specs.FullArrival.{IsSender}
+use Rattle.rtp_media_open_streams.specs.Params.{IsRedundancy, IsSound}
+use Rattle.rtp_media_open_streams.specs.declared.params.StreamParams.{StreamParams}
 
 -- a RED type has 7 bits and is another than the row's
 abbrev pub IsRedOf : ℕ → Option ℕ → Type 0

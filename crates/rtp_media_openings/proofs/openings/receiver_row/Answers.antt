@@ -1,32 +1,30 @@
 use Rattle.std.proofs.Common.{◌≡◌, ◌∙◌, ap, sym, arith}
 use Rattle.std.proofs.lemmas.Grind.{common_steps}
 use Rattle.std.specs.List.{list_any}
-use Rattle.rtp_media_stream_laws.specs.Ends.{receives_as, refusal_of_open_receiver}
-use Rattle.rtp_media_ends.proofs.Refusals.{receiver-refusal}
-use Rattle.rtp_media_ends.proofs.end.End.receiver_row.Goals as goal
+use Rattle.rtp_media_open_streams.specs.Ends.{end_of, receives_as, refusal_of_open_receiver}
+use Rattle.rtp_media_openings.proofs.Refusals.{receiver-refusal}
+use Rattle.rtp_media_openings.proofs.openings.receiver_row.Goals as goal
 
 pub returns-in-None-clause-opens : goal.returns-in-None-clause-opens
 unfolding refusal_of_open_receiver
 returns-in-None-clause-opens c =
-    let e : refusal_of_open_receiver c.args.self.now c.args.mid c.args.ssrc c.args.pt
+    let e : refusal_of_open_receiver (end_of c.args.exchange.now c.args.streams.now) c.args.mid c.args.ssrc c.args.pt
     ≡ c.opening_refusal-refusal.result =
-    (rw (← c.self.view_is) (receiver-refusal c.self.inside.exchange.config.rows c.self.inside.exchange.agreed _
+    ((receiver-refusal c.args.exchange.now.config.rows c.args.exchange.now.agreed _
     c.args.mid c.args.ssrc c.args.pt _ c.in_ok-row.row _ _ _ _ c.in_ok-section.ensures.found c.in_ok-row.ensures.found
     c.agrees_with.ensures c.is_receiving.ensures c.names_remote.ensures
-    ((rw c.deref.ensures.value at c.could_receive.ensures)
-    ∙ ap (λ types. list_any (receives_as c.args.ssrc types) c.self.inside.streams.items) c.types_of.ensures)))
+    (c.could_receive.ensures ∙ ap (λ types. list_any (receives_as c.args.ssrc types) c.args.streams.now) c.types_of.ensures)))
     ∙ sym c.opening_refusal-refusal.ensures in
     grind (arith, common_steps, e)
 
 pub returns-in-Some-clause-refused : goal.returns-in-Some-clause-refused
 unfolding refusal_of_open_receiver
 returns-in-Some-clause-refused c =
-    let e : refusal_of_open_receiver c.args.self.now c.args.mid c.args.ssrc c.args.pt
+    let e : refusal_of_open_receiver (end_of c.args.exchange.now c.args.streams.now) c.args.mid c.args.ssrc c.args.pt
     ≡ c.opening_refusal-refusal.result =
-    (rw (← c.self.view_is) (receiver-refusal c.self.inside.exchange.config.rows c.self.inside.exchange.agreed _
+    ((receiver-refusal c.args.exchange.now.config.rows c.args.exchange.now.agreed _
     c.args.mid c.args.ssrc c.args.pt _ c.in_ok-row.row _ _ _ _ c.in_ok-section.ensures.found c.in_ok-row.ensures.found
     c.agrees_with.ensures c.is_receiving.ensures c.names_remote.ensures
-    ((rw c.deref.ensures.value at c.could_receive.ensures)
-    ∙ ap (λ types. list_any (receives_as c.args.ssrc types) c.self.inside.streams.items) c.types_of.ensures)))
+    (c.could_receive.ensures ∙ ap (λ types. list_any (receives_as c.args.ssrc types) c.args.streams.now) c.types_of.ensures)))
     ∙ sym c.opening_refusal-refusal.ensures in
     grind (arith, common_steps, e)
