@@ -6,7 +6,4 @@ pub use Rattle.rtp_media_stream_laws.proofs.MayOpen
 pub use Rattle.rtp_media_stream_laws.proofs.NewReceiver
 pub use Rattle.rtp_media_negotiation.proofs.OneAgreement
 pub use Rattle.rtp_media_stream_laws.proofs.Transparent
-pub mod Refusals
-pub mod Opened
 pub mod Stopping
-pub mod Numbers

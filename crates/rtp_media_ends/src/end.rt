@@ -12,10 +12,10 @@ mod receive_all;
 mod receiving;
 
 pub use exchanges::connect;
-pub use receive_all::{Polls, ReceivedAll};
+pub use receive_all::ReceivedAll;
 use rtp_media_negotiation::{EndError, Exchange, PayloadParams};
 use rtp_media_payloads::{Datagram, SampleError};
-use rtp_media_stream_laws::{OpenStream, StreamIndex};
+use rtp_media_stream_table::StreamTable;
 use rtp_wire::{ExtensionValues, Frequency, MediaTime, Mid, Pt};
 use std::alloc::Global;
 use std::marker::Model;
@@ -24,11 +24,7 @@ use std::marker::Model;
 pub struct End {
     alloc: Global,
     exchange: Exchange,
-    streams: Vec<OpenStream>,
-    /// The numbers of those that send.
-    senders: StreamIndex,
-    /// The numbers of those that receive.
-    receivers: StreamIndex,
+    streams: StreamTable,
 }
 
 /// Written out, so that who lets one go needs nothing of what is inside.
@@ -38,8 +34,6 @@ impl Drop for End {
             alloc: _alloc,
             exchange: _exchange,
             streams: _streams,
-            senders: _senders,
-            receivers: _receivers,
         } = self;
     }
 }
@@ -55,12 +49,8 @@ impl Model for End {
 
     ghost view = { λ e. record {
       exchange = e.exchange;
-      streams = e.streams.items;
+      streams = e.streams;
     } };
-
-    ghost use Rattle.rtp_media_stream_laws.specs.Indexed.{AreIndexed};
-
-    ghost invariant = { λ e. AreIndexed e.senders e.receivers e.streams.items };
 }
 
 impl End {
@@ -76,9 +66,7 @@ impl End {
         Ok(End {
             alloc,
             exchange: Exchange::fixed(alloc)?,
-            streams: Vec::new(alloc),
-            senders: StreamIndex::new(alloc),
-            receivers: StreamIndex::new(alloc),
+            streams: StreamTable::new(alloc),
         })
     }
 
@@ -101,14 +89,14 @@ impl End {
     pub fn is_sender(&self, stream: usize) -> bool
         ensures { result ≡ is_sender_at self.now stream }
     {
-        stream < self.streams.len() && self.streams[stream].is_sender()
+        self.streams.is_sender(stream)
     }
 
     /// Whether this is the number of a receiving stream.
     pub fn is_receiver(&self, stream: usize) -> bool
         ensures { result ≡ is_receiver_at self.now stream }
     {
-        stream < self.streams.len() && self.streams[stream].is_receiver()
+        self.streams.is_receiver(stream)
     }
 
     /// The clock rate of a sending stream's samples, in ticks a second.
@@ -119,10 +107,7 @@ impl End {
         requires { is_sender_at self.now stream ≡ true }
         ensures { result ≡ (sender_at self.now stream).row.clock_rate }
     {
-        match &self.streams[stream] {
-            OpenStream::Sender(sender) => sender.clock_rate(),
-            OpenStream::Receiver(_) => unreachable!(),
-        }
+        self.streams.clock_rate(stream)
     }
 
     /// The datagrams of a sample, which a sending stream sends: its packets of at most `mtu` bytes,
@@ -159,9 +144,7 @@ impl End {
             → HasFailed (sender_at self.old stream) (sender_at self.new stream)) }
         ensures others { self.new ≡ with_sender self.old stream (sender_at self.new stream) }
     {
-        match &mut self.streams[stream] {
-            OpenStream::Sender(sender) => sender.push_sample(time, bytes, values),
-            OpenStream::Receiver(_) => unreachable!(),
-        }
+        let streams = &mut self.streams;
+        streams.push_sample(stream, time, bytes, values)
     }
 }

@@ -3,7 +3,7 @@
 
 mod end;
 
-pub use end::{End, Polls, ReceivedAll, connect};
+pub use end::{End, ReceivedAll, connect};
 pub use payload_core_base::PacketError;
 pub use rtp_media_negotiation::{
     Bandwidth, Codec, CodecConfig, CodecSpec, EndError, ExchangeError, FormatParams, MediaKind,
@@ -13,3 +13,4 @@ pub use rtp_media_payloads::{Datagram, PollFault, SampleError, Unit};
 pub use rtp_media_stream_laws::{
     Distances, OpenError, OpenStream, ReceiveError, Received, StreamParams, openings_law,
 };
+pub use rtp_media_stream_table::Polls;

@@ -15,7 +15,7 @@ use super::End;
 use rtp_media_negotiation::{
     CodecConfig, EndError, Exchange, ExchangeError, SectionSpec, Session, one_agreement_law,
 };
-use rtp_media_stream_laws::StreamIndex;
+use rtp_media_stream_table::StreamTable;
 use rtp_wire::ExtensionMap;
 use std::alloc::Global;
 
@@ -39,9 +39,7 @@ impl End {
         Ok(End {
             alloc,
             exchange: Exchange::new(alloc, config, session, exts)?,
-            streams: Vec::new(alloc),
-            senders: StreamIndex::new(alloc),
-            receivers: StreamIndex::new(alloc),
+            streams: StreamTable::new(alloc),
         })
     }
 

@@ -3,48 +3,15 @@
 ghost use Rattle.std.specs.Prelude.{◌≡◌, ℕ, List, OnOk, OnErr, IfOk};
 ghost use Rattle.rtp_media_payloads.specs.Polls.{AreAnswered};
 ghost use Rattle.rtp_media_streams.specs.Sending.{Sample, Sending};
-ghost use Rattle.rtp_media_stream_laws.specs.FullArrival.{verdicts_of, after_datagrams, AnswersAll, AnswersSome};
-ghost use Rattle.rtp_media_stream_laws.specs.FullArrival.{ArePolledOut};
-ghost use Rattle.rtp_media_stream_laws.specs.FullArrival.{answers_at, units_of, with_streams, ArePolledSome, HasAllOf};
-ghost use Rattle.rtp_media_stream_laws.specs.FullArrival.{ReceivesAndPollsSome, ReceivesSome};
+ghost use Rattle.rtp_media_stream_laws.specs.Ends.{with_streams};
+ghost use Rattle.rtp_media_stream_laws.specs.FullArrival.{verdicts_of, after_datagrams, answers_at, units_of};
+ghost use Rattle.rtp_media_stream_laws.specs.FullArrival.{ArePolledOut, HasAllOf, ReceivesAndPollsSome, ReceivesSome};
 
 use super::End;
 use h26x_payload::codec_law;
-use rtp_media_payloads::{Datagram, PollFault, Unit};
-use rtp_media_stream_laws::{OpenStream, ReceiveError, Received};
-use std::alloc::{AllocError, Global};
-use std::marker::Model;
-
-/// What the polls of a stream answered, one after the other.
-#[derive(Drop)]
-pub struct Polls {
-    answers: Vec<Result<Unit, PollFault>>,
-}
-
-impl Model for Polls {
-    ghost use Rattle.rtp_media_payloads.specs.Polls.{Answers};
-
-    ghost Value = { Answers };
-
-    ghost view = { λ p. p.answers.items };
-}
-
-impl Polls {
-    /// The answers.
-    pub fn as_slice(&self) -> &[Result<Unit, PollFault>]
-        ensures { result.now ≡ self.now }
-    {
-        self.answers.as_slice()
-    }
-
-    /// The answers, given up.
-    pub fn into_vec(self) -> Vec<Result<Unit, PollFault>>
-        ensures { result.items ≡ self }
-    {
-        let Polls { answers } = self;
-        answers
-    }
-}
+use rtp_media_payloads::Datagram;
+use rtp_media_stream_laws::{ReceiveError, Received};
+use rtp_media_stream_table::Polls;
 
 /// What `End::receive_all` answers.
 #[derive(Drop)]
@@ -78,7 +45,7 @@ impl End {
     {
         codec_law();
         let verdicts = self.receive_each(datagrams)?;
-        let polls = poll_each(self.alloc, &mut self.streams)?;
+        let polls = self.streams.poll_out()?;
         Ok(ReceivedAll { verdicts, polls })
     }
 
@@ -95,30 +62,4 @@ impl End {
         }
         Ok(verdicts)
     }
-}
-
-/// Polls each receiving stream until it answers None or memory runs out.
-fn poll_each(alloc: Global, streams: &mut Vec<OpenStream>) -> Result<Vec<Polls>, AllocError>
-    ensures out { IfOk result (λ polls. ArePolledOut streams.old.items polls.items streams.new.items) }
-    ensures some { OnErr result (ArePolledSome streams.old.items streams.new.items) }
-{
-    let mut polls = Vec::new(alloc);
-    for number in 0..streams.len() {
-        let stream = &mut streams[number];
-        let answers = poll_out(alloc, stream)?;
-        polls.push(answers)?;
-    }
-    Ok(polls)
-}
-
-/// Polls a stream, where it receives, until it answers None or memory runs out.
-fn poll_out(alloc: Global, stream: &mut OpenStream) -> Result<Polls, AllocError>
-    ensures out { IfOk result (λ polls. AnswersAll stream.old polls stream.new) }
-    ensures some { OnErr result (AnswersSome stream.old stream.new) }
-{
-    let answers = match stream {
-        OpenStream::Sender(_) => Vec::new(alloc),
-        OpenStream::Receiver(receiver) => receiver.poll_all()?,
-    };
-    Ok(Polls { answers })
 }

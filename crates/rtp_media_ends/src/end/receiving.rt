@@ -1,24 +1,19 @@
 //! Datagrams that come, and the units that are ready.
 
-ghost use Rattle.std.specs.Prelude.{◌≡◌, ◌≢◌, ◌<◌, ℕ, length, true, Ok, Err, OnOk, OnErr, IfOk, IfErr, IfSome};
-ghost use Rattle.std.specs.Prelude.{IfNone, OnSome, [], ◌≤◌};
-ghost use Rattle.std.specs.Option.{ForSome};
+ghost use Rattle.std.specs.Prelude.{◌≡◌, ◌≢◌, ◌<◌, length, true, Ok, Err, OnOk, OnErr, IfOk, IfErr};
+ghost use Rattle.std.specs.Prelude.{IfNone, OnSome, []};
 ghost use Rattle.payload_core_buffer.specs.Frames.{complete_frames};
 ghost use Rattle.rtp_media_streams.specs.Drains.{drain_answer, drained_receiver, holding};
 ghost use Rattle.rtp_media_payloads.specs.Polls.{IsInterrupted, IsPolled, IsPolledSome, given};
-ghost use Rattle.rtp_media_payloads.specs.Receiving.{media_payload, polled_receiver, with_stream};
+ghost use Rattle.rtp_media_payloads.specs.Receiving.{polled_receiver, with_stream};
 ghost use Rattle.rtp_media_payloads.specs.Rows.{format_of};
 ghost use Rattle.rtp_media_schedules.specs.Hearing.{poll_answer};
-ghost use Rattle.rtp_wire.specs.declared.ExtensionValues.{ExtensionValues};
-ghost use Rattle.rtp_media_stream_laws.specs.Arrivals.{Own, NoPayload, own_of, stream_for, verdict_for, after_arrival};
-ghost use Rattle.rtp_media_stream_laws.specs.Arrivals.{arrival_by, verdict_of, after_datagram};
+ghost use Rattle.rtp_media_stream_laws.specs.Arrivals.{verdict_of, after_datagram};
 ghost use Rattle.rtp_media_stream_laws.specs.Ends.{receiver_at, with_receiver, is_receiver_at};
 
 use super::End;
 use rtp_media_payloads::{PollFault, Unit};
-use rtp_media_stream_laws::{OpenStream, ReceiveError, Received, stream_for};
-use rtp_media_streams::ReceivingStream;
-use rtp_wire::RtpHeader;
+use rtp_media_stream_laws::{ReceiveError, Received};
 use std::alloc::AllocError;
 
 impl End {
@@ -33,53 +28,8 @@ impl End {
         ensures after { OnOk result (self.new ≡ after_datagram self.old datagram.now) }
         ensures unchanged { OnErr result (self.new ≡ self.old) }
     {
-        let header = RtpHeader::parse_without_values(datagram);
-        self.receive_under(header, datagram)
-    }
-
-    /// Takes a datagram in that reads as this header.
-    fn receive_under(
-        &mut self,
-        header: Option<RtpHeader>,
-        datagram: &[u8],
-    ) -> Result<Received, ReceiveError>
-        requires { ForSome header (λ h. h.header_len ≤ length datagram.now) }
-        ensures verdict { IfOk result (λ v. v ≡ verdict_for self.old
-            (arrival_by self.old.streams header datagram.now)) }
-        ensures after { OnOk result (self.new ≡ after_arrival self.old
-            (arrival_by self.old.streams header datagram.now)) }
-        ensures unchanged { OnErr result (self.new ≡ self.old) }
-    {
-        let Some(header) = header else {
-            return Ok(Received::Unreadable);
-        };
-        let found = stream_for(
-            &self.streams,
-            &self.receivers,
-            header.ssrc,
-            header.payload_type,
-        );
-        let Some(stream) = found else {
-            return Ok(Received::Foreign);
-        };
-        let OpenStream::Receiver(receiver) = &mut self.streams[stream] else {
-            unreachable!()
-        };
-        let Some(payload) = payload_of(receiver, &header, datagram) else {
-            return Ok(Received::Damaged);
-        };
-        let values = receiver.values_read(datagram);
-        let taken = receiver.receive(
-            header.sequence_number,
-            header.timestamp,
-            header.marker,
-            values,
-            payload,
-        )?;
-        match taken {
-            None => Ok(Received::Refused),
-            Some(number) => Ok(Received::Taken(stream, number)),
-        }
+        let streams = &mut self.streams;
+        streams.receive(datagram)
     }
 
     /// The next unit of a receiving stream, where one is ready: the lowest one, if it begins right
@@ -112,10 +62,8 @@ impl End {
         ensures fewer { IfOk result (λ unit. OnSome unit
             (length (receiver_at self.new stream).stream.held < length (receiver_at self.old stream).stream.held)) }
     {
-        match &mut self.streams[stream] {
-            OpenStream::Receiver(receiver) => receiver.poll(),
-            OpenStream::Sender(_) => unreachable!(),
-        }
+        let streams = &mut self.streams;
+        streams.poll(stream)
     }
 
     /// The lowest complete unit of a receiving stream, whether or not a datagram before it is missing: a poll that
@@ -150,10 +98,8 @@ impl End {
         ensures fewer { IfOk result (λ unit. OnSome unit
             (length (receiver_at self.new stream).stream.held < length (receiver_at self.old stream).stream.held)) }
     {
-        match &mut self.streams[stream] {
-            OpenStream::Receiver(receiver) => receiver.drain(),
-            OpenStream::Sender(_) => unreachable!(),
-        }
+        let streams = &mut self.streams;
+        streams.drain(stream)
     }
 
     /// Polls a receiving stream until no unit is ready or memory for one runs out, and answers what the polls
@@ -175,32 +121,7 @@ impl End {
         ensures others { self.new ≡ with_receiver self.old stream
             (with_stream (receiver_at self.old stream) (receiver_at self.new stream).stream) }
     {
-        match &mut self.streams[stream] {
-            OpenStream::Receiver(receiver) => receiver.poll_all(),
-            OpenStream::Sender(_) => unreachable!(),
-        }
+        let streams = &mut self.streams;
+        streams.poll_all(stream)
     }
-}
-
-/// The payload that a datagram brings a stream, if there is one and it has a byte.
-fn payload_of<'a>(
-    receiver: &ReceivingStream,
-    header: &RtpHeader,
-    datagram: &'a [u8],
-) -> Option<&'a [u8]>
-    requires { header.now.header_len ≤ length datagram.now }
-    ensures some { (stream : ℕ) (values : ExtensionValues)
-        → IfSome result (λ payload. own_of stream header.now values
-        (media_payload receiver.now.types header.now datagram.now)
-        ≡ Own stream header.now.sequence_number header.now.timestamp header.now.marker values payload.now) }
-    ensures byte { IfSome result (λ payload. 0 < length payload.now) }
-    ensures none { (stream : ℕ) (values : ExtensionValues)
-        → IfNone result (own_of stream header.now values (media_payload receiver.now.types header.now datagram.now)
-        ≡ NoPayload) }
-{
-    let payload = receiver.media_payload(header, datagram)?;
-    if payload.is_empty() {
-        return None;
-    }
-    Some(payload)
 }

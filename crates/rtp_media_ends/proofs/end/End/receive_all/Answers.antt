@@ -4,18 +4,17 @@ use Rattle.rtp_media_stream_laws.specs.declared.OpenStream.{OpenStream}
 use Rattle.rtp_media_stream_laws.specs.Ends.{EndState, receiver_at}
 use Rattle.rtp_media_stream_laws.specs.FullArrival.{after_datagrams, ArePolledOut}
 use Rattle.rtp_media_stream_laws.proofs.Exact.{exact}
-use Rattle.rtp_media_stream_laws.proofs.Indexing.{polled-out, polled-some}
 use Rattle.rtp_media_stream_laws.proofs.Isolation.{found-after}
 use Rattle.rtp_media_ends.proofs.Stopping.{out-of}
 use Rattle.rtp_media_ends.proofs.end.End.receive_all.Goals as goal
 
 pub returns-clause-exact : goal.returns-clause-exact
 returns-clause-exact c stream hold_back sender samples arrivals all =
-    let streams : c.self.inside.streams.items ≡ (after_datagrams c.args.self.now c.args.datagrams.now).streams =
+    let streams : c.self.inside.streams ≡ (after_datagrams c.args.self.now c.args.datagrams.now).streams =
     ap (λ (e : EndState). e.streams) (c.self.view_is ∙ c.in_ok-verdicts.ensures.after) in
     let polled : ArePolledOut (after_datagrams c.args.self.now c.args.datagrams.now).streams
-    c.in_ok-polls.polls.items c.poll_each.new.streams.items =
-    subst (λ (ss : List OpenStream). ArePolledOut ss c.in_ok-polls.polls.items c.poll_each.new.streams.items)
+    c.in_ok-polls.polls.items c.poll_out.new.self =
+    subst (λ (ss : List OpenStream). ArePolledOut ss c.in_ok-polls.polls.items c.poll_out.new.self)
     streams c.in_ok-polls.ensures.out in
     let r : Receiving = opened_receiver sender.ssrc sender.types sender.map sender.row hold_back in
     let same : receiver_at c.args.self.now stream ≡ with_stream r (receiver_at c.args.self.now stream).stream =
@@ -24,13 +23,3 @@ returns-clause-exact c stream hold_back sender samples arrivals all =
     exact c.codec_law.ensures.codec_in_forms c.args.self.now stream hold_back sender samples arrivals
     c.args.datagrams.now _ _ all
     (out-of _ _ _ there.1 (polled.each stream there.0))
-
-pub invariant_of-self : goal.invariant_of-self
-invariant_of-self c =
-    polled-some c.self.inside.senders c.self.inside.receivers c.self.inside.streams.items c.poll_each.new.streams.items
-    c.in_err-polls.ensures.some c.self.invariant
-
-pub invariant_of-self-2 : goal.invariant_of-self-2
-invariant_of-self-2 c =
-    polled-out c.self.inside.senders c.self.inside.receivers c.self.inside.streams.items c.poll_each.new.streams.items
-    c.in_ok-polls.polls.items c.in_ok-polls.ensures.out c.self.invariant
