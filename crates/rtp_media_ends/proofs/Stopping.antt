@@ -1,5 +1,5 @@
 -- Runs that stop for lack of memory.
-use Rattle.std.proofs.Common.{◌≡◌, ℕ, zero, suc, ◌+◌, ◌<◌, sym, ◌∙◌, ap, ap₂, arith, refl, true, false, List}
+use Rattle.std.proofs.Common.{◌≡◌, ℕ, zero, suc, ◌+◌, ◌<◌, sym, ◌∙◌, ap, ap₂, arith, refl, false, List}
 use Rattle.std.proofs.Common.{[], ◌∷◌, length, take, add-one, true≢false}
 use Rattle.std.specs.Prelude.{slice_index_or}
 use Rattle.rtp_media_payloads.specs.Polls.{Answers}
