@@ -6,4 +6,6 @@ pub use Rattle.rtp_media_stream_laws.proofs.MayOpen
 pub use Rattle.rtp_media_stream_laws.proofs.NewReceiver
 pub use Rattle.rtp_media_negotiation.proofs.OneAgreement
 pub use Rattle.rtp_media_stream_laws.proofs.Transparent
+pub use Rattle.rtp_media_openings.proofs.Opened
+pub use Rattle.rtp_media_openings.proofs.Refusals
 pub mod Stopping
