@@ -1,17 +1,17 @@
 -- Refusals of what a text says.
 use Rattle.std.proofs.Common.{◌≡◌, ◌≢◌, ℕ, List, None, inl, inr, ◌∙◌, ap}
 use Rattle.sdp_formats_types.specs.declared.media.MediaLine.{MediaLine}
-use Rattle.rtp_media_exchange_steps.specs.Exchanges.{Exchanged}
-use Rattle.rtp_media_exchange_steps.specs.Refusals.{CannotSay, IsReason, MayAccept, MayAnswer}
-use Rattle.rtp_media_exchange_steps.specs.Refusals.{RefusesAnswer}
-use Rattle.rtp_media_exchange_steps.specs.Refusals.{refusal_of_accept, refusal_of_answer}
-use Rattle.rtp_media_exchange_steps.specs.Says.{SaysOnly}
-use Rattle.rtp_media_exchange_steps.specs.declared.ExchangeError.{ExchangeError}
-use Rattle.rtp_media_exchange_steps.specs.declared.ExchangeError.TheVariants.{Unreadable, OutOfTurn, NotMedia}
-use Rattle.rtp_media_exchange_steps.specs.declared.ExchangeError.TheVariants.{NotCorresponding, Round}
-use Rattle.rtp_media_exchange_steps.specs.declared.ExchangeError.TheVariants.{NoCommonRow}
-use Rattle.rtp_media_exchange_steps.specs.declared.ExchangeError.TheVariants.{NotWritable, Memory}
-use Rattle.rtp_media_exchange_steps.specs.Sections.{Wanted}
+use Rattle.rtp_media_exchange_turns.specs.Exchanges.{Exchanged}
+use Rattle.rtp_media_exchange_turns.specs.Refusals.{CannotSay, IsReason, MayAccept, MayAnswer}
+use Rattle.rtp_media_exchange_turns.specs.Refusals.{RefusesAnswer}
+use Rattle.rtp_media_exchange_turns.specs.Refusals.{refusal_of_accept, refusal_of_answer}
+use Rattle.rtp_media_exchange_turns.specs.Says.{SaysOnly}
+use Rattle.rtp_media_exchange_turns.specs.declared.ExchangeError.{ExchangeError}
+use Rattle.rtp_media_exchange_turns.specs.declared.ExchangeError.TheVariants.{Unreadable, OutOfTurn, NotMedia}
+use Rattle.rtp_media_exchange_turns.specs.declared.ExchangeError.TheVariants.{NotCorresponding, Round}
+use Rattle.rtp_media_exchange_turns.specs.declared.ExchangeError.TheVariants.{NoCommonRow}
+use Rattle.rtp_media_exchange_turns.specs.declared.ExchangeError.TheVariants.{NotWritable, Memory}
+use Rattle.rtp_media_exchange_turns.specs.Sections.{Wanted}
 
 -- an answer that can't be written
 pub cannot_answer : (x : Exchanged) (text : List ℕ) (wanted : List Wanted) (lines : List MediaLine) (e : ExchangeError)

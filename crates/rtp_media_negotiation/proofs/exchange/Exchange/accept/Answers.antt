@@ -1,10 +1,11 @@
 use Rattle.std.proofs.Common.{◌≡◌, None, arith}
 use Rattle.std.proofs.lemmas.Grind.{common_steps}
-use Rattle.rtp_media_exchange_steps.specs.Refusals.{refusal_of_accept}
+use Rattle.rtp_media_exchange_turns.specs.Refusals.{refusal_of_accept}
 use Rattle.rtp_media_negotiation.proofs.Refusing.{may_accept}
 use Rattle.rtp_media_negotiation.proofs.exchange.Exchange.accept.Goals as goal
 
 pub returns-clause-accepted : goal.returns-clause-accepted
+unfolding refusal_of_accept
 returns-clause-accepted c =
     let none : refusal_of_accept c.args.self.now c.in_ok-answer.answer.items ≡ None = grind (arith, common_steps) in
     may_accept c.args.self.now c.args.text.now c.in_ok-answer.answer.items c.in_ok-answer.ensures.says none
@@ -36,6 +37,10 @@ returns-in_default-clause-accepted c = grind (arith, common_steps)
 pub returns-in_default-clause-unchanged : goal.returns-in_default-clause-unchanged
 returns-in_default-clause-unchanged c = grind (arith, common_steps)
 
+pub returns-in_default-clause-refused : goal.returns-in_default-clause-refused
+unfolding refusal_of_accept
+returns-in_default-clause-refused c = grind (arith, common_steps)
+
 pub returns-in_err-config-clause-after : goal.returns-in_err-config-clause-after
 returns-in_err-config-clause-after c = grind (arith, common_steps)
 
@@ -46,6 +51,7 @@ pub returns-in_err-config-clause-accepted : goal.returns-in_err-config-clause-ac
 returns-in_err-config-clause-accepted c = grind (arith, common_steps)
 
 pub returns-in_err-config-clause-refused : goal.returns-in_err-config-clause-refused
+unfolding refusal_of_accept
 returns-in_err-config-clause-refused c = grind (arith, common_steps)
 
 pub returns-in_err-config-clause-unchanged : goal.returns-in_err-config-clause-unchanged

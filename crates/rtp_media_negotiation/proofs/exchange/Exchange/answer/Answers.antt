@@ -2,21 +2,22 @@ use Rattle.std.proofs.Common.{◌≡◌, ◌∙◌, ℕ, List, None, Ok, map, ap
 use Rattle.std.proofs.lemmas.Grind.{common_steps}
 use Rattle.std.specs.Prelude.{IsTrue, string_bytes}
 use Rattle.rtp_wire.specs.Values.{Numbering}
-use Rattle.rtp_media_exchange_steps.specs.Laws.{rounds}
-use Rattle.rtp_media_exchange_steps.specs.Rows.{Row}
+use Rattle.rtp_media_exchange_turns.specs.Laws.{rounds}
+use Rattle.rtp_media_exchange_turns.specs.Rows.{Row}
 use Rattle.sdp_formats_sessions.specs.PrintedSession.{sdp_text}
 use Rattle.sdp_formats_types.specs.declared.media.MediaLine.{MediaLine}
 use Rattle.sdp_formats_sessions.specs.declared.session.Session.{Session}
-use Rattle.rtp_media_exchange_steps.specs.Lines.{remote_of, shape_of_line}
-use Rattle.rtp_media_exchange_steps.specs.Sections.{Wanted, correspond, shape_of}
-use Rattle.rtp_media_exchange_steps.specs.Exchanges.{Exchanged}
-use Rattle.rtp_media_exchange_steps.specs.Offers.{answer_of}
-use Rattle.rtp_media_exchange_steps.specs.Refusals.{IsUnwritable, refusal_of_answer}
-use Rattle.rtp_media_exchange_steps.specs.Says.{SaysOnly}
+use Rattle.rtp_media_exchange_turns.specs.Lines.{remote_of, shape_of_line}
+use Rattle.rtp_media_exchange_turns.specs.Sections.{Wanted, correspond, shape_of}
+use Rattle.rtp_media_exchange_turns.specs.Exchanges.{Exchanged}
+use Rattle.rtp_media_exchange_turns.specs.Offers.{answer_of}
+use Rattle.rtp_media_exchange_turns.specs.Refusals.{IsUnwritable, refusal_of_answer}
+use Rattle.rtp_media_exchange_turns.specs.Says.{SaysOnly}
 use Rattle.rtp_media_negotiation.proofs.Refusing.{cannot_answer, may_answer}
 use Rattle.rtp_media_negotiation.proofs.exchange.Exchange.answer.Goals as goal
 
 pub returns-clause-accepted : goal.returns-clause-accepted
+unfolding refusal_of_answer
 returns-clause-accepted c =
     let none : refusal_of_answer c.args.self.now c.in_ok-offer.offer.items c.args.sections.items ≡ None =
     grind (arith, common_steps) in
@@ -24,7 +25,7 @@ returns-clause-accepted c =
     c.in_ok-offer.ensures.says none
 
 pub returns-in-Err-clause-refused : goal.returns-in-Err-clause-refused
-unfolding answer_of
+unfolding answer_of refusal_of_answer
 returns-in-Err-clause-refused c =
     let none : refusal_of_answer c.args.self.now c.in_ok-offer.offer.items c.args.sections.items ≡ None =
     grind (arith, common_steps) in
@@ -32,7 +33,7 @@ returns-in-Err-clause-refused c =
     ≡ Ok c.in_ok-config.config.rows = grind (arith, common_steps) in
     let text_is : c.as_str.result.now ≡ sdp_text (answer_of c.args.self.now c.in_ok-config.config.rows
     c.args.sections.items c.in_ok-offer.offer.items) = grind (arith, common_steps) in
-    let sections : c.as_slice-5.result.now ≡ c.args.sections.items = grind (arith, common_steps) in
+    let sections : c.as_slice-6.result.now ≡ c.args.sections.items = grind (arith, common_steps) in
     cannot_answer c.args.self.now c.args.text.now c.args.sections.items c.in_ok-offer.offer.items c.in-Err.fault
     c.in_ok-offer.ensures.says none
     (λ other. (
@@ -62,13 +63,13 @@ returns-clause-text c =
     ≡ Ok c.in_ok-config.config.rows = grind (arith, common_steps) in
     let session_is : c.self.inside.session ≡ c.args.self.now.session = grind (arith, common_steps) in
     let exts_are : c.self.inside.exts ≡ c.args.self.now.wanted = grind (arith, common_steps) in
-    let wanted_are : c.as_slice-3.result.now ≡ c.args.sections.items = grind (arith, common_steps) in
-    let offer_is : c.as_slice-4.result.now ≡ c.in_ok-offer.offer.items = grind (arith, common_steps) in
+    let wanted_are : c.as_slice-4.result.now ≡ c.args.sections.items = grind (arith, common_steps) in
+    let offer_is : c.as_slice-5.result.now ≡ c.in_ok-offer.offer.items = grind (arith, common_steps) in
     let text_is : string_bytes c.in_ok-answer.answer ≡ sdp_text (answer_of c.args.self.now c.in_ok-config.config.rows
     c.args.sections.items c.in_ok-offer.offer.items) = c.in_ok-answer.ensures
     ∙ same_answer c.args.self.now c.in_ok-config.config.rows _ _ _ _ _ _ _ _ session_is exts_are wanted_are
     offer_is in
-    let sections : c.as_slice-5.result.now ≡ c.args.sections.items = grind (arith, common_steps) in
+    let sections : c.as_slice-6.result.now ≡ c.args.sections.items = grind (arith, common_steps) in
     record {
       offer = c.in_ok-offer.offer.items;
       offer_is = c.in_ok-offer.ensures.says;
@@ -107,6 +108,7 @@ pub returns-in_err-config-clause-accepted : goal.returns-in_err-config-clause-ac
 returns-in_err-config-clause-accepted c = grind (arith, common_steps)
 
 pub returns-in_err-config-clause-refused : goal.returns-in_err-config-clause-refused
+unfolding refusal_of_answer
 returns-in_err-config-clause-refused c = grind (arith, common_steps)
 
 pub returns-in_err-config-clause-unchanged : goal.returns-in_err-config-clause-unchanged

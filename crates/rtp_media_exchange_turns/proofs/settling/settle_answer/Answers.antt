@@ -1,21 +1,21 @@
 use Rattle.std.proofs.Common.{arith}
 use Rattle.std.proofs.lemmas.Grind.{common_steps}
-use Rattle.rtp_media_negotiation.proofs.exchange.Exchange.settle_answer.Goals as goal
+use Rattle.rtp_media_exchange_turns.proofs.settling.settle_answer.Goals as goal
 
-pub returns-then-is_some-clause-rows : goal.returns-then-is_some-clause-rows
-returns-then-is_some-clause-rows c = grind (arith, common_steps)
+pub returns-then-is_pending-clause-rows : goal.returns-then-is_pending-clause-rows
+returns-then-is_pending-clause-rows c = grind (arith, common_steps)
 
-pub returns-then-is_some-clause-distances : goal.returns-then-is_some-clause-distances
-returns-then-is_some-clause-distances c = grind (arith, common_steps)
+pub returns-then-is_pending-clause-distances : goal.returns-then-is_pending-clause-distances
+returns-then-is_pending-clause-distances c = grind (arith, common_steps)
 
-pub returns-then-is_some-clause-length : goal.returns-then-is_some-clause-length
-returns-then-is_some-clause-length c = grind (arith, common_steps)
+pub returns-then-is_pending-clause-length : goal.returns-then-is_pending-clause-length
+returns-then-is_pending-clause-length c = grind (arith, common_steps)
 
-pub returns-then-is_some-clause-free : goal.returns-then-is_some-clause-free
-returns-then-is_some-clause-free c = grind (arith, common_steps)
+pub returns-then-is_pending-clause-free : goal.returns-then-is_pending-clause-free
+returns-then-is_pending-clause-free c = grind (arith, common_steps)
 
-pub returns-then-is_some-clause-accepted : goal.returns-then-is_some-clause-accepted
-returns-then-is_some-clause-accepted c = grind (arith, common_steps)
+pub returns-then-is_pending-clause-accepted : goal.returns-then-is_pending-clause-accepted
+returns-then-is_pending-clause-accepted c = grind (arith, common_steps)
 
 pub returns-in_err-config-clause-rows : goal.returns-in_err-config-clause-rows
 returns-in_err-config-clause-rows c = grind (arith, common_steps)

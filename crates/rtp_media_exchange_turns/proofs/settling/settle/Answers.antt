@@ -1,6 +1,6 @@
 use Rattle.std.proofs.Common.{arith}
 use Rattle.std.proofs.lemmas.Grind.{common_steps}
-use Rattle.rtp_media_negotiation.proofs.exchange.Exchange.settle.Goals as goal
+use Rattle.rtp_media_exchange_turns.proofs.settling.settle.Goals as goal
 
 pub returns-in_err-check_media-clause-rows : goal.returns-in_err-check_media-clause-rows
 returns-in_err-check_media-clause-rows c = grind (arith, common_steps)
