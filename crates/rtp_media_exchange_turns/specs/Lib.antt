@@ -9,3 +9,4 @@ pub use Rattle.rtp_media_exchange_steps.specs.Rows
 pub use Rattle.rtp_media_exchange_steps.specs.Says
 pub use Rattle.rtp_media_exchange_steps.specs.Sections
 pub use Rattle.rtp_media_exchange_steps.specs.Writable
+pub mod Answering

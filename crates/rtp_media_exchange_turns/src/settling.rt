@@ -69,14 +69,9 @@ pub fn settle_answer(
     Ok(config)
 }
 
-/// The config with which the answer to an offer of these sections is accepted by an end with this config behind the
-/// sections that it agreed on last: after a round with each section of the answer.
-///
-/// # Errors
-///
-/// The first that holds of `NotMedia`, `NotCorresponding`, `Round` and `NoCommonRow`; or `Memory`.
+/// The config with which an answer is accepted.
 #[tactic(auto, unfolding(rtp_media_exchange_steps::specs::Refusals::refusal_of_accepted))]
-pub fn settle_accept(
+pub(crate) fn settle_accept(
     alloc: Global,
     config: &CodecConfig,
     agreed: &[AgreedSection],

@@ -11,8 +11,8 @@ mod answer;
 mod offer;
 
 use rtp_media_exchange_turns::{
-    AgreedSection, CodecConfig, EndError, ExchangeError, PayloadParams, SectionSpec, check_rows,
-    check_types, fixed_config, is_writable, is_writable_session, own_row_agrees, section_named,
+    AgreedSection, CodecConfig, EndError, ExchangeError, PayloadParams, SectionSpec, check_new,
+    fixed_config, own_row_agrees, section_named,
 };
 use rtp_wire::{ExtensionMap, Mid, SessionId};
 use sdp_formats_sessions::Session;
@@ -92,11 +92,7 @@ impl Exchange {
         ensures writable { OnOk result (IsWritableSession session) }
         ensures refused { IfErr result (λ e. e ≢ EndError.Memory → RefusesNew config.rows session exts e) }
     {
-        check_rows(alloc, config.params())?;
-        check_types(alloc, config.params())?;
-        if !is_writable(&exts) || !is_writable_session(alloc, &session)? {
-            return Err(EndError::NotWritable);
-        }
+        check_new(alloc, config.params(), &session, &exts)?;
         Ok(Exchange {
             alloc,
             session,

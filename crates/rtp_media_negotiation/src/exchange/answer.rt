@@ -6,11 +6,8 @@ ghost use Rattle.rtp_media_exchange_turns.specs.Refusals.{MayAccept, MayAnswer, 
 ghost use Rattle.rtp_media_exchange_turns.specs.Says.{AgreesOnText};
 
 use super::Exchange;
-use rtp_media_exchange_turns::read::{read, said_again};
-use rtp_media_exchange_turns::{
-    ExchangeError, SectionSpec, accepted_agreement, answer_text, answered_agreement, settle_accept,
-    settle_answer,
-};
+use rtp_media_exchange_turns::read::read;
+use rtp_media_exchange_turns::{ExchangeError, SectionSpec, accepted, answered, settle_answer};
 
 impl Exchange {
     /// The text of the answer to an offer, of these sections; it is then agreed. A round runs with each offered
@@ -20,7 +17,6 @@ impl Exchange {
     ///
     /// The first that holds of `Unreadable`, `OutOfTurn`, `NotMedia`, `NotCorresponding`, `Round`, `NoCommonRow` and
     /// `NotWritable`; or `Memory`. Nothing has then changed.
-    #[tactic(auto, unfolding(rtp_media_exchange_texts::specs::Offers::answer_of))]
     pub fn answer(
         &mut self,
         text: &str,
@@ -41,24 +37,17 @@ impl Exchange {
             offer.as_slice(),
             sections.as_slice(),
         )?;
-        let answer = answer_text(
+        let (answer, agreed) = match answered(
             self.alloc,
             &self.session,
             &self.exts,
             &config,
             sections.as_slice(),
             offer.as_slice(),
-        )?;
-        let said = match said_again(self.alloc, answer.as_str(), sections.as_slice()) {
-            Ok(said) => said,
+        ) {
+            Ok(answered) => answered,
             Err(fault) => return Err(fault),
         };
-        let agreed = answered_agreement(
-            self.alloc,
-            sections.as_slice(),
-            offer.as_slice(),
-            said.as_slice(),
-        )?;
         self.config = config;
         self.agreed = agreed;
         Ok(answer)
@@ -84,14 +73,13 @@ impl Exchange {
             return Err(ExchangeError::OutOfTurn);
         };
         let sections = pending.sections.as_slice();
-        let config = settle_accept(
+        let (config, agreed) = accepted(
             self.alloc,
             &self.config,
             self.agreed.as_slice(),
             answer.as_slice(),
             sections,
         )?;
-        let agreed = accepted_agreement(self.alloc, sections, answer.as_slice())?;
         self.config = config;
         self.agreed = agreed;
         self.pending = None;
