@@ -12,7 +12,6 @@ pub use rtp_media_exchange_errors::{EndError, ExchangeError};
 pub use rtp_media_exchange_texts::{
     AgreedSection, Codec, CodecConfig, CodecSpec, FormatParams, PayloadParams, RoundError,
     SdpError, SectionSpec, accepted_agreement, agreed_shapes, answer_text, answered_agreement,
-    corresponds, fixed_config, flow, may_follow, offer_text,
-    own_row_agrees, wanted_shapes,
+    corresponds, fixed_config, flow, may_follow, offer_text, own_row_agrees, wanted_shapes,
 };
 pub use settle::{check_accepted, check_answered, check_media, settled};
