@@ -23,7 +23,7 @@ use Rattle.rtp_media_exchange_errors.specs.declared.errors.EndError.{EndError}
 use Rattle.rtp_media_exchange_errors.specs.declared.errors.EndError.TheVariants as fault
 use Rattle.rtp_media_exchange_errors.specs.declared.errors.ExchangeError.{ExchangeError}
 use Rattle.rtp_media_exchange_errors.specs.declared.errors.ExchangeError.TheVariants as error
-use Rattle.rtp_media_exchange_texts.specs.Agreement.{shape_of_agreed}
+use Rattle.rtp_media_exchange_texts.specs.Agreement.{Agreed, shape_of_agreed}
 use Rattle.rtp_media_exchange_texts.specs.Answered.{answered_rows}
 use Rattle.rtp_media_exchange_texts.specs.Extensions.{is_writable_map}
 use Rattle.rtp_media_exchange_texts.specs.Lines.{is_media_line, mid_of, remote_of, shape_of_line, types_listed}
@@ -75,16 +75,23 @@ abbrev pub is_nameless : Wanted → Bool
 is_nameless w = length w.mid == 0
 
 -- Sections may follow those that were agreed.
-abbrev pub follows_agreed : Exchanged → List Wanted → Bool
-follows_agreed x wanted = may_follow (map shape_of_agreed x.agreed) (map shape_of wanted)
+abbrev pub follows_agreed : List Agreed → List Wanted → Bool
+follows_agreed agreed wanted = may_follow (map shape_of_agreed agreed) (map shape_of wanted)
+
+-- While an offer is pending everything is refused; else what is refused next.
+abbrev pub in_turn : Bool → Option ExchangeError → Option ExchangeError
+in_turn is_pending next = if is_pending then Some error.OutOfTurn else next
+
+-- Why sections aren't offered, by rows and by those that were agreed.
+unfoldable pub refusal_of_wanted : List Row → List Agreed → List Wanted → Option ExchangeError
+refusal_of_wanted rows agreed wanted =
+    if not (follows_agreed agreed wanted) then Some error.NotCorresponding
+    else else_refused (no_row_of (find (lists_none rows) wanted))
+    (if list_any is_nameless wanted then Some error.NotWritable else None)
 
 -- Why `offer` is refused.
 unfoldable pub refusal_of_offer : Exchanged → List Wanted → Option ExchangeError
-refusal_of_offer x wanted =
-    if is_some x.pending then Some error.OutOfTurn
-    else if not (follows_agreed x wanted) then Some error.NotCorresponding
-    else else_refused (no_row_of (find (lists_none x.config.rows) wanted))
-    (if list_any is_nameless wanted then Some error.NotWritable else None)
+refusal_of_offer x wanted = in_turn (is_some x.pending) (refusal_of_wanted x.config.rows x.agreed wanted)
 
 -- The first section of a text that is no media, or for which a list of rows has none.
 abbrev pub not_media_of : Option MediaLine → Option ExchangeError
@@ -100,13 +107,13 @@ abbrev pub round_refusal : Result (List Row) RoundError → Option ExchangeError
 round_refusal (Ok rows) = None
 round_refusal (Err e) = Some (error.Round e)
 
--- Why the sections of a text can't be exchanged for wanted ones: one is no media, they don't correspond, or a round is
--- refused.
-unfoldable pub refusal_of_sections : Exchanged → List MediaLine → List Wanted → Option ExchangeError
-refusal_of_sections x lines wanted =
+-- Why the sections of a text can't be exchanged for wanted ones, by rows and by those that were agreed: one is no media,
+-- they don't correspond, or a round is refused.
+unfoldable pub refusal_of_sections : List Row → List Agreed → List MediaLine → List Wanted → Option ExchangeError
+refusal_of_sections rows agreed lines wanted =
     else_refused (not_media_of (find (λ m. not (is_media_line m)) lines))
-    (if correspond (map shape_of_line lines) (map shape_of wanted) && follows_agreed x wanted
-    then round_refusal (rounds (map remote_of lines) x.config.rows) else Some error.NotCorresponding)
+    (if correspond (map shape_of_line lines) (map shape_of wanted) && follows_agreed agreed wanted
+    then round_refusal (rounds (map remote_of lines) rows) else Some error.NotCorresponding)
 
 -- A section of an offer to which an answer would list no row.
 unfoldable pub answers_none : List Row → MediaLine → Bool
@@ -130,18 +137,25 @@ abbrev pub after_rounds : Result (List Row) RoundError → (List Row → Option 
 after_rounds (Ok rows) next = next rows
 after_rounds (Err e) next = None
 
+-- Why the offered sections of a text aren't answered by wanted ones, by rows and by those that were agreed.
+unfoldable pub refusal_of_answered : List Row → List Agreed → List MediaLine → List Wanted → Option ExchangeError
+refusal_of_answered rows agreed lines wanted = else_refused (refusal_of_sections rows agreed lines wanted)
+    (after_rounds (rounds (map remote_of lines) rows) (λ after. no_answer after lines))
+
 -- Why `answer` is refused, of the sections that the text says, but for a text that can't be written.
 unfoldable pub refusal_of_answer : Exchanged → List MediaLine → List Wanted → Option ExchangeError
 refusal_of_answer x lines wanted =
-    if is_some x.pending then Some error.OutOfTurn
-    else else_refused (refusal_of_sections x lines wanted)
-    (after_rounds (rounds (map remote_of lines) x.config.rows) (λ rows. no_answer rows lines))
+    in_turn (is_some x.pending) (refusal_of_answered x.config.rows x.agreed lines wanted)
+
+-- Why the sections of a text aren't accepted as an answer to wanted ones, by rows and by those that were agreed.
+unfoldable pub refusal_of_accepted : List Row → List Agreed → List MediaLine → List Wanted → Option ExchangeError
+refusal_of_accepted rows agreed lines wanted = else_refused (refusal_of_sections rows agreed lines wanted)
+    (after_rounds (rounds (map remote_of lines) rows) (λ after. no_acceptance after lines))
 
 -- Why `accept` is refused, of the sections that the text says.
 abbrev pub refusal_by_offer : Exchanged → List MediaLine → Option (List Wanted) → Option ExchangeError
 refusal_by_offer x lines None = Some error.OutOfTurn
-refusal_by_offer x lines (Some wanted) = else_refused (refusal_of_sections x lines wanted)
-    (after_rounds (rounds (map remote_of lines) x.config.rows) (λ rows. no_acceptance rows lines))
+refusal_by_offer x lines (Some wanted) = refusal_of_accepted x.config.rows x.agreed lines wanted
 
 unfoldable pub refusal_of_accept : Exchanged → List MediaLine → Option ExchangeError
 refusal_of_accept x lines = refusal_by_offer x lines x.pending

@@ -1,19 +1,18 @@
-//! The rows and the map of extensions that an end can be made of.
+//! The rows, the session and the map of extensions that an end can be made of.
 
 ghost use Rattle.std.specs.Prelude.{◌≡◌, ◌≢◌, None, Some, [], OnOk, IfErr};
-ghost use Rattle.rtp_media_exchange_steps.specs.Refusals.{first_repeated, is_among, row_refusal, types_refusal};
+ghost use Rattle.rtp_media_exchange_steps.specs.Refusals.{RefusesNew, first_repeated, is_among, refusal_of_new};
+ghost use Rattle.rtp_media_exchange_steps.specs.Refusals.{row_refusal, types_refusal};
+ghost use Rattle.rtp_media_exchange_texts.specs.Writable.{IsWritableSession};
 
 use rtp_media_exchange_errors::EndError;
-use rtp_media_exchange_texts::{PayloadParams, types_listed};
-use rtp_wire::Pt;
+use rtp_media_exchange_texts::{PayloadParams, is_writable, is_writable_session, types_listed};
+use rtp_wire::{ExtensionMap, Pt};
+use sdp_formats_sessions::Session;
 use std::alloc::Global;
 
 /// That each row is plain.
-///
-/// # Errors
-///
-/// `RowNotPlain` with the place of the first that isn't; or `Memory`.
-pub fn check_rows(alloc: Global, rows: &[PayloadParams]) -> Result<(), EndError>
+fn check_rows(alloc: Global, rows: &[PayloadParams]) -> Result<(), EndError>
     ensures ok { OnOk result (row_refusal 0 rows.now ≡ None) }
     ensures refused { IfErr result (λ e. e ≢ EndError.Memory → row_refusal 0 rows.now ≡ Some e) }
 {
@@ -43,11 +42,7 @@ fn first_repeated(types: &[Pt]) -> Option<Pt>
 }
 
 /// That each payload type stands for one thing.
-///
-/// # Errors
-///
-/// `TypesNotDistinct` with the first type that stands there twice; or `Memory`.
-pub fn check_types(alloc: Global, rows: &[PayloadParams]) -> Result<(), EndError>
+fn check_types(alloc: Global, rows: &[PayloadParams]) -> Result<(), EndError>
     ensures ok { OnOk result (types_refusal rows.now ≡ None) }
     ensures refused { IfErr result (λ e. e ≢ EndError.Memory → types_refusal rows.now ≡ Some e) }
 {
@@ -56,4 +51,28 @@ pub fn check_types(alloc: Global, rows: &[PayloadParams]) -> Result<(), EndError
         Some(pt) => Err(EndError::TypesNotDistinct(pt)),
         None => Ok(()),
     }
+}
+
+/// That an end can be made of these rows, this session and this map of extensions.
+///
+/// # Errors
+///
+/// The first that holds of `RowNotPlain`, with the place of the first row that isn't plain, `TypesNotDistinct`, with the
+/// first type that stands there twice, and `NotWritable`; or `Memory`.
+pub fn check_new(
+    alloc: Global,
+    rows: &[PayloadParams],
+    session: &Session,
+    exts: &ExtensionMap,
+) -> Result<(), EndError>
+    ensures accepted { OnOk result (refusal_of_new rows.now exts.now ≡ None) }
+    ensures writable { OnOk result (IsWritableSession session.now) }
+    ensures refused { IfErr result (λ e. e ≢ EndError.Memory → RefusesNew rows.now session.now exts.now e) }
+{
+    check_rows(alloc, rows)?;
+    check_types(alloc, rows)?;
+    if !is_writable(exts) || !is_writable_session(alloc, session)? {
+        return Err(EndError::NotWritable);
+    }
+    Ok(())
 }

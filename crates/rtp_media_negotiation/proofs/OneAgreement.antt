@@ -1,8 +1,8 @@
 -- Two ends that agreed on one text have agreed on the same rows and maps.
 use Rattle.std.proofs.Common.{◌≡◌, ℕ, List, sym, ◌∙◌, ap}
 use Rattle.sdp_formats_types.specs.declared.media.MediaLine.{MediaLine}
-use Rattle.rtp_media_exchange_steps.specs.Says.{AgreesOnText}
-use Rattle.rtp_media_exchange_steps.specs.Agreement.{Agreed, agreed_map_of, agreed_row_of, map_of_text, row_of_text}
+use Rattle.rtp_media_exchange_turns.specs.Says.{AgreesOnText}
+use Rattle.rtp_media_exchange_turns.specs.Agreement.{Agreed, agreed_map_of, agreed_row_of, map_of_text, row_of_text}
 
 pub same_rows : (text : List ℕ) (a b : List Agreed) → AgreesOnText text a → AgreesOnText text b
     → (mid : List ℕ) (pt : ℕ) → agreed_row_of a mid pt ≡ agreed_row_of b mid pt

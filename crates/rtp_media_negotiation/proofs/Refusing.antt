@@ -1,17 +1,22 @@
 -- Refusals of what a text says.
-use Rattle.std.proofs.Common.{◌≡◌, ◌≢◌, ℕ, List, None, inl, inr, ◌∙◌, ap}
+use Rattle.std.proofs.Common.{◌≡◌, ◌≢◌, ℕ, List, None, Ok, inl, inr, ◌∙◌, ap, map, subst}
+use Rattle.sdp_formats_sessions.specs.PrintedSession.{sdp_text}
 use Rattle.sdp_formats_types.specs.declared.media.MediaLine.{MediaLine}
-use Rattle.rtp_media_exchange_steps.specs.Exchanges.{Exchanged}
-use Rattle.rtp_media_exchange_steps.specs.Refusals.{CannotSay, IsReason, MayAccept, MayAnswer}
-use Rattle.rtp_media_exchange_steps.specs.Refusals.{RefusesAnswer}
-use Rattle.rtp_media_exchange_steps.specs.Refusals.{refusal_of_accept, refusal_of_answer}
-use Rattle.rtp_media_exchange_steps.specs.Says.{SaysOnly}
-use Rattle.rtp_media_exchange_steps.specs.declared.ExchangeError.{ExchangeError}
-use Rattle.rtp_media_exchange_steps.specs.declared.ExchangeError.TheVariants.{Unreadable, OutOfTurn, NotMedia}
-use Rattle.rtp_media_exchange_steps.specs.declared.ExchangeError.TheVariants.{NotCorresponding, Round}
-use Rattle.rtp_media_exchange_steps.specs.declared.ExchangeError.TheVariants.{NoCommonRow}
-use Rattle.rtp_media_exchange_steps.specs.declared.ExchangeError.TheVariants.{NotWritable, Memory}
-use Rattle.rtp_media_exchange_steps.specs.Sections.{Wanted}
+use Rattle.rtp_media_exchange_turns.specs.Exchanges.{Exchanged}
+use Rattle.rtp_media_exchange_turns.specs.Laws.{rounds}
+use Rattle.rtp_media_exchange_turns.specs.Lines.{remote_of}
+use Rattle.rtp_media_exchange_turns.specs.Offers.{answer_of}
+use Rattle.rtp_media_exchange_turns.specs.Refusals.{CannotSay, IsReason, IsUnwritable, MayAccept, MayAnswer}
+use Rattle.rtp_media_exchange_turns.specs.Refusals.{RefusesAnswer}
+use Rattle.rtp_media_exchange_turns.specs.Refusals.{refusal_of_accept, refusal_of_answer}
+use Rattle.rtp_media_exchange_turns.specs.Rows.{Row}
+use Rattle.rtp_media_exchange_turns.specs.Says.{SaysOnly}
+use Rattle.rtp_media_exchange_turns.specs.declared.ExchangeError.{ExchangeError}
+use Rattle.rtp_media_exchange_turns.specs.declared.ExchangeError.TheVariants.{Unreadable, OutOfTurn, NotMedia}
+use Rattle.rtp_media_exchange_turns.specs.declared.ExchangeError.TheVariants.{NotCorresponding, Round}
+use Rattle.rtp_media_exchange_turns.specs.declared.ExchangeError.TheVariants.{NoCommonRow}
+use Rattle.rtp_media_exchange_turns.specs.declared.ExchangeError.TheVariants.{NotWritable, Memory}
+use Rattle.rtp_media_exchange_turns.specs.Sections.{Wanted}
 
 -- an answer that can't be written
 pub cannot_answer : (x : Exchanged) (text : List ℕ) (wanted : List Wanted) (lines : List MediaLine) (e : ExchangeError)
@@ -31,6 +36,16 @@ cannot_answer x text wanted lines e says none h = go e h where
   go (NoCommonRow mid) h = inr (why ((h (λ eq. cc eq)).0) ((h (λ eq. cc eq)).1))
   go NotWritable h = inr (why ((h (λ eq. cc eq)).0) ((h (λ eq. cc eq)).1))
   go Memory h = inl tt
+
+-- the text of an answer that doesn't say it
+pub cannot_say : (x : Exchanged) (lines : List MediaLine) (wanted other : List Wanted) (rows : List Row) (text : List ℕ)
+    → rounds (map remote_of lines) x.config.rows ≡ Ok rows → text ≡ sdp_text (answer_of x rows wanted lines)
+    → other ≡ wanted → IsUnwritable text other → CannotSay x lines wanted
+cannot_say x lines wanted other rows text rounds_are text_is same unwritable = record {
+  rows = rows;
+  rounds_are = rounds_are;
+  unwritable = subst (λ said. IsUnwritable said wanted) text_is (subst (IsUnwritable text) same unwritable);
+}
 
 pub may_answer : (x : Exchanged) (text : List ℕ) (wanted : List Wanted) (lines : List MediaLine)
     → SaysOnly text lines → refusal_of_answer x lines wanted ≡ None → MayAnswer x text wanted

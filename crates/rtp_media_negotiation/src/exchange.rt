@@ -2,17 +2,17 @@
 
 ghost use Rattle.std.specs.Prelude.{◌≡◌, ◌≢◌, None, is_some, IfOk, IfErr, OnOk};
 ghost use Rattle.std.specs.Option.{option_copied};
-ghost use Rattle.rtp_media_exchange_steps.specs.Exchanges.{fixed, fresh, with_offer};
-ghost use Rattle.rtp_media_exchange_steps.specs.Refusals.{RefusesNew, refusal_of_new};
-ghost use Rattle.rtp_media_exchange_steps.specs.Agreement.{own_row_agrees, section_of};
-ghost use Rattle.rtp_media_exchange_steps.specs.Writable.{IsWritableSession};
+ghost use Rattle.rtp_media_exchange_turns.specs.Exchanges.{fixed, fresh, with_offer};
+ghost use Rattle.rtp_media_exchange_turns.specs.Refusals.{RefusesNew, refusal_of_new};
+ghost use Rattle.rtp_media_exchange_turns.specs.Agreement.{own_row_agrees, section_of};
+ghost use Rattle.rtp_media_exchange_turns.specs.Writable.{IsWritableSession};
 
 mod answer;
 mod offer;
 
-use rtp_media_exchange_steps::{
-    AgreedSection, CodecConfig, EndError, ExchangeError, PayloadParams, SectionSpec, check_rows,
-    check_types, fixed_config, is_writable, is_writable_session, own_row_agrees,
+use rtp_media_exchange_turns::{
+    AgreedSection, CodecConfig, EndError, ExchangeError, PayloadParams, SectionSpec, check_new,
+    fixed_config, own_row_agrees, section_named,
 };
 use rtp_wire::{ExtensionMap, Mid, SessionId};
 use sdp_formats_sessions::Session;
@@ -53,7 +53,7 @@ pub(crate) struct Pending {
 
 impl Model for Pending {
     ghost use Rattle.std.specs.Prelude.{List};
-    ghost use Rattle.rtp_media_exchange_steps.specs.Sections.{Wanted};
+    ghost use Rattle.rtp_media_exchange_turns.specs.Sections.{Wanted};
 
     ghost Value = { List Wanted };
 
@@ -61,7 +61,7 @@ impl Model for Pending {
 }
 
 impl Model for Exchange {
-    ghost use Rattle.rtp_media_exchange_steps.specs.Exchanges.{Exchanged};
+    ghost use Rattle.rtp_media_exchange_turns.specs.Exchanges.{Exchanged};
 
     ghost Value = { Exchanged };
 
@@ -72,17 +72,6 @@ impl Model for Exchange {
       pending = x.pending;
       agreed = x.agreed.items;
     } };
-}
-
-fn section_named(sections: &[AgreedSection], mid: Mid) -> Option<&AgreedSection>
-    ensures { option_copied result ≡ section_of sections.now mid }
-{
-    for section in sections {
-        if section.is_named(mid) {
-            return Some(section);
-        }
-    }
-    None
 }
 
 impl Exchange {
@@ -103,11 +92,7 @@ impl Exchange {
         ensures writable { OnOk result (IsWritableSession session) }
         ensures refused { IfErr result (λ e. e ≢ EndError.Memory → RefusesNew config.rows session exts e) }
     {
-        check_rows(alloc, config.params())?;
-        check_types(alloc, config.params())?;
-        if !is_writable(&exts) || !is_writable_session(alloc, &session)? {
-            return Err(EndError::NotWritable);
-        }
+        check_new(alloc, config.params(), &session, &exts)?;
         Ok(Exchange {
             alloc,
             session,

@@ -1,8 +1,8 @@
 //! What holds of ends that agreed on one text.
 
 ghost use Rattle.std.specs.Prelude.{◌≡◌, ℕ, List};
-ghost use Rattle.rtp_media_exchange_steps.specs.Says.{AgreesOnText};
-ghost use Rattle.rtp_media_exchange_steps.specs.Agreement.{Agreed, agreed_map_of, agreed_row_of};
+ghost use Rattle.rtp_media_exchange_turns.specs.Says.{AgreesOnText};
+ghost use Rattle.rtp_media_exchange_turns.specs.Agreement.{Agreed, agreed_map_of, agreed_row_of};
 
 /// Two ends that agreed on one text have agreed on the same rows and the same map of header extensions, in each section
 /// (RFC 3264 6).

@@ -7,7 +7,7 @@ mod laws;
 pub use exchange::Exchange;
 pub use laws::one_agreement_law;
 pub use payload_core_base::MediaKind;
-pub use rtp_media_exchange_steps::{
+pub use rtp_media_exchange_turns::{
     AgreedSection, Codec, CodecConfig, CodecSpec, EndError, ExchangeError, FormatParams,
     PayloadParams, RoundError, SdpError, SectionSpec, flow, own_row_agrees,
 };

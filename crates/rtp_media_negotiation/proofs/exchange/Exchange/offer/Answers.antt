@@ -1,5 +1,6 @@
 use Rattle.std.proofs.Common.{arith}
 use Rattle.std.proofs.lemmas.Grind.{common_steps}
+use Rattle.rtp_media_exchange_turns.specs.Refusals.{refusal_of_offer}
 use Rattle.rtp_media_negotiation.proofs.exchange.Exchange.offer.Goals as goal
 
 pub returns-in_err-check_offer-clause-text : goal.returns-in_err-check_offer-clause-text
@@ -12,6 +13,7 @@ pub returns-in_err-check_offer-clause-pending : goal.returns-in_err-check_offer-
 returns-in_err-check_offer-clause-pending c = grind (arith, common_steps)
 
 pub returns-in_err-check_offer-clause-refused : goal.returns-in_err-check_offer-clause-refused
+unfolding refusal_of_offer
 returns-in_err-check_offer-clause-refused c = grind (arith, common_steps)
 
 pub returns-in_err-check_offer-clause-unchanged : goal.returns-in_err-check_offer-clause-unchanged
@@ -33,6 +35,7 @@ pub returns-in_err-text-clause-unchanged : goal.returns-in_err-text-clause-uncha
 returns-in_err-text-clause-unchanged c = grind (arith, common_steps)
 
 pub returns-clause-accepted : goal.returns-clause-accepted
+unfolding refusal_of_offer
 returns-clause-accepted c = grind (arith, common_steps)
 
 pub returns-clause-pending : goal.returns-clause-pending

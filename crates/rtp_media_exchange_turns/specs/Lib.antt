@@ -1,0 +1,12 @@
+pub use Rattle.rtp_media_exchange_steps.specs.Agreement
+pub use Rattle.rtp_media_exchange_steps.specs.Answered
+pub use Rattle.rtp_media_exchange_steps.specs.Exchanges
+pub use Rattle.rtp_media_exchange_steps.specs.Laws
+pub use Rattle.rtp_media_exchange_steps.specs.Lines
+pub use Rattle.rtp_media_exchange_steps.specs.Offers
+pub use Rattle.rtp_media_exchange_steps.specs.Refusals
+pub use Rattle.rtp_media_exchange_steps.specs.Rows
+pub use Rattle.rtp_media_exchange_steps.specs.Says
+pub use Rattle.rtp_media_exchange_steps.specs.Sections
+pub use Rattle.rtp_media_exchange_steps.specs.Writable
+pub mod Answering
