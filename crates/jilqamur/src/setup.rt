@@ -5,8 +5,9 @@ ghost use Rattle.sdp_formats_default_rows.specs.DefaultRows.{default_rows};
 ghost use Rattle.jilqamur_headers.specs.Codes.{ok, memory, in_use};
 ghost use Rattle.jilqamur_headers.specs.Handles.{AtObject, answer_of};
 ghost use Rattle.jilqamur_ends.specs.Peers.{with_row, with_rows, with_section, with_extension, empty_peer};
-ghost use Rattle.jilqamur_ends.specs.Drafts.{row_of, row_outcome, section_of, section_outcome, extension_outcome};
-ghost use Rattle.jilqamur_ends.specs.Drafts.{make_outcome, made, without_draft};
+ghost use Rattle.jilqamur_ends.specs.DraftedRows.{row_of, row_outcome};
+ghost use Rattle.jilqamur_ends.specs.Drafts.{section_of, section_outcome, extension_outcome};
+ghost use Rattle.jilqamur_ends.specs.Making.{make_outcome, made, without_draft};
 
 use jilqamur_ends::{EndHandle, WireRow};
 use jilqamur_headers::codes;

@@ -1,6 +1,8 @@
+pub use Rattle.jilqamur_drafts.specs.DraftedRows
+pub use Rattle.jilqamur_drafts.specs.Drafts
 pub mod Answers
-pub mod Drafts
 pub mod Exchanges
+pub mod Making
 pub mod Owned
 pub mod Peers
 pub mod Receiving

@@ -10,7 +10,6 @@ use crate::peer::Peer;
 use jilqamur_headers::{codes, text_in};
 use rtp_media_ends::{End, ExchangeError, SectionSpec};
 use std::alloc::Global;
-use std::mem;
 
 /// The number of a refused exchange.
 fn exchange_code(error: &ExchangeError) -> u32
@@ -128,7 +127,7 @@ impl Peer {
         ensures kept { result ≢ ok → self.new.text ≡ self.old.text }
         ensures rest { self.new ≡ record self.old { end = self.new.end; sections = []; text = self.new.text } }
     {
-        let sections = mem::replace(&mut self.sections, Vec::new(alloc));
+        let sections = self.draft.take_sections(alloc);
         offer_at(&mut self.end, sections, &mut self.text)
     }
 
@@ -142,7 +141,7 @@ impl Peer {
         ensures kept { result ≢ ok → self.new.text ≡ self.old.text }
         ensures rest { self.new ≡ record self.old { end = self.new.end; sections = []; text = self.new.text } }
     {
-        let sections = mem::replace(&mut self.sections, Vec::new(alloc));
+        let sections = self.draft.take_sections(alloc);
         answer_at(&mut self.end, offer, sections, &mut self.text)
     }
 

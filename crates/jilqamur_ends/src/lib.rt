@@ -10,7 +10,7 @@ mod place;
 mod receiving;
 mod sending;
 
-pub use draft::WireRow;
+pub use jilqamur_drafts::WireRow;
 pub use peer::Peer;
 pub use place::{EndHandle, EndPlace};
 pub use sending::WireStream;

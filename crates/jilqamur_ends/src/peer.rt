@@ -3,8 +3,8 @@
 ghost use Rattle.std.specs.Prelude.{◌≡◌};
 ghost use Rattle.jilqamur_ends.specs.Peers.{empty_peer};
 
-use rtp_media_ends::{Datagram, End, PayloadParams, SectionSpec, Unit};
-use rtp_wire::ExtensionMap;
+use jilqamur_drafts::Draft;
+use rtp_media_ends::{Datagram, End, Unit};
 use std::alloc::Global;
 use std::marker::Model;
 
@@ -12,9 +12,7 @@ use std::marker::Model;
 #[derive(Drop)]
 pub struct Peer {
     pub(crate) end: Option<End>,
-    pub(crate) rows: Vec<PayloadParams>,
-    pub(crate) exts: ExtensionMap,
-    pub(crate) sections: Vec<SectionSpec>,
+    pub(crate) draft: Draft,
     pub(crate) text: Vec<u8>,
     pub(crate) datagrams: Vec<Datagram>,
     pub(crate) unit: Option<Unit>,
@@ -31,9 +29,9 @@ impl Model for Peer {
 
     ghost view = { λ p. record {
       end = p.end;
-      rows = p.rows.items;
-      exts = p.exts;
-      sections = p.sections.items;
+      rows = p.draft.rows;
+      exts = p.draft.exts;
+      sections = p.draft.sections;
       text = p.text.items;
       datagrams = p.datagrams.items;
       unit = p.unit;
@@ -47,9 +45,7 @@ impl Peer {
     {
         Peer {
             end: None,
-            rows: Vec::new(alloc),
-            exts: ExtensionMap::empty(),
-            sections: Vec::new(alloc),
+            draft: Draft::empty(alloc),
             text: Vec::new(alloc),
             datagrams: Vec::new(alloc),
             unit: None,

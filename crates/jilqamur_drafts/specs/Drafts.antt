@@ -1,0 +1,57 @@
+-- What calls put into the draft of an end.
+use Rattle.std.specs.Prelude.{ℕ, ◌-◌, ◌&&◌, Bool, true, false, nat_le, if◌then◌else◌, List, [], ◌∷◌, ◌++◌, slice_set}
+use Rattle.std.specs.Prelude.{Some}
+use Rattle.std.specs.Str.{is_utf8}
+use Rattle.payload_core_base.specs.declared.codec.MediaKind.{MediaKind}
+use Rattle.payload_core_base.specs.declared.codec.MediaKind.TheVariants.{Audio, Video}
+use Rattle.rtp_wire.specs.Elements.{Numbering}
+use Rattle.rtp_wire.specs.Kinds.{extension_of}
+use Rattle.rtp_wire.specs.Maps.{empty_map}
+use Rattle.rtp_wire.specs.Name.{name_of}
+use Rattle.rtp_media_section_texts.specs.Answered.{flow}
+use Rattle.rtp_media_section_texts.specs.Rows.{Row}
+use Rattle.rtp_media_section_texts.specs.Sections.{Wanted}
+use Rattle.jilqamur_headers.specs.Codes.{ok, not_text, out_of_range}
+
+-- The rows and the map of the next end, and the sections of the next offer or answer.
+pub record DraftState : Type 0 where
+  pub rows : List Row
+  pub exts : Numbering
+  pub sections : List Wanted
+
+-- One without any.
+abbrev pub empty_draft : DraftState
+empty_draft = record { rows = []; exts = empty_map; sections = [] }
+
+-- One with a row more, with these rows more, and with a section more.
+abbrev pub with_row : DraftState → Row → DraftState
+with_row d row = record d { rows = d.rows ++ row ∷ [] }
+
+abbrev pub with_rows : DraftState → List Row → DraftState
+with_rows d rows = record d { rows = d.rows ++ rows }
+
+abbrev pub with_section : DraftState → Wanted → DraftState
+with_section d section = record d { sections = d.sections ++ section ∷ [] }
+
+-- One that gives a header extension this number.
+abbrev pub with_extension : DraftState → ℕ → List ℕ → DraftState
+with_extension d id uri = record d { exts = slice_set d.exts (id - 1) (Some (extension_of uri)) }
+
+-- The kind of a section by what it carries.
+abbrev pub kind_of : Bool → MediaKind
+kind_of false = Audio
+kind_of true = Video
+
+-- A section of this name, which carries that and flows so.
+abbrev pub section_of : List ℕ → Bool → Bool → Bool → List ℕ → Wanted
+section_of mid is_video sends receives ssrcs =
+    record { mid = name_of 16 mid; kind = kind_of is_video; dir = flow sends receives; ssrcs = ssrcs }
+
+-- A section's name is a text.
+abbrev pub section_outcome : List ℕ → ℕ
+section_outcome mid = if is_utf8 mid then ok else not_text
+
+-- A header extension's number is 1 to 16.
+abbrev pub extension_outcome : ℕ → List ℕ → ℕ
+extension_outcome id uri =
+    if nat_le 1 id && nat_le id 16 then (if is_utf8 uri then ok else not_text) else out_of_range

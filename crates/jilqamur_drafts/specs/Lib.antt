@@ -1,0 +1,2 @@
+pub mod DraftedRows
+pub mod Drafts

@@ -1,0 +1,190 @@
+//! What an end is made of and what it exchanges, gathered call by call.
+
+ghost use Rattle.std.specs.Prelude.{◌≡◌, ◌≢◌, [], IfOk};
+ghost use Rattle.rtp_wire.specs.Maps.{empty_map};
+ghost use Rattle.sdp_formats_default_rows.specs.DefaultRows.{default_rows};
+ghost use Rattle.jilqamur_headers.specs.Codes.{ok, memory};
+ghost use Rattle.jilqamur_drafts.specs.DraftedRows.{row_of, row_outcome};
+ghost use Rattle.jilqamur_drafts.specs.Drafts.{empty_draft, with_row, with_rows, with_section, with_extension};
+ghost use Rattle.jilqamur_drafts.specs.Drafts.{kind_of, section_of, section_outcome, extension_outcome};
+
+use crate::row::{WireRow, row_of};
+use jilqamur_headers::{codes, text_in};
+use payload_core_base::MediaKind;
+use rtp_media_section_texts::{CodecConfig, PayloadParams, SectionSpec, flow};
+use rtp_wire::{Extension, ExtensionMap, Frequency, Mid, Ssrc};
+use std::alloc::{AllocError, Global};
+use std::marker::Model;
+use std::mem;
+
+/// The rows and the map of header extensions of the next end, and the sections of the next offer or answer.
+pub struct Draft {
+    rows: Vec<PayloadParams>,
+    exts: ExtensionMap,
+    sections: Vec<SectionSpec>,
+}
+
+/// Written out, so that who lets one go needs nothing of what is inside.
+impl Drop for Draft {
+    fn drop(self) {
+        let Draft {
+            rows: _rows,
+            exts: _exts,
+            sections: _sections,
+        } = self;
+    }
+}
+
+impl Model for Draft {
+    ghost use Rattle.jilqamur_drafts.specs.Drafts.{DraftState};
+    ghost use Rattle.rtp_wire.specs.Replay.{window_code};
+    ghost use Rattle.std.specs.Coded.{codes};
+
+    ghost Value = { DraftState };
+
+    ghost coded = { Prim.hlevel (codes, window_code) };
+
+    ghost view = { λ d. record { rows = d.rows.items; exts = d.exts; sections = d.sections.items } };
+}
+
+fn kind_of(is_video: bool) -> MediaKind
+    ensures { result ≡ kind_of is_video }
+{
+    if is_video {
+        MediaKind::Video
+    } else {
+        MediaKind::Audio
+    }
+}
+
+fn ssrcs_of(alloc: Global, ssrcs: &[u32]) -> Result<Vec<Ssrc>, AllocError>
+    ensures { IfOk result (λ all. all.items ≡ ssrcs.now) }
+{
+    ssrcs.iter().map(|ssrc| Ssrc::from(*ssrc)).collect(alloc)
+}
+
+impl Draft {
+    /// One without rows, header extensions and sections.
+    pub fn empty(alloc: Global) -> Self
+        ensures { result ≡ empty_draft }
+    {
+        Draft {
+            rows: Vec::new(alloc),
+            exts: ExtensionMap::empty(),
+            sections: Vec::new(alloc),
+        }
+    }
+
+    /// Puts a row behind those of the draft, of a codec by its name and of the parameters of an `a=fmtp` line, and
+    /// answers `OK`; or `OUT_OF_RANGE` for a clock rate of 0, else `NOT_TEXT`, or `MEMORY`, and nothing has changed.
+    pub fn add_row(&mut self, row: &WireRow, codec: &[u8], format: &[u8]) -> u32
+        ensures outcome { result ≢ memory → result ≡ row_outcome row.now codec.now format.now }
+        ensures added { result ≡ ok → self.new ≡ with_row self.old (row_of row.now codec.now format.now) }
+        ensures unchanged { result ≢ ok → self.new ≡ self.old }
+    {
+        let Some(clock_rate) = Frequency::new(row.clock_rate) else {
+            return codes::OUT_OF_RANGE;
+        };
+        let Some(codec) = text_in(codec) else {
+            return codes::NOT_TEXT;
+        };
+        let Some(format) = text_in(format) else {
+            return codes::NOT_TEXT;
+        };
+        match self.rows.push(row_of(row, clock_rate, codec, format)) {
+            Ok(()) => codes::OK,
+            Err(_) => codes::MEMORY,
+        }
+    }
+
+    /// Puts the default rows of Opus, VP8, H.264, H.265, VP9 and AV1 behind those of the draft, in this order, and
+    /// answers `OK`; or `MEMORY`, and nothing has changed.
+    pub fn add_default_rows(&mut self, alloc: Global) -> u32
+        ensures outcome { result ≢ memory → result ≡ ok }
+        ensures added { result ≡ ok → self.new ≡ with_rows self.old default_rows }
+        ensures unchanged { result ≢ ok → self.new ≡ self.old }
+    {
+        let Ok(config) = CodecConfig::new_with_defaults(alloc) else {
+            return codes::MEMORY;
+        };
+        match self.rows.extend_from_slice(config.params()) {
+            Ok(()) => codes::OK,
+            Err(_) => codes::MEMORY,
+        }
+    }
+
+    /// Gives a header extension a number in the draft's map, in place of one that has it, and answers `OK`; or
+    /// `OUT_OF_RANGE` for a number off 1 to 16, else `NOT_TEXT`, or `MEMORY`, and nothing has changed.
+    pub fn set_extension(&mut self, alloc: Global, id: u8, uri: &[u8]) -> u32
+        ensures outcome { result ≢ memory → result ≡ extension_outcome id uri.now }
+        ensures put { result ≡ ok → self.new ≡ with_extension self.old id uri.now }
+        ensures unchanged { result ≢ ok → self.new ≡ self.old }
+    {
+        if id < 1 || id > 16 {
+            return codes::OUT_OF_RANGE;
+        }
+        let Some(uri) = text_in(uri) else {
+            return codes::NOT_TEXT;
+        };
+        match Extension::from_sdp_uri(alloc, uri) {
+            Ok(extension) => {
+                self.exts.set(id, extension);
+                codes::OK
+            }
+            Err(_) => codes::MEMORY,
+        }
+    }
+
+    /// Puts a section behind those of the next offer or answer, and answers `OK`; or `NOT_TEXT`, or `MEMORY`, and
+    /// nothing has changed.
+    pub fn add_section(
+        &mut self,
+        alloc: Global,
+        mid: &[u8],
+        is_video: bool,
+        sends: bool,
+        receives: bool,
+        ssrcs: &[u32],
+    ) -> u32
+        ensures outcome { result ≢ memory → result ≡ section_outcome mid.now }
+        ensures added { result ≡ ok → self.new ≡ with_section self.old
+            (section_of mid.now is_video sends receives ssrcs.now) }
+        ensures unchanged { result ≢ ok → self.new ≡ self.old }
+    {
+        let Some(mid) = text_in(mid) else {
+            return codes::NOT_TEXT;
+        };
+        let Ok(ssrcs) = ssrcs_of(alloc, ssrcs) else {
+            return codes::MEMORY;
+        };
+        let section = SectionSpec {
+            mid: Mid::from(mid),
+            kind: kind_of(is_video),
+            dir: flow(sends, receives),
+            ssrcs,
+        };
+        match self.sections.push(section) {
+            Ok(()) => codes::OK,
+            Err(_) => codes::MEMORY,
+        }
+    }
+
+    /// The rows, as a config, and the map of header extensions, which are used up; the sections stay.
+    pub fn take_media(&mut self, alloc: Global) -> (CodecConfig, ExtensionMap)
+        ensures config { result.0 ≡ record { rows = self.old.rows; distances = [] } }
+        ensures exts { result.1 ≡ self.old.exts }
+        ensures rest { self.new ≡ record self.old { rows = []; exts = empty_map } }
+    {
+        let rows = mem::replace(&mut self.rows, Vec::new(alloc));
+        let exts = mem::replace(&mut self.exts, ExtensionMap::empty());
+        (CodecConfig::new_from_payload_params(rows), exts)
+    }
+
+    /// The sections, which are used up; rows and map stay.
+    pub fn take_sections(&mut self, alloc: Global) -> Vec<SectionSpec>
+        ensures sections { result.items ≡ self.old.sections }
+        ensures rest { self.new ≡ record self.old { sections = [] } }
+    {
+        mem::replace(&mut self.sections, Vec::new(alloc))
+    }
+}
