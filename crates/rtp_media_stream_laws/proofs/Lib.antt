@@ -1,4 +1,3 @@
-pub use Rattle.rtp_media_open_streams.proofs.Indexing
 pub use Rattle.rtp_media_open_streams.proofs.MayOpen
 pub use Rattle.rtp_media_open_streams.proofs.NewReceiver
 pub mod Datagrams

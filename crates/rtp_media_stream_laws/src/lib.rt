@@ -6,6 +6,5 @@ mod laws;
 
 pub use laws::{isolation_law, openings_law, transparency_law};
 pub use rtp_media_open_streams::{
-    Distances, OpenError, OpenStream, ReceiveError, Received, StreamIndex, StreamParams,
-    could_receive, could_send, stream_for,
+    Distances, OpenError, OpenStream, ReceiveError, Received, StreamParams,
 };
