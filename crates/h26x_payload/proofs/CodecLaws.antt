@@ -8,7 +8,7 @@ use Rattle.payload_core_base.specs.declared.codec.Codec.{Codec}
 use Rattle.payload_core_base.specs.declared.codec.Codec.TheVariants.{Opus, PCMU, PCMA, G722, CN, AmrWb, H264, H265}
 use Rattle.payload_core_base.specs.declared.codec.Codec.TheVariants.{H266, Vp8, Vp9, Av1, Tele, Rtx, Red, Null}
 use Rattle.payload_core_base.specs.declared.codec.Codec.TheVariants.{Unknown}
-use Rattle.payload_core_audio.specs.AmrWb.{amr_wb_coding}
+use Rattle.payload_core_amr_wb.specs.AmrWb.{amr_wb_coding}
 use Rattle.payload_core_audio.specs.Plain.{noise_coding, pieces_coding}
 use Rattle.payload_core_audio.specs.Telephone.{telephone_coding}
 use Rattle.payload_core_vpx.specs.Vp8.{vp8_coding}

@@ -6,8 +6,9 @@ ghost use Rattle.std.specs.Prelude.{◌≡◌, ◌<◌, Bool, Contains, IfSome, 
 
 use h26x_payload_h264::H264Packetizer;
 use h26x_payload_h265_h266::{H265Packetizer, H266Packetizer};
+use payload_core_amr_wb::AmrWbPacketizer;
 use payload_core_audio::{
-    AmrWbPacketizer, ComfortNoisePacketizer, G711Packetizer, G722Packetizer, OpusPacketizer,
+    ComfortNoisePacketizer, G711Packetizer, G722Packetizer, OpusPacketizer,
     TelephoneEventPacketizer,
 };
 use payload_core_av1::Av1Packetizer;

@@ -3,7 +3,7 @@ use Rattle.std.specs.Prelude.{Bool, true, false, List, [], ◌∷◌}
 use Rattle.payload_core_base.specs.Format.{Format}
 use Rattle.payload_core_base.specs.declared.codec.Codec.{Codec}
 use Rattle.payload_core_base.specs.declared.codec.Codec.TheVariants as codecs
-use Rattle.payload_core_audio.specs.AmrWb.{amr_wb_format}
+use Rattle.payload_core_amr_wb.specs.AmrWb.{amr_wb_format}
 use Rattle.payload_core_audio.specs.Telephone.{telephone_format}
 use Rattle.h26x_payload_units.specs.declared.layout.Layout.TheVariants as layouts
 use Rattle.h26x_payload_h265_h266.specs.Reading.{h265_h266_format}

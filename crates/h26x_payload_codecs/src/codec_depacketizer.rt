@@ -5,9 +5,9 @@ ghost use Rattle.std.specs.Prelude.{◌≡◌, Bool, Contains, IfSome, None, fal
 
 use h26x_payload_h264::H264Depacketizer;
 use h26x_payload_h265_h266::{H265Depacketizer, H266Depacketizer};
+use payload_core_amr_wb::AmrWbDepacketizer;
 use payload_core_audio::{
-    AmrWbDepacketizer, ComfortNoiseDepacketizer, G711Depacketizer, OpusDepacketizer,
-    TelephoneEventDepacketizer,
+    ComfortNoiseDepacketizer, G711Depacketizer, OpusDepacketizer, TelephoneEventDepacketizer,
 };
 use payload_core_av1_reader::Av1Depacketizer;
 use payload_core_base::{Codec, CodecExtra, Depacketizer, PacketError};

@@ -1,5 +1,5 @@
-pub use Rattle.payload_core_audio.specs.AmrWb
-pub use Rattle.payload_core_audio.specs.BitBytes
+pub use Rattle.payload_core_amr_wb.specs.AmrWb
+pub use Rattle.payload_core_amr_wb.specs.BitBytes
 pub use Rattle.payload_core_audio.specs.Plain
 pub use Rattle.payload_core_av1.specs.Av1Coding
 pub use Rattle.payload_core_av1_reader.specs.Av1Layout

@@ -2,11 +2,11 @@
 //! their calls name of the wire stands here too.
 #![tactic(auto)]
 
+pub use payload_core_amr_wb::{AmrWbDepacketizer, AmrWbPacketizer, amr_wb_law, amr_wb_layout_law};
 pub use payload_core_audio::{
-    AmrWbDepacketizer, AmrWbPacketizer, ComfortNoiseDepacketizer, ComfortNoisePacketizer,
-    G7xxPacketizer, G711Depacketizer, G711Packetizer, G722Packetizer, OpusDepacketizer,
-    OpusPacketizer, TelephoneEventDepacketizer, TelephoneEventPacketizer, amr_wb_law,
-    amr_wb_layout_law, plain_laws, telephone_law,
+    ComfortNoiseDepacketizer, ComfortNoisePacketizer, G7xxPacketizer, G711Depacketizer,
+    G711Packetizer, G722Packetizer, OpusDepacketizer, OpusPacketizer, TelephoneEventDepacketizer,
+    TelephoneEventPacketizer, plain_laws, telephone_law,
 };
 pub use payload_core_av1::{
     Av1Packetizer, av1_law, av1_layout_law, av1_open_law, av1_packets_law, av1_size_law,

@@ -1,7 +1,2 @@
 pub mod PlainLemmas
 pub mod TelephoneLaw
-pub mod AmrWbLemmas
-pub mod AmrWbLaw
-pub mod AmrWbFrames
-pub mod AmrWbLayout
-pub mod BitLemmas

@@ -1,6 +1,2 @@
 pub mod Plain
 pub mod Telephone
-pub mod AmrWb
-pub mod AmrWbLayout
-pub mod BitPlaces
-pub mod BitBytes

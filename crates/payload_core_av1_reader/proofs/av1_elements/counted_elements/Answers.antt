@@ -1,4 +1,5 @@
-use Rattle.std.proofs.Common.{◌≡◌, ℕ, suc, ◌+◌, ◌-◌, List, map, Bor, refl, ap, sym, ◌∙◌, arith}
+use Rattle.std.proofs.Common.{◌≡◌, ℕ, suc, ◌+◌, ◌-◌, List, map, Bor, Some, refl, ap, sym, ◌∙◌, arith}
+use Rattle.std.proofs.lemmas.Grind.{common_steps}
 use Rattle.std.proofs.lemmas.List.{map_push}
 use Rattle.payload_core_av1_reader.specs.Leb128.{Cut}
 use Rattle.payload_core_av1_reader.specs.Av1Reading.{counted_elements}
@@ -28,3 +29,32 @@ loop-preserved c =
     (map_push (λ (e : Bor (List ℕ)). e.now) c.loop.elements.items c.in-Some.element)
     ∙ counted-go n c.loop.rest.now cut before c.in-Some.ensures.value
     ∙ ap (λ k. all_in_front before (counted_elements k c.loop.rest.now)) (sym left) ∙ c.loop.invariant
+
+pub loop-init : goal.loop-init
+loop-init c = grind (arith, common_steps)
+
+pub returns-in_default-clause-value : goal.returns-in_default-clause-value
+returns-in_default-clause-value c = grind (arith, common_steps)
+
+pub returns-in_err-push-clause-value : goal.returns-in_err-push-clause-value
+returns-in_err-push-clause-value c = grind (arith, common_steps)
+
+pub returns-in_err-push-clause-refused : goal.returns-in_err-push-clause-refused
+returns-in_err-push-clause-refused c = grind (arith, common_steps)
+
+pub returns-in_err-push-2-clause-value : goal.returns-in_err-push-2-clause-value
+returns-in_err-push-2-clause-value c = grind (arith, common_steps)
+
+pub returns-in_err-push-2-clause-refused : goal.returns-in_err-push-2-clause-refused
+returns-in_err-push-2-clause-refused c = grind (arith, common_steps)
+
+pub returns-clause-value : goal.returns-clause-value
+returns-clause-value c =
+    let left : c.args.count - c.loop.counter ≡ 0 = omega arith in
+    let before : List (List ℕ) = map (λ (e : Bor (List ℕ)). e.now) c.loop.elements.items in
+    sym c.loop.invariant ∙ ap (λ n. all_in_front before (counted_elements n c.loop.rest.now)) left
+    ∙ ap Some (sym (map_push (λ (e : Bor (List ℕ)). e.now) c.loop.elements.items c.loop.rest)
+    ∙ ap (map (λ (e : Bor (List ℕ)). e.now)) (sym c.in_ok-push-2.ensures.items))
+
+pub returns-clause-refused : goal.returns-clause-refused
+returns-clause-refused c = grind (arith, common_steps)

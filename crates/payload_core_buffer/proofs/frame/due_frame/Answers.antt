@@ -1,4 +1,5 @@
 use Rattle.std.proofs.Common.{◌≡◌, ◌+◌, Some, sym, ap, ◌∙◌, arith, refl}
+use Rattle.std.proofs.lemmas.Grind.{common_steps}
 use Rattle.std.specs.BTreeMap.{values}
 use Rattle.std.specs.Option.{option_map}
 use Rattle.payload_core_buffer.specs.Frames.{begins_next}
@@ -142,3 +143,15 @@ loop-i-preserved g c =
       left = now.rest;
       in_range = omega (arith, now.within);
     })
+
+pub overflow_add-i : goal.overflow_add-i
+overflow_add-i g c = grind (arith, common_steps)
+
+pub loop-i-smaller : goal.loop-i-smaller
+loop-i-smaller g c = grind (arith, common_steps)
+
+pub returns-clause-due : goal.returns-clause-due
+returns-clause-due g c = grind (arith, common_steps)
+
+pub returns-clause-frame : goal.returns-clause-frame
+returns-clause-frame g c = grind (arith, common_steps)

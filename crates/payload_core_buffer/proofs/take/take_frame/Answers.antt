@@ -1,4 +1,6 @@
+use Rattle.std.proofs.Common.{arith}
 use Rattle.std.proofs.Common.{◌∙◌, refl}
+use Rattle.std.proofs.lemmas.Grind.{common_steps}
 use Rattle.std.specs.BTreeMap.{values}
 use Rattle.std.specs.Prelude.{slice_range}
 use Rattle.payload_core_buffer.proofs.TakeLemmas.{between_is, by_number_left, left_is, metas_are}
@@ -60,3 +62,39 @@ returns g c =
         memory = λ is. absurd (c.in_default.not-Memory is);
       };
     }
+
+pub metas-requires : goal.metas-requires
+metas-requires g c = grind (arith, common_steps)
+
+pub returns-in-Err-clause-by_number : goal.returns-in-Err-clause-by_number
+returns-in-Err-clause-by_number g c = grind (arith, common_steps)
+
+pub returns-in-Err-clause-format : goal.returns-in-Err-clause-format
+returns-in-Err-clause-format g c = grind (arith, common_steps)
+
+pub returns-in-Err-clause-taken : goal.returns-in-Err-clause-taken
+returns-in-Err-clause-taken g c = grind (arith, common_steps)
+
+pub hand_on-requires : goal.hand_on-requires
+hand_on-requires g c = grind (arith, common_steps)
+
+pub finish-requires-clause-some : goal.finish-requires-clause-some
+finish-requires-clause-some g c = grind (arith, common_steps)
+
+pub finish-requires-clause-within : goal.finish-requires-clause-within
+finish-requires-clause-within g c = grind (arith, common_steps)
+
+pub new-requires : goal.new-requires
+new-requires g c = grind (arith, common_steps)
+
+pub returns-in-Ok-hand_on-clause-format : goal.returns-in-Ok-hand_on-clause-format
+returns-in-Ok-hand_on-clause-format g c = grind (arith, common_steps)
+
+pub returns-in-Memory-clause-by_number : goal.returns-in-Memory-clause-by_number
+returns-in-Memory-clause-by_number g c = grind (arith, common_steps)
+
+pub returns-in-Memory-clause-format : goal.returns-in-Memory-clause-format
+returns-in-Memory-clause-format g c = grind (arith, common_steps)
+
+pub finish-requires-in_default : goal.finish-requires-in_default
+finish-requires-in_default g c = grind (arith, common_steps)

@@ -1,0 +1,5 @@
+pub mod AmrWbLemmas
+pub mod AmrWbLaw
+pub mod AmrWbFrames
+pub mod AmrWbLayout
+pub mod BitLemmas

@@ -1,0 +1,12 @@
+use Rattle.std.proofs.Common.{◌≡◌, ◌+◌, ◌-◌, take, drop, ap, ◌∙◌, arith}
+use Rattle.payload_core_amr_wb.specs.BitPlaces.{place_of}
+use Rattle.payload_core_amr_wb.proofs.BitLemmas.{octet-small, octets}
+use Rattle.payload_core_amr_wb.proofs.bits.BitPlace.octets.Goals as goal
+
+pub returns : goal.returns
+returns c =
+    let p = c.args.self.now in
+    let e : p.octet + c.args.count - p.octet ≡ c.args.count = omega arith in
+    ap (λ n. take n (drop p.octet c.args.bytes.now)) e
+    ∙ octets c.args.bytes.now (place_of p) p.octet c.args.count (omega arith) (omega arith)
+    (octet-small c.args.bytes.now c.type_inv.bytes)

@@ -1,0 +1,4 @@
+pub mod AmrWb
+pub mod AmrWbLayout
+pub mod BitPlaces
+pub mod BitBytes
