@@ -2,7 +2,7 @@
 
 use crate::cases::Case;
 use crate::stopped::Stopped;
-use rtp_media::{CodecConfig, Distances, End, SectionSpec, Session};
+use rtp_media_play::{CodecConfig, Distances, End, SectionSpec, Session};
 use rtp_wire::{Direction, ExtensionMap, Mid, SessionId, Ssrc};
 use std::alloc::{AllocError, Global};
 

@@ -12,7 +12,7 @@ ghost use Rattle.rtp_media_play.specs.OpusHops.{bytes_out};
 
 use crate::silence::ends_silent;
 use crate::stopped::Stopped;
-use rtp_media::{
+use rtp_media_play::{
     Codec, Distances, End, Event, PayloadParams, Played, Sample, SectionSpec, StreamParams,
     connect, headline, play,
 };

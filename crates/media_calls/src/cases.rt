@@ -1,6 +1,6 @@
 //! The rows that calls are made of.
 
-use rtp_media::{Codec, CodecSpec, FormatParams, PayloadParams};
+use rtp_media_play::{Codec, CodecSpec, FormatParams, PayloadParams};
 use rtp_wire::{Frequency, Pt};
 
 /// The payload type of each row, and its RED type where it has one.

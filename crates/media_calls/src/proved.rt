@@ -7,7 +7,7 @@ use crate::calls::{Ends, distances, sections};
 use crate::carrying::carry;
 use crate::cases::{Case, PIECES};
 use crate::stopped::Stopped;
-use rtp_media::{Played, Sample};
+use rtp_media_play::{Played, Sample};
 use rtp_wire::{ExtensionValues, Frequency, MediaTime, Ssrc};
 use std::alloc::{AllocError, Global};
 

@@ -3,7 +3,7 @@
 ghost use Rattle.std.specs.Prelude.{◌≡◌, false};
 ghost use Rattle.media_calls.specs.Call.{silent_after, silent_at};
 
-use rtp_media::Played;
+use rtp_media_play::Played;
 
 /// Whether the last poll answered None.
 pub(crate) fn ends_silent(all: &[Played]) -> bool

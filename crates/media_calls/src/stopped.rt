@@ -1,6 +1,6 @@
 //! Why a call did not come to its end.
 
-use rtp_media::{EndError, ExchangeError, OpenError, ReceiveError, SampleError};
+use rtp_media_play::EndError;
 use std::alloc::{AllocError, AllocFailed};
 use std::fmt;
 
@@ -31,30 +31,6 @@ impl fmt::Display for Stopped {
 impl From<EndError> for Stopped {
     fn from(_error: EndError) -> Stopped {
         Stopped::Refused
-    }
-}
-
-impl From<ExchangeError> for Stopped {
-    fn from(_error: ExchangeError) -> Stopped {
-        Stopped::Refused
-    }
-}
-
-impl From<OpenError> for Stopped {
-    fn from(_error: OpenError) -> Stopped {
-        Stopped::Refused
-    }
-}
-
-impl From<SampleError> for Stopped {
-    fn from(_error: SampleError) -> Stopped {
-        Stopped::Refused
-    }
-}
-
-impl From<ReceiveError> for Stopped {
-    fn from(_error: ReceiveError) -> Stopped {
-        Stopped::Memory
     }
 }
 

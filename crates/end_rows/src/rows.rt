@@ -1,11 +1,13 @@
 //! Worked rows that the program's lines can't say: datagrams handed in as one list, and samples whose time is at
 //! another clock than their stream's.
 
-use crate::cases::TYPE;
 use crate::stopped::Stopped;
-use rtp_media::{Datagram, End, Polls, Received, ReceivedAll, SampleError, StreamParams};
+use rtp_media_ends::{Datagram, End, Polls, Received, ReceivedAll, SampleError, StreamParams};
 use rtp_wire::{ExtensionValues, Frequency, MediaTime, Mid, Pt, SeqNo, Ssrc};
 use std::alloc::Global;
+
+/// The payload type of Opus at a fixed end.
+const TYPE: u8 = 111;
 
 /// Row 12: of three datagrams of SSRC 44 and time 0 the first two change places, and the units come out in order.
 pub(crate) fn receive_all_hands_out_in_order(alloc: Global) -> Result<bool, Stopped> {

@@ -1,21 +1,31 @@
 //! Ends whose session has lines of its own.
 
-use crate::calls::sections;
-use crate::cases::OPUS;
 use crate::stopped::Stopped;
-use rtp_media::{
-    Bandwidth, CodecConfig, End, EndError, ExtensionMap, Listed, Session, SessionAttribute,
-    SessionId, Ssrc, Text,
+use rtp_media_ends::{
+    Bandwidth, CodecConfig, End, EndError, MediaKind, SectionSpec, Session, SessionAttribute,
 };
+use rtp_wire::{Direction, ExtensionMap, Mid, SessionId, Ssrc};
+use sdp_formats_types::{Listed, Text};
 use std::alloc::{AllocError, Global};
 
 /// An offer says the lines of its end's session, each at its place.
 pub(crate) fn offers_say_the_lines_of_the_session(alloc: Global) -> Result<bool, Stopped> {
     let mut end = end_with(alloc, SessionAttribute::IceLite)?;
-    let offer = end.offer(sections(alloc, &OPUS, &[Ssrc::from(44)])?)?;
+    let offer = end.offer(sections(alloc)?)?;
     let front =
         "v=0\r\no=str0m-0.25.0 1 2 IN IP4 0.0.0.0\r\ns=-\r\nb=AS:500\r\nt=0 0\r\na=group:BUNDLE 0\r\na=ice-lite\r\n";
     Ok(offer.starts_with(front))
+}
+
+/// One section that flows both ways, of SSRC 44.
+fn sections(alloc: Global) -> Result<Vec<SectionSpec>, AllocError> {
+    let section = SectionSpec {
+        mid: Mid::from("0"),
+        kind: MediaKind::Audio,
+        dir: Direction::SendRecv,
+        ssrcs: vec![in alloc; Ssrc::from(44)]?,
+    };
+    Ok(vec![in alloc; section]?)
 }
 
 /// Lines that stand for no attribute of their own, and whether they would be read as others.
