@@ -3,13 +3,12 @@
 ghost use Rattle.std.specs.Prelude.{◌≡◌, ◌≢◌, Some};
 ghost use Rattle.jilqamur_headers.specs.Codes.{ok, closed};
 ghost use Rattle.jilqamur_headers.specs.Handles.{AtObject};
-ghost use Rattle.jilqamur_ends.specs.Answers.{AtEnd};
+ghost use Rattle.jilqamur_ends.specs.Answers.{AtEnd, WithText};
 ghost use Rattle.jilqamur_ends.specs.Peers.{behind_end, behind_text};
-ghost use Rattle.jilqamur_ends.specs.Exchanges.{AnswersOffer, AnswersAnswer, AnswersAccept, AnswersWithdraw, WithText};
+ghost use Rattle.jilqamur_exchanges.specs.Exchanges.{AnswersOffer, AnswersAnswer, AnswersAccept, AnswersWithdraw};
 ghost use Rattle.jilqamur_headers.specs.Copies.{IsCopied};
 
 use jilqamur_ends::EndHandle;
-use jilqamur_headers::codes;
 use std::alloc::Global;
 
 /// The offer of the gathered sections.
@@ -23,12 +22,7 @@ pub extern "C" fn jilqamur_end_offer(alloc: Global, end: &mut EndHandle) -> u32
     ensures rest { AtObject end.old.place.object end.new.place.object result
         (λ p after. after ≡ behind_text p after.end after.text) }
 {
-    let Some(mut peer) = end.take(alloc) else {
-        return codes::CLOSED;
-    };
-    let code = peer.offer(alloc);
-    end.put(peer);
-    code
+    jilqamur_exchanges::offer(alloc, end)
 }
 
 /// The answer to an offer, of the gathered sections.
@@ -42,51 +36,35 @@ pub extern "C" fn jilqamur_end_answer(alloc: Global, end: &mut EndHandle, offer:
     ensures rest { AtObject end.old.place.object end.new.place.object result
         (λ p after. after ≡ behind_text p after.end after.text) }
 {
-    let Some(mut peer) = end.take(alloc) else {
-        return codes::CLOSED;
-    };
-    let code = peer.answer(alloc, offer);
-    end.put(peer);
-    code
+    jilqamur_exchanges::answer(alloc, end, offer)
 }
 
 /// Takes the answer to the pending offer.
 #[unsafe(no_mangle)]
-pub extern "C" fn jilqamur_end_accept(alloc: Global, end: &mut EndHandle, answer: &[u8]) -> u32
+pub extern "C" fn jilqamur_end_accept(end: &mut EndHandle, answer: &[u8]) -> u32
     ensures answer { AtObject end.old.place.object end.new.place.object result
         (λ p after. WithText answer.now p.end after.end result
         (λ e now. AnswersAccept e answer.now result now)) }
     ensures rest { AtObject end.old.place.object end.new.place.object result
         (λ p after. after ≡ behind_end p after.end) }
 {
-    let Some(mut peer) = end.take(alloc) else {
-        return codes::CLOSED;
-    };
-    let code = peer.accept(answer);
-    end.put(peer);
-    code
+    jilqamur_exchanges::accept(end, answer)
 }
 
 /// Gives a pending offer up.
 #[unsafe(no_mangle)]
-pub extern "C" fn jilqamur_end_withdraw(alloc: Global, end: &mut EndHandle) -> u32
+pub extern "C" fn jilqamur_end_withdraw(end: &mut EndHandle) -> u32
     ensures answer { AtObject end.old.place.object end.new.place.object result
         (λ p after. AtEnd p.end after.end result (λ e now. AnswersWithdraw e result now)) }
     ensures rest { AtObject end.old.place.object end.new.place.object result
         (λ p after. after ≡ behind_end p after.end) }
 {
-    let Some(mut peer) = end.take(alloc) else {
-        return codes::CLOSED;
-    };
-    let code = peer.withdraw();
-    end.put(peer);
-    code
+    jilqamur_exchanges::withdraw(end)
 }
 
 /// Copies the text that is left.
 #[unsafe(no_mangle)]
 pub extern "C" fn jilqamur_end_text(
-    alloc: Global,
     end: &mut EndHandle,
     buffer: &mut [u8],
     needed: &mut usize,
@@ -96,10 +74,5 @@ pub extern "C" fn jilqamur_end_text(
     ensures closed { result ≡ closed → (buffer.new ≡ buffer.old) × (needed.new ≡ needed.old) }
     ensures unchanged { end.new.place.object ≡ end.old.place.object }
 {
-    let Some(mut peer) = end.take(alloc) else {
-        return codes::CLOSED;
-    };
-    let code = peer.text(buffer, needed);
-    end.put(peer);
-    code
+    end.text(buffer, needed)
 }

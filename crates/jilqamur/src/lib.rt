@@ -1,5 +1,6 @@
 //! Headers, replay windows, payload formats, streams and ends for C programs: exports over `jilqamur_packets`,
-//! `jilqamur_streams` and `jilqamur_ends`, as `include/jilqamur.h` declares them.
+//! `jilqamur_streams`, `jilqamur_ends`, `jilqamur_exchanges` and `jilqamur_end_streams`, as `include/jilqamur.h`
+//! declares them.
 #![tactic(auto)]
 
 ghost use Rattle.std.specs.Prelude.{◌≡◌, ◌≢◌, ◌++◌, length, drop, Some, None, IsSome, MatchOption};

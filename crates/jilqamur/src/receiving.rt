@@ -7,17 +7,16 @@ ghost use Rattle.jilqamur_ends.specs.Answers.{AtEnd};
 ghost use Rattle.jilqamur_ends.specs.Peers.{behind_end, behind_poll};
 ghost use Rattle.jilqamur_headers.specs.Copies.{IsFetched};
 ghost use Rattle.jilqamur_streams.specs.Fetched.{IsToldOf, bytes_of};
-ghost use Rattle.jilqamur_ends.specs.Receiving.{Receives, Polls, Drains, TellsValues};
+ghost use Rattle.jilqamur_ends.specs.Told.{TellsValues};
+ghost use Rattle.jilqamur_end_streams.specs.Receiving.{Receives, Polls, Drains};
 
 use jilqamur_ends::EndHandle;
-use jilqamur_headers::{WireValues, codes};
+use jilqamur_headers::WireValues;
 use jilqamur_packets::WireUnit;
-use std::alloc::Global;
 
 /// Takes a datagram in.
 #[unsafe(no_mangle)]
 pub extern "C" fn jilqamur_end_receive(
-    alloc: Global,
     end: &mut EndHandle,
     datagram: &[u8],
     stream: &mut usize,
@@ -31,17 +30,12 @@ pub extern "C" fn jilqamur_end_receive(
     ensures rest { AtObject end.old.place.object end.new.place.object result
         (λ p after. after ≡ behind_end p after.end) }
 {
-    let Some(mut peer) = end.take(alloc) else {
-        return codes::CLOSED;
-    };
-    let code = peer.receive(datagram, stream, number);
-    end.put(peer);
-    code
+    jilqamur_end_streams::receive(end, datagram, stream, number)
 }
 
 /// Polls a receiving stream.
 #[unsafe(no_mangle)]
-pub extern "C" fn jilqamur_end_poll(alloc: Global, end: &mut EndHandle, stream: usize) -> u32
+pub extern "C" fn jilqamur_end_poll(end: &mut EndHandle, stream: usize) -> u32
     ensures answer { AtObject end.old.place.object end.new.place.object result
         (λ p after. AtEnd p.end after.end result
         (λ e now. Polls e stream p.unit result after.unit now)) }
@@ -50,17 +44,12 @@ pub extern "C" fn jilqamur_end_poll(alloc: Global, end: &mut EndHandle, stream: 
     ensures rest { AtObject end.old.place.object end.new.place.object result
         (λ p after. after ≡ behind_poll p after.end after.unit) }
 {
-    let Some(mut peer) = end.take(alloc) else {
-        return codes::CLOSED;
-    };
-    let code = peer.poll(stream);
-    end.put(peer);
-    code
+    jilqamur_end_streams::poll(end, stream)
 }
 
 /// Drains a receiving stream.
 #[unsafe(no_mangle)]
-pub extern "C" fn jilqamur_end_drain(alloc: Global, end: &mut EndHandle, stream: usize) -> u32
+pub extern "C" fn jilqamur_end_drain(end: &mut EndHandle, stream: usize) -> u32
     ensures answer { AtObject end.old.place.object end.new.place.object result
         (λ p after. AtEnd p.end after.end result
         (λ e now. Drains e stream p.unit result after.unit now)) }
@@ -69,18 +58,12 @@ pub extern "C" fn jilqamur_end_drain(alloc: Global, end: &mut EndHandle, stream:
     ensures rest { AtObject end.old.place.object end.new.place.object result
         (λ p after. after ≡ behind_poll p after.end after.unit) }
 {
-    let Some(mut peer) = end.take(alloc) else {
-        return codes::CLOSED;
-    };
-    let code = peer.drain(stream);
-    end.put(peer);
-    code
+    jilqamur_end_streams::drain(end, stream)
 }
 
 /// Copies the unit that is left.
 #[unsafe(no_mangle)]
 pub extern "C" fn jilqamur_end_unit(
-    alloc: Global,
     end: &mut EndHandle,
     buffer: &mut [u8],
     needed: &mut usize,
@@ -95,30 +78,16 @@ pub extern "C" fn jilqamur_end_unit(
     ensures nothing { result ≡ nothing → (needed.new ≡ needed.old) × (told.new ≡ told.old) }
     ensures unchanged { end.new.place.object ≡ end.old.place.object }
 {
-    let Some(mut peer) = end.take(alloc) else {
-        return codes::CLOSED;
-    };
-    let code = peer.unit(buffer, needed, told);
-    end.put(peer);
-    code
+    end.unit(buffer, needed, told)
 }
 
 /// Tells the values of header extensions of the unit that is left.
 #[unsafe(no_mangle)]
-pub extern "C" fn jilqamur_end_values(
-    alloc: Global,
-    end: &mut EndHandle,
-    told: &mut WireValues,
-) -> u32
+pub extern "C" fn jilqamur_end_values(end: &mut EndHandle, told: &mut WireValues) -> u32
     ensures values { AtObject end.old.place.object end.new.place.object result
         (λ p after. TellsValues p.unit told.old result told.new) }
     ensures closed { result ≡ closed → told.new ≡ told.old }
     ensures unchanged { end.new.place.object ≡ end.old.place.object }
 {
-    let Some(mut peer) = end.take(alloc) else {
-        return codes::CLOSED;
-    };
-    let code = peer.values(told);
-    end.put(peer);
-    code
+    end.values(told)
 }

@@ -5,12 +5,12 @@ ghost use Rattle.sdp_formats_default_rows.specs.DefaultRows.{default_rows};
 ghost use Rattle.jilqamur_headers.specs.Codes.{ok, memory, in_use};
 ghost use Rattle.jilqamur_headers.specs.Handles.{AtObject, answer_of};
 ghost use Rattle.jilqamur_ends.specs.Peers.{with_row, with_rows, with_section, with_extension, empty_peer};
-ghost use Rattle.jilqamur_ends.specs.DraftedRows.{row_of, row_outcome};
-ghost use Rattle.jilqamur_ends.specs.Drafts.{section_of, section_outcome, extension_outcome};
-ghost use Rattle.jilqamur_ends.specs.Making.{make_outcome, made, without_draft};
+ghost use Rattle.jilqamur_drafts.specs.DraftedRows.{row_of, row_outcome};
+ghost use Rattle.jilqamur_drafts.specs.Drafts.{section_of, section_outcome, extension_outcome};
+ghost use Rattle.jilqamur_exchanges.specs.Making.{make_outcome, made, without_draft};
 
-use jilqamur_ends::{EndHandle, WireRow};
-use jilqamur_headers::codes;
+use jilqamur_ends::EndHandle;
+use jilqamur_exchanges::WireRow;
 use std::alloc::Global;
 
 /// Opens a handle: it holds no end, an empty draft, and nothing that is left.
@@ -38,7 +38,6 @@ pub extern "C" fn jilqamur_end_close(alloc: Global, end: &mut EndHandle) -> u32
 /// A row more in the draft of the next end.
 #[unsafe(no_mangle)]
 pub extern "C" fn jilqamur_end_row(
-    alloc: Global,
     end: &mut EndHandle,
     row: &WireRow,
     codec: &[u8],
@@ -50,12 +49,7 @@ pub extern "C" fn jilqamur_end_row(
         (λ p after. result ≡ ok → after ≡ with_row p (row_of row.now codec.now format.now)) }
     ensures unchanged { result ≢ ok → end.new.place.object ≡ end.old.place.object }
 {
-    let Some(mut peer) = end.take(alloc) else {
-        return codes::CLOSED;
-    };
-    let code = peer.add_row(row, codec, format);
-    end.put(peer);
-    code
+    jilqamur_exchanges::add_row(end, row, codec, format)
 }
 
 /// The default rows more in the draft of the next end.
@@ -67,12 +61,7 @@ pub extern "C" fn jilqamur_end_default_rows(alloc: Global, end: &mut EndHandle) 
         (λ p after. result ≡ ok → after ≡ with_rows p default_rows) }
     ensures unchanged { result ≢ ok → end.new.place.object ≡ end.old.place.object }
 {
-    let Some(mut peer) = end.take(alloc) else {
-        return codes::CLOSED;
-    };
-    let code = peer.add_default_rows(alloc);
-    end.put(peer);
-    code
+    jilqamur_exchanges::add_default_rows(alloc, end)
 }
 
 /// A header extension's number in the draft of the next end.
@@ -89,12 +78,7 @@ pub extern "C" fn jilqamur_end_extension(
         (λ p after. result ≡ ok → after ≡ with_extension p id uri.now) }
     ensures unchanged { result ≢ ok → end.new.place.object ≡ end.old.place.object }
 {
-    let Some(mut peer) = end.take(alloc) else {
-        return codes::CLOSED;
-    };
-    let code = peer.set_extension(alloc, id, uri);
-    end.put(peer);
-    code
+    jilqamur_exchanges::set_extension(alloc, end, id, uri)
 }
 
 /// The end of the draft.
@@ -107,12 +91,7 @@ pub extern "C" fn jilqamur_end_make(alloc: Global, end: &mut EndHandle, session:
     ensures refused { AtObject end.old.place.object end.new.place.object result
         (λ p after. result ≢ ok → after ≡ without_draft p) }
 {
-    let Some(mut peer) = end.take(alloc) else {
-        return codes::CLOSED;
-    };
-    let code = peer.make(alloc, session);
-    end.put(peer);
-    code
+    jilqamur_exchanges::make(alloc, end, session)
 }
 
 /// A section more in the next offer or answer.
@@ -132,10 +111,5 @@ pub extern "C" fn jilqamur_end_section(
         (λ p after. result ≡ ok → after ≡ with_section p (section_of mid.now is_video sends receives ssrcs.now)) }
     ensures unchanged { result ≢ ok → end.new.place.object ≡ end.old.place.object }
 {
-    let Some(mut peer) = end.take(alloc) else {
-        return codes::CLOSED;
-    };
-    let code = peer.add_section(alloc, mid, is_video, sends, receives, ssrcs);
-    end.put(peer);
-    code
+    jilqamur_exchanges::add_section(alloc, end, mid, is_video, sends, receives, ssrcs)
 }

@@ -5,13 +5,15 @@ ghost use Rattle.std.specs.List.{slice_get};
 ghost use Rattle.jilqamur_headers.specs.Codes.{ok, memory, nothing, closed};
 ghost use Rattle.jilqamur_headers.specs.Handles.{AtObject};
 ghost use Rattle.jilqamur_ends.specs.Peers.{behind_end, behind_sample};
-ghost use Rattle.jilqamur_ends.specs.Exchanges.{WithText};
+ghost use Rattle.jilqamur_ends.specs.Answers.{WithText};
 ghost use Rattle.jilqamur_headers.specs.Copies.{IsFetched};
-ghost use Rattle.jilqamur_ends.specs.Sending.{AnswersSender, AnswersSample, params_of};
-ghost use Rattle.jilqamur_ends.specs.Receiving.{OpensReceiver};
+ghost use Rattle.jilqamur_end_streams.specs.Params.{params_of};
+ghost use Rattle.jilqamur_end_streams.specs.Sending.{AnswersSender, AnswersSample};
+ghost use Rattle.jilqamur_end_streams.specs.Receiving.{OpensReceiver};
 
-use jilqamur_ends::{EndHandle, WireStream};
-use jilqamur_headers::{WireValues, codes};
+use jilqamur_end_streams::WireStream;
+use jilqamur_ends::EndHandle;
+use jilqamur_headers::WireValues;
 use std::alloc::Global;
 
 /// Opens a sending stream.
@@ -35,18 +37,12 @@ pub extern "C" fn jilqamur_end_open_sender(
     ensures rest { AtObject end.old.place.object end.new.place.object result
         (λ p after. after ≡ behind_end p after.end) }
 {
-    let Some(mut peer) = end.take(alloc) else {
-        return codes::CLOSED;
-    };
-    let code = peer.open_sender(alloc, mid, ssrc, pt, params, distances, stream);
-    end.put(peer);
-    code
+    jilqamur_end_streams::open_sender(alloc, end, mid, ssrc, pt, params, distances, stream)
 }
 
 /// Opens a receiving stream.
 #[unsafe(no_mangle)]
 pub extern "C" fn jilqamur_end_open_receiver(
-    alloc: Global,
     end: &mut EndHandle,
     mid: &[u8],
     ssrc: u32,
@@ -61,18 +57,12 @@ pub extern "C" fn jilqamur_end_open_receiver(
     ensures rest { AtObject end.old.place.object end.new.place.object result
         (λ p after. after ≡ behind_end p after.end) }
 {
-    let Some(mut peer) = end.take(alloc) else {
-        return codes::CLOSED;
-    };
-    let code = peer.open_receiver(mid, ssrc, pt, hold_back, stream);
-    end.put(peer);
-    code
+    jilqamur_end_streams::open_receiver(end, mid, ssrc, pt, hold_back, stream)
 }
 
 /// Sends a sample.
 #[unsafe(no_mangle)]
 pub extern "C" fn jilqamur_end_push_sample(
-    alloc: Global,
     end: &mut EndHandle,
     stream: usize,
     ticks: u64,
@@ -92,18 +82,12 @@ pub extern "C" fn jilqamur_end_push_sample(
     ensures rest { AtObject end.old.place.object end.new.place.object result
         (λ p after. after ≡ behind_sample p after.end after.datagrams) }
 {
-    let Some(mut peer) = end.take(alloc) else {
-        return codes::CLOSED;
-    };
-    let code = peer.push_sample(stream, ticks, values, mid, sample, count);
-    end.put(peer);
-    code
+    jilqamur_end_streams::push_sample(end, stream, ticks, values, mid, sample, count)
 }
 
 /// Copies a datagram that is left.
 #[unsafe(no_mangle)]
 pub extern "C" fn jilqamur_end_datagram(
-    alloc: Global,
     end: &mut EndHandle,
     index: usize,
     buffer: &mut [u8],
@@ -115,10 +99,5 @@ pub extern "C" fn jilqamur_end_datagram(
     ensures nothing { result ≡ nothing → needed.new ≡ needed.old }
     ensures unchanged { end.new.place.object ≡ end.old.place.object }
 {
-    let Some(mut peer) = end.take(alloc) else {
-        return codes::CLOSED;
-    };
-    let code = peer.datagram(index, buffer, needed);
-    end.put(peer);
-    code
+    end.datagram(index, buffer, needed)
 }

@@ -1,9 +1,5 @@
-pub use Rattle.jilqamur_drafts.specs.DraftedRows
-pub use Rattle.jilqamur_drafts.specs.Drafts
 pub mod Answers
-pub mod Exchanges
-pub mod Making
+pub mod Lending
 pub mod Owned
 pub mod Peers
-pub mod Receiving
-pub mod Sending
+pub mod Told

@@ -1,51 +1,83 @@
 //! What calls left, fetched into a caller's buffer.
+//! Each call answers `CLOSED` at a closed handle, and changes nothing then.
 
 ghost use Rattle.std.specs.Prelude.{◌≡◌};
 ghost use Rattle.std.specs.List.{slice_get};
-ghost use Rattle.jilqamur_headers.specs.Codes.{nothing};
+ghost use Rattle.jilqamur_headers.specs.Codes.{closed, nothing};
 ghost use Rattle.jilqamur_headers.specs.Copies.{IsCopied, IsFetched};
+ghost use Rattle.jilqamur_headers.specs.Handles.{AtObject};
 ghost use Rattle.jilqamur_streams.specs.Fetched.{IsToldOf, bytes_of};
-ghost use Rattle.jilqamur_ends.specs.Receiving.{TellsValues};
+ghost use Rattle.jilqamur_ends.specs.Told.{TellsValues};
 
-use crate::peer::Peer;
+use crate::place::EndHandle;
 use jilqamur_headers::{WireValues, codes, copy_out};
 use jilqamur_packets::WireUnit;
 use jilqamur_streams::{datagram_at, unit_at};
 
-impl Peer {
+impl EndHandle {
     /// Copies the text that the last offer or answer left, and answers `OK`, or `TOO_SMALL`, and the buffer is
     /// unchanged; `needed` is its length in bytes, 0 before the first.
-    pub fn text(&self, buffer: &mut [u8], needed: &mut usize) -> u32
-        ensures { IsCopied self.now.text buffer.old result needed.new buffer.new }
+    pub fn text(&mut self, buffer: &mut [u8], needed: &mut usize) -> u32
+        ensures text { AtObject self.old.place.object self.new.place.object result
+            (λ p after. IsCopied p.text buffer.old result needed.new buffer.new) }
+        ensures closed { result ≡ closed → (buffer.new ≡ buffer.old) × (needed.new ≡ needed.old) }
+        ensures unchanged { self.new.place.object ≡ self.old.place.object }
     {
-        copy_out(&self.text, buffer, needed)
+        if !self.is_open() {
+            return codes::CLOSED;
+        }
+        let peer = self.place.peer();
+        copy_out(&peer.text, buffer, needed)
     }
 
     /// Copies the datagram of this place, counted from 0, that the last sample left, and answers `OK`, or `TOO_SMALL`,
     /// and the buffer is unchanged; `needed` is its length in bytes. `NOTHING` where there is none of that place.
-    pub fn datagram(&self, index: usize, buffer: &mut [u8], needed: &mut usize) -> u32
-        ensures bytes { IsFetched (slice_get self.now.datagrams index) buffer.old result needed.new buffer.new }
+    pub fn datagram(&mut self, index: usize, buffer: &mut [u8], needed: &mut usize) -> u32
+        ensures datagram { AtObject self.old.place.object self.new.place.object result
+            (λ p after. IsFetched (slice_get p.datagrams index) buffer.old result needed.new buffer.new) }
+        ensures closed { result ≡ closed → (buffer.new ≡ buffer.old) × (needed.new ≡ needed.old) }
         ensures nothing { result ≡ nothing → needed.new ≡ needed.old }
+        ensures unchanged { self.new.place.object ≡ self.old.place.object }
     {
-        datagram_at(&self.datagrams, index, buffer, needed)
+        if !self.is_open() {
+            return codes::CLOSED;
+        }
+        let peer = self.place.peer();
+        datagram_at(&peer.datagrams, index, buffer, needed)
     }
 
     /// Copies the bytes of the unit that a poll left last, and answers `OK`, or `TOO_SMALL`, and the buffer is
     /// unchanged; `needed` is their count, and `told` what is told beside. `NOTHING` before the first unit.
-    pub fn unit(&self, buffer: &mut [u8], needed: &mut usize, told: &mut WireUnit) -> u32
-        ensures bytes { IsFetched (bytes_of self.now.unit) buffer.old result needed.new buffer.new }
-        ensures told { IsToldOf self.now.unit told.new }
+    pub fn unit(&mut self, buffer: &mut [u8], needed: &mut usize, told: &mut WireUnit) -> u32
+        ensures bytes { AtObject self.old.place.object self.new.place.object result
+            (λ p after. IsFetched (bytes_of p.unit) buffer.old result needed.new buffer.new) }
+        ensures told { AtObject self.old.place.object self.new.place.object result
+            (λ p after. IsToldOf p.unit told.new) }
+        ensures closed { result ≡ closed
+            → (buffer.new ≡ buffer.old) × (needed.new ≡ needed.old) × (told.new ≡ told.old) }
         ensures nothing { result ≡ nothing → (needed.new ≡ needed.old) × (told.new ≡ told.old) }
+        ensures unchanged { self.new.place.object ≡ self.old.place.object }
     {
-        unit_at(&self.unit, buffer, needed, told)
+        if !self.is_open() {
+            return codes::CLOSED;
+        }
+        let peer = self.place.peer();
+        unit_at(&peer.unit, buffer, needed, told)
     }
 
     /// Tells the values of the header extensions of the last datagram of the unit that a poll left last, and answers
     /// `OK`; `NOTHING` before the first unit, and `told` is unchanged.
-    pub fn values(&self, told: &mut WireValues) -> u32
-        ensures { TellsValues self.now.unit told.old result told.new }
+    pub fn values(&mut self, told: &mut WireValues) -> u32
+        ensures values { AtObject self.old.place.object self.new.place.object result
+            (λ p after. TellsValues p.unit told.old result told.new) }
+        ensures closed { result ≡ closed → told.new ≡ told.old }
+        ensures unchanged { self.new.place.object ≡ self.old.place.object }
     {
-        match &self.unit {
+        if !self.is_open() {
+            return codes::CLOSED;
+        }
+        let peer = self.place.peer();
+        match &peer.unit {
             None => codes::NOTHING,
             Some(unit) => {
                 *told = WireValues::of(&unit.ext_vals());

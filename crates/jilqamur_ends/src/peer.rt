@@ -11,11 +11,16 @@ use std::marker::Model;
 /// What a handle of an end holds.
 #[derive(Drop)]
 pub struct Peer {
-    pub(crate) end: Option<End>,
-    pub(crate) draft: Draft,
-    pub(crate) text: Vec<u8>,
-    pub(crate) datagrams: Vec<Datagram>,
-    pub(crate) unit: Option<Unit>,
+    /// The end, once it is made.
+    pub end: Option<End>,
+    /// What the next end is made of, and what the next offer or answer has.
+    pub draft: Draft,
+    /// The text that the last offer or answer left.
+    pub text: Vec<u8>,
+    /// The datagrams that the last sample left.
+    pub datagrams: Vec<Datagram>,
+    /// The unit that a poll left last.
+    pub unit: Option<Unit>,
 }
 
 impl Model for Peer {

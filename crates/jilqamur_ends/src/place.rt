@@ -2,6 +2,7 @@
 
 ghost use Rattle.std.specs.Prelude.{◌≡◌, Option, Some, None, IsSome, is_some};
 ghost use Rattle.std.specs.Option.{option_map};
+ghost use Rattle.std.specs.Borrow.{sem};
 ghost use Rattle.jilqamur_ends.specs.Owned.{owned, object_coded};
 ghost use Rattle.jilqamur_ends.specs.Peers.{PeerState};
 
@@ -25,6 +26,20 @@ impl Model for EndPlace {
 }
 
 impl EndPlace {
+    ghost use Rattle.jilqamur_ends.specs.Lending.{LendsPeer};
+
+    /// What it holds, lent.
+    ///
+    /// # Conditions
+    /// It holds something.
+    pub fn peer(&mut self) -> &mut Peer
+        requires { IsSome self.old.object }
+        ensures* writes_back { sem 𝓛 (LendsPeer self.entry result) }
+        ensures value { self.old.object ≡ Some result.now }
+    {
+        unsafe { &mut *(self.at as *mut Peer) }
+    }
+
     fn of_parts(parts: Parts<Peer, Global>) -> EndPlace
         ensures { result.object ≡ Some parts.value }
     {
@@ -65,14 +80,14 @@ pub struct EndHandle {
 
 impl EndHandle {
     /// Whether it holds something.
-    pub(crate) fn is_open(&self) -> bool
+    pub fn is_open(&self) -> bool
         ensures { result ≡ is_some self.now.place.object }
     {
         self.full
     }
 
     /// What it holds, which is taken out.
-    pub fn take(&mut self, alloc: Global) -> Option<Box<Peer>>
+    pub(crate) fn take(&mut self, alloc: Global) -> Option<Box<Peer>>
         ensures taken { option_map (λ b. b.value) result ≡ self.old.place.object }
         ensures empty { self.new.place.object ≡ None }
     {
@@ -90,7 +105,7 @@ impl EndHandle {
     ///
     /// # Conditions
     /// It holds nothing.
-    pub fn put(&mut self, value: Box<Peer>)
+    pub(crate) fn put(&mut self, value: Box<Peer>)
         requires { self.old.place.object ≡ None }
         ensures { self.new.place.object ≡ Some value.value }
     {

@@ -1,5 +1,5 @@
 -- What calls of sending streams answer.
-use Rattle.std.specs.Prelude.{ℕ, ◌≡◌, ◌≢◌, ◌==◌, Bool, true, false, List, length, Option, Some, None, if◌then◌else◌}
+use Rattle.std.specs.Prelude.{ℕ, ◌≡◌, ◌≢◌, ◌==◌, Bool, List, length, Option, Some, None, if◌then◌else◌}
 use Rattle.rtp_wire.specs.Name.{name_of}
 use Rattle.rtp_wire.specs.Time.{Time}
 use Rattle.rtp_wire.specs.declared.ExtensionValues.{ExtensionValues}
@@ -11,27 +11,9 @@ use Rattle.rtp_media_ends.specs.declared.StreamParams.{StreamParams}
 use Rattle.jilqamur_headers.specs.Codes.{ok, memory, out_of_range, no_stream}
 use Rattle.jilqamur_headers.specs.Values.{values_given}
 use Rattle.jilqamur_headers.specs.declared.values.WireValues.{WireValues}
-use Rattle.jilqamur_packets.specs.Formats.{number_given}
 use Rattle.jilqamur_streams.specs.StreamAnswers.{sample_outcome}
-use Rattle.jilqamur_ends.specs.declared.sending.WireStream.{WireStream}
 use Rattle.rtp_media_ends.specs.Stops.{SenderFails, Where}
-use Rattle.jilqamur_ends.specs.Receiving.{open_outcome}
-
--- Distances that are given, or no redundancy.
-abbrev pub distances_of : Bool → List ℕ → Option (List ℕ)
-distances_of false distances = None
-distances_of true distances = Some distances
-
--- The parameters of a sending stream.
-abbrev pub params_of : WireStream → List ℕ → StreamParams
-params_of w distances = record {
-  first = w.first;
-  mtu = w.mtu;
-  limit = w.limit;
-  red = distances_of w.has_red distances;
-  picture_id = number_given w.has_picture_id w.picture_id;
-  for_browsers = w.for_browsers;
-}
+use Rattle.jilqamur_end_streams.specs.Refusals.{open_outcome}
 
 -- Whether they are sound for the row that is agreed.
 abbrev pub is_sound_for : EndState → List ℕ → ℕ → StreamParams → Bool

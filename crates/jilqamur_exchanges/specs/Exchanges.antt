@@ -75,8 +75,3 @@ abbrev pub AnswersWithdraw : EndState → ℕ → EndState → Type 0
 AnswersWithdraw e result after =
     (result ≡ (if is_some e.exchange.pending then ok else nothing))
     × (after ≡ with_exchange e (with_offer e.exchange None))
-
--- Bytes that are no text are refused first.
-abbrev pub WithText : List ℕ → Option EndState → Option EndState → ℕ → (EndState → EndState → Type 0) → Type 0
-WithText bytes old new result answers =
-    Where (is_utf8 bytes) (AtEnd old new result answers) ((new ≡ old) × (result ≡ not_text))

@@ -9,31 +9,13 @@ use Rattle.rtp_media_payloads.specs.Rows.{format_of}
 use Rattle.rtp_media_ends.specs.Arrivals.{verdict_of, after_datagram}
 use Rattle.rtp_media_ends.specs.Ends.{EndState, is_receiver_at, receiver_at, with_receiver, after_open_receiver}
 use Rattle.rtp_media_ends.specs.Ends.{refusal_of_open_receiver}
-use Rattle.rtp_media_ends.specs.declared.OpenError.{OpenError}
-use Rattle.rtp_media_ends.specs.declared.OpenError.TheVariants as open_error
 use Rattle.rtp_media_ends.specs.declared.Received.{Received}
 use Rattle.rtp_media_ends.specs.declared.Received.TheVariants as received
 use Rattle.jilqamur_streams.specs.StreamAnswers.{drain_result, poll_code, unit_behind}
-use Rattle.jilqamur_headers.specs.Codes.{ok, memory, nothing, unreadable, foreign, damaged, refused}
-use Rattle.jilqamur_headers.specs.Codes.{no_stream, no_section, row_not_agreed, row_differs, wrong_direction}
-use Rattle.jilqamur_headers.specs.Codes.{ssrc_not_named, already_open}
-use Rattle.jilqamur_headers.specs.Values.{values_told}
-use Rattle.jilqamur_headers.specs.declared.values.WireValues.{WireValues}
+use Rattle.jilqamur_headers.specs.Codes.{ok, memory, unreadable, foreign, damaged, refused}
+use Rattle.jilqamur_headers.specs.Codes.{no_stream}
+use Rattle.jilqamur_end_streams.specs.Refusals.{open_outcome}
 use Rattle.rtp_media_ends.specs.Stops.{PollStops, Where}
-
--- The number of a refusal to open a stream.
-abbrev pub open_code : OpenError → ℕ
-open_code open_error.NoSection = no_section
-open_code open_error.RowNotAgreed = row_not_agreed
-open_code open_error.RowDiffers = row_differs
-open_code open_error.WrongDirection = wrong_direction
-open_code open_error.SsrcNotNamed = ssrc_not_named
-open_code open_error.AlreadyOpen = already_open
-open_code open_error.Memory = memory
-
-abbrev pub open_outcome : Option OpenError → ℕ
-open_outcome None = ok
-open_outcome (Some e) = open_code e
 
 -- What opening a receiving stream answers.
 pub record OpensReceiver (e : EndState) (mid : List ℕ) (ssrc pt hold_back : ℕ) (result stream : ℕ) (after : EndState)
@@ -94,8 +76,3 @@ abbrev pub Drains : EndState → ℕ → Option MediaUnit → ℕ → Option Med
 Drains e n before result unit after = Where (is_receiver_at e n)
     (AnswersPoll e n (drain_result (receiver_at e n)) (drained_receiver (receiver_at e n)) (DrainStops e n) before
     result unit after) (HasNoStream e before result unit after)
-
--- What is told of the header extensions of the last datagram of a unit, where there is one.
-abbrev pub TellsValues : Option MediaUnit → WireValues → ℕ → WireValues → Type 0
-TellsValues None before result told = (result ≡ nothing) × (told ≡ before)
-TellsValues (Some u) before result told = (result ≡ ok) × (told ≡ values_told u.values)

@@ -1,0 +1,4 @@
+pub mod Params
+pub mod Receiving
+pub mod Refusals
+pub mod Sending

@@ -1,0 +1,2 @@
+pub mod Exchanges
+pub mod Making
