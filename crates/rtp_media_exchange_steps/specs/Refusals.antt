@@ -107,8 +107,8 @@ abbrev pub round_refusal : Result (List Row) RoundError → Option ExchangeError
 round_refusal (Ok rows) = None
 round_refusal (Err e) = Some (error.Round e)
 
--- Why the sections of a text can't be exchanged for wanted ones, by rows and by those that were agreed: one is no media,
--- they don't correspond, or a round is refused.
+-- Why the sections of a text can't be exchanged for wanted ones, by rows and by those that were agreed: one is no
+-- media, they don't correspond, or a round is refused.
 unfoldable pub refusal_of_sections : List Row → List Agreed → List MediaLine → List Wanted → Option ExchangeError
 refusal_of_sections rows agreed lines wanted =
     else_refused (not_media_of (find (λ m. not (is_media_line m)) lines))

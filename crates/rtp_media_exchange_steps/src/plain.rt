@@ -57,8 +57,8 @@ fn check_types(alloc: Global, rows: &[PayloadParams]) -> Result<(), EndError>
 ///
 /// # Errors
 ///
-/// The first that holds of `RowNotPlain`, with the place of the first row that isn't plain, `TypesNotDistinct`, with the
-/// first type that stands there twice, and `NotWritable`; or `Memory`.
+/// The first that holds of `RowNotPlain`, with the place of the first row that isn't plain, `TypesNotDistinct`, with
+/// the first type that stands there twice, and `NotWritable`; or `Memory`.
 pub fn check_new(
     alloc: Global,
     rows: &[PayloadParams],

@@ -13,7 +13,8 @@ returns-in-None-clause-opens c =
     ((receiver-refusal c.args.exchange.now.config.rows c.args.exchange.now.agreed _
     c.args.mid c.args.ssrc c.args.pt _ c.in_ok-row.row _ _ _ _ c.in_ok-section.ensures.found c.in_ok-row.ensures.found
     c.agrees_with.ensures c.is_receiving.ensures c.names_remote.ensures
-    (c.could_receive.ensures ∙ ap (λ types. list_any (receives_as c.args.ssrc types) c.args.streams.now) c.types_of.ensures)))
+    (c.could_receive.ensures
+    ∙ ap (λ types. list_any (receives_as c.args.ssrc types) c.args.streams.now) c.types_of.ensures)))
     ∙ sym c.opening_refusal-refusal.ensures in
     grind (arith, common_steps, e)
 
@@ -25,6 +26,7 @@ returns-in-Some-clause-refused c =
     ((receiver-refusal c.args.exchange.now.config.rows c.args.exchange.now.agreed _
     c.args.mid c.args.ssrc c.args.pt _ c.in_ok-row.row _ _ _ _ c.in_ok-section.ensures.found c.in_ok-row.ensures.found
     c.agrees_with.ensures c.is_receiving.ensures c.names_remote.ensures
-    (c.could_receive.ensures ∙ ap (λ types. list_any (receives_as c.args.ssrc types) c.args.streams.now) c.types_of.ensures)))
+    (c.could_receive.ensures
+    ∙ ap (λ types. list_any (receives_as c.args.ssrc types) c.args.streams.now) c.types_of.ensures)))
     ∙ sym c.opening_refusal-refusal.ensures in
     grind (arith, common_steps, e)
