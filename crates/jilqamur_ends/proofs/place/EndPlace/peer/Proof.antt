@@ -106,12 +106,14 @@ module _ {M : Type 1} {𝓤 : Ura M} (𝓛 : Logic 𝓤) (at_mem : Memory → SP
       enter ! 𝓣.C 𝓣.Λ code.function (vptr rb ro ∷ []) _ $ alloc_all ! (λ ls. pass_all ! refl ((tt, tt), tt) $
       let En : Env 𝓤 H = env (code.function).locals ls in
       opens ! tt P {h = d} rb ro (λ vs. move ! (1 ∷ []) $
-      rewrite ! 0 (λ (h : Option T.Denot). ‵ (P.own_val (record { at = d.at; alloc = d.alloc; object = h }) vs)) e' refl $
+      rewrite ! 0 (λ (h : Option T.Denot). ‵ (P.own_val (record { at = d.at; alloc = d.alloc; object = h }) vs))
+      e' refl $
       use1 𝓛 (‵ ((B E).own_val v vs)) (id⊢ 𝓤 _) $
       box_out E ! v vs (λ b o hv at_b ws fa.
       rewrite ! 3 (λ (us : List Val). ‵ (cell_at full_share P.mir us rb ro)) ws refl $
       move ! (1 ∷ 2 ∷ []) $ fjoin ! $ move ! (1 ∷ []) $ first ! $ blocks ! $
-      sets ! (of_opd ! (load ! (through ! refl (fld ! refl (stop !))) (look_in ! 2 (sub ! 0 refl (whole !))))) refl (tt, tt) $
+      sets ! (of_opd ! (load ! (through ! refl (fld ! refl (stop !))) (look_in ! 2 (sub ! 0 refl (whole !)))))
+      refl (tt, tt) $
       sets ! (of_opd ! (get ! refl)) refl (tt, tt) $ sets_last ! (addr ! (through ! refl (stop !))) refl (tt, tt) $
       exec ! 𝓣.C 𝓣.Λ En rest (at_ret En Post) $ sets ! (of_opd ! (get ! refl)) refl (tt, tt) $
       move ! (1 ∷ 2 ∷ []) $ fjoin ! $ move ! (2 ∷ 3 ∷ 4 ∷ 1 ∷ 0 ∷ []) $ group ! 5 $
