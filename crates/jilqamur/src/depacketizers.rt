@@ -7,7 +7,6 @@ ghost use Rattle.jilqamur_headers.specs.Handles.{AtObject, answer_of};
 ghost use Rattle.jilqamur_packets.specs.Formats.{format_outcome};
 ghost use Rattle.jilqamur_packets.specs.PacketInboxes.{new_packet_inbox, behind_push, PopsAt, bytes_of, IsToldOf};
 
-use jilqamur_headers::codes;
 use jilqamur_packets::{DepacketizerHandle, WireFormat, WireUnit};
 use std::alloc::Global;
 
@@ -60,12 +59,7 @@ pub extern "C" fn jilqamur_depacketizer_push(
         (λ p after. result ≡ ok → after ≡ behind_push p number time marker payload.now) }
     ensures kept { result ≢ ok → depacketizer.new.place.object ≡ depacketizer.old.place.object }
 {
-    let Some(mut inbox) = depacketizer.take(alloc) else {
-        return codes::CLOSED;
-    };
-    let code = inbox.push(number, time, marker, payload);
-    depacketizer.put(inbox);
-    code
+    depacketizer.push(alloc, number, time, marker, payload)
 }
 
 /// Pops a unit that is due.
@@ -79,12 +73,7 @@ pub extern "C" fn jilqamur_depacketizer_pop(
     ensures kept { AtObject depacketizer.old.place.object depacketizer.new.place.object result
         (λ p after. result ≢ ok → after.unit ≡ p.unit) }
 {
-    let Some(mut inbox) = depacketizer.take(alloc) else {
-        return codes::CLOSED;
-    };
-    let code = inbox.pop();
-    depacketizer.put(inbox);
-    code
+    depacketizer.pop(alloc)
 }
 
 /// Pops the lowest complete unit, whatever is missing before it.
@@ -98,12 +87,7 @@ pub extern "C" fn jilqamur_depacketizer_drain(
     ensures kept { AtObject depacketizer.old.place.object depacketizer.new.place.object result
         (λ p after. result ≢ ok → after.unit ≡ p.unit) }
 {
-    let Some(mut inbox) = depacketizer.take(alloc) else {
-        return codes::CLOSED;
-    };
-    let code = inbox.drain();
-    depacketizer.put(inbox);
-    code
+    depacketizer.drain(alloc)
 }
 
 /// Copies the unit that is left.
@@ -124,10 +108,5 @@ pub extern "C" fn jilqamur_depacketizer_unit(
     ensures nothing { result ≡ nothing → (needed.new ≡ needed.old) × (told.new ≡ told.old) }
     ensures unchanged { depacketizer.new.place.object ≡ depacketizer.old.place.object }
 {
-    let Some(mut inbox) = depacketizer.take(alloc) else {
-        return codes::CLOSED;
-    };
-    let code = inbox.unit(buffer, needed, told);
-    depacketizer.put(inbox);
-    code
+    depacketizer.unit(alloc, buffer, needed, told)
 }

@@ -24,9 +24,7 @@ mod senders;
 mod setup;
 mod streams;
 
-use jilqamur_headers::{
-    WindowHandle, WireHeader, codes, read_header, reception_code, write_header,
-};
+use jilqamur_headers::{WindowHandle, WireHeader, codes, read_header, write_header};
 use rtp_wire::{extend_u16, unpad_payload};
 use std::alloc::Global;
 
@@ -114,12 +112,7 @@ pub extern "C" fn jilqamur_window_receive(
         (reception_of r.window (header_in empty_map datagram.now)) result number.old number.new) }
     ensures after { window.new.place.object ≡ option_map (behind datagram.now) window.old.place.object }
 {
-    let Some(mut replay) = window.take(alloc) else {
-        return codes::CLOSED;
-    };
-    let reception = replay.receive(datagram);
-    window.put(replay);
-    reception_code(reception, number)
+    window.receive(alloc, datagram, number)
 }
 
 /// Frees the window of a handle.

@@ -8,7 +8,6 @@ ghost use Rattle.jilqamur_headers.specs.Handles.{AtObject, answer_of};
 ghost use Rattle.jilqamur_packets.specs.PacketOutboxes.{new_packet_outbox, packetizer_outcome, cut, cut_outcome};
 ghost use Rattle.jilqamur_packets.specs.PacketOutboxes.{after_cut, packing_in};
 
-use jilqamur_headers::codes;
 use jilqamur_packets::{PacketizerHandle, WireFormat, WirePacketizer};
 use std::alloc::Global;
 
@@ -61,12 +60,7 @@ pub extern "C" fn jilqamur_packetizer_packetize(
     ensures kept { result ≢ ok → packetizer.new.place.object ≡ packetizer.old.place.object }
     ensures closed { result ≡ closed → count.new ≡ count.old }
 {
-    let Some(mut outbox) = packetizer.take(alloc) else {
-        return codes::CLOSED;
-    };
-    let code = outbox.packetize(mtu, sample, count);
-    packetizer.put(outbox);
-    code
+    packetizer.packetize(alloc, mtu, sample, count)
 }
 
 /// Copies a packet that is left, with its marker.
@@ -89,10 +83,5 @@ pub extern "C" fn jilqamur_packetizer_packet(
     ensures nothing { result ≡ nothing → needed.new ≡ needed.old }
     ensures unchanged { packetizer.new.place.object ≡ packetizer.old.place.object }
 {
-    let Some(mut outbox) = packetizer.take(alloc) else {
-        return codes::CLOSED;
-    };
-    let code = outbox.packet(index, buffer, needed, marker);
-    packetizer.put(outbox);
-    code
+    packetizer.packet(alloc, index, buffer, needed, marker)
 }

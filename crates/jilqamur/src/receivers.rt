@@ -8,7 +8,6 @@ ghost use Rattle.jilqamur_packets.specs.Formats.{format_outcome};
 ghost use Rattle.jilqamur_streams.specs.Fetched.{IsToldOf, bytes_of};
 ghost use Rattle.jilqamur_streams.specs.Inboxes.{Polls, Drains, new_inbox, Takes};
 
-use jilqamur_headers::codes;
 use jilqamur_packets::{WireFormat, WireUnit};
 use jilqamur_streams::ReceiverHandle;
 use std::alloc::Global;
@@ -57,12 +56,7 @@ pub extern "C" fn jilqamur_receiver_push(
         (λ p after. Takes p low time marker payload.now result number.new after) }
     ensures number { result ≢ ok → number.new ≡ number.old }
 {
-    let Some(mut inbox) = receiver.take(alloc) else {
-        return codes::CLOSED;
-    };
-    let code = inbox.push(low, time, marker, payload, number);
-    receiver.put(inbox);
-    code
+    receiver.push(alloc, low, time, marker, payload, number)
 }
 
 /// Polls for a unit.
@@ -73,12 +67,7 @@ pub extern "C" fn jilqamur_receiver_poll(alloc: Global, receiver: &mut ReceiverH
     ensures kept { AtObject receiver.old.place.object receiver.new.place.object result
         (λ p after. result ≢ ok → after.unit ≡ p.unit) }
 {
-    let Some(mut inbox) = receiver.take(alloc) else {
-        return codes::CLOSED;
-    };
-    let code = inbox.poll();
-    receiver.put(inbox);
-    code
+    receiver.poll(alloc)
 }
 
 /// Drains a unit.
@@ -89,12 +78,7 @@ pub extern "C" fn jilqamur_receiver_drain(alloc: Global, receiver: &mut Receiver
     ensures kept { AtObject receiver.old.place.object receiver.new.place.object result
         (λ p after. result ≢ ok → after.unit ≡ p.unit) }
 {
-    let Some(mut inbox) = receiver.take(alloc) else {
-        return codes::CLOSED;
-    };
-    let code = inbox.drain();
-    receiver.put(inbox);
-    code
+    receiver.drain(alloc)
 }
 
 /// Copies the unit that is left.
@@ -115,10 +99,5 @@ pub extern "C" fn jilqamur_receiver_unit(
     ensures nothing { result ≡ nothing → (needed.new ≡ needed.old) × (told.new ≡ told.old) }
     ensures unchanged { receiver.new.place.object ≡ receiver.old.place.object }
 {
-    let Some(mut inbox) = receiver.take(alloc) else {
-        return codes::CLOSED;
-    };
-    let code = inbox.unit(buffer, needed, told);
-    receiver.put(inbox);
-    code
+    receiver.unit(alloc, buffer, needed, told)
 }

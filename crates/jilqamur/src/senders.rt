@@ -7,7 +7,6 @@ ghost use Rattle.jilqamur_headers.specs.Copies.{IsFetched};
 ghost use Rattle.jilqamur_headers.specs.Handles.{AtObject, answer_of};
 ghost use Rattle.jilqamur_streams.specs.Outboxes.{new_outbox, sender_outcome, Pushes};
 
-use jilqamur_headers::codes;
 use jilqamur_packets::WireFormat;
 use jilqamur_streams::{SenderHandle, WireSender};
 use std::alloc::Global;
@@ -57,12 +56,7 @@ pub extern "C" fn jilqamur_sender_push_sample(
         (λ p after. count.new ≡ length after.datagrams) }
     ensures closed { result ≡ closed → count.new ≡ count.old }
 {
-    let Some(mut outbox) = sender.take(alloc) else {
-        return codes::CLOSED;
-    };
-    let code = outbox.push_sample(ticks, sample, count);
-    sender.put(outbox);
-    code
+    sender.push_sample(alloc, ticks, sample, count)
 }
 
 /// Copies a datagram that is left.
@@ -80,10 +74,5 @@ pub extern "C" fn jilqamur_sender_datagram(
     ensures nothing { result ≡ nothing → needed.new ≡ needed.old }
     ensures unchanged { sender.new.place.object ≡ sender.old.place.object }
 {
-    let Some(mut outbox) = sender.take(alloc) else {
-        return codes::CLOSED;
-    };
-    let code = outbox.datagram(index, buffer, needed);
-    sender.put(outbox);
-    code
+    sender.datagram(alloc, index, buffer, needed)
 }

@@ -13,5 +13,5 @@ pub use copying::{copy_out, text_in};
 pub use header::{WireHeader, read_header, write_header};
 pub use parts::Parts;
 pub use place::{WindowHandle, WindowPlace};
-pub use replay::{Replay, reception_code};
+pub use replay::Replay;
 pub use values::WireValues;

@@ -1,16 +1,19 @@
-//! A place for a window that a C program holds.
+//! A place for a window that a C program holds. Each call answers `CLOSED` at a closed handle, and changes nothing then.
 
-ghost use Rattle.std.specs.Prelude.{◌≡◌, ◌≢◌, Option, Some, None, IsSome, is_some};
+ghost use Rattle.std.specs.Prelude.{◌≡◌, ◌≢◌, Option, Some, None, IsSome, is_some, MatchOption};
 ghost use Rattle.std.specs.Option.{option_map};
-ghost use Rattle.jilqamur_headers.specs.Codes.{ok, memory, in_use};
+ghost use Rattle.rtp_wire.specs.Header.{header_in};
+ghost use Rattle.rtp_wire.specs.Run.{reception_of};
+ghost use Rattle.rtp_wire_extension_maps.specs.Maps.{empty_map};
+ghost use Rattle.jilqamur_headers.specs.Codes.{ok, memory, in_use, closed};
 ghost use Rattle.jilqamur_headers.specs.Handles.{answer_of};
 ghost use Rattle.jilqamur_headers.specs.Owned.{owned, object_coded};
-ghost use Rattle.jilqamur_headers.specs.Windows.{fresh};
+ghost use Rattle.jilqamur_headers.specs.Windows.{ReceivedAs, behind, fresh};
 ghost use Rattle.jilqamur_headers.specs.declared.replay.Replay.{Replay};
 
 use crate::codes;
 use crate::parts::Parts;
-use crate::replay::Replay;
+use crate::replay::{Replay, reception_code};
 use std::alloc::Global;
 use std::marker::Model;
 use std::{mem, ptr};
@@ -76,7 +79,7 @@ impl WindowHandle {
     }
 
     /// What it holds, which is taken out.
-    pub fn take(&mut self, alloc: Global) -> Option<Box<Replay>>
+    fn take(&mut self, alloc: Global) -> Option<Box<Replay>>
         ensures taken { option_map (λ b. b.value) result ≡ self.old.place.object }
         ensures empty { self.new.place.object ≡ None }
     {
@@ -94,7 +97,7 @@ impl WindowHandle {
     ///
     /// # Conditions
     /// It holds nothing.
-    pub fn put(&mut self, value: Box<Replay>)
+    fn put(&mut self, value: Box<Replay>)
         requires { self.old.place.object ≡ None }
         ensures { self.new.place.object ≡ Some value.value }
     {
@@ -132,5 +135,22 @@ impl WindowHandle {
             Some(_) => codes::OK,
             None => codes::CLOSED,
         }
+    }
+
+    /// Takes a datagram in, and answers `OK`: `number` is its widened sequence number, which is recorded. `UNREADABLE`
+    /// where it doesn't begin with a header, or `REFUSED` where its number came before, or is 128 or more below the
+    /// greatest, and nothing has changed.
+    pub fn receive(&mut self, alloc: Global, datagram: &[u8], number: &mut u64) -> u32
+        ensures closed { self.old.place.object ≡ None → (result ≡ closed) × (number.new ≡ number.old) }
+        ensures answer { MatchOption self.old.place.object (result ≡ closed) (λ r. ReceivedAs
+            (reception_of r.window (header_in empty_map datagram.now)) result number.old number.new) }
+        ensures after { self.new.place.object ≡ option_map (behind datagram.now) self.old.place.object }
+    {
+        let Some(mut replay) = self.take(alloc) else {
+            return codes::CLOSED;
+        };
+        let reception = replay.receive(datagram);
+        self.put(replay);
+        reception_code(reception, number)
     }
 }

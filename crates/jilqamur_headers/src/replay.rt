@@ -29,7 +29,7 @@ impl Replay {
 
 /// What a reception is as a code: `OK`, and `number` is the sequence number that was taken; or `UNREADABLE` or
 /// `REFUSED`.
-pub fn reception_code(reception: Reception, number: &mut u64) -> u32
+pub(crate) fn reception_code(reception: Reception, number: &mut u64) -> u32
     ensures { ReceivedAs reception result number.old number.new }
 {
     match reception {

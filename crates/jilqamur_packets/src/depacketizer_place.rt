@@ -72,7 +72,7 @@ impl DepacketizerHandle {
     }
 
     /// What it holds, which is taken out.
-    pub fn take(&mut self, alloc: Global) -> Option<Box<PacketInbox>>
+    pub(crate) fn take(&mut self, alloc: Global) -> Option<Box<PacketInbox>>
         ensures taken { option_map (λ b. b.value) result ≡ self.old.place.object }
         ensures empty { self.new.place.object ≡ None }
     {
@@ -93,7 +93,7 @@ impl DepacketizerHandle {
     ///
     /// # Conditions
     /// It holds nothing.
-    pub fn put(&mut self, value: Box<PacketInbox>)
+    pub(crate) fn put(&mut self, value: Box<PacketInbox>)
         requires { self.old.place.object ≡ None }
         ensures { self.new.place.object ≡ Some value.value }
     {

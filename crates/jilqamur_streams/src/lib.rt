@@ -6,7 +6,9 @@ mod format;
 mod handles;
 mod inbox;
 mod outbox;
+mod receiver_calls;
 mod receiver_place;
+mod sender_calls;
 mod sender_place;
 mod stream_fetch;
 

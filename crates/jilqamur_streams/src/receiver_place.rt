@@ -72,7 +72,7 @@ impl ReceiverHandle {
     }
 
     /// What it holds, which is taken out.
-    pub fn take(&mut self, alloc: Global) -> Option<Box<Inbox>>
+    pub(crate) fn take(&mut self, alloc: Global) -> Option<Box<Inbox>>
         ensures taken { option_map (λ b. b.value) result ≡ self.old.place.object }
         ensures empty { self.new.place.object ≡ None }
     {
@@ -93,7 +93,7 @@ impl ReceiverHandle {
     ///
     /// # Conditions
     /// It holds nothing.
-    pub fn put(&mut self, value: Box<Inbox>)
+    pub(crate) fn put(&mut self, value: Box<Inbox>)
         requires { self.old.place.object ≡ None }
         ensures { self.new.place.object ≡ Some value.value }
     {

@@ -72,7 +72,7 @@ impl SenderHandle {
     }
 
     /// What it holds, which is taken out.
-    pub fn take(&mut self, alloc: Global) -> Option<Box<Outbox>>
+    pub(crate) fn take(&mut self, alloc: Global) -> Option<Box<Outbox>>
         ensures taken { option_map (λ b. b.value) result ≡ self.old.place.object }
         ensures empty { self.new.place.object ≡ None }
     {
@@ -90,7 +90,7 @@ impl SenderHandle {
     ///
     /// # Conditions
     /// It holds nothing.
-    pub fn put(&mut self, value: Box<Outbox>)
+    pub(crate) fn put(&mut self, value: Box<Outbox>)
         requires { self.old.place.object ≡ None }
         ensures { self.new.place.object ≡ Some value.value }
     {
