@@ -1,4 +1,4 @@
-//! Two ends of a row, and what they agree on.
+//! An end of a row, and what it wants to agree on.
 
 use crate::cases::Case;
 use crate::stopped::Stopped;
@@ -6,30 +6,8 @@ use rtp_media_play::{CodecConfig, Distances, End, SectionSpec, Session};
 use rtp_wire::{Direction, ExtensionMap, Mid, SessionId, Ssrc};
 use std::alloc::{AllocError, Global};
 
-/// Two ends of a row.
-pub(crate) struct Ends {
-    pub(crate) a: End,
-    pub(crate) b: End,
-}
-
-/// Written out, so that who lets both go lets go of one value.
-impl Drop for Ends {
-    fn drop(self) {
-        let Ends { a: _a, b: _b } = self;
-    }
-}
-
-impl Ends {
-    /// Two ends that have exchanged nothing.
-    pub(crate) fn new(alloc: Global, case: &Case) -> Result<Self, Stopped> {
-        let a = end(alloc, case, 1)?;
-        let b = end(alloc, case, 2)?;
-        Ok(Ends { a, b })
-    }
-}
-
 /// An end of one row.
-fn end(alloc: Global, case: &Case, session: u64) -> Result<End, Stopped> {
+pub(crate) fn end(alloc: Global, case: &Case, session: u64) -> Result<End, Stopped> {
     let config = CodecConfig::new_from_payload_params(vec![in alloc; case.row()]?);
     let session = Session::new(alloc, SessionId::from(session));
     Ok(End::new(alloc, config, session, ExtensionMap::empty())?)

@@ -3,7 +3,7 @@
 ghost use Rattle.std.specs.Prelude.{◌≡◌, ◌<◌, length, All, IfOk};
 ghost use Rattle.media_calls.specs.Call.{IsShortSample};
 
-use crate::calls::{Ends, distances, sections};
+use crate::calls::{distances, end, sections};
 use crate::carrying::carry;
 use crate::cases::{Case, PIECES};
 use crate::stopped::Stopped;
@@ -35,13 +35,13 @@ pub(crate) fn print_calls(rt: &HostRuntime) -> Result<(), Stopped> {
 
 /// A call of ends whose row this is.
 fn call(alloc: Global, case: &Case) -> Result<Vec<Played>, Stopped> {
-    let mut ends = Ends::new(alloc, case)?;
     let samples = short_samples(alloc)?;
     let red = distances(alloc, case, &[1])?;
     let sections_a = sections(alloc, case, &[Ssrc::from(44)])?;
     let sections_b = sections(alloc, case, &[Ssrc::from(45)])?;
-    let Ends { a, b } = &mut ends;
-    carry(alloc, a, b, sections_a, sections_b, red, &samples)
+    let mut a = end(alloc, case, 1)?;
+    let mut b = end(alloc, case, 2)?;
+    carry(alloc, &mut a, &mut b, sections_a, sections_b, red, &samples)
 }
 
 /// Three samples of 20 milliseconds.

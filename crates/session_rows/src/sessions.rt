@@ -1,20 +1,19 @@
-//! Ends whose session has lines of its own.
+//! Exchanges whose session has lines of its own.
 
-use crate::stopped::Stopped;
-use rtp_media_ends::{
-    Bandwidth, CodecConfig, End, EndError, MediaKind, SectionSpec, Session, SessionAttribute,
+use rtp_media_negotiation::{
+    Bandwidth, CodecConfig, EndError, Exchange, MediaKind, SectionSpec, Session, SessionAttribute,
 };
 use rtp_wire::{Direction, ExtensionMap, Mid, SessionId, Ssrc};
 use sdp_formats_types::{Listed, Text};
 use std::alloc::{AllocError, Global};
 
-/// An offer says the lines of its end's session, each at its place.
-pub(crate) fn offers_say_the_lines_of_the_session(alloc: Global) -> Result<bool, Stopped> {
-    let mut end = end_with(alloc, SessionAttribute::IceLite)?;
-    let offer = end.offer(sections(alloc)?)?;
+/// An offer says the lines of its session, each at its place.
+pub(crate) fn offers_say_the_lines_of_the_session(alloc: Global) -> Option<bool> {
+    let mut exchange = exchange_with(alloc, SessionAttribute::IceLite).ok()?;
+    let offer = exchange.offer(sections(alloc).ok()?).ok()?;
     let front =
         "v=0\r\no=str0m-0.25.0 1 2 IN IP4 0.0.0.0\r\ns=-\r\nb=AS:500\r\nt=0 0\r\na=group:BUNDLE 0\r\na=ice-lite\r\n";
-    Ok(offer.starts_with(front))
+    Some(offer.starts_with(front))
 }
 
 /// One section that flows both ways, of SSRC 44.
@@ -36,36 +35,34 @@ static LINES: [(&str, bool); 3] = [
 ];
 
 /// Lines that would be read as others are refused, and no others are.
-pub(crate) fn lines_that_would_be_read_otherwise_are_refused(
-    alloc: Global,
-) -> Result<bool, AllocError> {
+pub(crate) fn lines_that_would_be_read_otherwise_are_refused(alloc: Global) -> Option<bool> {
     let group = SessionAttribute::Group {
-        typ: text(alloc, "BUNDLE")?,
+        typ: text(alloc, "BUNDLE").ok()?,
         mids: Listed::new(alloc),
     };
     if !is_refused(alloc, group) || is_refused(alloc, SessionAttribute::AllowMixedExts) {
-        return Ok(false);
+        return Some(false);
     }
     for (line, is_other) in &LINES {
-        let line = text(alloc, line)?;
+        let line = text(alloc, line).ok()?;
         if is_refused(alloc, SessionAttribute::Unused(line)) != *is_other {
-            return Ok(false);
+            return Some(false);
         }
     }
-    Ok(true)
+    Some(true)
 }
 
-/// Whether no end has this attribute.
+/// Whether no session of an exchange has this attribute.
 fn is_refused(alloc: Global, attribute: SessionAttribute) -> bool {
-    matches!(end_with(alloc, attribute), Err(EndError::NotWritable))
+    matches!(exchange_with(alloc, attribute), Err(EndError::NotWritable))
 }
 
-/// An end of Opus whose session has this attribute.
-fn end_with(alloc: Global, attribute: SessionAttribute) -> Result<End, EndError> {
+/// Exchanges of Opus whose session has this attribute.
+fn exchange_with(alloc: Global, attribute: SessionAttribute) -> Result<Exchange, EndError> {
     let session = session_with(alloc, attribute)?;
     let mut config = CodecConfig::empty(alloc);
     config.enable_opus(true, false)?;
-    End::new(alloc, config, session, ExtensionMap::empty())
+    Exchange::new(alloc, config, session, ExtensionMap::empty())
 }
 
 /// A session that has a bandwidth and this attribute.
