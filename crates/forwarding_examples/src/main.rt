@@ -1,5 +1,5 @@
-//! A forwarder of units, to copy: its module's first lines name the crates that it uses. Standard input has datagrams in
-//! hexadecimal, a line each, of which those of SSRC 44 and payload type 111 are Opus; those that are sent on, under
+//! A forwarder of units, to copy: its module's first lines name the crates that it uses. Standard input has datagrams
+//! in hexadecimal, a line each, of which those of SSRC 44 and payload type 111 are Opus; those that are sent on, under
 //! other numbers, are printed, a line each.
 #![tactic(auto)]
 

@@ -1,4 +1,5 @@
-//! A place for a window that a C program holds. Each call answers `CLOSED` at a closed handle, and changes nothing then.
+//! A place for a window that a C program holds.
+//! Each call answers `CLOSED` at a closed handle, and changes nothing then.
 
 ghost use Rattle.std.specs.Prelude.{◌≡◌, ◌≢◌, Option, Some, None, IsSome, is_some, MatchOption};
 ghost use Rattle.std.specs.Option.{option_map};
