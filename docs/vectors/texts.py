@@ -1,6 +1,6 @@
 #!/usr/bin/env python3
-"""Writes what `text_lines`, `section_lines` and `value_lines` in `crates` read and must answer: commands on session texts
-and their replies, which are kept in `texts.txt` beside this script, each command behind `> ` and its reply below it, and
+"""Writes what `text_lines`, `printed_lines`, `section_lines`, `accessor_lines` and `value_lines` in `crates` read and
+must answer: commands on session texts and their replies, which are kept in `texts.txt` beside this script, each command behind `> ` and its reply below it, and
 copied, each to the program that answers it, with the comment above it. Before that each reply is compared with what the
 reader of `sessions.py`, which shares no code with the project, says of the text. Behind them `value_lines` reads rows
 and formats that come alone (`rounds.py`).
@@ -18,9 +18,13 @@ import sessions
 from sessions import DIRECTIONS, ORDER, fingerprint, lower, param, param_text, printed, read, trimmed
 
 CRATES = Path(__file__).resolve().parents[2] / "crates"
-READ = CRATES / "text_lines/data"  # each text; `section_lines` has those that its commands name as well
-PROGRAMS = {"section_lines": ("attributes", "directed", "rows", "says"),
+READ = CRATES / "text_lines/data"  # each text; the other programs have those that their commands name as well
+PROGRAMS = {"printed_lines": ("printed", "offer", "answer"),
+            "section_lines": ("attributes", "directed", "rows"),
+            "accessor_lines": ("says",),
             "value_lines": ("candidate", "fingerprint", "setup", "parameters")}  # `text_lines` answers all others
+OF_TEXTS = ("text", "prefixes", "session")
+OTHERS = ("printed_lines", "section_lines", "accessor_lines")
 TEXTS = Path(__file__).with_name("texts.txt")
 
 
@@ -87,7 +91,7 @@ def sources(section):
             f" {word} {v}" for word, v in given if v != "-" or word not in ("in", "track"))
 
 
-def said_text(text, session, left):
+def said_text(session, left):
     def unused(part):
         return sum(a.kind == "unused" for a in part.attributes)
     yield (f"session {session.number}, {len(session.attributes)} attributes, {unused(session)} unused, "
@@ -96,13 +100,17 @@ def said_text(text, session, left):
         yield f"  section: {len(s.types)} types, {len(s.attributes)} attributes, {unused(s)} unused"
         yield from sources(s)
     apart = "" if is_whole(session) else ", parts apart"
-    yield f"  whole: {len(candidates(session))} candidates, {len(bundled(session) or [])} bundled{apart}"
-    yield f"  again: the same true, a copy the same true, sctp-init {sctp_init(session) or 'none'}"
+    yield (f"  whole: {len(candidates(session))} candidates, {len(bundled(session) or [])} bundled, "
+           f"sctp-init {sctp_init(session) or 'none'}{apart}")
+
+
+def said_printed(text, session):
     lines, own = list(printed(session)), re.split("\r?\n", text)
     again = read("".join(line + "\r\n" for line in lines))
     is_alike = again is not None and again[1] == 0 and list(printed(again[0])) == lines
     kept = sum(line in own for line in lines)
-    yield f"  printed: {kept} of {len(lines)} lines as they stood; read again {'alike' if is_alike else 'otherwise'}"
+    yield (f"{kept} of {len(lines)} lines as they stood, read again {'alike' if is_alike else 'otherwise'}, "
+           "the same true, a copy the same true")
 
 
 def said_attributes(session):
@@ -180,7 +188,8 @@ def of_text(command, word, text):
         return ["no session text"]
     session, left = said
     count = len(session.sections)
-    return {"text": lambda: list(said_text(text, session, left)), "attributes": lambda: list(said_attributes(session)),
+    return {"text": lambda: list(said_text(session, left)), "printed": lambda: list(said_printed(text, session)),
+            "attributes": lambda: list(said_attributes(session)),
             "rows": lambda: list(said_rows(session)), "says": lambda: list(said_says(session)),
             "directed": lambda: list(said_directed(session, word)),
             "offer": lambda: [f"an offer of {count} sections, printed as its text true"],
@@ -243,8 +252,7 @@ def reply(line):
     if command == "setup":
         return [of_setup(name, word)]
     path = READ / name
-    if command not in ("text", "prefixes", "session", "offer", "answer", "attributes", "directed", "rows", "says") or \
-            not path.is_file():
+    if command not in (*OF_TEXTS, *(word for name in OTHERS for word in PROGRAMS[name])) or not path.is_file():
         return ["fault"]
     told = of_text(command, word, path.read_bytes().decode())
     return [f"{name}: {told[0]}", *told[1:]]
@@ -281,7 +289,7 @@ def main():
         if name == "value_lines":
             own += [(line, [line if answer is None else answer]) for line, answer in rounds.alone()]
         for path in {READ / word for line, _ in own for word in line.split(" ")[1:2]}:
-            if name == "section_lines" and path.is_file():
+            if name in OTHERS and path.is_file():
                 shutil.copyfile(path, CRATES / name / "data" / path.name)
         (CRATES / name / "stdin").write_text("".join(f"{command}\n" for command, _ in own))
         (CRATES / name / "stdout").write_text("".join(f"{line}\n" for _, told in own for line in told))

@@ -4,5 +4,5 @@
 mod measured;
 mod tally;
 
-pub use measured::{Round, measure, repeat};
+pub use measured::{Round, measure, measure_packets, repeat};
 pub use tally::Tally;

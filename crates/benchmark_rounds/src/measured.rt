@@ -48,6 +48,21 @@ pub fn measure<R: Round>(
     Ok(tally)
 }
 
+/// Does it so often, and prints the time that it took and what was counted.
+pub fn measure_packets<R: Round>(
+    rt: &HostRuntime,
+    what: &str,
+    way: &str,
+    round: &mut R,
+    rounds: u32,
+) -> io::Result<()>
+    ensures { RepeatsOrKeeps R.counts rounds round.old round.new }
+{
+    let tally = measure(rt, what, way, round, rounds)?;
+    let (packets, bytes) = (tally.packets, tally.bytes);
+    println!(*rt; "{what} {way}: {packets} packets or units, {bytes} bytes")
+}
+
 /// Prints the time that it took, and how long each took of what was counted.
 fn put_times(
     rt: &HostRuntime,

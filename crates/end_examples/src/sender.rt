@@ -12,11 +12,16 @@ pub(crate) fn send_and_hear(rt: &HostRuntime) -> anyhow::Result<()> {
     let mut a = opus_end(alloc, 1)?;
     let mut b = opus_end(alloc, 2)?;
     agree(alloc, &mut a, &mut b)?;
-    let tx = open_sender(&mut a)?;
+    talk(rt, &mut a, &mut b)
+}
+
+/// Opens a stream at both ends, and sends three samples over it.
+fn talk(rt: &HostRuntime, a: &mut End, b: &mut End) -> anyhow::Result<()> {
+    let tx = open_sender(a)?;
     let rx = b.open_receiver(Mid::from("0"), Ssrc::from(44), Pt::from(111), 127)?;
     for k in 0..3u8 {
-        for datagram in &send(&mut a, tx, k)? {
-            hear(rt, &mut b, rx, datagram)?;
+        for datagram in &send(a, tx, k)? {
+            hear(rt, b, rx, datagram)?;
         }
     }
     Ok(())

@@ -2,7 +2,7 @@
 use Rattle.std.specs.Prelude.{false, [], Ok}
 use Rattle.payload_core_base.specs.Format.{Format}
 use Rattle.payload_core_base.specs.Packing.{Packing}
-use Rattle.payload_core_audio.specs.Plain.{no_marker, sent_as}
+use Rattle.payload_core_base.specs.Stateless.{no_marker, sent_as}
 
 -- No packet is sent.
 abbrev pub no_packing : Packing

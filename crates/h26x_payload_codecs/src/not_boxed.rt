@@ -9,7 +9,7 @@ pub struct NotBoxed;
 
 impl Packetizer for NotBoxed {
     ghost use Rattle.h26x_payload_codecs.specs.Nothing.{no_packing};
-    ghost use Rattle.payload_core_audio.specs.Plain.{idle_sender};
+    ghost use Rattle.payload_core_base.specs.Stateless.{idle_sender};
 
     ghost packing = { λ _. no_packing };
 

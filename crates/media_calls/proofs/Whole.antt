@@ -10,7 +10,8 @@ use Rattle.payload_core_base.specs.declared.codec.Codec.TheVariants.{Opus, PCMU,
 use Rattle.payload_core_base.specs.declared.codec.Codec.TheVariants.{H266, Vp8, Vp9, Av1, Tele, Rtx, Red, Null}
 use Rattle.payload_core_base.specs.declared.codec.Codec.TheVariants.{Unknown}
 use Rattle.payload_core_base.proofs.PieceLemmas.{pieces-empty, pieces-step}
-use Rattle.payload_core_audio.specs.Plain.{pieces_coding, pieces_packing, plain_format, unit_of_piece}
+use Rattle.payload_core_audio.specs.Plain.{pieces_coding, pieces_packing, plain_format}
+use Rattle.payload_core_base.specs.Stateless.{unit_of_piece}
 use Rattle.h26x_payload.specs.Codings as codings
 use Rattle.h26x_payload.specs.Codings.{Forms, Settings, forms_for}
 use Rattle.rtp_media_schedules.specs.SentSamples.{Timed}

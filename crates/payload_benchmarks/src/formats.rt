@@ -2,11 +2,10 @@
 
 use crate::buffers::Buffering;
 use crate::line::Line;
-use benchmark_rounds::{Round, Tally, measure};
+use benchmark_rounds::{Round, Tally, measure_packets};
 use h26x_payload::{CodecDepacketizer, CodecPacketizer, NotBoxed};
 use payload_core::{
     Codec, CodecExtra, Depacketizer, DepacketizingBuffer, PacketError, Packetizer, Payloader,
-    RedDecoder, RedSender,
 };
 use rtp_wire::{ExtensionValues, Frequency};
 use std::alloc::Global;
@@ -94,62 +93,9 @@ impl Round for Copying<'_> {
     }
 }
 
-/// A sample of Opus that is sent with one older payload beside it.
-#[derive(Drop)]
-pub(crate) struct SendingRed {
-    pub(crate) sender: RedSender,
-}
-
-/// Counts packets, and their bytes.
-impl Round for SendingRed {
-    ghost use Rattle.payload_benchmarks.specs.Redundant.{CountsWrapped};
-
-    ghost counts = { CountsWrapped };
-
-    fn round(&mut self, _alloc: Global, time: u32, tally: &mut Tally) {
-        if let Ok(packet) = self.sender.wrap(111, &[7; 120], time, LIMIT) {
-            tally.add(1, packet.len());
-        }
-    }
-}
-
-/// A packet of redundant payloads, which is read.
-#[derive(Drop)]
-pub(crate) struct ReadingRed<'a> {
-    pub(crate) packet: &'a [u8],
-}
-
-/// Counts payloads, and their bytes.
-impl Round for ReadingRed<'_> {
-    ghost use Rattle.payload_benchmarks.specs.Redundant.{CountsPayloads};
-
-    ghost counts = { CountsPayloads };
-
-    fn round(&mut self, _alloc: Global, _number: u32, tally: &mut Tally) {
-        if let Ok(blocks) = RedDecoder::decode(self.packet) {
-            for block in blocks {
-                tally.add(1, block.payload.len());
-            }
-        }
-    }
-}
-
 /// What a payload format refuses, as an error of the program.
 pub(crate) fn refused(_error: PacketError) -> io::Error {
     io::Error::other("a payload format refuses a sample")
-}
-
-/// Does it so often, and prints how many packets it were, and the time that it took.
-pub(crate) fn measure_packets<R: Round>(
-    rt: &HostRuntime,
-    format: &str,
-    way: &str,
-    round: &mut R,
-    rounds: u32,
-) -> io::Result<()> {
-    let tally = measure(rt, format, way, round, rounds)?;
-    let (packets, bytes) = (tally.packets, tally.bytes);
-    println!(*rt; "{format} {way}: {packets} packets or units, {bytes} bytes")
 }
 
 /// A packetizer and a depacketizer of a codec; with `is_set` AMR-WB is octet-aligned, and units of H.265 have decoding

@@ -1,13 +1,11 @@
-//! H.264, H.265 and H.266, and texts cut into units.
+//! H.264, H.265 and H.266.
 
 use crate::formats::measure_codec;
 use crate::samples::access_unit;
-use benchmark_rounds::{Round, Tally, measure};
-use h26x_payload::{Codec, nal_units};
-use std::alloc::Global;
+use h26x_payload::Codec;
 use std::io;
 
-/// How often an access unit is sent, read or cut.
+/// How often an access unit is sent and read.
 const ROUNDS: u32 = 2_000;
 
 /// SPS and PPS.
@@ -22,26 +20,7 @@ const H265_SETS: &[u8] =
 const H266_SETS: &[u8] = b"\0\0\0\x01\0\x71parameters, 20 bytes\0\0\0\x01\0\x79parameters, 20 bytes\
     \0\0\0\x01\0\x81parameters, 20 bytes";
 
-/// An access unit that is cut into its units.
-#[derive(Drop)]
-struct Cutting<'a> {
-    sample: &'a [u8],
-}
-
-/// Counts units, and their bytes.
-impl Round for Cutting<'_> {
-    ghost use Rattle.payload_benchmarks.specs.Cut.{CountsUnits};
-
-    ghost counts = { CountsUnits };
-
-    fn round(&mut self, _alloc: Global, _number: u32, tally: &mut Tally) {
-        for unit in nal_units(self.sample) {
-            tally.add(1, unit.len());
-        }
-    }
-}
-
-/// A keyframe of each format, with decoding order numbers too, and one of H.264 cut into its units.
+/// A keyframe of each format, with decoding order numbers too.
 pub(crate) fn measure_all(rt: &HostRuntime) -> io::Result<()> {
     let h264 = access_unit(rt.alloc(), H264_SETS, b"\0\0\0\x01\x65")?;
     let h265 = access_unit(rt.alloc(), H265_SETS, b"\0\0\0\x01\x26\x01")?;
@@ -54,6 +33,5 @@ pub(crate) fn measure_all(rt: &HostRuntime) -> io::Result<()> {
     ] {
         measure_codec(rt, format, codec, has_numbers, sample, ROUNDS)?;
     }
-    let units = measure(rt, "H.264", "cut", &mut Cutting { sample: &h264 }, ROUNDS)?;
-    println!(*rt; "cut: {} units, {} bytes", units.packets, units.bytes)
+    Ok(())
 }

@@ -1,15 +1,9 @@
 //! Payload formats of sound and pictures, and a buffer that holds many packets.
 
 use crate::buffers::Buffering;
-use crate::formats::{
-    Copying, LIMIT, ReadingRed, SendingRed, measure_codec, measure_packets, refused,
-};
-use benchmark_rounds::{measure, repeat};
-use payload_core::{
-    Av1Packetizer, Codec, DepacketizingBuffer, OpusDepacketizer, Packetizer, RedEncoder, RedSender,
-    RedundantBlock,
-};
-use std::alloc::{AllocError, Global};
+use crate::formats::{Copying, LIMIT, measure_codec, refused};
+use benchmark_rounds::{measure, measure_packets, repeat};
+use payload_core::{Av1Packetizer, Codec, DepacketizingBuffer, OpusDepacketizer, Packetizer};
 use std::io;
 
 /// How often a sample of Opus or G.711 is sent and read.
@@ -50,30 +44,6 @@ fn audio(rt: &HostRuntime) -> io::Result<()> {
         measure_codec(rt, format, codec, is_set, sample, rounds)?;
     }
     Ok(())
-}
-
-/// A packet of Opus with one older payload.
-fn redundant_packet(alloc: Global) -> Result<Vec<u8>, AllocError> {
-    let old = RedundantBlock {
-        pt: 111,
-        timestamp_offset: 960,
-        payload: Vec::from_slice(alloc, &[7; 120])?,
-    };
-    RedEncoder::encode(alloc, 111, &[7; 120], &[old])
-}
-
-/// Opus with one older payload beside each.
-fn redundant(rt: &HostRuntime) -> io::Result<()> {
-    let sender = RedSender::new(rt.alloc(), &[1])?;
-    measure_packets(rt, "RED", "sent", &mut SendingRed { sender }, AUDIO)?;
-    let packet = redundant_packet(rt.alloc())?;
-    measure_packets(
-        rt,
-        "RED",
-        "read",
-        &mut ReadingRed { packet: &packet },
-        AUDIO,
-    )
 }
 
 /// VP8 and VP9: frames of 12,000 bytes.
@@ -122,7 +92,6 @@ fn buffer(rt: &HostRuntime, what: &str, waiting: u32) -> io::Result<()> {
 /// Every payload format but H.26x, AV1 in units of growing size, and the buffer.
 pub(crate) fn measure_all(rt: &HostRuntime) -> io::Result<()> {
     audio(rt)?;
-    redundant(rt)?;
     video(rt)?;
     for (format, header, size, rounds) in [
         ("AV1 of 12,000 bytes", &b"\x32\xE0\x5D"[..], 12_000, VIDEO),

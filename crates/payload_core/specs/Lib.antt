@@ -18,6 +18,7 @@ pub use Rattle.payload_core_base.specs.Law
 pub use Rattle.payload_core_base.specs.Outgoing
 pub use Rattle.payload_core_base.specs.Packing
 pub use Rattle.payload_core_base.specs.Pieces
+pub use Rattle.payload_core_base.specs.Stateless
 pub use Rattle.payload_core_base.specs.Telephone
 pub use Rattle.payload_core_buffer.specs.Buffered
 pub use Rattle.payload_core_buffer.specs.CompleteFrames

@@ -14,7 +14,7 @@ use Rattle.payload_core_base.specs.Packing.{Sender}
 use Rattle.payload_core_base.specs.declared.error.PacketError.TheVariants.{ErrPayloadTooLarge}
 use Rattle.payload_core_base.specs.declared.extra.CodecExtra.{CodecExtra}
 use Rattle.payload_core_base.proofs.FrameLemmas.{IsWhole, whole-frames}
-use Rattle.payload_core_audio.specs.Plain.{sent_as, unit_of_piece}
+use Rattle.payload_core_base.specs.Stateless.{sent_as, unit_of_piece}
 use Rattle.payload_core_amr_wb.specs.AmrWb.{IsSized, amr_wb_coding, amr_wb_format, amr_wb_packet, amr_wb_packing}
 use Rattle.payload_core_amr_wb.specs.AmrWb.{bit_of, byte_from, bytes_from, efficient_bit, entry_place, entry_size}
 use Rattle.payload_core_amr_wb.specs.AmrWb.{field_of, field_size, frames_from, frames_of, frames_up_to, header_at}

@@ -10,7 +10,7 @@ use Rattle.payload_core_base.specs.declared.error.PacketError.{PacketError}
 use Rattle.payload_core_base.specs.declared.error.PacketError.TheVariants.{ErrAmrWbCorruptedPacket}
 use Rattle.payload_core_base.specs.declared.error.PacketError.TheVariants.{ErrPayloadTooLarge}
 use Rattle.payload_core_base.specs.declared.extra.CodecExtra.{CodecExtra}
-use Rattle.payload_core_audio.specs.Plain.{AnySender, no_marker, sent_as, stays_idle, unit_of_piece}
+use Rattle.payload_core_base.specs.Stateless.{AnySender, no_marker, sent_as, stays_idle, unit_of_piece}
 
 -- The bit at a place of a text, counted from the high bit of the first byte.
 abbrev pub bit_of : List ℕ → ℕ → ℕ

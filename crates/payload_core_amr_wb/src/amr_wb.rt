@@ -4,7 +4,7 @@ ghost use Rattle.payload_core_amr_wb.specs.AmrWb.{amr_wb_format, amr_wb_packet, 
 ghost use Rattle.payload_core_amr_wb.specs.AmrWb.{efficient_bit, entry_place, entry_size, field_size, frames_from};
 ghost use Rattle.payload_core_amr_wb.specs.AmrWb.{frames_of, head_size, last_entry, sample_size, speech_bits};
 ghost use Rattle.payload_core_amr_wb.specs.BitPlaces.{place_of};
-ghost use Rattle.payload_core_audio.specs.Plain.{idle_sender};
+ghost use Rattle.payload_core_base.specs.Stateless.{idle_sender};
 ghost use Rattle.std.specs.Prelude.{◌≡◌, ◌≢◌, ◌+◌, ◌*◌, ◌/◌, ◌<◌, ◌≤◌, ◌++◌, ◌-◌, IfErr, IfNone, IfOk, IfSome, List};
 ghost use Rattle.std.specs.Prelude.{None, Some, false, length, true, ℕ};
 

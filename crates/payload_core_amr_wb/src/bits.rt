@@ -2,7 +2,7 @@
 
 ghost use Rattle.payload_core_amr_wb.specs.AmrWb.{bit_of, byte_from, bytes_from};
 ghost use Rattle.payload_core_amr_wb.specs.BitBytes.{bits_from};
-ghost use Rattle.std.specs.Prelude.{◌≡◌, ◌+◌, ◌*◌, ◌<◌, ◌≤◌, ◌^◌, IfSome, length, nat_le};
+ghost use Rattle.std.specs.Prelude.{◌≡◌, ◌+◌, ◌*◌, ◌%◌, ◌<◌, ◌≤◌, ◌^◌, IfNone, IfSome, length, nat_le};
 ghost use Rattle.std.specs.Prelude.{slice_index};
 
 /// The octet at a place of a text, or 0 behind it.
@@ -78,7 +78,9 @@ impl BitPlace {
     /// So many bytes from here on, if they are octets of the text.
     pub fn octets<'a>(&self, bytes: &'a [u8], count: usize) -> Option<&'a [u8]>
         requires { place_of self.now + 8 * count ≤ 8 * length bytes.now }
-        ensures { IfSome result (λ octets. octets.now ≡ bytes_from (bits_from bytes.now (place_of self.now)) count) }
+        ensures octets { IfSome result (λ octets.
+            octets.now ≡ bytes_from (bits_from bytes.now (place_of self.now)) count) }
+        ensures inside { IfNone result (0 < place_of self.now % 8) }
     {
         if self.bit > 0 {
             return None;

@@ -13,7 +13,8 @@ use Rattle.payload_core_base.proofs.PieceLemmas.{pieces-none, pieces-within, pie
 use Rattle.std.proofs.lemmas.List.{take_all, drop_all}
 use Rattle.payload_core_base.proofs.FrameLemmas.{IsWhole, whole-frames}
 use Rattle.payload_core_audio.specs.Plain.{plain_format, pieces_packing, pieces_coding, noise_coding, noise_packing}
-use Rattle.payload_core_audio.specs.Plain.{unit_of_piece, sent_as, is_one_piece}
+use Rattle.payload_core_audio.specs.Plain.{is_one_piece}
+use Rattle.payload_core_base.specs.Stateless.{unit_of_piece, sent_as}
 
 -- a sample that has a byte and fits the limit is its one piece
 pub one_piece : (limit : ℕ) (sample : List ℕ) → is_one_piece limit sample ≡ true → pieces limit sample ≡ sample ∷ []

@@ -8,7 +8,7 @@ use Rattle.payload_core_base.specs.Law.{CodecLaw, SendsUnits}
 use Rattle.payload_core_base.specs.Packing.{Sender}
 use Rattle.payload_core_base.specs.declared.error.PacketError.TheVariants.{ErrPayloadTooLarge}
 use Rattle.payload_core_base.proofs.FrameLemmas.{IsWhole, whole-frames}
-use Rattle.payload_core_audio.specs.Plain.{sent_as, unit_of_piece}
+use Rattle.payload_core_base.specs.Stateless.{sent_as, unit_of_piece}
 use Rattle.payload_core_audio.specs.Telephone.{telephone_coding, telephone_format, telephone_packing, first_report}
 
 -- a report is a unit

@@ -1,25 +1,14 @@
 -- Payloads without a header: each packet is a piece of a sample.
-use Rattle.std.specs.Prelude.{ℕ, ◌<◌, ◌≤◌, Bool, true, false, List, [], ◌∷◌, map, length, nat_lt, Result, Ok, Err}
+use Rattle.std.specs.Prelude.{ℕ, ◌<◌, ◌≤◌, Bool, true, List, [], ◌∷◌, map, length, nat_lt, Result, Ok, Err}
 use Rattle.std.specs.Prelude.{if◌then◌else◌, ◌&&◌, nat_le}
 use Rattle.payload_core_base.specs.Format.{Format, Fragment, Reading}
 use Rattle.payload_core_base.specs.Law.{Coding}
 use Rattle.payload_core_base.specs.Packing.{Packing, Sender, Sent}
 use Rattle.payload_core_base.specs.Pieces.{pieces}
+use Rattle.payload_core_base.specs.Stateless.{AnySender, no_marker, sent_as, stays_idle, unit_of_piece}
 use Rattle.payload_core_base.specs.declared.error.PacketError.{PacketError}
 use Rattle.payload_core_base.specs.declared.error.PacketError.TheVariants.{ErrShortPacket, ErrPayloadTooLarge}
 use Rattle.payload_core_base.specs.declared.extra.CodecExtra.{CodecExtra}
-
--- What a packetizer has that keeps nothing between samples.
-abbrev pub idle_sender : Sender
-idle_sender = record { number = 0; waiting = [] }
-
--- The sample is sent as these packets, and nothing is kept.
-abbrev pub sent_as : Sender → List (List ℕ) → Result Sent PacketError
-sent_as sender packets = Ok (record { packets = packets; sender = sender })
-
--- No audio packet has a marker.
-abbrev pub no_marker : List ℕ → Bool → Bool
-no_marker packet last = false
 
 -- Opus, G.711 and G.722: the pieces of the limit (RFC 7587 4.2, RFC 3551 4.5).
 abbrev pub pieces_packing : Packing
@@ -47,18 +36,6 @@ read_plain fragment extra (b ∷ bs) = Ok (record { written = b ∷ bs; extra = 
 -- Every packet is a head and a tail.
 abbrev pub plain_format : Format
 plain_format = record { head = λ packet. true; tail = λ marker packet. true; read = read_plain }
-
--- A piece is a unit of one part.
-abbrev pub unit_of_piece : List ℕ → List (List ℕ)
-unit_of_piece piece = piece ∷ []
-
--- Every state is reached.
-abbrev pub AnySender : Sender → Type 0
-AnySender sender = Unit {0}
-
--- Nothing is kept between samples.
-abbrev pub stays_idle : Sender → ℕ → List ℕ → Sender
-stays_idle sender limit sample = sender
 
 -- Opus, G.711 and G.722: a sample with a byte is well-formed, and its units are its pieces.
 abbrev pub pieces_coding : Coding

@@ -8,7 +8,7 @@ use Rattle.payload_core_base.specs.declared.error.PacketError.{PacketError}
 use Rattle.payload_core_base.specs.declared.error.PacketError.TheVariants.{ErrPayloadTooLarge, InvalidTelephoneEvent}
 use Rattle.payload_core_base.specs.declared.extra.CodecExtra.{CodecExtra}
 use Rattle.payload_core_base.specs.declared.extra.CodecExtra.TheVariants.{Tele}
-use Rattle.payload_core_audio.specs.Plain.{AnySender, no_marker, sent_as, stays_idle, unit_of_piece}
+use Rattle.payload_core_base.specs.Stateless.{AnySender, no_marker, sent_as, stays_idle, unit_of_piece}
 
 -- The reports leave as they are, in one packet.
 abbrev pub pack_reports : Sender → ℕ → List ℕ → Result Sent PacketError

@@ -1,6 +1,7 @@
 //! Comfort noise payloads (RFC 3389).
 
-ghost use Rattle.payload_core_audio.specs.Plain.{idle_sender, noise_packing, plain_format};
+ghost use Rattle.payload_core_audio.specs.Plain.{noise_packing, plain_format};
+ghost use Rattle.payload_core_base.specs.Stateless.{idle_sender};
 ghost use Rattle.std.specs.Prelude.{◌≡◌, None};
 
 use crate::cut::whole;

@@ -1,7 +1,8 @@
 //! Cutting and reading payloads without a header of their own.
 
 ghost use Rattle.payload_core_base.specs.Pieces.{pieces};
-ghost use Rattle.payload_core_audio.specs.Plain.{idle_sender, is_one_piece, pack_whole, sent_as};
+ghost use Rattle.payload_core_audio.specs.Plain.{is_one_piece, pack_whole};
+ghost use Rattle.payload_core_base.specs.Stateless.{idle_sender, sent_as};
 ghost use Rattle.std.specs.Prelude.{◌≡◌, ◌≢◌, ◌∷◌, [], Err, IfErr, IfOk, map, true};
 
 use payload_core_base::PacketError;

@@ -1,6 +1,7 @@
 //! G.711 and G.722 payloads (RFC 3551 4.5).
 
-ghost use Rattle.payload_core_audio.specs.Plain.{idle_sender, is_one_piece, pieces_packing, plain_format};
+ghost use Rattle.payload_core_audio.specs.Plain.{is_one_piece, pieces_packing, plain_format};
+ghost use Rattle.payload_core_base.specs.Stateless.{idle_sender};
 ghost use Rattle.payload_core_base.specs.Packing.{Sends};
 ghost use Rattle.std.specs.Prelude.{◌≡◌, ◌∷◌, [], None, true};
 

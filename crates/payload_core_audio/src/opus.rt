@@ -1,6 +1,7 @@
 //! Opus payloads (RFC 7587 4.2).
 
-ghost use Rattle.payload_core_audio.specs.Plain.{idle_sender, is_one_piece, pieces_packing, plain_format};
+ghost use Rattle.payload_core_audio.specs.Plain.{is_one_piece, pieces_packing, plain_format};
+ghost use Rattle.payload_core_base.specs.Stateless.{idle_sender};
 ghost use Rattle.payload_core_base.specs.Packing.{Sends};
 ghost use Rattle.std.specs.Prelude.{◌≡◌, ◌∷◌, [], None, true};
 

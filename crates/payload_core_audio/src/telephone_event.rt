@@ -1,6 +1,6 @@
 //! Telephone event payloads (RFC 4733).
 
-ghost use Rattle.payload_core_audio.specs.Plain.{idle_sender};
+ghost use Rattle.payload_core_base.specs.Stateless.{idle_sender};
 ghost use Rattle.payload_core_audio.specs.Telephone.{telephone_format, telephone_packing};
 ghost use Rattle.std.specs.Int.NonZero.{non_zero_u32_get};
 ghost use Rattle.std.specs.Prelude.{◌≡◌, None};

@@ -7,4 +7,5 @@ pub mod Frames
 pub mod Outgoing
 pub mod Packing
 pub mod Pieces
+pub mod Stateless
 pub mod Law

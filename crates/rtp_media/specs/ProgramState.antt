@@ -3,11 +3,11 @@ use Rattle.std.specs.Prelude.{◌≡◌, List, [], ◌∷◌, ◌++◌, None}
 use Rattle.rtp_media_play_answers.specs.Ends.{EndState}
 use Rattle.rtp_media_words.specs.declared.words.Letter.{Letter}
 use Rattle.rtp_media_words.specs.declared.words.Letter.TheVariants.{A, B}
-use Rattle.rtp_media_lines.specs.declared.line.Command.{Command}
-use Rattle.rtp_media_lines.specs.declared.line.Command.TheVariants.{Fixed, Send, Open, Sample, Receive, Poll, Row}
-use Rattle.rtp_media_lines.specs.declared.line.Command.TheVariants.{Ext, End, Offer, Answer, Accept, Withdraw}
-use Rattle.rtp_media_lines.specs.declared.line.Command.TheVariants.{Connect, Queue, Play}
-use Rattle.rtp_media_lines.specs.declared.playing.QueueCommand.{QueueCommand}
+use Rattle.rtp_media_lines.specs.declared.Command.{Command}
+use Rattle.rtp_media_lines.specs.declared.Command.TheVariants.{Fixed, Send, Open, Sample, Receive, Poll, Row}
+use Rattle.rtp_media_lines.specs.declared.Command.TheVariants.{Ext, End, Offer, Answer, Accept, Withdraw}
+use Rattle.rtp_media_lines.specs.declared.Command.TheVariants.{Connect, Queue, Play}
+use Rattle.rtp_media_lines.specs.declared.QueueCommand.{QueueCommand}
 use Rattle.rtp_media_words.specs.declared.reply.Reply.{Reply}
 use Rattle.rtp_media_words.specs.declared.reply.Reply.TheVariants as reply
 use Rattle.rtp_media_replies.specs.Replies.{Prints}

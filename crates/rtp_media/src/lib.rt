@@ -7,8 +7,8 @@ mod program;
 pub use payload_core_base::CodecExtra;
 pub use program::{Program, run};
 pub use rtp_media_line_runs::{
-    MAX_LINE_LENGTH, MAX_READS, Respond, RunFault, Status, WriteFault, lines_are_what_was_ended,
-    run_lines, run_within, write_whole,
+    MAX_LINE_LENGTH, MAX_READS, Respond, RunFault, Status, WriteFault, answer_lines,
+    lines_are_what_was_ended, run_lines, run_within, write_whole,
 };
 pub use rtp_media_play_answers::{
     Bandwidth, Codec, CodecConfig, CodecSpec, Datagram, Distances, End, EndError, Event,

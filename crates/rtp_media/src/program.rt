@@ -4,7 +4,7 @@ ghost use Rattle.std.specs.Prelude.{◌≡◌, ℕ, List, IfOk, IfSome, OnErr, O
 ghost use Rattle.rtp_media_line_runs.specs.Input.{lines_of};
 ghost use Rattle.rtp_media_line_runs.specs.Runs.{Printed, ReadsAll};
 ghost use Rattle.rtp_media_line_runs.specs.Stops.{WritesFront};
-ghost use Rattle.rtp_media_lines.specs.declared.line.Command.{Command};
+ghost use Rattle.rtp_media_lines.specs.declared.Command.{Command};
 ghost use Rattle.rtp_media_exchange_answers.specs.Exchanging.{AtEnd, ConnectsEnds};
 ghost use Rattle.rtp_media_play_answers.specs.Playing.{PlaysEnds};
 ghost use Rattle.rtp_media.specs.ProgramState.{AnswersAt, AnswersAtEnd, AnswersCommand};

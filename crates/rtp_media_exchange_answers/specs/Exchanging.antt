@@ -13,7 +13,7 @@ use Rattle.rtp_media_ends.specs.Sections.{Wanted}
 use Rattle.rtp_media_ends.specs.Connections.{Connects, IsRefused, offering}
 use Rattle.rtp_media_ends.specs.Ends.{EndState, with_exchange}
 use Rattle.rtp_media_ends.specs.Stops.{Where}
-use Rattle.rtp_media_lines.specs.declared.exchange.ConnectCommand.{ConnectCommand}
+use Rattle.rtp_media_lines.specs.declared.ConnectCommand.{ConnectCommand}
 use Rattle.rtp_media_words.specs.declared.sections.SectionWord.{SectionWord}
 use Rattle.rtp_media_words.specs.declared.reply.Reply.{Reply}
 use Rattle.rtp_media_words.specs.declared.reply.Reply.TheVariants as reply

@@ -5,7 +5,7 @@ use Rattle.std.specs.List.{flat_map, list_any}
 use Rattle.std.specs.Io.KnownBytes.{Appends, Keeps}
 use Rattle.std.proofs.lemmas.Grind.{flat_map-append}
 use Rattle.std.proofs.KnownBytes.{Appends-trans, Appends-nil, Appends-kept}
-use Rattle.rtp_media_lines.specs.declared.line.Command.{Command}
+use Rattle.rtp_media_lines.specs.declared.Command.{Command}
 use Rattle.rtp_media_words.specs.declared.reply.Reply.{Reply}
 use Rattle.rtp_media_line_runs.specs.declared.status.Status.{Status}
 use Rattle.rtp_media_line_runs.specs.declared.status.Status.TheVariants.{Success, ErrorLine}

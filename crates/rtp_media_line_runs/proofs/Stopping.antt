@@ -6,7 +6,7 @@ use Rattle.std.proofs.lemmas.List.{take-append-drop, take_more}
 use Rattle.std.specs.List.{flat_map}
 use Rattle.std.specs.Io.KnownBytes.{Consumes, Keeps}
 use Rattle.std.proofs.KnownBytes.{Appends-kept, Appends-trans}
-use Rattle.rtp_media_lines.specs.declared.line.Command.{Command}
+use Rattle.rtp_media_lines.specs.declared.Command.{Command}
 use Rattle.rtp_media_words.specs.declared.reply.Reply.{Reply}
 use Rattle.rtp_media_words.specs.Replies.{reply_text}
 use Rattle.rtp_media_line_runs.specs.Input.{kept, lines_of}

@@ -2,7 +2,7 @@
 use Rattle.std.specs.Prelude.{◌≡◌, ℕ, List, ◌++◌, Option}
 use Rattle.std.specs.List.{flat_map}
 use Rattle.std.specs.Io.KnownBytes.{Appends}
-use Rattle.rtp_media_lines.specs.declared.line.Command.{Command}
+use Rattle.rtp_media_lines.specs.declared.Command.{Command}
 use Rattle.rtp_media_words.specs.declared.reply.Reply.{Reply}
 use Rattle.rtp_media_line_runs.specs.declared.status.Status.{Status}
 use Rattle.rtp_media_line_runs.specs.Input.{lines_of, kept, HasNoFeed}

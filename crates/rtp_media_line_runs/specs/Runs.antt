@@ -2,7 +2,7 @@
 use Rattle.std.specs.Prelude.{◌≡◌, ℕ, if◌then◌else◌, List, [], ◌∷◌, ◌++◌, Option, None, Some}
 use Rattle.std.specs.List.{flat_map, list_any}
 use Rattle.std.specs.Io.KnownBytes.{Appends, Consumes, IsAtEnd}
-use Rattle.rtp_media_lines.specs.declared.line.Command.{Command}
+use Rattle.rtp_media_lines.specs.declared.Command.{Command}
 use Rattle.rtp_media_lines.specs.declared.line.Line.{Line}
 use Rattle.rtp_media_lines.specs.declared.line.Line.TheVariants as line
 use Rattle.rtp_media_words.specs.declared.reply.Reply.{Reply}

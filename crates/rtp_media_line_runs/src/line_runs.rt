@@ -1,6 +1,6 @@
 //! Runs of the program: lines in, replies out.
 
-ghost use Rattle.std.specs.Prelude.{◌≡◌, ℕ, List, [], ◌∷◌, IfOk, IfSome, OnErr};
+ghost use Rattle.std.specs.Prelude.{◌≡◌, ℕ, List, [], ◌∷◌, IfOk, IfSome, OnErr, Some};
 ghost use Rattle.std.specs.List.{list_any};
 ghost use Rattle.std.specs.Option.{option_copied};
 ghost use Rattle.rtp_media_line_runs.specs.Runs.{Answers, Printed, ReadsAll, status_of};
@@ -174,7 +174,24 @@ pub fn run_lines<R: Read, W: Write, A: Respond>(
     run_within(alloc, MAX_READS, reader, writer, responder)
 }
 
-/// The same in at most `reads` reads.
+/// Answers lines that are at hand by `responder`, as [`run_lines`] does; what it would write, and its status.
+///
+/// # Errors
+/// Where memory runs out.
+pub fn answer_lines<A: Respond>(
+    alloc: Global,
+    lines: &[u8],
+    responder: &mut A,
+) -> Result<(Vec<u8>, Status), RunFault>
+    ensures { IfOk result (λ r. Printed A.gives responder.old responder.new (Some []) (Some r.0.items) lines.now r.1) }
+{
+    let mut reader = lines;
+    let mut replies = Vec::new(alloc);
+    let status = run_lines(alloc, &mut reader, &mut replies, responder)?;
+    Ok((replies, status))
+}
+
+/// Does what [`run_lines`] does in at most `reads` reads.
 ///
 /// # Errors
 /// As [`run_lines`], and where the input doesn't end within `reads` reads.

@@ -1,7 +1,7 @@
 //! Who answers the lines.
 
 ghost use Rattle.std.specs.Prelude.{List, IfOk};
-ghost use Rattle.rtp_media_lines.specs.declared.line.Command.{Command};
+ghost use Rattle.rtp_media_lines.specs.declared.Command.{Command};
 ghost use Rattle.rtp_media_words.specs.declared.reply.Reply.{Reply};
 
 use rtp_media_lines::Command;

@@ -2,10 +2,10 @@
 use Rattle.std.proofs.Common.{◌≡◌, ℕ, ◌^◌, List, [], ◌∷◌, Option, None, Some, codes, refl, sym, ◌∙◌, ap, subst}
 use Rattle.std.specs.Option.{option_map}
 use Rattle.std.specs.Str.{bytes_eq}
-use Rattle.rtp_media_lines.specs.declared.line.Command.{Command}
-use Rattle.rtp_media_lines.specs.declared.line.Command.TheVariants.{Fixed, Send, Open, Sample, Receive, Poll, Row}
-use Rattle.rtp_media_lines.specs.declared.line.Command.TheVariants.{Ext, End, Offer, Answer, Accept, Withdraw}
-use Rattle.rtp_media_lines.specs.declared.line.Command.TheVariants.{Connect, Queue, Play}
+use Rattle.rtp_media_commands.specs.declared.command.Command.{Command}
+use Rattle.rtp_media_commands.specs.declared.command.Command.TheVariants.{Fixed, Send, Open, Sample, Receive, Poll, Row}
+use Rattle.rtp_media_commands.specs.declared.command.Command.TheVariants.{Ext, End, Offer, Answer, Accept, Withdraw}
+use Rattle.rtp_media_commands.specs.declared.command.Command.TheVariants.{Connect, Queue, Play}
 use Rattle.rtp_media_words.specs.Words.{letter_of, text_of, hex_of, dash_or, numbers_of, number_below, behind}
 use Rattle.rtp_media_words.specs.Words.{mid_value, ◌>>=◌}
 use Rattle.rtp_media_words.proofs.BehindLemmas.{behind-sound, behind-append}

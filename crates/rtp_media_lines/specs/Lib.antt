@@ -1,4 +1,4 @@
-pub mod ExchangeLines
-pub mod PlayLines
+pub use Rattle.rtp_media_commands.specs.ExchangeLines
+pub use Rattle.rtp_media_commands.specs.PlayLines
 pub mod Lines
 pub mod Says

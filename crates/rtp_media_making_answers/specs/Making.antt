@@ -13,9 +13,9 @@ use Rattle.rtp_media_ends.specs.Exchanges.{bare_session}
 use Rattle.rtp_media_ends.specs.Refusals.{refusal_of_new}
 use Rattle.rtp_media_ends.specs.Ends.{EndState, fixed_end, new_end}
 use Rattle.rtp_media_ends.specs.Stops.{Where}
-use Rattle.rtp_media_lines.specs.declared.exchange.RowCommand.{RowCommand}
-use Rattle.rtp_media_lines.specs.declared.exchange.ExtCommand.{ExtCommand}
-use Rattle.rtp_media_lines.specs.declared.exchange.EndCommand.{EndCommand}
+use Rattle.rtp_media_lines.specs.declared.RowCommand.{RowCommand}
+use Rattle.rtp_media_lines.specs.declared.ExtCommand.{ExtCommand}
+use Rattle.rtp_media_lines.specs.declared.EndCommand.{EndCommand}
 use Rattle.rtp_media_words.specs.declared.reply.Reply.{Reply}
 use Rattle.rtp_media_words.specs.declared.reply.Reply.TheVariants as reply
 use Rattle.rtp_media_replies.specs.Replies.{Prints, memory}

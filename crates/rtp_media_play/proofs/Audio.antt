@@ -8,7 +8,8 @@ use Rattle.payload_core_base.specs.Law.{joined}
 use Rattle.payload_core_base.specs.Packing.{Sender}
 use Rattle.payload_core_base.specs.Pieces.{pieces}
 use Rattle.payload_core_base.proofs.PieceLemmas.{pieces-empty, pieces-none, pieces-step, pieces-within}
-use Rattle.payload_core_audio.specs.Plain.{noise_coding, pieces_coding, unit_of_piece}
+use Rattle.payload_core_audio.specs.Plain.{noise_coding, pieces_coding}
+use Rattle.payload_core_base.specs.Stateless.{unit_of_piece}
 use Rattle.payload_core_audio.specs.Telephone.{first_report, telephone_coding}
 use Rattle.payload_core_base.specs.Telephone.{without_r}
 use Rattle.rtp_media_play.specs.Again.{AnySample, AreSentWhole, ComesAgain, GivesAgain, IsSame}

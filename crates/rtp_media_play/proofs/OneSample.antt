@@ -11,7 +11,8 @@ use Rattle.payload_core_base.specs.Pieces.{pieces}
 use Rattle.payload_core_base.specs.declared.codec.Codec.{Codec}
 use Rattle.payload_core_base.specs.declared.codec.Codec.TheVariants.{Opus}
 use Rattle.payload_core_base.proofs.PieceLemmas.{pieces-empty, pieces-step}
-use Rattle.payload_core_audio.specs.Plain.{pieces_packing, plain_format, unit_of_piece}
+use Rattle.payload_core_audio.specs.Plain.{pieces_packing, plain_format}
+use Rattle.payload_core_base.specs.Stateless.{unit_of_piece}
 use Rattle.h26x_payload.specs.Codings as codings
 use Rattle.h26x_payload.specs.Dispatch.{FirstIsReached, KeepCodecLawInForms}
 use Rattle.rtp_wire.specs.Carried.{AreValues}

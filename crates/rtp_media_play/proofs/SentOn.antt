@@ -8,7 +8,7 @@ use Rattle.payload_core_base.specs.Law.{joined}
 use Rattle.payload_core_base.specs.declared.codec.Codec.{Codec}
 use Rattle.payload_core_base.specs.declared.codec.Codec.TheVariants.{Opus}
 use Rattle.payload_core_base.specs.declared.error.PacketError.{PacketError}
-use Rattle.payload_core_audio.specs.Plain.{unit_of_piece}
+use Rattle.payload_core_base.specs.Stateless.{unit_of_piece}
 use Rattle.h26x_payload.specs.Codings as codings
 use Rattle.h26x_payload.specs.Dispatch.{FirstIsReached, KeepCodecLawInForms}
 use Rattle.rtp_media_play.specs.Codecs.{is_kept_in}

@@ -8,7 +8,7 @@ use Rattle.payload_core_base.specs.Packing.{Sender}
 use Rattle.payload_core_amr_wb.specs.AmrWb.{IsSized, amr_wb_coding, amr_wb_packet, bit_of, byte_from, bytes_from}
 use Rattle.payload_core_amr_wb.specs.AmrWb.{field_of, header_at, sample_size, size_if, speech_bits, speech_of}
 use Rattle.payload_core_amr_wb.specs.AmrWb.{speech_unit}
-use Rattle.payload_core_audio.specs.Plain.{unit_of_piece}
+use Rattle.payload_core_base.specs.Stateless.{unit_of_piece}
 use Rattle.payload_core_amr_wb.proofs.AmrWbLemmas.{aligned_len, efficient_len}
 use Rattle.payload_core_amr_wb.proofs.AmrWbLaw.{bit_from, bit_small}
 use Rattle.rtp_media_play.specs.Again.{AnySample, ComesAgain, GivesAgain, IsSame}

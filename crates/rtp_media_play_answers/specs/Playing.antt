@@ -12,10 +12,10 @@ use Rattle.rtp_media_play.specs.declared.schedule.Event.{Event}
 use Rattle.rtp_media_play.specs.declared.schedule.Event.TheVariants as event
 use Rattle.rtp_media_play.specs.declared.schedule.Played.{Played}
 use Rattle.rtp_media_play.specs.declared.schedule.Played.TheVariants as play_answer
-use Rattle.rtp_media_lines.specs.declared.playing.PlayCommand.{PlayCommand}
-use Rattle.rtp_media_lines.specs.declared.playing.PlayItem.{PlayItem}
-use Rattle.rtp_media_lines.specs.declared.playing.PlayItem.TheVariants as item
-use Rattle.rtp_media_lines.specs.declared.playing.QueueCommand.{QueueCommand}
+use Rattle.rtp_media_lines.specs.declared.PlayCommand.{PlayCommand}
+use Rattle.rtp_media_lines.specs.declared.PlayItem.{PlayItem}
+use Rattle.rtp_media_lines.specs.declared.PlayItem.TheVariants as item
+use Rattle.rtp_media_lines.specs.declared.QueueCommand.{QueueCommand}
 use Rattle.rtp_media_words.specs.declared.reply.Reply.{Reply}
 use Rattle.rtp_media_words.specs.declared.reply.Reply.TheVariants as reply
 use Rattle.rtp_media_play.specs.Stops.{Where}

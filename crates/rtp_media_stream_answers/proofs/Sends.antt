@@ -5,8 +5,8 @@ use Rattle.rtp_wire.specs.Name.{name_of}
 use Rattle.rtp_media_ends.specs.declared.OpenError.{OpenError}
 use Rattle.rtp_media_ends.specs.declared.OpenError.TheVariants as open_error
 use Rattle.rtp_media_ends.specs.Ends.{EndState, after_open_sender, refusal_of_open_sender}
-use Rattle.rtp_media_lines.specs.declared.line.Command.TheVariants.{Send}
-use Rattle.rtp_media_lines.specs.declared.line.SendCommand.{SendCommand}
+use Rattle.rtp_media_lines.specs.declared.Command.TheVariants.{Send}
+use Rattle.rtp_media_lines.specs.declared.SendCommand.{SendCommand}
 use Rattle.rtp_media_words.specs.declared.reply.Reply.{Reply}
 use Rattle.rtp_media_words.specs.declared.reply.Reply.TheVariants as reply
 use Rattle.rtp_media_stream_answers.specs.Names.{open_error_name}

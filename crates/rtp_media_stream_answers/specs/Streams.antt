@@ -22,13 +22,13 @@ use Rattle.rtp_media_ends.specs.Ends.{is_receiver_at, is_sender_at, with_receive
 use Rattle.rtp_media_ends.specs.Params.{is_sound_params}
 use Rattle.rtp_media_ends.specs.Stops.{PollStops, SenderFails}
 use Rattle.rtp_media_ends.specs.Arrivals.{verdict_of, after_datagram}
-use Rattle.rtp_media_lines.specs.declared.line.Command.{Command}
-use Rattle.rtp_media_lines.specs.declared.line.Command.TheVariants.{Send, Open, Sample, Receive, Poll}
-use Rattle.rtp_media_lines.specs.declared.line.SendCommand.{SendCommand}
-use Rattle.rtp_media_lines.specs.declared.line.OpenCommand.{OpenCommand}
-use Rattle.rtp_media_lines.specs.declared.line.SampleCommand.{SampleCommand}
-use Rattle.rtp_media_lines.specs.declared.line.ReceiveCommand.{ReceiveCommand}
-use Rattle.rtp_media_lines.specs.declared.line.PollCommand.{PollCommand}
+use Rattle.rtp_media_lines.specs.declared.Command.{Command}
+use Rattle.rtp_media_lines.specs.declared.Command.TheVariants.{Send, Open, Sample, Receive, Poll}
+use Rattle.rtp_media_lines.specs.declared.SendCommand.{SendCommand}
+use Rattle.rtp_media_lines.specs.declared.OpenCommand.{OpenCommand}
+use Rattle.rtp_media_lines.specs.declared.SampleCommand.{SampleCommand}
+use Rattle.rtp_media_lines.specs.declared.ReceiveCommand.{ReceiveCommand}
+use Rattle.rtp_media_lines.specs.declared.PollCommand.{PollCommand}
 use Rattle.rtp_media_words.specs.declared.reply.Reply.{Reply}
 use Rattle.rtp_media_words.specs.declared.reply.Reply.TheVariants as reply
 use Rattle.rtp_media_replies.specs.Replies.{memory}

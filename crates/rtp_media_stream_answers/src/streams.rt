@@ -1,7 +1,7 @@
 //! Streams that are opened, and what they send and receive.
 
 ghost use Rattle.std.specs.Prelude.{◌≡◌, ◌++◌, [], ◌∷◌, map, IfOk};
-ghost use Rattle.rtp_media_lines.specs.declared.line.Command.{Command};
+ghost use Rattle.rtp_media_lines.specs.declared.Command.{Command};
 ghost use Rattle.rtp_media_stream_answers.specs.Streams.{IsAnswered, params_of, verdict_reply, unit_reply};
 ghost use Rattle.rtp_media_stream_answers.specs.Streams.{values_given};
 

@@ -1,7 +1,6 @@
 //! What came of each line, in words.
 
-use crate::replies::replies_to;
-use rtp_media::{MAX_LINE_LENGTH, Program, Status};
+use rtp_media::{MAX_LINE_LENGTH, Program, Status, answer_lines};
 use rtp_media_explaining::{FORMS, LONGEST_LINE, reason_for};
 use rtp_media_known_ends::{Known, is_comment, text_of};
 use std::io;
@@ -48,7 +47,7 @@ fn explain_line(
     if is_comment(line) {
         return Ok(Status::Success);
     }
-    let (replies, status) = replies_to(rt.alloc(), program, line)?;
+    let (replies, status) = answer_lines(rt.alloc(), line, program)?;
     for reply in text_of(&replies).lines() {
         explain_reply(rt, known, number, line, reply)?;
     }

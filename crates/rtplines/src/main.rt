@@ -3,7 +3,6 @@
 #![tactic(auto)]
 
 mod explaining;
-mod replies;
 
 use anyhow::bail;
 use explaining::explain;

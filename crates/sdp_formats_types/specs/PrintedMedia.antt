@@ -3,7 +3,7 @@ use Rattle.std.specs.Prelude.{ℕ, not, List, [], ◌∷◌, map, codes, if◌th
 use Rattle.std.specs.Fmt.{decimal}
 use Rattle.std.specs.Option.{option_map}
 use Rattle.sdp_formats_forms.specs.Joined.{spelled, joined, maybe_text}
-use Rattle.sdp_formats_values.specs.Codecs.{codec_name}
+use Rattle.payload_core_base.specs.Codecs.{codec_name}
 use Rattle.sdp_formats_params.specs.Printed.{param_text}
 use Rattle.sdp_formats_params.specs.declared.FormatParam.{FormatParam}
 use Rattle.rtp_wire.specs.Kinds.{uri_of}

@@ -4,12 +4,13 @@ ghost use Rattle.std.specs.Prelude.{◌≡◌, [], None, false};
 ghost use Rattle.sdp_formats_values.specs.declared.media_type.MediaType.TheVariants.{Audio};
 ghost use Rattle.sdp_formats_values.specs.declared.media_type.Proto.TheVariants.{Srtp};
 
+use payload_core_base::Codec;
 use rtp_wire::{Extension, Frequency, Mid, Pt, Ssrc};
 use sdp_formats_forms::{Listed, Maybe, Text};
 use sdp_formats_params::{FormatParam, Pair};
 use sdp_formats_values::{
-    Bandwidth, Candidate, Codec, Fingerprint, MediaType, Msid, Proto, RestrictionId, RidDirection,
-    Setup, Simulcast,
+    Bandwidth, Candidate, Fingerprint, MediaType, Msid, Proto, RestrictionId, RidDirection, Setup,
+    Simulcast,
 };
 use std::alloc::Global;
 use std::fmt;

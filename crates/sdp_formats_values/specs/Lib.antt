@@ -1,4 +1,3 @@
-pub use Rattle.payload_core_base.specs.Codecs
 pub mod Setup
 pub mod Streams
 pub mod PrintedCandidates

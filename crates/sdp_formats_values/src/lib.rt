@@ -15,7 +15,6 @@ pub use candidate::{Candidate, CandidateKind, IceCreds, Protocol, RelatedAddress
 pub use fingerprint::Fingerprint;
 pub use lists::{Mids, Restrictions, RidRestrictions, Sources, Words, write_both, write_value};
 pub use media_type::{MediaType, Proto};
-pub use payload_core_base::Codec;
 pub use setup::Setup;
 pub use streams::{
     Msid, RestrictionId, RidDirection, Simulcast, SimulcastGroups, SimulcastLayer, SsrcInfo,

@@ -2,7 +2,6 @@
 
 use crate::attributes::{put_attributes, put_directed};
 use crate::rows::put_rows;
-use crate::said::put_said;
 use line_replies::{Reply, parted};
 use sdp_formats::{Direction, Sdp, SdpError, parse};
 use std::alloc::{AllocError, Global};
@@ -14,7 +13,7 @@ pub(crate) fn answer(rt: &HostRuntime, line: &str) -> Result<String, AllocError>
     let (command, rest) = parted(line);
     match command {
         "" | "#" => reply.put(line),
-        "attributes" | "directed" | "rows" | "says" => {
+        "attributes" | "directed" | "rows" => {
             put_file(rt, command, parted(rest), &mut reply);
         }
         _ => reply.put("fault"),
@@ -48,7 +47,6 @@ fn put_sections(alloc: Global, command: &str, word: &str, sdp: Sdp, reply: &mut 
     match command {
         "attributes" => put_attributes(alloc, &sdp, reply),
         "rows" => put_rows(alloc, &sdp, reply),
-        "says" => put_said(alloc, &sdp, reply),
         _ => put_directed(alloc, sdp, Direction::from(word), reply),
     }
 }

@@ -1,12 +1,11 @@
-//! Answers commands on what session texts in files say: their attributes, their rows and what accessors answer, a line
-//! of standard input after the other. Its transcript was worked out apart from the project, as that of `text_lines`,
-//! which reads and prints whole texts.
+//! Answers commands on what session texts in files say: their attributes, their directions and their rows, a line of
+//! standard input after the other. Its transcript was worked out apart from the project, as that of `text_lines`, which
+//! reads whole texts.
 #![tactic(auto)]
 
 mod attributes;
 mod commands;
 mod rows;
-mod said;
 
 use commands::answer;
 use std::io;

@@ -1,6 +1,5 @@
 //! The commands.
 
-use crate::exchanged::{put_answer, put_offer};
 use crate::texts::{put_prefixes, put_session, put_text};
 use line_replies::{Reply, parted};
 use std::alloc::{AllocError, Global};
@@ -34,8 +33,6 @@ fn put_command(alloc: Global, command: &str, text: &str, reply: &mut Reply) {
         "text" => put_text(alloc, text, reply),
         "prefixes" => put_prefixes(alloc, text, reply),
         "session" => put_session(alloc, text, reply),
-        "offer" => put_offer(alloc, text, reply),
-        "answer" => put_answer(alloc, text, reply),
         _ => reply.fault(),
     }
 }

@@ -1,11 +1,10 @@
 //! Answers commands on session texts in files, a line of standard input after the other. Its transcript holds texts of
 //! browsers and in the forms of other programs, texts by hand of each kind of line and at the bounds of each number,
-//! and what is read of them, which was worked out apart from the project. What texts say, attribute by attribute, is
-//! asked of `section_lines`.
+//! and what is read of them, which was worked out apart from the project. How they are printed is asked of
+//! `printed_lines`, what they say, attribute by attribute, of `section_lines` and `accessor_lines`.
 #![tactic(auto)]
 
 mod commands;
-mod exchanged;
 mod texts;
 
 use commands::answer;

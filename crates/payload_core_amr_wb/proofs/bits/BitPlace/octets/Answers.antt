@@ -3,8 +3,8 @@ use Rattle.payload_core_amr_wb.specs.BitPlaces.{place_of}
 use Rattle.payload_core_amr_wb.proofs.BitLemmas.{octet-small, octets}
 use Rattle.payload_core_amr_wb.proofs.bits.BitPlace.octets.Goals as goal
 
-pub returns : goal.returns
-returns c =
+pub returns-clause-octets : goal.returns-clause-octets
+returns-clause-octets c =
     let p = c.args.self.now in
     let e : p.octet + c.args.count - p.octet ≡ c.args.count = omega arith in
     ap (λ n. take n (drop p.octet c.args.bytes.now)) e

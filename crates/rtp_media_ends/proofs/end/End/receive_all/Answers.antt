@@ -1,4 +1,4 @@
-use Rattle.std.proofs.Common.{◌≡◌, ◌∙◌, ap, sym, subst, List}
+use Rattle.std.proofs.Common.{◌≡◌, ◌∙◌, ap, sym, subst, List, arith}
 use Rattle.rtp_media_payloads.specs.Receiving.{Receiving, opened_receiver, with_stream}
 use Rattle.rtp_media_stream_laws.specs.declared.OpenStream.{OpenStream}
 use Rattle.rtp_media_stream_laws.specs.Ends.{EndState, receiver_at}
@@ -6,6 +6,7 @@ use Rattle.rtp_media_stream_laws.specs.FullArrival.{after_datagrams, ArePolledOu
 use Rattle.rtp_media_stream_laws.proofs.Exact.{exact}
 use Rattle.rtp_media_stream_laws.proofs.Isolation.{found-after}
 use Rattle.rtp_media_ends.proofs.Stopping.{out-of}
+use Rattle.std.proofs.lemmas.Grind.{common_steps}
 use Rattle.rtp_media_ends.proofs.end.End.receive_all.Goals as goal
 
 pub returns-clause-exact : goal.returns-clause-exact
@@ -23,3 +24,45 @@ returns-clause-exact c stream hold_back sender samples arrivals all =
     exact c.codec_law.ensures.codec_in_forms c.args.self.now stream hold_back sender samples arrivals
     c.args.datagrams.now _ _ all
     (out-of _ _ _ there.1 (polled.each stream there.0))
+
+pub returns-in_err-verdicts-clause-verdicts : goal.returns-in_err-verdicts-clause-verdicts
+returns-in_err-verdicts-clause-verdicts c = grind (arith, common_steps)
+
+pub returns-in_err-verdicts-clause-polls : goal.returns-in_err-verdicts-clause-polls
+returns-in_err-verdicts-clause-polls c = grind (arith, common_steps)
+
+pub returns-in_err-verdicts-clause-others : goal.returns-in_err-verdicts-clause-others
+returns-in_err-verdicts-clause-others c = grind (arith, common_steps)
+
+pub returns-in_err-verdicts-clause-exact : goal.returns-in_err-verdicts-clause-exact
+returns-in_err-verdicts-clause-exact c = grind (arith, common_steps)
+
+pub returns-in_err-verdicts-clause-memory : goal.returns-in_err-verdicts-clause-memory
+returns-in_err-verdicts-clause-memory c = grind (arith, common_steps)
+
+pub returns-in_err-polls-clause-verdicts : goal.returns-in_err-polls-clause-verdicts
+returns-in_err-polls-clause-verdicts c = grind (arith, common_steps)
+
+pub returns-in_err-polls-clause-polls : goal.returns-in_err-polls-clause-polls
+returns-in_err-polls-clause-polls c = grind (arith, common_steps)
+
+pub returns-in_err-polls-clause-others : goal.returns-in_err-polls-clause-others
+returns-in_err-polls-clause-others c = grind (arith, common_steps)
+
+pub returns-in_err-polls-clause-exact : goal.returns-in_err-polls-clause-exact
+returns-in_err-polls-clause-exact c = grind (arith, common_steps)
+
+pub returns-in_err-polls-clause-memory : goal.returns-in_err-polls-clause-memory
+returns-in_err-polls-clause-memory c = grind (arith, common_steps)
+
+pub returns-clause-verdicts : goal.returns-clause-verdicts
+returns-clause-verdicts c = grind (arith, common_steps)
+
+pub returns-clause-polls : goal.returns-clause-polls
+returns-clause-polls c = grind (arith, common_steps)
+
+pub returns-clause-others : goal.returns-clause-others
+returns-clause-others c = grind (arith, common_steps)
+
+pub returns-clause-memory : goal.returns-clause-memory
+returns-clause-memory c = grind (arith, common_steps)

@@ -12,8 +12,9 @@ pub returns-in_err-push-clause-some : goal.returns-in_err-push-clause-some
 returns-in_err-push-clause-some c =
     let after : c.receive.new.self ≡ after_datagrams c.args.self.now (take (c.loop-datagram.datagram-index + 1)
     c.args.datagrams.now) =
-    received-more _ _ _ _ _ c.datagram-item.result _ c.loop-datagram.invariant.so_far c.loop-datagram-test.true
-    c.datagram-item.is c.as_slice.ensures c.in_ok-verdict.ensures.after in
+    received-more c.args.datagrams.now c.args.self.now c.loop-datagram.self c.receive.new.self
+    c.loop-datagram.datagram-index c.datagram-item.result c.as_slice.result.now
+    c.loop-datagram.invariant.so_far c.loop-datagram-test.true c.datagram-item.is c.as_slice.ensures c.in_ok-verdict.ensures.after in
     let some : ReceivesSome c.args.self.now c.args.datagrams.now c.receive.new.self = record {
       count = c.loop-datagram.datagram-index + 1;
       place = omega (arith, c.loop-datagram-test.true);
@@ -25,8 +26,9 @@ pub loop-datagram-preserved : goal.loop-datagram-preserved
 loop-datagram-preserved c = record {
   after = grind (arith, common_steps);
   verdicts = grind (arith, common_steps);
-  so_far = received-more _ _ _ _ _ c.datagram-item.result _ c.loop-datagram.invariant.so_far c.loop-datagram-test.true
-      c.datagram-item.is c.as_slice.ensures c.in_ok-verdict.ensures.after;
+  so_far = received-more c.args.datagrams.now c.args.self.now c.loop-datagram.self c.receive.new.self
+      c.loop-datagram.datagram-index c.datagram-item.result c.as_slice.result.now
+      c.loop-datagram.invariant.so_far c.loop-datagram-test.true c.datagram-item.is c.as_slice.ensures c.in_ok-verdict.ensures.after;
 }
 
 pub returns-in_err-verdict-clause-verdicts : goal.returns-in_err-verdict-clause-verdicts

@@ -1,6 +1,7 @@
-use Rattle.std.proofs.Common.{◌≡◌, ◌∙◌, sym, subst}
+use Rattle.std.proofs.Common.{◌≡◌, ◌∙◌, sym, subst, arith}
 use Rattle.rtp_media_negotiation.specs.Offers.{Answers}
 use Rattle.rtp_media_ends.specs.Connections.{AtAnswer, AtAccept, offer_text}
+use Rattle.std.proofs.lemmas.Grind.{common_steps}
 use Rattle.rtp_media_ends.proofs.end.exchanges.connect.Goals as goal
 
 pub returns-in-Err-clause-refused : goal.returns-in-Err-clause-refused
@@ -37,3 +38,45 @@ returns-in-Err-accept-clause-refused c =
         c.in-Ok.ensures.streams,
       ),
     )
+
+pub returns-in_err-offer-clause-texts : goal.returns-in_err-offer-clause-texts
+returns-in_err-offer-clause-texts c = grind (arith, common_steps)
+
+pub returns-in_err-offer-clause-exchanged : goal.returns-in_err-offer-clause-exchanged
+returns-in_err-offer-clause-exchanged c = grind (arith, common_steps)
+
+pub returns-in_err-offer-clause-agree : goal.returns-in_err-offer-clause-agree
+returns-in_err-offer-clause-agree c = grind (arith, common_steps)
+
+pub returns-in_err-offer-clause-refused : goal.returns-in_err-offer-clause-refused
+returns-in_err-offer-clause-refused c = grind (arith, common_steps)
+
+pub returns-in-Err-clause-texts : goal.returns-in-Err-clause-texts
+returns-in-Err-clause-texts c = grind (arith, common_steps)
+
+pub returns-in-Err-clause-exchanged : goal.returns-in-Err-clause-exchanged
+returns-in-Err-clause-exchanged c = grind (arith, common_steps)
+
+pub returns-in-Err-clause-agree : goal.returns-in-Err-clause-agree
+returns-in-Err-clause-agree c = grind (arith, common_steps)
+
+pub returns-in-Ok-accept-clause-texts : goal.returns-in-Ok-accept-clause-texts
+returns-in-Ok-accept-clause-texts c = grind (arith, common_steps)
+
+pub returns-in-Ok-accept-clause-exchanged : goal.returns-in-Ok-accept-clause-exchanged
+returns-in-Ok-accept-clause-exchanged c = grind (arith, common_steps)
+
+pub returns-in-Ok-accept-clause-agree : goal.returns-in-Ok-accept-clause-agree
+returns-in-Ok-accept-clause-agree c = grind (arith, common_steps)
+
+pub returns-in-Ok-accept-clause-refused : goal.returns-in-Ok-accept-clause-refused
+returns-in-Ok-accept-clause-refused c = grind (arith, common_steps)
+
+pub returns-in-Err-accept-clause-texts : goal.returns-in-Err-accept-clause-texts
+returns-in-Err-accept-clause-texts c = grind (arith, common_steps)
+
+pub returns-in-Err-accept-clause-exchanged : goal.returns-in-Err-accept-clause-exchanged
+returns-in-Err-accept-clause-exchanged c = grind (arith, common_steps)
+
+pub returns-in-Err-accept-clause-agree : goal.returns-in-Err-accept-clause-agree
+returns-in-Err-accept-clause-agree c = grind (arith, common_steps)

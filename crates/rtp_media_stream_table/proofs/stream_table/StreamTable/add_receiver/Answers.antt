@@ -66,3 +66,48 @@ returns-clause-found c pt has =
     grind (arith, common_steps) in
     subst₂ (λ (ss : List OpenStream) (n : ℕ). stream_for ss c.args.stream.ssrc pt ≡ Some n) items number
     (found-new c.self.inside.streams.items c.args.stream free pt has)
+
+pub returns-in_err-set_types-clause-number : goal.returns-in_err-set_types-clause-number
+returns-in_err-set_types-clause-number c = grind (arith, common_steps)
+
+pub returns-in_err-set_types-clause-added : goal.returns-in_err-set_types-clause-added
+returns-in_err-set_types-clause-added c = grind (arith, common_steps)
+
+pub returns-in_err-set_types-clause-stream : goal.returns-in_err-set_types-clause-stream
+returns-in_err-set_types-clause-stream c = grind (arith, common_steps)
+
+pub returns-in_err-set_types-clause-receives : goal.returns-in_err-set_types-clause-receives
+returns-in_err-set_types-clause-receives c = grind (arith, common_steps)
+
+pub returns-in_err-set_types-clause-found : goal.returns-in_err-set_types-clause-found
+returns-in_err-set_types-clause-found c = grind (arith, common_steps)
+
+pub returns-in_err-set_types-clause-unchanged : goal.returns-in_err-set_types-clause-unchanged
+returns-in_err-set_types-clause-unchanged c = grind (arith, common_steps)
+
+pub returns-in_err-push-clause-number : goal.returns-in_err-push-clause-number
+returns-in_err-push-clause-number c = grind (arith, common_steps)
+
+pub returns-in_err-push-clause-added : goal.returns-in_err-push-clause-added
+returns-in_err-push-clause-added c = grind (arith, common_steps)
+
+pub returns-in_err-push-clause-stream : goal.returns-in_err-push-clause-stream
+returns-in_err-push-clause-stream c = grind (arith, common_steps)
+
+pub returns-in_err-push-clause-receives : goal.returns-in_err-push-clause-receives
+returns-in_err-push-clause-receives c = grind (arith, common_steps)
+
+pub returns-in_err-push-clause-found : goal.returns-in_err-push-clause-found
+returns-in_err-push-clause-found c = grind (arith, common_steps)
+
+pub returns-in_err-push-clause-unchanged : goal.returns-in_err-push-clause-unchanged
+returns-in_err-push-clause-unchanged c = grind (arith, common_steps)
+
+pub returns-clause-number : goal.returns-clause-number
+returns-clause-number c = grind (arith, common_steps)
+
+pub returns-clause-added : goal.returns-clause-added
+returns-clause-added c = grind (arith, common_steps)
+
+pub returns-clause-unchanged : goal.returns-clause-unchanged
+returns-clause-unchanged c = grind (arith, common_steps)

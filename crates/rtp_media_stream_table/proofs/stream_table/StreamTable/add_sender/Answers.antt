@@ -53,3 +53,42 @@ returns-clause-sends c =
     let number : length c.self.inside.streams.items ≡ c.len-number.result = grind (arith, common_steps) in
     subst₂ (λ (ss : List OpenStream) (n : ℕ). is_nth_sender ss n ≡ true) items number
     (sends-at-end c.self.inside.streams.items c.args.stream)
+
+pub returns-in_err-set_types-clause-number : goal.returns-in_err-set_types-clause-number
+returns-in_err-set_types-clause-number c = grind (arith, common_steps)
+
+pub returns-in_err-set_types-clause-added : goal.returns-in_err-set_types-clause-added
+returns-in_err-set_types-clause-added c = grind (arith, common_steps)
+
+pub returns-in_err-set_types-clause-stream : goal.returns-in_err-set_types-clause-stream
+returns-in_err-set_types-clause-stream c = grind (arith, common_steps)
+
+pub returns-in_err-set_types-clause-sends : goal.returns-in_err-set_types-clause-sends
+returns-in_err-set_types-clause-sends c = grind (arith, common_steps)
+
+pub returns-in_err-set_types-clause-unchanged : goal.returns-in_err-set_types-clause-unchanged
+returns-in_err-set_types-clause-unchanged c = grind (arith, common_steps)
+
+pub returns-in_err-push-clause-number : goal.returns-in_err-push-clause-number
+returns-in_err-push-clause-number c = grind (arith, common_steps)
+
+pub returns-in_err-push-clause-added : goal.returns-in_err-push-clause-added
+returns-in_err-push-clause-added c = grind (arith, common_steps)
+
+pub returns-in_err-push-clause-stream : goal.returns-in_err-push-clause-stream
+returns-in_err-push-clause-stream c = grind (arith, common_steps)
+
+pub returns-in_err-push-clause-sends : goal.returns-in_err-push-clause-sends
+returns-in_err-push-clause-sends c = grind (arith, common_steps)
+
+pub returns-in_err-push-clause-unchanged : goal.returns-in_err-push-clause-unchanged
+returns-in_err-push-clause-unchanged c = grind (arith, common_steps)
+
+pub returns-clause-number : goal.returns-clause-number
+returns-clause-number c = grind (arith, common_steps)
+
+pub returns-clause-added : goal.returns-clause-added
+returns-clause-added c = grind (arith, common_steps)
+
+pub returns-clause-unchanged : goal.returns-clause-unchanged
+returns-clause-unchanged c = grind (arith, common_steps)

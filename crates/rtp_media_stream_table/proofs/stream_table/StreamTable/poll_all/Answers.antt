@@ -13,3 +13,12 @@ invariant_of-self c =
     kept-receiver c.self.inside.senders c.self.inside.receivers c.self.inside.streams.items c.args.stream
     c.in-Receiver.receiver c.poll_all.new.self is (ap (λ (r : Receiving). r.ssrc) c.poll_all.ensures.same)
     (ap (λ (r : Receiving). r.types) c.poll_all.ensures.same) c.self.invariant
+
+pub returns-clause-polled : goal.returns-clause-polled
+returns-clause-polled c = grind (arith, common_steps)
+
+pub returns-clause-some : goal.returns-clause-some
+returns-clause-some c = grind (arith, common_steps)
+
+pub returns-clause-others : goal.returns-clause-others
+returns-clause-others c = grind (arith, common_steps)

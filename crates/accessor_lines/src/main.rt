@@ -1,0 +1,20 @@
+//! Answers commands on what accessors answer of session texts in files, a line of standard input after the other. Its
+//! transcript was worked out apart from the project, as that of `text_lines`.
+#![tactic(auto)]
+
+mod commands;
+mod said;
+
+use commands::answer;
+use std::io;
+
+/// Answers each line by a line or, for a session text, by several: a comment by itself, a command by what it gives, and
+/// a line that isn't understood, or whose file can't be read, by the word `fault`.
+fn main(rt: HostRuntime) -> io::Result<()> {
+    let text = io::read_to_string(rt.alloc(), rt.reader())?;
+    for line in text.as_str().lines() {
+        let reply = answer(&rt, line)?;
+        println!(rt; "{reply}")?;
+    }
+    Ok(())
+}

@@ -1,0 +1,2 @@
+pub mod ExchangeLines
+pub mod PlayLines
