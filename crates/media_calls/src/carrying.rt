@@ -10,28 +10,27 @@ ghost use Rattle.rtp_media_play.specs.Schedules.{poll_answers};
 ghost use Rattle.media_calls.specs.Call.{IsShortSample, SendsPieces, sends_pieces};
 ghost use Rattle.rtp_media_play.specs.OpusHops.{bytes_out};
 
+use crate::calls::{distances, sections};
+use crate::cases::Case;
 use crate::silence::ends_silent;
 use crate::stopped::Stopped;
 use rtp_media_play::{
-    Codec, Distances, End, Event, PayloadParams, Played, Sample, SectionSpec, StreamParams,
-    connect, headline, play,
+    Codec, End, Event, PayloadParams, Played, Sample, StreamParams, connect, headline, play,
 };
 use rtp_wire::{Mid, Pt, Ssrc};
 use std::alloc::Global;
 
-/// Has two ends agree on section `0`, and carries three samples from one to the other at SSRC 44 and payload type 111,
-/// with redundancy at these distances or without: the second arrives last, and what comes out is what was sent, each
-/// sample once and in order.
+/// Has two ends of a case agree on section `0`, and carries three samples from one to the other at SSRC 44 and payload
+/// type 111, each behind the one before where the case has redundancy: the second arrives last, and what comes out is
+/// what was sent, each sample once and in order.
 ///
 /// # Errors
 /// Where the exchange, an opening or a sample is refused, or memory runs out.
 pub(crate) fn carry(
     alloc: Global,
+    case: &Case,
     a: &mut End,
     b: &mut End,
-    sections_a: Vec<SectionSpec>,
-    sections_b: Vec<SectionSpec>,
-    red: Option<Distances>,
     samples: &[Sample],
 ) -> Result<Vec<Played>, Stopped>
     requires three { length samples.now ≡ 3 }
@@ -40,6 +39,9 @@ pub(crate) fn carry(
         ≡ map (λ x. Ok x.bytes) samples.now) }
 {
     headline();
+    let red = distances(alloc, case, &[1])?;
+    let sections_a = sections(alloc, case, &[Ssrc::from(44)])?;
+    let sections_b = sections(alloc, case, &[Ssrc::from(45)])?;
     match connect(a, b, sections_a, sections_b) {
         Ok(_) => {}
         Err(_) => return Err(Stopped::Refused),

@@ -3,12 +3,12 @@
 ghost use Rattle.std.specs.Prelude.{◌≡◌, ◌<◌, length, All, IfOk};
 ghost use Rattle.media_calls.specs.Call.{IsShortSample};
 
-use crate::calls::{distances, end, sections};
+use crate::calls::end;
 use crate::carrying::carry;
 use crate::cases::{Case, PIECES};
 use crate::stopped::Stopped;
 use rtp_media_play::{Played, Sample};
-use rtp_wire::{ExtensionValues, Frequency, MediaTime, Ssrc};
+use rtp_wire::{ExtensionValues, Frequency, MediaTime};
 use std::alloc::{AllocError, Global};
 
 /// Prints for each codec what comes out at the end that receives: without redundancy, and with each payload behind the
@@ -18,30 +18,32 @@ pub(crate) fn print_calls(rt: &HostRuntime) -> Result<(), Stopped> {
         let all = call(rt.alloc(), case)?;
         let _ = println!(*rt; "{}", case.codec.as_str());
         for played in &all {
-            let _ = match played {
-                Played::Received(_) => Ok(()),
-                Played::Polled(Ok(Some(unit))) => println!(*rt;
-                    "unit {} of {} bytes",
-                    unit.first(),
-                    unit.bytes().len()
-                ),
-                Played::Polled(Ok(None)) => println!(*rt; "none"),
-                Played::Polled(Err(refusal)) => println!(*rt; "fault {refusal}"),
-            };
+            print_played(rt, played);
         }
     }
     Ok(())
 }
 
+/// Prints what a poll answered.
+fn print_played(rt: &HostRuntime, played: &Played) {
+    let _ = match played {
+        Played::Received(_) => Ok(()),
+        Played::Polled(Ok(Some(unit))) => println!(*rt;
+            "unit {} of {} bytes",
+            unit.first(),
+            unit.bytes().len()
+        ),
+        Played::Polled(Ok(None)) => println!(*rt; "none"),
+        Played::Polled(Err(refusal)) => println!(*rt; "fault {refusal}"),
+    };
+}
+
 /// A call of ends whose row this is.
 fn call(alloc: Global, case: &Case) -> Result<Vec<Played>, Stopped> {
     let samples = short_samples(alloc)?;
-    let red = distances(alloc, case, &[1])?;
-    let sections_a = sections(alloc, case, &[Ssrc::from(44)])?;
-    let sections_b = sections(alloc, case, &[Ssrc::from(45)])?;
     let mut a = end(alloc, case, 1)?;
     let mut b = end(alloc, case, 2)?;
-    carry(alloc, &mut a, &mut b, sections_a, sections_b, red, &samples)
+    carry(alloc, case, &mut a, &mut b, &samples)
 }
 
 /// Three samples of 20 milliseconds.

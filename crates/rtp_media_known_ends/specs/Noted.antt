@@ -1,5 +1,6 @@
 -- What is known of the ends and their streams, from the lines and the replies to them.
 use Rattle.std.specs.Prelude.{ℕ, ◌||◌, ◌&&◌, not, Bool, true, false, if◌then◌else◌, List, [], ◌∷◌, ◌++◌, codes}
+use Rattle.std.specs.Prelude.{fold}
 use Rattle.std.specs.List.{slice_get}
 use Rattle.std.specs.Option.{option_map_or, unwrap_or}
 use Rattle.std.specs.Str.{bytes_eq}
@@ -77,3 +78,7 @@ abbrev pub noted : Known → List ℕ → List ℕ → Known
 noted known line reply =
     if bytes_eq (word_at line 1) (codes "a") then record known { a = noted_end known.a line reply }
     else record known { b = noted_end known.b line reply }
+
+-- The replies to a line are noted, one after the other.
+abbrev pub noted_all : Known → List ℕ → List (List ℕ) → Known
+noted_all known line replies = fold (λ (k : Known) (reply : List ℕ). noted k line reply) known replies
