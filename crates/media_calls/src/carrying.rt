@@ -38,7 +38,6 @@ pub(crate) fn carry(
     ensures { IfOk result (λ all. map bytes_out (handed_out (poll_answers all.items))
         ≡ map (λ x. Ok x.bytes) samples.now) }
 {
-    headline();
     let red = distances(alloc, case, &[1])?;
     let sections_a = sections(alloc, case, &[Ssrc::from(44)])?;
     let sections_b = sections(alloc, case, &[Ssrc::from(45)])?;
