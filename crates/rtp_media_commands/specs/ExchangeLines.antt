@@ -1,8 +1,8 @@
 -- What the lines say that make ends and exchange their texts.
 use Rattle.std.specs.Prelude.{ℕ, ◌^◌, List, Option, Some}
 use Rattle.rtp_media_commands.specs.declared.command.Command.{Command}
-use Rattle.rtp_media_commands.specs.declared.command.Command.TheVariants.{Row, Ext, End, Offer, Answer, Accept, Withdraw}
-use Rattle.rtp_media_commands.specs.declared.command.Command.TheVariants.{Connect}
+use Rattle.rtp_media_commands.specs.declared.command.Command.TheVariants.{Row, Ext, End, Offer, Answer, Accept}
+use Rattle.rtp_media_commands.specs.declared.command.Command.TheVariants.{Withdraw, Connect}
 use Rattle.rtp_media_words.specs.declared.words.Letter.{Letter}
 use Rattle.rtp_media_words.specs.Sections.{sections_of, sections_then_slash}
 use Rattle.rtp_media_words.specs.Words.{letter_of, text_of, hex_of, dash_or, number_below, first, ended, ◌>>=◌}

@@ -3,8 +3,8 @@ use Rattle.std.proofs.Common.{◌≡◌, ℕ, ◌^◌, Bool, true, false, List, 
 use Rattle.std.proofs.Common.{ap, subst}
 use Rattle.std.specs.Str.{bytes_eq}
 use Rattle.rtp_media_commands.specs.declared.command.Command.{Command}
-use Rattle.rtp_media_commands.specs.declared.command.Command.TheVariants.{Row, Ext, End, Offer, Answer, Accept, Withdraw}
-use Rattle.rtp_media_commands.specs.declared.command.Command.TheVariants.{Connect}
+use Rattle.rtp_media_commands.specs.declared.command.Command.TheVariants.{Row, Ext, End, Offer, Answer, Accept}
+use Rattle.rtp_media_commands.specs.declared.command.Command.TheVariants.{Withdraw, Connect}
 use Rattle.rtp_media_words.specs.declared.sections.SectionWord.{SectionWord}
 use Rattle.rtp_media_words.specs.Words.{letter_of, text_of, hex_of, dash_or, number_below}
 use Rattle.rtp_media_words.specs.Sections.{section_of, sections_of, sections_then_slash}

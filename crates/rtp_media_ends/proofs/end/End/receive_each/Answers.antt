@@ -14,7 +14,8 @@ returns-in_err-push-clause-some c =
     c.args.datagrams.now) =
     received-more c.args.datagrams.now c.args.self.now c.loop-datagram.self c.receive.new.self
     c.loop-datagram.datagram-index c.datagram-item.result c.as_slice.result.now
-    c.loop-datagram.invariant.so_far c.loop-datagram-test.true c.datagram-item.is c.as_slice.ensures c.in_ok-verdict.ensures.after in
+    c.loop-datagram.invariant.so_far c.loop-datagram-test.true c.datagram-item.is c.as_slice.ensures
+    c.in_ok-verdict.ensures.after in
     let some : ReceivesSome c.args.self.now c.args.datagrams.now c.receive.new.self = record {
       count = c.loop-datagram.datagram-index + 1;
       place = omega (arith, c.loop-datagram-test.true);
@@ -28,7 +29,8 @@ loop-datagram-preserved c = record {
   verdicts = grind (arith, common_steps);
   so_far = received-more c.args.datagrams.now c.args.self.now c.loop-datagram.self c.receive.new.self
       c.loop-datagram.datagram-index c.datagram-item.result c.as_slice.result.now
-      c.loop-datagram.invariant.so_far c.loop-datagram-test.true c.datagram-item.is c.as_slice.ensures c.in_ok-verdict.ensures.after;
+      c.loop-datagram.invariant.so_far c.loop-datagram-test.true c.datagram-item.is c.as_slice.ensures
+      c.in_ok-verdict.ensures.after;
 }
 
 pub returns-in_err-verdict-clause-verdicts : goal.returns-in_err-verdict-clause-verdicts
