@@ -1,8 +1,10 @@
 //! An end of a row, and what it wants to agree on.
 
+ghost use Rattle.std.specs.Prelude.{◌≡◌, IfOk};
+
 use crate::cases::Case;
 use crate::stopped::Stopped;
-use rtp_media_play::{CodecConfig, Distances, End, SectionSpec, Session};
+use rtp_media_play::{CodecConfig, Distances, End, SectionSpec, Session, StreamParams};
 use rtp_wire::{Direction, ExtensionMap, Mid, SessionId, Ssrc};
 use std::alloc::{AllocError, Global};
 
@@ -28,14 +30,22 @@ pub(crate) fn sections(
     Ok(vec![in alloc; section]?)
 }
 
-/// These distances, where the row has redundancy.
-pub(crate) fn distances(
-    alloc: Global,
-    case: &Case,
-    distances: &[u8],
-) -> Result<Option<Distances>, AllocError> {
-    if !case.has_red {
-        return Ok(None);
-    }
-    Ok(Some(Distances::from_vec(Vec::from_slice(alloc, distances)?)))
+/// Parameters of a stream from number 0 on, with each payload behind the one before where the row has redundancy.
+pub(crate) fn params(alloc: Global, case: &Case) -> Result<StreamParams, AllocError>
+    ensures first { IfOk result (λ params. params.first ≡ 0) }
+    ensures mtu { IfOk result (λ params. params.mtu ≡ 1200) }
+{
+    let red = if case.has_red {
+        Some(Distances::from_vec(Vec::from_slice(alloc, &[1])?))
+    } else {
+        None
+    };
+    Ok(StreamParams {
+        first: 0,
+        mtu: 1200,
+        limit: 1500,
+        red,
+        picture_id: None,
+        for_browsers: false,
+    })
 }

@@ -10,7 +10,7 @@ ghost use Rattle.rtp_media_play.specs.Schedules.{poll_answers};
 ghost use Rattle.media_calls.specs.Call.{IsShortSample, SendsPieces, sends_pieces};
 ghost use Rattle.rtp_media_play.specs.OpusHops.{bytes_out};
 
-use crate::calls::{distances, sections};
+use crate::calls::{params, sections};
 use crate::cases::Case;
 use crate::silence::ends_silent;
 use crate::stopped::Stopped;
@@ -38,22 +38,13 @@ pub(crate) fn carry(
     ensures { IfOk result (λ all. map bytes_out (handed_out (poll_answers all.items))
         ≡ map (λ x. Ok x.bytes) samples.now) }
 {
-    let red = distances(alloc, case, &[1])?;
     let sections_a = sections(alloc, case, &[Ssrc::from(44)])?;
     let sections_b = sections(alloc, case, &[Ssrc::from(45)])?;
     match connect(a, b, sections_a, sections_b) {
         Ok(_) => {}
         Err(_) => return Err(Stopped::Refused),
     }
-    let params = StreamParams {
-        first: 0,
-        mtu: 1200,
-        limit: 1500,
-        red,
-        picture_id: None,
-        for_browsers: false,
-    };
-    carry_between(alloc, a, b, params, samples)
+    carry_between(alloc, a, b, params(alloc, case)?, samples)
 }
 
 /// Whether there is a row, of Opus, G.711 or G.722.

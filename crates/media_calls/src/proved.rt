@@ -18,24 +18,17 @@ pub(crate) fn print_calls(rt: &HostRuntime) -> Result<(), Stopped> {
         let all = call(rt.alloc(), case)?;
         let _ = println!(*rt; "{}", case.codec.as_str());
         for played in &all {
-            print_played(rt, played);
+            print_unit(rt, played);
         }
     }
     Ok(())
 }
 
-/// Prints what a poll answered.
-fn print_played(rt: &HostRuntime, played: &Played) {
-    let _ = match played {
-        Played::Received(_) => Ok(()),
-        Played::Polled(Ok(Some(unit))) => println!(*rt;
-            "unit {} of {} bytes",
-            unit.first(),
-            unit.bytes().len()
-        ),
-        Played::Polled(Ok(None)) => println!(*rt; "none"),
-        Played::Polled(Err(refusal)) => println!(*rt; "fault {refusal}"),
-    };
+/// Prints the unit that a poll answered, if it did.
+fn print_unit(rt: &HostRuntime, played: &Played) {
+    if let Played::Polled(Ok(Some(unit))) = played {
+        let _ = println!(*rt; "unit {} of {} bytes", unit.first(), unit.bytes().len());
+    }
 }
 
 /// A call of ends whose row this is.
