@@ -1,5 +1,5 @@
 -- What calls of receiving streams answer.
-use Rattle.std.specs.Prelude.{ℕ, ◌≡◌, ◌≢◌, List, length, Option, Some, None}
+use Rattle.std.specs.Prelude.{ℕ, ◌≡◌, ◌≢◌, List, length, Option}
 use Rattle.rtp_wire.specs.Name.{name_of}
 use Rattle.rtp_media_schedules.specs.Hearing.{MediaUnit}
 use Rattle.rtp_media_streams.specs.Drains.{drained_receiver, holding}

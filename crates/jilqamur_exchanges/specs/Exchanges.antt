@@ -1,6 +1,5 @@
 -- What calls answer that exchange texts.
-use Rattle.std.specs.Prelude.{ℕ, ◌≡◌, ◌⊎◌, List, Option, Some, None, is_some, if◌then◌else◌}
-use Rattle.std.specs.Str.{is_utf8}
+use Rattle.std.specs.Prelude.{ℕ, ◌≡◌, ◌⊎◌, List, Some, None, is_some, if◌then◌else◌}
 use Rattle.sdp_formats_sessions.specs.PrintedSession.{sdp_text}
 use Rattle.rtp_media_ends.specs.declared.ExchangeError.{ExchangeError}
 use Rattle.rtp_media_ends.specs.declared.ExchangeError.TheVariants as error
@@ -10,11 +9,9 @@ use Rattle.rtp_media_ends.specs.Refusals.{MayAccept, MayAnswer, Refuses, Refuses
 use Rattle.rtp_media_ends.specs.Refusals.{refusal_of_offer}
 use Rattle.rtp_media_ends.specs.Sections.{Wanted}
 use Rattle.rtp_media_ends.specs.Ends.{EndState, with_exchange}
-use Rattle.rtp_media_ends.specs.Stops.{Where}
-use Rattle.jilqamur_headers.specs.Codes.{ok, memory, not_text, text_unreadable, out_of_turn, not_media}
+use Rattle.jilqamur_headers.specs.Codes.{ok, memory, text_unreadable, out_of_turn, not_media}
 use Rattle.jilqamur_headers.specs.Codes.{not_corresponding}
 use Rattle.jilqamur_headers.specs.Codes.{round, no_common_row, not_writable, nothing}
-use Rattle.jilqamur_ends.specs.Answers.{AtEnd}
 
 -- The number of a refused exchange.
 abbrev pub exchange_code : ExchangeError → ℕ

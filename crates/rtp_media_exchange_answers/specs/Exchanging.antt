@@ -1,5 +1,5 @@
 -- What the program answers to the commands that exchange texts.
-use Rattle.std.specs.Prelude.{ℕ, ◌≡◌, ◌⊎◌, ◌-◌, if◌then◌else◌, is_some, List}
+use Rattle.std.specs.Prelude.{ℕ, ◌≡◌, ◌⊎◌, if◌then◌else◌, is_some, List}
 use Rattle.std.specs.Prelude.{[], ◌∷◌, map, Option, Some, None}
 use Rattle.std.specs.Str.{is_utf8}
 use Rattle.rtp_wire.specs.Name.{name_of}
