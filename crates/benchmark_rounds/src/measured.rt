@@ -1,6 +1,6 @@
 //! What is done over and over, and the time that it takes.
 
-ghost use Rattle.std.specs.Prelude.{ℕ, IfOk, OnErr};
+ghost use Rattle.std.specs.Prelude.{ℕ, IfOk, OnErr, OnOk};
 ghost use Rattle.benchmark_rounds.specs.declared.tally.Tally.{Tally};
 ghost use Rattle.benchmark_rounds.specs.Rounds.{Repeats, RepeatsOrKeeps};
 ghost use Rattle.benchmark_rounds.specs.Tallies.{empty_tally};
@@ -49,6 +49,9 @@ pub fn measure<R: Round>(
 }
 
 /// Does it so often, and prints the time that it took and what was counted.
+///
+/// # Errors
+/// Where the clock or the output fails: then all rounds were done, or none.
 pub fn measure_packets<R: Round>(
     rt: &HostRuntime,
     what: &str,
@@ -56,7 +59,8 @@ pub fn measure_packets<R: Round>(
     round: &mut R,
     rounds: u32,
 ) -> io::Result<()>
-    ensures { RepeatsOrKeeps R.counts rounds round.old round.new }
+    ensures counted { OnOk result ((tally : Tally) × Repeats R.counts rounds round.old empty_tally round.new tally) }
+    ensures failed { OnErr result (RepeatsOrKeeps R.counts rounds round.old round.new) }
 {
     let tally = measure(rt, what, way, round, rounds)?;
     let (packets, bytes) = (tally.packets, tally.bytes);

@@ -15,17 +15,17 @@ pub(crate) fn end(alloc: Global, case: &Case, session: u64) -> Result<End, Stopp
     Ok(End::new(alloc, config, session, ExtensionMap::empty())?)
 }
 
-/// One section that flows both ways, of these SSRCs.
+/// One section that flows both ways, of this SSRC.
 pub(crate) fn sections(
     alloc: Global,
     case: &Case,
-    ssrcs: &[Ssrc],
+    ssrc: Ssrc,
 ) -> Result<Vec<SectionSpec>, AllocError> {
     let section = SectionSpec {
         mid: Mid::from("0"),
         kind: case.codec.kind(),
         dir: Direction::SendRecv,
-        ssrcs: Vec::from_slice(alloc, ssrcs)?,
+        ssrcs: vec![in alloc; ssrc]?,
     };
     Ok(vec![in alloc; section]?)
 }
@@ -36,7 +36,7 @@ pub(crate) fn params(alloc: Global, case: &Case) -> Result<StreamParams, AllocEr
     ensures mtu { IfOk result (λ params. params.mtu ≡ 1200) }
 {
     let red = if case.has_red {
-        Some(Distances::from_vec(Vec::from_slice(alloc, &[1])?))
+        Some(Distances::from_vec(vec![in alloc; 1]?))
     } else {
         None
     };

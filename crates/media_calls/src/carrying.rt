@@ -38,8 +38,8 @@ pub(crate) fn carry(
     ensures { IfOk result (λ all. map bytes_out (handed_out (poll_answers all.items))
         ≡ map (λ x. Ok x.bytes) samples.now) }
 {
-    let sections_a = sections(alloc, case, &[Ssrc::from(44)])?;
-    let sections_b = sections(alloc, case, &[Ssrc::from(45)])?;
+    let sections_a = sections(alloc, case, Ssrc::from(44))?;
+    let sections_b = sections(alloc, case, Ssrc::from(45))?;
     match connect(a, b, sections_a, sections_b) {
         Ok(_) => {}
         Err(_) => return Err(Stopped::Refused),
