@@ -10,7 +10,8 @@ use std::alloc::{AllocError, Global};
 
 /// An end of one row.
 pub(crate) fn end(alloc: Global, case: &Case, session: u64) -> Result<End, Stopped> {
-    let config = CodecConfig::new_from_payload_params(vec![in alloc; case.row()]?);
+    let mut config = CodecConfig::empty(alloc);
+    config.push(case.row())?;
     let session = Session::new(alloc, SessionId::from(session));
     Ok(End::new(alloc, config, session, ExtensionMap::empty())?)
 }

@@ -1,6 +1,6 @@
 //! The calls whose units the contract of `carry` says.
 
-ghost use Rattle.std.specs.Prelude.{◌≡◌, ◌<◌, length, All, IfOk};
+ghost use Rattle.std.specs.Prelude.{IfOk};
 ghost use Rattle.media_calls.specs.Call.{IsShortSample};
 
 use crate::calls::end;
@@ -31,23 +31,15 @@ fn print_unit(rt: &HostRuntime, played: &Played) {
     }
 }
 
-/// A call of ends whose row this is.
+/// A call of ends whose row this is, of three samples of 20 milliseconds.
 fn call(alloc: Global, case: &Case) -> Result<Vec<Played>, Stopped> {
-    let samples = short_samples(alloc)?;
-    let mut a = end(alloc, case, 1)?;
-    let mut b = end(alloc, case, 2)?;
-    carry(alloc, case, &mut a, &mut b, &samples)
-}
-
-/// Three samples of 20 milliseconds.
-fn short_samples(alloc: Global) -> Result<Vec<Sample>, AllocError>
-    ensures three { IfOk result (λ samples. length samples.items ≡ 3) }
-    ensures short { IfOk result (λ samples. All IsShortSample samples.items) }
-{
     let first = short_sample(alloc, 960, 10)?;
     let second = short_sample(alloc, 1920, 11)?;
     let third = short_sample(alloc, 2880, 12)?;
-    Ok(vec![in alloc; first, second, third]?)
+    let samples = [first, second, third];
+    let mut a = end(alloc, case, 1)?;
+    let mut b = end(alloc, case, 2)?;
+    carry(alloc, case, &mut a, &mut b, &samples)
 }
 
 /// A sample of one byte.
