@@ -1,7 +1,7 @@
 -- Three samples, of which the second arrives last: the schedule is tame, and the units are the samples.
-use Rattle.std.proofs.Common.{◌≡◌, ℕ, zero, suc, ◌+◌, ◌<◌, ◌≤◌, refl, sym, ◌∙◌, ap, ap₂, subst, subst₂, arith, inl, inr}
-use Rattle.std.proofs.Common.{Bool, true, false, ◌&&◌, List, [], ◌∷◌, length, map, append-nil, Some, None, Ok, Err}
-use Rattle.std.proofs.Common.{Result, ◌⊎◌, true≢false}
+use Rattle.std.proofs.Common.{◌≡◌, ℕ, zero, suc, ◌+◌, ◌<◌, ◌≤◌, refl, sym, ◌∙◌, ap, ap₂, subst, subst₂, arith, inl}
+use Rattle.std.proofs.Common.{Bool, true, ◌&&◌, List, [], ◌∷◌, length, map, append-nil, None, Ok, Err}
+use Rattle.std.proofs.Common.{Result, get_or}
 use Rattle.std.specs.Prelude.{All}
 use Rattle.payload_core_base.specs.declared.error.PacketError.{PacketError}
 use Rattle.rtp_media_schedules.specs.Hearing.{Answer, EndsSilent, MediaUnit}
@@ -20,7 +20,7 @@ use Rattle.rtp_media_play.specs.declared.schedule.Event.TheVariants.{Arrive, Pol
 use Rattle.rtp_media_play.specs.declared.schedule.Played.{Played}
 use Rattle.rtp_media_play.specs.declared.schedule.Played.TheVariants.{Received, Polled}
 use Rattle.rtp_media_play.specs.OpusHops.{bytes_out}
-use Rattle.media_calls.specs.Call.{is_silent, sends_pieces, silent_after, IsShortSample}
+use Rattle.media_calls.specs.Call.{sends_pieces, IsShortSample}
 use Rattle.media_calls.proofs.Whole.{AreShort, plain-format, sent-whole, sent_whole}
 
 -- the first arrives and is polled, the third, and then the second
@@ -152,26 +152,22 @@ bytes-out s samples rs is room short exact =
     (sent-whole s samples is (still-short s samples room short))
     ∙ whole-bytes s.next (samples_of s samples) ∙ arriving-bytes s samples
 
--- the last poll answered None
-silent-or : (before : Bool) (ps : List Played) → silent_after before ps ≡ true
-    → ((poll_answers ps ≡ []) × (before ≡ true)) ⊎ EndsSilent (poll_answers ps)
-silent-or before [] h = inl (refl, h)
-silent-or before (Received verdict ∷ ps) h = silent-or before ps h
-silent-or before (Polled answer ∷ ps) h = go (poll_answers ps) answer (silent-or (is_silent answer) ps h) where
-  go : (os : List Answer) (o : Answer) → ((os ≡ []) × (is_silent o ≡ true)) ⊎ EndsSilent os
-      → ((o ∷ os ≡ []) × (before ≡ true)) ⊎ EndsSilent (o ∷ os)
-  go [] (Ok None) (inl both) = inr refl
-  go [] (Ok (Some u)) (inl both) = absurd (true≢false (sym both.1))
-  go [] (Err e) (inl both) = absurd (true≢false (sym both.1))
-  go (p ∷ os) o (inl both) = absurd (cc both.0)
-  go [] o (inr silent) = absurd silent
-  go (p ∷ os) o (inr silent) = inr silent
+-- an answer in front
+behind : (p : Played) (ps : List Played) → EndsSilent (poll_answers ps) → EndsSilent (poll_answers (p ∷ ps))
+behind (Received verdict) ps silent = silent
+behind (Polled answer) ps silent = more (poll_answers ps) silent where
+  more : (os : List Answer) → EndsSilent os → EndsSilent (answer ∷ os)
+  more [] none = absurd none
+  more (o ∷ os) silent = silent
 
-pub ends-silent : (ps : List Played) → silent_after false ps ≡ true → EndsSilent (poll_answers ps)
-ends-silent ps h = go (silent-or false ps h) where
-  go : ((poll_answers ps ≡ []) × (false ≡ true)) ⊎ EndsSilent (poll_answers ps) → EndsSilent (poll_answers ps)
-  go (inl both) = absurd (true≢false (sym both.1))
-  go (inr silent) = silent
+-- the last event is a poll that answered None
+pub ends-silent : (ps : List Played) (d : Played) (k : ℕ) → length ps ≡ k + 1 → get_or ps k d ≡ Polled (Ok None)
+    → EndsSilent (poll_answers ps)
+ends-silent [] d k is last = absurd (omega (arith, is))
+ends-silent (p ∷ []) d zero is last = subst (λ (q : Played). EndsSilent (poll_answers (q ∷ []))) (sym last) refl
+ends-silent (p ∷ []) d (suc k) is last = absurd (omega (arith, is))
+ends-silent (p ∷ q ∷ ps) d zero is last = absurd (omega (arith, is))
+ends-silent (p ∷ q ∷ ps) d (suc k) is last = behind p (q ∷ ps) (ends-silent (q ∷ ps) d k (omega (arith, is)) last)
 
 -- three samples have three datagrams
 pub count-three : (s : Sending) (samples : List Sample) → length samples ≡ 3 → sends_pieces s.row.codec ≡ true

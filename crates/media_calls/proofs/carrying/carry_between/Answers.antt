@@ -14,6 +14,7 @@ use Rattle.rtp_media_play.specs.Runs.{Hears}
 use Rattle.media_calls.specs.Call.{SendsPieces, sends_pieces}
 use Rattle.media_calls.proofs.Streams.{has-room, sends-pieces, sound-short}
 use Rattle.media_calls.proofs.Three.{count-three}
+use Rattle.std.proofs.lemmas.Grind.{common_steps}
 use Rattle.media_calls.proofs.carrying.carry_between.Goals as goal
 
 pub carry_over-requires-clause-pieces : goal.carry_over-requires-clause-pieces
@@ -65,3 +66,36 @@ carry_over-requires-clause-hears c =
     (sym c.in-Ok.ensures.stream)
     (subst₂ (λ (e : EndState) (n : ℕ). Hears e n 127 s c.args.samples.now)
     (sym c.in-Ok-open_receiver.ensures.after) (sym c.in-Ok-open_receiver.ensures.number) hears)
+
+pub carry_over-requires-clause-sender : goal.carry_over-requires-clause-sender
+carry_over-requires-clause-sender c = grind (arith, common_steps)
+
+pub carry_over-requires-clause-receiver : goal.carry_over-requires-clause-receiver
+carry_over-requires-clause-receiver c = grind (arith, common_steps)
+
+pub carry_over-requires-clause-first : goal.carry_over-requires-clause-first
+carry_over-requires-clause-first c = grind (arith, common_steps)
+
+pub carry_over-requires-clause-limit : goal.carry_over-requires-clause-limit
+carry_over-requires-clause-limit c = grind (arith, common_steps)
+
+pub returns-then-not-has_pieces : goal.returns-then-not-has_pieces
+returns-then-not-has_pieces c = grind (arith, common_steps)
+
+pub returns-then-not-is_sound : goal.returns-then-not-is_sound
+returns-then-not-is_sound c = grind (arith, common_steps)
+
+pub returns-in-Err : goal.returns-in-Err
+returns-in-Err c = grind (arith, common_steps)
+
+pub returns-in-Err-open_receiver : goal.returns-in-Err-open_receiver
+returns-in-Err-open_receiver c = grind (arith, common_steps)
+
+pub returns : goal.returns
+returns c = grind (arith, common_steps)
+
+pub carry_over-requires-clause-three : goal.carry_over-requires-clause-three
+carry_over-requires-clause-three c = c.requires.three
+
+pub carry_over-requires-clause-short : goal.carry_over-requires-clause-short
+carry_over-requires-clause-short c = c.requires.short
