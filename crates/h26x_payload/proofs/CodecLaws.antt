@@ -2,7 +2,6 @@
 use Rattle.std.proofs.Common.{◌≡◌, ℕ, Bool, refl}
 use Rattle.payload_core_vpx.specs.Vp8Forms as vpx
 use Rattle.payload_core_vpx.specs.Vp9 as vp9
-use mathlib.Core.Bool.{false≢true}
 use Rattle.payload_core_base.specs.Law.{CodecLaw}
 use Rattle.payload_core_base.specs.declared.codec.Codec.{Codec}
 use Rattle.payload_core_base.specs.declared.codec.Codec.TheVariants.{Opus, PCMU, PCMA, G722, CN, AmrWb, H264, H265}

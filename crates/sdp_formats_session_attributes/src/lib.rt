@@ -1,8 +1,8 @@
 //! Which kind an attribute of the session is of (RFC 8866 5.13).
 #![tactic(auto)]
 
-mod choice;
 mod groups;
 mod kinds;
+mod line;
 
-pub use choice::SessionAttributeLine;
+pub use line::SessionAttributeLine;

@@ -1,7 +1,7 @@
 use Rattle.std.proofs.Common.{arith}
 use Rattle.std.proofs.lemmas.Grind.{common_steps}
 use Rattle.sdp_formats_session_attributes.specs.Choice.{session_attribute}
-use Rattle.sdp_formats_session_attributes.proofs.choice.session_attribute.Goals as goal
+use Rattle.sdp_formats_session_attributes.proofs.line.session_attribute.Goals as goal
 
 pub returns : goal.returns
 unfolding session_attribute

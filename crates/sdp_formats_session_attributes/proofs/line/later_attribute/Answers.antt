@@ -1,7 +1,7 @@
 use Rattle.std.proofs.Common.{arith}
 use Rattle.std.proofs.lemmas.Grind.{common_steps}
 use Rattle.sdp_formats_session_attributes.specs.Choice.{later_attribute}
-use Rattle.sdp_formats_session_attributes.proofs.choice.later_attribute.Goals as goal
+use Rattle.sdp_formats_session_attributes.proofs.line.later_attribute.Goals as goal
 
 pub returns : goal.returns
 unfolding later_attribute
