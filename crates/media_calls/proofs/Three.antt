@@ -1,8 +1,9 @@
 -- Three samples, of which the second arrives last: the schedule is tame, and the units are the samples.
 use Rattle.std.proofs.Common.{◌≡◌, ℕ, zero, suc, ◌+◌, ◌<◌, ◌≤◌, refl, sym, ◌∙◌, ap, ap₂, subst, subst₂, arith, inl}
 use Rattle.std.proofs.Common.{Bool, true, ◌&&◌, List, [], ◌∷◌, length, map, append-nil, None, Ok, Err}
-use Rattle.std.proofs.Common.{Result, get_or}
-use Rattle.std.specs.Prelude.{All}
+use Rattle.std.proofs.Common.{Option, Result, Some, ◌-◌, slice_get}
+use Rattle.std.proofs.lemmas.Option.{none-some}
+use Rattle.std.specs.Prelude.{All, IfSome}
 use Rattle.payload_core_base.specs.declared.error.PacketError.{PacketError}
 use Rattle.rtp_media_schedules.specs.Hearing.{Answer, EndsSilent, MediaUnit}
 use Rattle.rtp_media_schedules.specs.SentSamples.{Timed, timed_unit}
@@ -161,13 +162,18 @@ behind (Polled answer) ps silent = more (poll_answers ps) silent where
   more (o ∷ os) silent = silent
 
 -- the last event is a poll that answered None
-pub ends-silent : (ps : List Played) (d : Played) (k : ℕ) → length ps ≡ k + 1 → get_or ps k d ≡ Polled (Ok None)
+silent-from : (p : Played) (ps : List Played) → slice_get (p ∷ ps) (length ps) ≡ Some (Polled (Ok None))
+    → EndsSilent (poll_answers (p ∷ ps))
+silent-from p [] last =
+    subst (λ (o : Option Played). IfSome o (λ q. EndsSilent (poll_answers (q ∷ [])))) (sym last) refl
+silent-from p (q ∷ ps) last = behind p (q ∷ ps) (silent-from q ps last)
+
+pub ends-silent : (ps : List Played) → slice_get ps (length ps - 1) ≡ Some (Polled (Ok None))
     → EndsSilent (poll_answers ps)
-ends-silent [] d k is last = absurd (omega (arith, is))
-ends-silent (p ∷ []) d zero is last = subst (λ (q : Played). EndsSilent (poll_answers (q ∷ []))) (sym last) refl
-ends-silent (p ∷ []) d (suc k) is last = absurd (omega (arith, is))
-ends-silent (p ∷ q ∷ ps) d zero is last = absurd (omega (arith, is))
-ends-silent (p ∷ q ∷ ps) d (suc k) is last = behind p (q ∷ ps) (ends-silent (q ∷ ps) d k (omega (arith, is)) last)
+ends-silent [] last = absurd (none-some (Polled (Ok None)) last)
+ends-silent (p ∷ ps) last =
+    let here : length (p ∷ ps) - 1 ≡ length ps = omega arith in
+    silent-from p ps (subst (λ (k : ℕ). slice_get (p ∷ ps) k ≡ Some (Polled (Ok None))) here last)
 
 -- three samples have three datagrams
 pub count-three : (s : Sending) (samples : List Sample) → length samples ≡ 3 → sends_pieces s.row.codec ≡ true

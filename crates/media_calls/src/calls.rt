@@ -1,47 +1,44 @@
 //! An end of a row, and what it wants to agree on.
 
-ghost use Rattle.std.specs.Prelude.{◌≡◌, IfOk};
+ghost use Rattle.std.specs.Prelude.{◌≡◌, IfSome};
 
 use crate::cases::Case;
-use crate::stopped::Stopped;
 use rtp_media_play::{CodecConfig, Distances, End, SectionSpec, Session, StreamParams};
 use rtp_wire::{Direction, ExtensionMap, Mid, SessionId, Ssrc};
-use std::alloc::{AllocError, Global};
+use std::alloc::Global;
 
 /// An end of one row.
-pub(crate) fn end(alloc: Global, case: &Case, session: u64) -> Result<End, Stopped> {
+pub(crate) fn end(alloc: Global, case: &Case, session: u64) -> Option<End> {
     let mut config = CodecConfig::empty(alloc);
-    config.push(case.row())?;
+    config.push(case.row()).ok()?;
     let session = Session::new(alloc, SessionId::from(session));
-    Ok(End::new(alloc, config, session, ExtensionMap::empty())?)
+    End::new(alloc, config, session, ExtensionMap::empty()).ok()
 }
 
 /// One section that flows both ways, of this SSRC.
-pub(crate) fn sections(
-    alloc: Global,
-    case: &Case,
-    ssrc: Ssrc,
-) -> Result<Vec<SectionSpec>, AllocError> {
+pub(crate) fn sections(alloc: Global, case: &Case, ssrc: Ssrc) -> Option<Vec<SectionSpec>> {
     let section = SectionSpec {
         mid: Mid::from("0"),
         kind: case.codec.kind(),
         dir: Direction::SendRecv,
-        ssrcs: vec![in alloc; ssrc]?,
+        ssrcs: vec![in alloc; ssrc].ok()?,
     };
-    Ok(vec![in alloc; section]?)
+    let mut sections = Vec::new(alloc);
+    sections.push(section).ok()?;
+    Some(sections)
 }
 
 /// Parameters of a stream from number 0 on, with each payload behind the one before where the row has redundancy.
-pub(crate) fn params(alloc: Global, case: &Case) -> Result<StreamParams, AllocError>
-    ensures first { IfOk result (λ params. params.first ≡ 0) }
-    ensures mtu { IfOk result (λ params. params.mtu ≡ 1200) }
+pub(crate) fn params(alloc: Global, case: &Case) -> Option<StreamParams>
+    ensures first { IfSome result (λ params. params.first ≡ 0) }
+    ensures mtu { IfSome result (λ params. params.mtu ≡ 1200) }
 {
     let red = if case.has_red {
-        Some(Distances::from_vec(vec![in alloc; 1]?))
+        Some(Distances::from_vec(vec![in alloc; 1].ok()?))
     } else {
         None
     };
-    Ok(StreamParams {
+    Some(StreamParams {
         first: 0,
         mtu: 1200,
         limit: 1500,

@@ -1,6 +1,6 @@
 //! A call of three samples, of any codec whose packets are pieces of its samples.
 
-ghost use Rattle.std.specs.Prelude.{◌≡◌, ◌≤◌, ℕ, List, length, map, true, All, IfOk, IfSome, IsTrue, Ok, None};
+ghost use Rattle.std.specs.Prelude.{◌≡◌, ◌≤◌, ◌↔◌, ℕ, List, length, map, true, All, IfSome, IsSome, IsTrue, Ok};
 ghost use Rattle.rtp_media_schedules.specs.Hearing.{handed_out};
 ghost use Rattle.rtp_media_streams.specs.Sending.{packet_limit};
 ghost use Rattle.rtp_media_ends.specs.Connections.{HaveExchanged};
@@ -13,7 +13,6 @@ ghost use Rattle.rtp_media_play.specs.OpusHops.{bytes_out};
 use crate::calls::{params, sections};
 use crate::cases::Case;
 use crate::silence::ends_silent;
-use crate::stopped::Stopped;
 use rtp_media_play::{
     Codec, End, Event, PayloadParams, Played, Sample, StreamParams, connect, headline, play,
 };
@@ -24,32 +23,31 @@ use std::alloc::Global;
 /// type 111, each behind the one before where the case has redundancy: the second arrives last, and what comes out is
 /// what was sent, each sample once and in order.
 ///
-/// # Errors
-/// Where the exchange, an opening or a sample is refused, or memory runs out.
+/// None where the exchange, an opening or a sample is refused, more comes out than three units, or memory runs out.
 pub(crate) fn carry(
     alloc: Global,
     case: &Case,
     a: &mut End,
     b: &mut End,
     samples: &[Sample],
-) -> Result<Vec<Played>, Stopped>
+) -> Option<Vec<Played>>
     requires three { length samples.now ≡ 3 }
     requires short { All IsShortSample samples.now }
-    ensures { IfOk result (λ all. map bytes_out (handed_out (poll_answers all.items))
+    ensures { IfSome result (λ all. map bytes_out (handed_out (poll_answers all.items))
         ≡ map (λ x. Ok x.bytes) samples.now) }
 {
     let sections_a = sections(alloc, case, Ssrc::from(44))?;
     let sections_b = sections(alloc, case, Ssrc::from(45))?;
     match connect(a, b, sections_a, sections_b) {
         Ok(_) => {}
-        Err(_) => return Err(Stopped::Refused),
+        Err(_) => return None,
     }
     carry_between(alloc, a, b, params(alloc, case)?, samples)
 }
 
 /// Whether there is a row, of Opus, G.711 or G.722.
 fn has_pieces(row: Option<PayloadParams>) -> bool
-    ensures { IsTrue result → IfSome row SendsPieces }
+    ensures { IsTrue result ↔ (IsSome row × IfSome row SendsPieces) }
 {
     match row {
         Some(row) => is_cut(row.spec().codec),
@@ -70,30 +68,30 @@ fn carry_between(
     b: &mut End,
     params: StreamParams,
     samples: &[Sample],
-) -> Result<Vec<Played>, Stopped>
+) -> Option<Vec<Played>>
     requires exchanged { (answer : List ℕ) × HaveExchanged answer a.old b.old }
     requires first { params.first ≡ 0 }
     requires mtu { params.mtu ≡ 1200 }
     requires three { length samples.now ≡ 3 }
     requires short { All IsShortSample samples.now }
-    ensures { IfOk result (λ all. map bytes_out (handed_out (poll_answers all.items))
+    ensures { IfSome result (λ all. map bytes_out (handed_out (poll_answers all.items))
         ≡ map (λ x. Ok x.bytes) samples.now) }
 {
     headline();
     let (mid, ssrc, pt) = (Mid::from("0"), Ssrc::from(44), Pt::from(111));
     if !has_pieces(a.agreed_row(mid, pt)) {
-        return Err(Stopped::OtherCodec);
+        return None;
     }
     if !params.is_sound(a.agreed_red(mid, pt)) {
-        return Err(Stopped::Refused);
+        return None;
     }
     let tx = match a.open_sender(mid, ssrc, pt, params) {
         Ok(tx) => tx,
-        Err(_) => return Err(Stopped::Refused),
+        Err(_) => return None,
     };
     let rx = match b.open_receiver(mid, ssrc, pt, 127) {
         Ok(rx) => rx,
-        Err(_) => return Err(Stopped::Refused),
+        Err(_) => return None,
     };
     carry_over(alloc, a, b, tx, rx, samples)
 }
@@ -106,7 +104,7 @@ fn carry_over(
     tx: usize,
     rx: usize,
     samples: &[Sample],
-) -> Result<Vec<Played>, Stopped>
+) -> Option<Vec<Played>>
     requires sender { is_sender_at a.old tx ≡ true }
     requires receiver { is_receiver_at b.old rx ≡ true }
     requires hears { Hears b.old rx 127 (sender_at a.old tx) samples.now }
@@ -115,7 +113,7 @@ fn carry_over(
     requires limit { 1199 ≤ packet_limit (sender_at a.old tx) }
     requires three { length samples.now ≡ 3 }
     requires short { All IsShortSample samples.now }
-    ensures { IfOk result (λ all. map bytes_out (handed_out (poll_answers all.items))
+    ensures { IfSome result (λ all. map bytes_out (handed_out (poll_answers all.items))
         ≡ map (λ x. Ok x.bytes) samples.now) }
 {
     let schedule = [
@@ -130,10 +128,10 @@ fn carry_over(
     ];
     let all = match play(alloc, a, b, tx, rx, samples, &schedule) {
         Ok(all) => all,
-        Err(_) => return Err(Stopped::Refused),
+        Err(_) => return None,
     };
     if !ends_silent(&all) {
-        return Err(Stopped::NotSilent);
+        return None;
     }
-    Ok(all)
+    Some(all)
 }

@@ -7,7 +7,6 @@ mod carrying;
 mod cases;
 mod proved;
 mod silence;
-mod stopped;
 
 use proved::print_calls;
 use std::process::ExitCode;
@@ -15,10 +14,7 @@ use std::process::ExitCode;
 /// Prints what comes out of the calls; status 1 where one does not come to its end.
 fn main(rt: HostRuntime) -> ExitCode {
     match print_calls(&rt) {
-        Ok(()) => ExitCode::from(0),
-        Err(stopped) => {
-            let _ = eprintln!(rt; "{stopped}");
-            ExitCode::from(1)
-        }
+        Some(()) => ExitCode::from(0),
+        None => ExitCode::from(1),
     }
 }

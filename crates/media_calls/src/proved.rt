@@ -1,19 +1,18 @@
 //! The calls whose units the contract of `carry` says.
 
-ghost use Rattle.std.specs.Prelude.{IfOk};
+ghost use Rattle.std.specs.Prelude.{◌≡◌, All, IfSome, length};
 ghost use Rattle.media_calls.specs.Call.{IsShortSample};
 
 use crate::calls::end;
 use crate::carrying::carry;
 use crate::cases::{Case, PIECES};
-use crate::stopped::Stopped;
 use rtp_media_play::{Played, Sample};
 use rtp_wire::{ExtensionValues, Frequency, MediaTime};
-use std::alloc::{AllocError, Global};
+use std::alloc::Global;
 
 /// Prints for each codec what comes out at the end that receives: without redundancy, and with each payload behind the
-/// one before.
-pub(crate) fn print_calls(rt: &HostRuntime) -> Result<(), Stopped> {
+/// one before. None where a call does not come to its end.
+pub(crate) fn print_calls(rt: &HostRuntime) -> Option<()> {
     for case in &PIECES {
         let all = call(rt.alloc(), case)?;
         let _ = println!(*rt; "{}", case.codec.as_str());
@@ -21,7 +20,7 @@ pub(crate) fn print_calls(rt: &HostRuntime) -> Result<(), Stopped> {
             print_unit(rt, played);
         }
     }
-    Ok(())
+    Some(())
 }
 
 /// Prints the unit that a poll answered, if it did.
@@ -32,21 +31,30 @@ fn print_unit(rt: &HostRuntime, played: &Played) {
 }
 
 /// A call of ends whose row this is, of three samples of 20 milliseconds.
-fn call(alloc: Global, case: &Case) -> Result<Vec<Played>, Stopped> {
-    let first = short_sample(alloc, 960, 10)?;
-    let second = short_sample(alloc, 1920, 11)?;
-    let third = short_sample(alloc, 2880, 12)?;
-    let samples = [first, second, third];
+fn call(alloc: Global, case: &Case) -> Option<Vec<Played>> {
+    let samples = short_samples(alloc)?;
     let mut a = end(alloc, case, 1)?;
     let mut b = end(alloc, case, 2)?;
     carry(alloc, case, &mut a, &mut b, &samples)
 }
 
+/// Three samples of one byte each.
+fn short_samples(alloc: Global) -> Option<Vec<Sample>>
+    ensures three { IfSome result (λ samples. length samples.items ≡ 3) }
+    ensures short { IfSome result (λ samples. All IsShortSample samples.items) }
+{
+    let mut samples = Vec::new(alloc);
+    samples.push(short_sample(alloc, 960, 10)?).ok()?;
+    samples.push(short_sample(alloc, 1920, 11)?).ok()?;
+    samples.push(short_sample(alloc, 2880, 12)?).ok()?;
+    Some(samples)
+}
+
 /// A sample of one byte.
-fn short_sample(alloc: Global, time: u64, byte: u8) -> Result<Sample, AllocError>
-    ensures { IfOk result IsShortSample }
+fn short_sample(alloc: Global, time: u64, byte: u8) -> Option<Sample>
+    ensures { IfSome result IsShortSample }
 {
     let time = MediaTime::new(time, Frequency::FORTY_EIGHT_KHZ);
-    let bytes = vec![in alloc; byte]?;
-    Ok(Sample::new(time, ExtensionValues::absent(), bytes))
+    let bytes = vec![in alloc; byte].ok()?;
+    Some(Sample::new(time, ExtensionValues::absent(), bytes))
 }

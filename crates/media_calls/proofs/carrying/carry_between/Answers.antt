@@ -24,7 +24,7 @@ carry_over-requires-clause-pieces c =
     c.in-Ok.ensures.opens in
     let agreed : IfSome (agreed_row_of c.args.a.now.exchange.agreed c.from-mid.result c.from-pt.result) SendsPieces =
     subst (λ (o : Option Row). IfSome o SendsPieces) c.agreed_row.ensures
-    (c.has_pieces.ensures c.if-not-has_pieces.false) in
+    (c.has_pieces.ensures.0 c.if-not-has_pieces.false).1 in
     ap (λ (s : Sending). sends_pieces s.row.codec) c.in-Ok.ensures.stream
     ∙ sends-pieces c.args.a.now c.from-mid.result c.from-ssrc.result c.from-pt.result c.args.params agreed
     sends
@@ -34,7 +34,7 @@ carry_over-requires-clause-hears c =
     let a : EndState = c.args.a.now in
     let agreed : IfSome (agreed_row_of a.exchange.agreed c.from-mid.result c.from-pt.result) SendsPieces =
     subst (λ (o : Option Row). IfSome o SendsPieces) c.agreed_row.ensures
-    (c.has_pieces.ensures c.if-not-has_pieces.false) in
+    (c.has_pieces.ensures.0 c.if-not-has_pieces.false).1 in
     let b : EndState = c.args.b.now in
     let s : Sending = new_sender a c.from-mid.result c.from-ssrc.result c.from-pt.result c.args.params in
     let sends : SendsAt a c.from-mid.result c.from-ssrc.result c.from-pt.result =

@@ -3,14 +3,14 @@ use Rattle.rtp_media_play.specs.declared.schedule.Played.{Played}
 use Rattle.rtp_media_schedules.specs.Hearing.{EndsSilent, handed_out}
 use Rattle.rtp_media_open_streams.specs.Ends.{sender_at}
 use Rattle.rtp_media_play.specs.Schedules.{poll_answers}
-use Rattle.media_calls.proofs.Three.{bytes-out, tame-three}
+use Rattle.media_calls.proofs.Three.{bytes-out, ends-silent, tame-three}
 use Rattle.media_calls.proofs.carrying.carry_over.Goals as goal
 
 pub returns : goal.returns
 returns c =
     let silent : EndsSilent (poll_answers c.in-Ok.all.items) =
     subst (λ (ps : List Played). EndsSilent (poll_answers ps)) c.deref.ensures.value
-    (c.ends_silent.ensures c.if-not-ends_silent.false) in
+    (ends-silent c.deref.result.now (c.ends_silent.ensures.0 c.if-not-ends_silent.false)) in
     bytes-out (sender_at c.args.a.now c.args.tx) c.args.samples.now (handed_out (poll_answers c.in-Ok.all.items))
     c.requires.pieces c.requires.limit c.requires.short
     (c.in-Ok.ensures.exact 127 c.requires.hears
