@@ -1,6 +1,7 @@
 #!/usr/bin/env python3
-"""Writes what `crates/packet_lines`, `payload_field_lines`, `h26x_lines` and `header_lines` read and must answer:
-samples and packets that were packed from the layouts of the standards alone, beside rows that were put together by hand.
+"""Writes what `crates/packet_lines`, `boxed_lines`, `payload_field_lines`, `h26x_lines`, `header_lines` and
+`number_lines` read and must answer: samples and packets that were packed from the layouts of the standards alone,
+beside rows that were put together by hand.
 
 Run it with `python3 docs/vectors/lines.py`. A row is a line and its answer; a row without one answers itself. The
 packers are `h26x.py`, `av1.py` and `payloads.py`, headers and tables stand in `headers.py`, rows by hand in `rows.py`,
@@ -13,9 +14,9 @@ import av1
 import h26x
 import headers
 import payloads
-from parts import FIELDS, WHOLES
+from parts import BOXED, FIELDS, WHOLES
 from rows import BY_HAND, told
-from wire import WIRE
+from wire import HEADERS, NUMBERS
 
 HERE = Path(__file__).parent
 CRATES = HERE.parents[1] / "crates"
@@ -90,6 +91,8 @@ def write(crate, rows):
 
 if __name__ == "__main__":
     write("packet_lines", of_packets())
+    write("boxed_lines", BOXED)
     write("payload_field_lines", FIELDS)
     write("h26x_lines", headers.rows())
-    write("header_lines", WIRE)
+    write("header_lines", HEADERS)
+    write("number_lines", NUMBERS)

@@ -117,19 +117,22 @@ WHOLES = [
     ("pop", "fault an aggregated unit of 3 bytes where 2 are left"),
     ("pop", f"2..=2 at 10: 000000016507 {told('H264', True)}"),
     ("pop", "none"),
-    ("# A pair that its caller boxed sends and reads as what it holds", None),
-    ("codec VP8", None),
-    ("boxed 3 aabbcc", f"10aabb 00cc* 7..=8 at 6000: aabbcc {vp8(True)}"),
-    ("codec H265 numbers=1", None),
-    ("boxed 1500 2601aa", f"26010000aa* 7..=7 at 6000: 000000012601aa {told('H265', True)}"),
-    ("codec telephone-event", None),
-    ("boxed 7 058a0320058a0320", "fault the payload is larger than the limit"),
     ("# Names in any case, and names that are no format's", None),
     ("codec OPUS", None),
     ("codec Telephone-Event", None),
     ("pack 1200 058a03", "fault invalid telephone event"),
     ("codec null", "fault no payload format of unknown"),
     ("codec opus/48000", "fault no payload format of unknown"),
+]
+
+BOXED = [
+    ("# A pair that its caller boxed sends and reads as what it holds", None),
+    ("VP8 0 3 aabbcc", "10aabb 00cc* aabbcc"),
+    ("H265 1 1500 2601aa", "26010000aa* 000000012601aa"),
+    ("telephone-event 0 7 058a0320058a0320", "fault the payload is larger than the limit"),
+    ("# Names that are no format's, and a line that says too little", None),
+    ("rtx 0 1200 aa", "fault no payload format"),
+    ("VP8 0 1200", "fault a word is missing"),
 ]
 
 FIELDS = REDUNDANCY + EVENTS + VP8_IDS

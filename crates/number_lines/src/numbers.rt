@@ -2,6 +2,7 @@
 
 use command_lines::Line;
 use rtp_wire::{SeqNo, SeqNoWindow, extend_u7, extend_u8, extend_u15, extend_u16, extend_u32};
+
 /// `extend BITS PREVIOUS LOW`: a number of few bits, widened by the one before it, or by none where a dash stands.
 pub(crate) fn extended(line: &mut Line<'_>) {
     let (bits, previous, low) = (line.word(), line.word(), line.number::<u32>());

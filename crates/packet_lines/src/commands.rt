@@ -1,6 +1,5 @@
 //! The commands.
 
-use crate::boxed::boxed;
 use crate::formats::{Formats, take_up};
 use crate::samples::{head, keyframe, pack, pushed, read, short_packets, unit};
 use command_lines::Line;
@@ -29,7 +28,6 @@ fn of_format(line: &mut Line<'_>, formats: &mut Formats, command: &str) {
         "pop" => unit(line, formats.buffer.pop()),
         "drain" => unit(line, formats.buffer.drain()),
         "short" => short_packets(line, &formats.format),
-        "boxed" => boxed(line, &formats.format),
         "head" => head(line, &formats.format),
         "keyframe" => keyframe(line, formats.format.codec),
         _ => line.refuse(format_args!("no command {command}")),

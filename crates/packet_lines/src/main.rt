@@ -2,7 +2,6 @@
 //! was made outside, beside what it gives.
 #![tactic(auto)]
 
-mod boxed;
 mod commands;
 mod formats;
 mod samples;

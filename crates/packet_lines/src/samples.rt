@@ -43,26 +43,17 @@ fn put_payloads(line: &mut Line<'_>, packets: &[SentPacket]) {
 
 /// `pack LIMIT SAMPLE`: the payloads that a sample is sent as.
 pub(crate) fn pack<P: Packetizer>(line: &mut Line<'_>, payloader: &mut Payloader<P>) {
-    let _packets = packed(line, payloader);
-}
-
-/// The payloads that the sample of the next two words, `LIMIT SAMPLE`, is sent as.
-pub(crate) fn packed<P: Packetizer>(
-    line: &mut Line<'_>,
-    payloader: &mut Payloader<P>,
-) -> PacketList {
     let limit = line.number::<usize>();
     let sample = line.bytes();
-    let mut sink = PacketList::new(line.alloc());
     if line.is_refused() {
-        return sink;
+        return;
     }
+    let mut sink = PacketList::new(line.alloc());
     let values = ExtensionValues::absent();
     match payloader.push_sample(line.alloc(), &mut sink, limit, 6000, &sample, &values) {
         Ok(()) => put_payloads(line, sink.packets()),
         Err(fault) => line.refuse(fault),
     }
-    sink
 }
 
 /// `read PACKET ..`: the bytes that packets give, one after the other from no open fragment on, and what is told then.
@@ -92,20 +83,14 @@ fn read_all(
     Ok(())
 }
 
-/// What is held of a packet.
-pub(crate) fn meta_of(number: u64, time: u32, marker: bool) -> RtpMeta {
-    RtpMeta {
-        seq_no: SeqNo::from(number),
-        time,
-        marker,
-        ext_vals: ExtensionValues::absent(),
-    }
-}
-
 /// `push NUMBER TIME PACKET`: the packet is held, with the marker where a star stands behind it.
 pub(crate) fn pushed(line: &mut Line<'_>, formats: &mut Formats) {
-    let (number, time) = (line.number::<u64>(), line.number::<u32>());
-    let meta = meta_of(number, time, line.rest().ends_with('*'));
+    let meta = RtpMeta {
+        seq_no: SeqNo::from(line.number::<u64>()),
+        time: line.number::<u32>(),
+        marker: line.rest().ends_with('*'),
+        ext_vals: ExtensionValues::absent(),
+    };
     let packet = line.bytes();
     if line.is_refused() {
         return;

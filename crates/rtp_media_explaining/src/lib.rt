@@ -2,12 +2,14 @@
 //! All of it comes from the lines and the replies to them, so that nothing here stands on ends.
 #![tactic(auto)]
 
+mod answered;
 mod explained;
 mod forms;
 mod reason;
 mod reasons;
 mod refusals;
 
+pub use answered::answer_and_explain;
 pub use explained::explain;
 pub use forms::FORMS;
 pub use reason::Reason;

@@ -1,9 +1,8 @@
 //! What came of each line, in words.
 
-use rtp_media::{MAX_LINE_LENGTH, Program, RunFault, Status, answer_lines};
-use rtp_media_explaining::{LONGEST_LINE, explain};
-use rtp_media_known_ends::{Known, is_comment};
-use std::alloc::Global;
+use rtp_media::{MAX_LINE_LENGTH, Program, Status};
+use rtp_media_explaining::{LONGEST_LINE, answer_and_explain};
+use rtp_media_known_ends::Known;
 use std::io::Read;
 
 /// The reason for a line that is too long names the number that the program tests.
@@ -21,7 +20,13 @@ fn explain_lines(rt: &HostRuntime, lines: &[u8]) -> anyhow::Result<Status> {
     let (mut program, mut known) = (Program::new(rt.alloc()), Known::new(rt.alloc()));
     let mut status = Status::Success;
     for (number, line) in (1u64..).zip(lines.split(is_line_feed)) {
-        let (said, of_line) = explain_line(rt.alloc(), &mut program, &mut known, number, line)?;
+        let (said, of_line) = answer_and_explain(
+            rt.alloc(),
+            &mut program,
+            &mut known,
+            number,
+            line,
+        )?;
         print!(*rt; "{said}")?;
         status = status.and(of_line);
     }
@@ -32,20 +37,4 @@ fn explain_lines(rt: &HostRuntime, lines: &[u8]) -> anyhow::Result<Status> {
 /// Whether a byte ends a line.
 fn is_line_feed(byte: &u8) -> bool {
     *byte == b'\n'
-}
-
-/// What came of a line, and its status.
-fn explain_line(
-    alloc: Global,
-    program: &mut Program,
-    known: &mut Known,
-    number: u64,
-    line: &[u8],
-) -> Result<(String, Status), RunFault> {
-    let (replies, status) = if is_comment(line) {
-        (Vec::new(alloc), Status::Success)
-    } else {
-        answer_lines(alloc, line, program)?
-    };
-    Ok((explain(alloc, known, number, line, &replies)?, status))
 }

@@ -1,0 +1,19 @@
+-- What a line does that is answered and explained.
+use Rattle.std.specs.Prelude.{◌≡◌, ℕ, List, [], Some, true, false}
+use Rattle.std.specs.Str.Lines.{lines}
+use Rattle.rtp_media_lines.specs.declared.Command.{Command}
+use Rattle.rtp_media_words.specs.declared.reply.Reply.{Reply}
+use Rattle.rtp_media_line_runs.specs.Runs.{Printed}
+use Rattle.rtp_media_line_runs.specs.declared.status.Status.{Status}
+use Rattle.rtp_media_line_runs.specs.declared.status.Status.TheVariants.{Success}
+use Rattle.rtp_media_known_ends.specs.Lines.{is_comment, text_of}
+use Rattle.rtp_media_known_ends.specs.Noted.{Known, noted_all}
+
+-- A comment changes nothing; of any other line the replies are those that a run of it alone would print. What they say
+-- is noted.
+pub record Explained {S : Type 0} (gives : S → Command → S → List Reply → Type 0) (old new : S) (before after : Known)
+    (line : List ℕ) (status : Status) : Type 0 where
+  pub replies : List ℕ
+  pub comment : is_comment line ≡ true → (new ≡ old) × (replies ≡ []) × (status ≡ Success)
+  pub answered : is_comment line ≡ false → Printed gives old new (Some []) (Some replies) line status
+  pub noted : after ≡ noted_all before (text_of line) (lines (text_of replies))

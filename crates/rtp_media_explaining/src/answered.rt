@@ -1,0 +1,31 @@
+//! Lines that are answered and explained.
+
+ghost use Rattle.std.specs.Prelude.{IfOk};
+ghost use Rattle.rtp_media_explaining.specs.Answered.{Explained};
+
+use crate::explained::explain;
+use rtp_media_known_ends::{Known, is_comment};
+use rtp_media_line_runs::{Respond, RunFault, Status, answer_lines};
+use std::alloc::Global;
+
+/// What came of a line, in words, as [`explain`] says it, and its status: a comment or `help` is explained alone, and
+/// any other line is answered by `responder` first. Notes the replies.
+///
+/// # Errors
+/// Where memory runs out.
+pub fn answer_and_explain<A: Respond>(
+    alloc: Global,
+    responder: &mut A,
+    known: &mut Known,
+    number: u64,
+    line: &[u8],
+) -> Result<(String, Status), RunFault>
+    ensures { IfOk result (λ r. Explained A.gives responder.old responder.new known.old known.new line.now r.1) }
+{
+    let (replies, status) = if is_comment(line) {
+        (Vec::new(alloc), Status::Success)
+    } else {
+        answer_lines(alloc, line, responder)?
+    };
+    Ok((explain(alloc, known, number, line, &replies)?, status))
+}
