@@ -23,9 +23,7 @@ pub(crate) fn sections(alloc: Global, case: &Case, ssrc: Ssrc) -> Option<Vec<Sec
         dir: Direction::SendRecv,
         ssrcs: vec![in alloc; ssrc].ok()?,
     };
-    let mut sections = Vec::new(alloc);
-    sections.push(section).ok()?;
-    Some(sections)
+    vec![in alloc; section].ok()
 }
 
 /// Parameters of a stream from number 0 on, with each payload behind the one before where the row has redundancy.

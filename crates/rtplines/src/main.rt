@@ -26,7 +26,7 @@ fn main(rt: HostRuntime) -> ExitCode {
 fn answer(rt: &HostRuntime) -> anyhow::Result<Status> {
     match env::args(rt)?.nth(1) {
         None => Ok(run(rt.alloc(), &mut rt.reader(), &mut io::writer(rt))?),
-        Some(word) if word.as_str() == "explain" => explain_input(rt),
+        Some(word) if word.as_str() == "explain" => Ok(explain_input(rt)?),
         Some(_) => bail!("usage: rtplines [explain]"),
     }
 }
