@@ -1,22 +1,13 @@
 //! Two ends that agree. Uses the crates `anyhow`, `rtp_media` and `rtp_wire`.
 
-use rtp_media::{
-    Codec, CodecConfig, CodecSpec, End, FormatParams, MediaKind, PayloadParams, SectionSpec,
-    Session,
-};
-use rtp_wire::{Direction, ExtensionMap, Frequency, Mid, Pt, SessionId, Ssrc};
+use rtp_media::{CodecConfig, End, MediaKind, SectionSpec, Session};
+use rtp_wire::{Direction, ExtensionMap, Mid, SessionId, Ssrc};
 use std::alloc::{AllocError, Global};
 
 /// An end that has Opus at payload type 111.
 pub(crate) fn opus_end(alloc: Global, session: u64) -> anyhow::Result<End> {
-    let opus = CodecSpec {
-        codec: Codec::Opus,
-        clock_rate: Frequency::FORTY_EIGHT_KHZ,
-        channels: Some(2),
-        format: FormatParams::parse_line("minptime=10;useinbandfec=1"),
-    };
-    let row = PayloadParams::new(Pt::from(111), None, opus);
-    let config = CodecConfig::new_from_payload_params(vec![in alloc; row]?);
+    let mut config = CodecConfig::empty(alloc);
+    config.enable_opus(true, false)?;
     let session = Session::new(alloc, SessionId::from(session));
     Ok(End::new(alloc, config, session, ExtensionMap::empty())?)
 }
@@ -29,7 +20,9 @@ fn audio(alloc: Global, ssrc: u32) -> Result<Vec<SectionSpec>, AllocError> {
         dir: Direction::SendRecv,
         ssrcs: vec![in alloc; Ssrc::from(ssrc)]?,
     };
-    Ok(vec![in alloc; section]?)
+    let mut sections = Vec::new(alloc);
+    sections.push(section)?;
+    Ok(sections)
 }
 
 /// Has `a` offer and `b` answer. The two texts are all that travels.
