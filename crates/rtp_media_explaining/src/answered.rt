@@ -5,8 +5,8 @@ ghost use Rattle.rtp_media_explaining.specs.Answered.{Explained};
 
 use crate::explained::explain;
 use rtp_media_known_ends::{Known, is_comment};
-use rtp_media_line_runs::{Respond, RunFault, Status, answer_lines};
-use std::alloc::Global;
+use rtp_media_line_runs::{Respond, Status, answer_lines};
+use std::alloc::{AllocError, Global};
 
 /// What came of a line, in words, as [`explain`] says it, and its status: a comment or `help` is explained alone, and
 /// any other line is answered by `responder` first. Notes the replies.
@@ -19,13 +19,14 @@ pub fn answer_and_explain<A: Respond>(
     known: &mut Known,
     number: u64,
     line: &[u8],
-) -> Result<(String, Status), RunFault>
+) -> Result<(String, Status), AllocError>
     ensures { IfOk result (λ r. Explained A.gives responder.old responder.new known.old known.new line.now r.1) }
 {
     let (replies, status) = if is_comment(line) {
         (Vec::new(alloc), Status::Success)
     } else {
-        answer_lines(alloc, line, responder)?
+        // Bytes at hand are always read, and a list takes whatever is written: memory alone can run out.
+        answer_lines(alloc, line, responder).map_err(|_| AllocError)?
     };
     Ok((explain(alloc, known, number, line, &replies)?, status))
 }
