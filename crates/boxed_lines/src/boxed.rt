@@ -26,28 +26,22 @@ fn send(line: &mut Line<'_>, codec: Codec, numbers: u16) -> PacketList {
     let mut sink = PacketList::new(line.alloc());
     let limit = line.number::<usize>();
     let sample = line.bytes();
-    let Some(packetizer) = boxed_packetizer(line, codec, numbers) else {
+    let Some(mut packetizer) = CodecPacketizer::<NotBoxed>::new(codec) else {
+        line.refuse("no payload format");
         return sink;
     };
+    packetizer.configure_for(None, Some(numbers), Frequency::EIGHT_KHZ);
+    let Ok(packetizer) = Box::new(line.alloc(), packetizer) else {
+        line.refuse("out of memory");
+        return sink;
+    };
+    let packetizer: CodecPacketizer = CodecPacketizer::Boxed(packetizer);
     let mut payloader = Payloader::new(packetizer);
     let values = ExtensionValues::absent();
     if let Err(fault) = payloader.push_sample(line.alloc(), &mut sink, limit, 0, &sample, &values) {
         line.refuse(fault);
     }
     sink
-}
-
-/// A packetizer of a codec, boxed.
-fn boxed_packetizer(line: &mut Line<'_>, codec: Codec, numbers: u16) -> Option<CodecPacketizer> {
-    let Some(mut packetizer) = CodecPacketizer::<NotBoxed>::new(codec) else {
-        line.refuse("no payload format");
-        return None;
-    };
-    packetizer.configure_for(None, Some(numbers), Frequency::EIGHT_KHZ);
-    match Box::new(line.alloc(), packetizer) {
-        Ok(packetizer) => Some(CodecPacketizer::Boxed(packetizer)),
-        Err(_) => None,
-    }
 }
 
 /// The payloads and the bytes of their unit.
