@@ -12,6 +12,7 @@ mod payloader;
 mod place;
 mod run;
 mod take;
+mod waiting;
 
 pub use buffer::DepacketizingBuffer;
 pub use depacketized::Depacketized;

@@ -25,7 +25,8 @@ pub fn answer_and_explain<A: Respond>(
     let (replies, status) = if is_comment(line) {
         (Vec::new(alloc), Status::Success)
     } else {
-        // Bytes at hand are always read, and a list takes whatever is written: memory alone can run out.
+        // Bytes at hand are always read, and a list takes whatever is written: what else could end it is a line of more
+        // than 64 GB, at which the reads run out.
         answer_lines(alloc, line, responder).map_err(|_| AllocError)?
     };
     Ok((explain(alloc, known, number, line, &replies)?, status))
