@@ -20,9 +20,7 @@ fn audio(alloc: Global, ssrc: u32) -> Result<Vec<SectionSpec>, AllocError> {
         dir: Direction::SendRecv,
         ssrcs: vec![in alloc; Ssrc::from(ssrc)]?,
     };
-    let mut sections = Vec::new(alloc);
-    sections.push(section)?;
-    Ok(sections)
+    vec![in alloc; section]
 }
 
 /// Has `a` offer and `b` answer. The two texts are all that travels.

@@ -2,36 +2,37 @@
 
 ghost use Rattle.std.specs.Prelude.{◌≡◌, IfSome};
 
-use crate::cases::Case;
-use rtp_media_play::{CodecConfig, Distances, End, SectionSpec, Session, StreamParams};
+use rtp_media_play::{
+    CodecConfig, Distances, End, MediaKind, PayloadParams, SectionSpec, Session, StreamParams,
+};
 use rtp_wire::{Direction, ExtensionMap, Mid, SessionId, Ssrc};
 use std::alloc::Global;
 
 /// An end of one row.
-pub(crate) fn end(alloc: Global, case: &Case, session: u64) -> Option<End> {
+pub(crate) fn end(alloc: Global, row: PayloadParams, session: u64) -> Option<End> {
     let mut config = CodecConfig::empty(alloc);
-    config.push(case.row()).ok()?;
+    config.push(row).ok()?;
     let session = Session::new(alloc, SessionId::from(session));
     End::new(alloc, config, session, ExtensionMap::empty()).ok()
 }
 
-/// One section that flows both ways, of this SSRC.
-pub(crate) fn sections(alloc: Global, case: &Case, ssrc: Ssrc) -> Option<Vec<SectionSpec>> {
+/// One section of audio that flows both ways, of this SSRC.
+pub(crate) fn sections(alloc: Global, ssrc: Ssrc) -> Option<Vec<SectionSpec>> {
     let section = SectionSpec {
         mid: Mid::from("0"),
-        kind: case.codec.kind(),
+        kind: MediaKind::Audio,
         dir: Direction::SendRecv,
         ssrcs: vec![in alloc; ssrc].ok()?,
     };
     vec![in alloc; section].ok()
 }
 
-/// Parameters of a stream from number 0 on, with each payload behind the one before where the row has redundancy.
-pub(crate) fn params(alloc: Global, case: &Case) -> Option<StreamParams>
+/// Parameters of a stream from number 0 on, where the row has redundancy with each payload behind the one before.
+pub(crate) fn params(alloc: Global, has_red: bool) -> Option<StreamParams>
     ensures first { IfSome result (λ params. params.first ≡ 0) }
     ensures mtu { IfSome result (λ params. params.mtu ≡ 1200) }
 {
-    let red = if case.has_red {
+    let red = if has_red {
         Some(Distances::from_vec(vec![in alloc; 1].ok()?))
     } else {
         None

@@ -11,7 +11,6 @@ ghost use Rattle.media_calls.specs.Call.{IsShortSample, SendsPieces, sends_piece
 ghost use Rattle.rtp_media_play.specs.OpusHops.{bytes_out};
 
 use crate::calls::{params, sections};
-use crate::cases::Case;
 use crate::silence::ends_silent;
 use rtp_media_play::{
     Codec, End, Event, PayloadParams, Played, Sample, StreamParams, connect, headline, play,
@@ -19,14 +18,14 @@ use rtp_media_play::{
 use rtp_wire::{Mid, Pt, Ssrc};
 use std::alloc::Global;
 
-/// Has two ends of a case agree on section `0`, and carries three samples from one to the other at SSRC 44 and payload
-/// type 111, each behind the one before where the case has redundancy: the second arrives last, and what comes out is
-/// what was sent, each sample once and in order.
+/// Has two ends of a row agree on section `0`, and carries three samples from one to the other at SSRC 44 and the row's
+/// payload type, each behind the one before where the row has redundancy: the second arrives last, and what comes out
+/// is what was sent, each sample once and in order.
 ///
 /// None where the exchange, an opening or a sample is refused, more comes out than three units, or memory runs out.
 pub(crate) fn carry(
     alloc: Global,
-    case: &Case,
+    row: PayloadParams,
     a: &mut End,
     b: &mut End,
     samples: &[Sample],
@@ -36,13 +35,14 @@ pub(crate) fn carry(
     ensures { IfSome result (λ all. map bytes_out (handed_out (poll_answers all.items))
         ≡ map (λ x. Ok x.bytes) samples.now) }
 {
-    let sections_a = sections(alloc, case, Ssrc::from(44))?;
-    let sections_b = sections(alloc, case, Ssrc::from(45))?;
+    let sections_a = sections(alloc, Ssrc::from(44))?;
+    let sections_b = sections(alloc, Ssrc::from(45))?;
     match connect(a, b, sections_a, sections_b) {
         Ok(_) => {}
         Err(_) => return None,
     }
-    carry_between(alloc, a, b, params(alloc, case)?, samples)
+    let params = params(alloc, row.red().is_some())?;
+    carry_between(alloc, a, b, row.pt(), params, samples)
 }
 
 /// Whether there is a row, of Opus, G.711 or G.722.
@@ -66,6 +66,7 @@ fn carry_between(
     alloc: Global,
     a: &mut End,
     b: &mut End,
+    pt: Pt,
     params: StreamParams,
     samples: &[Sample],
 ) -> Option<Vec<Played>>
@@ -78,7 +79,7 @@ fn carry_between(
         ≡ map (λ x. Ok x.bytes) samples.now) }
 {
     headline();
-    let (mid, ssrc, pt) = (Mid::from("0"), Ssrc::from(44), Pt::from(111));
+    let (mid, ssrc) = (Mid::from("0"), Ssrc::from(44));
     if !has_pieces(a.agreed_row(mid, pt)) {
         return None;
     }

@@ -4,7 +4,6 @@
 
 mod calls;
 mod carrying;
-mod cases;
 mod proved;
 mod silence;
 

@@ -6,4 +6,3 @@ pub mod RunLemmas
 pub mod TakeLemmas
 pub mod SendingLemmas
 pub mod DrainLemmas
-pub mod WaitingLemmas

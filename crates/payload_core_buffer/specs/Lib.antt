@@ -8,4 +8,3 @@ pub mod Drains
 pub mod Sending
 pub mod Payloaders
 pub mod Lists
-pub mod Waiting

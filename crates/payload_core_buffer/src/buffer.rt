@@ -6,7 +6,6 @@ use crate::depacketized::Depacketized;
 use crate::held::{Held, RtpMeta};
 use crate::place::keep;
 use crate::take::take_due;
-use crate::waiting::goes_last;
 use payload_core_base::{Depacketizer, PacketError};
 use rtp_wire_ids::SeqNo;
 use std::alloc::Global;
@@ -17,18 +16,16 @@ use std::marker::Model;
 ///
 /// A complete frame ends with a tail, and begins with the least head from which the packets up to the tail
 /// are all held, consecutive and of one time, with no tail among them. At most 4,096 packets are held.
-pub struct DepacketizingBuffer<D: Depacketizer> {
+pub struct DepacketizingBuffer<D> {
     alloc: Global,
     depacketizer: D,
     hold_back: usize,
     held: BTreeMap<u64, Held>,
     cutoff: Option<SeqNo>,
-    // A pop found no frame due, and nothing came since that could make one due: the next pop needn't look again.
-    is_waiting: bool,
 }
 
 /// Written out, so that who lets one go needs nothing of what is inside.
-impl<D: Depacketizer + Drop> Drop for DepacketizingBuffer<D> {
+impl<D: Drop> Drop for DepacketizingBuffer<D> {
     fn drop(self) {
         let DepacketizingBuffer {
             alloc: _alloc,
@@ -36,14 +33,12 @@ impl<D: Depacketizer + Drop> Drop for DepacketizingBuffer<D> {
             hold_back: _hold_back,
             held: _held,
             cutoff: _cutoff,
-            is_waiting: _is_waiting,
         } = self;
     }
 }
 
-impl<D: Depacketizer> Model for DepacketizingBuffer<D> {
-    ghost use Rattle.payload_core_buffer.specs.Buffered.{Buffered, buffered_code};
-    ghost use Rattle.payload_core_buffer.specs.Waiting.{IsInside};
+impl<D> Model for DepacketizingBuffer<D> {
+    ghost use Rattle.payload_core_buffer.specs.Buffered.{Buffered, IsHeldByNumber, buffered_code};
     ghost use Rattle.payload_core_buffer.specs.Packets.{packets_of};
     ghost use Rattle.std.specs.BTreeMap.{values};
 
@@ -59,7 +54,7 @@ impl<D: Depacketizer> Model for DepacketizingBuffer<D> {
       cutoff = b.cutoff;
     } };
 
-    ghost invariant = { λ b. IsInside (D.format b.depacketizer) b.hold_back b.held b.cutoff b.is_waiting };
+    ghost invariant = { λ b. IsHeldByNumber b.held };
 }
 
 impl<D: Depacketizer> DepacketizingBuffer<D> {
@@ -80,7 +75,6 @@ impl<D: Depacketizer> DepacketizingBuffer<D> {
             hold_back,
             held: BTreeMap::new(alloc),
             cutoff: None,
-            is_waiting: false,
         }
     }
 
@@ -99,11 +93,7 @@ impl<D: Depacketizer> DepacketizingBuffer<D> {
         if matches!(cutoff, Some(c) if meta.seq_no.get() <= c.get()) {
             return Ok(());
         }
-        let is_waiting = self.is_waiting
-            && goes_last(&self.depacketizer, &self.held, meta, payload);
-        keep(self.alloc, &mut self.held, meta, payload)?;
-        self.is_waiting = is_waiting;
-        Ok(())
+        keep(self.alloc, &mut self.held, meta, payload)
     }
 
     /// The lowest complete frame, where there is no cutoff, or it begins right behind the cutoff, or more
@@ -123,18 +113,13 @@ impl<D: Depacketizer> DepacketizingBuffer<D> {
         ensures unchanged { IfOk result (λ r. IfNone r (self.new ≡ self.old)) }
         ensures fewer { LeavesFewer self.old.held self.new.held result }
     {
-        if self.is_waiting {
-            return Ok(None);
-        }
-        let popped = take_due(
+        take_due(
             self.alloc,
             &mut self.depacketizer,
             &mut self.held,
             &mut self.cutoff,
             self.hold_back,
-        );
-        self.is_waiting = matches!(popped, Ok(None));
-        popped
+        )
     }
 
     /// The lowest complete frame, whether or not a packet before it is missing; None where no frame is complete. It
@@ -153,17 +138,13 @@ impl<D: Depacketizer> DepacketizingBuffer<D> {
         ensures unchanged { IfOk result (λ r. IfNone r (self.new ≡ self.old)) }
         ensures fewer { LeavesFewer self.old.held self.new.held result }
     {
-        let drained = take_due(
+        take_due(
             self.alloc,
             &mut self.depacketizer,
             &mut self.held,
             &mut self.cutoff,
             0,
-        );
-        if !matches!(drained, Ok(None)) {
-            self.is_waiting = false;
-        }
-        drained
+        )
     }
 
     /// Pops until no frame is due, and appends the units in their order.

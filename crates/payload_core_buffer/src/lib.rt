@@ -12,7 +12,6 @@ mod payloader;
 mod place;
 mod run;
 mod take;
-mod waiting;
 
 pub use buffer::DepacketizingBuffer;
 pub use depacketized::Depacketized;

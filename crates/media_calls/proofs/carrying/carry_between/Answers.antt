@@ -19,48 +19,48 @@ use Rattle.media_calls.proofs.carrying.carry_between.Goals as goal
 
 pub carry_over-requires-clause-pieces : goal.carry_over-requires-clause-pieces
 carry_over-requires-clause-pieces c =
-    let sends : SendsAt c.args.a.now c.from-mid.result c.from-ssrc.result c.from-pt.result =
-    (c.headline.ensures.sends c.args.a.now c.from-mid.result c.from-ssrc.result c.from-pt.result).0
+    let sends : SendsAt c.args.a.now c.from-mid.result c.from-ssrc.result c.args.pt =
+    (c.headline.ensures.sends c.args.a.now c.from-mid.result c.from-ssrc.result c.args.pt).0
     c.in-Ok.ensures.opens in
-    let agreed : IfSome (agreed_row_of c.args.a.now.exchange.agreed c.from-mid.result c.from-pt.result) SendsPieces =
+    let agreed : IfSome (agreed_row_of c.args.a.now.exchange.agreed c.from-mid.result c.args.pt) SendsPieces =
     subst (λ (o : Option Row). IfSome o SendsPieces) c.agreed_row.ensures
     (c.has_pieces.ensures.0 c.if-not-has_pieces.false).1 in
     ap (λ (s : Sending). sends_pieces s.row.codec) c.in-Ok.ensures.stream
-    ∙ sends-pieces c.args.a.now c.from-mid.result c.from-ssrc.result c.from-pt.result c.args.params agreed
+    ∙ sends-pieces c.args.a.now c.from-mid.result c.from-ssrc.result c.args.pt c.args.params agreed
     sends
 
 pub carry_over-requires-clause-hears : goal.carry_over-requires-clause-hears
 carry_over-requires-clause-hears c =
     let a : EndState = c.args.a.now in
-    let agreed : IfSome (agreed_row_of a.exchange.agreed c.from-mid.result c.from-pt.result) SendsPieces =
+    let agreed : IfSome (agreed_row_of a.exchange.agreed c.from-mid.result c.args.pt) SendsPieces =
     subst (λ (o : Option Row). IfSome o SendsPieces) c.agreed_row.ensures
     (c.has_pieces.ensures.0 c.if-not-has_pieces.false).1 in
     let b : EndState = c.args.b.now in
-    let s : Sending = new_sender a c.from-mid.result c.from-ssrc.result c.from-pt.result c.args.params in
-    let sends : SendsAt a c.from-mid.result c.from-ssrc.result c.from-pt.result =
-    (c.headline.ensures.sends a c.from-mid.result c.from-ssrc.result c.from-pt.result).0 c.in-Ok.ensures.opens in
-    let pieces : sends_pieces s.row.codec ≡ true = sends-pieces a c.from-mid.result c.from-ssrc.result c.from-pt.result
+    let s : Sending = new_sender a c.from-mid.result c.from-ssrc.result c.args.pt c.args.params in
+    let sends : SendsAt a c.from-mid.result c.from-ssrc.result c.args.pt =
+    (c.headline.ensures.sends a c.from-mid.result c.from-ssrc.result c.args.pt).0 c.in-Ok.ensures.opens in
+    let pieces : sends_pieces s.row.codec ≡ true = sends-pieces a c.from-mid.result c.from-ssrc.result c.args.pt
     c.args.params agreed sends in
-    let room : 1199 ≤ packet_limit s = has-room c.from-ssrc.result (agreed_types a c.from-mid.result c.from-pt.result)
-    (stream_map a c.from-mid.result) (agreed_format a c.from-mid.result c.from-pt.result) c.args.params
-    (agreed_red a c.from-mid.result c.from-pt.result) c.args.params.red c.requires.mtu in
+    let room : 1199 ≤ packet_limit s = has-room c.from-ssrc.result (agreed_types a c.from-mid.result c.args.pt)
+    (stream_map a c.from-mid.result) (agreed_format a c.from-mid.result c.args.pt) c.args.params
+    (agreed_red a c.from-mid.result c.args.pt) c.args.params.red c.requires.mtu in
     let count : count_of s c.args.samples.now ≡ 3 =
     count-three s c.args.samples.now c.requires.three pieces room c.requires.short in
     let sound : IsSound c.agreed_red.result c.args.params = c.is_sound.ensures.sound.0 c.if-not-is_sound.false in
-    let to : SendsTo c.requires.exchanged.0 a b c.from-mid.result c.from-ssrc.result c.from-pt.result c.args.params
+    let to : SendsTo c.requires.exchanged.0 a b c.from-mid.result c.from-ssrc.result c.args.pt c.args.params
     c.args.samples.now = record {
       exchanged = c.requires.exchanged.1;
       sends = sends;
-      receives = (c.headline.ensures.receives b c.from-mid.result c.from-ssrc.result c.from-pt.result).0
+      receives = (c.headline.ensures.receives b c.from-mid.result c.from-ssrc.result c.args.pt).0
           c.in-Ok-open_receiver.ensures.opens;
       ssrc_fits = omega arith;
       sound_params = subst (λ (red : Option ℕ). IsSound red c.args.params) c.agreed_red.ensures sound;
       sound_samples = sound-short s c.args.samples.now pieces c.requires.short;
       numbers = omega (arith, count, c.requires.first);
     } in
-    let hears : Hears (after_open_receiver b c.from-mid.result c.from-ssrc.result c.from-pt.result 127)
+    let hears : Hears (after_open_receiver b c.from-mid.result c.from-ssrc.result c.args.pt 127)
     (length b.streams) 127 s c.args.samples.now =
-    c.headline.ensures.hears c.requires.exchanged.0 a b c.from-mid.result c.from-ssrc.result c.from-pt.result
+    c.headline.ensures.hears c.requires.exchanged.0 a b c.from-mid.result c.from-ssrc.result c.args.pt
     c.args.params c.args.samples.now 127 to in
     subst (λ (t : Sending). Hears c.open_receiver.new.self c.in-Ok-open_receiver.rx 127 t c.args.samples.now)
     (sym c.in-Ok.ensures.stream)

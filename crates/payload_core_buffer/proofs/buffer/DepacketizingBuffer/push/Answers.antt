@@ -1,19 +1,6 @@
-use Rattle.std.proofs.Common.{sym, ◌∙◌, arith}
+use Rattle.std.proofs.Common.{arith}
 use Rattle.std.proofs.lemmas.Grind.{common_steps}
-use mathlib.Core.Bool.{false≢true}
-use Rattle.payload_core_buffer.specs.Packets.{packet_from}
-use Rattle.payload_core_buffer.proofs.WaitingLemmas.{stays-waiting}
 use Rattle.payload_core_buffer.proofs.buffer.DepacketizingBuffer.push.Goals as goal
-use Rattle.payload_core_buffer.proofs.buffer.DepacketizingBuffer.push.Goals.{then-self, else-self}
-
-pub invariant_of-self-2 : goal.invariant_of-self-2
-invariant_of-self-2 g c =
-    stays-waiting _ _ _ _ _ (packet_from c.args.meta c.args.payload.now)
-    c.self.inside.is_waiting c.if-self.is_waiting c.self.invariant c.keep.ensures.by_number c.in_ok-keep.ensures.kept
-    (λ e. elim c.if-self.branch [
-      | then-self w ↦ (w.if-self.true, w.goes_last-is_waiting.ensures (sym w.is_waiting-is ∙ e))
-      | else-self w ↦ absurd (false≢true (sym w.if-self.false ∙ sym w.is_waiting-is ∙ e))
-    ])
 
 pub returns-then-matches-clause-kept : goal.returns-then-matches-clause-kept
 returns-then-matches-clause-kept g c = grind (arith, common_steps)
