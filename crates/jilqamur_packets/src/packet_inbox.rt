@@ -14,7 +14,7 @@ use crate::payload_unit::{PayloadUnit, WireUnit};
 use h26x_payload::{CodecDepacketizer, NotBoxed};
 use jilqamur_headers::{codes, copy_out};
 use payload_core_base::{Depacketizer, PacketError};
-use payload_core_buffer::{Depacketized, DepacketizingBuffer, RtpMeta};
+use payload_core_buffer::{Depacketized, PolledBuffer, RtpMeta};
 use rtp_wire_extensions::ExtensionValues;
 use rtp_wire_ids::SeqNo;
 use std::alloc::Global;
@@ -24,7 +24,7 @@ use std::marker::Model;
 #[derive(Drop)]
 pub struct PacketInbox {
     format: PayloadFormat,
-    buffer: DepacketizingBuffer<CodecDepacketizer<NotBoxed>>,
+    buffer: PolledBuffer<CodecDepacketizer<NotBoxed>>,
     unit: Option<PayloadUnit>,
 }
 
@@ -92,7 +92,7 @@ impl PacketInbox {
         let depacketizer = depacketizer_for(alloc, &format);
         Ok(PacketInbox {
             format,
-            buffer: DepacketizingBuffer::new(alloc, depacketizer, hold_back),
+            buffer: PolledBuffer::new(alloc, depacketizer, hold_back),
             unit: None,
         })
     }

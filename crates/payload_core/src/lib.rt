@@ -18,8 +18,8 @@ pub use payload_core_base::{
     Vp9CodecExtra, telephone_event_law,
 };
 pub use payload_core_buffer::{
-    Depacketized, DepacketizingBuffer, MAX_HELD, PacketList, Payloader, RtpMeta, SentPacket,
-    frames_law,
+    Depacketized, DepacketizingBuffer, MAX_HELD, PacketList, Payloader, PolledBuffer, RtpMeta,
+    SentPacket, frames_law,
 };
 pub use payload_core_red::{
     RedBlock, RedBlocks, RedDecoder, RedEncoder, RedSender, RedSink, RedundantBlock, red_law,

@@ -25,7 +25,8 @@ same : (p q : Packet) (qs : List Packet) → p.meta.seq_no ≡ q.meta.seq_no →
 same p q qs h = ap (λ r. match_ordering r (p ∷ q ∷ qs) (q ∷ qs) (q ∷ held_with p qs))
     (sym (nat_cmp_is p.meta.seq_no q.meta.seq_no Equal h))
 
-above : (p q : Packet) (qs : List Packet) → q.meta.seq_no < p.meta.seq_no → held_with p (q ∷ qs) ≡ q ∷ held_with p qs
+pub above : (p q : Packet) (qs : List Packet) → q.meta.seq_no < p.meta.seq_no
+    → held_with p (q ∷ qs) ≡ q ∷ held_with p qs
 above p q qs h = ap (λ r. match_ordering r (p ∷ q ∷ qs) (q ∷ qs) (q ∷ held_with p qs))
     (sym (nat_cmp_is p.meta.seq_no q.meta.seq_no Greater h))
 
@@ -43,7 +44,7 @@ drop_entries (suc n) [] = refl
 drop_entries (suc n) (e ∷ es) = drop_entries n es
 
 -- up to 4,096 stay
-limited_short : (ps : List Packet) → length ps ≤ 4096 → ps ≡ limited ps
+pub limited_short : (ps : List Packet) → length ps ≤ 4096 → ps ≡ limited ps
 limited_short ps le = let e : length ps - 4096 ≡ 0 = omega arith in ap (λ n. drop n ps) (sym e)
 
 -- what the entries of a map keep

@@ -6,3 +6,4 @@ pub mod RunLemmas
 pub mod TakeLemmas
 pub mod SendingLemmas
 pub mod DrainLemmas
+pub mod WaitingLemmas

@@ -8,3 +8,4 @@ pub mod Drains
 pub mod Sending
 pub mod Payloaders
 pub mod Lists
+pub mod Waiting

@@ -1,11 +1,12 @@
 //! The buffer.
 
-ghost use Rattle.std.specs.Prelude.{◌≡◌, [], IfErr, IfNone, IfOk, None, OnErr, OnOk};
+ghost use Rattle.std.specs.Prelude.{◌≡◌, [], IfErr, IfNone, IfOk, IsTrue, None, OnErr, OnOk};
 
 use crate::depacketized::Depacketized;
 use crate::held::{Held, RtpMeta};
 use crate::place::keep;
 use crate::take::take_due;
+use crate::waiting::goes_last;
 use payload_core_base::{Depacketizer, PacketError};
 use rtp_wire_ids::SeqNo;
 use std::alloc::Global;
@@ -63,6 +64,7 @@ impl<D: Depacketizer> DepacketizingBuffer<D> {
     ghost use Rattle.payload_core_buffer.specs.Frames.{complete_frames};
     ghost use Rattle.payload_core_buffer.specs.Packets.{packet_from};
     ghost use Rattle.payload_core_buffer.specs.Pops.{Pops, pop_state};
+    ghost use Rattle.payload_core_buffer.specs.Waiting.{GoesLast};
 
     /// A buffer that holds nothing. While a packet before the lowest complete frame may still come, that
     /// frame waits until more than `hold_back` frames are complete.
@@ -145,6 +147,14 @@ impl<D: Depacketizer> DepacketizingBuffer<D> {
             &mut self.cutoff,
             0,
         )
+    }
+
+    /// Whether a packet stands behind all that are held, of which there is room for it, and ends no unit.
+    pub(crate) fn goes_last(&self, meta: &RtpMeta, payload: &[u8]) -> bool
+        ensures { IsTrue result → GoesLast (D.format self.now.depacketizer) self.now.held
+            (packet_from meta.now payload.now) }
+    {
+        goes_last(&self.depacketizer, &self.held, meta, payload)
     }
 
     /// Pops until no frame is due, and appends the units in their order.

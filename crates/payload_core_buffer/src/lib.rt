@@ -10,8 +10,10 @@ mod laws;
 mod packet_list;
 mod payloader;
 mod place;
+mod polled_buffer;
 mod run;
 mod take;
+mod waiting;
 
 pub use buffer::DepacketizingBuffer;
 pub use depacketized::Depacketized;
@@ -20,3 +22,4 @@ pub use laws::frames_law;
 pub use packet_list::{PacketList, SentPacket};
 pub use payloader::Payloader;
 pub use place::MAX_HELD;
+pub use polled_buffer::PolledBuffer;
