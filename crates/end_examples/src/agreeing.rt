@@ -20,7 +20,7 @@ fn audio(alloc: Global, ssrc: u32) -> Result<Vec<SectionSpec>, AllocError> {
         dir: Direction::SendRecv,
         ssrcs: vec![in alloc; Ssrc::from(ssrc)]?,
     };
-    vec![in alloc; section]
+    Ok(vec![in alloc; section]?)
 }
 
 /// Has `a` offer and `b` answer. The two texts are all that travels.
