@@ -1,5 +1,5 @@
 -- What a line does that is answered and explained.
-use Rattle.std.specs.Prelude.{◌≡◌, ℕ, List, [], Some, true, false}
+use Rattle.std.specs.Prelude.{◌≡◌, ◌⊎◌, ℕ, List, [], Some, true, false, take}
 use Rattle.std.specs.Str.Lines.{lines}
 use Rattle.rtp_media_lines.specs.declared.Command.{Command}
 use Rattle.rtp_media_words.specs.declared.reply.Reply.{Reply}
@@ -17,3 +17,16 @@ pub record Explained {S : Type 0} (gives : S → Command → S → List Reply �
   pub comment : is_comment line ≡ true → (new ≡ old) × (replies ≡ []) × (status ≡ Success)
   pub answered : is_comment line ≡ false → Printed gives old new (Some []) (Some replies) line status
   pub noted : after ≡ noted_all before (text_of line) (lines (text_of replies))
+
+-- Of some replies the first so many are noted.
+abbrev pub NotesFirst : Known → Known → List ℕ → List (List ℕ) → Type 0
+NotesFirst before after line replies = (count : ℕ) × (after ≡ noted_all before line (take count replies))
+
+-- Memory ran out. A comment changed nothing; any other line noted nothing, or it was answered and the first of its
+-- replies are noted.
+pub record PartlyExplained {S : Type 0} (gives : S → Command → S → List Reply → Type 0) (old new : S)
+    (before after : Known) (line : List ℕ) : Type 0 where
+  pub comment : is_comment line ≡ true → (new ≡ old) × (after ≡ before)
+  pub noted : (after ≡ before) ⊎ ((replies : List ℕ) × (status : Status)
+      × Printed gives old new (Some []) (Some replies) line status
+      × NotesFirst before after (text_of line) (lines (text_of replies)))

@@ -1,7 +1,7 @@
 //! Lines that are answered and explained.
 
-ghost use Rattle.std.specs.Prelude.{IfOk};
-ghost use Rattle.rtp_media_explaining.specs.Answered.{Explained};
+ghost use Rattle.std.specs.Prelude.{IfOk, OnErr};
+ghost use Rattle.rtp_media_explaining.specs.Answered.{Explained, PartlyExplained};
 
 use crate::explained::explain;
 use rtp_media_known_ends::{Known, is_comment};
@@ -12,7 +12,7 @@ use std::alloc::{AllocError, Global};
 /// any other line is answered by `responder` first. Notes the replies.
 ///
 /// # Errors
-/// Where memory runs out.
+/// Where memory runs out. Of a line that was answered the first replies are noted then, and else nothing.
 pub fn answer_and_explain<A: Respond>(
     alloc: Global,
     responder: &mut A,
@@ -20,7 +20,9 @@ pub fn answer_and_explain<A: Respond>(
     number: u64,
     line: &[u8],
 ) -> Result<(String, Status), AllocError>
-    ensures { IfOk result (λ r. Explained A.gives responder.old responder.new known.old known.new line.now r.1) }
+    ensures explained { IfOk result (λ r. Explained A.gives responder.old responder.new known.old known.new line.now
+        r.1) }
+    ensures stopped { OnErr result (PartlyExplained A.gives responder.old responder.new known.old known.new line.now) }
 {
     let (replies, status) = if is_comment(line) {
         (Vec::new(alloc), Status::Success)

@@ -1,7 +1,8 @@
 //! What came of a line, in words.
 
-ghost use Rattle.std.specs.Prelude.{◌≡◌, OnOk};
+ghost use Rattle.std.specs.Prelude.{◌≡◌, OnErr, OnOk};
 ghost use Rattle.std.specs.Str.Lines.{lines};
+ghost use Rattle.rtp_media_explaining.specs.Answered.{NotesFirst};
 ghost use Rattle.rtp_media_known_ends.specs.Lines.{text_of};
 ghost use Rattle.rtp_media_known_ends.specs.Noted.{noted_all};
 
@@ -16,7 +17,7 @@ use std::alloc::{AllocError, Global};
 /// the forms of all lines.
 ///
 /// # Errors
-/// Where memory runs out.
+/// Where memory runs out. The first of the replies are noted then.
 pub fn explain(
     alloc: Global,
     known: &mut Known,
@@ -24,7 +25,10 @@ pub fn explain(
     line: &[u8],
     replies: &[u8],
 ) -> Result<String, AllocError>
-    ensures { OnOk result (known.new ≡ noted_all known.old (text_of line.now) (lines (text_of replies.now))) }
+    ensures noted { OnOk result (known.new
+        ≡ noted_all known.old (text_of line.now) (lines (text_of replies.now))) }
+    ensures stopped { OnErr result (NotesFirst known.old known.new (text_of line.now)
+        (lines (text_of replies.now))) }
 {
     let mut said = Reply::new(alloc);
     let text = text_of(line);
