@@ -1,6 +1,6 @@
 //! Runs of the program: lines in, replies out.
 
-ghost use Rattle.std.specs.Prelude.{◌≡◌, ℕ, List, [], ◌∷◌, IfOk, IfSome, OnErr, Some};
+ghost use Rattle.std.specs.Prelude.{◌≡◌, ◌≢◌, ℕ, List, [], ◌∷◌, IfErr, IfOk, IfSome, OnErr, Some};
 ghost use Rattle.std.specs.List.{list_any};
 ghost use Rattle.std.specs.Option.{option_copied};
 ghost use Rattle.rtp_media_line_runs.specs.Runs.{Answers, Printed, ReadsAll, status_of};
@@ -8,6 +8,7 @@ ghost use Rattle.rtp_media_words.specs.Replies.{is_error_line};
 ghost use Rattle.rtp_media_line_runs.specs.Input.{lines_of};
 ghost use Rattle.rtp_media_line_runs.specs.Progress.{PrintedOne, GoesOn, Ends};
 ghost use Rattle.rtp_media_line_runs.specs.Stops.{StoppedOne, StopsAtEnd, StopsIn, WritesFront};
+ghost use Rattle.rtp_media_line_runs.specs.declared.status.RunFault.TheVariants.{Write};
 
 use crate::line_buffer::LineBuffer;
 use crate::respond::Respond;
@@ -177,18 +178,24 @@ pub fn run_lines<R: Read, W: Write, A: Respond>(
 /// Answers lines that are at hand by `responder`, as [`run_lines`] does; what it would write, and its status.
 ///
 /// # Errors
-/// Where memory runs out.
+/// Where memory runs out, and where the lines don't end within [`MAX_READS`] reads of 4,096 bytes.
 pub fn answer_lines<A: Respond>(
     alloc: Global,
     lines: &[u8],
     responder: &mut A,
 ) -> Result<(Vec<u8>, Status), RunFault>
-    ensures { IfOk result (λ r. Printed A.gives responder.old responder.new (Some []) (Some r.0.items) lines.now r.1) }
+    ensures answered { IfOk result (λ r. Printed A.gives responder.old responder.new (Some []) (Some r.0.items)
+        lines.now r.1) }
+    ensures fault { IfErr result (λ e. e ≢ Write) }
 {
     let mut reader = lines;
     let mut replies = Vec::new(alloc);
-    let status = run_lines(alloc, &mut reader, &mut replies, responder)?;
-    Ok((replies, status))
+    match run_lines(alloc, &mut reader, &mut replies, responder) {
+        Ok(status) => Ok((replies, status)),
+        // A list takes whatever is written while there is memory.
+        Err(RunFault::Write) => Err(RunFault::Memory),
+        Err(fault) => Err(fault),
+    }
 }
 
 /// Does what [`run_lines`] does in at most `reads` reads.
