@@ -22,8 +22,8 @@ pub record Explained {S : Type 0} (gives : S → Command → S → List Reply �
 abbrev pub NotesFirst : Known → Known → List ℕ → List (List ℕ) → Type 0
 NotesFirst before after line replies = (count : ℕ) × (after ≡ noted_all before line (take count replies))
 
--- Memory ran out. A comment changed nothing; any other line noted nothing, or it was answered and the first of its
--- replies are noted.
+-- Broken off, as where memory runs out: a comment changed nothing; of any other line nothing is noted, or it was
+-- answered and the first of its replies are noted.
 pub record PartlyExplained {S : Type 0} (gives : S → Command → S → List Reply → Type 0) (old new : S)
     (before after : Known) (line : List ℕ) : Type 0 where
   pub comment : is_comment line ≡ true → (new ≡ old) × (after ≡ before)

@@ -17,7 +17,8 @@ use std::alloc::{AllocError, Global};
 /// the forms of all lines.
 ///
 /// # Errors
-/// Where memory runs out. The first of the replies are noted then.
+/// Where memory runs out, or what stands behind a reply `text` isn't hexadecimal digits. A front of the replies is
+/// noted then, perhaps none or all.
 pub fn explain(
     alloc: Global,
     known: &mut Known,
