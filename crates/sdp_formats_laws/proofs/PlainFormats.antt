@@ -4,11 +4,10 @@ use Rattle.std.specs.Option.{option_map}
 use Rattle.std.proofs.lemmas.Bool.Decides.{Decides-eqb}
 use Rattle.sdp_formats_format.specs.Texts.{numbers_265, numbers_266}
 use Rattle.sdp_formats_format.specs.declared.format.FormatParams.{FormatParams}
-use Rattle.sdp_formats_rows.specs.Plain.{comes_back}
+use Rattle.sdp_formats_rows.specs.Plain.{comes_back, has_plain_others}
 use Rattle.sdp_formats_scores.specs.Same.{same, same_bool, same_flag, same_format, same_numbers}
 use Rattle.sdp_formats_laws.proofs.PlainRows.{plain_format}
 use Rattle.sdp_formats_laws.specs.Parameters.{FormatsComeBack, PlainFormatsAreInRange, RowsAreAsPlainAsTheirOthers}
-use Rattle.sdp_formats_laws.specs.Parameters.{has_plain_others}
 use Rattle.sdp_formats_laws.specs.Ranges.{IsInRange, OneLevel}
 
 number_self : (n : ℕ) → (n == n) ≡ true

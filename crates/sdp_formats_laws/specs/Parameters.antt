@@ -1,5 +1,5 @@
 -- What holds of the parameters of rows.
-use Rattle.std.specs.Prelude.{◌≡◌, ◌≢◌, ◌≤◌, ◌↔◌, ◌&&◌, ℕ, Bool, List, [], ◌∷◌, true, Some}
+use Rattle.std.specs.Prelude.{◌≡◌, ◌≢◌, ◌≤◌, ◌↔◌, ℕ, List, [], ◌∷◌, true, Some}
 use Rattle.sdp_formats_params.specs.declared.param.FormatParam.{FormatParam}
 use Rattle.sdp_formats_params.specs.declared.param.FormatParam.TheVariants.{Apt, Red, Unknown}
 use Rattle.sdp_formats_format.specs.Formats.{format_of}
@@ -7,8 +7,7 @@ use Rattle.sdp_formats_format.specs.Texts.{format_text}
 use Rattle.sdp_formats_format.specs.declared.format.FormatParams.{FormatParams}
 use Rattle.sdp_formats_media_lines.specs.AsRead.{params_as_read}
 use Rattle.sdp_formats_source_lines.specs.Parameters.{parameters}
-use Rattle.sdp_formats_rows.specs.Plain.{comes_back, has_plain_events, has_plain_feedback, has_plain_level}
-use Rattle.sdp_formats_rows.specs.Plain.{has_plain_red, has_plain_types, is_plain, is_plain_codec}
+use Rattle.sdp_formats_rows.specs.Plain.{comes_back, has_plain_others, is_plain}
 use Rattle.sdp_formats_rows.specs.Rows.{Row}
 use Rattle.sdp_formats_row_attributes.specs.Attributes.{params_in}
 use Rattle.sdp_formats_types.specs.PrintedMedia.{params_text}
@@ -52,12 +51,6 @@ FormatsComeBack = (f : FormatParams) → IsInRange f → OneLevel f → format_o
 -- So just these formats come back, as a plain row's does.
 abbrev pub PlainFormatsAreInRange : Type 0
 PlainFormatsAreInRange = (f : FormatParams) → comes_back f ≡ true ↔ (IsInRange f × OneLevel f)
-
--- What a plain row has beside its format.
-abbrev pub has_plain_others : Row → Bool
-has_plain_others row =
-    has_plain_types row && is_plain_codec row.spec && has_plain_feedback row && has_plain_red row
-    && has_plain_events row.spec && has_plain_level row.spec
 
 -- A row with such a format is plain exactly where it has that.
 abbrev pub RowsAreAsPlainAsTheirOthers : Type 0

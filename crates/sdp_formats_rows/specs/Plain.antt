@@ -60,7 +60,11 @@ has_plain_level spec =
 abbrev pub comes_back : FormatParams → Bool
 comes_back f = same_format (format_of (format_text f)) f
 
-abbrev pub is_plain : Row → Bool
-is_plain row =
+-- What a plain row has beside such a format.
+abbrev pub has_plain_others : Row → Bool
+has_plain_others row =
     has_plain_types row && is_plain_codec row.spec && has_plain_feedback row && has_plain_red row
-    && has_plain_events row.spec && has_plain_level row.spec && comes_back row.spec.format
+    && has_plain_events row.spec && has_plain_level row.spec
+
+abbrev pub is_plain : Row → Bool
+is_plain row = has_plain_others row && comes_back row.spec.format

@@ -1,11 +1,10 @@
 //! Plain rows.
 
-ghost use Rattle.std.specs.Prelude.{◌≡◌, IfOk};
+ghost use Rattle.std.specs.Prelude.{◌≡◌, IfOk, Ok, false};
 ghost use Rattle.sdp_formats_rows.specs.Codecs.{is_codec};
 ghost use Rattle.sdp_formats_rows.specs.Plain.{comes_back, events_alone, has_plain_events, has_plain_feedback};
-ghost use Rattle.sdp_formats_rows.specs.Plain.{has_plain_level, has_plain_red, has_plain_types, is_media_codec};
-ghost use Rattle.sdp_formats_rows.specs.Plain.{is_plain};
-ghost use Rattle.sdp_formats_rows.specs.Plain.{is_plain_codec, is_plain_rate, is_type};
+ghost use Rattle.sdp_formats_rows.specs.Plain.{has_plain_level, has_plain_others, has_plain_red, has_plain_types};
+ghost use Rattle.sdp_formats_rows.specs.Plain.{is_media_codec, is_plain, is_plain_codec, is_plain_rate, is_type};
 
 use crate::row::PayloadParams;
 use crate::spec::CodecSpec;
@@ -116,19 +115,26 @@ fn comes_back(alloc: Global, format: &FormatParams) -> Result<bool, AllocError>
     Ok(same_format(&FormatParams::parse_line(text.as_str()), format))
 }
 
-/// Can a section list the row so that it comes back as it is?
-pub(crate) fn is_plain(alloc: Global, row: &PayloadParams) -> Result<bool, AllocError>
-    ensures { IfOk result (λ b. b ≡ is_plain row.now) }
+/// Has it all that a plain row has beside its format?
+fn has_plain_others(row: &PayloadParams) -> bool
+    ensures { result ≡ has_plain_others row.now }
 {
     let spec = row.spec();
-    let reads = comes_back(alloc, &spec.format)?;
-    Ok(
-        has_plain_types(row)
-            && is_plain_codec(&spec)
-            && has_plain_feedback(row)
-            && has_plain_red(row)
-            && has_plain_events(&spec)
-            && has_plain_level(&spec)
-            && reads,
-    )
+    has_plain_types(row)
+        && is_plain_codec(&spec)
+        && has_plain_feedback(row)
+        && has_plain_red(row)
+        && has_plain_events(&spec)
+        && has_plain_level(&spec)
+}
+
+/// Can a section list the row so that it comes back as it is?
+pub(crate) fn is_plain(alloc: Global, row: &PayloadParams) -> Result<bool, AllocError>
+    ensures answer { IfOk result (λ b. b ≡ is_plain row.now) }
+    ensures never_memory { has_plain_others row.now ≡ false → result ≡ Ok false }
+{
+    if !has_plain_others(row) {
+        return Ok(false);
+    }
+    comes_back(alloc, &row.spec().format)
 }

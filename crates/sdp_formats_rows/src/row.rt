@@ -1,7 +1,7 @@
 //! Rows: a payload type with its codec and feedback.
 
-ghost use Rattle.std.specs.Prelude.{◌≡◌, IfOk, None, Some, true};
-ghost use Rattle.sdp_formats_rows.specs.Plain.{is_plain};
+ghost use Rattle.std.specs.Prelude.{◌≡◌, IfOk, None, Ok, Some, false, true};
+ghost use Rattle.sdp_formats_rows.specs.Plain.{has_plain_others, is_plain};
 ghost use Rattle.sdp_formats_rows.specs.Rows.{new_row};
 ghost use Rattle.sdp_formats_rows.specs.Scores.{score};
 
@@ -156,9 +156,10 @@ impl PayloadParams {
     ///
     /// # Errors
     ///
-    /// `AllocError` where memory runs out.
+    /// `AllocError` where memory for the format's text runs out, of a row alone that has all the rest.
     pub fn is_plain(&self, alloc: Global) -> Result<bool, AllocError>
-        ensures { IfOk result (λ b. b ≡ is_plain self.now) }
+        ensures answer { IfOk result (λ b. b ≡ is_plain self.now) }
+        ensures never_memory { has_plain_others self.now ≡ false → result ≡ Ok false }
     {
         is_plain(alloc, self)
     }
