@@ -21,7 +21,7 @@ use Rattle.sdp_formats_laws.specs.LineEnds.{is_ended}
 use Rattle.sdp_formats_laws.proofs.Found.{as_many, perhaps_one}
 use Rattle.sdp_formats_laws.proofs.Heads.{bandwidth-exact, connection-exact}
 use Rattle.sdp_formats_laws.proofs.Stopping.{first, line_first}
-use Rattle.sdp_formats_laws.specs.Behind.{GoesOnWithNothing}
+use Rattle.sdp_formats_laws.specs.Behind.{GoesOnWithNothing, SessionStaysWithWhatFitsNowhere}
 use Rattle.sdp_formats_laws.specs.Behind.{StaysWithWhatFitsNowhere}
 
 abbrev IsEnded : List ℕ → Type 0
@@ -265,4 +265,12 @@ stays_with_what_fits_nowhere exact text more rest sdp ok h = (
             (last_part more (text ++ more) said.0 sdp.session sdp.media_lines (rest ++ more) said.1 said.2.0),
         subst (Stops SectionSays) left said.2.1,
       ),
+)
+
+pub session_stays_with_what_fits_nowhere : SessionStaysWithWhatFitsNowhere
+session_stays_with_what_fits_nowhere text more rest session ok h = (
+  λ fits. (session_alone more text session rest session.attrs refl ok fits h).0,
+  λ said e.
+      subst (GoesOnWithNothing session.attrs []) (ap (λ r. r ++ more) e)
+      (last_of_session more (text ++ more) session (rest ++ more) session.attrs refl said),
 )

@@ -6,10 +6,11 @@ use Rattle.sdp_formats_forms.specs.Step.{Stops}
 use Rattle.sdp_formats_media_lines.specs.Choice.{attribute_line as media_line}
 use Rattle.sdp_formats_session_attributes.specs.Choice.{attribute_line as session_line}
 use Rattle.sdp_formats_session_lines.specs.Lines.{repeat_line}
-use Rattle.sdp_formats_reader.specs.Grammar.{SdpSays, SectionSays}
+use Rattle.sdp_formats_reader.specs.Grammar.{SdpSays, SectionSays, SessionSays}
 use Rattle.sdp_formats_laws.specs.LineEnds.{is_ended}
 use Rattle.sdp_formats_types.specs.declared.media.MediaLine.{MediaLine}
 use Rattle.sdp_formats_sessions.specs.declared.session.Sdp.{Sdp}
+use Rattle.sdp_formats_sessions.specs.declared.session.Session.{Session}
 use Rattle.sdp_formats_sessions.specs.declared.session.SessionAttribute.{SessionAttribute}
 
 -- The text begins with no line that goes on with the last part of a session (RFC 8866 5): with no attribute of the
@@ -29,6 +30,12 @@ FitsNowhereBehind sdp more = GoesOnWithNothing sdp.session.attrs sdp.media_lines
 abbrev pub StaysWithWhatFitsNowhere : Type 0
 StaysWithWhatFitsNowhere = (text more rest : List ℕ) (sdp : Sdp) → is_ended text ≡ true → SdpSays text sdp rest
     → (rest ≡ [] → FitsNowhereBehind sdp more) ↔ SdpSays (text ++ more) sdp (rest ++ more)
+
+-- So does what is read of a session alone, behind which a section fits nowhere either.
+abbrev pub SessionStaysWithWhatFitsNowhere : Type 0
+SessionStaysWithWhatFitsNowhere = (text more rest : List ℕ) (session : Session) → is_ended text ≡ true
+    → SessionSays text session rest
+    → (rest ≡ [] → GoesOnWithNothing session.attrs [] more) ↔ SessionSays (text ++ more) session (rest ++ more)
 
 -- What begins with none of the letters `a`, `m` and `r` fits nowhere behind any session.
 abbrev pub BeginsOtherwise : List ℕ → Type 0

@@ -2,7 +2,8 @@
 
 ghost use Rattle.std.specs.Prelude.{[], IsTrue};
 ghost use Rattle.std.specs.List.{list_all};
-ghost use Rattle.sdp_formats_laws.specs.Behind.{OthersFitNowhere, StaysWithWhatFitsNowhere};
+ghost use Rattle.sdp_formats_laws.specs.Behind.{OthersFitNowhere, SessionStaysWithWhatFitsNowhere};
+ghost use Rattle.sdp_formats_laws.specs.Behind.{StaysWithWhatFitsNowhere};
 ghost use Rattle.sdp_formats_laws.specs.LineEnds.{LinesEndEitherWay, ReadsByAnyEnd, ReadsBySameLines};
 ghost use Rattle.sdp_formats_laws.specs.LineEnds.{ReadsSessionBySameLines};
 ghost use Rattle.sdp_formats_laws.specs.PrintableTexts.{
@@ -52,9 +53,11 @@ pub fn line_ends_law()
 /// rest, exactly where the text leaves something unread already, or the other one fits nowhere behind it (RFC 8866 5):
 /// behind sections where it begins with no attribute of a section and with no section, as `b=AS:5` does; behind a
 /// session alone where it begins with no attribute of a session, no section and, where there is no attribute yet, no
-/// line `r=`. What begins with none of the letters `a`, `m` and `r` fits nowhere behind any session.
+/// line `r=`. Of a session that is read alone a section is left unread too. What begins with none of the letters `a`,
+/// `m` and `r` fits nowhere behind any session.
 pub fn fits_nowhere_law()
     ensures same { StaysWithWhatFitsNowhere }
+    ensures session { SessionStaysWithWhatFitsNowhere }
     ensures letters { OthersFitNowhere }
 {
     MediaAttributeLine::exact_law();
