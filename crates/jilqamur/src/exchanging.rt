@@ -4,7 +4,7 @@ ghost use Rattle.std.specs.Prelude.{◌≡◌, ◌≢◌, Some};
 ghost use Rattle.jilqamur_headers.specs.Codes.{ok, closed};
 ghost use Rattle.jilqamur_headers.specs.Handles.{AtObject};
 ghost use Rattle.jilqamur_ends.specs.Answers.{AtEnd, WithText};
-ghost use Rattle.jilqamur_ends.specs.Peers.{behind_end, behind_text};
+ghost use Rattle.jilqamur_ends.specs.HeldEnds.{behind_end, behind_text};
 ghost use Rattle.jilqamur_exchanges.specs.Exchanges.{AnswersOffer, AnswersAnswer, AnswersAccept, AnswersWithdraw};
 ghost use Rattle.jilqamur_headers.specs.Copies.{IsCopied};
 
@@ -16,7 +16,7 @@ use std::alloc::Global;
 pub extern "C" fn jilqamur_end_offer(alloc: Global, end: &mut EndHandle) -> u32
     ensures answer { AtObject end.old.place.object end.new.place.object result
         (λ p after. AtEnd p.end after.end result
-        (λ e now. AnswersOffer e p.sections result after.text now)) }
+        (λ e now. AnswersOffer e p.draft.sections result after.text now)) }
     ensures kept { AtObject end.old.place.object end.new.place.object result
         (λ p after. result ≢ ok → after.text ≡ p.text) }
     ensures rest { AtObject end.old.place.object end.new.place.object result
@@ -30,7 +30,7 @@ pub extern "C" fn jilqamur_end_offer(alloc: Global, end: &mut EndHandle) -> u32
 pub extern "C" fn jilqamur_end_answer(alloc: Global, end: &mut EndHandle, offer: &[u8]) -> u32
     ensures answer { AtObject end.old.place.object end.new.place.object result
         (λ p after. WithText offer.now p.end after.end result
-        (λ e now. AnswersAnswer e offer.now p.sections result after.text now)) }
+        (λ e now. AnswersAnswer e offer.now p.draft.sections result after.text now)) }
     ensures kept { AtObject end.old.place.object end.new.place.object result
         (λ p after. result ≢ ok → after.text ≡ p.text) }
     ensures rest { AtObject end.old.place.object end.new.place.object result

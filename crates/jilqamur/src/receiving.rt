@@ -4,7 +4,7 @@ ghost use Rattle.std.specs.Prelude.{◌≡◌, ◌≢◌, Some};
 ghost use Rattle.jilqamur_headers.specs.Codes.{ok, nothing, closed};
 ghost use Rattle.jilqamur_headers.specs.Handles.{AtObject};
 ghost use Rattle.jilqamur_ends.specs.Answers.{AtEnd};
-ghost use Rattle.jilqamur_ends.specs.Peers.{behind_end, behind_poll};
+ghost use Rattle.jilqamur_ends.specs.HeldEnds.{behind_end, behind_poll};
 ghost use Rattle.jilqamur_headers.specs.Copies.{IsFetched};
 ghost use Rattle.jilqamur_streams.specs.Fetched.{IsToldOf, bytes_of};
 ghost use Rattle.jilqamur_ends.specs.Told.{TellsValues};

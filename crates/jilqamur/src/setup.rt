@@ -4,9 +4,9 @@ ghost use Rattle.std.specs.Prelude.{◌≡◌, ◌≢◌, None, Some, IsSome};
 ghost use Rattle.sdp_formats_default_rows.specs.DefaultRows.{default_rows};
 ghost use Rattle.jilqamur_headers.specs.Codes.{ok, memory, in_use};
 ghost use Rattle.jilqamur_headers.specs.Handles.{AtObject, answer_of};
-ghost use Rattle.jilqamur_ends.specs.Peers.{with_row, with_rows, with_section, with_extension, empty_peer};
-ghost use Rattle.jilqamur_drafts.specs.DraftedRows.{row_of, row_outcome};
-ghost use Rattle.jilqamur_drafts.specs.Drafts.{section_of, section_outcome, extension_outcome};
+ghost use Rattle.jilqamur_ends.specs.HeldEnds.{empty_held_end, with_draft};
+ghost use Rattle.jilqamur_ends.specs.DraftedRows.{row_of, row_outcome};
+ghost use Rattle.jilqamur_ends.specs.Drafts.{extension_outcome, section_of, section_outcome, with_extension, with_row, with_rows, with_section};
 ghost use Rattle.jilqamur_exchanges.specs.Making.{make_outcome, made, without_draft};
 
 use jilqamur_ends::EndHandle;
@@ -16,7 +16,7 @@ use std::alloc::Global;
 /// Opens a handle: it holds no end, an empty draft, and nothing that is left.
 #[unsafe(no_mangle)]
 pub extern "C" fn jilqamur_end_open(alloc: Global, end: &mut EndHandle) -> u32
-    ensures opened { result ≡ ok → end.new.place.object ≡ Some empty_peer }
+    ensures opened { result ≡ ok → end.new.place.object ≡ Some empty_held_end }
     ensures held_none { result ≡ ok → end.old.place.object ≡ None }
     ensures in_use { IsSome end.old.place.object → result ≡ in_use }
     ensures only_in_use { result ≡ in_use → IsSome end.old.place.object }
@@ -46,7 +46,8 @@ pub extern "C" fn jilqamur_end_row(
     ensures outcome { AtObject end.old.place.object end.new.place.object result
         (λ p after. result ≢ memory → result ≡ row_outcome row.now codec.now format.now) }
     ensures added { AtObject end.old.place.object end.new.place.object result
-        (λ p after. result ≡ ok → after ≡ with_row p (row_of row.now codec.now format.now)) }
+        (λ p after. result ≡ ok
+        → after ≡ with_draft p (with_row p.draft (row_of row.now codec.now format.now))) }
     ensures unchanged { result ≢ ok → end.new.place.object ≡ end.old.place.object }
 {
     jilqamur_exchanges::add_row(end, row, codec, format)
@@ -58,7 +59,7 @@ pub extern "C" fn jilqamur_end_default_rows(alloc: Global, end: &mut EndHandle) 
     ensures outcome { AtObject end.old.place.object end.new.place.object result
         (λ p after. result ≢ memory → result ≡ ok) }
     ensures added { AtObject end.old.place.object end.new.place.object result
-        (λ p after. result ≡ ok → after ≡ with_rows p default_rows) }
+        (λ p after. result ≡ ok → after ≡ with_draft p (with_rows p.draft default_rows)) }
     ensures unchanged { result ≢ ok → end.new.place.object ≡ end.old.place.object }
 {
     jilqamur_exchanges::add_default_rows(alloc, end)
@@ -75,7 +76,7 @@ pub extern "C" fn jilqamur_end_extension(
     ensures outcome { AtObject end.old.place.object end.new.place.object result
         (λ p after. result ≢ memory → result ≡ extension_outcome id uri.now) }
     ensures put { AtObject end.old.place.object end.new.place.object result
-        (λ p after. result ≡ ok → after ≡ with_extension p id uri.now) }
+        (λ p after. result ≡ ok → after ≡ with_draft p (with_extension p.draft id uri.now)) }
     ensures unchanged { result ≢ ok → end.new.place.object ≡ end.old.place.object }
 {
     jilqamur_exchanges::set_extension(alloc, end, id, uri)
@@ -108,7 +109,8 @@ pub extern "C" fn jilqamur_end_section(
     ensures outcome { AtObject end.old.place.object end.new.place.object result
         (λ p after. result ≢ memory → result ≡ section_outcome mid.now) }
     ensures added { AtObject end.old.place.object end.new.place.object result
-        (λ p after. result ≡ ok → after ≡ with_section p (section_of mid.now is_video sends receives ssrcs.now)) }
+        (λ p after. result ≡ ok → after
+        ≡ with_draft p (with_section p.draft (section_of mid.now is_video sends receives ssrcs.now))) }
     ensures unchanged { result ≢ ok → end.new.place.object ≡ end.old.place.object }
 {
     jilqamur_exchanges::add_section(alloc, end, mid, is_video, sends, receives, ssrcs)

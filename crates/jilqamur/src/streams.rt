@@ -4,7 +4,7 @@ ghost use Rattle.std.specs.Prelude.{◌≡◌, ◌≢◌, length, Some};
 ghost use Rattle.std.specs.List.{slice_get};
 ghost use Rattle.jilqamur_headers.specs.Codes.{ok, memory, nothing, closed};
 ghost use Rattle.jilqamur_headers.specs.Handles.{AtObject};
-ghost use Rattle.jilqamur_ends.specs.Peers.{behind_end, behind_sample};
+ghost use Rattle.jilqamur_ends.specs.HeldEnds.{behind_end, behind_sample};
 ghost use Rattle.jilqamur_ends.specs.Answers.{WithText};
 ghost use Rattle.jilqamur_headers.specs.Copies.{IsFetched};
 ghost use Rattle.jilqamur_end_streams.specs.Params.{params_of};

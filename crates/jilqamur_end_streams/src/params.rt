@@ -1,9 +1,10 @@
 //! Parameters of sending streams.
 
 ghost use Rattle.std.specs.Prelude.{◌≡◌, IfOk};
-ghost use Rattle.jilqamur_end_streams.specs.Params.{params_of, distances_of};
+ghost use Rattle.jilqamur_headers.specs.Values.{if_given};
+ghost use Rattle.jilqamur_end_streams.specs.Params.{params_of};
 
-use jilqamur_packets::number_given;
+use jilqamur_headers::if_given;
 use rtp_media_ends::{Distances, StreamParams};
 use std::alloc::{AllocError, Global};
 
@@ -28,7 +29,7 @@ pub struct WireStream {
 }
 
 fn distances_of(alloc: Global, has: bool, distances: &[u8]) -> Result<Option<Distances>, AllocError>
-    ensures { IfOk result (λ ds. ds ≡ distances_of has distances.now) }
+    ensures { IfOk result (λ ds. ds ≡ if_given has distances.now) }
 {
     if !has {
         return Ok(None);
@@ -51,7 +52,7 @@ pub(crate) fn params_of(
         mtu: stream.mtu,
         limit: stream.limit,
         red: distances_of(alloc, stream.has_red, distances)?,
-        picture_id: number_given(stream.has_picture_id, stream.picture_id),
+        picture_id: if_given(stream.has_picture_id, stream.picture_id),
         for_browsers: stream.for_browsers,
     })
 }

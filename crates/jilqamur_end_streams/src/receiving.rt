@@ -5,7 +5,7 @@ ghost use Rattle.std.specs.Prelude.{◌≡◌, ◌≢◌};
 ghost use Rattle.jilqamur_headers.specs.Codes.{ok};
 ghost use Rattle.jilqamur_headers.specs.Handles.{AtObject};
 ghost use Rattle.jilqamur_ends.specs.Answers.{AtEnd, WithText};
-ghost use Rattle.jilqamur_ends.specs.Peers.{behind_end, behind_poll};
+ghost use Rattle.jilqamur_ends.specs.HeldEnds.{behind_end, behind_poll};
 ghost use Rattle.jilqamur_end_streams.specs.Receiving.{OpensReceiver, Receives, Polls, Drains, IsTakenAs};
 ghost use Rattle.jilqamur_end_streams.specs.Receiving.{verdict_code};
 
@@ -58,11 +58,11 @@ pub fn open_receiver(
     if !end.is_open() {
         return codes::CLOSED;
     }
-    let peer = end.place.peer();
+    let held = end.place.held();
     let Some(mid) = text_in(mid) else {
         return codes::NOT_TEXT;
     };
-    let Some(end) = &mut peer.end else {
+    let Some(end) = &mut held.end else {
         return codes::NOT_MADE;
     };
     match end.open_receiver(Mid::from(mid), Ssrc::from(ssrc), Pt::from(pt), hold_back) {
@@ -89,8 +89,8 @@ pub fn receive(end: &mut EndHandle, datagram: &[u8], stream: &mut usize, number:
     if !end.is_open() {
         return codes::CLOSED;
     }
-    let peer = end.place.peer();
-    let Some(end) = &mut peer.end else {
+    let held = end.place.held();
+    let Some(end) = &mut held.end else {
         return codes::NOT_MADE;
     };
     match end.receive(datagram) {
@@ -115,15 +115,15 @@ pub fn poll(end: &mut EndHandle, stream: usize) -> u32
     if !end.is_open() {
         return codes::CLOSED;
     }
-    let peer = end.place.peer();
-    let Some(end) = &mut peer.end else {
+    let held = end.place.held();
+    let Some(end) = &mut held.end else {
         return codes::NOT_MADE;
     };
     if !end.is_receiver(stream) {
         return codes::NO_STREAM;
     }
     let answer = end.poll(stream);
-    poll_code(answer, &mut peer.unit)
+    poll_code(answer, &mut held.unit)
 }
 
 /// The same, whether or not a datagram before the lowest complete unit is missing.
@@ -139,13 +139,13 @@ pub fn drain(end: &mut EndHandle, stream: usize) -> u32
     if !end.is_open() {
         return codes::CLOSED;
     }
-    let peer = end.place.peer();
-    let Some(end) = &mut peer.end else {
+    let held = end.place.held();
+    let Some(end) = &mut held.end else {
         return codes::NOT_MADE;
     };
     if !end.is_receiver(stream) {
         return codes::NO_STREAM;
     }
     let answer = end.drain(stream);
-    poll_code(answer, &mut peer.unit)
+    poll_code(answer, &mut held.unit)
 }

@@ -5,7 +5,7 @@ ghost use Rattle.std.specs.Prelude.{◌≡◌, ◌≢◌, length};
 ghost use Rattle.jilqamur_headers.specs.Codes.{ok, memory, closed};
 ghost use Rattle.jilqamur_headers.specs.Handles.{AtObject};
 ghost use Rattle.jilqamur_ends.specs.Answers.{AtEnd, WithText};
-ghost use Rattle.jilqamur_ends.specs.Peers.{behind_end, behind_sample};
+ghost use Rattle.jilqamur_ends.specs.HeldEnds.{behind_end, behind_sample};
 ghost use Rattle.jilqamur_end_streams.specs.Params.{params_of};
 ghost use Rattle.jilqamur_end_streams.specs.Sending.{AnswersSender, AnswersSample, mid_of};
 
@@ -79,11 +79,11 @@ pub fn open_sender(
     if !end.is_open() {
         return codes::CLOSED;
     }
-    let peer = end.place.peer();
+    let held = end.place.held();
     let Some(mid) = text_in(mid) else {
         return codes::NOT_TEXT;
     };
-    let Some(end) = &mut peer.end else {
+    let Some(end) = &mut held.end else {
         return codes::NOT_MADE;
     };
     let Ok(params) = params_of(alloc, params, distances) else {
@@ -121,12 +121,12 @@ pub fn push_sample(
     if !end.is_open() {
         return codes::CLOSED;
     }
-    let peer = end.place.peer();
-    *count = peer.datagrams.len();
+    let held = end.place.held();
+    *count = held.datagrams.len();
     let Some(mid) = text_in(mid) else {
         return codes::NOT_TEXT;
     };
-    let Some(end) = &mut peer.end else {
+    let Some(end) = &mut held.end else {
         return codes::NOT_MADE;
     };
     if !end.is_sender(stream) {
@@ -136,7 +136,7 @@ pub fn push_sample(
     match end.push_sample(stream, time, sample, &values.values(mid_of(mid))) {
         Ok(sent) => {
             *count = sent.len();
-            peer.datagrams = sent;
+            held.datagrams = sent;
             codes::OK
         }
         Err(error) => sample_code(error),

@@ -6,8 +6,8 @@ use Rattle.std.proofs.BoxSteps.Form.{Bx}
 use Rattle.std.specs.contracts.alloc.Global as Heap
 use Rattle.std.specs.contracts.impls.GlobalAllocator.TheImpl.{ghosts, dict}
 use Rattle.std.proofs.alloc.Global.TheLaws as heap
-use Rattle.jilqamur_ends.specs.contracts.peer.Peer as Object
-use Rattle.jilqamur_ends.proofs.peer.Peer.TheLaws as object
+use Rattle.jilqamur_ends.specs.contracts.held_end.HeldEnd as Object
+use Rattle.jilqamur_ends.proofs.held_end.HeldEnd.TheLaws as object
 use Rattle.jilqamur_headers.specs.contracts.parts.Parts as Parts
 use Rattle.jilqamur_ends.specs.contracts.place.EndPlace as Place
 

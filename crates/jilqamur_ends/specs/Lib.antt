@@ -1,5 +1,7 @@
 pub mod Answers
+pub mod DraftedRows
+pub mod Drafts
 pub mod Lending
 pub mod Owned
-pub mod Peers
+pub mod HeldEnds
 pub mod Told

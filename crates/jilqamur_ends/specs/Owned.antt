@@ -7,7 +7,7 @@ use Rattle.std.specs.Coded.{coded_option}
 use Rattle.std.specs.Box.Ownership.{box_owns}
 use Rattle.std.specs.Global.{Global}
 use Rattle.std.specs.contracts.impls.GlobalAllocator.TheImpl.{ghosts}
-use Rattle.jilqamur_ends.specs.contracts.peer.Peer.{the_row}
+use Rattle.jilqamur_ends.specs.contracts.held_end.HeldEnd.{the_row}
 
 abbrev pub owned : Global → Ptr → Option the_row.Denot → Fml
 owned alloc at None = ftrue

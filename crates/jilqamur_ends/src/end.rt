@@ -3,9 +3,9 @@
 ghost use Rattle.std.specs.Prelude.{◌≡◌, ◌≢◌, None, Some, IsSome};
 ghost use Rattle.jilqamur_headers.specs.Codes.{ok, memory, in_use};
 ghost use Rattle.jilqamur_headers.specs.Handles.{answer_of};
-ghost use Rattle.jilqamur_ends.specs.Peers.{empty_peer};
+ghost use Rattle.jilqamur_ends.specs.HeldEnds.{empty_held_end};
 
-use crate::peer::Peer;
+use crate::held_end::HeldEnd;
 use crate::place::EndHandle;
 use jilqamur_headers::codes;
 use std::alloc::Global;
@@ -14,7 +14,7 @@ impl EndHandle {
     /// Holds no end, an empty draft and nothing that is left, and answers `OK`; or `IN_USE` where it is open, or
     /// `MEMORY`, and is unchanged.
     pub fn open(&mut self, alloc: Global) -> u32
-        ensures opened { result ≡ ok → self.new.place.object ≡ Some empty_peer }
+        ensures opened { result ≡ ok → self.new.place.object ≡ Some empty_held_end }
         ensures held_none { result ≡ ok → self.old.place.object ≡ None }
         ensures in_use { IsSome self.old.place.object → result ≡ in_use }
         ensures only_in_use { result ≡ in_use → IsSome self.old.place.object }
@@ -24,9 +24,9 @@ impl EndHandle {
         if self.is_open() {
             return codes::IN_USE;
         }
-        match Box::new(alloc, Peer::empty(alloc)) {
-            Ok(peer) => {
-                self.put(peer);
+        match Box::new(alloc, HeldEnd::empty(alloc)) {
+            Ok(held) => {
+                self.put(held);
                 codes::OK
             }
             Err(_) => codes::MEMORY,

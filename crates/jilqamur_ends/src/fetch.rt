@@ -26,8 +26,8 @@ impl EndHandle {
         if !self.is_open() {
             return codes::CLOSED;
         }
-        let peer = self.place.peer();
-        copy_out(&peer.text, buffer, needed)
+        let held = self.place.held();
+        copy_out(&held.text, buffer, needed)
     }
 
     /// Copies the datagram of this place, counted from 0, that the last sample left, and answers `OK`, or `TOO_SMALL`,
@@ -42,8 +42,8 @@ impl EndHandle {
         if !self.is_open() {
             return codes::CLOSED;
         }
-        let peer = self.place.peer();
-        datagram_at(&peer.datagrams, index, buffer, needed)
+        let held = self.place.held();
+        datagram_at(&held.datagrams, index, buffer, needed)
     }
 
     /// Copies the bytes of the unit that a poll left last, and answers `OK`, or `TOO_SMALL`, and the buffer is
@@ -61,8 +61,8 @@ impl EndHandle {
         if !self.is_open() {
             return codes::CLOSED;
         }
-        let peer = self.place.peer();
-        unit_at(&peer.unit, buffer, needed, told)
+        let held = self.place.held();
+        unit_at(&held.unit, buffer, needed, told)
     }
 
     /// Tells the values of the header extensions of the last datagram of the unit that a poll left last, and answers
@@ -76,8 +76,8 @@ impl EndHandle {
         if !self.is_open() {
             return codes::CLOSED;
         }
-        let peer = self.place.peer();
-        match &peer.unit {
+        let held = self.place.held();
+        match &held.unit {
             None => codes::NOTHING,
             Some(unit) => {
                 *told = WireValues::of(&unit.ext_vals());

@@ -1,10 +1,15 @@
-//! Handles of ends in the shapes that cross to C: opened and closed, and what calls left fetched from them.
+//! Handles of ends in the shapes that cross to C: opened and closed, what calls gather for the next end, offer or answer
+//! put into their drafts, and what calls left fetched from them.
 #![tactic(auto)]
 
+mod draft;
 mod end;
 mod fetch;
-mod peer;
+mod held_end;
 mod place;
+mod row;
 
-pub use peer::Peer;
+pub use draft::Draft;
+pub use held_end::HeldEnd;
 pub use place::{EndHandle, EndPlace};
+pub use row::WireRow;

@@ -4,9 +4,9 @@ ghost use Rattle.std.specs.Prelude.{◌≡◌, Option, Some, None, IsSome, is_so
 ghost use Rattle.std.specs.Option.{option_map};
 ghost use Rattle.std.specs.Borrow.{sem};
 ghost use Rattle.jilqamur_ends.specs.Owned.{owned, object_coded};
-ghost use Rattle.jilqamur_ends.specs.Peers.{PeerState};
+ghost use Rattle.jilqamur_ends.specs.HeldEnds.{HeldEndState};
 
-use crate::peer::Peer;
+use crate::held_end::HeldEnd;
 use jilqamur_headers::Parts;
 use std::alloc::Global;
 use std::marker::Model;
@@ -18,7 +18,7 @@ use std::{mem, ptr};
 pub struct EndPlace {
     at: *mut u8,
     alloc: Global,
-    pub ghost object: { Option PeerState } by { object_coded },
+    pub ghost object: { Option HeldEndState } by { object_coded },
 }
 
 impl Model for EndPlace {
@@ -26,21 +26,21 @@ impl Model for EndPlace {
 }
 
 impl EndPlace {
-    ghost use Rattle.jilqamur_ends.specs.Lending.{LendsPeer};
+    ghost use Rattle.jilqamur_ends.specs.Lending.{LendsHeldEnd};
 
     /// What it holds, lent.
     ///
     /// # Conditions
     /// It holds something.
-    pub fn peer(&mut self) -> &mut Peer
+    pub fn held(&mut self) -> &mut HeldEnd
         requires { IsSome self.old.object }
-        ensures* writes_back { sem 𝓛 (LendsPeer self.entry result) }
+        ensures* writes_back { sem 𝓛 (LendsHeldEnd self.entry result) }
         ensures value { self.old.object ≡ Some result.now }
     {
-        unsafe { &mut *(self.at as *mut Peer) }
+        unsafe { &mut *(self.at as *mut HeldEnd) }
     }
 
-    fn of_parts(parts: Parts<Peer, Global>) -> EndPlace
+    fn of_parts(parts: Parts<HeldEnd, Global>) -> EndPlace
         ensures { result.object ≡ Some parts.value }
     {
         let Parts { ptr, alloc } = parts;
@@ -50,13 +50,13 @@ impl EndPlace {
         }
     }
 
-    fn into_parts(self) -> Parts<Peer, Global>
+    fn into_parts(self) -> Parts<HeldEnd, Global>
         requires { IsSome self.object }
         ensures { self.object ≡ Some result.value }
     {
         let EndPlace { at, alloc } = self;
         Parts {
-            ptr: at as *mut Peer,
+            ptr: at as *mut HeldEnd,
             alloc,
         }
     }
@@ -87,7 +87,7 @@ impl EndHandle {
     }
 
     /// What it holds, which is taken out.
-    pub(crate) fn take(&mut self, alloc: Global) -> Option<Box<Peer>>
+    pub(crate) fn take(&mut self, alloc: Global) -> Option<Box<HeldEnd>>
         ensures taken { option_map (λ b. b.value) result ≡ self.old.place.object }
         ensures empty { self.new.place.object ≡ None }
     {
@@ -105,7 +105,7 @@ impl EndHandle {
     ///
     /// # Conditions
     /// It holds nothing.
-    pub(crate) fn put(&mut self, value: Box<Peer>)
+    pub(crate) fn put(&mut self, value: Box<HeldEnd>)
         requires { self.old.place.object ≡ None }
         ensures { self.new.place.object ≡ Some value.value }
     {

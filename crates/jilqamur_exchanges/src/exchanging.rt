@@ -5,7 +5,7 @@ ghost use Rattle.std.specs.Prelude.{◌≡◌, ◌≢◌};
 ghost use Rattle.jilqamur_headers.specs.Codes.{ok};
 ghost use Rattle.jilqamur_headers.specs.Handles.{AtObject};
 ghost use Rattle.jilqamur_ends.specs.Answers.{AtEnd, WithText};
-ghost use Rattle.jilqamur_ends.specs.Peers.{behind_end, behind_text};
+ghost use Rattle.jilqamur_ends.specs.HeldEnds.{behind_end, behind_text};
 ghost use Rattle.jilqamur_exchanges.specs.Exchanges.{AnswersOffer, AnswersAnswer, AnswersAccept, AnswersWithdraw};
 ghost use Rattle.jilqamur_exchanges.specs.Exchanges.{exchange_code};
 
@@ -36,7 +36,7 @@ fn exchange_code(error: &ExchangeError) -> u32
 pub fn offer(alloc: Global, end: &mut EndHandle) -> u32
     ensures answer { AtObject end.old.place.object end.new.place.object result
         (λ p after. AtEnd p.end after.end result
-        (λ e now. AnswersOffer e p.sections result after.text now)) }
+        (λ e now. AnswersOffer e p.draft.sections result after.text now)) }
     ensures kept { AtObject end.old.place.object end.new.place.object result
         (λ p after. result ≢ ok → after.text ≡ p.text) }
     ensures rest { AtObject end.old.place.object end.new.place.object result
@@ -45,14 +45,14 @@ pub fn offer(alloc: Global, end: &mut EndHandle) -> u32
     if !end.is_open() {
         return codes::CLOSED;
     }
-    let peer = end.place.peer();
-    let sections = peer.draft.take_sections(alloc);
-    let Some(end) = &mut peer.end else {
+    let held = end.place.held();
+    let sections = held.draft.take_sections(alloc);
+    let Some(end) = &mut held.end else {
         return codes::NOT_MADE;
     };
     match end.offer(sections) {
         Ok(offer) => {
-            peer.text = offer.into_bytes();
+            held.text = offer.into_bytes();
             codes::OK
         }
         Err(error) => exchange_code(&error),
@@ -66,7 +66,7 @@ pub fn offer(alloc: Global, end: &mut EndHandle) -> u32
 pub fn answer(alloc: Global, end: &mut EndHandle, offer: &[u8]) -> u32
     ensures answer { AtObject end.old.place.object end.new.place.object result
         (λ p after. WithText offer.now p.end after.end result
-        (λ e now. AnswersAnswer e offer.now p.sections result after.text now)) }
+        (λ e now. AnswersAnswer e offer.now p.draft.sections result after.text now)) }
     ensures kept { AtObject end.old.place.object end.new.place.object result
         (λ p after. result ≢ ok → after.text ≡ p.text) }
     ensures rest { AtObject end.old.place.object end.new.place.object result
@@ -75,17 +75,17 @@ pub fn answer(alloc: Global, end: &mut EndHandle, offer: &[u8]) -> u32
     if !end.is_open() {
         return codes::CLOSED;
     }
-    let peer = end.place.peer();
-    let sections = peer.draft.take_sections(alloc);
+    let held = end.place.held();
+    let sections = held.draft.take_sections(alloc);
     let Some(offer) = text_in(offer) else {
         return codes::NOT_TEXT;
     };
-    let Some(end) = &mut peer.end else {
+    let Some(end) = &mut held.end else {
         return codes::NOT_MADE;
     };
     match end.answer(offer, sections) {
         Ok(answer) => {
-            peer.text = answer.into_bytes();
+            held.text = answer.into_bytes();
             codes::OK
         }
         Err(error) => exchange_code(&error),
@@ -105,11 +105,11 @@ pub fn accept(end: &mut EndHandle, answer: &[u8]) -> u32
     if !end.is_open() {
         return codes::CLOSED;
     }
-    let peer = end.place.peer();
+    let held = end.place.held();
     let Some(answer) = text_in(answer) else {
         return codes::NOT_TEXT;
     };
-    let Some(end) = &mut peer.end else {
+    let Some(end) = &mut held.end else {
         return codes::NOT_MADE;
     };
     match end.accept(answer) {
@@ -128,8 +128,8 @@ pub fn withdraw(end: &mut EndHandle) -> u32
     if !end.is_open() {
         return codes::CLOSED;
     }
-    let peer = end.place.peer();
-    let Some(end) = &mut peer.end else {
+    let held = end.place.held();
+    let Some(end) = &mut held.end else {
         return codes::NOT_MADE;
     };
     if end.withdraw() {

@@ -7,5 +7,5 @@ mod making;
 
 pub use drafts::{add_default_rows, add_row, add_section, set_extension};
 pub use exchanging::{accept, answer, offer, withdraw};
-pub use jilqamur_drafts::WireRow;
+pub use jilqamur_ends::WireRow;
 pub use making::make;

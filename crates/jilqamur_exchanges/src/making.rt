@@ -39,12 +39,12 @@ pub fn make(alloc: Global, end: &mut EndHandle, session: u64) -> u32
     if !end.is_open() {
         return codes::CLOSED;
     }
-    let peer = end.place.peer();
-    let (config, exts) = peer.draft.take_media(alloc);
+    let held = end.place.held();
+    let (config, exts) = held.draft.take_media(alloc);
     let session = Session::new(alloc, SessionId::from(session));
     match End::new(alloc, config, session, exts) {
         Ok(made) => {
-            peer.end = Some(made);
+            held.end = Some(made);
             codes::OK
         }
         Err(error) => end_code(error),

@@ -20,7 +20,7 @@ pub const UNWRITABLE: u32 = 7;
 pub const TOO_SMALL: u32 = 8;
 /// The bytes are no UTF-8.
 pub const NOT_TEXT: u32 = 9;
-/// A number is off the range that is written at it, or a codec has no payload format.
+/// A number is out of the range that is written at it, or a codec has no payload format.
 pub const OUT_OF_RANGE: u32 = 10;
 /// The end was not made yet.
 pub const NOT_MADE: u32 = 11;
@@ -34,7 +34,7 @@ pub const NO_STREAM: u32 = 14;
 pub const ROW_NOT_PLAIN: u32 = 15;
 /// A payload type stands for two things.
 pub const TYPES_NOT_DISTINCT: u32 = 16;
-/// The text of an answer, or the URI of a header extension, can't be written.
+/// The text of an offer or an answer, or the URI of a header extension, can't be written.
 pub const NOT_WRITABLE: u32 = 17;
 /// The text isn't that of an offer or an answer.
 pub const TEXT_UNREADABLE: u32 = 18;

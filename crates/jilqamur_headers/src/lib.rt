@@ -14,4 +14,4 @@ pub use header::{WireHeader, read_header, write_header};
 pub use parts::Parts;
 pub use place::{WindowHandle, WindowPlace};
 pub use replay::Replay;
-pub use values::WireValues;
+pub use values::{WireValues, if_given};

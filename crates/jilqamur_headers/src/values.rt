@@ -52,7 +52,8 @@ pub struct WireValues {
     pub clock_offset: i64,
 }
 
-fn if_given<T>(has: bool, value: T) -> Option<T>
+/// A value, where it is given.
+pub fn if_given<T>(has: bool, value: T) -> Option<T>
 where
     T: Copy + Drop,
     ensures { result ≡ if_given has value }

@@ -11,15 +11,16 @@ use Rattle.payload_core_buffer.specs.declared.held.RtpMeta.{RtpMeta}
 use Rattle.rtp_wire_extensions.specs.Values.{absent}
 use Rattle.jilqamur_headers.specs.Codes.{ok, nothing}
 use Rattle.jilqamur_packets.specs.Faults.{fault_code}
-use Rattle.jilqamur_packets.specs.Formats.{format_named, format_of}
+use Rattle.rtp_media_payloads.specs.Rows.{format_of}
+use Rattle.rtp_media_payloads.specs.declared.row_format.RowFormat.{RowFormat}
+use Rattle.jilqamur_packets.specs.Formats.{format_named}
 use Rattle.jilqamur_packets.specs.Units.{UnitState, told_of, unit_from}
-use Rattle.jilqamur_packets.specs.declared.format.PayloadFormat.{PayloadFormat}
 use Rattle.jilqamur_packets.specs.declared.format.WireFormat.{WireFormat}
 use Rattle.jilqamur_packets.specs.declared.payload_unit.WireUnit.{WireUnit}
 
 -- A depacketizer goes by a format, and holds packets until their frame is due.
 pub record PacketInboxState : Type 0 where
-  pub format : PayloadFormat
+  pub format : RowFormat
   pub hold_back : ℕ
   pub held : List Packet
   pub cutoff : Option ℕ

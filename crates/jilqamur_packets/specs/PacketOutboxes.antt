@@ -4,15 +4,17 @@ use Rattle.payload_core_base.specs.Packing.{Packing, Sender, Sent}
 use Rattle.payload_core_base.specs.declared.error.PacketError.{PacketError}
 use Rattle.jilqamur_headers.specs.Codes.{ok, out_of_range}
 use Rattle.jilqamur_packets.specs.Faults.{fault_code}
-use Rattle.jilqamur_packets.specs.Formats.{first_state, format_named, format_outcome, number_given, packing_of}
-use Rattle.jilqamur_packets.specs.declared.format.PayloadFormat.{PayloadFormat}
+use Rattle.rtp_media_payloads.specs.Rows.{first_state, packing_of}
+use Rattle.rtp_media_payloads.specs.declared.row_format.RowFormat.{RowFormat}
+use Rattle.jilqamur_headers.specs.Values.{if_given}
+use Rattle.jilqamur_packets.specs.Formats.{format_named, format_outcome}
 use Rattle.jilqamur_packets.specs.declared.format.WireFormat.{WireFormat}
 use Rattle.jilqamur_packets.specs.declared.packet_outbox.WirePacketizer.{WirePacketizer}
 
 -- A packetizer goes by a format, with picture ids or without and in the forms for browsers or the plain ones, and has
 -- what it keeps between samples.
 pub record PacketOutboxState : Type 0 where
-  pub format : PayloadFormat
+  pub format : RowFormat
   pub has_id : Bool
   pub for_browsers : Bool
   pub sender : Sender
@@ -22,18 +24,18 @@ pub record PacketOutboxState : Type 0 where
 abbrev pub new_packet_outbox : WirePacketizer → WireFormat → List ℕ → PacketOutboxState
 new_packet_outbox w format codec = record {
   format = format_named format codec;
-  has_id = is_some (number_given w.has_picture_id w.picture_id);
+  has_id = is_some (if_given w.has_picture_id w.picture_id);
   for_browsers = w.for_browsers;
-  sender = first_state (format_named format codec) (number_given w.has_picture_id w.picture_id);
+  sender = first_state (format_named format codec) (if_given w.has_picture_id w.picture_id);
   packets = [];
 }
 
-abbrev pub is_off_range : WirePacketizer → Bool
-is_off_range w = nat_lt 32767 w.picture_id
+abbrev pub is_out_of_range : WirePacketizer → Bool
+is_out_of_range w = nat_lt 32767 w.picture_id
 
 -- The picture id is in its range, and the format is one.
 abbrev pub packetizer_outcome : WirePacketizer → WireFormat → List ℕ → ℕ
-packetizer_outcome w format codec = if is_off_range w then out_of_range else format_outcome format codec
+packetizer_outcome w format codec = if is_out_of_range w then out_of_range else format_outcome format codec
 
 -- How it cuts samples.
 abbrev pub packing_in : PacketOutboxState → Packing

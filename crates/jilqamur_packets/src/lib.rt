@@ -1,7 +1,6 @@
 //! Packetizers and depacketizers by codec, and what is told of a unit, in the shapes that cross to C.
 #![tactic(auto)]
 
-mod codecs;
 mod depacketizer;
 mod depacketizer_place;
 mod faults;
@@ -14,7 +13,7 @@ mod payload_unit;
 
 pub use depacketizer_place::{DepacketizerHandle, DepacketizerPlace};
 pub use faults::fault_code;
-pub use format::{PayloadFormat, WireFormat, number_given, read_format};
+pub use format::{WireFormat, read_format};
 pub use packet_inbox::PacketInbox;
 pub use packet_outbox::{PacketOutbox, WirePacketizer};
 pub use packetizer_place::{PacketizerHandle, PacketizerPlace};

@@ -3,18 +3,19 @@
 ghost use Rattle.std.specs.Prelude.{◌≡◌, ◌≢◌, IfOk, IfErr, OnOk};
 ghost use Rattle.jilqamur_headers.specs.Codes.{ok, memory, nothing};
 ghost use Rattle.jilqamur_headers.specs.Copies.{IsFetched};
-ghost use Rattle.jilqamur_packets.specs.Formats.{format_of, format_outcome};
+ghost use Rattle.rtp_media_payloads.specs.Rows.{format_of};
+ghost use Rattle.jilqamur_packets.specs.Formats.{format_outcome};
 ghost use Rattle.jilqamur_packets.specs.PacketInboxes.{new_packet_inbox, behind_push, PopsAt, pop_code, unit_behind};
 ghost use Rattle.jilqamur_packets.specs.PacketInboxes.{bytes_of, IsToldOf};
 
-use crate::codecs::depacketizer_for;
 use crate::faults::fault_code;
-use crate::format::{PayloadFormat, WireFormat, read_format};
+use crate::format::{WireFormat, read_format};
 use crate::payload_unit::{PayloadUnit, WireUnit};
 use h26x_payload::{CodecDepacketizer, NotBoxed};
 use jilqamur_headers::{codes, copy_out};
 use payload_core_base::{Depacketizer, PacketError};
 use payload_core_buffer::{Depacketized, PolledBuffer, RtpMeta};
+use rtp_media_payloads::{RowFormat, depacketizer_for};
 use rtp_wire_extensions::ExtensionValues;
 use rtp_wire_ids::SeqNo;
 use std::alloc::Global;
@@ -23,14 +24,14 @@ use std::marker::Model;
 /// A depacketizer behind its buffer, and the unit that was popped last.
 #[derive(Drop)]
 pub struct PacketInbox {
-    format: PayloadFormat,
+    format: RowFormat,
     buffer: PolledBuffer<CodecDepacketizer<NotBoxed>>,
     unit: Option<PayloadUnit>,
 }
 
 impl Model for PacketInbox {
     ghost use Rattle.std.specs.Prelude.{◌≡◌};
-    ghost use Rattle.jilqamur_packets.specs.Formats.{format_of};
+    ghost use Rattle.rtp_media_payloads.specs.Rows.{format_of};
     ghost use Rattle.jilqamur_packets.specs.PacketInboxes.{PacketInboxState};
 
     ghost Value = { PacketInboxState };

@@ -5,16 +5,16 @@ ghost use Rattle.std.specs.List.{slice_get};
 ghost use Rattle.h26x_payload.specs.Codings.{has_format};
 ghost use Rattle.jilqamur_headers.specs.Codes.{ok, memory, nothing};
 ghost use Rattle.jilqamur_headers.specs.Copies.{IsFetched};
-ghost use Rattle.jilqamur_packets.specs.Formats.{number_given, packing_of};
-ghost use Rattle.jilqamur_packets.specs.PacketOutboxes.{new_packet_outbox, is_off_range, packetizer_outcome, cut};
+ghost use Rattle.rtp_media_payloads.specs.Rows.{packing_of};
+ghost use Rattle.jilqamur_packets.specs.PacketOutboxes.{new_packet_outbox, is_out_of_range, packetizer_outcome, cut};
 ghost use Rattle.jilqamur_packets.specs.PacketOutboxes.{after_cut, cut_outcome, packing_in};
 
-use crate::codecs::packetizer_for;
 use crate::faults::fault_code;
-use crate::format::{PayloadFormat, WireFormat, number_given, read_format};
+use crate::format::{WireFormat, read_format};
 use h26x_payload::{CodecPacketizer, NotBoxed};
-use jilqamur_headers::{codes, copy_out};
+use jilqamur_headers::{codes, copy_out, if_given};
 use payload_core_base::Packetizer;
+use rtp_media_payloads::{RowFormat, packetizer_for};
 use std::alloc::Global;
 use std::marker::Model;
 
@@ -34,7 +34,7 @@ pub struct WirePacketizer {
 #[derive(Drop)]
 pub struct PacketOutbox {
     alloc: Global,
-    format: PayloadFormat,
+    format: RowFormat,
     has_id: bool,
     for_browsers: bool,
     packetizer: CodecPacketizer<NotBoxed>,
@@ -43,7 +43,7 @@ pub struct PacketOutbox {
 
 impl Model for PacketOutbox {
     ghost use Rattle.std.specs.Prelude.{◌≡◌, map};
-    ghost use Rattle.jilqamur_packets.specs.Formats.{packing_of};
+    ghost use Rattle.rtp_media_payloads.specs.Rows.{packing_of};
     ghost use Rattle.jilqamur_packets.specs.PacketOutboxes.{PacketOutboxState};
 
     ghost Value = { PacketOutboxState };
@@ -60,8 +60,8 @@ impl Model for PacketOutbox {
         ≡ packing_of p.format p.has_id p.for_browsers };
 }
 
-fn is_off_range(params: &WirePacketizer) -> bool
-    ensures { result ≡ is_off_range params.now }
+fn is_out_of_range(params: &WirePacketizer) -> bool
+    ensures { result ≡ is_out_of_range params.now }
 {
     params.picture_id > 32767
 }
@@ -89,11 +89,11 @@ fn marker_at(
 }
 
 impl PacketOutbox {
-    /// A packetizer that cut nothing; else `OUT_OF_RANGE` for a picture id off its range, or why the format is none.
+    /// A packetizer that cut nothing; else `OUT_OF_RANGE` for a picture id out of its range, or why the format is none.
     ///
     /// # Errors
     ///
-    /// `OUT_OF_RANGE` for a picture id off its range; else why the format is none, as `read_format` says it.
+    /// `OUT_OF_RANGE` for a picture id out of its range; else why the format is none, as `read_format` says it.
     pub fn new(
         alloc: Global,
         params: &WirePacketizer,
@@ -105,14 +105,14 @@ impl PacketOutbox {
         ensures refused { IfErr result (λ code. code ≡ packetizer_outcome params.now format.now codec.now) }
         ensures refusal { IfErr result (λ code. code ≢ ok) }
     {
-        if is_off_range(params) {
+        if is_out_of_range(params) {
             return Err(codes::OUT_OF_RANGE);
         }
         let format = match read_format(format, codec) {
             Ok(format) => format,
             Err(code) => return Err(code),
         };
-        let picture_id = number_given(params.has_picture_id, params.picture_id);
+        let picture_id = if_given(params.has_picture_id, params.picture_id);
         let packetizer = packetizer_for(&format, picture_id, params.for_browsers);
         Ok(PacketOutbox {
             alloc,

@@ -10,7 +10,7 @@ use Rattle.rtp_media_payloads.specs.Receiving.{with_stream}
 use Rattle.rtp_media_payloads.specs.Rows.{format_of}
 use Rattle.jilqamur_headers.specs.Codes.{ok, memory, refused}
 use Rattle.jilqamur_streams.specs.StreamAnswers.{poll_code, unit_behind, drain_result}
-use Rattle.jilqamur_streams.specs.Formats.{row_of}
+use Rattle.jilqamur_packets.specs.Formats.{format_named}
 use Rattle.jilqamur_streams.specs.Outboxes.{type_alone}
 use Rattle.jilqamur_packets.specs.declared.format.WireFormat.{WireFormat}
 
@@ -21,7 +21,7 @@ pub record InboxState : Type 0 where
 -- A stream that took nothing.
 abbrev pub new_inbox : WireFormat → List ℕ → ℕ → InboxState
 new_inbox format codec hold_back = record {
-  stream = opened_receiver 0 (type_alone 0) empty_map (row_of format codec) hold_back;
+  stream = opened_receiver 0 (type_alone 0) empty_map (format_named format codec) hold_back;
   unit = None;
 }
 

@@ -1,6 +1,5 @@
 pub mod StreamAnswers
 pub mod Fetched
-pub mod Formats
 pub mod Inboxes
 pub mod OwnedReceiver
 pub mod OwnedSender

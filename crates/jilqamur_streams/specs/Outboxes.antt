@@ -9,8 +9,8 @@ use Rattle.rtp_media_streams.specs.Sending.{refusal_of_sample}
 use Rattle.rtp_media_payloads.specs.declared.types.PayloadTypes.{PayloadTypes}
 use Rattle.jilqamur_headers.specs.Codes.{ok, memory, out_of_range}
 use Rattle.jilqamur_streams.specs.StreamAnswers.{sample_outcome}
-use Rattle.jilqamur_packets.specs.Formats.{format_outcome, number_given}
-use Rattle.jilqamur_streams.specs.Formats.{row_of}
+use Rattle.jilqamur_headers.specs.Values.{if_given}
+use Rattle.jilqamur_packets.specs.Formats.{format_named, format_outcome}
 use Rattle.jilqamur_packets.specs.declared.format.WireFormat.{WireFormat}
 use Rattle.jilqamur_streams.specs.declared.outbox.WireSender.{WireSender}
 
@@ -25,17 +25,17 @@ type_alone pt = record { pt = pt; red = None }
 -- A stream that sent nothing, without header extensions and redundancy.
 abbrev pub new_outbox : WireSender → WireFormat → List ℕ → OutboxState
 new_outbox w format codec = record {
-  stream = opened_sender w.ssrc (type_alone w.payload_type) empty_map (row_of format codec)
-      (number_given w.has_picture_id w.picture_id) w.for_browsers w.first w.mtu w.limit;
+  stream = opened_sender w.ssrc (type_alone w.payload_type) empty_map (format_named format codec)
+      (if_given w.has_picture_id w.picture_id) w.for_browsers w.first w.mtu w.limit;
   datagrams = [];
 }
 
-abbrev pub is_off_range : WireSender → Bool
-is_off_range w = nat_lt 127 w.payload_type || (w.mtu == 0 || nat_lt 32767 w.picture_id)
+abbrev pub is_out_of_range : WireSender → Bool
+is_out_of_range w = nat_lt 127 w.payload_type || (w.mtu == 0 || nat_lt 32767 w.picture_id)
 
 -- Numbers are in their ranges, and the format is one.
 abbrev pub sender_outcome : WireSender → WireFormat → List ℕ → ℕ
-sender_outcome w format codec = if is_off_range w then out_of_range else format_outcome format codec
+sender_outcome w format codec = if is_out_of_range w then out_of_range else format_outcome format codec
 
 -- A time in ticks of the stream's clock.
 abbrev pub time_at : Sending → ℕ → Time

@@ -8,10 +8,9 @@ ghost use Rattle.jilqamur_packets.specs.Formats.{format_outcome};
 ghost use Rattle.jilqamur_streams.specs.Inboxes.{new_inbox, Takes, Polls, Drains};
 
 use crate::answers::poll_code;
-use crate::format::read_row;
 use crate::stream_fetch::unit_at;
 use jilqamur_headers::codes;
-use jilqamur_packets::{WireFormat, WireUnit};
+use jilqamur_packets::{WireFormat, WireUnit, read_format};
 use rtp_media_payloads::{PayloadTypes, Unit};
 use rtp_media_streams::ReceivingStream;
 use rtp_wire::{ExtensionMap, ExtensionValues, Pt, Ssrc};
@@ -55,7 +54,7 @@ impl Inbox {
         ensures refused { IfErr result (λ code. code ≡ format_outcome format.now codec.now) }
         ensures refusal { IfErr result (λ code. code ≢ ok) }
     {
-        let row = match read_row(format, codec) {
+        let row = match read_format(format, codec) {
             Ok(row) => row,
             Err(code) => return Err(code),
         };

@@ -2,7 +2,6 @@
 #![tactic(auto)]
 
 mod answers;
-mod format;
 mod handles;
 mod inbox;
 mod outbox;

@@ -4,13 +4,12 @@ ghost use Rattle.std.specs.Prelude.{◌≡◌, ◌≢◌, length, IfOk, IfErr, O
 ghost use Rattle.std.specs.List.{slice_get};
 ghost use Rattle.jilqamur_headers.specs.Codes.{ok, nothing};
 ghost use Rattle.jilqamur_headers.specs.Copies.{IsFetched};
-ghost use Rattle.jilqamur_streams.specs.Outboxes.{new_outbox, is_off_range, sender_outcome, Pushes};
+ghost use Rattle.jilqamur_streams.specs.Outboxes.{new_outbox, is_out_of_range, sender_outcome, Pushes};
 
 use crate::answers::sample_code;
-use crate::format::read_row;
 use crate::stream_fetch::datagram_at;
-use jilqamur_headers::codes;
-use jilqamur_packets::{WireFormat, number_given};
+use jilqamur_headers::{codes, if_given};
+use jilqamur_packets::{WireFormat, read_format};
 use rtp_media_payloads::{Datagram, PayloadTypes};
 use rtp_media_streams::SendingStream;
 use rtp_wire::{ExtensionMap, ExtensionValues, MediaTime, Pt, Ssrc};
@@ -54,19 +53,19 @@ impl Model for Outbox {
     ghost view = { λ p. record { stream = p.stream; datagrams = p.datagrams.items } };
 }
 
-fn is_off_range(sender: &WireSender) -> bool
-    ensures { result ≡ is_off_range sender.now }
+fn is_out_of_range(sender: &WireSender) -> bool
+    ensures { result ≡ is_out_of_range sender.now }
 {
     sender.payload_type > 127 || sender.mtu == 0 || sender.picture_id > 32767
 }
 
 impl Outbox {
-    /// A stream that sent nothing, without header extensions; else `OUT_OF_RANGE` for numbers off their ranges, or why
+    /// A stream that sent nothing, without header extensions; else `OUT_OF_RANGE` for numbers out of their ranges, or why
     /// the format is none.
     ///
     /// # Errors
     ///
-    /// `OUT_OF_RANGE` for numbers off their ranges; else why the format is none, as `read_format` says it.
+    /// `OUT_OF_RANGE` for numbers out of their ranges; else why the format is none, as `read_format` says it.
     pub fn new(
         alloc: Global,
         sender: &WireSender,
@@ -78,10 +77,10 @@ impl Outbox {
         ensures refused { IfErr result (λ code. code ≡ sender_outcome sender.now format.now codec.now) }
         ensures refusal { IfErr result (λ code. code ≢ ok) }
     {
-        if is_off_range(sender) {
+        if is_out_of_range(sender) {
             return Err(codes::OUT_OF_RANGE);
         }
-        let row = match read_row(format, codec) {
+        let row = match read_format(format, codec) {
             Ok(row) => row,
             Err(code) => return Err(code),
         };
@@ -95,7 +94,7 @@ impl Outbox {
             types,
             ExtensionMap::empty(),
             row,
-            number_given(sender.has_picture_id, sender.picture_id),
+            if_given(sender.has_picture_id, sender.picture_id),
             sender.for_browsers,
             sender.first,
             sender.mtu,

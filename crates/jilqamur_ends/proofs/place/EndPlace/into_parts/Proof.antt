@@ -28,7 +28,7 @@ use denote.Triple.Walked.{says, Stays, stay_dropped, walk_of, ends_at, Goes-drop
 use Rattle.std.proofs.BoxSteps.Form.{D, B, word, box_typed}
 use Rattle.std.proofs.BoxSteps.Steps.{box_out, box_in}
 use Rattle.jilqamur_ends.proofs.AsBox.{E, FromPlace as From}
-use Rattle.jilqamur_ends.specs.contracts.peer.Peer as Object
+use Rattle.jilqamur_ends.specs.contracts.held_end.HeldEnd as Object
 use Rattle.jilqamur_ends.specs.contracts.place.EndPlace as Place
 use Rattle.jilqamur_ends.specs.contracts.place.EndPlace.into_parts as F
 use Rattle.jilqamur_ends.specs.contracts.place.EndPlace.into_parts.Key.{name as #self}

@@ -1,8 +1,9 @@
 //! Rows in the shape that crosses to C.
 
 ghost use Rattle.std.specs.Prelude.{◌≡◌};
-ghost use Rattle.jilqamur_drafts.specs.DraftedRows.{given, row_of};
+ghost use Rattle.jilqamur_ends.specs.DraftedRows.{row_of};
 
+use jilqamur_headers::if_given;
 use rtp_media_section_texts::{Codec, CodecSpec, FormatParams, PayloadParams};
 use rtp_wire::{Frequency, Pt};
 
@@ -28,12 +29,6 @@ pub struct WireRow {
     pub channels: u8,
 }
 
-fn given(has: bool, number: u8) -> Option<u8>
-    ensures { result ≡ given has number }
-{
-    if has { Some(number) } else { None }
-}
-
 /// The row of these fields, codec name and format.
 pub(crate) fn row_of(
     row: &WireRow,
@@ -47,12 +42,12 @@ pub(crate) fn row_of(
     let spec = CodecSpec {
         codec: Codec::from(codec),
         clock_rate,
-        channels: given(row.has_channels, row.channels),
+        channels: if_given(row.has_channels, row.channels),
         format: FormatParams::parse_line(format),
     };
-    let resend = given(row.has_resend, row.resend).map(Pt::from);
+    let resend = if_given(row.has_resend, row.resend).map(Pt::from);
     let params = PayloadParams::new(Pt::from(row.payload_type), resend, spec);
-    match given(row.has_red, row.red) {
+    match if_given(row.has_red, row.red) {
         Some(red) => params.with_red(Pt::from(red)),
         None => params,
     }

@@ -1,16 +1,16 @@
 //! What a handle of an end holds.
 
 ghost use Rattle.std.specs.Prelude.{◌≡◌};
-ghost use Rattle.jilqamur_ends.specs.Peers.{empty_peer};
+ghost use Rattle.jilqamur_ends.specs.HeldEnds.{empty_held_end};
 
-use jilqamur_drafts::Draft;
+use crate::draft::Draft;
 use rtp_media_ends::{Datagram, End, Unit};
 use std::alloc::Global;
 use std::marker::Model;
 
 /// What a handle of an end holds.
 #[derive(Drop)]
-pub struct Peer {
+pub struct HeldEnd {
     /// The end, once it is made.
     pub end: Option<End>,
     /// What the next end is made of, and what the next offer or answer has.
@@ -23,32 +23,30 @@ pub struct Peer {
     pub unit: Option<Unit>,
 }
 
-impl Model for Peer {
-    ghost use Rattle.jilqamur_ends.specs.Peers.{PeerState};
+impl Model for HeldEnd {
+    ghost use Rattle.jilqamur_ends.specs.HeldEnds.{HeldEndState};
     ghost use Rattle.rtp_wire.specs.Replay.{window_code};
     ghost use Rattle.std.specs.Coded.{codes};
 
-    ghost Value = { PeerState };
+    ghost Value = { HeldEndState };
 
     ghost coded = { Prim.hlevel (codes, window_code) };
 
     ghost view = { λ p. record {
       end = p.end;
-      rows = p.draft.rows;
-      exts = p.draft.exts;
-      sections = p.draft.sections;
+      draft = p.draft;
       text = p.text.items;
       datagrams = p.datagrams.items;
       unit = p.unit;
     } };
 }
 
-impl Peer {
+impl HeldEnd {
     /// One without an end, rows and sections.
     pub fn empty(alloc: Global) -> Self
-        ensures { result ≡ empty_peer }
+        ensures { result ≡ empty_held_end }
     {
-        Peer {
+        HeldEnd {
             end: None,
             draft: Draft::empty(alloc),
             text: Vec::new(alloc),

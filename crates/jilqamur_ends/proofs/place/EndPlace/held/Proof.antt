@@ -1,4 +1,4 @@
--- `peer` lends what the place holds, and the place follows it.
+-- `held` lends what the place holds, and the place follows it.
 use Rattle.std.specs.Prelude.{◌≡◌, Option, Some, None, IsSome}
 use mathlib.Core.Bool.{false≢true}
 use mathlib.Core.Path.{refl}
@@ -41,12 +41,12 @@ use Rattle.std.proofs.BoxSteps.Steps.{box_out, box_in}
 use Rattle.std.proofs.alloc.Calls.{token}
 use Rattle.jilqamur_ends.specs.Lending.{holding}
 use Rattle.jilqamur_ends.proofs.AsBox.{E}
-use Rattle.jilqamur_ends.specs.contracts.peer.Peer as Object
+use Rattle.jilqamur_ends.specs.contracts.held_end.HeldEnd as Object
 use Rattle.jilqamur_ends.specs.contracts.place.EndPlace as Place
-use Rattle.jilqamur_ends.specs.contracts.place.EndPlace.peer as F
-use Rattle.jilqamur_ends.specs.contracts.place.EndPlace.peer.Key.{name as #self}
-use Rattle.jilqamur_ends.proofs.place.EndPlace.peer.Statement as stated
-use Rattle.jilqamur_ends.proofs.place.EndPlace.peer.Code as code
+use Rattle.jilqamur_ends.specs.contracts.place.EndPlace.held as F
+use Rattle.jilqamur_ends.specs.contracts.place.EndPlace.held.Key.{name as #self}
+use Rattle.jilqamur_ends.proofs.place.EndPlace.held.Statement as stated
+use Rattle.jilqamur_ends.proofs.place.EndPlace.held.Code as code
 
 given_some : {A : Type 0} → (o : Option A) → IsSome o → (x : A) × (o ≡ Some x)
 given_some None is = absurd (false≢true is)
@@ -128,9 +128,9 @@ module _ {M : Type 1} {𝓤 : Ura M} (𝓛 : Logic 𝓤) (at_mem : Memory → SP
       nothing ! $ nothing ! $ fjoin ! $ join ! $ nothing ! $ move ! (2 ∷ 0 ∷ []) $ join ! $ join ! $ frame ! $
       says ! e' $ done !)))))
 
-pub peer_spec : {M : Type 1} → stated.statement M
+pub held_spec : {M : Type 1} → stated.statement M
 unfolding tables_of
-peer_spec 𝓤 𝓛 𝓜 𝓡 wired =
+held_spec 𝓤 𝓛 𝓜 𝓡 wired =
     let 𝓣 : Tables 𝓤 𝓛.H = tables_of 𝓤 𝓛.H 𝓜 (tables 𝓤 𝓛.H 𝓜 𝓡 𝓡.env) in
     entered 𝓤 𝓛.H (triple_of 𝓛 F.signature (F.spec 𝓛 𝓜.mem 𝓡.returns)) 𝓣.C 𝓣.Λ #self code.function
     (code.unfolded 𝓤 𝓛.H 𝓜 𝓡 wired)

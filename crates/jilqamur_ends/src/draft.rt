@@ -4,9 +4,9 @@ ghost use Rattle.std.specs.Prelude.{◌≡◌, ◌≢◌, [], IfOk};
 ghost use Rattle.rtp_wire.specs.Maps.{empty_map};
 ghost use Rattle.sdp_formats_default_rows.specs.DefaultRows.{default_rows};
 ghost use Rattle.jilqamur_headers.specs.Codes.{ok, memory};
-ghost use Rattle.jilqamur_drafts.specs.DraftedRows.{row_of, row_outcome};
-ghost use Rattle.jilqamur_drafts.specs.Drafts.{empty_draft, with_row, with_rows, with_section, with_extension};
-ghost use Rattle.jilqamur_drafts.specs.Drafts.{kind_of, section_of, section_outcome, extension_outcome};
+ghost use Rattle.jilqamur_ends.specs.DraftedRows.{row_of, row_outcome};
+ghost use Rattle.jilqamur_ends.specs.Drafts.{empty_draft, with_row, with_rows, with_section, with_extension};
+ghost use Rattle.jilqamur_ends.specs.Drafts.{kind_of, section_of, section_outcome, extension_outcome};
 
 use crate::row::{WireRow, row_of};
 use jilqamur_headers::{codes, text_in};
@@ -36,7 +36,7 @@ impl Drop for Draft {
 }
 
 impl Model for Draft {
-    ghost use Rattle.jilqamur_drafts.specs.Drafts.{DraftState};
+    ghost use Rattle.jilqamur_ends.specs.Drafts.{DraftState};
     ghost use Rattle.rtp_wire.specs.Replay.{window_code};
     ghost use Rattle.std.specs.Coded.{codes};
 
@@ -114,7 +114,7 @@ impl Draft {
     }
 
     /// Gives a header extension a number in the draft's map, in place of one that has it, and answers `OK`; or
-    /// `OUT_OF_RANGE` for a number off 1 to 16, else `NOT_TEXT`, or `MEMORY`, and nothing has changed.
+    /// `OUT_OF_RANGE` for a number outside 1 to 16, else `NOT_TEXT`, or `MEMORY`, and nothing has changed.
     pub fn set_extension(&mut self, alloc: Global, id: u8, uri: &[u8]) -> u32
         ensures outcome { result ≢ memory → result ≡ extension_outcome id uri.now }
         ensures put { result ≡ ok → self.new ≡ with_extension self.old id uri.now }

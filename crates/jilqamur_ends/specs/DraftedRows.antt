@@ -1,26 +1,22 @@
 -- Rows of the fields that C gives.
-use Rattle.std.specs.Prelude.{ℕ, ◌==◌, ◌&&◌, Bool, true, false, if◌then◌else◌, List, Option, Some, None}
+use Rattle.std.specs.Prelude.{ℕ, ◌==◌, ◌&&◌, if◌then◌else◌, List}
 use Rattle.std.specs.Str.{is_utf8}
 use Rattle.payload_core_base.specs.Codecs.{codec_named}
 use Rattle.sdp_formats_format.specs.Formats.{format_of}
 use Rattle.rtp_media_section_texts.specs.Rows.{Row, new_row}
 use Rattle.jilqamur_headers.specs.Codes.{ok, not_text, out_of_range}
-use Rattle.jilqamur_drafts.specs.declared.row.WireRow.{WireRow}
-
--- A number that is given, or none.
-abbrev pub given : Bool → ℕ → Option ℕ
-given false n = None
-given true n = Some n
+use Rattle.jilqamur_headers.specs.Values.{if_given}
+use Rattle.jilqamur_ends.specs.declared.row.WireRow.{WireRow}
 
 -- The row of these fields, codec name and format.
 abbrev pub row_of : WireRow → List ℕ → List ℕ → Row
-row_of r codec format = record (new_row r.payload_type (given r.has_resend r.resend)
+row_of r codec format = record (new_row r.payload_type (if_given r.has_resend r.resend)
     (record {
       codec = codec_named codec;
       clock_rate = r.clock_rate;
-      channels = given r.has_channels r.channels;
+      channels = if_given r.has_channels r.channels;
       format = format_of format;
-    })) { red = given r.has_red r.red }
+    })) { red = if_given r.has_red r.red }
 
 -- A clock rate is at least 1, and both texts are texts.
 abbrev pub row_outcome : WireRow → List ℕ → List ℕ → ℕ

@@ -37,6 +37,13 @@ with_section d section = record d { sections = d.sections ++ section ∷ [] }
 abbrev pub with_extension : DraftState → ℕ → List ℕ → DraftState
 with_extension d id uri = record d { exts = slice_set d.exts (id - 1) (Some (extension_of uri)) }
 
+-- One whose sections are used up, and one whose rows and map are.
+abbrev pub without_sections : DraftState → DraftState
+without_sections d = record d { sections = [] }
+
+abbrev pub without_media : DraftState → DraftState
+without_media d = record d { rows = []; exts = empty_map }
+
 -- The kind of a section by what it carries.
 abbrev pub kind_of : Bool → MediaKind
 kind_of false = Audio

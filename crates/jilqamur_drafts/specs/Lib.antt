@@ -1,2 +1,0 @@
-pub mod DraftedRows
-pub mod Drafts

@@ -1,0 +1,41 @@
+use Rattle.std.specs.Prelude.{ℕ, List, [], Option, None}
+use Rattle.rtp_media_schedules.specs.Hearing.{MediaUnit}
+use Rattle.rtp_media_ends.specs.Ends.{EndState}
+use Rattle.jilqamur_ends.specs.Drafts.{DraftState, empty_draft, without_sections}
+
+-- What a handle of an end holds: the end, once it is made; the draft of the next end, offer or answer; and what calls
+-- left to be fetched.
+pub record HeldEndState : Type 0 where
+  pub end : Option EndState
+  pub draft : DraftState
+  pub text : List ℕ
+  pub datagrams : List (List ℕ)
+  pub unit : Option MediaUnit
+
+-- One that is empty.
+abbrev pub empty_held_end : HeldEndState
+empty_held_end = record {
+  end = None;
+  draft = empty_draft;
+  text = [];
+  datagrams = [];
+  unit = None;
+}
+
+-- One whose draft became this.
+abbrev pub with_draft : HeldEndState → DraftState → HeldEndState
+with_draft p draft = record p { draft = draft }
+
+-- What calls leave: the end alone changes; or the sections are used up, and a text is left; or datagrams are left, or
+-- a unit.
+abbrev pub behind_end : HeldEndState → Option EndState → HeldEndState
+behind_end p end = record p { end = end }
+
+abbrev pub behind_text : HeldEndState → Option EndState → List ℕ → HeldEndState
+behind_text p end text = record p { end = end; draft = without_sections p.draft; text = text }
+
+abbrev pub behind_sample : HeldEndState → Option EndState → List (List ℕ) → HeldEndState
+behind_sample p end datagrams = record p { end = end; datagrams = datagrams }
+
+abbrev pub behind_poll : HeldEndState → Option EndState → Option MediaUnit → HeldEndState
+behind_poll p end unit = record p { end = end; unit = unit }
