@@ -1,21 +1,38 @@
-//! Worked rows of ends that the program's lines can't say. They are compared, and not proved.
+//! Worked rows of ends and of exchanges that the program's lines can't say. They are compared, and not proved.
 #![tactic(auto)]
 
 mod rows;
+mod sessions;
 
 use rows::{a_time_in_milliseconds, a_time_that_does_not_fit, receive_all_hands_out_in_order};
+use sessions::{
+    lines_that_would_be_read_otherwise_are_refused, offers_say_the_lines_of_the_session,
+};
 use std::process::ExitCode;
 
 /// Prints a line for each row; status 1 where one isn't as it must be.
 fn main(rt: HostRuntime) -> ExitCode {
     let alloc = rt.alloc();
-    let received = receive_all_hands_out_in_order(alloc);
-    let received = print_row(&rt, "row 12, receive_all", received);
-    let does_not_fit = a_time_that_does_not_fit(alloc);
-    let does_not_fit = print_row(&rt, "row 20, a time that does not fit", does_not_fit);
-    let in_milliseconds = a_time_in_milliseconds(alloc);
-    let in_milliseconds = print_row(&rt, "a time in milliseconds", in_milliseconds);
-    let are_right = received && does_not_fit && in_milliseconds;
+    let rows = [
+        ("row 12, receive_all", receive_all_hands_out_in_order(alloc)),
+        (
+            "row 20, a time that does not fit",
+            a_time_that_does_not_fit(alloc),
+        ),
+        ("a time in milliseconds", a_time_in_milliseconds(alloc)),
+        (
+            "an offer with lines of the session",
+            offers_say_the_lines_of_the_session(alloc),
+        ),
+        (
+            "lines that would be read otherwise",
+            lines_that_would_be_read_otherwise_are_refused(alloc),
+        ),
+    ];
+    let mut are_right = true;
+    for (name, row) in &rows {
+        are_right = print_row(&rt, name, *row) && are_right;
+    }
     ExitCode::from(if are_right { 0 } else { 1 })
 }
 

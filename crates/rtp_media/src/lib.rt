@@ -2,6 +2,7 @@
 //! program of lines over two of them, whose input is read line by line, each line answered, the replies printed.
 #![tactic(auto)]
 
+mod playing;
 mod program;
 
 pub use payload_core_base::CodecExtra;
@@ -10,7 +11,7 @@ pub use rtp_media_line_runs::{
     MAX_LINE_LENGTH, MAX_READS, Respond, RunFault, Status, WriteFault, answer_lines,
     lines_are_what_was_ended, run_lines, run_within, write_whole,
 };
-pub use rtp_media_play_answers::{
+pub use rtp_media_play::{
     Bandwidth, Codec, CodecConfig, CodecSpec, Datagram, Distances, End, EndError, Event,
     ExchangeError, FormatParams, MediaKind, OpenError, PacketError, PayloadParams, Played,
     PollFault, Polls, ReceiveError, Received, ReceivedAll, RoundError, Sample, SampleError,

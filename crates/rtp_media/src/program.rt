@@ -6,15 +6,18 @@ ghost use Rattle.rtp_media_line_runs.specs.Runs.{Printed, ReadsAll};
 ghost use Rattle.rtp_media_line_runs.specs.Stops.{WritesFront};
 ghost use Rattle.rtp_media_lines.specs.declared.Command.{Command};
 ghost use Rattle.rtp_media_exchange_answers.specs.Exchanging.{AtEnd, ConnectsEnds};
-ghost use Rattle.rtp_media_play_answers.specs.Playing.{PlaysEnds};
+ghost use Rattle.rtp_media.specs.Playing.{PlaysEnds};
 ghost use Rattle.rtp_media.specs.ProgramState.{AnswersAt, AnswersAtEnd, AnswersCommand};
 ghost use Rattle.rtp_media.specs.ProgramState.{KeepsDraft, initial_state, letter_of};
 
+use crate::playing::{keep_sample, play_ends};
+use rtp_media_end_answers::{
+    EndAndDraft, draft_ext, draft_row, make_end, make_fixed, open, poll, receive, sample, send,
+};
 use rtp_media_exchange_answers::{accept, answer_offer, connect_ends, offer, withdraw};
 use rtp_media_line_runs::{Respond, RunFault, Status, run_lines};
 use rtp_media_lines::{Command, ConnectCommand, PlayCommand, QueueCommand};
-use rtp_media_making_answers::{EndAndDraft, draft_ext, draft_row, fix, make_end};
-use rtp_media_play_answers::{End, keep_sample, open, play_ends, poll, receive, sample, send};
+use rtp_media_play::End;
 use rtp_media_replies::one;
 use rtp_media_words::{Letter, Reply};
 use std::alloc::{AllocError, Global};
@@ -147,7 +150,7 @@ fn answer(alloc: Global, kept: &mut EndAndDraft, command: Command) -> Result<Vec
         Command::Row(command) => draft_row(alloc, kept, command),
         Command::Ext(command) => draft_ext(alloc, kept, command),
         Command::End(command) => make_end(alloc, kept, command),
-        Command::Fixed(_) => fix(alloc, &mut kept.end),
+        Command::Fixed(_) => make_fixed(alloc, &mut kept.end),
         command => answer_end(alloc, &mut kept.end, command),
     }
 }

@@ -20,8 +20,8 @@ use Rattle.rtp_media_words.specs.declared.reply.Reply.{Reply}
 use Rattle.rtp_media_words.specs.declared.reply.Reply.TheVariants as reply
 use Rattle.rtp_media_play.specs.Stops.{Where}
 use Rattle.rtp_media_replies.specs.Replies.{Prints, memory}
-use Rattle.rtp_media_stream_answers.specs.Names.{fault_name, sample_error_name}
-use Rattle.rtp_media_stream_answers.specs.Streams.{unit_reply, verdict_reply}
+use Rattle.rtp_media_end_answers.specs.Names.{fault_name, sample_error_name}
+use Rattle.rtp_media_end_answers.specs.Streams.{unit_reply, verdict_reply}
 
 -- What happens at an item.
 abbrev pub event_of : PlayItem → Event

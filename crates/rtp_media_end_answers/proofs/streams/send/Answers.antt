@@ -9,9 +9,9 @@ use Rattle.rtp_media_words.specs.declared.reply.Reply.{Reply}
 use Rattle.rtp_media_words.specs.declared.reply.Reply.TheVariants as reply
 use Rattle.rtp_media_ends.specs.Params.{is_sound_params}
 use Rattle.rtp_media_ends.specs.declared.StreamParams.{StreamParams}
-use Rattle.rtp_media_stream_answers.specs.Streams.{is_sound_send, params_of}
-use Rattle.rtp_media_stream_answers.proofs.Sends.{answered, refused}
-use Rattle.rtp_media_stream_answers.proofs.streams.send.Goals as goal
+use Rattle.rtp_media_end_answers.specs.Streams.{is_sound_send, params_of}
+use Rattle.rtp_media_end_answers.proofs.Sends.{answered, refused}
+use Rattle.rtp_media_end_answers.proofs.streams.send.Goals as goal
 
 if_ok : {A E : Type 0} {P Q : A → Type 0} (r : Result A E) → ((a : A) → P a → Q a) → IfOk r P → IfOk r Q
 if_ok (Ok a) f h = f a h

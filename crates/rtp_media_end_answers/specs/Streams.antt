@@ -32,7 +32,7 @@ use Rattle.rtp_media_lines.specs.declared.PollCommand.{PollCommand}
 use Rattle.rtp_media_words.specs.declared.reply.Reply.{Reply}
 use Rattle.rtp_media_words.specs.declared.reply.Reply.TheVariants as reply
 use Rattle.rtp_media_replies.specs.Replies.{memory}
-use Rattle.rtp_media_stream_answers.specs.Names.{fault_name, open_error_name, sample_error_name}
+use Rattle.rtp_media_end_answers.specs.Names.{fault_name, open_error_name, sample_error_name}
 
 -- An end, and what is printed.
 pub record EndStep : Type 0 where

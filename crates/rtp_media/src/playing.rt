@@ -3,13 +3,13 @@
 ghost use Rattle.std.specs.Prelude.{◌≡◌, [], ◌∷◌, ◌++◌, true, map, IfOk, OnOk};
 ghost use Rattle.rtp_media_play.specs.Ends.{is_receiver_at, is_sender_at};
 ghost use Rattle.rtp_media_replies.specs.Replies.{Prints};
-ghost use Rattle.rtp_media_play_answers.specs.Playing.{AnswersPlay, PlaysEnds, event_of, played_reply};
-ghost use Rattle.rtp_media_play_answers.specs.Playing.{sample_at, samples_for};
+ghost use Rattle.rtp_media.specs.Playing.{AnswersPlay, PlaysEnds, event_of, played_reply};
+ghost use Rattle.rtp_media.specs.Playing.{sample_at, samples_for};
 
+use rtp_media_end_answers::{fault_name, sample_error_name, unit_reply, verdict_reply};
 use rtp_media_lines::{PlayCommand, PlayItem, PlayItems, QueueCommand};
 use rtp_media_play::{Datagram, End, Event, Played, PollFault, Sample, SampleError, play};
 use rtp_media_replies::{memory, one};
-use rtp_media_stream_answers::{fault_name, sample_error_name, unit_reply, verdict_reply};
 use rtp_media_words::Reply;
 use rtp_wire::{ExtensionValues, Frequency, MediaTime};
 use std::alloc::{AllocError, Global};
@@ -19,7 +19,7 @@ use std::mem;
 ///
 /// # Errors
 /// Where memory runs out.
-pub fn keep_sample(
+pub(crate) fn keep_sample(
     alloc: Global,
     queue: &mut Vec<QueueCommand>,
     command: QueueCommand,
@@ -36,7 +36,7 @@ pub fn keep_sample(
 ///
 /// # Errors
 /// Where memory for samples, the schedule or replies runs out.
-pub fn play_ends(
+pub(crate) fn play_ends(
     alloc: Global,
     a: &mut Option<End>,
     b: &mut Option<End>,

@@ -19,7 +19,7 @@ use Rattle.rtp_media_lines.specs.declared.EndCommand.{EndCommand}
 use Rattle.rtp_media_words.specs.declared.reply.Reply.{Reply}
 use Rattle.rtp_media_words.specs.declared.reply.Reply.TheVariants as reply
 use Rattle.rtp_media_replies.specs.Replies.{Prints, memory}
-use Rattle.rtp_media_making_answers.specs.Names.{end_error_name}
+use Rattle.rtp_media_end_answers.specs.Names.{end_error_name}
 
 -- What a letter stands for: its end, where there is one, and the draft of the next one.
 pub record EndAndDraft : Type 0 where
@@ -61,7 +61,7 @@ AnswersExt old c new replies =
     × Prints replies reply.Done)
     ((new ≡ old) × Prints replies reply.ErrorLine)
 
--- end E ID: the draft is emptied, refused or not
+-- end E SESSION: the draft is emptied, refused or not
 abbrev pub AnswersEnd : EndAndDraft → EndCommand → Option EndError → EndAndDraft → List Reply → Type 0
 AnswersEnd old c None new replies =
     (new ≡ empty_draft (Some (new_end (bare_session c.session) old.exts (record { rows = old.rows; distances = [] }))))

@@ -1,5 +1,7 @@
--- The names under which the program prints errors of streams: that of the variant, without what it holds.
+-- The names under which the program prints errors of ends and of streams: that of the variant, without what it holds.
 use Rattle.std.specs.Prelude.{ℕ, List, codes}
+use Rattle.rtp_media_ends.specs.declared.EndError.{EndError}
+use Rattle.rtp_media_ends.specs.declared.EndError.TheVariants as end_error
 use Rattle.rtp_media_ends.specs.declared.OpenError.{OpenError}
 use Rattle.rtp_media_ends.specs.declared.OpenError.TheVariants as open_error
 use Rattle.rtp_media_payloads.specs.declared.errors.SampleError.{SampleError}
@@ -7,6 +9,12 @@ use Rattle.rtp_media_payloads.specs.declared.errors.SampleError.TheVariants as s
 use Rattle.rtp_media_payloads.specs.declared.errors.PollFault.{PollFault}
 use Rattle.rtp_media_payloads.specs.declared.errors.PollFault.TheVariants as poll_fault
 use Rattle.rtp_media_replies.specs.Replies.{memory}
+
+abbrev pub end_error_name : EndError → List ℕ
+end_error_name (end_error.RowNotPlain index) = codes "RowNotPlain"
+end_error_name (end_error.TypesNotDistinct pt) = codes "TypesNotDistinct"
+end_error_name end_error.NotWritable = codes "NotWritable"
+end_error_name end_error.Memory = memory
 
 abbrev pub open_error_name : OpenError → List ℕ
 open_error_name open_error.NoSection = codes "NoSection"

@@ -1,8 +1,8 @@
 //! The commands that make ends.
 
 ghost use Rattle.std.specs.Prelude.{◌≡◌, IfOk};
-ghost use Rattle.rtp_media_making_answers.specs.Making.{AnswersExt, AnswersFixed, AnswersRow, MakesEnd};
-ghost use Rattle.rtp_media_making_answers.specs.Making.{drafted_row, format_for};
+ghost use Rattle.rtp_media_end_answers.specs.Making.{AnswersExt, AnswersFixed, AnswersRow, MakesEnd};
+ghost use Rattle.rtp_media_end_answers.specs.Making.{drafted_row, format_for};
 
 use crate::draft::EndAndDraft;
 use crate::names::end_error_name;
@@ -104,11 +104,11 @@ pub fn make_end(
     }
 }
 
-/// Makes the end of one row.
+/// Makes the fixed end: of one section, `0`, with Opus under type 111, and SSRC 44 at both sides.
 ///
 /// # Errors
 /// Where memory for the reply runs out.
-pub fn fix(alloc: Global, end: &mut Option<End>) -> Result<Vec<Reply>, AllocError>
+pub fn make_fixed(alloc: Global, end: &mut Option<End>) -> Result<Vec<Reply>, AllocError>
     ensures { IfOk result (λ replies. AnswersFixed end.old end.new replies.items) }
 {
     match End::fixed(alloc) {

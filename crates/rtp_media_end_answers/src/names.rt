@@ -1,11 +1,23 @@
-//! The names under which errors of streams are printed.
+//! The names under which errors of ends and of streams are printed.
 
 ghost use Rattle.std.specs.Prelude.{◌≡◌};
-ghost use Rattle.rtp_media_stream_answers.specs.Names.{open_error_name, sample_error_name, fault_name};
+ghost use Rattle.rtp_media_end_answers.specs.Names.{end_error_name, fault_name, open_error_name, sample_error_name};
 
-use rtp_media_ends::{OpenError, PollFault, SampleError};
+use rtp_media_ends::{EndError, OpenError, PollFault, SampleError};
 use rtp_media_replies::memory;
 use rtp_media_words::ErrorName;
+
+/// The name of a refusal to make an end.
+pub(crate) fn end_error_name(error: EndError) -> ErrorName
+    ensures { result ≡ end_error_name error }
+{
+    match error {
+        EndError::RowNotPlain(_) => ErrorName::new("RowNotPlain"),
+        EndError::TypesNotDistinct(_) => ErrorName::new("TypesNotDistinct"),
+        EndError::NotWritable => ErrorName::new("NotWritable"),
+        EndError::Memory => memory(),
+    }
+}
 
 /// The name of a refused opening.
 pub(crate) fn open_error_name(error: OpenError) -> ErrorName

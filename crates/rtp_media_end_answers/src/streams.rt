@@ -2,8 +2,8 @@
 
 ghost use Rattle.std.specs.Prelude.{◌≡◌, ◌++◌, [], ◌∷◌, map, IfOk};
 ghost use Rattle.rtp_media_lines.specs.declared.Command.{Command};
-ghost use Rattle.rtp_media_stream_answers.specs.Streams.{IsAnswered, params_of, verdict_reply, unit_reply};
-ghost use Rattle.rtp_media_stream_answers.specs.Streams.{values_given};
+ghost use Rattle.rtp_media_end_answers.specs.Streams.{IsAnswered, params_of, verdict_reply, unit_reply};
+ghost use Rattle.rtp_media_end_answers.specs.Streams.{values_given};
 
 use crate::names::{fault_name, open_error_name, sample_error_name};
 use rtp_media_ends::{Datagram, Distances, End, Received, StreamParams, Unit};

@@ -1,7 +1,7 @@
 //! What a letter of the program stands for.
 
 ghost use Rattle.std.specs.Prelude.{◌≡◌, None};
-ghost use Rattle.rtp_media_making_answers.specs.Making.{empty_draft};
+ghost use Rattle.rtp_media_end_answers.specs.Making.{empty_draft};
 
 use rtp_media_ends::{End, PayloadParams};
 use rtp_wire::ExtensionMap;
@@ -30,7 +30,7 @@ impl Drop for EndAndDraft {
 }
 
 impl Model for EndAndDraft {
-    ghost use Rattle.rtp_media_making_answers.specs.Making.{EndAndDraft as Kept};
+    ghost use Rattle.rtp_media_end_answers.specs.Making.{EndAndDraft as Kept};
     ghost use Rattle.rtp_wire.specs.Replay.{window_code};
     ghost use Rattle.std.specs.Coded.{codes};
 

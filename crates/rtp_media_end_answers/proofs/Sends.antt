@@ -9,9 +9,9 @@ use Rattle.rtp_media_lines.specs.declared.Command.TheVariants.{Send}
 use Rattle.rtp_media_lines.specs.declared.SendCommand.{SendCommand}
 use Rattle.rtp_media_words.specs.declared.reply.Reply.{Reply}
 use Rattle.rtp_media_words.specs.declared.reply.Reply.TheVariants as reply
-use Rattle.rtp_media_stream_answers.specs.Names.{open_error_name}
-use Rattle.rtp_media_stream_answers.specs.Streams.{EndStep, IsAnswered, is_sound_send, params_of, prints, send_step}
-use Rattle.rtp_media_stream_answers.specs.Streams.{sender_step}
+use Rattle.rtp_media_end_answers.specs.Names.{open_error_name}
+use Rattle.rtp_media_end_answers.specs.Streams.{EndStep, IsAnswered, is_sound_send, params_of, prints, send_step}
+use Rattle.rtp_media_end_answers.specs.Streams.{sender_step}
 
 pub answered : (e : EndState) (c : SendCommand) (end : EndState) (replies : List Reply) (n : ℕ)
     → is_sound_send e c ≡ true → refusal_of_open_sender e (name_of 16 c.mid) c.ssrc c.pt ≡ None
