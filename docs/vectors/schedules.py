@@ -38,7 +38,7 @@ REASONS = {
     "refused": "its number came before, or is 128 or more below the greatest",
     "foreign": "no receiving stream has this SSRC and payload type",
     "unreadable": "no RTP header stands in front",
-    "damaged": "its padding doesn't fit, or it has no payload",
+    "damaged": "its padding or its redundancy can't be read, or its payload is empty or of another type",
     "fault Payload": "a packet of the frame isn't of its format; the frame is done with",
 }
 

@@ -42,7 +42,7 @@ ext_of words = do
   uri ← first text_of id.1
   ended uri.1 (Ext (record { letter = letter.0; id = id.0; uri = uri.0 }))
 
--- end E ID
+-- end E SESSION
 unfoldable pub end_of : List (List ℕ) → Option Command
 end_of words = do
   letter ← first letter_of words

@@ -43,7 +43,7 @@ pub struct ExtCommand {
     pub uri: Text,
 }
 
-/// `end E ID`: replace an end by a new one of its draft.
+/// `end E SESSION`: replace an end by a new one of its draft.
 #[derive(Clone, Copy, Debug, PartialEq, Eq)]
 pub struct EndCommand {
     /// The end.
@@ -152,7 +152,7 @@ pub fn ext_of(alloc: Global, words: Words<'_>) -> Result<Command, Misread>
     }))
 }
 
-/// What the words behind the first one of `end E ID` say.
+/// What the words behind the first one of `end E SESSION` say.
 ///
 /// # Errors
 /// `NotUnderstood` where they aren't such words.

@@ -1,6 +1,6 @@
 -- What is noted of the first replies to a line.
 use Rattle.std.proofs.Common.{◌≡◌, ◌∙◌, ap, refl, ℕ, List, [], subst, zero, suc, take}
-use Rattle.std.specs.Prelude.{Result, Ok, Err, OnErr, OnOk}
+use Rattle.std.specs.Prelude.{Result, Ok, Err, OnOk}
 use Rattle.std.specs.Str.{chars, is_utf8}
 use Rattle.std.specs.Str.Lines.{lines}
 use Rattle.rtp_media_explaining.specs.Answered.{NotesFirst}
@@ -10,10 +10,6 @@ use Rattle.rtp_media_known_ends.specs.Noted.{Known, noted_all}
 pub on_ok : {A E : Type 0} {X : Type 0} (r : Result A E) → X → OnOk r X
 on_ok (Ok a) x = x
 on_ok (Err e) x = tt
-
-pub on_err : {A E : Type 0} {X : Type 0} (r : Result A E) → X → OnErr r X
-on_err (Ok a) x = tt
-on_err (Err e) x = x
 
 take_none : (n : ℕ) → take n (lines (text_of [])) ≡ []
 unfolding is_utf8 chars

@@ -5,7 +5,7 @@ use rtp_media_known_ends::word_at;
 use rtp_media_words::number_up_to;
 
 /// The forms of all lines, as a user may ask for them.
-pub const FORMS: &str = "\
+pub(crate) const FORMS: &str = "\
 fixed E
 row E PT RTX RED CODEC CLOCK CHANNELS FMTP
 ext E ID URI

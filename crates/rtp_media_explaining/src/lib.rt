@@ -11,6 +11,5 @@ mod refusals;
 
 pub use answered::answer_and_explain;
 pub use explained::explain;
-pub use forms::FORMS;
 pub use reason::Reason;
-pub use reasons::{LONGEST_LINE, reason_for};
+pub use reasons::reason_for;

@@ -7,10 +7,11 @@ use crate::forms::{form_of, misfit};
 use crate::reason::Reason;
 use crate::refusals::refusal_of;
 use rtp_media_known_ends::{Known, KnownEnd, number_or_zero_at, word_at};
+use rtp_media_line_runs::MAX_LINE_LENGTH;
 use rtp_media_words::number_up_to;
 
-/// The most bytes of a line; the reason for a longer one names this number.
-pub const LONGEST_LINE: usize = 1_048_576;
+/// The reason for a line that is too long names this number.
+const _: () = prove!(MAX_LINE_LENGTH == 1_048_576);
 
 /// Why the reply to a line says no, where it does.
 pub fn reason_for<'a>(known: &Known, line: &'a [u8], reply: &str) -> Option<Reason<'a>>
@@ -24,7 +25,7 @@ pub fn reason_for<'a>(known: &Known, line: &'a [u8], reply: &str) -> Option<Reas
 
 /// Why a line isn't understood, or its conditions fail.
 fn error_of<'a>(known: &Known, line: &'a [u8]) -> Reason<'a> {
-    if line.len() > LONGEST_LINE {
+    if line.len() > MAX_LINE_LENGTH {
         return Reason::words("the line is longer than 1048576 bytes");
     }
     let Ok(line) = str::from_utf8(line) else {

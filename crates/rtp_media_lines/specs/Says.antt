@@ -121,7 +121,7 @@ pub record AreExtWords (words : List (List ℕ)) (ext : ExtCommand) : Type 0 whe
   pub id_says : number_below (2 ^ 8) id ≡ Some ext.id
   pub uri_says : text_of uri ≡ Some ext.uri
 
--- end E ID
+-- end E SESSION
 pub record AreEndWords (words : List (List ℕ)) (end' : EndCommand) : Type 0 where
   pub e : List ℕ
   pub session : List ℕ

@@ -58,7 +58,7 @@ pub enum Reply {
     Unreadable,
     /// `foreign`: no receiving stream has its source and type.
     Foreign,
-    /// `damaged`: its padding doesn't fit.
+    /// `damaged`: its padding or its redundancy can't be read, or its payload is empty or of another type.
     Damaged,
     /// `refused`: its number has come, or is out of reach.
     NotTaken,

@@ -1,12 +1,9 @@
 //! What came of each line, in words.
 
-use rtp_media::{MAX_LINE_LENGTH, Program, RunFault, Status};
-use rtp_media_explaining::{LONGEST_LINE, answer_and_explain};
+use rtp_media::{Program, RunFault, Status};
+use rtp_media_explaining::answer_and_explain;
 use rtp_media_known_ends::Known;
 use std::io::{ErrorKind, Read};
-
-/// The reason for a line that is too long names the number that the program tests.
-const _: () = prove!(MAX_LINE_LENGTH == LONGEST_LINE);
 
 /// Prints each line with its number, what the program replies to it, and why where it is an `error line` or refused; at
 /// the end what became of each stream. The status is that of the program.

@@ -1,7 +1,8 @@
 use Rattle.std.proofs.Common.{◌∙◌, ap, inl, inr, rules, sym, true≢false}
 use Rattle.rtp_media_explaining.specs.Answered.{PartlyExplained}
 use Rattle.rtp_media_known_ends.specs.Lines.{text_of}
-use Rattle.rtp_media_explaining.proofs.Noting.{noted_none, on_err}
+use Rattle.rtp_media_line_runs.proofs.Stopping.{on_err}
+use Rattle.rtp_media_explaining.proofs.Noting.{noted_none}
 use Rattle.rtp_media_explaining.proofs.answered.answer_and_explain.Goals.{then-is_comment}
 use Rattle.rtp_media_explaining.proofs.answered.answer_and_explain.Goals.{else-is_comment+in_ok-replies}
 use Rattle.rtp_media_explaining.proofs.answered.answer_and_explain.Goals as goal

@@ -6,7 +6,8 @@ use Rattle.std.specs.Prelude.{None}
 use Rattle.std.specs.Str.Iter.{lines_rest}
 use Rattle.std.specs.Str.Lines.{lines}
 use Rattle.rtp_media_explaining.specs.Answered.{NotesFirst}
-use Rattle.rtp_media_explaining.proofs.Noting.{on_err, on_ok}
+use Rattle.rtp_media_line_runs.proofs.Stopping.{on_err}
+use Rattle.rtp_media_explaining.proofs.Noting.{on_ok}
 use Rattle.rtp_media_known_ends.specs.Noted.{noted_all}
 use Rattle.rtp_media_known_ends.specs.Lines.{text_of}
 use Rattle.rtp_media_explaining.proofs.explained.explain.Goals as goal
