@@ -12,7 +12,7 @@ pub(crate) fn answer(rt: &HostRuntime, line: &str) -> Result<String, AllocError>
     match parted(line) {
         ("" | "#", _) => reply.put(line),
         ("says", rest) => put_file(rt, parted(rest).0, &mut reply),
-        _ => reply.put("fault"),
+        _ => reply.fault(),
     }
     reply.finish()
 }
@@ -24,7 +24,7 @@ fn put_file(rt: &HostRuntime, name: &str, reply: &mut Reply) {
             reply.put(name);
             put_text(rt.alloc(), text.as_str(), reply);
         }
-        Err(_) => reply.put("fault"),
+        Err(_) => reply.fault(),
     }
 }
 

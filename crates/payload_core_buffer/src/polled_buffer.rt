@@ -10,8 +10,8 @@ use std::alloc::Global;
 use std::marker::Model;
 
 /// A [`DepacketizingBuffer`] that waits: behind a pop that found no frame due, the next ones answer None without a look
-/// at what is held, until a packet comes that could make one due, one that ends a unit or isn't numbered above all that
-/// are held. So a pop behind each packet of a unit costs nothing that grows with the unit.
+/// at what is held, until a packet comes that could make one due: one that ends a unit, isn't numbered above all that
+/// are held, or finds no room. So a pop behind each packet of a unit costs nothing that grows with the unit.
 pub struct PolledBuffer<D: Depacketizer> {
     buffer: DepacketizingBuffer<D>,
     // No frame is due.

@@ -35,7 +35,7 @@ pub(crate) fn answer(alloc: Global, rows: &mut Rows, line: &str) -> Result<Strin
     if command.is_empty() || command == "#" {
         reply.put(line);
     } else if put_answer(alloc, rows, command, words.as_slice(), &mut reply).is_none() {
-        reply.put("fault");
+        reply.fault();
     }
     reply.finish()
 }

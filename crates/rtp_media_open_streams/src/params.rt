@@ -50,7 +50,7 @@ pub struct StreamParams {
     /// The distances of redundancy (RFC 2198): None for a stream without it, and for a row without a RED
     /// type.
     pub red: Option<Distances>,
-    /// The first picture id of a video row, at most 32,767; other rows have none.
+    /// The first picture id of a row of VP8 or VP9, at most 32,767; payloads of other codecs have none.
     pub picture_id: Option<u16>,
     /// Whether the payloads have the forms that browsers want: VP8's picture id 0 is written like any other
     /// (RFC 7741 4.2), and VP9's packets say of each frame whether it is predicted (RFC 9628 4.2). Without it VP8

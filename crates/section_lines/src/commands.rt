@@ -16,7 +16,7 @@ pub(crate) fn answer(rt: &HostRuntime, line: &str) -> Result<String, AllocError>
         "attributes" | "directed" | "rows" => {
             put_file(rt, command, parted(rest), &mut reply);
         }
-        _ => reply.put("fault"),
+        _ => reply.fault(),
     }
     reply.finish()
 }
@@ -28,7 +28,7 @@ fn put_file(rt: &HostRuntime, command: &str, (name, word): (&str, &str), reply: 
             reply.put(name);
             put_text(rt.alloc(), command, word, text.as_str(), reply);
         }
-        Err(_) => reply.put("fault"),
+        Err(_) => reply.fault(),
     }
 }
 

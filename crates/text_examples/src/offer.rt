@@ -2,33 +2,29 @@
 
 use sdp_formats::{MediaAttribute, MediaLine, SdpOffer, rtp_params, whole};
 
-/// Prints each section of an offer with its rows and candidates, and the fingerprint.
+/// Prints each section of an offer with its rows, the fingerprint, and how many candidates each section has.
 pub(crate) fn print_offer(rt: &HostRuntime, text: &str) -> anyhow::Result<()> {
     let offer = SdpOffer::from_sdp_string(rt.alloc(), text)?;
     for section in offer.media_lines.iter() {
-        print_section(rt, section)?;
+        println!(*rt; "{} {}", section.typ, section.direction())?;
+        for row in &rtp_params(rt.alloc(), section)? {
+            let (pt, spec) = (row.pt(), row.spec());
+            println!(*rt; "  type {pt}: {} {}", spec.codec, spec.clock_rate)?;
+        }
     }
     if let Some(print) = whole::fingerprint(&offer) {
         println!(*rt; "fingerprint {print}")?;
     }
+    for section in offer.media_lines.iter() {
+        print_candidates(rt, section)?;
+    }
     Ok(())
 }
 
-fn print_section(rt: &HostRuntime, section: &MediaLine) -> anyhow::Result<()> {
-    let (typ, direction) = (&section.typ, section.direction());
-    if let Some(mid) = section.mid() {
-        println!(*rt; "section {mid}: {typ} {direction}")?;
-    }
-    print_rows(rt, section)?;
+fn print_candidates(rt: &HostRuntime, section: &MediaLine) -> anyhow::Result<()> {
     let count = candidates(section);
-    Ok(println!(*rt; "  {count} candidates")?)
-}
-
-/// Prints a line for each row.
-fn print_rows(rt: &HostRuntime, section: &MediaLine) -> anyhow::Result<()> {
-    for row in &rtp_params(rt.alloc(), section)? {
-        let (pt, spec) = (row.pt(), row.spec());
-        println!(*rt; "  type {pt}: {} {}", spec.codec, spec.clock_rate)?;
+    if let Some(mid) = section.mid() {
+        println!(*rt; "section {mid}: {count} candidates")?;
     }
     Ok(())
 }

@@ -33,6 +33,6 @@ fn put_of_rows(command: &str, words: &[&str], reply: &mut Reply) {
         _ => None,
     };
     if understood.is_none() {
-        reply.put("fault");
+        reply.fault();
     }
 }
