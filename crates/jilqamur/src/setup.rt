@@ -6,7 +6,8 @@ ghost use Rattle.jilqamur_headers.specs.Codes.{ok, memory, in_use};
 ghost use Rattle.jilqamur_headers.specs.Handles.{AtObject, answer_of};
 ghost use Rattle.jilqamur_ends.specs.HeldEnds.{empty_held_end, with_draft};
 ghost use Rattle.jilqamur_ends.specs.DraftedRows.{row_of, row_outcome};
-ghost use Rattle.jilqamur_ends.specs.Drafts.{extension_outcome, section_of, section_outcome, with_extension, with_row, with_rows, with_section};
+ghost use Rattle.jilqamur_ends.specs.Drafts.{extension_outcome, section_of, section_outcome};
+ghost use Rattle.jilqamur_ends.specs.Drafts.{with_extension, with_row, with_rows, with_section};
 ghost use Rattle.jilqamur_exchanges.specs.Making.{make_outcome, made, without_draft};
 
 use jilqamur_ends::EndHandle;

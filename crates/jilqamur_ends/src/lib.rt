@@ -1,5 +1,5 @@
-//! Handles of ends in the shapes that cross to C: opened and closed, what calls gather for the next end, offer or answer
-//! put into their drafts, and what calls left fetched from them.
+//! Handles of ends in the shapes that cross to C: opened and closed, with the drafts of the next end, offer or answer,
+//! and what calls left fetched from them.
 #![tactic(auto)]
 
 mod draft;

@@ -6,7 +6,8 @@ ghost use Rattle.sdp_formats_default_rows.specs.DefaultRows.{default_rows};
 ghost use Rattle.jilqamur_headers.specs.Codes.{ok, memory};
 ghost use Rattle.jilqamur_headers.specs.Handles.{AtObject};
 ghost use Rattle.jilqamur_ends.specs.DraftedRows.{row_of, row_outcome};
-ghost use Rattle.jilqamur_ends.specs.Drafts.{extension_outcome, section_of, section_outcome, with_extension, with_row, with_rows, with_section};
+ghost use Rattle.jilqamur_ends.specs.Drafts.{extension_outcome, section_of, section_outcome};
+ghost use Rattle.jilqamur_ends.specs.Drafts.{with_extension, with_row, with_rows, with_section};
 ghost use Rattle.jilqamur_ends.specs.HeldEnds.{with_draft};
 
 use jilqamur_ends::{EndHandle, WireRow};

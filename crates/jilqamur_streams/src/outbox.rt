@@ -60,8 +60,8 @@ fn is_out_of_range(sender: &WireSender) -> bool
 }
 
 impl Outbox {
-    /// A stream that sent nothing, without header extensions; else `OUT_OF_RANGE` for numbers out of their ranges, or why
-    /// the format is none.
+    /// A stream that sent nothing, without header extensions; else `OUT_OF_RANGE` for numbers out of their ranges, or
+    /// why the format is none.
     ///
     /// # Errors
     ///

@@ -140,8 +140,8 @@ impl SendingStream {
     /// that were sent so many payloads before it as the distances say, as far as `mtu` has room for them.
     ///
     /// # Conditions
-    /// The payload type is below 128, and the distances rise strictly, each from 1 to 8: `RedSender::are_distances` tests
-    /// it.
+    /// The payload type is below 128, and the distances rise strictly, each from 1 to 8, as `RedSender::are_distances`
+    /// tells.
     ///
     /// # Errors
     /// `AllocError`.
