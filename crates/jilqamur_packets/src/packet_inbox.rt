@@ -14,7 +14,7 @@ use crate::payload_unit::{PayloadUnit, WireUnit};
 use h26x_payload::{CodecDepacketizer, NotBoxed};
 use jilqamur_headers::{codes, copy_out};
 use payload_core_base::{Depacketizer, PacketError};
-use payload_core_buffer::{Depacketized, PolledBuffer, RtpMeta};
+use payload_core_buffer::{Depacketized, DepacketizingBuffer, RtpMeta};
 use rtp_media_payloads::{RowFormat, depacketizer_for};
 use rtp_wire_extensions::ExtensionValues;
 use rtp_wire_ids::SeqNo;
@@ -25,7 +25,7 @@ use std::marker::Model;
 #[derive(Drop)]
 pub struct PacketInbox {
     format: RowFormat,
-    buffer: PolledBuffer<CodecDepacketizer<NotBoxed>>,
+    buffer: DepacketizingBuffer<CodecDepacketizer<NotBoxed>>,
     unit: Option<PayloadUnit>,
 }
 
@@ -93,7 +93,7 @@ impl PacketInbox {
         let depacketizer = depacketizer_for(alloc, &format);
         Ok(PacketInbox {
             format,
-            buffer: PolledBuffer::new(alloc, depacketizer, hold_back),
+            buffer: DepacketizingBuffer::new(alloc, depacketizer, hold_back),
             unit: None,
         })
     }

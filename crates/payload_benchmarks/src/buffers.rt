@@ -10,7 +10,7 @@ use std::alloc::Global;
 /// The packets of a sample that are pushed into a buffer, the last with the marker, of which a unit is popped then if
 /// one is due. Where their numbers have steps of more than one, they wait for the numbers between them.
 #[derive(Drop)]
-pub(crate) struct Buffering<'a, D> {
+pub(crate) struct Buffering<'a, D: Depacketizer> {
     pub(crate) buffer: DepacketizingBuffer<D>,
     pub(crate) packets: &'a [Vec<u8>],
     pub(crate) number: u64,

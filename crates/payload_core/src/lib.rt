@@ -18,7 +18,7 @@ pub use payload_core_base::{
     Vp9CodecExtra, telephone_event_law,
 };
 pub use payload_core_buffer::{
-    Depacketized, DepacketizingBuffer, MAX_HELD, PacketList, Payloader, PolledBuffer, RtpMeta,
+    Depacketized, DepacketizingBuffer, MAX_HELD, PacketList, Payloader, RtpMeta,
     SentPacket, frames_law,
 };
 pub use payload_core_red::{

@@ -9,12 +9,12 @@ ghost use Rattle.rtp_media_payloads.specs.Polls.{IsInterrupted, given};
 ghost use Rattle.rtp_media_payloads.specs.Receiving.{stream_of};
 
 use payload_core_base::Depacketizer;
-use payload_core_buffer::PolledBuffer;
+use payload_core_buffer::DepacketizingBuffer;
 use rtp_media_payloads::{CodecDepacketizer, NotBoxed, PollFault, Unit};
 
 /// Hands out the next frame as a unit.
 pub(crate) fn pop(
-    buffer: &mut PolledBuffer<CodecDepacketizer<NotBoxed>>,
+    buffer: &mut DepacketizingBuffer<CodecDepacketizer<NotBoxed>>,
 ) -> Result<Option<Unit>, PollFault>
     ensures format { ⟦<CodecDepacketizer<NotBoxed> as Depacketizer>⟧.format buffer.new.depacketizer
         ≡ ⟦<CodecDepacketizer<NotBoxed> as Depacketizer>⟧.format buffer.old.depacketizer }
@@ -61,7 +61,7 @@ pub(crate) fn pop(
 
 /// Hands out the lowest complete frame as a unit, whatever is missing before it.
 pub(crate) fn drain(
-    buffer: &mut PolledBuffer<CodecDepacketizer<NotBoxed>>,
+    buffer: &mut DepacketizingBuffer<CodecDepacketizer<NotBoxed>>,
 ) -> Result<Option<Unit>, PollFault>
     ensures format { ⟦<CodecDepacketizer<NotBoxed> as Depacketizer>⟧.format buffer.new.depacketizer
         ≡ ⟦<CodecDepacketizer<NotBoxed> as Depacketizer>⟧.format buffer.old.depacketizer }

@@ -18,7 +18,7 @@ ghost use Rattle.rtp_media_payloads.specs.Rows.{format_of};
 
 use crate::popping::{drain, pop};
 use payload_core_base::Depacketizer;
-use payload_core_buffer::{PolledBuffer, RtpMeta};
+use payload_core_buffer::{DepacketizingBuffer, RtpMeta};
 use rtp_media_payloads::{
     CodecDepacketizer, NotBoxed, PayloadTypes, PollFault, RowFormat, Unit, depacketizer_for,
     media_payload,
@@ -37,7 +37,7 @@ pub struct ReceivingStream {
     exts: ExtensionMap,
     row: RowFormat,
     window: Option<SeqNoWindow>,
-    buffer: PolledBuffer<CodecDepacketizer<NotBoxed>>,
+    buffer: DepacketizingBuffer<CodecDepacketizer<NotBoxed>>,
 }
 
 /// Written out, so that who lets one go needs nothing of what is inside.
@@ -111,7 +111,7 @@ fn record(window: &mut Option<SeqNoWindow>, number: SeqNo)
 
 /// Holds a packet; the only refusal is lack of memory.
 fn hold(
-    buffer: &mut PolledBuffer<CodecDepacketizer<NotBoxed>>,
+    buffer: &mut DepacketizingBuffer<CodecDepacketizer<NotBoxed>>,
     meta: RtpMeta,
     payload: &[u8],
 ) -> Result<(), AllocError>
@@ -148,7 +148,7 @@ impl ReceivingStream {
             exts,
             row,
             window: None,
-            buffer: PolledBuffer::new(alloc, depacketizer, hold_back),
+            buffer: DepacketizingBuffer::new(alloc, depacketizer, hold_back),
         }
     }
 
