@@ -11,7 +11,7 @@ ghost use Rattle.payload_core_buffer.specs.Packets.{packet_from};
 ghost use Rattle.rtp_media_schedules.specs.Hearing.{poll_answer};
 ghost use Rattle.rtp_media_streams.specs.Drains.{drain_answer, drained_receiver, holding};
 ghost use Rattle.rtp_media_payloads.specs.Polls.{IsInterrupted, IsPolled, IsPolledSome, given};
-ghost use Rattle.rtp_media_payloads.specs.Receiving.{arrived, conflicts_with, is_own, media_payload, opened_receiver};
+ghost use Rattle.rtp_media_payloads.specs.Receiving.{arrived, brought, conflicts_with, is_own, opened_receiver};
 ghost use Rattle.rtp_media_payloads.specs.Receiving.{polled_receiver, stream_of, taken_number, values_read};
 ghost use Rattle.rtp_media_payloads.specs.Receiving.{with_stream};
 ghost use Rattle.rtp_media_payloads.specs.Rows.{format_of};
@@ -20,8 +20,8 @@ use crate::popping::{drain, pop};
 use payload_core_base::Depacketizer;
 use payload_core_buffer::{DepacketizingBuffer, RtpMeta};
 use rtp_media_payloads::{
-    CodecDepacketizer, NotBoxed, PayloadTypes, PollFault, RowFormat, Unit, depacketizer_for,
-    media_payload,
+    CodecDepacketizer, NotBoxed, PayloadTypes, PollFault, RowFormat, Unit, brought,
+    depacketizer_for,
 };
 use rtp_wire::{
     ExtensionMap, ExtensionValues, Pt, RtpHeader, SeqNo, SeqNoWindow, Ssrc, extend_u16,
@@ -170,28 +170,34 @@ impl ReceivingStream {
     pub fn is_own(&self, ssrc: Ssrc, pt: Pt) -> bool
         ensures { result ≡ is_own self.now ssrc pt }
     {
-        self.ssrc.get() == ssrc.get() && self.types.has(pt)
+        self.types.is_key(self.ssrc, ssrc, pt)
     }
 
     /// Whether its datagrams could be those of another stream of this SSRC and these payload types.
     pub fn conflicts_with(&self, ssrc: Ssrc, types: &PayloadTypes) -> bool
         ensures { result ≡ conflicts_with self.now ssrc types.now }
     {
-        self.ssrc.get() == ssrc.get() && self.types.share(types)
+        self.types.share_key(self.ssrc, ssrc, types)
     }
 
-    /// What a datagram of its own brings it: the payload without padding (RFC 3550 5.1) and, under the
-    /// RED type, without redundancy (RFC 2198). None where the padding doesn't fit, redundancy can't be
-    /// read, or its primary payload has another type.
+    /// What a datagram of its own brings it: the 16 bits of a number, and the payload without padding (RFC 3550 5.1)
+    /// and, under the RED type, without redundancy (RFC 2198); a repair brings the number and the payload that it
+    /// wraps (RFC 4588 4). None where the padding doesn't fit, redundancy can't be read, its primary payload has
+    /// another type, or there is no byte.
     ///
     /// # Conditions
     /// The header ends at the datagram's end or before it.
-    pub fn media_payload<'a>(&self, header: &RtpHeader, datagram: &'a [u8]) -> Option<&'a [u8]>
+    pub fn brought<'a>(
+        &self,
+        header: &RtpHeader,
+        datagram: &'a [u8],
+    ) -> Option<(u16, &'a [u8])>
         requires { header.now.header_len ≤ length datagram.now }
-        ensures { MatchOption result (media_payload self.now.types header.now datagram.now ≡ None)
-            (λ media. media_payload self.now.types header.now datagram.now ≡ Some media.now) }
+        ensures { MatchOption result (brought self.now.ssrc self.now.types header.now datagram.now ≡ None)
+            (λ w. brought self.now.ssrc self.now.types header.now datagram.now
+            ≡ Some (record { number = w.0; payload = w.1.now })) }
     {
-        media_payload(&self.types, header, datagram)
+        brought(self.ssrc, &self.types, header, datagram)
     }
 
     /// The values of a datagram's header extensions, by the stream's map; none where no header is
