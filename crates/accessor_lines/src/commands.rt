@@ -1,7 +1,7 @@
 //! The commands.
 
 use crate::said::put_said;
-use line_replies::{Reply, parted};
+use command_lines::{Reply, parted};
 use sdp_formats::{SdpError, parse};
 use std::alloc::{AllocError, Global};
 use std::fs;

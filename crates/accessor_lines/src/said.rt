@@ -1,12 +1,12 @@
 //! What texts say, by their accessors.
 
-use line_replies::Reply;
+use command_lines::Reply;
 use sdp_formats::lists::{extmaps, rids};
 use sdp_formats::{
     Candidate, MediaAttribute, MediaLine, Sdp, Session, SimulcastLayer, Text, bundle_mids,
     sctp_init, section, session, whole,
 };
-use sdp_formats_candidates::ice_candidates;
+use sdp_formats_lookups::ice_candidates;
 use std::alloc::{AllocError, Global};
 
 /// `says NAME`: what each accessor answers of the session, of each section and of the whole text, a line for each that

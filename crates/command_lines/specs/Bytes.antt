@@ -2,7 +2,7 @@
 use Rattle.std.specs.Prelude.{ℕ, ◌==◌, ◌^◌, nat_lt, if◌then◌else◌, List, [], ◌∷◌, ◌++◌, length, codes, Option, None}
 use Rattle.std.specs.Prelude.{Some}
 use Rattle.std.specs.List.{slice_split, before_first, after_first, position_or_len, repeat}
-use Rattle.rtp_media_words.specs.Words.{number_below, hex_of, ◌>>=◌}
+use Rattle.rtp_media_lines.specs.Words.{number_below, hex_of, ◌>>=◌}
 
 -- What stands before the first such sign, or all where there is none.
 abbrev pub before_sign : ℕ → List ℕ → List ℕ

@@ -3,11 +3,11 @@
 ghost use Rattle.std.specs.Prelude.{◌≡◌, ◌<◌, ◌^◌, ◌∷◌, length, IfOk, IfSome, IfNone};
 ghost use Rattle.std.specs.List.{repeat};
 ghost use Rattle.std.specs.Option.{option_copied, option_map};
-ghost use Rattle.rtp_media_words.specs.Words.{number_below};
+ghost use Rattle.rtp_media_lines.specs.Words.{number_below};
 ghost use Rattle.command_lines.specs.Bytes.{before_sign, behind_sign, without_stars, plus_parts, parts_in};
 ghost use Rattle.command_lines.specs.Bytes.{digits_bytes, count_word, part_bytes, bytes_of};
 
-use rtp_media_words::{Misread, hex_of, number_up_to};
+use rtp_media_lines::{Misread, hex_of, number_up_to};
 use std::alloc::{AllocError, Global};
 
 /// What stands before and behind the first such sign; all of the word and nothing where there is none.

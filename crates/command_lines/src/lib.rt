@@ -1,9 +1,13 @@
-//! Lines of commands: the words of a line, what they say, and the answer to it.
+//! Words and replies of the test programs.
 #![tactic(auto)]
 
 mod bytes;
 mod line;
 mod reading;
+mod reply;
+mod words;
 
 pub use bytes::part;
 pub use line::Line;
+pub use reply::Reply;
+pub use words::parted;

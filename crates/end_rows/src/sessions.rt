@@ -1,10 +1,10 @@
 //! Exchanges whose session has lines of its own.
 
-use rtp_media_negotiation::{
+use rtp_media_exchange::{
     Bandwidth, CodecConfig, EndError, Exchange, MediaKind, SectionSpec, Session, SessionAttribute,
 };
 use rtp_wire::{Direction, ExtensionMap, Mid, SessionId, Ssrc};
-use sdp_formats_types::{Listed, Text};
+use sdp_formats_data::{Listed, Text};
 use std::alloc::{AllocError, Global};
 
 /// An offer says the lines of its session, each at its place.

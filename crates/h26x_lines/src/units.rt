@@ -1,7 +1,7 @@
 //! Units and headers of H.264, H.265 and H.266.
 
 use command_lines::Line;
-use h26x_payload_h264::detect_h264_nalu;
+use h26x_payload_formats::detect_h264_nalu;
 use h26x_payload_units::{
     H265FragmentationUnitHeader, H265NALUHeader, H266FragmentationUnitHeader, H266NALUHeader,
     nal_units,

@@ -7,18 +7,18 @@ use Rattle.payload_core_base.specs.declared.codec.Codec.{Codec}
 use Rattle.payload_core_base.specs.declared.codec.Codec.TheVariants.{Opus, PCMU, PCMA, G722, CN, AmrWb, H264, H265}
 use Rattle.payload_core_base.specs.declared.codec.Codec.TheVariants.{H266, Vp8, Vp9, Av1, Tele, Rtx, Red, Null}
 use Rattle.payload_core_base.specs.declared.codec.Codec.TheVariants.{Unknown}
-use Rattle.payload_core_amr_wb.specs.AmrWb.{amr_wb_coding}
+use Rattle.payload_core_audio.specs.AmrWb.{amr_wb_coding}
 use Rattle.payload_core_audio.specs.Plain.{noise_coding, pieces_coding}
 use Rattle.payload_core_audio.specs.Telephone.{telephone_coding}
 use Rattle.payload_core_vpx.specs.Vp8.{vp8_coding}
 use Rattle.payload_core_vpx.specs.Vp9.{vp9_coding}
 use Rattle.payload_core_av1.specs.Av1Coding.{av1_coding}
-use Rattle.h26x_payload_h264.specs.H264Coding.{h264_coding}
+use Rattle.h26x_payload_formats.specs.H264Coding.{h264_coding}
 use Rattle.h26x_payload_units.specs.declared.layout.Layout.{Layout}
 use Rattle.h26x_payload_units.specs.declared.layout.Layout.TheVariants as layouts
-use Rattle.h26x_payload_h265_h266.specs.Coding.{h265_h266_coding}
+use Rattle.h26x_payload_formats.specs.Coding.{h265_h266_coding}
 use Rattle.h26x_payload.specs.Dispatch.{FormsKeepUnits, KeepCodecLaw, KeepCodecLawInForms}
-use Rattle.h26x_payload_codecs.specs.Codings.{Forms, Settings, coding_in, coding_of, plain_forms}
+use Rattle.h26x_payload.specs.Codings.{Forms, Settings, coding_in, coding_of, plain_forms}
 
 -- the laws of the codecs
 pub record TheLaws : Type 0 where

@@ -8,7 +8,7 @@ use Rattle.payload_core_base.specs.declared.error.PacketError.{PacketError}
 use Rattle.payload_core_base.specs.declared.codec.Codec.{Codec}
 use Rattle.payload_core_base.specs.declared.codec.Codec.TheVariants.{Vp8}
 use Rattle.payload_core_vpx.specs.Vp8.{vp8_packing}
-use Rattle.h26x_payload_codecs.specs.Codings.{Forms, Settings, coding_in, with_zero_id}
+use Rattle.h26x_payload.specs.Codings.{Forms, Settings, coding_in, with_zero_id}
 
 -- how long the first packet of a frame of one byte with the id 1 is
 abbrev first_len : Result Sent PacketError → ℕ

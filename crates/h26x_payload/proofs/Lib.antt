@@ -1,4 +1,4 @@
 pub mod CodecLaws
-pub mod Runs
-pub mod Ids
 pub mod Configured
+pub mod Ids
+pub mod Runs

@@ -7,7 +7,7 @@ use Rattle.payload_core_base.specs.declared.error.PacketError.{PacketError}
 use Rattle.payload_core_base.specs.declared.extra.CodecExtra.{CodecExtra}
 use Rattle.payload_core_base.specs.declared.codec.Codec.{Codec}
 use Rattle.payload_core_base.specs.declared.codec.Codec.TheVariants.{Vp8, Vp9}
-use Rattle.h26x_payload_codecs.specs.Codings.{Forms, Settings, coding_in, coding_of, first_sender, has_format}
+use Rattle.h26x_payload.specs.Codings.{Forms, Settings, coding_in, coding_of, first_sender, has_format}
 
 -- Under any settings each codec keeps the codec law.
 abbrev pub KeepCodecLaw : Type 0

@@ -1,5 +1,5 @@
-pub use Rattle.h26x_payload_codecs.specs.Codings
-pub use Rattle.h26x_payload_codecs.specs.Depacketizers
-pub use Rattle.h26x_payload_codecs.specs.Nothing
-pub mod Packetizers
+pub mod Codings
+pub mod Depacketizers
 pub mod Dispatch
+pub mod Nothing
+pub mod Packetizers

@@ -3,12 +3,12 @@ use Rattle.std.specs.Prelude.{Bool, true, false, List, [], ◌∷◌}
 use Rattle.payload_core_base.specs.Packing.{Packing, Sender}
 use Rattle.payload_core_base.specs.declared.codec.Codec.{Codec}
 use Rattle.payload_core_base.specs.declared.codec.Codec.TheVariants as codecs
-use Rattle.payload_core_amr_wb.specs.AmrWb.{amr_wb_packing}
+use Rattle.payload_core_audio.specs.AmrWb.{amr_wb_packing}
 use Rattle.payload_core_vpx.specs.Vp8.{vp8_packing}
 use Rattle.payload_core_vpx.specs.Vp9.{vp9_packing}
 use Rattle.h26x_payload_units.specs.declared.layout.Layout.TheVariants as layouts
-use Rattle.h26x_payload_packing.specs.Packing.{h265_h266_packing}
-use Rattle.h26x_payload_codecs.specs.Codings.{Settings}
+use Rattle.h26x_payload_formats.specs.Packing.{h265_h266_packing}
+use Rattle.h26x_payload.specs.Codings.{Settings}
 use Rattle.h26x_payload.specs.declared.codec_packetizer.CodecPacketizer.{CodecPacketizer}
 use Rattle.h26x_payload.specs.declared.codec_packetizer.CodecPacketizer.TheVariants.{G711, G722, Opus, ComfortNoise}
 use Rattle.h26x_payload.specs.declared.codec_packetizer.CodecPacketizer.TheVariants.{AmrWb, Telephone, Vp8, Vp9, Av1}

@@ -1,14 +1,12 @@
 //! One packetizer over all codecs.
 
-ghost use Rattle.h26x_payload_codecs.specs.Codings.{Settings, coding_of, first_sender, first_settings, has_format};
-ghost use Rattle.h26x_payload_codecs.specs.Codings.{Forms, coding_in, settings_of, with_prediction, with_zero_id};
+ghost use Rattle.h26x_payload.specs.Codings.{Settings, coding_of, first_sender, first_settings, has_format};
+ghost use Rattle.h26x_payload.specs.Codings.{Forms, coding_in, settings_of, with_prediction, with_zero_id};
 ghost use Rattle.std.specs.Prelude.{◌≡◌, ◌<◌, Bool, Contains, IfSome, false, is_some, unwrap_or};
 
-use h26x_payload_h264::H264Packetizer;
-use h26x_payload_h265_h266::{H265Packetizer, H266Packetizer};
-use payload_core_amr_wb::AmrWbPacketizer;
+use h26x_payload_formats::{H264Packetizer, H265Packetizer, H266Packetizer};
 use payload_core_audio::{
-    ComfortNoisePacketizer, G711Packetizer, G722Packetizer, OpusPacketizer,
+    AmrWbPacketizer, ComfortNoisePacketizer, G711Packetizer, G722Packetizer, OpusPacketizer,
     TelephoneEventPacketizer,
 };
 use payload_core_av1::Av1Packetizer;

@@ -4,12 +4,10 @@ ghost use Rattle.h26x_payload.specs.Dispatch.{FillPackets, FillPacketsInForms, F
 ghost use Rattle.h26x_payload.specs.Dispatch.{KeepCodecLaw, KeepCodecLawInForms, PairKeepsCodecLaw};
 ghost use Rattle.h26x_payload.specs.Dispatch.{PairKeepsCodecLawInForms};
 
+use crate::codec_depacketizer::CodecDepacketizer;
 use crate::codec_packetizer::CodecPacketizer;
-use h26x_payload_codecs::CodecDepacketizer;
-use h26x_payload_h264::h264_law;
-use h26x_payload_h265_h266::h265_h266_law;
-use payload_core_amr_wb::amr_wb_law;
-use payload_core_audio::{plain_laws, telephone_law};
+use h26x_payload_formats::{h264_law, h265_h266_law};
+use payload_core_audio::{amr_wb_law, plain_laws, telephone_law};
 use payload_core_av1::av1_law;
 use payload_core_base::{Depacketizer, Packetizer};
 use payload_core_vpx::{vp8_law, vp9_law};

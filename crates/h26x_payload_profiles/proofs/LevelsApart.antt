@@ -2,7 +2,7 @@
 use Rattle.std.proofs.Common.{◌≡◌, None, Some, refl, sym, ap, ◌∙◌}
 use Rattle.h26x_payload_profiles.specs.H265Level.{level_id as h265_level_id}
 use Rattle.h26x_payload_profiles.specs.H266Level.{level_id as h266_level_id, levels}
-use Rattle.payload_core_tables.specs.Tables.{with_number}
+use Rattle.named_values.specs.Tables.{with_number}
 use Rattle.h26x_payload_profiles.specs.LevelsApart.{LevelsApart}
 use Rattle.h26x_payload_profiles.specs.declared.h265.H265Level.{H265Level}
 use Rattle.h26x_payload_profiles.specs.declared.h265.H265Level.TheVariants.{Level1}

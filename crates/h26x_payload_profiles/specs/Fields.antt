@@ -2,9 +2,9 @@
 use Rattle.std.specs.Prelude.{◌≡◌, ℕ, ◌==◌, List, [], ◌∷◌, MatchBool, codes, if◌then◌else◌}
 use Rattle.serde.specs.Event.{Event, Log, Sends, Then}
 use Rattle.serde.specs.declared.deserializer.Deserializer.{Deserializer}
-use Rattle.payload_core_tables.specs.Fields.{InMap, WritesField}
-use Rattle.payload_core_tables.specs.Names.{ReadsName, name_event}
-use Rattle.payload_core_tables.specs.Reading.{GivesOf, PicksOf, ReadsNamed}
+use Rattle.named_values.specs.Fields.{InMap, WritesField}
+use Rattle.named_values.specs.Names.{ReadsName, name_event}
+use Rattle.named_values.specs.Reading.{GivesOf, PicksOf, ReadsNamed}
 use Rattle.h26x_payload_profiles.specs.declared.profile_tier_level.ProfileTierLevel.{ProfileTierLevel}
 use Rattle.h26x_payload_profiles.specs.H265Names as h265
 use Rattle.h26x_payload_profiles.specs.H265ProfileTierLevel.{H265ProfileTierLevel}

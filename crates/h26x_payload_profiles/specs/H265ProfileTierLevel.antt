@@ -1,6 +1,6 @@
 -- What three numbers mean as a profile, a tier and a level of H.265 (RFC 7798 7.1).
 use Rattle.std.specs.Prelude.{ℕ, List, Option}
-use Rattle.payload_core_tables.specs.Tables.{with_number}
+use Rattle.named_values.specs.Tables.{with_number}
 use Rattle.h26x_payload_profiles.specs.H265Level.{fallback_level, level_id, levels}
 use Rattle.h26x_payload_profiles.specs.H265Profile.{fallback_profile, profile_id, profiles}
 use Rattle.h26x_payload_profiles.specs.ProfileTierLevel as ptl

@@ -1,4 +1,11 @@
 pub mod Fields
+pub mod H264Fields
+pub mod H264LevelIdc
+pub mod H264Names
+pub mod H264Profile
+pub mod H264ProfileIdc
+pub mod H264ProfileLevel
+pub mod H264Rows
 pub mod H265Level
 pub mod H265Names
 pub mod H265Profile

@@ -1,7 +1,7 @@
 -- A profile, a tier and a level of a codec, and the three numbers that session texts have for them (RFC 7798 7.1,
 -- RFC 9328 7.2), over how a number finds a profile and a level of that codec.
 use Rattle.std.specs.Prelude.{◌≡◌, ℕ, List, Option, Some, None, unwrap_or}
-use Rattle.payload_core_tables.specs.Tables.{with_number}
+use Rattle.named_values.specs.Tables.{with_number}
 use Rattle.h26x_payload_profiles.specs.Tier.{tier_flag, tiers}
 use Rattle.h26x_payload_profiles.specs.Values.{given_or}
 use Rattle.h26x_payload_profiles.specs.declared.profile_tier_level.ProfileTierLevel.{ProfileTierLevel}

@@ -1,8 +1,8 @@
 //! Profiles, tiers and levels of H.265 (RFC 7798 7.1).
 
 ghost use Rattle.std.specs.Prelude.{◌≡◌};
-ghost use Rattle.payload_core_tables.specs.Names.{HasOwnNames};
-ghost use Rattle.payload_core_tables.specs.Tables.{IsRising, IsTable, place_of, with_number};
+ghost use Rattle.named_values.specs.Names.{HasOwnNames};
+ghost use Rattle.named_values.specs.Tables.{IsRising, IsTable, place_of, with_number};
 ghost use Rattle.h26x_payload_profiles.specs.H265Level.{fallback_level, level_id, levels};
 ghost use Rattle.h26x_payload_profiles.specs.H265Names.{level_name, profile_name};
 ghost use Rattle.h26x_payload_profiles.specs.H265Profile.{fallback_profile, profile_id, profiles};
@@ -11,7 +11,7 @@ ghost use Rattle.h26x_payload_profiles.specs.H265ProfileTierLevel.{ComesBack, fa
 use crate::h265_names::{H265_LEVELS, H265_PROFILES};
 use crate::profile_tier_level::{InTable, Level, ProfileTierLevel};
 use crate::tier::Tier;
-use payload_core_tables::{Numbered, find_number};
+use named_values::{Numbered, find_number};
 
 /// A profile of H.265.
 #[derive(Clone, Copy, Debug, PartialEq, Eq, Drop)]

@@ -1,8 +1,8 @@
 //! Profiles, tiers and levels of H.266 (RFC 9328 7.2).
 
 ghost use Rattle.std.specs.Prelude.{◌≡◌};
-ghost use Rattle.payload_core_tables.specs.Names.{HasOwnNames};
-ghost use Rattle.payload_core_tables.specs.Tables.{IsRising, IsTable, place_of, with_number};
+ghost use Rattle.named_values.specs.Names.{HasOwnNames};
+ghost use Rattle.named_values.specs.Tables.{IsRising, IsTable, place_of, with_number};
 ghost use Rattle.h26x_payload_profiles.specs.H266Level.{fallback_level, level_id, levels};
 ghost use Rattle.h26x_payload_profiles.specs.H266Names.{level_name, profile_name};
 ghost use Rattle.h26x_payload_profiles.specs.H266Profile.{fallback_profile, profile_id, profiles};
@@ -12,7 +12,7 @@ ghost use Rattle.h26x_payload_profiles.specs.LevelsApart.{LevelsApart};
 use crate::h266_names::{H266_LEVELS, H266_PROFILES};
 use crate::profile_tier_level::{InTable, Level, ProfileTierLevel};
 use crate::tier::Tier;
-use payload_core_tables::{Numbered, find_number};
+use named_values::{Numbered, find_number};
 
 /// A profile of H.266.
 #[derive(Clone, Copy, Debug, PartialEq, Eq, Drop)]

@@ -3,13 +3,13 @@
 ghost use Rattle.std.specs.Prelude.{◌≡◌, IfOk};
 ghost use Rattle.serde.specs.Event.{Sends};
 ghost use Rattle.serde.specs.Steps.{Gives};
-ghost use Rattle.payload_core_tables.specs.Names.{ReadsName, name_event};
+ghost use Rattle.named_values.specs.Names.{ReadsName, name_event};
 ghost use Rattle.h26x_payload_profiles.specs.H266Names.{level_name, profile_name};
 ghost use Rattle.h26x_payload_profiles.specs.H266Profile.{profiles};
 ghost use Rattle.h26x_payload_profiles.specs.H266Level.{levels};
 
 use crate::h266::{H266Level, H266Profile};
-use payload_core_tables::{Named, read_name, write_name};
+use named_values::{Named, read_name, write_name};
 use serde::de::DeserializeOwned;
 use serde::{Described, Deserialize, Deserializer, Format, Serialize, Serializer};
 use std::alloc::Global;

@@ -1,18 +1,22 @@
-//! Profiles, tiers and levels of H.265 and H.266, and those of H.264 from the crate below.
+//! Profiles, tiers and levels of H.264, H.265 and H.266.
 #![tactic(auto)]
 
+mod h264;
+mod h264_names;
 mod h265;
 mod h265_names;
 mod h266;
 mod h266_names;
+mod profile_level_reading;
 mod profile_tier_level;
-mod reading;
+mod profile_tier_level_reading;
 mod tier;
 mod values;
 
-pub use h26x_payload_h264_profiles::{
+pub use h264::{
     H264LevelIdc, H264Profile, H264ProfileError, H264ProfileIdc, H264ProfileLevel, h264_tables_law,
 };
+pub use h264_names::{H264_LEVELS, H264_PROFILE_IDCS, H264_PROFILES};
 pub use h265::{H265Level, H265Profile, H265ProfileTierLevel, H265Tier, h265_tables_law};
 pub use h265_names::{H265_LEVELS, H265_PROFILES};
 pub use h266::{H266Level, H266Profile, H266ProfileTierLevel, H266Tier, h266_tables_law};

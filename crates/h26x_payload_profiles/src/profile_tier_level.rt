@@ -1,13 +1,13 @@
 //! A profile, a tier and a level together (RFC 7798 7.1, RFC 9328 7.2).
 
 ghost use Rattle.std.specs.Prelude.{◌≡◌, List, Option, option_map};
-ghost use Rattle.payload_core_tables.specs.Tables.{place_of, with_number};
+ghost use Rattle.named_values.specs.Tables.{place_of, with_number};
 ghost use Rattle.h26x_payload_profiles.specs.ProfileTierLevel.{at_level, fallback, given, known, known_or_fallback};
 ghost use Rattle.h26x_payload_profiles.specs.Tier.{tier_flag};
 
 use crate::tier::Tier;
 use crate::values::given_or;
-use payload_core_tables::{Named, Numbered, find_number};
+use named_values::{Named, Numbered, find_number};
 
 /// The profiles or the levels of a codec: each has a number in session texts and a name.
 pub trait InTable: Numbered + Named + 'static {

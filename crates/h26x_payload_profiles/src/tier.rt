@@ -3,11 +3,11 @@
 ghost use Rattle.std.specs.Prelude.{◌≡◌, IfOk};
 ghost use Rattle.serde.specs.Event.{Sends};
 ghost use Rattle.serde.specs.Steps.{Gives};
-ghost use Rattle.payload_core_tables.specs.Names.{HasOwnNames, ReadsName, name_event};
-ghost use Rattle.payload_core_tables.specs.Tables.{IsTable, with_number};
+ghost use Rattle.named_values.specs.Names.{HasOwnNames, ReadsName, name_event};
+ghost use Rattle.named_values.specs.Tables.{IsTable, with_number};
 ghost use Rattle.h26x_payload_profiles.specs.Tier.{tier_flag, tier_name, tiers};
 
-use payload_core_tables::{Named, read_name, write_name};
+use named_values::{Named, read_name, write_name};
 use serde::de::DeserializeOwned;
 use serde::{Described, Deserialize, Deserializer, Format, Serialize, Serializer};
 use std::alloc::Global;

@@ -1,13 +1,13 @@
 //! Depacketizers by codec.
 
 ghost use Rattle.std.specs.Prelude.{◌≡◌, ◌≢◌, None, Some, IsSome};
-ghost use Rattle.jilqamur_headers.specs.Codes.{ok, memory, nothing, closed, in_use};
-ghost use Rattle.jilqamur_headers.specs.Copies.{IsFetched};
-ghost use Rattle.jilqamur_headers.specs.Handles.{AtObject, answer_of};
-ghost use Rattle.jilqamur_packets.specs.Formats.{format_outcome};
-ghost use Rattle.jilqamur_packets.specs.PacketInboxes.{new_packet_inbox, behind_push, PopsAt, bytes_of, IsToldOf};
+ghost use Rattle.jilqamur_media.specs.Codes.{ok, memory, nothing, closed, in_use};
+ghost use Rattle.jilqamur_media.specs.Copies.{IsFetched};
+ghost use Rattle.jilqamur_media.specs.Handles.{AtObject, answer_of};
+ghost use Rattle.jilqamur_media.specs.Formats.{format_outcome};
+ghost use Rattle.jilqamur_media.specs.PacketInboxes.{new_packet_inbox, behind_push, PopsAt, bytes_of, IsToldOf};
 
-use jilqamur_packets::{DepacketizerHandle, WireFormat, WireUnit};
+use jilqamur_media::{DepacketizerHandle, WireFormat, WireUnit};
 use std::alloc::Global;
 
 /// Opens a depacketizer by codec.

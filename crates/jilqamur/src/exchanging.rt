@@ -1,12 +1,12 @@
 //! Offers and answers of the end of a handle.
 
 ghost use Rattle.std.specs.Prelude.{◌≡◌, ◌≢◌, Some};
-ghost use Rattle.jilqamur_headers.specs.Codes.{ok, closed};
-ghost use Rattle.jilqamur_headers.specs.Handles.{AtObject};
+ghost use Rattle.jilqamur_media.specs.Codes.{ok, closed};
+ghost use Rattle.jilqamur_media.specs.Handles.{AtObject};
 ghost use Rattle.jilqamur_ends.specs.Answers.{AtEnd, WithText};
 ghost use Rattle.jilqamur_ends.specs.HeldEnds.{behind_end, behind_text};
-ghost use Rattle.jilqamur_exchanges.specs.Exchanges.{AnswersOffer, AnswersAnswer, AnswersAccept, AnswersWithdraw};
-ghost use Rattle.jilqamur_headers.specs.Copies.{IsCopied};
+ghost use Rattle.jilqamur_ends.specs.Exchanges.{AnswersOffer, AnswersAnswer, AnswersAccept, AnswersWithdraw};
+ghost use Rattle.jilqamur_media.specs.Copies.{IsCopied};
 
 use jilqamur_ends::EndHandle;
 use std::alloc::Global;
@@ -22,7 +22,7 @@ pub extern "C" fn jilqamur_end_offer(alloc: Global, end: &mut EndHandle) -> u32
     ensures rest { AtObject end.old.place.object end.new.place.object result
         (λ p after. after ≡ behind_text p after.end after.text) }
 {
-    jilqamur_exchanges::offer(alloc, end)
+    jilqamur_ends::offer(alloc, end)
 }
 
 /// The answer to an offer, of the gathered sections.
@@ -36,7 +36,7 @@ pub extern "C" fn jilqamur_end_answer(alloc: Global, end: &mut EndHandle, offer:
     ensures rest { AtObject end.old.place.object end.new.place.object result
         (λ p after. after ≡ behind_text p after.end after.text) }
 {
-    jilqamur_exchanges::answer(alloc, end, offer)
+    jilqamur_ends::answer(alloc, end, offer)
 }
 
 /// Takes the answer to the pending offer.
@@ -48,7 +48,7 @@ pub extern "C" fn jilqamur_end_accept(end: &mut EndHandle, answer: &[u8]) -> u32
     ensures rest { AtObject end.old.place.object end.new.place.object result
         (λ p after. after ≡ behind_end p after.end) }
 {
-    jilqamur_exchanges::accept(end, answer)
+    jilqamur_ends::accept(end, answer)
 }
 
 /// Gives a pending offer up.
@@ -59,7 +59,7 @@ pub extern "C" fn jilqamur_end_withdraw(end: &mut EndHandle) -> u32
     ensures rest { AtObject end.old.place.object end.new.place.object result
         (λ p after. after ≡ behind_end p after.end) }
 {
-    jilqamur_exchanges::withdraw(end)
+    jilqamur_ends::withdraw(end)
 }
 
 /// Copies the text that is left.

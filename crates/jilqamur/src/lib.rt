@@ -1,5 +1,5 @@
-//! Headers, replay windows, payload formats, streams and ends for C programs: exports over `jilqamur_packets`,
-//! `jilqamur_streams`, `jilqamur_ends`, `jilqamur_exchanges` and `jilqamur_end_streams`, as `include/jilqamur.h`
+//! Headers, replay windows, payload formats, streams and ends for C programs: exports over `jilqamur_media`,
+//! `jilqamur_media`, `jilqamur_ends`, as `include/jilqamur.h`
 //! declares them.
 #![tactic(auto)]
 
@@ -9,11 +9,11 @@ ghost use Rattle.rtp_wire.specs.Header.{header_in, spelled};
 ghost use Rattle.rtp_wire.specs.Padding.{unpadded};
 ghost use Rattle.rtp_wire.specs.Run.{reception_of};
 ghost use Rattle.rtp_wire.specs.Widening.{widened};
-ghost use Rattle.rtp_wire_extension_maps.specs.Maps.{empty_map};
-ghost use Rattle.jilqamur_headers.specs.Codes.{ok, memory, in_use, closed, unreadable, damaged, unwritable};
-ghost use Rattle.jilqamur_headers.specs.Headers.{as_wire, as_header, write_outcome};
-ghost use Rattle.jilqamur_headers.specs.Windows.{ReceivedAs, behind, fresh};
-ghost use Rattle.jilqamur_headers.specs.Handles.{answer_of};
+ghost use Rattle.rtp_wire_extensions.specs.Maps.{empty_map};
+ghost use Rattle.jilqamur_media.specs.Codes.{ok, memory, in_use, closed, unreadable, damaged, unwritable};
+ghost use Rattle.jilqamur_media.specs.Headers.{as_wire, as_header, write_outcome};
+ghost use Rattle.jilqamur_media.specs.Windows.{ReceivedAs, behind, fresh};
+ghost use Rattle.jilqamur_media.specs.Handles.{answer_of};
 
 mod depacketizers;
 mod exchanging;
@@ -24,7 +24,7 @@ mod senders;
 mod setup;
 mod streams;
 
-use jilqamur_headers::{WindowHandle, WireHeader, codes, read_header, write_header};
+use jilqamur_media::{WindowHandle, WireHeader, codes, read_header, write_header};
 use rtp_wire::{extend_u16, unpad_payload};
 use std::alloc::Global;
 

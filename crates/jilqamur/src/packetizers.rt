@@ -2,13 +2,13 @@
 
 ghost use Rattle.std.specs.Prelude.{◌≡◌, ◌≢◌, ◌+◌, ◌==◌, length, None, Some, IsSome, MatchOption};
 ghost use Rattle.std.specs.List.{slice_get};
-ghost use Rattle.jilqamur_headers.specs.Codes.{ok, memory, nothing, closed, in_use};
-ghost use Rattle.jilqamur_headers.specs.Copies.{IsFetched};
-ghost use Rattle.jilqamur_headers.specs.Handles.{AtObject, answer_of};
-ghost use Rattle.jilqamur_packets.specs.PacketOutboxes.{new_packet_outbox, packetizer_outcome, cut, cut_outcome};
-ghost use Rattle.jilqamur_packets.specs.PacketOutboxes.{after_cut, packing_in};
+ghost use Rattle.jilqamur_media.specs.Codes.{ok, memory, nothing, closed, in_use};
+ghost use Rattle.jilqamur_media.specs.Copies.{IsFetched};
+ghost use Rattle.jilqamur_media.specs.Handles.{AtObject, answer_of};
+ghost use Rattle.jilqamur_media.specs.PacketOutboxes.{new_packet_outbox, packetizer_outcome, cut, cut_outcome};
+ghost use Rattle.jilqamur_media.specs.PacketOutboxes.{after_cut, packing_in};
 
-use jilqamur_packets::{PacketizerHandle, WireFormat, WirePacketizer};
+use jilqamur_media::{PacketizerHandle, WireFormat, WirePacketizer};
 use std::alloc::Global;
 
 /// Opens a packetizer by codec.

@@ -1,15 +1,14 @@
 //! Receiving streams by codec, without an end.
 
 ghost use Rattle.std.specs.Prelude.{◌≡◌, ◌≢◌, None, Some, IsSome};
-ghost use Rattle.jilqamur_headers.specs.Codes.{ok, memory, nothing, closed, in_use};
-ghost use Rattle.jilqamur_headers.specs.Copies.{IsFetched};
-ghost use Rattle.jilqamur_headers.specs.Handles.{AtObject, answer_of};
-ghost use Rattle.jilqamur_packets.specs.Formats.{format_outcome};
-ghost use Rattle.jilqamur_streams.specs.Fetched.{IsToldOf, bytes_of};
-ghost use Rattle.jilqamur_streams.specs.Inboxes.{Polls, Drains, new_inbox, Takes};
+ghost use Rattle.jilqamur_media.specs.Codes.{ok, memory, nothing, closed, in_use};
+ghost use Rattle.jilqamur_media.specs.Copies.{IsFetched};
+ghost use Rattle.jilqamur_media.specs.Handles.{AtObject, answer_of};
+ghost use Rattle.jilqamur_media.specs.Formats.{format_outcome};
+ghost use Rattle.jilqamur_media.specs.Fetched.{IsToldOf, bytes_of};
+ghost use Rattle.jilqamur_media.specs.Inboxes.{Polls, Drains, new_inbox, Takes};
 
-use jilqamur_packets::{WireFormat, WireUnit};
-use jilqamur_streams::ReceiverHandle;
+use jilqamur_media::{ReceiverHandle, WireFormat, WireUnit};
 use std::alloc::Global;
 
 /// Opens a receiving stream by codec.

@@ -1,18 +1,17 @@
 //! Receiving streams.
 
 ghost use Rattle.std.specs.Prelude.{◌≡◌, ◌≢◌, Some};
-ghost use Rattle.jilqamur_headers.specs.Codes.{ok, nothing, closed};
-ghost use Rattle.jilqamur_headers.specs.Handles.{AtObject};
+ghost use Rattle.jilqamur_media.specs.Codes.{ok, nothing, closed};
+ghost use Rattle.jilqamur_media.specs.Handles.{AtObject};
 ghost use Rattle.jilqamur_ends.specs.Answers.{AtEnd};
 ghost use Rattle.jilqamur_ends.specs.HeldEnds.{behind_end, behind_poll};
-ghost use Rattle.jilqamur_headers.specs.Copies.{IsFetched};
-ghost use Rattle.jilqamur_streams.specs.Fetched.{IsToldOf, bytes_of};
+ghost use Rattle.jilqamur_media.specs.Copies.{IsFetched};
+ghost use Rattle.jilqamur_media.specs.Fetched.{IsToldOf, bytes_of};
 ghost use Rattle.jilqamur_ends.specs.Told.{TellsValues};
-ghost use Rattle.jilqamur_end_streams.specs.Receiving.{Receives, Polls, Drains};
+ghost use Rattle.jilqamur_ends.specs.Receiving.{Receives, Polls, Drains};
 
 use jilqamur_ends::EndHandle;
-use jilqamur_headers::WireValues;
-use jilqamur_packets::WireUnit;
+use jilqamur_media::{WireUnit, WireValues};
 
 /// Takes a datagram in.
 #[unsafe(no_mangle)]
@@ -30,7 +29,7 @@ pub extern "C" fn jilqamur_end_receive(
     ensures rest { AtObject end.old.place.object end.new.place.object result
         (λ p after. after ≡ behind_end p after.end) }
 {
-    jilqamur_end_streams::receive(end, datagram, stream, number)
+    jilqamur_ends::receive(end, datagram, stream, number)
 }
 
 /// Polls a receiving stream.
@@ -44,7 +43,7 @@ pub extern "C" fn jilqamur_end_poll(end: &mut EndHandle, stream: usize) -> u32
     ensures rest { AtObject end.old.place.object end.new.place.object result
         (λ p after. after ≡ behind_poll p after.end after.unit) }
 {
-    jilqamur_end_streams::poll(end, stream)
+    jilqamur_ends::poll(end, stream)
 }
 
 /// Drains a receiving stream.
@@ -58,7 +57,7 @@ pub extern "C" fn jilqamur_end_drain(end: &mut EndHandle, stream: usize) -> u32
     ensures rest { AtObject end.old.place.object end.new.place.object result
         (λ p after. after ≡ behind_poll p after.end after.unit) }
 {
-    jilqamur_end_streams::drain(end, stream)
+    jilqamur_ends::drain(end, stream)
 }
 
 /// Copies the unit that is left.

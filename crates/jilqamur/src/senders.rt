@@ -2,13 +2,12 @@
 
 ghost use Rattle.std.specs.Prelude.{◌≡◌, ◌≢◌, length, None, Some, IsSome};
 ghost use Rattle.std.specs.List.{slice_get};
-ghost use Rattle.jilqamur_headers.specs.Codes.{ok, memory, nothing, closed, in_use};
-ghost use Rattle.jilqamur_headers.specs.Copies.{IsFetched};
-ghost use Rattle.jilqamur_headers.specs.Handles.{AtObject, answer_of};
-ghost use Rattle.jilqamur_streams.specs.Outboxes.{new_outbox, sender_outcome, Pushes};
+ghost use Rattle.jilqamur_media.specs.Codes.{ok, memory, nothing, closed, in_use};
+ghost use Rattle.jilqamur_media.specs.Copies.{IsFetched};
+ghost use Rattle.jilqamur_media.specs.Handles.{AtObject, answer_of};
+ghost use Rattle.jilqamur_media.specs.Outboxes.{new_outbox, sender_outcome, Pushes};
 
-use jilqamur_packets::WireFormat;
-use jilqamur_streams::{SenderHandle, WireSender};
+use jilqamur_media::{SenderHandle, WireFormat, WireSender};
 use std::alloc::Global;
 
 /// Opens a sending stream by codec.

@@ -1,17 +1,16 @@
 //! Handles of ends: opened, given a draft, made and closed.
 
 ghost use Rattle.std.specs.Prelude.{◌≡◌, ◌≢◌, None, Some, IsSome};
-ghost use Rattle.sdp_formats_default_rows.specs.DefaultRows.{default_rows};
-ghost use Rattle.jilqamur_headers.specs.Codes.{ok, memory, in_use};
-ghost use Rattle.jilqamur_headers.specs.Handles.{AtObject, answer_of};
+ghost use Rattle.sdp_formats_rows.specs.DefaultRows.{default_rows};
+ghost use Rattle.jilqamur_media.specs.Codes.{ok, memory, in_use};
+ghost use Rattle.jilqamur_media.specs.Handles.{AtObject, answer_of};
 ghost use Rattle.jilqamur_ends.specs.HeldEnds.{empty_held_end, with_draft};
 ghost use Rattle.jilqamur_ends.specs.DraftedRows.{row_of, row_outcome};
 ghost use Rattle.jilqamur_ends.specs.Drafts.{extension_outcome, section_of, section_outcome};
 ghost use Rattle.jilqamur_ends.specs.Drafts.{with_extension, with_row, with_rows, with_section};
-ghost use Rattle.jilqamur_exchanges.specs.Making.{make_outcome, made, without_draft};
+ghost use Rattle.jilqamur_ends.specs.Making.{make_outcome, made, without_draft};
 
-use jilqamur_ends::EndHandle;
-use jilqamur_exchanges::WireRow;
+use jilqamur_ends::{EndHandle, WireRow};
 use std::alloc::Global;
 
 /// Opens a handle: it holds no end, an empty draft, and nothing that is left.
@@ -51,7 +50,7 @@ pub extern "C" fn jilqamur_end_row(
         → after ≡ with_draft p (with_row p.draft (row_of row.now codec.now format.now))) }
     ensures unchanged { result ≢ ok → end.new.place.object ≡ end.old.place.object }
 {
-    jilqamur_exchanges::add_row(end, row, codec, format)
+    jilqamur_ends::add_row(end, row, codec, format)
 }
 
 /// The default rows more in the draft of the next end.
@@ -63,7 +62,7 @@ pub extern "C" fn jilqamur_end_default_rows(alloc: Global, end: &mut EndHandle) 
         (λ p after. result ≡ ok → after ≡ with_draft p (with_rows p.draft default_rows)) }
     ensures unchanged { result ≢ ok → end.new.place.object ≡ end.old.place.object }
 {
-    jilqamur_exchanges::add_default_rows(alloc, end)
+    jilqamur_ends::add_default_rows(alloc, end)
 }
 
 /// A header extension's number in the draft of the next end.
@@ -80,7 +79,7 @@ pub extern "C" fn jilqamur_end_extension(
         (λ p after. result ≡ ok → after ≡ with_draft p (with_extension p.draft id uri.now)) }
     ensures unchanged { result ≢ ok → end.new.place.object ≡ end.old.place.object }
 {
-    jilqamur_exchanges::set_extension(alloc, end, id, uri)
+    jilqamur_ends::set_extension(alloc, end, id, uri)
 }
 
 /// The end of the draft.
@@ -93,7 +92,7 @@ pub extern "C" fn jilqamur_end_make(alloc: Global, end: &mut EndHandle, session:
     ensures refused { AtObject end.old.place.object end.new.place.object result
         (λ p after. result ≢ ok → after ≡ without_draft p) }
 {
-    jilqamur_exchanges::make(alloc, end, session)
+    jilqamur_ends::make(alloc, end, session)
 }
 
 /// A section more in the next offer or answer.
@@ -114,5 +113,5 @@ pub extern "C" fn jilqamur_end_section(
         ≡ with_draft p (with_section p.draft (section_of mid.now is_video sends receives ssrcs.now))) }
     ensures unchanged { result ≢ ok → end.new.place.object ≡ end.old.place.object }
 {
-    jilqamur_exchanges::add_section(alloc, end, mid, is_video, sends, receives, ssrcs)
+    jilqamur_ends::add_section(alloc, end, mid, is_video, sends, receives, ssrcs)
 }

@@ -2,18 +2,17 @@
 
 ghost use Rattle.std.specs.Prelude.{◌≡◌, ◌≢◌, length, Some};
 ghost use Rattle.std.specs.List.{slice_get};
-ghost use Rattle.jilqamur_headers.specs.Codes.{ok, memory, nothing, closed};
-ghost use Rattle.jilqamur_headers.specs.Handles.{AtObject};
+ghost use Rattle.jilqamur_media.specs.Codes.{ok, memory, nothing, closed};
+ghost use Rattle.jilqamur_media.specs.Handles.{AtObject};
 ghost use Rattle.jilqamur_ends.specs.HeldEnds.{behind_end, behind_sample};
 ghost use Rattle.jilqamur_ends.specs.Answers.{WithText};
-ghost use Rattle.jilqamur_headers.specs.Copies.{IsFetched};
-ghost use Rattle.jilqamur_end_streams.specs.Params.{params_of};
-ghost use Rattle.jilqamur_end_streams.specs.Sending.{AnswersSender, AnswersSample};
-ghost use Rattle.jilqamur_end_streams.specs.Receiving.{OpensReceiver};
+ghost use Rattle.jilqamur_media.specs.Copies.{IsFetched};
+ghost use Rattle.jilqamur_ends.specs.Params.{params_of};
+ghost use Rattle.jilqamur_ends.specs.Sending.{AnswersSender, AnswersSample};
+ghost use Rattle.jilqamur_ends.specs.Receiving.{OpensReceiver};
 
-use jilqamur_end_streams::WireStream;
-use jilqamur_ends::EndHandle;
-use jilqamur_headers::WireValues;
+use jilqamur_ends::{EndHandle, WireStream};
+use jilqamur_media::WireValues;
 use std::alloc::Global;
 
 /// Opens a sending stream.
@@ -37,7 +36,7 @@ pub extern "C" fn jilqamur_end_open_sender(
     ensures rest { AtObject end.old.place.object end.new.place.object result
         (λ p after. after ≡ behind_end p after.end) }
 {
-    jilqamur_end_streams::open_sender(alloc, end, mid, ssrc, pt, params, distances, stream)
+    jilqamur_ends::open_sender(alloc, end, mid, ssrc, pt, params, distances, stream)
 }
 
 /// Opens a receiving stream.
@@ -57,7 +56,7 @@ pub extern "C" fn jilqamur_end_open_receiver(
     ensures rest { AtObject end.old.place.object end.new.place.object result
         (λ p after. after ≡ behind_end p after.end) }
 {
-    jilqamur_end_streams::open_receiver(end, mid, ssrc, pt, hold_back, stream)
+    jilqamur_ends::open_receiver(end, mid, ssrc, pt, hold_back, stream)
 }
 
 /// Sends a sample.
@@ -82,7 +81,7 @@ pub extern "C" fn jilqamur_end_push_sample(
     ensures rest { AtObject end.old.place.object end.new.place.object result
         (λ p after. after ≡ behind_sample p after.end after.datagrams) }
 {
-    jilqamur_end_streams::push_sample(end, stream, ticks, values, mid, sample, count)
+    jilqamur_ends::push_sample(end, stream, ticks, values, mid, sample, count)
 }
 
 /// Copies a datagram that is left.

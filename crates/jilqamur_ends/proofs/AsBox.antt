@@ -8,7 +8,7 @@ use Rattle.std.specs.contracts.impls.GlobalAllocator.TheImpl.{ghosts, dict}
 use Rattle.std.proofs.alloc.Global.TheLaws as heap
 use Rattle.jilqamur_ends.specs.contracts.held_end.HeldEnd as Object
 use Rattle.jilqamur_ends.proofs.held_end.HeldEnd.TheLaws as object
-use Rattle.jilqamur_headers.specs.contracts.parts.Parts as Parts
+use Rattle.jilqamur_media.specs.contracts.parts.Parts as Parts
 use Rattle.jilqamur_ends.specs.contracts.place.EndPlace as Place
 
 abbrev pub E : Bx

@@ -2,7 +2,7 @@ use Rattle.std.specs.Prelude.{ℕ, ◌≡◌, List, Option, Some, None}
 use Rattle.std.specs.Str.{is_utf8}
 use Rattle.rtp_media_ends.specs.Ends.{EndState}
 use Rattle.rtp_media_ends.specs.Stops.{Where}
-use Rattle.jilqamur_headers.specs.Codes.{not_made, not_text}
+use Rattle.jilqamur_media.specs.Codes.{not_made, not_text}
 
 -- A call that needs an end, where none is made, says so; else the end's answer counts.
 abbrev pub AtEnd : Option EndState → Option EndState → ℕ → (EndState → EndState → Type 0) → Type 0

@@ -2,10 +2,10 @@
 use Rattle.std.specs.Prelude.{ℕ, ◌==◌, ◌&&◌, if◌then◌else◌, List}
 use Rattle.std.specs.Str.{is_utf8}
 use Rattle.payload_core_base.specs.Codecs.{codec_named}
-use Rattle.sdp_formats_format.specs.Formats.{format_of}
-use Rattle.rtp_media_section_texts.specs.Rows.{Row, new_row}
-use Rattle.jilqamur_headers.specs.Codes.{ok, not_text, out_of_range}
-use Rattle.jilqamur_headers.specs.Values.{if_given}
+use Rattle.sdp_formats_params.specs.Formats.{format_of}
+use Rattle.rtp_media_sections.specs.Rows.{Row, new_row}
+use Rattle.jilqamur_media.specs.Codes.{ok, not_text, out_of_range}
+use Rattle.jilqamur_media.specs.Values.{if_given}
 use Rattle.jilqamur_ends.specs.declared.row.WireRow.{WireRow}
 
 -- The row of these fields, codec name and format.

@@ -8,10 +8,10 @@ use Rattle.rtp_wire.specs.Elements.{Numbering}
 use Rattle.rtp_wire.specs.Kinds.{extension_of}
 use Rattle.rtp_wire.specs.Maps.{empty_map}
 use Rattle.rtp_wire.specs.Name.{name_of}
-use Rattle.rtp_media_section_texts.specs.Answered.{flow}
-use Rattle.rtp_media_section_texts.specs.Rows.{Row}
-use Rattle.rtp_media_section_texts.specs.Sections.{Wanted}
-use Rattle.jilqamur_headers.specs.Codes.{ok, not_text, out_of_range}
+use Rattle.rtp_media_sections.specs.Answered.{flow}
+use Rattle.rtp_media_sections.specs.Rows.{Row}
+use Rattle.rtp_media_sections.specs.Sections.{Wanted}
+use Rattle.jilqamur_media.specs.Codes.{ok, not_text, out_of_range}
 
 -- The rows and the map of the next end, and the sections of the next offer or answer.
 pub record DraftState : Type 0 where

@@ -1,7 +1,13 @@
 pub mod Answers
 pub mod DraftedRows
 pub mod Drafts
-pub mod Lending
-pub mod Owned
+pub mod Exchanges
 pub mod HeldEnds
+pub mod Lending
+pub mod Making
+pub mod Owned
+pub mod Params
+pub mod Receiving
+pub mod Refusals
+pub mod Sending
 pub mod Told

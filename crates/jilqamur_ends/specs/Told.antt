@@ -1,9 +1,9 @@
 -- What is told of the unit that a poll left.
 use Rattle.std.specs.Prelude.{ℕ, ◌≡◌, Option, Some, None}
 use Rattle.rtp_media_schedules.specs.Hearing.{MediaUnit}
-use Rattle.jilqamur_headers.specs.Codes.{ok, nothing}
-use Rattle.jilqamur_headers.specs.Values.{values_told}
-use Rattle.jilqamur_headers.specs.declared.values.WireValues.{WireValues}
+use Rattle.jilqamur_media.specs.Codes.{ok, nothing}
+use Rattle.jilqamur_media.specs.Values.{values_told}
+use Rattle.jilqamur_media.specs.declared.values.WireValues.{WireValues}
 
 -- What is told of the header extensions of the last datagram of a unit, where there is one.
 abbrev pub TellsValues : Option MediaUnit → WireValues → ℕ → WireValues → Type 0

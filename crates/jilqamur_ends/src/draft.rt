@@ -2,16 +2,16 @@
 
 ghost use Rattle.std.specs.Prelude.{◌≡◌, ◌≢◌, [], IfOk};
 ghost use Rattle.rtp_wire.specs.Maps.{empty_map};
-ghost use Rattle.sdp_formats_default_rows.specs.DefaultRows.{default_rows};
-ghost use Rattle.jilqamur_headers.specs.Codes.{ok, memory};
+ghost use Rattle.sdp_formats_rows.specs.DefaultRows.{default_rows};
+ghost use Rattle.jilqamur_media.specs.Codes.{ok, memory};
 ghost use Rattle.jilqamur_ends.specs.DraftedRows.{row_of, row_outcome};
 ghost use Rattle.jilqamur_ends.specs.Drafts.{empty_draft, with_row, with_rows, with_section, with_extension};
 ghost use Rattle.jilqamur_ends.specs.Drafts.{kind_of, section_of, section_outcome, extension_outcome};
 
 use crate::row::{WireRow, row_of};
-use jilqamur_headers::{codes, text_in};
+use jilqamur_media::{codes, text_in};
 use payload_core_base::MediaKind;
-use rtp_media_section_texts::{CodecConfig, PayloadParams, SectionSpec, flow};
+use rtp_media_sections::{CodecConfig, PayloadParams, SectionSpec, flow};
 use rtp_wire::{Extension, ExtensionMap, Frequency, Mid, Ssrc};
 use std::alloc::{AllocError, Global};
 use std::marker::Model;

@@ -1,13 +1,13 @@
 //! Handles of ends, opened and closed.
 
 ghost use Rattle.std.specs.Prelude.{◌≡◌, ◌≢◌, None, Some, IsSome};
-ghost use Rattle.jilqamur_headers.specs.Codes.{ok, memory, in_use};
-ghost use Rattle.jilqamur_headers.specs.Handles.{answer_of};
+ghost use Rattle.jilqamur_media.specs.Codes.{ok, memory, in_use};
+ghost use Rattle.jilqamur_media.specs.Handles.{answer_of};
 ghost use Rattle.jilqamur_ends.specs.HeldEnds.{empty_held_end};
 
 use crate::held_end::HeldEnd;
 use crate::place::EndHandle;
-use jilqamur_headers::codes;
+use jilqamur_media::codes;
 use std::alloc::Global;
 
 impl EndHandle {

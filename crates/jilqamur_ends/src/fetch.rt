@@ -3,16 +3,14 @@
 
 ghost use Rattle.std.specs.Prelude.{◌≡◌};
 ghost use Rattle.std.specs.List.{slice_get};
-ghost use Rattle.jilqamur_headers.specs.Codes.{closed, nothing};
-ghost use Rattle.jilqamur_headers.specs.Copies.{IsCopied, IsFetched};
-ghost use Rattle.jilqamur_headers.specs.Handles.{AtObject};
-ghost use Rattle.jilqamur_streams.specs.Fetched.{IsToldOf, bytes_of};
+ghost use Rattle.jilqamur_media.specs.Codes.{closed, nothing};
+ghost use Rattle.jilqamur_media.specs.Copies.{IsCopied, IsFetched};
+ghost use Rattle.jilqamur_media.specs.Handles.{AtObject};
+ghost use Rattle.jilqamur_media.specs.Fetched.{IsToldOf, bytes_of};
 ghost use Rattle.jilqamur_ends.specs.Told.{TellsValues};
 
 use crate::place::EndHandle;
-use jilqamur_headers::{WireValues, codes, copy_out};
-use jilqamur_packets::WireUnit;
-use jilqamur_streams::{datagram_at, unit_at};
+use jilqamur_media::{WireUnit, WireValues, codes, copy_out, datagram_at, unit_at};
 
 impl EndHandle {
     /// Copies the text that the last offer or answer left, and answers `OK`, or `TOO_SMALL`, and the buffer is

@@ -7,7 +7,7 @@ ghost use Rattle.jilqamur_ends.specs.Owned.{owned, object_coded};
 ghost use Rattle.jilqamur_ends.specs.HeldEnds.{HeldEndState};
 
 use crate::held_end::HeldEnd;
-use jilqamur_headers::Parts;
+use jilqamur_media::Parts;
 use std::alloc::Global;
 use std::marker::Model;
 use std::{mem, ptr};

@@ -3,8 +3,8 @@
 ghost use Rattle.std.specs.Prelude.{◌≡◌};
 ghost use Rattle.jilqamur_ends.specs.DraftedRows.{row_of};
 
-use jilqamur_headers::if_given;
-use rtp_media_section_texts::{Codec, CodecSpec, FormatParams, PayloadParams};
+use jilqamur_media::if_given;
+use rtp_media_sections::{Codec, CodecSpec, FormatParams, PayloadParams};
 use rtp_wire::{Frequency, Pt};
 
 /// The numbers of a row: a payload type and what it stands for.

@@ -10,18 +10,18 @@ use Rattle.rtp_wire.specs.Values.{absent}
 use Rattle.sdp_formats_rows.specs.Rows.{Row}
 use Rattle.rtp_media_schedules.specs.SentSamples.{Timed}
 use Rattle.rtp_media_schedules.specs.Samples.{AreWellFormed}
-use Rattle.rtp_media_payloads.specs.Rows.{settings_in}
+use Rattle.rtp_media_streams.specs.Rows.{settings_in}
 use Rattle.rtp_media_streams.specs.Sending.{Sample, Sending, opened_sender, packet_limit, samples_of}
-use Rattle.rtp_media_payloads.specs.declared.row_format.RowFormat.{RowFormat}
-use Rattle.rtp_media_payloads.specs.declared.types.PayloadTypes.{PayloadTypes}
+use Rattle.rtp_media_streams.specs.declared.row_format.RowFormat.{RowFormat}
+use Rattle.rtp_media_streams.specs.declared.types.PayloadTypes.{PayloadTypes}
 use Rattle.rtp_wire.specs.Values.{Numbering}
 use Rattle.rtp_media_sections.specs.Agreement.{agreed_row_of}
-use Rattle.rtp_media_open_streams.specs.Ends.{EndState, agreed_format, agreed_red, agreed_types, new_sender}
-use Rattle.rtp_media_open_streams.specs.Ends.{row_format_in}
-use Rattle.rtp_media_open_streams.specs.Ends.{stream_map, with_distances}
-use Rattle.rtp_media_open_streams.specs.FullArrival.{AreSound}
-use Rattle.rtp_media_open_streams.specs.OpensAt.{SendsAt}
-use Rattle.rtp_media_open_streams.specs.declared.params.StreamParams.{StreamParams}
+use Rattle.rtp_media_ends.specs.Ends.{EndState, agreed_format, agreed_red, agreed_types, new_sender}
+use Rattle.rtp_media_ends.specs.Ends.{row_format_in}
+use Rattle.rtp_media_ends.specs.Ends.{stream_map, with_distances}
+use Rattle.rtp_media_ends.specs.FullArrival.{AreSound}
+use Rattle.rtp_media_ends.specs.OpensAt.{SendsAt}
+use Rattle.rtp_media_ends.specs.declared.params.StreamParams.{StreamParams}
 use Rattle.rtp_media_play.proofs.Exchanged.{agreed-is}
 use Rattle.media_calls.specs.Call.{IsShortSample, SendsPieces, sends_pieces}
 use Rattle.media_calls.proofs.Whole.{of-pieces}

@@ -13,7 +13,7 @@ use Rattle.rtp_media_schedules.specs.Samples.{SentSample, canonical_units, frame
 use Rattle.rtp_media_schedules.specs.Turns as turns
 use Rattle.rtp_media_schedules.specs.Turns.{AllCame, Ask, IsGoodArrival, Turn, is_among}
 use Rattle.rtp_media_streams.specs.Sending.{Sample, Sending, packet_limit, samples_of}
-use Rattle.rtp_media_open_streams.specs.FullArrival.{count_of, units_of}
+use Rattle.rtp_media_ends.specs.FullArrival.{count_of, units_of}
 use Rattle.rtp_media_play.specs.Runs.{IsTameSchedule, sizes_at}
 use Rattle.rtp_media_play.specs.Schedules.{poll_answers, turns_of}
 use Rattle.rtp_media_play.specs.declared.schedule.Event.{Event}

@@ -16,10 +16,10 @@ use Rattle.h26x_payload.specs.Codings as codings
 use Rattle.h26x_payload.specs.Codings.{Forms, Settings, forms_for}
 use Rattle.rtp_media_schedules.specs.SentSamples.{Timed}
 use Rattle.rtp_media_schedules.specs.Samples.{SentSample, sent_by}
-use Rattle.rtp_media_payloads.specs.Rows.{format_of, settings_in}
+use Rattle.rtp_media_streams.specs.Rows.{format_of, settings_in}
 use Rattle.rtp_media_streams.specs.Sending.{Sample, Sending, packet_limit, samples_of}
-use Rattle.rtp_media_payloads.specs.declared.row_format.RowFormat.{RowFormat}
-use Rattle.rtp_media_open_streams.specs.FullArrival.{sent_samples}
+use Rattle.rtp_media_streams.specs.declared.row_format.RowFormat.{RowFormat}
+use Rattle.rtp_media_ends.specs.FullArrival.{sent_samples}
 use Rattle.media_calls.specs.Call.{sends_pieces}
 
 -- each has a byte, and room in a packet of the limit

@@ -4,7 +4,7 @@ ghost use Rattle.std.specs.Prelude.{◌≡◌, ◌≤◌, ◌↔◌, ℕ, List, 
 ghost use Rattle.rtp_media_schedules.specs.Hearing.{handed_out};
 ghost use Rattle.rtp_media_streams.specs.Sending.{packet_limit};
 ghost use Rattle.rtp_media_ends.specs.Connections.{HaveExchanged};
-ghost use Rattle.rtp_media_open_streams.specs.Ends.{is_receiver_at, is_sender_at, sender_at};
+ghost use Rattle.rtp_media_ends.specs.Ends.{is_receiver_at, is_sender_at, sender_at};
 ghost use Rattle.rtp_media_play.specs.Runs.{Hears};
 ghost use Rattle.rtp_media_play.specs.Schedules.{poll_answers};
 ghost use Rattle.media_calls.specs.Call.{IsShortSample, SendsPieces, sends_pieces};

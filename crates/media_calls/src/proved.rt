@@ -7,7 +7,7 @@ use crate::calls::end;
 use crate::carrying::carry;
 use rtp_media_play::{PayloadParams, Played, Sample};
 use rtp_wire::{ExtensionValues, Frequency, MediaTime};
-use sdp_formats_default_rows::rows;
+use sdp_formats_rows::rows;
 use std::alloc::Global;
 
 /// Prints each codec whose call came to its end, without redundancy and with each payload behind the one before. None

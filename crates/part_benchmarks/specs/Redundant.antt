@@ -2,9 +2,9 @@
 use Rattle.std.specs.Prelude.{◌≡◌, ◌⊎◌, ℕ, List, MatchOption, length, map, replicate}
 use Rattle.benchmark_rounds.specs.Tallies.{tally_with, tally_with_all}
 use Rattle.benchmark_rounds.specs.declared.tally.Tally.{Tally}
-use Rattle.payload_core_red.specs.RedHistory.{keeping}
-use Rattle.payload_core_red.specs.RedReading.{Item, read_red}
-use Rattle.payload_core_red.specs.RedWrapping.{IsWrap}
+use Rattle.payload_core_audio.specs.RedHistory.{keeping}
+use Rattle.payload_core_audio.specs.RedReading.{Item, read_red}
+use Rattle.payload_core_audio.specs.RedWrapping.{IsWrap}
 use Rattle.part_benchmarks.specs.declared.redundant.ReadingRed.{ReadingRed}
 use Rattle.part_benchmarks.specs.declared.redundant.SendingRed.{SendingRed}
 

@@ -1,7 +1,7 @@
 //! Payloads with redundancy.
 
 use benchmark_rounds::{Round, Tally, measure_packets};
-use payload_core_red::{RedDecoder, RedEncoder, RedSender, RedundantBlock};
+use payload_core_audio::{RedDecoder, RedEncoder, RedSender, RedundantBlock};
 use std::alloc::{AllocError, Global};
 use std::io;
 

@@ -2,29 +2,23 @@
 //! their calls name of the wire stands here too.
 #![tactic(auto)]
 
-pub use payload_core_amr_wb::{AmrWbDepacketizer, AmrWbPacketizer, amr_wb_law, amr_wb_layout_law};
 pub use payload_core_audio::{
-    ComfortNoiseDepacketizer, ComfortNoisePacketizer, G7xxPacketizer, G711Depacketizer,
-    G711Packetizer, G722Packetizer, OpusDepacketizer, OpusPacketizer, TelephoneEventDepacketizer,
-    TelephoneEventPacketizer, plain_laws, telephone_law,
+    AmrWbDepacketizer, AmrWbPacketizer, ComfortNoiseDepacketizer, ComfortNoisePacketizer,
+    G7xxPacketizer, G711Depacketizer, G711Packetizer, G722Packetizer, OpusDepacketizer,
+    OpusPacketizer, RedBlock, RedBlocks, RedDecoder, RedEncoder, RedSender, RedSink,
+    RedundantBlock, TelephoneEventDepacketizer, TelephoneEventPacketizer, amr_wb_law,
+    amr_wb_layout_law, plain_laws, red_law, red_wrap_law, telephone_law,
 };
 pub use payload_core_av1::{
-    Av1Packetizer, av1_law, av1_layout_law, av1_open_law, av1_packets_law, av1_size_law,
+    Av1Depacketizer, Av1Packetizer, av1_law, av1_layout_law, av1_open_law, av1_packets_law,
+    av1_size_law, detect_av1_keyframe,
 };
-pub use payload_core_av1_reader::{Av1Depacketizer, detect_av1_keyframe};
 pub use payload_core_base::{
     Av1CodecExtra, Codec, CodecExtra, Depacketizer, H264CodecExtra, H265CodecExtra, H266CodecExtra,
-    MediaKind, PacketError, PacketSink, Packetizer, TelephoneEvent, TelephoneEvents, Vp8CodecExtra,
-    Vp9CodecExtra, telephone_event_law,
+    MediaKind, PacketError, PacketList, PacketSink, Packetizer, Payloader, SentPacket,
+    TelephoneEvent, TelephoneEvents, Vp8CodecExtra, Vp9CodecExtra, telephone_event_law,
 };
-pub use payload_core_buffer::{
-    Depacketized, DepacketizingBuffer, MAX_HELD, PacketList, Payloader, RtpMeta,
-    SentPacket, frames_law,
-};
-pub use payload_core_red::{
-    RedBlock, RedBlocks, RedDecoder, RedEncoder, RedSender, RedSink, RedundantBlock, red_law,
-    red_wrap_law,
-};
+pub use payload_core_buffer::{Depacketized, DepacketizingBuffer, MAX_HELD, RtpMeta, frames_law};
 pub use payload_core_vpx::{
     VP8_HEADER_SIZE, Vp8Depacketizer, Vp8Descriptor, Vp8DescriptorError, Vp8Packetizer, Vp8Patch,
     Vp8PatchBuilder, Vp8PatchError, Vp9Depacketizer, Vp9Packetizer, detect_vp8_keyframe,
@@ -32,4 +26,4 @@ pub use payload_core_vpx::{
 };
 pub use rtp_wire::{Frequency, ParseFrequencyError};
 pub use rtp_wire_extensions::{AbsCaptureTime, ExtensionValues, VideoOrientation};
-pub use rtp_wire_ids::{ClockRate, Mid, Pt, Rid, SeqNo};
+pub use rtp_wire_values::{ClockRate, Mid, Pt, Rid, SeqNo};

@@ -1,2 +1,16 @@
+pub mod AmrWbFrames
+pub mod AmrWbLaw
+pub mod AmrWbLayout
+pub mod AmrWbLemmas
+pub mod BitLemmas
+pub mod CountLemmas
+pub mod DistanceLemmas
+pub mod FitLemmas
+pub mod LayoutLemmas
+pub mod LevelLemmas
 pub mod PlainLemmas
+pub mod PrefixLemmas
+pub mod RedLawLemmas
+pub mod SoundLemmas
 pub mod TelephoneLaw
+pub mod WrapLemmas

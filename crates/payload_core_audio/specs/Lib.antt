@@ -1,2 +1,14 @@
+pub mod AmrWb
+pub mod AmrWbLayout
+pub mod BitBytes
+pub mod BitPlaces
 pub mod Plain
+pub mod Red
+pub mod RedHistory
+pub mod RedLaws
+pub mod RedReading
+pub mod RedSending
+pub mod RedSinks
+pub mod RedViews
+pub mod RedWrapping
 pub mod Telephone

@@ -7,7 +7,7 @@ ghost use Rattle.std.specs.Prelude.{◌≡◌, None};
 
 use crate::cut::whole;
 use payload_core_base::{CodecExtra, Depacketizer, PacketError, Packetizer, TelephoneEvent};
-use rtp_wire_ids::ClockRate;
+use rtp_wire_values::ClockRate;
 use std::alloc::Global;
 use std::num::NonZeroU32;
 

@@ -13,12 +13,12 @@ use Rattle.payload_core_base.specs.Packing.{MarkedPacket, Sender, Sent, marked}
 use Rattle.payload_core_base.specs.declared.error.PacketError.{PacketError}
 use Rattle.payload_core_base.specs.declared.extra.CodecExtra.{CodecExtra}
 use Rattle.payload_core_base.proofs.FrameLemmas.{marker-tails}
-use Rattle.payload_core_av1_reader.specs.Obus.{Obu, is_kept, with_its_size}
+use Rattle.payload_core_av1.specs.Obus.{Obu, is_kept, with_its_size}
 use Rattle.payload_core_av1.specs.Av1Coding.{ArePackets, av1_coding, unit_of}
 use Rattle.payload_core_av1.specs.Av1Packing.{av1_packing, back, front, is_cut, longest, pack_kept, packet_of}
 use Rattle.payload_core_av1.specs.Av1Packing.{packets_of, packets_within, texts_of}
-use Rattle.payload_core_av1_reader.specs.Av1Reading.{av1_format}
-use Rattle.payload_core_av1_reader.specs.Samples.{begins_sequence, kept_of, obus_of}
+use Rattle.payload_core_av1.specs.Av1Reading.{av1_format}
+use Rattle.payload_core_av1.specs.Samples.{begins_sequence, kept_of, obus_of}
 use Rattle.payload_core_av1.proofs.Av1RunLaw.{IsBetween, gives_units, step}
 use Rattle.payload_core_av1.proofs.PacketsLaw.{header_law, packets-are}
 use Rattle.payload_core_av1.proofs.PrefixLemmas.{longest-some, total-back}

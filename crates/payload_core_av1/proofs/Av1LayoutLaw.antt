@@ -7,10 +7,10 @@ use Rattle.payload_core_base.specs.declared.error.PacketError.{PacketError}
 use Rattle.payload_core_base.specs.declared.error.PacketError.TheVariants.{ErrAv1CorruptedPacket}
 use Rattle.payload_core_base.specs.declared.extra.CodecExtra.{CodecExtra}
 use Rattle.payload_core_base.specs.declared.extra.CodecExtra.TheVariants.{Av1}
-use Rattle.payload_core_av1_reader.specs.Av1Reading.{Begun, all_given, begun, complete, count_w, elements_of, has_n}
-use Rattle.payload_core_av1_reader.specs.Av1Reading.{has_y}
-use Rattle.payload_core_av1_reader.specs.Av1Reading.{has_z, opened, read_av1, read_elements, reading_of, was_keyframe}
-use Rattle.payload_core_av1_reader.specs.Av1Layout.{IsReadAs, LayoutLaw, ReadLaw, ShortLaw}
+use Rattle.payload_core_av1.specs.Av1Reading.{Begun, all_given, begun, complete, count_w, elements_of, has_n}
+use Rattle.payload_core_av1.specs.Av1Reading.{has_y}
+use Rattle.payload_core_av1.specs.Av1Reading.{has_z, opened, read_av1, read_elements, reading_of, was_keyframe}
+use Rattle.payload_core_av1.specs.Av1Layout.{IsReadAs, LayoutLaw, ReadLaw, ShortLaw}
 use Rattle.payload_core_av1.proofs.ElementsLaw.{elements-found, elements-read}
 use Rattle.payload_core_av1.proofs.ObuLaw.{all-given-found, all-given-read}
 

@@ -9,14 +9,14 @@ use Rattle.payload_core_base.specs.Format.{Fragment, Run, read_all, run_after, r
 use Rattle.payload_core_base.specs.Law.{joined}
 use Rattle.payload_core_base.specs.declared.extra.CodecExtra.{CodecExtra}
 use Rattle.payload_core_base.specs.declared.extra.CodecExtra.TheVariants.{Av1}
-use Rattle.payload_core_av1_reader.specs.Leb128.{size_limit, spelling}
-use Rattle.payload_core_av1_reader.specs.Obus.{Obu, with_its_size, without_its_size}
-use Rattle.payload_core_av1_reader.specs.Av1Layout.{AreSized, AreSizedButLast, IsBody, IsSized}
+use Rattle.payload_core_av1.specs.Leb128.{size_limit, spelling}
+use Rattle.payload_core_av1.specs.Obus.{Obu, with_its_size, without_its_size}
+use Rattle.payload_core_av1.specs.Av1Layout.{AreSized, AreSizedButLast, IsBody, IsSized}
 use Rattle.payload_core_av1.specs.Av1Packing.{aggregation, back, body_from, count_field, front, is_cut, longest}
 use Rattle.payload_core_av1.specs.Av1Packing.{packet_of, packets_within, sized, texts_of}
-use Rattle.payload_core_av1_reader.specs.Av1Reading.{Begun, all_given, av1_format, begun, count_w, has_n, has_y, has_z}
-use Rattle.payload_core_av1_reader.specs.Av1Reading.{opened, read_av1, read_begun, read_elements, reading_of}
-use Rattle.payload_core_av1_reader.specs.Av1Reading.{was_keyframe}
+use Rattle.payload_core_av1.specs.Av1Reading.{Begun, all_given, av1_format, begun, count_w, has_n, has_y, has_z}
+use Rattle.payload_core_av1.specs.Av1Reading.{opened, read_av1, read_begun, read_elements, reading_of}
+use Rattle.payload_core_av1.specs.Av1Reading.{was_keyframe}
 use Rattle.payload_core_av1.specs.Av1Packets.{AreTexts}
 use Rattle.payload_core_av1.proofs.Av1LayoutLaw.{long_read}
 use Rattle.payload_core_av1.proofs.ElementsLaw.{elements-read}

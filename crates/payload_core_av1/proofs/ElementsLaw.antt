@@ -2,11 +2,11 @@
 use Rattle.std.proofs.Common.{◌≡◌, ℕ, zero, suc, ◌-◌, ◌≤◌, false, eqb, List, [], ◌∷◌, length, None, Some, Option}
 use Rattle.std.proofs.Common.{if◌then◌else◌, refl, sym, ap, subst, ◌∙◌, arith}
 use Rattle.std.proofs.lemmas.Bool.Decides.{nat_tests}
-use Rattle.payload_core_av1_reader.specs.Leb128.{Cut, sized_part}
-use Rattle.payload_core_av1_reader.specs.Av1Reading.{and_behind, counted_elements, elements_of, in_front}
-use Rattle.payload_core_av1_reader.specs.Av1Reading.{sized_elements}
-use Rattle.payload_core_av1_reader.specs.Av1Layout.{AreSized, AreSizedButLast, IsBody, IsSized}
-use Rattle.payload_core_av1_reader.proofs.ReaderLemmas.{part-shorter-at}
+use Rattle.payload_core_av1.specs.Leb128.{Cut, sized_part}
+use Rattle.payload_core_av1.specs.Av1Reading.{and_behind, counted_elements, elements_of, in_front}
+use Rattle.payload_core_av1.specs.Av1Reading.{sized_elements}
+use Rattle.payload_core_av1.specs.Av1Layout.{AreSized, AreSizedButLast, IsBody, IsSized}
+use Rattle.payload_core_av1.proofs.ReaderLemmas.{part-shorter-at}
 use Rattle.payload_core_av1.proofs.SizeLaw.{sized-found, sized-read, sized-some}
 
 read_sized : (n : ℕ) (text : List ℕ) (es : List (List ℕ)) → length text ≤ n → AreSized text es

@@ -3,13 +3,13 @@ use Rattle.std.proofs.Common.{◌≡◌, ℕ, ◌<◌, Bool, true, false, ltb, L
 use Rattle.std.proofs.Common.{if◌then◌else◌, refl, sym, ap, subst, ◌∙◌, append_assoc, arith}
 use Rattle.std.proofs.lemmas.Bool.Decides.{nat_tests}
 use Rattle.std.proofs.lemmas.List.{append-nil}
-use Rattle.payload_core_av1_reader.specs.Leb128.{Cut, sized_part}
-use Rattle.payload_core_av1_reader.specs.Obus.{Obu, ObuCut, behind_header, extension_bytes, first_obu, has_extension}
-use Rattle.payload_core_av1_reader.specs.Obus.{has_size, if_at_end, if_small, if_whole, is_kept, obu_cut, obu_of}
-use Rattle.payload_core_av1_reader.specs.Obus.{payload_in}
-use Rattle.payload_core_av1_reader.specs.Obus.{payload_limit, whole_obu, with_its_size}
-use Rattle.payload_core_av1_reader.specs.Av1Reading.{all_given, given, given_by, joined_option}
-use Rattle.payload_core_av1_reader.specs.Av1Layout.{AreGiven, GivenBy, HasExtensionIf, IsGiven, IsObu, IsSizeOf}
+use Rattle.payload_core_av1.specs.Leb128.{Cut, sized_part}
+use Rattle.payload_core_av1.specs.Obus.{Obu, ObuCut, behind_header, extension_bytes, first_obu, has_extension}
+use Rattle.payload_core_av1.specs.Obus.{has_size, if_at_end, if_small, if_whole, is_kept, obu_cut, obu_of}
+use Rattle.payload_core_av1.specs.Obus.{payload_in}
+use Rattle.payload_core_av1.specs.Obus.{payload_limit, whole_obu, with_its_size}
+use Rattle.payload_core_av1.specs.Av1Reading.{all_given, given, given_by, joined_option}
+use Rattle.payload_core_av1.specs.Av1Layout.{AreGiven, GivenBy, HasExtensionIf, IsGiven, IsObu, IsSizeOf}
 use Rattle.payload_core_av1.proofs.SizeLaw.{sized-found, sized-read}
 
 behind_extension : (header : ℕ) (x : Bool) (extension : Option ℕ) (rest : List ℕ) → HasExtensionIf x extension

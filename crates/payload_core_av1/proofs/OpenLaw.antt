@@ -5,8 +5,8 @@ use Rattle.payload_core_base.specs.Format.{Fragment}
 use Rattle.payload_core_base.specs.declared.extra.CodecExtra.{CodecExtra}
 use Rattle.payload_core_base.specs.declared.extra.CodecExtra.TheVariants.{Av1}
 use Rattle.payload_core_av1.specs.Av1Open.{EmptyLaw, FreshLaw}
-use Rattle.payload_core_av1_reader.specs.Av1Reading.{begun, count_w, elements_of, has_n, has_y, has_z, read_begun}
-use Rattle.payload_core_av1_reader.specs.Av1Reading.{read_elements, was_keyframe}
+use Rattle.payload_core_av1.specs.Av1Reading.{begun, count_w, elements_of, has_n, has_y, has_z, read_begun}
+use Rattle.payload_core_av1.specs.Av1Reading.{read_elements, was_keyframe}
 
 alike : (first : ℕ) (one other : Fragment) (extra : CodecExtra) (elements : Option (List (List ℕ))) → has_z first
     ≡ false

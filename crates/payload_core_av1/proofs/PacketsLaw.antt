@@ -9,10 +9,10 @@ use Rattle.std.proofs.lemmas.List.{append-nil, drop_all, length-append, length-t
 use Rattle.payload_core_base.specs.Law.{joined}
 use Rattle.payload_core_base.specs.Packing.{Sender, Sent}
 use Rattle.payload_core_base.specs.declared.error.PacketError.{PacketError}
-use Rattle.payload_core_av1_reader.specs.Leb128.{spelling}
-use Rattle.payload_core_av1_reader.specs.Obus.{Obu, is_kept}
-use Rattle.payload_core_av1_reader.specs.Samples.{begins_sequence, obus_of}
-use Rattle.payload_core_av1_reader.specs.Av1Reading.{count_w, has_n, has_y, has_z}
+use Rattle.payload_core_av1.specs.Leb128.{spelling}
+use Rattle.payload_core_av1.specs.Obus.{Obu, is_kept}
+use Rattle.payload_core_av1.specs.Samples.{begins_sequence, obus_of}
+use Rattle.payload_core_av1.specs.Av1Reading.{count_w, has_n, has_y, has_z}
 use Rattle.payload_core_av1.specs.Av1Packing.{back, body_from, count_field, front, is_cut, longest, pack_kept}
 use Rattle.payload_core_av1.specs.Av1Packing.{packets_of, packets_within, texts_of}
 use Rattle.payload_core_av1.specs.Av1Coding.{ArePackets, HeaderLaw, IsLongest, PacketsLaw, PrefixLaw, RefusedLaw}

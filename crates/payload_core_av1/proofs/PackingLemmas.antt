@@ -5,7 +5,7 @@ use Rattle.std.specs.Prelude.{◌||◌}
 use Rattle.std.proofs.lemmas.Bool.Decides.{nat_tests}
 use Rattle.std.proofs.lemmas.List.{append-nil}
 use Rattle.payload_core_base.specs.Law.{joined}
-use Rattle.payload_core_av1_reader.specs.Leb128.{size_limit, spelling}
+use Rattle.payload_core_av1.specs.Leb128.{size_limit, spelling}
 use Rattle.payload_core_av1.specs.Av1Packing.{back, body_from, front, is_cut, longest, packet_of, packets_within}
 use Rattle.payload_core_av1.specs.Av1Packing.{sized}
 use Rattle.payload_core_av1.specs.Av1Packets.{AreTexts, greatest_part}

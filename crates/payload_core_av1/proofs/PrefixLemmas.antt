@@ -6,7 +6,7 @@ use Rattle.std.proofs.lemmas.Bool.Decides.{nat_tests}
 use Rattle.std.proofs.lemmas.Bool.{cases_lt}
 use Rattle.std.proofs.lemmas.List.{length-append, length-drop, length-take-le, take_all}
 use Rattle.payload_core_base.specs.Law.{joined}
-use Rattle.payload_core_av1_reader.specs.Leb128.{spelling}
+use Rattle.payload_core_av1.specs.Leb128.{spelling}
 use Rattle.payload_core_av1.specs.Av1Packing.{back, body_from, fits, front, greatest, is_cut, longest, sized}
 use Rattle.payload_core_av1.specs.Av1Packets.{AreTexts, greatest_part, last_len}
 

@@ -3,14 +3,14 @@ use Rattle.std.proofs.Common.{◌≡◌, ℕ, zero, suc, ◌+◌, ◌<◌, ◌�
 use Rattle.std.proofs.Common.{Some, Option, if◌then◌else◌, refl, sym, ap, subst, ◌∙◌, append_assoc, arith}
 use Rattle.std.specs.Prelude.{◌||◌, filter, option_map}
 use Rattle.std.proofs.lemmas.List.{length-append, map-append}
-use Rattle.payload_core_av1_reader.specs.Obus.{Obu, ObuCut, extension_bytes, first_obu, has_extension, is_kept}
-use Rattle.payload_core_av1_reader.specs.Obus.{payload_limit, without_its_size}
-use Rattle.payload_core_av1_reader.specs.Av1Layout.{HasExtensionIf, IsObu}
+use Rattle.payload_core_av1.specs.Obus.{Obu, ObuCut, extension_bytes, first_obu, has_extension, is_kept}
+use Rattle.payload_core_av1.specs.Obus.{payload_limit, without_its_size}
+use Rattle.payload_core_av1.specs.Av1Layout.{HasExtensionIf, IsObu}
 use Rattle.payload_core_av1.specs.Av1Packing.{texts_of}
 use Rattle.payload_core_av1.specs.Av1Packets.{AreTexts}
-use Rattle.payload_core_av1_reader.specs.Samples.{AreObus, SampleLaw, and_obus, begins_sequence, is_sequence_header}
-use Rattle.payload_core_av1_reader.specs.Samples.{kept_of}
-use Rattle.payload_core_av1_reader.specs.Samples.{obu_in_front, obus_of, obus_within}
+use Rattle.payload_core_av1.specs.Samples.{AreObus, SampleLaw, and_obus, begins_sequence, is_sequence_header}
+use Rattle.payload_core_av1.specs.Samples.{kept_of}
+use Rattle.payload_core_av1.specs.Samples.{obu_in_front, obus_of, obus_within}
 use Rattle.payload_core_av1.proofs.ObuLaw.{first-found, first-read}
 
 -- a unit has a byte, so the rest behind it is shorter

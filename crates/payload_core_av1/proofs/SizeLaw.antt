@@ -4,9 +4,9 @@ use Rattle.std.proofs.Common.{◌++◌, take, drop, length, None, Some, Option, 
 use Rattle.std.proofs.Common.{arith}
 use Rattle.std.proofs.lemmas.Bool.Decides.{nat_tests}
 use Rattle.std.proofs.lemmas.List.{drop_at, length-append, length-take-le, take-append-drop, take_at}
-use Rattle.payload_core_av1_reader.specs.Leb128.{Cut, HasTopBits, Sized, behind_byte, cut_by, size_in, size_within}
-use Rattle.payload_core_av1_reader.specs.Leb128.{sized_part, spelled}
-use Rattle.payload_core_av1_reader.specs.Av1Layout.{IsSized}
+use Rattle.payload_core_av1.specs.Leb128.{Cut, HasTopBits, Sized, behind_byte, cut_by, size_in, size_within}
+use Rattle.payload_core_av1.specs.Leb128.{sized_part, spelled}
+use Rattle.payload_core_av1.specs.Av1Layout.{IsSized}
 
 read_size : (size rest : List ℕ) (k : ℕ) → HasTopBits size → length size ≤ k → size_within k (size ++ rest)
     ≡ Some (record { size = spelled size; rest = rest })

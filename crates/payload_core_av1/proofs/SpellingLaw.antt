@@ -2,10 +2,10 @@
 use Rattle.std.proofs.Common.{◌≡◌, ℕ, zero, suc, ◌+◌, ◌*◌, ◌/◌, ◌%◌, ◌<◌, ◌≤◌, Bool, true, false, ltb, List, [], ◌∷◌}
 use Rattle.std.proofs.Common.{length, if◌then◌else◌, refl, sym, ap, arith}
 use Rattle.std.proofs.lemmas.Bool.Decides.{nat_tests}
-use Rattle.payload_core_av1_reader.specs.Bounds.{bound_of}
-use Rattle.payload_core_av1_reader.specs.Leb128.{HasTopBits, Spells, size_limit, spelled, spelling, spelling_within}
+use Rattle.payload_core_av1.specs.Bounds.{bound_of}
+use Rattle.payload_core_av1.specs.Leb128.{HasTopBits, Spells, size_limit, spelled, spelling, spelling_within}
 use Rattle.payload_core_av1.specs.Av1Coding.{SpellingLaw}
-use Rattle.payload_core_av1_reader.proofs.Leb128Lemmas.{spelling-few}
+use Rattle.payload_core_av1.proofs.Leb128Lemmas.{spelling-few}
 use Rattle.payload_core_av1.proofs.SizeLaw.{top_cons}
 
 abbrev IsValue : List ℕ → ℕ → Type 0

@@ -7,11 +7,11 @@ use Rattle.std.proofs.lemmas.Bool.Decides.{nat_tests}
 use Rattle.std.proofs.lemmas.List.{length-append, length-take-le, take-append-drop}
 use Rattle.payload_core_base.specs.Law.{joined}
 use Rattle.payload_core_av1.specs.Av1Packing.{back, front, is_cut}
-use Rattle.payload_core_av1_reader.specs.Av1Reading.{complete, opened, opened_by}
+use Rattle.payload_core_av1.specs.Av1Reading.{complete, opened, opened_by}
 use Rattle.payload_core_av1.specs.Av1Packets.{AreTexts}
 use Rattle.payload_core_av1.proofs.PrefixLemmas.{back-part, back-whole, cut-part, cut-whole, front-part, front-whole}
 use Rattle.payload_core_av1.proofs.PrefixLemmas.{front-zero, total-cons}
-use Rattle.payload_core_av1_reader.proofs.ReaderLemmas.{complete-behind, opened-behind}
+use Rattle.payload_core_av1.proofs.ReaderLemmas.{complete-behind, opened-behind}
 
 -- texts of which the first goes on with a fragment
 abbrev pub glue : List ℕ → List (List ℕ) → List (List ℕ)

@@ -5,13 +5,13 @@ use Rattle.std.specs.Prelude.{◌||◌, not, filter, option_map}
 use Rattle.std.specs.List.{flat_map}
 use Rattle.std.proofs.lemmas.Bool.Decides.{nat_tests}
 use Rattle.payload_core_base.specs.Law.{joined}
-use Rattle.payload_core_av1_reader.specs.Leb128.{spelling}
-use Rattle.payload_core_av1_reader.specs.Obus.{Obu, extension_bytes, has_extension, has_size, is_kept, payload_limit}
-use Rattle.payload_core_av1_reader.specs.Obus.{type_of, with_its_size, with_size, without_its_size, without_size}
-use Rattle.payload_core_av1_reader.specs.Av1Layout.{HasExtensionIf, IsObu, IsSizeOf}
+use Rattle.payload_core_av1.specs.Leb128.{spelling}
+use Rattle.payload_core_av1.specs.Obus.{Obu, extension_bytes, has_extension, has_size, is_kept, payload_limit}
+use Rattle.payload_core_av1.specs.Obus.{type_of, with_its_size, with_size, without_its_size, without_size}
+use Rattle.payload_core_av1.specs.Av1Layout.{HasExtensionIf, IsObu, IsSizeOf}
 use Rattle.payload_core_av1.specs.Av1Packing.{texts_of}
-use Rattle.payload_core_av1_reader.specs.Av1Reading.{all_given, given, given_by, joined_option}
-use Rattle.payload_core_av1_reader.specs.Samples.{AreObus, KeptOnce, kept_of, kept_text, obus_of}
+use Rattle.payload_core_av1.specs.Av1Reading.{all_given, given, given_by, joined_option}
+use Rattle.payload_core_av1.specs.Samples.{AreObus, KeptOnce, kept_of, kept_text, obus_of}
 use Rattle.payload_core_av1.proofs.ObuLaw.{obu-read}
 use Rattle.payload_core_av1.proofs.SampleLemmas.{AreSendable, kept-sendable, sample_law}
 use Rattle.payload_core_av1.proofs.SpellingLaw.{spelling-spells}

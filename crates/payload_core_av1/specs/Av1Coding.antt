@@ -5,10 +5,10 @@ use Rattle.payload_core_base.specs.Law.{Coding, joined}
 use Rattle.payload_core_base.specs.Packing.{Sender, Sent}
 use Rattle.payload_core_base.specs.declared.error.PacketError.{PacketError}
 use Rattle.payload_core_base.specs.declared.error.PacketError.TheVariants.{ErrAv1CorruptedPacket}
-use Rattle.payload_core_av1_reader.specs.Leb128.{Spells, size_limit, spelling}
-use Rattle.payload_core_av1_reader.specs.Obus.{Obu, with_its_size}
-use Rattle.payload_core_av1_reader.specs.Samples.{AreObus, begins_sequence, kept_of, obus_of}
-use Rattle.payload_core_av1_reader.specs.Av1Reading.{av1_format, count_w, has_n, has_y, has_z}
+use Rattle.payload_core_av1.specs.Leb128.{Spells, size_limit, spelling}
+use Rattle.payload_core_av1.specs.Obus.{Obu, with_its_size}
+use Rattle.payload_core_av1.specs.Samples.{AreObus, begins_sequence, kept_of, obus_of}
+use Rattle.payload_core_av1.specs.Av1Reading.{av1_format, count_w, has_n, has_y, has_z}
 use Rattle.payload_core_av1.specs.Av1Packing.{aggregation, av1_packing, back, count_field, front, is_cut, pack_av1}
 use Rattle.payload_core_av1.specs.Av1Packing.{packet_of, texts_of}
 

@@ -3,7 +3,7 @@ use Rattle.std.specs.Prelude.{◌≡◌, ◌||◌, ℕ, true, false, List, [], �
 use Rattle.payload_core_base.specs.Format.{Fragment}
 use Rattle.payload_core_base.specs.declared.extra.CodecExtra.{CodecExtra}
 use Rattle.payload_core_base.specs.declared.extra.CodecExtra.TheVariants.{Av1}
-use Rattle.payload_core_av1_reader.specs.Av1Reading.{count_w, elements_of, has_n, has_z, read_av1, was_keyframe}
+use Rattle.payload_core_av1.specs.Av1Reading.{count_w, elements_of, has_n, has_z, read_av1, was_keyframe}
 
 -- A packet without Z is read alike, whatever is open.
 abbrev pub FreshLaw : Type 0

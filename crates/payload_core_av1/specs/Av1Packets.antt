@@ -1,7 +1,7 @@
 -- Texts that are sent, and how the code cuts them.
 use Rattle.std.specs.Prelude.{ℕ, ◌+◌, ◌<◌, List, [], ◌∷◌, length, nat_lt, nat_le, if◌then◌else◌}
 use Rattle.payload_core_av1.specs.Av1Packing.{greatest}
-use Rattle.payload_core_av1_reader.specs.Leb128.{size_limit, spelling}
+use Rattle.payload_core_av1.specs.Leb128.{size_limit, spelling}
 
 -- Texts with a byte each, whose sizes can be spelled.
 abbrev pub AreTexts : List (List ℕ) → Type 0

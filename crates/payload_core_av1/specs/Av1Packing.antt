@@ -5,9 +5,9 @@ use Rattle.payload_core_base.specs.Law.{joined}
 use Rattle.payload_core_base.specs.Packing.{Packing, Sender, Sent}
 use Rattle.payload_core_base.specs.declared.error.PacketError.{PacketError}
 use Rattle.payload_core_base.specs.declared.error.PacketError.TheVariants.{ErrAv1CorruptedPacket}
-use Rattle.payload_core_av1_reader.specs.Leb128.{spelling}
-use Rattle.payload_core_av1_reader.specs.Obus.{Obu, without_its_size}
-use Rattle.payload_core_av1_reader.specs.Samples.{begins_sequence, kept_of}
+use Rattle.payload_core_av1.specs.Leb128.{spelling}
+use Rattle.payload_core_av1.specs.Obus.{Obu, without_its_size}
+use Rattle.payload_core_av1.specs.Samples.{begins_sequence, kept_of}
 
 -- An element behind its size.
 abbrev pub sized : List ℕ → List ℕ

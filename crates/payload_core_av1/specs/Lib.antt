@@ -1,4 +1,11 @@
-pub mod Av1Packing
-pub mod Av1Packets
 pub mod Av1Coding
+pub mod Av1Layout
 pub mod Av1Open
+pub mod Av1Packets
+pub mod Av1Packing
+pub mod Av1Reading
+pub mod Av1ReadingViews
+pub mod Bounds
+pub mod Leb128
+pub mod Obus
+pub mod Samples

@@ -2,14 +2,15 @@
 
 ghost use Rattle.payload_core_av1.specs.Av1Packing.{aggregation, av1_packing, back, body_from, count_field, front};
 ghost use Rattle.payload_core_av1.specs.Av1Packing.{is_cut, longest, packet_of, packets_of, sized, texts_of};
-ghost use Rattle.payload_core_av1_reader.specs.Leb128.{size_limit};
-ghost use Rattle.payload_core_av1_reader.specs.Obus.{is_kept, obu as spec_obu};
+ghost use Rattle.payload_core_av1.specs.Leb128.{size_limit};
+ghost use Rattle.payload_core_av1.specs.Obus.{is_kept, obu as spec_obu};
 ghost use Rattle.payload_core_av1.specs.Av1Packets.{AreTexts, greatest_part};
-ghost use Rattle.payload_core_av1_reader.specs.Samples.{begins_sequence, kept_of};
+ghost use Rattle.payload_core_av1.specs.Samples.{begins_sequence, kept_of};
 ghost use Rattle.std.specs.Prelude.{◌≡◌, ◌≢◌, ◌+◌, ◌++◌, ◌<◌, ◌≤◌, ◌∷◌, if◌then◌else◌, [], false, ◌||◌, nat_le};
 ghost use Rattle.std.specs.Prelude.{nat_lt, filter, option_map, IfErr, IfOk, List, None, Some, map, length};
 
-use payload_core_av1_reader::{Obu, first_obu, push_size, size_len};
+use crate::leb128::{push_size, size_len};
+use crate::obu::{Obu, first_obu};
 use payload_core_base::{PacketError, Packetizer};
 use std::alloc::{AllocError, Global};
 use std::collections::VecDeque;

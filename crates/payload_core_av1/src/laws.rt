@@ -2,9 +2,9 @@
 
 ghost use Rattle.payload_core_av1.specs.Av1Coding.{HeaderLaw, av1_coding, PacketsLaw, PrefixLaw, RefusedLaw};
 ghost use Rattle.payload_core_av1.specs.Av1Coding.{SpellingLaw};
-ghost use Rattle.payload_core_av1_reader.specs.Av1Layout.{LayoutLaw, ReadLaw, ShortLaw};
+ghost use Rattle.payload_core_av1.specs.Av1Layout.{LayoutLaw, ReadLaw, ShortLaw};
 ghost use Rattle.payload_core_av1.specs.Av1Open.{EmptyLaw, FreshLaw};
-ghost use Rattle.payload_core_av1_reader.specs.Samples.{KeptOnce, SampleLaw};
+ghost use Rattle.payload_core_av1.specs.Samples.{KeptOnce, SampleLaw};
 ghost use Rattle.payload_core_base.specs.Law.{CodecLaw};
 
 /// Just those packets are read whose body is their elements, each behind its size but for the last of W, and

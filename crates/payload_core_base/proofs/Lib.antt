@@ -1,3 +1,5 @@
-pub mod PieceLemmas
 pub mod FrameLemmas
+pub mod PieceLemmas
+pub mod SendingLemmas
+pub mod TelephoneLemmas
 pub mod Texts

@@ -3,12 +3,12 @@
 ghost use Rattle.std.specs.Prelude.{◌≡◌, IfOk};
 ghost use Rattle.serde.specs.Event.{Sends};
 ghost use Rattle.serde.specs.Steps.{Gives};
-ghost use Rattle.payload_core_tables.specs.Names.{ReadsName, name_event};
+ghost use Rattle.named_values.specs.Names.{ReadsName, name_event};
 ghost use Rattle.payload_core_base.specs.Codecs.{codecs};
 ghost use Rattle.payload_core_base.specs.CodecNames.{variant_name};
 
 use crate::codec::Codec;
-use payload_core_tables::{Named, read_name, write_name};
+use named_values::{Named, read_name, write_name};
 use serde::de::DeserializeOwned;
 use serde::{Described, Deserialize, Deserializer, Format, Serialize, Serializer};
 use std::alloc::Global;

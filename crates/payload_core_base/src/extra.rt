@@ -1,6 +1,6 @@
 //! What a depacketizer tells of a unit beside its bytes.
 
-use payload_core_telephone::TelephoneEvent;
+use crate::telephone_event::TelephoneEvent;
 
 /// What a depacketizer tells of a unit beside its bytes.
 #[derive(Clone, Copy, Debug, PartialEq, Eq, Drop)]

@@ -1,5 +1,4 @@
-//! What every payload format meets: codecs, errors, and the traits of packetizers, depacketizers and
-//! packet sinks with their meaning.
+//! Codecs, the traits of packetizers and depacketizers, and telephone events (RFC 4733), and sending samples through a packet sink.
 #![tactic(auto)]
 
 mod boxed;
@@ -9,8 +8,11 @@ mod codec_names;
 mod depacketizer;
 mod error;
 mod extra;
+mod packet_list;
 mod packetizer;
+mod payloader;
 mod sink;
+mod telephone_event;
 
 pub use bytes::{behind, byte_at, has_bit};
 pub use codec::{Codec, MediaKind};
@@ -21,6 +23,8 @@ pub use extra::{
     Av1CodecExtra, CodecExtra, H264CodecExtra, H265CodecExtra, H266CodecExtra, Vp8CodecExtra,
     Vp9CodecExtra,
 };
+pub use packet_list::{PacketList, SentPacket};
 pub use packetizer::Packetizer;
-pub use payload_core_telephone::{TelephoneEvent, TelephoneEvents, telephone_event_law};
+pub use payloader::Payloader;
 pub use sink::PacketSink;
+pub use telephone_event::{TelephoneEvent, TelephoneEvents, telephone_event_law};

@@ -7,7 +7,7 @@ mod redundancy;
 mod vp8;
 
 use command_lines::Line;
-use payload_core_red::RedSender;
+use payload_core_audio::RedSender;
 use std::alloc::AllocError;
 use std::io;
 

@@ -2,7 +2,7 @@
 
 use crate::exchanged::{put_answer, put_offer};
 use crate::printed::put_text;
-use line_replies::{Reply, parted};
+use command_lines::{Reply, parted};
 use std::alloc::{AllocError, Global};
 use std::fs;
 

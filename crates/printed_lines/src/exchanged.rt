@@ -1,7 +1,7 @@
 //! Commands on offers and answers.
 
 use crate::printed::put_refusal;
-use line_replies::Reply;
+use command_lines::Reply;
 use sdp_formats::{SdpAnswer, SdpError, SdpOffer, parse};
 use std::alloc::Global;
 

@@ -1,8 +1,8 @@
 //! Session texts as they are printed, read again and copied.
 
-use line_replies::Reply;
+use command_lines::Reply;
 use sdp_formats::{Same, Sdp, SdpError, parse, sdp_parser};
-use sdp_formats_copies::TryClone;
+use sdp_formats_data::TryClone;
 use std::alloc::Global;
 
 /// `printed NAME`: how many lines are printed as they stood, whether the printed text is read whole and printed as it

@@ -3,7 +3,7 @@
 use crate::configs::{add_video, enable, put_distances};
 use crate::printing::{put_own_rows, put_round};
 use crate::words::{row_of, spec_of, type_of};
-use line_replies::{Reply, parted};
+use command_lines::{Reply, parted};
 use sdp_formats::{CodecConfig, Direction};
 use std::alloc::{AllocError, Global};
 

@@ -3,7 +3,7 @@
 
 use crate::commands::Change;
 use crate::words::{maybe_type, number_of, type_of};
-use line_replies::Reply;
+use command_lines::Reply;
 use sdp_formats::{Codec, CodecConfig, Joined, Pt};
 use std::alloc::Global;
 

@@ -1,6 +1,6 @@
 //! What rounds give, as text.
 
-use line_replies::Reply;
+use command_lines::Reply;
 use sdp_formats::{CodecConfig, Direction, PayloadParams, RoundError};
 use std::alloc::Global;
 

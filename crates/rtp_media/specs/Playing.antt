@@ -2,9 +2,9 @@
 use Rattle.std.specs.Prelude.{ℕ, ◌≡◌, ◌≢◌, ◌⊎◌, ◌&&◌, List, [], map, Option, Some, None, Ok, Err}
 use Rattle.rtp_wire.specs.Values.{absent}
 use Rattle.rtp_media_streams.specs.Sending.{Sample, datagrams_of}
-use Rattle.rtp_media_payloads.specs.declared.errors.PollFault.TheVariants as poll_fault
-use Rattle.rtp_media_payloads.specs.declared.errors.SampleError.{SampleError}
-use Rattle.rtp_media_payloads.specs.declared.errors.SampleError.TheVariants as sample_error
+use Rattle.rtp_media_streams.specs.declared.errors.PollFault.TheVariants as poll_fault
+use Rattle.rtp_media_streams.specs.declared.errors.SampleError.{SampleError}
+use Rattle.rtp_media_streams.specs.declared.errors.SampleError.TheVariants as sample_error
 use Rattle.rtp_media_play.specs.Ends.{EndState, is_receiver_at, is_sender_at, sender_at}
 use Rattle.rtp_media_play.specs.Pushing.{IsCutShort, IsRefusedAt, after_pushes, refusal_of_samples}
 use Rattle.rtp_media_play.specs.Schedules.{after_schedule, played}
@@ -16,12 +16,12 @@ use Rattle.rtp_media_lines.specs.declared.PlayCommand.{PlayCommand}
 use Rattle.rtp_media_lines.specs.declared.PlayItem.{PlayItem}
 use Rattle.rtp_media_lines.specs.declared.PlayItem.TheVariants as item
 use Rattle.rtp_media_lines.specs.declared.QueueCommand.{QueueCommand}
-use Rattle.rtp_media_words.specs.declared.reply.Reply.{Reply}
-use Rattle.rtp_media_words.specs.declared.reply.Reply.TheVariants as reply
+use Rattle.rtp_media_lines.specs.declared.reply.Reply.{Reply}
+use Rattle.rtp_media_lines.specs.declared.reply.Reply.TheVariants as reply
 use Rattle.rtp_media_play.specs.Stops.{Where}
-use Rattle.rtp_media_replies.specs.Replies.{Prints, memory}
-use Rattle.rtp_media_end_answers.specs.Names.{fault_name, sample_error_name}
-use Rattle.rtp_media_end_answers.specs.Streams.{unit_reply, verdict_reply}
+use Rattle.rtp_media.specs.Replies.{Prints, memory}
+use Rattle.rtp_media.specs.EndErrorNames.{fault_name, sample_error_name}
+use Rattle.rtp_media.specs.Streams.{unit_reply, verdict_reply}
 
 -- What happens at an item.
 abbrev pub event_of : PlayItem → Event

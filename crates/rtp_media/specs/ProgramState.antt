@@ -1,22 +1,22 @@
 -- What the program does at each command.
 use Rattle.std.specs.Prelude.{◌≡◌, List, [], ◌∷◌, ◌++◌, None}
 use Rattle.rtp_media_play.specs.Ends.{EndState}
-use Rattle.rtp_media_words.specs.declared.words.Letter.{Letter}
-use Rattle.rtp_media_words.specs.declared.words.Letter.TheVariants.{A, B}
+use Rattle.rtp_media_lines.specs.declared.words.Letter.{Letter}
+use Rattle.rtp_media_lines.specs.declared.words.Letter.TheVariants.{A, B}
 use Rattle.rtp_media_lines.specs.declared.Command.{Command}
 use Rattle.rtp_media_lines.specs.declared.Command.TheVariants.{Fixed, Send, Open, Sample, Receive, Poll, Row}
 use Rattle.rtp_media_lines.specs.declared.Command.TheVariants.{Ext, End, Offer, Answer, Accept, Withdraw}
 use Rattle.rtp_media_lines.specs.declared.Command.TheVariants.{Connect, Queue, Play}
 use Rattle.rtp_media_lines.specs.declared.QueueCommand.{QueueCommand}
-use Rattle.rtp_media_words.specs.declared.reply.Reply.{Reply}
-use Rattle.rtp_media_words.specs.declared.reply.Reply.TheVariants as reply
-use Rattle.rtp_media_replies.specs.Replies.{Prints}
-use Rattle.rtp_media_end_answers.specs.Making.{AnswersExt, AnswersFixed, AnswersRow, EndAndDraft, MakesEnd}
-use Rattle.rtp_media_end_answers.specs.Making.{empty_draft}
-use Rattle.rtp_media_exchange_answers.specs.Exchanging.{AnswersAccept, AnswersAnswer, AnswersOffer, AnswersWithdraw}
-use Rattle.rtp_media_exchange_answers.specs.Exchanging.{AtEnd, ConnectsEnds, WithText, wanted_in}
+use Rattle.rtp_media_lines.specs.declared.reply.Reply.{Reply}
+use Rattle.rtp_media_lines.specs.declared.reply.Reply.TheVariants as reply
+use Rattle.rtp_media.specs.Replies.{Prints}
+use Rattle.rtp_media.specs.Making.{AnswersExt, AnswersFixed, AnswersRow, EndAndDraft, MakesEnd}
+use Rattle.rtp_media.specs.Making.{empty_draft}
+use Rattle.rtp_media.specs.Exchanging.{AnswersAccept, AnswersAnswer, AnswersOffer, AnswersWithdraw}
+use Rattle.rtp_media.specs.Exchanging.{AtEnd, ConnectsEnds, WithText, wanted_in}
 use Rattle.rtp_media.specs.Playing.{PlaysEnds}
-use Rattle.rtp_media_end_answers.specs.Streams.{IsAnswered}
+use Rattle.rtp_media.specs.Streams.{IsAnswered}
 
 -- What the two letters of the program stand for, and the samples that are kept for a run.
 pub record ProgramState : Type 0 where

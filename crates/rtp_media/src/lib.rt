@@ -1,13 +1,26 @@
-//! The media path of a session: ends that exchange what they send and receive, their streams, and a
-//! program of lines over two of them, whose input is read line by line, each line answered, the replies printed.
+//! The program `run`, and the whole layer of ends under one name.
 #![tactic(auto)]
 
+mod draft;
+mod end_error_names;
+mod exchange_error_names;
+mod exchanging;
+mod making;
+mod memory_name;
 mod playing;
 mod program;
+mod replies;
+mod streams;
 
+pub use draft::EndAndDraft;
+pub use end_error_names::{fault_name, sample_error_name};
+pub use exchanging::{accept, answer_offer, connect_ends, offer, withdraw};
+pub use making::{draft_ext, draft_row, make_end, make_fixed};
+pub use memory_name::memory;
 pub use payload_core_base::CodecExtra;
 pub use program::{Program, run};
-pub use rtp_media_line_runs::{
+pub use replies::one;
+pub use rtp_media_lines::{
     MAX_LINE_LENGTH, MAX_READS, Respond, RunFault, Status, WriteFault, answer_lines,
     lines_are_what_was_ended, run_lines, run_within, write_whole,
 };
@@ -21,4 +34,5 @@ pub use rtp_wire::{
     Direction, Extension, ExtensionMap, ExtensionValues, Frequency, MediaTime, Mid, Pt, SeqNo,
     SessionId, Ssrc,
 };
-pub use sdp_formats_types::{Listed, Text};
+pub use sdp_formats_data::{Listed, Text};
+pub use streams::{open, poll, receive, sample, send, unit_reply, verdict_reply};

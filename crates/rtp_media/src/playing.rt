@@ -2,15 +2,16 @@
 
 ghost use Rattle.std.specs.Prelude.{◌≡◌, [], ◌∷◌, ◌++◌, true, map, IfOk, OnOk};
 ghost use Rattle.rtp_media_play.specs.Ends.{is_receiver_at, is_sender_at};
-ghost use Rattle.rtp_media_replies.specs.Replies.{Prints};
+ghost use Rattle.rtp_media.specs.Replies.{Prints};
 ghost use Rattle.rtp_media.specs.Playing.{AnswersPlay, PlaysEnds, event_of, played_reply};
 ghost use Rattle.rtp_media.specs.Playing.{sample_at, samples_for};
 
-use rtp_media_end_answers::{fault_name, sample_error_name, unit_reply, verdict_reply};
-use rtp_media_lines::{PlayCommand, PlayItem, PlayItems, QueueCommand};
+use crate::end_error_names::{fault_name, sample_error_name};
+use crate::memory_name::memory;
+use crate::replies::one;
+use crate::streams::{unit_reply, verdict_reply};
+use rtp_media_lines::{PlayCommand, PlayItem, PlayItems, QueueCommand, Reply};
 use rtp_media_play::{Datagram, End, Event, Played, PollFault, Sample, SampleError, play};
-use rtp_media_replies::{memory, one};
-use rtp_media_words::Reply;
 use rtp_wire::{ExtensionValues, Frequency, MediaTime};
 use std::alloc::{AllocError, Global};
 use std::mem;

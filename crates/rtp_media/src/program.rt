@@ -1,25 +1,26 @@
 //! The program of lines over two ends.
 
 ghost use Rattle.std.specs.Prelude.{◌≡◌, ℕ, List, IfOk, IfSome, OnErr, OnOk};
-ghost use Rattle.rtp_media_line_runs.specs.Input.{lines_of};
-ghost use Rattle.rtp_media_line_runs.specs.Runs.{Printed, ReadsAll};
-ghost use Rattle.rtp_media_line_runs.specs.Stops.{WritesFront};
+ghost use Rattle.rtp_media_lines.specs.Input.{lines_of};
+ghost use Rattle.rtp_media_lines.specs.Runs.{Printed, ReadsAll};
+ghost use Rattle.rtp_media_lines.specs.Stops.{WritesFront};
 ghost use Rattle.rtp_media_lines.specs.declared.Command.{Command};
-ghost use Rattle.rtp_media_exchange_answers.specs.Exchanging.{AtEnd, ConnectsEnds};
+ghost use Rattle.rtp_media.specs.Exchanging.{AtEnd, ConnectsEnds};
 ghost use Rattle.rtp_media.specs.Playing.{PlaysEnds};
 ghost use Rattle.rtp_media.specs.ProgramState.{AnswersAt, AnswersAtEnd, AnswersCommand};
 ghost use Rattle.rtp_media.specs.ProgramState.{KeepsDraft, initial_state, letter_of};
 
+use crate::draft::EndAndDraft;
+use crate::exchanging::{accept, answer_offer, connect_ends, offer, withdraw};
+use crate::making::{draft_ext, draft_row, make_end, make_fixed};
 use crate::playing::{keep_sample, play_ends};
-use rtp_media_end_answers::{
-    EndAndDraft, draft_ext, draft_row, make_end, make_fixed, open, poll, receive, sample, send,
+use crate::replies::one;
+use crate::streams::{open, poll, receive, sample, send};
+use rtp_media_lines::{
+    Command, ConnectCommand, Letter, PlayCommand, QueueCommand, Reply, Respond, RunFault, Status,
+    run_lines,
 };
-use rtp_media_exchange_answers::{accept, answer_offer, connect_ends, offer, withdraw};
-use rtp_media_line_runs::{Respond, RunFault, Status, run_lines};
-use rtp_media_lines::{Command, ConnectCommand, PlayCommand, QueueCommand};
 use rtp_media_play::End;
-use rtp_media_replies::one;
-use rtp_media_words::{Letter, Reply};
 use std::alloc::{AllocError, Global};
 use std::io::{Read, Write};
 use std::marker::Model;

@@ -1,11 +1,11 @@
 -- A session with neither attributes nor bandwidth can be written, so that it is no reason to refuse an end.
 use Rattle.std.proofs.Common.{◌≡◌, ℕ, List, Some, inl, inr, arith}
-use Rattle.rtp_media_negotiation.specs.Exchanges.{bare_session}
-use Rattle.rtp_media_negotiation.specs.Refusals.{RefusesNew, refusal_of_new}
-use Rattle.rtp_media_negotiation.specs.declared.EndError.{EndError}
+use Rattle.rtp_media_exchange.specs.Exchanges.{bare_session}
+use Rattle.rtp_media_exchange.specs.Refusals.{RefusesNew, refusal_of_new}
+use Rattle.rtp_media_exchange.specs.declared.EndError.{EndError}
 use Rattle.rtp_wire.specs.Values.{Numbering}
-use Rattle.rtp_media_negotiation.specs.Rows.{Row}
-use Rattle.rtp_media_negotiation.specs.Writable.{IsWritableSession}
+use Rattle.rtp_media_exchange.specs.Rows.{Row}
+use Rattle.rtp_media_exchange.specs.Writable.{IsWritableSession}
 
 bare_writable : (id : ℕ) → IsWritableSession (bare_session id)
 bare_writable id = (tt, λ k d h. absurd (omega (arith, h)))

@@ -2,12 +2,14 @@
 use Rattle.std.proofs.Common.{◌≡◌, ℕ, zero, suc, ◌+◌, ◌<◌, sym, ◌∙◌, ap, ap₂, arith, refl, false, List}
 use Rattle.std.proofs.Common.{[], ◌∷◌, length, take, add-one, true≢false}
 use Rattle.std.specs.Prelude.{slice_index_or}
-use Rattle.rtp_media_payloads.specs.Polls.{Answers}
-use Rattle.rtp_media_stream_laws.specs.Arrivals.{after_datagram}
-use Rattle.rtp_media_stream_laws.specs.Ends.{EndState, is_sending, receiving_of}
-use Rattle.rtp_media_stream_laws.specs.declared.OpenStream.{OpenStream}
-use Rattle.rtp_media_stream_laws.specs.declared.OpenStream.TheVariants.{Sender, Receiver}
-use Rattle.rtp_media_stream_laws.specs.FullArrival.{AnswersAll, IsPolledOut, after_datagrams}
+use Rattle.rtp_media_streams.specs.Polls.{Answers}
+use Rattle.rtp_media_ends.specs.EndArrivals.{after_datagram}
+use Rattle.rtp_media_ends.specs.Ends.{EndState}
+use Rattle.rtp_media_stream_table.specs.Streams.{is_sending, receiving_of}
+use Rattle.rtp_media_stream_table.specs.declared.OpenStream.{OpenStream}
+use Rattle.rtp_media_stream_table.specs.declared.OpenStream.TheVariants.{Sender, Receiver}
+use Rattle.rtp_media_stream_table.specs.Polled.{AnswersAll, IsPolledOut}
+use Rattle.rtp_media_ends.specs.FullArrival.{after_datagrams}
 
 -- one datagram more
 pub after-more : (ds : List (List ℕ)) (e : EndState) (i : ℕ) (d : List ℕ) → i < length ds

@@ -1,15 +1,15 @@
 -- Two ends that exchange an offer and an answer.
 use Rattle.std.specs.Prelude.{◌≡◌, ℕ, List, Some, None}
-use Rattle.sdp_formats_sessions.specs.PrintedSession.{sdp_text}
-use Rattle.rtp_media_negotiation.specs.Exchanges.{with_offer}
-use Rattle.rtp_media_negotiation.specs.Offers.{Accepts, Answers, offer_of}
-use Rattle.rtp_media_negotiation.specs.Refusals.{MayAccept, MayAnswer, Refuses, RefusesAccept, RefusesAnswer}
-use Rattle.rtp_media_negotiation.specs.Refusals.{refusal_of_offer}
-use Rattle.rtp_media_negotiation.specs.Says.{AgreesOnText}
-use Rattle.rtp_media_negotiation.specs.declared.ExchangeError.{ExchangeError}
-use Rattle.rtp_media_negotiation.specs.Agreement.{Agreed, agreed_map_of, agreed_row_of}
-use Rattle.rtp_media_negotiation.specs.Sections.{Wanted}
-use Rattle.rtp_media_stream_laws.specs.Ends.{EndState, with_exchange}
+use Rattle.sdp_formats_data.specs.PrintedSession.{sdp_text}
+use Rattle.rtp_media_exchange.specs.Exchanges.{with_offer}
+use Rattle.rtp_media_exchange.specs.Offers.{Accepts, Answers, offer_of}
+use Rattle.rtp_media_exchange.specs.Refusals.{MayAccept, MayAnswer, Refuses, RefusesAccept, RefusesAnswer}
+use Rattle.rtp_media_exchange.specs.Refusals.{refusal_of_offer}
+use Rattle.rtp_media_exchange.specs.Says.{AgreesOnText}
+use Rattle.rtp_media_exchange.specs.declared.ExchangeError.{ExchangeError}
+use Rattle.rtp_media_exchange.specs.Agreement.{Agreed, agreed_map_of, agreed_row_of}
+use Rattle.rtp_media_exchange.specs.Sections.{Wanted}
+use Rattle.rtp_media_ends.specs.Ends.{EndState, with_exchange}
 
 -- The end that offers, its offer pending.
 abbrev pub offering : EndState → List Wanted → EndState

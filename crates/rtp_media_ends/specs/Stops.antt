@@ -1,10 +1,10 @@
 -- What calls at an end leave where memory runs out, and calls of which a test decides.
 use Rattle.std.specs.Prelude.{ℕ, ◌≡◌, Bool, true, false}
-use Rattle.rtp_media_payloads.specs.Polls.{IsInterrupted}
-use Rattle.rtp_media_payloads.specs.Receiving.{with_stream}
-use Rattle.rtp_media_payloads.specs.Rows.{format_of}
+use Rattle.rtp_media_streams.specs.Polls.{IsInterrupted}
+use Rattle.rtp_media_streams.specs.Receiving.{with_stream}
+use Rattle.rtp_media_streams.specs.Rows.{format_of}
 use Rattle.rtp_media_streams.specs.Sending.{HasFailed}
-use Rattle.rtp_media_stream_laws.specs.Ends.{EndState, receiver_at, sender_at, with_receiver, with_sender}
+use Rattle.rtp_media_ends.specs.Ends.{EndState, receiver_at, sender_at, with_receiver, with_sender}
 
 -- One claim where a test holds, another one where it doesn't.
 abbrev pub Where : Bool → Type 0 → Type 0 → Type 0

@@ -2,9 +2,9 @@
 
 ghost use Rattle.std.specs.Prelude.{◌≡◌, ◌≢◌, ◌<◌, Some, None, true, OnOk, IfOk, IfErr};
 ghost use Rattle.rtp_media_streams.specs.Sending.{HasFailed, sent_datagrams, after_sample, refusal_of_sample};
-ghost use Rattle.rtp_media_negotiation.specs.Agreement.{agreed_row_of};
-ghost use Rattle.rtp_media_stream_laws.specs.Ends.{agreed_red, fixed_end, sender_at, with_sender, is_receiver_at};
-ghost use Rattle.rtp_media_stream_laws.specs.Ends.{is_sender_at};
+ghost use Rattle.rtp_media_exchange.specs.Agreement.{agreed_row_of};
+ghost use Rattle.rtp_media_ends.specs.Ends.{agreed_red, fixed_end, sender_at, with_sender, is_receiver_at};
+ghost use Rattle.rtp_media_ends.specs.Ends.{is_sender_at};
 
 mod exchanges;
 mod openings;
@@ -13,9 +13,9 @@ mod receiving;
 
 pub use exchanges::connect;
 pub use receive_all::ReceivedAll;
-use rtp_media_negotiation::{EndError, Exchange, PayloadParams};
-use rtp_media_payloads::{Datagram, SampleError};
+use rtp_media_exchange::{EndError, Exchange, PayloadParams};
 use rtp_media_stream_table::StreamTable;
+use rtp_media_streams::{Datagram, SampleError};
 use rtp_wire::{ExtensionValues, Frequency, MediaTime, Mid, Pt};
 use std::alloc::Global;
 use std::marker::Model;
@@ -39,7 +39,7 @@ impl Drop for End {
 }
 
 impl Model for End {
-    ghost use Rattle.rtp_media_stream_laws.specs.Ends.{EndState};
+    ghost use Rattle.rtp_media_ends.specs.Ends.{EndState};
     ghost use Rattle.rtp_wire.specs.Replay.{window_code};
     ghost use Rattle.std.specs.Coded.{codes};
 

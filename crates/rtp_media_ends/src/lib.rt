@@ -1,16 +1,24 @@
-//! Ends of a media session: agreed rows, streams, samples to datagrams and datagrams to units.
+//! The end of a media path: exchanges, openings, streams.
 #![tactic(auto)]
 
 mod end;
+mod errors;
+mod laws;
+mod new_streams;
+mod openings;
+mod params;
+mod rows;
 
 pub use end::{End, ReceivedAll, connect};
+pub use errors::OpenError;
+pub use laws::{isolation_law, openings_law, repairs_law, transparency_law};
+pub use new_streams::{new_receiver, new_sender};
+pub use params::{Distances, StreamParams};
 pub use payload_core_base::PacketError;
-pub use rtp_media_negotiation::{
-    Bandwidth, Codec, CodecConfig, CodecSpec, EndError, ExchangeError, FormatParams, MediaKind,
-    PayloadParams, RoundError, SdpError, SectionSpec, Session, SessionAttribute, flow,
+pub use rtp_media_exchange::{
+    AgreedSection, Bandwidth, Codec, CodecConfig, CodecSpec, EndError, Exchange, ExchangeError,
+    FormatParams, MediaKind, PayloadParams, RoundError, SdpError, SectionSpec, Session,
+    SessionAttribute, flow,
 };
-pub use rtp_media_payloads::{Datagram, PollFault, SampleError, Unit};
-pub use rtp_media_stream_laws::{
-    Distances, OpenError, OpenStream, ReceiveError, Received, StreamParams, openings_law,
-};
-pub use rtp_media_stream_table::Polls;
+pub use rtp_media_stream_table::{OpenStream, Polls, ReceiveError, Received, StreamTable};
+pub use rtp_media_streams::{Datagram, PollFault, SampleError, Unit};

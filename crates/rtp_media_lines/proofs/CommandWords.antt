@@ -2,13 +2,13 @@
 use Rattle.std.proofs.Common.{◌≡◌, ℕ, ◌^◌, List, [], ◌∷◌, Option, None, Some, codes, refl, sym, ◌∙◌, ap, subst}
 use Rattle.std.specs.Option.{option_map}
 use Rattle.std.specs.Str.{bytes_eq}
-use Rattle.rtp_media_commands.specs.declared.command.Command.{Command}
-use Rattle.rtp_media_commands.specs.declared.command.Command.TheVariants.{Fixed, Send, Open, Sample, Receive, Poll, Row}
-use Rattle.rtp_media_commands.specs.declared.command.Command.TheVariants.{Ext, End, Offer, Answer, Accept, Withdraw}
-use Rattle.rtp_media_commands.specs.declared.command.Command.TheVariants.{Connect, Queue, Play}
-use Rattle.rtp_media_words.specs.Words.{letter_of, text_of, hex_of, dash_or, numbers_of, number_below, behind}
-use Rattle.rtp_media_words.specs.Words.{mid_value, ◌>>=◌}
-use Rattle.rtp_media_words.proofs.BehindLemmas.{behind-sound, behind-append}
+use Rattle.rtp_media_lines.specs.declared.command.Command.{Command}
+use Rattle.rtp_media_lines.specs.declared.command.Command.TheVariants.{Fixed, Send, Open, Sample, Receive, Poll, Row}
+use Rattle.rtp_media_lines.specs.declared.command.Command.TheVariants.{Ext, End, Offer, Answer, Accept, Withdraw}
+use Rattle.rtp_media_lines.specs.declared.command.Command.TheVariants.{Connect, Queue, Play}
+use Rattle.rtp_media_lines.specs.Words.{letter_of, text_of, hex_of, dash_or, numbers_of, number_below, behind}
+use Rattle.rtp_media_lines.specs.Words.{mid_value, ◌>>=◌}
+use Rattle.rtp_media_lines.proofs.BehindLemmas.{behind-sound, behind-append}
 use Rattle.rtp_media_lines.specs.Lines.{command_of, fixed_of, send_of, open_of, sample_of, receive_of, poll_of}
 use Rattle.rtp_media_lines.proofs.ReadSteps.{dispatch, same, ended_some, read_on, glue, under}
 use Rattle.rtp_media_lines.proofs.ExchangeWords.{exchange_says, read_row, read_ext, read_end, read_offer, read_answer}

@@ -2,14 +2,14 @@
 use Rattle.std.proofs.Common.{◌≡◌, ℕ, ◌^◌, Bool, true, false, List, [], ◌∷◌, ◌++◌, None, Some, codes, refl, sym, ◌∙◌}
 use Rattle.std.proofs.Common.{ap, subst}
 use Rattle.std.specs.Str.{bytes_eq}
-use Rattle.rtp_media_commands.specs.declared.command.Command.{Command}
-use Rattle.rtp_media_commands.specs.declared.command.Command.TheVariants.{Row, Ext, End, Offer, Answer, Accept}
-use Rattle.rtp_media_commands.specs.declared.command.Command.TheVariants.{Withdraw, Connect}
-use Rattle.rtp_media_words.specs.declared.sections.SectionWord.{SectionWord}
-use Rattle.rtp_media_words.specs.Words.{letter_of, text_of, hex_of, dash_or, number_below}
-use Rattle.rtp_media_words.specs.Sections.{section_of, sections_of, sections_then_slash}
-use Rattle.rtp_media_commands.specs.ExchangeLines.{row_of, ext_of, end_of, offer_of, answer_of, accept_of, withdraw_of}
-use Rattle.rtp_media_commands.specs.ExchangeLines.{connect_of}
+use Rattle.rtp_media_lines.specs.declared.command.Command.{Command}
+use Rattle.rtp_media_lines.specs.declared.command.Command.TheVariants.{Row, Ext, End, Offer, Answer, Accept}
+use Rattle.rtp_media_lines.specs.declared.command.Command.TheVariants.{Withdraw, Connect}
+use Rattle.rtp_media_lines.specs.declared.sections.SectionWord.{SectionWord}
+use Rattle.rtp_media_lines.specs.Words.{letter_of, text_of, hex_of, dash_or, number_below}
+use Rattle.rtp_media_lines.specs.Sections.{section_of, sections_of, sections_then_slash}
+use Rattle.rtp_media_lines.specs.ExchangeLines.{row_of, ext_of, end_of, offer_of, answer_of, accept_of, withdraw_of}
+use Rattle.rtp_media_lines.specs.ExchangeLines.{connect_of}
 use Rattle.rtp_media_lines.specs.Lines.{exchange_command_of}
 use Rattle.rtp_media_lines.proofs.PlayWords.{run_says}
 use Rattle.rtp_media_lines.specs.Says.{Says, AreRowWords, AreExtWords, AreEndWords, AreOfferWords, AreAnswerWords}

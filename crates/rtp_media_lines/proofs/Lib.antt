@@ -1,5 +1,14 @@
+pub mod BehindLemmas
 pub mod CommandWords
-pub mod LineCases
-pub mod ReadSteps
-pub mod PlayWords
+pub mod Each
 pub mod ExchangeWords
+pub mod InputLines
+pub mod LineCases
+pub mod Numbers
+pub mod PlayWords
+pub mod ReadBack
+pub mod ReadSteps
+pub mod Sent
+pub mod Splits
+pub mod Steps
+pub mod Stopping

@@ -4,7 +4,7 @@ use Rattle.std.specs.Option.{option_map}
 use Rattle.std.specs.Str.{is_utf8, IsUtf8}
 use Rattle.std.proofs.lemmas.Str.{is_utf8-from_IsUtf8, IsUtf8-from_is_utf8}
 use Rattle.rtp_media_lines.specs.declared.line.Line.TheVariants as line
-use Rattle.rtp_media_words.specs.Words.{words_of}
+use Rattle.rtp_media_lines.specs.Words.{words_of}
 use Rattle.rtp_media_lines.specs.Lines.{line_of, command_of}
 
 pub line_of-empty : (bytes : List ℕ) → (length bytes == 0) ≡ true → line_of bytes ≡ Some line.Empty

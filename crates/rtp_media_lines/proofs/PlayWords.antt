@@ -1,10 +1,10 @@
 -- The lines of whole runs, read and said.
 use Rattle.std.proofs.Common.{◌≡◌, ℕ, ◌^◌, List, [], ◌∷◌, Some, codes, refl, ◌∙◌, subst}
 use Rattle.std.specs.Str.{bytes_eq}
-use Rattle.rtp_media_commands.specs.declared.command.Command.{Command}
-use Rattle.rtp_media_commands.specs.declared.command.Command.TheVariants.{Queue, Play}
-use Rattle.rtp_media_words.specs.Words.{hex_of, number_below}
-use Rattle.rtp_media_commands.specs.PlayLines.{items_of, play_of, queue_of}
+use Rattle.rtp_media_lines.specs.declared.command.Command.{Command}
+use Rattle.rtp_media_lines.specs.declared.command.Command.TheVariants.{Queue, Play}
+use Rattle.rtp_media_lines.specs.Words.{hex_of, number_below}
+use Rattle.rtp_media_lines.specs.PlayLines.{items_of, play_of, queue_of}
 use Rattle.rtp_media_lines.specs.Lines.{run_command_of}
 use Rattle.rtp_media_lines.specs.Says.{ArePlayWords, AreQueueWords, Says}
 use Rattle.rtp_media_lines.proofs.ReadSteps.{bind_some, dispatch, ended_some, glue, read_on, same, under}

@@ -1,4 +1,14 @@
-pub use Rattle.rtp_media_commands.specs.ExchangeLines
-pub use Rattle.rtp_media_commands.specs.PlayLines
+pub mod ExchangeLines
+pub mod Input
 pub mod Lines
+pub mod Misreads
+pub mod PlayLines
+pub mod Progress
+pub mod Replies
+pub mod Runs
 pub mod Says
+pub mod Sections
+pub mod Statuses
+pub mod Stops
+pub mod Words
+pub mod Writes

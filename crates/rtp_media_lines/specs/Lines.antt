@@ -3,15 +3,15 @@ use Rattle.std.specs.Prelude.{ℕ, ◌==◌, ◌^◌, if◌then◌else◌, List,
 use Rattle.std.specs.Str.{bytes_eq, is_utf8}
 use Rattle.rtp_media_lines.specs.declared.line.Line.{Line}
 use Rattle.rtp_media_lines.specs.declared.line.Line.TheVariants as line
-use Rattle.rtp_media_commands.specs.declared.command.Command.{Command}
-use Rattle.rtp_media_commands.specs.declared.command.Command.TheVariants.{Fixed, Send, Open, Sample, Receive, Poll}
+use Rattle.rtp_media_lines.specs.declared.command.Command.{Command}
+use Rattle.rtp_media_lines.specs.declared.command.Command.TheVariants.{Fixed, Send, Open, Sample, Receive, Poll}
 use Rattle.std.specs.Option.{option_map}
-use Rattle.rtp_media_words.specs.declared.words.Letter.{Letter}
-use Rattle.rtp_media_commands.specs.ExchangeLines.{row_of, ext_of, end_of, offer_of, answer_of, accept_of, withdraw_of}
-use Rattle.rtp_media_commands.specs.ExchangeLines.{connect_of}
-use Rattle.rtp_media_commands.specs.PlayLines.{play_of, queue_of}
-use Rattle.rtp_media_words.specs.Words.{words_of, letter_of, text_of, hex_of, dash_or, numbers_of, number_below}
-use Rattle.rtp_media_words.specs.Words.{mid_value, first, ended, ◌>>=◌}
+use Rattle.rtp_media_lines.specs.declared.words.Letter.{Letter}
+use Rattle.rtp_media_lines.specs.ExchangeLines.{row_of, ext_of, end_of, offer_of, answer_of, accept_of, withdraw_of}
+use Rattle.rtp_media_lines.specs.ExchangeLines.{connect_of}
+use Rattle.rtp_media_lines.specs.PlayLines.{play_of, queue_of}
+use Rattle.rtp_media_lines.specs.Words.{words_of, letter_of, text_of, hex_of, dash_or, numbers_of, number_below}
+use Rattle.rtp_media_lines.specs.Words.{mid_value, first, ended, ◌>>=◌}
 
 -- fixed E
 unfoldable pub fixed_of : List (List ℕ) → Option Command

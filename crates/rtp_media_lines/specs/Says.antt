@@ -1,26 +1,26 @@
 -- Which words a command is: the lines of the program, one by one.
 use Rattle.std.specs.Prelude.{◌≡◌, ℕ, ◌^◌, List, [], ◌∷◌, ◌++◌, codes, Some, Option, None}
-use Rattle.rtp_media_commands.specs.declared.command.Command.{Command}
-use Rattle.rtp_media_commands.specs.declared.command.Command.TheVariants.{Fixed, Send, Open, Sample, Receive, Poll, Row}
-use Rattle.rtp_media_commands.specs.declared.command.Command.TheVariants.{Ext, End, Offer, Answer, Accept, Withdraw}
-use Rattle.rtp_media_commands.specs.declared.command.Command.TheVariants.{Connect, Queue, Play}
-use Rattle.rtp_media_commands.specs.declared.command.SendCommand.{SendCommand}
-use Rattle.rtp_media_commands.specs.declared.command.OpenCommand.{OpenCommand}
-use Rattle.rtp_media_commands.specs.declared.command.SampleCommand.{SampleCommand}
-use Rattle.rtp_media_commands.specs.declared.command.ReceiveCommand.{ReceiveCommand}
-use Rattle.rtp_media_commands.specs.declared.command.PollCommand.{PollCommand}
-use Rattle.rtp_media_commands.specs.declared.exchange.RowCommand.{RowCommand}
-use Rattle.rtp_media_commands.specs.declared.exchange.ExtCommand.{ExtCommand}
-use Rattle.rtp_media_commands.specs.declared.exchange.EndCommand.{EndCommand}
-use Rattle.rtp_media_commands.specs.declared.exchange.OfferCommand.{OfferCommand}
-use Rattle.rtp_media_commands.specs.declared.exchange.AnswerCommand.{AnswerCommand}
-use Rattle.rtp_media_commands.specs.declared.exchange.AcceptCommand.{AcceptCommand}
-use Rattle.rtp_media_commands.specs.declared.exchange.ConnectCommand.{ConnectCommand}
-use Rattle.rtp_media_commands.specs.declared.playing.PlayCommand.{PlayCommand}
-use Rattle.rtp_media_commands.specs.declared.playing.QueueCommand.{QueueCommand}
-use Rattle.rtp_media_commands.specs.PlayLines.{items_of}
-use Rattle.rtp_media_words.specs.Sections.{sections_of}
-use Rattle.rtp_media_words.specs.Words.{letter_of, text_of, hex_of, dash_or, numbers_of, number_below}
+use Rattle.rtp_media_lines.specs.declared.command.Command.{Command}
+use Rattle.rtp_media_lines.specs.declared.command.Command.TheVariants.{Fixed, Send, Open, Sample, Receive, Poll, Row}
+use Rattle.rtp_media_lines.specs.declared.command.Command.TheVariants.{Ext, End, Offer, Answer, Accept, Withdraw}
+use Rattle.rtp_media_lines.specs.declared.command.Command.TheVariants.{Connect, Queue, Play}
+use Rattle.rtp_media_lines.specs.declared.command.SendCommand.{SendCommand}
+use Rattle.rtp_media_lines.specs.declared.command.OpenCommand.{OpenCommand}
+use Rattle.rtp_media_lines.specs.declared.command.SampleCommand.{SampleCommand}
+use Rattle.rtp_media_lines.specs.declared.command.ReceiveCommand.{ReceiveCommand}
+use Rattle.rtp_media_lines.specs.declared.command.PollCommand.{PollCommand}
+use Rattle.rtp_media_lines.specs.declared.exchange.RowCommand.{RowCommand}
+use Rattle.rtp_media_lines.specs.declared.exchange.ExtCommand.{ExtCommand}
+use Rattle.rtp_media_lines.specs.declared.exchange.EndCommand.{EndCommand}
+use Rattle.rtp_media_lines.specs.declared.exchange.OfferCommand.{OfferCommand}
+use Rattle.rtp_media_lines.specs.declared.exchange.AnswerCommand.{AnswerCommand}
+use Rattle.rtp_media_lines.specs.declared.exchange.AcceptCommand.{AcceptCommand}
+use Rattle.rtp_media_lines.specs.declared.exchange.ConnectCommand.{ConnectCommand}
+use Rattle.rtp_media_lines.specs.declared.playing.PlayCommand.{PlayCommand}
+use Rattle.rtp_media_lines.specs.declared.playing.QueueCommand.{QueueCommand}
+use Rattle.rtp_media_lines.specs.PlayLines.{items_of}
+use Rattle.rtp_media_lines.specs.Sections.{sections_of}
+use Rattle.rtp_media_lines.specs.Words.{letter_of, text_of, hex_of, dash_or, numbers_of, number_below}
 
 -- send E MID SSRC PT FIRST MTU LIMIT DISTANCES PICTUREID
 pub record AreSendWords (words : List (List ℕ)) (send : SendCommand) : Type 0 where

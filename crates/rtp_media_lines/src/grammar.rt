@@ -1,7 +1,7 @@
 //! Which words a command is.
 
 ghost use Rattle.std.specs.Prelude.{◌≡◌, ◌↔◌, ℕ, List};
-ghost use Rattle.rtp_media_commands.specs.declared.command.Command.{Command};
+ghost use Rattle.rtp_media_lines.specs.declared.command.Command.{Command};
 ghost use Rattle.rtp_media_lines.specs.Lines.{command_of};
 ghost use Rattle.rtp_media_lines.specs.Says.{Says};
 

@@ -1,18 +1,23 @@
 //! The lines of the program that are understood.
 
 ghost use Rattle.std.specs.Prelude.{◌≡◌, IfOk};
-ghost use Rattle.rtp_media_words.specs.Misreads.{Reads};
+ghost use Rattle.rtp_media_lines.specs.Misreads.{Reads};
 ghost use Rattle.rtp_media_lines.specs.Lines.{line_of, command_of, exchange_command_of, fixed_of, send_of, open_of};
 ghost use Rattle.rtp_media_lines.specs.Lines.{sample_of, receive_of, poll_of, run_command_of, rest_of_send};
 
-use rtp_media_commands::{
-    Command, OpenCommand, PollCommand, ReceiveCommand, SampleCommand, SendCommand, accept_of,
-    answer_of, connect_of, end_of, ext_of, offer_of, play_of, queue_of, row_of, withdraw_of,
+use crate::command::{
+    Command, OpenCommand, PollCommand, ReceiveCommand, SampleCommand, SendCommand,
 };
-use rtp_media_words::{
-    Letter, Misread, Text, Words, distances_word, hex_word, letter_word, mid_value, number_word,
-    picture_id_word, text_word,
+use crate::exchange::{
+    accept_of, answer_of, connect_of, end_of, ext_of, offer_of, row_of, withdraw_of,
 };
+use crate::fields::{
+    distances_word, hex_word, letter_word, mid_value, number_word, picture_id_word, text_word,
+};
+use crate::misread::Misread;
+use crate::owned::Text;
+use crate::playing::{play_of, queue_of};
+use crate::words::{Letter, Words};
 use std::alloc::{AllocError, Global};
 
 /// A line that is understood.

@@ -1,7 +1,7 @@
 -- Every codec over two hops, from what holds of each.
 use Rattle.std.proofs.Common.{refl}
 use Rattle.h26x_payload_units.specs.Units.{ComesBack, UnitsLaw}
-use Rattle.payload_core_av1_reader.specs.Samples.{KeptOnce, SampleLaw}
+use Rattle.payload_core_av1.specs.Samples.{KeptOnce, SampleLaw}
 use Rattle.payload_core_base.specs.declared.codec.Codec.TheVariants.{Opus, PCMU, PCMA, G722, CN, AmrWb, H264, H265}
 use Rattle.payload_core_base.specs.declared.codec.Codec.TheVariants.{H266, Vp8, Vp9, Av1, Tele, Rtx, Red, Null}
 use Rattle.payload_core_base.specs.declared.codec.Codec.TheVariants.{Unknown}

@@ -10,14 +10,14 @@ use Rattle.payload_core_base.specs.Packing.{Sender}
 use Rattle.rtp_media_schedules.specs.Hearing.{Stream, fresh, heard}
 use Rattle.rtp_media_schedules.specs.SentSamples.{Timed, timed}
 use Rattle.rtp_media_schedules.specs.Samples.{whole_unit}
-use Rattle.rtp_media_payloads.specs.Receiving.{Receiving, opened_receiver, with_stream}
+use Rattle.rtp_media_streams.specs.Receiving.{Receiving, opened_receiver, with_stream}
 use Rattle.h26x_payload.specs.Codings.{forms_for}
-use Rattle.rtp_media_payloads.specs.Rows.{coding_in, format_of, settings_in}
+use Rattle.rtp_media_streams.specs.Rows.{coding_in, format_of, settings_in}
 use Rattle.rtp_media_streams.specs.Sending.{Sample, Sending, carried, datagrams_of, opened_sender, packet_limit}
 use Rattle.rtp_media_streams.specs.Sending.{samples_of}
 use Rattle.rtp_media_streams.specs.Sending.{timestamp}
-use Rattle.rtp_media_payloads.specs.declared.row_format.RowFormat.{RowFormat}
-use Rattle.rtp_media_payloads.specs.declared.types.PayloadTypes.{PayloadTypes}
+use Rattle.rtp_media_streams.specs.declared.row_format.RowFormat.{RowFormat}
+use Rattle.rtp_media_streams.specs.declared.types.PayloadTypes.{PayloadTypes}
 use Rattle.rtp_media_ends.proofs.OneAgreement.{same_maps, same_rows}
 use Rattle.rtp_media_ends.specs.Agreement.{agreed_map_of, agreed_row_of}
 use Rattle.rtp_media_ends.specs.Ends.{EndState, after_open_receiver, agreed_format, agreed_red, agreed_types}
@@ -28,7 +28,7 @@ use Rattle.rtp_media_ends.specs.OpensAt.{SendsAt}
 use Rattle.rtp_media_ends.specs.Params as params
 use Rattle.rtp_media_ends.specs.declared.StreamParams.{StreamParams}
 use Rattle.rtp_media_ends.proofs.MayOpen.{may-receive}
-use Rattle.rtp_media_ends.proofs.NewReceiver.{opened-receiver}
+use Rattle.rtp_media_ends.proofs.OpenedReceiver.{opened-receiver}
 use Rattle.rtp_media_ends.proofs.Opened.{carried-fits, opened-sound}
 use Rattle.rtp_media_ends.proofs.Refusals.{row-agreed}
 use Rattle.rtp_media_play.specs.Headline.{SendsTo, answers_of, units}

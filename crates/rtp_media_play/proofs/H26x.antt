@@ -4,12 +4,12 @@ use Rattle.h26x_payload_units.specs.Units.{ComesBack, UnitsLaw, units_of}
 use Rattle.h26x_payload_units.specs.Given.{unit_of}
 use Rattle.h26x_payload_units.specs.Departures.{Waiting, are_ready, emptied, units_sent}
 use Rattle.payload_core_base.specs.Law.{joined}
-use Rattle.h26x_payload_h264.specs.H264Coding as h264
-use Rattle.h26x_payload_h264.specs.H264Packing.{h264_rules}
+use Rattle.h26x_payload_formats.specs.H264Coding as h264
+use Rattle.h26x_payload_formats.specs.H264Packing.{h264_rules}
 use Rattle.h26x_payload_units.specs.declared.layout.Layout.{Layout}
 use Rattle.h26x_payload_units.specs.Headers.{needs_vps}
-use Rattle.h26x_payload_h265_h266.specs.Coding as h265_h266
-use Rattle.h26x_payload_packing.specs.Packing.{h265_h266_rules, least_limit}
+use Rattle.h26x_payload_formats.specs.Coding as h265_h266
+use Rattle.h26x_payload_formats.specs.Packing.{h265_h266_rules, least_limit}
 use Rattle.rtp_media_play.specs.Again.{GivesAgain}
 use Rattle.rtp_media_play.specs.Kept.{AreKept, HasNone}
 use Rattle.rtp_media_play.proofs.AnnexB.{IsByRules, comes-again, joined-codes, texts}

@@ -6,8 +6,8 @@ use Rattle.std.specs.List.{flat_map}
 use Rattle.payload_core_base.specs.Law.{joined}
 use Rattle.payload_core_base.specs.Packing.{Sender}
 use Rattle.payload_core_av1.specs.Av1Coding.{IsSample, av1_coding, av1_units, unit_of}
-use Rattle.payload_core_av1_reader.specs.Obus.{Obu, is_kept, with_its_size}
-use Rattle.payload_core_av1_reader.specs.Samples.{KeptOnce, SampleLaw, kept_of, kept_text, obus_of}
+use Rattle.payload_core_av1.specs.Obus.{Obu, is_kept, with_its_size}
+use Rattle.payload_core_av1.specs.Samples.{KeptOnce, SampleLaw, kept_of, kept_text, obus_of}
 use Rattle.rtp_media_play.specs.Again.{AnySample, ComesAgain, GivesAgain, IsSame}
 use Rattle.rtp_media_play.proofs.Whole.{from-one, none-sent, one-sent}
 

@@ -24,10 +24,10 @@ use Rattle.rtp_media_schedules.specs.Turns as turns
 use Rattle.rtp_media_schedules.specs.Turns.{AllCame, Ask}
 use Rattle.rtp_media_schedules.proofs.Polls.{polls-end}
 use Rattle.h26x_payload.specs.Codings.{forms_for}
-use Rattle.rtp_media_payloads.specs.Rows.{format_of, settings_in}
+use Rattle.rtp_media_streams.specs.Rows.{format_of, settings_in}
 use Rattle.rtp_media_streams.specs.Sending.{Sample, Sending, carried, datagrams_of, opened_sender, packet_limit}
 use Rattle.rtp_media_streams.specs.Sending.{samples_of, timestamp}
-use Rattle.rtp_media_payloads.specs.declared.row_format.RowFormat.{RowFormat}
+use Rattle.rtp_media_streams.specs.declared.row_format.RowFormat.{RowFormat}
 use Rattle.rtp_media_ends.specs.Ends.{agreed_types, new_receiver}
 use Rattle.rtp_media_ends.specs.FullArrival.{AreSound, count_of, sent_samples}
 use Rattle.rtp_media_ends.specs.OwnEvents.{event_in}

@@ -6,14 +6,14 @@ use Rattle.std.proofs.Math.Nat.{div-zero, mul-div_cancel, zero-div}
 use Rattle.std.proofs.lemmas.List.Elements.{All-cons, All-head, All-nil, All-tail}
 use Rattle.payload_core_base.specs.declared.error.PacketError.{PacketError}
 use Rattle.rtp_wire.specs.Carried.{AreValues}
-use Rattle.rtp_wire.specs.Time.{Time, rebased_ticks}
+use Rattle.rtp_wire_values.specs.Time.{Time, rebased_ticks}
 use Rattle.rtp_wire.specs.Values.{Numbering}
 use Rattle.rtp_wire.specs.declared.ExtensionValues.{ExtensionValues}
 use Rattle.rtp_media_schedules.specs.Hearing.{Answer, MediaUnit, handed_out}
 use Rattle.rtp_media_schedules.specs.SentSamples.{Timed, timed, timed_unit}
-use Rattle.rtp_media_payloads.specs.Rows.{rtp_rate}
+use Rattle.rtp_media_streams.specs.Rows.{rtp_rate}
 use Rattle.rtp_media_streams.specs.Sending.{Sample, Sending, carried, samples_of, timestamp}
-use Rattle.rtp_media_payloads.specs.declared.row_format.RowFormat.{RowFormat}
+use Rattle.rtp_media_streams.specs.declared.row_format.RowFormat.{RowFormat}
 use Rattle.rtp_media_play.specs.Units.{arriving, arriving_values}
 use Rattle.rtp_media_play.specs.Again.{IsKeptBy}
 use Rattle.rtp_media_play.specs.Hops.{as_samples, carried_again, unstamped, without_send_time}

@@ -3,12 +3,14 @@ use Rattle.std.proofs.Common.{◌≡◌, ℕ, zero, suc, ◌+◌, ◌<◌, ◌�
 use Rattle.std.proofs.Common.{List, [], ◌∷◌, ◌++◌, length, length-set, take, append_assoc, append-nil, add-one}
 use Rattle.std.proofs.Common.{Option, Some, None}
 use Rattle.std.specs.Prelude.{slice_index_or, slice_get, slice_set, ◌⊎◌, nat_lt, not, true}
-use Rattle.rtp_media_ends.specs.Arrivals.{Arrival, NoHeader, NoStream, NoPayload, Own, after_arrival}
-use Rattle.rtp_media_ends.specs.Arrivals.{arrival_at}
-use Rattle.rtp_media_ends.specs.Ends.{EndState, is_receiver_at, is_sending, nth_stream, with_receiver}
+use Rattle.rtp_media_stream_table.specs.Arrivals.{Arrival, NoHeader, NoStream, NoPayload, Own}
+use Rattle.rtp_media_ends.specs.EndArrivals.{after_arrival}
+use Rattle.rtp_media_stream_table.specs.Arrivals.{arrival_at}
+use Rattle.rtp_media_ends.specs.Ends.{EndState, is_receiver_at, with_receiver}
+use Rattle.rtp_media_stream_table.specs.Streams.{is_sending, nth_stream}
 use Rattle.rtp_media_ends.specs.declared.OpenStream.{OpenStream}
 use Rattle.rtp_media_ends.specs.declared.OpenStream.TheVariants.{Receiver}
-use Rattle.rtp_media_payloads.specs.Receiving.{Receiving}
+use Rattle.rtp_media_streams.specs.Receiving.{Receiving}
 use Rattle.rtp_media_play.proofs.Both.{both, left, right}
 use Rattle.rtp_media_ends.specs.Stops.{PollStops}
 use Rattle.rtp_media_play.specs.Pushing.{PlaysSome}

@@ -7,11 +7,13 @@ use Rattle.std.proofs.lemmas.Bool.Decides.{nat_tests}
 use Rattle.std.specs.Prelude.{Option, Some, None, nat_lt, slice_index_or}
 use Rattle.rtp_media_streams.specs.Sending.{HasFailed, Sample, Sending, after_sample, after_samples, datagrams_of}
 use Rattle.rtp_media_streams.specs.Sending.{first_refusal, refusal_of_sample, sent_datagrams}
-use Rattle.rtp_media_payloads.specs.declared.errors.SampleError.{SampleError}
+use Rattle.rtp_media_streams.specs.declared.errors.SampleError.{SampleError}
 use Rattle.rtp_media_ends.specs.declared.OpenStream.{OpenStream}
 use Rattle.rtp_media_ends.specs.declared.OpenStream.TheVariants.{Receiver, Sender}
-use Rattle.rtp_media_ends.specs.Ends.{EndState, is_sender_at, no_receiver, sender_at}
-use Rattle.rtp_media_ends.specs.Ends.{sending_of, with_sender}
+use Rattle.rtp_media_ends.specs.Ends.{EndState, is_sender_at, sender_at}
+use Rattle.rtp_media_stream_table.specs.Streams.{no_receiver}
+use Rattle.rtp_media_stream_table.specs.Streams.{sending_of}
+use Rattle.rtp_media_ends.specs.Ends.{with_sender}
 use Rattle.rtp_media_play.proofs.Both.{left}
 use Rattle.rtp_media_play.specs.Pushing.{IsRefusedAt, PushesSome, after_pushes, refusal_of_samples}
 

@@ -11,9 +11,9 @@ use Rattle.rtp_media_schedules.specs.Hearing.{handed_out}
 use Rattle.rtp_media_schedules.specs.SentSamples.{Timed, timed_unit}
 use Rattle.rtp_media_schedules.specs.Samples.{AreWellFormed}
 use Rattle.h26x_payload.specs.Codings.{forms_for}
-use Rattle.rtp_media_payloads.specs.Rows.{coding_in, first_state, rtp_rate, settings_in}
+use Rattle.rtp_media_streams.specs.Rows.{coding_in, first_state, rtp_rate, settings_in}
 use Rattle.rtp_media_streams.specs.Sending.{Sample, Sending, opened_sender, packet_limit, samples_of}
-use Rattle.rtp_media_payloads.specs.declared.row_format.RowFormat.{RowFormat}
+use Rattle.rtp_media_streams.specs.declared.row_format.RowFormat.{RowFormat}
 use Rattle.rtp_media_ends.specs.Ends.{agreed_types}
 use Rattle.rtp_media_ends.specs.FullArrival.{coding_of}
 use Rattle.rtp_media_play.specs.Units.{arriving, units_by, units_for}

@@ -12,14 +12,14 @@ use Rattle.payload_core_base.specs.Stateless.{unit_of_piece}
 use Rattle.h26x_payload.specs.Codings as codings
 use Rattle.h26x_payload.specs.Dispatch.{FirstIsReached, KeepCodecLawInForms}
 use Rattle.rtp_media_play.specs.Codecs.{is_kept_in}
-use Rattle.rtp_wire.specs.Time.{rebased_ticks}
+use Rattle.rtp_wire_values.specs.Time.{rebased_ticks}
 use Rattle.rtp_wire.specs.Values.{Numbering}
 use Rattle.rtp_media_schedules.specs.Hearing.{MediaUnit, handed_out}
 use Rattle.rtp_media_schedules.specs.SentSamples.{Timed, timed}
 use Rattle.h26x_payload.specs.Codings.{forms_for}
-use Rattle.rtp_media_payloads.specs.Rows.{first_state, rtp_rate, settings_in}
+use Rattle.rtp_media_streams.specs.Rows.{first_state, rtp_rate, settings_in}
 use Rattle.rtp_media_streams.specs.Sending.{Sample}
-use Rattle.rtp_media_payloads.specs.declared.row_format.RowFormat.{RowFormat}
+use Rattle.rtp_media_streams.specs.declared.row_format.RowFormat.{RowFormat}
 use Rattle.rtp_media_ends.specs.FullArrival.{count_of}
 use Rattle.rtp_media_play.specs.Units.{arriving_values, units_for}
 use Rattle.rtp_media_play.specs.Hops.{Hop, IsAlike, IsTame, SendsOn, answers_over, limit_over, map_over}

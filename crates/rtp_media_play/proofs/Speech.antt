@@ -5,12 +5,12 @@ use Rattle.std.proofs.Common.{◌∙◌, arith}
 use Rattle.std.proofs.lemmas.Bool.Decides.{nat_tests}
 use Rattle.std.proofs.lemmas.List.FromFn.{length-map-range_with_len}
 use Rattle.payload_core_base.specs.Packing.{Sender}
-use Rattle.payload_core_amr_wb.specs.AmrWb.{IsSized, amr_wb_coding, amr_wb_packet, bit_of, byte_from, bytes_from}
-use Rattle.payload_core_amr_wb.specs.AmrWb.{field_of, header_at, sample_size, size_if, speech_bits, speech_of}
-use Rattle.payload_core_amr_wb.specs.AmrWb.{speech_unit}
+use Rattle.payload_core_audio.specs.AmrWb.{IsSized, amr_wb_coding, amr_wb_packet, bit_of, byte_from, bytes_from}
+use Rattle.payload_core_audio.specs.AmrWb.{field_of, header_at, sample_size, size_if, speech_bits, speech_of}
+use Rattle.payload_core_audio.specs.AmrWb.{speech_unit}
 use Rattle.payload_core_base.specs.Stateless.{unit_of_piece}
-use Rattle.payload_core_amr_wb.proofs.AmrWbLemmas.{aligned_len, efficient_len}
-use Rattle.payload_core_amr_wb.proofs.AmrWbLaw.{bit_from, bit_small}
+use Rattle.payload_core_audio.proofs.AmrWbLemmas.{aligned_len, efficient_len}
+use Rattle.payload_core_audio.proofs.AmrWbLaw.{bit_from, bit_small}
 use Rattle.rtp_media_play.specs.Again.{AnySample, ComesAgain, GivesAgain, IsSame}
 use Rattle.rtp_media_play.proofs.Whole.{from-one, one-sent, part-bytes}
 

@@ -12,11 +12,11 @@ use Rattle.rtp_media_schedules.specs.Hearing as hearing
 use Rattle.rtp_media_schedules.specs.Hearing.{heard}
 use Rattle.rtp_media_schedules.specs.SentSamples.{Timed}
 use Rattle.rtp_media_schedules.specs.Samples.{AreWellFormed, SentSample, packets_of, sent_by}
-use Rattle.rtp_media_payloads.specs.Receiving.{Receiving, opened_receiver, with_stream}
-use Rattle.rtp_media_payloads.specs.Rows.{coding_in, first_state, format_of}
+use Rattle.rtp_media_streams.specs.Receiving.{Receiving, opened_receiver, with_stream}
+use Rattle.rtp_media_streams.specs.Rows.{coding_in, first_state, format_of}
 use Rattle.rtp_media_streams.specs.Sending.{Sample, Sending, datagrams_of, opened_sender, packet_limit}
 use Rattle.rtp_media_streams.specs.Sending.{payloads_of_samples, wire_payloads}
-use Rattle.rtp_media_payloads.specs.declared.row_format.RowFormat.{RowFormat}
+use Rattle.rtp_media_streams.specs.declared.row_format.RowFormat.{RowFormat}
 use Rattle.rtp_media_streams.proofs.Cutting.{length-datagrams_from, length-on_wire}
 use Rattle.rtp_media_streams.proofs.Sent.{datagrams_of-consecutive}
 use Rattle.rtp_media_ends.specs.Ends.{EndState, after_open_receiver, agreed_red, agreed_types, receiver_at}

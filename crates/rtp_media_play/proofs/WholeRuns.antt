@@ -19,8 +19,8 @@ use Rattle.rtp_media_schedules.specs.Sending.{numbered}
 use Rattle.rtp_media_schedules.specs.Turns as turns
 use Rattle.rtp_media_schedules.specs.Turns.{Ask, Sender, Turn, event_of}
 use Rattle.rtp_media_schedules.proofs.Samples.{exact-samples, legal-samples}
-use Rattle.rtp_media_payloads.specs.Receiving.{Receiving, opened_receiver, with_stream}
-use Rattle.rtp_media_payloads.specs.Rows.{format_of}
+use Rattle.rtp_media_streams.specs.Receiving.{Receiving, opened_receiver, with_stream}
+use Rattle.rtp_media_streams.specs.Rows.{format_of}
 use Rattle.rtp_media_streams.specs.Sending.{Sample, Sending, datagrams_of, payloads_of_samples, wire_payloads}
 use Rattle.rtp_media_streams.proofs.Cutting.{length-datagrams_from, length-on_wire}
 use Rattle.rtp_media_streams.proofs.Sent.{datagrams_of-consecutive}

@@ -2,11 +2,11 @@
 use Rattle.std.specs.Prelude.{ℕ, Bool}
 use Rattle.h26x_payload.specs.Codings.{Forms, Settings, coding_in, first_sender}
 use Rattle.h26x_payload_units.specs.Units.{units_of}
-use Rattle.h26x_payload_h264.specs.H264Coding as h264
-use Rattle.h26x_payload_h264.specs.H264Packing.{h264_rules}
+use Rattle.h26x_payload_formats.specs.H264Coding as h264
+use Rattle.h26x_payload_formats.specs.H264Packing.{h264_rules}
 use Rattle.h26x_payload_units.specs.declared.layout.Layout.TheVariants as layouts
-use Rattle.h26x_payload_h265_h266.specs.Coding as h265_h266
-use Rattle.h26x_payload_packing.specs.Packing.{h265_h266_rules, least_limit}
+use Rattle.h26x_payload_formats.specs.Coding as h265_h266
+use Rattle.h26x_payload_formats.specs.Packing.{h265_h266_rules, least_limit}
 use Rattle.payload_core_base.specs.declared.codec.Codec.{Codec}
 use Rattle.payload_core_base.specs.declared.codec.Codec.TheVariants.{H264, H265, H266}
 use Rattle.rtp_media_play.specs.Again.{AnySample, GivesAgain, IsKeptBy, IsSame, Relation}

@@ -6,9 +6,9 @@ use Rattle.rtp_wire.specs.Values.{Numbering}
 use Rattle.rtp_wire.specs.declared.ExtensionValues.{ExtensionValues}
 use Rattle.rtp_media_schedules.specs.Hearing.{Answer, MediaUnit}
 use Rattle.rtp_media_schedules.specs.SentSamples.{Timed, timed}
-use Rattle.rtp_media_payloads.specs.Rows.{rtp_rate, settings_in}
+use Rattle.rtp_media_streams.specs.Rows.{rtp_rate, settings_in}
 use Rattle.rtp_media_streams.specs.Sending.{Sample, Sending}
-use Rattle.rtp_media_payloads.specs.declared.row_format.RowFormat.{RowFormat}
+use Rattle.rtp_media_streams.specs.declared.row_format.RowFormat.{RowFormat}
 use Rattle.rtp_media_ends.specs.Ends.{EndState, agreed_format, new_sender, stream_map}
 use Rattle.rtp_media_ends.specs.FullArrival.{count_of}
 use Rattle.rtp_media_ends.specs.declared.StreamParams.{StreamParams}

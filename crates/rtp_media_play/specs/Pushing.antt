@@ -2,7 +2,7 @@
 use Rattle.std.specs.Prelude.{ℕ, suc, ◌≡◌, ◌≤◌, ◌⊎◌, List, [], ◌∷◌, length, take, Option, Some, None}
 use Rattle.rtp_media_streams.specs.Sending.{HasFailed, Sample, Sending, after_sample, after_samples, datagrams_of}
 use Rattle.rtp_media_streams.specs.Sending.{first_refusal, refusal_of_sample}
-use Rattle.rtp_media_payloads.specs.declared.errors.SampleError.{SampleError}
+use Rattle.rtp_media_streams.specs.declared.errors.SampleError.{SampleError}
 use Rattle.rtp_media_ends.specs.Ends.{EndState, sender_at, with_sender}
 use Rattle.rtp_media_ends.specs.Stops.{PollStops}
 use Rattle.rtp_media_play.specs.Schedules.{after_schedule}

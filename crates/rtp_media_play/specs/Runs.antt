@@ -5,10 +5,10 @@ use Rattle.rtp_media_schedules.specs.Orders.{IsSane, IsTame, first_size}
 use Rattle.rtp_media_schedules.specs.Samples.{canonical_units, frame_sizes}
 use Rattle.rtp_media_schedules.specs.Sending.{Canonical}
 use Rattle.rtp_media_schedules.specs.Turns.{Turn}
-use Rattle.rtp_media_payloads.specs.Receiving.{opened_receiver}
-use Rattle.rtp_media_payloads.specs.Rows.{format_of}
+use Rattle.rtp_media_streams.specs.Receiving.{opened_receiver}
+use Rattle.rtp_media_streams.specs.Rows.{format_of}
 use Rattle.rtp_media_streams.specs.Sending.{Sample, Sending}
-use Rattle.rtp_media_payloads.specs.declared.types.PayloadTypes.{PayloadTypes}
+use Rattle.rtp_media_streams.specs.declared.types.PayloadTypes.{PayloadTypes}
 use Rattle.rtp_media_ends.specs.Ends.{EndState}
 use Rattle.rtp_media_ends.specs.FullArrival.{AreSound, HasReceiver, IsSender, count_of, is_own_datagram}
 use Rattle.rtp_media_ends.specs.FullArrival.{sent_samples}

@@ -6,9 +6,9 @@ use Rattle.rtp_media_schedules.specs.Hearing as hearing
 use Rattle.rtp_media_schedules.specs.Hearing.{Answer, poll_answer}
 use Rattle.rtp_media_schedules.specs.Turns.{Turn, Ask}
 use Rattle.rtp_media_schedules.specs.Turns as turns
-use Rattle.rtp_media_payloads.specs.Receiving.{Receiving, polled_receiver}
-use Rattle.rtp_media_payloads.specs.Rows.{format_of}
-use Rattle.rtp_media_ends.specs.Arrivals.{after_datagram, verdict_of}
+use Rattle.rtp_media_streams.specs.Receiving.{Receiving, polled_receiver}
+use Rattle.rtp_media_streams.specs.Rows.{format_of}
+use Rattle.rtp_media_ends.specs.EndArrivals.{after_datagram, verdict_of}
 use Rattle.rtp_media_ends.specs.Ends.{EndState, receiver_at, with_receiver}
 use Rattle.rtp_media_ends.specs.OwnEvents.{event_in}
 use Rattle.rtp_media_play.specs.declared.schedule.Event.{Event}

@@ -3,13 +3,13 @@ use Rattle.std.specs.Prelude.{ℕ, ◌-◌, ◌%◌, ◌^◌, Bool, false, List,
 use Rattle.payload_core_base.specs.Law.{Coding, joined}
 use Rattle.payload_core_base.specs.Packing as packing
 use Rattle.rtp_wire.specs.Header.{image}
-use Rattle.rtp_wire.specs.Time.{rebased_ticks}
+use Rattle.rtp_wire_values.specs.Time.{rebased_ticks}
 use Rattle.rtp_wire.specs.Values.{Numbering}
 use Rattle.rtp_wire.specs.declared.ExtensionValues.{ExtensionValues}
 use Rattle.rtp_media_schedules.specs.SentSamples.{Timed, timed}
-use Rattle.rtp_media_payloads.specs.Rows.{coding_in, first_state, rtp_rate}
+use Rattle.rtp_media_streams.specs.Rows.{coding_in, first_state, rtp_rate}
 use Rattle.rtp_media_streams.specs.Sending.{Sample, stamped}
-use Rattle.rtp_media_payloads.specs.declared.row_format.RowFormat.{RowFormat}
+use Rattle.rtp_media_streams.specs.declared.row_format.RowFormat.{RowFormat}
 use Rattle.rtp_media_ends.specs.declared.StreamParams.{StreamParams}
 
 -- The values that arrive under a map of header extensions, where these are sent: those of the wire image.

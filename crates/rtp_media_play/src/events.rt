@@ -1,9 +1,9 @@
 //! Single events of a schedule.
 
 ghost use Rattle.std.specs.Prelude.{◌≡◌, true, IfOk, OnOk, OnErr, Some};
-ghost use Rattle.rtp_media_ends.specs.Arrivals.{after_datagram, verdict_of};
+ghost use Rattle.rtp_media_ends.specs.EndArrivals.{after_datagram, verdict_of};
 ghost use Rattle.rtp_media_ends.specs.Ends.{is_receiver_at, receiver_at, with_receiver};
-ghost use Rattle.rtp_media_payloads.specs.Receiving.{polled_receiver};
+ghost use Rattle.rtp_media_streams.specs.Receiving.{polled_receiver};
 ghost use Rattle.rtp_media_ends.specs.Stops.{PollStops};
 ghost use Rattle.rtp_media_play.specs.Schedules.{answer_at};
 

@@ -5,7 +5,7 @@ ghost use Rattle.rtp_media_schedules.specs.Hearing.{fresh, handed_out, heard};
 ghost use Rattle.rtp_media_schedules.specs.SentSamples.{timed_unit};
 ghost use Rattle.rtp_media_schedules.specs.Legal.{IsLegal};
 ghost use Rattle.rtp_media_schedules.specs.Samples.{whole_unit};
-ghost use Rattle.rtp_media_payloads.specs.Rows.{format_of};
+ghost use Rattle.rtp_media_streams.specs.Rows.{format_of};
 ghost use Rattle.rtp_media_streams.specs.Sending.{Sample, datagrams_of};
 ghost use Rattle.rtp_media_ends.specs.Ends.{EndState, after_open_receiver, new_receiver, new_sender};
 ghost use Rattle.rtp_media_ends.specs.Ends.{refusal_of_open_receiver, refusal_of_open_sender};

@@ -1,12 +1,11 @@
-//! Whole runs between two ends: samples pushed at one, and a schedule of arrivals, other bytes and polls at the other.
-//!
-//! Whole runs side by side: units of every codec that come out of one stream and are sent on over a second one that is
-//! opened alike come out unchanged, and redundancy isn't seen in any run.
+//! Whole runs between two ends, and what holds of them.
 #![tactic(auto)]
 
 mod again;
+mod answered;
 mod events;
 mod laws;
+mod names;
 mod opus;
 mod pushing;
 mod redundancy;
@@ -14,9 +13,12 @@ mod runs;
 mod sample;
 mod schedule;
 mod second_hop;
+mod types;
 
 pub use again::again_law;
+pub use answered::answered_rows_law;
 pub use laws::headline;
+pub use names::names_law;
 pub use opus::opus_over_two_hops;
 pub use redundancy::redundancy_law;
 pub use rtp_media_ends::{
@@ -29,3 +31,4 @@ pub use runs::play;
 pub use sample::Sample;
 pub use schedule::{Event, Played};
 pub use second_hop::second_hop_law;
+pub use types::types_law;

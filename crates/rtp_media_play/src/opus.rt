@@ -6,7 +6,7 @@ ghost use Rattle.rtp_media_streams.specs.Sending.{Sample};
 ghost use Rattle.rtp_media_play.specs.Hops.{Hop, IsAlike, IsTame, SendsOn, answers_over, passed_on};
 ghost use Rattle.rtp_media_play.specs.OpusHops.{CarriesOpus, FitsPacket, bytes_out, one_arrival};
 
-use crate::headline;
+use crate::laws::headline;
 use crate::second_hop::second_hop_law;
 use h26x_payload::codec_law;
 

@@ -6,7 +6,7 @@ ghost use Rattle.std.specs.Prelude.{Ok};
 ghost use Rattle.rtp_media_schedules.specs.Hearing.{handed_out, heard};
 ghost use Rattle.rtp_media_schedules.specs.SentSamples.{timed_unit};
 ghost use Rattle.rtp_media_schedules.specs.Legal.{IsLegal};
-ghost use Rattle.rtp_media_payloads.specs.Rows.{format_of};
+ghost use Rattle.rtp_media_streams.specs.Rows.{format_of};
 ghost use Rattle.rtp_media_ends.specs.Ends.{is_receiver_at, is_sender_at, receiver_at};
 ghost use Rattle.rtp_media_ends.specs.FullArrival.{IsFound, units_of};
 ghost use Rattle.rtp_media_play.specs.Runs.{Hears, IsSaneSchedule, IsTameSchedule, canonical_of};

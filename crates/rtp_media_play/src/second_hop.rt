@@ -7,7 +7,8 @@ ghost use Rattle.rtp_media_play.specs.declared.schedule.Event.{Event};
 ghost use Rattle.rtp_media_play.specs.Hops.{Carries, Hop, IsTame, SendsOn, answers_over, carried_again};
 ghost use Rattle.rtp_media_play.specs.Hops.{map_over, passed_on, units_over, unstamped};
 
-use crate::{again_law, headline};
+use crate::again::again_law;
+use crate::laws::headline;
 use h26x_payload::codec_law;
 
 /// The second hop: the units of a tame run, sent on as samples with their times and values over a second stream that

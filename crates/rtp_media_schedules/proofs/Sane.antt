@@ -19,7 +19,7 @@ use Rattle.rtp_media_schedules.specs.Turns.{Sender, Turn, Arrive, Ask, event_of,
 use Rattle.rtp_media_schedules.proofs.Places.{packet}
 use Rattle.rtp_wire.specs.Replay.{Window, accepts, is_accepted, recorded_in, greatest_in}
 use Rattle.rtp_wire.specs.Widening.{widened}
-use Rattle.rtp_wire_numbers.proofs.WideningLaws.{widened-near}
+use Rattle.rtp_wire_values.proofs.WideningLaws.{widened-near}
 use Rattle.rtp_media_schedules.specs.Hearing as hearing
 use Rattle.rtp_media_schedules.specs.Hearing.{Stream, answer_among, due, fresh, heard, poll_answer}
 use Rattle.rtp_media_schedules.specs.Hearing.{polled, run_among, stream_behind, taken_by}

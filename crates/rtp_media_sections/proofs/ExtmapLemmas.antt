@@ -9,9 +9,9 @@ use Rattle.std.specs.List.{cons_option, filter_map, last_or}
 use Rattle.rtp_wire.specs.declared.Extension.{Extension}
 use Rattle.rtp_wire.specs.Maps.{empty_map}
 use Rattle.rtp_wire.specs.Values.{Numbering}
-use Rattle.sdp_formats_types.specs.declared.media.MediaAttribute.{MediaAttribute}
-use Rattle.sdp_formats_types.specs.declared.media.MediaAttribute.TheVariants.{ExtMap}
-use Rattle.rtp_media_section_texts.specs.Extensions.{LastLinesCount, given_to, is_numbered, with_line_of}
+use Rattle.sdp_formats_data.specs.declared.media.MediaAttribute.{MediaAttribute}
+use Rattle.sdp_formats_data.specs.declared.media.MediaAttribute.TheVariants.{ExtMap}
+use Rattle.rtp_media_sections.specs.Extensions.{LastLinesCount, given_to, is_numbered, with_line_of}
 
 -- a line's own number has its extension, another number keeps what it had
 with_line_at : (exts : Numbering) (id n : ℕ) (ext : Extension) → length exts ≡ 16 → 1 ≤ n → n ≤ 16

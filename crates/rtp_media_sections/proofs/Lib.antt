@@ -1,2 +1,3 @@
 mod ExtmapLemmas
 mod Named
+mod SectionNames

@@ -10,19 +10,19 @@ use Rattle.rtp_wire.specs.Direction.{sends, receives}
 use Rattle.rtp_wire.specs.Maps.{empty_map}
 use Rattle.rtp_wire.specs.Values.{Numbering}
 use Rattle.payload_core_base.specs.declared.codec.MediaKind.TheVariants.{Audio}
-use Rattle.rtp_media_section_texts.specs.Codecs.{is_codec}
-use Rattle.sdp_formats_default_rows.specs.DefaultRows.{opus_row}
-use Rattle.sdp_formats_format.specs.declared.format.FormatParams.{FormatParams}
-use Rattle.rtp_media_section_texts.specs.declared.CodecSpec.{CodecSpec}
-use Rattle.rtp_media_section_texts.specs.Rows.{Row}
-use Rattle.sdp_formats_scores.specs.Same.{same, same_flag}
-use Rattle.rtp_media_section_texts.specs.SectionRows.{rows_of}
-use Rattle.sdp_formats_types.specs.Lookups.{direction_of}
-use Rattle.sdp_formats_types.specs.declared.media.MediaLine.{MediaLine}
-use Rattle.rtp_media_section_texts.specs.Extensions.{map_of_lines}
-use Rattle.rtp_media_section_texts.specs.Lines.{kind_of, mid_of, ssrcs_of}
-use Rattle.rtp_media_section_texts.specs.Sections.{Wanted}
-use Rattle.rtp_media_section_texts.specs.declared.Shape.{Shape}
+use Rattle.sdp_formats_rows.specs.Codecs.{is_codec}
+use Rattle.sdp_formats_rows.specs.DefaultRows.{opus_row}
+use Rattle.sdp_formats_params.specs.declared.format.FormatParams.{FormatParams}
+use Rattle.sdp_formats_rounds.specs.declared.CodecSpec.{CodecSpec}
+use Rattle.sdp_formats_rows.specs.Rows.{Row}
+use Rattle.sdp_formats_params.specs.Same.{same, same_flag}
+use Rattle.sdp_formats_section_rows.specs.SectionRows.{rows_of}
+use Rattle.sdp_formats_data.specs.Lookups.{direction_of}
+use Rattle.sdp_formats_data.specs.declared.media.MediaLine.{MediaLine}
+use Rattle.rtp_media_sections.specs.Extensions.{map_of_lines}
+use Rattle.rtp_media_sections.specs.Lines.{kind_of, mid_of, ssrcs_of}
+use Rattle.rtp_media_sections.specs.Sections.{Wanted}
+use Rattle.rtp_media_sections.specs.declared.section.Shape.{Shape}
 
 -- A section as an exchange left it: its name and kind, the answer's rows and its map of header extensions, the SSRCs
 -- that this end and the other one name in it, and whether it flows from this end and to it.

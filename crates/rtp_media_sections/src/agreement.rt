@@ -5,14 +5,15 @@ ghost use Rattle.std.specs.Str.{bytes_eq};
 ghost use Rattle.rtp_media_sections.specs.Agreement.{agreed, agreed_by_accept, agreed_by_answer, fixed_section};
 ghost use Rattle.rtp_media_sections.specs.Agreement.{is_named, row_in, shape_of_agreed};
 
+use crate::extmaps::map_of_lines;
 use crate::read::{kind_of, mid_of, ssrcs_of};
+use crate::section::{SectionSpec, Shape};
 use crate::ssrc_list::SsrcList;
 use payload_core_base::MediaKind;
-use rtp_media_section_texts::{
-    CodecConfig, PayloadParams, SectionSpec, Shape, map_of_lines, rtp_params,
-};
 use rtp_wire::{ExtensionMap, Mid, Pt, Ssrc};
-use sdp_formats_types::MediaLine;
+use sdp_formats_data::MediaLine;
+use sdp_formats_rounds::{CodecConfig, PayloadParams};
+use sdp_formats_section_rows::rtp_params;
 use std::alloc::{AllocError, Global};
 use std::marker::Model;
 

@@ -1,15 +1,17 @@
 //! What the sections of a text say to an exchange.
 
 ghost use Rattle.std.specs.Prelude.{◌≡◌, IfOk};
-ghost use Rattle.rtp_media_section_texts.specs.RemoteSections.{section_of};
-ghost use Rattle.rtp_media_section_texts.specs.Lines.{is_media_line, kind_of, mid_of, remote_of, shape_of_line};
-ghost use Rattle.rtp_media_section_texts.specs.Lines.{ssrcs_of};
+ghost use Rattle.sdp_formats_rounds.specs.RemoteSections.{section_of};
+ghost use Rattle.rtp_media_sections.specs.Lines.{is_media_line, kind_of, mid_of, remote_of, shape_of_line};
+ghost use Rattle.rtp_media_sections.specs.Lines.{ssrcs_of};
 
+use crate::section::Shape;
 use payload_core_base::MediaKind;
-use rtp_media_section_texts::{RemoteSection, Shape, rtp_params};
 use rtp_wire::{Mid, Ssrc};
-use sdp_formats_sources::sources_of;
-use sdp_formats_types::{MediaLine, MediaType, Proto};
+use sdp_formats_data::{MediaLine, MediaType, Proto};
+use sdp_formats_lookups::sources_of;
+use sdp_formats_rounds::RemoteSection;
+use sdp_formats_section_rows::rtp_params;
 use std::alloc::{AllocError, Global};
 
 /// The name of a section, which each that was read has; the empty name where there is none.
@@ -33,7 +35,7 @@ pub(crate) fn kind_of(typ: &MediaType) -> MediaKind
 }
 
 /// The name and kind of a section that was read.
-#[tactic(auto, unfolding(rtp_media_section_texts::specs::Lines::shape_of_line))]
+#[tactic(auto, unfolding(crate::specs::Lines::shape_of_line))]
 pub fn shape_of_line(line: &MediaLine) -> Shape
     ensures { result ≡ shape_of_line line.now }
 {
@@ -55,7 +57,7 @@ pub fn is_media_line(line: &MediaLine) -> bool
 /// # Errors
 ///
 /// `AllocError` where memory runs out.
-#[tactic(auto, unfolding(rtp_media_section_texts::specs::Lines::remote_of))]
+#[tactic(auto, unfolding(crate::specs::Lines::remote_of))]
 pub fn remote_of(alloc: Global, line: &MediaLine) -> Result<RemoteSection, AllocError>
     ensures { IfOk result (λ section. section_of section ≡ remote_of line.now) }
 {

@@ -3,11 +3,11 @@ use Rattle.std.proofs.Common.{◌≡◌, ◌+◌, ap, refl, arith, Bool, true, �
 use Rattle.std.proofs.lemmas.Bool.Decides.{nat_tests}
 use Rattle.std.proofs.lemmas.List.{get_or_push}
 use Rattle.std.specs.Prelude.{nat_lt, not}
-use Rattle.rtp_media_payloads.specs.Receiving.{Receiving}
+use Rattle.rtp_media_streams.specs.Receiving.{Receiving}
 use Rattle.rtp_media_streams.specs.Sending.{Sending}
-use Rattle.rtp_media_open_streams.specs.declared.open_stream.OpenStream.{OpenStream}
-use Rattle.rtp_media_open_streams.specs.declared.open_stream.OpenStream.TheVariants.{Sender, Receiver}
-use Rattle.rtp_media_open_streams.specs.Ends.{is_nth_receiver, is_nth_sender, is_sending, no_receiver, nth_stream}
+use Rattle.rtp_media_stream_table.specs.declared.open_stream.OpenStream.{OpenStream}
+use Rattle.rtp_media_stream_table.specs.declared.open_stream.OpenStream.TheVariants.{Sender, Receiver}
+use Rattle.rtp_media_stream_table.specs.Streams.{is_nth_receiver, is_nth_sender, is_sending, no_receiver, nth_stream}
 
 within : (ss : List OpenStream) (x : OpenStream) → nat_lt (length ss) (length (ss ++ x ∷ [])) ≡ true
 within ss x = let more : length (ss ++ x ∷ []) ≡ length ss + 1 = length-append ss (x ∷ []) in

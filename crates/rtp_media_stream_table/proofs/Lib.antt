@@ -1,2 +1,7 @@
 pub mod Added
+pub mod Indexing
+pub mod KeptOrSet
+pub mod Looked
+pub mod NewReceiver
 pub mod PolledSome
+pub mod StreamKeys

@@ -4,13 +4,13 @@ use Rattle.std.proofs.Common.{length, length-set}
 use Rattle.std.proofs.lemmas.Bool.Decides.{nat_tests}
 use Rattle.std.proofs.lemmas.List.{get_or-set_same, get_or-set_other}
 use Rattle.std.specs.Prelude.{◌==◌, nat_lt, slice_set}
-use Rattle.rtp_media_payloads.specs.Polls.{Answers}
-use Rattle.rtp_media_payloads.specs.Rows.{format_of}
+use Rattle.rtp_media_streams.specs.Polls.{Answers}
+use Rattle.rtp_media_streams.specs.Rows.{format_of}
 use Rattle.rtp_media_streams.proofs.Draining.{polled-some}
-use Rattle.rtp_media_open_streams.specs.Ends.{no_receiver, nth_stream}
-use Rattle.rtp_media_open_streams.specs.declared.open_stream.OpenStream.{OpenStream}
-use Rattle.rtp_media_open_streams.specs.declared.open_stream.OpenStream.TheVariants.{Sender, Receiver}
-use Rattle.rtp_media_open_streams.specs.FullArrival.{AnswersAll, AnswersSome, ArePolledSome, answers_at}
+use Rattle.rtp_media_stream_table.specs.Streams.{no_receiver, nth_stream}
+use Rattle.rtp_media_stream_table.specs.declared.open_stream.OpenStream.{OpenStream}
+use Rattle.rtp_media_stream_table.specs.declared.open_stream.OpenStream.TheVariants.{Sender, Receiver}
+use Rattle.rtp_media_stream_table.specs.Polled.{AnswersAll, AnswersSome, ArePolledSome, answers_at}
 
 pub out-some : (before : OpenStream) (after : OpenStream) (answers : Answers) → AnswersAll before answers after
     → AnswersSome before after

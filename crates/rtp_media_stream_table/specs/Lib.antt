@@ -1,0 +1,5 @@
+pub mod Arrivals
+pub mod Indexed
+pub mod Polled
+pub mod StreamIndex
+pub mod Streams

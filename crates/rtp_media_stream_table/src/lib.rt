@@ -1,9 +1,16 @@
-//! The streams of an end by number: added, found by SSRC and payload type, sent by, received by and polled.
+//! The streams that an end has open: by number, SSRC and payload type.
 #![tactic(auto)]
 
+mod errors;
+mod finding;
+mod open_stream;
+mod received;
+mod stream_index;
 mod stream_table;
 
-pub use rtp_media_open_streams::{
-    Distances, OpenError, OpenStream, ReceiveError, Received, StreamParams,
-};
+pub use errors::ReceiveError;
+pub use finding::{could_receive, could_send, stream_for};
+pub use open_stream::OpenStream;
+pub use received::Received;
+pub use stream_index::StreamIndex;
 pub use stream_table::{Polls, StreamTable};

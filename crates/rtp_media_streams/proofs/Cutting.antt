@@ -5,15 +5,15 @@ use Rattle.std.specs.Prelude.{Option, Some, None, Result, Ok, Err}
 use Rattle.payload_core_base.specs.Outgoing.{Outgoing, TakesAll, outgoing}
 use Rattle.payload_core_base.specs.Packing.{Packing, Sender, Sent}
 use Rattle.payload_core_base.specs.declared.error.PacketError.{PacketError}
-use Rattle.payload_core_buffer.specs.Sending.{HasSent, outgoing_from}
-use Rattle.payload_core_red.specs.RedHistory.{Redundancy, keeping}
-use Rattle.payload_core_red.specs.RedSinks.{TakesWrapped}
-use Rattle.payload_core_red.specs.declared.sink.RedSink.{RedSink}
+use Rattle.payload_core_base.specs.Sending.{HasSent, outgoing_from}
+use Rattle.payload_core_audio.specs.RedHistory.{Redundancy, keeping}
+use Rattle.payload_core_audio.specs.RedSinks.{TakesWrapped}
+use Rattle.payload_core_audio.specs.declared.sink.RedSink.{RedSink}
 use Rattle.rtp_wire.specs.Header.{spelled}
 use Rattle.rtp_wire.specs.Values.{Numbering}
 use Rattle.rtp_wire.specs.declared.ExtensionValues.{ExtensionValues}
 use Rattle.rtp_media_schedules.specs.SentSamples.{sent_or}
-use Rattle.rtp_media_payloads.specs.Redundant.{kept_after, wrapped, wraps}
+use Rattle.rtp_media_streams.specs.Redundant.{kept_after, wrapped, wraps}
 use Rattle.rtp_media_streams.specs.Sending.{Sending, datagram_of, datagrams_from, on_wire, payload_refusal, stamped}
 use Rattle.rtp_media_streams.specs.Sinks.{TakesOne, datagram_with}
 use Rattle.rtp_media_streams.specs.declared.sink.DatagramSink.{DatagramSink}

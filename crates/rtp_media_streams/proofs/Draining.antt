@@ -11,10 +11,10 @@ use Rattle.rtp_media_schedules.specs.Hearing.{answer_by}
 use Rattle.rtp_media_schedules.specs.Hearing.{handed_out, heard, poll_answer, polled}
 use Rattle.rtp_media_schedules.specs.SentSamples.{Timed, timed_unit}
 use Rattle.rtp_media_schedules.proofs.Cuts.{silent-stays}
-use Rattle.rtp_media_payloads.specs.declared.errors.PollFault.{PollFault}
-use Rattle.rtp_media_payloads.specs.declared.errors.PollFault.TheVariants.{Memory, Payload}
-use Rattle.rtp_media_payloads.specs.Polls.{Answers, AreAnswered, IsInterrupted, IsPolled, Silent, HandsOut, Faults}
-use Rattle.rtp_media_payloads.specs.Polls.{IsPolledSome, WantsMemory, after_polls, given, timed_answer}
+use Rattle.rtp_media_streams.specs.declared.errors.PollFault.{PollFault}
+use Rattle.rtp_media_streams.specs.declared.errors.PollFault.TheVariants.{Memory, Payload}
+use Rattle.rtp_media_streams.specs.Polls.{Answers, AreAnswered, IsInterrupted, IsPolled, Silent, HandsOut, Faults}
+use Rattle.rtp_media_streams.specs.Polls.{IsPolledSome, WantsMemory, after_polls, given, timed_answer}
 
 -- what an answer is that a poll gives
 given-unit : (a : Answer) (o : Option MediaUnit) → given a ≡ Ok o → a ≡ Ok o

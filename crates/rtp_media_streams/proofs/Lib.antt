@@ -1,5 +1,6 @@
-pub mod Wrapping
+pub mod Configured
 pub mod Cutting
-pub mod Polling
 pub mod Draining
+pub mod Polling
 pub mod Sent
+pub mod Wrapping

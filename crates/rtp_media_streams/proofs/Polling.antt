@@ -16,11 +16,11 @@ use Rattle.rtp_media_schedules.specs.Hearing.{Answer, Stream, answer_among, answ
 use Rattle.rtp_media_schedules.specs.Hearing.{run_among}
 use Rattle.rtp_media_schedules.specs.Hearing.{stream_behind, unit_from}
 use Rattle.rtp_media_streams.specs.Drains.{holding}
-use Rattle.rtp_media_payloads.specs.Polls.{IsFaultOf, IsInterrupted, LacksMemory, IsRefused}
-use Rattle.rtp_media_payloads.specs.Receiving.{Receiving, with_stream}
-use Rattle.rtp_media_payloads.specs.Rows.{format_of}
-use Rattle.rtp_media_payloads.specs.declared.errors.PollFault.{PollFault}
-use Rattle.rtp_media_payloads.specs.declared.errors.PollFault.TheVariants.{Memory, Payload}
+use Rattle.rtp_media_streams.specs.Polls.{IsFaultOf, IsInterrupted, LacksMemory, IsRefused}
+use Rattle.rtp_media_streams.specs.Receiving.{Receiving, with_stream}
+use Rattle.rtp_media_streams.specs.Rows.{format_of}
+use Rattle.rtp_media_streams.specs.declared.errors.PollFault.{PollFault}
+use Rattle.rtp_media_streams.specs.declared.errors.PollFault.TheVariants.{Memory, Payload}
 
 pub on_ok : {A E P Q : Type 0} (r : Result A E) → (P → Q) → OnOk r P → OnOk r Q
 on_ok (Ok a) f h = f h

@@ -3,7 +3,7 @@ use Rattle.std.proofs.Common.{◌≡◌, ℕ, zero, suc, ◌+◌, ◌-◌, ◌<�
 use Rattle.std.proofs.Common.{true, false, List, [], ◌∷◌, ◌++◌, length, length-append}
 use Rattle.std.proofs.lemmas.Bool.Decides.{nat_tests}
 use Rattle.std.specs.Prelude.{Option, Some, None, if◌then◌else◌, nat_lt, nat_le, is_none, ◌||◌, slice_index_or}
-use Rattle.rtp_wire.specs.Time.{Time, checked_rebased}
+use Rattle.rtp_wire_values.specs.Time.{Time, checked_rebased}
 use Rattle.rtp_wire.specs.Carried.{AreValues}
 use Rattle.rtp_wire.specs.Header.{spelled, two_byte_length, header_in, image, payload_in, IsWritable}
 use Rattle.rtp_wire.specs.declared.ExtensionValues.{ExtensionValues}
@@ -11,19 +11,19 @@ use Rattle.rtp_wire.proofs.HeaderLaws.{length-spelled_within, header_in-spelled,
 use Rattle.payload_core_base.specs.Law.{AreWithin}
 use Rattle.payload_core_base.specs.Outgoing.{Outgoing, outgoing}
 use Rattle.payload_core_base.specs.Packing.{Packing, Sender}
-use Rattle.payload_core_buffer.specs.Sending.{outgoing_from}
-use Rattle.payload_core_red.specs.RedHistory.{AreDistances, Redundancy, keeping}
-use Rattle.rtp_media_payloads.specs.Rows.{packing_of, rtp_rate}
+use Rattle.payload_core_base.specs.Sending.{outgoing_from}
+use Rattle.payload_core_audio.specs.RedHistory.{AreDistances, Redundancy, keeping}
+use Rattle.rtp_media_streams.specs.Rows.{packing_of, rtp_rate}
 use Rattle.rtp_media_streams.specs.Sending.{Sending, IsTyped, IsTypedBy, Sample, first_refusal, header_of}
 use Rattle.rtp_media_streams.specs.Sending.{longest_datagram, datagram_of, datagrams_from, limit_of_packets, on_wire}
 use Rattle.rtp_media_streams.specs.Sending.{packed, packet_limit, payload_refusal, payloads_of_samples}
 use Rattle.rtp_media_streams.specs.Sending.{refusal_before_payload, sent, sent_payloads, sent_datagrams, still_kept}
 use Rattle.rtp_media_streams.specs.Sending.{timestamp, wire_payloads, with_next, after_sample, datagrams_of}
 use Rattle.rtp_media_streams.specs.Sending.{refusal_of_sample}
-use Rattle.rtp_media_payloads.specs.Redundant.{kept_after, wrapped, wraps}
-use Rattle.rtp_media_payloads.specs.declared.types.PayloadTypes.{PayloadTypes}
-use Rattle.rtp_media_payloads.specs.declared.errors.SampleError.{SampleError}
-use Rattle.rtp_media_payloads.specs.declared.errors.SampleError.TheVariants.{StreamFailed, TimeTooLarge, LimitTooSmall}
+use Rattle.rtp_media_streams.specs.Redundant.{kept_after, wrapped, wraps}
+use Rattle.rtp_media_streams.specs.declared.types.PayloadTypes.{PayloadTypes}
+use Rattle.rtp_media_streams.specs.declared.errors.SampleError.{SampleError}
+use Rattle.rtp_media_streams.specs.declared.errors.SampleError.TheVariants.{StreamFailed, TimeTooLarge, LimitTooSmall}
 use Rattle.rtp_media_streams.proofs.Cutting.{datagrams_from-append, length-on_wire}
 use Rattle.rtp_media_streams.proofs.Wrapping.{wrapped-short}
 

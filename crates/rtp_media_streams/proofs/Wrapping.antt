@@ -6,17 +6,17 @@ use Rattle.std.proofs.lemmas.List.{length-map, length-reverse}
 use Rattle.std.proofs.lemmas.List.Elements.{All-map, All-take}
 use Rattle.std.proofs.lemmas.List.Sums.{sum_by-cons}
 use Rattle.std.specs.Prelude.{All, Some, None, if◌then◌else◌, ◌==◌, nat_le, option_and_then}
-use Rattle.payload_core_red.specs.Red.{Block, HasRoom, IsRed, spelled}
-use Rattle.payload_core_red.specs.RedHistory.{AreDistances, Redundancy}
-use Rattle.payload_core_red.specs.RedReading.{items_of, primary_item, read_red, redundant_item}
-use Rattle.payload_core_red.specs.RedSending.{masked}
-use Rattle.payload_core_red.specs.RedWrapping.{IsLongestPrefix, IsWrap, bytes_of, levels}
-use Rattle.payload_core_red.proofs.LayoutLemmas.{red-read}
-use Rattle.payload_core_red.proofs.RedLawLemmas.{bytes-masked, bytes-reverse, longest-one, spelled-length}
-use Rattle.payload_core_red.proofs.WrapLemmas.{All-reverse, levels-few, levels-room}
+use Rattle.payload_core_audio.specs.Red.{Block, HasRoom, IsRed, spelled}
+use Rattle.payload_core_audio.specs.RedHistory.{AreDistances, Redundancy}
+use Rattle.payload_core_audio.specs.RedReading.{items_of, primary_item, read_red, redundant_item}
+use Rattle.payload_core_audio.specs.RedSending.{masked}
+use Rattle.payload_core_audio.specs.RedWrapping.{IsLongestPrefix, IsWrap, bytes_of, levels}
+use Rattle.payload_core_audio.proofs.LayoutLemmas.{red-read}
+use Rattle.payload_core_audio.proofs.RedLawLemmas.{bytes-masked, bytes-reverse, longest-one, spelled-length}
+use Rattle.payload_core_audio.proofs.WrapLemmas.{All-reverse, levels-few, levels-room}
 use Rattle.payload_core_base.specs.Outgoing.{Outgoing}
-use Rattle.rtp_media_payloads.specs.Redundant.{behind_older, fitting, primary_of, unwrapped, wrapped}
-use Rattle.rtp_media_payloads.specs.declared.types.PayloadTypes.{PayloadTypes}
+use Rattle.rtp_media_streams.specs.Redundant.{behind_older, fitting, primary_of, unwrapped, wrapped}
+use Rattle.rtp_media_streams.specs.declared.types.PayloadTypes.{PayloadTypes}
 
 abbrev size_of : Block → ℕ
 size_of b = 4 + length b.payload

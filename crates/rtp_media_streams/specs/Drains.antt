@@ -2,8 +2,8 @@
 use Rattle.std.specs.Prelude.{ℕ}
 use Rattle.payload_core_base.specs.Format.{Format}
 use Rattle.rtp_media_schedules.specs.Hearing.{Answer, Stream, poll_answer, polled}
-use Rattle.rtp_media_payloads.specs.Receiving.{Receiving, with_stream}
-use Rattle.rtp_media_payloads.specs.Rows.{format_of}
+use Rattle.rtp_media_streams.specs.Receiving.{Receiving, with_stream}
+use Rattle.rtp_media_streams.specs.Rows.{format_of}
 
 -- The stream that holds so many complete frames back.
 abbrev pub holding : ℕ → Stream → Stream

@@ -5,12 +5,14 @@ ghost use Rattle.rtp_wire.specs.Replay.{Window};
 ghost use Rattle.payload_core_buffer.specs.Frames.{complete_frames};
 ghost use Rattle.rtp_media_schedules.specs.Hearing.{poll_answer, polled};
 ghost use Rattle.rtp_media_streams.specs.Drains.{drain_answer, drained, holding};
-ghost use Rattle.rtp_media_payloads.specs.Polls.{IsInterrupted, given};
-ghost use Rattle.rtp_media_payloads.specs.Receiving.{stream_of};
+ghost use Rattle.rtp_media_streams.specs.Polls.{IsInterrupted, given};
+ghost use Rattle.rtp_media_streams.specs.Receiving.{stream_of};
 
+use crate::errors::PollFault;
+use crate::media_unit::Unit;
+use h26x_payload::{CodecDepacketizer, NotBoxed};
 use payload_core_base::Depacketizer;
 use payload_core_buffer::DepacketizingBuffer;
-use rtp_media_payloads::{CodecDepacketizer, NotBoxed, PollFault, Unit};
 
 /// Hands out the next frame as a unit.
 pub(crate) fn pop(

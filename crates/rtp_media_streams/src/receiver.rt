@@ -2,7 +2,7 @@
 
 ghost use Rattle.std.specs.Prelude.{◌≡◌, ◌≢◌, ◌<◌, ◌≤◌, IfErr, IfNone, IfOk, MatchOption, OnErr, OnOk, OnSome};
 ghost use Rattle.std.specs.Prelude.{[], Err, None, Ok, Some, length, true};
-ghost use Rattle.rtp_media_payloads.specs.Codings.{has_format};
+ghost use Rattle.h26x_payload.specs.Codings.{has_format};
 ghost use Rattle.rtp_wire.specs.Replay.{greatest_in, is_accepted, recorded_in};
 ghost use Rattle.rtp_wire.specs.Widening.{widened};
 ghost use Rattle.payload_core_buffer.specs.Buffered.{pushed};
@@ -10,19 +10,22 @@ ghost use Rattle.payload_core_buffer.specs.Frames.{complete_frames};
 ghost use Rattle.payload_core_buffer.specs.Packets.{packet_from};
 ghost use Rattle.rtp_media_schedules.specs.Hearing.{poll_answer};
 ghost use Rattle.rtp_media_streams.specs.Drains.{drain_answer, drained_receiver, holding};
-ghost use Rattle.rtp_media_payloads.specs.Polls.{IsInterrupted, IsPolled, IsPolledSome, given};
-ghost use Rattle.rtp_media_payloads.specs.Receiving.{arrived, brought, conflicts_with, is_own, opened_receiver};
-ghost use Rattle.rtp_media_payloads.specs.Receiving.{polled_receiver, stream_of, taken_number, values_read};
-ghost use Rattle.rtp_media_payloads.specs.Receiving.{with_stream};
-ghost use Rattle.rtp_media_payloads.specs.Rows.{format_of};
+ghost use Rattle.rtp_media_streams.specs.Polls.{IsInterrupted, IsPolled, IsPolledSome, given};
+ghost use Rattle.rtp_media_streams.specs.Receiving.{arrived, brought, conflicts_with, is_own, opened_receiver};
+ghost use Rattle.rtp_media_streams.specs.Receiving.{polled_receiver, stream_of, taken_number, values_read};
+ghost use Rattle.rtp_media_streams.specs.Receiving.{with_stream};
+ghost use Rattle.rtp_media_streams.specs.Rows.{format_of};
 
+use crate::codecs::depacketizer_for;
+use crate::errors::PollFault;
+use crate::media_unit::Unit;
+use crate::payload::brought;
 use crate::popping::{drain, pop};
+use crate::row_format::RowFormat;
+use crate::types::PayloadTypes;
+use h26x_payload::{CodecDepacketizer, NotBoxed};
 use payload_core_base::Depacketizer;
 use payload_core_buffer::{DepacketizingBuffer, RtpMeta};
-use rtp_media_payloads::{
-    CodecDepacketizer, NotBoxed, PayloadTypes, PollFault, RowFormat, Unit, brought,
-    depacketizer_for,
-};
 use rtp_wire::{
     ExtensionMap, ExtensionValues, Pt, RtpHeader, SeqNo, SeqNoWindow, Ssrc, extend_u16,
 };
@@ -57,8 +60,8 @@ impl Drop for ReceivingStream {
 
 impl Model for ReceivingStream {
     ghost use Rattle.std.specs.Prelude.{◌≡◌};
-    ghost use Rattle.rtp_media_payloads.specs.Receiving.{Receiving, stream_of};
-    ghost use Rattle.rtp_media_payloads.specs.Rows.{format_of};
+    ghost use Rattle.rtp_media_streams.specs.Receiving.{Receiving, stream_of};
+    ghost use Rattle.rtp_media_streams.specs.Rows.{format_of};
     ghost use Rattle.rtp_wire.specs.Replay.{window_code};
     ghost use Rattle.std.specs.Coded.{codes};
 
@@ -187,11 +190,7 @@ impl ReceivingStream {
     ///
     /// # Conditions
     /// The header ends at the datagram's end or before it.
-    pub fn brought<'a>(
-        &self,
-        header: &RtpHeader,
-        datagram: &'a [u8],
-    ) -> Option<(u16, &'a [u8])>
+    pub fn brought<'a>(&self, header: &RtpHeader, datagram: &'a [u8]) -> Option<(u16, &'a [u8])>
         requires { header.now.header_len ≤ length datagram.now }
         ensures { MatchOption result (brought self.now.ssrc self.now.types header.now datagram.now ≡ None)
             (λ w. brought self.now.ssrc self.now.types header.now datagram.now

@@ -5,8 +5,8 @@ ghost use Rattle.rtp_wire.specs.Header.{two_byte_length};
 ghost use Rattle.rtp_wire.specs.Maps.{is_empty_map};
 ghost use Rattle.rtp_media_streams.specs.Sending.{stamped};
 
+use crate::datagram::Datagram;
 use payload_core_base::{PacketError, PacketSink};
-use rtp_media_payloads::Datagram;
 use rtp_wire::{ExtensionMap, ExtensionValues, Pt, RtpHeader, Ssrc};
 use std::alloc::Global;
 

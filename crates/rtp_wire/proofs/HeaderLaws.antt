@@ -15,8 +15,8 @@ use Rattle.rtp_wire.specs.Header.{header_length_in, is_header, block_in, values_
 use Rattle.rtp_wire.specs.Header.{header_of, layout_of, spelled, two_byte_length, image, payload_in, IsWritable}
 use Rattle.rtp_wire.specs.Layout.{Layout, bit, is_some_block, block_bytes, words, layout_bytes, IsBlock, IsLayout}
 use Rattle.rtp_wire.proofs.Lengths.{length-words, length-layout, block-not}
-use Rattle.rtp_wire_extension_maps.proofs.BlockLaws.{block_of-shorter, block_of-fits, block_of-words}
-use Rattle.rtp_wire_extension_maps.proofs.BlockLaws.{values_of-block_of}
+use Rattle.rtp_wire_extensions.proofs.BlockLaws.{block_of-shorter, block_of-fits, block_of-words}
+use Rattle.rtp_wire_extensions.proofs.BlockLaws.{values_of-block_of}
 use Rattle.rtp_wire_extensions.specs.declared.values.ExtensionValues.{ExtensionValues}
 
 -- the first two bytes

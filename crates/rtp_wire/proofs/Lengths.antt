@@ -5,7 +5,7 @@ use Rattle.std.specs.Prelude.{if◌then◌else◌, Some, None}
 use Rattle.std.specs.Int.{w32, to_be_bytes}
 use Rattle.std.proofs.lemmas.List.{take_more, append-nil}
 use Rattle.rtp_wire_extensions.specs.Values.{Numbering, Block, block_of}
-use Rattle.rtp_wire_extension_maps.specs.Written.{IsWritten}
+use Rattle.rtp_wire_extensions.specs.Written.{IsWritten}
 use Rattle.rtp_wire.specs.declared.header.RtpHeader.{RtpHeader}
 use Rattle.rtp_wire.specs.Header.{layout_of, spelled}
 use Rattle.rtp_wire.specs.Layout.{Layout, fixed_bytes, words, block_bytes, layout_bytes}

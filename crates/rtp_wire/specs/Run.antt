@@ -4,8 +4,8 @@ use Rattle.rtp_wire.specs.declared.header.RtpHeader.{RtpHeader}
 use Rattle.rtp_wire.specs.declared.run.Reception.{Reception}
 use Rattle.rtp_wire.specs.declared.run.Reception.TheVariants.{Unreadable, Refused, Taken}
 use Rattle.rtp_wire.specs.Header.{header_in}
-use Rattle.rtp_wire_numbers.specs.Replay.{Window, is_accepted, recorded_in, greatest_in}
-use Rattle.rtp_wire_numbers.specs.Widening.{widened}
+use Rattle.rtp_wire_values.specs.Replay.{Window, is_accepted, recorded_in, greatest_in}
+use Rattle.rtp_wire_values.specs.Widening.{widened}
 
 -- The number that a header's 16 bits stand for at a window.
 abbrev pub number_at : Option Window → RtpHeader → ℕ

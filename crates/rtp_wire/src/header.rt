@@ -3,7 +3,7 @@
 ghost use Rattle.std.specs.Prelude.{◌≡◌};
 
 use rtp_wire_extensions::ExtensionValues;
-use rtp_wire_ids::{Pt, Ssrc};
+use rtp_wire_values::{Pt, Ssrc};
 
 /// The header of an RTP packet (RFC 3550 5.1).
 #[derive(Clone, Copy, Debug, Drop)]

@@ -4,15 +4,13 @@ ghost use Rattle.std.specs.Prelude.{◌≡◌, ◌+◌, ◌*◌, ◌≤◌, ◌<
 ghost use Rattle.rtp_wire.specs.Header.{u16_at, u32_at, words_in, slots, is_header, header_in, fields_in};
 ghost use Rattle.rtp_wire.specs.Header.{header_length_in, has_bit, csrc_count_in, has_extension_in, block_at};
 ghost use Rattle.rtp_wire.specs.Header.{block_in, values_in};
-ghost use Rattle.rtp_wire_numbers.specs.Widening.{widened};
-ghost use Rattle.rtp_wire_extension_maps.specs.Maps.{empty_map};
+ghost use Rattle.rtp_wire_values.specs.Widening.{widened};
+ghost use Rattle.rtp_wire_extensions.specs.Maps.{empty_map};
 ghost use Rattle.std.specs.Option.{option_map};
 
 use crate::header::RtpHeader;
-use rtp_wire_extension_maps::ExtensionMap;
-use rtp_wire_extensions::ExtensionValues;
-use rtp_wire_ids::{Pt, SeqNo, Ssrc};
-use rtp_wire_numbers::extend_u16;
+use rtp_wire_extensions::{ExtensionMap, ExtensionValues};
+use rtp_wire_values::{Pt, SeqNo, Ssrc, extend_u16};
 
 /// The number of two bytes at a place.
 fn u16_at(bytes: &[u8], at: usize) -> u16

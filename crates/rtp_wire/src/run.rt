@@ -5,9 +5,8 @@ ghost use Rattle.rtp_wire.specs.Header.{header_in};
 ghost use Rattle.rtp_wire.specs.Run.{reception_of, window_behind, receptions};
 
 use crate::header::RtpHeader;
-use rtp_wire_extension_maps::ExtensionMap;
-use rtp_wire_ids::SeqNo;
-use rtp_wire_numbers::SeqNoWindow;
+use rtp_wire_extensions::ExtensionMap;
+use rtp_wire_values::{SeqNo, SeqNoWindow};
 use std::alloc::{AllocError, Global};
 
 /// What became of a datagram.

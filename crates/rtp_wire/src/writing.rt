@@ -5,10 +5,10 @@ ghost use Rattle.rtp_wire.specs.Header.{layout_of, spelled, two_byte_length, IsW
 ghost use Rattle.rtp_wire.specs.Layout.{fixed_bytes, words as words_of, block_bytes};
 ghost use Rattle.rtp_wire_extensions.specs.Carried.{AreValues};
 ghost use Rattle.rtp_wire_extensions.specs.Values.{Numbering, block_of};
-ghost use Rattle.rtp_wire_extension_maps.specs.Written.{IsWritten};
+ghost use Rattle.rtp_wire_extensions.specs.Written.{IsWritten};
 
 use crate::header::RtpHeader;
-use rtp_wire_extension_maps::{ExtensionMap, put};
+use rtp_wire_extensions::{ExtensionMap, put};
 
 impl RtpHeader {
     /// The length of the header on the wire, in bytes: a multiple of four.

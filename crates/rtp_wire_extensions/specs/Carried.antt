@@ -4,7 +4,7 @@ use Rattle.std.specs.Prelude.{Some, None, IfSome}
 use Rattle.std.specs.Int.{w16, w64, to_be_bytes, from_be_bytes, cast_signed, cast_unsigned}
 use Rattle.std.specs.Prelude.{FitsSigned}
 use Rattle.std.specs.Str.Lossy.{utf8_valid_len}
-use Rattle.rtp_wire_ids.specs.Name.{name_of, IsName}
+use Rattle.rtp_wire_values.specs.Name.{name_of, IsName}
 use Rattle.rtp_wire_extensions.specs.declared.extension.Extension.{Extension}
 use Rattle.rtp_wire_extensions.specs.declared.extension.Extension.TheVariants.{AbsoluteSendTime, AbsoluteCaptureTime}
 use Rattle.rtp_wire_extensions.specs.declared.extension.Extension.TheVariants.{AudioLevel, VideoOrientation}

@@ -1,5 +1,10 @@
+pub mod BlockLayout
 pub mod Carried
 pub mod Elements
+pub mod Iteration
 pub mod Kinds
-pub mod Values
+pub mod Maps
 pub mod Names
+pub mod Seen
+pub mod Values
+pub mod Written

@@ -6,7 +6,7 @@ ghost use Rattle.rtp_wire_extensions.specs.Carried.{is_text, with_value};
 
 use crate::extension::Extension;
 use crate::values::{AbsCaptureTime, ExtensionValues, VideoOrientation};
-use rtp_wire_ids::{Mid, Rid};
+use rtp_wire_values::{Mid, Rid};
 
 /// The bytes as text, if they are UTF-8.
 fn text_of(bytes: &[u8]) -> Option<&str>

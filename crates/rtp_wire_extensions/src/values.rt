@@ -4,10 +4,10 @@ ghost use Rattle.std.specs.Prelude.{◌≡◌, ◌%◌, ◌^◌, ◌<◌, ◌≤
 ghost use Rattle.rtp_wire_extensions.specs.Values.{absent};
 ghost use Rattle.rtp_wire_extensions.specs.Carried.{AreValues, IsCapture};
 ghost use Rattle.rtp_wire_extensions.specs.Names.{HasFullNames};
-ghost use Rattle.rtp_wire_ids.specs.Name.{IsName};
+ghost use Rattle.rtp_wire_values.specs.Name.{IsName};
 ghost use Rattle.std.specs.Int.{w64};
 
-use rtp_wire_ids::{Mid, Rid};
+use rtp_wire_values::{Mid, Rid};
 use std::marker::Model;
 
 /// How a picture is turned, 0 to 3 (3GPP TS 26.114 7.4.5).

@@ -1,8 +1,6 @@
 //! Runs of lines, and what is to come of each.
 
-use rtp_media_line_runs::{Respond, RunFault, Status, run_within};
-use rtp_media_lines::Command;
-use rtp_media_words::Reply;
+use rtp_media_lines::{Command, Reply, Respond, RunFault, Status, run_within};
 use std::alloc::{AllocError, Global};
 use std::io;
 use std::io::{ErrorKind, Read, Write};

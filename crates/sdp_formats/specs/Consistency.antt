@@ -3,8 +3,8 @@ use Rattle.std.specs.Prelude.{◌≡◌, ℕ, List, Result, Ok, Err, codes}
 use Rattle.std.specs.String.{string_bytes}
 use Rattle.sdp_formats_reader.specs.declared.error.SdpError.{SdpError}
 use Rattle.sdp_formats_reader.specs.declared.error.SdpError.TheVariants.{ParseError, Inconsistent, Memory}
-use Rattle.sdp_formats_faults.specs.Whole.{IsWhole}
-use Rattle.sdp_formats_sessions.specs.declared.Sdp.{Sdp}
+use Rattle.sdp_formats_lookups.specs.WholeTexts.{IsWhole}
+use Rattle.sdp_formats_data.specs.declared.Sdp.{Sdp}
 
 abbrev pub whole_fault : List ℕ
 whole_fault = codes "a section with a fault, names that aren't apart, or another group"

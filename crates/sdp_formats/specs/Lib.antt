@@ -1,4 +1,4 @@
-pub use Rattle.sdp_formats_reader.specs.Texts
+pub use Rattle.sdp_formats_reader.specs.ReaderErrors
 pub use Rattle.sdp_formats_reader.specs.Printed
 pub mod Consistency
 pub mod Wholes

@@ -3,12 +3,12 @@ use Rattle.std.specs.Prelude.{ℕ, List, Option, Some, None, codes, find, nat_eq
 use Rattle.std.specs.Cmp.Lexicographic.{pointwise}
 use Rattle.std.specs.Option.{option_flatten, option_map}
 use Rattle.sdp_formats_lookups.specs.Sections.{sctp_init_in}
-use Rattle.sdp_formats_types.specs.Lookups.{first_of}
-use Rattle.sdp_formats_types.specs.MediaTypes.{is_channel}
-use Rattle.sdp_formats_types.specs.declared.MediaLine.{MediaLine}
-use Rattle.sdp_formats_sessions.specs.declared.Sdp.{Sdp}
-use Rattle.sdp_formats_sessions.specs.declared.SessionAttribute.{SessionAttribute}
-use Rattle.sdp_formats_sessions.specs.declared.SessionAttribute.TheVariants as a
+use Rattle.sdp_formats_data.specs.Lookups.{first_of}
+use Rattle.sdp_formats_data.specs.MediaTypes.{is_channel}
+use Rattle.sdp_formats_data.specs.declared.MediaLine.{MediaLine}
+use Rattle.sdp_formats_data.specs.declared.Sdp.{Sdp}
+use Rattle.sdp_formats_data.specs.declared.SessionAttribute.{SessionAttribute}
+use Rattle.sdp_formats_data.specs.declared.SessionAttribute.TheVariants as a
 
 -- The sections of a group of this meaning.
 unfoldable pub bundle_in : SessionAttribute → Option (List (List ℕ))

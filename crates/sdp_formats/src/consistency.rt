@@ -2,9 +2,9 @@
 
 ghost use Rattle.sdp_formats.specs.Consistency.{AssertsWhole};
 
-use sdp_formats_faults::is_whole;
+use sdp_formats_data::Sdp;
+use sdp_formats_lookups::is_whole;
 use sdp_formats_reader::SdpError;
-use sdp_formats_sessions::Sdp;
 use std::alloc::Global;
 
 /// Tests that the parts of a text go together: no section has a fault, no two have one name, and the first `a=group`

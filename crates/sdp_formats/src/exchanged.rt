@@ -2,12 +2,12 @@
 
 ghost use Rattle.std.specs.Prelude.{◌≡◌, IfOk};
 ghost use Rattle.std.specs.String.{string_bytes};
-ghost use Rattle.sdp_formats_sessions.specs.PrintedSession.{sdp_text};
-ghost use Rattle.sdp_formats_reader.specs.Texts.{ReadsText};
+ghost use Rattle.sdp_formats_data.specs.PrintedSession.{sdp_text};
+ghost use Rattle.sdp_formats_reader.specs.ReaderErrors.{ReadsText};
 
-use sdp_formats_equality::same::Same;
+use sdp_formats_data::Sdp;
+use sdp_formats_data::same::Same;
 use sdp_formats_reader::{SdpError, sdp_parser};
-use sdp_formats_sessions::Sdp;
 use std::alloc::{AllocError, Global};
 use std::fmt;
 use std::marker::Model;
@@ -27,7 +27,7 @@ impl Drop for SdpOffer {
 }
 
 impl Model for SdpOffer {
-    ghost use Rattle.sdp_formats_sessions.specs.declared.session.Sdp.{Sdp};
+    ghost use Rattle.sdp_formats_data.specs.declared.session.Sdp.{Sdp};
 
     ghost Value = { Sdp };
 
@@ -116,7 +116,7 @@ impl Drop for SdpAnswer {
 }
 
 impl Model for SdpAnswer {
-    ghost use Rattle.sdp_formats_sessions.specs.declared.session.Sdp.{Sdp};
+    ghost use Rattle.sdp_formats_data.specs.declared.session.Sdp.{Sdp};
 
     ghost Value = { Sdp };
 

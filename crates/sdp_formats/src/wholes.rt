@@ -2,14 +2,13 @@
 
 ghost use Rattle.std.specs.Prelude.{◌≡◌};
 ghost use Rattle.std.specs.Option.{option_copied};
-ghost use Rattle.sdp_formats_reader.specs.Texts.{ReadsText};
+ghost use Rattle.sdp_formats_reader.specs.ReaderErrors.{ReadsText};
 ghost use Rattle.sdp_formats.specs.Wholes.{bundle_in, bundle_of, init_of};
 
 use rtp_wire::Mid;
+use sdp_formats_data::{Sdp, SessionAttribute, Text};
 use sdp_formats_lookups::section;
 use sdp_formats_reader::{SdpError, sdp_parser};
-use sdp_formats_sessions::{Sdp, SessionAttribute};
-use sdp_formats_types::Text;
 use std::alloc::Global;
 
 /// The session text of a text. What stands from the first line on that fits nowhere is passed over.

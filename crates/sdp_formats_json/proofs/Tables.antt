@@ -3,24 +3,24 @@ use Rattle.std.proofs.Common.{◌≡◌, ℕ, List, [], ◌∷◌, refl}
 use Rattle.serde_json.specs.Data.{object, no_members}
 use Rattle.h26x_payload_profiles.specs.ProfileTierLevel.{fallback}
 use Rattle.h26x_payload_profiles.specs.declared.profile_tier_level.ProfileTierLevel.{ProfileTierLevel}
-use Rattle.payload_core_tables.specs.Names.{HasOwnNames}
-use Rattle.sdp_formats_format.specs.declared.format.FormatParams.{FormatParams}
+use Rattle.named_values.specs.Names.{HasOwnNames}
+use Rattle.sdp_formats_params.specs.declared.format.FormatParams.{FormatParams}
 use Rattle.sdp_formats_rows.specs.declared.spec.CodecSpec.{CodecSpec}
 use Rattle.sdp_formats_rows.specs.Rows.{Row}
-use Rattle.sdp_formats_format.specs.Formats.{no_format}
-use Rattle.sdp_formats_json_errors.specs.Names.{field_name}
-use Rattle.sdp_formats_spec_json.specs.Entries.{entry, optional, put_all, put_groups}
+use Rattle.sdp_formats_params.specs.Formats.{no_format}
+use Rattle.sdp_formats_json.specs.Names.{field_name}
+use Rattle.sdp_formats_json.specs.Entries.{entry, optional, put_all, put_groups}
 use Rattle.sdp_formats_json.specs.NamedLaws.{codec_known, h265_profile_known, h265_level_known}
 use Rattle.sdp_formats_json.specs.NamedLaws.{h266_profile_known, h266_level_known, tier_known}
-use Rattle.sdp_formats_spec_json.specs.Levels.{h265, h266, level_entries, level_of}
-use Rattle.sdp_formats_spec_json.specs.Formats.{format, opus_entries, video_entries, other_entries}
+use Rattle.sdp_formats_json.specs.Levels.{h265, h266, level_entries, level_of}
+use Rattle.sdp_formats_json.specs.Formats.{format, opus_entries, video_entries, other_entries}
 use Rattle.sdp_formats_json.specs.Rows.{row_shape, row_entries, blank_row}
-use Rattle.sdp_formats_spec_json.specs.Specs.{spec, spec_entries, blank_spec}
+use Rattle.sdp_formats_json.specs.Specs.{spec, spec_entries, blank_spec}
 use Rattle.sdp_formats_json.specs.Rows.{codec_entries, feedback_entries, lock_entries}
-use Rattle.sdp_formats_spec_json.proofs.Sound.{Sound, AllSound, AllFound, AllFounds, moved, moved_groups}
-use Rattle.sdp_formats_spec_json.proofs.Sound.{byte-sound, half_word-sound, word-sound, rate-sound}
-use Rattle.sdp_formats_spec_json.proofs.Sound.{flag-sound, word_of-sound, entry-sound, optional-sound, object-sound}
-use Rattle.sdp_formats_spec_json.proofs.Sound.{groups-sound}
+use Rattle.sdp_formats_json.proofs.Sound.{Sound, AllSound, AllFound, AllFounds, moved, moved_groups}
+use Rattle.sdp_formats_json.proofs.Sound.{byte-sound, half_word-sound, word-sound, rate-sound}
+use Rattle.sdp_formats_json.proofs.Sound.{flag-sound, word_of-sound, entry-sound, optional-sound, object-sound}
+use Rattle.sdp_formats_json.proofs.Sound.{groups-sound}
 
 level-sounds : {P L : Type 0} (profile_name : P → List ℕ) (profiles : List P) (level_name : L → List ℕ)
     (levels : List L) → HasOwnNames profile_name profiles → HasOwnNames level_name levels

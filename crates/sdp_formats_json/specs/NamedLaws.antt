@@ -1,6 +1,6 @@
 -- Each codec, profile, tier and level has a name of its own.
 use Rattle.std.specs.Prelude.{◌≡◌, Some, refl}
-use Rattle.payload_core_tables.specs.Names.{with_name}
+use Rattle.named_values.specs.Names.{with_name}
 use Rattle.payload_core_base.specs.CodecNames.{variant_name as codec_name}
 use Rattle.payload_core_base.specs.Codecs.{codecs}
 use Rattle.h26x_payload_profiles.specs.H265Names.{profile_name as h265_profile_name}

@@ -7,12 +7,12 @@ use Rattle.serde_json.specs.Read.{read}
 use Rattle.serde_json.specs.View.{view}
 use Rattle.serde_json.specs.declared.value.Value.{Value}
 use Rattle.sdp_formats_rows.specs.Rows.{Row, new_row}
-use Rattle.sdp_formats_spec_json.specs.Shapes.{Shape, byte, flag}
-use Rattle.sdp_formats_spec_json.specs.Entries.{Entry, entry, optional, object_in, read_groups}
-use Rattle.sdp_formats_spec_json.specs.Specs.{blank_spec, spec}
-use Rattle.sdp_formats_json_errors.specs.declared.error.Field.TheVariants as field
-use Rattle.sdp_formats_json_errors.specs.declared.error.JsonError.{JsonError}
-use Rattle.sdp_formats_json_errors.specs.declared.error.JsonError.TheVariants.{NotJson, NotObject, Memory}
+use Rattle.sdp_formats_json.specs.Shapes.{Shape, byte, flag}
+use Rattle.sdp_formats_json.specs.Entries.{Entry, entry, optional, object_in, read_groups}
+use Rattle.sdp_formats_json.specs.Specs.{blank_spec, spec}
+use Rattle.sdp_formats_json.specs.declared.error.Field.TheVariants as field
+use Rattle.sdp_formats_json.specs.declared.error.JsonError.{JsonError}
+use Rattle.sdp_formats_json.specs.declared.error.JsonError.TheVariants.{NotJson, NotObject, Memory}
 
 -- The types and the codec of a row.
 unfoldable pub codec_entries : List (Entry Row)

@@ -1,9 +1,18 @@
-//! The JSON of payload rows: objects by the names of their fields, as serde derives them.
+//! JSON of payload rows.
 #![tactic(auto)]
 
+mod error;
+mod format;
+mod levels;
+mod members;
 mod row;
+mod shaped;
+mod spec;
 mod text;
 
-pub use sdp_formats_json_errors::{Field, JsonError};
+pub use error::{Field, JsonError};
+pub use members::{member, optional_member, put, put_optional};
 pub use sdp_formats_rows::{Codec, CodecSpec, FormatParams, Frequency, PayloadParams, Pt};
+pub use shaped::Shaped;
+pub use spec::blank_spec;
 pub use text::{row_from_json, row_to_json};

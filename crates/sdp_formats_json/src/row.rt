@@ -2,18 +2,19 @@
 
 ghost use Rattle.std.specs.Prelude.{◌≡◌, IfOk, None, OnOk, false, true};
 ghost use Rattle.serde_json.specs.View.{view, members_view};
-ghost use Rattle.sdp_formats_spec_json.specs.Entries.{all_fit, put_all, read_all};
+ghost use Rattle.sdp_formats_json.specs.Entries.{all_fit, put_all, read_all};
 ghost use Rattle.sdp_formats_json.specs.Rows.{blank_row, codec_entries, feedback_entries, lock_entries, row_data};
 ghost use Rattle.sdp_formats_json.specs.Rows.{row_of_data, row_shape};
 
+use crate::error::{Field, JsonError};
+use crate::members::{member, optional_member, put, put_optional};
+use crate::spec::blank_spec;
 use rtp_wire::Pt;
-use sdp_formats_json_errors::{Field, JsonError};
 use sdp_formats_rows::PayloadParams;
-use sdp_formats_spec_json::{blank_spec, member, optional_member, put, put_optional};
 use serde_json::{Map, Value};
 use std::alloc::{AllocError, Global};
 
-#[tactic(auto, unfolding(crate::specs::Rows::feedback_entries, sdp_formats_spec_json::specs::Entries::open_fields))]
+#[tactic(auto, unfolding(crate::specs::Rows::feedback_entries, crate::specs::Entries::open_fields))]
 fn put_feedback(
     map: &mut Map<String, Value>,
     alloc: Global,
@@ -30,7 +31,7 @@ fn put_feedback(
     put(map, alloc, Field::FbRemb, row.fb_remb())
 }
 
-#[tactic(auto, unfolding(crate::specs::Rows::codec_entries, sdp_formats_spec_json::specs::Entries::open_fields))]
+#[tactic(auto, unfolding(crate::specs::Rows::codec_entries, crate::specs::Entries::open_fields))]
 fn put_codec(
     map: &mut Map<String, Value>,
     alloc: Global,
@@ -45,7 +46,7 @@ fn put_codec(
     put(map, alloc, Field::Spec, row.spec())
 }
 
-#[tactic(auto, unfolding(crate::specs::Rows::lock_entries, sdp_formats_spec_json::specs::Entries::open_fields))]
+#[tactic(auto, unfolding(crate::specs::Rows::lock_entries, crate::specs::Entries::open_fields))]
 fn put_lock(
     map: &mut Map<String, Value>,
     alloc: Global,
@@ -79,7 +80,7 @@ fn blank_row() -> PayloadParams
     PayloadParams::new(Pt::from(0), None, blank_spec())
 }
 
-#[tactic(auto, unfolding(crate::specs::Rows::codec_entries, sdp_formats_spec_json::specs::Entries::open_fields))]
+#[tactic(auto, unfolding(crate::specs::Rows::codec_entries, crate::specs::Entries::open_fields))]
 fn with_codec(row: PayloadParams, value: &Value) -> Result<PayloadParams, JsonError>
     ensures read { result ≡ read_all codec_entries (view value.now) row }
     ensures lock { IfOk result (λ r. r.locked ≡ row.locked) }
@@ -90,7 +91,7 @@ fn with_codec(row: PayloadParams, value: &Value) -> Result<PayloadParams, JsonEr
     Ok(row.with_types(pt, resend, row.red()).with_spec(spec))
 }
 
-#[tactic(auto, unfolding(crate::specs::Rows::feedback_entries, sdp_formats_spec_json::specs::Entries::open_fields))]
+#[tactic(auto, unfolding(crate::specs::Rows::feedback_entries, crate::specs::Entries::open_fields))]
 fn with_feedback(mut row: PayloadParams, value: &Value) -> Result<PayloadParams, JsonError>
     ensures read { result ≡ read_all feedback_entries (view value.now) row }
     ensures lock { IfOk result (λ r. r.locked ≡ row.locked) }
@@ -103,7 +104,7 @@ fn with_feedback(mut row: PayloadParams, value: &Value) -> Result<PayloadParams,
     Ok(row)
 }
 
-#[tactic(auto, unfolding(crate::specs::Rows::lock_entries, sdp_formats_spec_json::specs::Entries::open_fields))]
+#[tactic(auto, unfolding(crate::specs::Rows::lock_entries, crate::specs::Entries::open_fields))]
 fn with_lock(row: PayloadParams, value: &Value) -> Result<PayloadParams, JsonError>
     requires { row.locked ≡ false }
     ensures { result ≡ read_all lock_entries (view value.now) row }

@@ -5,8 +5,8 @@ ghost use Rattle.serde_json.specs.Read.{read};
 ghost use Rattle.serde_json.specs.Written.{compact_text};
 ghost use Rattle.sdp_formats_json.specs.Rows.{Answers, IsValue, row_data, row_of_text};
 
+use crate::error::JsonError;
 use crate::row::{row_of_value, row_value};
-use sdp_formats_json_errors::JsonError;
 use sdp_formats_rows::PayloadParams;
 use serde_json::Value;
 use std::alloc::{AllocError, Global};

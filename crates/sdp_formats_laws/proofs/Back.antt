@@ -10,20 +10,20 @@ use Rattle.sdp_formats_rows.specs.Plain.{comes_back, has_plain_events, has_plain
 use Rattle.sdp_formats_rows.specs.Plain.{has_plain_red}
 use Rattle.sdp_formats_rows.specs.Plain.{has_plain_types, is_media_codec, is_plain, is_plain_codec, is_plain_rate}
 use Rattle.sdp_formats_rows.specs.Rows.{Row}
-use Rattle.sdp_formats_scores.specs.Same.{same, same_bool}
+use Rattle.sdp_formats_params.specs.Same.{same, same_bool}
 use Rattle.sdp_formats_rows.specs.declared.spec.CodecSpec.{CodecSpec}
 use Rattle.sdp_formats_section_rows.specs.Given.{format_given}
-use Rattle.sdp_formats_row_attributes.specs.Maps.{map_of, spec_of_map}
+use Rattle.sdp_formats_section_rows.specs.Maps.{map_of, spec_of_map}
 use Rattle.sdp_formats_section_rows.specs.Mapped.{mapping_in, mappings_in}
-use Rattle.sdp_formats_row_attributes.specs.Maps.{unless_one}
+use Rattle.sdp_formats_section_rows.specs.Maps.{unless_one}
 use Rattle.sdp_formats_section_rows.specs.SectionRows.{has_row, row_of, rows_given}
 use Rattle.sdp_formats_section_rows.specs.SectionRows.{linked}
-use Rattle.sdp_formats_types.specs.declared.media.MediaAttribute.{MediaAttribute}
-use Rattle.sdp_formats_types.specs.declared.media.MediaAttribute.TheVariants as attribute
-use Rattle.sdp_formats_round.specs.Laws.{is_among}
+use Rattle.sdp_formats_data.specs.declared.media.MediaAttribute.{MediaAttribute}
+use Rattle.sdp_formats_data.specs.declared.media.MediaAttribute.TheVariants as attribute
+use Rattle.sdp_formats_rounds.specs.Laws.{is_among}
 use Rattle.sdp_formats_laws.specs.RowsBack.{unlocked}
 use Rattle.sdp_formats_laws.proofs.Lists.{both}
-use Rattle.sdp_formats_laws.proofs.Mapped.{map_line, maps_of, red_map, resend_map}
+use Rattle.sdp_formats_laws.proofs.MappedLemmas.{map_line, maps_of, red_map, resend_map}
 use Rattle.sdp_formats_laws.proofs.Feedback.{FeedbackBack}
 
 -- what a plain row has

@@ -2,20 +2,20 @@
 use Rattle.std.proofs.Common.{◌≡◌, ◌≢◌, ℕ, Bool, true, false, ◌&&◌, List, [], ◌∷◌, ◌++◌, Option, Some, None, IsTrue}
 use Rattle.std.proofs.Common.{refl, sym, ◌∙◌, ap, subst}
 use Rattle.std.specs.List.{list_all}
-use Rattle.sdp_formats_forms.specs.Cuts.{IsCut, somewhere, nowhere, cut_of}
-use Rattle.sdp_formats_forms.specs.Form.{IsExact}
-use Rattle.sdp_formats_forms.specs.Line.{LineOf}
-use Rattle.sdp_formats_forms.specs.Step.{Stops, Begins, Many, Perhaps}
-use Rattle.sdp_formats_media_lines.specs.Choice.{attribute_line as media_line}
-use Rattle.sdp_formats_session_attributes.specs.Choice.{attribute_line as session_line}
-use Rattle.sdp_formats_session_lines.specs.declared.media.MediaHead.{MediaHead}
-use Rattle.sdp_formats_session_lines.specs.Lines.{version_line, origin_line, name_line, other_line, bandwidth_line}
-use Rattle.sdp_formats_session_lines.specs.Lines.{times_line, repeat_line, connection_line, head_line}
-use Rattle.sdp_formats_faults.specs.Consistency.{is_consistent}
+use Rattle.sdp_formats_grammar.specs.Cuts.{IsCut, somewhere, nowhere, cut_of}
+use Rattle.sdp_formats_grammar.specs.Form.{IsExact}
+use Rattle.sdp_formats_grammar.specs.Line.{LineOf}
+use Rattle.sdp_formats_grammar.specs.Step.{Stops, Begins, Many, Perhaps}
+use Rattle.sdp_formats_attributes.specs.Choice.{attribute_line as media_line}
+use Rattle.sdp_formats_reader.specs.Choice.{attribute_line as session_line}
+use Rattle.sdp_formats_reader.specs.declared.media.MediaHead.{MediaHead}
+use Rattle.sdp_formats_reader.specs.Lines.{version_line, origin_line, name_line, other_line, bandwidth_line}
+use Rattle.sdp_formats_reader.specs.Lines.{times_line, repeat_line, connection_line, head_line}
+use Rattle.sdp_formats_lookups.specs.Consistency.{is_consistent}
 use Rattle.sdp_formats_reader.specs.Grammar.{OpeningSays, TimesSay, SessionSays, SectionSays, SdpSays}
-use Rattle.sdp_formats_types.specs.declared.media.MediaLine.{MediaLine}
-use Rattle.sdp_formats_sessions.specs.declared.session.Session.{Session}
-use Rattle.sdp_formats_sessions.specs.declared.session.SessionAttribute.{SessionAttribute}
+use Rattle.sdp_formats_data.specs.declared.media.MediaLine.{MediaLine}
+use Rattle.sdp_formats_data.specs.declared.session.Session.{Session}
+use Rattle.sdp_formats_data.specs.declared.session.SessionAttribute.{SessionAttribute}
 use Rattle.sdp_formats_laws.proofs.MoreBehind.{at_cut, forth, never_ended}
 use Rattle.sdp_formats_laws.specs.LineEnds.{is_ended}
 use Rattle.sdp_formats_laws.proofs.Found.{as_many, perhaps_one}

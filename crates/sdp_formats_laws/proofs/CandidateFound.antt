@@ -2,22 +2,22 @@
 use Rattle.std.proofs.Common.{◌≡◌, ◌≢◌, ◌^◌, ℕ, List, [], ◌∷◌, ◌++◌, codes, Option, Some, None, IfSome, refl, sym, ◌∙◌}
 use Rattle.std.proofs.Common.{ap, subst}
 use Rattle.std.proofs.lemmas.List.{append-nil}
-use Rattle.sdp_formats_forms.specs.Bind.{◌>>=◌}
-use Rattle.sdp_formats_forms.specs.Cuts.{IsCut, somewhere, nowhere, cut_of, split_first-at, split_first-cuts}
-use Rattle.sdp_formats_forms.specs.Cuts.{split_first-nowhere}
-use Rattle.sdp_formats_forms.specs.Form.{field, field_in, maybe, some_text}
-use Rattle.sdp_formats_forms.specs.Numbers.{number_below}
-use Rattle.sdp_formats_forms.specs.Split.{Lacks, behind, halves, halves_of, split_first}
-use Rattle.sdp_formats_forms.specs.Words.{behind-sound}
-use Rattle.sdp_formats_value_reader.specs.Candidates.{candidate, candidate_base, candidate_carrier, candidate_fields}
-use Rattle.sdp_formats_value_reader.specs.Candidates.{candidate_place, ended, related_behind, related_field, related_in}
-use Rattle.sdp_formats_value_reader.specs.Candidates.{tcptype_field, ufrag_field}
-use Rattle.sdp_formats_value_reader.specs.Words.{kind_word, protocol_word, tcptype_word}
+use Rattle.sdp_formats_grammar.specs.Bind.{◌>>=◌}
+use Rattle.sdp_formats_grammar.specs.Cuts.{IsCut, somewhere, nowhere, cut_of, split_first-at, split_first-cuts}
+use Rattle.sdp_formats_grammar.specs.Cuts.{split_first-nowhere}
+use Rattle.sdp_formats_grammar.specs.Form.{field, field_in, maybe, some_text}
+use Rattle.sdp_formats_grammar.specs.Numbers.{number_below}
+use Rattle.sdp_formats_grammar.specs.Split.{Lacks, behind, halves, halves_of, split_first}
+use Rattle.sdp_formats_grammar.specs.Words.{behind-sound}
+use Rattle.sdp_formats_attributes.specs.Candidates.{candidate, candidate_base, candidate_carrier, candidate_fields}
+use Rattle.sdp_formats_attributes.specs.Candidates.{candidate_place, ended, related_behind, related_field, related_in}
+use Rattle.sdp_formats_attributes.specs.Candidates.{tcptype_field, ufrag_field}
+use Rattle.sdp_formats_attributes.specs.Words.{kind_word, protocol_word, tcptype_word}
 use Rattle.sdp_formats_values.specs.declared.candidate.Candidate.{Candidate}
 use Rattle.sdp_formats_values.specs.declared.candidate.Protocol.{Protocol}
 use Rattle.sdp_formats_values.specs.declared.candidate.RelatedAddress.{RelatedAddress}
 use Rattle.sdp_formats_values.specs.declared.candidate.TcpType.{TcpType}
-use Rattle.sdp_formats_laws.proofs.Candidates.{behind_blank}
+use Rattle.sdp_formats_laws.proofs.CandidatesLemmas.{behind_blank}
 use Rattle.sdp_formats_laws.proofs.Printed.{lacks}
 use Rattle.sdp_formats_laws.specs.CandidateWords.{IsOneWord, Spelling}
 use Rattle.sdp_formats_laws.proofs.CandidateTails.{AreWords, address_tail, generation_tail, named_tail}

@@ -1,17 +1,17 @@
 -- Lines `a=candidate` of sections and of sessions are read as they are printed.
 use Rattle.std.proofs.Common.{codes, refl, ap, lit<}
 use Rattle.std.specs.Option.{option_map}
-use Rattle.sdp_formats_media_lines.specs.Choice.{attribute_line}
-use Rattle.sdp_formats_media_lines.specs.Choice.{media_attribute, second_attribute, third_attribute, last_attribute}
-use Rattle.sdp_formats_session_attributes.specs.Choice.{attribute_line as session_line, session_attribute}
-use Rattle.sdp_formats_session_attributes.specs.Choice.{later_attribute}
-use Rattle.sdp_formats_types.specs.PrintedMedia.{attribute_text}
-use Rattle.sdp_formats_sessions.specs.PrintedSession.{attribute_text as session_text}
+use Rattle.sdp_formats_attributes.specs.Choice.{attribute_line}
+use Rattle.sdp_formats_attributes.specs.Choice.{media_attribute, second_attribute, third_attribute, last_attribute}
+use Rattle.sdp_formats_reader.specs.Choice.{attribute_line as session_line, session_attribute}
+use Rattle.sdp_formats_reader.specs.Choice.{later_attribute}
+use Rattle.sdp_formats_data.specs.PrintedMedia.{attribute_text}
+use Rattle.sdp_formats_data.specs.PrintedSession.{attribute_text as session_text}
 use Rattle.sdp_formats_values.specs.declared.candidate.Candidate as candidate
-use Rattle.sdp_formats_types.specs.declared.media.MediaAttribute.TheVariants.{Candidate}
-use Rattle.sdp_formats_sessions.specs.declared.session.SessionAttribute.TheVariants as session
-use Rattle.sdp_formats_laws.proofs.Candidates.{candidate_body, candidate_named, candidate_read, feed, lacks_candidate}
-use Rattle.sdp_formats_laws.proofs.Candidates.{return}
+use Rattle.sdp_formats_data.specs.declared.media.MediaAttribute.TheVariants.{Candidate}
+use Rattle.sdp_formats_data.specs.declared.session.SessionAttribute.TheVariants as session
+use Rattle.sdp_formats_laws.proofs.CandidatesLemmas.{candidate_body, candidate_named, candidate_read, feed, lacks_candidate}
+use Rattle.sdp_formats_laws.proofs.CandidatesLemmas.{return}
 use Rattle.sdp_formats_laws.proofs.PlainKinds.{first_fits}
 use Rattle.sdp_formats_laws.proofs.Printed.{IsPrintedAs, at_text, named_by, named_line}
 use Rattle.std.proofs.Common.{ℕ, List, Option, Some, None, IfSome}

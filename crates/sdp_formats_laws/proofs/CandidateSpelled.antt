@@ -1,17 +1,17 @@
 -- Words for a candidate are read as it.
 use Rattle.std.proofs.Common.{◌≡◌, ◌^◌, ℕ, List, ◌∷◌, ◌++◌, codes, Option, Some, None, IfSome, refl, ◌∙◌}
 use Rattle.std.proofs.Common.{ap}
-use Rattle.sdp_formats_forms.specs.Cuts.{split_first-at}
-use Rattle.sdp_formats_forms.specs.Form.{field}
-use Rattle.sdp_formats_forms.specs.Numbers.{number_below}
-use Rattle.sdp_formats_forms.specs.Split.{Lacks}
-use Rattle.sdp_formats_value_reader.specs.Candidates.{candidate, candidate_base, candidate_carrier, candidate_fields}
-use Rattle.sdp_formats_value_reader.specs.Candidates.{candidate_place, related_field, related_in}
-use Rattle.sdp_formats_value_reader.specs.Candidates.{tcptype_field, ufrag_field}
-use Rattle.sdp_formats_value_reader.specs.Words.{kind_word}
+use Rattle.sdp_formats_grammar.specs.Cuts.{split_first-at}
+use Rattle.sdp_formats_grammar.specs.Form.{field}
+use Rattle.sdp_formats_grammar.specs.Numbers.{number_below}
+use Rattle.sdp_formats_grammar.specs.Split.{Lacks}
+use Rattle.sdp_formats_attributes.specs.Candidates.{candidate, candidate_base, candidate_carrier, candidate_fields}
+use Rattle.sdp_formats_attributes.specs.Candidates.{candidate_place, related_field, related_in}
+use Rattle.sdp_formats_attributes.specs.Candidates.{tcptype_field, ufrag_field}
+use Rattle.sdp_formats_attributes.specs.Words.{kind_word}
 use Rattle.sdp_formats_values.specs.declared.candidate.Candidate.{Candidate}
 use Rattle.sdp_formats_values.specs.declared.candidate.RelatedAddress.{RelatedAddress}
-use Rattle.sdp_formats_laws.proofs.Candidates.{behind_blank, field_there, halves-blank, then}
+use Rattle.sdp_formats_laws.proofs.CandidatesLemmas.{behind_blank, field_there, halves-blank, then}
 use Rattle.sdp_formats_laws.proofs.Printed.{lacks, text_some}
 use Rattle.sdp_formats_laws.specs.CandidateWords.{IsOneWord, Spelling}
 use Rattle.sdp_formats_laws.proofs.CandidateTails.{AreWords, address_tail, cost_tail, generation_tail, named_tail}

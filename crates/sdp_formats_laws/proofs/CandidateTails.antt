@@ -1,12 +1,12 @@
 -- The words of a candidate as a text.
 use Rattle.std.proofs.Common.{◌≡◌, ◌^◌, ℕ, List, [], ◌∷◌, ◌++◌, codes, Option, Some, None, IfSome, refl, sym, ◌∙◌}
 use Rattle.std.proofs.Common.{ap, append_assoc}
-use Rattle.sdp_formats_forms.specs.Joined.{each_behind, joined}
-use Rattle.sdp_formats_forms.specs.Numbers.{number_below}
-use Rattle.sdp_formats_forms.specs.Split.{Lacks}
+use Rattle.sdp_formats_grammar.specs.Joined.{each_behind, joined}
+use Rattle.sdp_formats_grammar.specs.Numbers.{number_below}
+use Rattle.sdp_formats_grammar.specs.Split.{Lacks}
 use Rattle.sdp_formats_values.specs.declared.candidate.Candidate.{Candidate}
 use Rattle.sdp_formats_values.specs.declared.candidate.RelatedAddress.{RelatedAddress}
-use Rattle.sdp_formats_laws.proofs.Candidates.{behind_blank}
+use Rattle.sdp_formats_laws.proofs.CandidatesLemmas.{behind_blank}
 use Rattle.sdp_formats_laws.specs.CandidateWords.{IsOneWord, Spelling, Spells, named_words}
 use Rattle.sdp_formats_laws.specs.CandidateWords.{related_words, words_of}
 

@@ -1,10 +1,10 @@
 -- The text of a candidate is its words.
 use Rattle.std.proofs.Common.{◌≡◌, ◌≢◌, ◌^◌, ℕ, List, [], ◌∷◌, ◌++◌, codes, Option, Some, None, IfSome, refl, sym, ◌∙◌}
 use Rattle.std.proofs.Common.{ap}
-use Rattle.sdp_formats_forms.specs.Numbers.{number_below}
-use Rattle.sdp_formats_forms.specs.Split.{Lacks}
-use Rattle.sdp_formats_value_reader.specs.Candidates.{candidate}
-use Rattle.sdp_formats_value_reader.specs.Words.{kind_word, protocol_word}
+use Rattle.sdp_formats_grammar.specs.Numbers.{number_below}
+use Rattle.sdp_formats_grammar.specs.Split.{Lacks}
+use Rattle.sdp_formats_attributes.specs.Candidates.{candidate}
+use Rattle.sdp_formats_attributes.specs.Words.{kind_word, protocol_word}
 use Rattle.sdp_formats_values.specs.declared.candidate.Candidate.{Candidate}
 use Rattle.sdp_formats_values.specs.declared.candidate.CandidateKind.{CandidateKind}
 use Rattle.sdp_formats_values.specs.declared.candidate.Protocol.{Protocol}

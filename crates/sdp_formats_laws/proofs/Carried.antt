@@ -1,12 +1,12 @@
 -- What a text says carries over to another text, line by line.
 use Rattle.std.proofs.Common.{◌≡◌, ℕ, List, [], ◌∷◌, Option, Some, None, refl, sym, ap, subst}
-use Rattle.sdp_formats_session_lines.specs.Lines.{version_line, origin_line, name_line, other_line, bandwidth_line}
-use Rattle.sdp_formats_session_lines.specs.Lines.{times_line, repeat_line, connection_line, head_line}
-use Rattle.sdp_formats_media_lines.specs.Choice.{attribute_line as media_line}
+use Rattle.sdp_formats_reader.specs.Lines.{version_line, origin_line, name_line, other_line, bandwidth_line}
+use Rattle.sdp_formats_reader.specs.Lines.{times_line, repeat_line, connection_line, head_line}
+use Rattle.sdp_formats_attributes.specs.Choice.{attribute_line as media_line}
 use Rattle.sdp_formats_reader.specs.Grammar.{OpeningSays, TimesSay, SessionSays, SectionSays, SdpSays}
-use Rattle.sdp_formats_session_attributes.specs.Choice.{attribute_line as session_line}
-use Rattle.sdp_formats_forms.specs.Line.{LineOf}
-use Rattle.sdp_formats_forms.specs.Step.{Stops, Begins, Many, Perhaps}
+use Rattle.sdp_formats_reader.specs.Choice.{attribute_line as session_line}
+use Rattle.sdp_formats_grammar.specs.Line.{LineOf}
+use Rattle.sdp_formats_grammar.specs.Step.{Stops, Begins, Many, Perhaps}
 
 -- A step from a text is one from what stands for it, and the other way round, and the rests stand for each other.
 pub record Carries {A : Type 0} (f : List ℕ → List ℕ) (OK : List ℕ → Type 0) (S : List ℕ → A → List ℕ

@@ -3,20 +3,20 @@ use Rattle.std.proofs.Common.{◌≡◌, ◌==◌, ℕ, Bool, not, ◌&&◌, ◌
 use Rattle.std.proofs.Common.{if◌then◌else◌, Option, Some, None, IsTrue, refl, sym, ap, subst}
 use Rattle.std.specs.List.{count_by, list_all}
 use Rattle.std.specs.Prelude.{is_none}
-use Rattle.sdp_formats_params.specs.declared.param.FormatParam.{FormatParam}
-use Rattle.sdp_formats_params.specs.declared.param.FormatParam.TheVariants as param
-use Rattle.sdp_formats_media_lines.specs.AsRead.{as_read, spelled_as}
-use Rattle.sdp_formats_faults.specs.Consistency.{apt_differs, apts_agree, apts_agree_with, are_mapped}
-use Rattle.sdp_formats_faults.specs.Consistency.{attribute_agrees, fault_of, gives_apt, is_consistent}
-use Rattle.sdp_formats_faults.specs.Consistency.{is_direction_of, is_mapped, is_setup, is_static, maps_type}
-use Rattle.sdp_formats_faults.specs.Consistency.{values_agree}
-use Rattle.sdp_formats_types.specs.Media.{is_mid}
-use Rattle.sdp_formats_types.specs.MediaTypes.{is_rtp}
-use Rattle.sdp_formats_faults.specs.declared.Inconsistency.{Inconsistency}
-use Rattle.sdp_formats_faults.specs.declared.Inconsistency.TheVariants as fault
-use Rattle.sdp_formats_types.specs.declared.media.MediaAttribute.{MediaAttribute}
-use Rattle.sdp_formats_types.specs.declared.media.MediaAttribute.TheVariants.{Fmtp}
-use Rattle.sdp_formats_types.specs.declared.media.MediaLine.{MediaLine}
+use Rattle.sdp_formats_values.specs.declared.param.FormatParam.{FormatParam}
+use Rattle.sdp_formats_values.specs.declared.param.FormatParam.TheVariants as param
+use Rattle.sdp_formats_attributes.specs.AsRead.{as_read, spelled_as}
+use Rattle.sdp_formats_lookups.specs.Consistency.{apt_differs, apts_agree, apts_agree_with, are_mapped}
+use Rattle.sdp_formats_lookups.specs.Consistency.{attribute_agrees, fault_of, gives_apt, is_consistent}
+use Rattle.sdp_formats_lookups.specs.Consistency.{is_direction_of, is_mapped, is_setup, is_static, maps_type}
+use Rattle.sdp_formats_lookups.specs.Consistency.{values_agree}
+use Rattle.sdp_formats_data.specs.Media.{is_mid}
+use Rattle.sdp_formats_data.specs.MediaTypes.{is_rtp}
+use Rattle.sdp_formats_lookups.specs.declared.Inconsistency.{Inconsistency}
+use Rattle.sdp_formats_lookups.specs.declared.Inconsistency.TheVariants as fault
+use Rattle.sdp_formats_data.specs.declared.media.MediaAttribute.{MediaAttribute}
+use Rattle.sdp_formats_data.specs.declared.media.MediaAttribute.TheVariants.{Fmtp}
+use Rattle.sdp_formats_data.specs.declared.media.MediaLine.{MediaLine}
 use Rattle.sdp_formats_laws.specs.AsReadLemmas.{all_as_read, all_map, any_as_read, count_map}
 use Rattle.sdp_formats_laws.specs.ReadTexts.{section_as_read}
 

@@ -4,14 +4,14 @@ use Rattle.std.proofs.Common.{Option, Some, None, IsTrue, nat_lt, length, is_non
 use Rattle.std.proofs.Common.{ap, arith}
 use Rattle.std.specs.List.{list_all}
 use Rattle.std.proofs.lemmas.Grind.{common_steps}
-use Rattle.sdp_formats_faults.specs.Consistency.{apts_agree, are_mapped}
-use Rattle.sdp_formats_faults.specs.Consistency.{is_consistent}
-use Rattle.sdp_formats_faults.specs.declared.Inconsistency.{Inconsistency}
-use Rattle.sdp_formats_faults.specs.declared.Inconsistency.TheVariants as fault
-use Rattle.sdp_formats_round.specs.Types.{listed}
+use Rattle.sdp_formats_lookups.specs.Consistency.{apts_agree, are_mapped}
+use Rattle.sdp_formats_lookups.specs.Consistency.{is_consistent}
+use Rattle.sdp_formats_lookups.specs.declared.Inconsistency.{Inconsistency}
+use Rattle.sdp_formats_lookups.specs.declared.Inconsistency.TheVariants as fault
+use Rattle.sdp_formats_rounds.specs.Types.{listed}
 use Rattle.sdp_formats_rows.specs.Rows.{Row}
-use Rattle.sdp_formats_types.specs.MediaTypes.{is_rtp}
-use Rattle.sdp_formats_types.specs.declared.media.MediaLine.{MediaLine}
+use Rattle.sdp_formats_data.specs.MediaTypes.{is_rtp}
+use Rattle.sdp_formats_data.specs.declared.media.MediaLine.{MediaLine}
 use Rattle.sdp_formats_laws.specs.PrintableTexts.{IsEach}
 use Rattle.sdp_formats_laws.specs.Rows.{EachListsRows, HasOneOfEach, ListedRowsHaveNoFault}
 use Rattle.sdp_formats_laws.specs.RowsBack.{types_in}

@@ -6,16 +6,16 @@ use Rattle.std.specs.List.{flat_map, list_any}
 use Rattle.std.specs.Str.{bytes_eq}
 use Rattle.std.proofs.lemmas.Grind.{common_steps}
 use Rattle.std.proofs.lemmas.List.Folds.{list_any-append}
-use Rattle.sdp_formats_params.specs.declared.param.FormatParam.{FormatParam}
+use Rattle.sdp_formats_values.specs.declared.param.FormatParam.{FormatParam}
 use Rattle.sdp_formats_rows.specs.Rows.{Row}
-use Rattle.sdp_formats_row_attributes.specs.Attributes.{all_feedback, feedback_line, feedback_lines}
-use Rattle.sdp_formats_row_attributes.specs.Attributes.{fmtp_of, is_used, params_in, words_of}
+use Rattle.sdp_formats_section_rows.specs.Attributes.{all_feedback, feedback_line, feedback_lines}
+use Rattle.sdp_formats_section_rows.specs.Attributes.{fmtp_of, is_used, params_in, words_of}
 use Rattle.sdp_formats_section_rows.specs.SectionRows.{has_feedback, is_feedback}
-use Rattle.sdp_formats_types.specs.declared.media.MediaAttribute.{MediaAttribute}
-use Rattle.sdp_formats_types.specs.declared.media.MediaAttribute.TheVariants as attribute
+use Rattle.sdp_formats_data.specs.declared.media.MediaAttribute.{MediaAttribute}
+use Rattle.sdp_formats_data.specs.declared.media.MediaAttribute.TheVariants as attribute
 use Rattle.sdp_formats_laws.proofs.Lists.{any_fold, fold_past, or_none, or_same}
 use Rattle.sdp_formats_laws.proofs.Silent.{Apart, section_of, tells, whole_fold}
-use Rattle.sdp_formats_laws.proofs.Mapped.{same_number}
+use Rattle.sdp_formats_laws.proofs.MappedLemmas.{same_number}
 
 feedback_silent : (t : ℕ) (text : List ℕ) (a : MediaAttribute) → tells t a ≡ false → is_feedback t text a ≡ false
 unfolding is_feedback

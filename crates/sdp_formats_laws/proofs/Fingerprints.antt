@@ -5,12 +5,12 @@ use Rattle.std.specs.Fmt.{digit_glyph}
 use Rattle.std.specs.Option.{option_map}
 use Rattle.std.proofs.lemmas.Bool.Decides.{nat_tests}
 use Rattle.std.proofs.lemmas.Fmt.{hex_one_digit}
-use Rattle.sdp_formats_forms.specs.Bind.{◌>>=◌}
-use Rattle.sdp_formats_forms.specs.Form.{any_text, separated, told}
-use Rattle.sdp_formats_forms.specs.Joined.{joined, octet_text}
-use Rattle.sdp_formats_forms.specs.Split.{Lacks}
-use Rattle.sdp_formats_value_reader.specs.Digest.{hex_digit, hex_byte, fingerprint}
-use Rattle.sdp_formats_value_reader.specs.Fingerprints.{make_fingerprint}
+use Rattle.sdp_formats_grammar.specs.Bind.{◌>>=◌}
+use Rattle.sdp_formats_grammar.specs.Form.{any_text, separated, told}
+use Rattle.sdp_formats_grammar.specs.Joined.{joined, octet_text}
+use Rattle.sdp_formats_grammar.specs.Split.{Lacks}
+use Rattle.sdp_formats_attributes.specs.Digest.{hex_digit, hex_byte, fingerprint}
+use Rattle.sdp_formats_attributes.specs.Fingerprints.{make_fingerprint}
 use Rattle.sdp_formats_laws.proofs.PlainKinds.{lacks_two}
 use Rattle.sdp_formats_laws.proofs.Printed.{lacks_both, text_some}
 use Rattle.sdp_formats_laws.proofs.Readings.{cut_reads, AreRead, list_reads}

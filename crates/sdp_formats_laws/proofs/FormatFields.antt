@@ -3,20 +3,20 @@ use Rattle.std.proofs.Common.{◌≡◌, ◌<◌, ◌^◌, ℕ, Bool, true, fals
 use Rattle.std.proofs.Common.{codes, decimal, Option, Some, None, refl, ◌∙◌, ap, arith, lit<, lit≤}
 use Rattle.std.specs.Str.{trim}
 use Rattle.std.proofs.lemmas.Fmt.{decimal_is_IsNumeral}
-use Rattle.sdp_formats_forms.specs.Cuts.{parts-at, parts-whole}
-use Rattle.sdp_formats_forms.specs.Split.{Lacks, parts}
-use Rattle.sdp_formats_format.specs.Formats.{replaced, with_fields}
-use Rattle.sdp_formats_line_values.specs.LineValues.{field_value, gives_level, has_level, is_key}
-use Rattle.sdp_formats_format.specs.Formats.{with_key, with_range}
-use Rattle.sdp_formats_format.specs.declared.format.FormatParams.{FormatParams}
-use Rattle.sdp_formats_params.specs.Keys.{key_named, is_name_of}
-use Rattle.sdp_formats_params.specs.Numbers.{numeral_below, range_of}
-use Rattle.sdp_formats_params.specs.Printed.{flag_digit, pair_text, param_text, six_digits}
-use Rattle.sdp_formats_params.specs.declared.key.Key.{Key}
-use Rattle.sdp_formats_params.specs.declared.key.Key.TheVariants as key
-use Rattle.sdp_formats_params.specs.declared.pairs.Pair.{Pair}
-use Rattle.sdp_formats_params.specs.declared.param.FormatParam.{FormatParam}
-use Rattle.sdp_formats_params.specs.declared.param.FormatParam.TheVariants as param
+use Rattle.sdp_formats_grammar.specs.Cuts.{parts-at, parts-whole}
+use Rattle.sdp_formats_grammar.specs.Split.{Lacks, parts}
+use Rattle.sdp_formats_params.specs.Formats.{replaced, with_fields}
+use Rattle.sdp_formats_params.specs.LineValues.{field_value, gives_level, has_level, is_key}
+use Rattle.sdp_formats_params.specs.Formats.{with_key, with_range}
+use Rattle.sdp_formats_params.specs.declared.format.FormatParams.{FormatParams}
+use Rattle.sdp_formats_values.specs.Keys.{key_named, is_name_of}
+use Rattle.sdp_formats_values.specs.Numbers.{numeral_below, range_of}
+use Rattle.sdp_formats_values.specs.PrintedParameters.{flag_digit, pair_text, param_text, six_digits}
+use Rattle.sdp_formats_values.specs.declared.key.Key.{Key}
+use Rattle.sdp_formats_values.specs.declared.key.Key.TheVariants as key
+use Rattle.sdp_formats_values.specs.declared.pairs.Pair.{Pair}
+use Rattle.sdp_formats_values.specs.declared.param.FormatParam.{FormatParam}
+use Rattle.sdp_formats_values.specs.declared.param.FormatParam.TheVariants as param
 use Rattle.sdp_formats_section_rows.specs.Given.{with_codec_param}
 use Rattle.sdp_formats_laws.proofs.KeyedParams.{byte_back, don_back, flag_back, key_is, level_back, value_is}
 use Rattle.sdp_formats_laws.proofs.ModeSets.{modes_back, modes_graphic}

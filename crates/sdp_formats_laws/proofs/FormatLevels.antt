@@ -4,18 +4,18 @@ use Rattle.std.proofs.Common.{codes, decimal, Option, Some, None, refl, sym, ◌
 use Rattle.std.proofs.Common.{append-nil}
 use Rattle.std.specs.Prelude.{fold}
 use Rattle.std.specs.List.{list_any}
-use Rattle.sdp_formats_forms.specs.Joined.{joined}
-use Rattle.sdp_formats_forms.specs.Split.{Lacks, parts}
-use Rattle.sdp_formats_format.specs.Formats.{format_of}
-use Rattle.sdp_formats_line_values.specs.LineValues.{gives_level, is_key, last_value}
-use Rattle.sdp_formats_format.specs.Formats.{no_format, with_parts, with_values}
-use Rattle.sdp_formats_format.specs.declared.format.FormatParams.{FormatParams}
-use Rattle.sdp_formats_params.specs.Keys.{key_named, is_name_of}
-use Rattle.sdp_formats_params.specs.Printed.{pair_text, param_text}
-use Rattle.sdp_formats_params.specs.declared.key.Key.{Key}
-use Rattle.sdp_formats_params.specs.declared.key.Key.TheVariants as key
-use Rattle.sdp_formats_params.specs.declared.pairs.Pair.{Pair}
-use Rattle.sdp_formats_params.specs.declared.param.FormatParam.{FormatParam}
+use Rattle.sdp_formats_grammar.specs.Joined.{joined}
+use Rattle.sdp_formats_grammar.specs.Split.{Lacks, parts}
+use Rattle.sdp_formats_params.specs.Formats.{format_of}
+use Rattle.sdp_formats_params.specs.LineValues.{gives_level, is_key, last_value}
+use Rattle.sdp_formats_params.specs.Formats.{no_format, with_parts, with_values}
+use Rattle.sdp_formats_params.specs.declared.format.FormatParams.{FormatParams}
+use Rattle.sdp_formats_values.specs.Keys.{key_named, is_name_of}
+use Rattle.sdp_formats_values.specs.PrintedParameters.{pair_text, param_text}
+use Rattle.sdp_formats_values.specs.declared.key.Key.{Key}
+use Rattle.sdp_formats_values.specs.declared.key.Key.TheVariants as key
+use Rattle.sdp_formats_values.specs.declared.pairs.Pair.{Pair}
+use Rattle.sdp_formats_values.specs.declared.param.FormatParam.{FormatParam}
 use Rattle.sdp_formats_laws.proofs.FormatFields.{IsField, IsPart, decimal_graphic, field_level, field_named, field_read}
 use Rattle.sdp_formats_laws.proofs.FormatFields.{is_part_key, part_key, with_part}
 use Rattle.sdp_formats_laws.proofs.FormatTexts.{IsPassed, any_past, each_part, each_passed, each_whole, level_past}

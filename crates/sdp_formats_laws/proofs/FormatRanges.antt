@@ -12,17 +12,17 @@ use Rattle.h26x_payload_profiles.specs.H265ProfileTierLevel.{H265ProfileTierLeve
 use Rattle.h26x_payload_profiles.specs.H266ProfileTierLevel.{H266ProfileTierLevel as Level266}
 use Rattle.h26x_payload_profiles.specs.H265ProfileTierLevel.{given as given_265}
 use Rattle.h26x_payload_profiles.specs.H266ProfileTierLevel.{given as given_266}
-use Rattle.sdp_formats_forms.specs.Split.{parts, onto_first}
-use Rattle.sdp_formats_params.specs.Keys.{key_named}
-use Rattle.sdp_formats_params.specs.Numbers.{are_digits, numeral_below, or_else, up_to, with_mode, with_modes}
-use Rattle.sdp_formats_params.specs.Numbers.{modes_of, behind, range_end, range_of}
-use Rattle.sdp_formats_params.specs.declared.key.Key.{Key}
-use Rattle.sdp_formats_params.specs.declared.key.Key.TheVariants as key
-use Rattle.sdp_formats_format.specs.Formats.{no_format, replaced, with_value, with_key, with_range, with_fields}
-use Rattle.sdp_formats_format.specs.Formats.{with_parts}
-use Rattle.sdp_formats_format.specs.Formats.{with_level, with_values, level_format, format_of}
-use Rattle.sdp_formats_line_values.specs.LineValues.{gives_level, last_value}
-use Rattle.sdp_formats_format.specs.declared.format.FormatParams.{FormatParams}
+use Rattle.sdp_formats_grammar.specs.Split.{parts, onto_first}
+use Rattle.sdp_formats_values.specs.Keys.{key_named}
+use Rattle.sdp_formats_values.specs.Numbers.{are_digits, numeral_below, or_else, up_to, with_mode, with_modes}
+use Rattle.sdp_formats_values.specs.Numbers.{modes_of, behind, range_end, range_of}
+use Rattle.sdp_formats_values.specs.declared.key.Key.{Key}
+use Rattle.sdp_formats_values.specs.declared.key.Key.TheVariants as key
+use Rattle.sdp_formats_params.specs.Formats.{no_format, replaced, with_value, with_key, with_range, with_fields}
+use Rattle.sdp_formats_params.specs.Formats.{with_parts}
+use Rattle.sdp_formats_params.specs.Formats.{with_level, with_values, level_format, format_of}
+use Rattle.sdp_formats_params.specs.LineValues.{gives_level, last_value}
+use Rattle.sdp_formats_params.specs.declared.format.FormatParams.{FormatParams}
 use Rattle.sdp_formats_laws.specs.Ranges.{IsModes, IsInRange, AtMostOne}
 
 -- a number that was read is below its limit

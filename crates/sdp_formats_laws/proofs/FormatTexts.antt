@@ -5,22 +5,22 @@ use Rattle.std.proofs.Common.{append-nil}
 use Rattle.std.specs.Prelude.{fold}
 use Rattle.std.specs.List.{list_any}
 use Rattle.std.specs.Str.{trim, trim_start, trim_end, chars}
-use Rattle.sdp_formats_forms.specs.Cuts.{parts-at, parts-whole}
-use Rattle.sdp_formats_forms.specs.Joined.{joined}
-use Rattle.sdp_formats_forms.specs.Split.{Lacks, parts}
-use Rattle.sdp_formats_format.specs.Formats.{format_of}
-use Rattle.sdp_formats_line_values.specs.LineValues.{field_value, gives_level, has_level, is_key, last_value}
-use Rattle.sdp_formats_format.specs.Formats.{level_format}
-use Rattle.sdp_formats_format.specs.Formats.{no_format, with_parts, with_values}
-use Rattle.sdp_formats_format.specs.declared.format.FormatParams.{FormatParams}
-use Rattle.sdp_formats_params.specs.Keys.{key_named, is_name_of}
-use Rattle.sdp_formats_params.specs.Params.{is_level}
-use Rattle.sdp_formats_params.specs.Printed.{pair_text, param_text}
-use Rattle.sdp_formats_params.specs.declared.key.Key.{Key}
-use Rattle.sdp_formats_params.specs.declared.key.Key.TheVariants as key
-use Rattle.sdp_formats_params.specs.declared.pairs.Pair.{Pair}
-use Rattle.sdp_formats_params.specs.declared.param.FormatParam.{FormatParam}
-use Rattle.sdp_formats_params.specs.declared.param.FormatParam.TheVariants as param
+use Rattle.sdp_formats_grammar.specs.Cuts.{parts-at, parts-whole}
+use Rattle.sdp_formats_grammar.specs.Joined.{joined}
+use Rattle.sdp_formats_grammar.specs.Split.{Lacks, parts}
+use Rattle.sdp_formats_params.specs.Formats.{format_of}
+use Rattle.sdp_formats_params.specs.LineValues.{field_value, gives_level, has_level, is_key, last_value}
+use Rattle.sdp_formats_params.specs.Formats.{level_format}
+use Rattle.sdp_formats_params.specs.Formats.{no_format, with_parts, with_values}
+use Rattle.sdp_formats_params.specs.declared.format.FormatParams.{FormatParams}
+use Rattle.sdp_formats_values.specs.Keys.{key_named, is_name_of}
+use Rattle.sdp_formats_values.specs.Params.{is_level}
+use Rattle.sdp_formats_values.specs.PrintedParameters.{pair_text, param_text}
+use Rattle.sdp_formats_values.specs.declared.key.Key.{Key}
+use Rattle.sdp_formats_values.specs.declared.key.Key.TheVariants as key
+use Rattle.sdp_formats_values.specs.declared.pairs.Pair.{Pair}
+use Rattle.sdp_formats_values.specs.declared.param.FormatParam.{FormatParam}
+use Rattle.sdp_formats_values.specs.declared.param.FormatParam.TheVariants as param
 use Rattle.sdp_formats_laws.proofs.FormatFields.{IsField, IsPart, field_level, field_named}
 use Rattle.sdp_formats_laws.proofs.FormatFields.{keyed_field, part_read, range_field, with_part}
 use Rattle.sdp_formats_laws.proofs.Numerals.{decimal_value}

@@ -16,16 +16,16 @@ use Rattle.h26x_payload_profiles.specs.H266Level.{level_id as level_266}
 use Rattle.h26x_payload_profiles.specs.H266Profile.{profile_id as profile_266}
 use Rattle.h26x_payload_profiles.specs.H265ProfileTierLevel.{H265ProfileTierLevel as Level265}
 use Rattle.h26x_payload_profiles.specs.H266ProfileTierLevel.{H266ProfileTierLevel as Level266}
-use Rattle.sdp_formats_forms.specs.Joined.{joined}
-use Rattle.sdp_formats_format.specs.Formats.{format_of}
-use Rattle.sdp_formats_format.specs.Formats.{no_format, with_level, with_values}
-use Rattle.sdp_formats_format.specs.Parameters.{each_param}
-use Rattle.sdp_formats_format.specs.Texts.{format_text}
-use Rattle.sdp_formats_format.specs.declared.format.FormatParams.{FormatParams}
-use Rattle.sdp_formats_params.specs.Params.{level_param}
-use Rattle.sdp_formats_params.specs.Printed.{pair_text, param_text}
-use Rattle.sdp_formats_params.specs.declared.param.FormatParam.{FormatParam}
-use Rattle.sdp_formats_params.specs.declared.param.FormatParam.TheVariants as param
+use Rattle.sdp_formats_grammar.specs.Joined.{joined}
+use Rattle.sdp_formats_params.specs.Formats.{format_of}
+use Rattle.sdp_formats_params.specs.Formats.{no_format, with_level, with_values}
+use Rattle.sdp_formats_params.specs.Parameters.{each_param}
+use Rattle.sdp_formats_params.specs.Texts.{format_text}
+use Rattle.sdp_formats_params.specs.declared.format.FormatParams.{FormatParams}
+use Rattle.sdp_formats_values.specs.Params.{level_param}
+use Rattle.sdp_formats_values.specs.PrintedParameters.{pair_text, param_text}
+use Rattle.sdp_formats_values.specs.declared.param.FormatParam.{FormatParam}
+use Rattle.sdp_formats_values.specs.declared.param.FormatParam.TheVariants as param
 use Rattle.sdp_formats_laws.proofs.FormatFields.{IsPart}
 use Rattle.sdp_formats_laws.proofs.FormatFields.{with_part}
 use Rattle.sdp_formats_laws.proofs.FormatTexts.{line_read}
@@ -34,7 +34,7 @@ use Rattle.sdp_formats_laws.proofs.LevelLists.{IsLevelOf, all_nested}
 use Rattle.sdp_formats_laws.proofs.LevelNumbers.{reads_265, reads_266}
 use Rattle.sdp_formats_laws.proofs.LevelPairs.{level_shape}
 use Rattle.sdp_formats_laws.specs.Keyed.{pair}
-use Rattle.sdp_formats_laws.specs.Parameters.{FormatsComeBack}
+use Rattle.sdp_formats_laws.specs.PrintedParameters.{FormatsComeBack}
 use Rattle.sdp_formats_laws.specs.PrintableTexts.{IsEach}
 use Rattle.sdp_formats_laws.specs.Ranges.{AtMostOne, IsInRange}
 use Rattle.sdp_formats_laws.proofs.FormatLevels.{fields_of, level_line, level_texts}

@@ -1,10 +1,10 @@
 -- From any text on there are as many lines of a kind as there are, and one or none.
 use Rattle.std.proofs.Common.{◌≡◌, ◌⊎◌, ◌≤◌, ℕ, zero, suc, List, [], ◌∷◌, Option, Some, None, length, refl, sym, ◌∙◌}
 use Rattle.std.proofs.Common.{ap, inl, inr, arith}
-use Rattle.sdp_formats_forms.specs.Form.{Form, IsExact}
-use Rattle.sdp_formats_forms.specs.Line.{LineOf, next_line}
-use Rattle.sdp_formats_forms.specs.LineLemmas.{line-shorter, next-complete, next-sound}
-use Rattle.sdp_formats_forms.specs.Step.{Many, Perhaps, Stops}
+use Rattle.sdp_formats_grammar.specs.Form.{Form, IsExact}
+use Rattle.sdp_formats_grammar.specs.Line.{LineOf, next_line}
+use Rattle.sdp_formats_grammar.specs.LineLemmas.{line-shorter, next-complete, next-sound}
+use Rattle.sdp_formats_grammar.specs.Step.{Many, Perhaps, Stops}
 
 none_some : {A : Type 0} (a : A) → None ≡ Some a → ⊥
 none_some a e = cc

@@ -8,18 +8,18 @@ use Rattle.std.specs.Str.Parse.{AllDigits}
 use Rattle.std.proofs.lemmas.Bool.Decides.{nat_tests}
 use Rattle.std.proofs.lemmas.Str.Parse.{digit_from_value}
 use Rattle.std.proofs.lemmas.Fmt.{digits_decimal, decimal_nonempty}
-use Rattle.sdp_formats_forms.specs.Cuts.{other_byte}
-use Rattle.sdp_formats_forms.specs.Exact.{told-exact, made-exact, after-exact, cut-exact}
-use Rattle.sdp_formats_forms.specs.Form.{IsExact, any_text, some_text, cut, each, told}
-use Rattle.sdp_formats_forms.specs.Joined.{each_behind}
-use Rattle.sdp_formats_forms.specs.Numbers.{number_below}
-use Rattle.sdp_formats_forms.specs.Split.{Lacks, behind, parts}
-use Rattle.sdp_formats_session_lines.specs.Heads.{session_number, formats, pt_number}
-use Rattle.sdp_formats_session_lines.specs.Lines.{version_line, origin_line, name_line, bandwidth_line, times_line}
-use Rattle.sdp_formats_session_lines.specs.Lines.{connection_line, passed, make_bandwidth}
-use Rattle.sdp_formats_values.specs.Printed.{line_end}
+use Rattle.sdp_formats_grammar.specs.Cuts.{other_byte}
+use Rattle.sdp_formats_grammar.specs.Exact.{told-exact, made-exact, after-exact, cut-exact}
+use Rattle.sdp_formats_grammar.specs.Form.{IsExact, any_text, some_text, cut, each, told}
+use Rattle.sdp_formats_grammar.specs.Joined.{each_behind}
+use Rattle.sdp_formats_grammar.specs.Numbers.{number_below}
+use Rattle.sdp_formats_grammar.specs.Split.{Lacks, behind, parts}
+use Rattle.sdp_formats_reader.specs.Heads.{session_number, formats, pt_number}
+use Rattle.sdp_formats_reader.specs.Lines.{version_line, origin_line, name_line, bandwidth_line, times_line}
+use Rattle.sdp_formats_reader.specs.Lines.{connection_line, passed, make_bandwidth}
+use Rattle.sdp_formats_values.specs.PrintedValues.{line_end}
 use Rattle.sdp_formats_values.specs.Lists.{bandwidth_text, numbers_text, named}
-use Rattle.sdp_formats_types.specs.declared.Bandwidth.{Bandwidth}
+use Rattle.sdp_formats_data.specs.declared.Bandwidth.{Bandwidth}
 use Rattle.sdp_formats_laws.proofs.Decimals.{own, number_below-decimal, Lacks-decimal}
 use Rattle.sdp_formats_laws.proofs.Printed.{IsPrintedAs, named_line, named_by, fixed_line, two_parts, at_text}
 use Rattle.sdp_formats_laws.proofs.Printed.{text_some}

@@ -3,13 +3,13 @@ use Rattle.std.proofs.Common.{◌≡◌, ℕ, false, List, map}
 use Rattle.std.proofs.Common.{codes, Option, Some, None, refl}
 use Rattle.std.specs.Char.{to_ascii_lowercase}
 use Rattle.std.specs.Str.{str_eq_ignore_ascii_case}
-use Rattle.sdp_formats_params.specs.Keys.{key_named, is_name_of}
-use Rattle.sdp_formats_params.specs.Params.{is_level_name}
-use Rattle.sdp_formats_params.specs.declared.key.Key.{Key}
-use Rattle.sdp_formats_params.specs.declared.key.Key.TheVariants as key
-use Rattle.sdp_formats_params.specs.declared.pairs.Pair.{Pair}
-use Rattle.sdp_formats_params.specs.declared.param.FormatParam.{FormatParam}
-use Rattle.sdp_formats_params.specs.declared.param.FormatParam.TheVariants as param
+use Rattle.sdp_formats_values.specs.Keys.{key_named, is_name_of}
+use Rattle.sdp_formats_values.specs.Params.{is_level_name}
+use Rattle.sdp_formats_values.specs.declared.key.Key.{Key}
+use Rattle.sdp_formats_values.specs.declared.key.Key.TheVariants as key
+use Rattle.sdp_formats_values.specs.declared.pairs.Pair.{Pair}
+use Rattle.sdp_formats_values.specs.declared.param.FormatParam.{FormatParam}
+use Rattle.sdp_formats_values.specs.declared.param.FormatParam.TheVariants as param
 use Rattle.sdp_formats_laws.specs.Keyed.{IsKeyed, IsOrdinary, pair_of}
 
 -- keys in the order in which a format's parameters are printed

@@ -3,17 +3,17 @@ use Rattle.std.proofs.Common.{◌≡◌, ◌≢◌, ℕ, false, ◌||◌, not, c
 use Rattle.std.proofs.Common.{Option, Some, refl, sym, ◌∙◌, ap, subst}
 use Rattle.std.specs.List.{list_any}
 use Rattle.std.specs.Option.{option_map, option_or}
-use Rattle.sdp_formats_forms.specs.Joined.{each_behind, joined}
-use Rattle.sdp_formats_forms.specs.Split.{Lacks}
-use Rattle.sdp_formats_media_lines.specs.PrintedPairs.{ArePairs, PairsComeBack, pairs_text}
-use Rattle.sdp_formats_params.specs.Params.{gives_level, level_params, pair_param, params_of}
-use Rattle.sdp_formats_params.specs.Printed.{pair_text, param_text}
-use Rattle.sdp_formats_params.specs.declared.pairs.Pair.{Pair}
-use Rattle.sdp_formats_params.specs.declared.param.FormatParam.{FormatParam}
-use Rattle.sdp_formats_params.specs.declared.param.FormatParam.TheVariants as param
-use Rattle.sdp_formats_media_lines.specs.AsRead.{is_level, is_other, params_as_read, spelled_as}
-use Rattle.sdp_formats_source_lines.specs.Parameters.{parameters}
-use Rattle.sdp_formats_types.specs.PrintedMedia.{params_text}
+use Rattle.sdp_formats_grammar.specs.Joined.{each_behind, joined}
+use Rattle.sdp_formats_grammar.specs.Split.{Lacks}
+use Rattle.sdp_formats_attributes.specs.PrintedPairs.{ArePairs, PairsComeBack, pairs_text}
+use Rattle.sdp_formats_values.specs.Params.{gives_level, level_params, pair_param, params_of}
+use Rattle.sdp_formats_values.specs.PrintedParameters.{pair_text, param_text}
+use Rattle.sdp_formats_values.specs.declared.pairs.Pair.{Pair}
+use Rattle.sdp_formats_values.specs.declared.param.FormatParam.{FormatParam}
+use Rattle.sdp_formats_values.specs.declared.param.FormatParam.TheVariants as param
+use Rattle.sdp_formats_attributes.specs.AsRead.{is_level, is_other, params_as_read, spelled_as}
+use Rattle.sdp_formats_attributes.specs.Parameters.{parameters}
+use Rattle.sdp_formats_data.specs.PrintedMedia.{params_text}
 use Rattle.sdp_formats_laws.proofs.KeyedParams.{key_is, no_level, param_back, text_is, value_is}
 use Rattle.sdp_formats_laws.specs.Printable.{IsText}
 use Rattle.sdp_formats_laws.specs.Keyed.{AreKeyed, IsKeyed, pair_of}

@@ -4,16 +4,16 @@ use Rattle.std.proofs.Common.{List, [], ◌∷◌, codes, decimal}
 use Rattle.std.proofs.Common.{None, Some, refl, ◌∙◌, ap, arith, lit<, lit≤}
 use Rattle.std.specs.Fmt.{digits}
 use Rattle.std.proofs.lemmas.Bool.Decides.{nat_tests}
-use Rattle.sdp_formats_forms.specs.Split.{Lacks}
-use Rattle.sdp_formats_pairs.specs.PairLemmas.{lacks-word}
-use Rattle.sdp_formats_pairs.specs.PairsSay.{IsWord}
-use Rattle.sdp_formats_params.specs.Keys.{key_named, is_name_of}
-use Rattle.sdp_formats_params.specs.Numbers.{numeral_below, or_else, profile_level, up_to}
-use Rattle.sdp_formats_params.specs.Params.{byte_param, flag, gives_level, pair_param, word_param}
-use Rattle.sdp_formats_params.specs.Printed.{flag_digit, pair_text, param_text, six_digits}
-use Rattle.sdp_formats_params.specs.declared.key.Key.TheVariants as key
-use Rattle.sdp_formats_params.specs.declared.param.FormatParam.{FormatParam}
-use Rattle.sdp_formats_params.specs.declared.param.FormatParam.TheVariants as param
+use Rattle.sdp_formats_grammar.specs.Split.{Lacks}
+use Rattle.sdp_formats_attributes.specs.PairLemmas.{lacks-word}
+use Rattle.sdp_formats_attributes.specs.PairsSay.{IsWord}
+use Rattle.sdp_formats_values.specs.Keys.{key_named, is_name_of}
+use Rattle.sdp_formats_values.specs.Numbers.{numeral_below, or_else, profile_level, up_to}
+use Rattle.sdp_formats_values.specs.Params.{byte_param, flag, gives_level, pair_param, word_param}
+use Rattle.sdp_formats_values.specs.PrintedParameters.{flag_digit, pair_text, param_text, six_digits}
+use Rattle.sdp_formats_values.specs.declared.key.Key.TheVariants as key
+use Rattle.sdp_formats_values.specs.declared.param.FormatParam.{FormatParam}
+use Rattle.sdp_formats_values.specs.declared.param.FormatParam.TheVariants as param
 use Rattle.sdp_formats_laws.proofs.ModeSets.{modes_back}
 use Rattle.sdp_formats_laws.proofs.Numerals.{IsValue, decimal_read, decimal_value, six_read, six_value}
 use Rattle.sdp_formats_laws.specs.Keyed.{IsKeyed, pair_of}

@@ -4,16 +4,16 @@ use Rattle.std.proofs.Common.{filter, codes, decimal, Some, refl, sym, ◌∙◌
 use Rattle.std.proofs.Common.{append_assoc}
 use Rattle.std.proofs.Common.{append-nil, arith}
 use Rattle.std.proofs.lemmas.List.{map-append}
-use Rattle.sdp_formats_forms.specs.Joined.{each_behind, joined}
-use Rattle.sdp_formats_media_lines.specs.PrintedPairs.{ArePairs, PairsComeBack, pairs_text}
-use Rattle.sdp_formats_params.specs.Params.{levels_of}
-use Rattle.sdp_formats_params.specs.Params.{params_of}
-use Rattle.sdp_formats_params.specs.Printed.{levels_text, pair_text, param_text}
-use Rattle.sdp_formats_params.specs.declared.pairs.Pair.{Pair}
-use Rattle.sdp_formats_params.specs.declared.param.FormatParam.{FormatParam}
-use Rattle.sdp_formats_media_lines.specs.AsRead.{is_level, is_other, params_as_read, spelled_as}
-use Rattle.sdp_formats_source_lines.specs.Parameters.{parameters}
-use Rattle.sdp_formats_types.specs.PrintedMedia.{params_text}
+use Rattle.sdp_formats_grammar.specs.Joined.{each_behind, joined}
+use Rattle.sdp_formats_attributes.specs.PrintedPairs.{ArePairs, PairsComeBack, pairs_text}
+use Rattle.sdp_formats_values.specs.Params.{levels_of}
+use Rattle.sdp_formats_values.specs.Params.{params_of}
+use Rattle.sdp_formats_values.specs.PrintedParameters.{levels_text, pair_text, param_text}
+use Rattle.sdp_formats_values.specs.declared.pairs.Pair.{Pair}
+use Rattle.sdp_formats_values.specs.declared.param.FormatParam.{FormatParam}
+use Rattle.sdp_formats_attributes.specs.AsRead.{is_level, is_other, params_as_read, spelled_as}
+use Rattle.sdp_formats_attributes.specs.Parameters.{parameters}
+use Rattle.sdp_formats_data.specs.PrintedMedia.{params_text}
 use Rattle.sdp_formats_laws.proofs.KeyedLists.{AllLack, all_spelled, are_pairs, lack_feed, lack_return}
 use Rattle.sdp_formats_laws.proofs.KeyedLists.{levels_none, not_level, others_all, pairs_on_line}
 use Rattle.sdp_formats_laws.proofs.KeyedLists.{pairs_read}
@@ -21,7 +21,7 @@ use Rattle.sdp_formats_laws.proofs.KeyedLists.{texts_are}
 use Rattle.sdp_formats_laws.proofs.KeyedParams.{key_of}
 use Rattle.sdp_formats_laws.proofs.Numerals.{decimal_value}
 use Rattle.sdp_formats_laws.proofs.TextBack.{text_back}
-use Rattle.sdp_formats_laws.specs.Parameters.{IsReadBack}
+use Rattle.sdp_formats_laws.specs.PrintedParameters.{IsReadBack}
 use Rattle.sdp_formats_laws.specs.Printable.{IsText}
 use Rattle.sdp_formats_laws.specs.Keyed.{AreKeyed, pair, pair_of}
 use Rattle.sdp_formats_laws.specs.ParameterLists.{AreOrdinary}

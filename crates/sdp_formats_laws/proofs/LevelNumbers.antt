@@ -10,7 +10,7 @@ use Rattle.h26x_payload_profiles.specs.H265ProfileTierLevel.{profile_of as profi
 use Rattle.h26x_payload_profiles.specs.H266ProfileTierLevel.{ComesBack as ComesBack266, given as given_266}
 use Rattle.h26x_payload_profiles.specs.H266ProfileTierLevel.{profile_of as profile_of_266, level_of as level_of_266}
 use Rattle.h26x_payload_profiles.specs.ProfileTierLevel.{known_values, together}
-use Rattle.payload_core_tables.specs.Tables.{with_number}
+use Rattle.named_values.specs.Tables.{with_number}
 use Rattle.h26x_payload_profiles.specs.H265Level.{level_id as level_265, levels as levels_265}
 use Rattle.h26x_payload_profiles.specs.H265Profile.{profile_id as profile_265, profiles as profiles_265}
 use Rattle.h26x_payload_profiles.specs.Tier.{tier_flag, tiers}
@@ -28,9 +28,9 @@ use Rattle.h26x_payload_profiles.specs.declared.h266.H266Level.TheVariants as le
 use Rattle.h26x_payload_profiles.specs.declared.h266.H266Profile as p6
 use Rattle.h26x_payload_profiles.specs.declared.h266.H266Profile.TheVariants as profile6
 use Rattle.h26x_payload_profiles.specs.H266ProfileTierLevel.{H266ProfileTierLevel as Level266}
-use Rattle.sdp_formats_params.specs.Params.{level_param}
-use Rattle.sdp_formats_params.specs.Printed.{param_text}
-use Rattle.sdp_formats_params.specs.declared.param.FormatParam.TheVariants as param
+use Rattle.sdp_formats_values.specs.Params.{level_param}
+use Rattle.sdp_formats_values.specs.PrintedParameters.{param_text}
+use Rattle.sdp_formats_values.specs.declared.param.FormatParam.TheVariants as param
 use Rattle.sdp_formats_laws.proofs.LevelLists.{IsLevelOf}
 use Rattle.sdp_formats_laws.proofs.Numerals.{accepted, no_plus, tested}
 

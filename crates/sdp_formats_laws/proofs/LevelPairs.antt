@@ -8,14 +8,14 @@ use Rattle.std.specs.List.{list_any}
 use Rattle.std.specs.Str.{str_eq_ignore_ascii_case}
 use Rattle.std.proofs.lemmas.List.{map-append}
 use Rattle.indexmap.specs.IndexMap.{insert_entry}
-use Rattle.sdp_formats_media_lines.specs.PrintedPairs.{pairs_text}
-use Rattle.sdp_formats_params.specs.Keys.{key_named, is_name_of}
-use Rattle.sdp_formats_params.specs.Params.{Entries, gives_level, is_level_name, last_value, level_params, levels_of}
-use Rattle.sdp_formats_params.specs.Params.{or_before, others_of, pair_param, param_of, params_of}
-use Rattle.sdp_formats_params.specs.Params.{with_pairs}
-use Rattle.sdp_formats_params.specs.Printed.{levels_text}
-use Rattle.sdp_formats_params.specs.declared.pairs.Pair.{Pair}
-use Rattle.sdp_formats_params.specs.declared.param.FormatParam.{FormatParam}
+use Rattle.sdp_formats_attributes.specs.PrintedPairs.{pairs_text}
+use Rattle.sdp_formats_values.specs.Keys.{key_named, is_name_of}
+use Rattle.sdp_formats_values.specs.Params.{Entries, gives_level, is_level_name, last_value, level_params, levels_of}
+use Rattle.sdp_formats_values.specs.Params.{or_before, others_of, pair_param, param_of, params_of}
+use Rattle.sdp_formats_values.specs.Params.{with_pairs}
+use Rattle.sdp_formats_values.specs.PrintedParameters.{levels_text}
+use Rattle.sdp_formats_values.specs.declared.pairs.Pair.{Pair}
+use Rattle.sdp_formats_values.specs.declared.param.FormatParam.{FormatParam}
 use Rattle.sdp_formats_laws.proofs.KeyedParams.{no_level, param_back}
 use Rattle.sdp_formats_laws.specs.Keyed.{AreKeyed, IsOrdinary, pair, pair_of}
 use Rattle.sdp_formats_laws.specs.ParameterLists.{AreOrdinary, LackKeyOf}

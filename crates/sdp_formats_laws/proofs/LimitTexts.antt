@@ -2,18 +2,18 @@
 use Rattle.std.proofs.Common.{◌≡◌, ◌≢◌, ◌⊎◌, ℕ, cond, List, [], ◌∷◌, ◌++◌, Option, Some, None}
 use Rattle.std.proofs.Common.{is_some, codes, refl, sym, ◌∙◌, ap, subst, inl, inr, ⊎_elim}
 use Rattle.std.specs.Option.{option_map}
-use Rattle.sdp_formats_forms.specs.Bind.{◌>>=◌}
-use Rattle.sdp_formats_forms.specs.Cuts.{IsCut, somewhere, nowhere, cut_of, other_byte}
-use Rattle.sdp_formats_forms.specs.Form.{some_text}
-use Rattle.sdp_formats_forms.specs.Split.{Lacks, behind, halves}
-use Rattle.sdp_formats_forms.specs.Steps.{bind_some, map_some, none_some, some_same}
-use Rattle.sdp_formats_forms.specs.Words.{behind-append, behind-sound}
-use Rattle.sdp_formats_stream_lines.specs.Maps.{payload_type}
-use Rattle.sdp_formats_pairs.specs.PairLemmas.{at-cut, at-none}
-use Rattle.sdp_formats_pairs.specs.Pairs.{restrictions_of}
-use Rattle.sdp_formats_stream_lines.specs.Rids.{later_limits, limits_behind, limits_of, make_limits, of_type}
-use Rattle.sdp_formats_stream_lines.specs.Rids.{typed_limits, untyped_limits}
-use Rattle.sdp_formats_params.specs.declared.Pair.{Pair}
+use Rattle.sdp_formats_grammar.specs.Bind.{◌>>=◌}
+use Rattle.sdp_formats_grammar.specs.Cuts.{IsCut, somewhere, nowhere, cut_of, other_byte}
+use Rattle.sdp_formats_grammar.specs.Form.{some_text}
+use Rattle.sdp_formats_grammar.specs.Split.{Lacks, behind, halves}
+use Rattle.sdp_formats_grammar.specs.Steps.{bind_some, map_some, none_some, some_same}
+use Rattle.sdp_formats_grammar.specs.Words.{behind-append, behind-sound}
+use Rattle.sdp_formats_attributes.specs.Maps.{payload_type}
+use Rattle.sdp_formats_attributes.specs.PairLemmas.{at-cut, at-none}
+use Rattle.sdp_formats_attributes.specs.Pairs.{restrictions_of}
+use Rattle.sdp_formats_attributes.specs.Rids.{later_limits, limits_behind, limits_of, make_limits, of_type}
+use Rattle.sdp_formats_attributes.specs.Rids.{typed_limits, untyped_limits}
+use Rattle.sdp_formats_values.specs.declared.Pair.{Pair}
 use Rattle.sdp_formats_laws.proofs.Printed.{text_some}
 use Rattle.sdp_formats_laws.proofs.RestrictionTexts.{restrictions_exact}
 use Rattle.sdp_formats_laws.proofs.ValueTexts.{some_of}

@@ -1,13 +1,13 @@
 -- Texts with other ends of lines, and with more behind them, are read the same.
 use Rattle.std.proofs.Common.{◌≡◌, ℕ, List, [], ◌∷◌, ◌++◌, Option, Some, None}
 use Rattle.std.proofs.Common.{refl, sym, ◌∙◌, ap, subst, inl, inr, ⊎_elim, append_assoc}
-use Rattle.sdp_formats_forms.specs.Cuts.{IsCut, somewhere, nowhere, cut_of, other_byte, split_first-at}
-use Rattle.sdp_formats_forms.specs.Split.{Lacks, split_first}
-use Rattle.sdp_formats_session_lines.specs.Lines.{version_line, origin_line, name_line, other_line, bandwidth_line}
-use Rattle.sdp_formats_session_lines.specs.Lines.{times_line, repeat_line, connection_line, head_line}
-use Rattle.sdp_formats_media_lines.specs.Choice.{attribute_line}
-use Rattle.sdp_formats_session_attributes.specs.Choice.{attribute_line as session_line}
-use Rattle.sdp_formats_forms.specs.Line.{IsLine, LineOf}
+use Rattle.sdp_formats_grammar.specs.Cuts.{IsCut, somewhere, nowhere, cut_of, other_byte, split_first-at}
+use Rattle.sdp_formats_grammar.specs.Split.{Lacks, split_first}
+use Rattle.sdp_formats_reader.specs.Lines.{version_line, origin_line, name_line, other_line, bandwidth_line}
+use Rattle.sdp_formats_reader.specs.Lines.{times_line, repeat_line, connection_line, head_line}
+use Rattle.sdp_formats_attributes.specs.Choice.{attribute_line}
+use Rattle.sdp_formats_reader.specs.Choice.{attribute_line as session_line}
+use Rattle.sdp_formats_grammar.specs.Line.{IsLine, LineOf}
 use Rattle.sdp_formats_laws.proofs.Carried.{Carries, CarriesLines, texts}
 use Rattle.sdp_formats_laws.specs.LineEnds.{ReadsByAnyEnd, with_returns}
 

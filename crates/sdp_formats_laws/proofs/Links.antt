@@ -7,24 +7,24 @@ use Rattle.std.proofs.lemmas.List.Sums.{fold-append}
 use Rattle.payload_core_base.specs.Codecs.{is_tele_codec}
 use Rattle.payload_core_base.specs.declared.codec.Codec.{Codec}
 use Rattle.payload_core_base.specs.declared.codec.Codec.TheVariants as codec
-use Rattle.sdp_formats_params.specs.declared.param.FormatParam.{FormatParam}
+use Rattle.sdp_formats_values.specs.declared.param.FormatParam.{FormatParam}
 use Rattle.sdp_formats_rows.specs.Rows.{Row}
 use Rattle.sdp_formats_rows.specs.declared.spec.CodecSpec.{CodecSpec}
-use Rattle.sdp_formats_row_attributes.specs.Attributes.{all_feedback, attributes_of, feedback_line, feedback_lines}
-use Rattle.sdp_formats_row_attributes.specs.Attributes.{fmtp_of, is_used, params_in, red_lines, resend_lines}
-use Rattle.sdp_formats_row_attributes.specs.Attributes.{words_of}
+use Rattle.sdp_formats_section_rows.specs.Attributes.{all_feedback, attributes_of, feedback_line, feedback_lines}
+use Rattle.sdp_formats_section_rows.specs.Attributes.{fmtp_of, is_used, params_in, red_lines, resend_lines}
+use Rattle.sdp_formats_section_rows.specs.Attributes.{words_of}
 use Rattle.sdp_formats_section_rows.specs.Mapped.{is_mapped_to}
 use Rattle.sdp_formats_section_rows.specs.SectionRows.{linked, linked_after, names}
-use Rattle.sdp_formats_types.specs.declared.media.MediaAttribute.{MediaAttribute}
-use Rattle.sdp_formats_types.specs.declared.media.MediaAttribute.TheVariants as attribute
+use Rattle.sdp_formats_data.specs.declared.media.MediaAttribute.{MediaAttribute}
+use Rattle.sdp_formats_data.specs.declared.media.MediaAttribute.TheVariants as attribute
 use Rattle.sdp_formats_laws.specs.RowsBack.{attributes_in, names_type, types_in}
-use Rattle.sdp_formats_round.specs.Laws.{is_among}
-use Rattle.sdp_formats_round.specs.Types.{types_of}
-use Rattle.sdp_formats_round.proofs.Apart.{among_append}
+use Rattle.sdp_formats_rounds.specs.Laws.{is_among}
+use Rattle.sdp_formats_rounds.specs.Types.{types_of}
+use Rattle.sdp_formats_rounds.proofs.Apart.{among_append}
 use Rattle.sdp_formats_laws.proofs.Lists.{any_past, fold_past, neither, none_append, none_flat}
-use Rattle.sdp_formats_laws.proofs.Formats.{is_other, none_other, other_red, other_resend}
+use Rattle.sdp_formats_laws.proofs.FormatsLemmas.{is_other, none_other, other_red, other_resend}
 use Rattle.sdp_formats_laws.proofs.Silent.{Apart, attributes_split, section_of}
-use Rattle.sdp_formats_laws.proofs.Mapped.{same_number}
+use Rattle.sdp_formats_laws.proofs.MappedLemmas.{same_number}
 
 -- whether an attribute names the type as the one that its own is of
 abbrev pub links : Codec → ℕ → MediaAttribute → Bool

@@ -5,20 +5,20 @@ use Rattle.std.proofs.Common.{subst}
 use Rattle.std.specs.List.{count_by, list_all, list_any}
 use Rattle.std.proofs.lemmas.Grind.{common_steps}
 use Rattle.std.proofs.lemmas.List.Sums.{sum_by-append, sum_by-cons}
-use Rattle.sdp_formats_params.specs.declared.param.FormatParam.{FormatParam}
-use Rattle.sdp_formats_faults.specs.Consistency.{are_mapped}
-use Rattle.sdp_formats_faults.specs.Consistency.{is_mapped, is_static, maps_type}
-use Rattle.sdp_formats_round.specs.Laws.{is_among, is_distinct}
-use Rattle.sdp_formats_round.specs.Types.{listed, types_of}
+use Rattle.sdp_formats_values.specs.declared.param.FormatParam.{FormatParam}
+use Rattle.sdp_formats_lookups.specs.Consistency.{are_mapped}
+use Rattle.sdp_formats_lookups.specs.Consistency.{is_mapped, is_static, maps_type}
+use Rattle.sdp_formats_rounds.specs.Laws.{is_among, is_distinct}
+use Rattle.sdp_formats_rounds.specs.Types.{listed, types_of}
 use Rattle.sdp_formats_rows.specs.Rows.{Row}
-use Rattle.sdp_formats_row_attributes.specs.Attributes.{all_feedback, attributes_of, feedback_line, feedback_lines}
-use Rattle.sdp_formats_row_attributes.specs.Attributes.{fmtp_of, is_used, params_in, red_lines, resend_lines}
-use Rattle.sdp_formats_row_attributes.specs.Attributes.{words_of}
-use Rattle.sdp_formats_row_attributes.specs.Maps.{map_of}
-use Rattle.sdp_formats_types.specs.declared.media.MediaAttribute.{MediaAttribute}
-use Rattle.sdp_formats_types.specs.declared.media.MediaAttribute.TheVariants as attribute
+use Rattle.sdp_formats_section_rows.specs.Attributes.{all_feedback, attributes_of, feedback_line, feedback_lines}
+use Rattle.sdp_formats_section_rows.specs.Attributes.{fmtp_of, is_used, params_in, red_lines, resend_lines}
+use Rattle.sdp_formats_section_rows.specs.Attributes.{words_of}
+use Rattle.sdp_formats_section_rows.specs.Maps.{map_of}
+use Rattle.sdp_formats_data.specs.declared.media.MediaAttribute.{MediaAttribute}
+use Rattle.sdp_formats_data.specs.declared.media.MediaAttribute.TheVariants as attribute
 use Rattle.sdp_formats_laws.proofs.Lists.{any_past, both, neither, none_flat, or_yes}
-use Rattle.sdp_formats_laws.proofs.Mapped.{same_number}
+use Rattle.sdp_formats_laws.proofs.MappedLemmas.{same_number}
 use Rattle.sdp_formats_laws.proofs.Silent.{attributes_split}
 use Rattle.sdp_formats_laws.specs.RowsBack.{attributes_in, names_type, types_in}
 

@@ -10,12 +10,12 @@ use Rattle.std.proofs.lemmas.Bool.Decides.{nat_tests}
 use Rattle.std.proofs.lemmas.Fmt.{decimal_digit, decimal_is_IsNumeral}
 use Rattle.std.proofs.lemmas.Nat.{or_comm, or_shifted, mod-pow-add, mod_below, pow_pos}
 use Rattle.std.proofs.Math.Nat.{mod-eq_of_lt}
-use Rattle.sdp_formats_forms.specs.Cuts.{other_byte}
-use Rattle.sdp_formats_forms.specs.Joined.{joined, each_behind}
-use Rattle.sdp_formats_forms.specs.Split.{Lacks, parts}
-use Rattle.sdp_formats_pairs.specs.PairLemmas.{lacks-word}
-use Rattle.sdp_formats_params.specs.Numbers.{modes_of, numeral_below, with_mode, with_modes}
-use Rattle.sdp_formats_params.specs.Printed.{has_mode, modes_text}
+use Rattle.sdp_formats_grammar.specs.Cuts.{other_byte}
+use Rattle.sdp_formats_grammar.specs.Joined.{joined, each_behind}
+use Rattle.sdp_formats_grammar.specs.Split.{Lacks, parts}
+use Rattle.sdp_formats_attributes.specs.PairLemmas.{lacks-word}
+use Rattle.sdp_formats_values.specs.Numbers.{modes_of, numeral_below, with_mode, with_modes}
+use Rattle.sdp_formats_values.specs.PrintedParameters.{has_mode, modes_text}
 use Rattle.sdp_formats_laws.proofs.Numerals.{IsValue, decimal_read, lacks_digits}
 use Rattle.sdp_formats_laws.proofs.Trimmed.{AreGraphic, both_graphic, digits_graphic}
 use Rattle.sdp_formats_laws.specs.Ranges.{IsModes}

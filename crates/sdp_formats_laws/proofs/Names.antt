@@ -6,18 +6,18 @@ use Rattle.std.specs.List.{list_all}
 use Rattle.std.specs.Str.{IsUtf8, NoCharPasses, NonePass, all_scalars, encode_utf8_all}
 use Rattle.std.specs.Prelude.{All}
 use Rattle.std.proofs.lemmas.List.Elements.{All-cons, All-head, All-nil, All-tail}
-use Rattle.sdp_formats_forms.specs.Bind.{◌>>=◌}
-use Rattle.sdp_formats_forms.specs.Form.{passed}
+use Rattle.sdp_formats_grammar.specs.Bind.{◌>>=◌}
+use Rattle.sdp_formats_grammar.specs.Form.{passed}
 use Rattle.ucd_category.specs.GeneralCategory.{general_category}
 use Rattle.ucd_category.specs.GeneralCategoryGroup.{in_group}
 use Rattle.ucd_category.specs.declared.GeneralCategoryGroup.TheVariants.{Letter, Number}
 use Rattle.sdp_formats_laws.proofs.Printed.{text_some}
 use Rattle.std.proofs.lemmas.Str.{NoCharPasses-byte, chars-encodes, chars-nil, encodes-chars}
-use Rattle.sdp_formats_forms.specs.Cuts.{Lacks-from_index}
-use Rattle.sdp_formats_forms.specs.Form.{some_text}
-use Rattle.sdp_formats_forms.specs.Split.{Lacks}
-use Rattle.sdp_formats_forms.specs.Steps.{bind_some, none_some}
-use Rattle.sdp_formats_stream_lines.specs.Names.{has_name_chars, is_name_char, name}
+use Rattle.sdp_formats_grammar.specs.Cuts.{Lacks-from_index}
+use Rattle.sdp_formats_grammar.specs.Form.{some_text}
+use Rattle.sdp_formats_grammar.specs.Split.{Lacks}
+use Rattle.sdp_formats_grammar.specs.Steps.{bind_some, none_some}
+use Rattle.sdp_formats_attributes.specs.Names.{has_name_chars, is_name_char, name}
 use Rattle.ucd_category.proofs.Computing.{ucd_category}
 use Rattle.sdp_formats_laws.proofs.Restrictions.{name_reads}
 use Rattle.sdp_formats_laws.proofs.ValueTexts.{some_of}

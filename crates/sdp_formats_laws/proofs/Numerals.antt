@@ -7,12 +7,12 @@ use Rattle.std.specs.Fmt.{digits, padded_integral, format_spec, char_count}
 use Rattle.std.specs.Str.Parse.{AllDigits, IsNumeral, digits_value, digits_value_after, without_leading_plus}
 use Rattle.std.proofs.lemmas.Bool.Decides.{nat_tests}
 use Rattle.std.proofs.lemmas.Fmt.{decimal_is_IsNumeral, digits_is_IsNumeral}
-use Rattle.sdp_formats_forms.specs.Cuts.{other_byte}
-use Rattle.sdp_formats_forms.specs.Split.{Lacks}
-use Rattle.sdp_formats_pairs.specs.PairLemmas.{lacks-word}
-use Rattle.sdp_formats_pairs.specs.PairsSay.{IsWord}
-use Rattle.sdp_formats_params.specs.Numbers.{are_digits, numeral_below}
-use Rattle.sdp_formats_params.specs.Printed.{six_digits}
+use Rattle.sdp_formats_grammar.specs.Cuts.{other_byte}
+use Rattle.sdp_formats_grammar.specs.Split.{Lacks}
+use Rattle.sdp_formats_attributes.specs.PairLemmas.{lacks-word}
+use Rattle.sdp_formats_attributes.specs.PairsSay.{IsWord}
+use Rattle.sdp_formats_values.specs.Numbers.{are_digits, numeral_below}
+use Rattle.sdp_formats_values.specs.PrintedParameters.{six_digits}
 
 pub tested : (digit radix : ℕ) (others : Bool) → digit < radix → others ≡ true → (nat_lt digit radix && others) ≡ true
 tested digit radix others d o = grind (arith, nat_tests)

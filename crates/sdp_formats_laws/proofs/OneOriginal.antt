@@ -3,24 +3,24 @@ use Rattle.std.proofs.Common.{◌≡◌, ℕ, Bool, true, false, not, ◌&&◌, 
 use Rattle.std.proofs.Common.{Option, Some, None, if◌then◌else◌, refl, ◌∙◌, ap, arith}
 use Rattle.std.specs.List.{list_all, list_any}
 use Rattle.std.proofs.lemmas.Grind.{common_steps}
-use Rattle.sdp_formats_params.specs.declared.param.FormatParam.{FormatParam}
-use Rattle.sdp_formats_params.specs.declared.param.FormatParam.TheVariants as param
-use Rattle.sdp_formats_faults.specs.Consistency.{apt_differs, apts_agree, apts_agree_with}
-use Rattle.sdp_formats_faults.specs.Consistency.{attribute_agrees, gives_apt}
-use Rattle.sdp_formats_faults.specs.Consistency.{values_agree}
-use Rattle.sdp_formats_round.specs.Laws.{is_among, is_distinct}
-use Rattle.sdp_formats_round.specs.Types.{listed, types_of}
-use Rattle.sdp_formats_round.proofs.Apart.{among_append}
+use Rattle.sdp_formats_values.specs.declared.param.FormatParam.{FormatParam}
+use Rattle.sdp_formats_values.specs.declared.param.FormatParam.TheVariants as param
+use Rattle.sdp_formats_lookups.specs.Consistency.{apt_differs, apts_agree, apts_agree_with}
+use Rattle.sdp_formats_lookups.specs.Consistency.{attribute_agrees, gives_apt}
+use Rattle.sdp_formats_lookups.specs.Consistency.{values_agree}
+use Rattle.sdp_formats_rounds.specs.Laws.{is_among, is_distinct}
+use Rattle.sdp_formats_rounds.specs.Types.{listed, types_of}
+use Rattle.sdp_formats_rounds.proofs.Apart.{among_append}
 use Rattle.sdp_formats_rows.specs.Rows.{Row}
-use Rattle.sdp_formats_row_attributes.specs.Attributes.{all_feedback, attributes_of, feedback_line, feedback_lines}
-use Rattle.sdp_formats_row_attributes.specs.Attributes.{fmtp_of, is_used, params_in, red_lines, resend_lines}
-use Rattle.sdp_formats_row_attributes.specs.Attributes.{words_of}
-use Rattle.sdp_formats_types.specs.declared.media.MediaAttribute.{MediaAttribute}
-use Rattle.sdp_formats_types.specs.declared.media.MediaAttribute.TheVariants as attribute
-use Rattle.sdp_formats_laws.proofs.Formats.{is_other}
+use Rattle.sdp_formats_section_rows.specs.Attributes.{all_feedback, attributes_of, feedback_line, feedback_lines}
+use Rattle.sdp_formats_section_rows.specs.Attributes.{fmtp_of, is_used, params_in, red_lines, resend_lines}
+use Rattle.sdp_formats_section_rows.specs.Attributes.{words_of}
+use Rattle.sdp_formats_data.specs.declared.media.MediaAttribute.{MediaAttribute}
+use Rattle.sdp_formats_data.specs.declared.media.MediaAttribute.TheVariants as attribute
+use Rattle.sdp_formats_laws.proofs.FormatsLemmas.{is_other}
 use Rattle.sdp_formats_laws.proofs.Links.{params_other}
 use Rattle.sdp_formats_laws.proofs.Lists.{all_append, all_flat, all_past, any_past, both, or_yes}
-use Rattle.sdp_formats_laws.proofs.Mapped.{same_number}
+use Rattle.sdp_formats_laws.proofs.MappedLemmas.{same_number}
 use Rattle.sdp_formats_laws.proofs.Silent.{attributes_split, others_silent, row_silent, rows_silent, tells}
 use Rattle.sdp_formats_laws.specs.PrintableTexts.{IsEach}
 use Rattle.sdp_formats_laws.specs.RowsBack.{attributes_in, names_type, types_in}

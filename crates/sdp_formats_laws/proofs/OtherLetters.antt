@@ -1,12 +1,12 @@
 -- What begins with no letter of a line that may follow fits nowhere.
 use Rattle.std.proofs.Common.{◌≡◌, ℕ, List, [], ◌∷◌, Some, None, sym, codes}
-use Rattle.sdp_formats_forms.specs.Split.{Lacks}
-use Rattle.sdp_formats_media_lines.specs.Choice.{media_attribute}
-use Rattle.sdp_formats_session_attributes.specs.Choice.{session_attribute}
-use Rattle.sdp_formats_session_lines.specs.Heads.{media_line}
-use Rattle.sdp_formats_session_lines.specs.Lines.{something}
-use Rattle.sdp_formats_types.specs.declared.media.MediaLine.{MediaLine}
-use Rattle.sdp_formats_sessions.specs.declared.session.SessionAttribute.{SessionAttribute}
+use Rattle.sdp_formats_grammar.specs.Split.{Lacks}
+use Rattle.sdp_formats_attributes.specs.Choice.{media_attribute}
+use Rattle.sdp_formats_reader.specs.Choice.{session_attribute}
+use Rattle.sdp_formats_reader.specs.Heads.{media_line}
+use Rattle.sdp_formats_reader.specs.Lines.{something}
+use Rattle.sdp_formats_data.specs.declared.media.MediaLine.{MediaLine}
+use Rattle.sdp_formats_data.specs.declared.session.SessionAttribute.{SessionAttribute}
 use Rattle.sdp_formats_laws.proofs.Behind.{headed}
 use Rattle.sdp_formats_laws.proofs.Stopping.{other_start}
 use Rattle.sdp_formats_laws.proofs.WholeTexts.{LacksFirst}

@@ -4,14 +4,14 @@ use Rattle.std.proofs.Common.{refl, ◌∙◌, ap}
 use Rattle.std.specs.Option.{option_map, option_or}
 use Rattle.std.specs.Str.{bytes_eq}
 use Rattle.std.proofs.lemmas.Slice.Eq.{bytes_eq-Decides}
-use Rattle.sdp_formats_forms.specs.Bind.{◌>>=◌}
-use Rattle.sdp_formats_forms.specs.Split.{behind}
-use Rattle.sdp_formats_forms.specs.Steps.{none_if}
-use Rattle.sdp_formats_forms.specs.Words.{behind-sound}
-use Rattle.sdp_formats_media_lines.specs.Choice.{media_attribute, second_attribute, third_attribute, last_attribute}
-use Rattle.sdp_formats_session_attributes.specs.Choice.{session_attribute, later_attribute}
-use Rattle.sdp_formats_types.specs.declared.media.MediaAttribute.TheVariants as section
-use Rattle.sdp_formats_sessions.specs.declared.session.SessionAttribute.TheVariants as session
+use Rattle.sdp_formats_grammar.specs.Bind.{◌>>=◌}
+use Rattle.sdp_formats_grammar.specs.Split.{behind}
+use Rattle.sdp_formats_grammar.specs.Steps.{none_if}
+use Rattle.sdp_formats_grammar.specs.Words.{behind-sound}
+use Rattle.sdp_formats_attributes.specs.Choice.{media_attribute, second_attribute, third_attribute, last_attribute}
+use Rattle.sdp_formats_reader.specs.Choice.{session_attribute, later_attribute}
+use Rattle.sdp_formats_data.specs.declared.media.MediaAttribute.TheVariants as section
+use Rattle.sdp_formats_data.specs.declared.session.SessionAttribute.TheVariants as session
 use Rattle.sdp_formats_laws.proofs.Printed.{text_some}
 use Rattle.sdp_formats_laws.specs.OtherLines.{OtherLinesStayInSections, OtherLinesStayInSessions}
 

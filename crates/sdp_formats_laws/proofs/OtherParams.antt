@@ -9,23 +9,23 @@ use Rattle.std.specs.Str.Parse.{AllDigits, digits_value}
 use Rattle.std.proofs.lemmas.Bool.Decides.{nat_tests}
 use Rattle.std.proofs.lemmas.Fmt.{decimal_is_IsNumeral}
 use Rattle.std.proofs.lemmas.Str.Parse.{digit_from_value}
-use Rattle.sdp_formats_forms.specs.Bind.{◌>>=◌}
-use Rattle.sdp_formats_forms.specs.Cuts.{parts-whole, split_first-at, split_first-nowhere}
-use Rattle.sdp_formats_forms.specs.Form.{Form, IsExact, both, cut, each, either, number, separated, told}
-use Rattle.sdp_formats_forms.specs.Numbers.{all_digits, number_below}
-use Rattle.sdp_formats_forms.specs.Split.{Lacks}
-use Rattle.sdp_formats_forms.specs.Steps.{none_if}
-use Rattle.sdp_formats_pairs.specs.PairsSay.{PairSays, PairsSay, pair_list}
-use Rattle.sdp_formats_params.specs.Params.{params_of}
-use Rattle.sdp_formats_params.specs.Printed.{param_text}
-use Rattle.sdp_formats_params.specs.declared.pairs.Pair.{Pair}
-use Rattle.sdp_formats_params.specs.declared.param.FormatParam.{FormatParam}
-use Rattle.sdp_formats_params.specs.declared.param.FormatParam.TheVariants as param
-use Rattle.sdp_formats_source_lines.specs.Parameters.{anything, key_values, parameters, plain_byte, range, slash_list}
+use Rattle.sdp_formats_grammar.specs.Bind.{◌>>=◌}
+use Rattle.sdp_formats_grammar.specs.Cuts.{parts-whole, split_first-at, split_first-nowhere}
+use Rattle.sdp_formats_grammar.specs.Form.{Form, IsExact, both, cut, each, either, number, separated, told}
+use Rattle.sdp_formats_grammar.specs.Numbers.{all_digits, number_below}
+use Rattle.sdp_formats_grammar.specs.Split.{Lacks}
+use Rattle.sdp_formats_grammar.specs.Steps.{none_if}
+use Rattle.sdp_formats_attributes.specs.PairsSay.{PairSays, PairsSay, pair_list}
+use Rattle.sdp_formats_values.specs.Params.{params_of}
+use Rattle.sdp_formats_values.specs.PrintedParameters.{param_text}
+use Rattle.sdp_formats_values.specs.declared.pairs.Pair.{Pair}
+use Rattle.sdp_formats_values.specs.declared.param.FormatParam.{FormatParam}
+use Rattle.sdp_formats_values.specs.declared.param.FormatParam.TheVariants as param
+use Rattle.sdp_formats_attributes.specs.Parameters.{anything, key_values, parameters, plain_byte, range, slash_list}
 use Rattle.sdp_formats_laws.proofs.Numerals.{accepted, decimal_value, lacks_digits, no_plus}
 use Rattle.sdp_formats_laws.proofs.Numerals.{tested}
 use Rattle.sdp_formats_laws.proofs.TextBack.{text_back}
-use Rattle.sdp_formats_laws.specs.Parameters.{IsReadBack}
+use Rattle.sdp_formats_laws.specs.PrintedParameters.{IsReadBack}
 use Rattle.sdp_formats_laws.specs.Printable.{IsText}
 
 -- a number as it is read in a list

@@ -7,28 +7,28 @@ use Rattle.std.specs.Option.{option_map}
 use Rattle.payload_core_base.specs.Codecs.{is_tele_codec}
 use Rattle.payload_core_base.specs.declared.codec.Codec.{Codec}
 use Rattle.payload_core_base.specs.declared.codec.Codec.TheVariants as codec
-use Rattle.sdp_formats_params.specs.declared.param.FormatParam.{FormatParam}
-use Rattle.sdp_formats_params.specs.declared.param.FormatParam.TheVariants as param
+use Rattle.sdp_formats_values.specs.declared.param.FormatParam.{FormatParam}
+use Rattle.sdp_formats_values.specs.declared.param.FormatParam.TheVariants as param
 use Rattle.sdp_formats_rows.specs.Codecs.{is_codec}
-use Rattle.sdp_formats_format.specs.Formats.{no_format}
+use Rattle.sdp_formats_params.specs.Formats.{no_format}
 use Rattle.sdp_formats_rows.specs.Plain.{events_alone, has_plain_events}
 use Rattle.sdp_formats_rows.specs.Rows.{Row}
-use Rattle.sdp_formats_scores.specs.Same.{same, same_flag, same_format, same_h264, same_levels, same_numbers}
-use Rattle.sdp_formats_scores.specs.Same.{same_opus, same_speech, same_video}
-use Rattle.sdp_formats_format.specs.Texts.{numbers_265, numbers_266}
-use Rattle.sdp_formats_format.specs.declared.format.FormatParams.{FormatParams}
+use Rattle.sdp_formats_params.specs.Same.{same, same_flag, same_format, same_h264, same_levels, same_numbers}
+use Rattle.sdp_formats_params.specs.Same.{same_opus, same_speech, same_video}
+use Rattle.sdp_formats_params.specs.Texts.{numbers_265, numbers_266}
+use Rattle.sdp_formats_params.specs.declared.format.FormatParams.{FormatParams}
 use Rattle.sdp_formats_rows.specs.declared.spec.CodecSpec.{CodecSpec}
-use Rattle.sdp_formats_row_attributes.specs.Attributes.{all_feedback, feedback_line, feedback_lines}
-use Rattle.sdp_formats_row_attributes.specs.Attributes.{fmtp_of, is_used, params_in, words_of}
-use Rattle.sdp_formats_format.specs.Parameters.{params_of}
+use Rattle.sdp_formats_section_rows.specs.Attributes.{all_feedback, feedback_line, feedback_lines}
+use Rattle.sdp_formats_section_rows.specs.Attributes.{fmtp_of, is_used, params_in, words_of}
+use Rattle.sdp_formats_params.specs.Parameters.{params_of}
 use Rattle.sdp_formats_section_rows.specs.Given.{events_after, format_given, is_declined, is_unsupported}
 use Rattle.sdp_formats_section_rows.specs.Given.{most_of, with_attribute, with_events, with_codec_param}
-use Rattle.sdp_formats_types.specs.declared.media.MediaAttribute.{MediaAttribute}
-use Rattle.sdp_formats_types.specs.declared.media.MediaAttribute.TheVariants as attribute
+use Rattle.sdp_formats_data.specs.declared.media.MediaAttribute.{MediaAttribute}
+use Rattle.sdp_formats_data.specs.declared.media.MediaAttribute.TheVariants as attribute
 use Rattle.sdp_formats_laws.proofs.Lists.{any_fold, any_past, both, fold_past, none_flat, or_same}
-use Rattle.sdp_formats_laws.proofs.Formats.{none_other, other_unsupported, params_back, is_other}
+use Rattle.sdp_formats_laws.proofs.FormatsLemmas.{none_other, other_unsupported, params_back, is_other}
 use Rattle.sdp_formats_laws.proofs.Silent.{Apart, Reads, section_of, tells, whole_fold}
-use Rattle.sdp_formats_laws.proofs.Mapped.{same_number}
+use Rattle.sdp_formats_laws.proofs.MappedLemmas.{same_number}
 
 -- formats don't come from feedback, nor feedback from formats
 abbrev is_format : MediaAttribute → Bool

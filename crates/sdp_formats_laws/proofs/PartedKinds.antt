@@ -7,31 +7,31 @@ use Rattle.payload_core_base.specs.Codecs.{codec_name}
 use Rattle.rtp_wire.specs.Kinds.{uri_of, extension_of}
 use Rattle.rtp_wire.specs.declared.Extension.{Extension}
 use Rattle.std.proofs.lemmas.List.{append-nil}
-use Rattle.sdp_formats_forms.specs.Form.{any_text, number, cut, cut_maybe, separated, told}
-use Rattle.sdp_formats_forms.specs.Joined.{spelled, maybe_text}
-use Rattle.sdp_formats_forms.specs.Split.{Lacks}
-use Rattle.sdp_formats_media_lines.specs.Choice.{attribute_line}
-use Rattle.sdp_formats_media_lines.specs.Choice.{media_attribute, second_attribute, third_attribute, last_attribute}
-use Rattle.sdp_formats_params.specs.declared.FormatParam.{FormatParam}
-use Rattle.sdp_formats_stream_lines.specs.Maps.{payload_type, clock_rate, make_map}
-use Rattle.sdp_formats_media_lines.specs.AsRead.{params_as_read}
-use Rattle.sdp_formats_source_lines.specs.Parameters.{parameters}
-use Rattle.sdp_formats_source_lines.specs.Sources.{make_names, ssrc_number}
-use Rattle.sdp_formats_values.specs.Printed.{is_empty, line_end}
-use Rattle.sdp_formats_types.specs.PrintedMedia.{params_text}
+use Rattle.sdp_formats_grammar.specs.Form.{any_text, number, cut, cut_maybe, separated, told}
+use Rattle.sdp_formats_grammar.specs.Joined.{spelled, maybe_text}
+use Rattle.sdp_formats_grammar.specs.Split.{Lacks}
+use Rattle.sdp_formats_attributes.specs.Choice.{attribute_line}
+use Rattle.sdp_formats_attributes.specs.Choice.{media_attribute, second_attribute, third_attribute, last_attribute}
+use Rattle.sdp_formats_values.specs.declared.FormatParam.{FormatParam}
+use Rattle.sdp_formats_attributes.specs.Maps.{payload_type, clock_rate, make_map}
+use Rattle.sdp_formats_attributes.specs.AsRead.{params_as_read}
+use Rattle.sdp_formats_attributes.specs.Parameters.{parameters}
+use Rattle.sdp_formats_attributes.specs.Sources.{make_names, ssrc_number}
+use Rattle.sdp_formats_values.specs.PrintedValues.{is_empty, line_end}
+use Rattle.sdp_formats_data.specs.PrintedMedia.{params_text}
 use Rattle.sdp_formats_values.specs.Lists.{numbers_text, named}
-use Rattle.sdp_formats_types.specs.PrintedMedia.{attribute_text, listed_text, rtp_map_text}
+use Rattle.sdp_formats_data.specs.PrintedMedia.{attribute_text, listed_text, rtp_map_text}
 use Rattle.sdp_formats_values.specs.declared.streams.Msid as names
-use Rattle.sdp_formats_types.specs.declared.media.RtpMap as map_of
-use Rattle.sdp_formats_types.specs.declared.media.MediaAttribute.TheVariants.{ExtMap}
-use Rattle.sdp_formats_types.specs.declared.media.MediaAttribute.TheVariants.{Msid}
-use Rattle.sdp_formats_types.specs.declared.media.MediaAttribute.TheVariants.{RtpMap}
-use Rattle.sdp_formats_types.specs.declared.media.MediaAttribute.TheVariants.{RtcpFb, Fmtp, SsrcGroup}
-use Rattle.sdp_formats_types.specs.declared.media.MediaAttribute.TheVariants.{Ssrc, Unused}
+use Rattle.sdp_formats_data.specs.declared.media.RtpMap as map_of
+use Rattle.sdp_formats_data.specs.declared.media.MediaAttribute.TheVariants.{ExtMap}
+use Rattle.sdp_formats_data.specs.declared.media.MediaAttribute.TheVariants.{Msid}
+use Rattle.sdp_formats_data.specs.declared.media.MediaAttribute.TheVariants.{RtpMap}
+use Rattle.sdp_formats_data.specs.declared.media.MediaAttribute.TheVariants.{RtcpFb, Fmtp, SsrcGroup}
+use Rattle.sdp_formats_data.specs.declared.media.MediaAttribute.TheVariants.{Ssrc, Unused}
 use Rattle.sdp_formats_laws.proofs.Decimals.{number_below-decimal, Lacks-decimal}
-use Rattle.sdp_formats_value_reader.specs.Fingerprints.{make_fingerprint}
+use Rattle.sdp_formats_attributes.specs.Fingerprints.{make_fingerprint}
 use Rattle.sdp_formats_values.specs.declared.fingerprint.Fingerprint as print_of
-use Rattle.sdp_formats_types.specs.declared.media.MediaAttribute.TheVariants.{Fingerprint}
+use Rattle.sdp_formats_data.specs.declared.media.MediaAttribute.TheVariants.{Fingerprint}
 use Rattle.sdp_formats_laws.proofs.Fingerprints.{digest_text, lacks_digest, fingerprint_reads}
 use Rattle.sdp_formats_laws.proofs.Printed.{IsPrintedAs, named_line, named_by, two_parts, at_text, text_some}
 use Rattle.sdp_formats_laws.proofs.Printed.{lacks_both}

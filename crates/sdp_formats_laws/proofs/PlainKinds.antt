@@ -3,19 +3,19 @@ use Rattle.std.proofs.Common.{◌≡◌, ◌<◌, ◌^◌, ℕ, List, ◌∷◌,
 use Rattle.std.proofs.Common.{refl, ◌∙◌, ap, arith, lit<, lit≤}
 use Rattle.std.specs.Option.{option_or, option_map}
 use Rattle.rtp_wire.specs.Name.{name_of}
-use Rattle.sdp_formats_forms.specs.Split.{Lacks}
-use Rattle.sdp_formats_media_lines.specs.Choice.{attribute_line}
-use Rattle.sdp_formats_media_lines.specs.Choice.{media_attribute, second_attribute, third_attribute, last_attribute}
-use Rattle.sdp_formats_types.specs.PrintedMedia.{attribute_text}
+use Rattle.sdp_formats_grammar.specs.Split.{Lacks}
+use Rattle.sdp_formats_attributes.specs.Choice.{attribute_line}
+use Rattle.sdp_formats_attributes.specs.Choice.{media_attribute, second_attribute, third_attribute, last_attribute}
+use Rattle.sdp_formats_data.specs.PrintedMedia.{attribute_text}
 use Rattle.sdp_formats_values.specs.Lists.{named}
 use Rattle.sdp_formats_values.specs.declared.setup.Setup as setup
 use Rattle.sdp_formats_values.specs.declared.setup.Setup.TheVariants as way
-use Rattle.sdp_formats_types.specs.declared.media.MediaAttribute.TheVariants.{Rtcp, IceUfrag, IcePwd, IceOptions}
-use Rattle.sdp_formats_types.specs.declared.media.MediaAttribute.TheVariants.{Setup, Mid, SctpPort}
-use Rattle.sdp_formats_types.specs.declared.media.MediaAttribute.TheVariants.{MaxMessageSize, SctpInit}
-use Rattle.sdp_formats_types.specs.declared.media.MediaAttribute.TheVariants.{RecvOnly, SendRecv, SendOnly, Inactive}
-use Rattle.sdp_formats_types.specs.declared.media.MediaAttribute.TheVariants.{RtcpMux, RtcpMuxOnly, RtcpRsize}
-use Rattle.sdp_formats_types.specs.declared.media.MediaAttribute.TheVariants.{EndOfCandidates}
+use Rattle.sdp_formats_data.specs.declared.media.MediaAttribute.TheVariants.{Rtcp, IceUfrag, IcePwd, IceOptions}
+use Rattle.sdp_formats_data.specs.declared.media.MediaAttribute.TheVariants.{Setup, Mid, SctpPort}
+use Rattle.sdp_formats_data.specs.declared.media.MediaAttribute.TheVariants.{MaxMessageSize, SctpInit}
+use Rattle.sdp_formats_data.specs.declared.media.MediaAttribute.TheVariants.{RecvOnly, SendRecv, SendOnly, Inactive}
+use Rattle.sdp_formats_data.specs.declared.media.MediaAttribute.TheVariants.{RtcpMux, RtcpMuxOnly, RtcpRsize}
+use Rattle.sdp_formats_data.specs.declared.media.MediaAttribute.TheVariants.{EndOfCandidates}
 use Rattle.sdp_formats_laws.proofs.Decimals.{number_below-decimal, Lacks-decimal}
 use Rattle.sdp_formats_laws.proofs.Printed.{IsPrintedAs, named_line, named_by, fixed_line, text_some}
 use Rattle.sdp_formats_laws.proofs.Printed.{lacks_both}

@@ -5,21 +5,21 @@ use Rattle.std.proofs.Common.{IfSome, refl, subst, inl, inr, lit<, unwrap_or, is
 use Rattle.std.specs.Option.{option_map}
 use Rattle.std.proofs.lemmas.Bool.Decides.{Decides-eqb}
 use Rattle.payload_core_base.specs.Codecs.{is_tele_codec}
-use Rattle.sdp_formats_forms.specs.Steps.{cons_same}
-use Rattle.sdp_formats_media_lines.specs.AsRead.{is_level}
-use Rattle.sdp_formats_params.specs.declared.param.FormatParam.{FormatParam}
-use Rattle.sdp_formats_params.specs.declared.param.FormatParam.TheVariants as param
-use Rattle.sdp_formats_format.specs.Formats.{format_of}
+use Rattle.sdp_formats_grammar.specs.Steps.{cons_same}
+use Rattle.sdp_formats_attributes.specs.AsRead.{is_level}
+use Rattle.sdp_formats_values.specs.declared.param.FormatParam.{FormatParam}
+use Rattle.sdp_formats_values.specs.declared.param.FormatParam.TheVariants as param
+use Rattle.sdp_formats_params.specs.Formats.{format_of}
 use Rattle.sdp_formats_rows.specs.Plain.{comes_back, events_alone, has_plain_events, has_plain_feedback}
 use Rattle.sdp_formats_rows.specs.Plain.{has_plain_level}
 use Rattle.sdp_formats_rows.specs.Plain.{has_plain_red, has_plain_types, is_plain, is_plain_codec}
 use Rattle.sdp_formats_rows.specs.Rows.{Row}
-use Rattle.sdp_formats_scores.specs.Same.{same, same_flag, same_format, same_h264, same_levels, same_numbers, same_opus}
-use Rattle.sdp_formats_scores.specs.Same.{same_speech, same_video}
-use Rattle.sdp_formats_format.specs.Texts.{format_text, numbers_265, numbers_266}
-use Rattle.sdp_formats_format.specs.declared.format.FormatParams.{FormatParams}
-use Rattle.sdp_formats_row_attributes.specs.Attributes.{params_in}
-use Rattle.sdp_formats_format.specs.Parameters.{params_of}
+use Rattle.sdp_formats_params.specs.Same.{same, same_flag, same_format, same_h264, same_levels, same_numbers, same_opus}
+use Rattle.sdp_formats_params.specs.Same.{same_speech, same_video}
+use Rattle.sdp_formats_params.specs.Texts.{format_text, numbers_265, numbers_266}
+use Rattle.sdp_formats_params.specs.declared.format.FormatParams.{FormatParams}
+use Rattle.sdp_formats_section_rows.specs.Attributes.{params_in}
+use Rattle.sdp_formats_params.specs.Parameters.{params_of}
 use Rattle.sdp_formats_laws.proofs.FormatRanges.{Apart, format_held}
 use Rattle.sdp_formats_laws.proofs.FormatsBack.{format_readable}
 use Rattle.sdp_formats_laws.specs.Keyed.{AreKeyed}

@@ -3,11 +3,11 @@ use Rattle.std.proofs.Common.{◌≡◌, ◌≢◌, ℕ, Bool, true, false, not,
 use Rattle.std.proofs.Common.{inl, inr, refl, sym, ◌∙◌, ap, subst, arith}
 use Rattle.std.proofs.Common.{append_assoc}
 use Rattle.std.proofs.lemmas.Bool.Decides.{nat_tests}
-use Rattle.sdp_formats_forms.specs.Form.{Form, IsExact, some_text}
-use Rattle.sdp_formats_forms.specs.Split.{Lacks}
-use Rattle.sdp_formats_forms.specs.Joined.{spelled}
-use Rattle.sdp_formats_forms.specs.Line.{LineOf}
-use Rattle.sdp_formats_values.specs.Printed.{line_end}
+use Rattle.sdp_formats_grammar.specs.Form.{Form, IsExact, some_text}
+use Rattle.sdp_formats_grammar.specs.Split.{Lacks}
+use Rattle.sdp_formats_grammar.specs.Joined.{spelled}
+use Rattle.sdp_formats_grammar.specs.Line.{LineOf}
+use Rattle.sdp_formats_values.specs.PrintedValues.{line_end}
 use Rattle.sdp_formats_values.specs.Lists.{named}
 use Rattle.sdp_formats_laws.specs.Printable.{IsText}
 

@@ -7,12 +7,12 @@ use Rattle.h26x_payload_profiles.specs.H265Profile.{profile_id as profile_265}
 use Rattle.h26x_payload_profiles.specs.Tier.{tier_flag}
 use Rattle.h26x_payload_profiles.specs.H266Level.{level_id as level_266}
 use Rattle.h26x_payload_profiles.specs.H266Profile.{profile_id as profile_266}
-use Rattle.sdp_formats_forms.specs.Form.{IsExact}
-use Rattle.sdp_formats_media_lines.specs.AsRead.{is_level}
-use Rattle.sdp_formats_pairs.specs.PairsSay.{pair_list}
-use Rattle.sdp_formats_media_lines.specs.PrintedPairs.{PairsComeBack}
-use Rattle.sdp_formats_params.specs.declared.param.FormatParam.{FormatParam}
-use Rattle.sdp_formats_params.specs.declared.param.FormatParam.TheVariants as param
+use Rattle.sdp_formats_grammar.specs.Form.{IsExact}
+use Rattle.sdp_formats_attributes.specs.AsRead.{is_level}
+use Rattle.sdp_formats_attributes.specs.PairsSay.{pair_list}
+use Rattle.sdp_formats_attributes.specs.PrintedPairs.{PairsComeBack}
+use Rattle.sdp_formats_values.specs.declared.param.FormatParam.{FormatParam}
+use Rattle.sdp_formats_values.specs.declared.param.FormatParam.TheVariants as param
 use Rattle.sdp_formats_laws.proofs.KeyedLists.{keyed_on_line, keyed_read}
 use Rattle.sdp_formats_laws.proofs.LevelLists.{level_back}
 use Rattle.sdp_formats_laws.proofs.LevelNumbers.{reads_265, reads_266}
@@ -21,7 +21,7 @@ use Rattle.sdp_formats_laws.proofs.OtherParams.{unknown_back}
 use Rattle.sdp_formats_laws.proofs.TextBack.{text_back}
 use Rattle.sdp_formats_laws.specs.Keyed.{AreKeyed}
 use Rattle.sdp_formats_laws.specs.ParameterLists.{AreOrdinary, HasOneLevel, IsAlone}
-use Rattle.sdp_formats_laws.specs.Parameters.{IsReadBack, ReadableListsComeBack}
+use Rattle.sdp_formats_laws.specs.PrintedParameters.{IsReadBack, ReadableListsComeBack}
 
 keyed_back : PairsComeBack → (ps : List FormatParam) → AreKeyed ps → IsReadBack ps
 keyed_back back [] h = tt

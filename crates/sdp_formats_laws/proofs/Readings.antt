@@ -4,13 +4,13 @@ use Rattle.std.proofs.Common.{decimal, nat_le, nat_lt, map, refl, ◌∙◌, ap,
 use Rattle.std.specs.Option.{option_map}
 use Rattle.std.proofs.lemmas.Bool.Decides.{nat_tests}
 use Rattle.std.proofs.lemmas.List.{append-nil}
-use Rattle.sdp_formats_forms.specs.Bind.{◌>>=◌}
-use Rattle.sdp_formats_forms.specs.Cuts.{split_first-at, split_first-nowhere, parts-at, parts-whole}
-use Rattle.sdp_formats_forms.specs.Form.{Form, both, both_maybe, maybe, cut, cut_maybe, each, separated, passed, told}
-use Rattle.sdp_formats_forms.specs.Joined.{joined}
-use Rattle.sdp_formats_forms.specs.Numbers.{number_below}
-use Rattle.sdp_formats_forms.specs.Split.{Lacks, halves_of, parts}
-use Rattle.sdp_formats_stream_lines.specs.Maps.{payload_type, clock_rate}
+use Rattle.sdp_formats_grammar.specs.Bind.{◌>>=◌}
+use Rattle.sdp_formats_grammar.specs.Cuts.{split_first-at, split_first-nowhere, parts-at, parts-whole}
+use Rattle.sdp_formats_grammar.specs.Form.{Form, both, both_maybe, maybe, cut, cut_maybe, each, separated, passed, told}
+use Rattle.sdp_formats_grammar.specs.Joined.{joined}
+use Rattle.sdp_formats_grammar.specs.Numbers.{number_below}
+use Rattle.sdp_formats_grammar.specs.Split.{Lacks, halves_of, parts}
+use Rattle.sdp_formats_attributes.specs.Maps.{payload_type, clock_rate}
 use Rattle.sdp_formats_laws.proofs.Decimals.{number_below-decimal, Lacks-decimal}
 use Rattle.sdp_formats_laws.specs.Printable.{AreBelow}
 

@@ -4,30 +4,30 @@ use Rattle.std.proofs.Common.{codes, decimal, map, refl, sym, ◌∙◌, ap, app
 use Rattle.std.specs.Option.{option_map, is_some}
 use Rattle.std.proofs.lemmas.Bool.Decides.{nat_tests}
 use Rattle.std.proofs.lemmas.List.{append-nil}
-use Rattle.sdp_formats_forms.specs.Bind.{◌>>=◌}
-use Rattle.sdp_formats_forms.specs.Cuts.{other_byte}
-use Rattle.sdp_formats_forms.specs.Form.{cut_maybe, passed, told}
-use Rattle.sdp_formats_forms.specs.Joined.{each_behind}
-use Rattle.sdp_formats_forms.specs.Split.{Lacks, behind}
-use Rattle.sdp_formats_media_lines.specs.Choice.{attribute_line}
-use Rattle.sdp_formats_media_lines.specs.Choice.{media_attribute, second_attribute, third_attribute, last_attribute}
-use Rattle.sdp_formats_pairs.specs.Pairs.{restrictions_of}
-use Rattle.sdp_formats_media_lines.specs.PrintedPairs.{RestrictionsComeBack, pairs_text}
-use Rattle.sdp_formats_params.specs.Printed.{pair_text}
-use Rattle.sdp_formats_params.specs.declared.Pair.{Pair}
-use Rattle.sdp_formats_stream_lines.specs.Maps.{payload_type}
-use Rattle.sdp_formats_stream_lines.specs.Names.{has_name_chars, name}
-use Rattle.sdp_formats_stream_lines.specs.Rids.{limits_of, later_limits, make_id, make_limits, make_rid, maybe_limits}
-use Rattle.sdp_formats_stream_lines.specs.Rids.{typed_limits, limits_behind, way}
-use Rattle.sdp_formats_values.specs.Printed.{is_empty, line_end}
+use Rattle.sdp_formats_grammar.specs.Bind.{◌>>=◌}
+use Rattle.sdp_formats_grammar.specs.Cuts.{other_byte}
+use Rattle.sdp_formats_grammar.specs.Form.{cut_maybe, passed, told}
+use Rattle.sdp_formats_grammar.specs.Joined.{each_behind}
+use Rattle.sdp_formats_grammar.specs.Split.{Lacks, behind}
+use Rattle.sdp_formats_attributes.specs.Choice.{attribute_line}
+use Rattle.sdp_formats_attributes.specs.Choice.{media_attribute, second_attribute, third_attribute, last_attribute}
+use Rattle.sdp_formats_attributes.specs.Pairs.{restrictions_of}
+use Rattle.sdp_formats_attributes.specs.PrintedPairs.{RestrictionsComeBack, pairs_text}
+use Rattle.sdp_formats_values.specs.PrintedParameters.{pair_text}
+use Rattle.sdp_formats_values.specs.declared.Pair.{Pair}
+use Rattle.sdp_formats_attributes.specs.Maps.{payload_type}
+use Rattle.sdp_formats_attributes.specs.Names.{has_name_chars, name}
+use Rattle.sdp_formats_attributes.specs.Rids.{limits_of, later_limits, make_id, make_limits, make_rid, maybe_limits}
+use Rattle.sdp_formats_attributes.specs.Rids.{typed_limits, limits_behind, way}
+use Rattle.sdp_formats_values.specs.PrintedValues.{is_empty, line_end}
 use Rattle.sdp_formats_values.specs.Lists.{rid_types_text, rid_restrictions_text}
-use Rattle.sdp_formats_values.specs.Printed.{way_text}
-use Rattle.sdp_formats_types.specs.PrintedMedia.{attribute_text, listed_text}
-use Rattle.sdp_formats_types.specs.declared.media.MediaAttribute.TheVariants.{Rid}
+use Rattle.sdp_formats_values.specs.PrintedValues.{way_text}
+use Rattle.sdp_formats_data.specs.PrintedMedia.{attribute_text, listed_text}
+use Rattle.sdp_formats_data.specs.declared.media.MediaAttribute.TheVariants.{Rid}
 use Rattle.sdp_formats_values.specs.declared.streams.RestrictionId.{RestrictionId}
 use Rattle.sdp_formats_values.specs.declared.streams.RidDirection.{RidDirection}
 use Rattle.sdp_formats_values.specs.declared.streams.RidDirection.TheVariants.{Send, Recv}
-use Rattle.sdp_formats_laws.proofs.Candidates.{behind_blank, halves-blank, then, all_above, lacks_above}
+use Rattle.sdp_formats_laws.proofs.CandidatesLemmas.{behind_blank, halves-blank, then, all_above, lacks_above}
 use Rattle.sdp_formats_laws.proofs.Decimals.{Lacks-decimal}
 use Rattle.sdp_formats_laws.proofs.PlainKinds.{first_fits, lacks_two}
 use Rattle.sdp_formats_laws.proofs.Printed.{IsPrintedAs, at_text, named_by, named_line, lacks, lacks_both, text_some}

@@ -7,13 +7,13 @@ use Rattle.std.proofs.lemmas.Bool.Decides.{nat_tests}
 use Rattle.payload_core_base.specs.Codecs.{codec_name, codec_named}
 use Rattle.payload_core_base.specs.declared.codec.Codec.{Codec}
 use Rattle.payload_core_base.specs.declared.codec.Codec.TheVariants as codec
-use Rattle.sdp_formats_forms.specs.Split.{Lacks}
+use Rattle.sdp_formats_grammar.specs.Split.{Lacks}
 use Rattle.sdp_formats_laws.specs.ParameterLists.{AreReadable}
-use Rattle.sdp_formats_laws.specs.Parameters.{PlainParametersAreReadable}
+use Rattle.sdp_formats_laws.specs.PrintedParameters.{PlainParametersAreReadable}
 use Rattle.sdp_formats_laws.specs.Printable.{AreBelow, IsPrintable, IsPrintableMap, IsText, IsWord}
 use Rattle.sdp_formats_laws.specs.PrintableTexts.{AreFormats, IsEach, IsPrintableSection}
-use Rattle.sdp_formats_params.specs.declared.FormatParam.{FormatParam}
-use Rattle.sdp_formats_round.specs.Types.{listed, types_of}
+use Rattle.sdp_formats_values.specs.declared.FormatParam.{FormatParam}
+use Rattle.sdp_formats_rounds.specs.Types.{listed, types_of}
 use Rattle.sdp_formats_laws.specs.RowsBack.{attributes_in, types_in}
 use Rattle.sdp_formats_laws.specs.Rows.{IsMedia, IsSized, ListsRows}
 use Rattle.sdp_formats_rows.specs.Codecs.{is_codec, rtp_clock_rate}
@@ -22,13 +22,13 @@ use Rattle.sdp_formats_rows.specs.Plain.{has_plain_red}
 use Rattle.sdp_formats_rows.specs.Plain.{has_plain_types, is_media_codec, is_plain, is_plain_codec, is_plain_rate}
 use Rattle.sdp_formats_rows.specs.Plain.{is_type}
 use Rattle.sdp_formats_rows.specs.Rows.{Row}
-use Rattle.sdp_formats_row_attributes.specs.Attributes.{attributes_of, feedback_line, feedback_lines, fmtp_of}
-use Rattle.sdp_formats_row_attributes.specs.Attributes.{params_in, red_lines, resend_lines}
-use Rattle.sdp_formats_row_attributes.specs.Maps.{map_of}
-use Rattle.sdp_formats_types.specs.declared.MediaAttribute.TheVariants as attribute
-use Rattle.sdp_formats_types.specs.declared.MediaLine.{MediaLine}
-use Rattle.sdp_formats_types.specs.declared.MediaType.{MediaType}
-use Rattle.sdp_formats_types.specs.declared.MediaType.TheVariants.{Audio, Video, Application, Unknown}
+use Rattle.sdp_formats_section_rows.specs.Attributes.{attributes_of, feedback_line, feedback_lines, fmtp_of}
+use Rattle.sdp_formats_section_rows.specs.Attributes.{params_in, red_lines, resend_lines}
+use Rattle.sdp_formats_section_rows.specs.Maps.{map_of}
+use Rattle.sdp_formats_data.specs.declared.MediaAttribute.TheVariants as attribute
+use Rattle.sdp_formats_data.specs.declared.MediaLine.{MediaLine}
+use Rattle.sdp_formats_data.specs.declared.MediaType.{MediaType}
+use Rattle.sdp_formats_data.specs.declared.MediaType.TheVariants.{Audio, Video, Application, Unknown}
 
 two_true : (a b : Bool) → (a && b) ≡ true → (a ≡ true) × (b ≡ true)
 two_true true b h = (refl, h)

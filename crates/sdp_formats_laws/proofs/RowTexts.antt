@@ -9,9 +9,9 @@ use Rattle.sdp_formats_laws.specs.Rows.{RowTextsComeBack, RowsArePrintable, sect
 use Rattle.sdp_formats_laws.proofs.Faultless.{none_at_fault}
 use Rattle.sdp_formats_rows.specs.Rows.{Row}
 use Rattle.sdp_formats_section_rows.specs.SectionRows.{rows_of}
-use Rattle.sdp_formats_sessions.specs.PrintedSession.{sdp_text}
-use Rattle.sdp_formats_types.specs.declared.MediaLine.{MediaLine}
-use Rattle.sdp_formats_sessions.specs.declared.Sdp.{Sdp}
+use Rattle.sdp_formats_data.specs.PrintedSession.{sdp_text}
+use Rattle.sdp_formats_data.specs.declared.MediaLine.{MediaLine}
+use Rattle.sdp_formats_data.specs.declared.Sdp.{Sdp}
 
 section_back : PlainRowsComeBack → ReadRowsAreRows → (m : MediaLine) (rows : List Row) → ListsRows m rows
     → section_rows (section_as_read m) ≡ map unlocked rows

@@ -8,22 +8,22 @@ use Rattle.payload_core_base.specs.declared.codec.Codec.{Codec}
 use Rattle.payload_core_base.specs.declared.codec.Codec.TheVariants as codec
 use Rattle.sdp_formats_laws.specs.AsReadLemmas.{any_as_read, any_map}
 use Rattle.sdp_formats_laws.specs.ReadTexts.{section_as_read}
-use Rattle.sdp_formats_params.specs.declared.FormatParam.{FormatParam}
-use Rattle.sdp_formats_params.specs.declared.FormatParam.TheVariants as param
-use Rattle.sdp_formats_media_lines.specs.AsRead.{as_read, is_level, is_other, params_as_read, spelled_as}
+use Rattle.sdp_formats_values.specs.declared.FormatParam.{FormatParam}
+use Rattle.sdp_formats_values.specs.declared.FormatParam.TheVariants as param
+use Rattle.sdp_formats_attributes.specs.AsRead.{as_read, is_level, is_other, params_as_read, spelled_as}
 use Rattle.sdp_formats_laws.specs.Rows.{section_rows}
 use Rattle.sdp_formats_rows.specs.Codecs.{is_codec}
-use Rattle.sdp_formats_format.specs.Formats.{no_format}
-use Rattle.sdp_formats_format.specs.declared.format.FormatParams.{FormatParams}
+use Rattle.sdp_formats_params.specs.Formats.{no_format}
+use Rattle.sdp_formats_params.specs.declared.format.FormatParams.{FormatParams}
 use Rattle.sdp_formats_section_rows.specs.Given.{events_after, events_in, format_given, is_declined, is_unsupported}
 use Rattle.sdp_formats_section_rows.specs.Given.{most_of, with_attribute, with_events, with_line, with_codec_param}
-use Rattle.sdp_formats_row_attributes.specs.Maps.{spec_of_map}
+use Rattle.sdp_formats_section_rows.specs.Maps.{spec_of_map}
 use Rattle.sdp_formats_section_rows.specs.Mapped.{is_mapped_to, mapping_in, mappings, with_static}
 use Rattle.sdp_formats_section_rows.specs.SectionRows.{has_feedback, has_row, is_feedback, linked, linked_after, listed}
 use Rattle.sdp_formats_section_rows.specs.SectionRows.{names, row_of, rows_given}
-use Rattle.sdp_formats_types.specs.declared.MediaAttribute.{MediaAttribute}
-use Rattle.sdp_formats_types.specs.declared.MediaAttribute.TheVariants.{Fmtp}
-use Rattle.sdp_formats_types.specs.declared.MediaLine.{MediaLine}
+use Rattle.sdp_formats_data.specs.declared.MediaAttribute.{MediaAttribute}
+use Rattle.sdp_formats_data.specs.declared.MediaAttribute.TheVariants.{Fmtp}
+use Rattle.sdp_formats_data.specs.declared.MediaLine.{MediaLine}
 
 fold_map : {A B : Type 0} (f : A → A) (g h : B → A → B) → ((b : B) (a : A) → g b (f a) ≡ h b a) → (b : B)
     (xs : List A) → fold g b (map f xs) ≡ fold h b xs

@@ -2,13 +2,13 @@
 use Rattle.std.proofs.Common.{◌≡◌, ◌≢◌, ◌==◌, ◌&&◌, ℕ, Bool, true, false, cond, not, List, [], ◌∷◌, ◌++◌}
 use Rattle.std.proofs.Common.{refl, sym, ◌∙◌, ap, subst, inl, inr, ⊎_elim, append_assoc, arith}
 use Rattle.std.proofs.lemmas.Bool.Decides.{nat_tests}
-use Rattle.sdp_formats_forms.specs.Cuts.{IsCut, somewhere, nowhere, cut_of}
-use Rattle.sdp_formats_forms.specs.Line.{IsLine, LineOf}
-use Rattle.sdp_formats_forms.specs.Split.{Lacks}
-use Rattle.sdp_formats_session_lines.specs.Lines.{version_line, origin_line, name_line, other_line, bandwidth_line}
-use Rattle.sdp_formats_session_lines.specs.Lines.{times_line, repeat_line, connection_line, head_line}
-use Rattle.sdp_formats_media_lines.specs.Choice.{attribute_line}
-use Rattle.sdp_formats_session_attributes.specs.Choice.{attribute_line as session_line}
+use Rattle.sdp_formats_grammar.specs.Cuts.{IsCut, somewhere, nowhere, cut_of}
+use Rattle.sdp_formats_grammar.specs.Line.{IsLine, LineOf}
+use Rattle.sdp_formats_grammar.specs.Split.{Lacks}
+use Rattle.sdp_formats_reader.specs.Lines.{version_line, origin_line, name_line, other_line, bandwidth_line}
+use Rattle.sdp_formats_reader.specs.Lines.{times_line, repeat_line, connection_line, head_line}
+use Rattle.sdp_formats_attributes.specs.Choice.{attribute_line}
+use Rattle.sdp_formats_reader.specs.Choice.{attribute_line as session_line}
 use Rattle.sdp_formats_laws.proofs.Carried.{Carries, CarriesLines, session, texts}
 use Rattle.sdp_formats_laws.proofs.LineEnds.{lacking, one_cut}
 use Rattle.sdp_formats_laws.proofs.Printed.{lacks_both}

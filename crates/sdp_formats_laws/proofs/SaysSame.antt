@@ -4,11 +4,11 @@ use Rattle.std.specs.List.{flat_map}
 use Rattle.std.specs.Option.{option_or, unwrap_or}
 use Rattle.rtp_wire.specs.declared.Direction.TheVariants as way
 use Rattle.sdp_formats_lookups.specs.Sections.{extmap_in}
-use Rattle.sdp_formats_media_lines.specs.AsRead.{as_read}
+use Rattle.sdp_formats_attributes.specs.AsRead.{as_read}
 use Rattle.sdp_formats_laws.specs.Rows.{ReadSectionsSayTheSame, is_other_line}
-use Rattle.sdp_formats_types.specs.Lookups.{direction_in, first_of, mid_in, msid_in, setup_in}
-use Rattle.sdp_formats_types.specs.declared.MediaAttribute.{MediaAttribute}
-use Rattle.sdp_formats_types.specs.declared.MediaAttribute.TheVariants.{Fmtp}
+use Rattle.sdp_formats_data.specs.Lookups.{direction_in, first_of, mid_in, msid_in, setup_in}
+use Rattle.sdp_formats_data.specs.declared.MediaAttribute.{MediaAttribute}
+use Rattle.sdp_formats_data.specs.declared.MediaAttribute.TheVariants.{Fmtp}
 
 first_same : {B : Type 0} (f : MediaAttribute → Option B) → ((a : MediaAttribute) → f (as_read a) ≡ f a)
     → (attrs : List MediaAttribute) → first_of f (map as_read attrs) ≡ first_of f attrs

@@ -5,28 +5,28 @@ use Rattle.std.specs.Option.{option_map}
 use Rattle.std.proofs.lemmas.Bool.Decides.{nat_tests}
 use Rattle.std.proofs.lemmas.List.{append-nil}
 use Rattle.rtp_wire.specs.Name.{name_of}
-use Rattle.sdp_formats_forms.specs.Cuts.{other_byte}
-use Rattle.sdp_formats_forms.specs.Form.{any_text, some_text, cut_maybe, separated, told}
-use Rattle.sdp_formats_forms.specs.Joined.{joined, spelled}
-use Rattle.sdp_formats_forms.specs.Split.{Lacks}
-use Rattle.sdp_formats_session_attributes.specs.Choice.{attribute_line, session_attribute, later_attribute}
-use Rattle.sdp_formats_session_attributes.specs.Groups.{without_last, mid_word, mids_of}
-use Rattle.sdp_formats_values.specs.Printed.{line_end, is_empty}
+use Rattle.sdp_formats_grammar.specs.Cuts.{other_byte}
+use Rattle.sdp_formats_grammar.specs.Form.{any_text, some_text, cut_maybe, separated, told}
+use Rattle.sdp_formats_grammar.specs.Joined.{joined, spelled}
+use Rattle.sdp_formats_grammar.specs.Split.{Lacks}
+use Rattle.sdp_formats_reader.specs.Choice.{attribute_line, session_attribute, later_attribute}
+use Rattle.sdp_formats_reader.specs.Groups.{without_last, mid_word, mids_of}
+use Rattle.sdp_formats_values.specs.PrintedValues.{line_end, is_empty}
 use Rattle.sdp_formats_values.specs.Lists.{words_text, named}
-use Rattle.sdp_formats_sessions.specs.PrintedSession.{attribute_text}
+use Rattle.sdp_formats_data.specs.PrintedSession.{attribute_text}
 use Rattle.sdp_formats_values.specs.declared.setup.Setup as setup
 use Rattle.sdp_formats_values.specs.declared.setup.Setup.TheVariants as way
-use Rattle.sdp_formats_sessions.specs.declared.session.SessionAttribute.TheVariants.{AllowMixedExts, Group}
-use Rattle.sdp_formats_sessions.specs.declared.session.SessionAttribute.TheVariants.{MsidSemantic}
-use Rattle.sdp_formats_sessions.specs.declared.session.SessionAttribute.TheVariants.{IceLite}
-use Rattle.sdp_formats_sessions.specs.declared.session.SessionAttribute.TheVariants.{IceUfrag}
-use Rattle.sdp_formats_sessions.specs.declared.session.SessionAttribute.TheVariants.{IcePwd, IceOptions, Setup}
-use Rattle.sdp_formats_sessions.specs.declared.session.SessionAttribute.TheVariants.{EndOfCandidates, Unused}
-use Rattle.sdp_formats_value_reader.specs.Fingerprints.{make_fingerprint}
+use Rattle.sdp_formats_data.specs.declared.session.SessionAttribute.TheVariants.{AllowMixedExts, Group}
+use Rattle.sdp_formats_data.specs.declared.session.SessionAttribute.TheVariants.{MsidSemantic}
+use Rattle.sdp_formats_data.specs.declared.session.SessionAttribute.TheVariants.{IceLite}
+use Rattle.sdp_formats_data.specs.declared.session.SessionAttribute.TheVariants.{IceUfrag}
+use Rattle.sdp_formats_data.specs.declared.session.SessionAttribute.TheVariants.{IcePwd, IceOptions, Setup}
+use Rattle.sdp_formats_data.specs.declared.session.SessionAttribute.TheVariants.{EndOfCandidates, Unused}
+use Rattle.sdp_formats_attributes.specs.Fingerprints.{make_fingerprint}
 use Rattle.sdp_formats_values.specs.declared.fingerprint.Fingerprint as print_of
-use Rattle.sdp_formats_sessions.specs.declared.session.SessionAttribute.TheVariants.{Fingerprint}
+use Rattle.sdp_formats_data.specs.declared.session.SessionAttribute.TheVariants.{Fingerprint}
 use Rattle.sdp_formats_laws.proofs.Fingerprints.{digest_text, lacks_digest, fingerprint_reads}
-use Rattle.std.proofs.Common.{subst, lit<}
+use Rattle.std.proofs.Common.{lit<}
 use Rattle.sdp_formats_laws.proofs.Printed.{IsPrintedAs, named_line, named_by, fixed_line, two_parts, at_text}
 use Rattle.sdp_formats_laws.proofs.Printed.{text_some}
 use Rattle.sdp_formats_laws.proofs.Printed.{lacks_both}

@@ -6,18 +6,18 @@ use Rattle.std.proofs.Common.{if◌then◌else◌}
 use Rattle.std.specs.Prelude.{fold}
 use Rattle.std.specs.List.{list_any}
 use Rattle.std.proofs.lemmas.List.Sums.{fold-append}
-use Rattle.sdp_formats_params.specs.declared.param.FormatParam.{FormatParam}
+use Rattle.sdp_formats_values.specs.declared.param.FormatParam.{FormatParam}
 use Rattle.sdp_formats_rows.specs.Rows.{Row}
-use Rattle.sdp_formats_round.specs.Laws.{is_among}
-use Rattle.sdp_formats_round.specs.Types.{listed, types_of}
-use Rattle.sdp_formats_round.proofs.Apart.{among_append}
-use Rattle.sdp_formats_row_attributes.specs.Attributes.{all_feedback, attributes_of, feedback_line, feedback_lines}
-use Rattle.sdp_formats_row_attributes.specs.Attributes.{fmtp_of, is_used, params_in, red_lines, resend_lines}
-use Rattle.sdp_formats_row_attributes.specs.Attributes.{words_of}
-use Rattle.sdp_formats_row_attributes.specs.Maps.{map_of}
-use Rattle.sdp_formats_types.specs.declared.media.MediaAttribute.{MediaAttribute}
-use Rattle.sdp_formats_types.specs.declared.media.MediaAttribute.TheVariants as attribute
-use Rattle.sdp_formats_types.specs.declared.media.RtpMap.{RtpMap}
+use Rattle.sdp_formats_rounds.specs.Laws.{is_among}
+use Rattle.sdp_formats_rounds.specs.Types.{listed, types_of}
+use Rattle.sdp_formats_rounds.proofs.Apart.{among_append}
+use Rattle.sdp_formats_section_rows.specs.Attributes.{all_feedback, attributes_of, feedback_line, feedback_lines}
+use Rattle.sdp_formats_section_rows.specs.Attributes.{fmtp_of, is_used, params_in, red_lines, resend_lines}
+use Rattle.sdp_formats_section_rows.specs.Attributes.{words_of}
+use Rattle.sdp_formats_section_rows.specs.Maps.{map_of}
+use Rattle.sdp_formats_data.specs.declared.media.MediaAttribute.{MediaAttribute}
+use Rattle.sdp_formats_data.specs.declared.media.MediaAttribute.TheVariants as attribute
+use Rattle.sdp_formats_data.specs.declared.media.RtpMap.{RtpMap}
 use Rattle.sdp_formats_laws.specs.RowsBack.{attributes_in, names_type, types_in}
 use Rattle.sdp_formats_laws.proofs.Lists.{any_past, fold_past, neither, none_append, none_flat}
 

@@ -3,26 +3,26 @@ use Rattle.std.proofs.Common.{◌≡◌, ◌<◌, ℕ, Bool, true, false, cond, 
 use Rattle.std.proofs.Common.{codes, map, refl, sym, ◌∙◌, ap, append_assoc, arith, lit<}
 use Rattle.std.specs.Option.{option_map}
 use Rattle.std.proofs.lemmas.Bool.Decides.{nat_tests}
-use Rattle.sdp_formats_forms.specs.Bind.{◌>>=◌}
-use Rattle.sdp_formats_forms.specs.Cuts.{other_byte, parts-whole}
-use Rattle.sdp_formats_forms.specs.Form.{cut_maybe, each, passed, told}
-use Rattle.sdp_formats_forms.specs.Joined.{joined}
-use Rattle.sdp_formats_forms.specs.Pieces.{head}
-use Rattle.sdp_formats_forms.specs.Split.{Lacks, behind}
-use Rattle.sdp_formats_media_lines.specs.Choice.{attribute_line}
-use Rattle.sdp_formats_media_lines.specs.Choice.{media_attribute, second_attribute, third_attribute, last_attribute}
-use Rattle.sdp_formats_stream_lines.specs.Rids.{way}
-use Rattle.sdp_formats_stream_lines.specs.Simulcasts.{direction_layers, first_layer, grouped, groups, is_other, layer}
-use Rattle.sdp_formats_stream_lines.specs.Simulcasts.{make_id, make_layer, make_way, other_layers}
-use Rattle.sdp_formats_stream_lines.specs.Simulcasts.{sent, simulcast, untilded}
-use Rattle.sdp_formats_values.specs.Printed.{is_empty, layer_text, layers_text, line_end, name_of, simulcast_text}
-use Rattle.sdp_formats_values.specs.Printed.{ways_text}
-use Rattle.sdp_formats_types.specs.PrintedMedia.{attribute_text}
-use Rattle.sdp_formats_types.specs.declared.media.MediaAttribute.TheVariants.{Simulcast}
+use Rattle.sdp_formats_grammar.specs.Bind.{◌>>=◌}
+use Rattle.sdp_formats_grammar.specs.Cuts.{other_byte, parts-whole}
+use Rattle.sdp_formats_grammar.specs.Form.{cut_maybe, each, passed, told}
+use Rattle.sdp_formats_grammar.specs.Joined.{joined}
+use Rattle.sdp_formats_grammar.specs.Pieces.{head}
+use Rattle.sdp_formats_grammar.specs.Split.{Lacks, behind}
+use Rattle.sdp_formats_attributes.specs.Choice.{attribute_line}
+use Rattle.sdp_formats_attributes.specs.Choice.{media_attribute, second_attribute, third_attribute, last_attribute}
+use Rattle.sdp_formats_attributes.specs.Rids.{way}
+use Rattle.sdp_formats_attributes.specs.Simulcasts.{direction_layers, first_layer, grouped, groups, is_other, layer}
+use Rattle.sdp_formats_attributes.specs.Simulcasts.{make_id, make_layer, make_way, other_layers}
+use Rattle.sdp_formats_attributes.specs.Simulcasts.{sent, simulcast, untilded}
+use Rattle.sdp_formats_values.specs.PrintedValues.{is_empty, layer_text, layers_text, line_end, name_of, simulcast_text}
+use Rattle.sdp_formats_values.specs.PrintedValues.{ways_text}
+use Rattle.sdp_formats_data.specs.PrintedMedia.{attribute_text}
+use Rattle.sdp_formats_data.specs.declared.media.MediaAttribute.TheVariants.{Simulcast}
 use Rattle.sdp_formats_values.specs.declared.streams.RidDirection.TheVariants.{Send, Recv}
 use Rattle.sdp_formats_values.specs.declared.streams.Simulcast as ways
 use Rattle.sdp_formats_values.specs.declared.streams.SimulcastLayer.{SimulcastLayer}
-use Rattle.sdp_formats_laws.proofs.Candidates.{lacks_above}
+use Rattle.sdp_formats_laws.proofs.CandidatesLemmas.{lacks_above}
 use Rattle.sdp_formats_laws.proofs.PlainKinds.{first_fits, lacks_two}
 use Rattle.sdp_formats_laws.proofs.Printed.{IsPrintedAs, at_text, named_by, named_line, lacks, lacks_both}
 use Rattle.sdp_formats_laws.proofs.Readings.{AreRead, cut_reads, cut_nowhere, cut_somewhere, list_reads}

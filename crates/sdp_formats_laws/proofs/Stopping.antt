@@ -1,10 +1,10 @@
 -- Where lines of one kind end, and what begins there.
 use Rattle.std.proofs.Common.{◌≡◌, ◌≢◌, ◌⊎◌, ℕ, List, [], ◌∷◌, ◌++◌, Option, Some, None, refl, sym, ◌∙◌, ap, inl, inr}
 use Rattle.std.proofs.Common.{⊎_elim, subst, map, append_assoc}
-use Rattle.sdp_formats_forms.specs.Form.{Form, after}
-use Rattle.sdp_formats_forms.specs.Joined.{joined, each_behind}
-use Rattle.sdp_formats_forms.specs.Line.{LineOf, IsLine}
-use Rattle.sdp_formats_forms.specs.Step.{Stops, Begins}
+use Rattle.sdp_formats_grammar.specs.Form.{Form, after}
+use Rattle.sdp_formats_grammar.specs.Joined.{joined, each_behind}
+use Rattle.sdp_formats_grammar.specs.Line.{LineOf, IsLine}
+use Rattle.sdp_formats_grammar.specs.Step.{Stops, Begins}
 use Rattle.sdp_formats_laws.specs.PrintableTexts.{IsEach}
 
 -- the first byte of a text

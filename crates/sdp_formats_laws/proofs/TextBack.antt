@@ -1,10 +1,10 @@
 -- Parameters of some text that is read as themselves.
 use Rattle.std.proofs.Common.{◌≡◌, List, ◌∷◌, Some}
-use Rattle.sdp_formats_media_lines.specs.AsRead.{params_as_read}
-use Rattle.sdp_formats_params.specs.declared.param.FormatParam.{FormatParam}
-use Rattle.sdp_formats_source_lines.specs.Parameters.{parameters}
-use Rattle.sdp_formats_types.specs.PrintedMedia.{params_text}
-use Rattle.sdp_formats_laws.specs.Parameters.{IsReadBack}
+use Rattle.sdp_formats_attributes.specs.AsRead.{params_as_read}
+use Rattle.sdp_formats_values.specs.declared.param.FormatParam.{FormatParam}
+use Rattle.sdp_formats_attributes.specs.Parameters.{parameters}
+use Rattle.sdp_formats_data.specs.PrintedMedia.{params_text}
+use Rattle.sdp_formats_laws.specs.PrintedParameters.{IsReadBack}
 use Rattle.sdp_formats_laws.specs.Printable.{IsText}
 
 pub text_back : (p : FormatParam) (ps : List FormatParam) → IsText (params_text (p ∷ ps))

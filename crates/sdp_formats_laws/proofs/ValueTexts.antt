@@ -7,19 +7,19 @@ use Rattle.std.specs.Fmt.{digit_glyph}
 use Rattle.std.specs.Option.{option_map}
 use Rattle.std.specs.Str.Parse.{without_leading_plus, digits_value}
 use Rattle.std.proofs.lemmas.Bool.Decides.{nat_tests}
-use Rattle.sdp_formats_forms.specs.Cuts.{other_byte, split_first-cuts}
-use Rattle.sdp_formats_forms.specs.Form.{any_text, each, separated, some_text, told}
-use Rattle.sdp_formats_forms.specs.Joined.{octet_text}
-use Rattle.sdp_formats_forms.specs.Numbers.{all_digits, number_below}
-use Rattle.sdp_formats_forms.specs.Split.{Lacks, parts, split_first}
-use Rattle.sdp_formats_value_reader.specs.FromText.{all_hex, hex_number, print_in_text}
-use Rattle.sdp_formats_value_reader.specs.Digest.{fingerprint, hex_byte, hex_digit}
-use Rattle.sdp_formats_value_reader.specs.Fingerprints.{make_fingerprint}
-use Rattle.sdp_formats_values.specs.Printed.{fingerprint_text}
+use Rattle.sdp_formats_grammar.specs.Cuts.{other_byte, split_first-cuts}
+use Rattle.sdp_formats_grammar.specs.Form.{any_text, each, separated, some_text, told}
+use Rattle.sdp_formats_grammar.specs.Joined.{octet_text}
+use Rattle.sdp_formats_grammar.specs.Numbers.{all_digits, number_below}
+use Rattle.sdp_formats_grammar.specs.Split.{Lacks, parts, split_first}
+use Rattle.sdp_formats_attributes.specs.FromText.{all_hex, hex_number, print_in_text}
+use Rattle.sdp_formats_attributes.specs.Digest.{fingerprint, hex_byte, hex_digit}
+use Rattle.sdp_formats_attributes.specs.Fingerprints.{make_fingerprint}
+use Rattle.sdp_formats_values.specs.PrintedValues.{fingerprint_text}
 use Rattle.sdp_formats_values.specs.declared.candidate.RelatedAddress.{RelatedAddress}
 use Rattle.sdp_formats_values.specs.declared.fingerprint.Fingerprint.{Fingerprint}
 use Rattle.sdp_formats_laws.proofs.CandidateFound.{unbind, words_found}
-use Rattle.sdp_formats_laws.proofs.Candidates.{candidate_body, candidate_read, candidate_spelled}
+use Rattle.sdp_formats_laws.proofs.CandidatesLemmas.{candidate_body, candidate_read, candidate_spelled}
 use Rattle.sdp_formats_laws.proofs.FormatRanges.{cond_in, split_some}
 use Rattle.sdp_formats_laws.proofs.Fingerprints.{digest_text, lacks_octet, octet_shape, octets_read}
 use Rattle.sdp_formats_laws.proofs.Printed.{text_some}

@@ -1,11 +1,11 @@
 -- Every printable attribute is read as it is printed.
 use Rattle.std.proofs.Common.{[], ◌∷◌}
-use Rattle.sdp_formats_media_lines.specs.Choice.{attribute_line}
-use Rattle.sdp_formats_media_lines.specs.AsRead.{as_read}
-use Rattle.sdp_formats_types.specs.PrintedMedia.{attribute_text}
-use Rattle.sdp_formats_types.specs.declared.media.MediaAttribute.{MediaAttribute}
-use Rattle.sdp_formats_types.specs.declared.media.MediaAttribute.TheVariants as a
-use Rattle.sdp_formats_media_lines.specs.PrintedPairs.{RestrictionsComeBack}
+use Rattle.sdp_formats_attributes.specs.Choice.{attribute_line}
+use Rattle.sdp_formats_attributes.specs.AsRead.{as_read}
+use Rattle.sdp_formats_data.specs.PrintedMedia.{attribute_text}
+use Rattle.sdp_formats_data.specs.declared.media.MediaAttribute.{MediaAttribute}
+use Rattle.sdp_formats_data.specs.declared.media.MediaAttribute.TheVariants as a
+use Rattle.sdp_formats_attributes.specs.PrintedPairs.{RestrictionsComeBack}
 use Rattle.sdp_formats_laws.proofs.CandidateLines.{candidate_line}
 use Rattle.sdp_formats_laws.proofs.Printed.{IsPrintedAs}
 use Rattle.sdp_formats_laws.proofs.Restrictions.{rid_line}
@@ -15,7 +15,7 @@ use Rattle.sdp_formats_laws.proofs.PlainKinds.{max_message_size, setup_line, rec
 use Rattle.sdp_formats_laws.proofs.PlainKinds.{rtcp_mux, rtcp_mux_only, rtcp_rsize, end_of_candidates}
 use Rattle.sdp_formats_laws.proofs.PartedKinds.{rtcp_fb, msid, extmap_line, ssrc, ssrc_group, fmtp_line, rtpmap_line}
 use Rattle.sdp_formats_laws.proofs.PartedKinds.{fingerprint_line, unused}
-use Rattle.sdp_formats_laws.specs.Parameters.{ReadableListsComeBack}
+use Rattle.sdp_formats_laws.specs.PrintedParameters.{ReadableListsComeBack}
 use Rattle.sdp_formats_laws.specs.Printable.{IsPrintable}
 
 -- what is read of lists of restrictions and of parameters

@@ -9,18 +9,18 @@ use Rattle.payload_core_base.specs.declared.codec.Codec.TheVariants as codec
 use Rattle.sdp_formats_rows.specs.Codecs.{is_codec}
 use Rattle.sdp_formats_rows.specs.Plain.{is_plain}
 use Rattle.sdp_formats_rows.specs.Rows.{Row}
-use Rattle.sdp_formats_row_attributes.specs.Attributes.{attributes_of}
+use Rattle.sdp_formats_section_rows.specs.Attributes.{attributes_of}
 use Rattle.sdp_formats_section_rows.specs.Mapped.{is_mapped_to, mapping_in, mappings_in}
 use Rattle.sdp_formats_section_rows.specs.SectionRows.{rows_given}
-use Rattle.sdp_formats_types.specs.declared.media.MediaAttribute.{MediaAttribute}
-use Rattle.sdp_formats_round.specs.Laws.{is_among, is_distinct}
-use Rattle.sdp_formats_round.specs.Types.{listed, types_of}
-use Rattle.sdp_formats_round.proofs.Apart.{among_append}
+use Rattle.sdp_formats_data.specs.declared.media.MediaAttribute.{MediaAttribute}
+use Rattle.sdp_formats_rounds.specs.Laws.{is_among, is_distinct}
+use Rattle.sdp_formats_rounds.specs.Types.{listed, types_of}
+use Rattle.sdp_formats_rounds.proofs.Apart.{among_append}
 use Rattle.sdp_formats_laws.specs.RowsBack.{PlainRowsComeBack, attributes_in, names_type, types_in, unlocked}
 use Rattle.sdp_formats_laws.proofs.Lists.{both, neither, split_distinct}
 use Rattle.sdp_formats_laws.proofs.Links.{whole_red, whole_resend}
-use Rattle.sdp_formats_laws.proofs.Mapped.{map_line, maps_in, maps_of, red_map, resend_map, same_number}
-use Rattle.sdp_formats_laws.proofs.Mapped.{section_mapped}
+use Rattle.sdp_formats_laws.proofs.MappedLemmas.{map_line, maps_in, maps_of, red_map, resend_map, same_number}
+use Rattle.sdp_formats_laws.proofs.MappedLemmas.{section_mapped}
 use Rattle.sdp_formats_laws.proofs.Silent.{Apart, section_of}
 use Rattle.sdp_formats_laws.proofs.Own.{format_read, own_format}
 use Rattle.sdp_formats_laws.proofs.Feedback.{feedback_back}

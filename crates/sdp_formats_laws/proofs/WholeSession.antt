@@ -1,9 +1,9 @@
 -- Every printable attribute of a session is read as it is printed.
 use Rattle.std.proofs.Common.{[], ◌∷◌}
-use Rattle.sdp_formats_session_attributes.specs.Choice.{attribute_line}
-use Rattle.sdp_formats_sessions.specs.PrintedSession.{attribute_text}
-use Rattle.sdp_formats_sessions.specs.declared.session.SessionAttribute.{SessionAttribute}
-use Rattle.sdp_formats_sessions.specs.declared.session.SessionAttribute.TheVariants as a
+use Rattle.sdp_formats_reader.specs.Choice.{attribute_line}
+use Rattle.sdp_formats_data.specs.PrintedSession.{attribute_text}
+use Rattle.sdp_formats_data.specs.declared.session.SessionAttribute.{SessionAttribute}
+use Rattle.sdp_formats_data.specs.declared.session.SessionAttribute.TheVariants as a
 use Rattle.sdp_formats_laws.proofs.CandidateLines.{session_candidate_line}
 use Rattle.sdp_formats_laws.proofs.Printed.{IsPrintedAs}
 use Rattle.sdp_formats_laws.proofs.SessionKinds.{ice_lite, end_of_candidates, ice_ufrag, ice_pwd, ice_options}

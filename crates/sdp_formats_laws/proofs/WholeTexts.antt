@@ -3,34 +3,34 @@ use Rattle.std.proofs.Common.{◌≡◌, ℕ, ◌<◌, ◌^◌, IsTrue, List, []
 use Rattle.std.proofs.Common.{refl, sym, ◌∙◌, ap, subst, append_assoc, append-nil, ⊎_elim, arith}
 use Rattle.std.specs.List.{list_all}
 use Rattle.std.specs.Option.{option_map}
-use Rattle.sdp_formats_forms.specs.Form.{IsExact}
-use Rattle.sdp_formats_forms.specs.Joined.{each_behind, maybe_text}
-use Rattle.sdp_formats_forms.specs.Split.{Lacks}
-use Rattle.sdp_formats_faults.specs.Consistency.{is_consistent}
-use Rattle.sdp_formats_session_lines.specs.Lines.{version_line, origin_line, name_line, other_line, times_line}
-use Rattle.sdp_formats_session_lines.specs.Lines.{bandwidth_line}
-use Rattle.sdp_formats_session_lines.specs.Lines.{something, passed}
-use Rattle.sdp_formats_session_lines.specs.Heads.{media_line}
-use Rattle.sdp_formats_media_lines.specs.Choice.{attribute_line as media_attribute_line}
+use Rattle.sdp_formats_grammar.specs.Form.{IsExact}
+use Rattle.sdp_formats_grammar.specs.Joined.{each_behind, maybe_text}
+use Rattle.sdp_formats_grammar.specs.Split.{Lacks}
+use Rattle.sdp_formats_lookups.specs.Consistency.{is_consistent}
+use Rattle.sdp_formats_reader.specs.Lines.{version_line, origin_line, name_line, other_line, times_line}
+use Rattle.sdp_formats_reader.specs.Lines.{bandwidth_line}
+use Rattle.sdp_formats_reader.specs.Lines.{something, passed}
+use Rattle.sdp_formats_reader.specs.Heads.{media_line}
+use Rattle.sdp_formats_attributes.specs.Choice.{attribute_line as media_attribute_line}
 use Rattle.sdp_formats_reader.specs.Grammar.{OpeningSays, TimesSay, SessionSays, SectionSays, SdpSays}
-use Rattle.sdp_formats_session_attributes.specs.Choice.{attribute_line, session_attribute}
-use Rattle.sdp_formats_forms.specs.Line.{LineOf}
-use Rattle.sdp_formats_forms.specs.Step.{Stops, Begins, Perhaps}
-use Rattle.sdp_formats_values.specs.Printed.{line_end}
-use Rattle.sdp_formats_types.specs.PrintedMedia.{section_text}
+use Rattle.sdp_formats_reader.specs.Choice.{attribute_line, session_attribute}
+use Rattle.sdp_formats_grammar.specs.Line.{LineOf}
+use Rattle.sdp_formats_grammar.specs.Step.{Stops, Begins, Perhaps}
+use Rattle.sdp_formats_values.specs.PrintedValues.{line_end}
+use Rattle.sdp_formats_data.specs.PrintedMedia.{section_text}
 use Rattle.sdp_formats_values.specs.Lists.{bandwidth_text, named}
-use Rattle.sdp_formats_sessions.specs.PrintedSession.{attribute_text, attributes_text, session_text, sections_text}
-use Rattle.sdp_formats_sessions.specs.PrintedSession.{sdp_text}
-use Rattle.sdp_formats_types.specs.declared.media.MediaLine.{MediaLine}
-use Rattle.sdp_formats_types.specs.declared.Bandwidth.{Bandwidth}
-use Rattle.sdp_formats_sessions.specs.declared.session.Sdp.{Sdp}
-use Rattle.sdp_formats_sessions.specs.declared.session.Session.{Session}
-use Rattle.sdp_formats_sessions.specs.declared.session.SessionAttribute.{SessionAttribute}
+use Rattle.sdp_formats_data.specs.PrintedSession.{attribute_text, attributes_text, session_text, sections_text}
+use Rattle.sdp_formats_data.specs.PrintedSession.{sdp_text}
+use Rattle.sdp_formats_data.specs.declared.media.MediaLine.{MediaLine}
+use Rattle.sdp_formats_data.specs.declared.Bandwidth.{Bandwidth}
+use Rattle.sdp_formats_data.specs.declared.session.Sdp.{Sdp}
+use Rattle.sdp_formats_data.specs.declared.session.Session.{Session}
+use Rattle.sdp_formats_data.specs.declared.session.SessionAttribute.{SessionAttribute}
 use Rattle.sdp_formats_laws.proofs.Whole.{ListsComeBack}
 use Rattle.sdp_formats_laws.proofs.Heads.{version, version-exact, originator, origin-exact, name, name-exact, times}
 use Rattle.sdp_formats_laws.proofs.Heads.{times-exact, after_number}
 use Rattle.sdp_formats_laws.proofs.Printed.{printed_line, lacks}
-use Rattle.sdp_formats_laws.proofs.Sections.{IsTail, perhaps_bandwidth, section_says, sections_printed}
+use Rattle.sdp_formats_laws.proofs.SectionsLemmas.{IsTail, perhaps_bandwidth, section_says, sections_printed}
 use Rattle.sdp_formats_laws.proofs.Stopping.{first, stops, other_start, first_of, begins_all, joined_behind}
 use Rattle.sdp_formats_laws.proofs.WholeSession.{printed}
 use Rattle.sdp_formats_laws.proofs.Consistent.{all_consistent}

@@ -1,31 +1,31 @@
 -- What is read of a session that can be written.
 use Rattle.std.proofs.Common.{◌≡◌, ℕ, Bool, true, false, List, [], ◌∷◌, ◌++◌, Option, Some, None, codes, map, refl, sym}
 use Rattle.std.proofs.Common.{subst, append_assoc, append-nil, cond, inl, inr, ⊎_elim}
-use Rattle.sdp_formats_forms.specs.LineLemmas.{line-functional}
+use Rattle.sdp_formats_grammar.specs.LineLemmas.{line-functional}
 use Rattle.std.specs.Prelude.{All, IfSome}
 use Rattle.std.proofs.lemmas.List.Elements.{All-head, All-tail}
 use Rattle.std.specs.Option.{option_map}
-use Rattle.sdp_formats_forms.specs.Form.{IsExact}
-use Rattle.sdp_formats_forms.specs.Joined.{each_behind, maybe_text}
-use Rattle.sdp_formats_forms.specs.Line.{LineOf}
-use Rattle.sdp_formats_forms.specs.Step.{Begins, Perhaps}
-use Rattle.sdp_formats_media_lines.specs.Choice.{attribute_line as media_attribute_line}
-use Rattle.sdp_formats_writable.specs.Writable.{ComesBack, IsWritableAttribute, IsWritableBandwidth}
-use Rattle.sdp_formats_session_attributes.specs.Choice.{attribute_line}
-use Rattle.sdp_formats_session_lines.specs.Lines.{bandwidth_line}
+use Rattle.sdp_formats_grammar.specs.Form.{IsExact}
+use Rattle.sdp_formats_grammar.specs.Joined.{each_behind, maybe_text}
+use Rattle.sdp_formats_grammar.specs.Line.{LineOf}
+use Rattle.sdp_formats_grammar.specs.Step.{Begins, Perhaps}
+use Rattle.sdp_formats_attributes.specs.Choice.{attribute_line as media_attribute_line}
+use Rattle.sdp_formats_reader.specs.Writable.{ComesBack, IsWritableAttribute, IsWritableBandwidth}
+use Rattle.sdp_formats_reader.specs.Choice.{attribute_line}
+use Rattle.sdp_formats_reader.specs.Lines.{bandwidth_line}
 use Rattle.sdp_formats_values.specs.Lists.{bandwidth_text, named, words_text}
-use Rattle.sdp_formats_sessions.specs.PrintedSession.{attribute_text, sections_text}
-use Rattle.sdp_formats_types.specs.declared.Bandwidth.{Bandwidth}
-use Rattle.sdp_formats_sessions.specs.declared.session.SessionAttribute.{SessionAttribute}
-use Rattle.sdp_formats_sessions.specs.declared.session.SessionAttribute.TheVariants as session
-use Rattle.sdp_formats_values.specs.Printed.{line_end, fingerprint_text, is_empty}
+use Rattle.sdp_formats_data.specs.PrintedSession.{attribute_text, sections_text}
+use Rattle.sdp_formats_data.specs.declared.Bandwidth.{Bandwidth}
+use Rattle.sdp_formats_data.specs.declared.session.SessionAttribute.{SessionAttribute}
+use Rattle.sdp_formats_data.specs.declared.session.SessionAttribute.TheVariants as session
+use Rattle.sdp_formats_values.specs.PrintedValues.{line_end, fingerprint_text, is_empty}
 use Rattle.sdp_formats_values.specs.PrintedCandidates.{candidate_text}
 use Rattle.sdp_formats_values.specs.Setup.{setup_text}
 use Rattle.sdp_formats_laws.proofs.Whole.{ListsComeBack}
 use Rattle.sdp_formats_laws.proofs.MoreBehind.{forth}
 use Rattle.sdp_formats_laws.proofs.RowTexts.{sections_back, sections_print}
 use Rattle.sdp_formats_laws.proofs.Printed.{lacks, printed_line}
-use Rattle.sdp_formats_laws.proofs.Sections.{no_bandwidth, perhaps_bandwidth, sections_printed}
+use Rattle.sdp_formats_laws.proofs.SectionsLemmas.{no_bandwidth, perhaps_bandwidth, sections_printed}
 use Rattle.sdp_formats_laws.proofs.SessionKinds.{allow_mixed}
 use Rattle.sdp_formats_laws.proofs.Stopping.{first, joined_behind}
 use Rattle.sdp_formats_laws.proofs.WholeTexts.{session_reads, text_reads}
@@ -38,8 +38,8 @@ use Rattle.sdp_formats_laws.specs.WrittenSession.{AllReadAs, GroupedRowTextsCome
 use Rattle.sdp_formats_laws.specs.WrittenSession.{PrintableIsWritable}
 use Rattle.sdp_formats_laws.specs.WrittenSession.{grouped}
 use Rattle.sdp_formats_reader.specs.Grammar.{SdpSays}
-use Rattle.sdp_formats_sessions.specs.PrintedSession.{sdp_text}
-use Rattle.sdp_formats_sessions.specs.declared.session.Sdp.{Sdp}
+use Rattle.sdp_formats_data.specs.PrintedSession.{sdp_text}
+use Rattle.sdp_formats_data.specs.declared.session.Sdp.{Sdp}
 use Rattle.sdp_formats_laws.specs.ReadTexts.{text_read}
 use Rattle.sdp_formats_laws.specs.WrittenSession.{UsualAttributesAreWritten, WrittenRowTextsComeBack}
 use Rattle.sdp_formats_laws.proofs.Faultless.{none_at_fault}

@@ -1,17 +1,17 @@
 -- What goes on with a text.
 use Rattle.std.specs.Prelude.{◌≡◌, ◌↔◌, ℕ, true, List, [], ◌∷◌, ◌++◌, codes}
-use Rattle.sdp_formats_forms.specs.Line.{LineOf}
-use Rattle.sdp_formats_forms.specs.Split.{Lacks}
-use Rattle.sdp_formats_forms.specs.Step.{Stops}
-use Rattle.sdp_formats_media_lines.specs.Choice.{attribute_line as media_line}
-use Rattle.sdp_formats_session_attributes.specs.Choice.{attribute_line as session_line}
-use Rattle.sdp_formats_session_lines.specs.Lines.{repeat_line}
+use Rattle.sdp_formats_grammar.specs.Line.{LineOf}
+use Rattle.sdp_formats_grammar.specs.Split.{Lacks}
+use Rattle.sdp_formats_grammar.specs.Step.{Stops}
+use Rattle.sdp_formats_attributes.specs.Choice.{attribute_line as media_line}
+use Rattle.sdp_formats_reader.specs.Choice.{attribute_line as session_line}
+use Rattle.sdp_formats_reader.specs.Lines.{repeat_line}
 use Rattle.sdp_formats_reader.specs.Grammar.{SdpSays, SectionSays, SessionSays}
 use Rattle.sdp_formats_laws.specs.LineEnds.{is_ended}
-use Rattle.sdp_formats_types.specs.declared.media.MediaLine.{MediaLine}
-use Rattle.sdp_formats_sessions.specs.declared.session.Sdp.{Sdp}
-use Rattle.sdp_formats_sessions.specs.declared.session.Session.{Session}
-use Rattle.sdp_formats_sessions.specs.declared.session.SessionAttribute.{SessionAttribute}
+use Rattle.sdp_formats_data.specs.declared.media.MediaLine.{MediaLine}
+use Rattle.sdp_formats_data.specs.declared.session.Sdp.{Sdp}
+use Rattle.sdp_formats_data.specs.declared.session.Session.{Session}
+use Rattle.sdp_formats_data.specs.declared.session.SessionAttribute.{SessionAttribute}
 
 -- The text begins with no line that goes on with the last part of a session (RFC 8866 5): with no attribute of the
 -- last section; where there is no section, with no attribute of the session; and where there is none of these either,

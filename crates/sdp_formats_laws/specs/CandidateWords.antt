@@ -1,11 +1,11 @@
 -- The text of a candidate: words with a blank between each two (RFC 8839 5.1).
 use Rattle.std.specs.Prelude.{◌≡◌, ◌≢◌, ◌↔◌, ◌^◌, ℕ, List, [], ◌∷◌, ◌++◌, codes, Option, Some, None, IfSome}
-use Rattle.sdp_formats_forms.specs.Form.{maybe}
-use Rattle.sdp_formats_forms.specs.Joined.{joined}
-use Rattle.sdp_formats_forms.specs.Numbers.{number_below}
-use Rattle.sdp_formats_forms.specs.Split.{Lacks}
-use Rattle.sdp_formats_value_reader.specs.Candidates.{candidate}
-use Rattle.sdp_formats_value_reader.specs.Words.{kind_word, protocol_word, tcptype_word}
+use Rattle.sdp_formats_grammar.specs.Form.{maybe}
+use Rattle.sdp_formats_grammar.specs.Joined.{joined}
+use Rattle.sdp_formats_grammar.specs.Numbers.{number_below}
+use Rattle.sdp_formats_grammar.specs.Split.{Lacks}
+use Rattle.sdp_formats_attributes.specs.Candidates.{candidate}
+use Rattle.sdp_formats_attributes.specs.Words.{kind_word, protocol_word, tcptype_word}
 use Rattle.sdp_formats_values.specs.declared.candidate.Candidate.{Candidate}
 use Rattle.sdp_formats_values.specs.declared.candidate.RelatedAddress.{RelatedAddress}
 use Rattle.sdp_formats_laws.specs.PrintableTexts.{IsEach}

@@ -1,9 +1,9 @@
 -- Texts that are read the same.
 use Rattle.std.specs.Prelude.{◌≡◌, ◌==◌, ◌&&◌, ◌++◌, not, ℕ, Bool, true, false, List, [], ◌∷◌, if◌then◌else◌}
-use Rattle.sdp_formats_forms.specs.Split.{Lacks}
+use Rattle.sdp_formats_grammar.specs.Split.{Lacks}
 use Rattle.sdp_formats_reader.specs.Grammar.{SdpSays, SessionSays}
-use Rattle.sdp_formats_sessions.specs.declared.session.Sdp.{Sdp}
-use Rattle.sdp_formats_sessions.specs.declared.session.Session.{Session}
+use Rattle.sdp_formats_data.specs.declared.session.Sdp.{Sdp}
+use Rattle.sdp_formats_data.specs.declared.session.Session.{Session}
 
 -- A text with CR LF in the place of each LF.
 abbrev pub with_returns : List ℕ → List ℕ

@@ -4,7 +4,7 @@ use Rattle.std.specs.Str.{IsUtf8, all_scalars, encode_utf8_all}
 use Rattle.ucd_category.specs.GeneralCategory.{general_category}
 use Rattle.ucd_category.specs.GeneralCategoryGroup.{in_group}
 use Rattle.ucd_category.specs.declared.GeneralCategoryGroup.TheVariants.{Letter, Number}
-use Rattle.sdp_formats_stream_lines.specs.Names.{name}
+use Rattle.sdp_formats_attributes.specs.Names.{name}
 use Rattle.sdp_formats_laws.specs.Printable.{IsName}
 
 -- A text in UTF-8, as every `str` is, is read as a name exactly where it is a printable one.

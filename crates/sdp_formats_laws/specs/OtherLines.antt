@@ -1,9 +1,9 @@
 -- Lines of no known kind (RFC 8866 5.13).
 use Rattle.std.specs.Prelude.{◌≡◌, ◌≢◌, ◌++◌, ℕ, List, [], ◌∷◌, Some, codes}
-use Rattle.sdp_formats_media_lines.specs.Choice.{media_attribute}
-use Rattle.sdp_formats_session_attributes.specs.Choice.{session_attribute}
-use Rattle.sdp_formats_types.specs.declared.media.MediaAttribute.TheVariants.{Unused as UnusedInSection}
-use Rattle.sdp_formats_sessions.specs.declared.session.SessionAttribute.TheVariants.{Unused as UnusedInSession}
+use Rattle.sdp_formats_attributes.specs.Choice.{media_attribute}
+use Rattle.sdp_formats_reader.specs.Choice.{session_attribute}
+use Rattle.sdp_formats_data.specs.declared.media.MediaAttribute.TheVariants.{Unused as UnusedInSection}
+use Rattle.sdp_formats_data.specs.declared.session.SessionAttribute.TheVariants.{Unused as UnusedInSession}
 
 -- What the known attributes of a section begin with, behind `a=`, and those that are one word.
 abbrev pub section_names : List (List ℕ)

@@ -1,8 +1,8 @@
 -- Lists of parameters that are read as they are printed (RFC 8866 6.15).
 use Rattle.std.specs.Prelude.{◌≡◌, ◌≢◌, ◌<◌, ◌^◌, ◌⊎◌, true, List, [], ◌∷◌, ◌++◌}
-use Rattle.sdp_formats_media_lines.specs.AsRead.{is_level}
-use Rattle.sdp_formats_params.specs.declared.param.FormatParam.{FormatParam}
-use Rattle.sdp_formats_params.specs.declared.param.FormatParam.TheVariants as param
+use Rattle.sdp_formats_attributes.specs.AsRead.{is_level}
+use Rattle.sdp_formats_values.specs.declared.param.FormatParam.{FormatParam}
+use Rattle.sdp_formats_values.specs.declared.param.FormatParam.TheVariants as param
 use Rattle.sdp_formats_laws.specs.Keyed.{AreKeyed, IsOrdinary, pair_of}
 
 -- A range of telephone events (RFC 4733 2.4.1) or a type of redundant audio (RFC 2198 5), which have no key and stand

@@ -3,25 +3,25 @@ use Rattle.std.specs.Prelude.{◌≡◌, ◌≢◌, ◌<◌, ◌≤◌, ◌^◌,
 use Rattle.payload_core_base.specs.Codecs.{codec_name, codec_named}
 use Rattle.rtp_wire.specs.Kinds.{uri_of, extension_of}
 use Rattle.rtp_wire.specs.Name.{name_of}
-use Rattle.sdp_formats_forms.specs.Split.{Lacks}
-use Rattle.sdp_formats_media_lines.specs.Choice.{media_attribute}
-use Rattle.sdp_formats_media_lines.specs.PrintedPairs.{ArePairs}
-use Rattle.sdp_formats_params.specs.declared.Pair.{Pair}
-use Rattle.sdp_formats_stream_lines.specs.Names.{has_name_chars}
+use Rattle.sdp_formats_grammar.specs.Split.{Lacks}
+use Rattle.sdp_formats_attributes.specs.Choice.{media_attribute}
+use Rattle.sdp_formats_attributes.specs.PrintedPairs.{ArePairs}
+use Rattle.sdp_formats_values.specs.declared.Pair.{Pair}
+use Rattle.sdp_formats_attributes.specs.Names.{has_name_chars}
 use Rattle.sdp_formats_laws.specs.ParameterLists.{AreReadable}
 use Rattle.sdp_formats_values.specs.declared.candidate.Candidate as candidate
 use Rattle.sdp_formats_values.specs.declared.candidate.RelatedAddress.{RelatedAddress}
 use Rattle.sdp_formats_values.specs.declared.streams.SimulcastLayer.{SimulcastLayer}
-use Rattle.sdp_formats_types.specs.declared.media.RtpMap as map_of
-use Rattle.sdp_formats_types.specs.declared.media.MediaAttribute.{MediaAttribute}
-use Rattle.sdp_formats_types.specs.declared.media.MediaAttribute.TheVariants.{Rtcp, IceUfrag, IcePwd, IceOptions}
-use Rattle.sdp_formats_types.specs.declared.media.MediaAttribute.TheVariants.{Setup, Mid, SctpPort}
-use Rattle.sdp_formats_types.specs.declared.media.MediaAttribute.TheVariants.{MaxMessageSize, SctpInit, ExtMap}
-use Rattle.sdp_formats_types.specs.declared.media.MediaAttribute.TheVariants.{RecvOnly, SendRecv, SendOnly, Inactive}
-use Rattle.sdp_formats_types.specs.declared.media.MediaAttribute.TheVariants.{Msid, RtcpMux, RtcpMuxOnly, RtcpRsize}
-use Rattle.sdp_formats_types.specs.declared.media.MediaAttribute.TheVariants.{Candidate, EndOfCandidates, RtpMap}
-use Rattle.sdp_formats_types.specs.declared.media.MediaAttribute.TheVariants.{RtcpFb, Fmtp, Rid, Simulcast, SsrcGroup}
-use Rattle.sdp_formats_types.specs.declared.media.MediaAttribute.TheVariants.{Fingerprint, Ssrc, Unused}
+use Rattle.sdp_formats_data.specs.declared.media.RtpMap as map_of
+use Rattle.sdp_formats_data.specs.declared.media.MediaAttribute.{MediaAttribute}
+use Rattle.sdp_formats_data.specs.declared.media.MediaAttribute.TheVariants.{Rtcp, IceUfrag, IcePwd, IceOptions}
+use Rattle.sdp_formats_data.specs.declared.media.MediaAttribute.TheVariants.{Setup, Mid, SctpPort}
+use Rattle.sdp_formats_data.specs.declared.media.MediaAttribute.TheVariants.{MaxMessageSize, SctpInit, ExtMap}
+use Rattle.sdp_formats_data.specs.declared.media.MediaAttribute.TheVariants.{RecvOnly, SendRecv, SendOnly, Inactive}
+use Rattle.sdp_formats_data.specs.declared.media.MediaAttribute.TheVariants.{Msid, RtcpMux, RtcpMuxOnly, RtcpRsize}
+use Rattle.sdp_formats_data.specs.declared.media.MediaAttribute.TheVariants.{Candidate, EndOfCandidates, RtpMap}
+use Rattle.sdp_formats_data.specs.declared.media.MediaAttribute.TheVariants.{RtcpFb, Fmtp, Rid, Simulcast, SsrcGroup}
+use Rattle.sdp_formats_data.specs.declared.media.MediaAttribute.TheVariants.{Fingerprint, Ssrc, Unused}
 
 -- Bytes, or none, without the end of a line.
 abbrev pub LacksLineEnds : List ℕ → Type 0

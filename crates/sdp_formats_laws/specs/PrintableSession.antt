@@ -1,13 +1,13 @@
 -- Attributes of a session that are read as they are printed.
 use Rattle.std.specs.Prelude.{◌≡◌, ℕ, List, [], ◌∷◌, Some}
 use Rattle.rtp_wire.specs.Name.{name_of}
-use Rattle.sdp_formats_session_attributes.specs.Choice.{session_attribute}
-use Rattle.sdp_formats_sessions.specs.declared.session.SessionAttribute.{SessionAttribute}
-use Rattle.sdp_formats_sessions.specs.declared.session.SessionAttribute.TheVariants.{Group, MsidSemantic, IceLite}
-use Rattle.sdp_formats_sessions.specs.declared.session.SessionAttribute.TheVariants.{IceUfrag}
-use Rattle.sdp_formats_sessions.specs.declared.session.SessionAttribute.TheVariants.{IcePwd, IceOptions, Setup}
-use Rattle.sdp_formats_sessions.specs.declared.session.SessionAttribute.TheVariants.{Candidate, EndOfCandidates}
-use Rattle.sdp_formats_sessions.specs.declared.session.SessionAttribute.TheVariants.{Fingerprint, Unused}
+use Rattle.sdp_formats_reader.specs.Choice.{session_attribute}
+use Rattle.sdp_formats_data.specs.declared.session.SessionAttribute.{SessionAttribute}
+use Rattle.sdp_formats_data.specs.declared.session.SessionAttribute.TheVariants.{Group, MsidSemantic, IceLite}
+use Rattle.sdp_formats_data.specs.declared.session.SessionAttribute.TheVariants.{IceUfrag}
+use Rattle.sdp_formats_data.specs.declared.session.SessionAttribute.TheVariants.{IcePwd, IceOptions, Setup}
+use Rattle.sdp_formats_data.specs.declared.session.SessionAttribute.TheVariants.{Candidate, EndOfCandidates}
+use Rattle.sdp_formats_data.specs.declared.session.SessionAttribute.TheVariants.{Fingerprint, Unused}
 use Rattle.sdp_formats_laws.specs.Printable.{IsText, IsWord, IsPrintableDigest, IsPrintableCandidate}
 
 abbrev pub AreWords : List (List ℕ) → Type 0

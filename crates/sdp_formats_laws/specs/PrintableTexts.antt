@@ -1,20 +1,20 @@
 -- Session texts that are read as they are printed.
 use Rattle.std.specs.Prelude.{◌≡◌, ◌<◌, ◌^◌, ◌++◌, ℕ, IsTrue, List, [], ◌∷◌, Option, Some, None}
 use Rattle.std.specs.List.{list_all}
-use Rattle.sdp_formats_forms.specs.Line.{LineOf}
-use Rattle.sdp_formats_forms.specs.Split.{Lacks}
-use Rattle.sdp_formats_media_lines.specs.AsRead.{as_read}
-use Rattle.sdp_formats_media_lines.specs.Choice.{attribute_line}
-use Rattle.sdp_formats_types.specs.PrintedMedia.{attribute_text}
-use Rattle.sdp_formats_types.specs.declared.media.MediaAttribute.{MediaAttribute}
-use Rattle.sdp_formats_session_lines.specs.Heads.{media_type}
-use Rattle.sdp_formats_faults.specs.Consistency.{is_consistent}
-use Rattle.sdp_formats_types.specs.declared.media.MediaLine.{MediaLine}
-use Rattle.sdp_formats_types.specs.declared.MediaType.{MediaType}
-use Rattle.sdp_formats_types.specs.declared.MediaType.TheVariants.{Audio, Video, Application, Unknown}
-use Rattle.sdp_formats_types.specs.declared.Bandwidth.{Bandwidth}
-use Rattle.sdp_formats_sessions.specs.declared.session.Sdp.{Sdp}
-use Rattle.sdp_formats_sessions.specs.declared.session.Session.{Session}
+use Rattle.sdp_formats_grammar.specs.Line.{LineOf}
+use Rattle.sdp_formats_grammar.specs.Split.{Lacks}
+use Rattle.sdp_formats_attributes.specs.AsRead.{as_read}
+use Rattle.sdp_formats_attributes.specs.Choice.{attribute_line}
+use Rattle.sdp_formats_data.specs.PrintedMedia.{attribute_text}
+use Rattle.sdp_formats_data.specs.declared.media.MediaAttribute.{MediaAttribute}
+use Rattle.sdp_formats_reader.specs.Heads.{media_type}
+use Rattle.sdp_formats_lookups.specs.Consistency.{is_consistent}
+use Rattle.sdp_formats_data.specs.declared.media.MediaLine.{MediaLine}
+use Rattle.sdp_formats_data.specs.declared.MediaType.{MediaType}
+use Rattle.sdp_formats_data.specs.declared.MediaType.TheVariants.{Audio, Video, Application, Unknown}
+use Rattle.sdp_formats_data.specs.declared.Bandwidth.{Bandwidth}
+use Rattle.sdp_formats_data.specs.declared.session.Sdp.{Sdp}
+use Rattle.sdp_formats_data.specs.declared.session.Session.{Session}
 use Rattle.sdp_formats_laws.specs.Printable.{IsText, IsWord, IsPrintable, AreBelow}
 use Rattle.sdp_formats_laws.specs.PrintableSession.{IsPrintable as IsPrintableInSession}
 

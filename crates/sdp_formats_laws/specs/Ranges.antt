@@ -1,6 +1,6 @@
 -- Formats whose numbers are of their widths.
 use Rattle.std.specs.Prelude.{◌≡◌, ◌<◌, ◌≤◌, ◌^◌, ◌⊎◌, ℕ, Option, Some, None, IfSome}
-use Rattle.sdp_formats_format.specs.declared.format.FormatParams.{FormatParams}
+use Rattle.sdp_formats_params.specs.declared.format.FormatParams.{FormatParams}
 
 -- One of nine modes at least (RFC 4867 8.2).
 abbrev pub IsModes : ℕ → Type 0

@@ -1,9 +1,9 @@
 -- What a printed text is read as.
 use Rattle.std.specs.Prelude.{List, map}
-use Rattle.sdp_formats_media_lines.specs.AsRead.{as_read}
-use Rattle.sdp_formats_types.specs.declared.media.MediaLine.{MediaLine}
-use Rattle.sdp_formats_sessions.specs.declared.session.Sdp.{Sdp}
-use Rattle.sdp_formats_sessions.specs.declared.session.SessionAttribute.{SessionAttribute}
+use Rattle.sdp_formats_attributes.specs.AsRead.{as_read}
+use Rattle.sdp_formats_data.specs.declared.media.MediaLine.{MediaLine}
+use Rattle.sdp_formats_data.specs.declared.session.Sdp.{Sdp}
+use Rattle.sdp_formats_data.specs.declared.session.SessionAttribute.{SessionAttribute}
 
 -- The section itself, but for parameters of `a=fmtp`: a profile, tier and level comes in front of the others, a range
 -- of telephone events is a range and a type of redundant audio a list of types.

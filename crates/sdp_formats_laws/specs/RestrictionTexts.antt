@@ -1,11 +1,11 @@
 -- What the restrictions of a line `a=rid` say (RFC 8851 4).
 use Rattle.std.specs.Prelude.{◌≡◌, ◌≢◌, ◌⊎◌, ◌↔◌, ◌++◌, ℕ, List, [], ◌∷◌, Some, codes}
-use Rattle.sdp_formats_forms.specs.Split.{Lacks}
-use Rattle.sdp_formats_stream_lines.specs.Maps.{payload_type}
-use Rattle.sdp_formats_pairs.specs.Pairs.{restrictions_of}
-use Rattle.sdp_formats_pairs.specs.PairsSay.{Blanks, IsWord}
-use Rattle.sdp_formats_stream_lines.specs.Rids.{limits_of, make_limits}
-use Rattle.sdp_formats_params.specs.declared.Pair.{Pair}
+use Rattle.sdp_formats_grammar.specs.Split.{Lacks}
+use Rattle.sdp_formats_attributes.specs.Maps.{payload_type}
+use Rattle.sdp_formats_attributes.specs.Pairs.{restrictions_of}
+use Rattle.sdp_formats_attributes.specs.PairsSay.{Blanks, IsWord}
+use Rattle.sdp_formats_attributes.specs.Rids.{limits_of, make_limits}
+use Rattle.sdp_formats_values.specs.declared.Pair.{Pair}
 
 -- Blanks, KEY=VALUE: no blank in either and none behind the value; `;` may stand in the key and `=` in the value.
 abbrev pub RestrictionSays : List ℕ → Pair → Type 0

@@ -7,24 +7,24 @@ use Rattle.sdp_formats_laws.specs.PrintableTexts.{IsEach, IsPrintableBandwidth, 
 use Rattle.sdp_formats_laws.specs.ReadTexts.{section_as_read, text_as_read, text_read}
 use Rattle.sdp_formats_lookups.specs.Sections.{extmap_in}
 use Rattle.sdp_formats_reader.specs.Grammar.{SdpSays}
-use Rattle.sdp_formats_round.specs.Laws.{is_distinct}
+use Rattle.sdp_formats_rounds.specs.Laws.{is_distinct}
 use Rattle.sdp_formats_laws.specs.RowsBack.{attributes_in, names_type, types_in, unlocked}
 use Rattle.sdp_formats_rows.specs.Plain.{is_plain}
 use Rattle.sdp_formats_rows.specs.Rows.{Row}
 use Rattle.sdp_formats_section_rows.specs.SectionRows.{rows_of}
-use Rattle.sdp_formats_faults.specs.Consistency.{is_consistent, is_direction_of, is_setup}
-use Rattle.sdp_formats_writable.specs.Writable.{ComesBack, IsWritableSession}
-use Rattle.sdp_formats_types.specs.Lookups.{direction_of, first_of, mid_in, msid_in, setup_in}
-use Rattle.sdp_formats_types.specs.Media.{is_mid}
-use Rattle.sdp_formats_types.specs.MediaTypes.{is_rtp}
-use Rattle.sdp_formats_sessions.specs.PrintedSession.{sdp_text}
-use Rattle.sdp_formats_types.specs.declared.media.MediaAttribute.{MediaAttribute}
-use Rattle.sdp_formats_types.specs.declared.media.MediaAttribute.TheVariants.{Fmtp}
-use Rattle.sdp_formats_types.specs.declared.media.MediaLine.{MediaLine}
-use Rattle.sdp_formats_types.specs.declared.MediaType.{MediaType}
-use Rattle.sdp_formats_types.specs.declared.MediaType.TheVariants.{Audio, Video}
-use Rattle.sdp_formats_sessions.specs.declared.session.Sdp.{Sdp}
-use Rattle.sdp_formats_sessions.specs.declared.session.SessionAttribute.{SessionAttribute}
+use Rattle.sdp_formats_lookups.specs.Consistency.{is_consistent, is_direction_of, is_setup}
+use Rattle.sdp_formats_reader.specs.Writable.{ComesBack, IsWritableSession}
+use Rattle.sdp_formats_data.specs.Lookups.{direction_of, first_of, mid_in, msid_in, setup_in}
+use Rattle.sdp_formats_data.specs.Media.{is_mid}
+use Rattle.sdp_formats_data.specs.MediaTypes.{is_rtp}
+use Rattle.sdp_formats_data.specs.PrintedSession.{sdp_text}
+use Rattle.sdp_formats_data.specs.declared.media.MediaAttribute.{MediaAttribute}
+use Rattle.sdp_formats_data.specs.declared.media.MediaAttribute.TheVariants.{Fmtp}
+use Rattle.sdp_formats_data.specs.declared.media.MediaLine.{MediaLine}
+use Rattle.sdp_formats_data.specs.declared.MediaType.{MediaType}
+use Rattle.sdp_formats_data.specs.declared.MediaType.TheVariants.{Audio, Video}
+use Rattle.sdp_formats_data.specs.declared.session.Sdp.{Sdp}
+use Rattle.sdp_formats_data.specs.declared.session.SessionAttribute.{SessionAttribute}
 
 -- A clock rate of 32 bits above 0 and channels of 8 bits, as every row of the program has.
 abbrev pub IsSized : Row → Type 0

@@ -1,15 +1,15 @@
 -- Sessions whose attributes can be written or printed, groups among them.
 use Rattle.std.specs.Prelude.{◌≡◌, ◌<◌, ◌^◌, ◌⊎◌, ℕ, false, List, [], ◌∷◌, map, codes, IfSome}
-use Rattle.sdp_formats_writable.specs.Texts.{with_first}
-use Rattle.sdp_formats_writable.specs.Writable.{ComesBack, IsWritableAttribute, IsWritableBandwidth}
-use Rattle.sdp_formats_writable.specs.Writable.{IsWritableSession}
-use Rattle.sdp_formats_writable.specs.Writable.{is_group}
+use Rattle.sdp_formats_reader.specs.OneMoreAttribute.{with_first}
+use Rattle.sdp_formats_reader.specs.Writable.{ComesBack, IsWritableAttribute, IsWritableBandwidth}
+use Rattle.sdp_formats_reader.specs.Writable.{IsWritableSession}
+use Rattle.sdp_formats_reader.specs.Writable.{is_group}
 use Rattle.sdp_formats_reader.specs.Grammar.{SdpSays}
-use Rattle.sdp_formats_sessions.specs.PrintedSession.{sdp_text}
-use Rattle.sdp_formats_sessions.specs.declared.session.Sdp.{Sdp}
-use Rattle.sdp_formats_sessions.specs.declared.session.Session.{Session}
-use Rattle.sdp_formats_sessions.specs.declared.session.SessionAttribute.{SessionAttribute}
-use Rattle.sdp_formats_sessions.specs.declared.session.SessionAttribute.TheVariants.{AllowMixedExts, Group}
+use Rattle.sdp_formats_data.specs.PrintedSession.{sdp_text}
+use Rattle.sdp_formats_data.specs.declared.session.Sdp.{Sdp}
+use Rattle.sdp_formats_data.specs.declared.session.Session.{Session}
+use Rattle.sdp_formats_data.specs.declared.session.SessionAttribute.{SessionAttribute}
+use Rattle.sdp_formats_data.specs.declared.session.SessionAttribute.TheVariants.{AllowMixedExts, Group}
 use Rattle.sdp_formats_rows.specs.Rows.{Row}
 use Rattle.sdp_formats_laws.specs.Printable.{IsWord}
 use Rattle.sdp_formats_laws.specs.PrintableSession.{AreMids, IsPrintable}

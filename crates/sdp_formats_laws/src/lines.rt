@@ -4,27 +4,27 @@ ghost use Rattle.std.specs.Prelude.{List, ℕ, ◌++◌, ◌∷◌, ◌≤◌, c
 ghost use Rattle.sdp_formats_laws.specs.CandidateWords.{CandidatesAreTheirWords};
 ghost use Rattle.sdp_formats_laws.specs.Names.{NamesAreLettersAndNumbers, NamesAreRead};
 ghost use Rattle.sdp_formats_laws.specs.OtherLines.{OtherLinesStayInSections, OtherLinesStayInSessions};
-ghost use Rattle.sdp_formats_laws.specs.Parameters.{IsReadBack};
+ghost use Rattle.sdp_formats_laws.specs.PrintedParameters.{IsReadBack};
 ghost use Rattle.sdp_formats_laws.specs.Printable.{IsPrintable};
 ghost use Rattle.sdp_formats_laws.specs.PrintableSession.{IsPrintable as IsPrintableInSession};
 ghost use Rattle.sdp_formats_laws.specs.RestrictionTexts.{LimitsAreExact, RestrictionsAreExact};
-ghost use Rattle.sdp_formats_media_lines.specs.Choice.{attribute_line};
-ghost use Rattle.sdp_formats_media_lines.specs.AsRead.{as_read};
-ghost use Rattle.sdp_formats_forms.specs.Line.{LineOf};
-ghost use Rattle.sdp_formats_session_attributes.specs.Choice.{attribute_line as session_line};
-ghost use Rattle.sdp_formats_types.specs.PrintedMedia.{attribute_text};
-ghost use Rattle.sdp_formats_sessions.specs.PrintedSession.{attribute_text as session_attribute_text};
-ghost use Rattle.sdp_formats_sessions.specs.declared.session.SessionAttribute.{SessionAttribute};
-ghost use Rattle.sdp_formats_sessions.specs.declared.session.SessionAttribute.TheVariants.{AllowMixedExts};
-ghost use Rattle.sdp_formats_sessions.specs.declared.session.SessionAttribute.TheVariants.{Unused as NoKnownKind};
-ghost use Rattle.sdp_formats_params.specs.declared.param.FormatParam.{FormatParam};
-ghost use Rattle.sdp_formats_types.specs.declared.media.MediaAttribute.{MediaAttribute};
-ghost use Rattle.sdp_formats_types.specs.declared.media.MediaAttribute.TheVariants.{Fmtp};
+ghost use Rattle.sdp_formats_attributes.specs.Choice.{attribute_line};
+ghost use Rattle.sdp_formats_attributes.specs.AsRead.{as_read};
+ghost use Rattle.sdp_formats_grammar.specs.Line.{LineOf};
+ghost use Rattle.sdp_formats_reader.specs.Choice.{attribute_line as session_line};
+ghost use Rattle.sdp_formats_data.specs.PrintedMedia.{attribute_text};
+ghost use Rattle.sdp_formats_data.specs.PrintedSession.{attribute_text as session_attribute_text};
+ghost use Rattle.sdp_formats_data.specs.declared.session.SessionAttribute.{SessionAttribute};
+ghost use Rattle.sdp_formats_data.specs.declared.session.SessionAttribute.TheVariants.{AllowMixedExts};
+ghost use Rattle.sdp_formats_data.specs.declared.session.SessionAttribute.TheVariants.{Unused as NoKnownKind};
+ghost use Rattle.sdp_formats_values.specs.declared.param.FormatParam.{FormatParam};
+ghost use Rattle.sdp_formats_data.specs.declared.media.MediaAttribute.{MediaAttribute};
+ghost use Rattle.sdp_formats_data.specs.declared.media.MediaAttribute.TheVariants.{Fmtp};
 
-use crate::parameters::parameter_lists_law;
-use sdp_formats_forms::Lined;
-use sdp_formats_media_lines::{MediaAttributeLine, printed_pairs_law};
-use sdp_formats_session_attributes::SessionAttributeLine;
+use crate::printed_parameters::parameter_lists_law;
+use sdp_formats_attributes::{MediaAttributeLine, printed_pairs_law};
+use sdp_formats_grammar::Lined;
+use sdp_formats_reader::SessionAttributeLine;
 
 /// The printed line of a printable attribute is read as that attribute, whatever stands behind it.
 ///

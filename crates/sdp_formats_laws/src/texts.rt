@@ -13,16 +13,16 @@ ghost use Rattle.sdp_formats_laws.specs.PrintableTexts.{
   HasLinesThatComeBack,
 };
 ghost use Rattle.sdp_formats_laws.specs.ReadTexts.{text_as_read};
-ghost use Rattle.sdp_formats_faults.specs.Consistency.{is_consistent};
+ghost use Rattle.sdp_formats_lookups.specs.Consistency.{is_consistent};
 ghost use Rattle.sdp_formats_reader.specs.Grammar.{SdpSays, SessionSays};
-ghost use Rattle.sdp_formats_sessions.specs.PrintedSession.{sdp_text, session_text};
-ghost use Rattle.sdp_formats_sessions.specs.declared.session.Sdp.{Sdp};
-ghost use Rattle.sdp_formats_sessions.specs.declared.session.Session.{Session};
+ghost use Rattle.sdp_formats_data.specs.PrintedSession.{sdp_text, session_text};
+ghost use Rattle.sdp_formats_data.specs.declared.session.Sdp.{Sdp};
+ghost use Rattle.sdp_formats_data.specs.declared.session.Session.{Session};
 
-use crate::parameters::parameter_lists_law;
-use sdp_formats_forms::Lined;
-use sdp_formats_media_lines::{MediaAttributeLine, printed_pairs_law};
-use sdp_formats_session_attributes::SessionAttributeLine;
+use crate::printed_parameters::parameter_lists_law;
+use sdp_formats_attributes::{MediaAttributeLine, printed_pairs_law};
+use sdp_formats_grammar::Lined;
+use sdp_formats_reader::SessionAttributeLine;
 
 /// The printed text of a session is read whole as that session, where its texts can stand where they are printed and no
 /// section has a fault; of lines `a=fmtp` as `printed_lines_law` says. So is a session without sections, and any text

@@ -7,10 +7,10 @@ use Rattle.std.specs.Option.{option_to_list}
 use Rattle.std.proofs.lemmas.Grind.{common_steps}
 use Rattle.std.proofs.lemmas.List.Folds.{list_all-append}
 use Rattle.sdp_formats_values.specs.declared.fingerprint.Fingerprint.{Fingerprint}
-use Rattle.sdp_formats_types.specs.declared.MediaLine.{MediaLine}
+use Rattle.sdp_formats_data.specs.declared.MediaLine.{MediaLine}
 use Rattle.sdp_formats_lookups.specs.Preference.{hash_preference, IsFirstOfLowest, IsPreferred}
 use Rattle.sdp_formats_lookups.specs.Preference.{chosen, better, best_of}
-use Rattle.sdp_formats_lookups.specs.Whole.{first_listed, section_prints}
+use Rattle.sdp_formats_lookups.specs.Transport.{first_listed, section_prints}
 
 abbrev is_below : Fingerprint → Fingerprint → Bool
 is_below p q = nat_lt (hash_preference p) (hash_preference q)

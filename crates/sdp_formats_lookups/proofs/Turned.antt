@@ -9,9 +9,9 @@ use Rattle.std.specs.Option.{option_or, unwrap_or}
 use Rattle.rtp_wire.specs.declared.Direction.{Direction}
 use Rattle.rtp_wire.specs.declared.Direction.TheVariants as way
 use Rattle.sdp_formats_lookups.specs.Directions.{directed, gives_direction}
-use Rattle.sdp_formats_types.specs.Lookups.{direction_in, direction_of, first_of}
-use Rattle.sdp_formats_types.specs.Media.{direction_attribute}
-use Rattle.sdp_formats_types.specs.declared.MediaAttribute.{MediaAttribute}
+use Rattle.sdp_formats_data.specs.Lookups.{direction_in, direction_of, first_of}
+use Rattle.sdp_formats_data.specs.Media.{direction_attribute}
+use Rattle.sdp_formats_data.specs.declared.MediaAttribute.{MediaAttribute}
 
 direction_in-attribute : (d : Direction) → direction_in (direction_attribute d) ≡ Some d
 unfolding direction_in

@@ -2,10 +2,10 @@
 use Rattle.std.specs.Prelude.{Bool, List, is_some}
 use Rattle.std.specs.List.{position_or_len, slice_set}
 use Rattle.rtp_wire.specs.declared.Direction.{Direction}
-use Rattle.sdp_formats_types.specs.Lookups.{direction_in}
-use Rattle.sdp_formats_types.specs.Media.{direction_attribute}
-use Rattle.sdp_formats_types.specs.declared.MediaAttribute.{MediaAttribute}
-use Rattle.sdp_formats_types.specs.declared.MediaLine.{MediaLine}
+use Rattle.sdp_formats_data.specs.Lookups.{direction_in}
+use Rattle.sdp_formats_data.specs.Media.{direction_attribute}
+use Rattle.sdp_formats_data.specs.declared.MediaAttribute.{MediaAttribute}
+use Rattle.sdp_formats_data.specs.declared.MediaLine.{MediaLine}
 
 abbrev pub gives_direction : MediaAttribute → Bool
 gives_direction a = is_some (direction_in a)

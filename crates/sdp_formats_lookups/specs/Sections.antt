@@ -4,9 +4,9 @@ use Rattle.std.specs.Borrow.{Bor}
 use Rattle.rtp_wire.specs.Name.{name_of}
 use Rattle.rtp_wire.specs.declared.Extension.{Extension}
 use Rattle.sdp_formats_lookups.specs.Creds.{with_name}
-use Rattle.sdp_formats_types.specs.Lookups.{first_of}
-use Rattle.sdp_formats_types.specs.declared.MediaAttribute.{MediaAttribute}
-use Rattle.sdp_formats_types.specs.declared.MediaAttribute.TheVariants as a
+use Rattle.sdp_formats_data.specs.Lookups.{first_of}
+use Rattle.sdp_formats_data.specs.declared.MediaAttribute.{MediaAttribute}
+use Rattle.sdp_formats_data.specs.declared.MediaAttribute.TheVariants as a
 use Rattle.sdp_formats_values.specs.declared.fingerprint.Fingerprint as print
 use Rattle.sdp_formats_values.specs.declared.streams.Simulcast as simulcast
 

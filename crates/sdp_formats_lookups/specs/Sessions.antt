@@ -1,9 +1,9 @@
 -- What the attributes of a session say.
 use Rattle.std.specs.Prelude.{ℕ, Bool, true, false, List, Option, Some, None}
 use Rattle.sdp_formats_lookups.specs.Creds.{with_name}
-use Rattle.sdp_formats_types.specs.Lookups.{first_of}
-use Rattle.sdp_formats_sessions.specs.declared.SessionAttribute.{SessionAttribute}
-use Rattle.sdp_formats_sessions.specs.declared.SessionAttribute.TheVariants as a
+use Rattle.sdp_formats_data.specs.Lookups.{first_of}
+use Rattle.sdp_formats_data.specs.declared.SessionAttribute.{SessionAttribute}
+use Rattle.sdp_formats_data.specs.declared.SessionAttribute.TheVariants as a
 use Rattle.sdp_formats_values.specs.declared.fingerprint.Fingerprint as print
 use Rattle.sdp_formats_values.specs.declared.setup.Setup as setup
 

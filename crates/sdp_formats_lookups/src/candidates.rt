@@ -1,51 +1,60 @@
-//! The candidates of sessions and sections (RFC 8839 5.1).
+//! The candidates of a whole text.
 
-ghost use Rattle.std.specs.Prelude.{◌≡◌, ◌++◌, OnOk};
-ghost use Rattle.std.specs.List.{filter_map};
-ghost use Rattle.sdp_formats_lookups.specs.Candidates.{borrowed, section_candidate, session_candidate};
+ghost use Rattle.std.specs.Prelude.{◌≡◌, IfOk, OnOk};
+ghost use Rattle.sdp_formats_lookups.specs.Candidates.{Adds, AreEachOnce, candidates_of};
+ghost use Rattle.sdp_formats_lookups.specs.Keys.{HasKeysOf};
+ghost use Rattle.sdp_formats_lookups.specs.ListedCandidates.{borrowed};
 
-use sdp_formats_sessions::SessionAttribute;
-use sdp_formats_types::{Candidate, MediaAttribute};
-use std::alloc::AllocError;
+use crate::candidate_keys::{CandidateKey, candidate_key};
+use crate::{section, session};
+use sdp_formats_data::{Candidate, Sdp};
+use std::alloc::{AllocError, Global};
+use std::collections::BTreeSet;
 
-/// Adds the candidates that attributes of a session give behind others.
-///
-/// # Errors
-///
-/// `AllocError` where memory runs out.
-#[tactic(auto, unfolding(crate::specs::Candidates::session_candidate))]
-pub(crate) fn push_of_session<'a>(
-    candidates: &mut Vec<&'a Candidate>,
-    attributes: &'a [SessionAttribute],
-) -> Result<(), AllocError>
-    ensures { OnOk result (borrowed candidates.new.items
-        ≡ borrowed candidates.old.items ++ filter_map session_candidate attributes.now) }
+/// All candidates of a text, those of the session first.
+fn all_candidates(alloc: Global, sdp: &Sdp) -> Result<Vec<&Candidate>, AllocError>
+    ensures { IfOk result (λ all. borrowed all.items ≡ candidates_of sdp.now) }
 {
-    for attribute in attributes {
-        if let SessionAttribute::Candidate(candidate) = attribute {
-            candidates.push(candidate)?;
-        }
+    let mut candidates = session::ice_candidates(alloc, &sdp.session)?;
+    let sections = sdp.media_lines.as_slice();
+    for section in sections {
+        let own = section::ice_candidates(alloc, section)?;
+        candidates.extend_from_slice(own.as_slice())?;
     }
+    Ok(candidates)
+}
+
+/// Adds a candidate that is in no earlier place, and its key.
+fn push_new<'a>(
+    once: &mut Vec<&'a Candidate>,
+    keys: &mut BTreeSet<CandidateKey<'a>>,
+    candidate: &'a Candidate,
+) -> Result<(), AllocError>
+    requires { HasKeysOf keys.old (borrowed once.old.items) }
+    ensures added { OnOk result (Adds (borrowed once.old.items) candidate.now (borrowed once.new.items)) }
+    ensures kept { OnOk result (HasKeysOf keys.new (borrowed once.new.items)) }
+{
+    if !keys.insert(candidate_key(candidate))? {
+        return Ok(());
+    }
+    once.push(candidate)?;
     Ok(())
 }
 
-/// Adds the candidates that attributes of a section give behind others.
+/// The candidates of a text, of the session and then of its sections, each once, in the order in which they are first
+/// there (RFC 8839 5.1).
 ///
 /// # Errors
 ///
 /// `AllocError` where memory runs out.
-#[tactic(auto, unfolding(crate::specs::Candidates::section_candidate))]
-pub(crate) fn push_of_section<'a>(
-    candidates: &mut Vec<&'a Candidate>,
-    attributes: &'a [MediaAttribute],
-) -> Result<(), AllocError>
-    ensures { OnOk result (borrowed candidates.new.items
-        ≡ borrowed candidates.old.items ++ filter_map section_candidate attributes.now) }
+pub fn ice_candidates(alloc: Global, sdp: &Sdp) -> Result<Vec<&Candidate>, AllocError>
+    ensures { IfOk result (λ once. AreEachOnce (candidates_of sdp.now) (borrowed once.items)) }
 {
-    for attribute in attributes {
-        if let MediaAttribute::Candidate(candidate) = attribute {
-            candidates.push(candidate)?;
-        }
+    let all = all_candidates(alloc, sdp)?;
+    let mut once = Vec::new(alloc);
+    let mut keys = BTreeSet::new(alloc);
+    for candidate in all.as_slice() {
+        push_new(&mut once, &mut keys, *candidate)?;
     }
-    Ok(())
+    Ok(once)
 }

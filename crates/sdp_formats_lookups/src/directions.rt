@@ -3,14 +3,14 @@
 ghost use Rattle.std.specs.Prelude.{◌≡◌, ◌<◌, IfSome, IsTrue, length};
 ghost use Rattle.std.specs.List.{list_any, position};
 ghost use Rattle.sdp_formats_lookups.specs.Directions.{directed, gives_direction, with_attrs};
-ghost use Rattle.sdp_formats_types.specs.Lookups.{direction_of};
+ghost use Rattle.sdp_formats_data.specs.Lookups.{direction_of};
 
 use rtp_wire::Direction;
-use sdp_formats_types::{Listed, MediaAttribute, MediaLine};
+use sdp_formats_data::{Listed, MediaAttribute, MediaLine};
 use std::alloc::Global;
 use std::mem;
 
-#[tactic(auto, unfolding(sdp_formats_types::specs::Lookups::direction_in))]
+#[tactic(auto, unfolding(sdp_formats_data::specs::Lookups::direction_in))]
 fn gives_direction(attribute: &MediaAttribute) -> bool
     ensures { result ≡ gives_direction attribute.now }
 {

@@ -5,7 +5,7 @@ ghost use Rattle.std.specs.List.{flat_map};
 ghost use Rattle.sdp_formats_lookups.specs.Sections.{extmap_in, extmaps_view, rid_in};
 
 use rtp_wire::{Extension, Rid};
-use sdp_formats_types::{MediaAttribute, MediaLine};
+use sdp_formats_data::{MediaAttribute, MediaLine};
 use std::alloc::{AllocError, Global};
 
 #[tactic(auto, unfolding(crate::specs::Sections::rid_in))]

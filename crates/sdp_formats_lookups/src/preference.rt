@@ -4,7 +4,7 @@ ghost use Rattle.std.specs.Prelude.{◌≡◌};
 ghost use Rattle.std.specs.Option.{option_copied};
 ghost use Rattle.sdp_formats_lookups.specs.Preference.{chosen, hash_preference};
 
-use sdp_formats_types::Fingerprint;
+use sdp_formats_data::Fingerprint;
 
 /// The place of its hash function among those that are preferred, 0 first: SHA-256, SHA-1, any other. Names are
 /// compared without regard to case (RFC 8122 5).

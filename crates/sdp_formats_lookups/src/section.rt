@@ -3,19 +3,19 @@
 ghost use Rattle.std.specs.Prelude.{◌≡◌, IfOk};
 ghost use Rattle.std.specs.List.{filter_map, list_any};
 ghost use Rattle.std.specs.Option.{option_copied};
-ghost use Rattle.sdp_formats_lookups.specs.Candidates.{borrowed, section_candidates};
+ghost use Rattle.sdp_formats_lookups.specs.ListedCandidates.{borrowed, section_candidates};
 ghost use Rattle.sdp_formats_lookups.specs.Creds.{creds_view};
 ghost use Rattle.sdp_formats_lookups.specs.Preference.{IsPreferred, best_of};
 ghost use Rattle.sdp_formats_lookups.specs.Sections.{creds_of, ends_candidates, fingerprint_in, ice_pwd_in};
 ghost use Rattle.sdp_formats_lookups.specs.Sections.{ice_ufrag_in, max_message_size_in, sctp_init_in};
 ghost use Rattle.sdp_formats_lookups.specs.Sections.{simulcast_in};
-ghost use Rattle.sdp_formats_sources.specs.Sources.{last_of};
-ghost use Rattle.sdp_formats_types.specs.Lookups.{first_of};
+ghost use Rattle.sdp_formats_lookups.specs.Sources.{last_of};
+ghost use Rattle.sdp_formats_data.specs.Lookups.{first_of};
 
-use crate::candidates::push_of_section;
+use crate::listed_candidates::push_of_section;
 use crate::preference::chosen;
-use sdp_formats_forms::Text;
-use sdp_formats_types::{Candidate, Fingerprint, MediaAttribute, MediaLine, Simulcast};
+use sdp_formats_data::{Candidate, Fingerprint, MediaAttribute, MediaLine, Simulcast};
+use sdp_formats_grammar::Text;
 use std::alloc::{AllocError, Global};
 
 /// The parameters of the first `a=sctp-init`.

@@ -3,18 +3,17 @@
 ghost use Rattle.std.specs.Prelude.{◌≡◌, IfOk};
 ghost use Rattle.std.specs.List.{filter_map, list_any};
 ghost use Rattle.std.specs.Option.{option_copied};
-ghost use Rattle.sdp_formats_lookups.specs.Candidates.{borrowed, session_candidates};
+ghost use Rattle.sdp_formats_lookups.specs.ListedCandidates.{borrowed, session_candidates};
 ghost use Rattle.sdp_formats_lookups.specs.Creds.{creds_view};
 ghost use Rattle.sdp_formats_lookups.specs.Preference.{IsPreferred, best_of};
 ghost use Rattle.sdp_formats_lookups.specs.Sessions.{creds_of, ends_candidates, fingerprint_in, ice_pwd_in};
 ghost use Rattle.sdp_formats_lookups.specs.Sessions.{ice_ufrag_in, is_lite, setup_in};
-ghost use Rattle.sdp_formats_types.specs.Lookups.{first_of};
+ghost use Rattle.sdp_formats_data.specs.Lookups.{first_of};
 
-use crate::candidates::push_of_session;
+use crate::listed_candidates::push_of_session;
 use crate::preference::chosen;
-use sdp_formats_forms::Text;
-use sdp_formats_sessions::{Session, SessionAttribute};
-use sdp_formats_types::{Candidate, Fingerprint, Setup};
+use sdp_formats_data::{Candidate, Fingerprint, Session, SessionAttribute, Setup};
+use sdp_formats_grammar::Text;
 use std::alloc::{AllocError, Global};
 
 /// Which end opens the connection, of the first `a=setup` (RFC 4145 4).

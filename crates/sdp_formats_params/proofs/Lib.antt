@@ -1,2 +1,3 @@
-pub mod Digits
-pub mod Modes
+pub mod Parts
+pub mod ReadingLemmas
+pub mod WrittenNames

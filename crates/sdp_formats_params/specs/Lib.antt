@@ -1,4 +1,11 @@
-pub mod Numbers
-pub mod Keys
-pub mod Params
-pub mod Printed
+pub mod Fields
+pub mod FormatScores
+pub mod Formats
+pub mod H264Score
+pub mod LevelScore
+pub mod LineValues
+pub mod Parameters
+pub mod Points
+pub mod Reading
+pub mod Same
+pub mod Texts

@@ -1,15 +1,25 @@
-//! Format parameters of a payload type, one by one, as `a=fmtp` gives them (RFC 8866 6.15).
+//! Format parameters of payload rows, and how well two match.
 #![tactic(auto)]
 
-mod key;
-mod numbers;
-mod pairs;
-mod param;
-mod printed;
+mod fields;
+mod format;
+mod format_scores;
+mod h264;
+mod last_values;
+mod level_scores;
+mod levels;
+mod parameters;
+mod points;
+mod printing;
+mod reading;
+mod same;
+mod set_values;
 
-pub use h26x_payload_profiles::{H265ProfileTierLevel, H266ProfileTierLevel};
-pub use key::Key;
-pub use numbers::{bit_of, byte_of, don_diff_of, modes_of, profile_level_of, range_of, word_of};
-pub use pairs::Pair;
-pub use param::{FormatParam, has_name};
-pub use printed::has_mode;
+pub use format::FormatParams;
+pub use format_scores::{format_score, modes_score};
+pub use h26x_payload_profiles::{H264ProfileLevel, H265ProfileTierLevel, H266ProfileTierLevel};
+pub use last_values::{gives_level, last_value};
+pub use level_scores::{GivenH265, GivenH266, GivenLevel, level_agreed};
+pub use parameters::to_format_param;
+pub use printing::numbers_of;
+pub use same::{alike, same_byte, same_flag, same_format, same_half_word};

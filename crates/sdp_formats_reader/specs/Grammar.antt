@@ -2,20 +2,20 @@
 use Rattle.std.specs.Prelude.{◌≡◌, ℕ, IsTrue, List, Option, Result, Ok, Err}
 use Rattle.std.specs.Borrow.{Bor}
 use Rattle.std.specs.List.{list_all}
-use Rattle.sdp_formats_forms.specs.declared.refusal.Refusal.{Refusal}
-use Rattle.sdp_formats_forms.specs.declared.refusal.Refusal.TheVariants.{Unfit, Memory}
-use Rattle.sdp_formats_session_lines.specs.Lines.{version_line, origin_line, name_line, other_line, bandwidth_line}
-use Rattle.sdp_formats_session_lines.specs.Lines.{times_line, repeat_line, connection_line, head_line}
-use Rattle.sdp_formats_session_lines.specs.declared.media.MediaHead.{MediaHead}
-use Rattle.sdp_formats_session_lines.specs.declared.passed.Passed.{Passed}
-use Rattle.sdp_formats_media_lines.specs.Choice.{attribute_line as media_line}
-use Rattle.sdp_formats_session_attributes.specs.Choice.{attribute_line as session_line}
-use Rattle.sdp_formats_forms.specs.Line.{LineOf}
-use Rattle.sdp_formats_forms.specs.Step.{Many, Perhaps}
-use Rattle.sdp_formats_faults.specs.Consistency.{is_consistent}
-use Rattle.sdp_formats_types.specs.declared.media.MediaLine.{MediaLine}
-use Rattle.sdp_formats_sessions.specs.declared.session.Sdp.{Sdp}
-use Rattle.sdp_formats_sessions.specs.declared.session.Session.{Session}
+use Rattle.sdp_formats_grammar.specs.declared.refusal.Refusal.{Refusal}
+use Rattle.sdp_formats_grammar.specs.declared.refusal.Refusal.TheVariants.{Unfit, Memory}
+use Rattle.sdp_formats_reader.specs.Lines.{version_line, origin_line, name_line, other_line, bandwidth_line}
+use Rattle.sdp_formats_reader.specs.Lines.{times_line, repeat_line, connection_line, head_line}
+use Rattle.sdp_formats_reader.specs.declared.media.MediaHead.{MediaHead}
+use Rattle.sdp_formats_reader.specs.declared.passed.Passed.{Passed}
+use Rattle.sdp_formats_attributes.specs.Choice.{attribute_line as media_line}
+use Rattle.sdp_formats_reader.specs.Choice.{attribute_line as session_line}
+use Rattle.sdp_formats_grammar.specs.Line.{LineOf}
+use Rattle.sdp_formats_grammar.specs.Step.{Many, Perhaps}
+use Rattle.sdp_formats_lookups.specs.Consistency.{is_consistent}
+use Rattle.sdp_formats_data.specs.declared.media.MediaLine.{MediaLine}
+use Rattle.sdp_formats_data.specs.declared.session.Sdp.{Sdp}
+use Rattle.sdp_formats_data.specs.declared.session.Session.{Session}
 
 -- The lines `v=`, `o=` and `s=`: the session's number.
 unfoldable pub OpeningSays : List ℕ → ℕ → List ℕ → Type 0

@@ -1,3 +1,11 @@
+pub mod Choice
 pub mod Grammar
-pub mod Texts
+pub mod Groups
+pub mod Heads
+pub mod Kinds
+pub mod Lines
+pub mod OneMoreAttribute
 pub mod Printed
+pub mod ReaderErrors
+pub mod WholeLines
+pub mod Writable

@@ -1,11 +1,28 @@
-//! How session texts are read: header, session attributes, sections, and what is left (RFC 8866 5).
+//! The reader of session texts, and which texts can be written.
 #![tactic(auto)]
 
+mod attribute_choice;
 mod error;
+mod groups;
 mod header;
+mod kinds;
+mod line_read_back;
+mod media;
+mod origin_lines;
+mod originator;
 mod parser;
+mod passed;
 mod section;
+mod text;
 mod whole;
+mod writable;
 
+pub use attribute_choice::SessionAttributeLine;
 pub use error::SdpError;
+pub use media::{HeadLine, MediaHead};
+pub use origin_lines::{BandwidthLine, OriginLine};
 pub use parser::{sdp_parser, session_parser};
+pub use passed::{ConnectionLine, NameLine, OtherLine, Passed, RepeatLine, TimesLine, VersionLine};
+pub use sdp_formats_data::MediaLine;
+pub use text::WholeText;
+pub use writable::is_writable_session;

@@ -2,17 +2,16 @@
 
 ghost use Rattle.std.specs.Prelude.{◌≡◌};
 ghost use Rattle.std.specs.List.{list_all};
-ghost use Rattle.sdp_formats_faults.specs.Consistency.{is_consistent};
+ghost use Rattle.sdp_formats_lookups.specs.Consistency.{is_consistent};
 ghost use Rattle.sdp_formats_reader.specs.Grammar.{ReadsSdp, ReadsSession};
 
+use crate::attribute_choice::SessionAttributeLine;
 use crate::header::session;
 use crate::section::SectionStep;
-use sdp_formats_faults::is_consistent;
-use sdp_formats_forms::{Lined, Refusal, many};
-use sdp_formats_media_lines::MediaAttributeLine;
-use sdp_formats_session_attributes::SessionAttributeLine;
-use sdp_formats_sessions::{Sdp, Session, SessionAttribute};
-use sdp_formats_types::{MediaAttribute, MediaLine};
+use sdp_formats_attributes::MediaAttributeLine;
+use sdp_formats_data::{MediaAttribute, MediaLine, Sdp, Session, SessionAttribute};
+use sdp_formats_grammar::{Lined, Refusal, many};
+use sdp_formats_lookups::is_consistent;
 use std::alloc::Global;
 
 fn are_consistent(sections: &[MediaLine]) -> bool

@@ -3,10 +3,10 @@ use Rattle.std.proofs.Common.{◌≤◌, ℕ, Bool, true, false, ◌&&◌, ◌==
 use Rattle.std.proofs.Common.{Option, Some, None, IfSome, nat_lt, if◌then◌else◌}
 use Rattle.std.specs.Prelude.{unwrap_or}
 use Rattle.std.proofs.lemmas.List.Sums.{count_by-le-length}
-use Rattle.payload_core_tables.specs.Tables.{place_of}
-use Rattle.h26x_payload_h264_profiles.specs.H264LevelIdc as level_264
-use Rattle.h26x_payload_h264_profiles.specs.declared.h264.H264LevelIdc.{H264LevelIdc}
-use Rattle.h26x_payload_h264_profiles.specs.declared.h264.H264ProfileLevel.{H264ProfileLevel}
+use Rattle.named_values.specs.Tables.{place_of}
+use Rattle.h26x_payload_profiles.specs.H264LevelIdc as level_264
+use Rattle.h26x_payload_profiles.specs.declared.h264.H264LevelIdc.{H264LevelIdc}
+use Rattle.h26x_payload_profiles.specs.declared.h264.H264ProfileLevel.{H264ProfileLevel}
 use Rattle.h26x_payload_profiles.specs.H265Level as level_265
 use Rattle.h26x_payload_profiles.specs.H265Profile as profile_265
 use Rattle.h26x_payload_profiles.specs.H266Level as level_266
@@ -17,16 +17,16 @@ use Rattle.h26x_payload_profiles.specs.declared.profile_tier_level.ProfileTierLe
 use Rattle.payload_core_base.specs.declared.codec.Codec.{Codec}
 use Rattle.payload_core_base.specs.declared.codec.Codec.TheVariants.{Opus, AmrWb, H264, H265}
 use Rattle.payload_core_base.specs.declared.codec.Codec.TheVariants.{H266, Vp9, Av1, Tele}
-use Rattle.sdp_formats_scores.specs.Points.{points_if, level_points}
-use Rattle.sdp_formats_scores.specs.H264Score as h264
-use Rattle.sdp_formats_scores.specs.LevelScore as levels
-use Rattle.sdp_formats_format.specs.declared.format.FormatParams.{FormatParams}
+use Rattle.sdp_formats_params.specs.Points.{points_if, level_points}
+use Rattle.sdp_formats_params.specs.H264Score as h264
+use Rattle.sdp_formats_params.specs.LevelScore as levels
+use Rattle.sdp_formats_params.specs.declared.format.FormatParams.{FormatParams}
 use Rattle.sdp_formats_rows.specs.declared.spec.CodecSpec.{CodecSpec}
 use Rattle.sdp_formats_rows.specs.Codecs.{is_codec}
-use Rattle.sdp_formats_scores.specs.Same.{same, same_flag, alike, same_format}
-use Rattle.sdp_formats_scores.specs.FormatScores.{penalty, opus_score, modes_score, given_264}
+use Rattle.sdp_formats_params.specs.Same.{same, same_flag, alike, same_format}
+use Rattle.sdp_formats_params.specs.FormatScores.{penalty, opus_score, modes_score, given_264}
 use Rattle.sdp_formats_rows.specs.Scores.{is_mono, amr_wb_score}
-use Rattle.sdp_formats_scores.specs.FormatScores.{format_score}
+use Rattle.sdp_formats_params.specs.FormatScores.{format_score}
 use Rattle.sdp_formats_rows.specs.Scores.{settings_score, codec_score, score}
 
 abbrev InRange : Option ℕ → Type 0

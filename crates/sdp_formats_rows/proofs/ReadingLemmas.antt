@@ -1,8 +1,8 @@
 -- A codec with its settings that is read over one with no channels.
 use Rattle.std.proofs.Common.{◌≡◌, [], ◌∷◌, None, Result, Ok, Err, IfOk}
 use Rattle.serde.specs.declared.deserializer.Deserializer.{Deserializer}
-use Rattle.payload_core_tables.specs.Reading.{GivesOf, PicksOf}
-use Rattle.sdp_formats_format.proofs.ReadingLemmas.{ReadsTested, tested}
+use Rattle.named_values.specs.Reading.{GivesOf, PicksOf}
+use Rattle.sdp_formats_params.proofs.ReadingLemmas.{ReadsTested, tested}
 use Rattle.sdp_formats_rows.specs.declared.spec.CodecSpec.{CodecSpec}
 use Rattle.sdp_formats_rows.specs.Reading.{ReadsSetting, ReadsSpec, setting_names}
 

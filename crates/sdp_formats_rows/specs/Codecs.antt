@@ -5,8 +5,8 @@ use Rattle.payload_core_base.specs.declared.codec.Codec.TheVariants.{Opus, PCMU,
 use Rattle.payload_core_base.specs.declared.codec.Codec.TheVariants.{H266, Vp8, Vp9, Av1, Tele, Rtx, Red, Null}
 use Rattle.payload_core_base.specs.declared.codec.Codec.TheVariants.{Unknown}
 use Rattle.sdp_formats_rows.specs.declared.spec.CodecSpec.{CodecSpec}
-use Rattle.sdp_formats_format.specs.declared.format.FormatParams.{FormatParams}
-use Rattle.sdp_formats_format.specs.Formats.{no_format}
+use Rattle.sdp_formats_params.specs.declared.format.FormatParams.{FormatParams}
+use Rattle.sdp_formats_params.specs.Formats.{no_format}
 
 -- The codecs counted.
 abbrev pub codec_number : Codec → ℕ

@@ -2,9 +2,9 @@
 use Rattle.std.specs.Prelude.{codes}
 use Rattle.serde.specs.Event.{Log, Sends, Then, WritesOption}
 use Rattle.payload_core_base.specs.CodecNames.{variant_name}
-use Rattle.payload_core_tables.specs.Fields.{InMap, WritesField}
-use Rattle.payload_core_tables.specs.Names.{name_event}
-use Rattle.sdp_formats_format.specs.Fields.{WritesFlag, WritesFormat, WritesNumber}
+use Rattle.named_values.specs.Fields.{InMap, WritesField}
+use Rattle.named_values.specs.Names.{name_event}
+use Rattle.sdp_formats_params.specs.Fields.{WritesFlag, WritesFormat, WritesNumber}
 use Rattle.sdp_formats_rows.specs.Rows.{Row}
 use Rattle.sdp_formats_rows.specs.declared.fields.Fields.{Fields}
 use Rattle.sdp_formats_rows.specs.declared.spec.CodecSpec.{CodecSpec}

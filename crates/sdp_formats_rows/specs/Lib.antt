@@ -1,7 +1,10 @@
-pub mod Rows
 pub mod Codecs
-pub mod Scores
+pub mod DefaultRows
+pub mod Fields
+pub mod Kinds
 pub mod Laws
 pub mod Plain
 pub mod Reading
-pub mod Fields
+pub mod Replaced
+pub mod Rows
+pub mod Scores

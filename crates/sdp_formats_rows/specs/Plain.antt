@@ -5,11 +5,11 @@ use Rattle.payload_core_base.specs.Codecs.{is_audio_codec, is_tele_codec, is_vid
 use Rattle.payload_core_base.specs.declared.codec.Codec.{Codec}
 use Rattle.payload_core_base.specs.declared.codec.Codec.TheVariants.{G722, H265, H266}
 use Rattle.sdp_formats_rows.specs.Codecs.{is_codec}
-use Rattle.sdp_formats_format.specs.Formats.{format_of, no_format}
+use Rattle.sdp_formats_params.specs.Formats.{format_of, no_format}
 use Rattle.sdp_formats_rows.specs.Rows.{Row}
-use Rattle.sdp_formats_scores.specs.Same.{same, same_bool, same_format}
-use Rattle.sdp_formats_format.specs.Texts.{format_text}
-use Rattle.sdp_formats_format.specs.declared.format.FormatParams.{FormatParams}
+use Rattle.sdp_formats_params.specs.Same.{same, same_bool, same_format}
+use Rattle.sdp_formats_params.specs.Texts.{format_text}
+use Rattle.sdp_formats_params.specs.declared.format.FormatParams.{FormatParams}
 use Rattle.sdp_formats_rows.specs.declared.spec.CodecSpec.{CodecSpec}
 
 -- Types of seven bits, where they are given.

@@ -4,8 +4,8 @@ use Rattle.serde.specs.Event.{Event, boolean, nothing, unsigned}
 use Rattle.serde.specs.declared.deserializer.Deserializer.{Deserializer}
 use Rattle.payload_core_base.specs.CodecNames.{variant_name}
 use Rattle.payload_core_base.specs.Codecs.{codecs}
-use Rattle.payload_core_tables.specs.Names.{ReadsName}
-use Rattle.payload_core_tables.specs.Reading.{GivesOf, PicksOf, ReadsNamed}
+use Rattle.named_values.specs.Names.{ReadsName}
+use Rattle.named_values.specs.Reading.{GivesOf, PicksOf, ReadsNamed}
 use Rattle.sdp_formats_rows.specs.Fields.{row_of_fields}
 use Rattle.sdp_formats_rows.specs.Rows.{Row}
 use Rattle.sdp_formats_rows.specs.declared.fields.Fields.{Fields}

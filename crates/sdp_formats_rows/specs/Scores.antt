@@ -2,8 +2,8 @@
 use Rattle.std.specs.Prelude.{ℕ, Bool, ◌&&◌, ◌==◌, Option, Some, None, unwrap_or, if◌then◌else◌}
 use Rattle.payload_core_base.specs.declared.codec.Codec.{Codec}
 use Rattle.payload_core_base.specs.declared.codec.Codec.TheVariants.{AmrWb, Tele}
-use Rattle.sdp_formats_scores.specs.FormatScores.{format_score, modes_score}
-use Rattle.sdp_formats_scores.specs.Same.{same, same_format, alike}
+use Rattle.sdp_formats_params.specs.FormatScores.{format_score, modes_score}
+use Rattle.sdp_formats_params.specs.Same.{same, same_format, alike}
 use Rattle.sdp_formats_rows.specs.declared.spec.CodecSpec.{CodecSpec}
 use Rattle.sdp_formats_rows.specs.Codecs.{is_codec}
 

@@ -5,7 +5,7 @@ ghost use Rattle.sdp_formats_rows.specs.Fields.{WritesCodec, WritesFeedback, Wri
 
 use crate::row::PayloadParams;
 use crate::spec::CodecSpec;
-use payload_core_tables::write_field;
+use named_values::write_field;
 use rtp_wire::Pt;
 use serde::{Described, Serialize, Serializer};
 

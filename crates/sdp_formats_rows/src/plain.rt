@@ -10,8 +10,7 @@ use crate::row::PayloadParams;
 use crate::spec::CodecSpec;
 use payload_core_base::Codec;
 use rtp_wire::Pt;
-use sdp_formats_format::FormatParams;
-use sdp_formats_scores::{same_byte, same_format};
+use sdp_formats_params::{FormatParams, same_byte, same_format};
 use std::alloc::{AllocError, Global};
 
 /// Is it a type of seven bits, if it is given?

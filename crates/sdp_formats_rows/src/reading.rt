@@ -7,10 +7,10 @@ ghost use Rattle.sdp_formats_rows.specs.Reading.{ReadsField, ReadsRow, ReadsSett
 use crate::fields::{Fields, row_of};
 use crate::row::PayloadParams;
 use crate::spec::CodecSpec;
+use named_values::{FIELD, ReadFields, read_fields, read_flag, read_optional};
 use payload_core_base::Codec;
-use payload_core_tables::{FIELD, ReadFields, read_fields, read_flag, read_optional};
 use rtp_wire::{Frequency, Pt};
-use sdp_formats_format::FormatParams;
+use sdp_formats_params::FormatParams;
 use serde::de::DeserializeOwned;
 use serde::{Deserialize, Deserializer, Format, Name};
 use std::alloc::Global;

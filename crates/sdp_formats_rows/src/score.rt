@@ -7,7 +7,7 @@ ghost use Rattle.sdp_formats_rows.specs.Scores.{amr_wb_score, codec_score, is_mo
 
 use crate::spec::CodecSpec;
 use payload_core_base::Codec;
-use sdp_formats_scores::{alike, format_score, modes_score, same_byte, same_format};
+use sdp_formats_params::{alike, format_score, modes_score, same_byte, same_format};
 
 /// Is it one channel, given or not?
 fn is_mono(spec: &CodecSpec) -> bool

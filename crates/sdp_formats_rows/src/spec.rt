@@ -2,7 +2,7 @@
 
 use payload_core_base::Codec;
 use rtp_wire::{Frequency, Pt};
-use sdp_formats_format::FormatParams;
+use sdp_formats_params::FormatParams;
 
 /// A codec with its clock rate, channels and format (RFC 8866 6.6 and 6.15).
 #[derive(Clone, Copy, Debug, PartialEq, Eq, Drop)]

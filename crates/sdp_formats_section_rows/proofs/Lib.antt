@@ -1,2 +1,2 @@
-mod TypeLists
 mod RowsByType
+mod TypeLists

@@ -6,19 +6,19 @@ use Rattle.std.specs.Option.{option_map}
 use Rattle.payload_core_base.specs.Codecs.{is_audio_codec, is_tele_codec, is_video_codec}
 use Rattle.payload_core_base.specs.declared.codec.Codec.{Codec}
 use Rattle.payload_core_base.specs.declared.codec.Codec.TheVariants.{AmrWb, Red, Rtx}
-use Rattle.sdp_formats_format.specs.Formats.{no_format}
-use Rattle.sdp_formats_format.specs.declared.format.FormatParams.{FormatParams}
+use Rattle.sdp_formats_params.specs.Formats.{no_format}
+use Rattle.sdp_formats_params.specs.declared.format.FormatParams.{FormatParams}
 use Rattle.sdp_formats_rows.specs.Codecs.{is_codec}
 use Rattle.sdp_formats_rows.specs.Rows.{Row}
-use Rattle.sdp_formats_types.specs.declared.media.MediaAttribute.{MediaAttribute}
-use Rattle.sdp_formats_types.specs.declared.media.MediaAttribute.TheVariants.{Fmtp}
-use Rattle.sdp_formats_given_formats.specs.Given.{events_after, is_declined, most_of, with_attribute, with_events}
-use Rattle.sdp_formats_row_attributes.specs.Maps.{spec_of_map}
+use Rattle.sdp_formats_data.specs.declared.media.MediaAttribute.{MediaAttribute}
+use Rattle.sdp_formats_data.specs.declared.media.MediaAttribute.TheVariants.{Fmtp}
+use Rattle.sdp_formats_section_rows.specs.Given.{events_after, is_declined, most_of, with_attribute, with_events}
+use Rattle.sdp_formats_section_rows.specs.Maps.{spec_of_map}
 use Rattle.sdp_formats_section_rows.specs.SectionRows.{has_feedback, listed, names}
 use Rattle.sdp_formats_section_rows.specs.TypeLists.{is_listed}
 use Rattle.sdp_formats_section_rows.specs.declared.facts.FeedbackGiven.{FeedbackGiven}
 use Rattle.sdp_formats_section_rows.specs.declared.facts.TypeFacts.{TypeFacts}
-use Rattle.sdp_formats_given_formats.specs.declared.given.Events.TheVariants as events
+use Rattle.sdp_formats_section_rows.specs.declared.given.Events.TheVariants as events
 use Rattle.sdp_formats_section_rows.specs.declared.mapped.Mapping.{Mapping}
 
 -- The type of retransmissions or of redundant audio of a type, by the list of the types in that role.

@@ -1,6 +1,7 @@
-pub use Rattle.sdp_formats_row_attributes.specs.Attributes
-pub use Rattle.sdp_formats_given_formats.specs.Given
+pub mod Attributes
+pub mod Facts
+pub mod Given
 pub mod Mapped
+pub mod Maps
 pub mod SectionRows
 pub mod TypeLists
-pub mod Facts

@@ -4,10 +4,10 @@ use Rattle.std.specs.Prelude.{if◌then◌else◌}
 use Rattle.std.specs.List.{list_any, flat_map}
 use Rattle.payload_core_base.specs.declared.codec.Codec.{Codec}
 use Rattle.sdp_formats_rows.specs.Codecs.{is_codec, static_spec}
-use Rattle.sdp_formats_row_attributes.specs.Maps.{map_of}
+use Rattle.sdp_formats_section_rows.specs.Maps.{map_of}
 use Rattle.sdp_formats_rows.specs.declared.spec.CodecSpec.{CodecSpec}
-use Rattle.sdp_formats_types.specs.declared.media.MediaAttribute.{MediaAttribute}
-use Rattle.sdp_formats_types.specs.declared.media.MediaAttribute.TheVariants as attribute
+use Rattle.sdp_formats_data.specs.declared.media.MediaAttribute.{MediaAttribute}
+use Rattle.sdp_formats_data.specs.declared.media.MediaAttribute.TheVariants as attribute
 use Rattle.sdp_formats_section_rows.specs.declared.mapped.Mapping.{Mapping}
 
 -- The types that `a=rtpmap` lines map, in order.

@@ -7,14 +7,14 @@ use Rattle.std.specs.Str.{bytes_eq}
 use Rattle.payload_core_base.specs.Codecs.{is_audio_codec, is_tele_codec, is_video_codec}
 use Rattle.payload_core_base.specs.declared.codec.Codec.{Codec}
 use Rattle.payload_core_base.specs.declared.codec.Codec.TheVariants as codec
-use Rattle.sdp_formats_params.specs.declared.param.FormatParam.{FormatParam}
-use Rattle.sdp_formats_params.specs.declared.param.FormatParam.TheVariants.{Apt, BarePtList, Red}
+use Rattle.sdp_formats_values.specs.declared.param.FormatParam.{FormatParam}
+use Rattle.sdp_formats_values.specs.declared.param.FormatParam.TheVariants.{Apt, BarePtList, Red}
 use Rattle.sdp_formats_rows.specs.Rows.{Row}
-use Rattle.sdp_formats_format.specs.declared.format.FormatParams.{FormatParams}
-use Rattle.sdp_formats_types.specs.declared.media.MediaAttribute.{MediaAttribute}
-use Rattle.sdp_formats_types.specs.declared.media.MediaAttribute.TheVariants.{Fmtp, RtcpFb}
-use Rattle.sdp_formats_given_formats.specs.Given.{format_given}
-use Rattle.sdp_formats_row_attributes.specs.Maps.{spec_of_map}
+use Rattle.sdp_formats_params.specs.declared.format.FormatParams.{FormatParams}
+use Rattle.sdp_formats_data.specs.declared.media.MediaAttribute.{MediaAttribute}
+use Rattle.sdp_formats_data.specs.declared.media.MediaAttribute.TheVariants.{Fmtp, RtcpFb}
+use Rattle.sdp_formats_section_rows.specs.Given.{format_given}
+use Rattle.sdp_formats_section_rows.specs.Maps.{spec_of_map}
 use Rattle.sdp_formats_section_rows.specs.Mapped.{is_mapped_to, mappings}
 use Rattle.sdp_formats_section_rows.specs.declared.mapped.Mapping.{Mapping}
 

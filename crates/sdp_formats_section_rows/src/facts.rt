@@ -5,12 +5,12 @@ ghost use Rattle.std.specs.Option.{option_copied};
 ghost use Rattle.sdp_formats_section_rows.specs.Facts.{facts_of, feedback_given, find_facts};
 ghost use Rattle.sdp_formats_section_rows.specs.SectionRows.{has_feedback, is_feedback};
 
+use crate::given::{any_declined, events_given, most_of, with_attributes};
 use crate::links::linked;
 use crate::type_lists::is_listed;
 use rtp_wire::Pt;
-use sdp_formats_given_formats::{any_declined, events_given, most_of, with_attributes};
+use sdp_formats_data::{MediaAttribute, MediaLine};
 use sdp_formats_rows::{Codec, FormatParams};
-use sdp_formats_types::{MediaAttribute, MediaLine};
 
 /// Which feedback a section gives for a payload type (RFC 4585 4.2, RFC 5104 7.1).
 #[derive(Drop)]

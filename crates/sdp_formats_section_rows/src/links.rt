@@ -7,8 +7,8 @@ ghost use Rattle.sdp_formats_section_rows.specs.SectionRows.{names};
 
 use crate::type_lists::is_listed;
 use rtp_wire::Pt;
+use sdp_formats_data::{FormatParam, MediaAttribute};
 use sdp_formats_rows::Codec;
-use sdp_formats_types::{FormatParam, MediaAttribute};
 
 fn names(role: Codec, pt: Pt, param: &FormatParam) -> bool
     ensures { result ≡ names role pt param.now }

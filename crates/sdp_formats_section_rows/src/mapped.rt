@@ -7,11 +7,11 @@ ghost use Rattle.sdp_formats_section_rows.specs.Mapped.{is_mapped, mapping_in, m
 ghost use Rattle.sdp_formats_section_rows.specs.Mapped.{with_static};
 ghost use Rattle.sdp_formats_section_rows.specs.TypeLists.{AreMapped};
 
+use crate::maps::map_of;
 use crate::type_lists::is_listed;
 use rtp_wire::Pt;
-use sdp_formats_row_attributes::map_of;
+use sdp_formats_data::{MediaAttribute, RtpMap};
 use sdp_formats_rows::{Codec, CodecSpec};
-use sdp_formats_types::{MediaAttribute, RtpMap};
 use std::alloc::{AllocError, Global};
 
 /// A payload type and what it is mapped to.

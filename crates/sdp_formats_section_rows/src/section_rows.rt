@@ -9,13 +9,13 @@ ghost use Rattle.sdp_formats_section_rows.specs.Facts.{row_by, row_with, rows_by
 ghost use Rattle.sdp_formats_section_rows.specs.SectionRows.{listed, rows_given, rows_of};
 
 use crate::facts::{TypeFacts, facts_in, facts_of};
+use crate::given::{is_amr_wb, with_events};
 use crate::mapped::{Mapping, mappings};
+use crate::maps::spec_of_map;
 use crate::type_lists::types_mapped_to;
 use rtp_wire::Pt;
-use sdp_formats_given_formats::{is_amr_wb, with_events};
-use sdp_formats_row_attributes::spec_of_map;
+use sdp_formats_data::MediaLine;
 use sdp_formats_rows::{Codec, FormatParams, PayloadParams, is_media_codec};
-use sdp_formats_types::MediaLine;
 use std::alloc::{AllocError, Global};
 
 fn format_by(codec: Codec, facts: &TypeFacts) -> Option<FormatParams>

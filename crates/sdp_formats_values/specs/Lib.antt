@@ -1,6 +1,11 @@
-pub mod Setup
-pub mod Streams
-pub mod PrintedCandidates
-pub mod Printed
+pub mod Hashed
+pub mod Keys
 pub mod Lists
 pub mod MediaTypes
+pub mod Numbers
+pub mod Params
+pub mod PrintedCandidates
+pub mod PrintedParameters
+pub mod PrintedValues
+pub mod Setup
+pub mod Streams

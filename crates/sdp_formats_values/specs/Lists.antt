@@ -1,10 +1,10 @@
 -- Lines with one value or two, and lists of a line, as they are printed.
 use Rattle.std.specs.Prelude.{ℕ, Bool, List, [], ◌∷◌, ◌++◌, map, codes, if◌then◌else◌, Option, None, Some}
 use Rattle.std.specs.Fmt.{decimal}
-use Rattle.sdp_formats_forms.specs.Joined.{joined, spelled}
-use Rattle.sdp_formats_params.specs.declared.Pair.{Pair}
-use Rattle.sdp_formats_params.specs.Printed.{pair_text}
-use Rattle.sdp_formats_values.specs.Printed.{is_empty, line_end}
+use Rattle.sdp_formats_grammar.specs.Joined.{joined, spelled}
+use Rattle.sdp_formats_values.specs.declared.pairs.Pair.{Pair}
+use Rattle.sdp_formats_values.specs.PrintedParameters.{pair_text}
+use Rattle.sdp_formats_values.specs.PrintedValues.{is_empty, line_end}
 use Rattle.sdp_formats_values.specs.declared.bandwidth.Bandwidth.{Bandwidth}
 
 -- Numbers with a text between each two.

@@ -2,7 +2,7 @@
 use Rattle.std.specs.Prelude.{ℕ, List, [], ◌∷◌, codes}
 use Rattle.std.specs.Fmt.{decimal}
 use Rattle.std.specs.Option.{option_map}
-use Rattle.sdp_formats_forms.specs.Joined.{spelled, maybe_text}
+use Rattle.sdp_formats_grammar.specs.Joined.{spelled, maybe_text}
 use Rattle.sdp_formats_values.specs.declared.candidate.Candidate.{Candidate}
 use Rattle.sdp_formats_values.specs.declared.candidate.RelatedAddress.{RelatedAddress}
 use Rattle.sdp_formats_values.specs.declared.candidate.Protocol.{Protocol}

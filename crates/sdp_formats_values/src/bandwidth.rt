@@ -1,6 +1,6 @@
 //! Bandwidths (RFC 8866 5.8).
 
-use sdp_formats_forms::Text;
+use sdp_formats_grammar::Text;
 use std::fmt;
 
 /// A bandwidth, `b=TYPE:VALUE` (RFC 8866 5.8).

@@ -5,7 +5,7 @@ ghost use Rattle.std.specs.Option.{option_copied};
 ghost use Rattle.std.specs.String.{string_bytes};
 ghost use Rattle.sdp_formats_values.specs.PrintedCandidates.{protocol_text, kind_text, tcp_type_text, candidate_text};
 
-use sdp_formats_forms::{Maybe, Text};
+use sdp_formats_grammar::{Maybe, Text};
 use std::alloc::{AllocError, Global};
 use std::fmt;
 

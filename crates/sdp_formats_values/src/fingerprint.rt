@@ -1,6 +1,6 @@
 //! Fingerprints of certificates (RFC 8122 5).
 
-use sdp_formats_forms::{FingerprintFmt, Listed, Text};
+use sdp_formats_grammar::{FingerprintFmt, Listed, Text};
 use std::fmt;
 
 /// The fingerprint of a certificate: a hash function's name and its digest (RFC 8122 5).
@@ -14,7 +14,7 @@ pub struct Fingerprint {
 
 impl fmt::Display for Fingerprint {
     ghost use Rattle.std.specs.Prelude.{Some};
-    ghost use Rattle.sdp_formats_values.specs.Printed.{fingerprint_text};
+    ghost use Rattle.sdp_formats_values.specs.PrintedValues.{fingerprint_text};
 
     ghost output = { λ f. Some (fingerprint_text f) };
 

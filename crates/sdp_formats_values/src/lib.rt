@@ -1,21 +1,34 @@
-//! Values of session texts that stand alone: candidates, fingerprints, setups, kinds of sections, names and layers of
-//! streams, and lists (RFC 8839 5.1, RFC 8122 5, RFC 4145 4, RFC 8866 5.14, RFC 8851, RFC 8853).
+//! Values of session texts: candidates, fingerprints, setups, format parameters.
 #![tactic(auto)]
 
 mod bandwidth;
 mod candidate;
 mod fingerprint;
+mod key;
+mod line_hasher;
 mod lists;
 mod media_type;
+mod numbers;
+mod pairs;
+mod param;
+mod printed;
 mod setup;
+mod several;
 mod streams;
 
 pub use bandwidth::Bandwidth;
 pub use candidate::{Candidate, CandidateKind, IceCreds, Protocol, RelatedAddress, TcpType};
 pub use fingerprint::Fingerprint;
+pub use h26x_payload_profiles::{H265ProfileTierLevel, H266ProfileTierLevel};
+pub use key::Key;
 pub use lists::{Mids, Restrictions, RidRestrictions, Sources, Words, write_both, write_value};
 pub use media_type::{MediaType, Proto};
+pub use numbers::{bit_of, byte_of, don_diff_of, modes_of, profile_level_of, range_of, word_of};
+pub use pairs::Pair;
+pub use param::{FormatParam, has_name};
+pub use printed::has_mode;
 pub use setup::Setup;
+pub use several::parse_pairs;
 pub use streams::{
     Msid, RestrictionId, RidDirection, Simulcast, SimulcastGroups, SimulcastLayer, SsrcInfo,
 };

@@ -3,9 +3,9 @@
 ghost use Rattle.std.specs.Fmt.{DisplaysOnOk};
 ghost use Rattle.sdp_formats_values.specs.Lists.{both_output, named_output};
 
-use rtp_wire_ids::{Mid, Ssrc};
-use sdp_formats_forms::{Joined, Text};
-use sdp_formats_params::Pair;
+use crate::pairs::Pair;
+use rtp_wire_values::{Mid, Ssrc};
+use sdp_formats_grammar::{Joined, Text};
 use std::fmt;
 use std::fmt::Display;
 

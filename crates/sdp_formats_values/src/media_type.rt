@@ -4,7 +4,7 @@ ghost use Rattle.std.specs.Prelude.{◌≡◌};
 ghost use Rattle.sdp_formats_values.specs.MediaTypes.{is_channel, is_media, kind_of_type, proto_text};
 
 use payload_core_base::MediaKind;
-use sdp_formats_forms::Text;
+use sdp_formats_grammar::Text;
 use std::fmt;
 
 /// What a section carries (RFC 8866 5.14).

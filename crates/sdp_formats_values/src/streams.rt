@@ -2,12 +2,12 @@
 
 ghost use Rattle.std.specs.Prelude.{◌≡◌, true, [], IfOk};
 ghost use Rattle.std.specs.String.{string_bytes};
-ghost use Rattle.sdp_formats_values.specs.Printed.{way_text, name_text};
+ghost use Rattle.sdp_formats_values.specs.PrintedValues.{way_text, name_text};
 ghost use Rattle.sdp_formats_values.specs.Streams.{inverted};
 
-use rtp_wire_ids::Ssrc;
-use sdp_formats_forms::{Joined, Listed, Text};
-use sdp_formats_params::Pair;
+use crate::pairs::Pair;
+use rtp_wire_values::Ssrc;
+use sdp_formats_grammar::{Joined, Listed, Text};
 use std::alloc::{AllocError, Global};
 use std::fmt;
 use std::ops::DerefSlice;
@@ -114,7 +114,7 @@ impl Drop for SimulcastLayer {
 /// The name of its `a=rid` line.
 impl fmt::Display for SimulcastLayer {
     ghost use Rattle.std.specs.Prelude.{Some};
-    ghost use Rattle.sdp_formats_values.specs.Printed.{layer_text};
+    ghost use Rattle.sdp_formats_values.specs.PrintedValues.{layer_text};
 
     ghost output = { λ l. Some (layer_text l) };
 
@@ -142,7 +142,7 @@ impl DerefSlice for SimulcastGroups {
 /// The names of the layers with semicolons between.
 impl fmt::Display for SimulcastGroups {
     ghost use Rattle.std.specs.Prelude.{Some};
-    ghost use Rattle.sdp_formats_values.specs.Printed.{layers_text};
+    ghost use Rattle.sdp_formats_values.specs.PrintedValues.{layers_text};
 
     ghost output = { λ g. Some (layers_text g) };
 
@@ -180,11 +180,11 @@ impl Simulcast {
 /// The whole line with its end; nothing where it was made up or names no layer.
 impl fmt::Display for Simulcast {
     ghost use Rattle.std.specs.Prelude.{Some};
-    ghost use Rattle.sdp_formats_values.specs.Printed.{simulcast_text};
+    ghost use Rattle.sdp_formats_values.specs.PrintedValues.{simulcast_text};
 
     ghost output = { λ s. Some (simulcast_text s) };
 
-    #[tactic(auto, unfolding(crate::specs::Printed::simulcast_text))]
+    #[tactic(auto, unfolding(crate::specs::PrintedValues::simulcast_text))]
     fn fmt<W: fmt::Write>(&self, f: &mut fmt::Formatter<W>) -> fmt::Result {
         if self.is_munged {
             return Ok(());
@@ -210,7 +210,7 @@ pub struct Msid {
 
 impl fmt::Display for Msid {
     ghost use Rattle.std.specs.Prelude.{Some};
-    ghost use Rattle.sdp_formats_values.specs.Printed.{msid_text};
+    ghost use Rattle.sdp_formats_values.specs.PrintedValues.{msid_text};
 
     ghost output = { λ m. Some (msid_text m) };
 

@@ -1,6 +1,6 @@
 //! The attributes of sessions and sections, and directions that are changed.
 
-use line_replies::Reply;
+use command_lines::Reply;
 use sdp_formats::directions::{has_direction, set_direction};
 use sdp_formats::{Direction, MediaAttribute, MediaLine, Sdp, Session, SessionAttribute};
 use std::alloc::{AllocError, Global};

@@ -2,7 +2,7 @@
 
 use crate::attributes::{put_attributes, put_directed};
 use crate::rows::put_rows;
-use line_replies::{Reply, parted};
+use command_lines::{Reply, parted};
 use sdp_formats::{Direction, Sdp, SdpError, parse};
 use std::alloc::{AllocError, Global};
 use std::fs;

@@ -1,6 +1,6 @@
 //! The rows that sections list.
 
-use line_replies::Reply;
+use command_lines::Reply;
 use sdp_formats::{MediaLine, PayloadParams, Sdp, rtp_params};
 use std::alloc::Global;
 

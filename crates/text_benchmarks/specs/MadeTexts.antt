@@ -3,7 +3,7 @@ use Rattle.std.specs.Prelude.{◌≡◌, ◌⊎◌, ℕ, zero, suc, List, Result
 use Rattle.std.specs.Borrow.{Bor}
 use Rattle.benchmark_rounds.specs.Tallies.{tally_with}
 use Rattle.benchmark_rounds.specs.declared.tally.Tally.{Tally}
-use Rattle.sdp_formats.specs.Texts.{ParsesSdp}
+use Rattle.sdp_formats.specs.ReaderErrors.{ParsesSdp}
 use Rattle.sdp_formats.specs.declared.MediaLine.{MediaLine}
 use Rattle.sdp_formats.specs.declared.Sdp.{Sdp}
 use Rattle.sdp_formats.specs.declared.SdpError.{SdpError}

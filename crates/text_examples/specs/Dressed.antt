@@ -1,11 +1,11 @@
 -- Session texts with the transport's lines (RFC 8839 5.4, RFC 8122 5, RFC 4145 4, RFC 5761 5.1.1).
 use Rattle.std.specs.Prelude.{List, [], ◌∷◌, map, if◌then◌else◌}
 use Rattle.std.specs.List.{flat_map}
-use Rattle.sdp_formats_types.specs.Media.{is_mid}
-use Rattle.sdp_formats_types.specs.declared.media.MediaAttribute.{MediaAttribute}
-use Rattle.sdp_formats_types.specs.declared.media.MediaAttribute.TheVariants as a
-use Rattle.sdp_formats_types.specs.declared.media.MediaLine.{MediaLine}
-use Rattle.sdp_formats_sessions.specs.declared.session.Sdp.{Sdp}
+use Rattle.sdp_formats_data.specs.Media.{is_mid}
+use Rattle.sdp_formats_data.specs.declared.media.MediaAttribute.{MediaAttribute}
+use Rattle.sdp_formats_data.specs.declared.media.MediaAttribute.TheVariants as a
+use Rattle.sdp_formats_data.specs.declared.media.MediaLine.{MediaLine}
+use Rattle.sdp_formats_data.specs.declared.session.Sdp.{Sdp}
 use Rattle.text_examples.specs.declared.dress.Transport.{Transport}
 
 abbrev pub transport_lines : Transport → List MediaAttribute

@@ -1,11 +1,11 @@
-//! Session texts with the transport's lines. Uses the crates `sdp_formats`, `sdp_formats_sessions` and
-//! `sdp_formats_types`, the definitions of specs/Dressed.antt, and the invariants and answers of two loops in
+//! Session texts with the transport's lines. Uses the crates `sdp_formats`, `sdp_formats_data` and
+//! `sdp_formats_data`, the definitions of specs/Dressed.antt, and the invariants and answers of two loops in
 //! proofs/dress.
 
 ghost use Rattle.std.specs.Prelude.{◌≡◌, IfOk, OnOk, ◌++◌};
 ghost use Rattle.text_examples.specs.Dressed.{transport_lines, dressed_attribute, dressed_attributes};
 ghost use Rattle.text_examples.specs.Dressed.{dressed_section, dressed};
-ghost use Rattle.sdp_formats_types.specs.Media.{is_mid};
+ghost use Rattle.sdp_formats_data.specs.Media.{is_mid};
 
 use sdp_formats::{Fingerprint, IceCreds, Listed, MediaAttribute, MediaLine, Sdp, Setup, TryClone};
 use std::alloc::{AllocError, Global};
@@ -38,7 +38,7 @@ fn push_transport(
 }
 
 /// Whether it is the section's name.
-#[tactic(auto, unfolding(sdp_formats_types::specs::Media::is_mid))]
+#[tactic(auto, unfolding(sdp_formats_data::specs::Media::is_mid))]
 fn is_mid(attribute: &MediaAttribute) -> bool
     ensures { result ≡ is_mid attribute.now }
 {

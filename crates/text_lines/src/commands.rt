@@ -1,7 +1,7 @@
 //! The commands.
 
 use crate::texts::{put_prefixes, put_session, put_text};
-use line_replies::{Reply, parted};
+use command_lines::{Reply, parted};
 use std::alloc::{AllocError, Global};
 use std::fs;
 

@@ -1,11 +1,11 @@
 //! Commands on whole session texts.
 
-use line_replies::Reply;
+use command_lines::Reply;
 use sdp_formats::{
     Bandwidth, MediaAttribute, MediaLine, Sdp, SdpError, Session, SessionAttribute, SsrcInfo,
     assert_consistency, bundle_mids, sctp_init, sdp_parser, session_parser, ssrc_info,
 };
-use sdp_formats_candidates::ice_candidates;
+use sdp_formats_lookups::ice_candidates;
 use std::alloc::Global;
 
 /// `text NAME`: what a session text has: session attributes, attributes and sources of each section, lines of a form

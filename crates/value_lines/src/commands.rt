@@ -2,7 +2,7 @@
 
 use crate::rows::{put_equality, put_feedback, put_score};
 use crate::values::{put_candidate, put_fingerprint, put_format, put_parameters, put_setup};
-use line_replies::{Reply, parted};
+use command_lines::{Reply, parted};
 use std::alloc::{AllocError, Global};
 
 /// What a line gives.

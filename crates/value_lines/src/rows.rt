@@ -1,7 +1,7 @@
 //! Commands on rows alone: how well they match, their feedback, and what they equal.
 
 use crate::words::{row_of, spec_of};
-use line_replies::Reply;
+use command_lines::Reply;
 use sdp_formats::{PayloadParams, Pt};
 
 /// A new row of the codec at the front.

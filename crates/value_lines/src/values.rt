@@ -1,6 +1,6 @@
 //! Commands on values that come alone: candidates, fingerprints, setups and parameters of formats.
 
-use line_replies::Reply;
+use command_lines::Reply;
 use sdp_formats::from_text::{FingerprintError, fingerprint_from_str};
 use sdp_formats::preference::hash_preference;
 use sdp_formats::{

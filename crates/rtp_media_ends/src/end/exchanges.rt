@@ -1,18 +1,18 @@
 //! Exchanges of texts between two ends.
 
 ghost use Rattle.std.specs.Prelude.{◌≡◌, ◌≢◌, None, Some, is_some, string_bytes, IfOk, IfErr, OnOk, OnErr};
-ghost use Rattle.sdp_formats_sessions.specs.PrintedSession.{sdp_text};
-ghost use Rattle.rtp_media_negotiation.specs.Exchanges.{with_offer};
-ghost use Rattle.rtp_media_negotiation.specs.Offers.{Accepts, Answers, offer_of};
-ghost use Rattle.rtp_media_negotiation.specs.Refusals.{MayAccept, MayAnswer, Refuses, RefusesAccept, RefusesAnswer};
-ghost use Rattle.rtp_media_negotiation.specs.Refusals.{RefusesNew, refusal_of_new, refusal_of_offer};
-ghost use Rattle.rtp_media_negotiation.specs.Writable.{IsWritableSession};
-ghost use Rattle.rtp_media_negotiation.specs.Says.{AgreesOnText};
-ghost use Rattle.rtp_media_stream_laws.specs.Ends.{new_end, with_exchange};
+ghost use Rattle.sdp_formats_data.specs.PrintedSession.{sdp_text};
+ghost use Rattle.rtp_media_exchange.specs.Exchanges.{with_offer};
+ghost use Rattle.rtp_media_exchange.specs.Offers.{Accepts, Answers, offer_of};
+ghost use Rattle.rtp_media_exchange.specs.Refusals.{MayAccept, MayAnswer, Refuses, RefusesAccept, RefusesAnswer};
+ghost use Rattle.rtp_media_exchange.specs.Refusals.{RefusesNew, refusal_of_new, refusal_of_offer};
+ghost use Rattle.rtp_media_exchange.specs.Writable.{IsWritableSession};
+ghost use Rattle.rtp_media_exchange.specs.Says.{AgreesOnText};
+ghost use Rattle.rtp_media_ends.specs.Ends.{new_end, with_exchange};
 ghost use Rattle.rtp_media_ends.specs.Connections.{Connects, HaveExchanged, HaveOneAgreement, IsRefused};
 
 use super::End;
-use rtp_media_negotiation::{
+use rtp_media_exchange::{
     CodecConfig, EndError, Exchange, ExchangeError, SectionSpec, Session, one_agreement_law,
 };
 use rtp_media_stream_table::StreamTable;

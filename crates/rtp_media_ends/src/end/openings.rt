@@ -1,15 +1,16 @@
 //! Streams that an end opens.
 
 ghost use Rattle.std.specs.Prelude.{◌≡◌, ◌≢◌, Some, None, length, true, OnOk, OnErr, IfOk, IfErr};
-ghost use Rattle.rtp_media_stream_laws.specs.Ends.{after_open_receiver, after_open_sender, agreed_red};
-ghost use Rattle.rtp_media_stream_laws.specs.Ends.{is_receiver_at, is_sender_at, new_receiver, new_sender};
-ghost use Rattle.rtp_media_stream_laws.specs.Ends.{refusal_of_open_receiver, refusal_of_open_sender, sender_at};
-ghost use Rattle.rtp_media_stream_laws.specs.FullArrival.{HasReceiver, IsSender};
-ghost use Rattle.rtp_media_stream_laws.specs.Params.{IsSound};
+ghost use Rattle.rtp_media_ends.specs.Ends.{after_open_receiver, after_open_sender, agreed_red};
+ghost use Rattle.rtp_media_ends.specs.Ends.{is_receiver_at, is_sender_at, new_receiver, new_sender};
+ghost use Rattle.rtp_media_ends.specs.Ends.{refusal_of_open_receiver, refusal_of_open_sender, sender_at};
+ghost use Rattle.rtp_media_ends.specs.FullArrival.{HasReceiver, IsSender};
+ghost use Rattle.rtp_media_ends.specs.Params.{IsSound};
 
 use super::End;
-use rtp_media_openings::{new_receiver, new_sender};
-use rtp_media_stream_laws::{OpenError, StreamParams};
+use crate::errors::OpenError;
+use crate::new_streams::{new_receiver, new_sender};
+use crate::params::StreamParams;
 use rtp_wire::{Mid, Pt, Ssrc};
 
 impl End {
@@ -25,7 +26,7 @@ impl End {
     /// is missing, not locked, or means something else), `WrongDirection`, `SsrcNotNamed` (the
     /// section of this end doesn't name the SSRC) and `AlreadyOpen`; or `Memory`. The end is then
     /// unchanged.
-    #[tactic(auto, unfolding(rtp_media_open_streams::specs::Ends::after_open_sender))]
+    #[tactic(auto, unfolding(crate::specs::Ends::after_open_sender))]
     pub fn open_sender(
         &mut self,
         mid: Mid,
@@ -56,7 +57,7 @@ impl End {
     /// # Errors
     /// As [`End::open_sender`]; `SsrcNotNamed` where the section of the other end doesn't name the
     /// SSRC.
-    #[tactic(auto, unfolding(rtp_media_open_streams::specs::Ends::after_open_receiver))]
+    #[tactic(auto, unfolding(crate::specs::Ends::after_open_receiver))]
     pub fn open_receiver(
         &mut self,
         mid: Mid,

@@ -1,17 +1,18 @@
 //! Datagrams received one after the other, and then all units that are ready.
 
 ghost use Rattle.std.specs.Prelude.{◌≡◌, ℕ, List, OnOk, OnErr, IfOk};
-ghost use Rattle.rtp_media_payloads.specs.Polls.{AreAnswered};
+ghost use Rattle.rtp_media_streams.specs.Polls.{AreAnswered};
 ghost use Rattle.rtp_media_streams.specs.Sending.{Sample, Sending};
-ghost use Rattle.rtp_media_stream_laws.specs.Ends.{with_streams};
-ghost use Rattle.rtp_media_stream_laws.specs.FullArrival.{verdicts_of, after_datagrams, answers_at, units_of};
-ghost use Rattle.rtp_media_stream_laws.specs.FullArrival.{ArePolledOut, HasAllOf, ReceivesAndPollsSome, ReceivesSome};
+ghost use Rattle.rtp_media_ends.specs.Ends.{with_streams};
+ghost use Rattle.rtp_media_ends.specs.FullArrival.{verdicts_of, after_datagrams, units_of};
+ghost use Rattle.rtp_media_stream_table.specs.Polled.{answers_at};
+ghost use Rattle.rtp_media_stream_table.specs.Polled.{ArePolledOut};
+ghost use Rattle.rtp_media_ends.specs.FullArrival.{HasAllOf, ReceivesAndPollsSome, ReceivesSome};
 
 use super::End;
 use h26x_payload::codec_law;
-use rtp_media_payloads::Datagram;
-use rtp_media_stream_laws::{ReceiveError, Received};
-use rtp_media_stream_table::Polls;
+use rtp_media_stream_table::{Polls, ReceiveError, Received};
+use rtp_media_streams::Datagram;
 
 /// What `End::receive_all` answers.
 #[derive(Drop)]

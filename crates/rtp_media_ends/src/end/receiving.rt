@@ -4,16 +4,16 @@ ghost use Rattle.std.specs.Prelude.{◌≡◌, ◌≢◌, ◌<◌, length, true,
 ghost use Rattle.std.specs.Prelude.{IfNone, OnSome, []};
 ghost use Rattle.payload_core_buffer.specs.Frames.{complete_frames};
 ghost use Rattle.rtp_media_streams.specs.Drains.{drain_answer, drained_receiver, holding};
-ghost use Rattle.rtp_media_payloads.specs.Polls.{IsInterrupted, IsPolled, IsPolledSome, given};
-ghost use Rattle.rtp_media_payloads.specs.Receiving.{polled_receiver, with_stream};
-ghost use Rattle.rtp_media_payloads.specs.Rows.{format_of};
+ghost use Rattle.rtp_media_streams.specs.Polls.{IsInterrupted, IsPolled, IsPolledSome, given};
+ghost use Rattle.rtp_media_streams.specs.Receiving.{polled_receiver, with_stream};
+ghost use Rattle.rtp_media_streams.specs.Rows.{format_of};
 ghost use Rattle.rtp_media_schedules.specs.Hearing.{poll_answer};
-ghost use Rattle.rtp_media_stream_laws.specs.Arrivals.{verdict_of, after_datagram};
-ghost use Rattle.rtp_media_stream_laws.specs.Ends.{receiver_at, with_receiver, is_receiver_at};
+ghost use Rattle.rtp_media_ends.specs.EndArrivals.{verdict_of, after_datagram};
+ghost use Rattle.rtp_media_ends.specs.Ends.{receiver_at, with_receiver, is_receiver_at};
 
 use super::End;
-use rtp_media_payloads::{PollFault, Unit};
-use rtp_media_stream_laws::{ReceiveError, Received};
+use rtp_media_stream_table::{ReceiveError, Received};
+use rtp_media_streams::{PollFault, Unit};
 use std::alloc::AllocError;
 
 impl End {

@@ -1,11 +1,11 @@
 //! All units that are ready.
 
 ghost use Rattle.std.specs.Prelude.{◌≡◌, IfOk, OnErr};
-ghost use Rattle.rtp_media_open_streams.specs.FullArrival.{AnswersAll, AnswersSome, ArePolledOut, ArePolledSome};
+ghost use Rattle.rtp_media_stream_table.specs.Polled.{AnswersAll, AnswersSome, ArePolledOut, ArePolledSome};
 
 use super::StreamTable;
-use rtp_media_open_streams::OpenStream;
-use rtp_media_payloads::{PollFault, Unit};
+use crate::open_stream::OpenStream;
+use rtp_media_streams::{PollFault, Unit};
 use std::alloc::{AllocError, Global};
 use std::marker::Model;
 
@@ -16,7 +16,7 @@ pub struct Polls {
 }
 
 impl Model for Polls {
-    ghost use Rattle.rtp_media_payloads.specs.Polls.{Answers};
+    ghost use Rattle.rtp_media_streams.specs.Polls.{Answers};
 
     ghost Value = { Answers };
 

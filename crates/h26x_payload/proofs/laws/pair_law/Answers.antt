@@ -2,7 +2,7 @@ use Rattle.std.proofs.Common.{◌∙◌}
 use Rattle.h26x_payload.proofs.CodecLaws.{same_format}
 use Rattle.h26x_payload.proofs.Runs.{pair_of}
 use Rattle.h26x_payload.proofs.laws.pair_law.Goals as goal
-use Rattle.h26x_payload_codecs.specs.Codings.{coding_in, coding_of}
+use Rattle.h26x_payload.specs.Codings.{coding_in, coding_of}
 
 pub returns-clause-plain : goal.returns-clause-plain
 returns-clause-plain g c = λ s has_id codec packs reads. pair_of (coding_of s has_id codec) _ _ packs reads

@@ -1,10 +1,10 @@
 use Rattle.std.proofs.Common.{◌≡◌, Some, refl}
 use Rattle.std.specs.Prelude.{slice_get}
-use Rattle.payload_core_tables.specs.Tables.{place_of}
+use Rattle.named_values.specs.Tables.{place_of}
 use Rattle.h26x_payload_profiles.specs.H265Level.{level_id, levels}
 use Rattle.h26x_payload_profiles.specs.declared.h265.H265Level.{H265Level}
 use Rattle.h26x_payload_profiles.specs.declared.h265.H265Level.TheVariants.{Level1}
-use Rattle.payload_core_tables.proofs.TableLaws.{is_rising}
+use Rattle.named_values.proofs.TableLaws.{is_rising}
 use Rattle.h26x_payload_profiles.proofs.h265.h265_tables_law.Goals as goal
 
 -- each level stands at its place

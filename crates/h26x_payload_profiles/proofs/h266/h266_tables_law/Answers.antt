@@ -1,10 +1,10 @@
 use Rattle.std.proofs.Common.{◌≡◌, Some, refl}
 use Rattle.std.specs.Prelude.{slice_get}
-use Rattle.payload_core_tables.specs.Tables.{place_of}
+use Rattle.named_values.specs.Tables.{place_of}
 use Rattle.h26x_payload_profiles.specs.H266Level.{level_id, levels}
 use Rattle.h26x_payload_profiles.specs.declared.h266.H266Level.{H266Level}
 use Rattle.h26x_payload_profiles.specs.declared.h266.H266Level.TheVariants.{Level1}
-use Rattle.payload_core_tables.proofs.TableLaws.{is_rising}
+use Rattle.named_values.proofs.TableLaws.{is_rising}
 use Rattle.h26x_payload_profiles.proofs.LevelsApart.{levels_apart}
 use Rattle.h26x_payload_profiles.proofs.h266.h266_tables_law.Goals as goal
 

@@ -3,12 +3,12 @@ use Rattle.std.specs.Prelude.{IfSome}
 use Rattle.sdp_formats_rows.specs.Rows.{Row}
 use Rattle.rtp_media_sections.specs.Agreement.{agreed_row_of}
 use Rattle.rtp_media_streams.specs.Sending.{Sending, packet_limit}
-use Rattle.rtp_media_open_streams.specs.Ends.{EndState, after_open_receiver, agreed_format, agreed_red, agreed_types}
-use Rattle.rtp_media_open_streams.specs.Ends.{new_sender}
-use Rattle.rtp_media_open_streams.specs.Ends.{stream_map}
-use Rattle.rtp_media_open_streams.specs.FullArrival.{count_of}
-use Rattle.rtp_media_open_streams.specs.OpensAt.{SendsAt}
-use Rattle.rtp_media_open_streams.specs.Params.{IsSound}
+use Rattle.rtp_media_ends.specs.Ends.{EndState, after_open_receiver, agreed_format, agreed_red, agreed_types}
+use Rattle.rtp_media_ends.specs.Ends.{new_sender}
+use Rattle.rtp_media_ends.specs.Ends.{stream_map}
+use Rattle.rtp_media_ends.specs.FullArrival.{count_of}
+use Rattle.rtp_media_ends.specs.OpensAt.{SendsAt}
+use Rattle.rtp_media_ends.specs.Params.{IsSound}
 use Rattle.rtp_media_play.specs.Headline.{SendsTo}
 use Rattle.rtp_media_play.specs.Runs.{Hears}
 use Rattle.media_calls.specs.Call.{SendsPieces, sends_pieces}

@@ -1,7 +1,7 @@
 use Rattle.std.proofs.Common.{List, subst}
 use Rattle.rtp_media_play.specs.declared.schedule.Played.{Played}
 use Rattle.rtp_media_schedules.specs.Hearing.{EndsSilent, handed_out}
-use Rattle.rtp_media_open_streams.specs.Ends.{sender_at}
+use Rattle.rtp_media_ends.specs.Ends.{sender_at}
 use Rattle.rtp_media_play.specs.Schedules.{poll_answers}
 use Rattle.media_calls.proofs.Three.{bytes-out, ends-silent, tame-three}
 use Rattle.media_calls.proofs.carrying.carry_over.Goals as goal

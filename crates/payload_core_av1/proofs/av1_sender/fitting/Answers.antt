@@ -1,5 +1,5 @@
 use Rattle.std.proofs.Common.{arith, rules}
-use Rattle.payload_core_av1_reader.proofs.Leb128Lemmas.{spelling-some}
+use Rattle.payload_core_av1.proofs.Leb128Lemmas.{spelling-some}
 use Rattle.payload_core_av1.proofs.PrefixLemmas.{fitting-first, fitting-later}
 use Rattle.payload_core_av1.proofs.av1_sender.fitting.Goals as goal
 

@@ -1,5 +1,5 @@
 use Rattle.std.proofs.Common.{ℕ, ◌+◌, ◌<◌, ◌≤◌, length}
-use Rattle.payload_core_av1_reader.specs.Leb128.{spelling}
+use Rattle.payload_core_av1.specs.Leb128.{spelling}
 use Rattle.payload_core_av1.proofs.av1_sender.fitting.Given as goal
 
 -- no larger part fits

@@ -1,8 +1,8 @@
 use Rattle.std.proofs.Common.{ℕ, ◌++◌, Bool, List, Vec, Global, map, ap, ◌∙◌}
 use Rattle.std.specs.Prelude.{◌||◌, option_map}
 use Rattle.payload_core_av1.specs.Av1Packing.{texts_of}
-use Rattle.payload_core_av1_reader.specs.Obus.{Obu, ObuCut, obu_cut}
-use Rattle.payload_core_av1_reader.specs.Samples.{begins_sequence, kept_of}
+use Rattle.payload_core_av1.specs.Obus.{Obu, ObuCut, obu_cut}
+use Rattle.payload_core_av1.specs.Samples.{begins_sequence, kept_of}
 use Rattle.payload_core_av1.proofs.SampleLemmas.{begins-go, texts-go}
 use Rattle.payload_core_av1.proofs.av1_sender.kept_of.Goals as goal
 

@@ -1,7 +1,7 @@
 use Rattle.std.proofs.Common.{◌≡◌, ◌++◌, map, length}
 use Rattle.std.specs.Prelude.{◌||◌, option_map}
 use Rattle.payload_core_av1.specs.Av1Packing.{texts_of}
-use Rattle.payload_core_av1_reader.specs.Samples.{begins_sequence, kept_of}
+use Rattle.payload_core_av1.specs.Samples.{begins_sequence, kept_of}
 use Rattle.payload_core_av1.proofs.av1_sender.kept_of.Given as goal
 
 -- the units so far, and those that are left

@@ -1,6 +1,6 @@
 use Rattle.std.proofs.Common.{◌≡◌, ℕ, ◌+◌, ◌-◌, ◌≤◌, ◌++◌, ◌∷◌, List, map, length, vec_len, Bor, ap, sym, ◌∙◌, arith}
 use Rattle.std.proofs.lemmas.List.{map_push}
-use Rattle.payload_core_av1_reader.specs.Leb128.{spelling}
+use Rattle.payload_core_av1.specs.Leb128.{spelling}
 use Rattle.payload_core_av1.specs.Av1Packing.{back, front, is_cut}
 use Rattle.payload_core_av1.specs.Av1Packets.{greatest_part}
 use Rattle.payload_core_av1.proofs.PackingLemmas.{taken-whole}

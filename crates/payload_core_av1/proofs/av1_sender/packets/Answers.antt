@@ -6,7 +6,7 @@ use Rattle.payload_core_av1.specs.Av1Packing.{back, front, is_cut, longest, pack
 use Rattle.payload_core_av1.specs.Av1Packets.{AreTexts}
 use Rattle.payload_core_av1.proofs.PackingLemmas.{packets-go, total-less}
 use Rattle.payload_core_av1.proofs.PrefixLemmas.{texts-back, texts-front}
-use Rattle.payload_core_av1_reader.proofs.ReaderLemmas.{not_empty}
+use Rattle.payload_core_av1.proofs.ReaderLemmas.{not_empty}
 use Rattle.payload_core_av1.proofs.av1_sender.packets.Goals as goal
 
 pub packet-requires : goal.packet-requires

@@ -1,6 +1,6 @@
 use Rattle.std.proofs.Common.{◌≡◌, ℕ, List, ◌++◌, ap, refl, ◌∙◌, Result, Ok, Err, IfErr, Some, None}
-use Rattle.rtp_media_payloads.specs.declared.errors.SampleError.{SampleError}
-use Rattle.rtp_media_payloads.specs.declared.errors.SampleError.TheVariants.{Memory}
+use Rattle.rtp_media_streams.specs.declared.errors.SampleError.{SampleError}
+use Rattle.rtp_media_streams.specs.declared.errors.SampleError.TheVariants.{Memory}
 use Rattle.rtp_media_ends.specs.Ends.{sender_at, with_sender}
 use Rattle.rtp_media_play.proofs.Pushes.{datagrams_for, fails-at, pushed-more, refusal_for, refused-at, stepped}
 use Rattle.rtp_media_play.proofs.Pushes.{stops-behind}

@@ -2,8 +2,8 @@ use Rattle.std.proofs.Common.{Err, refl, sym, ◌∙◌, ap, Some, Ok}
 use Rattle.std.proofs.lemmas.Result.{err_from_is_err_and}
 use Rattle.rtp_media_schedules.specs.Hearing.{MediaUnit}
 use Rattle.rtp_media_streams.specs.Drains.{holding}
-use Rattle.rtp_media_payloads.specs.Polls.{PollResult, given}
-use Rattle.rtp_media_payloads.specs.Receiving.{stream_of}
+use Rattle.rtp_media_streams.specs.Polls.{PollResult, given}
+use Rattle.rtp_media_streams.specs.Receiving.{stream_of}
 use Rattle.rtp_media_streams.proofs.Polling.{fault_answer, fault_stream, handed_answer, handed_stream}
 use Rattle.rtp_media_streams.proofs.Polling.{interrupted, lacking, refused, kept_so, poll_none, polled_none}
 use Rattle.rtp_media_streams.proofs.popping.drain.Goals as goal

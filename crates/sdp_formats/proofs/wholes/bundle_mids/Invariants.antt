@@ -1,5 +1,5 @@
 use Rattle.std.proofs.Common.{◌≡◌, drop}
-use Rattle.sdp_formats_types.specs.Lookups.{first_of}
+use Rattle.sdp_formats_data.specs.Lookups.{first_of}
 use Rattle.sdp_formats.specs.Wholes.{bundle_in}
 use Rattle.sdp_formats.proofs.wholes.bundle_mids.Given as goal
 

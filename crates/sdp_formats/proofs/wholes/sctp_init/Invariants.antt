@@ -1,6 +1,6 @@
 use Rattle.std.proofs.Common.{◌≡◌, drop}
 use Rattle.std.specs.Prelude.{find}
-use Rattle.sdp_formats_types.specs.MediaTypes.{is_channel}
+use Rattle.sdp_formats_data.specs.MediaTypes.{is_channel}
 use Rattle.sdp_formats.proofs.wholes.sctp_init.Given as goal
 
 -- the sections so far are of no data channels

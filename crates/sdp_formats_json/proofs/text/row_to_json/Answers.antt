@@ -6,7 +6,7 @@ use Rattle.serde_json.specs.Read.{read, max_depth}
 use Rattle.serde_json.specs.Written.{compact_text, has_float}
 use Rattle.sdp_formats_rows.specs.Rows.{Row}
 use Rattle.sdp_formats_json.specs.Rows.{row_data, row_of_text, row_of_data, of_read, row_shape}
-use Rattle.sdp_formats_json_errors.specs.declared.error.Field.TheVariants as field
+use Rattle.sdp_formats_json.specs.declared.error.Field.TheVariants as field
 use Rattle.sdp_formats_json.proofs.Tables.{row-sound}
 use Rattle.sdp_formats_json.proofs.text.row_to_json.Goals as goal
 

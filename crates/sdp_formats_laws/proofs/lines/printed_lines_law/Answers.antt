@@ -1,8 +1,8 @@
-use Rattle.sdp_formats_media_lines.specs.Choice.{attribute_line}
-use Rattle.sdp_formats_media_lines.specs.AsRead.{as_read}
+use Rattle.sdp_formats_attributes.specs.Choice.{attribute_line}
+use Rattle.sdp_formats_attributes.specs.AsRead.{as_read}
 use Rattle.std.proofs.Common.{◌∷◌}
-use Rattle.sdp_formats_types.specs.PrintedMedia.{attribute_text}
-use Rattle.sdp_formats_types.specs.declared.media.MediaAttribute.TheVariants.{Fmtp}
+use Rattle.sdp_formats_data.specs.PrintedMedia.{attribute_text}
+use Rattle.sdp_formats_data.specs.declared.media.MediaAttribute.TheVariants.{Fmtp}
 use Rattle.sdp_formats_laws.proofs.PartedKinds.{fmtp_line}
 use Rattle.sdp_formats_laws.proofs.Printed.{printed_line}
 use Rattle.sdp_formats_laws.proofs.Whole.{printed}

@@ -1,7 +1,7 @@
 use Rattle.std.proofs.Common.{codes}
-use Rattle.sdp_formats_session_attributes.specs.Choice.{attribute_line}
-use Rattle.sdp_formats_sessions.specs.PrintedSession.{attribute_text}
-use Rattle.sdp_formats_sessions.specs.declared.session.SessionAttribute.TheVariants.{AllowMixedExts, Unused}
+use Rattle.sdp_formats_reader.specs.Choice.{attribute_line}
+use Rattle.sdp_formats_data.specs.PrintedSession.{attribute_text}
+use Rattle.sdp_formats_data.specs.declared.session.SessionAttribute.TheVariants.{AllowMixedExts, Unused}
 use Rattle.sdp_formats_laws.proofs.Printed.{printed_line}
 use Rattle.sdp_formats_laws.proofs.SessionKinds.{allow_mixed}
 use Rattle.sdp_formats_laws.proofs.WholeSession.{printed}

@@ -1,5 +1,5 @@
 use Rattle.std.proofs.Common.{ap, ◌∙◌}
-use Rattle.sdp_formats_types.specs.Lookups.{direction_of}
+use Rattle.sdp_formats_data.specs.Lookups.{direction_of}
 use Rattle.sdp_formats_lookups.specs.Directions.{directed}
 use Rattle.sdp_formats_lookups.proofs.Turned.{direction_of-directed}
 use Rattle.sdp_formats_lookups.proofs.directions.set_direction.Goals as goal

@@ -1,5 +1,5 @@
 use Rattle.std.proofs.Common.{sym, ap, ◌∙◌, set}
-use Rattle.sdp_formats_types.specs.declared.MediaAttribute.{MediaAttribute}
+use Rattle.sdp_formats_data.specs.declared.MediaAttribute.{MediaAttribute}
 use Rattle.sdp_formats_lookups.proofs.Turned.{directed-at, directed-nowhere}
 use Rattle.sdp_formats_lookups.proofs.directions.turn.Goals as goal
 

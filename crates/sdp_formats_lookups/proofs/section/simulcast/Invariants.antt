@@ -2,7 +2,7 @@ use Rattle.std.proofs.Common.{◌≡◌, drop}
 use Rattle.std.specs.List.{filter_map, last_or}
 use Rattle.std.specs.Option.{option_copied}
 use Rattle.sdp_formats_lookups.specs.Sections.{simulcast_in}
-use Rattle.sdp_formats_sources.specs.Sources.{last_of}
+use Rattle.sdp_formats_lookups.specs.Sources.{last_of}
 use Rattle.sdp_formats_lookups.proofs.section.simulcast.Given as goal
 
 -- what was said last so far, or else the last of what is left, is what is said last of all

@@ -1,6 +1,6 @@
 use Rattle.std.proofs.Common.{◌≡◌, drop}
 use Rattle.sdp_formats_lookups.specs.Sessions.{ice_ufrag_in}
-use Rattle.sdp_formats_types.specs.Lookups.{first_of}
+use Rattle.sdp_formats_data.specs.Lookups.{first_of}
 use Rattle.sdp_formats_lookups.proofs.session.ice_ufrag.Given as goal
 
 -- the attributes so far say nothing

@@ -1,8 +1,8 @@
 use Rattle.std.proofs.Common.{◌∙◌, List, ℕ, ap, map, refl, sym}
 use Rattle.std.proofs.lemmas.Simd.{map-map}
 use Rattle.benchmark_rounds.specs.Tallies.{tally_with_all}
-use Rattle.payload_core_red.specs.RedReading.{Item}
-use Rattle.payload_core_red.specs.declared.block.RedBlock.{RedBlock}
+use Rattle.payload_core_audio.specs.RedReading.{Item}
+use Rattle.payload_core_audio.specs.declared.block.RedBlock.{RedBlock}
 use Rattle.part_benchmarks.proofs.HandedOut.{all_of_first}
 use Rattle.part_benchmarks.proofs.redundant.ReadingRedRound.round.Goals as goal
 

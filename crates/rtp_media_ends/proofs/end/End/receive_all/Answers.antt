@@ -1,10 +1,11 @@
 use Rattle.std.proofs.Common.{◌≡◌, ◌∙◌, ap, sym, subst, List, arith}
-use Rattle.rtp_media_payloads.specs.Receiving.{Receiving, opened_receiver, with_stream}
-use Rattle.rtp_media_stream_laws.specs.declared.OpenStream.{OpenStream}
-use Rattle.rtp_media_stream_laws.specs.Ends.{EndState, receiver_at}
-use Rattle.rtp_media_stream_laws.specs.FullArrival.{after_datagrams, ArePolledOut}
-use Rattle.rtp_media_stream_laws.proofs.Exact.{exact}
-use Rattle.rtp_media_stream_laws.proofs.Isolation.{found-after}
+use Rattle.rtp_media_streams.specs.Receiving.{Receiving, opened_receiver, with_stream}
+use Rattle.rtp_media_stream_table.specs.declared.OpenStream.{OpenStream}
+use Rattle.rtp_media_ends.specs.Ends.{EndState, receiver_at}
+use Rattle.rtp_media_ends.specs.FullArrival.{after_datagrams}
+use Rattle.rtp_media_stream_table.specs.Polled.{ArePolledOut}
+use Rattle.rtp_media_ends.proofs.Exact.{exact}
+use Rattle.rtp_media_ends.proofs.Isolation.{found-after}
 use Rattle.rtp_media_ends.proofs.Stopping.{out-of}
 use Rattle.std.proofs.lemmas.Grind.{common_steps}
 use Rattle.rtp_media_ends.proofs.end.End.receive_all.Goals as goal

@@ -1,6 +1,6 @@
 use Rattle.std.proofs.Common.{◌≡◌, ◌+◌, arith, take, Result, Ok, Err, OnErr}
 use Rattle.std.proofs.lemmas.Grind.{common_steps}
-use Rattle.rtp_media_stream_laws.specs.FullArrival.{ReceivesSome, after_datagrams}
+use Rattle.rtp_media_ends.specs.FullArrival.{ReceivesSome, after_datagrams}
 use Rattle.rtp_media_ends.proofs.Stopping.{received-more}
 use Rattle.rtp_media_ends.proofs.end.End.receive_each.Goals as goal
 

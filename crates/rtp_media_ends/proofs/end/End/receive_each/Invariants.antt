@@ -1,5 +1,5 @@
 use Rattle.std.proofs.Common.{◌≡◌, ◌++◌, drop, take}
-use Rattle.rtp_media_stream_laws.specs.FullArrival.{verdicts_of, after_datagrams}
+use Rattle.rtp_media_ends.specs.FullArrival.{verdicts_of, after_datagrams}
 use Rattle.rtp_media_ends.proofs.end.End.receive_each.Given as goal
 
 -- what was done, and then the rest, is the whole

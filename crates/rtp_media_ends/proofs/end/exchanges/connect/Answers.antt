@@ -1,5 +1,5 @@
 use Rattle.std.proofs.Common.{◌≡◌, ◌∙◌, sym, subst, arith}
-use Rattle.rtp_media_negotiation.specs.Offers.{Answers}
+use Rattle.rtp_media_exchange.specs.Offers.{Answers}
 use Rattle.rtp_media_ends.specs.Connections.{AtAnswer, AtAccept, offer_text}
 use Rattle.std.proofs.lemmas.Grind.{common_steps}
 use Rattle.rtp_media_ends.proofs.end.exchanges.connect.Goals as goal

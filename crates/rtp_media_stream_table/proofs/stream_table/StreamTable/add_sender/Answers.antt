@@ -1,11 +1,11 @@
 use Rattle.std.proofs.Common.{◌≡◌, ℕ, List, ◌∷◌, ◌++◌, [], length, sym, ap, subst₂, arith, true, false}
 use Rattle.std.proofs.lemmas.Grind.{common_steps}
 use Rattle.std.specs.List.{list_any}
-use Rattle.rtp_media_open_streams.specs.declared.open_stream.OpenStream.{OpenStream}
-use Rattle.rtp_media_open_streams.specs.declared.open_stream.OpenStream.TheVariants.{Sender}
-use Rattle.rtp_media_open_streams.specs.Ends.{is_nth_sender, nth_sender, sending_of, sends_as}
-use Rattle.rtp_media_open_streams.specs.Indexed.{AreIndexed}
-use Rattle.rtp_media_open_streams.proofs.Indexing.{may-send, sender-added}
+use Rattle.rtp_media_stream_table.specs.declared.open_stream.OpenStream.{OpenStream}
+use Rattle.rtp_media_stream_table.specs.declared.open_stream.OpenStream.TheVariants.{Sender}
+use Rattle.rtp_media_stream_table.specs.Streams.{is_nth_sender, nth_sender, sending_of, sends_as}
+use Rattle.rtp_media_stream_table.specs.Indexed.{AreIndexed}
+use Rattle.rtp_media_stream_table.proofs.Indexing.{may-send, sender-added}
 use Rattle.rtp_media_stream_table.proofs.Added.{last-is, sends-at-end}
 use Rattle.rtp_media_stream_table.proofs.stream_table.StreamTable.add_sender.Goals as goal
 

@@ -1,9 +1,9 @@
 use Rattle.std.proofs.Common.{◌≡◌, arith, ap}
 use Rattle.std.proofs.lemmas.Grind.{common_steps}
-use Rattle.rtp_media_payloads.specs.Receiving.{Receiving}
-use Rattle.rtp_media_open_streams.specs.declared.open_stream.OpenStream.TheVariants.{Receiver}
-use Rattle.rtp_media_open_streams.specs.Ends.{nth_stream}
-use Rattle.rtp_media_open_streams.proofs.Indexing.{kept-receiver}
+use Rattle.rtp_media_streams.specs.Receiving.{Receiving}
+use Rattle.rtp_media_stream_table.specs.declared.open_stream.OpenStream.TheVariants.{Receiver}
+use Rattle.rtp_media_stream_table.specs.Streams.{nth_stream}
+use Rattle.rtp_media_stream_table.proofs.Indexing.{kept-receiver}
 use Rattle.rtp_media_stream_table.proofs.stream_table.StreamTable.poll_all.Goals as goal
 
 pub invariant_of-self : goal.invariant_of-self

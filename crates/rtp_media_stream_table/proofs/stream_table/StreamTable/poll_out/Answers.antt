@@ -1,10 +1,10 @@
 use Rattle.std.proofs.Common.{Result, Ok, Err, IfOk, OnErr, List}
-use Rattle.rtp_media_payloads.specs.Polls.{Answers}
-use Rattle.rtp_media_open_streams.specs.FullArrival.{ArePolledOut, ArePolledSome}
-use Rattle.rtp_media_open_streams.specs.Indexed.{AreIndexed}
-use Rattle.rtp_media_open_streams.specs.declared.open_stream.OpenStream.{OpenStream}
-use Rattle.rtp_media_open_streams.specs.declared.stream_index.StreamIndex.{StreamIndex}
-use Rattle.rtp_media_open_streams.proofs.Indexing.{polled-out, polled-some}
+use Rattle.rtp_media_streams.specs.Polls.{Answers}
+use Rattle.rtp_media_stream_table.specs.Polled.{ArePolledOut, ArePolledSome}
+use Rattle.rtp_media_stream_table.specs.Indexed.{AreIndexed}
+use Rattle.rtp_media_stream_table.specs.declared.open_stream.OpenStream.{OpenStream}
+use Rattle.rtp_media_stream_table.specs.declared.stream_index.StreamIndex.{StreamIndex}
+use Rattle.rtp_media_stream_table.proofs.Indexing.{polled-out, polled-some}
 use Rattle.rtp_media_stream_table.proofs.stream_table.StreamTable.poll_out.Goals as goal
 
 -- whatever the polls come to

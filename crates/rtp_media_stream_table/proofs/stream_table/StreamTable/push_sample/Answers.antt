@@ -1,14 +1,14 @@
 use Rattle.std.proofs.Common.{◌≡◌, ◌≢◌, ℕ, arith, ap, refl, Result, Ok, Err, OnOk, IfErr, List}
 use Rattle.std.proofs.lemmas.Grind.{common_steps}
-use Rattle.rtp_wire.specs.Time.{Time}
+use Rattle.rtp_wire_values.specs.Time.{Time}
 use Rattle.rtp_wire.specs.declared.ExtensionValues.{ExtensionValues}
 use Rattle.rtp_media_streams.specs.Sending.{HasFailed, Sending, after_sample}
-use Rattle.rtp_media_payloads.specs.declared.errors.SampleError.{SampleError}
-use Rattle.rtp_media_payloads.specs.declared.errors.SampleError.TheVariants.{StreamFailed, TimeTooLarge, LimitTooSmall}
-use Rattle.rtp_media_payloads.specs.declared.errors.SampleError.TheVariants.{Payload, Memory}
-use Rattle.rtp_media_open_streams.specs.declared.open_stream.OpenStream.TheVariants.{Sender}
-use Rattle.rtp_media_open_streams.specs.Ends.{nth_stream}
-use Rattle.rtp_media_open_streams.proofs.Indexing.{kept-sender}
+use Rattle.rtp_media_streams.specs.declared.errors.SampleError.{SampleError}
+use Rattle.rtp_media_streams.specs.declared.errors.SampleError.TheVariants.{StreamFailed, TimeTooLarge, LimitTooSmall}
+use Rattle.rtp_media_streams.specs.declared.errors.SampleError.TheVariants.{Payload, Memory}
+use Rattle.rtp_media_stream_table.specs.declared.open_stream.OpenStream.TheVariants.{Sender}
+use Rattle.rtp_media_stream_table.specs.Streams.{nth_stream}
+use Rattle.rtp_media_stream_table.proofs.Indexing.{kept-sender}
 use Rattle.rtp_media_stream_table.proofs.stream_table.StreamTable.push_sample.Goals as goal
 
 -- what a stream is found by stays, whatever comes of a sample

@@ -1,8 +1,8 @@
 use Rattle.std.proofs.Common.{◌≡◌, ◌<◌, ◌∙◌, arith, length, subst, Result, Ok, Err, OnErr}
 use Rattle.std.proofs.lemmas.Grind.{common_steps}
-use Rattle.rtp_media_open_streams.specs.declared.open_stream.OpenStream.{OpenStream}
-use Rattle.rtp_media_open_streams.specs.Ends.{nth_stream}
-use Rattle.rtp_media_open_streams.specs.FullArrival.{AnswersSome}
+use Rattle.rtp_media_stream_table.specs.declared.open_stream.OpenStream.{OpenStream}
+use Rattle.rtp_media_stream_table.specs.Streams.{nth_stream}
+use Rattle.rtp_media_stream_table.specs.Polled.{AnswersSome}
 use Rattle.rtp_media_stream_table.proofs.PolledSome.{out-some, stopped-at}
 use Rattle.rtp_media_stream_table.proofs.stream_table.polls.poll_each.Goals as goal
 

@@ -1,6 +1,6 @@
 use Rattle.std.proofs.Common.{◌≡◌, ℕ, ◌<◌, ◌≤◌, length}
-use Rattle.rtp_media_open_streams.specs.Ends.{nth_stream}
-use Rattle.rtp_media_open_streams.specs.FullArrival.{AnswersAll, answers_at}
+use Rattle.rtp_media_stream_table.specs.Streams.{nth_stream}
+use Rattle.rtp_media_stream_table.specs.Polled.{AnswersAll, answers_at}
 use Rattle.rtp_media_stream_table.proofs.stream_table.polls.poll_each.Given as goal
 
 -- the streams below this one are polled out, and the others are as they were

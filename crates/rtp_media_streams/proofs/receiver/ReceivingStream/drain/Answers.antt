@@ -2,10 +2,10 @@ use Rattle.std.proofs.Common.{◌≡◌, ◌≢◌, ◌∙◌, ap, subst₂, IfE
 use Rattle.payload_core_base.specs.Format.{Format}
 use Rattle.rtp_media_schedules.specs.Hearing.{Stream}
 use Rattle.rtp_media_streams.specs.Drains.{drain_answer, drained}
-use Rattle.rtp_media_payloads.specs.Polls.{given}
-use Rattle.rtp_media_payloads.specs.Receiving.{Receiving}
-use Rattle.rtp_media_payloads.specs.Rows.{format_of}
-use Rattle.rtp_media_payloads.specs.declared.errors.PollFault.TheVariants.{Memory}
+use Rattle.rtp_media_streams.specs.Polls.{given}
+use Rattle.rtp_media_streams.specs.Receiving.{Receiving}
+use Rattle.rtp_media_streams.specs.Rows.{format_of}
+use Rattle.rtp_media_streams.specs.declared.errors.PollFault.TheVariants.{Memory}
 use Rattle.rtp_media_streams.proofs.Polling.{after_step, behind_fault}
 use Rattle.rtp_media_streams.proofs.receiver.ReceivingStream.drain.Goals as goal
 

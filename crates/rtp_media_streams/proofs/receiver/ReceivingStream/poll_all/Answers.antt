@@ -2,10 +2,10 @@ use Rattle.std.proofs.Common.{◌≡◌, ◌≢◌, ◌∙◌, ap, subst, None, 
 use Rattle.payload_core_base.specs.Format.{Format}
 use Rattle.payload_core_base.specs.declared.error.PacketError.{PacketError}
 use Rattle.rtp_media_schedules.specs.Hearing.{Stream, poll_answer, polled}
-use Rattle.rtp_media_payloads.specs.Polls.{IsInterrupted, given}
-use Rattle.rtp_media_payloads.specs.Receiving.{Receiving, with_stream}
-use Rattle.rtp_media_payloads.specs.Rows.{format_of}
-use Rattle.rtp_media_payloads.specs.declared.errors.PollFault.TheVariants.{Memory, Payload}
+use Rattle.rtp_media_streams.specs.Polls.{IsInterrupted, given}
+use Rattle.rtp_media_streams.specs.Receiving.{Receiving, with_stream}
+use Rattle.rtp_media_streams.specs.Rows.{format_of}
+use Rattle.rtp_media_streams.specs.declared.errors.PollFault.TheVariants.{Memory, Payload}
 use Rattle.rtp_media_streams.proofs.Draining.{one-more-poll, polled_fault, polled_more, polled_out}
 use Rattle.rtp_media_streams.proofs.Draining.{polled_short, some-polls}
 use Rattle.rtp_media_streams.proofs.receiver.ReceivingStream.poll_all.Goals as goal

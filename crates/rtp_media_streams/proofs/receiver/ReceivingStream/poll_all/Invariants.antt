@@ -1,7 +1,7 @@
 use Rattle.std.proofs.Common.{◌≡◌, length}
 use Rattle.rtp_media_streams.proofs.Draining.{ArePolls, IsPolledSo}
-use Rattle.rtp_media_payloads.specs.Receiving.{with_stream}
-use Rattle.rtp_media_payloads.specs.Rows.{format_of}
+use Rattle.rtp_media_streams.specs.Receiving.{with_stream}
+use Rattle.rtp_media_streams.specs.Rows.{format_of}
 use Rattle.rtp_media_streams.proofs.receiver.ReceivingStream.poll_all.Given as goal
 
 -- the answers so far, and then what the stream as it is now answers, are what it answered from the start

@@ -1,8 +1,8 @@
 use Rattle.std.proofs.Common.{◌≡◌, sym, ◌∙◌, ap, ap₂, []}
 use Rattle.std.specs.Prelude.{Option, Some, None}
 use Rattle.payload_core_base.specs.Packing.{Sender}
-use Rattle.payload_core_red.specs.RedHistory.{Redundancy}
-use Rattle.payload_core_red.specs.declared.sink.RedSink.{RedSink}
+use Rattle.payload_core_audio.specs.RedHistory.{Redundancy}
+use Rattle.payload_core_audio.specs.declared.sink.RedSink.{RedSink}
 use Rattle.rtp_media_streams.specs.Sending.{Sending, datagrams_from, payloads_at, sent, still_kept, wire_payloads}
 use Rattle.rtp_media_streams.specs.Sending.{with_next}
 use Rattle.rtp_media_streams.specs.declared.sink.DatagramSink.{DatagramSink}

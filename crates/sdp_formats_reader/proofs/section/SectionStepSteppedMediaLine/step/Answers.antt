@@ -1,7 +1,7 @@
 use Rattle.std.proofs.Common.{refl}
 use Rattle.std.proofs.lemmas.Result.{err_from_is_err_and}
-use Rattle.sdp_formats_forms.specs.Line.{LineOf}
-use Rattle.sdp_formats_session_lines.specs.Lines.{head_line}
+use Rattle.sdp_formats_grammar.specs.Line.{LineOf}
+use Rattle.sdp_formats_reader.specs.Lines.{head_line}
 use Rattle.sdp_formats_reader.specs.Grammar.{SectionSays}
 use Rattle.sdp_formats_reader.proofs.One.{err-as}
 use Rattle.sdp_formats_reader.proofs.One.{no-head, section-shorter}

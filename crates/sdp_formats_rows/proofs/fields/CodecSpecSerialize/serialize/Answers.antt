@@ -1,4 +1,4 @@
-use Rattle.payload_core_tables.proofs.FieldLaws.{on_ok}
+use Rattle.named_values.proofs.FieldLaws.{on_ok}
 use Rattle.sdp_formats_rows.proofs.fields.CodecSpecSerialize.serialize.Goals as goal
 
 pub returns : goal.returns

@@ -1,5 +1,5 @@
 use Rattle.std.proofs.Common.{rules, [], ◌∷◌}
-use Rattle.sdp_formats_format.proofs.ReadingLemmas.{tested}
+use Rattle.sdp_formats_params.proofs.ReadingLemmas.{tested}
 use Rattle.sdp_formats_rows.specs.Reading.{ReadsField, field_names}
 use Rattle.sdp_formats_rows.proofs.reading.PayloadParamsDeserialize.deserialize.Goals as goal
 

@@ -1,6 +1,6 @@
 use Rattle.std.proofs.Common.{codes}
 use Rattle.std.specs.Fmt.{◌++?◌}
-use Rattle.sdp_formats_forms.specs.Joined.{maybe_some, maybe_same, writes_same}
+use Rattle.sdp_formats_grammar.specs.Joined.{maybe_some, maybe_same, writes_same}
 use Rattle.sdp_formats_values.specs.PrintedCandidates.{related_text, tcp_type_text}
 use Rattle.sdp_formats_values.proofs.candidate.CandidatePartsDisplay.fmt.Goals as goal
 

@@ -1,6 +1,6 @@
 use Rattle.std.proofs.Common.{codes}
-use Rattle.sdp_formats_forms.specs.Joined.{joined_some, writes_same}
-use Rattle.sdp_formats_params.specs.Printed.{pair_text}
+use Rattle.sdp_formats_grammar.specs.Joined.{joined_some, writes_same}
+use Rattle.sdp_formats_values.specs.PrintedParameters.{pair_text}
 use Rattle.sdp_formats_values.proofs.lists.RestrictionsDisplay.fmt.Goals as goal
 
 pub returns-clause-writes : goal.returns-clause-writes

@@ -1,5 +1,5 @@
 use Rattle.std.proofs.Common.{codes}
-use Rattle.sdp_formats_forms.specs.Joined.{joined_some, writes_same}
+use Rattle.sdp_formats_grammar.specs.Joined.{joined_some, writes_same}
 use Rattle.std.specs.Fmt.{decimal}
 use Rattle.sdp_formats_values.proofs.lists.SourcesDisplay.fmt.Goals as goal
 

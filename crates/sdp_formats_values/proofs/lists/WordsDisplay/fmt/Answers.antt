@@ -1,5 +1,5 @@
 use Rattle.std.proofs.Common.{codes}
-use Rattle.sdp_formats_forms.specs.Joined.{joined_same, writes_same}
+use Rattle.sdp_formats_grammar.specs.Joined.{joined_same, writes_same}
 use Rattle.sdp_formats_values.proofs.lists.WordsDisplay.fmt.Goals as goal
 
 pub returns-clause-writes : goal.returns-clause-writes

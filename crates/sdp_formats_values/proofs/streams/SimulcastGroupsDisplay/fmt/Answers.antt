@@ -1,6 +1,6 @@
 use Rattle.std.proofs.Common.{codes}
-use Rattle.sdp_formats_forms.specs.Joined.{joined_said, writes_same}
-use Rattle.sdp_formats_values.specs.Printed.{layer_text}
+use Rattle.sdp_formats_grammar.specs.Joined.{joined_said, writes_same}
+use Rattle.sdp_formats_values.specs.PrintedValues.{layer_text}
 use Rattle.sdp_formats_values.proofs.streams.SimulcastGroupsDisplay.fmt.Goals as goal
 
 pub returns-clause-writes : goal.returns-clause-writes

@@ -1,3 +1,0 @@
-pub mod Codings
-pub mod Depacketizers
-pub mod Nothing

@@ -1,0 +1,11 @@
+pub mod AggregateLaw
+pub mod FragmentLaw
+pub mod H264DepartureLemmas
+pub mod H264FragmentLaw
+pub mod H264Law
+pub mod H264RunLaw
+pub mod Law
+pub mod LayoutDepartureLemmas
+pub mod RunLaw
+pub mod SendingLemmas
+pub mod StapALemmas

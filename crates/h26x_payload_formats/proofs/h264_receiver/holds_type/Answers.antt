@@ -1,0 +1,12 @@
+use Rattle.std.proofs.Common.{◌≡◌, length, sym, ap, ◌∙◌, arith}
+use Rattle.std.proofs.lemmas.Bool.Decides.{nat_tests}
+use Rattle.std.specs.List.{list_any}
+use Rattle.h26x_payload_formats.specs.H264Reading.{is_of_type}
+use Rattle.h26x_payload_units.proofs.AggregateLemmas.{none_is}
+use Rattle.h26x_payload_formats.proofs.h264_receiver.holds_type.Goals as goal
+
+pub returns : goal.returns
+returns c =
+    let rest = c.loop-rest.rest.now in
+    let empty : length rest ≡ 0 = grind (arith, nat_tests) in
+    sym (ap (λ a. list_any (is_of_type c.args.nalu_type) a.units) (none_is 0 0 rest empty)) ∙ c.loop-rest.invariant

@@ -1,0 +1,13 @@
+pub mod AggregateLayout
+pub mod Coding
+pub mod Fragments
+pub mod H264Coding
+pub mod H264Fragments
+pub mod H264Headers
+pub mod H264Packing
+pub mod H264Reading
+pub mod H264Waiting
+pub mod Packing
+pub mod Reading
+pub mod StapA
+pub mod Waiting

@@ -1,7 +1,0 @@
--- How the code of the sender holds the sets that wait.
-use Rattle.std.specs.Prelude.{◌∷◌, [], option_map}
-use Rattle.h26x_payload_units.specs.Departures.{Waiting}
-use Rattle.h26x_payload_h264.specs.declared.h264_sender.WaitingSets.{WaitingSets}
-
-abbrev pub waiting_in : WaitingSets → Waiting
-waiting_in sets = option_map (λ s. s.now) sets.sps ∷ option_map (λ s. s.now) sets.pps ∷ []

@@ -1,4 +1,0 @@
-pub mod DepartureLemmas
-pub mod RunLaw
-pub mod Law
-pub mod FragmentLaw

@@ -1,5 +1,0 @@
-use Rattle.h26x_payload_h265_h266.proofs.FragmentLaw.{fragment_law}
-use Rattle.h26x_payload_h265_h266.proofs.laws.h265_h266_reading_law.Goals as goal
-
-pub returns : goal.returns
-returns c = fragment_law

@@ -1,4 +1,0 @@
-pub mod Params
-pub mod Receiving
-pub mod Refusals
-pub mod Sending

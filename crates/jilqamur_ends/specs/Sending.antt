@@ -1,0 +1,64 @@
+-- What calls of sending streams answer.
+use Rattle.std.specs.Prelude.{ℕ, ◌≡◌, ◌≢◌, ◌==◌, Bool, List, length, Option, Some, None, if◌then◌else◌}
+use Rattle.rtp_wire.specs.Name.{name_of}
+use Rattle.rtp_wire_values.specs.Time.{Time}
+use Rattle.rtp_wire.specs.declared.ExtensionValues.{ExtensionValues}
+use Rattle.rtp_media_streams.specs.Sending.{sent_datagrams, after_sample, refusal_of_sample}
+use Rattle.rtp_media_ends.specs.Ends.{EndState, agreed_red, after_open_sender, refusal_of_open_sender}
+use Rattle.rtp_media_ends.specs.Ends.{is_sender_at, sender_at, with_sender}
+use Rattle.rtp_media_ends.specs.Params.{is_sound_params}
+use Rattle.rtp_media_ends.specs.declared.StreamParams.{StreamParams}
+use Rattle.jilqamur_media.specs.Codes.{ok, memory, out_of_range, no_stream}
+use Rattle.jilqamur_media.specs.Values.{values_given}
+use Rattle.jilqamur_media.specs.declared.values.WireValues.{WireValues}
+use Rattle.jilqamur_media.specs.StreamAnswers.{sample_outcome}
+use Rattle.rtp_media_ends.specs.Stops.{SenderFails, Where}
+use Rattle.jilqamur_ends.specs.Refusals.{open_outcome}
+
+-- Whether they are sound for the row that is agreed.
+abbrev pub is_sound_for : EndState → List ℕ → ℕ → StreamParams → Bool
+is_sound_for e mid pt params = is_sound_params (agreed_red e (name_of 16 mid) pt) params
+
+pub record OpensSender (e : EndState) (mid : List ℕ) (ssrc pt : ℕ) (params : StreamParams) (result stream : ℕ)
+    (after : EndState) : Type 0 where
+  pub outcome : result ≢ memory → result ≡ open_outcome (refusal_of_open_sender e (name_of 16 mid) ssrc pt)
+  pub number : result ≡ ok → stream ≡ length e.streams
+  pub opened : result ≡ ok → after ≡ after_open_sender e (name_of 16 mid) ssrc pt params
+  pub stays : result ≢ ok → after ≡ e
+
+-- Parameters that aren't sound are refused first.
+abbrev pub IsUnsound : EndState → ℕ → EndState → Type 0
+IsUnsound e result after = (result ≡ out_of_range) × (after ≡ e)
+
+-- What opening a sending stream answers.
+abbrev pub AnswersSender : EndState → List ℕ → ℕ → ℕ → StreamParams → ℕ → ℕ → EndState → Type 0
+AnswersSender e mid ssrc pt params result stream after = Where (is_sound_for e mid pt params)
+    (OpensSender e mid ssrc pt params result stream after) (IsUnsound e result after)
+
+-- A time in ticks of the clock of the stream's row.
+abbrev pub time_at : EndState → ℕ → ℕ → Time
+time_at e n ticks = record { ticks = ticks; rate = (sender_at e n).row.clock_rate }
+
+-- The values of a sample's header extensions: those given, and the name of its section, where one is (RFC 9143 15).
+abbrev pub mid_of : List ℕ → Option (List ℕ)
+mid_of text = if length text == 0 then None else Some (name_of 16 text)
+
+abbrev pub values_of : WireValues → List ℕ → ExtensionValues
+values_of w mid = values_given w (mid_of mid)
+
+pub record Sends (e : EndState) (n : ℕ) (time : Time) (values : ExtensionValues) (sample : List ℕ) (result : ℕ)
+    (datagrams : List (List ℕ)) (after : EndState) : Type 0 where
+  pub outcome : result ≢ memory → result ≡ sample_outcome (refusal_of_sample (sender_at e n) time values sample)
+  pub sent : result ≡ ok → datagrams ≡ sent_datagrams (sender_at e n) time values sample
+  pub is_behind : result ≡ ok → after ≡ with_sender e n (after_sample (sender_at e n) time values sample)
+  pub stays : result ≢ ok → result ≢ memory → after ≡ e
+  pub fails : result ≡ memory → SenderFails e n after
+
+-- No stream that sends has this number.
+abbrev pub HasNoSender : EndState → ℕ → EndState → Type 0
+HasNoSender e result after = (result ≡ no_stream) × (after ≡ e)
+
+-- What a sample at a stream answers.
+abbrev pub AnswersSample : EndState → ℕ → ℕ → WireValues → List ℕ → List ℕ → ℕ → List (List ℕ) → EndState → Type 0
+AnswersSample e n ticks values mid sample result datagrams after = Where (is_sender_at e n)
+    (Sends e n (time_at e n ticks) (values_of values mid) sample result datagrams after) (HasNoSender e result after)

@@ -1,0 +1,150 @@
+//! Receiving streams: datagrams that come, and units that are ready.
+//! Each call answers `CLOSED` at a closed handle, and changes nothing then.
+
+ghost use Rattle.std.specs.Prelude.{◌≡◌, ◌≢◌};
+ghost use Rattle.jilqamur_media.specs.Codes.{ok};
+ghost use Rattle.jilqamur_media.specs.Handles.{AtObject};
+ghost use Rattle.jilqamur_ends.specs.Answers.{AtEnd, WithText};
+ghost use Rattle.jilqamur_ends.specs.HeldEnds.{behind_end, behind_poll};
+ghost use Rattle.jilqamur_ends.specs.Receiving.{OpensReceiver, Receives, Polls, Drains, IsTakenAs};
+ghost use Rattle.jilqamur_ends.specs.Receiving.{verdict_code};
+
+use crate::place::EndHandle;
+use crate::refusals::open_code;
+use jilqamur_media::{codes, poll_code, text_in};
+use rtp_media_ends::Received;
+use rtp_wire::{Mid, Pt, Ssrc};
+
+/// Writes the number of the stream that took a datagram and its widened sequence number, and answers the verdict's.
+fn verdict_code(verdict: Received, stream: &mut usize, number: &mut u64) -> u32
+    ensures code { result ≡ verdict_code verdict }
+    ensures taken { IsTakenAs verdict stream.new number.new }
+    ensures stream { result ≢ ok → stream.new ≡ stream.old }
+    ensures number { result ≢ ok → number.new ≡ number.old }
+{
+    match verdict {
+        Received::Unreadable => codes::UNREADABLE,
+        Received::Foreign => codes::FOREIGN,
+        Received::Damaged => codes::DAMAGED,
+        Received::Refused => codes::REFUSED,
+        Received::Taken(at, taken) => {
+            *stream = at;
+            *number = taken.get();
+            codes::OK
+        }
+    }
+}
+
+/// Opens a receiving stream of this SSRC for the agreed row of a payload type, writes its number, counted from 0
+/// over the streams of both directions, and answers `OK`. `NOT_TEXT` for a name that isn't UTF-8, `NOT_MADE`
+/// without an end; else the first that holds of `NO_SECTION`, `ROW_NOT_AGREED`, `ROW_DIFFERS`,
+/// `WRONG_DIRECTION`, `SSRC_NOT_NAMED` and `ALREADY_OPEN`, or `MEMORY`, and nothing has changed.
+pub fn open_receiver(
+    end: &mut EndHandle,
+    mid: &[u8],
+    ssrc: u32,
+    pt: u8,
+    hold_back: usize,
+    stream: &mut usize,
+) -> u32
+    ensures answer { AtObject end.old.place.object end.new.place.object result
+        (λ p after. WithText mid.now p.end after.end result
+        (λ e now. OpensReceiver e mid.now ssrc pt hold_back result stream.new now)) }
+    ensures stream { result ≢ ok → stream.new ≡ stream.old }
+    ensures rest { AtObject end.old.place.object end.new.place.object result
+        (λ p after. after ≡ behind_end p after.end) }
+{
+    if !end.is_open() {
+        return codes::CLOSED;
+    }
+    let held = end.place.held();
+    let Some(mid) = text_in(mid) else {
+        return codes::NOT_TEXT;
+    };
+    let Some(end) = &mut held.end else {
+        return codes::NOT_MADE;
+    };
+    match end.open_receiver(Mid::from(mid), Ssrc::from(ssrc), Pt::from(pt), hold_back) {
+        Ok(number) => {
+            *stream = number;
+            codes::OK
+        }
+        Err(error) => open_code(error),
+    }
+}
+
+/// Takes a datagram in, and answers `OK` where a stream took it: `stream` is its number and `number` the widened
+/// sequence number. `NOT_MADE` without an end; else the first that holds of `UNREADABLE`, `FOREIGN`, `DAMAGED`
+/// and `REFUSED`, or `MEMORY`, and the end is unchanged.
+pub fn receive(end: &mut EndHandle, datagram: &[u8], stream: &mut usize, number: &mut u64) -> u32
+    ensures answer { AtObject end.old.place.object end.new.place.object result
+        (λ p after. AtEnd p.end after.end result
+        (λ e now. Receives e datagram.now result stream.new number.new now)) }
+    ensures stream { result ≢ ok → stream.new ≡ stream.old }
+    ensures number { result ≢ ok → number.new ≡ number.old }
+    ensures rest { AtObject end.old.place.object end.new.place.object result
+        (λ p after. after ≡ behind_end p after.end) }
+{
+    if !end.is_open() {
+        return codes::CLOSED;
+    }
+    let held = end.place.held();
+    let Some(end) = &mut held.end else {
+        return codes::NOT_MADE;
+    };
+    match end.receive(datagram) {
+        Ok(verdict) => verdict_code(verdict, stream, number),
+        Err(_) => codes::MEMORY,
+    }
+}
+
+/// Polls a receiving stream, and answers `OK` where a unit is ready, which is left to be fetched. `NOT_MADE`
+/// without an end, `NO_STREAM` where no receiving stream has the number, `NOTHING` where no unit is ready,
+/// `PAYLOAD` where a packet of the next frame is refused, which is then done with, or `MEMORY`, and the frame
+/// stays; the unit that was left stays then.
+pub fn poll(end: &mut EndHandle, stream: usize) -> u32
+    ensures answer { AtObject end.old.place.object end.new.place.object result
+        (λ p after. AtEnd p.end after.end result
+        (λ e now. Polls e stream p.unit result after.unit now)) }
+    ensures kept { AtObject end.old.place.object end.new.place.object result
+        (λ p after. result ≢ ok → after.unit ≡ p.unit) }
+    ensures rest { AtObject end.old.place.object end.new.place.object result
+        (λ p after. after ≡ behind_poll p after.end after.unit) }
+{
+    if !end.is_open() {
+        return codes::CLOSED;
+    }
+    let held = end.place.held();
+    let Some(end) = &mut held.end else {
+        return codes::NOT_MADE;
+    };
+    if !end.is_receiver(stream) {
+        return codes::NO_STREAM;
+    }
+    let answer = end.poll(stream);
+    poll_code(answer, &mut held.unit)
+}
+
+/// The same, whether or not a datagram before the lowest complete unit is missing.
+pub fn drain(end: &mut EndHandle, stream: usize) -> u32
+    ensures answer { AtObject end.old.place.object end.new.place.object result
+        (λ p after. AtEnd p.end after.end result
+        (λ e now. Drains e stream p.unit result after.unit now)) }
+    ensures kept { AtObject end.old.place.object end.new.place.object result
+        (λ p after. result ≢ ok → after.unit ≡ p.unit) }
+    ensures rest { AtObject end.old.place.object end.new.place.object result
+        (λ p after. after ≡ behind_poll p after.end after.unit) }
+{
+    if !end.is_open() {
+        return codes::CLOSED;
+    }
+    let held = end.place.held();
+    let Some(end) = &mut held.end else {
+        return codes::NOT_MADE;
+    };
+    if !end.is_receiver(stream) {
+        return codes::NO_STREAM;
+    }
+    let answer = end.drain(stream);
+    poll_code(answer, &mut held.unit)
+}

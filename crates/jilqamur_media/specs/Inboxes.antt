@@ -1,0 +1,70 @@
+-- A receiving stream by codec, and the unit that a poll left last.
+use Rattle.std.specs.Prelude.{ℕ, ◌≡◌, ◌≢◌, Bool, List, Option, Some, None}
+use Rattle.rtp_wire.specs.Maps.{empty_map}
+use Rattle.rtp_wire.specs.Values.{absent}
+use Rattle.rtp_media_schedules.specs.Hearing.{MediaUnit}
+use Rattle.rtp_media_streams.specs.Drains.{drained_receiver, holding}
+use Rattle.rtp_media_streams.specs.Polls.{IsInterrupted, PollResult, poll_result}
+use Rattle.rtp_media_streams.specs.Receiving.{Receiving, arrived, opened_receiver, polled_receiver, taken_number}
+use Rattle.rtp_media_streams.specs.Receiving.{with_stream}
+use Rattle.rtp_media_streams.specs.Rows.{format_of}
+use Rattle.jilqamur_media.specs.Codes.{ok, memory, refused}
+use Rattle.jilqamur_media.specs.StreamAnswers.{poll_code, unit_behind, drain_result}
+use Rattle.jilqamur_media.specs.Formats.{format_named}
+use Rattle.jilqamur_media.specs.Outboxes.{type_alone}
+use Rattle.jilqamur_media.specs.declared.format.WireFormat.{WireFormat}
+
+pub record InboxState : Type 0 where
+  pub stream : Receiving
+  pub unit : Option MediaUnit
+
+-- A stream that took nothing.
+abbrev pub new_inbox : WireFormat → List ℕ → ℕ → InboxState
+new_inbox format codec hold_back = record {
+  stream = opened_receiver 0 (type_alone 0) empty_map (format_named format codec) hold_back;
+  unit = None;
+}
+
+-- The number of a packet, and the widened number that it was taken under.
+abbrev pub take_outcome : Option ℕ → ℕ
+take_outcome None = refused
+take_outcome (Some number) = ok
+
+abbrev pub IsTaken : Option ℕ → ℕ → Type 0
+IsTaken None number = Unit {0}
+IsTaken (Some taken) number = number ≡ taken
+
+-- What a packet of these low 16 bits of its number, time, marker and payload answers.
+pub record Takes (p : InboxState) (low time : ℕ) (marker : Bool) (payload : List ℕ) (result number : ℕ)
+    (after : InboxState) : Type 0 where
+  pub outcome : result ≢ memory → result ≡ take_outcome (taken_number p.stream.stream low)
+  pub taken : result ≢ memory → IsTaken (taken_number p.stream.stream low) number
+  pub is_behind : result ≢ memory
+      → after.stream ≡ with_stream p.stream (arrived p.stream.stream low time marker absent payload)
+  pub stays : result ≡ memory → after.stream ≡ p.stream
+  pub unit : after.unit ≡ p.unit
+
+-- Memory runs out for a unit that is ready: its frame stays.
+abbrev pub PollStops : Receiving → Receiving → Type 0
+PollStops r after =
+    IsInterrupted (format_of r.row) r.stream after.stream × (after ≡ with_stream r after.stream)
+
+abbrev pub DrainStops : Receiving → Receiving → Type 0
+DrainStops r after =
+    IsInterrupted (format_of r.row) (holding 0 r.stream) (holding 0 after.stream)
+    × (after ≡ with_stream r after.stream)
+
+-- What a poll answers whose stream answers and becomes this, or stays like that where memory runs out.
+pub record AnswersPoll (p : InboxState) (answer : PollResult) (behind : Receiving)
+    (Stops : Receiving → Receiving → Type 0) (result : ℕ) (after : InboxState) : Type 0 where
+  pub number : result ≢ memory → result ≡ poll_code answer
+  pub unit_is : result ≢ memory → after.unit ≡ unit_behind answer p.unit
+  pub is_behind : result ≢ memory → after.stream ≡ behind
+  pub keeps : result ≡ memory → after.unit ≡ p.unit
+  pub stops : result ≡ memory → Stops p.stream after.stream
+
+abbrev pub Polls : InboxState → ℕ → InboxState → Type 0
+Polls p result after = AnswersPoll p (poll_result p.stream) (polled_receiver p.stream) PollStops result after
+
+abbrev pub Drains : InboxState → ℕ → InboxState → Type 0
+Drains p result after = AnswersPoll p (drain_result p.stream) (drained_receiver p.stream) DrainStops result after

@@ -1,0 +1,81 @@
+-- A depacketizer of a codec behind its buffer, and the unit that was popped last.
+use Rattle.std.specs.Prelude.{ℕ, ◌≡◌, Bool, List, [], Option, Some, None, Result, Ok, Err}
+use Rattle.payload_core_base.specs.Format.{Fragment}
+use Rattle.payload_core_base.specs.declared.error.PacketError.{PacketError}
+use Rattle.payload_core_buffer.specs.Buffered.{pushed}
+use Rattle.payload_core_buffer.specs.Metas.{metas_of_unit}
+use Rattle.payload_core_buffer.specs.Packets.{Packet, packet_from}
+use Rattle.payload_core_buffer.specs.Pops.{PopState, Pops, pop_state}
+use Rattle.payload_core_buffer.specs.declared.depacketized.Depacketized.{Depacketized}
+use Rattle.payload_core_buffer.specs.declared.held.RtpMeta.{RtpMeta}
+use Rattle.rtp_wire_extensions.specs.Values.{absent}
+use Rattle.jilqamur_media.specs.Codes.{ok, nothing}
+use Rattle.jilqamur_media.specs.Faults.{fault_code}
+use Rattle.rtp_media_streams.specs.Rows.{format_of}
+use Rattle.rtp_media_streams.specs.declared.row_format.RowFormat.{RowFormat}
+use Rattle.jilqamur_media.specs.Formats.{format_named}
+use Rattle.jilqamur_media.specs.Units.{UnitState, told_of, unit_from}
+use Rattle.jilqamur_media.specs.declared.format.WireFormat.{WireFormat}
+use Rattle.jilqamur_media.specs.declared.payload_unit.WireUnit.{WireUnit}
+
+-- A depacketizer goes by a format, and holds packets until their frame is due.
+pub record PacketInboxState : Type 0 where
+  pub format : RowFormat
+  pub hold_back : ℕ
+  pub held : List Packet
+  pub cutoff : Option ℕ
+  pub fragment : Fragment
+  pub unit : Option UnitState
+
+-- One that took nothing.
+abbrev pub new_packet_inbox : WireFormat → List ℕ → ℕ → PacketInboxState
+new_packet_inbox format codec hold_back = record {
+  format = format_named format codec;
+  hold_back = hold_back;
+  held = [];
+  cutoff = None;
+  fragment = None;
+  unit = None;
+}
+
+-- What is known of a packet of this number, RTP time and marker.
+abbrev pub meta_of : ℕ → ℕ → Bool → RtpMeta
+meta_of number time marker = record { seq_no = number; time = time; marker = marker; ext_vals = absent }
+
+-- The depacketizer behind a packet.
+abbrev pub behind_push : PacketInboxState → ℕ → ℕ → Bool → List ℕ → PacketInboxState
+behind_push p number time marker payload =
+    record p { held = pushed p.cutoff p.held (packet_from (meta_of number time marker) payload) }
+
+-- What a pop reads and changes.
+abbrev pub queue_of : PacketInboxState → PopState
+queue_of p = pop_state p.held p.cutoff p.fragment
+
+-- The number of a pop's answer, and the unit that it leaves, or the one that was left before.
+abbrev pub pop_code : Result (Option Depacketized) PacketError → ℕ
+pop_code (Ok None) = nothing
+pop_code (Ok (Some frame)) = ok
+pop_code (Err e) = fault_code e
+
+abbrev pub unit_behind : Result (Option Depacketized) PacketError → Option UnitState → Option UnitState
+unit_behind (Ok None) before = before
+unit_behind (Ok (Some frame)) before = Some (unit_from (metas_of_unit frame) frame.bytes.items frame.extra)
+unit_behind (Err e) before = before
+
+-- A pop of the buffer that holds so many complete frames back answers so, and leaves this.
+pub record PopsAt (hold_back : ℕ) (p : PacketInboxState) (result : ℕ) (after : PacketInboxState) : Type 0 where
+  pub popped : Result (Option Depacketized) PacketError
+  pub pops : Pops (format_of p.format) hold_back (queue_of p) (queue_of after) popped
+  pub number : result ≡ pop_code popped
+  pub unit_is : after.unit ≡ unit_behind popped p.unit
+  pub format_is : after.format ≡ p.format
+  pub hold_back_is : after.hold_back ≡ p.hold_back
+
+abbrev pub bytes_of : Option UnitState → Option (List ℕ)
+bytes_of None = None
+bytes_of (Some u) = Some u.bytes
+
+-- What is told of the unit.
+abbrev pub IsToldOf : Option UnitState → WireUnit → Type 0
+IsToldOf None told = Unit {0}
+IsToldOf (Some u) told = told ≡ told_of u

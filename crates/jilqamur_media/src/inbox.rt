@@ -1,0 +1,126 @@
+//! A receiving stream by codec.
+
+ghost use Rattle.std.specs.Prelude.{◌≡◌, ◌≢◌, IfOk, IfErr, OnOk};
+ghost use Rattle.jilqamur_media.specs.Codes.{ok, nothing};
+ghost use Rattle.jilqamur_media.specs.Copies.{IsFetched};
+ghost use Rattle.jilqamur_media.specs.Fetched.{IsToldOf, bytes_of};
+ghost use Rattle.jilqamur_media.specs.Formats.{format_outcome};
+ghost use Rattle.jilqamur_media.specs.Inboxes.{new_inbox, Takes, Polls, Drains};
+
+use crate::answers::poll_code;
+use crate::codes;
+use crate::format::{WireFormat, read_format};
+use crate::payload_unit::WireUnit;
+use crate::stream_fetch::unit_at;
+use rtp_media_streams::{PayloadTypes, ReceivingStream, Unit};
+use rtp_wire::{ExtensionMap, ExtensionValues, Pt, Ssrc};
+use std::alloc::Global;
+use std::marker::Model;
+
+/// A receiving stream, and the unit that a poll left last.
+#[derive(Drop)]
+pub struct Inbox {
+    stream: ReceivingStream,
+    unit: Option<Unit>,
+}
+
+impl Model for Inbox {
+    ghost use Rattle.jilqamur_media.specs.Inboxes.{InboxState};
+    ghost use Rattle.rtp_wire.specs.Replay.{window_code};
+    ghost use Rattle.std.specs.Coded.{codes};
+
+    ghost Value = { InboxState };
+
+    ghost coded = { Prim.hlevel (codes, window_code) };
+
+    ghost view = { λ p. record { stream = p.stream; unit = p.unit } };
+}
+
+impl Inbox {
+    /// A stream that took nothing. Past a missing packet a unit is handed out only once more than `hold_back` frames
+    /// are complete. Else why the format is none.
+    ///
+    /// # Errors
+    ///
+    /// Why the format is none, as `read_format` says it.
+    pub fn new(
+        alloc: Global,
+        format: &WireFormat,
+        codec: &[u8],
+        hold_back: usize,
+    ) -> Result<Inbox, u32>
+        ensures new { IfOk result (λ p. p ≡ new_inbox format.now codec.now hold_back) }
+        ensures accepted { OnOk result (format_outcome format.now codec.now ≡ ok) }
+        ensures refused { IfErr result (λ code. code ≡ format_outcome format.now codec.now) }
+        ensures refusal { IfErr result (λ code. code ≢ ok) }
+    {
+        let row = match read_format(format, codec) {
+            Ok(row) => row,
+            Err(code) => return Err(code),
+        };
+        let types = PayloadTypes {
+            pt: Pt::from(0),
+            red: None,
+            repair: None,
+        };
+        let exts = ExtensionMap::empty();
+        let stream = ReceivingStream::new(alloc, Ssrc::from(0), types, exts, row, hold_back);
+        Ok(Inbox { stream, unit: None })
+    }
+
+    /// Takes a packet in, by the low 16 bits of its number, its time, marker and payload, which may be empty, and
+    /// answers `OK`: `number` is its widened number, which is recorded. `REFUSED` where that came before, or is
+    /// 128 or more below the greatest, or `MEMORY`, and nothing has changed.
+    pub fn push(
+        &mut self,
+        low: u16,
+        time: u32,
+        marker: bool,
+        payload: &[u8],
+        number: &mut u64,
+    ) -> u32
+        ensures answer { Takes self.old low time marker payload.now result number.new self.new }
+        ensures number { result ≢ ok → number.new ≡ number.old }
+    {
+        match self
+            .stream
+            .receive(low, time, marker, ExtensionValues::absent(), payload)
+        {
+            Ok(Some(taken)) => {
+                *number = taken.get();
+                codes::OK
+            }
+            Ok(None) => codes::REFUSED,
+            Err(_) => codes::MEMORY,
+        }
+    }
+
+    /// Answers `OK` where a unit is ready, which is left to be fetched. `NOTHING` where none is, `PAYLOAD` where a
+    /// packet of the next frame is refused, which is then done with, or `MEMORY`, and the frame stays.
+    pub fn poll(&mut self) -> u32
+        ensures answer { Polls self.old result self.new }
+        ensures kept { result ≢ ok → self.new.unit ≡ self.old.unit }
+    {
+        let answer = self.stream.poll();
+        poll_code(answer, &mut self.unit)
+    }
+
+    /// The same, whether or not a packet before the lowest complete unit is missing.
+    pub fn drain(&mut self) -> u32
+        ensures answer { Drains self.old result self.new }
+        ensures kept { result ≢ ok → self.new.unit ≡ self.old.unit }
+    {
+        let answer = self.stream.drain();
+        poll_code(answer, &mut self.unit)
+    }
+
+    /// Copies the bytes of the unit that a poll left last, and answers `OK`, or `TOO_SMALL`, and the buffer is
+    /// unchanged; `needed` is their count, and `told` what is told beside. `NOTHING` before the first unit.
+    pub fn unit(&self, buffer: &mut [u8], needed: &mut usize, told: &mut WireUnit) -> u32
+        ensures bytes { IsFetched (bytes_of self.now.unit) buffer.old result needed.new buffer.new }
+        ensures told { IsToldOf self.now.unit told.new }
+        ensures nothing { result ≡ nothing → (needed.new ≡ needed.old) × (told.new ≡ told.old) }
+    {
+        unit_at(&self.unit, buffer, needed, told)
+    }
+}

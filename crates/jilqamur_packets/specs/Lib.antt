@@ -1,7 +1,0 @@
-pub mod Faults
-pub mod Formats
-pub mod OwnedDepacketizer
-pub mod OwnedPacketizer
-pub mod PacketInboxes
-pub mod PacketOutboxes
-pub mod Units

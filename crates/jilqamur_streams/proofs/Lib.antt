@@ -1,2 +1,0 @@
-pub mod ReceiverBox
-pub mod SenderBox

@@ -1,4 +1,0 @@
-pub mod AmrWb
-pub mod AmrWbLayout
-pub mod BitPlaces
-pub mod BitBytes

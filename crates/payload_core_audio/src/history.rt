@@ -1,0 +1,81 @@
+//! Payloads that may be sent once more (RFC 2198).
+
+ghost use Rattle.payload_core_audio.specs.Red.{HasRoom};
+ghost use Rattle.payload_core_audio.specs.RedHistory.{kept_of};
+ghost use Rattle.payload_core_audio.specs.RedSending.{masked};
+ghost use Rattle.payload_core_audio.specs.RedViews.{old_block};
+ghost use Rattle.payload_core_audio.specs.RedWrapping.{IsLongestPrefix, level, levels};
+ghost use Rattle.std.specs.Prelude.{◌≡◌, ◌+◌, ◌<◌, ◌≤◌, All, IfOk, length, map, option_map};
+
+use crate::spelling::{OldPayload, fields_fit};
+use std::alloc::{AllocError, Global};
+
+/// A payload that was wrapped.
+pub struct KeptPayload {
+    pub pt: u8,
+    pub time: u32,
+    pub payload: Vec<u8>,
+}
+
+/// Written out, so that who lets one go needs nothing of what is inside.
+impl Drop for KeptPayload {
+    fn drop(self) {
+        let KeptPayload {
+            pt: _pt,
+            time: _time,
+            payload: _payload,
+        } = self;
+    }
+}
+
+/// The payload that was wrapped so many calls before.
+fn level(history: &[KeptPayload], time: u32, distance: u32) -> Option<OldPayload<'_>>
+    requires { 0 < distance }
+    ensures { option_map old_block result ≡ level (map kept_of history.now) time distance }
+{
+    let kept = history.get(distance as usize - 1)?;
+    Some(OldPayload {
+        pt: kept.pt,
+        timestamp_offset: time.wrapping_sub(kept.time),
+        payload: &kept.payload,
+    })
+}
+
+/// The existing levels that fit a block, the shallowest first.
+pub fn levels<'a>(
+    alloc: Global,
+    history: &'a [KeptPayload],
+    distances: &[u32],
+    time: u32,
+) -> Result<Vec<OldPayload<'a>>, AllocError>
+    requires { All (λ d. (0 < d) × (d ≤ 8)) distances.now }
+    ensures { IfOk result (λ olds. map old_block olds.items
+        ≡ levels (map kept_of history.now) distances.now time) }
+{
+    let mut olds = Vec::new(alloc);
+    for distance in distances {
+        if let Some(old) = level(history, time, *distance) {
+            if fields_fit(old.timestamp_offset, old.payload) {
+                olds.push(old)?;
+            }
+        }
+    }
+    Ok(olds)
+}
+
+/// How many of the levels have room beside a primary payload of this size.
+pub fn longest_prefix(olds: &[OldPayload<'_>], size: usize, budget: usize) -> usize
+    requires room { All (λ b. HasRoom (masked (old_block b))) olds.now }
+    requires wrapped { size + 1 ≤ budget }
+    ensures { IsLongestPrefix budget size (map old_block olds.now) result }
+{
+    let mut left = budget - size - 1;
+    for (i, old) in olds.iter().enumerate() {
+        let bytes = 4 + old.payload.len();
+        if left < bytes {
+            return i;
+        }
+        left -= bytes;
+    }
+    olds.len()
+}

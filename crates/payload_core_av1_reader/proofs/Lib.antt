@@ -1,3 +1,0 @@
-pub mod KeepsLemmas
-pub mod Leb128Lemmas
-pub mod ReaderLemmas

@@ -1,5 +1,0 @@
-use Rattle.payload_core_red.proofs.RedLawLemmas.{wrap-one, wrap-read, wrap-within}
-use Rattle.payload_core_red.proofs.laws.red_wrap_law.Goals as goal
-
-pub returns : goal.returns
-returns c = record { within = wrap-within; read = wrap-read; one = wrap-one }

@@ -1,9 +1,0 @@
-use Rattle.std.proofs.Common.{refl, arith}
-use Rattle.payload_core_red.proofs.DistanceLemmas.{distances-from}
-use Rattle.payload_core_red.proofs.sender.RedSender.are_distances.Goals as goal
-
-pub returns : goal.returns
-returns c = (
-  λ _. distances-from c.args.distances.now (λ k below. c.loop-distance.invariant.above k (omega arith)),
-  λ _. refl,
-)

@@ -1,2 +1,0 @@
-pub mod Telephone
-pub mod TelephoneReports

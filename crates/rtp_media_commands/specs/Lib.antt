@@ -1,2 +1,0 @@
-pub mod ExchangeLines
-pub mod PlayLines

@@ -1,0 +1,208 @@
+use Rattle.std.specs.Prelude.{ℕ, Bool, true, not, nat_le, ◌==◌, ◌&&◌, List, [], ◌∷◌, ◌++◌}
+use Rattle.std.specs.Prelude.{Option, Some, None, if◌then◌else◌, unwrap_or}
+use Rattle.std.specs.List.{list_any}
+use Rattle.rtp_wire.specs.Maps.{empty_map}
+use Rattle.rtp_wire.specs.Values.{Numbering}
+use Rattle.rtp_media_streams.specs.Codings.{has_format}
+use Rattle.rtp_media_streams.specs.Sending.{Sending, opened_sender, redundant_sender}
+use Rattle.rtp_media_streams.specs.Receiving.{Receiving, opened_receiver}
+use Rattle.rtp_media_streams.specs.declared.row_format.RowFormat.{RowFormat}
+use Rattle.rtp_media_streams.specs.declared.types.PayloadTypes.{PayloadTypes}
+use Rattle.rtp_media_exchange.specs.Rows.{Row}
+use Rattle.rtp_media_exchange.specs.Configs.{Config}
+use Rattle.rtp_media_exchange.specs.Exchanges.{Exchanged, fresh, fixed}
+use Rattle.sdp_formats_data.specs.declared.session.Session.{Session}
+use Rattle.rtp_media_exchange.specs.Agreement.{Agreed, agreed_map_of, agreed_row_of, is_named, own_row_agrees}
+use Rattle.rtp_media_exchange.specs.Agreement.{row_in}
+use Rattle.rtp_media_exchange.specs.Agreement.{section_of}
+use Rattle.rtp_media_stream_table.specs.declared.open_stream.OpenStream.{OpenStream}
+use Rattle.rtp_media_stream_table.specs.declared.open_stream.OpenStream.TheVariants.{Sender, Receiver}
+use Rattle.rtp_media_ends.specs.declared.params.StreamParams.{StreamParams}
+use Rattle.rtp_media_ends.specs.declared.errors.OpenError.{OpenError}
+use Rattle.rtp_media_ends.specs.declared.errors.OpenError.TheVariants.{NoSection, RowNotAgreed, RowDiffers}
+use Rattle.rtp_media_ends.specs.declared.errors.OpenError.TheVariants.{WrongDirection, SsrcNotNamed}
+use Rattle.rtp_media_ends.specs.declared.errors.OpenError.TheVariants.{AlreadyOpen}
+use Rattle.rtp_media_stream_table.specs.Streams.{is_nth_receiver, is_nth_sender, no_row_format, no_types, nth_receiver, nth_sender, receives_as, sends_as, set_receiver, set_sender}
+
+-- What an end keeps: its exchanges, and its streams of both directions by number.
+pub record EndState : Type 0 where
+  pub exchange : Exchanged
+  pub streams : List OpenStream
+
+-- An end of these exchanges and these streams.
+abbrev pub end_of : Exchanged → List OpenStream → EndState
+end_of exchange streams = record { exchange = exchange; streams = streams }
+
+-- The end with these streams.
+abbrev pub with_streams : EndState → List OpenStream → EndState
+with_streams e streams = end_of e.exchange streams
+
+-- The end with this stream in place of its n-th.
+abbrev pub with_sender : EndState → ℕ → Sending → EndState
+with_sender e n s = with_streams e (set_sender e.streams n s)
+
+abbrev pub with_receiver : EndState → ℕ → Receiving → EndState
+with_receiver e n r = with_streams e (set_receiver e.streams n r)
+
+-- The end after an exchange: its streams stay.
+abbrev pub with_exchange : EndState → Exchanged → EndState
+with_exchange e x = end_of x e.streams
+
+-- The end with one stream more.
+abbrev pub with_new_sender : EndState → Sending → EndState
+with_new_sender e s = with_streams e (e.streams ++ Sender s ∷ [])
+
+abbrev pub with_new_receiver : EndState → Receiving → EndState
+with_new_receiver e r = with_streams e (e.streams ++ Receiver r ∷ [])
+
+-- The payload types of a row.
+abbrev pub types_of : Row → PayloadTypes
+types_of row = record { pt = row.pt; red = row.red; repair = None }
+
+-- What a row says of its payloads.
+abbrev pub row_format_of : Row → RowFormat
+row_format_of row = record {
+  codec = row.spec.codec;
+  clock_rate = row.spec.clock_rate;
+  octet_align = row.spec.format.octet_align;
+  sprop_max_don_diff = row.spec.format.sprop_max_don_diff;
+}
+
+-- The same of an end's streams.
+abbrev pub sender_at : EndState → ℕ → Sending
+sender_at e n = nth_sender e.streams n
+
+abbrev pub receiver_at : EndState → ℕ → Receiving
+receiver_at e n = nth_receiver e.streams n
+
+abbrev pub is_sender_at : EndState → ℕ → Bool
+is_sender_at e n = is_nth_sender e.streams n
+
+abbrev pub is_receiver_at : EndState → ℕ → Bool
+is_receiver_at e n = is_nth_receiver e.streams n
+
+-- A RED type has 7 bits and is another than the row's.
+abbrev pub is_red_of : ℕ → Option ℕ → Bool
+is_red_of pt None = true
+is_red_of pt (Some red) = nat_le red 127 && not (red == pt)
+
+-- Whether a stream can carry a row: its codec has a payload format, and its types have 7 bits and are distinct.
+abbrev pub is_carried : Row → Bool
+is_carried row = has_format row.spec.codec && (nat_le row.pt 127 && is_red_of row.pt row.red)
+
+abbrev pub carried : Option Row → Option Row
+carried None = None
+carried (Some row) = if is_carried row then Some row else None
+
+-- The section's row of a type, where a stream can carry it.
+abbrev pub carried_row : Agreed → ℕ → Option Row
+carried_row a pt = carried (row_in a.rows pt)
+
+-- Why no stream of a section's row can be opened, by whether the end's own row agrees with it, the section flows this
+-- way, its sender names the SSRC in it, and such a stream is open: the first that holds.
+abbrev pub refusal_by : Bool → Bool → Bool → Bool → Option OpenError
+refusal_by agrees flows names is_open =
+    if not agrees then Some RowDiffers
+    else if not flows then Some WrongDirection
+    else if not names then Some SsrcNotNamed
+    else if is_open then Some AlreadyOpen
+    else None
+
+abbrev pub sender_refusal_of : List Row → Agreed → List OpenStream → ℕ → Option Row → Option OpenError
+sender_refusal_of own a streams ssrc None = Some RowNotAgreed
+sender_refusal_of own a streams ssrc (Some row) =
+    refusal_by (own_row_agrees own row) a.sends (is_named a.own_ssrcs ssrc)
+    (list_any (sends_as ssrc (types_of row)) streams)
+
+abbrev pub sender_refusal_in : List Row → Option Agreed → List OpenStream → ℕ → ℕ → Option OpenError
+sender_refusal_in own None streams ssrc pt = Some NoSection
+sender_refusal_in own (Some a) streams ssrc pt = sender_refusal_of own a streams ssrc (carried_row a pt)
+
+abbrev pub receiver_refusal_of : List Row → Agreed → List OpenStream → ℕ → Option Row → Option OpenError
+receiver_refusal_of own a streams ssrc None = Some RowNotAgreed
+receiver_refusal_of own a streams ssrc (Some row) =
+    refusal_by (own_row_agrees own row) a.receives (is_named a.remote_ssrcs ssrc)
+    (list_any (receives_as ssrc (types_of row)) streams)
+
+abbrev pub receiver_refusal_in : List Row → Option Agreed → List OpenStream → ℕ → ℕ → Option OpenError
+receiver_refusal_in own None streams ssrc pt = Some NoSection
+receiver_refusal_in own (Some a) streams ssrc pt = receiver_refusal_of own a streams ssrc (carried_row a pt)
+
+-- Why `open_sender` is refused, lack of memory aside.
+unfoldable pub refusal_of_open_sender : EndState → List ℕ → ℕ → ℕ → Option OpenError
+refusal_of_open_sender e mid ssrc pt =
+    sender_refusal_in e.exchange.config.rows (section_of e.exchange.agreed mid) e.streams ssrc pt
+
+-- Why `open_receiver` is refused, lack of memory aside.
+unfoldable pub refusal_of_open_receiver : EndState → List ℕ → ℕ → ℕ → Option OpenError
+refusal_of_open_receiver e mid ssrc pt =
+    receiver_refusal_in e.exchange.config.rows (section_of e.exchange.agreed mid) e.streams ssrc pt
+
+-- The map of header extensions of a new stream: the agreed one.
+abbrev pub stream_map : EndState → List ℕ → Numbering
+stream_map e mid = unwrap_or (agreed_map_of e.exchange.agreed mid) empty_map
+
+-- What the row of a new stream says of its payloads.
+abbrev pub row_format_in : Option Row → RowFormat
+row_format_in None = no_row_format
+row_format_in (Some row) = row_format_of row
+
+abbrev pub agreed_format : EndState → List ℕ → ℕ → RowFormat
+agreed_format e mid pt = row_format_in (agreed_row_of e.exchange.agreed mid pt)
+
+-- The payload types of a new stream, and its RED type.
+abbrev pub types_in : Option Row → PayloadTypes
+types_in None = no_types
+types_in (Some row) = types_of row
+
+abbrev pub red_in : Option Row → Option ℕ
+red_in None = None
+red_in (Some row) = row.red
+
+abbrev pub agreed_types : EndState → List ℕ → ℕ → PayloadTypes
+agreed_types e mid pt = types_in (agreed_row_of e.exchange.agreed mid pt)
+
+abbrev pub agreed_red : EndState → List ℕ → ℕ → Option ℕ
+agreed_red e mid pt = red_in (agreed_row_of e.exchange.agreed mid pt)
+
+-- A new stream, which adds redundancy under the RED type where distances are given.
+abbrev pub with_distances : Sending → Option ℕ → Option (List ℕ) → Sending
+with_distances s red None = s
+with_distances s red (Some distances) = redundant_sender s (unwrap_or red 0) distances
+
+-- A new stream that sends a row under a map.
+abbrev pub row_sender : ℕ → Row → Numbering → StreamParams → Sending
+row_sender ssrc row exts params =
+    with_distances
+    (opened_sender ssrc (types_of row) exts (row_format_of row) params.picture_id params.for_browsers params.first
+    params.mtu params.limit)
+    row.red params.red
+
+-- The stream that an end opens to send: the agreed row under the agreed map.
+abbrev pub new_sender : EndState → List ℕ → ℕ → ℕ → StreamParams → Sending
+new_sender e mid ssrc pt params =
+    with_distances
+    (opened_sender ssrc (agreed_types e mid pt) (stream_map e mid) (agreed_format e mid pt) params.picture_id
+    params.for_browsers params.first params.mtu params.limit)
+    (agreed_red e mid pt) params.red
+
+-- The stream that it opens to receive that row under that map.
+abbrev pub new_receiver : EndState → List ℕ → ℕ → ℕ → ℕ → Receiving
+new_receiver e mid ssrc pt hold_back =
+    opened_receiver ssrc (agreed_types e mid pt) (stream_map e mid) (agreed_format e mid pt) hold_back
+
+-- The end with a sending stream more.
+unfoldable pub after_open_sender : EndState → List ℕ → ℕ → ℕ → StreamParams → EndState
+after_open_sender e mid ssrc pt params = with_new_sender e (new_sender e mid ssrc pt params)
+
+-- The end with a receiving stream more.
+unfoldable pub after_open_receiver : EndState → List ℕ → ℕ → ℕ → ℕ → EndState
+after_open_receiver e mid ssrc pt hold_back = with_new_receiver e (new_receiver e mid ssrc pt hold_back)
+
+-- A fixed end without streams.
+abbrev pub fixed_end : EndState
+fixed_end = end_of fixed []
+
+-- An end that has agreed on nothing.
+abbrev pub new_end : Session → Numbering → Config → EndState
+new_end session wanted config = end_of (fresh session wanted config) []

@@ -1,0 +1,55 @@
+//! What holds of every end.
+
+ghost use Rattle.std.specs.Prelude.{◌≡◌, ◌↔◌, ℕ, List, map, None, Ok};
+ghost use Rattle.rtp_media_streams.specs.Repairing.{repair};
+ghost use Rattle.rtp_media_ends.specs.Repairs.{IsHeaded, TakesRepairs};
+ghost use Rattle.rtp_media_schedules.specs.Hearing.{after_events};
+ghost use Rattle.rtp_media_ends.specs.Ends.{EndState, receiver_at, refusal_of_open_receiver};
+ghost use Rattle.rtp_media_ends.specs.Ends.{refusal_of_open_sender};
+ghost use Rattle.rtp_media_ends.specs.OpensAt.{ReceivesAt, SendsAt};
+ghost use Rattle.rtp_media_ends.specs.FullArrival.{IsFound, after_datagrams, sent_datagram};
+ghost use Rattle.rtp_media_ends.specs.Transparency.{AreSent, AreTwins, Receives};
+ghost use Rattle.rtp_media_streams.specs.Receiving.{Receiving};
+ghost use Rattle.rtp_media_streams.specs.Rows.{format_of};
+ghost use Rattle.rtp_media_streams.specs.Sending.{Sample, Sending};
+ghost use Rattle.rtp_media_ends.specs.OwnEvents.{event_in, own_events};
+
+use h26x_payload::codec_law;
+
+/// What datagrams do to a receiving stream is what its own ones do, those of its SSRC and payload types,
+/// whatever else came between them.
+pub fn isolation_law()
+    ensures { (end : EndState) (datagrams : List (List ℕ)) (stream : ℕ) → let receiver = receiver_at end stream in
+        IsFound end stream receiver →
+        (receiver_at (after_datagrams end datagrams) stream).stream
+        ≡ after_events (format_of receiver.row) receiver.stream (own_events receiver datagrams) }
+{}
+
+/// A repair that a sending stream answers is to its receiving stream what the datagram is that it wraps: the arrival of
+/// that one's number with its content, or nothing (RFC 4588 4).
+pub fn repairs_law()
+    ensures { (receiver : Receiving) (sender : Sending) (datagram bytes : List ℕ) → TakesRepairs receiver sender →
+        IsHeaded datagram → repair sender datagram ≡ Ok bytes →
+        event_in receiver bytes ≡ event_in receiver datagram }
+{}
+
+/// Redundancy is transparent: whatever datagrams of a list of samples arrive, and in whatever order, a
+/// stream with redundancy and one without it bring a receiving stream the same.
+pub fn transparency_law()
+    ensures { (plain redundant : Sending) (receiver : Receiving) (samples : List Sample) (numbers : List ℕ) →
+        AreTwins plain redundant → Receives receiver plain → AreSent plain samples numbers →
+        own_events receiver (map (sent_datagram redundant samples) numbers)
+        ≡ own_events receiver (map (sent_datagram plain samples) numbers) }
+{
+    codec_law();
+}
+
+/// Nothing refuses an opening exactly where the end may open a stream: the section is agreed, it has a row of the
+/// payload type, which the end's own row agrees with, it flows this way, its sender names the SSRC in it, and no
+/// such stream is open.
+pub fn openings_law()
+    ensures sends { (end : EndState) (mid : List ℕ) (ssrc pt : ℕ) →
+        (refusal_of_open_sender end mid ssrc pt ≡ None) ↔ SendsAt end mid ssrc pt }
+    ensures receives { (end : EndState) (mid : List ℕ) (ssrc pt : ℕ) →
+        (refusal_of_open_receiver end mid ssrc pt ≡ None) ↔ ReceivesAt end mid ssrc pt }
+{}

@@ -1,0 +1,147 @@
+//! New streams of an end.
+
+ghost use Rattle.std.specs.Prelude.{◌≡◌, ◌≢◌, ◌<◌, Some, None, true, false, OnOk, IfOk, IfErr, IfSome};
+ghost use Rattle.std.specs.Prelude.{IsSome, IsSomeAnd, unwrap_or};
+ghost use Rattle.std.specs.List.{list_any};
+ghost use Rattle.std.specs.Option.{option_map};
+ghost use Rattle.payload_core_audio.specs.RedHistory.{AreDistances};
+ghost use Rattle.rtp_media_exchange.specs.Agreement.{agreed_map_of};
+ghost use Rattle.rtp_media_ends.specs.Ends.{agreed_red, end_of, is_carried, new_receiver, new_sender};
+ghost use Rattle.rtp_media_stream_table.specs.Streams.{receives_as};
+ghost use Rattle.rtp_media_ends.specs.Ends.{refusal_of_open_receiver, refusal_of_open_sender};
+ghost use Rattle.rtp_media_ends.specs.Ends.{row_sender, with_distances};
+ghost use Rattle.rtp_media_stream_table.specs.Streams.{sends_as};
+ghost use Rattle.rtp_media_ends.specs.FullArrival.{IsSender};
+ghost use Rattle.rtp_media_ends.specs.Params.{IsSound};
+ghost use Rattle.rtp_wire.specs.Maps.{empty_map};
+
+use crate::errors::OpenError;
+use crate::openings::{receiver_row, sender_row};
+use crate::params::{Distances, StreamParams};
+use crate::rows::{row_format_of, types_of};
+use h26x_payload::codec_law;
+use rtp_media_exchange::{Exchange, PayloadParams};
+use rtp_media_stream_table::StreamTable;
+use rtp_media_streams::{ReceivingStream, SendingStream};
+use rtp_wire::{ExtensionMap, Mid, Pt, Ssrc};
+use std::alloc::{AllocError, Global};
+
+/// The sending stream of this SSRC that an end of these exchanges and streams opens for the agreed row of a payload
+/// type. Where `params` has distances, it sends under the row's RED type, each payload behind older ones (RFC 2198).
+///
+/// # Conditions
+/// The parameters are sound for the agreed row's RED type: [`StreamParams::is_sound`].
+///
+/// # Errors
+/// The first that holds of `NoSection`, `RowNotAgreed`, `RowDiffers`, `WrongDirection`, `SsrcNotNamed` and
+/// `AlreadyOpen`; or `Memory`.
+pub fn new_sender(
+    alloc: Global,
+    exchange: &Exchange,
+    streams: &StreamTable,
+    mid: Mid,
+    ssrc: Ssrc,
+    pt: Pt,
+    params: &StreamParams,
+) -> Result<SendingStream, OpenError>
+    requires { IsSound (agreed_red (end_of exchange.now streams.now) mid pt) params.now }
+    ensures stream { IfOk result (λ s. s ≡ new_sender (end_of exchange.now streams.now) mid ssrc pt params.now) }
+    ensures sender { IfOk result (λ s. IsSender s) }
+    ensures apart { IfOk result (λ s. list_any (sends_as s.ssrc s.types) streams.now ≡ false) }
+    ensures opens { OnOk result (refusal_of_open_sender (end_of exchange.now streams.now) mid ssrc pt ≡ None) }
+    ensures refused { IfErr result (λ e. e ≢ OpenError.Memory
+        → refusal_of_open_sender (end_of exchange.now streams.now) mid ssrc pt ≡ Some e) }
+{
+    codec_law();
+    let row = sender_row(exchange, streams, mid, ssrc, pt)?;
+    let exts = exts_of(alloc, exchange, mid)?;
+    Ok(sender_of(alloc, ssrc, exts, &row, params)?)
+}
+
+/// The receiving stream of this SSRC that an end of these exchanges and streams opens for the agreed row of a payload
+/// type. Past a missing datagram it hands a unit out only once more than `hold_back` frames are complete.
+///
+/// # Errors
+/// As [`new_sender`].
+pub fn new_receiver(
+    alloc: Global,
+    exchange: &Exchange,
+    streams: &StreamTable,
+    mid: Mid,
+    ssrc: Ssrc,
+    pt: Pt,
+    hold_back: usize,
+) -> Result<ReceivingStream, OpenError>
+    ensures stream { IfOk result (λ r. r ≡ new_receiver (end_of exchange.now streams.now) mid ssrc pt hold_back) }
+    ensures apart { IfOk result (λ r. list_any (receives_as r.ssrc r.types) streams.now ≡ false) }
+    ensures opens { OnOk result (refusal_of_open_receiver (end_of exchange.now streams.now) mid ssrc pt ≡ None) }
+    ensures refused { IfErr result (λ e. e ≢ OpenError.Memory
+        → refusal_of_open_receiver (end_of exchange.now streams.now) mid ssrc pt ≡ Some e) }
+{
+    let row = receiver_row(exchange, streams, mid, ssrc, pt)?;
+    let exts = exts_of(alloc, exchange, mid)?;
+    let (types, format) = (types_of(&row), row_format_of(&row));
+    Ok(ReceivingStream::new(alloc, ssrc, types, exts, format, hold_back))
+}
+
+/// The map of header extensions of a new stream in a section of this name.
+fn exts_of(alloc: Global, exchange: &Exchange, mid: Mid) -> Result<ExtensionMap, AllocError>
+    ensures { IfOk result (λ map. map ≡ unwrap_or (agreed_map_of exchange.now.agreed mid) empty_map) }
+{
+    match exchange.agreed(mid) {
+        Some(section) => section.exts().clone(alloc),
+        None => Ok(ExtensionMap::empty()),
+    }
+}
+
+/// A new sending stream of a row, under this map of header extensions.
+fn sender_of(
+    alloc: Global,
+    ssrc: Ssrc,
+    exts: ExtensionMap,
+    row: &PayloadParams,
+    params: &StreamParams,
+) -> Result<SendingStream, AllocError>
+    requires sound { IsSound row.now.red params.now }
+    requires carried { is_carried row.now ≡ true }
+    ensures { IfOk result (λ s. s ≡ row_sender ssrc row.now exts params.now) }
+{
+    let stream = SendingStream::new(
+        alloc,
+        ssrc,
+        types_of(row),
+        exts,
+        row_format_of(row),
+        params.picture_id,
+        params.for_browsers,
+        params.first,
+        params.mtu,
+        params.limit,
+    );
+    with_distances(alloc, stream, row.red(), params.red.as_ref())
+}
+
+/// The stream with redundancy under this RED type, where there are distances.
+fn with_distances(
+    alloc: Global,
+    stream: SendingStream,
+    red: Option<Pt>,
+    distances: Option<&Distances>,
+) -> Result<SendingStream, AllocError>
+    requires types { IsSome distances → IsSomeAnd red (λ r. r < 128) }
+    requires distances { IfSome distances (λ ds. AreDistances ds.now) }
+    ensures { IfOk result (λ s. s ≡ with_distances stream red (option_map (λ ds. ds.now) distances.entry)) }
+{
+    let Some(distances) = distances else {
+        return Ok(stream);
+    };
+    let Some(red) = red else {
+        return Ok(stream);
+    };
+    let distances: Vec<u32> = distances
+        .as_slice()
+        .iter()
+        .map(|d| u32::from(*d))
+        .collect(alloc)?;
+    stream.with_red(red, &distances)
+}

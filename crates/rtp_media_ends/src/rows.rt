@@ -1,0 +1,50 @@
+//! What a row says of a stream.
+
+ghost use Rattle.std.specs.Prelude.{◌≡◌};
+ghost use Rattle.rtp_media_ends.specs.Ends.{is_carried, is_red_of, row_format_of, types_of};
+
+use h26x_payload::has_format;
+use rtp_media_exchange::PayloadParams;
+use rtp_media_streams::{PayloadTypes, RowFormat};
+use rtp_wire::Pt;
+
+/// The payload types of a row.
+pub(crate) fn types_of(row: &PayloadParams) -> PayloadTypes
+    ensures { result ≡ types_of row.now }
+{
+    PayloadTypes {
+        pt: row.pt(),
+        red: row.red(),
+        repair: None,
+    }
+}
+
+/// What a row says of its payloads.
+pub(crate) fn row_format_of(row: &PayloadParams) -> RowFormat
+    ensures { result ≡ row_format_of row.now }
+{
+    let spec = row.spec();
+    RowFormat {
+        codec: spec.codec,
+        clock_rate: spec.clock_rate,
+        octet_align: spec.format.octet_align,
+        sprop_max_don_diff: spec.format.sprop_max_don_diff,
+    }
+}
+
+/// A RED type has 7 bits and is another than the row's.
+fn is_red_of(pt: Pt, red: Option<Pt>) -> bool
+    ensures { result ≡ is_red_of pt red }
+{
+    match red {
+        None => true,
+        Some(red) => red.get() <= 127 && red.get() != pt.get(),
+    }
+}
+
+/// Whether a stream can carry a row: its codec has a payload format, and its types have 7 bits and are distinct.
+pub(crate) fn is_carried(row: &PayloadParams) -> bool
+    ensures { result ≡ is_carried row.now }
+{
+    has_format(row.spec().codec) && row.pt().get() <= 127 && is_red_of(row.pt(), row.red())
+}

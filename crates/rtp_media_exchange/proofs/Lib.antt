@@ -1,0 +1,5 @@
+pub mod Agreeing
+pub mod AnsweringLemmas
+pub mod OneAgreement
+pub mod Refusing
+pub mod Saying

@@ -1,0 +1,10 @@
+use Rattle.std.proofs.Common.{◌≡◌, ◌++◌, drop}
+use Rattle.rtp_media_exchange.specs.Exchanges.{answered_agreement}
+use Rattle.rtp_media_exchange.proofs.agree.answered_agreement.Given as goal
+
+-- what is agreed on so far, and of the rest
+abbrev pub invariant-loop-place : goal.invariant-loop-place
+invariant-loop-place l =
+    l.agreed.items
+    ++ answered_agreement (drop l.place l.wanted) (drop l.place l.offer) (drop l.place l.answer)
+    ≡ answered_agreement l.wanted l.offer l.answer

@@ -1,0 +1,57 @@
+-- What an end keeps of its exchanges, and how each call changes it.
+use Rattle.std.specs.Prelude.{ℕ, true, false, List, [], ◌∷◌, map, zip, Option, None}
+use Rattle.rtp_wire.specs.Maps.{empty_map}
+use Rattle.rtp_wire.specs.Values.{Numbering}
+use Rattle.rtp_media_sections.specs.Configs.{Config}
+use Rattle.rtp_media_sections.specs.DefaultRows.{opus_row}
+use Rattle.rtp_media_sections.specs.Rows.{Row}
+use Rattle.sdp_formats_data.specs.declared.media.MediaLine.{MediaLine}
+use Rattle.sdp_formats_data.specs.declared.session.Session.{Session}
+use Rattle.rtp_media_sections.specs.Agreement.{Agreed, agreed_by_accept, agreed_by_answer, fixed_section}
+use Rattle.rtp_media_sections.specs.Sections.{Wanted}
+
+-- What an end keeps of its exchanges: its session, the header extensions that it wants, its rows with their locks, the
+-- sections of an offer that waits for its answer, and the sections that were agreed last.
+pub record Exchanged : Type 0 where
+  pub session : Session
+  pub wanted : Numbering
+  pub config : Config
+  pub pending : Option (List Wanted)
+  pub agreed : List Agreed
+
+-- A session with neither attributes nor bandwidth.
+abbrev pub bare_session : ℕ → Session
+bare_session id = record { id = id; bw = None; attrs = [] }
+
+-- An end that has agreed on nothing.
+abbrev pub fresh : Session → Numbering → Config → Exchanged
+fresh session wanted config =
+    record { session = session; wanted = wanted; config = config; pending = None; agreed = [] }
+
+-- An end that has agreed as if by an exchange.
+unfoldable pub fixed : Exchanged
+fixed = record {
+  session = bare_session 0;
+  wanted = empty_map;
+  config = record { rows = record (opus_row false) { locked = true } ∷ []; distances = [] };
+  pending = None;
+  agreed = fixed_section ∷ [];
+}
+
+-- After an offer of these sections.
+abbrev pub with_offer : Exchanged → Option (List Wanted) → Exchanged
+with_offer x wanted = record x { pending = wanted }
+
+-- After an exchange that left the rows so and agreed on these sections.
+abbrev pub with_agreement : Exchanged → List Row → List Agreed → Exchanged
+with_agreement x rows agreed =
+    record x { config = record x.config { rows = rows }; pending = None; agreed = agreed }
+
+-- What the end agrees on that answers sections, each by its wanted one, the offered one and the answer's.
+abbrev pub answered_agreement : List Wanted → List MediaLine → List MediaLine → List Agreed
+answered_agreement wanted offer answer =
+    map (λ s. agreed_by_answer s.0.0 s.0.1 s.1) (zip (zip wanted offer) answer)
+
+-- What the end agrees on that offered them.
+abbrev pub accepted_agreement : List Wanted → List MediaLine → List Agreed
+accepted_agreement wanted answer = map (λ s. agreed_by_accept s.0 s.1) (zip wanted answer)

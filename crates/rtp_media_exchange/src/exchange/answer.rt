@@ -1,0 +1,91 @@
+//! Answers to offers, and their acceptance.
+
+ghost use Rattle.std.specs.Prelude.{◌≡◌, string_bytes, IfOk, IfErr, OnOk, OnErr};
+ghost use Rattle.rtp_media_exchange.specs.Offers.{Accepts, Answers};
+ghost use Rattle.rtp_media_exchange.specs.Refusals.{MayAccept, MayAnswer, RefusesAccept, RefusesAnswer};
+ghost use Rattle.rtp_media_exchange.specs.Says.{AgreesOnText};
+
+use super::Exchange;
+use crate::answering::{accepted, answered};
+use crate::errors::ExchangeError;
+use crate::said_sections::read;
+use crate::settling::settle_answer;
+use rtp_media_sections::SectionSpec;
+
+impl Exchange {
+    /// The text of the answer to an offer, of these sections; it is then agreed. A round runs with each offered
+    /// section: rows that match are locked under the types that were offered, and the answer lists those of them.
+    ///
+    /// # Errors
+    ///
+    /// The first that holds of `Unreadable`, `OutOfTurn`, `NotMedia`, `NotCorresponding`, `Round`, `NoCommonRow` and
+    /// `NotWritable`; or `Memory`. Nothing has then changed.
+    pub fn answer(
+        &mut self,
+        text: &str,
+        sections: Vec<SectionSpec>,
+    ) -> Result<String, ExchangeError>
+        ensures text { IfOk result (λ answer. Answers self.old text.now sections.items (string_bytes answer) self.new) }
+        ensures agreed { IfOk result (λ answer. AgreesOnText (string_bytes answer) self.new.agreed) }
+        ensures accepted { OnOk result (MayAnswer self.old text.now sections.items) }
+        ensures refused { IfErr result (λ e. RefusesAnswer self.old text.now sections.items e) }
+        ensures unchanged { OnErr result (self.new ≡ self.old) }
+    {
+        let offer = read(self.alloc, text)?;
+        let config = settle_answer(
+            self.alloc,
+            self.pending.is_some(),
+            &self.config,
+            self.agreed.as_slice(),
+            offer.as_slice(),
+            sections.as_slice(),
+        )?;
+        let (answer, agreed) = match answered(
+            self.alloc,
+            &self.session,
+            &self.exts,
+            &config,
+            sections.as_slice(),
+            offer.as_slice(),
+        ) {
+            Ok(answered) => answered,
+            Err(fault) => return Err(fault),
+        };
+        self.config = config;
+        self.agreed = agreed;
+        Ok(answer)
+    }
+
+    /// Takes the text of the answer to the pending offer; it is then agreed. A round runs with each section of the
+    /// answer.
+    ///
+    /// # Errors
+    ///
+    /// The first that holds of `Unreadable`, `OutOfTurn`, `NotMedia`, `NotCorresponding`, `Round` and `NoCommonRow` (no
+    /// locked row has the type of a row of this section); or `Memory`. Nothing has then changed, and the offer is still
+    /// pending.
+    pub fn accept(&mut self, text: &str) -> Result<(), ExchangeError>
+        ensures after { OnOk result (Accepts self.old text.now self.new) }
+        ensures agreed { OnOk result (AgreesOnText text.now self.new.agreed) }
+        ensures accepted { OnOk result (MayAccept self.old text.now) }
+        ensures refused { IfErr result (λ e. RefusesAccept self.old text.now e) }
+        ensures unchanged { OnErr result (self.new ≡ self.old) }
+    {
+        let answer = read(self.alloc, text)?;
+        let Some(pending) = &self.pending else {
+            return Err(ExchangeError::OutOfTurn);
+        };
+        let sections = pending.sections.as_slice();
+        let (config, agreed) = accepted(
+            self.alloc,
+            &self.config,
+            self.agreed.as_slice(),
+            answer.as_slice(),
+            sections,
+        )?;
+        self.config = config;
+        self.agreed = agreed;
+        self.pending = None;
+        Ok(())
+    }
+}

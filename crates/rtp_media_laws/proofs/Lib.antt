@@ -1,4 +1,0 @@
-pub mod Members
-pub mod DistinctNames
-pub mod RepeatedTypes
-pub mod AnsweredRows

@@ -1,5 +1,0 @@
-use Rattle.rtp_media_laws.proofs.DistinctNames.{names_distinct}
-use Rattle.rtp_media_laws.proofs.names.names_law.Goals as goal
-
-pub returns : goal.returns
-returns c = record { exactly = names_distinct }

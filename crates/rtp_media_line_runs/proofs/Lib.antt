@@ -1,4 +1,0 @@
-pub mod InputLines
-pub mod Sent
-pub mod Steps
-pub mod Stopping

@@ -1,0 +1,116 @@
+//! The commands of lines.
+
+use crate::exchange::{
+    AcceptCommand, AnswerCommand, ConnectCommand, EndCommand, ExtCommand, OfferCommand, RowCommand,
+};
+use crate::owned::{Bytes, Text};
+use crate::playing::{PlayCommand, QueueCommand};
+use crate::words::Letter;
+
+/// `send E MID SSRC PT FIRST MTU LIMIT DISTANCES PICTUREID`: open a sending stream.
+#[derive(Drop)]
+pub struct SendCommand {
+    /// The end that sends.
+    pub letter: Letter,
+    /// The media identification of the section (RFC 5888 4).
+    pub mid: Text,
+    /// The synchronization source (RFC 3550 3).
+    pub ssrc: u32,
+    /// The payload type (RFC 3551 6).
+    pub pt: u8,
+    /// The number of the first datagram.
+    pub first: u64,
+    /// The most bytes of a payload.
+    pub mtu: usize,
+    /// The most bytes of a datagram.
+    pub limit: usize,
+    /// How many payloads back each redundant block lies (RFC 2198), or none at a dash.
+    pub distances: Option<Bytes>,
+    /// The first picture id (RFC 7741 4.2), or none at a dash.
+    pub picture_id: Option<u16>,
+}
+
+/// `open E MID SSRC PT HOLDBACK`: open a receiving stream.
+#[derive(Drop)]
+pub struct OpenCommand {
+    /// The end that receives.
+    pub letter: Letter,
+    /// The media identification of the section (RFC 5888 4).
+    pub mid: Text,
+    /// The synchronization source (RFC 3550 3).
+    pub ssrc: u32,
+    /// The payload type (RFC 3551 6).
+    pub pt: u8,
+    /// How many complete frames are held back for one that is missing.
+    pub hold_back: usize,
+}
+
+/// `sample E N TIME HEX [mid=TEXT]`: send a sample.
+#[derive(Drop)]
+pub struct SampleCommand {
+    /// The end that sends.
+    pub letter: Letter,
+    /// The number of the sending stream.
+    pub stream: usize,
+    /// The time, at the clock rate of the stream's row.
+    pub time: u64,
+    /// The sample's bytes.
+    pub sample: Bytes,
+    /// The media identification that its header extension carries (RFC 9143 15), where one is given.
+    pub mid: Option<Text>,
+}
+
+/// `receive E HEX`: hand an end a datagram.
+#[derive(Drop)]
+pub struct ReceiveCommand {
+    /// The end that receives.
+    pub letter: Letter,
+    /// The datagram's bytes.
+    pub datagram: Bytes,
+}
+
+/// `poll E N`: ask a receiving stream for its next unit.
+#[derive(Clone, Copy, Debug, PartialEq, Eq)]
+pub struct PollCommand {
+    /// The end that receives.
+    pub letter: Letter,
+    /// The number of the receiving stream.
+    pub stream: usize,
+}
+
+/// A call that a line asks for.
+#[derive(Drop)]
+pub enum Command {
+    /// `fixed E`: replace an end by the fixed one.
+    Fixed(Letter),
+    /// Open a sending stream.
+    Send(SendCommand),
+    /// Open a receiving stream.
+    Open(OpenCommand),
+    /// Send a sample.
+    Sample(SampleCommand),
+    /// Hand an end a datagram.
+    Receive(ReceiveCommand),
+    /// Ask a receiving stream for its next unit.
+    Poll(PollCommand),
+    /// Put a row into the draft of an end.
+    Row(RowCommand),
+    /// Put a header extension into the draft of an end.
+    Ext(ExtCommand),
+    /// Replace an end by a new one of its draft.
+    End(EndCommand),
+    /// Ask for the text of an offer.
+    Offer(OfferCommand),
+    /// Answer an offer.
+    Answer(AnswerCommand),
+    /// Take the answer to an offer.
+    Accept(AcceptCommand),
+    /// `withdraw E`: give up an offer.
+    Withdraw(Letter),
+    /// Let `a` offer and `b` answer.
+    Connect(ConnectCommand),
+    /// Keep a sample for a run.
+    Queue(QueueCommand),
+    /// Send what was kept at `a`, and let a schedule happen at `b`.
+    Play(PlayCommand),
+}

@@ -1,9 +1,0 @@
-pub use Rattle.rtp_media_exchange_turns.specs.Agreement
-pub use Rattle.rtp_media_exchange_turns.specs.Answered
-pub use Rattle.rtp_media_exchange_turns.specs.Exchanges
-pub use Rattle.rtp_media_exchange_turns.specs.Offers
-pub use Rattle.rtp_media_exchange_turns.specs.Refusals
-pub use Rattle.rtp_media_exchange_turns.specs.Rows
-pub use Rattle.rtp_media_exchange_turns.specs.Says
-pub use Rattle.rtp_media_exchange_turns.specs.Sections
-pub use Rattle.rtp_media_exchange_turns.specs.Writable

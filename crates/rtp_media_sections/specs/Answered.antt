@@ -1,0 +1,60 @@
+-- What an answer says (RFC 3264 6.1).
+use Rattle.std.specs.Prelude.{ℕ, Bool, true, false, ◌&&◌, ◌==◌, List, [], ◌∷◌, ◌++◌, find, fold, Option, Some, None}
+use Rattle.std.specs.Prelude.{if◌then◌else◌}
+use Rattle.std.specs.List.{list_any, flat_map}
+use Rattle.rtp_wire.specs.declared.Direction.{Direction}
+use Rattle.rtp_wire.specs.declared.Direction.TheVariants.{SendOnly, RecvOnly, SendRecv, Inactive}
+use Rattle.rtp_wire.specs.Direction.{sends, receives}
+use Rattle.rtp_wire.specs.Values.{Numbering}
+use Rattle.sdp_formats_rounds.specs.Matching.{type_for}
+use Rattle.sdp_formats_rounds.specs.Best.{best_row}
+use Rattle.sdp_formats_rounds.specs.Rows.{Row}
+use Rattle.sdp_formats_section_rows.specs.SectionRows.{listed, rows_of}
+use Rattle.sdp_formats_data.specs.Lookups.{direction_of}
+use Rattle.sdp_formats_data.specs.declared.media.MediaLine.{MediaLine}
+use Rattle.rtp_media_sections.specs.Extensions.{answered_extmaps}
+use Rattle.rtp_media_sections.specs.Lines.{section_line}
+use Rattle.rtp_media_sections.specs.Sections.{Wanted}
+
+-- The direction that sends and receives so.
+abbrev pub flow : Bool → Bool → Direction
+flow true true = SendRecv
+flow true false = SendOnly
+flow false true = RecvOnly
+flow false false = Inactive
+
+-- The direction of an answer: it sends where its end wants to and the offer receives, and receives where its end wants
+-- to and the offer sends.
+abbrev pub answered_direction : Direction → Direction → Direction
+answered_direction offered wanted = flow (sends wanted && receives offered) (receives wanted && sends offered)
+
+-- The locked row of a type.
+abbrev pub locked_row : List Row → Option ℕ → Option Row
+locked_row rows None = None
+locked_row rows (Some pt) = find (λ row. row.locked && (row.pt == pt)) rows
+
+-- The locked row under whose type an offered row is used, if there is one.
+unfoldable pub row_answering : List Row → Bool → Row → List Row
+row_answering rows dictated offered =
+    listed (locked_row rows (type_for dictated offered (best_row offered.spec rows)))
+
+abbrev pub has_pt : List Row → ℕ → Bool
+has_pt rows pt = list_any (λ row. row.pt == pt) rows
+
+-- A row more, unless one of its type is there.
+unfoldable pub with_once : List Row → Row → List Row
+with_once rows row = if has_pt rows row.pt then rows else rows ++ row ∷ []
+
+-- The rows that an answer lists: in the offered order and each once, the locked rows under whose types offered rows are
+-- used.
+abbrev pub rows_answering : List Row → Bool → List Row → List Row
+rows_answering rows dictated offered = fold with_once [] (flat_map (row_answering rows dictated) offered)
+
+unfoldable pub answered_rows : List Row → MediaLine → List Row
+answered_rows rows offer = rows_answering rows (receives (direction_of offer.attrs)) (rows_of offer.pts offer.attrs)
+
+-- The section that answers an offered one, by the rows as the rounds left them: the offered extensions that the end
+-- wants too, under the offer's numbers.
+unfoldable pub answered_section : Numbering → List Row → Wanted → MediaLine → MediaLine
+answered_section exts rows w offer = section_line w (answered_direction (direction_of offer.attrs) w.dir)
+    (answered_extmaps exts offer.attrs) (answered_rows rows offer)

@@ -1,0 +1,15 @@
+use Rattle.std.proofs.Common.{◌∙◌, sym}
+use Rattle.rtp_media_stream_table.specs.Indexed.{sends}
+use Rattle.rtp_media_stream_table.proofs.Indexing.{any-at, not-any}
+use Rattle.rtp_media_stream_table.proofs.finding.is_sent.Goals as goal
+
+pub returns-in-Some : goal.returns-in-Some
+returns-in-Some c =
+    any-at sends c.args.streams.now c.args.senders.now c.requires c.args.ssrc c.args.pt c.in-Some.number
+    c.sends_at.result
+    (sym c.number.ensures ∙ c.in-Some.is) c.sends_at.ensures
+
+pub returns-in-None : goal.returns-in-None
+returns-in-None c =
+    not-any sends c.args.streams.now c.args.senders.now c.requires c.args.ssrc c.args.pt
+    (sym c.number.ensures ∙ c.in-None.is)

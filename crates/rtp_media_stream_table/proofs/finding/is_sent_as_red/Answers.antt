@@ -1,0 +1,16 @@
+use Rattle.std.proofs.Common.{◌∙◌, ap, sym, ℕ}
+use Rattle.std.specs.Prelude.{Option}
+use Rattle.std.specs.List.{list_any}
+use Rattle.rtp_media_stream_table.specs.Indexed.{has_red, sends}
+use Rattle.rtp_media_stream_table.proofs.Indexing.{none-red}
+use Rattle.rtp_media_stream_table.proofs.finding.is_sent_as_red.Goals as goal
+
+pub returns-in-Some : goal.returns-in-Some
+returns-in-Some c =
+    c.is_sent.ensures
+    ∙ ap (λ (o : Option ℕ). list_any (has_red sends c.args.ssrc o) c.args.streams.now) (sym c.in-Some.is)
+
+pub returns-in-None : goal.returns-in-None
+returns-in-None c =
+    none-red sends c.args.ssrc c.args.streams.now
+    ∙ ap (λ (o : Option ℕ). list_any (has_red sends c.args.ssrc o) c.args.streams.now) (sym c.in-None.is)

@@ -1,0 +1,35 @@
+-- The streams of an end by SSRC and payload type.
+use Rattle.std.specs.Prelude.{◌≡◌, ◌<◌, ℕ, Bool, true, false, List, length, Option, Some, None}
+use Rattle.rtp_media_streams.specs.Types.{is_key_of}
+use Rattle.rtp_media_streams.specs.declared.types.RepairKey.{RepairKey}
+use Rattle.rtp_media_stream_table.specs.Arrivals.{takes}
+use Rattle.rtp_media_stream_table.specs.Streams.{nth_stream}
+use Rattle.rtp_media_stream_table.specs.StreamIndex.{number_at}
+use Rattle.rtp_media_stream_table.specs.declared.stream_index.StreamIndex.{StreamIndex}
+use Rattle.rtp_media_stream_table.specs.declared.open_stream.OpenStream.{OpenStream}
+use Rattle.rtp_media_stream_table.specs.declared.open_stream.OpenStream.TheVariants.{Sender, Receiver}
+
+-- Whether a stream could send datagrams of this SSRC and type.
+abbrev pub sends : ℕ → ℕ → OpenStream → Bool
+sends ssrc pt (Sender s) = is_key_of s.ssrc s.types ssrc pt
+sends ssrc pt (Receiver r) = false
+
+-- What a stream has under a RED type, where there is one.
+abbrev pub has_red : (ℕ → ℕ → OpenStream → Bool) → ℕ → Option ℕ → OpenStream → Bool
+has_red has ssrc None stream = false
+has_red has ssrc (Some red) stream = has ssrc red stream
+
+-- What it has under a key of repairs, where there is one.
+abbrev pub has_repair : (ℕ → ℕ → OpenStream → Bool) → Option RepairKey → OpenStream → Bool
+has_repair has None stream = false
+has_repair has (Some key) stream = has key.ssrc key.pt stream
+
+-- Each stream that has an SSRC and a type stands in the index under them.
+abbrev pub IsIndexed : (ℕ → ℕ → OpenStream → Bool) → StreamIndex → List OpenStream → Type 0
+IsIndexed has index streams = (n ssrc pt : ℕ) → n < length streams → has ssrc pt (nth_stream streams n) ≡ true
+    → number_at index ssrc pt ≡ Some n
+
+-- The streams that send stand in one index, and those that receive in another.
+pub record AreIndexed (senders receivers : StreamIndex) (streams : List OpenStream) : Type 0 where
+  pub sending : IsIndexed sends senders streams
+  pub receiving : IsIndexed takes receivers streams

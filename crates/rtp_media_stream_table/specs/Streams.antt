@@ -1,0 +1,73 @@
+use Rattle.std.specs.Prelude.{ℕ, Bool, true, false, not, nat_lt, ◌&&◌, List, length}
+use Rattle.std.specs.Prelude.{None, slice_set, slice_index_or}
+use Rattle.rtp_wire.specs.Maps.{empty_map}
+use Rattle.payload_core_base.specs.declared.codec.Codec.TheVariants.{Unknown}
+use Rattle.rtp_media_streams.specs.Sending as sending
+use Rattle.rtp_media_streams.specs.Sending.{Sending, opened_sender}
+use Rattle.rtp_media_streams.specs.Receiving as receiving
+use Rattle.rtp_media_streams.specs.Receiving.{Receiving, opened_receiver}
+use Rattle.rtp_media_streams.specs.declared.row_format.RowFormat.{RowFormat}
+use Rattle.rtp_media_streams.specs.declared.types.PayloadTypes.{PayloadTypes}
+use Rattle.rtp_media_stream_table.specs.declared.open_stream.OpenStream.{OpenStream}
+use Rattle.rtp_media_stream_table.specs.declared.open_stream.OpenStream.TheVariants.{Sender, Receiver}
+
+-- Streams with this one in place of the n-th.
+abbrev pub set_sender : List OpenStream → ℕ → Sending → List OpenStream
+set_sender streams n s = slice_set streams n (Sender s)
+
+abbrev pub set_receiver : List OpenStream → ℕ → Receiving → List OpenStream
+set_receiver streams n r = slice_set streams n (Receiver r)
+
+-- Those of no row.
+abbrev pub no_types : PayloadTypes
+no_types = record { pt = 0; red = None; repair = None }
+
+-- That of no row.
+abbrev pub no_row_format : RowFormat
+no_row_format = record { codec = Unknown; clock_rate = 1; octet_align = None; sprop_max_don_diff = None }
+
+-- Streams of no row.
+abbrev pub no_sender : Sending
+no_sender = opened_sender 0 no_types empty_map no_row_format None false 0 1 0
+
+abbrev pub no_receiver : Receiving
+no_receiver = opened_receiver 0 no_types empty_map no_row_format 0
+
+-- A stream as one that sends, and as one that receives.
+abbrev pub sending_of : OpenStream → Sending
+sending_of (Sender s) = s
+sending_of (Receiver r) = no_sender
+
+abbrev pub receiving_of : OpenStream → Receiving
+receiving_of (Sender s) = no_receiver
+receiving_of (Receiver r) = r
+
+abbrev pub is_sending : OpenStream → Bool
+is_sending (Sender s) = true
+is_sending (Receiver r) = false
+
+-- The n-th stream.
+abbrev pub nth_stream : List OpenStream → ℕ → OpenStream
+nth_stream streams n = slice_index_or streams n (Receiver no_receiver)
+
+abbrev pub nth_sender : List OpenStream → ℕ → Sending
+nth_sender streams n = sending_of (nth_stream streams n)
+
+abbrev pub nth_receiver : List OpenStream → ℕ → Receiving
+nth_receiver streams n = receiving_of (nth_stream streams n)
+
+-- Whether the n-th of these streams is one that sends, and whether it is one that receives.
+abbrev pub is_nth_sender : List OpenStream → ℕ → Bool
+is_nth_sender streams n = nat_lt n (length streams) && is_sending (nth_stream streams n)
+
+abbrev pub is_nth_receiver : List OpenStream → ℕ → Bool
+is_nth_receiver streams n = nat_lt n (length streams) && not (is_sending (nth_stream streams n))
+
+-- Whether a stream could send, or take, the datagrams of one of this SSRC and these payload types.
+abbrev pub sends_as : ℕ → PayloadTypes → OpenStream → Bool
+sends_as ssrc types (Sender s) = sending.conflicts_with s ssrc types
+sends_as ssrc types (Receiver r) = false
+
+abbrev pub receives_as : ℕ → PayloadTypes → OpenStream → Bool
+receives_as ssrc types (Sender s) = false
+receives_as ssrc types (Receiver r) = receiving.conflicts_with r ssrc types

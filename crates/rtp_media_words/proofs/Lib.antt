@@ -1,5 +1,0 @@
-pub mod BehindLemmas
-pub mod Each
-pub mod Numbers
-pub mod ReadBack
-pub mod Splits

@@ -1,4 +1,0 @@
-pub mod Misreads
-pub mod Replies
-pub mod Sections
-pub mod Words

@@ -1,2 +1,0 @@
-pub mod Direction
-pub mod Name

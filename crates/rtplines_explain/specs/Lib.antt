@@ -1,0 +1,4 @@
+pub mod Answered
+pub mod Lines
+pub mod Noted
+pub mod Replies

@@ -1,3 +1,0 @@
-mod KeyOrder
-mod KeySets
-mod OneMore

@@ -1,2 +1,0 @@
-pub mod Candidates
-pub mod Keys

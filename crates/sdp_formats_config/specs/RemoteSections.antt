@@ -1,8 +1,0 @@
--- Sections of the other end's text.
-use Rattle.rtp_wire.specs.Direction.{receives}
-use Rattle.sdp_formats_round.specs.Laws.{Section}
-use Rattle.sdp_formats_config.specs.declared.config.rounds.RemoteSection.{RemoteSection}
-
--- What a round takes of a section: its rows, and whether it dictates types, which it does where it receives.
-abbrev pub section_of : RemoteSection → Section
-section_of s = record { rows = s.rows.items; dictated = receives s.dir }

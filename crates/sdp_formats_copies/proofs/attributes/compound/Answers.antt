@@ -1,7 +1,0 @@
-use Rattle.std.proofs.Common.{rules}
-use Rattle.sdp_formats_equality.specs.Compound.{is_compound, is_source}
-use Rattle.sdp_formats_copies.proofs.attributes.compound.Goals as goal
-
-pub source-requires : goal.source-requires
-unfolding is_compound is_source
-source-requires c = search rules

@@ -1,0 +1,11 @@
+pub use Rattle.sdp_formats_values.specs.Lists
+pub use Rattle.sdp_formats_values.specs.MediaTypes
+pub use Rattle.sdp_formats_values.specs.PrintedCandidates
+pub use Rattle.sdp_formats_values.specs.PrintedValues
+pub use Rattle.sdp_formats_values.specs.Setup
+pub mod Compound
+pub mod Copies
+pub mod Lookups
+pub mod Media
+pub mod PrintedMedia
+pub mod PrintedSession

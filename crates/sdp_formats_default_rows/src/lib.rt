@@ -1,4 +1,0 @@
-//! The default rows of each codec, under their types.
-#![tactic(auto)]
-
-pub mod rows;

@@ -1,2 +1,0 @@
-mod Tables
-mod OneName

@@ -1,4 +1,0 @@
-pub mod Consistency
-pub mod Known
-pub mod NameSets
-pub mod Whole

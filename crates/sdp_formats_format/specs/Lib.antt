@@ -1,5 +1,0 @@
-pub mod Fields
-pub mod Formats
-pub mod Reading
-pub mod Parameters
-pub mod Texts

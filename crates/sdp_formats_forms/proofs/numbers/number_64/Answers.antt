@@ -1,6 +1,0 @@
-use Rattle.sdp_formats_forms.proofs.Numerals.{number-gives}
-use Rattle.sdp_formats_forms.proofs.numbers.number_64.Goals as goal
-
-pub returns-clause-gives : goal.returns-clause-gives
-returns-clause-gives c =
-    rw (c.ok_or.ensures.value, c.ok.ensures.value) (number-gives 64 c.args.text.now _ c.parse.ensures.value.0)

@@ -1,0 +1,15 @@
+pub mod Bind
+pub mod Cuts
+pub mod Exact
+pub mod Form
+pub mod Joined
+pub mod Line
+pub mod LineLemmas
+pub mod Numbers
+pub mod Pieces
+pub mod Refusals
+pub mod Split
+pub mod Step
+pub mod StepLemmas
+pub mod Steps
+pub mod Words

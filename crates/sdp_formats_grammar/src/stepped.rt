@@ -1,0 +1,54 @@
+//! Values one after the other.
+
+ghost use Rattle.std.specs.Prelude.{List, ℕ};
+ghost use Rattle.sdp_formats_grammar.specs.Step.{Steps, Finds, Shortens, Many, Perhaps};
+
+use crate::listed::Listed;
+use crate::primitives::fitted;
+use crate::refusal::Refusal;
+use std::alloc::Global;
+
+/// A step over a text: how a value at the beginning of a text is read.
+pub trait Stepped<T: Drop> {
+    /// What a text begins with, and what is left behind it.
+    ghost says: { List ℕ → T → List ℕ → Type 0 };
+
+    /// Reads what the text begins with, and answers the text behind it, which is shorter.
+    fn step(alloc: Global, text: &str) -> Result<(T, &str), Refusal>
+        ensures steps { Steps says text.now result }
+        ensures shortens { Shortens text.now result };
+}
+
+/// The values that the text begins with, as many as there are, and the text behind them.
+///
+/// # Errors
+///
+/// `Memory` where memory runs out, and no other.
+pub fn many<T: Drop, S: Stepped<T>>(alloc: Global, text: &str) -> Result<(Listed<T>, &str), Refusal>
+    ensures { Finds (Many S.says) text.now result }
+{
+    let mut items = Vec::new(alloc);
+    let mut left = text;
+    while let Some((item, rest)) = fitted(S::step(alloc, left))? {
+        items.push(item)?;
+        left = rest;
+    }
+    Ok((Listed::of(items), left))
+}
+
+/// The value that the text begins with, if there is one, and the text behind it.
+///
+/// # Errors
+///
+/// `Memory` where memory runs out, and no other.
+pub fn perhaps<T: Drop, S: Stepped<T>>(
+    alloc: Global,
+    text: &str,
+) -> Result<(Option<T>, &str), Refusal>
+    ensures { Finds (Perhaps S.says) text.now result }
+{
+    match fitted(S::step(alloc, text))? {
+        Some((item, rest)) => Ok((Some(item), rest)),
+        None => Ok((None, text)),
+    }
+}

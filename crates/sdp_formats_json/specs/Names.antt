@@ -1,0 +1,40 @@
+-- Names of fields.
+use Rattle.std.specs.Prelude.{ℕ, List, codes}
+use Rattle.sdp_formats_json.specs.declared.error.Field.{Field}
+use Rattle.sdp_formats_json.specs.declared.error.Field.TheVariants as field
+
+-- The name of a field, as JSON has it.
+unfoldable pub field_name : Field → List ℕ
+field_name field.Pt = codes "pt"
+field_name field.Resend = codes "resend"
+field_name field.Spec = codes "spec"
+field_name field.FbTransportCc = codes "fb_transport_cc"
+field_name field.FbNack = codes "fb_nack"
+field_name field.FbPli = codes "fb_pli"
+field_name field.FbFir = codes "fb_fir"
+field_name field.FbRemb = codes "fb_remb"
+field_name field.Red = codes "red"
+field_name field.Locked = codes "locked"
+field_name field.Codec = codes "codec"
+field_name field.ClockRate = codes "clock_rate"
+field_name field.Channels = codes "channels"
+field_name field.Format = codes "format"
+field_name field.MinPTime = codes "min_p_time"
+field_name field.Stereo = codes "stereo"
+field_name field.SpropStereo = codes "sprop_stereo"
+field_name field.UseInbandFec = codes "use_inband_fec"
+field_name field.UseDtx = codes "use_dtx"
+field_name field.LevelAsymmetryAllowed = codes "level_asymmetry_allowed"
+field_name field.PacketizationMode = codes "packetization_mode"
+field_name field.ProfileLevelId = codes "profile_level_id"
+field_name field.ProfileId = codes "profile_id"
+field_name field.Profile = codes "profile"
+field_name field.LevelIdx = codes "level_idx"
+field_name field.Tier = codes "tier"
+field_name field.H265ProfileTierLevel = codes "h265_profile_tier_level"
+field_name field.H266ProfileTierLevel = codes "h266_profile_tier_level"
+field_name field.SpropMaxDonDiff = codes "sprop_max_don_diff"
+field_name field.TelephoneEventMax = codes "telephone_event_max"
+field_name field.OctetAlign = codes "octet_align"
+field_name field.ModeSet = codes "mode_set"
+field_name field.Level = codes "level"

@@ -1,0 +1,28 @@
+//! The format parameters of a line.
+
+ghost use Rattle.sdp_formats_laws.specs.FormatParts.{LastNumbersAreLast, LastTextsAreLast, PiecesAreJoined};
+ghost use Rattle.sdp_formats_laws.specs.FormatParts.{RangesStandAlone, ValuesAreOfKeys};
+ghost use Rattle.sdp_formats_laws.specs.Formats.{FormatsAreOfLines};
+
+/// What the parts of a line give, which stand between semicolons (RFC 8866 6.15): a value of a key where the part is
+/// the key's name, in any ASCII case (RFC 4855 3), up to its first equals sign, and then the value, up to the next one
+/// or to its end, blanks round both dropped; a range of telephone events where the part has no equals sign and is one
+/// (RFC 4733 2.4.1). The last that is given is what a part gives behind which no part gives any.
+pub fn format_parts_law()
+    ensures pieces { PiecesAreJoined }
+    ensures values { ValuesAreOfKeys }
+    ensures ranges { RangesStandAlone }
+    ensures last_texts { LastTextsAreLast }
+    ensures last_numbers { LastNumbersAreLast }
+{}
+
+/// The format parameters of a line are exactly these (RFC 8866 6.15). A flag is on where the last value of its key is
+/// 1, off where that is anything else, and not given where no part gives a value of its key (RFC 7587 6.1). A number is
+/// that of the last value of its key that is one; but where a part gives a tier or level of H.265 or H.266, that of the
+/// last value alone, and then it isn't given where that is none. The range of telephone events is the last that is
+/// given (RFC 4733 2.4.1). Where a part gives a tier or level, the last values of `profile-id`, `tier-flag` and
+/// `level-id` are the profile, tier and level of H.265, else of H.266, if they mean one (RFC 7798 7.1, RFC 9328 7.2),
+/// and `profile-id` is no number; elsewhere no profile, tier and level is given.
+pub fn format_values_law()
+    ensures { FormatsAreOfLines }
+{}

@@ -1,4 +1,0 @@
-pub mod Kinds
-pub mod Choice
-pub mod AsRead
-pub mod PrintedPairs

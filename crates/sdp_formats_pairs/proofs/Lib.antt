@@ -1,2 +1,0 @@
-pub mod PairRounds
-pub mod Ends

@@ -1,4 +1,0 @@
-pub mod Runs
-pub mod Pairs
-pub mod PairsSay
-pub mod PairLemmas

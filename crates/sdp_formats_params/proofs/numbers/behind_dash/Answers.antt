@@ -1,8 +1,0 @@
-use Rattle.std.proofs.Common.{lit<}
-use Rattle.std.proofs.lemmas.Str.Pattern.{strip_prefix_char}
-use Rattle.sdp_formats_params.proofs.Digits.{behind-strips}
-use Rattle.sdp_formats_params.proofs.numbers.behind_dash.Goals as goal
-
-pub returns : goal.returns
-returns c = behind-strips 45 c.args.text.now c.strip_prefix.result
-    (strip_prefix_char 45 c.args.text.now c.strip_prefix.result c.strip_prefix.ensures.cases (lit< tt))

@@ -1,6 +1,0 @@
-use Rattle.std.proofs.Common.{◌∙◌}
-use Rattle.sdp_formats_params.proofs.Digits.{numeral_below-parse}
-use Rattle.sdp_formats_params.proofs.numbers.byte_of.Goals as goal
-
-pub returns : goal.returns
-returns c = c.ok.ensures.value ∙ numeral_below-parse 8 10 c.args.text.now _ c.parse.ensures.value.0

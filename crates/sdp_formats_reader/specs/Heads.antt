@@ -1,0 +1,62 @@
+-- The lines `o=` and `m=` (RFC 8866 5.2 and 5.14).
+use Rattle.std.specs.Prelude.{ℕ, ◌^◌, ◌==◌, Bool, ◌||◌, List, [], Option, Some, None, length, is_some, unwrap_or}
+use Rattle.std.specs.Prelude.{codes, if◌then◌else◌}
+use Rattle.std.specs.Option.{option_map}
+use Rattle.std.specs.Str.{bytes_eq}
+use Rattle.sdp_formats_grammar.specs.Form.{Form, told, any_text, some_text, made, cut, each}
+use Rattle.sdp_formats_grammar.specs.Numbers.{has_digits_alone, number_below}
+use Rattle.sdp_formats_grammar.specs.Split.{behind, parts}
+use Rattle.sdp_formats_reader.specs.declared.media.MediaHead.{MediaHead}
+use Rattle.sdp_formats_data.specs.declared.MediaType.{MediaType}
+use Rattle.sdp_formats_data.specs.declared.MediaType.TheVariants.{Audio, Video, Application, Unknown}
+use Rattle.sdp_formats_data.specs.declared.Proto.{Proto}
+use Rattle.sdp_formats_data.specs.declared.Proto.TheVariants.{Srtp, Sctp}
+
+-- Digits alone, no plus.
+abbrev pub session_number : List ℕ → Option ℕ
+session_number t = if has_digits_alone t then number_below (2 ^ 64) t else None
+
+-- `USER NUMBER TEXT` (RFC 8866 5.2)
+abbrev pub origin : Form ℕ
+origin = made (λ x. x.1.0) (cut 32 any_text (cut 32 (told session_number) any_text))
+
+abbrev pub is_begun : List ℕ → Bool
+is_begun t = is_some (behind (codes "audio") t)
+    || (is_some (behind (codes "video") t) || is_some (behind (codes "application") t))
+
+abbrev pub unknown_type : List ℕ → Option MediaType
+unknown_type t = if is_begun t then None else option_map Unknown (some_text t)
+
+-- A kind's name, or a word that doesn't begin with one.
+abbrev pub media_type : List ℕ → Option MediaType
+media_type t =
+    if bytes_eq t (codes "audio") then Some Audio
+    else if bytes_eq t (codes "video") then Some Video
+    else if bytes_eq t (codes "application") then Some Application
+    else unknown_type t
+
+-- RTP with feedback over DTLS (RFC 5764 8), or SCTP over DTLS, also by its older name (RFC 8841 4)
+abbrev pub proto : List ℕ → Option Proto
+proto t =
+    if bytes_eq t (codes "UDP/TLS/RTP/SAVPF") then Some Srtp
+    else if bytes_eq t (codes "DTLS/SCTP") then Some Sctp
+    else if bytes_eq t (codes "UDP/DTLS/SCTP") then Some Sctp
+    else None
+
+abbrev pub pt_number : List ℕ → Option ℕ
+pt_number t = number_below (2 ^ 8) t
+
+-- Payload types between blanks; none where one isn't a number; a blank doesn't come first.
+abbrev pub formats : List ℕ → Option (List ℕ)
+formats t =
+    if length t == 0 then Some []
+    else if is_some (behind (codes " ") t) then None
+    else Some (unwrap_or (each pt_number (parts 32 t)) [])
+
+abbrev pub make_head : MediaType × List ℕ × Proto × List ℕ → MediaHead
+make_head x = record { typ = x.0; disabled = bytes_eq x.1 (codes "0"); proto = x.2; pts = x.3 }
+
+-- `KIND PORT PROTOCOL TYPE ..` (RFC 8866 5.14)
+abbrev pub media_line : Form MediaHead
+media_line = made (λ x. make_head (x.0, x.1.0, x.1.1.0, x.1.1.1))
+    (cut 32 (told media_type) (cut 32 any_text (cut 32 (told proto) (told formats))))

@@ -1,0 +1,8 @@
+-- Whole texts of a session with one attribute more.
+use Rattle.std.specs.Prelude.{◌∷◌}
+use Rattle.sdp_formats_data.specs.declared.session.Session.{Session}
+use Rattle.sdp_formats_data.specs.declared.session.SessionAttribute.{SessionAttribute}
+
+-- The session with an attribute before its own.
+abbrev pub with_first : SessionAttribute → Session → Session
+with_first attribute s = record s { attrs = attribute ∷ s.attrs }

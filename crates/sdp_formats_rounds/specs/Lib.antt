@@ -1,0 +1,15 @@
+pub use Rattle.sdp_formats_rows.specs.Codecs
+pub use Rattle.sdp_formats_rows.specs.Kinds
+pub use Rattle.sdp_formats_rows.specs.Plain
+pub use Rattle.sdp_formats_rows.specs.Replaced
+pub use Rattle.sdp_formats_rows.specs.Rows
+pub mod Best
+pub mod Configs
+pub mod Finding
+pub mod Laws
+pub mod Matching
+pub mod Negotiated
+pub mod RemoteSections
+pub mod Rounds
+pub mod Turns
+pub mod Types

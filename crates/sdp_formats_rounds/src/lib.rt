@@ -1,0 +1,29 @@
+//! Rounds of negotiation over payload rows.
+#![tactic(auto)]
+
+mod agreed;
+mod best;
+mod claims;
+mod config;
+mod error;
+mod match_laws;
+mod round_laws;
+mod rounds;
+mod settings;
+mod settled;
+mod standing;
+
+pub use best::{best_row, better};
+pub use config::{CodecConfig, RemoteSection};
+pub use error::RoundError;
+pub use match_laws::best_is_best;
+pub use round_laws::{
+    locked_rows_keep_types, locked_types_distinct, rows_become, suggested_types_taken,
+    unlocked_rows_apart,
+};
+pub use rounds::round;
+pub use rtp_wire::Direction;
+pub use sdp_formats_rows::{
+    Codec, CodecSpec, FormatParams, Frequency, MediaKind, PayloadParams, Pt,
+};
+pub use settings::negotiated;

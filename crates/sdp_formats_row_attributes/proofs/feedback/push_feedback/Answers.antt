@@ -1,9 +1,0 @@
-use Rattle.std.proofs.Common.{arith}
-use Rattle.std.proofs.lemmas.Grind.{common_steps}
-use Rattle.sdp_formats_row_attributes.proofs.feedback.push_feedback.Goals as goal
-
-pub loop-feedback-preserved : goal.loop-feedback-preserved
-loop-feedback-preserved c = grind (arith, common_steps)
-
-pub returns : goal.returns
-returns c = grind (arith, common_steps)

@@ -1,0 +1,103 @@
+-- The format that a section's parameters give a payload type (RFC 8866 6.15).
+use Rattle.std.specs.Prelude.{ℕ, Bool, true, false, ◌&&◌, ◌==◌, List, [], ◌∷◌, fold, Option, Some, None}
+use Rattle.std.specs.Prelude.{if◌then◌else◌}
+use Rattle.std.specs.List.{list_any}
+use Rattle.std.specs.Option.{option_map}
+use Rattle.payload_core_base.specs.Codecs.{is_tele_codec}
+use Rattle.payload_core_base.specs.declared.codec.Codec.{Codec}
+use Rattle.payload_core_base.specs.declared.codec.Codec.TheVariants.{AmrWb}
+use Rattle.sdp_formats_values.specs.declared.param.FormatParam.{FormatParam}
+use Rattle.sdp_formats_values.specs.declared.param.FormatParam.TheVariants.{MinPTime, Stereo, SpropStereo}
+use Rattle.sdp_formats_values.specs.declared.param.FormatParam.TheVariants.{UseInbandFec, UseDtx}
+use Rattle.sdp_formats_values.specs.declared.param.FormatParam.TheVariants.{LevelAsymmetryAllowed, PacketizationMode}
+use Rattle.sdp_formats_values.specs.declared.param.FormatParam.TheVariants.{ProfileLevelId, ProfileId, Profile}
+use Rattle.sdp_formats_values.specs.declared.param.FormatParam.TheVariants.{LevelIdx, Tier, H265ProfileTierLevel}
+use Rattle.sdp_formats_values.specs.declared.param.FormatParam.TheVariants.{H266ProfileTierLevel, SpropMaxDonDiff}
+use Rattle.sdp_formats_values.specs.declared.param.FormatParam.TheVariants.{TelephoneEvents, BareRange, OctetAlign}
+use Rattle.sdp_formats_values.specs.declared.param.FormatParam.TheVariants.{ModeSet, AmrWbUnsupported}
+use Rattle.sdp_formats_rows.specs.Codecs.{is_codec}
+use Rattle.sdp_formats_params.specs.Formats.{no_format}
+use Rattle.sdp_formats_params.specs.declared.format.FormatParams.{FormatParams}
+use Rattle.sdp_formats_data.specs.declared.media.MediaAttribute.{MediaAttribute}
+use Rattle.sdp_formats_data.specs.declared.media.MediaAttribute.TheVariants.{Fmtp}
+use Rattle.sdp_formats_section_rows.specs.declared.given.Events.{Events}
+use Rattle.sdp_formats_section_rows.specs.declared.given.Events.TheVariants as events
+
+-- The format of a codec with one more parameter. A range of telephone events is none of another codec's.
+abbrev pub with_codec_param : FormatParams → FormatParam → FormatParams
+with_codec_param f (MinPTime v) = record f { min_p_time = Some v }
+with_codec_param f (Stereo v) = record f { stereo = Some v }
+with_codec_param f (SpropStereo v) = record f { sprop_stereo = Some v }
+with_codec_param f (UseInbandFec v) = record f { use_inband_fec = Some v }
+with_codec_param f (UseDtx v) = record f { use_dtx = Some v }
+with_codec_param f (LevelAsymmetryAllowed v) = record f { level_asymmetry_allowed = Some v }
+with_codec_param f (PacketizationMode v) = record f { packetization_mode = Some v }
+with_codec_param f (ProfileLevelId v) = record f { profile_level_id = Some v }
+with_codec_param f (ProfileId v) = record f { profile_id = Some v }
+with_codec_param f (Profile v) = record f { profile = Some v }
+with_codec_param f (LevelIdx v) = record f { level_idx = Some v }
+with_codec_param f (Tier v) = record f { tier = Some v }
+with_codec_param f (H265ProfileTierLevel v) = record f { h265_profile_tier_level = Some v }
+with_codec_param f (H266ProfileTierLevel v) = record f { h266_profile_tier_level = Some v }
+with_codec_param f (SpropMaxDonDiff v) = record f { sprop_max_don_diff = Some v }
+with_codec_param f (OctetAlign v) = record f { octet_align = Some v }
+with_codec_param f (ModeSet v) = record f { mode_set = Some v }
+with_codec_param f _ = f
+
+-- How far a range of telephone events goes.
+abbrev pub range_in : FormatParam → Option ℕ
+range_in (TelephoneEvents most) = Some most
+range_in _ = None
+
+abbrev pub with_range : FormatParams → Option ℕ → FormatParams
+with_range f (Some most) = record f { telephone_event_max = Some most }
+with_range f None = f
+
+-- The format with one more parameter, a range of telephone events included.
+abbrev pub with_param : FormatParams → FormatParam → FormatParams
+with_param f p = with_range (with_codec_param f p) (range_in p)
+
+-- The parameters that an attribute gives a payload type.
+abbrev pub values_for : ℕ → MediaAttribute → List FormatParam
+values_for pt (Fmtp t values) = if t == pt then values else []
+values_for pt _ = []
+
+unfoldable pub with_attribute : ℕ → FormatParams → MediaAttribute → FormatParams
+with_attribute pt f a = fold with_codec_param f (values_for pt a)
+
+-- What AMR-WB isn't supported with (RFC 4867 8.2).
+abbrev pub is_unsupported : FormatParam → Bool
+is_unsupported AmrWbUnsupported = true
+is_unsupported _ = false
+
+unfoldable pub is_declined : ℕ → MediaAttribute → Bool
+is_declined pt a = list_any is_unsupported (values_for pt a)
+
+-- Telephone events: one line of a bare range `0-X`, or none, which is up to 16 (RFC 4733 2.4.1 has 15).
+abbrev pub events_in : List FormatParam → Option ℕ
+events_in (BareRange most ∷ []) = Some most
+events_in (TelephoneEvents most ∷ []) = Some most
+events_in _ = None
+
+abbrev pub with_line : Events → Option ℕ → Events
+with_line events.Default (Some most) = events.UpTo most
+with_line _ _ = events.Declined
+
+unfoldable pub events_after : ℕ → Events → MediaAttribute → Events
+events_after pt e (Fmtp t values) = if t == pt then with_line e (events_in values) else e
+events_after pt e _ = e
+
+abbrev pub most_of : Events → Option ℕ
+most_of events.Default = Some 16
+most_of (events.UpTo most) = Some most
+most_of events.Declined = None
+
+abbrev pub with_events : ℕ → FormatParams
+with_events most = record no_format { telephone_event_max = Some most }
+
+-- The format of a codec under a payload type, none where it is declined.
+abbrev pub format_given : Codec → ℕ → List MediaAttribute → Option FormatParams
+format_given codec pt attrs =
+    if is_tele_codec codec then option_map with_events (most_of (fold (events_after pt) events.Default attrs))
+    else if is_codec codec AmrWb && list_any (is_declined pt) attrs then None
+    else Some (fold (with_attribute pt) no_format attrs)

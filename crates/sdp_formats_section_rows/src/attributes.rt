@@ -1,0 +1,114 @@
+//! The attributes that list a row.
+
+ghost use Rattle.std.specs.Prelude.{◌≡◌, ◌++◌, IfOk, OnOk};
+ghost use Rattle.sdp_formats_section_rows.specs.Attributes.{attributes_of, fmtp_of, link_lines, red_lines};
+ghost use Rattle.sdp_formats_section_rows.specs.Attributes.{resend_lines};
+
+use crate::feedback::push_feedback;
+use crate::maps::map_of;
+use crate::params::params_in;
+use rtp_wire::Pt;
+use sdp_formats_data::{FormatParam, Listed, MediaAttribute, RtpMap};
+use sdp_formats_rows::{Codec, PayloadParams};
+use std::alloc::{AllocError, Global};
+
+#[tactic(auto, unfolding(crate::specs::Attributes::fmtp_of))]
+fn push_fmtp(
+    attributes: &mut Vec<MediaAttribute>,
+    pt: Pt,
+    params: Vec<FormatParam>,
+) -> Result<(), AllocError>
+    ensures { OnOk result (attributes.new.items ≡ attributes.old.items ++ fmtp_of pt params.items) }
+{
+    if params.is_empty() {
+        return Ok(());
+    }
+    attributes.push(MediaAttribute::Fmtp {
+        pt,
+        values: Listed::of(params),
+    })?;
+    Ok(())
+}
+
+/// A type mapped to a codec, with one parameter.
+fn push_link(
+    alloc: Global,
+    attributes: &mut Vec<MediaAttribute>,
+    pt: Pt,
+    value: RtpMap,
+    param: FormatParam,
+) -> Result<(), AllocError>
+    ensures { OnOk result (attributes.new.items
+        ≡ attributes.old.items ++ link_lines pt value param) }
+{
+    let mut params = Vec::new(alloc);
+    params.push(param)?;
+    attributes.push(MediaAttribute::RtpMap { pt, value })?;
+    attributes.push(MediaAttribute::Fmtp {
+        pt,
+        values: Listed::of(params),
+    })?;
+    Ok(())
+}
+
+#[tactic(auto, unfolding(crate::specs::Attributes::resend_lines))]
+fn push_resend(
+    alloc: Global,
+    attributes: &mut Vec<MediaAttribute>,
+    row: &PayloadParams,
+    resend: Option<Pt>,
+) -> Result<(), AllocError>
+    ensures { OnOk result (attributes.new.items ≡ attributes.old.items ++ resend_lines row.now resend) }
+{
+    let Some(pt) = resend else {
+        return Ok(());
+    };
+    let map = RtpMap {
+        codec: Codec::Rtx,
+        clock_rate: row.spec().rtp_clock_rate(),
+        channels: None,
+    };
+    push_link(alloc, attributes, pt, map, FormatParam::Apt(row.pt()))
+}
+
+#[tactic(auto, unfolding(crate::specs::Attributes::red_lines))]
+fn push_red(
+    alloc: Global,
+    attributes: &mut Vec<MediaAttribute>,
+    row: &PayloadParams,
+    red: Option<Pt>,
+) -> Result<(), AllocError>
+    ensures { OnOk result (attributes.new.items ≡ attributes.old.items ++ red_lines row.now red) }
+{
+    let Some(pt) = red else {
+        return Ok(());
+    };
+    let map = RtpMap {
+        codec: Codec::Red,
+        clock_rate: row.spec().rtp_clock_rate(),
+        channels: row.spec().channels,
+    };
+    push_link(alloc, attributes, pt, map, FormatParam::Red(row.pt()))
+}
+
+/// The attributes that list a row in a section: `a=rtpmap`, `a=rtcp-fb` and `a=fmtp` of its type, then those of its
+/// type of retransmissions and of its RED type (RFC 8866 6.6 and 6.15, RFC 4585 4.2, RFC 4588 8.6, RFC 2198 5).
+///
+/// # Errors
+///
+/// `AllocError` where memory runs out.
+pub fn as_media_attrs(alloc: Global, row: &PayloadParams) -> Result<Vec<MediaAttribute>, AllocError>
+    ensures { IfOk result (λ attributes. attributes.items ≡ attributes_of row.now) }
+{
+    let spec = row.spec();
+    let mut attributes = Vec::new(alloc);
+    attributes.push(MediaAttribute::RtpMap {
+        pt: row.pt(),
+        value: map_of(&spec),
+    })?;
+    push_feedback(alloc, &mut attributes, row)?;
+    push_fmtp(&mut attributes, row.pt(), params_in(alloc, &spec)?)?;
+    push_resend(alloc, &mut attributes, row, row.resend())?;
+    push_red(alloc, &mut attributes, row, row.red())?;
+    Ok(attributes)
+}

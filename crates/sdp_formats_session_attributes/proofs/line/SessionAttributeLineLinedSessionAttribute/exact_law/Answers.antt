@@ -1,7 +1,0 @@
-use Rattle.std.proofs.Common.{codes}
-use Rattle.sdp_formats_forms.specs.Exact.{after-exact}
-use Rattle.sdp_formats_session_attributes.proofs.Exactness.{session_attribute-exact}
-use Rattle.sdp_formats_session_attributes.proofs.line.SessionAttributeLineLinedSessionAttribute.exact_law.Goals as goal
-
-pub returns : goal.returns
-returns c = after-exact (codes "a=") _ session_attribute-exact

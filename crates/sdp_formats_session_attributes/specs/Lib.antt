@@ -1,3 +1,0 @@
-pub mod Groups
-pub mod Kinds
-pub mod Choice

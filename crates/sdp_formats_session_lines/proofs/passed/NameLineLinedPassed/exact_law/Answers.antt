@@ -1,7 +1,0 @@
-use Rattle.std.proofs.Common.{codes}
-use Rattle.sdp_formats_forms.specs.Form.{some_text}
-use Rattle.sdp_formats_forms.specs.Exact.{told-exact, made-exact, after-exact}
-use Rattle.sdp_formats_session_lines.proofs.passed.NameLineLinedPassed.exact_law.Goals as goal
-
-pub returns : goal.returns
-returns c = after-exact (codes "s=") _ (made-exact _ _ (told-exact some_text))

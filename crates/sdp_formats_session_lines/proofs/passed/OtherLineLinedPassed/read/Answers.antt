@@ -1,9 +1,0 @@
-use Rattle.std.proofs.Common.{ap, ◌∙◌, subst, sym}
-use Rattle.sdp_formats_forms.specs.Refusals.{Gives}
-use Rattle.sdp_formats_session_lines.specs.Lines.{passed_if}
-use Rattle.sdp_formats_session_lines.proofs.Passing.{other_read}
-use Rattle.sdp_formats_session_lines.proofs.passed.OtherLineLinedPassed.read.Goals as goal
-
-pub returns : goal.returns
-returns c = subst (λ said. Gives c.passed_if.result said)
-    (ap passed_if c.is_other.ensures ∙ sym (other_read c.args.content.now)) c.passed_if.ensures

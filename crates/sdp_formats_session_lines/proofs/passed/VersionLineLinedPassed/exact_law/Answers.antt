@@ -1,6 +1,0 @@
-use Rattle.std.proofs.Common.{codes}
-use Rattle.sdp_formats_forms.specs.Exact.{told-exact, after-exact}
-use Rattle.sdp_formats_session_lines.proofs.passed.VersionLineLinedPassed.exact_law.Goals as goal
-
-pub returns : goal.returns
-returns c = after-exact (codes "v=") _ (told-exact _)

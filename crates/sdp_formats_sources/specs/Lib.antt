@@ -1,5 +1,0 @@
-pub mod Distinct
-pub mod Known
-pub mod Said
-pub mod Seen
-pub mod Sources

@@ -1,5 +1,0 @@
-pub mod Entries
-pub mod Formats
-pub mod Levels
-pub mod Shapes
-pub mod Specs

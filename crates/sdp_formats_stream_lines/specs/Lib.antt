@@ -1,4 +1,0 @@
-pub mod Maps
-pub mod Names
-pub mod Rids
-pub mod Simulcasts

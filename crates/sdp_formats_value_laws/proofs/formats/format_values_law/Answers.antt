@@ -1,5 +1,0 @@
-use Rattle.sdp_formats_value_laws.proofs.FormatValues.{formats_of_lines}
-use Rattle.sdp_formats_value_laws.proofs.formats.format_values_law.Goals as goal
-
-pub returns : goal.returns
-returns c = formats_of_lines

@@ -1,5 +1,0 @@
-use Rattle.sdp_formats_value_laws.proofs.SettledPairs.{entries_last}
-use Rattle.sdp_formats_value_laws.proofs.parameters.entry_values_law.Goals as goal
-
-pub returns : goal.returns
-returns c = entries_last c.last_value_law.ensures c.settled_pairs_law.ensures

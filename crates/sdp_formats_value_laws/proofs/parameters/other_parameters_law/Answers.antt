@@ -1,5 +1,0 @@
-use Rattle.sdp_formats_value_laws.proofs.OtherEntries.{level_names, others}
-use Rattle.sdp_formats_value_laws.proofs.parameters.other_parameters_law.Goals as goal
-
-pub returns : goal.returns
-returns c = record { others = others; names = level_names }

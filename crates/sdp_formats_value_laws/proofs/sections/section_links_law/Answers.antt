@@ -1,5 +1,0 @@
-use Rattle.sdp_formats_value_laws.proofs.SectionLinks.{last_links}
-use Rattle.sdp_formats_value_laws.proofs.sections.section_links_law.Goals as goal
-
-pub returns : goal.returns
-returns c = last_links

@@ -1,8 +1,0 @@
--- A text that is one line of a kind.
-use Rattle.std.specs.Prelude.{ℕ, List, []}
-use Rattle.sdp_formats_forms.specs.Form.{Form}
-use Rattle.sdp_formats_forms.specs.Line.{LineOf}
-
--- The whole text is a line of the form, and its value is so.
-abbrev pub IsLineOf : {A : Type 0} → Form A → List ℕ → (A → Type 0) → Type 0
-IsLineOf f text P = (a : _) × LineOf f.Says text a [] × P a
