@@ -1,9 +1,10 @@
-//! RTP on the wire: headers, sequence numbers and the replay window (RFC 3550), repairs (RFC 4588), clock rates and media times.
+//! RTP on the wire: headers (RFC 3550) and repairs (RFC 4588). What stands below, as sequence numbers, the replay window,
+//! media times and header extensions, is handed on.
 #![tactic(auto)]
 
 mod header;
 mod laws;
-mod numbers;
+mod original_number;
 mod padding;
 mod reading;
 mod repairs;
@@ -13,7 +14,6 @@ mod writing;
 
 pub use header::RtpHeader;
 pub use laws::{header_laws, padding_laws};
-pub use numbers::{read_original_sequence_number, write_original_sequence_number};
 pub use padding::unpad_payload;
 pub use repairs::{repair_of, wrapped_in};
 pub use repairs_laws::repair_laws;

@@ -1,6 +1,6 @@
 //! Headers read.
 
-ghost use Rattle.std.specs.Prelude.{◌≡◌, ◌+◌, ◌*◌, ◌≤◌, ◌<◌, ℕ, length, drop, IsTrue, if◌then◌else◌};
+ghost use Rattle.std.specs.Prelude.{◌≡◌, ◌+◌, ◌*◌, ◌≤◌, ◌<◌, ℕ, Some, length, drop, IsTrue, if◌then◌else◌};
 ghost use Rattle.rtp_wire.specs.Header.{u16_at, u32_at, words_in, slots, is_header, header_in, fields_in};
 ghost use Rattle.rtp_wire.specs.Header.{header_length_in, has_bit, csrc_count_in, has_extension_in, block_at};
 ghost use Rattle.rtp_wire.specs.Header.{block_in, values_in};
@@ -133,6 +133,17 @@ impl RtpHeader {
     {
         let _len = header_length(buf)?;
         Some(values_of(buf, exts))
+    }
+
+    /// The values of the header extensions of the datagram that this is the header of, without reading it again.
+    ///
+    /// # Conditions
+    /// It is what `parse_without_values` reads of the datagram.
+    pub fn values_in(&self, buf: &[u8], exts: &ExtensionMap) -> ExtensionValues
+        requires { header_in empty_map buf.now ≡ Some self.now }
+        ensures { option_map (λ h. h.ext_vals) (header_in exts.now buf.now) ≡ Some result }
+    {
+        values_of(buf, exts)
     }
 
     /// The sequence number, widened by the one before it: the nearest with these 16 bits (RFC 3550 A.1).

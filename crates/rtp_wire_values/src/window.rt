@@ -1,7 +1,7 @@
 //! The replay window of a stream.
 
 ghost use Rattle.std.specs.Prelude.{◌≡◌, ◌%◌, length};
-ghost use Rattle.rtp_wire_values.specs.Replay.{accepts, window_with, window_at, window_after};
+ghost use Rattle.rtp_wire_values.specs.Replay.{accepts, reach, window_with, window_at, window_after};
 ghost use Rattle.rtp_wire_values.specs.Ring.{is_recorded};
 
 use crate::sequence::SeqNo;
@@ -36,14 +36,14 @@ impl Model for SeqNoWindow {
 
 /// The slot of a number.
 fn slot_of(number: u64) -> usize
-    ensures { result ≡ number % 128 }
+    ensures { result ≡ number % reach }
 {
     (number % REACH as u64) as usize
 }
 
 /// Whether a number is recorded.
 fn is_recorded(floor: Option<u64>, slots: &[Option<u64>], number: u64) -> bool
-    requires { length slots.now ≡ 128 }
+    requires { length slots.now ≡ reach }
     ensures { result ≡ is_recorded floor slots.now number }
 {
     let slot = slots[slot_of(number)];
