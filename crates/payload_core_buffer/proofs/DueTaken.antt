@@ -1,0 +1,71 @@
+-- The frame that is due, taken out of a queue that was looked through for it.
+use Rattle.std.proofs.Common.{◌≡◌, ℕ, ◌<◌, ◌≤◌, refl, sym, ◌∙◌, ap, ap₂, subst, arith, List, length}
+use Rattle.std.specs.Prelude.{◌-◌, Option, Some, Ok}
+use Rattle.payload_core_base.specs.Format.{Format, Fragment}
+use Rattle.payload_core_base.specs.declared.extra.CodecExtra.{CodecExtra}
+use Rattle.payload_core_buffer.specs.Frames.{IsFrame, due_frame, packet_at, packets_between}
+use Rattle.payload_core_buffer.specs.Metas.{metas_of_unit}
+use Rattle.payload_core_buffer.specs.Packets.{Packet, metas_of, packets_of}
+use Rattle.payload_core_buffer.specs.Pops.{PopState, pop_state}
+use Rattle.payload_core_buffer.specs.Steps.{Answer, AnswersBy, MediaUnit, TellsOf, frame_step, packets_of_due, pop_step}
+use Rattle.payload_core_buffer.specs.Steps.{ready, unit_between, unit_from, unit_of}
+use Rattle.payload_core_buffer.specs.declared.depacketized.Depacketized.{Depacketized}
+use Rattle.payload_core_buffer.specs.declared.frame.Frame.{Frame}
+use Rattle.payload_core_buffer.specs.declared.held.Held.{Held}
+use Rattle.payload_core_buffer.specs.declared.held.RtpMeta.{RtpMeta}
+use Rattle.payload_core_buffer.proofs.DueLemmas.{due_frames}
+use Rattle.payload_core_buffer.proofs.FrameEnds.{unit-is}
+use Rattle.payload_core_buffer.proofs.FrameLemmas.{length_packets}
+use Rattle.payload_core_buffer.proofs.Stepping.{pops-due}
+
+module _ (format : Format) (cutoff : Option ℕ) (fragment : Fragment) (hold_back : ℕ) (hs ks : List Held) (f : Frame)
+    (same : ks ≡ hs) (due : Some f ≡ due_frame format cutoff hold_back (packets_of hs)) where
+  abbrev state : List Held → PopState
+  state xs = pop_state (packets_of xs) cutoff fragment
+
+  pub is-frame : IsFrame format (packets_of ks) f
+  is-frame = subst (λ (xs : List Held). IsFrame format (packets_of xs) f) (sym same)
+      (due_frames cutoff hold_back (packets_of hs) format (Some f) due)
+
+  pub some : f.start < f.end
+  some = is-frame.not_empty
+
+  pub within : f.end ≤ length ks
+  within = omega (arith, is-frame.in_range, length_packets ks)
+
+  pub popped : (new : PopState) (a : Option Answer) → AnswersBy (frame_step format (state ks) (Some f)) new a
+      → AnswersBy (pop_step format hold_back (state hs)) new a
+  popped new a is = pops-due format hold_back (state hs) new (Some f) a (sym due)
+      (subst (λ (xs : List Held). AnswersBy (frame_step format (state xs) (Some f)) new a) same is)
+
+  module _ (new : PopState) (bytes : List ℕ) (extra : CodecExtra)
+      (is : AnswersBy (frame_step format (state ks) (Some f)) new
+      (Some (Ok (Some (unit_from (metas_of (packets_between (packets_of ks) f)) bytes extra))))) where
+    as-unit : (u : MediaUnit) → u ≡ unit_from (metas_of (packets_between (packets_of ks) f)) bytes extra
+        → AnswersBy (pop_step format hold_back (state hs)) new (Some (Ok (Some u)))
+    as-unit u e = popped new (Some (Ok (Some u)))
+        (subst (λ (x : MediaUnit). AnswersBy (frame_step format (state ks) (Some f)) new (Some (Ok (Some x)))) (sym e) is)
+
+    -- by what is known of its first and its last packet
+    pub popped-ends : (p q : RtpMeta) → p ≡ (packet_at (packets_of ks) f.start).meta
+        → q ≡ (packet_at (packets_of ks) (f.end - 1)).meta
+        → AnswersBy (pop_step format hold_back (state hs)) new (Some (Ok (Some (record {
+          first = p.seq_no; last = q.seq_no; time = p.time; values = q.ext_vals; bytes = bytes; extra = extra }))))
+    popped-ends p q first last = as-unit (record {
+      first = p.seq_no; last = q.seq_no; time = p.time; values = q.ext_vals; bytes = bytes; extra = extra })
+      (ap₂ (λ (a b : RtpMeta). let u : MediaUnit = record {
+        first = a.seq_no; last = b.seq_no; time = a.time; values = b.ext_vals; bytes = bytes; extra = extra } in u)
+      first last ∙ sym (unit-is (packets_of ks) f is-frame.not_empty is-frame.in_range bytes extra))
+
+    -- by what is known of all its packets
+    pub popped-metas : (d : Depacketized) → d.bytes.items ≡ bytes → d.extra ≡ extra
+        → metas_of_unit d ≡ metas_of (packets_between (packets_of ks) f)
+        → AnswersBy (pop_step format hold_back (state hs)) new (Some (Ok (Some (unit_of d))))
+    popped-metas d read told known = as-unit (unit_of d) (
+      ap (λ (ms : List RtpMeta). unit_from ms d.bytes.items d.extra) known
+      ∙ ap₂ (unit_from (metas_of (packets_between (packets_of ks) f))) read told)
+
+  pub tells : (d : Depacketized) → metas_of_unit d ≡ metas_of (packets_between (packets_of ks) f)
+      → TellsOf (ready format hold_back (state hs)) (Some d)
+  tells d known = known ∙ ap (λ (xs : List Held). metas_of (packets_between (packets_of xs) f)) same
+      ∙ ap (λ (o : Option Frame). metas_of (packets_of_due (packets_of hs) o)) due
