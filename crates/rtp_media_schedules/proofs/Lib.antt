@@ -12,5 +12,6 @@ pub mod Full
 pub mod TrueNumbers
 pub mod Selections
 pub mod Polls
+pub mod PollSteps
 pub mod Drains
 mod NotLegal

@@ -1,14 +1,14 @@
 -- What a receiving stream of any payload format answers over a whole run of its own datagrams and polls.
-use Rattle.std.specs.Prelude.{◌≡◌, ℕ, ◌-◌, Bool, if◌then◌else◌, List, [], ◌∷◌, length, drop}
+use Rattle.std.specs.Prelude.{◌≡◌, ℕ, ◌-◌, Bool, if◌then◌else◌, List, [], ◌∷◌, drop}
 use Rattle.std.specs.Prelude.{Option, None, Some, Result, Ok, Err}
-use Rattle.payload_core_base.specs.Format.{Format, Fragment, Run}
+use Rattle.payload_core_base.specs.Format.{Format, Fragment}
 use Rattle.payload_core_base.specs.declared.error.PacketError.{PacketError}
-use Rattle.payload_core_base.specs.declared.extra.CodecExtra.{CodecExtra}
 use Rattle.payload_core_buffer.specs.Buffered.{pushed}
 use Rattle.payload_core_buffer.specs.Frames as frames
-use Rattle.payload_core_buffer.specs.Frames.{due_frame, meta_at, packets_between}
-use Rattle.payload_core_buffer.specs.Packets.{Packet, metas_of, packet_from}
-use Rattle.payload_core_buffer.specs.Pops.{run_of}
+use Rattle.payload_core_buffer.specs.Frames.{due_frame, packets_between}
+use Rattle.payload_core_buffer.specs.Packets.{Packet, packet_from}
+use Rattle.payload_core_buffer.specs.Pops.{PopState, ReadsPart, pop_state}
+pub use Rattle.payload_core_buffer.specs.Steps.{Answer, MediaUnit, answer_among, answer_by, answer_of, run_among, unit_from}
 use Rattle.payload_core_buffer.specs.declared.frame.Frame.{Frame}
 use Rattle.payload_core_buffer.specs.declared.held.RtpMeta.{RtpMeta}
 use Rattle.rtp_wire.specs.Replay.{Window, is_accepted, recorded_in, greatest_in}
@@ -40,27 +40,6 @@ meta_of number content = record {
 abbrev pub packet_of : ℕ → Content → Packet
 packet_of number content = packet_from (meta_of number content) content.bytes
 
--- What a poll hands out: the numbers of the first and the last packet of a frame, its RTP timestamp, the values
--- of the last packet's header extensions, what its format reads of its payloads, and what it tells beside.
-pub record MediaUnit : Type 0 where
-  pub first : ℕ
-  pub last : ℕ
-  pub time : ℕ
-  pub values : ExtensionValues
-  pub bytes : List ℕ
-  pub extra : CodecExtra
-
--- The unit of packets of which this is known, and that gave these bytes and this extra.
-abbrev pub unit_from : List RtpMeta → List ℕ → CodecExtra → MediaUnit
-unit_from metas bytes extra = record {
-  first = (meta_at metas 0).seq_no;
-  last = (meta_at metas (length metas - 1)).seq_no;
-  time = (meta_at metas 0).time;
-  values = (meta_at metas (length metas - 1)).ext_vals;
-  bytes = bytes;
-  extra = extra;
-}
-
 -- What happens to a stream: one of its datagrams comes, with the low 16 bits of its number, or it is polled.
 pub data Event : Type 0 where
   Comes : (low : ℕ) (content : Content) → Event
@@ -79,27 +58,6 @@ pub record Stream : Type 0 where
 -- A stream that heard nothing.
 abbrev pub fresh : ℕ → Stream
 fresh hold_back = record { hold_back = hold_back; window = None; held = []; cutoff = None; fragment = None }
-
--- What a poll answers: that no unit is ready, a unit, or why a packet of its frame is refused.
-abbrev pub Answer : Type 0
-Answer = Result (Option MediaUnit) PacketError
-
-abbrev pub answer_by : Option PacketError → List RtpMeta → List ℕ → CodecExtra → Answer
-answer_by None metas bytes extra = Ok (Some (unit_from metas bytes extra))
-answer_by (Some e) metas bytes extra = Err e
-
--- The answer that packets give, of which this is known and which were read so.
-abbrev pub answer_of : List RtpMeta → Run → Answer
-answer_of metas run = answer_by run.fault metas run.written run.extra
-
--- What is read of the packets of a frame.
-abbrev pub run_among : Format → Fragment → List Packet → Frame → Run
-run_among format fragment held frame = run_of format fragment (packets_between held frame)
-
-abbrev pub answer_among : Format → Fragment → List Packet → Option Frame → Answer
-answer_among format fragment held None = Ok None
-answer_among format fragment held (Some frame) =
-    answer_of (metas_of (packets_between held frame)) (run_among format fragment held frame)
 
 -- The number that the low bits stand for at this stream.
 abbrev pub number_at : Stream → ℕ → ℕ
@@ -138,6 +96,27 @@ polled format s = stream_behind format s (due format s)
 
 unfoldable pub poll_answer : Format → Stream → Answer
 poll_answer format s = answer_among format s.fragment s.held (due format s)
+
+-- Memory ran out for a frame that is due: all stays but the fragment, which is the one that some of its packets leave
+-- open.
+pub record IsInterrupted (format : Format) (before after : Stream) : Type 0 where
+  pub frame : Frame
+  pub is_due : due format before ≡ Some frame
+  pub stops : ReadsPart format before.fragment (packets_between before.held frame) after.fragment
+  pub stays : after ≡ record before { fragment = after.fragment }
+
+-- What a poll reads and changes of a stream, and the stream with other such things.
+abbrev pub kept_of : Stream → PopState
+kept_of s = pop_state s.held s.cutoff s.fragment
+
+abbrev pub with_kept : Stream → PopState → Stream
+with_kept s k = record {
+  hold_back = s.hold_back;
+  window = s.window;
+  held = k.held;
+  cutoff = k.cutoff;
+  fragment = k.fragment;
+}
 
 -- One step on own events.
 abbrev pub heard_step : Format → Stream → Event → Stream

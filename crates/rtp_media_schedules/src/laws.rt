@@ -1,13 +1,14 @@
 //! What holds of every run.
 
 ghost use Rattle.std.specs.Prelude.{◌≡◌, ℕ, ◌+◌, ◌^◌, ◌≤◌, List, [], ◌∷◌, ◌++◌, length, map, replicate, suc, Ok};
-ghost use Rattle.std.specs.Prelude.{None};
+ghost use Rattle.std.specs.Prelude.{◌≢◌, ◌<◌, None};
 ghost use Rattle.payload_core_base.specs.Format.{Format};
+ghost use Rattle.payload_core_buffer.specs.Frames.{complete_frames};
 ghost use Rattle.rtp_media_schedules.specs.Turns.{Sender, Turn, AreGoodArrivals, Arrive, Ask, event_of};
 ghost use Rattle.rtp_media_schedules.specs.SentSamples.{timed_unit};
 ghost use Rattle.rtp_media_schedules.specs.Hearing.{Answer, after_events, EndsSilent, fresh, handed_out, heard, Poll};
-ghost use Rattle.rtp_media_schedules.specs.Hearing.{Stream};
-ghost use Rattle.rtp_media_schedules.specs.Drains.{HeldTurn, heard_at, turn_at, turn_of};
+ghost use Rattle.rtp_media_schedules.specs.Hearing.{Stream, poll_answer, polled};
+ghost use Rattle.rtp_media_schedules.specs.Drains.{HeldTurn, heard_at, holding, turn_at, turn_of};
 ghost use Rattle.rtp_media_schedules.specs.Legal.{IsLegal, IsSelection};
 ghost use Rattle.rtp_media_schedules.specs.Orders.{IsSane, IsTame, first_size};
 ghost use Rattle.rtp_media_schedules.specs.Samples.{AreSentAs, SentSample, canonical_units, datagrams, frame_sizes};
@@ -79,4 +80,13 @@ pub fn true_numbers()
 /// Polls come to an end: after at most as many as packets are held, one answers None.
 pub fn polls_come_to_an_end()
     ensures { (format : Format) (s : Stream) → EndsSilent (heard format s (replicate (suc (length s.held)) Poll)) }
+{}
+
+/// A poll that answers a unit or a fault leaves fewer packets held, and a drain answers None only where no frame is
+/// complete.
+pub fn poll_laws()
+    ensures fewer { (format : Format) (s : Stream) → poll_answer format s ≢ Ok None
+        → length (polled format s).held < length s.held }
+    ensures none { (format : Format) (s : Stream) → poll_answer format (holding 0 s) ≡ Ok None
+        → complete_frames format s.held ≡ [] }
 {}

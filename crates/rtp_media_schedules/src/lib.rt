@@ -9,6 +9,6 @@ mod runs;
 pub use illegal::not_legal;
 pub use laws::{
     exact_after_full_arrival, exact_under_tame_schedule, legal_under_sane_schedule,
-    legal_with_drains, polls_come_to_an_end, selections_have_places, true_numbers,
+    legal_with_drains, poll_laws, polls_come_to_an_end, selections_have_places, true_numbers,
 };
 pub use runs::run_laws;

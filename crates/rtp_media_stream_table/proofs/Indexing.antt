@@ -276,17 +276,6 @@ sender-added senders receivers ss x ssrc types number is_ssrc is_types last inde
     added-sender senders receivers ss x indexed (λ s p own.
     set s p (ap₂ (λ (a : ℕ) (t : PayloadTypes). is_key_of a t s p) (sym is_ssrc) (sym is_types) ∙ own) ∙ ap Some last)
 
--- distances change neither SSRC nor types
-pub same-ssrc : (s : Sending) (red : Option ℕ) (distances : Option (List ℕ))
-    → (with_distances s red distances).ssrc ≡ s.ssrc
-same-ssrc s red None = refl
-same-ssrc s red (Some distances) = refl
-
-pub same-types : (s : Sending) (red : Option ℕ) (distances : Option (List ℕ))
-    → (with_distances s red distances).types ≡ s.types
-same-types s red None = refl
-same-types s red (Some distances) = refl
-
 -- ---- polled
 
 as-polled : (r : Receiving) (y : OpenStream) → receiving_of y ≡ with_stream r (receiving_of y).stream
