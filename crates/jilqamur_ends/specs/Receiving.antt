@@ -2,20 +2,19 @@
 use Rattle.std.specs.Prelude.{ℕ, ◌≡◌, ◌≢◌, List, length, Option}
 use Rattle.rtp_wire.specs.Name.{name_of}
 use Rattle.rtp_media_schedules.specs.Hearing.{MediaUnit}
-use Rattle.rtp_media_streams.specs.Drains.{drained_receiver, holding}
-use Rattle.rtp_media_streams.specs.Polls.{IsInterrupted, PollResult, poll_result}
-use Rattle.rtp_media_streams.specs.Receiving.{Receiving, polled_receiver, with_stream}
-use Rattle.rtp_media_streams.specs.Rows.{format_of}
+use Rattle.payload_core_buffer.specs.Steps.{PollStep}
+use Rattle.rtp_media_streams.specs.Polls.{drain_step, given, poll_step}
+use Rattle.rtp_media_streams.specs.Receiving.{Receiving}
 use Rattle.rtp_media_ends.specs.EndArrivals.{verdict_of, after_datagram}
-use Rattle.rtp_media_ends.specs.Ends.{EndState, is_receiver_at, receiver_at, with_receiver, after_open_receiver}
+use Rattle.rtp_media_ends.specs.Ends.{AtReceiver, EndState, is_receiver_at, receiver_at, with_receiver, after_open_receiver}
 use Rattle.rtp_media_ends.specs.Ends.{refusal_of_open_receiver}
 use Rattle.rtp_media_ends.specs.declared.Received.{Received}
 use Rattle.rtp_media_ends.specs.declared.Received.TheVariants as received
-use Rattle.jilqamur_media.specs.StreamAnswers.{drain_result, poll_code, unit_behind}
+use Rattle.jilqamur_media.specs.StreamAnswers.{poll_code, unit_behind}
 use Rattle.jilqamur_media.specs.Codes.{ok, memory, unreadable, foreign, damaged, refused}
 use Rattle.jilqamur_media.specs.Codes.{no_stream}
 use Rattle.jilqamur_ends.specs.Refusals.{open_outcome}
-use Rattle.rtp_media_ends.specs.Stops.{PollStops, Where}
+use Rattle.rtp_media_ends.specs.Stops.{Where}
 
 -- What opening a receiving stream answers.
 pub record OpensReceiver (e : EndState) (mid : List ℕ) (ssrc pt hold_back : ℕ) (result stream : ℕ) (after : EndState)
@@ -45,22 +44,14 @@ pub record Receives (e : EndState) (datagram : List ℕ) (result stream number :
   pub is_behind : result ≢ memory → after ≡ after_datagram e datagram
   pub stays : result ≡ memory → after ≡ e
 
--- What a poll answers whose stream answers and becomes this, or stays like that where memory runs out.
-pub record AnswersPoll (e : EndState) (n : ℕ) (answer : PollResult) (behind : Receiving)
-    (Stops : EndState → Type 0) (before : Option MediaUnit) (result : ℕ) (unit : Option MediaUnit)
-    (after : EndState) : Type 0 where
-  pub number : result ≢ memory → result ≡ poll_code answer
-  pub unit_is : result ≢ memory → unit ≡ unit_behind answer before
-  pub is_behind : result ≢ memory → after ≡ with_receiver e n behind
+-- What a poll answers by its stream's step; where memory runs out for a unit that is ready, its frame stays.
+pub record AnswersPoll (e : EndState) (n : ℕ) (step : Receiving → PollStep Receiving) (before : Option MediaUnit)
+    (result : ℕ) (unit : Option MediaUnit) (after : EndState) : Type 0 where
+  pub number : result ≢ memory → result ≡ poll_code (given (step (receiver_at e n)).answer)
+  pub unit_is : result ≢ memory → unit ≡ unit_behind (given (step (receiver_at e n)).answer) before
+  pub is_behind : result ≢ memory → after ≡ with_receiver e n (step (receiver_at e n)).next
   pub keeps : result ≡ memory → unit ≡ before
-  pub stops : result ≡ memory → Stops after
-
--- A drain ran out of memory for a unit that is ready: its frame stays.
-abbrev pub DrainStops : EndState → ℕ → EndState → Type 0
-DrainStops e n after =
-    IsInterrupted (format_of (receiver_at e n).row) (holding 0 (receiver_at e n).stream)
-    (holding 0 (receiver_at after n).stream)
-    × (after ≡ with_receiver e n (with_stream (receiver_at e n) (receiver_at after n).stream))
+  pub stops : result ≡ memory → AtReceiver e n (λ r s. (step r).Stopped s) after
 
 -- No stream that receives has this number.
 abbrev pub HasNoStream : EndState → Option MediaUnit → ℕ → Option MediaUnit → EndState → Type 0
@@ -69,10 +60,8 @@ HasNoStream e before result unit after = (result ≡ no_stream) × (unit ≡ bef
 -- What a poll, and a drain, of a stream answer.
 abbrev pub Polls : EndState → ℕ → Option MediaUnit → ℕ → Option MediaUnit → EndState → Type 0
 Polls e n before result unit after = Where (is_receiver_at e n)
-    (AnswersPoll e n (poll_result (receiver_at e n)) (polled_receiver (receiver_at e n)) (PollStops e n) before
-    result unit after) (HasNoStream e before result unit after)
+    (AnswersPoll e n poll_step before result unit after) (HasNoStream e before result unit after)
 
 abbrev pub Drains : EndState → ℕ → Option MediaUnit → ℕ → Option MediaUnit → EndState → Type 0
 Drains e n before result unit after = Where (is_receiver_at e n)
-    (AnswersPoll e n (drain_result (receiver_at e n)) (drained_receiver (receiver_at e n)) (DrainStops e n) before
-    result unit after) (HasNoStream e before result unit after)
+    (AnswersPoll e n drain_step before result unit after) (HasNoStream e before result unit after)

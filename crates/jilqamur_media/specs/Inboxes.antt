@@ -3,13 +3,11 @@ use Rattle.std.specs.Prelude.{ℕ, ◌≡◌, ◌≢◌, Bool, List, Option, Som
 use Rattle.rtp_wire.specs.Maps.{empty_map}
 use Rattle.rtp_wire.specs.Values.{absent}
 use Rattle.rtp_media_schedules.specs.Hearing.{MediaUnit}
-use Rattle.rtp_media_streams.specs.Drains.{drained_receiver, holding}
-use Rattle.rtp_media_streams.specs.Polls.{IsInterrupted, PollResult, poll_result}
-use Rattle.rtp_media_streams.specs.Receiving.{Receiving, arrived, opened_receiver, polled_receiver, taken_number}
-use Rattle.rtp_media_streams.specs.Receiving.{with_stream}
-use Rattle.rtp_media_streams.specs.Rows.{format_of}
+use Rattle.payload_core_buffer.specs.Steps.{PollStep}
+use Rattle.rtp_media_streams.specs.Polls.{drain_step, given, poll_step}
+use Rattle.rtp_media_streams.specs.Receiving.{Receiving, arrived, opened_receiver, taken_number, with_stream}
 use Rattle.jilqamur_media.specs.Codes.{ok, memory, refused}
-use Rattle.jilqamur_media.specs.StreamAnswers.{poll_code, unit_behind, drain_result}
+use Rattle.jilqamur_media.specs.StreamAnswers.{poll_code, unit_behind}
 use Rattle.jilqamur_media.specs.Formats.{format_named}
 use Rattle.jilqamur_media.specs.Outboxes.{type_alone}
 use Rattle.jilqamur_media.specs.declared.format.WireFormat.{WireFormat}
@@ -44,27 +42,16 @@ pub record Takes (p : InboxState) (low time : ℕ) (marker : Bool) (payload : Li
   pub stays : result ≡ memory → after.stream ≡ p.stream
   pub unit : after.unit ≡ p.unit
 
--- Memory runs out for a unit that is ready: its frame stays.
-abbrev pub PollStops : Receiving → Receiving → Type 0
-PollStops r after =
-    IsInterrupted (format_of r.row) r.stream after.stream × (after ≡ with_stream r after.stream)
-
-abbrev pub DrainStops : Receiving → Receiving → Type 0
-DrainStops r after =
-    IsInterrupted (format_of r.row) (holding 0 r.stream) (holding 0 after.stream)
-    × (after ≡ with_stream r after.stream)
-
--- What a poll answers whose stream answers and becomes this, or stays like that where memory runs out.
-pub record AnswersPoll (p : InboxState) (answer : PollResult) (behind : Receiving)
-    (Stops : Receiving → Receiving → Type 0) (result : ℕ) (after : InboxState) : Type 0 where
-  pub number : result ≢ memory → result ≡ poll_code answer
-  pub unit_is : result ≢ memory → after.unit ≡ unit_behind answer p.unit
-  pub is_behind : result ≢ memory → after.stream ≡ behind
+-- What a poll answers by the stream's step; where memory runs out for a unit that is ready, its frame stays.
+pub record AnswersPoll (p : InboxState) (step : PollStep Receiving) (result : ℕ) (after : InboxState) : Type 0 where
+  pub number : result ≢ memory → result ≡ poll_code (given step.answer)
+  pub unit_is : result ≢ memory → after.unit ≡ unit_behind (given step.answer) p.unit
+  pub is_behind : result ≢ memory → after.stream ≡ step.next
   pub keeps : result ≡ memory → after.unit ≡ p.unit
-  pub stops : result ≡ memory → Stops p.stream after.stream
+  pub stops : result ≡ memory → step.Stopped after.stream
 
 abbrev pub Polls : InboxState → ℕ → InboxState → Type 0
-Polls p result after = AnswersPoll p (poll_result p.stream) (polled_receiver p.stream) PollStops result after
+Polls p result after = AnswersPoll p (poll_step p.stream) result after
 
 abbrev pub Drains : InboxState → ℕ → InboxState → Type 0
-Drains p result after = AnswersPoll p (drain_result p.stream) (drained_receiver p.stream) DrainStops result after
+Drains p result after = AnswersPoll p (drain_step p.stream) result after

@@ -5,7 +5,8 @@ use Rattle.payload_core_base.specs.declared.error.PacketError.{PacketError}
 use Rattle.payload_core_buffer.specs.Buffered.{pushed}
 use Rattle.payload_core_buffer.specs.Metas.{metas_of_unit}
 use Rattle.payload_core_buffer.specs.Packets.{Packet, packet_from}
-use Rattle.payload_core_buffer.specs.Pops.{PopState, Pops, pop_state}
+use Rattle.payload_core_buffer.specs.Pops.{PopState, pop_state}
+use Rattle.payload_core_buffer.specs.Steps.{AnswersBy, as_answer, pop_step, unit_of}
 use Rattle.payload_core_buffer.specs.declared.depacketized.Depacketized.{Depacketized}
 use Rattle.payload_core_buffer.specs.declared.held.RtpMeta.{RtpMeta}
 use Rattle.rtp_wire_extensions.specs.Values.{absent}
@@ -65,7 +66,7 @@ unit_behind (Err e) before = before
 -- A pop of the buffer that holds so many complete frames back answers so, and leaves this.
 pub record PopsAt (hold_back : ℕ) (p : PacketInboxState) (result : ℕ) (after : PacketInboxState) : Type 0 where
   pub popped : Result (Option Depacketized) PacketError
-  pub pops : Pops (format_of p.format) hold_back (queue_of p) (queue_of after) popped
+  pub pops : AnswersBy (pop_step (format_of p.format) hold_back (queue_of p)) (queue_of after) (as_answer unit_of popped)
   pub number : result ≡ pop_code popped
   pub unit_is : after.unit ≡ unit_behind popped p.unit
   pub format_is : after.format ≡ p.format

@@ -1,10 +1,7 @@
 -- What samples and polls answer, as numbers.
 use Rattle.std.specs.Prelude.{ℕ, Option, Some, None, Ok, Err}
 use Rattle.rtp_media_schedules.specs.Hearing.{MediaUnit}
-use Rattle.rtp_media_streams.specs.Drains.{drain_answer}
-use Rattle.rtp_media_streams.specs.Polls.{PollResult, given}
-use Rattle.rtp_media_streams.specs.Receiving.{Receiving}
-use Rattle.rtp_media_streams.specs.Rows.{format_of}
+use Rattle.rtp_media_streams.specs.Polls.{PollResult}
 use Rattle.rtp_media_streams.specs.declared.errors.PollFault.TheVariants as fault
 use Rattle.rtp_media_streams.specs.declared.errors.SampleError.{SampleError}
 use Rattle.rtp_media_streams.specs.declared.errors.SampleError.TheVariants as sample_error
@@ -33,7 +30,3 @@ poll_code (Err fault.Memory) = memory
 abbrev pub unit_behind : PollResult → Option MediaUnit → Option MediaUnit
 unit_behind (Ok (Some unit)) before = Some unit
 unit_behind answer before = before
-
--- What a drain of a receiving stream answers where memory is found.
-abbrev pub drain_result : Receiving → PollResult
-drain_result r = given (drain_answer (format_of r.row) r.stream)

@@ -6,7 +6,8 @@ use Rattle.benchmark_rounds.specs.declared.tally.Tally.{Tally}
 use Rattle.payload_core.specs.Buffered.{Buffered, pushed}
 use Rattle.payload_core.specs.Format.{Format, Fragment}
 use Rattle.payload_core.specs.Packets.{Packet, packet_from}
-use Rattle.payload_core.specs.Pops.{PopState, Pops, pop_state}
+use Rattle.payload_core.specs.Pops.{PopState, pop_state}
+use Rattle.payload_core.specs.Steps.{AnswersBy, as_answer, pop_step, unit_of}
 use Rattle.payload_core.specs.declared.Depacketized.{Depacketized}
 use Rattle.payload_core.specs.declared.PacketError.{PacketError}
 use Rattle.rtp_wire.specs.Values.{absent}
@@ -47,8 +48,8 @@ pub record CountsPopped {D : Type 0} (format : D → Format) (fragment : D → F
   pub full : Buffered D
   pub pushes : PushesFirst old time (length old.packets.now) old.buffer full
   pub answer : Result (Option Depacketized) PacketError
-  pub pops : Pops (format full.depacketizer) full.hold_back (state_of fragment full) (state_of fragment new.buffer)
-      answer
+  pub pops : AnswersBy (pop_step (format full.depacketizer) full.hold_back (state_of fragment full))
+      (state_of fragment new.buffer) (as_answer unit_of answer)
   pub counted : CountsUnit answer before after
   pub number : new.number ≡ number_after old (length old.packets.now)
   pub format_stays : format new.buffer.depacketizer ≡ format old.buffer.depacketizer

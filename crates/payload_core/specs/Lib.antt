@@ -29,6 +29,7 @@ pub use Rattle.payload_core_buffer.specs.Metas
 pub use Rattle.payload_core_buffer.specs.Packets
 pub use Rattle.payload_core_base.specs.Payloaders
 pub use Rattle.payload_core_buffer.specs.Pops
+pub use Rattle.payload_core_buffer.specs.Steps
 pub use Rattle.payload_core_base.specs.Sending
 pub use Rattle.payload_core_audio.specs.Red
 pub use Rattle.payload_core_audio.specs.RedHistory

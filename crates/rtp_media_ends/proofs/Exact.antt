@@ -21,7 +21,7 @@ use Rattle.rtp_media_schedules.specs.Turns.{Arrive, Ask, event_of, AreGoodArriva
 use Rattle.rtp_media_schedules.proofs.Full.{full-exact}
 use Rattle.rtp_media_schedules.proofs.Polls.{polls-end}
 use Rattle.rtp_media_schedules.proofs.Samples.{sent-as}
-use Rattle.rtp_media_streams.specs.Polls.{Answers, AreAnswered, IsPolled}
+use Rattle.rtp_media_streams.specs.Polls.{Answers, AreAnswered, IsPolled, poll_step}
 use Rattle.h26x_payload.specs.Codings.{forms_for}
 use Rattle.rtp_media_streams.specs.Rows.{format_of, settings_in}
 use Rattle.rtp_media_streams.specs.Sending.{Sample, Sending, packet_limit}
@@ -29,11 +29,10 @@ use Rattle.rtp_media_streams.specs.Sending.{payloads_of_samples, samples_of}
 use Rattle.rtp_media_streams.specs.Receiving.{Receiving, brought, is_own, opened_receiver, values_read}
 use Rattle.rtp_media_streams.specs.Receiving.{with_stream}
 use Rattle.rtp_media_streams.proofs.Configured.{same-reading}
-use Rattle.rtp_media_streams.proofs.Draining.{answered}
+use Rattle.rtp_media_streams.proofs.Draining.{answered, heard_polls}
 use Rattle.rtp_media_streams.proofs.Sent.{datagrams_of-consecutive}
 use Rattle.rtp_media_ends.specs.Ends.{EndState, receiver_at}
 use Rattle.rtp_media_ends.specs.FullArrival.{AreSound, HasAllOf, IsSender, after_datagrams}
-use Rattle.rtp_media_stream_table.specs.Polled.{IsPolledOut}
 use Rattle.rtp_media_ends.specs.FullArrival.{coding_of}
 use Rattle.rtp_media_ends.specs.FullArrival.{count_of, is_header_of, is_own_datagram, sent_datagram}
 use Rattle.rtp_media_ends.specs.FullArrival.{sent_samples}
@@ -135,7 +134,7 @@ all-theirs law s samples sound good = theirs samples s
 pub exact : KeepCodecLawInForms → (e : EndState) (stream hold_back : ℕ) (sender : Sending) (samples : List Sample)
     (arrivals : List ℕ) (ds : List (List ℕ)) (answers : Answers) (after : Receiving) →
     HasAllOf e stream hold_back sender samples arrivals ds
-    → IsPolledOut (receiver_at (after_datagrams e ds) stream) answers after →
+    → IsPolled poll_step (receiver_at (after_datagrams e ds) stream) answers after →
     AreAnswered (units_of sender samples) answers
 exact law e stream hold_back sender samples arrivals ds answers after all out =
     let r : Receiving = opened_receiver sender.ssrc sender.types sender.map sender.row hold_back in
@@ -154,8 +153,6 @@ exact law e stream hold_back sender samples arrivals ds answers after all out =
     (ap (λ (x : Receiving). x.stream) all.receiver.stream_is) events in
     let row : format_of (receiver_at (after_datagrams e ds) stream).row ≡ format =
     ap (λ (x : Receiving). format_of x.row) (same-after ds e stream r same all.receiver.found) in
-    let polled : IsPolled format reached answers after.stream =
-    subst₂ (λ (g : Format) (s : Stream). IsPolled g s answers after.stream) row there out.polled in
     let n : ℕ = length reached.held in
     let heard-is : heard format (fresh hold_back) (map (event_of f) (map Arrive arrivals ++ replicate (suc n) Ask))
     ≡ heard format reached (replicate (suc n) Poll) =
@@ -170,4 +167,8 @@ exact law e stream hold_back sender samples arrivals ds answers after all out =
     (sent-as-read law sender samples all.sound all.samples_sound) all.numbers all.few all.arrive
     (subst EndsSilent (sym heard-is) silent)
     ∙ units-are (canonical_units sender.next ss) in
-    answered format polled (suc n) (units_of sender samples) silent units
+    let whole : heard_polls (receiver_at (after_datagrams e ds) stream) (suc n)
+    ≡ heard format reached (replicate (suc n) Poll) =
+    ap₂ (λ (g : Format) (s : Stream). heard g s (replicate (suc n) Poll)) row there in
+    answered out (suc n) (units_of sender samples) (subst EndsSilent (sym whole) silent)
+    (ap (λ (os : List Answer). map timed_unit (handed_out os)) whole ∙ units)

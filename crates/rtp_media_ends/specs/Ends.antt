@@ -1,4 +1,4 @@
-use Rattle.std.specs.Prelude.{ℕ, Bool, true, not, nat_le, ◌==◌, ◌&&◌, List, [], ◌∷◌, ◌++◌}
+use Rattle.std.specs.Prelude.{◌≡◌, ℕ, Bool, true, not, nat_le, ◌==◌, ◌&&◌, List, [], ◌∷◌, ◌++◌}
 use Rattle.std.specs.Prelude.{Option, Some, None, if◌then◌else◌, unwrap_or}
 use Rattle.std.specs.List.{list_any}
 use Rattle.rtp_wire.specs.Maps.{empty_map}
@@ -74,6 +74,10 @@ sender_at e n = nth_sender e.streams n
 
 abbrev pub receiver_at : EndState → ℕ → Receiving
 receiver_at e n = nth_receiver e.streams n
+
+-- The n-th stream, which receives, did this, and all else stays.
+abbrev pub AtReceiver : EndState → ℕ → (Receiving → Receiving → Type 0) → EndState → Type 0
+AtReceiver e n Did after = Did (receiver_at e n) (receiver_at after n) × (after ≡ with_receiver e n (receiver_at after n))
 
 abbrev pub is_sender_at : EndState → ℕ → Bool
 is_sender_at e n = is_nth_sender e.streams n

@@ -1,10 +1,8 @@
 -- What calls at an end leave where memory runs out, and calls of which a test decides.
 use Rattle.std.specs.Prelude.{ℕ, ◌≡◌, Bool, true, false}
-use Rattle.rtp_media_streams.specs.Polls.{IsInterrupted}
-use Rattle.rtp_media_streams.specs.Receiving.{with_stream}
-use Rattle.rtp_media_streams.specs.Rows.{format_of}
+use Rattle.rtp_media_streams.specs.Polls.{poll_step}
 use Rattle.rtp_media_streams.specs.Sending.{HasFailed}
-use Rattle.rtp_media_ends.specs.Ends.{EndState, receiver_at, sender_at, with_receiver, with_sender}
+use Rattle.rtp_media_ends.specs.Ends.{AtReceiver, EndState, sender_at, with_sender}
 
 -- One claim where a test holds, another one where it doesn't.
 abbrev pub Where : Bool → Type 0 → Type 0 → Type 0
@@ -17,6 +15,4 @@ SenderFails e n after = HasFailed (sender_at e n) (sender_at after n) × (after 
 
 -- A poll ran out of memory, which only one that has a unit to hand out does: its frame stays.
 abbrev pub PollStops : EndState → ℕ → EndState → Type 0
-PollStops e n after =
-    IsInterrupted (format_of (receiver_at e n).row) (receiver_at e n).stream (receiver_at after n).stream
-    × (after ≡ with_receiver e n (with_stream (receiver_at e n) (receiver_at after n).stream))
+PollStops e n = AtReceiver e n (λ r s. (poll_step r).Stopped s)

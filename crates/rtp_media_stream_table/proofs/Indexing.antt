@@ -9,6 +9,7 @@ use Rattle.std.specs.Prelude.{◌==◌, nat_lt, Option, Some, None, if◌then◌
 use Rattle.std.specs.List.{list_any}
 use Rattle.rtp_media_streams.specs.Polls.{Answers}
 use Rattle.rtp_media_streams.specs.Receiving.{Receiving, with_stream}
+use Rattle.rtp_media_streams.proofs.Polling.{polled-keeps, some-keeps}
 use Rattle.rtp_media_streams.specs.Sending.{Sending}
 use Rattle.rtp_media_streams.specs.Types.{is_key_of}
 use Rattle.rtp_media_streams.specs.declared.types.RepairKey.{RepairKey}
@@ -284,19 +285,19 @@ as-polled r y same is = is ∙ ap Receiver same
 
 some-takes : (x y : OpenStream) → AnswersSome x y → (s p : ℕ) → takes s p y ≡ takes s p x
 some-takes (Sender t) y a s p = ap (takes s p) a
-some-takes (Receiver r) y a s p = ap (takes s p) (as-polled r y a.0.same_stream a.1)
+some-takes (Receiver r) y a s p = ap (takes s p) (as-polled r y (some-keeps a.0) a.1)
 
 some-sends : (x y : OpenStream) → AnswersSome x y → (s p : ℕ) → sends s p y ≡ sends s p x
 some-sends (Sender t) y a s p = ap (sends s p) a
-some-sends (Receiver r) y a s p = ap (sends s p) (as-polled r y a.0.same_stream a.1)
+some-sends (Receiver r) y a s p = ap (sends s p) (as-polled r y (some-keeps a.0) a.1)
 
 all-takes : (x y : OpenStream) (answers : Answers) → AnswersAll x answers y → (s p : ℕ) → takes s p y ≡ takes s p x
 all-takes (Sender t) y answers a s p = ap (takes s p) a.1
-all-takes (Receiver r) y answers a s p = ap (takes s p) (as-polled r y a.0.same_stream a.1)
+all-takes (Receiver r) y answers a s p = ap (takes s p) (as-polled r y (polled-keeps a.0) a.1)
 
 all-sends : (x y : OpenStream) (answers : Answers) → AnswersAll x answers y → (s p : ℕ) → sends s p y ≡ sends s p x
 all-sends (Sender t) y answers a s p = ap (sends s p) a.1
-all-sends (Receiver r) y answers a s p = ap (sends s p) (as-polled r y a.0.same_stream a.1)
+all-sends (Receiver r) y answers a s p = ap (sends s p) (as-polled r y (polled-keeps a.0) a.1)
 
 pub polled-some : (senders receivers : StreamIndex) (ss ts : List OpenStream) → ArePolledSome ss ts
     → AreIndexed senders receivers ss → AreIndexed senders receivers ts

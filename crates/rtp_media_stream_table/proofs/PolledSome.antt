@@ -1,12 +1,11 @@
 -- Streams that were polled some times, for lack of memory.
-use Rattle.std.proofs.Common.{◌≡◌, ◌≢◌, ℕ, ◌<◌, ◌≤◌, refl, sym, ◌∙◌, subst, arith, inl, Bool, true, false, List}
+use Rattle.std.proofs.Common.{◌≡◌, ◌≢◌, ℕ, ◌<◌, ◌≤◌, refl, sym, ◌∙◌, subst, arith, Bool, true, false, List}
 use Rattle.std.proofs.Common.{length, length-set}
 use Rattle.std.proofs.lemmas.Bool.Decides.{nat_tests}
 use Rattle.std.proofs.lemmas.List.{get_or-set_same, get_or-set_other}
 use Rattle.std.specs.Prelude.{◌==◌, nat_lt, slice_set}
-use Rattle.rtp_media_streams.specs.Polls.{Answers}
-use Rattle.rtp_media_streams.specs.Rows.{format_of}
-use Rattle.rtp_media_streams.proofs.Draining.{polled-some}
+use Rattle.rtp_media_streams.specs.Polls.{Answers, NoMore, poll_step}
+use Rattle.rtp_media_streams.proofs.Polling.{polled-some}
 use Rattle.rtp_media_stream_table.specs.Streams.{no_receiver, nth_stream}
 use Rattle.rtp_media_stream_table.specs.declared.open_stream.OpenStream.{OpenStream}
 use Rattle.rtp_media_stream_table.specs.declared.open_stream.OpenStream.TheVariants.{Sender, Receiver}
@@ -15,14 +14,11 @@ use Rattle.rtp_media_stream_table.specs.Polled.{AnswersAll, AnswersSome, ArePoll
 pub out-some : (before : OpenStream) (after : OpenStream) (answers : Answers) → AnswersAll before answers after
     → AnswersSome before after
 out-some (Sender s) after answers out = out.1
-out-some (Receiver r) after answers out = (
-  record { some = polled-some (format_of r.row) out.0.polled; same_stream = out.0.same_stream },
-  out.1,
-)
+out-some (Receiver r) after answers out = (polled-some poll_step out.0, out.1)
 
 untouched : (x : OpenStream) → AnswersSome x x
 untouched (Sender s) = refl
-untouched (Receiver r) = (record { some = record { count = 0; stops = inl refl }; same_stream = refl }, refl)
+untouched (Receiver r) = (NoMore, refl)
 
 eqb-is : (a b : ℕ) → (a == b) ≡ true → a ≡ b
 eqb-is a b h = grind (arith, nat_tests)

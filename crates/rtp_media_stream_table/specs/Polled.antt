@@ -1,32 +1,22 @@
 use Rattle.std.specs.Prelude.{ℕ, ◌≡◌, ◌<◌, List, [], length}
 use Rattle.std.specs.Prelude.{slice_index_or}
-use Rattle.rtp_media_streams.specs.Polls.{Answers, IsPolled, IsPolledSome}
+use Rattle.rtp_media_streams.specs.Polls.{Answers, IsPolled, IsPolledSome, poll_step}
 use Rattle.rtp_media_streams.specs.Rows.{format_of}
 use Rattle.rtp_media_streams.specs.Receiving.{Receiving, with_stream}
 use Rattle.rtp_media_stream_table.specs.Streams.{nth_stream, receiving_of}
 use Rattle.rtp_media_stream_table.specs.declared.open_stream.OpenStream.{OpenStream}
 use Rattle.rtp_media_stream_table.specs.declared.open_stream.OpenStream.TheVariants.{Sender, Receiver}
 
--- A receiving stream was polled until None or lack of memory: its answers, and the stream after them.
-pub record IsPolledOut (before : Receiving) (answers : Answers) (after : Receiving) : Type 0 where
-  pub polled : IsPolled (format_of before.row) before.stream answers after.stream
-  pub same_stream : after ≡ with_stream before after.stream
-
--- It was polled some times, or none.
-pub record WasPolledSome (before after : Receiving) : Type 0 where
-  pub some : IsPolledSome (format_of before.row) before.stream after.stream
-  pub same_stream : after ≡ with_stream before after.stream
-
 -- A stream that sends answers nothing and stays; one that receives was polled until None or lack of memory.
 abbrev pub AnswersAll : OpenStream → Answers → OpenStream → Type 0
 AnswersAll (Sender s) answers after = (answers ≡ []) × (after ≡ Sender s)
 AnswersAll (Receiver r) answers after =
-    IsPolledOut r answers (receiving_of after) × (after ≡ Receiver (receiving_of after))
+    IsPolled poll_step r answers (receiving_of after) × (after ≡ Receiver (receiving_of after))
 
 -- A stream that sends stays; one that receives was polled some times, or none.
 abbrev pub AnswersSome : OpenStream → OpenStream → Type 0
 AnswersSome (Sender s) after = after ≡ Sender s
-AnswersSome (Receiver r) after = WasPolledSome r (receiving_of after) × (after ≡ Receiver (receiving_of after))
+AnswersSome (Receiver r) after = IsPolledSome poll_step r (receiving_of after) × (after ≡ Receiver (receiving_of after))
 
 -- Each receiving stream was polled some times, or none.
 pub record ArePolledSome (before after : List OpenStream) : Type 0 where

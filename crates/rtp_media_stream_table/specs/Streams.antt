@@ -1,5 +1,5 @@
 use Rattle.std.specs.Prelude.{ℕ, Bool, true, false, not, nat_lt, ◌&&◌, List, length}
-use Rattle.std.specs.Prelude.{None, slice_set, slice_index_or}
+use Rattle.std.specs.Prelude.{◌≡◌, None, slice_set, slice_index_or}
 use Rattle.rtp_wire.specs.Maps.{empty_map}
 use Rattle.payload_core_base.specs.declared.codec.Codec.TheVariants.{Unknown}
 use Rattle.rtp_media_streams.specs.Sending as sending
@@ -55,6 +55,11 @@ nth_sender streams n = sending_of (nth_stream streams n)
 
 abbrev pub nth_receiver : List OpenStream → ℕ → Receiving
 nth_receiver streams n = receiving_of (nth_stream streams n)
+
+-- The n-th did this, and the others stay.
+abbrev pub AtNth : List OpenStream → ℕ → (Receiving → Receiving → Type 0) → List OpenStream → Type 0
+AtNth streams n Did after = Did (nth_receiver streams n) (nth_receiver after n)
+    × (after ≡ set_receiver streams n (nth_receiver after n))
 
 -- Whether the n-th of these streams is one that sends, and whether it is one that receives.
 abbrev pub is_nth_sender : List OpenStream → ℕ → Bool

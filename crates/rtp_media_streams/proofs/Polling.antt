@@ -1,170 +1,104 @@
--- What a pop of the buffer is to the stream.
-use Rattle.std.proofs.Common.{◌≡◌, ◌≢◌, refl, ℕ, ◌-◌, ◌<◌, sym, ◌∙◌, ap, ap₂, arith, List, length, drop}
-use Rattle.std.specs.Prelude.{Option, Some, None, Result, Ok, Err, IfErr, OnOk}
-use Rattle.std.proofs.lemmas.List.{length-drop}
-use Rattle.payload_core_base.specs.Format.{Format, Fragment, Run}
-use Rattle.payload_core_base.specs.declared.error.PacketError.{PacketError}
-use Rattle.payload_core_base.specs.declared.error.PacketError.TheVariants as lacks
-use Rattle.payload_core_base.specs.declared.extra.CodecExtra.{CodecExtra}
-use Rattle.payload_core_buffer.specs.Frames.{due_frame, number_at, packets_between}
-use Rattle.payload_core_buffer.specs.Packets.{Packet, metas_of}
-use Rattle.payload_core_buffer.specs.Pops.{Faults, PopGives, PopKeeps}
-use Rattle.payload_core_buffer.specs.declared.frame.Frame.{Frame}
-use Rattle.payload_core_buffer.specs.declared.held.RtpMeta.{RtpMeta}
-use Rattle.rtp_wire.specs.Replay.{Window}
-use Rattle.rtp_media_schedules.specs.Hearing.{Answer, Stream, answer_among, answer_by, due, poll_answer, polled}
-use Rattle.rtp_media_schedules.specs.Hearing.{run_among}
-use Rattle.rtp_media_schedules.specs.Hearing.{stream_behind, unit_from}
-use Rattle.rtp_media_streams.specs.Drains.{holding}
-use Rattle.rtp_media_streams.specs.Polls.{IsFaultOf, IsInterrupted, LacksMemory, IsRefused}
+-- What a receiving stream does whose buffer pops; and polls until None or lack of memory, as far as a loop has come.
+use Rattle.std.proofs.Common.{◌≡◌, ◌≢◌, ℕ, ◌<◌, refl, sym, ◌∙◌, ap, subst, List, [], ◌∷◌, ◌++◌, append_assoc, length}
+use Rattle.std.specs.Prelude.{Option, Some, None, Result, Ok, Err}
+use Rattle.payload_core_base.specs.Format.{Format}
+use Rattle.payload_core_buffer.specs.Pops.{PopState}
+use Rattle.payload_core_buffer.specs.Steps.{AnswersBy, PollStep, pop_step}
+use Rattle.rtp_media_schedules.specs.Drains.{holding}
+use Rattle.rtp_media_schedules.specs.Hearing.{Answer, MediaUnit, kept_of, with_kept}
+use Rattle.rtp_media_schedules.proofs.PollSteps.{less-after, step-answer, step-next, step-stops}
+use Rattle.rtp_media_streams.specs.Polls.{Answers, Faults, HandsOut, IsPolled, IsPolledSome, NoMore, Once, Short, Silent}
+use Rattle.rtp_media_streams.specs.Polls.{WantsMemory, drain_step, poll_step}
 use Rattle.rtp_media_streams.specs.Receiving.{Receiving, with_stream}
 use Rattle.rtp_media_streams.specs.Rows.{format_of}
 use Rattle.rtp_media_streams.specs.declared.errors.PollFault.{PollFault}
-use Rattle.rtp_media_streams.specs.declared.errors.PollFault.TheVariants.{Memory, Payload}
 
-pub on_ok : {A E P Q : Type 0} (r : Result A E) → (P → Q) → OnOk r P → OnOk r Q
-on_ok (Ok a) f h = f h
-on_ok (Err e) f h = tt
+-- a pop at the stream's hold-back is its poll
+pub polls : (r : Receiving) (format : Format) (hold_back : ℕ) (k : PopState) (a : Option Answer)
+    → format ≡ format_of r.row → hold_back ≡ r.stream.hold_back
+    → AnswersBy (pop_step format r.stream.hold_back (kept_of r.stream)) k a
+    → AnswersBy (poll_step r) (with_stream r (with_kept (holding hold_back r.stream) k)) a
+polls r format hold_back k (Some a) same count is = rw (count, ← same) (
+  is.0 ∙ step-answer format r.stream,
+  ap (λ (x : PopState). with_stream r (with_kept r.stream x)) is.1 ∙ ap (with_stream r) (step-next format r.stream),
+)
+polls r format hold_back k None same count is = rw (count, ← same) (step-stops format r.stream k is, refl)
 
-pub if_err : {A E : Type 0} {P Q : E → Type 0} (r : Result A E) → ((e : E) → P e → Q e) → IfErr r P → IfErr r Q
-if_err (Ok a) f h = tt
-if_err (Err e) f h = f e h
+-- a pop that holds nothing back is its drain
+pub drains : (r : Receiving) (format : Format) (hold_back : ℕ) (k : PopState) (a : Option Answer)
+    → format ≡ format_of r.row → hold_back ≡ r.stream.hold_back
+    → AnswersBy (pop_step format 0 (kept_of r.stream)) k a
+    → AnswersBy (drain_step r) (with_stream r (with_kept (holding hold_back r.stream) k)) a
+drains r format hold_back k (Some a) same count is = rw (count, ← same) (
+  is.0 ∙ step-answer format (holding 0 r.stream),
+  ap (λ (x : PopState). with_stream r (with_kept r.stream x)) is.1
+      ∙ ap (λ s. with_stream r (holding r.stream.hold_back s)) (step-next format (holding 0 r.stream)),
+)
+drains r format hold_back k None same count is = rw (count, ← same) (step-stops format (holding 0 r.stream) k is, refl)
 
--- a poll's fault by that of its buffer
-pub refused : {e : PacketError} {f : PollFault} → IsFaultOf e f → f ≢ Memory → (e ≢ lacks.Memory) × (f ≡ Payload e)
-refused LacksMemory fails = absurd (fails refl)
-refused (IsRefused other) fails = (other, refl)
+-- the same of a stream that is seen as another one
+module _ (x r : Receiving) (same : x ≡ r) (format : Format) (hold_back : ℕ) (k : PopState) (a : Option Answer)
+    (row : format ≡ format_of x.row) (count : hold_back ≡ x.stream.hold_back) where
+  abbrev behind : Receiving
+  behind = with_stream x (with_kept (holding hold_back x.stream) k)
 
-pub lacking : {e : PacketError} {f : PollFault} → IsFaultOf e f → f ≡ Memory → e ≡ lacks.Memory
-lacking LacksMemory is = refl
-lacking (IsRefused other) is = cc
+  pub poll-seen : AnswersBy (pop_step format x.stream.hold_back (kept_of x.stream)) k a
+      → AnswersBy (poll_step r) behind a
+  poll-seen is = subst (λ (y : Receiving). AnswersBy (poll_step y) behind a) same (polls x format hold_back k a row count is)
 
--- a stream of which this is the rest, after a step
-pub after_step : {A E : Type 0} (step : Format → Stream → Stream) (res : Result A E) (f : Format) (x r : Receiving)
-    (old new : Stream) → x ≡ r → f ≡ format_of r.row → old ≡ r.stream → OnOk res (new ≡ step f old)
-    → OnOk res (with_stream x new ≡ with_stream r (step (format_of r.row) r.stream))
-after_step step res f x r old new same format is =
-    on_ok res (λ h. ap (λ (y : Receiving). with_stream y new) same ∙ ap (with_stream r) (h ∙ ap₂ step format is))
+  pub drain-seen : AnswersBy (pop_step format 0 (kept_of x.stream)) k a → AnswersBy (drain_step r) behind a
+  drain-seen is = subst (λ (y : Receiving). AnswersBy (drain_step y) behind a) same
+      (drains x format hold_back k a row count is)
 
-pub behind_fault : {A E : Type 0} (step : Format → Stream → Stream) (P : E → Type 0) (res : Result A E) (f : Format)
-    (x r : Receiving) (old new : Stream) → x ≡ r → f ≡ format_of r.row → old ≡ r.stream →
-    IfErr res (λ e. P e → new ≡ step f old)
-    → IfErr res (λ e. P e → with_stream x new ≡ with_stream r (step (format_of r.row) r.stream))
-behind_fault step P res f x r old new same format is =
-    if_err {P = λ e. P e → new ≡ step f old}
-    {Q = λ e. P e → with_stream x new ≡ with_stream r (step (format_of r.row) r.stream)} res
-    (λ e h p. ap (λ (y : Receiving). with_stream y new) same ∙ ap (with_stream r) (h p ∙ ap₂ step format is))
+-- fewer are held behind an answer
+pub fewer-held : (r m : Receiving) (a : Answer) → AnswersBy (poll_step r) m (Some a) → a ≢ Ok None
+    → length m.stream.held < length r.stream.held
+fewer-held r m a is some =
+    rw is.1 (less-after (format_of r.row) r.stream (λ none. some (is.0 ∙ none)))
 
--- a stream that holds as many frames back as before, and else keeps what it does without hold-back
-pub kept_so : (window : Option Window) (before hold_back : ℕ) (held : List Packet) (cutoff : Option ℕ)
-    (fragment : Fragment) (after : Stream) → hold_back ≡ before
-    → record { hold_back = 0; window = window; held = held; cutoff = cutoff; fragment = fragment } ≡ after
-    → record { hold_back = hold_back; window = window; held = held; cutoff = cutoff; fragment = fragment }
-    ≡ holding before after
-kept_so window before hold_back held cutoff fragment after same is =
-    let bare : Stream = record
-    { hold_back = 0; window = window; held = held; cutoff = cutoff; fragment = fragment } in
-    ap (λ (n : ℕ). holding n bare) same ∙ ap (holding before) is
+-- the answers so far, and then whatever the stream as it is now answers, are what it answers from the start
+module _ {S : Type 0} (step : S → PollStep S) where
+  abbrev pub IsPolledSo : S → S → Answers → Type 0
+  IsPolledSo start now answers = (more : Answers) (after : S) → IsPolled step now more after
+      → IsPolled step start (answers ++ more) after
 
-module _ (format : Format) (s : Stream) where
-  abbrev due_now : Option Frame
-  due_now = due_frame format s.cutoff s.hold_back s.held
+  pub polled_more : (start now next : S) (r : Result MediaUnit PollFault) (answers answers' : Answers)
+      → ((more : Answers) (after : S) → IsPolled step next more after → IsPolled step now (r ∷ more) after)
+      → answers' ≡ answers ++ r ∷ [] → IsPolledSo start now answers → IsPolledSo start next answers'
+  polled_more start now next r answers answers' one same so more after rest =
+      subst (λ (os : Answers). IsPolled step start os after)
+      (sym (ap (λ (os : Answers). os ++ more) same ∙ append_assoc answers (r ∷ []) more))
+      (so (r ∷ more) after (one more after rest))
 
-  -- nothing is due
-  pub poll_none : due_now ≡ None → poll_answer format s ≡ Ok None
-  unfolding poll_answer due
-  poll_none none = ap (answer_among format s.fragment s.held) none
+  -- polls until None or lack of memory are some polls
+  pub polled-some : {s t : S} {os : Answers} → IsPolled step s os t → IsPolledSome step s t
+  polled-some (Silent none) = Once none NoMore
+  polled-some (HandsOut some rest) = Once some (polled-some rest)
+  polled-some (Faults fault rest) = Once fault (polled-some rest)
+  polled-some (WantsMemory wants) = Short wants
 
-  pub polled_none : due_now ≡ None → polled format s ≡ s
-  unfolding polled due
-  polled_none none = ap (stream_behind format s) none
+-- what keeps all but what is heard
+pub step-keeps : (r t : Receiving) (a : Option Answer) → AnswersBy (poll_step r) t a → t ≡ with_stream r t.stream
+step-keeps r t (Some a) is = is.1 ∙ ap (with_stream r) (sym (ap (λ (x : Receiving). x.stream) is.1))
+step-keeps r t None is = is.1
 
-  -- a frame is due
-  poll_some : (f : Frame) → due_now ≡ Some f → poll_answer format s ≡ answer_among format s.fragment s.held (Some f)
-  unfolding poll_answer due
-  poll_some f some = ap (answer_among format s.fragment s.held) some
+pub drain-keeps : (r t : Receiving) (a : Option Answer) → AnswersBy (drain_step r) t a → t ≡ with_stream r t.stream
+drain-keeps r t (Some a) is = is.1 ∙ ap (with_stream r) (sym (ap (λ (x : Receiving). x.stream) is.1))
+drain-keeps r t None is = is.1 ∙ ap (with_stream r) (sym (ap (λ (x : Receiving). x.stream) is.1))
 
-  polled_some : (f : Frame) → due_now ≡ Some f → polled format s ≡ stream_behind format s (Some f)
-  unfolding polled due
-  polled_some f some = ap (stream_behind format s) some
+also-keeps : (r m t : Receiving) → m ≡ with_stream r m.stream → t ≡ with_stream m t.stream → t ≡ with_stream r t.stream
+also-keeps r m t first then = then ∙ ap (λ (x : Receiving). with_stream x t.stream) first
 
-  -- a stream with these things kept
-  abbrev kept : ℕ → List Packet → Option ℕ → Fragment → Stream
-  kept hold_back held cutoff fragment = record
-      { hold_back = hold_back; window = s.window; held = held; cutoff = cutoff; fragment = fragment }
+pub polled-keeps : {r t : Receiving} {os : Answers} → IsPolled poll_step r os t → t ≡ with_stream r t.stream
+polled-keeps (Silent {s = s} {t = t} none) = step-keeps s t (Some (Ok None)) none
+polled-keeps (HandsOut {s = s} {m = m} {t = t} {u = u} some rest) =
+    also-keeps s m t (step-keeps s m (Some (Ok (Some u))) some) (polled-keeps rest)
+polled-keeps (Faults {s = s} {m = m} {t = t} {e = e} fault rest) =
+    also-keeps s m t (step-keeps s m (Some (Err e)) fault) (polled-keeps rest)
+polled-keeps (WantsMemory {s = s} {t = t} wants) = step-keeps s t None wants
 
-  -- a frame was handed on
-  module _ (after : Fragment) (new : List Packet) (now : Option ℕ) (out : List ℕ) (extra_after : CodecExtra)
-      (known : List RtpMeta) (hands : PopGives format s.fragment after s.held new due_now now out extra_after known)
-    where
-      abbrev run : Run
-      run = run_among format s.fragment s.held hands.frame
-
-      pub handed_answer : poll_answer format s ≡ Ok (Some (unit_from known out extra_after))
-      handed_answer =
-          poll_some hands.frame hands.is_due
-          ∙ ap (λ (o : Option PacketError). answer_by o (metas_of (packets_between s.held hands.frame)) run.written
-          run.extra) hands.read.no_fault
-          ∙ ap₂ (λ (metas : List RtpMeta) (bytes : List ℕ). let a : Answer =
-          Ok (Some (unit_from metas bytes run.extra)) in a) (sym hands.metas) (sym hands.read.bytes)
-          ∙ ap (λ (extra : CodecExtra). let a : Answer = Ok (Some (unit_from known out extra)) in a)
-          (sym hands.read.extra)
-
-      pub handed_stream : (hold_back : ℕ) → hold_back ≡ s.hold_back → kept hold_back new now after ≡ polled format s
-      handed_stream hold_back same =
-          ap (λ (n : ℕ). kept n new now after) same
-          ∙ ap₂ (λ (held : List Packet) (cutoff : Option ℕ). kept s.hold_back held cutoff after) hands.done.gone
-          hands.done.moved
-          ∙ ap (λ (f : Fragment). kept s.hold_back (drop hands.frame.end s.held)
-          (Some (number_at s.held (hands.frame.end - 1))) f) hands.read.fragment
-          ∙ sym (polled_some hands.frame hands.is_due)
-
-      pub handed_fewer : length new < length s.held
-      handed_fewer = omega (
-        arith,
-        hands.is_frame.not_empty,
-        hands.is_frame.in_range,
-        ap length hands.done.gone,
-        length-drop hands.frame.end s.held,
-      )
-
-  -- a packet of a frame was refused
-  module _ (after : Fragment) (new : List Packet) (now : Option ℕ) (e : PacketError)
-      (faults : Faults format s.fragment after s.held new due_now now e) where
-    pub fault_answer : poll_answer format s ≡ Err e
-    fault_answer =
-        poll_some faults.frame faults.is_due
-        ∙ ap (λ (o : Option PacketError). answer_by o (metas_of (packets_between s.held faults.frame))
-        (run_among format s.fragment s.held faults.frame).written
-        (run_among format s.fragment s.held faults.frame).extra) faults.fault.fault
-
-    pub fault_stream : (hold_back : ℕ) → hold_back ≡ s.hold_back → kept hold_back new now after ≡ polled format s
-    fault_stream hold_back same =
-        ap (λ (n : ℕ). kept n new now after) same
-        ∙ ap₂ (λ (held : List Packet) (cutoff : Option ℕ). kept s.hold_back held cutoff after) faults.done.gone
-        faults.done.moved
-        ∙ ap (λ (f : Fragment). kept s.hold_back (drop faults.frame.end s.held)
-        (Some (number_at s.held (faults.frame.end - 1))) f) faults.fault.fragment
-        ∙ sym (polled_some faults.frame faults.is_due)
-
-    pub fault_fewer : length new < length s.held
-    fault_fewer = omega (
-      arith,
-      faults.is_frame.not_empty,
-      faults.is_frame.in_range,
-      ap length faults.done.gone,
-      length-drop faults.frame.end s.held,
-    )
-
-  -- memory ran out
-  pub interrupted : (after : Fragment) (new : List Packet) (now : Option ℕ) (hold_back : ℕ) → hold_back ≡ s.hold_back
-      → PopKeeps format s.fragment after s.held new due_now s.cutoff now
-      → IsInterrupted format s (kept hold_back new now after)
-  unfolding due
-  interrupted after new now hold_back same stays = record {
-    frame = stays.frame;
-    is_due = stays.is_due;
-    stops = stays.stops;
-    stays = ap (λ (n : ℕ). kept n new now after) same
-        ∙ ap₂ (λ (held : List Packet) (cutoff : Option ℕ). kept s.hold_back held cutoff after) stays.held stays.cutoff;
-  }
+pub some-keeps : {r t : Receiving} → IsPolledSome poll_step r t → t ≡ with_stream r t.stream
+some-keeps NoMore = refl
+some-keeps (Once {s = s} {m = m} {t = t} {a = a} one rest) =
+    also-keeps s m t (step-keeps s m (Some a) one) (some-keeps rest)
+some-keeps (Short {s = s} {t = t} wants) = step-keeps s t None wants

@@ -1,17 +1,12 @@
 -- What polls of a receiving stream answer.
-use Rattle.std.specs.Prelude.{◌≡◌, ◌≢◌, ◌<◌, ◌⊎◌, ℕ, zero, suc, List, []}
-use Rattle.std.specs.Prelude.{◌∷◌, ◌++◌, Option, length, map, take, Some, None}
-use Rattle.std.specs.Prelude.{Result}
-use Rattle.std.specs.Prelude.{Ok, Err}
-use Rattle.payload_core_base.specs.Format.{Format}
+use Rattle.std.specs.Prelude.{◌≡◌, ◌<◌, ◌⊎◌, ℕ, List, [], ◌∷◌, ◌++◌, Option, length, map, take, Some, None}
+use Rattle.std.specs.Prelude.{Result, Ok, Err}
 use Rattle.payload_core_base.specs.declared.error.PacketError.{PacketError}
-use Rattle.payload_core_base.specs.declared.error.PacketError.TheVariants as lacks
-use Rattle.payload_core_buffer.specs.Frames.{packets_between}
-use Rattle.payload_core_buffer.specs.Pops.{ReadsPart}
-use Rattle.payload_core_buffer.specs.declared.frame.Frame.{Frame}
-use Rattle.rtp_media_schedules.specs.Hearing.{Answer, MediaUnit, Stream, due, poll_answer, polled}
+use Rattle.payload_core_buffer.specs.Steps.{AnswersBy, PollStep}
+use Rattle.rtp_media_schedules.specs.Drains.{holding}
+use Rattle.rtp_media_schedules.specs.Hearing.{Answer, IsInterrupted, MediaUnit, poll_answer, polled}
 use Rattle.rtp_media_schedules.specs.SentSamples.{Timed, timed}
-use Rattle.rtp_media_streams.specs.Receiving.{Receiving}
+use Rattle.rtp_media_streams.specs.Receiving.{Receiving, polled_receiver, with_stream}
 use Rattle.rtp_media_streams.specs.Rows.{format_of}
 use Rattle.rtp_media_streams.specs.declared.errors.PollFault.{PollFault}
 use Rattle.rtp_media_streams.specs.declared.errors.PollFault.TheVariants.{Memory, Payload}
@@ -25,45 +20,55 @@ abbrev pub given : Answer → PollResult
 given (Ok unit) = Ok unit
 given (Err e) = Err (Payload e)
 
--- What a poll of a receiving stream answers where memory is found.
+-- A poll of a receiving stream, by the words of what a stream hears; and a drain, a poll that holds no complete frame
+-- back, for the end of a stream.
+abbrev pub poll_step : Receiving → PollStep Receiving
+poll_step r = record {
+  answer = poll_answer (format_of r.row) r.stream;
+  next = polled_receiver r;
+  Stopped = λ t. IsInterrupted (format_of r.row) r.stream t.stream × (t ≡ with_stream r t.stream);
+}
+
+abbrev pub drain_step : Receiving → PollStep Receiving
+drain_step r = record {
+  answer = poll_answer (format_of r.row) (holding 0 r.stream);
+  next = with_stream r (holding r.stream.hold_back (polled (format_of r.row) (holding 0 r.stream)));
+  Stopped = λ t. IsInterrupted (format_of r.row) (holding 0 r.stream) (holding 0 t.stream)
+      × (t ≡ with_stream r (holding r.stream.hold_back t.stream));
+}
+
+-- What they answer where memory is found.
 abbrev pub poll_result : Receiving → PollResult
-poll_result r = given (poll_answer (format_of r.row) r.stream)
+poll_result r = given (poll_step r).answer
 
--- The fault of a poll whose buffer met this one: want of memory, or that of the payload.
-pub data IsFaultOf : PacketError → PollFault → Type 0 where
-  LacksMemory : IsFaultOf lacks.Memory Memory
-  IsRefused : {e : PacketError} (other : e ≢ lacks.Memory) → IsFaultOf e (Payload e)
+abbrev pub drain_result : Receiving → PollResult
+drain_result r = given (drain_step r).answer
 
--- Memory ran out for a frame that is due: all stays but the fragment, which is the one that some of its
--- packets leave open.
-pub record IsInterrupted (format : Format) (before after : Stream) : Type 0 where
-  pub frame : Frame
-  pub is_due : due format before ≡ Some frame
-  pub stops : ReadsPart format before.fragment (packets_between before.held frame) after.fragment
-  pub stays : after ≡ record before { fragment = after.fragment }
+-- What was answered, unless memory ran out.
+abbrev pub found : PollResult → Option Answer
+found (Ok unit) = Some (Ok unit)
+found (Err (Payload e)) = Some (Err e)
+found (Err Memory) = None
 
 -- What polls of a stream answer that hand something out.
 abbrev pub Answers : Type 0
 Answers = List (Result MediaUnit PollFault)
 
--- Polls until None or lack of memory: what they answer one after the other, and the stream after them.
-pub data IsPolled (format : Format) : Stream → Answers → Stream → Type 0 where
-  Silent : {s : Stream} (none : poll_answer format s ≡ Ok None) → IsPolled format s [] s
-  HandsOut : {s t : Stream} {u : MediaUnit} {os : Answers} (some : poll_answer format s ≡ Ok (Some u))
-      (rest : IsPolled format (polled format s) os t) → IsPolled format s (Ok u ∷ os) t
-  Faults : {s t : Stream} {e : PacketError} {os : Answers} (fault : poll_answer format s ≡ Err e)
-      (rest : IsPolled format (polled format s) os t) → IsPolled format s (Err (Payload e) ∷ os) t
-  WantsMemory : {s t : Stream} (wants : IsInterrupted format s t) → IsPolled format s (Err Memory ∷ []) t
+-- Polls until None or lack of memory: what they answer one after the other, and what they leave.
+pub data IsPolled {S : Type 0} (step : S → PollStep S) : S → Answers → S → Type 0 where
+  Silent : {s t : S} (none : AnswersBy (step s) t (Some (Ok None))) → IsPolled step s [] t
+  HandsOut : {s m t : S} {u : MediaUnit} {os : Answers} (some : AnswersBy (step s) m (Some (Ok (Some u))))
+      (rest : IsPolled step m os t) → IsPolled step s (Ok u ∷ os) t
+  Faults : {s m t : S} {e : PacketError} {os : Answers} (fault : AnswersBy (step s) m (Some (Err e)))
+      (rest : IsPolled step m os t) → IsPolled step s (Err (Payload e) ∷ os) t
+  WantsMemory : {s t : S} (wants : AnswersBy (step s) t None) → IsPolled step s (Err Memory ∷ []) t
 
--- The stream after so many polls.
-abbrev pub after_polls : Format → ℕ → Stream → Stream
-after_polls format zero s = s
-after_polls format (suc n) s = after_polls format n (polled format s)
-
--- A stream was polled some times, or none, and nothing else; at the last poll memory may have run out.
-pub record IsPolledSome (format : Format) (before after : Stream) : Type 0 where
-  pub count : ℕ
-  pub stops : (after ≡ after_polls format count before) ⊎ IsInterrupted format (after_polls format count before) after
+-- Polls, some or none; at the last one memory may have run out.
+pub data IsPolledSome {S : Type 0} (step : S → PollStep S) : S → S → Type 0 where
+  NoMore : {s : S} → IsPolledSome step s s
+  Once : {s m t : S} {a : Answer} (one : AnswersBy (step s) m (Some a)) (rest : IsPolledSome step m t)
+      → IsPolledSome step s t
+  Short : {s t : S} (wants : AnswersBy (step s) t None) → IsPolledSome step s t
 
 -- What is handed out, without its numbers and what its format tells beside.
 abbrev pub timed_answer : Result MediaUnit PollFault → Result Timed PollFault

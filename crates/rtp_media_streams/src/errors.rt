@@ -46,19 +46,6 @@ pub enum PollFault {
     Memory,
 }
 
-impl From<PacketError> for PollFault {
-    ghost use Rattle.rtp_media_streams.specs.Polls.{IsFaultOf};
-
-    ghost from_gives = { λ error fault. IsFaultOf error fault };
-
-    fn from(error: PacketError) -> PollFault {
-        match error {
-            PacketError::Memory => PollFault::Memory,
-            fault => PollFault::Payload(fault),
-        }
-    }
-}
-
 /// Why a datagram is not repaired; of several reasons the first listed is answered.
 #[derive(Clone, Copy, Debug, PartialEq, Eq, Drop, Error)]
 pub enum RepairError {

@@ -1,31 +1,25 @@
 //! Receiving streams.
 
-ghost use Rattle.std.specs.Prelude.{◌≡◌, ◌≢◌, ◌<◌, ◌≤◌, IfErr, IfNone, IfOk, MatchOption, OnErr, OnOk, OnSome};
-ghost use Rattle.std.specs.Prelude.{[], Err, None, Ok, Some, length, true};
+ghost use Rattle.std.specs.Prelude.{◌≡◌, ◌≤◌, IfOk, MatchOption, OnErr, OnOk, [], None, Some, length, true};
 ghost use Rattle.h26x_payload.specs.Codings.{has_format};
 ghost use Rattle.rtp_wire.specs.Replay.{greatest_in, is_accepted, recorded_in};
 ghost use Rattle.rtp_wire.specs.Widening.{widened};
 ghost use Rattle.payload_core_buffer.specs.Buffered.{pushed};
-ghost use Rattle.payload_core_buffer.specs.Frames.{complete_frames};
 ghost use Rattle.payload_core_buffer.specs.Packets.{packet_from};
-ghost use Rattle.rtp_media_schedules.specs.Hearing.{poll_answer};
-ghost use Rattle.rtp_media_streams.specs.Drains.{drain_answer, drained_receiver, holding};
-ghost use Rattle.rtp_media_streams.specs.Polls.{IsInterrupted, IsPolled, IsPolledSome, given};
+ghost use Rattle.payload_core_buffer.specs.Steps.{AnswersBy, as_answer};
+ghost use Rattle.rtp_media_streams.specs.Polls.{IsPolled, IsPolledSome, drain_step, found, poll_step};
 ghost use Rattle.rtp_media_streams.specs.Receiving.{arrived, brought, conflicts_with, is_own, opened_receiver};
-ghost use Rattle.rtp_media_streams.specs.Receiving.{polled_receiver, stream_of, taken_number, values_read};
-ghost use Rattle.rtp_media_streams.specs.Receiving.{with_stream};
+ghost use Rattle.rtp_media_streams.specs.Receiving.{stream_of, taken_number, values_read, with_stream};
 ghost use Rattle.rtp_media_streams.specs.Rows.{format_of};
 
 use crate::codecs::depacketizer_for;
 use crate::errors::PollFault;
-use crate::media_unit::Unit;
 use crate::payload::brought;
-use crate::popping::{drain, pop};
 use crate::row_format::RowFormat;
 use crate::types::PayloadTypes;
 use h26x_payload::{CodecDepacketizer, NotBoxed};
-use payload_core_base::Depacketizer;
-use payload_core_buffer::{DepacketizingBuffer, RtpMeta};
+use payload_core_base::{Depacketizer, PacketError};
+use payload_core_buffer::{DepacketizingBuffer, RtpMeta, Unit};
 use rtp_wire::{
     ExtensionMap, ExtensionValues, Pt, RtpHeader, SeqNo, SeqNoWindow, Ssrc, extend_u16,
 };
@@ -123,6 +117,17 @@ fn hold(
     ensures unchanged { OnErr result (buffer.new ≡ buffer.old) }
 {
     buffer.push(meta, payload).map_err(|_| AllocError)
+}
+
+/// What the buffer handed out, as a poll says it.
+fn handed_out(popped: Result<Option<Unit>, PacketError>) -> Result<Option<Unit>, PollFault>
+    ensures { found result ≡ as_answer (λ u. u) popped }
+{
+    match popped {
+        Ok(unit) => Ok(unit),
+        Err(PacketError::Memory) => Err(PollFault::Memory),
+        Err(fault) => Err(PollFault::Payload(fault)),
+    }
 }
 
 impl ReceivingStream {
@@ -251,19 +256,9 @@ impl ReceivingStream {
     /// `PollFault::Payload` where a packet of the next frame is refused, which is then done with, or
     /// `PollFault::Memory`, only where a frame is ready, which stays; some of its packets may have been read.
     pub fn poll(&mut self) -> Result<Option<Unit>, PollFault>
-        ensures answer { IfOk result (λ unit. given (poll_answer (format_of self.old.row) self.old.stream) ≡ Ok unit) }
-        ensures after { OnOk result (self.new ≡ polled_receiver self.old) }
-        ensures fault { IfErr result (λ fault. fault ≢ PollFault.Memory
-            → given (poll_answer (format_of self.old.row) self.old.stream) ≡ Err fault) }
-        ensures behind { IfErr result (λ fault. fault ≢ PollFault.Memory → self.new ≡ polled_receiver self.old) }
-        ensures memory { IfErr result (λ fault. fault ≡ PollFault.Memory
-            → IsInterrupted (format_of self.old.row) self.old.stream self.new.stream) }
-        ensures same { self.new ≡ with_stream self.old self.new.stream }
-        ensures fewer { IfOk result (λ unit. OnSome unit (length self.new.stream.held < length self.old.stream.held)) }
-        ensures fewer_at_faults { IfErr result (λ fault. fault ≢ PollFault.Memory
-            → length self.new.stream.held < length self.old.stream.held) }
+        ensures answers { AnswersBy (poll_step self.old) self.new (found result) }
     {
-        pop(&mut self.buffer)
+        handed_out(self.buffer.unit_at(self.buffer.hold_back()))
     }
 
     /// Hands out the lowest complete unit, whether or not a datagram before it is missing: a poll that holds no
@@ -272,22 +267,9 @@ impl ReceivingStream {
     /// # Errors
     /// Those of [`ReceivingStream::poll`].
     pub fn drain(&mut self) -> Result<Option<Unit>, PollFault>
-        ensures answer { IfOk result (λ unit. given (drain_answer (format_of self.old.row) self.old.stream) ≡ Ok unit) }
-        ensures after { OnOk result (self.new ≡ drained_receiver self.old) }
-        ensures none { IfOk result (λ unit. IfNone unit
-            (complete_frames (format_of self.old.row) self.old.stream.held ≡ [])) }
-        ensures fault { IfErr result (λ fault. fault ≢ PollFault.Memory
-            → given (drain_answer (format_of self.old.row) self.old.stream) ≡ Err fault) }
-        ensures behind { IfErr result (λ fault. fault ≢ PollFault.Memory → self.new ≡ drained_receiver self.old) }
-        ensures memory { IfErr result (λ fault. fault ≡ PollFault.Memory
-            → IsInterrupted (format_of self.old.row) (holding 0 self.old.stream) (holding 0 self.new.stream)) }
-        ensures hold_back { self.new.stream.hold_back ≡ self.old.stream.hold_back }
-        ensures same { self.new ≡ with_stream self.old self.new.stream }
-        ensures fewer { IfOk result (λ unit. OnSome unit (length self.new.stream.held < length self.old.stream.held)) }
-        ensures fewer_at_faults { IfErr result (λ fault. fault ≢ PollFault.Memory
-            → length self.new.stream.held < length self.old.stream.held) }
+        ensures answers { AnswersBy (drain_step self.old) self.new (found result) }
     {
-        drain(&mut self.buffer)
+        handed_out(self.buffer.unit_at(0))
     }
 
     /// Polls until no unit is ready or memory for one runs out, and answers what the polls answered, in
@@ -296,10 +278,8 @@ impl ReceivingStream {
     /// # Errors
     /// Out of memory for that list: what was polled is lost, and nothing else changes.
     pub fn poll_all(&mut self) -> Result<Vec<Result<Unit, PollFault>>, AllocError>
-        ensures polled { IfOk result (λ answers. IsPolled (format_of self.old.row) self.old.stream answers.items
-            self.new.stream) }
-        ensures some { OnErr result (IsPolledSome (format_of self.old.row) self.old.stream self.new.stream) }
-        ensures same { self.new ≡ with_stream self.old self.new.stream }
+        ensures polled { IfOk result (λ answers. IsPolled poll_step self.old answers.items self.new) }
+        ensures some { OnErr result (IsPolledSome poll_step self.old self.new) }
     {
         let mut answers = Vec::new(self.alloc);
         loop {

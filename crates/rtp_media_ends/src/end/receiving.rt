@@ -1,15 +1,10 @@
 //! Datagrams that come, and the units that are ready.
 
-ghost use Rattle.std.specs.Prelude.{◌≡◌, ◌≢◌, ◌<◌, length, true, Ok, Err, OnOk, OnErr, IfOk, IfErr};
-ghost use Rattle.std.specs.Prelude.{IfNone, OnSome, []};
-ghost use Rattle.payload_core_buffer.specs.Frames.{complete_frames};
-ghost use Rattle.rtp_media_streams.specs.Drains.{drain_answer, drained_receiver, holding};
-ghost use Rattle.rtp_media_streams.specs.Polls.{IsInterrupted, IsPolled, IsPolledSome, given};
-ghost use Rattle.rtp_media_streams.specs.Receiving.{polled_receiver, with_stream};
-ghost use Rattle.rtp_media_streams.specs.Rows.{format_of};
-ghost use Rattle.rtp_media_schedules.specs.Hearing.{poll_answer};
+ghost use Rattle.std.specs.Prelude.{◌≡◌, true, OnOk, OnErr, IfOk};
+ghost use Rattle.payload_core_buffer.specs.Steps.{AnswersBy};
+ghost use Rattle.rtp_media_streams.specs.Polls.{IsPolled, IsPolledSome, drain_step, found, poll_step};
 ghost use Rattle.rtp_media_ends.specs.EndArrivals.{verdict_of, after_datagram};
-ghost use Rattle.rtp_media_ends.specs.Ends.{receiver_at, with_receiver, is_receiver_at};
+ghost use Rattle.rtp_media_ends.specs.Ends.{AtReceiver, is_receiver_at};
 
 use super::End;
 use rtp_media_stream_table::{ReceiveError, Received};
@@ -45,22 +40,7 @@ impl End {
     /// been read. All else is unchanged.
     pub fn poll(&mut self, stream: usize) -> Result<Option<Unit>, PollFault>
         requires { is_receiver_at self.old stream ≡ true }
-        ensures answer { let receiver = receiver_at self.old stream in
-            IfOk result (λ unit. given (poll_answer (format_of receiver.row) receiver.stream) ≡ Ok unit) }
-        ensures after { OnOk result (self.new ≡ with_receiver self.old stream
-            (polled_receiver (receiver_at self.old stream))) }
-        ensures fault { let receiver = receiver_at self.old stream in
-            IfErr result (λ fault. fault ≢ PollFault.Memory
-            → given (poll_answer (format_of receiver.row) receiver.stream) ≡ Err fault) }
-        ensures behind { IfErr result (λ fault. fault ≢ PollFault.Memory → self.new
-            ≡ with_receiver self.old stream (polled_receiver (receiver_at self.old stream))) }
-        ensures memory { let receiver = receiver_at self.old stream in
-            IfErr result (λ fault. fault ≡ PollFault.Memory
-            → IsInterrupted (format_of receiver.row) receiver.stream (receiver_at self.new stream).stream) }
-        ensures others { self.new ≡ with_receiver self.old stream
-            (with_stream (receiver_at self.old stream) (receiver_at self.new stream).stream) }
-        ensures fewer { IfOk result (λ unit. OnSome unit
-            (length (receiver_at self.new stream).stream.held < length (receiver_at self.old stream).stream.held)) }
+        ensures answers { AtReceiver self.old stream (λ r s. AnswersBy (poll_step r) s (found result)) self.new }
     {
         let streams = &mut self.streams;
         streams.poll(stream)
@@ -77,26 +57,7 @@ impl End {
     /// Those of [`End::poll`].
     pub fn drain(&mut self, stream: usize) -> Result<Option<Unit>, PollFault>
         requires { is_receiver_at self.old stream ≡ true }
-        ensures answer { let receiver = receiver_at self.old stream in
-            IfOk result (λ unit. given (drain_answer (format_of receiver.row) receiver.stream) ≡ Ok unit) }
-        ensures after { OnOk result (self.new ≡ with_receiver self.old stream
-            (drained_receiver (receiver_at self.old stream))) }
-        ensures none { let receiver = receiver_at self.old stream in
-            IfOk result (λ unit. IfNone unit (complete_frames (format_of receiver.row) receiver.stream.held ≡ [])) }
-        ensures fault { let receiver = receiver_at self.old stream in
-            IfErr result (λ fault. fault ≢ PollFault.Memory
-            → given (drain_answer (format_of receiver.row) receiver.stream) ≡ Err fault) }
-        ensures behind { IfErr result (λ fault. fault ≢ PollFault.Memory → self.new
-            ≡ with_receiver self.old stream (drained_receiver (receiver_at self.old stream))) }
-        ensures memory { let receiver = receiver_at self.old stream in
-            IfErr result (λ fault. fault ≡ PollFault.Memory → IsInterrupted (format_of receiver.row)
-            (holding 0 receiver.stream) (holding 0 (receiver_at self.new stream).stream)) }
-        ensures hold_back { (receiver_at self.new stream).stream.hold_back
-            ≡ (receiver_at self.old stream).stream.hold_back }
-        ensures others { self.new ≡ with_receiver self.old stream
-            (with_stream (receiver_at self.old stream) (receiver_at self.new stream).stream) }
-        ensures fewer { IfOk result (λ unit. OnSome unit
-            (length (receiver_at self.new stream).stream.held < length (receiver_at self.old stream).stream.held)) }
+        ensures answers { AtReceiver self.old stream (λ r s. AnswersBy (drain_step r) s (found result)) self.new }
     {
         let streams = &mut self.streams;
         streams.drain(stream)
@@ -112,14 +73,9 @@ impl End {
     /// `AllocError` where memory for that list runs out: what was polled is lost, and nothing else changes.
     pub fn poll_all(&mut self, stream: usize) -> Result<Vec<Result<Unit, PollFault>>, AllocError>
         requires { is_receiver_at self.old stream ≡ true }
-        ensures polled { let receiver = receiver_at self.old stream in
-            IfOk result (λ answers. IsPolled (format_of receiver.row) receiver.stream answers.items
-            (receiver_at self.new stream).stream) }
-        ensures some { let receiver = receiver_at self.old stream in
-            OnErr result (IsPolledSome (format_of receiver.row) receiver.stream
-            (receiver_at self.new stream).stream) }
-        ensures others { self.new ≡ with_receiver self.old stream
-            (with_stream (receiver_at self.old stream) (receiver_at self.new stream).stream) }
+        ensures polled { IfOk result (λ answers. AtReceiver self.old stream
+            (λ r s. IsPolled poll_step r answers.items s) self.new) }
+        ensures some { OnErr result (AtReceiver self.old stream (IsPolledSome poll_step) self.new) }
     {
         let streams = &mut self.streams;
         streams.poll_all(stream)

@@ -39,11 +39,11 @@ returns g c =
       full = c.loop-i.self.buffer;
       pushes = subst (λ n. PushesFirst b c.args.time n b.buffer c.loop-i.self.buffer) whole c.loop-i.invariant.pushes;
       answer = c.pop.result;
-      pops = c.pop.ensures.popped;
+      pops = c.pop.ensures.pops.answers;
       counted = c.count_unit.ensures;
       number = search rules;
-      format_stays = c.pop.ensures.format ∙ c.loop-i.invariant.format_stays;
-      hold_back_stays = c.pop.ensures.hold_back ∙ c.loop-i.invariant.hold_back_stays;
+      format_stays = c.pop.ensures.pops.same_format ∙ c.loop-i.invariant.format_stays;
+      hold_back_stays = c.pop.ensures.pops.same_hold_back ∙ c.loop-i.invariant.hold_back_stays;
       step_stays = c.loop-i.invariant.step_stays;
       packets_stay = c.loop-i.invariant.packets_stay;
     }

@@ -1,6 +1,8 @@
 use Rattle.std.proofs.Common.{◌≡◌, arith, ap}
 use Rattle.std.proofs.lemmas.Grind.{common_steps}
-use Rattle.rtp_media_streams.specs.Receiving.{Receiving}
+use Rattle.rtp_media_streams.specs.Polls.{found}
+use Rattle.rtp_media_streams.specs.Receiving.{Receiving, with_stream}
+use Rattle.rtp_media_streams.proofs.Polling.{drain-keeps}
 use Rattle.rtp_media_stream_table.specs.declared.open_stream.OpenStream.TheVariants.{Receiver}
 use Rattle.rtp_media_stream_table.specs.Streams.{nth_stream}
 use Rattle.rtp_media_stream_table.proofs.Indexing.{kept-receiver}
@@ -10,33 +12,8 @@ pub invariant_of-self : goal.invariant_of-self
 invariant_of-self c =
     let is : nth_stream c.self.inside.streams.items c.args.stream ≡ Receiver c.in-Receiver.receiver =
     grind (arith, common_steps) in
+    let same : c.drain.new.self ≡ with_stream c.in-Receiver.receiver c.drain.new.self.stream =
+    drain-keeps c.in-Receiver.receiver c.drain.new.self (found c.drain.result) c.drain.ensures.answers in
     kept-receiver c.self.inside.senders c.self.inside.receivers c.self.inside.streams.items c.args.stream
-    c.in-Receiver.receiver c.drain.new.self is (ap (λ (r : Receiving). r.ssrc) c.drain.ensures.same)
-    (ap (λ (r : Receiving). r.types) c.drain.ensures.same) c.self.invariant
-
-pub returns-clause-answer : goal.returns-clause-answer
-returns-clause-answer c = grind (arith, common_steps)
-
-pub returns-clause-after : goal.returns-clause-after
-returns-clause-after c = grind (arith, common_steps)
-
-pub returns-clause-none : goal.returns-clause-none
-returns-clause-none c = grind (arith, common_steps)
-
-pub returns-clause-fault : goal.returns-clause-fault
-returns-clause-fault c = grind (arith, common_steps)
-
-pub returns-clause-behind : goal.returns-clause-behind
-returns-clause-behind c = grind (arith, common_steps)
-
-pub returns-clause-memory : goal.returns-clause-memory
-returns-clause-memory c = grind (arith, common_steps)
-
-pub returns-clause-hold_back : goal.returns-clause-hold_back
-returns-clause-hold_back c = grind (arith, common_steps)
-
-pub returns-clause-others : goal.returns-clause-others
-returns-clause-others c = grind (arith, common_steps)
-
-pub returns-clause-fewer : goal.returns-clause-fewer
-returns-clause-fewer c = grind (arith, common_steps)
+    c.in-Receiver.receiver c.drain.new.self is (ap (λ (r : Receiving). r.ssrc) same)
+    (ap (λ (r : Receiving). r.types) same) c.self.invariant
