@@ -1,16 +1,18 @@
 #!/usr/bin/env python3
-"""Checks that every name on docs/DEFINITIONS.md and docs/PROMISES.md stands in the tree, and that the pages show
-what the crates have.
+"""Checks that every name on docs/PROMISES.md stands in the tree, and that the pages show what the crates have.
 
-A definition is written `crate` `File.name`, `name`, ..: each name has to be declared in the crate's
-specs/File.antt. On the page of promises each name in the column of calls is a public function, and a
-name in parentheses is a clause of one. On any page a name with an underscore stands somewhere in the tree, and
+On the page of promises each name in the column of calls is a public function, and a name in parentheses is a clause of
+one. docs/DEFINITIONS.md is what docs/definitions.py writes, and the picture of docs/ARCHITECTURE.md what docs/layers.py
+prints. On any page a name with an underscore stands somewhere in the tree, and
 a block of text behind a line `<!-- FILE -->` word for word in that file, at one depth of indentation. Each wrong body in wrong_bodies/ changes text that its file has once.
 Prints what is missing, and ends with status 1 then.
 """
 import re
+import subprocess
 import sys
 from pathlib import Path
+
+import definitions
 
 ROOT = Path(__file__).resolve().parent.parent
 CRATES = ROOT / "crates"
@@ -22,32 +24,10 @@ def rows(page):
             yield number, [cell.strip() for cell in line.strip().strip("|").split(" | ")]
 
 
-def declares(text, name):
-    return re.search(r"(?m)^\s*(?:(?:abbrev|unfoldable|pub|record|data) )*" + re.escape(name) + r"(?: |$)", text) or \
-        re.search(r"\b(?:record|data) " + re.escape(name) + r"\b", text)
-
-
-def missing_definitions():
-    for number, cells in rows("DEFINITIONS.md"):
-        crate = module = None
-        for token in re.findall(r"`([^`]+)`", cells[1] if len(cells) > 1 else ""):
-            if (CRATES / token).is_dir():
-                crate, module = token, None
-                continue
-            if crate is None:
-                continue
-            file, dot, name = token.rpartition(".")
-            if dot and (CRATES / crate / "specs" / f"{file}.antt").exists():
-                module = file
-            elif dot:
-                yield f"DEFINITIONS.md:{number}: no file specs/{file}.antt in {crate}"
-                continue
-            if module is None:
-                if not re.search(r"\bfn " + re.escape(token) + r"\b", sources(crate)):
-                    yield f"DEFINITIONS.md:{number}: {token} has no file"
-            elif not declares((CRATES / crate / "specs" / f"{module}.antt").read_text(encoding="utf-8"), name):
-                if not re.search(r"\bfn " + re.escape(name) + r"\b", sources(crate)):
-                    yield f"DEFINITIONS.md:{number}: {crate} {module}.antt has no {name}"
+def differing_definitions():
+    """The page of definitions is what docs/definitions.py writes."""
+    if (ROOT / "docs/DEFINITIONS.md").read_text(encoding="utf-8") != definitions.page():
+        yield "docs/DEFINITIONS.md isn't what docs/definitions.py writes: run `docs/definitions.py write`"
 
 
 def sources(crate="*"):
@@ -118,6 +98,13 @@ def differing_blocks():
                 yield f"{where}: {file} has no such lines"
 
 
+def differing_picture():
+    """The picture of layers is what docs/layers.py prints."""
+    printed = subprocess.run([sys.executable, ROOT / "docs/layers.py"], capture_output=True, text=True).stdout
+    if printed.strip() not in (ROOT / "docs/ARCHITECTURE.md").read_text(encoding="utf-8"):
+        yield "docs/ARCHITECTURE.md doesn't show what docs/layers.py prints"
+
+
 def differing_files():
     """What one program printed and another one reads, or a page shows, is the same."""
     printed = without_indent((CRATES / "rtplines/stdout").read_text(encoding="utf-8").split("\n"))
@@ -158,7 +145,8 @@ def stale_wrong_bodies():
 
 
 found = [
-    *missing_definitions(),
+    *differing_definitions(),
+    *differing_picture(),
     *missing_promises(),
     *differing_blocks(),
     *differing_files(),

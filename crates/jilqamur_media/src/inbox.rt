@@ -12,7 +12,7 @@ use crate::codes;
 use crate::format::{WireFormat, read_format};
 use crate::payload_unit::WireUnit;
 use crate::stream_fetch::unit_at;
-use rtp_media_streams::{PayloadTypes, ReceivingStream, Unit};
+use rtp_media_streams::{Arrival, PayloadTypes, ReceivingStream, Unit};
 use rtp_wire::{ExtensionMap, ExtensionValues, Pt, Ssrc};
 use std::alloc::Global;
 use std::marker::Model;
@@ -82,10 +82,15 @@ impl Inbox {
         ensures answer { Takes self.old low time marker payload.now result number.new self.new }
         ensures number { result ≢ ok → number.new ≡ number.old }
     {
-        match self
-            .stream
-            .receive(low, time, marker, ExtensionValues::absent(), payload)
-        {
+        let arrival = Arrival {
+            low,
+            time,
+            marker,
+            ext_vals: ExtensionValues::absent(),
+            start: 0,
+            end: payload.len(),
+        };
+        match self.stream.receive(&arrival, payload) {
             Ok(Some(taken)) => {
                 *number = taken.get();
                 codes::OK

@@ -1,6 +1,7 @@
 pub mod Configured
 pub mod Cutting
 pub mod Draining
+pub mod Places
 pub mod Polling
 pub mod Sent
 pub mod Wrapping

@@ -1,5 +1,5 @@
 -- Receiving streams.
-use Rattle.std.specs.Prelude.{ℕ, Bool, if◌then◌else◌, List, [], ◌∷◌, Option, Some, None, option_and_then}
+use Rattle.std.specs.Prelude.{ℕ, Bool, if◌then◌else◌, List, [], ◌∷◌, Option, Some, None, option_and_then, slice_range}
 use Rattle.rtp_wire.specs.Header.{header_in, payload_in}
 use Rattle.rtp_wire.specs.Padding.{unpadded}
 use Rattle.rtp_wire.specs.Replay.{Window, is_accepted}
@@ -13,6 +13,7 @@ use Rattle.rtp_media_schedules.specs.Hearing.{Stream, content_of, fresh, number_
 use Rattle.rtp_media_streams.specs.Redundant.{unwrapped}
 use Rattle.rtp_media_streams.specs.Rows.{format_of}
 use Rattle.rtp_media_streams.specs.Types.{is_key_of, is_plain_key, share_key}
+use Rattle.rtp_media_streams.specs.declared.payload.Brought.{Brought}
 use Rattle.rtp_media_streams.specs.declared.row_format.RowFormat.{RowFormat}
 use Rattle.rtp_media_streams.specs.declared.types.PayloadTypes.{PayloadTypes}
 
@@ -67,6 +68,17 @@ plain_brought header None = None
 plain_brought header (Some []) = None
 plain_brought header (Some (byte ∷ bytes)) =
     Some (record { number = header.sequence_number; payload = byte ∷ bytes })
+
+-- What a payload without padding carries to a stream of an SSRC and these types: under its own number what a plain
+-- datagram has, and a repair what it wraps.
+abbrev pub carried : ℕ → PayloadTypes → RtpHeader → List ℕ → Option Wrapped
+carried ssrc types header payload =
+    if is_plain_key ssrc types header.ssrc header.payload_type
+    then plain_brought header (unwrapped types header.payload_type payload) else wrapped_in payload
+
+-- What stands at a place of a datagram under a number.
+abbrev pub wrapped_at : List ℕ → Brought → Wrapped
+wrapped_at datagram b = record { number = b.number; payload = slice_range datagram b.start b.end }
 
 -- What a datagram of its own brings a stream of an SSRC and these types: the low 16 bits of a number, and a payload
 -- with a byte at least. A repair brings what it wraps.

@@ -1,14 +1,24 @@
 //! What payloads bring a stream.
 
-ghost use Rattle.std.specs.Prelude.{◌≡◌, ◌≤◌, None, Some, length, MatchOption};
-ghost use Rattle.rtp_wire.specs.Repairs.{Wrapped};
+ghost use Rattle.std.specs.Prelude.{◌≡◌, ◌≤◌, ◌-◌, None, Some, drop, length, IfSome, MatchOption};
 ghost use Rattle.payload_core_audio.specs.RedViews.{items_left};
-ghost use Rattle.rtp_media_streams.specs.Receiving.{brought, media_payload, plain_brought};
+ghost use Rattle.rtp_media_streams.specs.Receiving.{brought, carried, wrapped_at};
 ghost use Rattle.rtp_media_streams.specs.Redundant.{primary_of, unwrapped};
 
 use crate::types::PayloadTypes;
 use payload_core_audio::{RedBlocks, RedDecoder};
 use rtp_wire::{Pt, RtpHeader, Ssrc, unpad_payload, wrapped_in};
+
+/// What a datagram of its own brings a stream.
+#[derive(Clone, Copy, Debug, PartialEq, Eq, Drop)]
+pub struct Brought {
+    /// The low 16 bits of a number.
+    pub number: u16,
+    /// Where the payload under that number begins in the datagram.
+    pub start: usize,
+    /// The place behind its last byte.
+    pub end: usize,
+}
 
 /// The primary payload, where it has this type.
 fn primary_of(blocks: RedBlocks<'_>, pt: Pt) -> Option<&[u8]>
@@ -41,62 +51,54 @@ fn unwrapped<'a>(types: &PayloadTypes, pt: Pt, payload: &'a [u8]) -> Option<&'a 
     }
 }
 
-/// The payload of a datagram without its padding and redundancy.
-///
-/// # Conditions
-///
-/// The header was read from the datagram, and is no longer than it.
-fn media_payload<'a>(
-    types: &PayloadTypes,
-    header: &RtpHeader,
-    datagram: &'a [u8],
-) -> Option<&'a [u8]>
-    requires { header.now.header_len ≤ length datagram.now }
-    ensures { MatchOption result (media_payload types.now header.now datagram.now ≡ None)
-        (λ media. media_payload types.now header.now datagram.now ≡ Some media.now) }
-{
-    let payload = unpad_payload(header.has_padding, &datagram[header.header_len..])?;
-    unwrapped(types, header.payload_type, payload)
-}
-
-/// What a datagram that is no repair brings a stream: its payload under its own number.
-fn plain_brought<'a>(
-    types: &PayloadTypes,
-    header: &RtpHeader,
-    datagram: &'a [u8],
-) -> Option<(u16, &'a [u8])>
-    requires { header.now.header_len ≤ length datagram.now }
-    ensures { MatchOption result
-        (plain_brought header.now (media_payload types.now header.now datagram.now) ≡ None)
-        (λ w. plain_brought header.now (media_payload types.now header.now datagram.now)
-        ≡ Some (record { number = w.0; payload = w.1.now })) }
-{
-    let payload = media_payload(types, header, datagram)?;
-    if payload.is_empty() {
-        return None;
-    }
-    Some((header.sequence_number, payload))
-}
-
-/// What a datagram of its own brings a stream of this SSRC and these types: the low 16 bits of a number, and a payload
-/// with a byte at least. A repair brings what it wraps (RFC 4588 4). None where padding or redundancy don't fit, or
-/// there is no payload.
-///
-/// # Conditions
-///
-/// The header was read from the datagram, and is no longer than it.
-pub fn brought<'a>(
+/// What a payload without padding carries: the low 16 bits of a number, and how many bytes, the last of these, the
+/// payload under that number has. A plain datagram carries its payload under its own number, and a repair what it wraps.
+fn carried(
     ssrc: Ssrc,
     types: &PayloadTypes,
     header: &RtpHeader,
-    datagram: &'a [u8],
-) -> Option<(u16, &'a [u8])>
-    requires { header.now.header_len ≤ length datagram.now }
-    ensures { MatchOption result (brought ssrc types.now header.now datagram.now ≡ None)
-        (λ w. brought ssrc types.now header.now datagram.now ≡ Some (record { number = w.0; payload = w.1.now })) }
+    unpadded: &[u8],
+) -> Option<(u16, usize)>
+    ensures carries { MatchOption result (carried ssrc types.now header.now unpadded.now ≡ None)
+        (λ c. carried ssrc types.now header.now unpadded.now
+        ≡ Some (record { number = c.0; payload = drop (length unpadded.now - c.1) unpadded.now })) }
+    ensures within { IfSome result (λ c. c.1 ≤ length unpadded.now) }
 {
-    if types.is_plain_key(ssrc, header.ssrc, header.payload_type) {
-        return plain_brought(types, header, datagram);
+    if !types.is_plain_key(ssrc, header.ssrc, header.payload_type) {
+        let (number, payload) = wrapped_in(unpadded)?;
+        return Some((number, payload.len()));
     }
-    wrapped_in(unpad_payload(header.has_padding, &datagram[header.header_len..])?)
+    let payload = unwrapped(types, header.payload_type, unpadded)?;
+    if payload.is_empty() {
+        return None;
+    }
+    Some((header.sequence_number, payload.len()))
+}
+
+/// What a datagram of its own brings a stream of this SSRC and these types: the low 16 bits of a number, and the place
+/// of a payload with a byte at least. A repair brings what it wraps (RFC 4588 4). None where padding or redundancy
+/// don't fit, or there is no payload.
+///
+/// # Conditions
+///
+/// The header was read from the datagram, and is no longer than it.
+pub fn brought_by(
+    ssrc: Ssrc,
+    types: &PayloadTypes,
+    header: &RtpHeader,
+    datagram: &[u8],
+) -> Option<Brought>
+    requires { header.now.header_len ≤ length datagram.now }
+    ensures brings { MatchOption result (brought ssrc types.now header.now datagram.now ≡ None)
+        (λ b. brought ssrc types.now header.now datagram.now ≡ Some (wrapped_at datagram.now b)) }
+    ensures within { IfSome result (λ b. (b.start ≤ b.end) × (b.end ≤ length datagram.now)) }
+{
+    let unpadded = unpad_payload(header.has_padding, &datagram[header.header_len..])?;
+    let (number, len) = carried(ssrc, types, header, unpadded)?;
+    let end = header.header_len + unpadded.len();
+    Some(Brought {
+        number,
+        start: end - len,
+        end,
+    })
 }

@@ -1,11 +1,13 @@
 //! Receiving streams.
 
-ghost use Rattle.std.specs.Prelude.{◌≡◌, ◌≤◌, IfOk, MatchOption, OnErr, OnOk, [], None, Some, length, true};
+ghost use Rattle.std.specs.Prelude.{◌≡◌, ◌≤◌, IfErr, IfOk, IfSome, MatchOption, slice_range, vec_len, OnErr, OnOk, None, Some, length, true};
 ghost use Rattle.h26x_payload.specs.Codings.{has_format};
+ghost use Rattle.rtp_wire.specs.Header.{header_in};
+ghost use Rattle.rtp_wire.specs.Maps.{empty_map};
 ghost use Rattle.rtp_wire.specs.Replay.{greatest_in, is_accepted, recorded_in};
 ghost use Rattle.rtp_wire.specs.Widening.{widened};
 ghost use Rattle.payload_core_buffer.specs.Buffered.{pushed};
-ghost use Rattle.payload_core_buffer.specs.Packets.{packet_from};
+ghost use Rattle.rtp_media_schedules.specs.Hearing.{content_of, packet_of};
 ghost use Rattle.payload_core_buffer.specs.Steps.{AnswersBy, as_answer};
 ghost use Rattle.rtp_media_streams.specs.Polls.{IsPolled, IsPolledSome, drain_step, found, poll_step};
 ghost use Rattle.rtp_media_streams.specs.Receiving.{arrived, brought, conflicts_with, is_own, opened_receiver};
@@ -14,7 +16,7 @@ ghost use Rattle.rtp_media_streams.specs.Rows.{format_of};
 
 use crate::codecs::depacketizer_for;
 use crate::errors::PollFault;
-use crate::payload::brought;
+use crate::payload::brought_by;
 use crate::row_format::RowFormat;
 use crate::types::PayloadTypes;
 use h26x_payload::{CodecDepacketizer, NotBoxed};
@@ -23,8 +25,25 @@ use payload_core_buffer::{DepacketizingBuffer, RtpMeta, Unit};
 use rtp_wire::{
     ExtensionMap, ExtensionValues, Pt, RtpHeader, SeqNo, SeqNoWindow, Ssrc, extend_u16,
 };
-use std::alloc::{AllocError, Global};
+use std::alloc::{AllocError, AllocFailed, Global};
 use std::marker::Model;
+
+/// A datagram of a stream's own as it arrives: what its header tells, and where in it the payload stands.
+#[derive(Clone, Copy, Debug, Drop)]
+pub struct Arrival {
+    /// The low 16 bits of its number.
+    pub low: u16,
+    /// Its timestamp, in ticks of the payload type's clock (RFC 3550 5.1).
+    pub time: u32,
+    /// Its marker.
+    pub marker: bool,
+    /// The values of its header extensions.
+    pub ext_vals: ExtensionValues,
+    /// Where its payload begins.
+    pub start: usize,
+    /// The place behind the payload's last byte.
+    pub end: usize,
+}
 
 /// A receiving stream: its window and the packets that wait.
 pub struct ReceivingStream {
@@ -106,17 +125,30 @@ fn record(window: &mut Option<SeqNoWindow>, number: SeqNo)
     }
 }
 
-/// Holds a packet; the only refusal is lack of memory.
+/// Holds a datagram's payload under a number; the only refusal is lack of memory, which hands the datagram back.
 fn hold(
     buffer: &mut DepacketizingBuffer<CodecDepacketizer<NotBoxed>>,
-    meta: RtpMeta,
-    payload: &[u8],
-) -> Result<(), AllocError>
-    ensures kept { OnOk result (buffer.new ≡ record buffer.old
-        { held = pushed buffer.old.cutoff buffer.old.held (packet_from meta payload.now) }) }
+    number: SeqNo,
+    arrival: &Arrival,
+    datagram: Vec<u8>,
+) -> Result<(), AllocFailed<Vec<u8>>>
+    requires in_order { arrival.now.start ≤ arrival.now.end }
+    requires within { arrival.now.end ≤ vec_len datagram }
+    ensures held { OnOk result (buffer.new ≡ record buffer.old {
+      held = pushed buffer.old.cutoff buffer.old.held
+          (packet_of number (content_of arrival.now.time arrival.now.marker arrival.now.ext_vals
+          (slice_range datagram.items arrival.now.start arrival.now.end)));
+    }) }
     ensures unchanged { OnErr result (buffer.new ≡ buffer.old) }
+    ensures handed_back { IfErr result (λ e. e.value ≡ datagram) }
 {
-    buffer.push(meta, payload).map_err(|_| AllocError)
+    let meta = RtpMeta {
+        seq_no: number,
+        time: arrival.time,
+        marker: arrival.marker,
+        ext_vals: arrival.ext_vals,
+    };
+    buffer.push_range(meta, datagram, arrival.start, arrival.end)
 }
 
 /// What the buffer handed out, as a poll says it.
@@ -188,64 +220,91 @@ impl ReceivingStream {
         self.types.share_key(self.ssrc, ssrc, types)
     }
 
-    /// What a datagram of its own brings it: the 16 bits of a number, and the payload without padding (RFC 3550 5.1)
-    /// and, under the RED type, without redundancy (RFC 2198); a repair brings the number and the payload that it
-    /// wraps (RFC 4588 4). None where the padding doesn't fit, redundancy can't be read, its primary payload has
-    /// another type, or there is no byte.
+    /// A datagram of its own as it arrives: the 16 bits of a number, the place of the payload without padding (RFC 3550
+    /// 5.1) and, under the RED type, without redundancy (RFC 2198), and what is told of it; a repair brings the number
+    /// and the payload that it wraps (RFC 4588 4). None where the padding doesn't fit, redundancy can't be read, its
+    /// primary payload has another type, or there is no byte.
     ///
     /// # Conditions
-    /// The header ends at the datagram's end or before it.
-    pub fn brought<'a>(&self, header: &RtpHeader, datagram: &'a [u8]) -> Option<(u16, &'a [u8])>
-        requires { header.now.header_len ≤ length datagram.now }
-        ensures { MatchOption result (brought self.now.ssrc self.now.types header.now datagram.now ≡ None)
-            (λ w. brought self.now.ssrc self.now.types header.now datagram.now
-            ≡ Some (record { number = w.0; payload = w.1.now })) }
+    /// The header is the one in front of the datagram, read without values of header extensions.
+    pub fn arrival(&self, header: &RtpHeader, datagram: &[u8]) -> Option<Arrival>
+        requires { header_in empty_map datagram.now ≡ Some header.now }
+        ensures brings { MatchOption result (brought self.now.ssrc self.now.types header.now datagram.now ≡ None)
+            (λ a. brought self.now.ssrc self.now.types header.now datagram.now
+            ≡ Some (record { number = a.low; payload = slice_range datagram.now a.start a.end })) }
+        ensures told { IfSome result (λ a. (a.time ≡ header.now.timestamp) × (a.marker ≡ header.now.marker)
+            × (a.ext_vals ≡ values_read self.now.map datagram.now)) }
+        ensures within { IfSome result (λ a. (a.start ≤ a.end) × (a.end ≤ length datagram.now)) }
     {
-        brought(self.ssrc, &self.types, header, datagram)
+        let brought = brought_by(self.ssrc, &self.types, header, datagram)?;
+        Some(Arrival {
+            low: brought.number,
+            time: header.timestamp,
+            marker: header.marker,
+            ext_vals: header.values_in(datagram, &self.exts),
+            start: brought.start,
+            end: brought.end,
+        })
     }
 
-    /// The values of a datagram's header extensions, by the stream's map; none where no header is
-    /// read.
-    pub fn values_read(&self, datagram: &[u8]) -> ExtensionValues
-        ensures { result ≡ values_read self.now.map datagram.now }
-    {
-        match RtpHeader::parse_values(datagram, &self.exts) {
-            Some(values) => values,
-            None => ExtensionValues::absent(),
-        }
-    }
-
-    /// Takes one datagram of its own in, by the 16 bits of its sequence number, its timestamp, its marker,
-    /// the values of its header extensions and its payload, and answers its widened
-    /// number; None where that is refused. The payload may be empty: it is then held as any other, and its format
-    /// says at a poll what it makes of it.
+    /// Takes one datagram of its own in, and answers its widened number; None where that is refused. The payload may be
+    /// empty: it is then held as any other, and its format says at a poll what it makes of it. The datagram is copied
+    /// once, where its number is new.
+    ///
+    /// # Conditions
+    /// The payload's place is within the datagram.
     ///
     /// # Errors
     /// Out of memory for the packet, which changes nothing.
     pub fn receive(
         &mut self,
-        low: u16,
-        time: u32,
-        marker: bool,
-        ext_vals: ExtensionValues,
-        payload: &[u8],
+        arrival: &Arrival,
+        datagram: &[u8],
     ) -> Result<Option<SeqNo>, AllocError>
-        ensures answer { IfOk result (λ taken. taken ≡ taken_number self.old.stream low) }
-        ensures after { OnOk result (self.new ≡ with_stream self.old
-            (arrived self.old.stream low time marker ext_vals payload.now)) }
+        requires in_order { arrival.now.start ≤ arrival.now.end }
+        requires within { arrival.now.end ≤ length datagram.now }
+        ensures answer { IfOk result (λ taken. taken ≡ taken_number self.old.stream arrival.now.low) }
+        ensures after { OnOk result (self.new ≡ with_stream self.old (arrived self.old.stream arrival.now.low
+            arrival.now.time arrival.now.marker arrival.now.ext_vals
+            (slice_range datagram.now arrival.now.start arrival.now.end))) }
         ensures unchanged { OnErr result (self.new ≡ self.old) }
     {
-        let number = number_of(&self.window, low);
+        let number = number_of(&self.window, arrival.low);
         if !accepts(&self.window, number) {
             return Ok(None);
         }
-        let meta = RtpMeta {
-            seq_no: number,
-            time,
-            marker,
-            ext_vals,
-        };
-        hold(&mut self.buffer, meta, payload)?;
+        let datagram = Vec::from_slice(self.alloc, datagram)?;
+        hold(&mut self.buffer, number, arrival, datagram)?;
+        record(&mut self.window, number);
+        Ok(Some(number))
+    }
+
+    /// Takes one datagram of its own in without a copy, as [`ReceivingStream::receive`].
+    ///
+    /// # Conditions
+    /// The payload's place is within the datagram.
+    ///
+    /// # Errors
+    /// Out of memory for the packet, which changes nothing and hands the datagram back.
+    pub fn receive_owned(
+        &mut self,
+        arrival: &Arrival,
+        datagram: Vec<u8>,
+    ) -> Result<Option<SeqNo>, AllocFailed<Vec<u8>>>
+        requires in_order { arrival.now.start ≤ arrival.now.end }
+        requires within { arrival.now.end ≤ vec_len datagram }
+        ensures answer { IfOk result (λ taken. taken ≡ taken_number self.old.stream arrival.now.low) }
+        ensures after { OnOk result (self.new ≡ with_stream self.old (arrived self.old.stream arrival.now.low
+            arrival.now.time arrival.now.marker arrival.now.ext_vals
+            (slice_range datagram.items arrival.now.start arrival.now.end))) }
+        ensures unchanged { OnErr result (self.new ≡ self.old) }
+        ensures handed_back { IfErr result (λ e. e.value ≡ datagram) }
+    {
+        let number = number_of(&self.window, arrival.low);
+        if !accepts(&self.window, number) {
+            return Ok(None);
+        }
+        hold(&mut self.buffer, number, arrival, datagram)?;
         record(&mut self.window, number);
         Ok(Some(number))
     }

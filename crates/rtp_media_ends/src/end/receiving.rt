@@ -1,6 +1,6 @@
 //! Datagrams that come, and the units that are ready.
 
-ghost use Rattle.std.specs.Prelude.{◌≡◌, true, OnOk, OnErr, IfOk};
+ghost use Rattle.std.specs.Prelude.{◌≡◌, true, OnOk, OnErr, IfErr, IfOk};
 ghost use Rattle.payload_core_buffer.specs.Steps.{AnswersBy};
 ghost use Rattle.rtp_media_streams.specs.Polls.{IsPolled, IsPolledSome, drain_step, found, poll_step};
 ghost use Rattle.rtp_media_ends.specs.EndArrivals.{verdict_of, after_datagram};
@@ -9,7 +9,7 @@ ghost use Rattle.rtp_media_ends.specs.Ends.{AtReceiver, is_receiver_at};
 use super::End;
 use rtp_media_stream_table::{ReceiveError, Received};
 use rtp_media_streams::{PollFault, Unit};
-use std::alloc::AllocError;
+use std::alloc::{AllocError, AllocFailed};
 
 impl End {
     /// Takes a datagram in, and says what it is: of the stream whose SSRC and one of whose payload types
@@ -25,6 +25,20 @@ impl End {
     {
         let streams = &mut self.streams;
         streams.receive(datagram)
+    }
+
+    /// Takes a datagram in without a copy, for callers that own it: its verdict is that of [`End::receive`].
+    ///
+    /// # Errors
+    /// Out of memory, which hands the datagram back; the end is unchanged.
+    pub fn receive_owned(&mut self, datagram: Vec<u8>) -> Result<Received, AllocFailed<Vec<u8>>>
+        ensures verdict { IfOk result (λ v. v ≡ verdict_of self.old datagram.items) }
+        ensures after { OnOk result (self.new ≡ after_datagram self.old datagram.items) }
+        ensures unchanged { OnErr result (self.new ≡ self.old) }
+        ensures handed_back { IfErr result (λ e. e.value ≡ datagram) }
+    {
+        let streams = &mut self.streams;
+        streams.receive_owned(datagram)
     }
 
     /// The next unit of a receiving stream, where one is ready: the lowest one, if it begins right

@@ -1,0 +1,65 @@
+#!/usr/bin/env python3
+"""Writes docs/DEFINITIONS.md from the comments of specs/: for each crate and file the definitions that have one.
+
+    docs/definitions.py          prints the page
+    docs/definitions.py write    writes it
+"""
+import re
+import sys
+import textwrap
+from pathlib import Path
+
+ROOT = Path(__file__).resolve().parent.parent
+HEAD = """# Definitions
+
+What contracts cite, by crate and by file of its `specs/`, in the words that stand above each definition there. This page
+is written by [definitions.py](definitions.py). A definition without words of its own goes with the one before it.
+"""
+DECLARED = re.compile(r"(?:(?:abbrev|unfoldable) pub|pub (?:record|data)) ([^\s:({]+)")
+
+
+def crates():
+    lines = (ROOT / "crates.txt").read_text(encoding="utf-8").split("\n")
+    return [line.split(":")[0].split()[0] for line in lines if ":" in line and not line.startswith("#")]
+
+
+def definitions(file):
+    """The head comment of a file, and each name that has a comment of its own, with it."""
+    comment, found, head = [], [], ""
+    for number, line in enumerate(file.read_text(encoding="utf-8").split("\n")):
+        if line.startswith("-- "):
+            comment.append(line[3:].strip())
+            continue
+        declared = DECLARED.match(line)
+        if declared and comment:
+            found.append((declared[1], " ".join(comment)))
+        elif comment and line.startswith(("use ", "pub use ")) and number < 12:
+            head = " ".join(comment)
+        comment = []
+    return head, found
+
+
+def bullet(text):
+    return textwrap.fill(text, 116, initial_indent="- ", subsequent_indent="  ", break_long_words=False,
+                         break_on_hyphens=False)
+
+
+def page():
+    lines = [HEAD]
+    for crate in crates():
+        files = [it for it in sorted((ROOT / "crates" / crate / "specs").glob("*.antt")) if it.stem != "Lib"]
+        told = [(it.stem, *definitions(it)) for it in files]
+        told = [it for it in told if it[1] or it[2]]
+        if told:
+            lines += [f"## {crate}", ""]
+        for stem, head, found in told:
+            lines += [f"### {stem}", ""] + ([textwrap.fill(head, 116), ""] if head else [])
+            lines += [bullet(f"`{name}`: {comment}") for name, comment in found] + ([""] if found else [])
+    return "\n".join(lines).rstrip() + "\n"
+
+
+if __name__ == "__main__":
+    if sys.argv[1:] == ["write"]:
+        (ROOT / "docs/DEFINITIONS.md").write_text(page(), encoding="utf-8")
+    else:
+        sys.stdout.write(page())
