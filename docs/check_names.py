@@ -2,8 +2,7 @@
 """Checks that every name on docs/PROMISES.md stands in the tree, and that the pages show what the crates have.
 
 On the page of promises each name in the column of calls is a public function, and a name in parentheses is a clause of
-one. docs/DEFINITIONS.md is what docs/definitions.py writes, and the picture of docs/ARCHITECTURE.md what docs/layers.py
-prints. On any page a name with an underscore stands somewhere in the tree, and
+one. The picture of docs/ARCHITECTURE.md is what docs/layers.py prints. On any page a name with an underscore stands somewhere in the tree, and
 a block of text behind a line `<!-- FILE -->` word for word in that file, at one depth of indentation. Each wrong body in wrong_bodies/ changes text that its file has once.
 Prints what is missing, and ends with status 1 then.
 """
@@ -11,8 +10,6 @@ import re
 import subprocess
 import sys
 from pathlib import Path
-
-import definitions
 
 ROOT = Path(__file__).resolve().parent.parent
 CRATES = ROOT / "crates"
@@ -22,12 +19,6 @@ def rows(page):
     for number, line in enumerate((ROOT / "docs" / page).read_text(encoding="utf-8").split("\n"), 1):
         if line.startswith("| ") and not line.startswith(("|---", "| In plain words", "| Promise")):
             yield number, [cell.strip() for cell in line.strip().strip("|").split(" | ")]
-
-
-def differing_definitions():
-    """The page of definitions is what docs/definitions.py writes."""
-    if (ROOT / "docs/DEFINITIONS.md").read_text(encoding="utf-8") != definitions.page():
-        yield "docs/DEFINITIONS.md isn't what docs/definitions.py writes: run `docs/definitions.py write`"
 
 
 def sources(crate="*"):
@@ -145,7 +136,6 @@ def stale_wrong_bodies():
 
 
 found = [
-    *differing_definitions(),
     *differing_picture(),
     *missing_promises(),
     *differing_blocks(),

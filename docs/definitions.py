@@ -1,8 +1,9 @@
 #!/usr/bin/env python3
-"""Writes docs/DEFINITIONS.md from the comments of specs/: for each crate and file the definitions that have one.
+"""Prints the definitions that contracts cite, by crate and by file of its specs/, each with the words that stand above
+it there. One without words of its own goes with the one before it.
 
-    docs/definitions.py          prints the page
-    docs/definitions.py write    writes it
+    docs/definitions.py                  of all crates
+    docs/definitions.py rtp_media_ends   of one
 """
 import re
 import sys
@@ -10,11 +11,6 @@ import textwrap
 from pathlib import Path
 
 ROOT = Path(__file__).resolve().parent.parent
-HEAD = """# Definitions
-
-What contracts cite, by crate and by file of its `specs/`, in the words that stand above each definition there. This page
-is written by [definitions.py](definitions.py). A definition without words of its own goes with the one before it.
-"""
 DECLARED = re.compile(r"(?:(?:abbrev|unfoldable) pub|pub (?:record|data)) ([^\s:({]+)")
 
 
@@ -44,22 +40,22 @@ def bullet(text):
                          break_on_hyphens=False)
 
 
-def page():
-    lines = [HEAD]
-    for crate in crates():
+def page(chosen):
+    lines = []
+    for crate in chosen:
         files = [it for it in sorted((ROOT / "crates" / crate / "specs").glob("*.antt")) if it.stem != "Lib"]
         told = [(it.stem, *definitions(it)) for it in files]
         told = [it for it in told if it[1] or it[2]]
         if told:
-            lines += [f"## {crate}", ""]
+            lines += [f"# {crate}", ""]
         for stem, head, found in told:
-            lines += [f"### {stem}", ""] + ([textwrap.fill(head, 116), ""] if head else [])
-            lines += [bullet(f"`{name}`: {comment}") for name, comment in found] + ([""] if found else [])
-    return "\n".join(lines).rstrip() + "\n"
+            lines += [f"## {stem}", ""] + ([textwrap.fill(head, 116), ""] if head else [])
+            lines += [bullet(f"{name}: {comment}") for name, comment in found] + ([""] if found else [])
+    return "\n".join(lines).rstrip()
 
 
 if __name__ == "__main__":
-    if sys.argv[1:] == ["write"]:
-        (ROOT / "docs/DEFINITIONS.md").write_text(page(), encoding="utf-8")
-    else:
-        sys.stdout.write(page())
+    try:
+        print(page(sys.argv[1:] or crates()))
+    except BrokenPipeError:
+        pass

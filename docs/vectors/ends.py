@@ -1,4 +1,4 @@
-"""A sending stream and a receiving one, after docs/DEFINITIONS.md and the standards: datagrams of samples, the numbers
+"""A sending stream and a receiving one, after the definitions of whole runs and the standards: datagrams of samples, the numbers
 and the window of a receiver (RFC 3550 A.1, RFC 3711 3.3.2), and its buffer."""
 
 from collections import Counter

@@ -9,7 +9,7 @@ PROGRAM is a built `rtplines`; without one `rt try` runs it. A run is a pair of 
 a `play` of them: of every codec one that is tame, one that is sane, and one that is neither. Behind it two more
 samples, or ten with redundancy, are sent and received line by line.
 
-All replies are worked out here, from the standards and docs/DEFINITIONS.md, by no code of the project: the texts of
+All replies are worked out here, from the standards and the definitions of whole runs, by no code of the project: the texts of
 offer and answer, the payloads of each sample (the layouts are those of `payloads.py`, `h26x.py` and `av1.py`; which
 picture id or decoding order number stands in a packet, which parameter sets wait and what redundancy a packet has is
 worked out in `packers.py` and `ends.py`) and the headers before them, the receiver's numbers and window, its buffer,
