@@ -8,17 +8,21 @@ use command_lines::{Reply, parted};
 use std::alloc::{AllocError, Global};
 
 /// What a line gives, by the rows that those before it left.
-pub(crate) fn answer(
-    rt: &HostRuntime,
-    rows: &mut Rows,
-    line: &str,
-) -> Result<String, AllocError> {
+pub(crate) fn answer(rt: &HostRuntime, rows: &mut Rows, line: &str) -> Result<String, AllocError> {
     let mut reply = Reply::new(rt.alloc());
     let (command, rest) = parted(line);
     match command {
         "" | "#" => reply.put(line),
-        "text" | "prefixes" | "session" | "printed" | "offer" | "answer" | "attributes" | "directed"
-        | "listed" | "says" => put_file(rt, command, parted(rest), &mut reply),
+        "text"
+        | "prefixes"
+        | "session"
+        | "printed"
+        | "offer"
+        | "answer"
+        | "attributes"
+        | "directed"
+        | "listed"
+        | "says" => put_file(rt, command, parted(rest), &mut reply),
         "candidate" => put_candidate(rt.alloc(), rest, &mut reply),
         "fingerprint" => put_fingerprint(rt.alloc(), rest, &mut reply),
         "format" => put_format(rt.alloc(), rest, &mut reply),
