@@ -1,20 +1,17 @@
-//! A forwarder of units, to copy: its module's first lines name the crates that it uses. Standard input has datagrams
-//! in hexadecimal, a line each, of which those of SSRC 44 and payload type 111 are Opus; those that are sent on, under
-//! other numbers, are printed, a line each.
-#![tactic(auto)]
+//! Datagrams on lines that are sent on. Uses the crates `anyhow`, `hex` and `rtp_media`, and the module `forwarder`
+//! beside it.
 
-mod forwarder;
-
-use forwarder::Forwarder;
+use crate::forwarder::Forwarder;
 use rtp_media::End;
 use std::io;
 
-fn main(rt: HostRuntime) -> anyhow::Result<()> {
+/// Sends the datagrams of standard input on, and prints those that are sent.
+pub(crate) fn forward_lines(rt: &HostRuntime) -> anyhow::Result<()> {
     let alloc = rt.alloc();
     let text = io::read_to_string(alloc, rt.reader())?;
     let mut forwarder = Forwarder::new(End::fixed(alloc)?, End::fixed(alloc)?)?;
     for line in text.as_str().lines() {
-        forward_line(&rt, &mut forwarder, line)?;
+        forward_line(rt, &mut forwarder, line)?;
     }
     Ok(())
 }

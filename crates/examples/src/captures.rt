@@ -1,8 +1,8 @@
 //! Datagrams that browsers sent, read through replay window, buffer and depacketizer. Uses the crates `anyhow`, `hex`
-//! and `rtp_wire`, and the modules `capture` and `stream` beside it.
+//! and `rtp_wire`, and the modules `capture` and `captured_stream` beside it.
 
 use crate::capture::Capture;
-use crate::stream::Stream;
+use crate::captured_stream::Stream;
 use anyhow::bail;
 use rtp_wire::{ExtensionMap, RtpHeader};
 use std::alloc::Global;

@@ -1,7 +1,7 @@
 -- What the loop keeps.
 use Rattle.std.proofs.Common.{◌≡◌, ◌++◌}
-use Rattle.text_examples.specs.Dressed.{dressed_attributes}
-use Rattle.text_examples.proofs.dress.dress_attributes.Given as goal
+use Rattle.examples.specs.Dressed.{dressed_attributes}
+use Rattle.examples.proofs.dress.dress_attributes.Given as goal
 
 -- what is dressed, and what is left to dress, are together the dressed attributes
 abbrev pub invariant-loop-attribute : goal.invariant-loop-attribute

@@ -6,7 +6,7 @@ use Rattle.sdp_formats_data.specs.declared.media.MediaAttribute.{MediaAttribute}
 use Rattle.sdp_formats_data.specs.declared.media.MediaAttribute.TheVariants as a
 use Rattle.sdp_formats_data.specs.declared.media.MediaLine.{MediaLine}
 use Rattle.sdp_formats_data.specs.declared.session.Sdp.{Sdp}
-use Rattle.text_examples.specs.declared.dress.Transport.{Transport}
+use Rattle.examples.specs.declared.dress.Transport.{Transport}
 
 abbrev pub transport_lines : Transport → List MediaAttribute
 transport_lines t = a.IceUfrag t.creds.ufrag ∷ a.IcePwd t.creds.pass ∷ a.Fingerprint t.fingerprint ∷ a.Setup t.setup

@@ -1,10 +1,9 @@
-//! Session texts with the transport's lines. Uses the crates `sdp_formats`, `sdp_formats_data` and
-//! `sdp_formats_data`, the definitions of specs/Dressed.antt, and the invariants and answers of two loops in
-//! proofs/dress.
+//! Session texts with the transport's lines. Uses the crates `sdp_formats` and `sdp_formats_data`, the definitions of
+//! specs/Dressed.antt, and the invariants and answers of two loops in proofs/dress.
 
 ghost use Rattle.std.specs.Prelude.{◌≡◌, IfOk, OnOk, ◌++◌};
-ghost use Rattle.text_examples.specs.Dressed.{transport_lines, dressed_attribute, dressed_attributes};
-ghost use Rattle.text_examples.specs.Dressed.{dressed_section, dressed};
+ghost use Rattle.examples.specs.Dressed.{transport_lines, dressed_attribute, dressed_attributes};
+ghost use Rattle.examples.specs.Dressed.{dressed_section, dressed};
 ghost use Rattle.sdp_formats_data.specs.Media.{is_mid};
 
 use sdp_formats::{Fingerprint, IceCreds, Listed, MediaAttribute, MediaLine, Sdp, Setup, TryClone};

@@ -1,7 +1,7 @@
 -- What the loop keeps.
 use Rattle.std.proofs.Common.{◌≡◌, ◌++◌, map}
-use Rattle.text_examples.specs.Dressed.{dressed_section}
-use Rattle.text_examples.proofs.dress.dress.Given as goal
+use Rattle.examples.specs.Dressed.{dressed_section}
+use Rattle.examples.proofs.dress.dress.Given as goal
 
 -- what is dressed, and what is left to dress, are together the dressed sections
 abbrev pub invariant-loop-section : goal.invariant-loop-section
