@@ -1,5 +1,5 @@
-//! The frames of a stream whose datagrams stand on lines. Uses the crates `anyhow`, `hex`, `payload_core` and `rtp_wire`,
-//! and the module `recorder` beside it.
+//! The frames of a stream whose datagrams stand on lines. Uses the crates `anyhow`, `hex`, `payload_core` and
+//! `rtp_wire`, and the module `recorder` beside it.
 
 use crate::recorder::Recorder;
 use payload_core::Depacketized;

@@ -1,4 +1,5 @@
-//! Runs of lines whose reader or writer fails, or whose input takes more reads than it may, and what is to come of each.
+//! Runs of lines whose reader or writer fails, or whose input takes more reads than it may, and what is to come of
+//! each.
 
 use rtp_media_lines::{Command, Reply, Respond, RunFault, Status, run_within};
 use std::alloc::{AllocError, Global};

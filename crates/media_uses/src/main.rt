@@ -1,6 +1,7 @@
-//! Uses of ends, exchanges and lines: worked rows that the program's lines can't say, runs of lines that fail, and calls
-//! between two ends. Rows and runs are compared, and not proved. The calls are proved: two ends agree on Opus, G.711 or
-//! G.722, one sends three samples, and the other hands out just these, in order, though the second arrives last.
+//! Uses of ends, exchanges and lines: worked rows that the program's lines can't say, runs of lines that fail, and
+//! calls between two ends. Rows and runs are compared, and not proved. The calls are proved: two ends agree on Opus,
+//! G.711 or G.722, one sends three samples, and the other hands out just these, in order, though the second arrives
+//! last.
 #![tactic(auto)]
 
 mod calls;

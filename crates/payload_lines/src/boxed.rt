@@ -8,9 +8,9 @@ use payload_core::{
 };
 use rtp_wire::{ExtensionValues, Frequency, SeqNo};
 
-/// `boxed CODEC NUMBERS LIMIT SAMPLE`: the payloads of a sample through a boxed packetizer, with a star behind each that
-/// has the marker, and the bytes that they give through a boxed depacketizer. NUMBERS is how far units of H.265 and H.266
-/// may be out of their decoding order, 0 where they have no numbers.
+/// `boxed CODEC NUMBERS LIMIT SAMPLE`: the payloads of a sample through a boxed packetizer, with a star behind each
+/// that has the marker, and the bytes that they give through a boxed depacketizer. NUMBERS is how far units of H.265
+/// and H.266 may be out of their decoding order, 0 where they have no numbers.
 pub(crate) fn answer(line: &mut Line<'_>) {
     let codec = Codec::from(line.word());
     let numbers = line.number::<u16>();

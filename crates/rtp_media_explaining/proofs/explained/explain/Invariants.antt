@@ -1,7 +1,7 @@
 use Rattle.std.proofs.Common.{◌≡◌, map}
-use Rattle.rtplines_explain.specs.Lines.{text_of}
-use Rattle.rtplines_explain.specs.Noted.{noted_all}
-use Rattle.rtplines_explain.proofs.explained.explain.Given as goal
+use Rattle.rtp_media_explaining.specs.Lines.{text_of}
+use Rattle.rtp_media_explaining.specs.Noted.{noted_all}
+use Rattle.rtp_media_explaining.proofs.explained.explain.Given as goal
 
 -- the replies so far are noted
 abbrev pub invariant-loop-reply : goal.invariant-loop-reply

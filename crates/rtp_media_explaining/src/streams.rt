@@ -1,7 +1,7 @@
 //! What is known of streams.
 
 ghost use Rattle.std.specs.Prelude.{◌≡◌};
-ghost use Rattle.rtplines_explain.specs.Noted.{opened};
+ghost use Rattle.rtp_media_explaining.specs.Noted.{opened};
 
 use crate::lines::{number_at, number_or_zero_at, word_at};
 use std::alloc::{AllocError, Global};
@@ -53,7 +53,7 @@ impl Drop for Stream {
 }
 
 impl Model for Stream {
-    ghost use Rattle.rtplines_explain.specs.Noted.{KnownStream};
+    ghost use Rattle.rtp_media_explaining.specs.Noted.{KnownStream};
 
     ghost Value = { KnownStream };
 

@@ -4,7 +4,7 @@ use Rattle.std.specs.Prelude.{fold}
 use Rattle.std.specs.List.{slice_get}
 use Rattle.std.specs.Option.{option_map_or, unwrap_or}
 use Rattle.std.specs.Str.{bytes_eq}
-use Rattle.rtplines_explain.specs.Lines.{is_making, number_at, word_at}
+use Rattle.rtp_media_explaining.specs.Lines.{is_making, number_at, word_at}
 
 pub record KnownStream : Type 0 where
   pub number : ℕ

@@ -2,9 +2,9 @@
 
 ghost use Rattle.std.specs.Prelude.{◌≡◌, OnErr, OnOk};
 ghost use Rattle.std.specs.Str.Lines.{lines};
-ghost use Rattle.rtplines_explain.specs.Answered.{NotesFirst};
-ghost use Rattle.rtplines_explain.specs.Lines.{text_of};
-ghost use Rattle.rtplines_explain.specs.Noted.{noted_all};
+ghost use Rattle.rtp_media_explaining.specs.Answered.{NotesFirst};
+ghost use Rattle.rtp_media_explaining.specs.Lines.{text_of};
+ghost use Rattle.rtp_media_explaining.specs.Noted.{noted_all};
 
 use crate::forms::FORMS;
 use crate::known::Known;

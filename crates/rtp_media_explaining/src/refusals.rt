@@ -1,7 +1,7 @@
 //! What the program replies where it says no, in words.
 
 ghost use Rattle.std.specs.Prelude.{◌≡◌, is_some};
-ghost use Rattle.rtplines_explain.specs.Replies.{says_no};
+ghost use Rattle.rtp_media_explaining.specs.Replies.{says_no};
 
 use crate::reason::Reason;
 

@@ -1,11 +1,11 @@
 use Rattle.std.proofs.Common.{◌∙◌, ap, inl, inr, rules, sym, true≢false}
-use Rattle.rtplines_explain.specs.Answered.{PartlyExplained}
-use Rattle.rtplines_explain.specs.Lines.{text_of}
+use Rattle.rtp_media_explaining.specs.Answered.{PartlyExplained}
+use Rattle.rtp_media_explaining.specs.Lines.{text_of}
 use Rattle.rtp_media_lines.proofs.Stopping.{on_err}
-use Rattle.rtplines_explain.proofs.Noting.{noted_none}
-use Rattle.rtplines_explain.proofs.answered.answer_and_explain.Goals.{then-is_comment}
-use Rattle.rtplines_explain.proofs.answered.answer_and_explain.Goals.{else-is_comment+in_ok-replies}
-use Rattle.rtplines_explain.proofs.answered.answer_and_explain.Goals as goal
+use Rattle.rtp_media_explaining.proofs.Noting.{noted_none}
+use Rattle.rtp_media_explaining.proofs.answered.answer_and_explain.Goals.{then-is_comment}
+use Rattle.rtp_media_explaining.proofs.answered.answer_and_explain.Goals.{else-is_comment+in_ok-replies}
+use Rattle.rtp_media_explaining.proofs.answered.answer_and_explain.Goals as goal
 
 pub returns-in_err-explain-clause-stopped : goal.returns-in_err-explain-clause-stopped
 returns-in_err-explain-clause-stopped g c =

@@ -6,8 +6,8 @@ use Rattle.rtp_media_lines.specs.declared.reply.Reply.{Reply}
 use Rattle.rtp_media_lines.specs.Runs.{Printed}
 use Rattle.rtp_media_lines.specs.declared.status.Status.{Status}
 use Rattle.rtp_media_lines.specs.declared.status.Status.TheVariants.{Success}
-use Rattle.rtplines_explain.specs.Lines.{is_comment, text_of}
-use Rattle.rtplines_explain.specs.Noted.{Known, noted_all}
+use Rattle.rtp_media_explaining.specs.Lines.{is_comment, text_of}
+use Rattle.rtp_media_explaining.specs.Noted.{Known, noted_all}
 
 -- A comment changes nothing; of any other line the replies are those that a run of it alone would print. What they say
 -- is noted.

@@ -5,7 +5,7 @@ use Rattle.std.specs.Prelude.{slice_get, ◌==◌}
 use Rattle.std.proofs.lemmas.Iterator.Consumers.{nth_from_yields_List}
 use Rattle.std.proofs.lemmas.Iterator.Splits.{YieldsList-from_str_split}
 use Rattle.std.proofs.lemmas.Option.{unwrap_or-slice_get}
-use Rattle.rtplines_explain.proofs.lines.word_at.Goals as goal
+use Rattle.rtp_media_explaining.proofs.lines.word_at.Goals as goal
 
 now_or : (r : Option (Bor (List ℕ))) (d : Bor (List ℕ))
     → (unwrap_or r d).now ≡ unwrap_or (option_map (λ x. x.now) r) d.now

@@ -4,7 +4,7 @@ use Rattle.std.specs.Str.{bytes_eq}
 use Rattle.std.proofs.lemmas.Bool.{cases_Bool}
 use Rattle.std.proofs.lemmas.Slice.Eq.{bytes_eq-Decides}
 use Rattle.std.proofs.lemmas.Str.Pattern.{starts_text}
-use Rattle.rtplines_explain.proofs.refusals.refusal_of.Goals as goal
+use Rattle.rtp_media_explaining.proofs.refusals.refusal_of.Goals as goal
 
 -- another text
 other : (xs ys : List ℕ) → (xs ≡ ys → ⊥) → bytes_eq xs ys ≡ false

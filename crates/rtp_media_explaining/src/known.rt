@@ -1,9 +1,9 @@
 //! What is known of the ends, from the lines and the replies to them.
 
 ghost use Rattle.std.specs.Prelude.{◌≡◌, is_some, IfSome, OnErr, OnOk};
-ghost use Rattle.rtplines_explain.specs.Lines.{word_at};
-ghost use Rattle.rtplines_explain.specs.Noted.{end_of, has_stream, made, makes_end, none_made};
-ghost use Rattle.rtplines_explain.specs.Noted.{noted, noted_end, opens_stream, unmade, with_opened};
+ghost use Rattle.rtp_media_explaining.specs.Lines.{word_at};
+ghost use Rattle.rtp_media_explaining.specs.Noted.{end_of, has_stream, made, makes_end, none_made};
+ghost use Rattle.rtp_media_explaining.specs.Noted.{noted, noted_end, opens_stream, unmade, with_opened};
 
 use crate::lines::{number_at, number_or_zero_at, word_at};
 use crate::streams::Stream;
@@ -35,7 +35,7 @@ impl Drop for KnownEnd {
 }
 
 impl Model for KnownEnd {
-    ghost use Rattle.rtplines_explain.specs.Noted.{KnownEnd as Noted};
+    ghost use Rattle.rtp_media_explaining.specs.Noted.{KnownEnd as Noted};
 
     ghost Value = { Noted };
 
@@ -212,7 +212,7 @@ pub struct Known {
 }
 
 impl Model for Known {
-    ghost use Rattle.rtplines_explain.specs.Noted.{Known as Noted};
+    ghost use Rattle.rtp_media_explaining.specs.Noted.{Known as Noted};
 
     ghost Value = { Noted };
 

@@ -1,8 +1,8 @@
 //! The lines that are read, and their words.
 
 ghost use Rattle.std.specs.Prelude.{◌≡◌};
-ghost use Rattle.rtplines_explain.specs.Lines.{is_comment, number_at, text_of, word_at};
-ghost use Rattle.rtplines_explain.specs.Noted.{number_or_zero};
+ghost use Rattle.rtp_media_explaining.specs.Lines.{is_comment, number_at, text_of, word_at};
+ghost use Rattle.rtp_media_explaining.specs.Noted.{number_or_zero};
 
 use rtp_media_lines::number_up_to;
 

@@ -3,9 +3,9 @@ use Rattle.std.proofs.Common.{◌≡◌, ◌∙◌, ap, refl, ℕ, List, [], sub
 use Rattle.std.specs.Prelude.{Result, Ok, Err, OnOk}
 use Rattle.std.specs.Str.{chars, is_utf8}
 use Rattle.std.specs.Str.Lines.{lines}
-use Rattle.rtplines_explain.specs.Answered.{NotesFirst}
-use Rattle.rtplines_explain.specs.Lines.{text_of}
-use Rattle.rtplines_explain.specs.Noted.{Known, noted_all}
+use Rattle.rtp_media_explaining.specs.Answered.{NotesFirst}
+use Rattle.rtp_media_explaining.specs.Lines.{text_of}
+use Rattle.rtp_media_explaining.specs.Noted.{Known, noted_all}
 
 pub on_ok : {A E : Type 0} {X : Type 0} (r : Result A E) → X → OnOk r X
 on_ok (Ok a) x = x

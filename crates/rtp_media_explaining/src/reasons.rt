@@ -1,7 +1,7 @@
 //! Why a line is an `error line`, or was refused.
 
 ghost use Rattle.std.specs.Prelude.{◌≡◌, ◌||◌, is_some};
-ghost use Rattle.rtplines_explain.specs.Replies.{is_error_line, says_no};
+ghost use Rattle.rtp_media_explaining.specs.Replies.{is_error_line, says_no};
 
 use crate::forms::{form_of, misfit};
 use crate::known::{Known, KnownEnd};

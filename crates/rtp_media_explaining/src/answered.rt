@@ -1,7 +1,7 @@
 //! Lines that are answered and explained.
 
 ghost use Rattle.std.specs.Prelude.{IfOk, OnErr};
-ghost use Rattle.rtplines_explain.specs.Answered.{Explained, PartlyExplained};
+ghost use Rattle.rtp_media_explaining.specs.Answered.{Explained, PartlyExplained};
 
 use crate::explained::explain;
 use crate::known::Known;

@@ -5,12 +5,12 @@ use Rattle.std.proofs.lemmas.Iterator.Splits.{YieldsList-from_lines}
 use Rattle.std.specs.Prelude.{None}
 use Rattle.std.specs.Str.Iter.{lines_rest}
 use Rattle.std.specs.Str.Lines.{lines}
-use Rattle.rtplines_explain.specs.Answered.{NotesFirst}
+use Rattle.rtp_media_explaining.specs.Answered.{NotesFirst}
 use Rattle.rtp_media_lines.proofs.Stopping.{on_err}
-use Rattle.rtplines_explain.proofs.Noting.{on_ok}
-use Rattle.rtplines_explain.specs.Noted.{noted_all}
-use Rattle.rtplines_explain.specs.Lines.{text_of}
-use Rattle.rtplines_explain.proofs.explained.explain.Goals as goal
+use Rattle.rtp_media_explaining.proofs.Noting.{on_ok}
+use Rattle.rtp_media_explaining.specs.Noted.{noted_all}
+use Rattle.rtp_media_explaining.specs.Lines.{text_of}
+use Rattle.rtp_media_explaining.proofs.explained.explain.Goals as goal
 
 pub returns-clause-noted : goal.returns-clause-noted
 returns-clause-noted c =
