@@ -98,10 +98,10 @@ def differing_picture():
 
 def differing_files():
     """What one program printed and another one reads, or a page shows, is the same."""
-    printed = without_indent((CRATES / "rtplines/stdout").read_text(encoding="utf-8").split("\n"))
+    printed = without_indent((CRATES / "rtpexplain/stdout").read_text(encoding="utf-8").split("\n"))
     read = without_indent((CRATES / "rtpgraph/stdin").read_text(encoding="utf-8").split("\n"))
     if "\n".join(line.lstrip() for line in read if line) not in "\n".join(line.lstrip() for line in printed):
-        yield "crates/rtpgraph/stdin isn't what crates/rtplines/stdout has"
+        yield "crates/rtpgraph/stdin isn't what crates/rtpexplain/stdout has"
     if (ROOT / "docs/run.svg").read_bytes() != (CRATES / "rtpgraph/stdout").read_bytes():
         yield "docs/run.svg isn't crates/rtpgraph/stdout"
 

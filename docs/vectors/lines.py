@@ -1,7 +1,6 @@
 #!/usr/bin/env python3
-"""Writes what `crates/packet_lines`, `boxed_lines`, `payload_field_lines`, `h26x_lines`, `header_lines` and
-`number_lines` read and must answer: samples and packets that were packed from the layouts of the standards alone,
-beside rows that were put together by hand.
+"""Writes what `crates/payload_lines` and `crates/wire_lines` read and must answer: samples and packets that were packed
+from the layouts of the standards alone, beside rows that were put together by hand.
 
 Run it with `python3 docs/vectors/lines.py`. A row is a line and its answer; a row without one answers itself. The
 packers are `h26x.py`, `av1.py` and `payloads.py`, headers and tables stand in `headers.py`, rows by hand in `rows.py`,
@@ -90,9 +89,5 @@ def write(crate, rows):
 
 
 if __name__ == "__main__":
-    write("packet_lines", of_packets())
-    write("boxed_lines", BOXED)
-    write("payload_field_lines", FIELDS)
-    write("h26x_lines", headers.rows())
-    write("header_lines", HEADERS)
-    write("number_lines", NUMBERS)
+    write("payload_lines", [*of_packets(), *BOXED, *FIELDS, *headers.rows()])
+    write("wire_lines", [*HEADERS, *NUMBERS])

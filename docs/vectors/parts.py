@@ -127,12 +127,12 @@ WHOLES = [
 
 BOXED = [
     ("# A pair that its caller boxed sends and reads as what it holds", None),
-    ("VP8 0 3 aabbcc", "10aabb 00cc* aabbcc"),
-    ("H265 1 1500 2601aa", "26010000aa* 000000012601aa"),
-    ("telephone-event 0 7 058a0320058a0320", "fault the payload is larger than the limit"),
+    ("boxed VP8 0 3 aabbcc", "10aabb 00cc* aabbcc"),
+    ("boxed H265 1 1500 2601aa", "26010000aa* 000000012601aa"),
+    ("boxed telephone-event 0 7 058a0320058a0320", "fault the payload is larger than the limit"),
     ("# Names that are no format's, and a line that says too little", None),
-    ("rtx 0 1200 aa", "fault no payload format"),
-    ("VP8 0 1200", "fault a word is missing"),
+    ("boxed rtx 0 1200 aa", "fault no payload format"),
+    ("boxed VP8 0 1200", "fault a word is missing"),
 ]
 
 FIELDS = REDUNDANCY + EVENTS + VP8_IDS

@@ -1,17 +1,12 @@
-#!/usr/bin/env python3
-"""Writes what `crates/row_lines` reads and must answer: rounds of rows, worked out with an array of marks from the
-rules of negotiation alone, beside rounds that were put together by hand, and rows and configs by hand.
-
-Run it with `python3 docs/vectors/rounds.py`. Random rounds come from a fixed seed.
+"""What `crates/sdp_lines` reads and must answer of rows: rounds, worked out with an array of marks from the rules of
+negotiation alone, beside rounds that were put together by hand, and rows and configs by hand. `texts.py` writes it.
+Random rounds come from a fixed seed.
 """
 
 import copy
 import random
 from dataclasses import dataclass, field
-from pathlib import Path
 from typing import Optional
-
-CRATE = Path(__file__).resolve().parents[2] / "crates/row_lines"
 
 PREFERRED = [*range(96, 128), *range(80, 96), 77, 78, *range(35, 72)]
 AUDIO = ["opus", "PCMU", "PCMA", "G722", "CN", "AMR-WB"]
@@ -415,7 +410,7 @@ def feedback_and_equality():
 
 
 def alone():
-    """What `crates/value_lines` reads and must answer of rows and formats that come alone; `texts.py` writes it."""
+    """Rows and formats that come alone."""
     return [*scores(), *formats(), *feedback_and_equality()]
 
 
@@ -614,13 +609,6 @@ def random_rounds(seed, count):
         yield from lines_of(f"Random rounds {n}", own, rounds)
 
 
-def main():
-    rows = [*by_hand(), *configs(), *rows_move_away(), *no_type_is_left(), *random_rounds(1, 300)]
-    (CRATE / "stdin").write_text("".join(f"{line}\n" for line, _ in rows))
-    (CRATE / "stdout").write_text("".join((line if answer is None else answer) + "\n" for line, answer in rows))
-    answers = [a.split(" ")[0] for l, a in rows if l.startswith("round")]
-    print({word: answers.count(word) for word in sorted(set(answers))}, len(rows), "lines")
-
-
-if __name__ == "__main__":
-    main()
+def of_ends():
+    """Rounds of the rows of two ends, and the rows and configs of one."""
+    return [*by_hand(), *configs(), *rows_move_away(), *no_type_is_left(), *random_rounds(1, 300)]

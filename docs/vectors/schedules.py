@@ -1,11 +1,11 @@
 #!/usr/bin/env python3
-"""Writes the last part of what `crates/rtplines` reads and must print: ends of each codec and layout under schedules
+"""Writes the last part of what `crates/rtpexplain` reads and must print: ends of each codec and layout under schedules
 that are drawn from seeds.
 
-    python3 docs/vectors/schedules.py write                        # anew into stdin and stdout of crates/rtplines
+    python3 docs/vectors/schedules.py write                        # anew into stdin and stdout of crates/rtpexplain
     python3 docs/vectors/schedules.py compare SEED.. [-- PROGRAM]  # draws others, runs the program, and compares
 
-PROGRAM is a built `rtplines`; without one `rt try` runs it. A run is a pair of ends that agree by texts, samples, and
+PROGRAM is a built `rtpexplain`; without one `rt try` runs it. A run is a pair of ends that agree by texts, samples, and
 a `play` of them: of every codec one that is tame, one that is sane, and one that is neither. Behind it two more
 samples, or ten with redundancy, are sent and received line by line.
 
@@ -32,7 +32,7 @@ from ends import Receiver, Sender, check
 from payloads import joined
 from samples import CASES, Sample, draw_samples
 
-CRATE = Path(__file__).parents[2] / "crates" / "rtplines"
+CRATE = Path(__file__).parents[2] / "crates" / "rtpexplain"
 MARK = "# Schedules drawn by docs/vectors/schedules.py"
 REASONS = {
     "refused": "its number came before, or is 128 or more below the greatest",
@@ -364,10 +364,10 @@ def write():
 
 def compare(words):
     seeds, _, program = " ".join(words).partition("--")
-    command = program.split() or ["rt", "try", "--"]
+    command = program.split() or ["rt", "try"]
     for seed in seeds.split():
         lines, printed = runs(Page(1, {"a": [], "b": []}), [seed])
-        found = subprocess.run([*command, "explain"], cwd=CRATE, input=lines, capture_output=True, text=True)
+        found = subprocess.run(command, cwd=CRATE, input=lines, capture_output=True, text=True)
         print(f"seed {seed}: {difference(printed, found.stdout) or 'as the model says'}", flush=True)
         if found.returncode != 0:
             print(f"status {found.returncode}: {found.stderr}", flush=True)

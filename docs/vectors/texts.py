@@ -1,15 +1,13 @@
 #!/usr/bin/env python3
-"""Writes what `text_lines`, `printed_lines`, `section_lines`, `accessor_lines` and `value_lines` in `crates` read and
-must answer: commands on session texts and their replies, which are kept in `texts.txt` beside this script, each command behind `> ` and its reply below it, and
-copied, each to the program that answers it, with the comment above it. Before that each reply is compared with what the
-reader of `sessions.py`, which shares no code with the project, says of the text. Behind them `value_lines` reads rows
-and formats that come alone (`rounds.py`).
+"""Writes what `crates/sdp_lines` reads and must answer: commands on session texts and their replies, which are kept in
+`texts.txt` beside this script, each command behind `> ` and its reply below it. They are copied part by part, each with
+the comment above it. Before that each reply is compared with what the reader of `sessions.py`, which shares no code
+with the project, says of the text. Behind them stand rows and formats that come alone, and rounds (`rounds.py`).
 
 Run it with `python3 docs/vectors/texts.py`. It tells which replies differ, and writes nothing then.
 """
 
 import re
-import shutil
 import sys
 from pathlib import Path
 
@@ -17,14 +15,11 @@ import rounds
 import sessions
 from sessions import DIRECTIONS, ORDER, fingerprint, lower, param, param_text, printed, read, trimmed
 
-CRATES = Path(__file__).resolve().parents[2] / "crates"
-READ = CRATES / "text_lines/data"  # each text; the other programs have those that their commands name as well
-PROGRAMS = {"printed_lines": ("printed", "offer", "answer"),
-            "section_lines": ("attributes", "directed", "rows"),
-            "accessor_lines": ("says",),
-            "value_lines": ("candidate", "fingerprint", "setup", "parameters")}  # `text_lines` answers all others
-OF_TEXTS = ("text", "prefixes", "session")
-OTHERS = ("printed_lines", "section_lines", "accessor_lines")
+CRATE = Path(__file__).resolve().parents[2] / "crates/sdp_lines"
+READ = CRATE / "data"
+ALONE = ("candidate", "fingerprint", "setup", "parameters")
+PARTS = (("text", "prefixes", "session"), ("printed", "offer", "answer"), ("attributes", "directed", "listed"), ("says",),
+         ALONE)  # a command that isn't known stands in the first
 TEXTS = Path(__file__).with_name("texts.txt")
 
 
@@ -190,7 +185,7 @@ def of_text(command, word, text):
     count = len(session.sections)
     return {"text": lambda: list(said_text(session, left)), "printed": lambda: list(said_printed(text, session)),
             "attributes": lambda: list(said_attributes(session)),
-            "rows": lambda: list(said_rows(session)), "says": lambda: list(said_says(session)),
+            "listed": lambda: list(said_rows(session)), "says": lambda: list(said_says(session)),
             "directed": lambda: list(said_directed(session, word)),
             "offer": lambda: [f"an offer of {count} sections, printed as its text true"],
             "answer": lambda: [f"an answer of {count} sections, printed as its text true"]}[command]()
@@ -236,8 +231,8 @@ def of_parameters(text):
     return " ".join(param_text((key, found[key])) for key in ORDER if key in found) or "-"
 
 
-def program(command):
-    return next((name for name, commands in PROGRAMS.items() if command in commands), "text_lines")
+def part_of(command):
+    return next((part for part in PARTS if command in part), PARTS[0])
 
 
 def reply(line):
@@ -252,20 +247,20 @@ def reply(line):
     if command == "setup":
         return [of_setup(name, word)]
     path = READ / name
-    if command not in (*OF_TEXTS, *(word for name in OTHERS for word in PROGRAMS[name])) or not path.is_file():
+    if not any(command in part for part in PARTS) or not path.is_file():
         return ["fault"]
     told = of_text(command, word, path.read_bytes().decode())
     return [f"{name}: {told[0]}", *told[1:]]
 
 
-def commands_of(name, kept):
-    """The commands that a program answers, each comment in front of the first one that stands below it."""
+def commands_of(part, kept):
+    """The commands of a part, each comment in front of the first one that stands below it."""
     comment = None
     for line, told in kept:
         word = line.split(" ")[0]
         if word == "#":
             comment = line, told
-        elif program(word) == name:
+        elif part_of(word) == part:
             yield from [comment] if comment else []
             yield line, told
             comment = None
@@ -284,16 +279,11 @@ def main():
               *(f"  read {line}" for line in wanted if line not in told), sep="\n")
     if differing:
         sys.exit(1)
-    for name in ("text_lines", *PROGRAMS):
-        own = list(commands_of(name, kept))
-        if name == "value_lines":
-            own += [(line, [line if answer is None else answer]) for line, answer in rounds.alone()]
-        for path in {READ / word for line, _ in own for word in line.split(" ")[1:2]}:
-            if name in OTHERS and path.is_file():
-                shutil.copyfile(path, CRATES / name / "data" / path.name)
-        (CRATES / name / "stdin").write_text("".join(f"{command}\n" for command, _ in own))
-        (CRATES / name / "stdout").write_text("".join(f"{line}\n" for _, told in own for line in told))
-        print(name, len(own), "lines")
+    rows = [row for part in PARTS for row in commands_of(part, kept)]
+    rows += [(line, [line if answer is None else answer]) for line, answer in [*rounds.alone(), *rounds.of_ends()]]
+    (CRATE / "stdin").write_text("".join(f"{command}\n" for command, _ in rows))
+    (CRATE / "stdout").write_text("".join(f"{line}\n" for _, told in rows for line in told))
+    print(len(rows), "lines")
 
 
 if __name__ == "__main__":

@@ -1,5 +1,5 @@
 //! Reads a capture through replay window and depacketizer, a line `MS HEX` for each datagram, and prints what came of
-//! each stream of one payload type, as crates/capture_examples does; then each unit is packetized and read again, and
+//! each stream of one payload type, as crates/examples does; then each unit is packetized and read again, and
 //! what came of that is printed too. The arguments are FILE CODEC TYPE; the clock rate is 48,000, which telephone
 //! events alone go by.
 

@@ -1,8 +1,11 @@
 -- The bytes that a word says.
-use Rattle.std.specs.Prelude.{ℕ, ◌==◌, ◌^◌, nat_lt, if◌then◌else◌, List, [], ◌∷◌, ◌++◌, length, codes, Option, None}
-use Rattle.std.specs.Prelude.{Some}
+use Rattle.std.specs.Prelude.{ℕ, ◌==◌, ◌&&◌, ◌^◌, nat_lt, if◌then◌else◌, List, [], ◌∷◌, ◌++◌, length, codes, Option}
+use Rattle.std.specs.Prelude.{None, Some}
 use Rattle.std.specs.List.{slice_split, before_first, after_first, position_or_len, repeat}
-use Rattle.rtp_media_lines.specs.Words.{number_below, hex_of, ◌>>=◌}
+use Rattle.std.specs.Result.{result_ok}
+use Rattle.std.specs.Str.{all_ascii_digits, bytes_eq}
+use Rattle.std.specs.Str.Parse.{digits_value}
+use Rattle.hex.specs.Hex.{decode_of}
 
 -- What stands before the first such sign, or all where there is none.
 abbrev pub before_sign : ℕ → List ℕ → List ℕ
@@ -33,17 +36,32 @@ without_stars (b ∷ more) = before_left b (without_stars more)
 
 -- The bytes of hexadecimal digits; a dash, or no digit, stands for none.
 abbrev pub digits_bytes : List ℕ → Option (List ℕ)
-digits_bytes digits = if length digits == 0 then Some [] else hex_of digits
+digits_bytes digits =
+    if length digits == 0 then Some []
+    else if bytes_eq digits (codes "-") then Some []
+    else result_ok (decode_of digits)
 
 -- How often the digits of a part stand there: once, or as often as the number behind the colon says.
 abbrev pub count_word : List ℕ → List ℕ
 count_word part =
     if nat_lt (position_or_len (λ b. b == 58) part) (length part) then behind_sign 58 part else codes "1"
 
+-- The number that decimal digits write, one or more, where it is below 2^32.
+abbrev pub count_of : List ℕ → Option ℕ
+count_of word =
+    if (nat_lt 0 (length word) && all_ascii_digits word) && nat_lt (digits_value 10 word) (2 ^ 32)
+    then Some (digits_value 10 word)
+    else None
+
+infixl 10 ◌>>=◌
+abbrev pub ◌>>=◌ : {A B : Type 0} → Option A → (A → Option B) → Option B
+(Some x) >>= f = f x
+None >>= f = None
+
 -- The bytes of a part, DIGITS or DIGITS:COUNT.
 abbrev pub part_bytes : List ℕ → Option (List ℕ)
 part_bytes part = do
-  count ← number_below (2 ^ 32) (count_word part)
+  count ← count_of (count_word part)
   once ← digits_bytes (before_sign 58 part)
   Some (repeat count once)
 

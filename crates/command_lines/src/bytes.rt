@@ -1,13 +1,12 @@
 //! The bytes of a word.
 
-ghost use Rattle.std.specs.Prelude.{◌≡◌, ◌<◌, ◌^◌, ◌∷◌, length, IfOk, IfSome, IfNone};
+ghost use Rattle.std.specs.Prelude.{◌≡◌, ◌<◌, ◌↔◌, ◌∷◌, length, slice_index, IfOk, IfSome, IfNone, IsTrue};
 ghost use Rattle.std.specs.List.{repeat};
 ghost use Rattle.std.specs.Option.{option_copied, option_map};
-ghost use Rattle.rtp_media_lines.specs.Words.{number_below};
 ghost use Rattle.command_lines.specs.Bytes.{before_sign, behind_sign, without_stars, plus_parts, parts_in};
-ghost use Rattle.command_lines.specs.Bytes.{digits_bytes, count_word, part_bytes, bytes_of};
+ghost use Rattle.command_lines.specs.Bytes.{digits_bytes, count_word, count_of, part_bytes, bytes_of};
 
-use rtp_media_lines::{Misread, hex_of, number_up_to};
+use hex::FromHexError;
 use std::alloc::{AllocError, Global};
 
 /// What stands before and behind the first such sign; all of the word and nothing where there is none.
@@ -83,18 +82,39 @@ fn part_bytes(alloc: Global, part: &str) -> Result<Option<Vec<u8>>, AllocError>
 }
 
 /// The digits of a part, and how often they stand there, if that is a number.
-fn digits_and_count(part: &str) -> (&str, Option<u64>)
+fn digits_and_count(part: &str) -> (&str, Option<u32>)
     ensures digits { result.0.now ≡ before_sign 58 part.now }
-    ensures count { result.1 ≡ number_below (2 ^ 32) (count_word part.now) }
+    ensures count { result.1 ≡ count_of (count_word part.now) }
 {
     match part.split_once(':') {
-        Some((digits, count)) => (digits, number_up_to(count, u32::MAX as u64)),
+        Some((digits, count)) => (digits, count_of(count)),
         None => (part, Some(1)),
     }
 }
 
+/// The number that decimal digits write.
+fn count_of(word: &str) -> Option<u32>
+    ensures { result ≡ count_of word.now }
+{
+    // The parser of std takes a plus sign too.
+    if has_plus(word) {
+        return None;
+    }
+    word.parse::<u32>().ok()
+}
+
+/// Does the word begin with a plus sign?
+fn has_plus(word: &str) -> bool
+    ensures { IsTrue result ↔ (slice_index word.now 0 ≡ 43) }
+{
+    match word.as_bytes() {
+        [first, ..] => *first == b'+',
+        [] => false,
+    }
+}
+
 /// Bytes so often.
-fn repeated(alloc: Global, once: &[u8], count: u64) -> Result<Vec<u8>, AllocError>
+fn repeated(alloc: Global, once: &[u8], count: u32) -> Result<Vec<u8>, AllocError>
     ensures { IfOk result (λ bytes. bytes.items ≡ repeat count once.now) }
 {
     let mut bytes = Vec::new(alloc);
@@ -111,9 +131,14 @@ fn digits_bytes(alloc: Global, digits: &str) -> Result<Option<Vec<u8>>, AllocErr
     if digits.is_empty() {
         return Ok(Some(Vec::new(alloc)));
     }
-    match hex_of(alloc, digits) {
-        Ok(bytes) => Ok(Some(bytes.into_vec())),
-        Err(Misread::NotUnderstood) => Ok(None),
-        Err(Misread::Memory) => Err(AllocError),
+    if digits == "-" {
+        return Ok(Some(Vec::new(alloc)));
+    }
+    match hex::decode(alloc, digits) {
+        Ok(bytes) => Ok(Some(bytes)),
+        Err(fault) => match fault {
+            FromHexError::OutOfMemory => Err(AllocError),
+            _ => Ok(None),
+        },
     }
 }

@@ -1,4 +1,4 @@
-//! Draws what came of a receiving stream: reads the replies of `rtplines`, or what it explains, and writes
+//! Draws what came of a receiving stream: reads the replies of `rtplines`, or what `rtpexplain` says, and writes
 //! a picture (SVG) of the numbers that were taken, refused, lost and held, and of the units, one step after the other.
 #![tactic(auto)]
 

@@ -1,7 +1,0 @@
-use Rattle.benchmark_rounds.specs.Rounds.{Repeats}
-use Rattle.benchmark_rounds.specs.Tallies.{empty_tally}
-use Rattle.benchmark_rounds.proofs.measured.repeat.Given as goal
-
--- the rounds that were done so far
-abbrev pub invariant-loop-number : goal.invariant-loop-number
-invariant-loop-number g l = Repeats g.R.Round.counts l.number l.fn.round empty_tally l.round l.tally

@@ -1,0 +1,5 @@
+mod BufferLemmas
+mod HandedOut
+mod LineLemmas
+mod ReadLemmas
+mod SentLemmas

@@ -1,0 +1,12 @@
+pub mod Buffered
+pub mod Cut
+pub mod Extensions
+pub mod Headers
+pub mod Lines
+pub mod MadeTexts
+pub mod Read
+pub mod Redundant
+pub mod Rounds
+pub mod Sent
+pub mod Tallies
+pub mod Texts

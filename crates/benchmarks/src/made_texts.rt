@@ -1,0 +1,82 @@
+//! Session texts that are made to cost time: few lines over and over, which name each other.
+
+use crate::measured::{Round, measure};
+use crate::tally::Tally;
+use sdp_formats::{rtp_params, sdp_parser};
+use std::alloc::Global;
+use std::io;
+
+/// What stands before the types of the one section, of which this is the first.
+const HEAD: &str = "v=0\r\no=- 1 2 IN IP4 0.0.0.0\r\ns=-\r\nt=0 0\r\nm=audio 9 UDP/TLS/RTP/SAVPF 0";
+
+/// What stands between its types and its other lines.
+const SECTION: &str = "\r\nc=IN IP4 0.0.0.0\r\na=mid:0\r\na=sendrecv\r\n";
+
+/// A session text that is read with the rows of its sections.
+#[derive(Drop)]
+struct Reading<'a> {
+    text: &'a str,
+}
+
+/// Counts rows, and the bytes of the text with each section.
+impl Round for Reading<'_> {
+    ghost use Rattle.benchmarks.specs.MadeTexts.{CountsRows};
+
+    ghost counts = { CountsRows };
+
+    fn round(&mut self, alloc: Global, _number: u32, tally: &mut Tally) {
+        if let Ok((sdp, _)) = sdp_parser(alloc, self.text) {
+            for section in sdp.media_lines.as_slice() {
+                if let Ok(rows) = rtp_params(alloc, section) {
+                    tally.add(rows.len(), self.text.len());
+                }
+            }
+        }
+    }
+}
+
+/// Reads a text once whose section lists such types more, and has these lines so often.
+fn read_made(
+    rt: &HostRuntime,
+    what: &str,
+    types: &str,
+    lines: &str,
+    times: usize,
+) -> io::Result<()> {
+    let lines = lines.repeat(rt.alloc(), times)?;
+    let text = [HEAD, types, SECTION, lines.as_str()].concat(rt.alloc())?;
+    let read = measure(
+        rt,
+        what,
+        "read",
+        &mut Reading {
+            text: text.as_str(),
+        },
+        1,
+    )?;
+    println!(*rt;
+        "{what}: {} rows\n{what}: {} bytes",
+        read.packets, read.bytes
+    )
+}
+
+/// Each kind of text, read with its rows.
+pub(crate) fn measure_all(rt: &HostRuntime) -> io::Result<()> {
+    let types = " 0".repeat(rt.alloc(), 50_000)?;
+    read_made(
+        rt,
+        "one type listed again",
+        types.as_str(),
+        "a=x\r\n",
+        20_000,
+    )?;
+    read_made(
+        rt,
+        "one retransmission named again",
+        "",
+        "a=fmtp:97 apt=96\r\n",
+        10_000,
+    )?;
+    let lines = "a=rtpmap:1 PCMU/8000\r\na=fmtp:2 apt=1\r\n";
+    read_made(rt, "one type mapped again", "", lines, 5_000)
+}

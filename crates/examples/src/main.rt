@@ -1,0 +1,52 @@
+//! Code to copy, a module for each piece, whose first lines name the crates that it uses. Standard input has parts with
+//! an empty line between, each behind a line `== NAME`; no line of a part begins so. What comes of a part is printed
+//! behind the same line.
+//!
+//! - `recorder`: datagrams in hexadecimal, a line each, of which those of SSRC 44 and payload type 96 are VP8, into
+//!   frames (`recorder`, `recording`)
+//! - `lossy link`: nothing; frames over a link that loses packets (`lossy_link`)
+//! - `captures`: captures of browsers in data/, a line each, `FILE CODEC TYPE [REDTYPE]`, into units (`captures`)
+//! - `offer`: an offer, into its sections with their rows and candidates (`offer`)
+//! - `browser`: an end's text, which gets the transport's lines (`transport`)
+//! - `rows`: rows in JSON, a line each, read and written (`json_rows`)
+//! - `track`: nothing; a tuple of the program's own, of what rows hold, written and read by serde (`json_values`)
+#![tactic(auto)]
+
+mod capture;
+mod captured_stream;
+mod captures;
+mod dress;
+mod json_rows;
+mod json_values;
+mod lossy_link;
+mod offer;
+mod recorder;
+mod recording;
+mod transport;
+
+use anyhow::bail;
+use std::io;
+
+fn main(rt: HostRuntime) -> anyhow::Result<()> {
+    let text = io::read_to_string(rt.alloc(), rt.reader())?;
+    for part in text.as_str().split("\n== ") {
+        run(&rt, part.strip_prefix("== ").unwrap_or(part))?;
+    }
+    Ok(())
+}
+
+/// Runs the example whose name is the first line, on the lines behind it.
+fn run(rt: &HostRuntime, part: &str) -> anyhow::Result<()> {
+    let (name, lines) = part.split_once('\n').unwrap_or((part, ""));
+    println!(*rt; "== {name}")?;
+    match name {
+        "recorder" => recording::record(rt, lines),
+        "lossy link" => lossy_link::lossy_link(rt),
+        "captures" => captures::report(rt, lines),
+        "offer" => offer::print_offer(rt, lines),
+        "browser" => transport::print_dressed(rt, lines),
+        "rows" => json_rows::print_rows(rt, lines),
+        "track" => json_values::print_track(rt),
+        _ => bail!("no example of this name"),
+    }
+}

@@ -1,2 +1,0 @@
-pub mod Extensions
-pub mod Rounds

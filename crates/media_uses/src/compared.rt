@@ -1,0 +1,46 @@
+//! Worked rows, and what comes of them.
+
+use crate::sessions::{
+    lines_that_would_be_read_otherwise_are_refused, offers_say_the_lines_of_the_session,
+};
+use crate::worked_rows::{
+    a_time_in_milliseconds, a_time_that_does_not_fit, receive_all_hands_out_in_order,
+};
+
+/// Prints a line for each row, and answers whether each is as it must be.
+pub(crate) fn print_rows(rt: &HostRuntime) -> bool {
+    let alloc = rt.alloc();
+    let rows = [
+        ("row 12, receive_all", receive_all_hands_out_in_order(alloc)),
+        (
+            "row 20, a time that does not fit",
+            a_time_that_does_not_fit(alloc),
+        ),
+        ("a time in milliseconds", a_time_in_milliseconds(alloc)),
+        (
+            "an offer with lines of the session",
+            offers_say_the_lines_of_the_session(alloc),
+        ),
+        (
+            "lines that would be read otherwise",
+            lines_that_would_be_read_otherwise_are_refused(alloc),
+        ),
+    ];
+    let mut are_right = true;
+    for (name, row) in &rows {
+        are_right = print_row(rt, name, *row) && are_right;
+    }
+    are_right
+}
+
+/// Prints a row's name and what came of it, and answers whether it is as it must be; None is a row of which a call was
+/// refused.
+fn print_row(rt: &HostRuntime, name: &str, row: Option<bool>) -> bool {
+    let word = match row {
+        Some(true) => "ok",
+        Some(false) => "wrong",
+        None => "refused",
+    };
+    let _ = println!(*rt; "{name}: {word}");
+    matches!(row, Some(true))
+}

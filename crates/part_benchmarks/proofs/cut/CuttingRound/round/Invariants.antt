@@ -1,7 +1,0 @@
-use Rattle.std.proofs.Common.{◌≡◌, map}
-use Rattle.benchmark_rounds.specs.Tallies.{tally_with_all}
-use Rattle.part_benchmarks.proofs.cut.CuttingRound.round.Given as goal
-
--- the units so far are counted
-abbrev pub invariant-loop-unit : goal.invariant-loop-unit
-invariant-loop-unit l = l.tally ≡ tally_with_all l.fn.tally (map (λ u. u.now) l.yielded)

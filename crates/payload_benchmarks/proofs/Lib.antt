@@ -1,4 +1,0 @@
-mod BufferLemmas
-mod LineLemmas
-mod ReadLemmas
-mod SentLemmas

@@ -1,4 +1,0 @@
-pub mod Buffered
-pub mod Lines
-pub mod Read
-pub mod Sent

@@ -1,0 +1,79 @@
+//! A packetizer and a depacketizer that are boxed by their caller.
+
+use command_lines::Line;
+use h26x_payload::{CodecDepacketizer, CodecPacketizer, NotBoxed};
+use payload_core::{
+    Codec, Depacketizer, DepacketizingBuffer, PacketList, Packetizer, Payloader, RtpMeta,
+    SentPacket,
+};
+use rtp_wire::{ExtensionValues, Frequency, SeqNo};
+
+/// `boxed CODEC NUMBERS LIMIT SAMPLE`: the payloads of a sample through a boxed packetizer, with a star behind each
+/// that has the marker, and the bytes that they give through a boxed depacketizer. NUMBERS is how far units of H.265
+/// and H.266 may be out of their decoding order, 0 where they have no numbers.
+pub(crate) fn answer(line: &mut Line<'_>) {
+    let codec = Codec::from(line.word());
+    let numbers = line.number::<u16>();
+    let sink = send(line, codec, numbers);
+    receive(line, codec, numbers, sink.packets());
+}
+
+/// What the sample of the next two words, `LIMIT SAMPLE`, is sent as.
+fn send(line: &mut Line<'_>, codec: Codec, numbers: u16) -> PacketList {
+    let mut sink = PacketList::new(line.alloc());
+    let limit = line.number::<usize>();
+    let sample = line.bytes();
+    let Some(mut packetizer) = CodecPacketizer::<NotBoxed>::new(codec) else {
+        line.refuse("no payload format");
+        return sink;
+    };
+    packetizer.configure_for(None, Some(numbers), Frequency::EIGHT_KHZ);
+    let Ok(packetizer) = Box::new(line.alloc(), packetizer) else {
+        line.refuse("out of memory");
+        return sink;
+    };
+    let packetizer: CodecPacketizer = CodecPacketizer::Boxed(packetizer);
+    let mut payloader = Payloader::new(packetizer);
+    let values = ExtensionValues::absent();
+    if let Err(fault) = payloader.push_sample(line.alloc(), &mut sink, limit, 0, &sample, &values) {
+        line.refuse(fault);
+    }
+    sink
+}
+
+/// The payloads and the bytes of their unit.
+fn receive(line: &mut Line<'_>, codec: Codec, numbers: u16, packets: &[SentPacket]) {
+    let Some(mut depacketizer) = CodecDepacketizer::<NotBoxed>::new(line.alloc(), codec) else {
+        return;
+    };
+    depacketizer.configure_for(None, Some(numbers), Frequency::EIGHT_KHZ);
+    let Ok(depacketizer) = Box::new(line.alloc(), depacketizer) else {
+        return line.refuse("out of memory");
+    };
+    let depacketizer: CodecDepacketizer = CodecDepacketizer::Boxed(depacketizer);
+    let mut buffer = DepacketizingBuffer::new(line.alloc(), depacketizer, 0);
+    let mut number: u64 = 0;
+    for packet in packets {
+        line.put_bytes(packet.payload.as_slice());
+        line.put(if packet.marker { "* " } else { " " });
+        if let Err(fault) = buffer.push(meta(number, packet), packet.payload.as_slice()) {
+            line.refuse(fault);
+        }
+        number = number.saturating_add(1);
+    }
+    match buffer.pop() {
+        Ok(Some(unit)) => line.put_bytes(unit.bytes.as_slice()),
+        Ok(None) => {}
+        Err(fault) => line.refuse(fault),
+    }
+}
+
+/// What is held of a packet.
+fn meta(number: u64, packet: &SentPacket) -> RtpMeta {
+    RtpMeta {
+        seq_no: SeqNo::from(number),
+        time: packet.time,
+        marker: packet.marker,
+        ext_vals: packet.values,
+    }
+}

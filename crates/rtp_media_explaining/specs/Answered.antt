@@ -1,0 +1,32 @@
+-- What a line does that is answered and explained.
+use Rattle.std.specs.Prelude.{◌≡◌, ◌⊎◌, ℕ, List, [], Some, true, false, take}
+use Rattle.std.specs.Str.Lines.{lines}
+use Rattle.rtp_media_lines.specs.declared.Command.{Command}
+use Rattle.rtp_media_lines.specs.declared.reply.Reply.{Reply}
+use Rattle.rtp_media_lines.specs.Runs.{Printed}
+use Rattle.rtp_media_lines.specs.declared.status.Status.{Status}
+use Rattle.rtp_media_lines.specs.declared.status.Status.TheVariants.{Success}
+use Rattle.rtp_media_explaining.specs.Lines.{is_comment, text_of}
+use Rattle.rtp_media_explaining.specs.Noted.{Known, noted_all}
+
+-- A comment changes nothing; of any other line the replies are those that a run of it alone would print. What they say
+-- is noted.
+pub record Explained {S : Type 0} (gives : S → Command → S → List Reply → Type 0) (old new : S) (before after : Known)
+    (line : List ℕ) (status : Status) : Type 0 where
+  pub replies : List ℕ
+  pub comment : is_comment line ≡ true → (new ≡ old) × (replies ≡ []) × (status ≡ Success)
+  pub answered : is_comment line ≡ false → Printed gives old new (Some []) (Some replies) line status
+  pub noted : after ≡ noted_all before (text_of line) (lines (text_of replies))
+
+-- Of some replies the first so many are noted.
+abbrev pub NotesFirst : Known → Known → List ℕ → List (List ℕ) → Type 0
+NotesFirst before after line replies = (count : ℕ) × (after ≡ noted_all before line (take count replies))
+
+-- Broken off, as where memory runs out: a comment changed nothing; of any other line nothing is noted, or it was
+-- answered and the first of its replies are noted.
+pub record PartlyExplained {S : Type 0} (gives : S → Command → S → List Reply → Type 0) (old new : S)
+    (before after : Known) (line : List ℕ) : Type 0 where
+  pub comment : is_comment line ≡ true → (new ≡ old) × (after ≡ before)
+  pub noted : (after ≡ before) ⊎ ((replies : List ℕ) × (status : Status)
+      × Printed gives old new (Some []) (Some replies) line status
+      × NotesFirst before after (text_of line) (lines (text_of replies)))

@@ -1,0 +1,146 @@
+//! Commands on whole session texts.
+
+use command_lines::Reply;
+use sdp_formats::{
+    Bandwidth, MediaAttribute, MediaLine, Sdp, SdpError, Session, SessionAttribute, SsrcInfo,
+    assert_consistency, bundle_mids, sctp_init, sdp_parser, session_parser, ssrc_info,
+};
+use sdp_formats_lookups::ice_candidates;
+use std::alloc::Global;
+
+/// `text NAME`: what a session text has: session attributes, attributes and sources of each section, lines of a form
+/// that isn't known, candidates, bundled sections, what its data channels have, and bytes that are left.
+pub(crate) fn put_text(alloc: Global, text: &str, reply: &mut Reply) {
+    match sdp_parser(alloc, text) {
+        Ok((sdp, rest)) => {
+            put_counts(&sdp.session, rest.len(), reply);
+            put_parts(alloc, &sdp, reply);
+        }
+        Err(error) => put_refusal(error, reply),
+    }
+}
+
+/// Writes why a text isn't read.
+pub(crate) fn put_refusal(error: SdpError, reply: &mut Reply) {
+    match error {
+        SdpError::Memory => reply.fail(),
+        _ => reply.put("no session text"),
+    }
+}
+
+fn put_counts(session: &Session, left: usize, reply: &mut Reply) {
+    let attributes = session.attrs.as_slice();
+    let mut unused = 0usize;
+    for attribute in attributes {
+        if matches!(attribute, SessionAttribute::Unused(_)) {
+            unused = unused.saturating_add(1);
+        }
+    }
+    reply.say("session ", &session.id);
+    reply.say(", ", &attributes.len());
+    reply.say(" attributes, ", &unused);
+    reply.say(" unused, ", &left);
+    reply.put(" bytes left");
+}
+
+/// What stands in the text besides, section by section and as a whole.
+fn put_parts(alloc: Global, sdp: &Sdp, reply: &mut Reply) {
+    for section in sdp.media_lines.as_slice() {
+        put_section(section, reply);
+        put_sources(alloc, section, reply);
+    }
+    put_whole(alloc, sdp, reply);
+}
+
+fn put_section(section: &MediaLine, reply: &mut Reply) {
+    let attributes = section.attrs.as_slice();
+    let mut unused = 0usize;
+    for attribute in attributes {
+        if matches!(attribute, MediaAttribute::Unused(_)) {
+            unused = unused.saturating_add(1);
+        }
+    }
+    reply.say("\n  section: ", &section.pts.as_slice().len());
+    reply.say(" types, ", &attributes.len());
+    reply.say(" attributes, ", &unused);
+    reply.put(" unused");
+}
+
+fn put_sources(alloc: Global, section: &MediaLine, reply: &mut Reply) {
+    match ssrc_info(alloc, section) {
+        Ok(sources) => {
+            for source in sources.as_slice() {
+                put_source(source, reply);
+            }
+        }
+        Err(_) => reply.fail(),
+    }
+}
+
+fn put_source(source: &SsrcInfo, reply: &mut Reply) {
+    reply.say("\n    source ", &source.ssrc);
+    reply.say_some(" repairs ", &source.repairs);
+    reply.say_some(" of ", &source.cname);
+    reply.say_some(" in ", &source.stream_id);
+    reply.say_some(" track ", &source.track_id);
+}
+
+/// What the text says as a whole.
+fn put_whole(alloc: Global, sdp: &Sdp, reply: &mut Reply) {
+    match ice_candidates(alloc, sdp) {
+        Ok(candidates) => reply.say("\n  whole: ", &candidates.len()),
+        Err(_) => reply.fail(),
+    }
+    let bundled = match bundle_mids(sdp) {
+        Some(mids) => mids.len(),
+        None => 0,
+    };
+    reply.say(" candidates, ", &bundled);
+    reply.put(" bundled, sctp-init ");
+    reply.put(match sctp_init(sdp) {
+        Some(init) => init.as_str(),
+        None => "none",
+    });
+    match assert_consistency(alloc, sdp) {
+        Ok(()) => {}
+        Err(SdpError::Memory) => reply.fail(),
+        Err(_) => reply.put(", parts apart"),
+    }
+}
+
+/// `prefixes NAME`: how many prefixes of a text, by bytes, are session texts, and how many not.
+pub(crate) fn put_prefixes(alloc: Global, text: &str, reply: &mut Reply) {
+    let (mut read, mut unread) = (0usize, 0usize);
+    for end in 0..text.len().saturating_add(1) {
+        let Some(prefix) = text.get(..end) else {
+            continue;
+        };
+        match sdp_parser(alloc, prefix) {
+            Ok(_) => read = read.saturating_add(1),
+            Err(SdpError::Memory) => return reply.fail(),
+            Err(_) => unread = unread.saturating_add(1),
+        }
+    }
+    reply.say("", &read);
+    reply.say(" prefixes are session texts, ", &unread);
+    reply.put(" are none");
+}
+
+/// `session NAME`: what stands before the first section: number, bandwidth, attributes, and bytes behind it.
+pub(crate) fn put_session(alloc: Global, text: &str, reply: &mut Reply) {
+    match session_parser(alloc, text) {
+        Ok((session, rest)) => put_header(&session, rest.len(), reply),
+        Err(error) => put_refusal(error, reply),
+    }
+}
+
+fn put_header(session: &Session, left: usize, reply: &mut Reply) {
+    reply.say("session ", &session.id);
+    if let Some(Bandwidth { typ, val }) = &session.bw {
+        reply.say(", bandwidth ", typ);
+        reply.say(":", val);
+    }
+    reply.say(", ", &session.attrs.as_slice().len());
+    reply.say(" attributes, ", &left);
+    reply.put(" bytes left");
+}

@@ -1,2 +1,0 @@
-pub mod MadeTexts
-pub mod Texts
