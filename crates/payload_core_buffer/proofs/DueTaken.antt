@@ -50,20 +50,38 @@ module _ (format : Format) (cutoff : Option ℕ) (fragment : Fragment) (hold_bac
     pub popped-ends : (p q : RtpMeta) → p ≡ (packet_at (packets_of ks) f.start).meta
         → q ≡ (packet_at (packets_of ks) (f.end - 1)).meta
         → AnswersBy (pop_step format hold_back (state hs)) new (Some (Ok (Some (record {
-          first = p.seq_no; last = q.seq_no; time = p.time; values = q.ext_vals; bytes = bytes; extra = extra }))))
+          first = p.seq_no;
+          last = q.seq_no;
+          time = p.time;
+          values = q.ext_vals;
+          bytes = bytes;
+          extra = extra;
+        }))))
     popped-ends p q first last = as-unit (record {
-      first = p.seq_no; last = q.seq_no; time = p.time; values = q.ext_vals; bytes = bytes; extra = extra })
-      (ap₂ (λ (a b : RtpMeta). let u : MediaUnit = record {
-        first = a.seq_no; last = b.seq_no; time = a.time; values = b.ext_vals; bytes = bytes; extra = extra } in u)
-      first last ∙ sym (unit-is (packets_of ks) f is-frame.not_empty is-frame.in_range bytes extra))
+      first = p.seq_no;
+      last = q.seq_no;
+      time = p.time;
+      values = q.ext_vals;
+      bytes = bytes;
+      extra = extra;
+    })
+        (ap₂ (λ (a b : RtpMeta). let u : MediaUnit = record {
+          first = a.seq_no;
+          last = b.seq_no;
+          time = a.time;
+          values = b.ext_vals;
+          bytes = bytes;
+          extra = extra;
+        } in u)
+        first last ∙ sym (unit-is (packets_of ks) f is-frame.not_empty is-frame.in_range bytes extra))
 
     -- by what is known of all its packets
     pub popped-metas : (d : Depacketized) → d.bytes.items ≡ bytes → d.extra ≡ extra
         → metas_of_unit d ≡ metas_of (packets_between (packets_of ks) f)
         → AnswersBy (pop_step format hold_back (state hs)) new (Some (Ok (Some (unit_of d))))
     popped-metas d read told known = as-unit (unit_of d) (
-      ap (λ (ms : List RtpMeta). unit_from ms d.bytes.items d.extra) known
-      ∙ ap₂ (unit_from (metas_of (packets_between (packets_of ks) f))) read told)
+        ap (λ (ms : List RtpMeta). unit_from ms d.bytes.items d.extra) known
+        ∙ ap₂ (unit_from (metas_of (packets_between (packets_of ks) f))) read told)
 
   pub tells : (d : Depacketized) → metas_of_unit d ≡ metas_of (packets_between (packets_of ks) f)
       → TellsOf (ready format hold_back (state hs)) (Some d)

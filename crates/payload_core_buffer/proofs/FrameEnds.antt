@@ -30,7 +30,13 @@ module _ (ps : List Packet) (f : Frame) (some : f.start < f.end) (within : f.end
       omega (arith, long, length-map (packets_between ps f) (λ (p : Packet). p.meta)) in
       let back : f.start + (f.end - 1 - f.start) ≡ f.end - 1 = omega (arith, some) in
       ap₂ (λ (p q : RtpMeta). let u : MediaUnit = record {
-        first = p.seq_no; last = q.seq_no; time = p.time; values = q.ext_vals; bytes = bytes; extra = extra } in u)
+        first = p.seq_no;
+        last = q.seq_no;
+        time = p.time;
+        values = q.ext_vals;
+        bytes = bytes;
+        extra = extra;
+      } in u)
       (meta-between 0 (omega (arith, some)) ∙ ap (λ (k : ℕ). (packet_at ps k).meta) front)
       (ap (meta_at (metas_of (packets_between ps f))) last ∙ meta-between (f.end - 1 - f.start) (omega (arith, some))
       ∙ ap (λ (k : ℕ). (packet_at ps k).meta) back)

@@ -35,9 +35,9 @@ module _ (format : Format) (old new : PopState) (f : Frame) where
         (Some (Ok (Some (unit_from (metas_of (packets_between old.held f)) bytes extra))))
     taken bytes extra read = (
       sym (ap (λ (o : Option PacketError). answer_by o (metas_of (packets_between old.held f)) run.written run.extra)
-      read.no_fault
-      ∙ ap₂ (λ (bs : List ℕ) (x : CodecExtra). let a : Answer =
-      Ok (Some (unit_from (metas_of (packets_between old.held f)) bs x)) in a) (sym read.bytes) (sym read.extra)),
+          read.no_fault
+          ∙ ap₂ (λ (bs : List ℕ) (x : CodecExtra). let a : Answer =
+          Ok (Some (unit_from (metas_of (packets_between old.held f)) bs x)) in a) (sym read.bytes) (sym read.extra)),
       behind read.fragment,
     )
 
@@ -45,7 +45,7 @@ module _ (format : Format) (old new : PopState) (f : Frame) where
         → AnswersBy (frame_step format old (Some f)) new (as_refusal e)
     refused e not fault = rw (other e not) (
       sym (ap (λ (o : Option PacketError). answer_by o (metas_of (packets_between old.held f)) run.written run.extra)
-      fault.fault),
+          fault.fault),
       behind fault.fragment,
     )
 

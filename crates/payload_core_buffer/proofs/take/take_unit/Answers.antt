@@ -91,10 +91,13 @@ meta_at-first-requires g c =
     let due = c.due_frame.ensures.due format held.queue.slots held.above held.queue.counted in
     let same : c.due_frame.new.self.slots.items ≡ c.args.queue.now.slots.items =
     ap (λ (q : VecDeque Held Global). q.items) c.due_frame.ensures.slots in
-    omega (arith, some format c.args.cutoff.now (d.fragment c.args.depacketizer.now) c.args.hold_back hs
-    c.due_frame.new.self.slots.items c.in-Some.frame same (sym c.in-Some.is ∙ due),
-    within format c.args.cutoff.now (d.fragment c.args.depacketizer.now) c.args.hold_back hs
-    c.due_frame.new.self.slots.items c.in-Some.frame same (sym c.in-Some.is ∙ due))
+    omega (
+      arith,
+      some format c.args.cutoff.now (d.fragment c.args.depacketizer.now) c.args.hold_back hs
+          c.due_frame.new.self.slots.items c.in-Some.frame same (sym c.in-Some.is ∙ due),
+      within format c.args.cutoff.now (d.fragment c.args.depacketizer.now) c.args.hold_back hs
+          c.due_frame.new.self.slots.items c.in-Some.frame same (sym c.in-Some.is ∙ due),
+    )
 
 pub overflow_sub-frame : goal.overflow_sub-frame
 overflow_sub-frame g c =
@@ -105,8 +108,11 @@ overflow_sub-frame g c =
     let due = c.due_frame.ensures.due format held.queue.slots held.above held.queue.counted in
     let same : c.due_frame.new.self.slots.items ≡ c.args.queue.now.slots.items =
     ap (λ (q : VecDeque Held Global). q.items) c.due_frame.ensures.slots in
-    omega (arith, some format c.args.cutoff.now (d.fragment c.args.depacketizer.now) c.args.hold_back hs
-    c.due_frame.new.self.slots.items c.in-Some.frame same (sym c.in-Some.is ∙ due))
+    omega (
+      arith,
+      some format c.args.cutoff.now (d.fragment c.args.depacketizer.now) c.args.hold_back hs
+          c.due_frame.new.self.slots.items c.in-Some.frame same (sym c.in-Some.is ∙ due),
+    )
 
 pub meta_at-last-requires : goal.meta_at-last-requires
 meta_at-last-requires g c =
@@ -117,10 +123,13 @@ meta_at-last-requires g c =
     let due = c.due_frame.ensures.due format held.queue.slots held.above held.queue.counted in
     let same : c.due_frame.new.self.slots.items ≡ c.args.queue.now.slots.items =
     ap (λ (q : VecDeque Held Global). q.items) c.due_frame.ensures.slots in
-    omega (arith, some format c.args.cutoff.now (d.fragment c.args.depacketizer.now) c.args.hold_back hs
-    c.due_frame.new.self.slots.items c.in-Some.frame same (sym c.in-Some.is ∙ due),
-    within format c.args.cutoff.now (d.fragment c.args.depacketizer.now) c.args.hold_back hs
-    c.due_frame.new.self.slots.items c.in-Some.frame same (sym c.in-Some.is ∙ due))
+    omega (
+      arith,
+      some format c.args.cutoff.now (d.fragment c.args.depacketizer.now) c.args.hold_back hs
+          c.due_frame.new.self.slots.items c.in-Some.frame same (sym c.in-Some.is ∙ due),
+      within format c.args.cutoff.now (d.fragment c.args.depacketizer.now) c.args.hold_back hs
+          c.due_frame.new.self.slots.items c.in-Some.frame same (sym c.in-Some.is ∙ due),
+    )
 
 pub returns-in-Ok-clause-popped : goal.returns-in-Ok-clause-popped
 returns-in-Ok-clause-popped g c =
