@@ -54,7 +54,7 @@ pub sends-at : (e : EndState) (mid : List ℕ) (ssrc pt : ℕ) → refusal_of_op
 unfolding refusal_of_open_sender
 sends-at e mid ssrc pt h = go (section_of e.exchange.agreed mid) refl h where
   with-row : (a : Agreed) → section_of e.exchange.agreed mid ≡ Some a → (o : Option Row) → carried_row a pt ≡ o
-      → sender_refusal_of e.exchange.config.rows a e.streams ssrc o ≡ None → SendsAt e mid ssrc pt
+      → sender_refusal_of e.exchange.config.rows a e.streams ssrc pt o ≡ None → SendsAt e mid ssrc pt
   with-row a is None row h = absurd (no-some _ h)
   with-row a is (Some row) found h =
       let all : AllHold (own_row_agrees e.exchange.config.rows row) a.sends (is_named a.own_ssrcs ssrc)
@@ -83,7 +83,7 @@ unfolding refusal_of_open_sender
 may-send e mid ssrc pt at =
     let a : Agreed = at.section in
     ap (λ (o : Option Agreed). sender_refusal_in e.exchange.config.rows o e.streams ssrc pt) at.agreed
-    ∙ ap (λ (o : Option Row). sender_refusal_of e.exchange.config.rows a e.streams ssrc o)
+    ∙ ap (λ (o : Option Row). sender_refusal_of e.exchange.config.rows a e.streams ssrc pt o)
     (is-carried (row_in a.rows pt) at.row at.row_is at.carried)
     ∙ none-refuses (own_row_agrees e.exchange.config.rows at.row) a.sends (is_named a.own_ssrcs ssrc)
     (list_any (sends_as ssrc (types_of at.row)) e.streams)
@@ -94,7 +94,7 @@ pub receives-at : (e : EndState) (mid : List ℕ) (ssrc pt : ℕ) → refusal_of
 unfolding refusal_of_open_receiver
 receives-at e mid ssrc pt h = go (section_of e.exchange.agreed mid) refl h where
   with-row : (a : Agreed) → section_of e.exchange.agreed mid ≡ Some a → (o : Option Row) → carried_row a pt ≡ o
-      → receiver_refusal_of e.exchange.config.rows a e.streams ssrc o ≡ None → ReceivesAt e mid ssrc pt
+      → receiver_refusal_of e.exchange.config.rows a e.streams ssrc pt o ≡ None → ReceivesAt e mid ssrc pt
   with-row a is None row h = absurd (no-some _ h)
   with-row a is (Some row) found h =
       let all : AllHold (own_row_agrees e.exchange.config.rows row) a.receives (is_named a.remote_ssrcs ssrc)
@@ -123,7 +123,7 @@ unfolding refusal_of_open_receiver
 may-receive e mid ssrc pt at =
     let a : Agreed = at.section in
     ap (λ (o : Option Agreed). receiver_refusal_in e.exchange.config.rows o e.streams ssrc pt) at.agreed
-    ∙ ap (λ (o : Option Row). receiver_refusal_of e.exchange.config.rows a e.streams ssrc o)
+    ∙ ap (λ (o : Option Row). receiver_refusal_of e.exchange.config.rows a e.streams ssrc pt o)
     (is-carried (row_in a.rows pt) at.row at.row_is at.carried)
     ∙ none-refuses (own_row_agrees e.exchange.config.rows at.row) a.receives (is_named a.remote_ssrcs ssrc)
     (list_any (receives_as ssrc (types_of at.row)) e.streams)

@@ -102,6 +102,12 @@ carried (Some row) = if is_carried row then Some row else None
 abbrev pub carried_row : Agreed → ℕ → Option Row
 carried_row a pt = carried (row_in a.rows pt)
 
+-- Why there is no such row: the section has none of the type, or one of no payload format or of a type above 127; a row
+-- whose RED type is none beside its own can't be the end's own, so it differs.
+abbrev pub refusal_of_row : Option Row → OpenError
+refusal_of_row None = RowNotAgreed
+refusal_of_row (Some row) = if has_format row.spec.codec && nat_le row.pt 127 then RowDiffers else RowNotAgreed
+
 -- Why no stream of a section's row can be opened, by whether the end's own row agrees with it, the section flows this
 -- way, its sender names the SSRC in it, and such a stream is open: the first that holds.
 abbrev pub refusal_by : Bool → Bool → Bool → Bool → Option OpenError
@@ -112,25 +118,25 @@ refusal_by agrees flows names is_open =
     else if is_open then Some AlreadyOpen
     else None
 
-abbrev pub sender_refusal_of : List Row → Agreed → List OpenStream → ℕ → Option Row → Option OpenError
-sender_refusal_of own a streams ssrc None = Some RowNotAgreed
-sender_refusal_of own a streams ssrc (Some row) =
+abbrev pub sender_refusal_of : List Row → Agreed → List OpenStream → ℕ → ℕ → Option Row → Option OpenError
+sender_refusal_of own a streams ssrc pt None = Some (refusal_of_row (row_in a.rows pt))
+sender_refusal_of own a streams ssrc pt (Some row) =
     refusal_by (own_row_agrees own row) a.sends (is_named a.own_ssrcs ssrc)
     (list_any (sends_as ssrc (types_of row)) streams)
 
 abbrev pub sender_refusal_in : List Row → Option Agreed → List OpenStream → ℕ → ℕ → Option OpenError
 sender_refusal_in own None streams ssrc pt = Some NoSection
-sender_refusal_in own (Some a) streams ssrc pt = sender_refusal_of own a streams ssrc (carried_row a pt)
+sender_refusal_in own (Some a) streams ssrc pt = sender_refusal_of own a streams ssrc pt (carried_row a pt)
 
-abbrev pub receiver_refusal_of : List Row → Agreed → List OpenStream → ℕ → Option Row → Option OpenError
-receiver_refusal_of own a streams ssrc None = Some RowNotAgreed
-receiver_refusal_of own a streams ssrc (Some row) =
+abbrev pub receiver_refusal_of : List Row → Agreed → List OpenStream → ℕ → ℕ → Option Row → Option OpenError
+receiver_refusal_of own a streams ssrc pt None = Some (refusal_of_row (row_in a.rows pt))
+receiver_refusal_of own a streams ssrc pt (Some row) =
     refusal_by (own_row_agrees own row) a.receives (is_named a.remote_ssrcs ssrc)
     (list_any (receives_as ssrc (types_of row)) streams)
 
 abbrev pub receiver_refusal_in : List Row → Option Agreed → List OpenStream → ℕ → ℕ → Option OpenError
 receiver_refusal_in own None streams ssrc pt = Some NoSection
-receiver_refusal_in own (Some a) streams ssrc pt = receiver_refusal_of own a streams ssrc (carried_row a pt)
+receiver_refusal_in own (Some a) streams ssrc pt = receiver_refusal_of own a streams ssrc pt (carried_row a pt)
 
 -- Why `open_sender` is refused, lack of memory aside.
 unfoldable pub refusal_of_open_sender : EndState → List ℕ → ℕ → ℕ → Option OpenError

@@ -9,11 +9,12 @@ pub enum OpenError {
     /// No section of this name is agreed.
     #[error("no such section is agreed")]
     NoSection,
-    /// The answer's section has no row of this type, or one that no stream can carry: of a codec without a payload
-    /// format, of a type above 127, or whose RED type is its own type.
+    /// The answer's section has no row of this type, or one of a codec without a payload format, or of a type above
+    /// 127.
     #[error("no row of this type is agreed")]
     RowNotAgreed,
-    /// The end's own row of this type is missing, isn't locked, or means something else.
+    /// The end's own row of this type is missing, isn't locked, or means something else, as where the agreed row's RED
+    /// type is its own type.
     #[error("the end's own row differs from the agreed one")]
     RowDiffers,
     /// The section does not flow this way.

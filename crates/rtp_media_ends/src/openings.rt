@@ -5,12 +5,12 @@ ghost use Rattle.std.specs.List.{list_any};
 ghost use Rattle.rtp_media_exchange.specs.Agreement.{agreed_row_of, row_in, section_of};
 ghost use Rattle.rtp_media_ends.specs.Ends.{carried_row, end_of, is_carried, refusal_by};
 ghost use Rattle.rtp_media_stream_table.specs.Streams.{receives_as};
-ghost use Rattle.rtp_media_ends.specs.Ends.{refusal_of_open_receiver, refusal_of_open_sender};
+ghost use Rattle.rtp_media_ends.specs.Ends.{refusal_of_open_receiver, refusal_of_open_sender, refusal_of_row};
 ghost use Rattle.rtp_media_stream_table.specs.Streams.{sends_as};
 ghost use Rattle.rtp_media_ends.specs.Ends.{types_of};
 
 use crate::errors::OpenError;
-use crate::rows::{is_carried, types_of};
+use crate::rows::{has_payload, is_carried, types_of};
 use rtp_media_exchange::{AgreedSection, Exchange, PayloadParams};
 use rtp_media_stream_table::StreamTable;
 use rtp_wire::{Mid, Pt, Ssrc};
@@ -110,10 +110,12 @@ fn carried_row(section: &AgreedSection, pt: Pt) -> Result<PayloadParams, OpenErr
     ensures row { IfOk result (λ r. row_in section.now.rows pt ≡ Some r) }
     ensures carried { IfOk result (λ r. is_carried r ≡ true) }
     ensures found { IfOk result (λ r. carried_row section.now pt ≡ Some r) }
-    ensures refused { IfErr result (λ e. (e ≡ OpenError.RowNotAgreed) × (carried_row section.now pt ≡ None)) }
+    ensures refused { IfErr result (λ e. (e ≡ refusal_of_row (row_in section.now.rows pt))
+        × (carried_row section.now pt ≡ None)) }
 {
     match section.row_of(pt) {
         Some(row) if is_carried(&row) => Ok(row),
+        Some(row) if has_payload(&row) => Err(OpenError::RowDiffers),
         _ => Err(OpenError::RowNotAgreed),
     }
 }

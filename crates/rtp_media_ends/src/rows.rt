@@ -1,6 +1,7 @@
 //! What a row says of a stream.
 
-ghost use Rattle.std.specs.Prelude.{◌≡◌};
+ghost use Rattle.std.specs.Prelude.{◌≡◌, ◌&&◌, nat_le};
+ghost use Rattle.rtp_media_streams.specs.Codings.{has_format};
 ghost use Rattle.rtp_media_ends.specs.Ends.{is_carried, is_red_of, row_format_of, types_of};
 
 use h26x_payload::has_format;
@@ -40,6 +41,13 @@ fn is_red_of(pt: Pt, red: Option<Pt>) -> bool
         None => true,
         Some(red) => red.get() <= 127 && red.get() != pt.get(),
     }
+}
+
+/// Whether a row's codec has a payload format, and its type 7 bits.
+pub(crate) fn has_payload(row: &PayloadParams) -> bool
+    ensures { result ≡ (has_format row.now.spec.codec && nat_le row.now.pt 127) }
+{
+    has_format(row.spec().codec) && row.pt().get() <= 127
 }
 
 /// Whether a stream can carry a row: its codec has a payload format, and its types have 7 bits and are distinct.
