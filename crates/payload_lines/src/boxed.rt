@@ -1,33 +1,33 @@
 //! A packetizer and a depacketizer that are boxed by their caller.
 
+use crate::formats::Format;
 use command_lines::Line;
-use h26x_payload::{CodecDepacketizer, CodecPacketizer, NotBoxed};
+use h26x_payload::{CodecDepacketizer, CodecPacketizer};
 use payload_core::{
-    Codec, Depacketizer, DepacketizingBuffer, PacketList, Packetizer, Payloader, RtpMeta,
+    Codec, Depacketized, DepacketizingBuffer, PacketError, PacketList, Payloader, RtpMeta,
     SentPacket,
 };
-use rtp_wire::{ExtensionValues, Frequency, SeqNo};
+use rtp_wire::{ExtensionValues, SeqNo};
 
 /// `boxed CODEC NUMBERS LIMIT SAMPLE`: the payloads of a sample through a boxed packetizer, with a star behind each
 /// that has the marker, and the bytes that they give through a boxed depacketizer. NUMBERS is how far units of H.265
 /// and H.266 may be out of their decoding order, 0 where they have no numbers.
 pub(crate) fn answer(line: &mut Line<'_>) {
     let codec = Codec::from(line.word());
-    let numbers = line.number::<u16>();
-    let sink = send(line, codec, numbers);
-    receive(line, codec, numbers, sink.packets());
+    let format = Format::new(codec, Some(line.number::<u16>()));
+    let sink = send(line, &format);
+    receive(line, &format, sink.packets());
 }
 
 /// What the sample of the next two words, `LIMIT SAMPLE`, is sent as.
-fn send(line: &mut Line<'_>, codec: Codec, numbers: u16) -> PacketList {
+fn send(line: &mut Line<'_>, format: &Format) -> PacketList {
     let mut sink = PacketList::new(line.alloc());
     let limit = line.number::<usize>();
     let sample = line.bytes();
-    let Some(mut packetizer) = CodecPacketizer::<NotBoxed>::new(codec) else {
+    let Some(packetizer) = format.packetizer() else {
         line.refuse("no payload format");
         return sink;
     };
-    packetizer.configure_for(None, Some(numbers), Frequency::EIGHT_KHZ);
     let Ok(packetizer) = Box::new(line.alloc(), packetizer) else {
         line.refuse("out of memory");
         return sink;
@@ -42,11 +42,10 @@ fn send(line: &mut Line<'_>, codec: Codec, numbers: u16) -> PacketList {
 }
 
 /// The payloads and the bytes of their unit.
-fn receive(line: &mut Line<'_>, codec: Codec, numbers: u16, packets: &[SentPacket]) {
-    let Some(mut depacketizer) = CodecDepacketizer::<NotBoxed>::new(line.alloc(), codec) else {
+fn receive(line: &mut Line<'_>, format: &Format, packets: &[SentPacket]) {
+    let Some(depacketizer) = format.depacketizer(line.alloc()) else {
         return;
     };
-    depacketizer.configure_for(None, Some(numbers), Frequency::EIGHT_KHZ);
     let Ok(depacketizer) = Box::new(line.alloc(), depacketizer) else {
         return line.refuse("out of memory");
     };
@@ -61,7 +60,12 @@ fn receive(line: &mut Line<'_>, codec: Codec, numbers: u16, packets: &[SentPacke
         }
         number = number.saturating_add(1);
     }
-    match buffer.pop() {
+    put_bytes_of(line, buffer.pop());
+}
+
+/// The bytes of a unit, if there is one.
+fn put_bytes_of(line: &mut Line<'_>, unit: Result<Option<Depacketized>, PacketError>) {
+    match unit {
         Ok(Some(unit)) => line.put_bytes(unit.bytes.as_slice()),
         Ok(None) => {}
         Err(fault) => line.refuse(fault),

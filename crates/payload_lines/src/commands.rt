@@ -6,7 +6,7 @@ use crate::samples::{head, keyframe, pack, pushed, read, short_packets, unit};
 use crate::units::{header, shows, units};
 use crate::{boxed, events, redundancy, vp8};
 use command_lines::Line;
-use payload_core_audio::RedSender;
+use payload_core::RedSender;
 use std::alloc::{AllocError, Global};
 
 /// What lines set for those behind them: a payload format, and what payloads are sent beside older ones by.

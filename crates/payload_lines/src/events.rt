@@ -1,7 +1,7 @@
 //! Reports of telephone events (RFC 4733 2.3).
 
 use command_lines::Line;
-use payload_core_base::TelephoneEvent;
+use payload_core::TelephoneEvent;
 use rtp_wire::Frequency;
 
 /// What `read RATE PACKET` and `write RATE EVENT VOLUME NANOSECONDS [end]` give.

@@ -20,17 +20,22 @@ pub(crate) struct Format {
 }
 
 impl Format {
-    /// The codec and the options that words say, each by its name.
-    fn of(line: &mut Line<'_>) -> Format {
-        let mut format = Format {
-            codec: Codec::from(line.word()),
+    /// A codec, and how far units may be out of their decoding order where they have numbers; nothing else is set.
+    pub(crate) fn new(codec: Codec, max_don_diff: Option<u16>) -> Format {
+        Format {
+            codec,
             octet_align: None,
-            max_don_diff: None,
+            max_don_diff,
             clock_rate: Frequency::EIGHT_KHZ,
             picture_id: None,
             for_browsers: false,
             hold_back: 127,
-        };
+        }
+    }
+
+    /// The codec and the options that words say, each by its name.
+    fn of(line: &mut Line<'_>) -> Format {
+        let mut format = Format::new(Codec::from(line.word()), None);
         for word in line.rest().split_whitespace() {
             let (name, number) = part(word, '=');
             match name {

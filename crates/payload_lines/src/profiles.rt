@@ -1,7 +1,7 @@
 //! Profiles and levels of H.264, H.265 and H.266, from their numbers and from the values of a session text.
 
 use command_lines::Line;
-use h26x_payload_profiles::{
+use h26x_payload::{
     H264LevelIdc, H264ProfileIdc, H264ProfileLevel, H265ProfileTierLevel, H266ProfileTierLevel,
 };
 use std::fmt::Debug;

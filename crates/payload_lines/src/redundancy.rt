@@ -1,7 +1,7 @@
 //! Payloads beside older ones (RFC 2198).
 
 use command_lines::{Line, part};
-use payload_core_audio::{RedDecoder, RedEncoder, RedSender, RedundantBlock};
+use payload_core::{RedDecoder, RedEncoder, RedSender, RedundantBlock};
 
 /// What `new DISTANCES`, `sync DISTANCES`, `wrap`, `write` and `read PACKET` give.
 pub(crate) fn answer(line: &mut Line<'_>, sender: &mut RedSender) {

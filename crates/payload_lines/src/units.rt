@@ -1,10 +1,9 @@
 //! Units and headers of H.264, H.265 and H.266.
 
 use command_lines::Line;
-use h26x_payload_formats::detect_h264_nalu;
-use h26x_payload_units::{
+use h26x_payload::{
     H265FragmentationUnitHeader, H265NALUHeader, H266FragmentationUnitHeader, H266NALUHeader,
-    nal_units,
+    detect_h264_nalu, nal_units,
 };
 
 /// `units TEXT`: the units of a text (ITU-T H.264 annex B), parted by blanks; a dash stands for none.
