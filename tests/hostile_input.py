@@ -163,8 +163,8 @@ def fault_of(case, payload):
 
 
 def fault_of_unit(case, payload):
-    """Of H.265 and H.266, whose header is two bytes. A single unit without a body and a fragment without its header are
-    cut short, which comes before the forbidden bit, and that before a type that no packet has."""
+    """Of H.265 and H.266, whose header is two bytes. A single unit without a body and a fragment without its header
+    are cut short, which comes before the forbidden bit, and that before a type that no packet has."""
     if len(payload) < 2:
         return "ErrShortPacket"
     kind, aggregate = (payload[0] >> 1 & 63, 48) if case.codec == "H265" else (payload[1] >> 3, 28)
