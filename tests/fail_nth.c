@@ -1,6 +1,6 @@
-/* Fails one call of malloc or realloc, and only that: the one whose number, counted from 1, stands in FAIL_NTH. Then it
- * writes a byte to the file descriptor in FAIL_TOLD. It is preloaded before a built program, or, with WRAPPED, linked
- * into one by -Wl,--wrap=malloc,--wrap=realloc. */
+/* Fails one call of malloc or realloc, and only that: the one whose number, counted from 1, stands in FAIL_NTH. Then
+ * it writes a byte to the file descriptor in FAIL_TOLD. It is preloaded before a built program, or, with WRAPPED,
+ * linked into one by -Wl,--wrap=malloc,--wrap=realloc. */
 #include <stdlib.h>
 #include <unistd.h>
 

@@ -1,8 +1,8 @@
 #!/usr/bin/env python3
-"""Readers and writers that fail. `refused_memory streams` runs a hundred lines: each read and each write fails in turn,
-a writer takes one byte a call, and two inputs have no end; each must come to what is said below. `rtplines` itself is
-run with an input and an output that can't be read and written, and with an input that comes byte by byte. Run it behind
-`rt ci`.
+"""Readers and writers that fail. `refused_memory streams` runs a hundred lines: each read and each write fails in
+turn, a writer takes one byte a call, and two inputs have no end; each must come to what is said below. `rtplines`
+itself is run with an input and an output that can't be read and written, and with an input that comes byte by byte.
+Run it behind `rt ci`.
 """
 
 import os

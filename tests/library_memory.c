@@ -1,6 +1,6 @@
 /* Each allocation is refused in turn at the exports of the library for C, which are linked with fail_nth.c: what
  * answers JILQAMUR_MEMORY is asked again, and all other answers must be those of ample memory. A sending stream alone
- * sends no more then, while another one of its end does. All is closed at the end, so that a sanitizer sees what leaks.
+ * sends no more then, while another one of its end does. All is closed at the end: a sanitizer sees what leaks.
  */
 #include <stdarg.h>
 #include <stdio.h>

@@ -30,8 +30,8 @@ def tried(counts, name, flags, folder):
     made = subprocess.run(["cc", *FLAGS, *flags, *sources, "-o", program], capture_output=True, text=True)
     if counts.check(f"library_memory.c is built, {name}", made.returncode == 0, made.stderr[-600:]):
         run = subprocess.run([program], capture_output=True, text=True, timeout=300)
-        counts.check(f"each allocation of the exports refused, {name}", run.returncode == 0 and "leak" not in run.stderr,
-                     (run.stdout + run.stderr)[-600:])
+        counts.check(f"each allocation of the exports refused, {name}",
+                     run.returncode == 0 and "leak" not in run.stderr, (run.stdout + run.stderr)[-600:])
         print(run.stdout, end="", flush=True)
 
 

@@ -1,8 +1,8 @@
 #!/usr/bin/env python3
 """A limit on the memory of the process (`ulimit -v`), while the input grows: thousands of lines of samples and of
-datagrams that are taken and never polled. Whatever the limit, `rtplines` ends by itself, with status 0, 1 or 2, and with
-`memory fault` on standard error where it is 1. The limits are found: from the least under which the program starts up
-to one under which the whole run ends with status 0. Run it behind `rt ci`.
+datagrams that are taken and never polled. Whatever the limit, `rtplines` ends by itself, with status 0, 1 or 2, and
+with `memory fault` on standard error where it is 1. The limits are found: from the least under which the program
+starts up to one under which the whole run ends with status 0. Run it behind `rt ci`.
 """
 
 import resource
