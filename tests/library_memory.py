@@ -20,7 +20,7 @@ BUILDS = {"plain": [], "sanitizers": ["-fsanitize=address,undefined", "-fno-sani
 
 def libraries():
     """The library, and that of the kit which it calls."""
-    kit = Path(shutil.which("rt") or "/").resolve().parents[1]
+    kit = Path(subprocess.run(["rt", "doc"], capture_output=True, text=True).stdout.strip()).parent
     return [built.TOP / "crates/jilqamur/out/libjilqamur.a", kit / "c" / "liblibc_c.a"]
 
 
