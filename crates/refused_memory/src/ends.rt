@@ -31,22 +31,28 @@ fn made(rt: &HostRuntime, session: u64) -> Option<End> {
     None
 }
 
-/// A section of video and one of audio that flow both ways, of this SSRC and the next.
+/// A section that flows both ways, of one SSRC.
+fn section(
+    alloc: Global,
+    mid: &str,
+    kind: MediaKind,
+    ssrc: u32,
+) -> Result<SectionSpec, AllocError> {
+    let mut ssrcs = Vec::new(alloc);
+    ssrcs.push(Ssrc::from(ssrc))?;
+    Ok(SectionSpec {
+        mid: Mid::from(mid),
+        kind,
+        dir: Direction::SendRecv,
+        ssrcs,
+    })
+}
+
+/// A section of video of an SSRC, and one of audio of the next.
 fn sections(alloc: Global, ssrc: u32) -> Result<Vec<SectionSpec>, AllocError> {
     let mut all = Vec::new(alloc);
-    for (mid, kind, ssrc) in [
-        ("0", MediaKind::Video, ssrc),
-        ("1", MediaKind::Audio, ssrc.saturating_add(1)),
-    ] {
-        let mut ssrcs = Vec::new(alloc);
-        ssrcs.push(Ssrc::from(ssrc))?;
-        all.push(SectionSpec {
-            mid: Mid::from(mid),
-            kind,
-            dir: Direction::SendRecv,
-            ssrcs,
-        })?;
-    }
+    all.push(section(alloc, "0", MediaKind::Video, ssrc)?)?;
+    all.push(section(alloc, "1", MediaKind::Audio, ssrc.saturating_add(1))?)?;
     Ok(all)
 }
 
@@ -64,11 +70,10 @@ fn gathered(rt: &HostRuntime, ssrc: u32) -> Option<Vec<SectionSpec>> {
 pub(crate) fn print_agreement(rt: &HostRuntime) -> Option<()> {
     let (mut a, mut b) = (made(rt, 1)?, made(rt, 2)?);
     print_connected(rt, &mut a, &mut b)?;
-    for (mid, ssrc, pt) in [("0", 44, 96), ("1", 45, 111)] {
-        print_sender(rt, &mut a, mid, ssrc, pt)?;
-        print_receiver(rt, &mut b, mid, ssrc, pt)?;
-    }
-    Some(())
+    print_sender(rt, &mut a, "0", 44, 96)?;
+    print_receiver(rt, &mut b, "0", 44, 96)?;
+    print_sender(rt, &mut a, "1", 45, 111)?;
+    print_receiver(rt, &mut b, "1", 45, 111)
 }
 
 /// A refused exchange is asked again, once a pending offer is given up.

@@ -2,7 +2,7 @@
 
 use crate::asking::{TIMES, print_refused};
 use rtp_media::{
-    Datagram, End, EndError, OpenError, PollFault, Polls, ReceiveError, Received, Unit,
+    Datagram, End, EndError, OpenError, PollFault, Polls, ReceiveError, Received, ReceivedAll, Unit,
 };
 use rtp_wire::{Mid, Pt, Ssrc};
 use std::alloc::{AllocError, Global};
@@ -81,20 +81,26 @@ fn print_received_all(rt: &HostRuntime, all: &[Datagram]) -> Option<()> {
         let mut end = fixed(rt)?;
         let _ = opened(rt, &mut end)?;
         match end.receive_all(all) {
-            Ok(received) if !is_any_cut_short(received.polls.as_slice()) => {
-                for verdict in &received.verdicts {
-                    let _ = println!(*rt; "{verdict:?}");
+            Ok(received) => {
+                if !is_any_cut_short(received.polls.as_slice()) {
+                    return Some(print_all(rt, &received));
                 }
-                for polls in &received.polls {
-                    print_answers(rt, polls.as_slice());
-                }
-                return Some(());
+                print_refused(rt);
             }
-            Ok(_) => print_refused(rt),
             Err(ReceiveError::Memory) => print_refused(rt),
         }
     }
     None
+}
+
+/// What was said of each datagram, and the units of each stream.
+fn print_all(rt: &HostRuntime, received: &ReceivedAll) {
+    for verdict in &received.verdicts {
+        let _ = println!(*rt; "{verdict:?}");
+    }
+    for polls in &received.polls {
+        print_answers(rt, polls.as_slice());
+    }
 }
 
 /// Whether memory for a unit ran out, which is then the last answer of its stream.
@@ -126,11 +132,12 @@ fn print_polled_all(rt: &HostRuntime, all: &[Datagram]) -> Option<()> {
             return None;
         }
         match end.poll_all(stream) {
-            Ok(answers) if !is_cut_short(answers.as_slice()) => {
-                print_answers(rt, answers.as_slice());
-                return Some(());
+            Ok(answers) => {
+                if !is_cut_short(answers.as_slice()) {
+                    return Some(print_answers(rt, answers.as_slice()));
+                }
+                print_refused(rt);
             }
-            Ok(_) => print_refused(rt),
             Err(_) => print_refused(rt),
         }
     }
