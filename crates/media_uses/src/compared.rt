@@ -5,6 +5,7 @@ use crate::sessions::{
 };
 use crate::worked_rows::{
     a_time_in_milliseconds, a_time_that_does_not_fit, receive_all_hands_out_in_order,
+    receive_owned_hands_out_in_order,
 };
 
 /// Prints a line for each row, and answers whether each is as it must be.
@@ -12,6 +13,7 @@ pub(crate) fn print_rows(rt: &HostRuntime) -> bool {
     let alloc = rt.alloc();
     let rows = [
         ("row 12, receive_all", receive_all_hands_out_in_order(alloc)),
+        ("row 12, receive_owned", receive_owned_hands_out_in_order(alloc)),
         (
             "row 20, a time that does not fit",
             a_time_that_does_not_fit(alloc),

@@ -1,7 +1,7 @@
 //! Worked rows that the program's lines can't say: datagrams handed in as one list, and samples whose time is at
 //! another clock than their stream's.
 
-use rtp_media_ends::{Datagram, End, Polls, Received, ReceivedAll, SampleError, StreamParams};
+use rtp_media_ends::{Datagram, End, PollFault, Received, ReceivedAll, SampleError, StreamParams, Unit};
 use rtp_wire::{ExtensionValues, Frequency, MediaTime, Mid, Pt, SeqNo, Ssrc};
 use std::alloc::Global;
 
@@ -10,13 +10,7 @@ const TYPE: u8 = 111;
 
 /// Row 12: of three datagrams of SSRC 44 and time 0 the first two change places, and the units come out in order.
 pub(crate) fn receive_all_hands_out_in_order(alloc: Global) -> Option<bool> {
-    let mut datagrams = Vec::new(alloc);
-    for (number, byte) in &[(1, 0xbb), (0, 0xaa), (2, 0xcc)] {
-        let bytes = [0x80, TYPE, 0, *number, 0, 0, 0, 0, 0, 0, 0, 44, *byte];
-        let bytes = Vec::from_slice(alloc, &bytes).ok()?;
-        datagrams.push(Datagram::from_vec(bytes)).ok()?;
-    }
-    let all = received(alloc, &datagrams)?;
+    let all = received(alloc, &swapped(alloc)?)?;
     let verdicts = [
         Received::Taken(0, SeqNo::from(1)),
         Received::Taken(0, SeqNo::from(0)),
@@ -24,8 +18,39 @@ pub(crate) fn receive_all_hands_out_in_order(alloc: Global) -> Option<bool> {
     ];
     Some(
         all.verdicts.as_slice() == verdicts.as_slice()
-            && are_units(&all.polls, 0, &[b"\xaa", b"\xbb", b"\xcc"]),
+            && all.polls.first().is_some_and(|polls| are_units(polls.as_slice(), 0, &UNITS)),
     )
+}
+
+/// The same where each datagram is given away.
+pub(crate) fn receive_owned_hands_out_in_order(alloc: Global) -> Option<bool> {
+    let mut end = receiving(alloc)?;
+    for datagram in swapped(alloc)? {
+        match end.receive_owned(datagram.into_vec()) {
+            Ok(Received::Taken(0, _)) => {}
+            Ok(_) => return Some(false),
+            Err(_) => return None,
+        }
+    }
+    if !end.is_receiver(0) {
+        return None;
+    }
+    let answers = end.poll_all(0).ok()?;
+    Some(are_units(&answers, 0, &UNITS))
+}
+
+/// Row 12's units, a byte each.
+const UNITS: [&[u8]; 3] = [b"\xaa", b"\xbb", b"\xcc"];
+
+/// Row 12's datagrams, of which the first two have changed places.
+fn swapped(alloc: Global) -> Option<Vec<Datagram>> {
+    let mut datagrams = Vec::new(alloc);
+    for (number, byte) in &[(1, 0xbb), (0, 0xaa), (2, 0xcc)] {
+        let bytes = [0x80, TYPE, 0, *number, 0, 0, 0, 0, 0, 0, 0, 44, *byte];
+        let bytes = Vec::from_slice(alloc, &bytes).ok()?;
+        datagrams.push(Datagram::from_vec(bytes)).ok()?;
+    }
+    Some(datagrams)
 }
 
 /// Row 20: the greatest number of seconds does not fit into ticks of 48,000 a second.
@@ -38,7 +63,8 @@ pub(crate) fn a_time_that_does_not_fit(alloc: Global) -> Option<bool> {
 pub(crate) fn a_time_in_milliseconds(alloc: Global) -> Option<bool> {
     let sent = sent(alloc, MediaTime::new(20, Frequency::MILLIS), &[1, 2, 3])?;
     let all = received(alloc, &sent.ok()?)?;
-    Some(are_units(&all.polls, 960, &[&[1, 2, 3]]))
+    let polls = all.polls.first()?;
+    Some(are_units(polls.as_slice(), 960, &[&[1, 2, 3]]))
 }
 
 /// What a fixed end that sends Opus of SSRC 44, as its stream 0, answers to its first sample.
@@ -69,18 +95,19 @@ fn sent(
 
 /// What a fixed end answers to datagrams that receives Opus of SSRC 44, as its stream 0.
 fn received(alloc: Global, datagrams: &[Datagram]) -> Option<ReceivedAll> {
+    receiving(alloc)?.receive_all(datagrams).ok()
+}
+
+/// A fixed end that receives Opus of SSRC 44, as its stream 0.
+fn receiving(alloc: Global) -> Option<End> {
     let mut end = End::fixed(alloc).ok()?;
     let (mid, pt) = (Mid::from("0"), Pt::from(TYPE));
     let _ = end.open_receiver(mid, Ssrc::from(44), pt, 127).ok()?;
-    end.receive_all(datagrams).ok()
+    Some(end)
 }
 
-/// Whether the first stream answered units of these bytes, each of this time.
-fn are_units(polls: &[Polls], time: u32, units: &[&[u8]]) -> bool {
-    let Some(polls) = polls.first() else {
-        return false;
-    };
-    let answers = polls.as_slice();
+/// Whether these answers are units of these bytes, each of this time.
+fn are_units(answers: &[Result<Unit, PollFault>], time: u32, units: &[&[u8]]) -> bool {
     if answers.len() != units.len() {
         return false;
     }

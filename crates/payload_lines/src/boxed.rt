@@ -4,8 +4,7 @@ use crate::formats::Format;
 use command_lines::Line;
 use h26x_payload::{CodecDepacketizer, CodecPacketizer};
 use payload_core::{
-    Codec, Depacketized, DepacketizingBuffer, PacketError, PacketList, Payloader, RtpMeta,
-    SentPacket,
+    Codec, Depacketizer, DepacketizingBuffer, PacketList, Payloader, RtpMeta, SentPacket,
 };
 use rtp_wire::{ExtensionValues, SeqNo};
 
@@ -50,6 +49,11 @@ fn receive(line: &mut Line<'_>, format: &Format, packets: &[SentPacket]) {
         return line.refuse("out of memory");
     };
     let depacketizer: CodecDepacketizer = CodecDepacketizer::Boxed(depacketizer);
+    read(line, depacketizer, packets);
+}
+
+/// The same by any depacketizer: the prover covers no buffer whose type names a boxed one.
+fn read<D: Depacketizer + Drop>(line: &mut Line<'_>, depacketizer: D, packets: &[SentPacket]) {
     let mut buffer = DepacketizingBuffer::new(line.alloc(), depacketizer, 0);
     let mut number: u64 = 0;
     for packet in packets {
@@ -60,12 +64,7 @@ fn receive(line: &mut Line<'_>, format: &Format, packets: &[SentPacket]) {
         }
         number = number.saturating_add(1);
     }
-    put_bytes_of(line, buffer.pop());
-}
-
-/// The bytes of a unit, if there is one.
-fn put_bytes_of(line: &mut Line<'_>, unit: Result<Option<Depacketized>, PacketError>) {
-    match unit {
+    match buffer.pop() {
         Ok(Some(unit)) => line.put_bytes(unit.bytes.as_slice()),
         Ok(None) => {}
         Err(fault) => line.refuse(fault),
