@@ -1,0 +1,3 @@
+pub mod FirstBytes
+pub mod Frames
+pub mod Numbers

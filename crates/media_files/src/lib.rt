@@ -1,0 +1,10 @@
+//! Captures read and recordings written: plain functions over bytes, each format by its definition.
+#![tactic(auto)]
+
+mod first_bytes;
+mod frames;
+mod numbers;
+
+pub use first_bytes::{DatagramKind, kind_of};
+pub use frames::{LinkType, PassedOver, udp_payload_in};
+pub use numbers::ByteOrder;
