@@ -1,7 +1,8 @@
 -- One more value of a run.
+use Rattle.std.proofs.Common.{◌+◌, ◌<◌, suc, length, drop, drop-cons, add-one, append_assoc, get_or}
 use Rattle.std.proofs.Common.{◌≡◌, ◌++◌, ℕ, List, [], ◌∷◌, Option, Some, None, refl, sym, ap, ◌∙◌, subst, map, Bor}
 use Rattle.std.proofs.lemmas.List.{map_push}
-use Rattle.media_files.specs.Runs.{Holds}
+use Rattle.media_files.specs.Runs.{Holds, spelled}
 use Rattle.media_files.specs.Captures.{Packet, seen, read}
 use Rattle.media_files.specs.declared.captures.CapturedPacket.{CapturedPacket}
 
@@ -20,3 +21,14 @@ packets-push step from packets after packet middle next pushed held more =
     subst (λ (ps : List Packet). Holds step from ps next)
     (sym (ap (λ (ps : List CapturedPacket). map seen ps) pushed ∙ map_push seen packets packet))
     (Holds-push step from (map seen packets) (seen packet) middle next held more)
+
+-- One more value written.
+pub spelled-more : {S A R : Type 0} (view : R → A) (after : S → A → S) (spell : S → A → List ℕ) (s : S)
+    (items : List R) (i : ℕ) (r : R) (out written whole : List ℕ) → i < length items → r ≡ get_or items i r
+    → written ≡ out ++ spell s (view r) → out ++ spelled after spell s (map view (drop i items)) ≡ whole
+    → written ++ spelled after spell (after s (view r)) (map view (drop (i + 1) items)) ≡ whole
+spelled-more view after spell s items i r out written whole below item added before =
+    let here : drop i items ≡ r ∷ drop (i + 1) items = rw (add-one, drop-cons items i r) (ap (λ x. x ∷ drop (suc i) items) (sym item)) in
+    ap (λ v. v ++ spelled after spell (after s (view r)) (map view (drop (i + 1) items))) added
+    ∙ append_assoc out (spell s (view r)) (spelled after spell (after s (view r)) (map view (drop (i + 1) items)))
+    ∙ ap (λ xs. out ++ spelled after spell s (map view xs)) (sym here) ∙ before

@@ -1,7 +1,9 @@
 pub mod Captures
 pub mod FirstBytes
 pub mod Frames
+pub mod Ivf
 pub mod Links
 pub mod Numbers
 pub mod Pcap
 pub mod Runs
+pub mod Units

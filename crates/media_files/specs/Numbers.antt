@@ -1,6 +1,6 @@
 -- Numbers of several bytes at a place.
 use Rattle.std.specs.Prelude.{ℕ, List, drop}
-use Rattle.std.specs.Int.{w16, w32, w64, from_be_bytes, from_le_bytes}
+use Rattle.std.specs.Int.{w16, w32, w64, from_be_bytes, from_le_bytes, to_le_bytes}
 use Rattle.media_files.specs.declared.numbers.ByteOrder.{ByteOrder}
 use Rattle.media_files.specs.declared.numbers.ByteOrder.TheVariants.{Big, Little}
 
@@ -16,3 +16,13 @@ u16_at Little bytes at = from_le_bytes w16 (drop at bytes)
 unfoldable pub u32_at : ByteOrder → List ℕ → ℕ → ℕ
 u32_at Big bytes at = from_be_bytes w32 (drop at bytes)
 u32_at Little bytes at = from_le_bytes w32 (drop at bytes)
+
+-- Numbers of two bytes, of four and of eight, the least significant byte first.
+unfoldable pub u16_le : ℕ → List ℕ
+u16_le n = to_le_bytes w16 n
+
+unfoldable pub u32_le : ℕ → List ℕ
+u32_le n = to_le_bytes w32 n
+
+unfoldable pub u64_le : ℕ → List ℕ
+u64_le n = to_le_bytes w64 n

@@ -1,5 +1,5 @@
 -- Values that stand one behind the other.
-use Rattle.std.specs.Prelude.{◌≡◌, ℕ, List, [], ◌∷◌, Option, Some, None}
+use Rattle.std.specs.Prelude.{◌≡◌, ℕ, List, [], ◌∷◌, ◌++◌, Option, Some, None}
 
 -- These values are read from here one behind the other, and this is left.
 abbrev pub Holds : {A S : Type 0} → (S → Option (A × S)) → S → List A → S → Type 0
@@ -9,3 +9,8 @@ Holds {A} {S} step from (a ∷ items) rest = (next : S) × (step from ≡ Some (
 -- These are all: of what is left nothing more is read.
 abbrev pub HoldsAll : {A S : Type 0} → (S → Option (A × S)) → S → List A → S → Type 0
 HoldsAll step from items rest = Holds step from items rest × (step rest ≡ None)
+
+-- The bytes of values one behind the other, each spelled after those in front of it: `after` says what a value leaves.
+abbrev pub spelled : {S A : Type 0} → (S → A → S) → (S → A → List ℕ) → S → List A → List ℕ
+spelled after spell s [] = []
+spelled after spell s (a ∷ items) = spell s a ++ spelled after spell (after s a) items

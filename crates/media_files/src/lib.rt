@@ -3,12 +3,18 @@
 
 mod captures;
 mod first_bytes;
+mod errors;
 mod frames;
+mod ivf;
 mod numbers;
 mod pcap;
+mod units;
 
 pub use captures::{Capture, CaptureError, CapturedPacket, Resolution};
+pub use errors::RecordingError;
 pub use first_bytes::{DatagramKind, kind_of};
 pub use frames::{LinkType, PassedOver, udp_payload_in};
+pub use ivf::{IvfCodec, ivf_file};
 pub use numbers::ByteOrder;
 pub use pcap::{PcapHeader, link_of, read_pcap};
+pub use units::{TimedUnit, annex_b, obu_stream};

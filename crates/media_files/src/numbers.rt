@@ -1,7 +1,9 @@
 //! Numbers of several bytes.
 
-ghost use Rattle.std.specs.Prelude.{◌≡◌, ◌+◌, ◌≤◌, drop, length};
-ghost use Rattle.media_files.specs.Numbers.{u16_at, u16_be, u32_at};
+ghost use Rattle.std.specs.Prelude.{◌≡◌, ◌+◌, ◌++◌, ◌≤◌, OnOk, drop, length};
+ghost use Rattle.media_files.specs.Numbers.{u16_at, u16_be, u16_le, u32_at, u32_le, u64_le};
+
+use std::alloc::AllocError;
 
 /// The order of the bytes of a number.
 #[derive(Debug, Clone, Copy, PartialEq, Eq)]
@@ -53,4 +55,28 @@ pub fn rest_from(bytes: &[u8], at: usize) -> &[u8]
     ensures { result.now ≡ drop at bytes.now }
 {
     &bytes[at..]
+}
+
+/// Writes a number of two bytes, the least significant first.
+#[tactic(auto, unfolding(crate::specs::Numbers::u16_le))]
+pub fn push_u16(out: &mut Vec<u8>, number: u16) -> Result<(), AllocError>
+    ensures { OnOk result (out.new.items ≡ out.old.items ++ u16_le number) }
+{
+    out.extend_from_slice(&number.to_le_bytes())
+}
+
+/// Writes a number of four bytes, the least significant first.
+#[tactic(auto, unfolding(crate::specs::Numbers::u32_le))]
+pub fn push_u32(out: &mut Vec<u8>, number: u32) -> Result<(), AllocError>
+    ensures { OnOk result (out.new.items ≡ out.old.items ++ u32_le number) }
+{
+    out.extend_from_slice(&number.to_le_bytes())
+}
+
+/// Writes a number of eight bytes, the least significant first.
+#[tactic(auto, unfolding(crate::specs::Numbers::u64_le))]
+pub fn push_u64(out: &mut Vec<u8>, number: u64) -> Result<(), AllocError>
+    ensures { OnOk result (out.new.items ≡ out.old.items ++ u64_le number) }
+{
+    out.extend_from_slice(&number.to_le_bytes())
 }
