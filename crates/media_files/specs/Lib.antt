@@ -4,6 +4,9 @@ pub mod Frames
 pub mod Ivf
 pub mod Links
 pub mod Numbers
+pub mod Ogg
+pub mod OggViews
+pub mod Opus
 pub mod Pcap
 pub mod Runs
 pub mod Units

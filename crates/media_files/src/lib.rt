@@ -7,6 +7,7 @@ mod errors;
 mod frames;
 mod ivf;
 mod numbers;
+mod ogg;
 mod pcap;
 mod units;
 
