@@ -1,3 +1,4 @@
 pub mod FrameLemmas
+pub mod OpusLemmas
 pub mod RunLemmas
 pub mod IvfLemmas

@@ -7,6 +7,7 @@ pub mod Numbers
 pub mod Ogg
 pub mod OggViews
 pub mod Opus
+pub mod OpusViews
 pub mod Pcap
 pub mod Runs
 pub mod Units

@@ -1,5 +1,5 @@
 -- Opus packets (RFC 6716 3) in Ogg (RFC 7845).
-use Rattle.std.specs.Prelude.{ℕ, ◌+◌, ◌-◌, ◌*◌, ◌/◌, ◌%◌, ◌==◌, ◌&&◌, ◌||◌, ◌≤◌, ◌⊎◌, Bool, true, false, nat_lt, nat_le, not}
+use Rattle.std.specs.Prelude.{ℕ, ◌+◌, ◌-◌, ◌*◌, ◌/◌, ◌%◌, ◌==◌, ◌&&◌, ◌||◌, ◌<◌, ◌≤◌, ◌⊎◌, Bool, true, false, nat_lt, nat_le, not}
 use Rattle.std.specs.Prelude.{List, [], ◌∷◌, ◌++◌, length, slice_index, codes, Any, Option, None, Some, if◌then◌else◌, option_map}
 use Rattle.std.specs.Borrow.{Bor}
 use Rattle.media_files.specs.Numbers.{u16_le, u32_le}
@@ -123,15 +123,24 @@ sound_pages serial at (p ∷ packets) =
 abbrev pub head_page : Stream → List ℕ
 head_page s = page (record { flags = flags_of true false; granule = 0; serial = s.serial; sequence = 0 }) (opus_head s)
 
-abbrev pub tags_page : Stream → Bool → List ℕ
-tags_page s is_last =
-    page (record { flags = flags_of false is_last; granule = 0; serial = s.serial; sequence = 1 }) opus_tags
+abbrev pub tags_page : ℕ → Bool → List ℕ
+tags_page serial is_last =
+    page (record { flags = flags_of false is_last; granule = 0; serial = serial; sequence = 1 }) opus_tags
 
 -- The file: header and comments each on a page of their own, then a page for each packet.
 unfoldable pub opus_file : Stream → List (Option (List ℕ)) → List ℕ
-opus_file s packets = head_page s ++ (tags_page s (is_empty (from_sound packets))
+opus_file s packets = head_page s ++ (tags_page s.serial (is_empty (from_sound packets))
     ++ sound_pages s.serial (playing [] 0 2) (from_sound packets))
 
 -- What an item of a list shows.
 abbrev pub item : Option (Bor (List ℕ)) → Option (List ℕ)
 item p = option_map (λ x. x.now) p
+
+-- A packet that came whole and that no page has room for.
+abbrev pub IsLong : Option (List ℕ) → Type 0
+IsLong None = ⊥
+IsLong (Some packet) = longest_packet < length packet
+
+-- More packets than pages can count, or one behind the first whole one that no page has room for.
+abbrev pub IsTooMuch : List (Option (List ℕ)) → Type 0
+IsTooMuch packets = (4294967293 < length packets) ⊎ Any IsLong (from_sound packets)

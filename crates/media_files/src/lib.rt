@@ -8,6 +8,7 @@ mod frames;
 mod ivf;
 mod numbers;
 mod ogg;
+mod opus;
 mod pcap;
 mod units;
 
@@ -17,5 +18,6 @@ pub use first_bytes::{DatagramKind, kind_of};
 pub use frames::{LinkType, PassedOver, udp_payload_in};
 pub use ivf::{IvfCodec, ivf_file};
 pub use numbers::ByteOrder;
+pub use opus::{OpusStream, opus_file};
 pub use pcap::{PcapHeader, link_of, read_pcap};
 pub use units::{TimedUnit, annex_b, obu_stream};

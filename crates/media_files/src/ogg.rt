@@ -1,20 +1,19 @@
 //! Pages of Ogg (RFC 3533 6).
 
-ghost use Rattle.std.specs.Prelude.{◌≡◌, ◌≢◌, ◌++◌, ◌<◌, ◌≤◌, IfErr, OnOk, fold, length};
+ghost use Rattle.std.specs.Prelude.{◌≡◌, ◌++◌, ◌≤◌, OnOk, fold, length};
 ghost use Rattle.media_files.specs.Ogg.{crc, crc_bit, crc_byte, crc_half, lacing, longest_packet, page, page_end};
 ghost use Rattle.media_files.specs.Ogg.{page_front};
 ghost use Rattle.media_files.specs.OggViews.{place_shown};
 
 use std::alloc::{AllocError, Global};
 
-use crate::errors::RecordingError;
 use crate::numbers::{push_u32, push_u64};
 
 // The generator of the checksum, the most significant bit first.
 const GENERATOR: u32 = 0x04c1_1db7;
 
-// A page has at most 255 segments of at most 255 bytes, of which a packet's last one has less.
-const LONGEST_PACKET: usize = 65024;
+/// The longest packet of a page, which has at most 255 segments of at most 255 bytes, of which a packet's last one has less.
+pub const LONGEST_PACKET: usize = 65024;
 
 /// Where a page stands.
 #[derive(Debug, Clone, Copy)]
@@ -103,23 +102,16 @@ fn push_end(packet: &[u8], out: &mut Vec<u8>) -> Result<(), AllocError>
 }
 
 /// Writes a page with one packet.
-///
-/// # Errors
-/// The packet has more than 65,024 bytes, or there is no memory.
 #[tactic(auto, unfolding(crate::specs::Ogg::page))]
 pub fn push_page(
     alloc: Global,
     place: &PagePlace,
     packet: &[u8],
     out: &mut Vec<u8>,
-) -> Result<(), RecordingError>
-    ensures value { OnOk result (out.new.items ≡ out.old.items ++ page (place_shown place.now) packet.now) }
-    ensures refused { IfErr result (λ e. e ≢ RecordingError.Memory → (e ≡ RecordingError.TooLong)
-        × (longest_packet < length packet.now)) }
+) -> Result<(), AllocError>
+    requires { length packet.now ≤ longest_packet }
+    ensures { OnOk result (out.new.items ≡ out.old.items ++ page (place_shown place.now) packet.now) }
 {
-    if packet.len() > LONGEST_PACKET {
-        return Err(RecordingError::TooLong);
-    }
     let mut front = Vec::new(alloc);
     push_front(place, &mut front)?;
     let mut end = Vec::new(alloc);
@@ -127,6 +119,5 @@ pub fn push_page(
     let checksum = crc(crc(crc(0, &front), &[0; 4]), &end);
     out.extend_from_slice(&front)?;
     push_u32(out, checksum)?;
-    out.extend_from_slice(&end)?;
-    Ok(())
+    out.extend_from_slice(&end)
 }
