@@ -1,3 +1,4 @@
+pub mod AmrWb
 pub mod Captures
 pub mod FirstBytes
 pub mod Frames
@@ -11,3 +12,4 @@ pub mod OpusViews
 pub mod Pcap
 pub mod Runs
 pub mod Units
+pub mod Wav
