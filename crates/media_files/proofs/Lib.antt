@@ -1,4 +1,2 @@
-pub mod FrameLemmas
-pub mod OpusLemmas
-pub mod RunLemmas
 pub mod IvfLemmas
+pub mod OpusLemmas

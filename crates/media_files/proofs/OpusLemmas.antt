@@ -3,7 +3,7 @@ use Rattle.std.proofs.Common.{◌≡◌, ◌++◌, ◌+◌, ◌-◌, ◌<◌, �
 use Rattle.std.proofs.lemmas.List.{get_or-map, length-map}
 use Rattle.media_files.specs.Opus.{from_sound, item, sound, if_sound, is_sound, opus_head, opus_tags, Stream, IsLong, kept_of, is_empty, sound_pages, sound_page, playing, playing_after, Playing, opus_duration, heard_of, opus_file, head_page, tags_page}
 use Rattle.media_files.specs.Ogg.{page, flags_of}
-use Rattle.media_files.specs.Numbers.{u16_le, u32_le}
+use Rattle.media_files_captures.specs.Numbers.{u16_le, u32_le}
 
 pub is_some-if_sound : (b : Bool) (p : List ℕ) → is_some (if_sound b p) ≡ b
 is_some-if_sound true p = refl

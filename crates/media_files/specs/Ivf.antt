@@ -1,10 +1,9 @@
 -- IVF files of VP8, VP9 and AV1.
 use Rattle.std.specs.Prelude.{ℕ, ◌+◌, ◌-◌, ◌*◌, ◌/◌, ◌%◌, ◌==◌, ◌&&◌, Bool, true, false, not, nat_lt, List, [], ◌∷◌, ◌++◌}
 use Rattle.std.specs.Prelude.{length, map, slice_index, codes, Any, ◌≤◌, ◌⊎◌, Option, None, Some, if◌then◌else◌}
-use Rattle.media_files.specs.Numbers.{u16_at, u16_le, u32_le, u64_le}
-use Rattle.media_files.specs.Runs.{spelled}
+use Rattle.media_files_captures.specs.Numbers.{u16_at, u16_le, u32_le, u64_le}
 use Rattle.media_files.specs.Units.{Timed, delimited}
-use Rattle.media_files.specs.declared.numbers.ByteOrder.TheVariants.{Little}
+use Rattle.media_files_captures.specs.declared.numbers.ByteOrder.TheVariants.{Little}
 use Rattle.media_files.specs.declared.ivf.IvfCodec.{IvfCodec}
 use Rattle.media_files.specs.declared.ivf.IvfCodec.TheVariants.{Vp8, Vp9, Av1}
 
@@ -81,6 +80,11 @@ unfoldable pub nearest_time : ℕ → ℕ → ℕ
 nearest_time previous low =
     if nat_lt (ahead previous low) 2147483648 then previous + ahead previous low
     else previous - (4294967296 - ahead previous low)
+
+-- The bytes of values one behind the other, each spelled after those in front of it: `after` says what a value leaves.
+abbrev pub spelled : {S A : Type 0} → (S → A → S) → (S → A → List ℕ) → S → List A → List ℕ
+spelled after spell s [] = []
+spelled after spell s (a ∷ items) = spell s a ++ spelled after spell (after s a) items
 
 -- A clock that does not wrap, with room below the first time for those that come before it.
 abbrev pub first_time : List Timed → ℕ

@@ -1,15 +1,8 @@
 pub mod AmrWb
-pub mod Captures
-pub mod FirstBytes
-pub mod Frames
 pub mod Ivf
-pub mod Links
-pub mod Numbers
 pub mod Ogg
 pub mod OggViews
 pub mod Opus
 pub mod OpusViews
-pub mod Pcap
-pub mod Runs
 pub mod Units
 pub mod Wav

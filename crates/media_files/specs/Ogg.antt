@@ -1,7 +1,7 @@
 -- Pages of Ogg (RFC 3533 6), each with one packet.
 use Rattle.std.specs.Prelude.{ℕ, ◌+◌, ◌-◌, ◌*◌, ◌/◌, ◌%◌, Bool, true, false, nat_lt, List, [], ◌∷◌, ◌++◌, length, fold}
 use Rattle.std.specs.Prelude.{bit_xor, codes, replicate, if◌then◌else◌}
-use Rattle.media_files.specs.Numbers.{u32_le, u64_le}
+use Rattle.media_files_captures.specs.Numbers.{u32_le, u64_le}
 
 -- A remainder of 32 bits, a bit further: the generator is 04C11DB7, the most significant bit goes first.
 unfoldable pub crc_bit : ℕ → ℕ

@@ -2,7 +2,7 @@
 use Rattle.std.specs.Prelude.{ℕ, ◌+◌, ◌-◌, ◌*◌, ◌/◌, ◌%◌, ◌==◌, ◌&&◌, ◌||◌, ◌<◌, ◌≤◌, ◌⊎◌, Bool, true, false, nat_lt, nat_le, not}
 use Rattle.std.specs.Prelude.{List, [], ◌∷◌, ◌++◌, length, slice_index, codes, Any, Option, None, Some, if◌then◌else◌, option_map}
 use Rattle.std.specs.Borrow.{Bor}
-use Rattle.media_files.specs.Numbers.{u16_le, u32_le}
+use Rattle.media_files_captures.specs.Numbers.{u16_le, u32_le}
 use Rattle.media_files.specs.Ogg.{Place, page, flags_of, longest_packet}
 
 -- How many samples, at 48,000 a second, a frame of a configuration has (RFC 6716 3.1, table 2): 10, 20, 40 or 60 ms of

@@ -1,7 +1,7 @@
 -- WAVE files of one channel (RIFF, WAVEFORMATEX).
 use Rattle.std.specs.Prelude.{ℕ, ◌+◌, ◌*◌, ◌%◌, ◌==◌, List, [], ◌∷◌, ◌++◌, length, codes, if◌then◌else◌}
 use Rattle.std.specs.List.{flat_map}
-use Rattle.media_files.specs.Numbers.{u16_le, u32_le}
+use Rattle.media_files_captures.specs.Numbers.{u16_le, u32_le}
 use Rattle.media_files.specs.declared.wav.WavCodec.{WavCodec}
 use Rattle.media_files.specs.declared.wav.WavCodec.TheVariants.{Pcmu, Pcma, G722}
 

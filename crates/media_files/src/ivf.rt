@@ -8,7 +8,7 @@ ghost use Rattle.media_files.specs.Units.{timed};
 use std::alloc::{AllocError, Global};
 
 use crate::errors::RecordingError;
-use crate::numbers::{ByteOrder, push_u16, push_u32, push_u64, u16_at};
+use media_files_captures::{ByteOrder, push_u16, push_u32, push_u64, u16_at};
 use crate::units::{TEMPORAL_DELIMITER, TimedUnit};
 
 /// The codec of a file.

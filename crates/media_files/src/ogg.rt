@@ -7,7 +7,7 @@ ghost use Rattle.media_files.specs.OggViews.{place_shown};
 
 use std::alloc::{AllocError, Global};
 
-use crate::numbers::{push_u32, push_u64};
+use media_files_captures::{push_u32, push_u64};
 
 // The generator of the checksum, the most significant bit first.
 const GENERATOR: u32 = 0x04c1_1db7;

@@ -12,7 +12,7 @@ ghost use Rattle.media_files.specs.OpusViews.{stream_shown};
 use std::alloc::{AllocError, Global};
 
 use crate::errors::RecordingError;
-use crate::numbers::{push_u16, push_u32};
+use media_files_captures::{push_u16, push_u32};
 use crate::ogg::{LONGEST_PACKET, PagePlace, push_page};
 
 // The most samples of a packet, 120 ms at 48,000 a second.

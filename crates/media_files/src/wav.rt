@@ -7,7 +7,7 @@ ghost use Rattle.media_files.specs.Wav.{rate_of, riff_front, samples_of, tag_of,
 use std::alloc::{AllocError, Global};
 
 use crate::errors::RecordingError;
-use crate::numbers::{push_u16, push_u32};
+use media_files_captures::{push_u16, push_u32};
 
 /// The coding of the samples.
 #[derive(Debug, Clone, Copy, PartialEq, Eq)]

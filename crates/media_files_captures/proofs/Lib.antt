@@ -1,0 +1,3 @@
+pub mod FrameLemmas
+pub mod PcapngLemmas
+pub mod RunLemmas

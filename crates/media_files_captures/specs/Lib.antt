@@ -1,0 +1,9 @@
+pub mod Captures
+pub mod FirstBytes
+pub mod Frames
+pub mod Links
+pub mod Numbers
+pub mod Pcap
+pub mod Pcapng
+pub mod PcapngViews
+pub mod Runs

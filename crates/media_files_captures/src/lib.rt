@@ -1,0 +1,18 @@
+//! Captures read: plain functions over bytes, each format by its definition.
+#![tactic(auto)]
+
+mod captures;
+mod first_bytes;
+mod frames;
+mod interfaces;
+mod numbers;
+mod pcap;
+mod pcapng;
+
+pub use captures::{Capture, CaptureError, CapturedPacket, Resolution};
+pub use first_bytes::{DatagramKind, kind_of};
+pub use frames::{LinkType, PassedOver, udp_payload_in};
+pub use numbers::{ByteOrder, push_u16, push_u32, push_u64, rest_from, u16_at, u16_be, u32_at};
+pub use interfaces::Interface;
+pub use pcap::{PcapHeader, link_of, read_pcap};
+pub use pcapng::{PcapngBlock, PcapngReader, read_pcapng};
