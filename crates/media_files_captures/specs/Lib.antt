@@ -6,4 +6,5 @@ pub mod Numbers
 pub mod Pcap
 pub mod Pcapng
 pub mod PcapngViews
+pub mod Rtpdump
 pub mod Runs

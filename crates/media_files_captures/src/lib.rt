@@ -8,6 +8,7 @@ mod interfaces;
 mod numbers;
 mod pcap;
 mod pcapng;
+mod rtpdump;
 
 pub use captures::{Capture, CaptureError, CapturedPacket, Resolution};
 pub use first_bytes::{DatagramKind, kind_of};
@@ -16,3 +17,4 @@ pub use numbers::{ByteOrder, push_u16, push_u32, push_u64, rest_from, u16_at, u1
 pub use interfaces::Interface;
 pub use pcap::{PcapHeader, link_of, read_pcap};
 pub use pcapng::{PcapngBlock, PcapngReader, read_pcapng};
+pub use rtpdump::{Rtpdump, RtpdumpDatagram, read_rtpdump};
