@@ -1,3 +1,4 @@
 pub mod FrameLemmas
+pub mod HexLemmas
 pub mod PcapngLemmas
 pub mod RunLemmas

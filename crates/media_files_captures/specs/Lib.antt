@@ -1,6 +1,7 @@
 pub mod Captures
 pub mod FirstBytes
 pub mod Frames
+pub mod HexLines
 pub mod Links
 pub mod Numbers
 pub mod Pcap
