@@ -1,7 +1,7 @@
 -- The file of some frames.
-use Rattle.std.proofs.Common.{◌≡◌, ◌++◌, ◌<◌, ◌≤◌, ◌⊎◌, inl, inr, ℕ, List, [], ◌∷◌, length, map, get_or, refl, sym, ap, ◌∙◌, Any, append_assoc}
+use Rattle.std.proofs.Common.{◌≡◌, ◌++◌, ◌<◌, ◌≤◌, inr, ℕ, List, [], length, map, get_or, refl}
 use Rattle.std.proofs.lemmas.List.{get_or-map, length-map}
-use Rattle.media_files.specs.Ivf.{ivf_file, ivf_frames, ivf_header, picture_size, size_of, Size, first_time, framed, IsTooMuch}
+use Rattle.media_files.specs.Ivf.{ivf_file, ivf_frames, ivf_header, picture_size, Size, first_time, framed, IsTooMuch}
 use Rattle.media_files.specs.Units.{Timed, timed}
 use Rattle.media_files.specs.declared.ivf.IvfCodec.{IvfCodec}
 use Rattle.media_files.specs.declared.units.TimedUnit.{TimedUnit}
@@ -18,5 +18,10 @@ ivf_file-begun codec rate count first size frames fresh out none made as_seen as
 -- a frame too long for its header
 pub too-long : (codec : IvfCodec) (frames : List TimedUnit) (i : ℕ) (d : TimedUnit) → i < length frames
     → 4294967296 ≤ length (framed codec (get_or frames i d).bytes.now) → IsTooMuch codec (map timed frames)
-too-long codec frames i d below long = inr (i, timed (get_or frames i d), rw length-map below,
-  get_or-map timed frames i d (timed (get_or frames i d)) below, long)
+too-long codec frames i d below long = inr (
+  i,
+  timed (get_or frames i d),
+  rw length-map below,
+  get_or-map timed frames i d (timed (get_or frames i d)) below,
+  long,
+)

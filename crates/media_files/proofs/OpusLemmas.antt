@@ -1,7 +1,7 @@
 -- Packets lost, and pages of those that are heard.
-use Rattle.std.proofs.Common.{◌≡◌, ◌++◌, ◌+◌, ◌-◌, ◌<◌, ◌≤◌, ◌==◌, suc, zero, ℕ, Bool, true, false, List, [], ◌∷◌, length, map, get_or, drop, refl, sym, ap, ◌∙◌, subst, append_assoc, Option, Some, None, is_some, Bor, drop-cons, add-one, arith, if◌then◌else◌, unwrap_or, Any}
+use Rattle.std.proofs.Common.{◌≡◌, ◌++◌, ◌+◌, ◌-◌, ◌<◌, ◌≤◌, ◌==◌, suc, zero, ℕ, Bool, true, false, List, [], ◌∷◌, length, map, get_or, drop, refl, sym, ap, ◌∙◌, subst, append_assoc, Option, Some, None, is_some, Bor, drop-cons, add-one, arith, unwrap_or, Any}
 use Rattle.std.proofs.lemmas.List.{get_or-map, length-map}
-use Rattle.media_files.specs.Opus.{from_sound, item, sound, if_sound, is_sound, opus_head, opus_tags, Stream, IsLong, kept_of, is_empty, sound_pages, sound_page, playing, playing_after, Playing, opus_duration, heard_of, opus_file, head_page, tags_page}
+use Rattle.media_files.specs.Opus.{from_sound, item, sound, if_sound, is_sound, opus_head, opus_tags, Stream, IsLong, kept_of, is_empty, sound_pages, sound_page, playing, playing_after, opus_duration, heard_of, opus_file, head_page, tags_page}
 use Rattle.media_files.specs.Ogg.{page, flags_of}
 use Rattle.media_files_captures.specs.Numbers.{u16_le, u32_le}
 
@@ -84,28 +84,39 @@ lost-found packets i d r below read one =
 -- a long packet among those that are heard
 pub long-among : (packets : List (Option (Bor (List ℕ)))) (i : ℕ) (d r : Option (Bor (List ℕ))) → i < length packets
     → item r ≡ sound (item (get_or packets i d)) → IsLong (item r) → Any IsLong (map item packets)
-long-among packets i d r below read long =
-    (i, item (get_or packets i d), rw length-map below, get_or-map item packets i d (item (get_or packets i d)) below,
-    long-sound (item (get_or packets i d)) (subst IsLong read long))
+long-among packets i d r below read long = (
+  i,
+  item (get_or packets i d),
+  rw length-map below,
+  get_or-map item packets i d (item (get_or packets i d)) below,
+  long-sound (item (get_or packets i d)) (subst IsLong read long),
+)
 
 -- a page more
 page-more : (serial g s k : ℕ) (p q : List ℕ) (x y : Option (List ℕ)) (rest : List (Option (List ℕ))) (b : Bool)
     (out written whole : List ℕ) → y ≡ sound x → q ≡ kept_of y p → k ≡ opus_duration q → is_empty rest ≡ b
     → written ≡ out ++ page (record { flags = flags_of false b; granule = g + k; serial = serial; sequence = s })
-      (heard_of y p)
+    (heard_of y p)
     → out ++ sound_pages serial (playing p g s) (x ∷ rest) ≡ whole
     → written ++ sound_pages serial (playing q (g + k) (s + 1)) rest ≡ whole
 page-more serial g s k p q x y rest b out written whole heard kept long last added before =
     let back : s + 1 - 1 ≡ s = omega arith in
-    cc (append_assoc out (sound_page serial (playing p g s) x (is_empty rest))
-      (sound_pages serial (playing_after (playing p g s) x) rest), back)
+    cc (
+      append_assoc out (sound_page serial (playing p g s) x (is_empty rest))
+          (sound_pages serial (playing_after (playing p g s) x) rest),
+      back,
+    )
 
 pub pages-more : (serial g s k : ℕ) (packets : List (Option (Bor (List ℕ)))) (i : ℕ) (d found : Option (Bor (List ℕ)))
     (previous kept : Bor (List ℕ)) (out written whole : List ℕ) → i < length packets
     → item found ≡ sound (item (get_or packets i d)) → kept ≡ unwrap_or found previous
     → k ≡ opus_duration kept.now
-    → written ≡ out ++ page (record { flags = flags_of false ((i + 1) == length packets); granule = g + k;
-      serial = serial; sequence = s }) (heard_of (item found) previous.now)
+    → written ≡ out ++ page (record {
+      flags = flags_of false ((i + 1) == length packets);
+      granule = g + k;
+      serial = serial;
+      sequence = s;
+    }) (heard_of (item found) previous.now)
     → out ++ sound_pages serial (playing previous.now g s) (map item (drop i packets)) ≡ whole
     → written ++ sound_pages serial (playing kept.now (g + k) (s + 1)) (map item (drop (i + 1) packets)) ≡ whole
 pages-more serial g s k packets i d found previous kept out written whole below heard is_kept long added before =
@@ -129,9 +140,9 @@ pub opus_file-is : (s : Stream) (packets : List (Option (List ℕ))) (heard : Li
 unfolding opus_file
 opus_file-is s packets heard b fresh heads tags out none headed tagged made last same =
     let is_last : b ≡ is_empty (from_sound packets) =
-        last ∙ sym (none-at-all heard) ∙ ap (λ (ps : List (Option (List ℕ))). is_empty ps) same in
+    last ∙ sym (none-at-all heard) ∙ ap (λ (ps : List (Option (List ℕ))). is_empty ps) same in
     let head : heads ≡ head_page s = headed ∙ ap (λ (v : List ℕ). v ++ head_page s) none in
     let parts : out ≡ (head_page s ++ tags_page s.serial b) ++ sound_pages s.serial (playing [] 0 2) (from_sound packets) =
-        cc in
+    cc in
     parts ∙ append_assoc (head_page s) (tags_page s.serial b) (sound_pages s.serial (playing [] 0 2) (from_sound packets))
     ∙ ap (λ (x : Bool). head_page s ++ (tags_page s.serial x ++ sound_pages s.serial (playing [] 0 2) (from_sound packets))) is_last

@@ -1,6 +1,6 @@
 -- IVF files of VP8, VP9 and AV1.
-use Rattle.std.specs.Prelude.{ℕ, ◌+◌, ◌-◌, ◌*◌, ◌/◌, ◌%◌, ◌==◌, ◌&&◌, Bool, true, false, not, nat_lt, List, [], ◌∷◌, ◌++◌}
-use Rattle.std.specs.Prelude.{length, map, slice_index, codes, Any, ◌≤◌, ◌⊎◌, Option, None, Some, if◌then◌else◌}
+use Rattle.std.specs.Prelude.{ℕ, ◌+◌, ◌-◌, ◌%◌, ◌==◌, ◌&&◌, Bool, nat_lt, List, [], ◌∷◌, ◌++◌}
+use Rattle.std.specs.Prelude.{length, slice_index, codes, Any, ◌≤◌, ◌⊎◌, Option, None, Some, if◌then◌else◌}
 use Rattle.media_files_captures.specs.Numbers.{u16_at, u16_le, u32_le, u64_le}
 use Rattle.media_files.specs.Units.{Timed, delimited}
 use Rattle.media_files_captures.specs.declared.numbers.ByteOrder.TheVariants.{Little}

@@ -1,5 +1,5 @@
 -- Pages of Ogg (RFC 3533 6), each with one packet.
-use Rattle.std.specs.Prelude.{ℕ, ◌+◌, ◌-◌, ◌*◌, ◌/◌, ◌%◌, Bool, true, false, nat_lt, List, [], ◌∷◌, ◌++◌, length, fold}
+use Rattle.std.specs.Prelude.{ℕ, ◌+◌, ◌-◌, ◌*◌, ◌/◌, ◌%◌, Bool, nat_lt, List, [], ◌∷◌, ◌++◌, length, fold}
 use Rattle.std.specs.Prelude.{bit_xor, codes, replicate, if◌then◌else◌}
 use Rattle.media_files_captures.specs.Numbers.{u32_le, u64_le}
 

@@ -1,5 +1,5 @@
 -- Opus packets (RFC 6716 3) in Ogg (RFC 7845).
-use Rattle.std.specs.Prelude.{ℕ, ◌+◌, ◌-◌, ◌*◌, ◌/◌, ◌%◌, ◌==◌, ◌&&◌, ◌||◌, ◌<◌, ◌≤◌, ◌⊎◌, Bool, true, false, nat_lt, nat_le, not}
+use Rattle.std.specs.Prelude.{ℕ, ◌+◌, ◌-◌, ◌*◌, ◌/◌, ◌%◌, ◌==◌, ◌&&◌, ◌<◌, ◌⊎◌, Bool, true, false, nat_lt, nat_le, not}
 use Rattle.std.specs.Prelude.{List, [], ◌∷◌, ◌++◌, length, slice_index, codes, Any, Option, None, Some, if◌then◌else◌, option_map}
 use Rattle.std.specs.Borrow.{Bor}
 use Rattle.media_files_captures.specs.Numbers.{u16_le, u32_le}
@@ -41,7 +41,7 @@ silence_of packet =
     if length packet == 0 then []
     else if slice_index packet 0 % 4 == 2 then (slice_index packet 0 - 1) ∷ []
     else if (slice_index packet 0 % 4 == 3) && nat_lt 1 (length packet)
-        then slice_index packet 0 ∷ (slice_index packet 1 % 64 ∷ [])
+    then slice_index packet 0 ∷ (slice_index packet 1 % 64 ∷ [])
     else slice_index packet 0 ∷ []
 
 -- A packet that came whole.

@@ -1,5 +1,5 @@
 -- Units of video one behind the other.
-use Rattle.std.specs.Prelude.{ℕ, List, [], ◌∷◌, ◌++◌}
+use Rattle.std.specs.Prelude.{ℕ, List, ◌∷◌}
 use Rattle.std.specs.List.{flat_map}
 use Rattle.media_files.specs.declared.units.TimedUnit.{TimedUnit}
 

@@ -5,11 +5,10 @@ ghost use Rattle.media_files.specs.Ivf.{first_time, first_vp8_size, fourcc, fram
 ghost use Rattle.media_files.specs.Ivf.{clock, nearest_time, picture_size, size_of, signature, sized, vp8_size};
 ghost use Rattle.media_files.specs.Units.{timed};
 
-use std::alloc::{AllocError, Global};
-
 use crate::errors::RecordingError;
-use media_files_captures::{ByteOrder, push_u16, push_u32, push_u64, u16_at};
 use crate::units::{TEMPORAL_DELIMITER, TimedUnit};
+use media_files_captures::{ByteOrder, push_u16, push_u32, push_u64, u16_at};
+use std::alloc::{AllocError, Global};
 
 /// The codec of a file.
 #[derive(Debug, Clone, Copy, PartialEq, Eq)]

@@ -5,9 +5,8 @@ ghost use Rattle.media_files.specs.Ogg.{crc, crc_bit, crc_byte, crc_half, lacing
 ghost use Rattle.media_files.specs.Ogg.{page_front};
 ghost use Rattle.media_files.specs.OggViews.{place_shown};
 
-use std::alloc::{AllocError, Global};
-
 use media_files_captures::{push_u32, push_u64};
+use std::alloc::{AllocError, Global};
 
 // The generator of the checksum, the most significant bit first.
 const GENERATOR: u32 = 0x04c1_1db7;

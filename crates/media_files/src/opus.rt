@@ -9,11 +9,10 @@ ghost use Rattle.media_files.specs.Ogg.{flags_of, page};
 ghost use Rattle.media_files.specs.OggViews.{place_shown};
 ghost use Rattle.media_files.specs.OpusViews.{stream_shown};
 
-use std::alloc::{AllocError, Global};
-
 use crate::errors::RecordingError;
-use media_files_captures::{push_u16, push_u32};
 use crate::ogg::{LONGEST_PACKET, PagePlace, push_page};
+use media_files_captures::{push_u16, push_u32};
+use std::alloc::{AllocError, Global};
 
 // The most samples of a packet, 120 ms at 48,000 a second.
 const LONGEST: usize = 5760;
@@ -158,11 +157,7 @@ fn push_tags(out: &mut Vec<u8>) -> Result<(), AllocError>
 }
 
 /// Writes the page of the header.
-fn push_head_page(
-    alloc: Global,
-    stream: OpusStream,
-    out: &mut Vec<u8>,
-) -> Result<(), AllocError>
+fn push_head_page(alloc: Global, stream: OpusStream, out: &mut Vec<u8>) -> Result<(), AllocError>
     ensures { OnOk result (out.new.items ≡ out.old.items ++ head_page (stream_shown stream)) }
 {
     let mut head = Vec::new(alloc);

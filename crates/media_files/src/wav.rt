@@ -4,10 +4,9 @@ ghost use Rattle.std.specs.Prelude.{◌≡◌, ◌≢◌, ◌*◌, ◌++◌, ◌
 ghost use Rattle.media_files.specs.Wav.{bits_of, data_front, fact_chunk, format_chunk, format_rates, joined, padding};
 ghost use Rattle.media_files.specs.Wav.{rate_of, riff_front, samples_of, tag_of, wav_file, wav_front};
 
-use std::alloc::{AllocError, Global};
-
 use crate::errors::RecordingError;
 use media_files_captures::{push_u16, push_u32};
+use std::alloc::{AllocError, Global};
 
 /// The coding of the samples.
 #[derive(Debug, Clone, Copy, PartialEq, Eq)]

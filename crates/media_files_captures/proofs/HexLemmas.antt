@@ -4,7 +4,7 @@ use Rattle.std.specs.List.{flat_map}
 use Rattle.std.specs.Option.{option_to_list}
 use Rattle.std.proofs.lemmas.List.{length-append}
 use Rattle.std.proofs.lemmas.List.Concat.{flat_map-append}
-use Rattle.media_files_captures.specs.Runs.{Holds, HoldsAll}
+use Rattle.media_files_captures.specs.Runs.{Holds}
 use Rattle.media_files_captures.specs.HexLines.{Datagram, decimal, digits_behind, hex_line, with_digit, IsBadAt, IsHexText}
 use Rattle.media_files_captures.proofs.RunLemmas.{Holds-push}
 
@@ -26,7 +26,7 @@ read-more text datagrams after number rest next line sofar found taken = record 
   held = Holds-push hex_line text sofar.lines line rest next sofar.held found;
   datagrams_are = taken ∙ ap (λ (v : List Datagram). v ++ option_to_list line) sofar.datagrams_are
       ∙ sym (flat_map-append (λ (l : Option Datagram). option_to_list l) sofar.lines (line ∷ [])
-        ∙ ap (λ (v : List Datagram). flat_map option_to_list sofar.lines ++ v) (append-nil (option_to_list line)));
+      ∙ ap (λ (v : List Datagram). flat_map option_to_list sofar.lines ++ v) (append-nil (option_to_list line)));
   counted = omega (arith, length-append sofar.lines (line ∷ []), sofar.counted);
 }
 

@@ -1,5 +1,5 @@
 -- The blocks so far, and one more.
-use Rattle.std.proofs.Common.{◌≡◌, ◌++◌, ◌+◌, ◌-◌, ◌<◌, suc, zero, ℕ, List, [], ◌∷◌, Option, Some, None, refl, sym, ap, ◌∙◌, append_assoc, arith, ◌≤◌, ◌==◌, true, false, length, drop, slice_index, nat_lt}
+use Rattle.std.proofs.Common.{◌≡◌, ◌++◌, ◌+◌, ◌-◌, ◌<◌, suc, ℕ, List, [], ◌∷◌, Option, Some, None, refl, sym, ap, ◌∙◌, arith, ◌≤◌, ◌==◌, true, false, length, drop, slice_index, nat_lt}
 use Rattle.std.specs.Option.{option_to_list}
 use Rattle.media_files_captures.specs.Captures.{Packet}
 use Rattle.media_files_captures.specs.Runs.{Holds}
@@ -37,13 +37,13 @@ and_packet-last (Some p) = refl
 
 pub packets_of-push : (interfaces : List Interface) (blocks : List Block) (b : Block)
     → packets_of interfaces (blocks ++ b ∷ [])
-      ≡ packets_of interfaces blocks ++ option_to_list (packet_in (interfaces_of interfaces blocks) b)
+    ≡ packets_of interfaces blocks ++ option_to_list (packet_in (interfaces_of interfaces blocks) b)
 packets_of-push interfaces [] b = and_packet-last (packet_in interfaces b)
 packets_of-push interfaces (a ∷ blocks) b =
     ap (λ (ps : List Packet). and_packet (packet_in interfaces a) ps)
     (packets_of-push (interfaces_after interfaces a) blocks b)
     ∙ and_packet-push (packet_in interfaces a) (packets_of (interfaces_after interfaces a) blocks)
-      (option_to_list (packet_in (interfaces_of (interfaces_after interfaces a) blocks) b))
+    (option_to_list (packet_in (interfaces_of (interfaces_after interfaces a) blocks) b))
 
 pub read-more : (file : List ℕ) (packets after : List Packet) (interfaces then : List Interface) (here next : Reader)
     (b : Block) → IsReadTo file packets interfaces here → block here ≡ Some (b, next)
@@ -61,7 +61,7 @@ pub option_byte-more : (most i : ℕ) (order : ByteOrder) (code : ℕ) (bytes : 
     → (u16_at order bytes 0 ≡ 0 → ⊥) → 4 + padded (u16_at order bytes 2) ≤ length bytes
     → is_wanted order code bytes ≡ false
     → option_byte (most - i) order code bytes
-      ≡ option_byte (most - (i + 1)) order code (drop (4 + padded (u16_at order bytes 2)) bytes)
+    ≡ option_byte (most - (i + 1)) order code (drop (4 + padded (u16_at order bytes 2)) bytes)
 unfolding option_byte
 option_byte-more most i order code bytes below room some whole other =
     let one : most - i ≡ suc (most - (i + 1)) = omega arith in

@@ -1,5 +1,5 @@
 -- One more value of a run.
-use Rattle.std.proofs.Common.{◌≡◌, ◌++◌, ℕ, List, [], ◌∷◌, Option, Some, None, refl, sym, ap, ◌∙◌, subst, map, Bor}
+use Rattle.std.proofs.Common.{◌≡◌, ◌++◌, List, [], ◌∷◌, Option, Some, refl, sym, ap, ◌∙◌, subst, map}
 use Rattle.std.proofs.lemmas.List.{map_push}
 use Rattle.media_files_captures.specs.Runs.{Holds}
 

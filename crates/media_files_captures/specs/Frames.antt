@@ -1,5 +1,5 @@
 -- The payload of the UDP datagram that a captured frame carries.
-use Rattle.std.specs.Prelude.{ℕ, ◌+◌, ◌-◌, ◌*◌, ◌/◌, ◌%◌, ◌==◌, ◌||◌, Bool, true, false, List, [], ◌∷◌, length}
+use Rattle.std.specs.Prelude.{ℕ, ◌+◌, ◌-◌, ◌*◌, ◌/◌, ◌%◌, ◌==◌, ◌||◌, Bool, List, ◌∷◌, length}
 use Rattle.std.specs.Prelude.{take, drop, slice_index, nat_lt, Result, Ok, Err, zero, suc, if◌then◌else◌, not, ◌&&◌}
 use Rattle.std.specs.Borrow.{Bor}
 use Rattle.media_files_captures.specs.Numbers.{u16_be}

@@ -1,5 +1,5 @@
 -- Capture files of pcap (draft-ietf-opsawg-pcap 4 and 5).
-use Rattle.std.specs.Prelude.{◌≡◌, ℕ, ◌+◌, ◌*◌, ◌%◌, ◌==◌, ◌&&◌, Bool, true, false, nat_lt, List, [], ◌∷◌, length, take, drop}
+use Rattle.std.specs.Prelude.{◌≡◌, ℕ, ◌+◌, ◌*◌, ◌%◌, ◌==◌, nat_lt, List, length, take, drop}
 use Rattle.std.specs.Prelude.{Option, None, Some, option_map, if◌then◌else◌}
 use Rattle.media_files_captures.specs.Numbers.{u32_at}
 use Rattle.media_files_captures.specs.Captures.{Packet}
@@ -7,7 +7,6 @@ use Rattle.media_files_captures.specs.Runs.{HoldsAll}
 use Rattle.media_files_captures.specs.Links.{link_of}
 use Rattle.media_files_captures.specs.declared.numbers.ByteOrder.{ByteOrder}
 use Rattle.media_files_captures.specs.declared.numbers.ByteOrder.TheVariants.{Big, Little}
-use Rattle.media_files_captures.specs.declared.captures.Resolution.{Resolution}
 use Rattle.media_files_captures.specs.declared.captures.Resolution.TheVariants.{Decimal}
 use Rattle.media_files_captures.specs.declared.pcap.PcapHeader.{PcapHeader}
 

@@ -1,5 +1,5 @@
 -- Capture files of pcapng (draft-ietf-opsawg-pcapng 3 and 4).
-use Rattle.std.specs.Prelude.{◌≡◌, ℕ, zero, suc, ◌+◌, ◌-◌, ◌*◌, ◌/◌, ◌%◌, ◌==◌, ◌&&◌, Bool, true, false, not, nat_lt, nat_le}
+use Rattle.std.specs.Prelude.{◌≡◌, ℕ, zero, suc, ◌+◌, ◌-◌, ◌*◌, ◌/◌, ◌%◌, ◌==◌, ◌&&◌, Bool, not, nat_lt, nat_le}
 use Rattle.std.specs.Prelude.{List, [], ◌∷◌, ◌++◌, length, take, drop, min, slice_get, slice_index, Option, None, Some}
 use Rattle.std.specs.Prelude.{if◌then◌else◌}
 use Rattle.media_files_captures.specs.Numbers.{u16_at, u32_at}
@@ -47,8 +47,10 @@ is_length len bytes = nat_le 12 len && (len % 4 == 0) && nat_le len (length byte
 unfoldable pub block_at : ByteOrder → List ℕ → Option (Block × Reader)
 block_at order bytes =
     if is_length (u32_at order bytes 4) bytes
-    then Some (block_of order (u32_at order bytes 0) (take (u32_at order bytes 4 - 12) (drop 8 bytes)),
-        reader order (drop (u32_at order bytes 4) bytes))
+    then Some (
+      block_of order (u32_at order bytes 0) (take (u32_at order bytes 4 - 12) (drop 8 bytes)),
+      reader order (drop (u32_at order bytes 4) bytes),
+    )
     else None
 
 -- The block in front of what is left.
@@ -124,11 +126,11 @@ with_interface (Some i) f = f i
 unfoldable pub packet_in : List Interface → Block → Option Packet
 packet_in interfaces b =
     if (b.kind == 6) && nat_le 20 (length b.body)
-        then with_interface (slice_get interfaces (u32_at b.order b.body 0)) (enhanced b.order b.body)
+    then with_interface (slice_get interfaces (u32_at b.order b.body 0)) (enhanced b.order b.body)
     else if (b.kind == 3) && nat_le 4 (length b.body)
-        then with_interface (slice_get interfaces 0) (simple b.order b.body)
+    then with_interface (slice_get interfaces 0) (simple b.order b.body)
     else if (b.kind == 2) && nat_le 20 (length b.body)
-        then with_interface (slice_get interfaces (u16_at b.order b.body 0)) (old b.order b.body)
+    then with_interface (slice_get interfaces (u16_at b.order b.body 0)) (old b.order b.body)
     else None
 
 -- The interfaces that are known behind a block: a section begins with none.

@@ -1,5 +1,5 @@
 -- What blocks of the program show.
-use Rattle.std.specs.Prelude.{ℕ, List, Option, None, Some, option_map, map}
+use Rattle.std.specs.Prelude.{Option, None, Some, option_map}
 use Rattle.media_files_captures.specs.Captures.{Packet, seen}
 use Rattle.media_files_captures.specs.Pcapng.{Block, Reader}
 use Rattle.media_files_captures.specs.declared.captures.CapturedPacket.{CapturedPacket}

@@ -1,5 +1,5 @@
 -- Values that stand one behind the other.
-use Rattle.std.specs.Prelude.{◌≡◌, ℕ, List, [], ◌∷◌, Option, Some, None}
+use Rattle.std.specs.Prelude.{◌≡◌, List, [], ◌∷◌, Option, Some, None}
 
 -- These values are read from here one behind the other, and this is left.
 abbrev pub Holds : {A S : Type 0} → (S → Option (A × S)) → S → List A → S → Type 0

@@ -1,8 +1,7 @@
 //! Captured packets.
 
-use std::alloc::{AllocError, AllocFailed};
-
 use crate::frames::LinkType;
+use std::alloc::{AllocError, AllocFailed};
 use thiserror::Error;
 
 /// How many ticks of a packet's time make a second.

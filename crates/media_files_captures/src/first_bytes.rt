@@ -34,7 +34,7 @@ pub fn kind_of(datagram: &[u8]) -> DatagramKind
         ↔ (IsByteWithin datagram.now 0 128 191 × IsByteWithin datagram.now 1 192 223) }
     ensures rtp { (result ≡ DatagramKind.Rtp)
         ↔ (IsByteWithin datagram.now 0 128 191
-            × (IsByteWithin datagram.now 1 0 191 ⊎ IsByteWithin datagram.now 1 224 255)) }
+        × (IsByteWithin datagram.now 1 0 191 ⊎ IsByteWithin datagram.now 1 224 255)) }
 {
     if datagram.is_empty() {
         return DatagramKind::Other;

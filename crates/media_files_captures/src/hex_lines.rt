@@ -7,12 +7,10 @@ ghost use Rattle.media_files_captures.specs.HexLines.{IsBadAt, IsHexText, datagr
 ghost use Rattle.media_files_captures.specs.HexLines.{decimal, hex_bytes, hex_line, line_length, line_shown, said, said_shown};
 ghost use Rattle.media_files_captures.specs.HexLines.{trimmed, with_digit};
 
-use std::alloc::{AllocError, Global};
-
-use hex::FromHexError;
-use thiserror::Error;
-
 use crate::numbers::rest_from;
+use hex::FromHexError;
+use std::alloc::{AllocError, Global};
+use thiserror::Error;
 
 /// A datagram that a line says.
 #[derive(Debug, Drop)]
@@ -104,7 +102,10 @@ fn datagram_at(
 {
     let Some(end) = blank else {
         let bytes = hex_bytes(alloc, line)?;
-        return Ok(bytes.map(|bytes| HexDatagram { milliseconds: None, bytes }));
+        return Ok(bytes.map(|bytes| HexDatagram {
+            milliseconds: None,
+            bytes,
+        }));
     };
     let Some(milliseconds) = decimal(&line[..end]) else {
         return Ok(None);
@@ -192,10 +193,7 @@ fn hex_line(alloc: Global, text: &[u8]) -> Result<Option<(Option<HexDatagram>, &
 }
 
 /// Takes what a line says, if it is a datagram.
-fn take_said(
-    said: Option<HexDatagram>,
-    datagrams: &mut Vec<HexDatagram>,
-) -> Result<(), AllocError>
+fn take_said(said: Option<HexDatagram>, datagrams: &mut Vec<HexDatagram>) -> Result<(), AllocError>
     ensures { OnOk result (map datagram_shown datagrams.new.items
         ≡ map datagram_shown datagrams.old.items ++ option_to_list (option_map datagram_shown said)) }
 {

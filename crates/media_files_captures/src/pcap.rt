@@ -5,11 +5,10 @@ ghost use Rattle.media_files_captures.specs.Captures.{read, seen};
 ghost use Rattle.media_files_captures.specs.Links.{link_of};
 ghost use Rattle.media_files_captures.specs.Pcap.{digits_of, IsPcap, pcap_format, pcap_header, pcap_record, ticks_per_second};
 
-use std::alloc::Global;
-
 use crate::captures::{Capture, CaptureError, CapturedPacket, Resolution};
 use crate::frames::LinkType;
 use crate::numbers::{ByteOrder, rest_from, u32_at};
+use std::alloc::Global;
 
 /// The link type of a number.
 pub fn link_of(number: u16) -> LinkType
@@ -94,10 +93,7 @@ fn ticks_per_second(digits: u8) -> u64
 
 /// The record in front of these bytes, and what stands behind it.
 #[tactic(auto, unfolding(crate::specs::Pcap::pcap_record))]
-fn pcap_record<'a>(
-    header: PcapHeader,
-    bytes: &'a [u8],
-) -> Option<(CapturedPacket<'a>, &'a [u8])>
+fn pcap_record<'a>(header: PcapHeader, bytes: &'a [u8]) -> Option<(CapturedPacket<'a>, &'a [u8])>
     ensures value { read result ≡ pcap_record header bytes.now }
     ensures shorter { IfSome result (λ r. length r.1.now < length bytes.now) }
 {

@@ -8,11 +8,10 @@ ghost use Rattle.media_files_captures.specs.Pcapng.{with_interface};
 ghost use Rattle.media_files_captures.specs.PcapngViews.{block_shown, packet_seen, read_block, reader_shown};
 ghost use Rattle.std.specs.Option.{option_to_list};
 
-use std::alloc::{AllocError, Global};
-
 use crate::captures::{Capture, CaptureError, CapturedPacket};
 use crate::interfaces::{Interface, interface_of};
 use crate::numbers::{ByteOrder, rest_from, u16_at, u32_at};
+use std::alloc::{AllocError, Global};
 
 // The type of a section's header, the same in both byte orders.
 const SECTION: u32 = 0x0a0d_0d0a;
@@ -66,10 +65,7 @@ fn order_of(before: ByteOrder, bytes: &[u8]) -> ByteOrder
 
 /// The block in front of these bytes, in this byte order.
 #[tactic(auto, unfolding(crate::specs::Pcapng::block_at))]
-fn block_at<'a>(
-    order: ByteOrder,
-    bytes: &'a [u8],
-) -> Option<(PcapngBlock<'a>, PcapngReader<'a>)>
+fn block_at<'a>(order: ByteOrder, bytes: &'a [u8]) -> Option<(PcapngBlock<'a>, PcapngReader<'a>)>
     requires { 12 ≤ length bytes.now }
     ensures value { read_block result ≡ block_at order bytes.now }
     ensures shorter { IfSome result (λ b. length b.1.rest.now < length bytes.now) }
@@ -127,7 +123,11 @@ fn packet_at<'a>(
 }
 
 /// The packet in an enhanced block of an interface, or in an old one.
-fn enhanced<'a>(interface: &Interface, order: ByteOrder, body: &'a [u8]) -> Option<CapturedPacket<'a>>
+fn enhanced<'a>(
+    interface: &Interface,
+    order: ByteOrder,
+    body: &'a [u8],
+) -> Option<CapturedPacket<'a>>
     requires { 20 ≤ length body.now }
     ensures { packet_seen result ≡ enhanced order body.now interface.now }
 {
@@ -135,7 +135,14 @@ fn enhanced<'a>(interface: &Interface, order: ByteOrder, body: &'a [u8]) -> Opti
     let low = u32_at(order, body, 8) as u64;
     let kept = u32_at(order, body, 12) as usize;
     let original_len = u32_at(order, body, 16);
-    packet_at(interface, high * 4294967296 + low, original_len, kept, 20, body)
+    packet_at(
+        interface,
+        high * 4294967296 + low,
+        original_len,
+        kept,
+        20,
+        body,
+    )
 }
 
 /// How many bytes of a packet an interface keeps.

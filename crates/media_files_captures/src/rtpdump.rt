@@ -4,10 +4,9 @@ ghost use Rattle.std.specs.Prelude.{◌≡◌, ◌≢◌, ◌<◌, ◌==◌, IfE
 ghost use Rattle.media_files_captures.specs.Rtpdump.{IsRtpdump, behind_line, datagram_seen, first_line};
 ghost use Rattle.media_files_captures.specs.Rtpdump.{read_datagram, rest_seen, rtpdump_record, rtpdump_records};
 
-use std::alloc::Global;
-
 use crate::captures::CaptureError;
 use crate::numbers::{ByteOrder, rest_from, u16_be, u32_at};
+use std::alloc::Global;
 
 /// A datagram that a file holds.
 #[derive(Debug, Clone, Copy)]

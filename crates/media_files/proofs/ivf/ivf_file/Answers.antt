@@ -1,6 +1,5 @@
-use Rattle.std.proofs.Common.{◌≡◌, map, length, arith, ◌∙◌, sym}
+use Rattle.std.proofs.Common.{map, length, arith}
 use Rattle.std.proofs.lemmas.List.{length-map}
-use Rattle.std.proofs.lemmas.Grind.{common_steps}
 use Rattle.media_files.specs.Ivf.{size_of}
 use Rattle.media_files.specs.Units.{timed}
 use Rattle.media_files.proofs.IvfLemmas.{ivf_file-begun, too-long}
@@ -19,4 +18,4 @@ pub returns-in_err-push_frame-clause-refused : goal.returns-in_err-push_frame-cl
 returns-in_err-push_frame-clause-refused c =
     let p = err_from_is_err_and c.from_residual-in_err-push_frame.result c.from_residual-in_err-push_frame.ensures.1 in rw (p.1, p.2)
     (λ other. let h = c.in_err-push_frame.ensures.refused other in
-      (h.0, too-long c.args.codec c.args.frames.now c.loop-frame.frame-index _ c.loop-frame-test.true h.1))
+    (h.0, too-long c.args.codec c.args.frames.now c.loop-frame.frame-index _ c.loop-frame-test.true h.1))

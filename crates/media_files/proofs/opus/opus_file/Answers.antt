@@ -1,4 +1,4 @@
-use Rattle.std.proofs.Common.{List, ap, map, Option, Bor, ℕ, ◌∙◌, sym, arith}
+use Rattle.std.proofs.Common.{List, ap, map, Option, Bor, ℕ, ◌∙◌}
 use Rattle.media_files.specs.Opus.{item}
 use Rattle.media_files.specs.OpusViews.{stream_shown}
 use Rattle.media_files.proofs.OpusLemmas.{opus_file-is}

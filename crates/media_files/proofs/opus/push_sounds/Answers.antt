@@ -1,4 +1,4 @@
-use Rattle.std.proofs.Common.{◌∙◌, sym, arith}
+use Rattle.std.proofs.Common.{arith}
 use Rattle.std.proofs.lemmas.Result.{err_from_is_err_and}
 use Rattle.media_files.proofs.OpusLemmas.{long-among, pages-more}
 use Rattle.media_files.proofs.opus.push_sounds.Goals as goal
@@ -7,7 +7,7 @@ pub returns-in_err-push_heard-clause-refused : goal.returns-in_err-push_heard-cl
 returns-in_err-push_heard-clause-refused c =
     let p = err_from_is_err_and c.from_residual.result c.from_residual.ensures.1 in rw (p.1, p.2)
     (λ other. let h = c.in_err-push_heard.ensures.refused other in
-      (h.0, long-among c.args.packets.now c.loop-i.i _ c.sound-found.result c.loop-i-test.true c.sound-found.ensures h.1))
+    (h.0, long-among c.args.packets.now c.loop-i.i _ c.sound-found.result c.loop-i-test.true c.sound-found.ensures h.1))
 
 pub loop-i-preserved : goal.loop-i-preserved
 loop-i-preserved c = record {

@@ -1,7 +1,6 @@
-use Rattle.std.proofs.Common.{◌≡◌, ◌-◌, refl, true, Result, List, ℕ, arith, sym, ◌∙◌}
+use Rattle.std.proofs.Common.{◌≡◌, ◌-◌, refl, true, arith, sym, ◌∙◌}
 use Rattle.std.proofs.lemmas.Grind.{common_steps}
-use Rattle.media_files_captures.specs.Frames.{extended, is_extension, shown}
-use Rattle.media_files_captures.specs.declared.frames.PassedOver.{PassedOver}
+use Rattle.media_files_captures.specs.Frames.{extended, is_extension}
 use Rattle.media_files_captures.proofs.FrameLemmas.{behind_extensions-more, behind_extensions-end, behind_extensions-refused, behind_extensions-none}
 use Rattle.media_files_captures.proofs.frames.behind_extensions.Goals as goal
 use Rattle.media_files_captures.proofs.frames.behind_extensions.Goals.{else-loop-passed-test, then-loop-passed-test+then-not-is_extension}
@@ -15,14 +14,14 @@ pub loop-passed-preserved : goal.loop-passed-preserved
 loop-passed-preserved c =
     let one : is_extension c.loop-passed.next ≡ true = cc in
     sym (behind_extensions-more c.args.most c.loop-passed._passed c.loop-passed.next c.loop-passed.rest.now
-      (extended c.in_ok-next.field-0-0 c.in_ok-next.field-0-1.now) (omega arith) one (sym c.in_ok-next.ensures))
+    (extended c.in_ok-next.field-0-0 c.in_ok-next.field-0-1.now) (omega arith) one (sym c.in_ok-next.ensures))
     ∙ c.loop-passed.invariant
 
 pub returns-in_err-next : goal.returns-in_err-next
 returns-in_err-next c =
     let one : is_extension c.loop-passed.next ≡ true = cc in
     let refused = behind_extensions-refused c.args.most c.loop-passed._passed c.loop-passed.next c.loop-passed.rest.now
-      c.in_err-next.field-0.0 (omega arith) one (sym c.in_err-next.ensures) in
+    c.in_err-next.field-0.0 (omega arith) one (sym c.in_err-next.ensures) in
     grind (arith, common_steps, refused)
 
 pub returns : goal.returns
