@@ -13,6 +13,6 @@ pub use amr_wb::amr_wb_file;
 pub use errors::RecordingError;
 pub use ivf::{IvfCodec, ivf_file};
 pub use media_files_captures as captures;
-pub use opus::{OpusStream, opus_file};
+pub use opus::{OpusStream, opus_duration, opus_file};
 pub use units::{TimedUnit, annex_b, obu_stream};
 pub use wav::{WavCodec, wav_file};

@@ -72,9 +72,10 @@ fn opus_frames(packet: &[u8]) -> usize
     }
 }
 
-/// How many samples a packet has; 0 where it is none (RFC 6716 3.2.5).
+/// How many samples, at 48,000 a second, a packet of Opus has; 0 where it is none, as one of more than 120 ms (RFC 6716
+/// 3.2.5).
 #[tactic(auto, unfolding(crate::specs::Opus::opus_duration))]
-fn opus_duration(packet: &[u8]) -> usize
+pub fn opus_duration(packet: &[u8]) -> usize
     ensures value { result ≡ opus_duration packet.now }
     ensures few { result ≤ 5760 }
 {
