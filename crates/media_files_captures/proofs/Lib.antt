@@ -2,3 +2,4 @@ pub mod FrameLemmas
 pub mod HexLemmas
 pub mod PcapngLemmas
 pub mod RunLemmas
+pub mod UniqueLemmas
