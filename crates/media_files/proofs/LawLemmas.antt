@@ -1,5 +1,5 @@
 -- Times that are near, and silence that is as long.
-use Rattle.std.proofs.Common.{◌≡◌, ◌+◌, ◌-◌, ◌*◌, ◌/◌, ◌%◌, ◌<◌, ◌≤◌, ◌==◌, ℕ, suc, zero, Bool, true, false, nat_lt, List, [], ◌∷◌, length, slice_index, refl, sym, ap, ◌∙◌, arith, ⊎_elim, ◌⊎◌, inl, inr}
+use Rattle.std.proofs.Common.{◌≡◌, ◌+◌, ◌-◌, ◌/◌, ◌%◌, ◌<◌, ◌≤◌, ◌==◌, ℕ, true, false, nat_lt, List, [], ◌∷◌, length, slice_index, refl, sym, ap, ◌∙◌, arith, ⊎_elim, ◌⊎◌, inl, inr}
 use Rattle.std.proofs.lemmas.Bool.{cases_lt}
 use Rattle.media_files.specs.Ivf.{nearest_time, ahead}
 use Rattle.media_files.specs.Opus.{opus_duration, opus_frames, silence_of}
@@ -26,9 +26,9 @@ low_bits-behind p low room small far = omega arith
 pub low_bits : (p low : ℕ) → 2147483648 ≤ p → low < 4294967296 → nearest_time p low % 4294967296 ≡ low
 low_bits p low room small = ⊎_elim
     (λ (near : ahead p low < 2147483648). ap (λ (t : ℕ). t % 4294967296) (nearest_time-ahead p low near)
-      ∙ low_bits-ahead p low small)
+    ∙ low_bits-ahead p low small)
     (λ (far : 2147483648 ≤ ahead p low). ap (λ (t : ℕ). t % 4294967296) (nearest_time-behind p low far)
-      ∙ low_bits-behind p low room small far)
+    ∙ low_bits-behind p low room small far)
     (cases_lt (ahead p low) 2147483648)
 
 pub near-ahead : (p low : ℕ) → nearest_time p low < p + 2147483648
@@ -118,16 +118,16 @@ frames-none = refl
 pub short : (a : ℕ) (rest : List ℕ) → a % 4 < 3 → opus_duration (silence_of (a ∷ rest)) ≡ opus_duration (a ∷ rest)
 short a rest few = ⊎_elim
     (λ (plain : a % 4 < 2). ⊎_elim
-      (λ (single : a % 4 < 1). rw (silence-plain a rest (inl (omega arith)))
-        (duration-same (a ∷ []) (a ∷ rest)
-          (frames-single a [] (omega arith) ∙ sym (frames-single a rest (omega arith))) refl))
-      (λ (pair : 1 ≤ a % 4). rw (silence-plain a rest (inr (omega arith)))
-        (duration-same (a ∷ []) (a ∷ rest)
-          (frames-pair a [] (inl (omega arith)) ∙ sym (frames-pair a rest (inl (omega arith)))) refl))
-      (cases_lt (a % 4) 1))
+    (λ (single : a % 4 < 1). rw (silence-plain a rest (inl (omega arith)))
+    (duration-same (a ∷ []) (a ∷ rest)
+    (frames-single a [] (omega arith) ∙ sym (frames-single a rest (omega arith))) refl))
+    (λ (pair : 1 ≤ a % 4). rw (silence-plain a rest (inr (omega arith)))
+    (duration-same (a ∷ []) (a ∷ rest)
+    (frames-pair a [] (inl (omega arith)) ∙ sym (frames-pair a rest (inl (omega arith)))) refl))
+    (cases_lt (a % 4) 1))
     (λ (two : 2 ≤ a % 4). rw (silence-two a rest (omega arith))
-      (duration-same ((a - 1) ∷ []) (a ∷ rest)
-        (frames-pair (a - 1) [] (inl (omega arith)) ∙ sym (frames-pair a rest (inr (omega arith)))) (omega arith)))
+    (duration-same ((a - 1) ∷ []) (a ∷ rest)
+    (frames-pair (a - 1) [] (inl (omega arith)) ∙ sym (frames-pair a rest (inr (omega arith)))) (omega arith)))
     (cases_lt (a % 4) 2)
 
 pub silence-long : (packet : List ℕ) → 0 < opus_duration packet
@@ -141,7 +141,7 @@ silence-long (a ∷ b ∷ rest) long = by_code (cases_lt (a % 4) 3) where
   by_code : (a % 4 < 3) ⊎ (3 ≤ a % 4) → opus_duration (silence_of (a ∷ b ∷ rest)) ≡ opus_duration (a ∷ b ∷ rest)
   by_code (inl few) = short a (b ∷ rest) few
   by_code (inr code) =
-    let three : a % 4 ≡ 3 = omega arith in
-    rw (silence-counted a b rest three)
-    (duration-same (a ∷ (b % 64 ∷ [])) (a ∷ b ∷ rest)
+      let three : a % 4 ≡ 3 = omega arith in
+      rw (silence-counted a b rest three)
+      (duration-same (a ∷ (b % 64 ∷ [])) (a ∷ b ∷ rest)
       (frames-counted a (b % 64) [] three ∙ omega arith ∙ sym (frames-counted a b rest three)) refl)

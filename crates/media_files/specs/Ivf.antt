@@ -1,6 +1,6 @@
 -- IVF files of VP8, VP9 and AV1.
 use Rattle.std.specs.Prelude.{ℕ, ◌+◌, ◌-◌, ◌%◌, ◌==◌, ◌&&◌, Bool, nat_lt, List, [], ◌∷◌, ◌++◌}
-use Rattle.std.specs.Prelude.{length, slice_index, codes, Any, ◌≤◌, ◌⊎◌, Option, None, Some, if◌then◌else◌}
+use Rattle.std.specs.Prelude.{length, slice_index, codes, All, Any, ◌<◌, ◌≤◌, ◌⊎◌, Option, None, Some, if◌then◌else◌}
 use Rattle.media_files_captures.specs.Numbers.{u16_at, u16_le, u32_le, u64_le}
 use Rattle.media_files.specs.Units.{Timed, delimited}
 use Rattle.media_files_captures.specs.declared.numbers.ByteOrder.TheVariants.{Little}
@@ -103,6 +103,10 @@ ivf_frames codec first previous frames =
 unfoldable pub ivf_file : IvfCodec → ℕ → List Timed → List ℕ
 ivf_file codec rate frames = ivf_header codec (picture_size codec frames) rate (length frames)
     ++ ivf_frames codec (first_time frames) (first_time frames) frames
+
+-- Four bytes say how many bytes each frame has.
+abbrev pub AllFit : IvfCodec → List Timed → Type 0
+AllFit codec frames = All (λ (f : Timed). length (framed codec f.bytes) < 4294967296) frames
 
 -- More frames, or a frame of more bytes, than four bytes can say.
 abbrev pub IsTooMuch : IvfCodec → List Timed → Type 0

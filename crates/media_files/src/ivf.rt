@@ -1,7 +1,7 @@
 //! IVF files of VP8, VP9 and AV1.
 
 ghost use Rattle.std.specs.Prelude.{◌≡◌, ◌≢◌, ◌+◌, ◌-◌, ◌^◌, ◌++◌, ◌<◌, ◌≤◌, IfErr, IfOk, OnOk, length, map};
-ghost use Rattle.media_files.specs.Ivf.{first_time, first_vp8_size, fourcc, framed, IsTooMuch, ivf_file, ivf_frame, ivf_header};
+ghost use Rattle.media_files.specs.Ivf.{AllFit, first_time, first_vp8_size, fourcc, framed, IsTooMuch, ivf_file, ivf_frame, ivf_header};
 ghost use Rattle.media_files.specs.Ivf.{clock, nearest_time, picture_size, size_of, signature, sized, vp8_size};
 ghost use Rattle.media_files.specs.Units.{timed};
 
@@ -141,6 +141,7 @@ fn push_frame(
     out: &mut Vec<u8>,
 ) -> Result<(), RecordingError>
     ensures value { OnOk result (out.new.items ≡ out.old.items ++ ivf_frame time (framed codec unit.now)) }
+    ensures fits { OnOk result (length (framed codec unit.now) < 4294967296) }
     ensures refused { IfErr result (λ e. e ≢ RecordingError.Memory → (e ≡ RecordingError.TooLong)
         × (2 ^ 32 ≤ length (framed codec unit.now))) }
 {
@@ -192,6 +193,8 @@ pub fn ivf_file(
     frames: &[TimedUnit<'_>],
 ) -> Result<Vec<u8>, RecordingError>
     ensures value { IfOk result (λ v. v.items ≡ ivf_file codec rate (map timed frames.now)) }
+    ensures few { OnOk result (length frames.now < 4294967296) }
+    ensures fits { OnOk result (AllFit codec (map timed frames.now)) }
     ensures refused { IfErr result (λ e. e ≢ RecordingError.Memory
         → (e ≡ RecordingError.TooLong) × IsTooMuch codec (map timed frames.now)) }
 {

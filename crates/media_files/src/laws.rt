@@ -11,12 +11,10 @@ pub fn time_laws()
         → nearest_time previous low % 4294967296 ≡ low }
     ensures ahead { (previous low : ℕ) → nearest_time previous low < previous + 2147483648 }
     ensures behind { (previous low : ℕ) → previous ≤ nearest_time previous low + 2147483648 }
-{
-}
+{}
 
 /// Silence in place of a packet is as long as the packet, so that what is lost moves nothing that follows.
 pub fn opus_laws()
     ensures { (packet : List ℕ) → 0 < opus_duration packet
         → opus_duration (silence_of packet) ≡ opus_duration packet }
-{
-}
+{}

@@ -9,6 +9,7 @@ use Rattle.media_files.proofs.ivf.ivf_file.Goals as goal
 pub loop-frame-init : goal.loop-frame-init
 loop-frame-init c = record {
   low = omega (arith, c.first_time-first.ensures.low);
+  fits = λ k d below. absurd (omega (arith, below));
   written = ivf_file-begun c.args.codec c.args.rate (length c.args.frames.now) c.first_time-first.result
       (size_of c.picture_size.result.0 c.picture_size.result.1) (map timed c.args.frames.now) c.new-out.result.items c.push_header.new.out.items c.new-out.ensures.items
       c.in_ok-push_header.ensures c.picture_size.ensures (simp length-map) c.first_time-first.ensures.value;
