@@ -1,7 +1,11 @@
 -- Packets lost, and pages of those that are heard.
-use Rattle.std.proofs.Common.{◌≡◌, ◌++◌, ◌+◌, ◌-◌, ◌<◌, ◌≤◌, ◌==◌, suc, zero, ℕ, Bool, true, false, List, [], ◌∷◌, length, map, get_or, drop, refl, sym, ap, ◌∙◌, subst, append_assoc, Option, Some, None, is_some, Bor, drop-cons, add-one, arith, unwrap_or, Any}
+use Rattle.std.proofs.Common.{◌≡◌, ◌++◌, ◌+◌, ◌-◌, ◌<◌, ◌≤◌, ◌==◌, suc, zero, ℕ, Bool, true, false, List, [], ◌∷◌}
+use Rattle.std.proofs.Common.{length, map, get_or, drop, refl, sym, ap, ◌∙◌, subst, append_assoc, Option, Some, None}
+use Rattle.std.proofs.Common.{is_some, Bor, drop-cons, add-one, arith, unwrap_or, Any}
 use Rattle.std.proofs.lemmas.List.{get_or-map, length-map}
-use Rattle.media_files.specs.Opus.{from_sound, item, sound, if_sound, is_sound, opus_head, opus_tags, Stream, IsLong, kept_of, is_empty, sound_pages, sound_page, playing, playing_after, opus_duration, heard_of, opus_file, head_page, tags_page}
+use Rattle.media_files.specs.Opus.{from_sound, item, sound, if_sound, is_sound, opus_head, opus_tags, Stream, IsLong}
+use Rattle.media_files.specs.Opus.{kept_of, is_empty, sound_pages, sound_page, playing, playing_after, opus_duration}
+use Rattle.media_files.specs.Opus.{heard_of, opus_file, head_page, tags_page}
 use Rattle.media_files.specs.Ogg.{page, flags_of}
 use Rattle.media_files_captures.specs.Numbers.{u16_le, u32_le}
 
@@ -142,7 +146,8 @@ opus_file-is s packets heard b fresh heads tags out none headed tagged made last
     let is_last : b ≡ is_empty (from_sound packets) =
     last ∙ sym (none-at-all heard) ∙ ap (λ (ps : List (Option (List ℕ))). is_empty ps) same in
     let head : heads ≡ head_page s = headed ∙ ap (λ (v : List ℕ). v ++ head_page s) none in
-    let parts : out ≡ (head_page s ++ tags_page s.serial b) ++ sound_pages s.serial (playing [] 0 2) (from_sound packets) =
+    let pages : List ℕ = sound_pages s.serial (playing [] 0 2) (from_sound packets) in
+    let parts : out ≡ (head_page s ++ tags_page s.serial b) ++ pages =
     cc in
-    parts ∙ append_assoc (head_page s) (tags_page s.serial b) (sound_pages s.serial (playing [] 0 2) (from_sound packets))
-    ∙ ap (λ (x : Bool). head_page s ++ (tags_page s.serial x ++ sound_pages s.serial (playing [] 0 2) (from_sound packets))) is_last
+    parts ∙ append_assoc (head_page s) (tags_page s.serial b) pages
+    ∙ ap (λ (x : Bool). head_page s ++ (tags_page s.serial x ++ pages)) is_last

@@ -1,6 +1,7 @@
 -- Opus packets (RFC 6716 3) in Ogg (RFC 7845).
 use Rattle.std.specs.Prelude.{ℕ, ◌+◌, ◌-◌, ◌*◌, ◌/◌, ◌%◌, ◌==◌, ◌&&◌, ◌<◌, ◌⊎◌, Bool, true, false, nat_lt, nat_le, not}
-use Rattle.std.specs.Prelude.{List, [], ◌∷◌, ◌++◌, length, slice_index, codes, Any, Option, None, Some, if◌then◌else◌, option_map}
+use Rattle.std.specs.Prelude.{List, [], ◌∷◌, ◌++◌, length, slice_index, codes, Any, Option, None, Some, if◌then◌else◌}
+use Rattle.std.specs.Prelude.{option_map}
 use Rattle.std.specs.Borrow.{Bor}
 use Rattle.media_files_captures.specs.Numbers.{u16_le, u32_le}
 use Rattle.media_files.specs.Ogg.{Place, page, flags_of, longest_packet}

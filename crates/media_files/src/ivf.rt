@@ -1,7 +1,8 @@
 //! IVF files of VP8, VP9 and AV1.
 
 ghost use Rattle.std.specs.Prelude.{◌≡◌, ◌≢◌, ◌+◌, ◌-◌, ◌^◌, ◌++◌, ◌<◌, ◌≤◌, IfErr, IfOk, OnOk, length, map};
-ghost use Rattle.media_files.specs.Ivf.{AllFit, first_time, first_vp8_size, fourcc, framed, IsTooMuch, ivf_file, ivf_frame, ivf_header};
+ghost use Rattle.media_files.specs.Ivf.{AllFit, first_time, first_vp8_size, fourcc, framed, IsTooMuch, ivf_file};
+ghost use Rattle.media_files.specs.Ivf.{ivf_frame, ivf_header};
 ghost use Rattle.media_files.specs.Ivf.{clock, nearest_time, picture_size, size_of, signature, sized, vp8_size};
 ghost use Rattle.media_files.specs.Units.{timed};
 

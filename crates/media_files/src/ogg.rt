@@ -11,7 +11,7 @@ use std::alloc::{AllocError, Global};
 // The generator of the checksum, the most significant bit first.
 const GENERATOR: u32 = 0x04c1_1db7;
 
-/// The longest packet of a page, which has at most 255 segments of at most 255 bytes, of which a packet's last one has less.
+/// The longest packet of a page, which has at most 255 segments of at most 255 bytes: a packet's last one has less.
 pub const LONGEST_PACKET: usize = 65024;
 
 /// Where a page stands.

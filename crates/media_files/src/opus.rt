@@ -1,9 +1,11 @@
 //! Opus packets (RFC 6716 3) in Ogg files (RFC 7845).
 
-ghost use Rattle.std.specs.Prelude.{◌≡◌, ◌≢◌, ◌+◌, ◌*◌, ◌^◌, ◌++◌, ◌<◌, ◌≤◌, IfErr, IfOk, OnOk, drop, length, map, take};
+ghost use Rattle.std.specs.Prelude.{◌≡◌, ◌≢◌, ◌+◌, ◌*◌, ◌^◌, ◌++◌, ◌<◌, ◌≤◌, IfErr, IfOk, OnOk, drop, length, map};
+ghost use Rattle.std.specs.Prelude.{take};
 ghost use Rattle.std.specs.Prelude.{[], false, Any, option_map, slice_index};
 ghost use Rattle.media_files.specs.Opus.{at_most_120_ms, frame_samples, from_sound, head_page, heard_of, is_sound};
-ghost use Rattle.media_files.specs.Opus.{IsLong, IsTooMuch, item, kept_of, opus_duration, opus_file, opus_frames, opus_head};
+ghost use Rattle.media_files.specs.Opus.{IsLong, IsTooMuch, item, kept_of, opus_duration, opus_file, opus_frames};
+ghost use Rattle.media_files.specs.Opus.{opus_head};
 ghost use Rattle.media_files.specs.Opus.{opus_tags, playing, silence_of, sound, sound_pages, tags_page};
 ghost use Rattle.media_files.specs.Ogg.{flags_of, page};
 ghost use Rattle.media_files.specs.OggViews.{place_shown};

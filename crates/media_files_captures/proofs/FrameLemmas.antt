@@ -1,7 +1,9 @@
 -- Tags and extension headers passed.
-use Rattle.std.proofs.Common.{◌≡◌, ℕ, suc, zero, ◌+◌, ◌-◌, ◌<◌, ◌≤◌, List, [], ◌∷◌, length, drop, true, false, refl, arith, Ok, Err}
+use Rattle.std.proofs.Common.{◌≡◌, ℕ, suc, zero, ◌+◌, ◌-◌, ◌<◌, ◌≤◌, List, [], ◌∷◌, length, drop, true, false, refl}
+use Rattle.std.proofs.Common.{arith, Ok, Err}
 use Rattle.media_files_captures.specs.Numbers.{u16_be}
-use Rattle.media_files_captures.specs.Frames.{untagged, extended, is_tag, is_extension, extension, behind_extensions, ends, Extended}
+use Rattle.media_files_captures.specs.Frames.{untagged, extended, is_tag, is_extension, extension, behind_extensions}
+use Rattle.media_files_captures.specs.Frames.{ends, Extended}
 use Rattle.media_files_captures.specs.declared.frames.PassedOver.{PassedOver}
 
 -- with a tag in front, the rest has the same type behind its tags

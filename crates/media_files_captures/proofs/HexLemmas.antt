@@ -1,11 +1,13 @@
 -- The lines so far, and one more.
-use Rattle.std.proofs.Common.{◌≡◌, ◌++◌, ◌+◌, ◌<◌, ℕ, List, [], ◌∷◌, length, Option, Some, None, refl, sym, ap, ◌∙◌, append-nil, arith, get_or, drop, drop-cons, suc, ◌==◌, false}
+use Rattle.std.proofs.Common.{◌≡◌, ◌++◌, ◌+◌, ◌<◌, ℕ, List, [], ◌∷◌, length, Option, Some, None, refl, sym, ap, ◌∙◌}
+use Rattle.std.proofs.Common.{append-nil, arith, get_or, drop, drop-cons, suc, ◌==◌, false}
 use Rattle.std.specs.List.{flat_map}
 use Rattle.std.specs.Option.{option_to_list}
 use Rattle.std.proofs.lemmas.List.{length-append}
 use Rattle.std.proofs.lemmas.List.Concat.{flat_map-append}
 use Rattle.media_files_captures.specs.Runs.{Holds}
-use Rattle.media_files_captures.specs.HexLines.{Datagram, decimal, digits_behind, hex_line, with_digit, IsBadAt, IsHexText}
+use Rattle.media_files_captures.specs.HexLines.{Datagram, decimal, digits_behind, hex_line, with_digit, IsBadAt}
+use Rattle.media_files_captures.specs.HexLines.{IsHexText}
 use Rattle.media_files_captures.proofs.RunLemmas.{Holds-push}
 
 -- a text read up to here

@@ -1,9 +1,11 @@
 -- The blocks so far, and one more.
-use Rattle.std.proofs.Common.{◌≡◌, ◌++◌, ◌+◌, ◌-◌, ◌<◌, suc, ℕ, List, [], ◌∷◌, Option, Some, None, refl, sym, ap, ◌∙◌, arith, ◌≤◌, ◌==◌, true, false, length, drop, slice_index, nat_lt}
+use Rattle.std.proofs.Common.{◌≡◌, ◌++◌, ◌+◌, ◌-◌, ◌<◌, suc, ℕ, List, [], ◌∷◌, Option, Some, None, refl, sym, ap, ◌∙◌}
+use Rattle.std.proofs.Common.{arith, ◌≤◌, ◌==◌, true, false, length, drop, slice_index, nat_lt}
 use Rattle.std.specs.Option.{option_to_list}
 use Rattle.media_files_captures.specs.Captures.{Packet}
 use Rattle.media_files_captures.specs.Runs.{Holds}
-use Rattle.media_files_captures.specs.Pcapng.{Block, Reader, reader, block, packet_in, interfaces_after, packets_of, and_packet, option_byte, is_wanted, padded}
+use Rattle.media_files_captures.specs.Pcapng.{Block, Reader, reader, block, packet_in, interfaces_after, packets_of}
+use Rattle.media_files_captures.specs.Pcapng.{and_packet, option_byte, is_wanted, padded}
 use Rattle.media_files_captures.specs.Numbers.{u16_at}
 use Rattle.media_files_captures.specs.declared.interfaces.Interface.{Interface}
 use Rattle.media_files_captures.specs.declared.numbers.ByteOrder.{ByteOrder}

@@ -46,7 +46,8 @@ pcap-unique file packets others unread left one other =
 pub pcapng-unique : (file : List ℕ) (packets others : List Packet) (unread left : List ℕ) → IsPcapng file packets unread
     → IsPcapng file others left → (packets ≡ others) × (unread ≡ left)
 pcapng-unique file packets others unread left one other =
-    let same = Holds-unique block (reader Big file) one.0 other.0 (reader one.1 unread) (reader other.1 left) one.2 other.2 in
+    let same = Holds-unique block (reader Big file) one.0 other.0 (reader one.1 unread) (reader other.1 left) one.2
+        other.2 in
     (one.3 ∙ ap (λ (bs : List Block). packets_of [] bs) same.0 ∙ sym other.3, ap (λ (r : Reader). r.rest) same.1)
 
 pub rtpdump-unique : (file : List ℕ) (datagrams others : List Dumped) (unread left : List ℕ)

@@ -57,8 +57,8 @@ block_at order bytes =
 unfoldable pub block : Reader → Option (Block × Reader)
 block r = if nat_lt (length r.rest) 12 then None else block_at (order_of r.order r.rest) r.rest
 
--- The options of a block: a code and a length of two bytes each, and the value, filled up to fours. This is the value of
--- the first with a code, if it has one byte; code 0 ends the options.
+-- The options of a block: a code and a length of two bytes each, and the value, filled up to fours. This is the value
+-- of the first that has a code and one byte; code 0 ends the options.
 abbrev pub padded : ℕ → ℕ
 padded n = (n + 3) / 4 * 4
 

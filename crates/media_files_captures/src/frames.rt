@@ -2,7 +2,8 @@
 
 ghost use Rattle.std.specs.Prelude.{◌≡◌, ◌+◌, ◌<◌, ◌≤◌, drop, length};
 ghost use Rattle.media_files_captures.specs.Frames.{behind, behind_extensions, datagram_in, ends, extended, extension};
-ghost use Rattle.media_files_captures.specs.Frames.{extension_length, ip, ipv4, ipv6, is_extension, is_ipv6_fragment, is_tag};
+ghost use Rattle.media_files_captures.specs.Frames.{extension_length, ip, ipv4, ipv6, is_extension, is_ipv6_fragment};
+ghost use Rattle.media_files_captures.specs.Frames.{is_tag};
 ghost use Rattle.media_files_captures.specs.Numbers.{u16_be};
 ghost use Rattle.media_files_captures.specs.Frames.{network, network_of, read_extension, shown, udp, untagged};
 
@@ -235,7 +236,8 @@ fn network_payload(kind: u16, bytes: &[u8]) -> Result<&[u8], PassedOver>
 /// The payload of the datagram in a frame whose header has so many bytes, with the type of the packet at a place.
 fn typed_payload(frame: &[u8], kind_at: usize, header_len: usize) -> Result<&[u8], PassedOver>
     requires { kind_at + 2 ≤ header_len }
-    ensures { shown result ≡ behind header_len frame.now (network (u16_be frame.now kind_at) (drop header_len frame.now)) }
+    ensures { shown result
+        ≡ behind header_len frame.now (network (u16_be frame.now kind_at) (drop header_len frame.now)) }
 {
     if frame.len() < header_len {
         return Err(PassedOver::Cut);

@@ -4,7 +4,8 @@ ghost use Rattle.std.specs.Prelude.{◌≡◌, ◌≢◌, ◌+◌, ◌++◌, ◌
 ghost use Rattle.std.specs.Prelude.{map, option_map, position, take, ℕ};
 ghost use Rattle.std.specs.Option.{option_to_list};
 ghost use Rattle.media_files_captures.specs.HexLines.{IsBadAt, IsHexText, datagram_at, datagram_in, datagram_shown};
-ghost use Rattle.media_files_captures.specs.HexLines.{decimal, hex_bytes, hex_line, line_length, line_shown, said, said_shown};
+ghost use Rattle.media_files_captures.specs.HexLines.{decimal, hex_bytes, hex_line, line_length, line_shown, said};
+ghost use Rattle.media_files_captures.specs.HexLines.{said_shown};
 ghost use Rattle.media_files_captures.specs.HexLines.{trimmed, with_digit};
 
 use crate::numbers::rest_from;

@@ -3,7 +3,8 @@
 ghost use Rattle.std.specs.Prelude.{◌≡◌, ◌≢◌, ◌<◌, ◌≤◌, ◌⊎◌, IfErr, IfOk, IfSome, None, length, map};
 ghost use Rattle.media_files_captures.specs.Captures.{read, seen};
 ghost use Rattle.media_files_captures.specs.Links.{link_of};
-ghost use Rattle.media_files_captures.specs.Pcap.{digits_of, IsPcap, pcap_format, pcap_header, pcap_record, ticks_per_second};
+ghost use Rattle.media_files_captures.specs.Pcap.{digits_of, IsPcap, pcap_format, pcap_header, pcap_record};
+ghost use Rattle.media_files_captures.specs.Pcap.{ticks_per_second};
 
 use crate::captures::{Capture, CaptureError, CapturedPacket, Resolution};
 use crate::frames::LinkType;

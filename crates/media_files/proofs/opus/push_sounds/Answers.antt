@@ -16,5 +16,6 @@ loop-i-preserved c = record {
   written = pages-more c.args.serial c.loop-i.granule c.loop-i.sequence c.opus_duration.result c.args.packets.now
       c.loop-i.i _ c.sound-found.result c.loop-i.previous c.unwrap_or-kept.result c.loop-i.out.items
       c.push_heard.new.out.items _ c.loop-i-test.true c.sound-found.ensures c.unwrap_or-kept.ensures
-      c.opus_duration.ensures.value (cc (c.in_ok-push_heard.ensures.value, c.last_flag.ensures)) c.loop-i.invariant.written;
+      c.opus_duration.ensures.value (cc (c.in_ok-push_heard.ensures.value, c.last_flag.ensures))
+      c.loop-i.invariant.written;
 }

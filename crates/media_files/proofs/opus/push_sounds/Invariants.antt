@@ -7,6 +7,7 @@ abbrev pub invariant-loop-i : goal.invariant-loop-i
 invariant-loop-i l = record {
   number : l.sequence ≡ l.i + 2;
   early : l.granule ≤ 5760 * l.i;
-  written : l.out.items ++ sound_pages l.serial (playing l.previous l.granule l.sequence) (map item (drop l.i l.packets))
+  written : l.out.items
+      ++ sound_pages l.serial (playing l.previous l.granule l.sequence) (map item (drop l.i l.packets))
       ≡ l.initial.out.items ++ sound_pages l.serial (playing [] 0 2) (map item l.packets);
 }

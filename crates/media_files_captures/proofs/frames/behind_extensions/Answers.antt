@@ -1,9 +1,11 @@
 use Rattle.std.proofs.Common.{◌≡◌, ◌-◌, refl, true, arith, sym, ◌∙◌}
 use Rattle.std.proofs.lemmas.Grind.{common_steps}
 use Rattle.media_files_captures.specs.Frames.{extended, is_extension}
-use Rattle.media_files_captures.proofs.FrameLemmas.{behind_extensions-more, behind_extensions-end, behind_extensions-refused, behind_extensions-none}
+use Rattle.media_files_captures.proofs.FrameLemmas.{behind_extensions-more, behind_extensions-end}
+use Rattle.media_files_captures.proofs.FrameLemmas.{behind_extensions-refused, behind_extensions-none}
 use Rattle.media_files_captures.proofs.frames.behind_extensions.Goals as goal
-use Rattle.media_files_captures.proofs.frames.behind_extensions.Goals.{else-loop-passed-test, then-loop-passed-test+then-not-is_extension}
+use Rattle.media_files_captures.proofs.frames.behind_extensions.Goals.{else-loop-passed-test}
+use Rattle.media_files_captures.proofs.frames.behind_extensions.Goals.{then-loop-passed-test+then-not-is_extension}
 
 pub loop-passed-init : goal.loop-passed-init
 loop-passed-init c =
@@ -28,7 +30,8 @@ pub returns : goal.returns
 returns c = elim c.loop-passed-test.branch [
   | else-loop-passed-test w ↦
       c.ended.ensures
-      ∙ sym (behind_extensions-none c.args.most c.loop-passed._passed c.loop-passed.next c.loop-passed.rest.now (omega arith))
+      ∙ sym (behind_extensions-none c.args.most c.loop-passed._passed c.loop-passed.next c.loop-passed.rest.now
+        (omega arith))
       ∙ c.loop-passed.invariant
   | then-loop-passed-test+then-not-is_extension w ↦
       c.ended.ensures
