@@ -40,14 +40,14 @@ pub pcap-unique : (file : List ℕ) (packets others : List Packet) (unread left 
 pcap-unique file packets others unread left one other =
     let header : one.0 ≡ other.0 = cc (one.1, other.1) in
     let held : HoldsAll (pcap_record one.0) (drop 24 file) others left =
-        subst (λ (h : PcapHeader). HoldsAll (pcap_record h) (drop 24 file) others left) (sym header) other.2 in
+    subst (λ (h : PcapHeader). HoldsAll (pcap_record h) (drop 24 file) others left) (sym header) other.2 in
     Holds-unique (pcap_record one.0) (drop 24 file) packets others unread left one.2 held
 
 pub pcapng-unique : (file : List ℕ) (packets others : List Packet) (unread left : List ℕ) → IsPcapng file packets unread
     → IsPcapng file others left → (packets ≡ others) × (unread ≡ left)
 pcapng-unique file packets others unread left one other =
     let same = Holds-unique block (reader Big file) one.0 other.0 (reader one.1 unread) (reader other.1 left) one.2
-        other.2 in
+    other.2 in
     (one.3 ∙ ap (λ (bs : List Block). packets_of [] bs) same.0 ∙ sym other.3, ap (λ (r : Reader). r.rest) same.1)
 
 pub rtpdump-unique : (file : List ℕ) (datagrams others : List Dumped) (unread left : List ℕ)
@@ -55,7 +55,7 @@ pub rtpdump-unique : (file : List ℕ) (datagrams others : List Dumped) (unread 
 rtpdump-unique file datagrams others unread left one other =
     let records : one.0 ≡ other.0 = cc (one.1, other.1) in
     let held : HoldsAll rtpdump_record one.0 others left =
-        subst (λ (rs : List ℕ). HoldsAll rtpdump_record rs others left) (sym records) other.2 in
+    subst (λ (rs : List ℕ). HoldsAll rtpdump_record rs others left) (sym records) other.2 in
     Holds-unique rtpdump_record one.0 datagrams others unread left one.2 held
 
 pub hex-unique : (text : List ℕ) (datagrams others : List Datagram) → IsHexText text datagrams → IsHexText text others

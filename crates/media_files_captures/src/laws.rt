@@ -18,5 +18,4 @@ pub fn capture_laws()
         → IsRtpdump file datagrams unread → IsRtpdump file others left → (datagrams ≡ others) × (unread ≡ left) }
     ensures hex_lines { (text : List ℕ) (datagrams others : List Datagram) → IsHexText text datagrams
         → IsHexText text others → datagrams ≡ others }
-{
-}
+{}

@@ -27,7 +27,9 @@ pub(crate) fn command<'a>(alloc: Global) -> Result<Command<'a>, AllocError> {
         .required(true)
         .num_args(1..)
         .action(ArgAction::Append)
-        .help("files of pcap, pcapng or rtpdump, or lines of hexadecimal, each behind the one before in time");
+        .help(
+            "files of pcap, pcapng or rtpdump, or lines of hexadecimal, each behind the one before in time",
+        );
     let rows = Arg::new(alloc, "pt")
         .long("pt")
         .action(ArgAction::Append)

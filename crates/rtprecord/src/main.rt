@@ -21,9 +21,8 @@ use arguments::{Arguments, command};
 use input::Input;
 use recorder::Recorder;
 use rows::rows_of;
-use std::env;
-use std::fs;
 use std::process::ExitCode;
+use std::{env, fs};
 
 fn main(rt: HostRuntime) -> ExitCode {
     match run(&rt) {

@@ -126,12 +126,7 @@ impl Recorder {
     }
 
     /// Takes a packet of a row: the payload without its padding, of redundant audio the primary block.
-    fn take_packet(
-        &mut self,
-        row: Row,
-        header: &RtpHeader,
-        datagram: &[u8],
-    ) -> anyhow::Result<()> {
+    fn take_packet(&mut self, row: Row, header: &RtpHeader, datagram: &[u8]) -> anyhow::Result<()> {
         let place = self.source_place(header.ssrc)?;
         let Some(source) = self.sources.get_mut(place) else {
             return Ok(());

@@ -4,8 +4,7 @@ use crate::arguments::Arguments;
 use crate::files::{ending_of, file_of};
 use crate::recorder::Recorder;
 use crate::stream::{Source, Stream};
-use std::fs;
-use std::io;
+use std::{fs, io};
 
 /// Writes the file of a stream, and answers its name, if its codec has one.
 fn write_file(
@@ -46,15 +45,17 @@ fn print_source(rt: &HostRuntime, source: &Source) -> io::Result<()> {
 }
 
 /// Prints what came of a stream, and writes its file.
-fn print_stream(
-    rt: &HostRuntime,
-    stream: &Stream,
-    arguments: &Arguments,
-) -> anyhow::Result<()> {
+fn print_stream(rt: &HostRuntime, stream: &Stream, arguments: &Arguments) -> anyhow::Result<()> {
     let (row, units) = (stream.row, stream.units.len());
     println!(*rt;
         "  type {} {}/{}: {} datagrams, {units} units, {} keyframes, {} unreadable, {} ms",
-        row.pt, row.codec, row.rate.get(), stream.datagrams, stream.keyframes, stream.faults, duration(stream)
+        row.pt,
+        row.codec,
+        row.rate.get(),
+        stream.datagrams,
+        stream.keyframes,
+        stream.faults,
+        duration(stream)
     )?;
     if arguments.is_list || units == 0 {
         return Ok(());
@@ -78,7 +79,10 @@ fn print_passed(rt: &HostRuntime, recorder: &Recorder) -> io::Result<()> {
         p.stun, p.dtls, p.rtcp, p.unknown, p.other
     )?;
     if recorder.unread > 0 {
-        println!(*rt; "a capture ends within a packet: {} bytes are left", recorder.unread)?;
+        println!(*rt;
+            "a capture ends within a packet: {} bytes are left",
+            recorder.unread
+        )?;
     }
     Ok(())
 }
@@ -115,7 +119,9 @@ pub(crate) fn print(
     }
     print_passed(rt, recorder)?;
     if is_unreadable(recorder) {
-        eprintln!(*rt; "nearly nothing can be read: the capture may be encrypted, or --pt says another codec")?;
+        eprintln!(*rt;
+            "nearly nothing can be read: the capture may be encrypted, or --pt says another codec"
+        )?;
     }
     Ok(())
 }

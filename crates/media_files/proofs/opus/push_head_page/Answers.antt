@@ -8,7 +8,7 @@ pub push_page-requires : goal.push_page-requires
 push_page-requires c =
     let written : c.push_head.new.out.items ≡ opus_head (stream_shown c.args.stream) =
     c.in_ok-push_head.ensures
-      ∙ ap (λ (v : List ℕ). v ++ opus_head (stream_shown c.args.stream)) c.new-head.ensures.items in
+    ∙ ap (λ (v : List ℕ). v ++ opus_head (stream_shown c.args.stream)) c.new-head.ensures.items in
     let short : length c.deref.result.now ≡ 19 =
     ap (λ (v : List ℕ). length v) (c.deref.ensures.value ∙ written) ∙ length-opus_head (stream_shown c.args.stream) in
     omega (arith, short)

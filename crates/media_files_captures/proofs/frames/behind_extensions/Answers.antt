@@ -31,7 +31,7 @@ returns c = elim c.loop-passed-test.branch [
   | else-loop-passed-test w ↦
       c.ended.ensures
       ∙ sym (behind_extensions-none c.args.most c.loop-passed._passed c.loop-passed.next c.loop-passed.rest.now
-        (omega arith))
+      (omega arith))
       ∙ c.loop-passed.invariant
   | then-loop-passed-test+then-not-is_extension w ↦
       c.ended.ensures
