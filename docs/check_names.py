@@ -209,7 +209,7 @@ found = [
     *differing_blocks(),
     *differing_files(),
     *stray_names(),
-    # *long_lines(),
+    *long_lines(),
     *dead_links(),
     *differing_headline(),
     *stale_wrong_bodies(),
