@@ -2,8 +2,8 @@
 """Checks that the names on the pages stand in the tree, and that the pages show what the crates have.
 
 Pages are README, CONTRIBUTING, CHANGELOG and those of docs/. Of each promise on docs/PROMISES.md the points below it
-name public functions and types, and in parentheses clauses. The picture of docs/ARCHITECTURE.md is what docs/layers.py
-prints, and the headline of README that of PROMISES. On any page but CHANGELOG, which tells what is gone, a name with an
+name public functions and types, and in parentheses clauses. docs/LAYERS.md is what docs/layers.py prints, and the
+headline of README that of PROMISES. On any page but CHANGELOG, which tells what is gone, a name with an
 underscore stands somewhere in the tree, and a block behind a line `<!-- FILE -->` word for word in that file, at one
 depth of indentation. No other line is longer than 120 characters, README has at most 130 lines, and each link within
 the repository leads to a file, and to a heading of it. Each wrong body in wrong_bodies/ changes text that its file has
@@ -117,8 +117,8 @@ def differing_blocks():
 def differing_picture():
     """The picture of layers is what docs/layers.py prints."""
     printed = subprocess.run([sys.executable, ROOT / "docs/layers.py"], capture_output=True, text=True).stdout
-    if printed.strip() not in (ROOT / "docs/ARCHITECTURE.md").read_text(encoding="utf-8"):
-        yield "docs/ARCHITECTURE.md doesn't show what docs/layers.py prints"
+    if printed != (ROOT / "docs/LAYERS.md").read_text(encoding="utf-8"):
+        yield "docs/LAYERS.md isn't what docs/layers.py prints"
 
 
 def differing_files():
