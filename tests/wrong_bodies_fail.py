@@ -20,11 +20,14 @@ ROW_12 = ["fixed b", "open b 0 44 111 127", "receive b 806f0000000000000000002ca
 ANSWERS = ["ok", "receiver 0", "taken 0 0", "unit 0 0 0 aa", "taken 0 2", "none", "taken 0 1", "unit 1 1 0 bb",
            "unit 2 2 0 cc", "none"]
 
-# The head of a function, which stands once in the tree, and the body in place of its own.
+# Heads of functions, each of which stands once in the tree, and the body in place of their own. A stream takes its
+# units by `unit_at`, other users of the buffer by `pop`.
 EDITS = {
-    "`accepts` is always false": ("    pub fn accepts(&self, seq: SeqNo) -> bool\n", "        false\n"),
-    "`pop` is always None":
-        ("    pub fn pop(&mut self) -> Result<Option<Depacketized>, PacketError>\n", "        Ok(None)\n"),
+    "`accepts` is always false": (["    pub fn accepts(&self, seq: SeqNo) -> bool\n"], "        false\n"),
+    "`pop` is always None": (
+        ["    pub fn pop(&mut self) -> Result<Option<Depacketized>, PacketError>\n",
+         "    pub fn unit_at(&mut self, hold_back: usize) -> Result<Option<Unit>, PacketError>\n"],
+        "        Ok(None)\n"),
 }
 
 
@@ -34,24 +37,25 @@ def edited(text, head, body):
     return re.sub(pattern, lambda found: f"{head}{found[1]}{body}    }}\n", text, count=1)
 
 
-def apply(crates, head, body):
-    """How many files were changed."""
+def apply(crates, heads, body):
+    """How many functions were changed."""
     changed = 0
     for file in crates.glob("*/src/**/*.rt"):
-        text = file.read_text()
-        if head in text:
-            file.write_text(edited(text, head, body))
-            changed += file.read_text() != text
+        for head in heads:
+            text = file.read_text()
+            if head in text:
+                file.write_text(edited(text, head, body))
+                changed += file.read_text() != text
     return changed
 
 
-def tried(counts, name, head, body):
+def tried(counts, name, heads, body):
     with tempfile.TemporaryDirectory() as folder:
         top = Path(folder)
         shutil.copytree(built.TOP / "crates", top / "crates", ignore=shutil.ignore_patterns("out"))
         for file in ("crates.txt", "HANDLES"):
             shutil.copy(built.TOP / file, top)
-        if not counts.same(f"{name} is tried", 1, apply(top / "crates", head, body)):
+        if not counts.same(f"{name} is tried", len(heads), apply(top / "crates", heads, body)):
             return
         ran = subprocess.run(["rt", "try"], input="\n".join([*ROW_12, ""]), capture_output=True, text=True,
                              cwd=top / "crates" / built.LINES, timeout=300)
@@ -64,8 +68,8 @@ def main():
     for build, program in built.built(counts, built.LINES):
         counts.same(f"row 12, {build}", ANSWERS, replies(program, ROW_12))
     if counts.check("rt is there", shutil.which("rt"), "install the Rattle kit, and put its bin on the path"):
-        for name, (head, body) in EDITS.items():
-            tried(counts, name, head, body)
+        for name, (heads, body) in EDITS.items():
+            tried(counts, name, heads, body)
     counts.end()
 
 

@@ -1,11 +1,12 @@
 //! Worked rows, and what comes of them.
 
 use crate::sessions::{
+    extensions_that_would_be_read_otherwise_are_refused,
     lines_that_would_be_read_otherwise_are_refused, offers_say_the_lines_of_the_session,
 };
 use crate::worked_rows::{
-    a_time_in_milliseconds, a_time_that_does_not_fit, receive_all_hands_out_in_order,
-    receive_owned_hands_out_in_order,
+    a_limit_that_is_too_small, a_time_in_milliseconds, a_time_that_does_not_fit,
+    receive_all_hands_out_in_order, receive_owned_hands_out_in_order,
 };
 
 /// Prints a line for each row, and answers whether each is as it must be.
@@ -13,10 +14,17 @@ pub(crate) fn print_rows(rt: &HostRuntime) -> bool {
     let alloc = rt.alloc();
     let rows = [
         ("row 12, receive_all", receive_all_hands_out_in_order(alloc)),
-        ("row 12, receive_owned", receive_owned_hands_out_in_order(alloc)),
+        (
+            "row 12, receive_owned",
+            receive_owned_hands_out_in_order(alloc),
+        ),
         (
             "row 20, a time that does not fit",
             a_time_that_does_not_fit(alloc),
+        ),
+        (
+            "a limit that is too small",
+            a_limit_that_is_too_small(alloc),
         ),
         ("a time in milliseconds", a_time_in_milliseconds(alloc)),
         (
@@ -26,6 +34,10 @@ pub(crate) fn print_rows(rt: &HostRuntime) -> bool {
         (
             "lines that would be read otherwise",
             lines_that_would_be_read_otherwise_are_refused(alloc),
+        ),
+        (
+            "extensions that would be read otherwise",
+            extensions_that_would_be_read_otherwise_are_refused(alloc),
         ),
     ];
     let mut are_right = true;

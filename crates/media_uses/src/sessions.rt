@@ -3,7 +3,7 @@
 use rtp_media_exchange::{
     Bandwidth, CodecConfig, EndError, Exchange, MediaKind, SectionSpec, Session, SessionAttribute,
 };
-use rtp_wire::{Direction, ExtensionMap, Mid, SessionId, Ssrc};
+use rtp_wire::{Direction, Extension, ExtensionMap, Mid, SessionId, Ssrc};
 use sdp_formats_data::{Listed, Text};
 use std::alloc::{AllocError, Global};
 
@@ -46,6 +46,30 @@ pub(crate) fn lines_that_would_be_read_otherwise_are_refused(alloc: Global) -> O
     for (line, is_other) in &LINES {
         let line = text(alloc, line).ok()?;
         if is_refused(alloc, SessionAttribute::Unused(line)) != *is_other {
+            return Some(false);
+        }
+    }
+    Some(true)
+}
+
+/// Texts of header extensions, and whether a line that has them would be read as another.
+static URIS: [(&str, bool); 4] = [
+    ("", true),
+    ("urn:x y", true),
+    ("urn:x\r\na=sendonly", true),
+    ("urn:x", false),
+];
+
+/// Header extensions whose lines would be read as others are refused, and no others are.
+pub(crate) fn extensions_that_would_be_read_otherwise_are_refused(alloc: Global) -> Option<bool> {
+    for (uri, is_other) in &URIS {
+        let mut exts = ExtensionMap::empty();
+        exts.set(1, Extension::from_sdp_uri(alloc, uri).ok()?);
+        let mut config = CodecConfig::empty(alloc);
+        config.enable_opus(true, false).ok()?;
+        let session = Session::new(alloc, SessionId::from(1));
+        let made = Exchange::new(alloc, config, session, exts);
+        if matches!(made, Err(EndError::NotWritable)) != *is_other {
             return Some(false);
         }
     }

@@ -1,7 +1,9 @@
 //! Worked rows that the program's lines can't say: datagrams handed in as one list, and samples whose time is at
 //! another clock than their stream's.
 
-use rtp_media_ends::{Datagram, End, PollFault, Received, ReceivedAll, SampleError, StreamParams, Unit};
+use rtp_media_ends::{
+    Datagram, End, PollFault, Received, ReceivedAll, SampleError, StreamParams, Unit,
+};
 use rtp_wire::{ExtensionValues, Frequency, MediaTime, Mid, Pt, SeqNo, Ssrc};
 use std::alloc::Global;
 
@@ -18,7 +20,10 @@ pub(crate) fn receive_all_hands_out_in_order(alloc: Global) -> Option<bool> {
     ];
     Some(
         all.verdicts.as_slice() == verdicts.as_slice()
-            && all.polls.first().is_some_and(|polls| are_units(polls.as_slice(), 0, &UNITS)),
+            && all
+                .polls
+                .first()
+                .is_some_and(|polls| are_units(polls.as_slice(), 0, &UNITS)),
     )
 }
 
@@ -55,21 +60,47 @@ fn swapped(alloc: Global) -> Option<Vec<Datagram>> {
 
 /// Row 20: the greatest number of seconds does not fit into ticks of 48,000 a second.
 pub(crate) fn a_time_that_does_not_fit(alloc: Global) -> Option<bool> {
-    let sent = sent(alloc, MediaTime::new(u64::MAX, Frequency::SECONDS), &[1])?;
+    let sent = sent(
+        alloc,
+        1400,
+        MediaTime::new(u64::MAX, Frequency::SECONDS),
+        &[1],
+    )?;
     Some(matches!(sent, Err(SampleError::TimeTooLarge)))
+}
+
+/// A time that does not fit is told before a limit that is too small.
+pub(crate) fn a_limit_that_is_too_small(alloc: Global) -> Option<bool> {
+    let late = sent(
+        alloc,
+        100,
+        MediaTime::new(u64::MAX, Frequency::SECONDS),
+        &[1],
+    )?;
+    let small = sent(alloc, 100, MediaTime::new(20, Frequency::MILLIS), &[1])?;
+    Some(
+        matches!(late, Err(SampleError::TimeTooLarge))
+            && matches!(small, Err(SampleError::LimitTooSmall)),
+    )
 }
 
 /// 20 milliseconds are 960 ticks of 48,000 a second.
 pub(crate) fn a_time_in_milliseconds(alloc: Global) -> Option<bool> {
-    let sent = sent(alloc, MediaTime::new(20, Frequency::MILLIS), &[1, 2, 3])?;
+    let sent = sent(
+        alloc,
+        1400,
+        MediaTime::new(20, Frequency::MILLIS),
+        &[1, 2, 3],
+    )?;
     let all = received(alloc, &sent.ok()?)?;
     let polls = all.polls.first()?;
     Some(are_units(polls.as_slice(), 960, &[&[1, 2, 3]]))
 }
 
-/// What a fixed end that sends Opus of SSRC 44, as its stream 0, answers to its first sample.
+/// What a fixed end that sends Opus of SSRC 44, in datagrams of at most so many bytes, answers to its first sample.
 fn sent(
     alloc: Global,
+    limit: usize,
     time: MediaTime,
     sample: &[u8],
 ) -> Option<Result<Vec<Datagram>, SampleError>> {
@@ -78,7 +109,7 @@ fn sent(
     let params = StreamParams {
         first: 0,
         mtu: 1200,
-        limit: 1400,
+        limit,
         red: None,
         picture_id: None,
         for_browsers: false,

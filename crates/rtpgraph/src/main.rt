@@ -1,8 +1,12 @@
 //! Draws what came of a receiving stream: reads the replies of `rtplines`, or what `rtpexplain` says, and writes
-//! a picture (SVG) of the numbers that were taken, refused, lost and held, and of the units, one step after the other.
+//! a picture (SVG) of the numbers that were taken, refused, lost and held, and of the units, one reply after the other.
 #![tactic(auto)]
 
+mod axes;
+mod counts;
 mod drawing;
+mod frame;
+mod legend;
 mod steps;
 
 use drawing::draw;

@@ -5,10 +5,12 @@
 pub(crate) enum Step {
     /// A datagram of this number was taken.
     Taken(u64),
-    /// A datagram was refused.
+    /// A datagram was refused: its number came before, or is too far below the greatest.
     Refused,
-    /// Other bytes came: damaged, foreign or no datagram at all.
-    Other,
+    /// A datagram of the stream has no payload that can be read.
+    Damaged,
+    /// Other bytes came: of no stream, or no datagram at all.
+    Foreign,
     /// A unit of the packets between these numbers was handed out.
     Unit(u64, u64),
     /// A poll handed out nothing.
@@ -23,7 +25,8 @@ pub(crate) fn step_of(line: &str) -> Option<Step> {
         "taken" if number(first).is_some() => Some(Step::Taken(number(second)?)),
         "unit" => Some(Step::Unit(number(first)?, number(second)?)),
         "refused" if first.is_none() => Some(Step::Refused),
-        "damaged" | "foreign" | "unreadable" => Some(Step::Other),
+        "damaged" => Some(Step::Damaged),
+        "foreign" | "unreadable" => Some(Step::Foreign),
         "none" => Some(Step::Nothing),
         _ => None,
     }

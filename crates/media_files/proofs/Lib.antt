@@ -1,0 +1,3 @@
+pub mod IvfLemmas
+pub mod LawLemmas
+pub mod OpusLemmas

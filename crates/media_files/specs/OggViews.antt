@@ -1,0 +1,6 @@
+-- What a place of the program shows.
+use Rattle.media_files.specs.Ogg.{Place}
+use Rattle.media_files.specs.declared.ogg.PagePlace.{PagePlace}
+
+abbrev pub place_shown : PagePlace → Place
+place_shown p = record { flags = p.flags; granule = p.granule; serial = p.serial; sequence = p.sequence }

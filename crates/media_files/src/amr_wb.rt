@@ -1,0 +1,41 @@
+//! Files of AMR-WB (RFC 4867 5).
+
+ghost use Rattle.std.specs.Prelude.{◌≡◌, ◌++◌, IfOk, OnOk, map};
+ghost use Rattle.media_files.specs.AmrWb.{amr_wb_file, magic, stored};
+ghost use Rattle.media_files.specs.Opus.{item};
+
+use std::alloc::{AllocError, Global};
+
+// A frame of type 15, of good quality and with no speech (RFC 4867 5.3).
+const NO_DATA: u8 = 0x7c;
+
+/// Writes frames, or NO_DATA for one that was lost.
+fn push_stored(frames: Option<&[u8]>, out: &mut Vec<u8>) -> Result<(), AllocError>
+    ensures { OnOk result (out.new.items ≡ out.old.items ++ stored (item frames.entry)) }
+{
+    match frames {
+        Some(bytes) => out.extend_from_slice(bytes),
+        None => out.extend_from_slice(&[NO_DATA]),
+    }
+}
+
+/// The file of frames of AMR-WB in one channel, in their order (RFC 4867 5.1). Each item has frames as a file stores
+/// them, header and speech in whole bytes (5.3); None is a frame of 20 ms that was lost.
+pub fn amr_wb_file(alloc: Global, frames: &[Option<&[u8]>]) -> Result<Vec<u8>, AllocError>
+    ensures { IfOk result (λ v. v.items ≡ amr_wb_file (map item frames.now)) }
+{
+    let mut out = Vec::new(alloc);
+    push_magic(&mut out)?;
+    for item in frames {
+        push_stored(*item, &mut out)?;
+    }
+    Ok(out)
+}
+
+/// Writes the magic number.
+#[tactic(auto, unfolding(crate::specs::AmrWb::magic))]
+fn push_magic(out: &mut Vec<u8>) -> Result<(), AllocError>
+    ensures { OnOk result (out.new.items ≡ out.old.items ++ magic) }
+{
+    out.extend_from_slice(b"#!AMR-WB\n")
+}

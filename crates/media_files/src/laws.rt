@@ -1,0 +1,20 @@
+//! What holds of all recordings.
+
+ghost use Rattle.std.specs.Prelude.{◌≡◌, ◌+◌, ◌%◌, ◌<◌, ◌≤◌, ℕ, List};
+ghost use Rattle.media_files.specs.Ivf.{nearest_time};
+ghost use Rattle.media_files.specs.Opus.{opus_duration, silence_of};
+
+/// The time of a frame has the low 32 bits that its packets say, and is at most half their range from the time before
+/// it (RFC 3550 5.1).
+pub fn time_laws()
+    ensures low_bits { (previous low : ℕ) → 2147483648 ≤ previous → low < 4294967296
+        → nearest_time previous low % 4294967296 ≡ low }
+    ensures ahead { (previous low : ℕ) → nearest_time previous low < previous + 2147483648 }
+    ensures behind { (previous low : ℕ) → previous ≤ nearest_time previous low + 2147483648 }
+{}
+
+/// Silence in place of a packet is as long as the packet, so that what is lost moves nothing that follows.
+pub fn opus_laws()
+    ensures { (packet : List ℕ) → 0 < opus_duration packet
+        → opus_duration (silence_of packet) ≡ opus_duration packet }
+{}

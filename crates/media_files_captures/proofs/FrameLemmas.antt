@@ -1,0 +1,67 @@
+-- Tags and extension headers passed.
+use Rattle.std.proofs.Common.{◌≡◌, ℕ, suc, zero, ◌+◌, ◌-◌, ◌<◌, ◌≤◌, List, [], ◌∷◌, length, drop, true, false, refl}
+use Rattle.std.proofs.Common.{arith, Ok, Err}
+use Rattle.media_files_captures.specs.Numbers.{u16_be}
+use Rattle.media_files_captures.specs.Frames.{untagged, extended, is_tag, is_extension, extension, behind_extensions}
+use Rattle.media_files_captures.specs.Frames.{ends, Extended}
+use Rattle.media_files_captures.specs.declared.frames.PassedOver.{PassedOver}
+
+-- with a tag in front, the rest has the same type behind its tags
+pub untagged-tag : (kind : ℕ) (xs : List ℕ) → is_tag kind ≡ true → 4 ≤ length xs
+    → untagged kind xs ≡ untagged (u16_be xs 2) (drop 4 xs)
+unfolding untagged
+untagged-tag kind [] tag long = absurd (omega arith)
+untagged-tag kind (a ∷ []) tag long = absurd (omega arith)
+untagged-tag kind (a ∷ b ∷ []) tag long = absurd (omega arith)
+untagged-tag kind (a ∷ b ∷ c ∷ []) tag long = absurd (omega arith)
+untagged-tag kind (a ∷ b ∷ c ∷ d ∷ rest) tag long = rw tag refl
+
+-- an extension header passed, one fewer may come
+pub behind_extensions-more : (most i next : ℕ) (bytes : List ℕ) (e : Extended) → i < most → is_extension next ≡ true
+    → extension next bytes ≡ Ok e
+    → behind_extensions (most - i) next bytes ≡ behind_extensions (most - (i + 1)) e.next e.rest
+unfolding behind_extensions
+behind_extensions-more most i next bytes e below is_one read =
+    let one : most - i ≡ suc (most - (i + 1)) = omega arith in
+    rw (one, is_one, read) refl
+
+-- an extension header that can't be read ends the search
+pub behind_extensions-refused : (most i next : ℕ) (bytes : List ℕ) (why : PassedOver) → i < most
+    → is_extension next ≡ true → extension next bytes ≡ Err why
+    → behind_extensions (most - i) next bytes ≡ Err why
+unfolding behind_extensions
+behind_extensions-refused most i next bytes why below is_one read =
+    let one : most - i ≡ suc (most - (i + 1)) = omega arith in
+    rw (one, is_one, read) refl
+
+-- where no extension header stands, the datagram does
+pub behind_extensions-end : (n next : ℕ) (bytes : List ℕ) → is_extension next ≡ false
+    → behind_extensions n next bytes ≡ ends next bytes
+unfolding behind_extensions
+behind_extensions-end zero next bytes none = refl
+behind_extensions-end (suc n) next bytes none = rw none refl
+
+-- with no tag in front, or too little behind it, all stays
+pub untagged-end : (kind : ℕ) (xs : List ℕ) → is_tag kind ≡ false → untagged kind xs ≡ extended kind xs
+unfolding untagged
+untagged-end kind [] none = refl
+untagged-end kind (a ∷ []) none = refl
+untagged-end kind (a ∷ b ∷ []) none = refl
+untagged-end kind (a ∷ b ∷ c ∷ []) none = refl
+untagged-end kind (a ∷ b ∷ c ∷ d ∷ rest) none = rw none refl
+
+pub untagged-short : (kind : ℕ) (xs : List ℕ) → length xs < 4 → untagged kind xs ≡ extended kind xs
+unfolding untagged
+untagged-short kind [] short = refl
+untagged-short kind (a ∷ []) short = refl
+untagged-short kind (a ∷ b ∷ []) short = refl
+untagged-short kind (a ∷ b ∷ c ∷ []) short = refl
+untagged-short kind (a ∷ b ∷ c ∷ d ∷ rest) short = absurd (omega arith)
+
+-- where no more may come, the datagram has to stand here
+pub behind_extensions-none : (most i next : ℕ) (bytes : List ℕ) → most ≤ i
+    → behind_extensions (most - i) next bytes ≡ ends next bytes
+unfolding behind_extensions
+behind_extensions-none most i next bytes past =
+    let none : most - i ≡ zero = omega arith in
+    rw none refl

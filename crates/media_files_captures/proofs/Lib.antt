@@ -1,0 +1,5 @@
+pub mod FrameLemmas
+pub mod HexLemmas
+pub mod PcapngLemmas
+pub mod RunLemmas
+pub mod UniqueLemmas

@@ -1,0 +1,11 @@
+pub mod Captures
+pub mod FirstBytes
+pub mod Frames
+pub mod HexLines
+pub mod Links
+pub mod Numbers
+pub mod Pcap
+pub mod Pcapng
+pub mod PcapngViews
+pub mod Rtpdump
+pub mod Runs

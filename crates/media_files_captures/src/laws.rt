@@ -1,0 +1,21 @@
+//! What holds of all captures.
+
+ghost use Rattle.std.specs.Prelude.{◌≡◌, ℕ, List};
+ghost use Rattle.media_files_captures.specs.Captures.{Packet};
+ghost use Rattle.media_files_captures.specs.HexLines.{Datagram, IsHexText};
+ghost use Rattle.media_files_captures.specs.Pcap.{IsPcap};
+ghost use Rattle.media_files_captures.specs.Pcapng.{IsPcapng};
+ghost use Rattle.media_files_captures.specs.Rtpdump.{Datagram as Dumped, IsRtpdump};
+
+/// A file holds one list of packets or datagrams, with one rest behind it: nothing of it is handed out twice, left out
+/// or put elsewhere.
+pub fn capture_laws()
+    ensures pcap { (file : List ℕ) (packets others : List Packet) (unread left : List ℕ) → IsPcap file packets unread
+        → IsPcap file others left → (packets ≡ others) × (unread ≡ left) }
+    ensures pcapng { (file : List ℕ) (packets others : List Packet) (unread left : List ℕ)
+        → IsPcapng file packets unread → IsPcapng file others left → (packets ≡ others) × (unread ≡ left) }
+    ensures rtpdump { (file : List ℕ) (datagrams others : List Dumped) (unread left : List ℕ)
+        → IsRtpdump file datagrams unread → IsRtpdump file others left → (datagrams ≡ others) × (unread ≡ left) }
+    ensures hex_lines { (text : List ℕ) (datagrams others : List Datagram) → IsHexText text datagrams
+        → IsHexText text others → datagrams ≡ others }
+{}

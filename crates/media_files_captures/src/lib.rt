@@ -1,0 +1,24 @@
+//! Captures read: plain functions over bytes, each format by its definition.
+#![tactic(auto)]
+
+mod captures;
+mod first_bytes;
+mod frames;
+mod hex_lines;
+mod interfaces;
+mod laws;
+mod numbers;
+mod pcap;
+mod pcapng;
+mod rtpdump;
+
+pub use captures::{Capture, CaptureError, CapturedPacket, Resolution};
+pub use first_bytes::{DatagramKind, kind_of};
+pub use frames::{LinkType, PassedOver, udp_payload_in};
+pub use hex_lines::{HexDatagram, HexError, read_hex_lines};
+pub use interfaces::Interface;
+pub use laws::capture_laws;
+pub use numbers::{ByteOrder, push_u16, push_u32, push_u64, rest_from, u16_at, u16_be, u32_at};
+pub use pcap::{PcapHeader, link_of, read_pcap};
+pub use pcapng::{PcapngBlock, PcapngReader, read_pcapng};
+pub use rtpdump::{Rtpdump, RtpdumpDatagram, read_rtpdump};
