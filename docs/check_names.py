@@ -1,10 +1,13 @@
 #!/usr/bin/env python3
-"""Checks that every name on docs/PROMISES.md stands in the tree, and that the pages show what the crates have.
+"""Checks that the names on the pages stand in the tree, and that the pages show what the crates have.
 
-On the page of promises each name in the column of calls is a public function, and a name in parentheses is a clause of
-one. The picture of docs/ARCHITECTURE.md is what docs/layers.py prints. On any page a name with an underscore stands somewhere in the tree, and
-a block of text behind a line `<!-- FILE -->` word for word in that file, at one depth of indentation. Each wrong body in wrong_bodies/ changes text that its file has once.
-Prints what is missing, and ends with status 1 then.
+Pages are README, CONTRIBUTING, CHANGELOG and those of docs/. Of each promise on docs/PROMISES.md the points below it
+name public functions and types, and in parentheses clauses. docs/LAYERS.md is what docs/layers.py prints, and the
+headline of README that of PROMISES. On any page but CHANGELOG, which tells what is gone, a name with an
+underscore stands somewhere in the tree, and a block behind a line `<!-- FILE -->` word for word in that file, at one
+depth of indentation. No other line is longer than 120 characters, README has at most 130 lines, and each link within
+the repository leads to a file, and to a heading of it. Each wrong body in wrong_bodies/ changes text that its file has
+once. Prints what is missing, and ends with status 1 then.
 """
 import re
 import subprocess
@@ -13,12 +16,35 @@ from pathlib import Path
 
 ROOT = Path(__file__).resolve().parent.parent
 CRATES = ROOT / "crates"
+LONGEST_LINE = 120
+MOST_LINES_OF_README = 130
+# Pages whose lines are not broken yet.
+UNBROKEN = {"docs/BINDINGS.md"}
 
 
-def rows(page):
-    for number, line in enumerate((ROOT / "docs" / page).read_text(encoding="utf-8").split("\n"), 1):
-        if line.startswith("| ") and not line.startswith(("|---", "| In plain words", "| Promise")):
-            yield number, [cell.strip() for cell in line.strip().strip("|").split(" | ")]
+def pages():
+    """Every page, with its lines."""
+    files = [ROOT / "README.md", ROOT / "CONTRIBUTING.md", ROOT / "CHANGELOG.md", *sorted((ROOT / "docs").glob("*.md"))]
+    for page in files:
+        yield page, page.read_text(encoding="utf-8").rstrip("\n").split("\n")
+
+
+def promised_calls():
+    """The points below the promises, which name calls: the number of the first line, and the text."""
+    number, text = 0, ""
+    promises = (ROOT / "docs/PROMISES.md").read_text(encoding="utf-8").split("\n## The headline")[0]
+    for at, line in enumerate(promises.split("\n"), 1):
+        if line.startswith("  - "):
+            if text:
+                yield number, text
+            number, text = at, line
+        elif text and line.startswith("    "):
+            text += " " + line.strip()
+        elif text:
+            yield number, text
+            text = ""
+    if text:
+        yield number, text
 
 
 def sources(crate="*"):
@@ -33,8 +59,7 @@ sources.kept = {}
 
 def missing_promises():
     code = sources()
-    for number, cells in rows("PROMISES.md"):
-        calls = cells[1] if len(cells) > 2 else ""
+    for number, calls in promised_calls():
         inside = "".join(re.findall(r"\([^()]*\)", calls))
         outside = re.sub(r"\([^()]*\)", "", calls)
         for token in re.findall(r"`([^`]+)`", outside):
@@ -52,7 +77,7 @@ def missing_promises():
 
 
 def shown_blocks(page):
-    """The blocks of a page that stand behind a line `<!-- FILE -->`: line number, file, lines."""
+    """The blocks of a page that stand behind a line `<!-- FILE -->`: the number of that line, file, lines."""
     lines = page.read_text(encoding="utf-8").split("\n")
     for number, line in enumerate(lines, 1):
         named = re.fullmatch(r"<!-- (\S+) -->", line)
@@ -76,7 +101,7 @@ def without_indent(lines):
 
 
 def differing_blocks():
-    for page in [ROOT / "README.md", *sorted((ROOT / "docs").glob("*.md"))]:
+    for page, _ in pages():
         for number, file, block in shown_blocks(page):
             where = f"{page.relative_to(ROOT)}:{number}"
             if not block or not (ROOT / file).is_file():
@@ -92,8 +117,8 @@ def differing_blocks():
 def differing_picture():
     """The picture of layers is what docs/layers.py prints."""
     printed = subprocess.run([sys.executable, ROOT / "docs/layers.py"], capture_output=True, text=True).stdout
-    if printed.strip() not in (ROOT / "docs/ARCHITECTURE.md").read_text(encoding="utf-8"):
-        yield "docs/ARCHITECTURE.md doesn't show what docs/layers.py prints"
+    if printed != (ROOT / "docs/LAYERS.md").read_text(encoding="utf-8"):
+        yield "docs/LAYERS.md isn't what docs/layers.py prints"
 
 
 def differing_files():
@@ -115,12 +140,55 @@ def stray_names():
         known.update(re.findall(r"\w+", path.as_posix()))
         if path.suffix in (".rt", ".antt", ".h", ".rs", ".c", ".py"):
             known.update(re.findall(r"\w+", path.read_text(encoding="utf-8")))
-    for page in [ROOT / "README.md", ROOT / "CONTRIBUTING.md", *sorted((ROOT / "docs").glob("*.md"))]:
-        for number, line in enumerate(page.read_text(encoding="utf-8").split("\n"), 1):
+    for page, lines in pages():
+        for number, line in enumerate(lines if page.name != "CHANGELOG.md" else [], 1):
             for token in re.findall(r"`([^`]+)`", line):
                 for name in re.findall(r"\b[a-z][a-z0-9]*(?:_[a-z0-9]+)+\b", token):
                     if name not in known:
                         yield f"{page.relative_to(ROOT)}:{number}: {name} stands nowhere in the tree"
+
+
+def long_lines():
+    """Lines past the limit, but those of blocks that are copied from files, and a README of too many."""
+    for page, lines in pages():
+        name = page.relative_to(ROOT).as_posix()
+        copied = set()
+        for number, file, block in shown_blocks(page):
+            copied.update(line for line in block if (ROOT / file).is_file())
+        for number, line in enumerate(lines, 1):
+            if len(line) > LONGEST_LINE and line not in copied and name not in UNBROKEN:
+                yield f"{name}:{number}: {len(line)} characters"
+        if name == "README.md" and len(lines) > MOST_LINES_OF_README:
+            yield f"README.md has {len(lines)} lines"
+
+
+def headings(page):
+    """The names by which links reach the headings of a page."""
+    for line in page.read_text(encoding="utf-8").split("\n"):
+        if re.match(r"#+ ", line):
+            title = re.sub(r"[^\w\- ]", "", line.lstrip("#").strip().lower())
+            yield title.replace(" ", "-")
+
+
+def dead_links():
+    for page, lines in pages():
+        for target in re.findall(r"\]\(([^)\s]+)\)", "\n".join(lines)):
+            if re.match(r"[a-z]+:", target):
+                continue
+            file, _, heading = target.partition("#")
+            leads_to = page.parent / file if file else page
+            if not leads_to.exists():
+                yield f"{page.relative_to(ROOT)}: no file {file}"
+            elif heading and heading not in headings(leads_to):
+                yield f"{page.relative_to(ROOT)}: {leads_to.name} has no heading {heading}"
+
+
+def differing_headline():
+    """The sentence of README is that of PROMISES."""
+    readme = re.search(r"\[(After two ends .*?)\]", (ROOT / "README.md").read_text(encoding="utf-8"), re.S)
+    promises = (ROOT / "docs/PROMISES.md").read_text(encoding="utf-8").replace("\n> ", " ")
+    if not readme or " ".join(readme[1].split()) not in promises:
+        yield "README.md: the headline isn't that of docs/PROMISES.md"
 
 
 def stale_wrong_bodies():
@@ -141,6 +209,9 @@ found = [
     *differing_blocks(),
     *differing_files(),
     *stray_names(),
+    *long_lines(),
+    *dead_links(),
+    *differing_headline(),
     *stale_wrong_bodies(),
 ]
 for line in found:

@@ -1,5 +1,5 @@
 #!/usr/bin/env python3
-"""Prints the picture of layers and crates that docs/ARCHITECTURE.md shows, from crates.txt.
+"""Prints docs/LAYERS.md, the picture of layers and crates, from crates.txt.
 
 Under each heading of crates.txt stand its crates, the lowest first, each with the crates of this repository that
 it stands on right below: one that another of them brings along is left out.
@@ -63,5 +63,11 @@ def wrapped(crate, names):
     return [re.sub(r" +$", "", it) for it in lines + [line]]
 
 
+HEAD = """# Layers
+
+Written by `python3 docs/layers.py > docs/LAYERS.md` from [crates.txt](../crates.txt). Behind each crate stand those
+right below it; [ARCHITECTURE](ARCHITECTURE.md) says what each is about.
+"""
+
 if __name__ == "__main__":
-    print("\n".join(picture()))
+    print("\n".join([HEAD, "```", *picture(), "```"]))

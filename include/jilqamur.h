@@ -23,6 +23,9 @@
 extern "C" {
 #endif
 
+/* The version, which is that of the whole project (CHANGELOG.md says how it counts). */
+#define JILQAMUR_VERSION "0.9.0"
+
 /* The bytes of a literal text and their count, for a parameter of bytes and the one of their length. */
 #define JILQAMUR_TEXT(literal) (const uint8_t *)("" literal), sizeof(literal) - 1
 

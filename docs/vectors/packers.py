@@ -60,7 +60,7 @@ class AmrWb:
 
 
 class Vp8:
-    """The id rises by one a frame, modulo 32,768; no frame tells the id 0 (README, `for_browsers`)."""
+    """The id rises by one a frame, modulo 32,768; no frame tells the id 0 (docs/GUIDE.md, `for_browsers`)."""
 
     def __init__(self, case, limit, picture):
         self.limit, self.tells, self.id = limit, picture != "-", int(picture) if picture != "-" else 0
