@@ -12,14 +12,13 @@ once. Prints what is missing, and ends with status 1 then.
 import re
 import subprocess
 import sys
+from functools import lru_cache
 from pathlib import Path
 
 ROOT = Path(__file__).resolve().parent.parent
 CRATES = ROOT / "crates"
 LONGEST_LINE = 120
 MOST_LINES_OF_README = 130
-# Pages whose lines are not broken yet.
-UNBROKEN = {"docs/BINDINGS.md"}
 
 
 def pages():
@@ -60,7 +59,6 @@ sources.kept = {}
 def missing_promises():
     code = sources()
     for number, calls in promised_calls():
-        inside = "".join(re.findall(r"\([^()]*\)", calls))
         outside = re.sub(r"\([^()]*\)", "", calls)
         for token in re.findall(r"`([^`]+)`", outside):
             name = token.split("::")[-1]
@@ -70,10 +68,33 @@ def missing_promises():
             elif re.fullmatch(r"[A-Z]\w*", name):
                 if not re.search(r"\b(?:struct|enum|trait|type) " + re.escape(name) + r"\b", code):
                     yield f"PROMISES.md:{number}: no type {token}"
-        for token in re.findall(r"`([a-z_0-9]+)`", inside):
-            if not re.search(r"\b(?:ensures|requires) " + re.escape(token) + r"\b", code) and \
-                    not re.search(r"\bfn " + re.escape(token) + r"\b", code):
-                yield f"PROMISES.md:{number}: no clause {token}"
+        for names, clauses in groups(calls):
+            known = set().union(*(contract_clauses().get(name.split("::")[-1], set()) for name in names))
+            for clause in clauses:
+                if clause not in known and not re.search(r"\bfn " + re.escape(clause) + r"\b", code):
+                    yield f"PROMISES.md:{number}: no clause {clause} of {', '.join(names)}"
+
+
+def groups(calls):
+    """Names of calls, and the clauses in parentheses behind them."""
+    names = []
+    for name, inside in re.findall(r"`([^`]+)`|\(([^()]*)\)", calls):
+        if name:
+            names.append(name)
+        else:
+            yield names, re.findall(r"`([a-z_0-9]+)`", inside)
+            names = []
+
+
+@lru_cache(maxsize=None)
+def contract_clauses():
+    """The names of the clauses of all functions of a name."""
+    clauses = {}
+    for part in re.split(r"\bfn (?=\w)", sources())[1:]:
+        contract = re.split(r"\n *\{\}?\n", part, maxsplit=1)[0]
+        name = re.match(r"\w+", part)[0]
+        clauses.setdefault(name, set()).update(re.findall(r"\b(?:ensures|requires) (\w+) ", contract))
+    return clauses
 
 
 def shown_blocks(page):
@@ -156,7 +177,7 @@ def long_lines():
         for number, file, block in shown_blocks(page):
             copied.update(line for line in block if (ROOT / file).is_file())
         for number, line in enumerate(lines, 1):
-            if len(line) > LONGEST_LINE and line not in copied and name not in UNBROKEN:
+            if len(line) > LONGEST_LINE and line not in copied:
                 yield f"{name}:{number}: {len(line)} characters"
         if name == "README.md" and len(lines) > MOST_LINES_OF_README:
             yield f"README.md has {len(lines)} lines"
