@@ -27,10 +27,11 @@ fn main(rt: HostRuntime) -> anyhow::Result<()> {
     let tx = a.open_sender(mid, ssrc, pt, params)?;
     let rx = b.open_receiver(mid, ssrc, pt, 4)?;
     for k in 0..3u8 {
-        ensure!(a.is_sender(tx) && b.is_receiver(rx), "no such stream");
+        ensure!(a.is_sender(tx), "no such stream");
         let time = MediaTime::new(960 * u64::from(k), Frequency::FORTY_EIGHT_KHZ);
         for datagram in &a.push_sample(tx, time, &[k, 2, 3], &ExtensionValues::absent())? {
             b.receive(datagram.as_slice())?;
+            ensure!(b.is_receiver(rx), "no such stream");
             for unit in b.poll_all(rx)? {
                 let unit = unit?;
                 println!(rt; "at {}: {:?}", unit.time(), unit.bytes())?;

@@ -11,6 +11,8 @@ const HOLD_BACK: usize = 127;
 pub(crate) struct Arguments {
     /// The names of the captures, in the order of their times.
     pub(crate) captures: Vec<String>,
+    /// The names of session texts, an offer in front of its answer.
+    pub(crate) texts: Vec<String>,
     /// Rows, each `TYPE=CODEC/RATE`.
     pub(crate) rows: Vec<String>,
     /// How many complete frames wait for a missing one.
@@ -30,6 +32,10 @@ pub(crate) fn command<'a>(alloc: Global) -> Result<Command<'a>, AllocError> {
         .help(
             "files of pcap, pcapng or rtpdump, or lines of hexadecimal, each behind the one before in time",
         );
+    let texts = Arg::new(alloc, "sdp")
+        .long("sdp")
+        .action(ArgAction::Append)
+        .help("a session text that says the payload types; an answer goes behind its offer");
     let rows = Arg::new(alloc, "pt")
         .long("pt")
         .action(ArgAction::Append)
@@ -49,6 +55,7 @@ pub(crate) fn command<'a>(alloc: Global) -> Result<Command<'a>, AllocError> {
     Command::new(alloc, "rtprecord")
         .about("Records the streams of a capture, each to a file that a player opens")
         .arg(capture)?
+        .arg(texts)?
         .arg(rows)?
         .arg(hold_back)?
         .arg(out)?
@@ -85,6 +92,7 @@ impl Arguments {
         };
         Ok(Some(Arguments {
             captures: values(alloc, matches, "CAPTURE")?,
+            texts: values(alloc, matches, "sdp")?,
             rows: values(alloc, matches, "pt")?,
             hold_back,
             out: String::from_str(alloc, matches.get_str("out").unwrap_or("."))?,

@@ -1,9 +1,9 @@
-//! Records the streams of captures: `rtprecord CAPTURE.. --pt TYPE=CODEC/RATE.. [--hold-back N] [--out FOLDER]
-//! [--list]`. A capture is a file of pcap, pcapng or rtpdump, or lines of hexadecimal; several are parts of
+//! Records the streams of captures: `rtprecord CAPTURE.. [--sdp TEXT].. [--pt TYPE=CODEC/RATE].. [--hold-back N]
+//! [--out FOLDER] [--list]`. A capture is a file of pcap, pcapng or rtpdump, or lines of hexadecimal; several are parts of
 //! one, in the order of their times. Each stream, an SSRC and a payload type, is listed, and written to a file that a
 //! player opens, named by both.
 //!
-//! The status is 0 where a stream was found; 1 where a capture can't be read, a file can't be
+//! The status is 0 where a stream was found; 1 where a capture or a session text can't be read, a file can't be
 //! written, or memory ran out; 2 where the arguments are wrong; 3 where no stream was found.
 #![tactic(auto)]
 
@@ -77,7 +77,7 @@ fn take(rt: &HostRuntime, name: &str, recorder: &mut Recorder) -> anyhow::Result
 
 /// Records the streams of the captures.
 fn record(rt: &HostRuntime, arguments: &Arguments) -> anyhow::Result<u8> {
-    let rows = rows_of(rt.alloc(), arguments)?;
+    let rows = rows_of(rt, arguments)?;
     let mut recorder = Recorder::new(rt.alloc(), rows, arguments.hold_back);
     for name in &arguments.captures {
         take(rt, name.as_str(), &mut recorder)?;

@@ -40,7 +40,7 @@ const NOTHING: Passed = Passed {
 #[derive(Drop)]
 pub(crate) struct Recorder {
     alloc: Global,
-    rows: Rows,
+    pub(crate) rows: Rows,
     hold_back: usize,
     pub(crate) passed: Passed,
     /// How many bytes at the ends of captures are no packet.

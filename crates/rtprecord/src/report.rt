@@ -100,6 +100,18 @@ fn is_unreadable(recorder: &Recorder) -> bool {
     all > 0 && bad.saturating_mul(10) >= all.saturating_mul(9)
 }
 
+/// Says why nearly nothing may be read.
+fn tell_unreadable(rt: &HostRuntime, recorder: &Recorder) -> io::Result<()> {
+    if recorder.rows.has_fingerprint {
+        return eprintln!(*rt;
+            "nearly nothing can be read, and a text has a fingerprint: the capture looks encrypted"
+        );
+    }
+    eprintln!(*rt;
+        "nearly nothing can be read: the capture may be encrypted, or of other codecs than said"
+    )
+}
+
 /// Prints each source and its streams, and writes the streams' files.
 pub(crate) fn print(
     rt: &HostRuntime,
@@ -119,9 +131,7 @@ pub(crate) fn print(
     }
     print_passed(rt, recorder)?;
     if is_unreadable(recorder) {
-        eprintln!(*rt;
-            "nearly nothing can be read: the capture may be encrypted, or --pt says another codec"
-        )?;
+        tell_unreadable(rt, recorder)?;
     }
     Ok(())
 }

@@ -3,7 +3,9 @@
 use crate::arguments::Arguments;
 use anyhow::bail;
 use h26x_payload::{Codec, CodecDepacketizer, Frequency, NotBoxed};
+use sdp_formats::{MediaLine, PayloadParams, SdpOffer, rtp_params, whole};
 use std::alloc::Global;
+use std::fs;
 
 /// A payload type.
 #[derive(Clone, Copy, Drop)]
@@ -14,12 +16,14 @@ pub(crate) struct Row {
     pub(crate) rate: Frequency,
     pub(crate) channels: u8,
     is_octet_aligned: bool,
+    sprop_max_don_diff: Option<u16>,
 }
 
-/// All payload types.
+/// All payload types, and whether a text has a fingerprint, as one of a call that is encrypted.
 #[derive(Drop)]
 pub(crate) struct Rows {
     rows: Vec<Row>,
+    pub(crate) has_fingerprint: bool,
 }
 
 impl Row {
@@ -44,13 +48,31 @@ impl Row {
             rate: Frequency::new(rate.parse::<u32>().ok()?)?,
             channels: channels.parse::<u8>().ok()?,
             is_octet_aligned,
+            sprop_max_don_diff: None,
         })
+    }
+
+    /// The row of a section.
+    fn of_params(params: &PayloadParams) -> Row {
+        let spec = params.spec();
+        Row {
+            pt: params.pt().get(),
+            codec: spec.codec,
+            rate: spec.rtp_clock_rate(),
+            channels: spec.channels.unwrap_or(1),
+            is_octet_aligned: spec.format.octet_align.unwrap_or(false),
+            sprop_max_don_diff: spec.format.sprop_max_don_diff,
+        }
     }
 
     /// A depacketizer of the codec; None where it has no payload format.
     pub(crate) fn depacketizer(&self, alloc: Global) -> Option<CodecDepacketizer<NotBoxed>> {
         let mut depacketizer = CodecDepacketizer::<NotBoxed>::new(alloc, self.codec)?;
-        depacketizer.configure_for(Some(self.is_octet_aligned), None, self.rate);
+        depacketizer.configure_for(
+            Some(self.is_octet_aligned),
+            self.sprop_max_don_diff,
+            self.rate,
+        );
         Some(depacketizer)
     }
 }
@@ -65,16 +87,57 @@ impl Rows {
         }
         None
     }
+
+    /// Takes the rows of a section.
+    fn take_section(&mut self, alloc: Global, section: &MediaLine) -> anyhow::Result<()> {
+        for params in &rtp_params(alloc, section)? {
+            let row = Row::of_params(params);
+            self.rows.push(row)?;
+            if let Some(red) = params.red() {
+                self.rows.push(Row {
+                    pt: red.get(),
+                    codec: Codec::Red,
+                    ..row
+                })?;
+            }
+        }
+        Ok(())
+    }
+
+    /// Takes the rows of a session text.
+    fn take_text(&mut self, rt: &HostRuntime, name: &str) -> anyhow::Result<()> {
+        let text = match fs::read_to_string(rt, name) {
+            Ok(text) => text,
+            Err(fault) => bail!("{name}: {fault}"),
+        };
+        let sdp = match SdpOffer::from_sdp_string(rt.alloc(), text.as_str()) {
+            Ok(sdp) => sdp,
+            Err(fault) => bail!("{name}: {fault}"),
+        };
+        for section in sdp.media_lines.iter() {
+            self.take_section(rt.alloc(), section)?;
+        }
+        if whole::fingerprint(&sdp).is_some() {
+            self.has_fingerprint = true;
+        }
+        Ok(())
+    }
 }
 
-/// The rows that the arguments say, in their order.
-pub(crate) fn rows_of(alloc: Global, arguments: &Arguments) -> anyhow::Result<Rows> {
-    let mut rows = Vec::new(alloc);
+/// The rows of the session texts, in their order, and behind them those of the arguments.
+pub(crate) fn rows_of(rt: &HostRuntime, arguments: &Arguments) -> anyhow::Result<Rows> {
+    let mut rows = Rows {
+        rows: Vec::new(rt.alloc()),
+        has_fingerprint: false,
+    };
+    for name in &arguments.texts {
+        rows.take_text(rt, name.as_str())?;
+    }
     for text in &arguments.rows {
         let Some(row) = Row::of(text.as_str()) else {
             bail!("no payload type: {text}; write it as 96=VP8/90000");
         };
-        rows.push(row)?;
+        rows.rows.push(row)?;
     }
-    Ok(Rows { rows })
+    Ok(rows)
 }

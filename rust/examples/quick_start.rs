@@ -1,0 +1,48 @@
+//! Two ends agree on Opus by an offer and an answer, and one sends three samples to the other: `crates/quick_start` in
+//! Rust.
+
+use jilqamur::{Direction, End, EndError, Kind, Received, Row, Section, StreamParams};
+
+/// An end that has Opus at payload type 111.
+fn opus_end(session: u64) -> Result<End, EndError> {
+    let mut end = End::new()?;
+    end.row(&Row::new(111, 48_000).with_channels(2), "opus", "minptime=10;useinbandfec=1")?;
+    end.make(session)?;
+    Ok(end)
+}
+
+/// One section, `0`, of audio in both directions, with these SSRCs.
+fn audio(ssrcs: &[u32]) -> [Section<'_>; 1] {
+    [Section { mid: "0", kind: Kind::Audio, direction: Direction::SendRecv, ssrcs }]
+}
+
+/// Takes a datagram from the network in, and prints the frames that are due then.
+fn receive(end: &mut End, datagram: &[u8]) -> Result<(), EndError> {
+    let Received::Taken(stream, _) = end.receive(datagram)? else {
+        return Ok(()); // it belongs to no stream, is damaged or came before
+    };
+    for unit in end.units(stream) {
+        match unit {
+            Ok(unit) => println!("at {}: {:?}", unit.time, unit.bytes),
+            Err(EndError::Payload) => {} // the codec can't read the next frame, which is passed over
+            Err(error) => return Err(error),
+        }
+    }
+    Ok(())
+}
+
+fn main() -> Result<(), EndError> {
+    let (mut a, mut b) = (opus_end(1)?, opus_end(2)?);
+    let offer = a.offer(&audio(&[44]))?; // the two texts are all that travels
+    let answer = b.answer(&offer, &audio(&[45]))?;
+    a.accept(&answer)?;
+    let sender = a.open_sender("0", 44, 111, StreamParams::new(1000, 1200, 1400), None)?;
+    b.open_receiver("0", 44, 111, 4)?;
+    for k in 0..3 {
+        // The datagrams of a sample would go out to the network; here they go to b.
+        for datagram in a.push_sample(sender, 960 * u64::from(k), &[k, 2, 3], None)? {
+            receive(&mut b, &datagram)?;
+        }
+    }
+    Ok(())
+}
