@@ -18,8 +18,6 @@ ROOT = Path(__file__).resolve().parent.parent
 CRATES = ROOT / "crates"
 LONGEST_LINE = 120
 MOST_LINES_OF_README = 130
-# Pages whose lines are not broken yet.
-UNBROKEN = {"docs/BINDINGS.md"}
 
 
 def pages():
@@ -156,7 +154,7 @@ def long_lines():
         for number, file, block in shown_blocks(page):
             copied.update(line for line in block if (ROOT / file).is_file())
         for number, line in enumerate(lines, 1):
-            if len(line) > LONGEST_LINE and line not in copied and name not in UNBROKEN:
+            if len(line) > LONGEST_LINE and line not in copied:
                 yield f"{name}:{number}: {len(line)} characters"
         if name == "README.md" and len(lines) > MOST_LINES_OF_README:
             yield f"README.md has {len(lines)} lines"
