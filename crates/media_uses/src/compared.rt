@@ -4,6 +4,7 @@ use crate::sessions::{
     extensions_that_would_be_read_otherwise_are_refused,
     lines_that_would_be_read_otherwise_are_refused, offers_say_the_lines_of_the_session,
 };
+use crate::value_rows::value_rows;
 use crate::worked_rows::{
     a_limit_that_is_too_small, a_time_in_milliseconds, a_time_that_does_not_fit,
     receive_all_hands_out_in_order, receive_owned_hands_out_in_order,
@@ -43,6 +44,9 @@ pub(crate) fn print_rows(rt: &HostRuntime) -> bool {
     let mut are_right = true;
     for (name, row) in &rows {
         are_right = print_row(rt, name, *row) && are_right;
+    }
+    for (name, is_right) in &value_rows() {
+        are_right = print_row(rt, name, Some(*is_right)) && are_right;
     }
     are_right
 }

@@ -11,6 +11,7 @@ mod failing_runs;
 mod proved_calls;
 mod sessions;
 mod silence;
+mod value_rows;
 mod worked_rows;
 
 use compared::print_rows;

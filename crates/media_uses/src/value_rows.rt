@@ -1,0 +1,93 @@
+//! What small calls answer, beside what the standards and the usual numbers say.
+
+use rtp_wire::{Extension, ExtensionMap, Frequency, MediaTime, Pt, SeqNo};
+use sdp_formats_rows::CodecSpec;
+
+/// Each row's name, and whether it is as it must be.
+pub(crate) fn value_rows() -> [(&'static str, bool); 5] {
+    [
+        ("the standard map", the_standard_map()),
+        ("numbers of another end", numbers_of_another_end()),
+        ("clock rates of timestamps", clock_rates()),
+        ("sequence numbers", sequence_numbers()),
+        ("times at each clock", times()),
+    ]
+}
+
+/// The usual numbers of seven extensions, and no others.
+fn the_standard_map() -> bool {
+    let map = ExtensionMap::standard();
+    let numbers = [
+        (Extension::AudioLevel, 1),
+        (Extension::AbsoluteSendTime, 2),
+        (Extension::TransportSequenceNumber, 3),
+        (Extension::RtpMid, 4),
+        (Extension::RtpStreamId, 10),
+        (Extension::RepairedRtpStreamId, 11),
+        (Extension::VideoOrientation, 13),
+    ];
+    for (ext, id) in &numbers {
+        if map.id_of(ext) != Some(*id) || map.lookup(*id).is_none() {
+            return false;
+        }
+    }
+    for id in &[0, 5, 6, 7, 8, 9, 12, 14, 15, 16, 17] {
+        if map.lookup(*id).is_some() {
+            return false;
+        }
+    }
+    true
+}
+
+/// Another end's number is taken over, 15 and 16 too, and what had it here takes the one that is left.
+fn numbers_of_another_end() -> bool {
+    let mut map = ExtensionMap::standard();
+    map.remap(&[
+        (15, Extension::AudioLevel),
+        (16, Extension::RtpMid),
+        (3, Extension::AbsoluteSendTime),
+    ]);
+    map.id_of(&Extension::AudioLevel) == Some(15)
+        && map.id_of(&Extension::RtpMid) == Some(16)
+        && map.id_of(&Extension::AbsoluteSendTime) == Some(3)
+        && map.id_of(&Extension::TransportSequenceNumber) == Some(2)
+}
+
+/// G.722 counts at 8,000 Hz whatever its row says (RFC 3551 4.5.2), PCMU at its own rate.
+fn clock_rates() -> bool {
+    for pt in &[0, 9] {
+        match CodecSpec::from_static_pt(Pt::from(*pt)) {
+            Some(spec) if spec.rtp_clock_rate() == Frequency::EIGHT_KHZ => {}
+            _ => return false,
+        }
+    }
+    true
+}
+
+/// The third wrap of 16 bits, and the number behind it.
+fn sequence_numbers() -> bool {
+    let mut number = SeqNo::from(196_613);
+    let before = number.inc();
+    before.roc() == 3
+        && number.get() == 196_614
+        && before.is_next(number)
+        && !number.is_next(before)
+}
+
+/// A count at each clock, with that clock's ticks a second.
+fn times() -> bool {
+    let times = [
+        (MediaTime::from_micros(7), 1_000_000),
+        (MediaTime::from_fixed_point_6_18(7), 262_144),
+        (MediaTime::from_90khz(7), 90_000),
+        (MediaTime::from_millis(7), 1_000),
+        (MediaTime::from_hundredths(7), 100),
+        (MediaTime::from_secs(7), 1),
+    ];
+    for (time, denom) in &times {
+        if time.numer() != 7 || time.denom() != *denom {
+            return false;
+        }
+    }
+    true
+}
