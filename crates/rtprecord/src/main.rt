@@ -20,7 +20,7 @@ use anyhow::bail;
 use arguments::{Arguments, command};
 use input::Input;
 use recorder::Recorder;
-use rows::rows_of;
+use rows::{no_row, rows_of};
 use std::process::ExitCode;
 use std::{env, fs};
 
@@ -54,6 +54,10 @@ fn run_with(rt: &HostRuntime, words: &[&str]) -> anyhow::Result<u8> {
         eprintln!(*rt; "rtprecord: --hold-back takes a number of frames")?;
         return Ok(2);
     };
+    if let Some(text) = no_row(&arguments) {
+        eprintln!(*rt; "rtprecord: no payload type: {text}; write it as 96=VP8/90000")?;
+        return Ok(2);
+    }
     record(rt, &arguments)
 }
 

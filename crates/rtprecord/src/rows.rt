@@ -124,6 +124,14 @@ impl Rows {
     }
 }
 
+/// The first argument that should say a row and says none.
+pub(crate) fn no_row(arguments: &Arguments) -> Option<&String> {
+    arguments
+        .rows
+        .iter()
+        .find(|text| Row::of(text.as_str()).is_none())
+}
+
 /// The rows of the session texts, in their order, and behind them those of the arguments.
 pub(crate) fn rows_of(rt: &HostRuntime, arguments: &Arguments) -> anyhow::Result<Rows> {
     let mut rows = Rows {
@@ -134,10 +142,9 @@ pub(crate) fn rows_of(rt: &HostRuntime, arguments: &Arguments) -> anyhow::Result
         rows.take_text(rt, name.as_str())?;
     }
     for text in &arguments.rows {
-        let Some(row) = Row::of(text.as_str()) else {
-            bail!("no payload type: {text}; write it as 96=VP8/90000");
-        };
-        rows.rows.push(row)?;
+        if let Some(row) = Row::of(text.as_str()) {
+            rows.rows.push(row)?;
+        }
     }
     Ok(rows)
 }
