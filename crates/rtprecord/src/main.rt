@@ -1,7 +1,7 @@
 //! Records the streams of captures: `rtprecord CAPTURE.. [--sdp TEXT].. [--pt TYPE=CODEC/RATE].. [--hold-back N]
-//! [--out FOLDER] [--list]`. A capture is a file of pcap, pcapng or rtpdump, or lines of hexadecimal; several are parts of
-//! one, in the order of their times. Each stream, an SSRC and a payload type, is listed, and written to a file that a
-//! player opens, named by both.
+//! [--out FOLDER] [--list]`. A capture is a file of pcap, pcapng or rtpdump, or lines of hexadecimal; several are
+//! parts of one, in the order of their times. Each stream, an SSRC and a payload type, is listed, and written to
+//! a file that a player opens, named by both.
 //!
 //! The status is 0 where a stream was found; 1 where a capture or a session text can't be read, a file can't be
 //! written, or memory ran out; 2 where the arguments are wrong; 3 where no stream was found.
