@@ -1,4 +1,5 @@
-//! Codecs, the traits of packetizers and depacketizers, and telephone events (RFC 4733), and sending samples through a packet sink.
+//! Codecs, the traits of packetizers and depacketizers, and telephone events (RFC 4733), and sending samples through a
+//! packet sink.
 #![tactic(auto)]
 
 mod boxed;

@@ -1,5 +1,5 @@
-//! RTP on the wire: headers (RFC 3550) and repairs (RFC 4588). What stands below, as sequence numbers, the replay window,
-//! media times and header extensions, is handed on.
+//! RTP on the wire: headers (RFC 3550) and repairs (RFC 4588). What stands below, as sequence numbers, the replay
+//! window, media times and header extensions, is handed on.
 #![tactic(auto)]
 
 mod header;

@@ -1,7 +1,7 @@
 //! Datagrams wrapped, and what is read of a repair's payload.
 
-ghost use Rattle.std.specs.Prelude.{◌≡◌, ◌+◌, ◌<◌, ◌≤◌, ◌∷◌, ◌++◌, None, Some, drop, length, slice_index, IfOk, MatchOption};
-ghost use Rattle.std.specs.Prelude.{OnOk};
+ghost use Rattle.std.specs.Prelude.{◌≡◌, ◌+◌, ◌<◌, ◌≤◌, ◌∷◌, ◌++◌, None, Some, drop, length, slice_index};
+ghost use Rattle.std.specs.Prelude.{IfOk, MatchOption, OnOk};
 ghost use Rattle.rtp_wire.specs.Repairs.{repair_of, wrapped_in};
 
 use rtp_wire_values::{Pt, Ssrc};

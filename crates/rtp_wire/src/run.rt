@@ -14,7 +14,7 @@ use std::alloc::{AllocError, Global};
 pub enum Reception {
     /// It begins with no header.
     Unreadable,
-    /// Its number came before, or is 128 or more below the greatest.
+    /// Its number came before, or is 1,024 or more below the greatest.
     Refused,
     /// Its number is recorded.
     Taken(SeqNo),

@@ -1,3 +1,4 @@
 pub mod NameLaws
 pub mod WideningLaws
+pub mod RingBits
 pub mod WindowLaws

@@ -1,8 +1,7 @@
 -- A window's set, kept as a ring of slots.
-use Rattle.std.proofs.Common.{subst, ◌≡◌, ℕ, zero, suc, ◌+◌, ◌-◌, ◌%◌, ◌<◌, ◌≤◌, ◌≢◌, refl, sym, ◌∙◌, ap, ap₂, arith, Bool}
-use Rattle.std.proofs.Common.{true, false, cond, not, ◌&&◌, ◌||◌, List, [], ◌∷◌, max, get_or, get_or-set_same}
-use Rattle.std.proofs.Common.{get_or-set_other, length, inl, inr, replicate, Option, None, Some}
-use Rattle.std.proofs.Common.{set as set_at}
+use Rattle.std.proofs.Common.{◌≡◌, ℕ, zero, suc, ◌+◌, ◌-◌, ◌%◌, ◌<◌, ◌≤◌, ◌≢◌, refl, sym, ◌∙◌, ap, ap₂, arith, Bool}
+use Rattle.std.proofs.Common.{true, false, cond, not, ◌&&◌, ◌||◌, List, [], ◌∷◌, max}
+use Rattle.std.proofs.Common.{inl, inr}
 use Rattle.std.specs.Prelude.{nat_lt, nat_le, nat_eq, ◌==◌, filter}
 use Rattle.std.specs.Ordering.{nat_cmp, eq_by_cmp}
 use Rattle.std.specs.List.{list_any, range_with_len}
@@ -11,15 +10,14 @@ use Rattle.std.specs.FinSet.{nat_cmp-IsAntisymmetric}
 use Rattle.std.specs.Cmp.{nat_cmp_total}
 use Rattle.std.proofs.lemmas.Bool.{cases_order}
 use Rattle.std.proofs.lemmas.Bool.Decides.{nat_tests}
-use Rattle.std.proofs.lemmas.List.{length-replicate}
-use Rattle.rtp_wire_values.specs.Ring.{IsUpTo, holds, is_recorded, is_under, numbers_of, slot}
+use Rattle.rtp_wire_values.specs.Ring.{is_recorded, is_set, numbers_of}
 use Rattle.rtp_wire_values.specs.Replay.{Window, window_with, window_at, window_after, window_with_all, greatest_of}
 use Rattle.rtp_wire_values.specs.Replay.{is_among, is_new, accepts}
 
-eqb-no : (a b : ℕ) → a ≢ b → (a == b) ≡ false
+pub eqb-no : (a b : ℕ) → a ≢ b → (a == b) ≡ false
 eqb-no a b h = grind (arith, nat_tests)
 
-eqb-yes : (a b : ℕ) → a ≡ b → (a == b) ≡ true
+pub eqb-yes : (a b : ℕ) → a ≡ b → (a == b) ≡ true
 eqb-yes a b h = grind (arith, nat_tests)
 
 pub eq_by_cmp-nat : (y x : ℕ) → eq_by_cmp nat_cmp y x ≡ (y == x)
@@ -27,11 +25,11 @@ eq_by_cmp-nat y x = grind (arith, nat_tests)
 
 -- what the step of the window's set contains
 pub contains-window_with : (w : Window) (x y : ℕ) → set.contains (window_with w x).recorded y
-    ≡ (((y == x) || set.contains w.recorded y) && nat_lt (max w.greatest x) (y + 128))
+    ≡ (((y == x) || set.contains w.recorded y) && nat_lt (max w.greatest x) (y + 1024))
 contains-window_with w x y =
-    set.contains-retain (set.insert w.recorded x) (λ z. nat_lt (max w.greatest x) (z + 128)) y
+    set.contains-retain (set.insert w.recorded x) (λ z. nat_lt (max w.greatest x) (z + 1024)) y
     (λ z e. rw (nat_cmp-IsAntisymmetric y z e))
-    ∙ ap (λ (b : Bool). b && nat_lt (max w.greatest x) (y + 128))
+    ∙ ap (λ (b : Bool). b && nat_lt (max w.greatest x) (y + 1024))
     (rw (set.contains-insert nat_cmp_total w.recorded x y, eq_by_cmp-nat y x))
 
 any-cond : (t a d l f : Bool) → (t ≡ true → a ≡ d) → f ≡ (l && d) → cond a (t || f) f ≡ ((t || l) && d)
@@ -63,19 +61,19 @@ list_any-range lo zero q = grind (arith, nat_tests)
 list_any-range lo (suc m) q = grind (arith, nat_tests, list_any-range (lo + 1) m q)
 
 -- the numbers in reach of the greatest
-in_reach : (g q : ℕ) → (nat_le (g - 127) q && nat_lt q (g - 127 + (g + 1 - (g - 127))))
-    ≡ (nat_le q g && nat_lt g (q + 128))
+in_reach : (g q : ℕ) → (nat_le (g - 1023) q && nat_lt q (g - 1023 + (g + 1 - (g - 1023))))
+    ≡ (nat_le q g && nat_lt g (q + 1024))
 in_reach g q = grind (arith, nat_tests)
 
 -- what the ring's set contains
-pub contains-numbers_of : (g : ℕ) (floor : Option ℕ) (slots : List (Option ℕ)) (q : ℕ)
-    → set.contains (numbers_of g floor slots) q ≡ ((nat_le q g && nat_lt g (q + 128)) && is_recorded floor slots q)
-contains-numbers_of g floor slots q =
-    set.contains-from_list_nat _ q ∙ list_any-filter (is_recorded floor slots) q _
-    ∙ ap (λ (b : Bool). b && is_recorded floor slots q) (list_any-range (g - 127) (g + 1 - (g - 127)) q ∙ in_reach g q)
+pub contains-numbers_of : (g : ℕ) (words : List ℕ) (q : ℕ)
+    → set.contains (numbers_of g words) q ≡ ((nat_le q g && nat_lt g (q + 1024)) && is_recorded words q)
+contains-numbers_of g words q =
+    set.contains-from_list_nat _ q ∙ list_any-filter (is_recorded words) q _
+    ∙ ap (λ (b : Bool). b && is_recorded words q) (list_any-range (g - 1023) (g + 1 - (g - 1023)) q ∙ in_reach g q)
 
-pub contains-window_after : (g q : ℕ) → set.contains (window_after g).recorded q ≡ (nat_le q g && nat_lt g (q + 128))
-contains-window_after g q = set.contains-from_list_nat _ q ∙ list_any-range (g - 127) (g + 1 - (g - 127)) q
+pub contains-window_after : (g q : ℕ) → set.contains (window_after g).recorded q ≡ (nat_le q g && nat_lt g (q + 1024))
+contains-window_after g q = set.contains-from_list_nat _ q ∙ list_any-range (g - 1023) (g + 1 - (g - 1023)) q
     ∙ in_reach g q
 
 pub contains-window_at : (n q : ℕ) → set.contains (window_at n).recorded q ≡ (q == n)
@@ -85,8 +83,8 @@ contains-window_at n q = set.contains-insert nat_cmp_total (set.empty {R = nat_c
       or-false true = refl
       or-false false = refl
 
-abbrev pub ring : ℕ → Option ℕ → List (Option ℕ) → Window
-ring g floor slots = record { greatest = g; recorded = numbers_of g floor slots }
+abbrev pub ring : ℕ → List ℕ → Window
+ring g words = record { greatest = g; recorded = numbers_of g words }
 
 -- two windows with the same greatest, whose sets answer alike
 pub same_window : (g : ℕ) (r t : set.FinSet nat_cmp) → ((q : ℕ) → set.contains r q ≡ set.contains t q)
@@ -98,111 +96,87 @@ or-nothing : (b : Bool) → (b || false) ≡ b
 or-nothing true = refl
 or-nothing false = refl
 
--- two numbers less than 128 apart have slots of their own
-apart-mod : (q n g : ℕ) → q ≢ n → n ≤ g → g < n + 128 → q ≤ g → g < q + 128 → q % 128 ≢ n % 128
+-- two numbers less than 1,024 apart have slots of their own
+apart-mod : (q n g : ℕ) → q ≢ n → n ≤ g → g < n + 1024 → q ≤ g → g < q + 1024 → q % 1024 ≢ n % 1024
 apart-mod q n g ne a b h k e = ne (omega arith)
 
-pub accepts-ring : (g n : ℕ) (floor : Option ℕ) (slots : List (Option ℕ)) → n ≤ g → g - n < 128
-    → not (is_recorded floor slots n) ≡ accepts (ring g floor slots) n
-accepts-ring g n floor slots a b = grind (arith, nat_tests, contains-numbers_of g floor slots n)
+pub accepts-ring : (g n : ℕ) (words : List ℕ) → n ≤ g → g - n < 1024
+    → not (is_recorded words n) ≡ accepts (ring g words) n
+accepts-ring g n words a b = grind (arith, nat_tests, contains-numbers_of g words n)
 
--- a number goes into its slot
-module _ (floor : Option ℕ) (slots : List (Option ℕ)) (n : ℕ) (long : length slots ≡ 128) where
-  abbrev pub put : List (Option ℕ)
-  put = set_at slots (n % 128) (Some n)
+-- one slot more is set, and no other changes
+abbrev pub Records : List ℕ → ℕ → List ℕ → Type 0
+Records old n new = (slot : ℕ) → slot < 1024 → is_set new slot ≡ ((slot == n % 1024) || is_set old slot)
 
-  put-same : (q : ℕ) → q % 128 ≡ n % 128 → is_recorded floor put q ≡ (is_under floor q || (n == q))
-  put-same q e =
-      let at : n % 128 < length slots = omega arith in
-      rw e (ap (λ (o : Option ℕ). is_under floor q || holds o q) (get_or-set_same slots (n % 128) (Some n) None at))
+-- one slot is cleared, and no other changes
+abbrev pub Forgets : List ℕ → ℕ → List ℕ → Type 0
+Forgets old n new = (slot : ℕ) → slot < 1024 → is_set new slot ≡ (not (slot == n % 1024) && is_set old slot)
 
-  put-other : (q : ℕ) → q % 128 ≢ n % 128 → is_recorded floor put q ≡ is_recorded floor slots q
-  put-other q ne =
-      ap (λ (o : Option ℕ). is_under floor q || holds o q)
-      (get_or-set_other slots (n % 128) (q % 128) (Some n) None ne)
+-- what is told of the numbers in reach, where those above `g` are passed over up to `h`
+abbrev pub Passes : ℕ → List ℕ → ℕ → List ℕ → Type 0
+Passes g old h new = (q : ℕ) → q ≤ h → h < q + 1024 → is_recorded new q ≡ (nat_le q g && is_recorded old q)
 
-  -- it is recorded, and no other in reach changes
-  pub put-in_reach : (g q : ℕ) → n ≤ g → g < n + 128 → q ≤ g → g < q + 128
-      → is_recorded floor put q ≡ ((q == n) || is_recorded floor slots q)
-  put-in_reach g q a b h k = elim (cases_order q n) [
-    | inl e ↦ rw e (put-same n refl ∙ rw (eqb-yes n n refl) (or-true (is_under floor n)))
-    | inr other ↦ let apart : q ≢ n = elim other [ inl below ↦ omega arith | inr above ↦ omega arith ] in
-        rw (eqb-no q n apart) (put-other q (apart-mod q n g apart a b h k))
-  ] where
-    or-true : (b : Bool) → (b || true) ≡ true
-    or-true true = refl
-    or-true false = refl
+pub passes-none : (g : ℕ) (words : List ℕ) → Passes g words g words
+passes-none g words q a b = grind (arith, nat_tests)
 
-  -- and none above it
-  pub put-up_to : (g h : ℕ) → IsUpTo g floor slots → g ≤ h → n ≤ h → IsUpTo h floor put
-  put-up_to g h up_to a b q lt = elim (cases_order (q % 128) (n % 128)) [
-    | inl e ↦ put-same q e ∙ grind (arith, nat_tests, up_to q (omega arith))
-    | inr other ↦ let apart : q % 128 ≢ n % 128 =
-        elim other [ inl below ↦ omega arith | inr above ↦ omega arith ] in
-        put-other q apart ∙ up_to q (omega arith)
-  ]
+pub passes-more : (g h : ℕ) (old words new : List ℕ) → g ≤ h → Passes g old h words → Forgets words (h + 1) new
+    → Passes g old (h + 1) new
+passes-more g h old words new le p f q a b = elim (cases_order q (h + 1)) [
+  | inl e ↦ f (q % 1024) (omega arith) ∙ rw e (grind (arith, nat_tests))
+  | inr other ↦ let apart : q ≢ h + 1 = elim other [ inl below ↦ omega arith | inr above ↦ omega arith ] in
+      f (q % 1024) (omega arith)
+      ∙ rw (eqb-no (q % 1024) ((h + 1) % 1024) (apart-mod q (h + 1) (h + 1) apart (omega arith) (omega arith) a b))
+      (p q (omega arith) (omega arith))
+]
+
+-- a number in reach is recorded by its slot, and no other in reach changes
+records-in_reach : (g n q : ℕ) (old new : List ℕ) → Records old n new → n ≤ g → g < n + 1024 → q ≤ g → g < q + 1024
+    → is_recorded new q ≡ ((q == n) || is_recorded old q)
+records-in_reach g n q old new r a b h k = r (q % 1024) (omega arith) ∙ elim (cases_order q n) [
+  | inl e ↦ rw (eqb-yes q n e, eqb-yes (q % 1024) (n % 1024) (ap (λ (x : ℕ). x % 1024) e)) refl
+  | inr other ↦ let apart : q ≢ n = elim other [ inl below ↦ omega arith | inr above ↦ omega arith ] in
+      rw (eqb-no q n apart, eqb-no (q % 1024) (n % 1024) (apart-mod q n g apart a b h k)) refl
+]
 
 -- a window that answers as the step says is the step
-ring-with : (g n h : ℕ) (floor : Option ℕ) (slots raised : List (Option ℕ)) → max g n ≡ h →
-    ((q : ℕ) → ((nat_le q h && nat_lt h (q + 128)) && is_recorded floor raised q)
-    ≡ (((q == n) || ((nat_le q g && nat_lt g (q + 128)) && is_recorded floor slots q)) && nat_lt h (q + 128))) →
-    ring h floor raised ≡ window_with (ring g floor slots) n
-ring-with g n h floor slots raised e same =
-    rw e (same_window h _ _ (λ q. contains-numbers_of h floor raised q ∙ same q
-    ∙ ap (λ (b : Bool). ((q == n) || b) && nat_lt h (q + 128)) (sym (contains-numbers_of g floor slots q))
-    ∙ sym (rw e at (contains-window_with (ring g floor slots) n q))))
+ring-with : (g n h : ℕ) (words raised : List ℕ) → max g n ≡ h →
+    ((q : ℕ) → ((nat_le q h && nat_lt h (q + 1024)) && is_recorded raised q)
+    ≡ (((q == n) || ((nat_le q g && nat_lt g (q + 1024)) && is_recorded words q)) && nat_lt h (q + 1024))) →
+    ring h raised ≡ window_with (ring g words) n
+ring-with g n h words raised e same =
+    rw e (same_window h _ _ (λ q. contains-numbers_of h raised q ∙ same q
+    ∙ ap (λ (b : Bool). ((q == n) || b) && nat_lt h (q + 1024)) (sym (contains-numbers_of g words q))
+    ∙ sym (rw e at (contains-window_with (ring g words) n q))))
 
-pub ring-put : (g n h : ℕ) (floor : Option ℕ) (slots : List (Option ℕ)) → length slots ≡ 128 → IsUpTo g floor slots
-    → max g n ≡ h → h - n < 128 → ring h floor (set_at slots (n % 128) (Some n)) ≡ window_with (ring g floor slots) n
-ring-put g n h floor slots long up_to e b = ring-with g n h floor slots _ e
-    (λ q. grind (arith, nat_tests, put-in_reach floor slots n long h q, up_to q))
+pub ring-near : (g n h : ℕ) (words passed new : List ℕ) → max g n ≡ h → Passes g words h passed → Records passed n new
+    → h - n < 1024 → ring h new ≡ window_with (ring g words) n
+ring-near g n h words passed new e p r b = ring-with g n h words new e
+    (λ q. grind (arith, nat_tests, records-in_reach h n q passed new r, p q))
 
-pub ring-far : (g n h : ℕ) (floor : Option ℕ) (slots : List (Option ℕ)) → max g n ≡ h → 128 ≤ h - n
-    → ring h floor slots ≡ window_with (ring g floor slots) n
-ring-far g n h floor slots e b = ring-with g n h floor slots slots e (λ q. grind (arith, nat_tests))
+pub ring-far : (g n h : ℕ) (words passed : List ℕ) → max g n ≡ h → Passes g words h passed → 1024 ≤ h - n
+    → ring h passed ≡ window_with (ring g words) n
+ring-far g n h words passed e p b = ring-with g n h words passed e (λ q. grind (arith, nat_tests, p q))
 
--- empty slots
-abbrev pub no_slots : List (Option ℕ)
-no_slots = replicate 128 None
+-- where one slot is set, or all are
+pub ring-new : (n seq : ℕ) (empty new : List ℕ) → n ≡ seq → ((slot : ℕ) → slot < 1024 → is_set empty slot ≡ false)
+    → Records empty n new → ring n new ≡ window_at seq
+ring-new n seq empty new same none r = same_window n _ _ (λ q. contains-numbers_of n new q
+    ∙ grind (arith, nat_tests, records-in_reach n n q empty new r, none (q % 1024))
+    ∙ sym (contains-window_at n q)) ∙ ap window_at same
 
-long-empty : length no_slots ≡ 128
-long-empty = let none : Option ℕ = None in length-replicate 128 none
+pub ring-after : (n : ℕ) (full : List ℕ) → ((slot : ℕ) → slot < 1024 → is_set full slot ≡ true)
+    → ring n full ≡ window_after n
+ring-after n full all = same_window n _ _ (λ q. contains-numbers_of n full q
+    ∙ rw (all (q % 1024) (omega arith)) (and-true (nat_le q n && nat_lt n (q + 1024)))
+    ∙ sym (contains-window_after n q)) where
+      and-true : (b : Bool) → (b && true) ≡ b
+      and-true true = refl
+      and-true false = refl
 
-slot-empty : (q : ℕ) → slot no_slots q ≡ None
-slot-empty q = get_or-replicate (q % 128) 128 (omega arith) where
-  get_or-replicate : (k m : ℕ) → k < m → get_or (replicate m (let o : Option ℕ = None in o)) k None ≡ None
-  get_or-replicate k zero h = absurd (omega arith)
-  get_or-replicate zero (suc m) h = refl
-  get_or-replicate (suc k) (suc m) h = get_or-replicate k m (omega arith)
-
-recorded-empty : (floor : Option ℕ) (q : ℕ) → is_recorded floor no_slots q ≡ is_under floor q
-recorded-empty floor q = ap (λ (o : Option ℕ). is_under floor q || holds o q) (slot-empty q)
-    ∙ or-nothing (is_under floor q)
-
-empty-up_to : (floor : Option ℕ) (g : ℕ) → ((q : ℕ) → g < q → is_under floor q ≡ false)
-    → IsUpTo g floor no_slots
-empty-up_to floor g up q lt = recorded-empty floor q ∙ up q lt
-
-pub new-up_to : (n at : ℕ) → at ≡ n % 128 → IsUpTo n None (set_at no_slots at (Some n))
-new-up_to n at e = subst (λ (k : ℕ). IsUpTo n None (set_at no_slots k (Some n))) (sym e)
-    (put-up_to None no_slots n long-empty n n (empty-up_to None n (λ q lt. refl)) (omega arith) (omega arith))
-
-pub after-up_to : (n : ℕ) → IsUpTo n (Some n) no_slots
-after-up_to n = empty-up_to (Some n) n (λ q lt. grind (arith, nat_tests))
-
-ring-new_at : (n : ℕ) → ring n None (set_at no_slots (n % 128) (Some n)) ≡ window_at n
-ring-new_at n = same_window n _ _ (λ q. contains-numbers_of n None (set_at no_slots (n % 128) (Some n)) q
-    ∙ grind (arith, nat_tests, put-in_reach None no_slots n long-empty n q, recorded-empty None q)
-    ∙ sym (contains-window_at n q))
-
-pub ring-new : (n seq at : ℕ) → n ≡ seq → at ≡ n % 128 → ring n None (set_at no_slots at (Some n)) ≡ window_at seq
-ring-new n seq at same e = subst (λ (k : ℕ). ring n None (set_at no_slots k (Some n)) ≡ window_at seq) (sym e)
-    (ring-new_at n ∙ ap window_at same)
-
-pub ring-after : (n : ℕ) → ring n (Some n) no_slots ≡ window_after n
-ring-after n = same_window n _ _ (λ q. contains-numbers_of n (Some n) no_slots q
-    ∙ grind (arith, nat_tests, recorded-empty (Some n) q)
-    ∙ sym (contains-window_after n q))
+-- where all slots are cleared
+pub passes-all : (g h : ℕ) (old new : List ℕ) → 1024 ≤ h - g
+    → ((slot : ℕ) → slot < 1024 → is_set new slot ≡ false) → Passes g old h new
+passes-all g h old new far none q a b = none (q % 1024) (omega arith) ∙ grind (arith, nat_tests)
 
 -- what came in another order of asking
 came-order : (a b c : Bool) → ((b || a) || c) ≡ (a || (b || c))
@@ -213,7 +187,7 @@ came-order false false c = refl
 
 -- a window that knows what came, in its reach, knows it after more numbers
 pub accepts-all : (w : Window) (came : ℕ → Bool) (ns : List ℕ) (s : ℕ)
-    → ((y : ℕ) → w.greatest < y + 128 → set.contains w.recorded y ≡ came y) →
+    → ((y : ℕ) → w.greatest < y + 1024 → set.contains w.recorded y ≡ came y) →
     accepts (window_with_all w ns) s ≡ is_new (greatest_of w.greatest ns) (λ y. came y || is_among ns y) s
 accepts-all w came [] s h = rw (or-nothing (came s)) (grind (arith, nat_tests, h s))
 accepts-all w came (n ∷ ns) s h =

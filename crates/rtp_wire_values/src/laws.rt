@@ -37,7 +37,7 @@ pub fn widening_laws()
 {}
 
 /// After any list of updates a window accepts exactly the numbers above the greatest one, and those
-/// less than 128 below it that did not come.
+/// less than 1,024 below it that did not come.
 pub fn window_laws()
     ensures from_one { (first : ℕ) (numbers : List ℕ) (number : ℕ) →
         accepts (window_with_all (window_at first) numbers) number

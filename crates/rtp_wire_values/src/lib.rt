@@ -1,4 +1,5 @@
-//! Payload types, SSRCs and other names of RTP, sequence numbers and the replay window (RFC 3550), clock rates and media times.
+//! Payload types, SSRCs and other names of RTP, sequence numbers and the replay window (RFC 3550), clock rates and
+//! media times.
 #![tactic(auto)]
 
 mod clock_rate;

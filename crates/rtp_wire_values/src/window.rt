@@ -1,37 +1,36 @@
 //! The replay window of a stream.
 
-ghost use Rattle.std.specs.Prelude.{◌≡◌, ◌%◌, length};
+ghost use Rattle.std.specs.Prelude.{ℕ, ◌≡◌, ◌+◌, ◌%◌, ◌<◌, ◌≤◌, ◌==◌, ◌&&◌, ◌||◌, not, nat_le};
 ghost use Rattle.rtp_wire_values.specs.Replay.{accepts, reach, window_with, window_at, window_after};
-ghost use Rattle.rtp_wire_values.specs.Ring.{is_recorded};
+ghost use Rattle.rtp_wire_values.specs.Ring.{is_recorded, is_set};
 
 use crate::sequence::SeqNo;
 use std::marker::Model;
 
 /// How many numbers, the greatest and those right below it, a window tells apart.
-const REACH: usize = 128;
+const REACH: usize = 1024;
 
-/// The numbers of a stream that came lately: the greatest one, and which of the 127 below it came.
+/// How many words have a bit for each of them.
+const WORDS: usize = REACH / 64;
+
+/// The numbers of a stream that came lately: the greatest one, and which of the 1,023 below it came.
 /// It takes no memory beside its own (RFC 3711 3.3.2).
 #[derive(Debug, Drop)]
 pub struct SeqNoWindow {
     greatest: u64,
-    // All numbers up to this one count as recorded.
-    floor: Option<u64>,
-    // Each number has a slot, and is recorded where that holds it.
-    slots: [Option<u64>; REACH],
+    // Each number has a slot, a bit that says whether the one in reach that falls on it is recorded.
+    slots: [u64; WORDS],
 }
 
 impl Model for SeqNoWindow {
     ghost use Rattle.rtp_wire_values.specs.Replay.{Window, window_code};
-    ghost use Rattle.rtp_wire_values.specs.Ring.{IsUpTo, numbers_of};
+    ghost use Rattle.rtp_wire_values.specs.Ring.{numbers_of};
 
     ghost Value = { Window };
 
     ghost coded = { window_code };
 
-    ghost view = { λ w. record { greatest = w.greatest; recorded = numbers_of w.greatest w.floor w.slots } };
-
-    ghost invariant = { λ w. IsUpTo w.greatest w.floor w.slots };
+    ghost view = { λ w. record { greatest = w.greatest; recorded = numbers_of w.greatest w.slots } };
 }
 
 /// The slot of a number.
@@ -42,12 +41,44 @@ fn slot_of(number: u64) -> usize
 }
 
 /// Whether a number is recorded.
-fn is_recorded(floor: Option<u64>, slots: &[Option<u64>], number: u64) -> bool
-    requires { length slots.now ≡ reach }
-    ensures { result ≡ is_recorded floor slots.now number }
+fn is_recorded(slots: &[u64; WORDS], number: u64) -> bool
+    ensures { result ≡ is_recorded slots.now number }
 {
-    let slot = slots[slot_of(number)];
-    matches!(floor, Some(floor) if number <= floor) || slot == Some(number)
+    let slot = slot_of(number);
+    (slots[slot / 64] >> (slot % 64)) & 1 == 1
+}
+
+/// Sets the slot of a number.
+fn record(slots: &mut [u64; WORDS], number: u64)
+    ensures { (slot : ℕ) → slot < reach
+        → is_set slots.new slot ≡ ((slot == number % reach) || is_set slots.old slot) }
+{
+    let slot = slot_of(number);
+    slots[slot / 64] |= 1 << (slot % 64);
+}
+
+/// Clears the slot of a number.
+fn forget(slots: &mut [u64; WORDS], number: u64)
+    ensures { (slot : ℕ) → slot < reach
+        → is_set slots.new slot ≡ (not (slot == number % reach) && is_set slots.old slot) }
+{
+    let slot = slot_of(number);
+    slots[slot / 64] &= !(1 << (slot % 64));
+}
+
+/// Clears the slots of the numbers above one, up to another.
+fn pass_over(slots: &mut [u64; WORDS], from: u64, to: u64)
+    requires { from ≤ to }
+    ensures { (y : ℕ) → y ≤ to → to < y + reach
+        → is_recorded slots.new y ≡ (nat_le y from && is_recorded slots.old y) }
+{
+    if to - from >= REACH as u64 {
+        *slots = [0; WORDS];
+        return;
+    }
+    for below in from..to {
+        forget(slots, below + 1);
+    }
 }
 
 impl SeqNoWindow {
@@ -56,11 +87,10 @@ impl SeqNoWindow {
         ensures { result ≡ window_at seq }
     {
         let number = seq.get();
-        let mut slots = [None; REACH];
-        slots[slot_of(number)] = Some(number);
+        let mut slots = [0; WORDS];
+        record(&mut slots, number);
         SeqNoWindow {
             greatest: number,
-            floor: None,
             slots,
         }
     }
@@ -69,11 +99,9 @@ impl SeqNoWindow {
     pub fn new_after(seq: SeqNo) -> Self
         ensures { result ≡ window_after seq }
     {
-        let number = seq.get();
         SeqNoWindow {
-            greatest: number,
-            floor: Some(number),
-            slots: [None; REACH],
+            greatest: seq.get(),
+            slots: [u64::MAX; WORDS],
         }
     }
 
@@ -84,14 +112,13 @@ impl SeqNoWindow {
         SeqNo::from(self.greatest)
     }
 
-    /// Whether the number is above the greatest, or less than 128 below it and not recorded.
+    /// Whether the number is above the greatest, or less than 1,024 below it and not recorded.
     pub fn accepts(&self, seq: SeqNo) -> bool
         ensures { result ≡ accepts self.now seq }
     {
         let number = seq.get();
         number > self.greatest
-            || (self.greatest - number < REACH as u64
-                && !is_recorded(self.floor, &self.slots, number))
+            || (self.greatest - number < REACH as u64 && !is_recorded(&self.slots, number))
     }
 
     /// Records a number.
@@ -100,9 +127,10 @@ impl SeqNoWindow {
     {
         let number = seq.get();
         let greatest = self.greatest.max(number);
+        pass_over(&mut self.slots, self.greatest, greatest);
         self.greatest = greatest;
         if greatest - number < REACH as u64 {
-            self.slots[slot_of(number)] = Some(number);
+            record(&mut self.slots, number);
         }
     }
 }
