@@ -35,7 +35,7 @@ from samples import CASES, Sample, draw_samples
 CRATE = Path(__file__).parents[2] / "crates" / "rtpexplain"
 MARK = "# Schedules drawn by docs/vectors/schedules.py"
 REASONS = {
-    "refused": "its number came before, or is 128 or more below the greatest",
+    "refused": "its number came before, or is 1,024 or more below the greatest",
     "foreign": "no receiving stream has this SSRC and payload type",
     "unreadable": "no RTP header stands in front",
     "damaged": "its padding or its redundancy can't be read, or its payload is empty or of another type",

@@ -103,7 +103,7 @@ pub use payload_core_base::Vp8CodecExtra;
 pub use payload_core_base::Vp9CodecExtra;
 pub use payload_core_buffer::Depacketized;
 pub use payload_core_buffer::DepacketizingBuffer;
-pub use payload_core_buffer::MAX_HELD;
+pub use payload_core_buffer::{MAX_HELD, MIN_HELD, may_hold};
 pub use payload_core_buffer::RtpMeta;
 pub use payload_core_vpx::Vp8Depacketizer;
 pub use payload_core_vpx::Vp8Packetizer;

@@ -4,7 +4,8 @@ ghost use Rattle.std.specs.Prelude.{◌≡◌, ◌≢◌, None, Some, IsSome};
 ghost use Rattle.jilqamur_media.specs.Codes.{ok, memory, nothing, closed, in_use};
 ghost use Rattle.jilqamur_media.specs.Copies.{IsFetched};
 ghost use Rattle.jilqamur_media.specs.Handles.{AtObject, answer_of};
-ghost use Rattle.jilqamur_media.specs.Formats.{format_outcome};
+ghost use Rattle.jilqamur_media.specs.Inboxes.{holding_of};
+ghost use Rattle.jilqamur_media.specs.Formats.{inbox_outcome};
 ghost use Rattle.jilqamur_media.specs.PacketInboxes.{new_packet_inbox, behind_push, PopsAt, bytes_of, IsToldOf};
 
 use jilqamur_media::{DepacketizerHandle, WireFormat, WireUnit};
@@ -18,17 +19,19 @@ pub extern "C" fn jilqamur_depacketizer_open(
     format: &WireFormat,
     codec: &[u8],
     hold_back: usize,
+    held: usize,
 ) -> u32
     ensures opened { result ≡ ok
-        → depacketizer.new.place.object ≡ Some (new_packet_inbox format.now codec.now hold_back) }
+        → depacketizer.new.place.object ≡ Some (new_packet_inbox format.now codec.now (holding_of hold_back held)) }
     ensures held_none { result ≡ ok → depacketizer.old.place.object ≡ None }
-    ensures accepted { result ≡ ok → format_outcome format.now codec.now ≡ ok }
+    ensures accepted { result ≡ ok → inbox_outcome format.now codec.now held ≡ ok }
     ensures in_use { IsSome depacketizer.old.place.object → result ≡ in_use }
     ensures only_in_use { result ≡ in_use → IsSome depacketizer.old.place.object }
-    ensures refusal { result ≢ ok → result ≢ memory → result ≢ in_use → result ≡ format_outcome format.now codec.now }
+    ensures refusal { result ≢ ok → result ≢ memory → result ≢ in_use
+        → result ≡ inbox_outcome format.now codec.now held }
     ensures unchanged { result ≢ ok → depacketizer.new.place.object ≡ depacketizer.old.place.object }
 {
-    depacketizer.open(alloc, format, codec, hold_back)
+    depacketizer.open(alloc, format, codec, hold_back, held)
 }
 
 /// Frees the depacketizer of a handle.
@@ -69,7 +72,7 @@ pub extern "C" fn jilqamur_depacketizer_pop(
     depacketizer: &mut DepacketizerHandle,
 ) -> u32
     ensures answer { AtObject depacketizer.old.place.object depacketizer.new.place.object result
-        (λ p after. PopsAt p.hold_back p result after) }
+        (λ p after. PopsAt p.holding.hold_back p result after) }
     ensures kept { AtObject depacketizer.old.place.object depacketizer.new.place.object result
         (λ p after. result ≢ ok → after.unit ≡ p.unit) }
 {

@@ -4,9 +4,9 @@ ghost use Rattle.std.specs.Prelude.{◌≡◌, ◌≢◌, None, Some, IsSome};
 ghost use Rattle.jilqamur_media.specs.Codes.{ok, memory, nothing, closed, in_use};
 ghost use Rattle.jilqamur_media.specs.Copies.{IsFetched};
 ghost use Rattle.jilqamur_media.specs.Handles.{AtObject, answer_of};
-ghost use Rattle.jilqamur_media.specs.Formats.{format_outcome};
+ghost use Rattle.jilqamur_media.specs.Formats.{inbox_outcome};
 ghost use Rattle.jilqamur_media.specs.Fetched.{IsToldOf, bytes_of};
-ghost use Rattle.jilqamur_media.specs.Inboxes.{Polls, Drains, new_inbox, Takes};
+ghost use Rattle.jilqamur_media.specs.Inboxes.{Polls, Drains, holding_of, new_inbox, Takes};
 
 use jilqamur_media::{ReceiverHandle, WireFormat, WireUnit};
 use std::alloc::Global;
@@ -19,16 +19,19 @@ pub extern "C" fn jilqamur_receiver_open(
     format: &WireFormat,
     codec: &[u8],
     hold_back: usize,
+    held: usize,
 ) -> u32
-    ensures opened { result ≡ ok → receiver.new.place.object ≡ Some (new_inbox format.now codec.now hold_back) }
+    ensures opened { result ≡ ok
+        → receiver.new.place.object ≡ Some (new_inbox format.now codec.now (holding_of hold_back held)) }
     ensures held_none { result ≡ ok → receiver.old.place.object ≡ None }
-    ensures accepted { result ≡ ok → format_outcome format.now codec.now ≡ ok }
+    ensures accepted { result ≡ ok → inbox_outcome format.now codec.now held ≡ ok }
     ensures in_use { IsSome receiver.old.place.object → result ≡ in_use }
     ensures only_in_use { result ≡ in_use → IsSome receiver.old.place.object }
-    ensures refusal { result ≢ ok → result ≢ memory → result ≢ in_use → result ≡ format_outcome format.now codec.now }
+    ensures refusal { result ≢ ok → result ≢ memory → result ≢ in_use
+        → result ≡ inbox_outcome format.now codec.now held }
     ensures unchanged { result ≢ ok → receiver.new.place.object ≡ receiver.old.place.object }
 {
-    receiver.open(alloc, format, codec, hold_back)
+    receiver.open(alloc, format, codec, hold_back, held)
 }
 
 /// Frees the stream of a handle.

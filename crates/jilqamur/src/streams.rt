@@ -7,9 +7,10 @@ ghost use Rattle.jilqamur_media.specs.Handles.{AtObject};
 ghost use Rattle.jilqamur_ends.specs.HeldEnds.{behind_end, behind_sample};
 ghost use Rattle.jilqamur_ends.specs.Answers.{WithText};
 ghost use Rattle.jilqamur_media.specs.Copies.{IsFetched};
+ghost use Rattle.jilqamur_media.specs.Inboxes.{holding_of};
 ghost use Rattle.jilqamur_ends.specs.Params.{params_of};
 ghost use Rattle.jilqamur_ends.specs.Sending.{AnswersSender, AnswersSample};
-ghost use Rattle.jilqamur_ends.specs.Receiving.{OpensReceiver};
+ghost use Rattle.jilqamur_ends.specs.Receiving.{AnswersReceiver};
 
 use jilqamur_ends::{EndHandle, WireStream};
 use jilqamur_media::WireValues;
@@ -47,16 +48,17 @@ pub extern "C" fn jilqamur_end_open_receiver(
     ssrc: u32,
     pt: u8,
     hold_back: usize,
+    held: usize,
     stream: &mut usize,
 ) -> u32
     ensures answer { AtObject end.old.place.object end.new.place.object result
         (λ p after. WithText mid.now p.end after.end result
-        (λ e now. OpensReceiver e mid.now ssrc pt hold_back result stream.new now)) }
+        (λ e now. AnswersReceiver e mid.now ssrc pt (holding_of hold_back held) result stream.new now)) }
     ensures stream { result ≢ ok → stream.new ≡ stream.old }
     ensures rest { AtObject end.old.place.object end.new.place.object result
         (λ p after. after ≡ behind_end p after.end) }
 {
-    jilqamur_ends::open_receiver(end, mid, ssrc, pt, hold_back, stream)
+    jilqamur_ends::open_receiver(end, mid, ssrc, pt, hold_back, held, stream)
 }
 
 /// Sends a sample.

@@ -1,7 +1,7 @@
 -- What calls of receiving streams answer.
 use Rattle.std.specs.Prelude.{ℕ, ◌≡◌, ◌≢◌, List, length, Option}
 use Rattle.rtp_wire.specs.Name.{name_of}
-use Rattle.rtp_media_schedules.specs.Hearing.{MediaUnit}
+use Rattle.rtp_media_schedules.specs.Hearing.{Holding, MediaUnit, may_hold}
 use Rattle.payload_core_buffer.specs.Steps.{PollStep}
 use Rattle.rtp_media_streams.specs.Polls.{drain_step, given, poll_step}
 use Rattle.rtp_media_streams.specs.Receiving.{Receiving}
@@ -12,17 +12,22 @@ use Rattle.rtp_media_ends.specs.declared.Received.{Received}
 use Rattle.rtp_media_ends.specs.declared.Received.TheVariants as received
 use Rattle.jilqamur_media.specs.StreamAnswers.{poll_code, unit_behind}
 use Rattle.jilqamur_media.specs.Codes.{ok, memory, unreadable, foreign, damaged, refused}
-use Rattle.jilqamur_media.specs.Codes.{no_stream}
+use Rattle.jilqamur_media.specs.Codes.{no_stream, out_of_range}
 use Rattle.jilqamur_ends.specs.Refusals.{open_outcome}
 use Rattle.rtp_media_ends.specs.Stops.{Where}
 
--- What opening a receiving stream answers.
-pub record OpensReceiver (e : EndState) (mid : List ℕ) (ssrc pt hold_back : ℕ) (result stream : ℕ) (after : EndState)
-    : Type 0 where
+-- What opening a receiving stream answers that may hold as many packets.
+pub record OpensReceiver (e : EndState) (mid : List ℕ) (ssrc pt : ℕ) (holding : Holding) (result stream : ℕ)
+    (after : EndState) : Type 0 where
   pub outcome : result ≢ memory → result ≡ open_outcome (refusal_of_open_receiver e (name_of 16 mid) ssrc pt)
   pub number : result ≡ ok → stream ≡ length e.streams
-  pub opened : result ≡ ok → after ≡ after_open_receiver e (name_of 16 mid) ssrc pt hold_back
+  pub opened : result ≡ ok → after ≡ after_open_receiver e (name_of 16 mid) ssrc pt holding
   pub stays : result ≢ ok → after ≡ e
+
+-- What opening a receiving stream answers.
+abbrev pub AnswersReceiver : EndState → List ℕ → ℕ → ℕ → Holding → ℕ → ℕ → EndState → Type 0
+AnswersReceiver e mid ssrc pt holding result stream after = Where (may_hold holding.held)
+    (OpensReceiver e mid ssrc pt holding result stream after) ((result ≡ out_of_range) × (after ≡ e))
 
 -- The number of a verdict on a datagram.
 abbrev pub verdict_code : Received → ℕ

@@ -2,17 +2,18 @@
 //! Each call answers `CLOSED` at a closed handle, and changes nothing then.
 
 ghost use Rattle.std.specs.Prelude.{◌≡◌, ◌≢◌};
+ghost use Rattle.rtp_media_schedules.specs.Hearing.{holding_of};
 ghost use Rattle.jilqamur_media.specs.Codes.{ok};
 ghost use Rattle.jilqamur_media.specs.Handles.{AtObject};
 ghost use Rattle.jilqamur_ends.specs.Answers.{AtEnd, WithText};
 ghost use Rattle.jilqamur_ends.specs.HeldEnds.{behind_end, behind_poll};
-ghost use Rattle.jilqamur_ends.specs.Receiving.{OpensReceiver, Receives, Polls, Drains, IsTakenAs};
+ghost use Rattle.jilqamur_ends.specs.Receiving.{AnswersReceiver, Receives, Polls, Drains, IsTakenAs};
 ghost use Rattle.jilqamur_ends.specs.Receiving.{verdict_code};
 
 use crate::place::EndHandle;
 use crate::refusals::open_code;
 use jilqamur_media::{codes, poll_code, text_in};
-use rtp_media_ends::Received;
+use rtp_media_ends::{End, Received, may_hold};
 use rtp_wire::{Mid, Pt, Ssrc};
 
 /// Writes the number of the stream that took a datagram and its widened sequence number, and answers the verdict's.
@@ -35,21 +36,48 @@ fn verdict_code(verdict: Received, stream: &mut usize, number: &mut u64) -> u32
     }
 }
 
+/// Opens a receiving stream that may hold as many packets.
+fn open_with(
+    end: &mut End,
+    mid: &str,
+    ssrc: u32,
+    pt: u8,
+    hold_back: usize,
+    held: usize,
+    stream: &mut usize,
+) -> u32
+    ensures answer { AnswersReceiver end.old mid.now ssrc pt (holding_of hold_back held) result stream.new end.new }
+    ensures kept { result ≢ ok → stream.new ≡ stream.old }
+{
+    if !may_hold(held) {
+        return codes::OUT_OF_RANGE;
+    }
+    match end.open_receiver(Mid::from(mid), Ssrc::from(ssrc), Pt::from(pt), hold_back, held) {
+        Ok(number) => {
+            *stream = number;
+            codes::OK
+        }
+        Err(error) => open_code(error),
+    }
+}
+
 /// Opens a receiving stream of this SSRC for the agreed row of a payload type, writes its number, counted from 0
 /// over the streams of both directions, and answers `OK`. `NOT_TEXT` for a name that isn't UTF-8, `NOT_MADE`
-/// without an end; else the first that holds of `NO_SECTION`, `ROW_NOT_AGREED`, `ROW_DIFFERS`,
-/// `WRONG_DIRECTION`, `SSRC_NOT_NAMED` and `ALREADY_OPEN`, or `MEMORY`, and nothing has changed.
+/// without an end, `OUT_OF_RANGE` for a number of packets that may not be held; else the first that holds of
+/// `NO_SECTION`, `ROW_NOT_AGREED`, `ROW_DIFFERS`, `WRONG_DIRECTION`, `SSRC_NOT_NAMED` and `ALREADY_OPEN`, or
+/// `MEMORY`, and nothing has changed.
 pub fn open_receiver(
     end: &mut EndHandle,
     mid: &[u8],
     ssrc: u32,
     pt: u8,
     hold_back: usize,
+    held: usize,
     stream: &mut usize,
 ) -> u32
     ensures answer { AtObject end.old.place.object end.new.place.object result
         (λ p after. WithText mid.now p.end after.end result
-        (λ e now. OpensReceiver e mid.now ssrc pt hold_back result stream.new now)) }
+        (λ e now. AnswersReceiver e mid.now ssrc pt (holding_of hold_back held) result stream.new now)) }
     ensures stream { result ≢ ok → stream.new ≡ stream.old }
     ensures rest { AtObject end.old.place.object end.new.place.object result
         (λ p after. after ≡ behind_end p after.end) }
@@ -57,20 +85,14 @@ pub fn open_receiver(
     if !end.is_open() {
         return codes::CLOSED;
     }
-    let held = end.place.held();
+    let place = end.place.held();
     let Some(mid) = text_in(mid) else {
         return codes::NOT_TEXT;
     };
-    let Some(end) = &mut held.end else {
+    let Some(end) = &mut place.end else {
         return codes::NOT_MADE;
     };
-    match end.open_receiver(Mid::from(mid), Ssrc::from(ssrc), Pt::from(pt), hold_back) {
-        Ok(number) => {
-            *stream = number;
-            codes::OK
-        }
-        Err(error) => open_code(error),
-    }
+    open_with(end, mid, ssrc, pt, hold_back, held, stream)
 }
 
 /// Takes a datagram in, and answers `OK` where a stream took it: `stream` is its number and `number` the widened

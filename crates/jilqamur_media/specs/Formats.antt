@@ -3,6 +3,7 @@ use Rattle.std.specs.Prelude.{ℕ, ◌==◌, List, if◌then◌else◌}
 use Rattle.std.specs.Str.{is_utf8}
 use Rattle.payload_core_base.specs.Codecs.{codec_named}
 use Rattle.h26x_payload.specs.Codings.{has_format}
+use Rattle.rtp_media_schedules.specs.Hearing.{may_hold}
 use Rattle.rtp_media_streams.specs.declared.row_format.RowFormat.{RowFormat}
 use Rattle.jilqamur_media.specs.Codes.{ok, not_text, out_of_range}
 use Rattle.jilqamur_media.specs.Values.{if_given}
@@ -23,3 +24,7 @@ format_outcome w codec =
     if w.clock_rate == 0 then out_of_range
     else if is_utf8 codec then (if has_format (codec_named codec) then ok else out_of_range)
     else not_text
+
+-- What opening one answers that holds at most so many packets: whether it may first.
+abbrev pub inbox_outcome : WireFormat → List ℕ → ℕ → ℕ
+inbox_outcome w codec held = if may_hold held then format_outcome w codec else out_of_range

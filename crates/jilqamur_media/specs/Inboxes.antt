@@ -2,7 +2,8 @@
 use Rattle.std.specs.Prelude.{ℕ, ◌≡◌, ◌≢◌, Bool, List, Option, Some, None}
 use Rattle.rtp_wire.specs.Maps.{empty_map}
 use Rattle.rtp_wire.specs.Values.{absent}
-use Rattle.rtp_media_schedules.specs.Hearing.{MediaUnit}
+pub use Rattle.rtp_media_schedules.specs.Hearing.{holding_of}
+use Rattle.rtp_media_schedules.specs.Hearing.{Holding, MediaUnit}
 use Rattle.payload_core_buffer.specs.Steps.{PollStep}
 use Rattle.rtp_media_streams.specs.Polls.{drain_step, given, poll_step}
 use Rattle.rtp_media_streams.specs.Receiving.{Receiving, arrived, opened_receiver, taken_number, with_stream}
@@ -17,9 +18,9 @@ pub record InboxState : Type 0 where
   pub unit : Option MediaUnit
 
 -- A stream that took nothing.
-abbrev pub new_inbox : WireFormat → List ℕ → ℕ → InboxState
-new_inbox format codec hold_back = record {
-  stream = opened_receiver 0 (type_alone 0) empty_map (format_named format codec) hold_back;
+abbrev pub new_inbox : WireFormat → List ℕ → Holding → InboxState
+new_inbox format codec holding = record {
+  stream = opened_receiver 0 (type_alone 0) empty_map (format_named format codec) holding;
   unit = None;
 }
 

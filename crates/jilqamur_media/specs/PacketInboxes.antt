@@ -2,7 +2,7 @@
 use Rattle.std.specs.Prelude.{ℕ, ◌≡◌, Bool, List, [], Option, Some, None, Result, Ok, Err}
 use Rattle.payload_core_base.specs.Format.{Fragment}
 use Rattle.payload_core_base.specs.declared.error.PacketError.{PacketError}
-use Rattle.payload_core_buffer.specs.Buffered.{pushed}
+use Rattle.payload_core_buffer.specs.Buffered.{Holding, pushed}
 use Rattle.payload_core_buffer.specs.Metas.{metas_of_unit}
 use Rattle.payload_core_buffer.specs.Packets.{Packet, packet_from}
 use Rattle.payload_core_buffer.specs.Pops.{PopState, pop_state}
@@ -22,17 +22,17 @@ use Rattle.jilqamur_media.specs.declared.payload_unit.WireUnit.{WireUnit}
 -- A depacketizer goes by a format, and holds packets until their frame is due.
 pub record PacketInboxState : Type 0 where
   pub format : RowFormat
-  pub hold_back : ℕ
+  pub holding : Holding
   pub held : List Packet
   pub cutoff : Option ℕ
   pub fragment : Fragment
   pub unit : Option UnitState
 
 -- One that took nothing.
-abbrev pub new_packet_inbox : WireFormat → List ℕ → ℕ → PacketInboxState
-new_packet_inbox format codec hold_back = record {
+abbrev pub new_packet_inbox : WireFormat → List ℕ → Holding → PacketInboxState
+new_packet_inbox format codec holding = record {
   format = format_named format codec;
-  hold_back = hold_back;
+  holding = holding;
   held = [];
   cutoff = None;
   fragment = None;
@@ -46,7 +46,7 @@ meta_of number time marker = record { seq_no = number; time = time; marker = mar
 -- The depacketizer behind a packet.
 abbrev pub behind_push : PacketInboxState → ℕ → ℕ → Bool → List ℕ → PacketInboxState
 behind_push p number time marker payload =
-    record p { held = pushed p.cutoff p.held (packet_from (meta_of number time marker) payload) }
+    record p { held = pushed p.holding.held p.cutoff p.held (packet_from (meta_of number time marker) payload) }
 
 -- What a pop reads and changes.
 abbrev pub queue_of : PacketInboxState → PopState
@@ -66,11 +66,12 @@ unit_behind (Err e) before = before
 -- A pop of the buffer that holds so many complete frames back answers so, and leaves this.
 pub record PopsAt (hold_back : ℕ) (p : PacketInboxState) (result : ℕ) (after : PacketInboxState) : Type 0 where
   pub popped : Result (Option Depacketized) PacketError
-  pub pops : AnswersBy (pop_step (format_of p.format) hold_back (queue_of p)) (queue_of after) (as_answer unit_of popped)
+  pub pops : AnswersBy (pop_step (format_of p.format) hold_back (queue_of p)) (queue_of after)
+      (as_answer unit_of popped)
   pub number : result ≡ pop_code popped
   pub unit_is : after.unit ≡ unit_behind popped p.unit
   pub format_is : after.format ≡ p.format
-  pub hold_back_is : after.hold_back ≡ p.hold_back
+  pub holding_is : after.holding ≡ p.holding
 
 abbrev pub bytes_of : Option UnitState → Option (List ℕ)
 bytes_of None = None

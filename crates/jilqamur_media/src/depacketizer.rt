@@ -2,10 +2,11 @@
 //! Each call answers `CLOSED` at a closed handle, and changes nothing then.
 
 ghost use Rattle.std.specs.Prelude.{◌≡◌, ◌≢◌, None, Some, IsSome};
+ghost use Rattle.rtp_media_schedules.specs.Hearing.{holding_of};
 ghost use Rattle.jilqamur_media.specs.Codes.{ok, memory, nothing, closed, in_use};
 ghost use Rattle.jilqamur_media.specs.Copies.{IsFetched};
 ghost use Rattle.jilqamur_media.specs.Handles.{AtObject, answer_of};
-ghost use Rattle.jilqamur_media.specs.Formats.{format_outcome};
+ghost use Rattle.jilqamur_media.specs.Formats.{inbox_outcome};
 ghost use Rattle.jilqamur_media.specs.PacketInboxes.{new_packet_inbox, behind_push, PopsAt, bytes_of, IsToldOf};
 
 use crate::codes;
@@ -16,28 +17,30 @@ use crate::payload_unit::WireUnit;
 use std::alloc::Global;
 
 impl DepacketizerHandle {
-    /// Holds a depacketizer that took nothing, and answers `OK`; or `IN_USE` where it holds one already, why the
-    /// format is none, or `MEMORY`, and is unchanged.
+    /// Holds a depacketizer that took nothing, and answers `OK`; or `IN_USE` where it holds one already,
+    /// `OUT_OF_RANGE` where `held` isn't 4,096 to 16,384, why the format is none, or `MEMORY`, and is unchanged.
     pub fn open(
         &mut self,
         alloc: Global,
         format: &WireFormat,
         codec: &[u8],
         hold_back: usize,
+        held: usize,
     ) -> u32
-        ensures opened { result ≡ ok → self.new.place.object ≡ Some (new_packet_inbox format.now codec.now hold_back) }
+        ensures opened { result ≡ ok → self.new.place.object ≡ Some (new_packet_inbox format.now codec.now
+            (holding_of hold_back held)) }
         ensures held_none { result ≡ ok → self.old.place.object ≡ None }
-        ensures accepted { result ≡ ok → format_outcome format.now codec.now ≡ ok }
+        ensures accepted { result ≡ ok → inbox_outcome format.now codec.now held ≡ ok }
         ensures in_use { IsSome self.old.place.object → result ≡ in_use }
         ensures only_in_use { result ≡ in_use → IsSome self.old.place.object }
         ensures refusal { result ≢ ok → result ≢ memory → result ≢ in_use
-            → result ≡ format_outcome format.now codec.now }
+            → result ≡ inbox_outcome format.now codec.now held }
         ensures unchanged { result ≢ ok → self.new.place.object ≡ self.old.place.object }
     {
         if self.is_open() {
             return codes::IN_USE;
         }
-        let opened = match PacketInbox::new(alloc, format, codec, hold_back) {
+        let opened = match PacketInbox::new(alloc, format, codec, hold_back, held) {
             Ok(opened) => opened,
             Err(code) => return code,
         };
@@ -62,8 +65,8 @@ impl DepacketizerHandle {
     }
 
     /// Takes a packet in, by its widened number, its RTP time, marker and payload, and answers `OK`, or `MEMORY`, and
-    /// nothing has changed. A number that is held, or at or below that of the last unit, is passed over; of more than
-    /// 4,096 packets the lowest goes.
+    /// nothing has changed. A number that is held, or at or below that of the last unit, is passed over; of more
+    /// packets than may wait the lowest goes.
     pub fn push(
         &mut self,
         alloc: Global,
@@ -90,7 +93,7 @@ impl DepacketizerHandle {
     /// packet of the next frame is refused, which is then done with, or `MEMORY`, and the frame stays.
     pub fn pop(&mut self, alloc: Global) -> u32
         ensures answer { AtObject self.old.place.object self.new.place.object result
-            (λ p after. PopsAt p.hold_back p result after) }
+            (λ p after. PopsAt p.holding.hold_back p result after) }
         ensures kept { AtObject self.old.place.object self.new.place.object result
             (λ p after. result ≢ ok → after.unit ≡ p.unit) }
     {

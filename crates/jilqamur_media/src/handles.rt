@@ -1,9 +1,10 @@
 //! Handles of streams, opened and closed.
 
 ghost use Rattle.std.specs.Prelude.{◌≡◌, ◌≢◌, None, Some, IsSome};
+ghost use Rattle.rtp_media_schedules.specs.Hearing.{holding_of};
 ghost use Rattle.jilqamur_media.specs.Codes.{ok, memory, in_use};
 ghost use Rattle.jilqamur_media.specs.Handles.{answer_of};
-ghost use Rattle.jilqamur_media.specs.Formats.{format_outcome};
+ghost use Rattle.jilqamur_media.specs.Formats.{inbox_outcome};
 ghost use Rattle.jilqamur_media.specs.Inboxes.{new_inbox};
 ghost use Rattle.jilqamur_media.specs.Outboxes.{new_outbox, sender_outcome};
 
@@ -63,28 +64,30 @@ impl SenderHandle {
 }
 
 impl ReceiverHandle {
-    /// Holds a stream that took nothing, and answers `OK`; or `IN_USE` where it is open, why the format is none, or
-    /// `MEMORY`, and is unchanged.
+    /// Holds a stream that took nothing, and answers `OK`; or `IN_USE` where it is open, `OUT_OF_RANGE` where `held`
+    /// isn't 4,096 to 16,384, why the format is none, or `MEMORY`, and is unchanged.
     pub fn open(
         &mut self,
         alloc: Global,
         format: &WireFormat,
         codec: &[u8],
         hold_back: usize,
+        held: usize,
     ) -> u32
-        ensures opened { result ≡ ok → self.new.place.object ≡ Some (new_inbox format.now codec.now hold_back) }
+        ensures opened { result ≡ ok → self.new.place.object ≡ Some (new_inbox format.now codec.now
+            (holding_of hold_back held)) }
         ensures held_none { result ≡ ok → self.old.place.object ≡ None }
-        ensures accepted { result ≡ ok → format_outcome format.now codec.now ≡ ok }
+        ensures accepted { result ≡ ok → inbox_outcome format.now codec.now held ≡ ok }
         ensures in_use { IsSome self.old.place.object → result ≡ in_use }
         ensures only_in_use { result ≡ in_use → IsSome self.old.place.object }
         ensures refusal { result ≢ ok → result ≢ memory → result ≢ in_use
-            → result ≡ format_outcome format.now codec.now }
+            → result ≡ inbox_outcome format.now codec.now held }
         ensures unchanged { result ≢ ok → self.new.place.object ≡ self.old.place.object }
     {
         if self.is_open() {
             return codes::IN_USE;
         }
-        let opened = match Inbox::new(alloc, format, codec, hold_back) {
+        let opened = match Inbox::new(alloc, format, codec, hold_back, held) {
             Ok(opened) => opened,
             Err(code) => return code,
         };

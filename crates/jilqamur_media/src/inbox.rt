@@ -1,10 +1,11 @@
 //! A receiving stream by codec.
 
 ghost use Rattle.std.specs.Prelude.{◌≡◌, ◌≢◌, IfOk, IfErr, OnOk};
+ghost use Rattle.rtp_media_schedules.specs.Hearing.{holding_of};
 ghost use Rattle.jilqamur_media.specs.Codes.{ok, nothing};
 ghost use Rattle.jilqamur_media.specs.Copies.{IsFetched};
 ghost use Rattle.jilqamur_media.specs.Fetched.{IsToldOf, bytes_of};
-ghost use Rattle.jilqamur_media.specs.Formats.{format_outcome};
+ghost use Rattle.jilqamur_media.specs.Formats.{inbox_outcome};
 ghost use Rattle.jilqamur_media.specs.Inboxes.{new_inbox, Takes, Polls, Drains};
 
 use crate::answers::poll_code;
@@ -12,7 +13,7 @@ use crate::codes;
 use crate::format::{WireFormat, read_format};
 use crate::payload_unit::WireUnit;
 use crate::stream_fetch::unit_at;
-use rtp_media_streams::{Arrival, PayloadTypes, ReceivingStream, Unit};
+use rtp_media_streams::{Arrival, PayloadTypes, ReceivingStream, Unit, may_hold};
 use rtp_wire::{ExtensionMap, ExtensionValues, Pt, Ssrc};
 use std::alloc::Global;
 use std::marker::Model;
@@ -38,22 +39,26 @@ impl Model for Inbox {
 
 impl Inbox {
     /// A stream that took nothing. Past a missing packet a unit is handed out only once more than `hold_back` frames
-    /// are complete. Else why the format is none.
+    /// are complete. At most `held` packets wait.
     ///
     /// # Errors
     ///
-    /// Why the format is none, as `read_format` says it.
+    /// `OUT_OF_RANGE` where `held` isn't 4,096 to 16,384, or why the format is none, as `read_format` says it.
     pub fn new(
         alloc: Global,
         format: &WireFormat,
         codec: &[u8],
         hold_back: usize,
+        held: usize,
     ) -> Result<Inbox, u32>
-        ensures new { IfOk result (λ p. p ≡ new_inbox format.now codec.now hold_back) }
-        ensures accepted { OnOk result (format_outcome format.now codec.now ≡ ok) }
-        ensures refused { IfErr result (λ code. code ≡ format_outcome format.now codec.now) }
+        ensures new { IfOk result (λ p. p ≡ new_inbox format.now codec.now (holding_of hold_back held)) }
+        ensures accepted { OnOk result (inbox_outcome format.now codec.now held ≡ ok) }
+        ensures refused { IfErr result (λ code. code ≡ inbox_outcome format.now codec.now held) }
         ensures refusal { IfErr result (λ code. code ≢ ok) }
     {
+        if !may_hold(held) {
+            return Err(codes::OUT_OF_RANGE);
+        }
         let row = match read_format(format, codec) {
             Ok(row) => row,
             Err(code) => return Err(code),
@@ -64,13 +69,14 @@ impl Inbox {
             repair: None,
         };
         let exts = ExtensionMap::empty();
-        let stream = ReceivingStream::new(alloc, Ssrc::from(0), types, exts, row, hold_back);
+        let ssrc = Ssrc::from(0);
+        let stream = ReceivingStream::new(alloc, ssrc, types, exts, row, hold_back, held);
         Ok(Inbox { stream, unit: None })
     }
 
     /// Takes a packet in, by the low 16 bits of its number, its time, marker and payload, which may be empty, and
     /// answers `OK`: `number` is its widened number, which is recorded. `REFUSED` where that came before, or is
-    /// 128 or more below the greatest, or `MEMORY`, and nothing has changed.
+    /// 1,024 or more below the greatest, or `MEMORY`, and nothing has changed.
     pub fn push(
         &mut self,
         low: u16,

@@ -3,8 +3,9 @@
 ghost use Rattle.std.specs.Prelude.{◌≡◌, ◌≢◌, IfOk, IfErr, OnOk};
 ghost use Rattle.jilqamur_media.specs.Codes.{ok, memory, nothing};
 ghost use Rattle.jilqamur_media.specs.Copies.{IsFetched};
+ghost use Rattle.payload_core_buffer.specs.Buffered.{holding_of};
 ghost use Rattle.rtp_media_streams.specs.Rows.{format_of};
-ghost use Rattle.jilqamur_media.specs.Formats.{format_outcome};
+ghost use Rattle.jilqamur_media.specs.Formats.{inbox_outcome};
 ghost use Rattle.jilqamur_media.specs.PacketInboxes.{new_packet_inbox, behind_push, PopsAt, pop_code, unit_behind};
 ghost use Rattle.jilqamur_media.specs.PacketInboxes.{bytes_of, IsToldOf};
 
@@ -15,7 +16,7 @@ use crate::format::{WireFormat, read_format};
 use crate::payload_unit::{PayloadUnit, WireUnit};
 use h26x_payload::{CodecDepacketizer, NotBoxed};
 use payload_core_base::{Depacketizer, PacketError};
-use payload_core_buffer::{Depacketized, DepacketizingBuffer, RtpMeta};
+use payload_core_buffer::{Depacketized, DepacketizingBuffer, RtpMeta, may_hold};
 use rtp_media_streams::{RowFormat, depacketizer_for};
 use rtp_wire_extensions::ExtensionValues;
 use rtp_wire_values::SeqNo;
@@ -39,7 +40,7 @@ impl Model for PacketInbox {
 
     ghost view = { λ p. record {
       format = p.format;
-      hold_back = p.buffer.hold_back;
+      holding = p.buffer.holding;
       held = p.buffer.held;
       cutoff = p.buffer.cutoff;
       fragment = ⟦<CodecDepacketizer<NotBoxed> as Depacketizer>⟧.fragment p.buffer.depacketizer;
@@ -71,22 +72,26 @@ fn pop_code(
 
 impl PacketInbox {
     /// A depacketizer that took nothing. Past a missing packet a unit is handed out only once more than `hold_back`
-    /// frames are complete. Else why the format is none.
+    /// frames are complete. At most `held` packets wait.
     ///
     /// # Errors
     ///
-    /// Why the format is none, as `read_format` says it.
+    /// `OUT_OF_RANGE` where `held` isn't 4,096 to 16,384, or why the format is none, as `read_format` says it.
     pub fn new(
         alloc: Global,
         format: &WireFormat,
         codec: &[u8],
         hold_back: usize,
+        held: usize,
     ) -> Result<PacketInbox, u32>
-        ensures new { IfOk result (λ p. p ≡ new_packet_inbox format.now codec.now hold_back) }
-        ensures accepted { OnOk result (format_outcome format.now codec.now ≡ ok) }
-        ensures refused { IfErr result (λ code. code ≡ format_outcome format.now codec.now) }
+        ensures new { IfOk result (λ p. p ≡ new_packet_inbox format.now codec.now (holding_of hold_back held)) }
+        ensures accepted { OnOk result (inbox_outcome format.now codec.now held ≡ ok) }
+        ensures refused { IfErr result (λ code. code ≡ inbox_outcome format.now codec.now held) }
         ensures refusal { IfErr result (λ code. code ≢ ok) }
     {
+        if !may_hold(held) {
+            return Err(codes::OUT_OF_RANGE);
+        }
         let format = match read_format(format, codec) {
             Ok(format) => format,
             Err(code) => return Err(code),
@@ -94,14 +99,14 @@ impl PacketInbox {
         let depacketizer = depacketizer_for(alloc, &format);
         Ok(PacketInbox {
             format,
-            buffer: DepacketizingBuffer::new(alloc, depacketizer, hold_back),
+            buffer: DepacketizingBuffer::new(alloc, depacketizer, hold_back, held),
             unit: None,
         })
     }
 
     /// Takes a packet in, by its widened number, its RTP time, marker and payload, and answers `OK`, or `MEMORY`, and
-    /// nothing has changed. A number that is held, or at or below that of the last unit, is passed over; of more than
-    /// 4,096 packets the lowest goes.
+    /// nothing has changed. A number that is held, or at or below that of the last unit, is passed over; of more
+    /// packets than may wait the lowest goes.
     pub fn push(&mut self, number: u64, time: u32, marker: bool, payload: &[u8]) -> u32
         ensures outcome { result ≢ memory → result ≡ ok }
         ensures taken { result ≡ ok → self.new ≡ behind_push self.old number time marker payload.now }
@@ -122,7 +127,7 @@ impl PacketInbox {
     /// Answers `OK` where a unit is due, which is left to be fetched. `NOTHING` where none is, the number of why a
     /// packet of the next frame is refused, which is then done with, or `MEMORY`, and the frame stays.
     pub fn pop(&mut self) -> u32
-        ensures answer { PopsAt self.old.hold_back self.old result self.new }
+        ensures answer { PopsAt self.old.holding.hold_back self.old result self.new }
         ensures kept { result ≢ ok → self.new.unit ≡ self.old.unit }
     {
         let popped = self.buffer.pop();

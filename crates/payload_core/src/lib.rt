@@ -18,7 +18,9 @@ pub use payload_core_base::{
     MediaKind, PacketError, PacketList, PacketSink, Packetizer, Payloader, SentPacket,
     TelephoneEvent, TelephoneEvents, Vp8CodecExtra, Vp9CodecExtra, telephone_event_law,
 };
-pub use payload_core_buffer::{Depacketized, DepacketizingBuffer, MAX_HELD, RtpMeta, frames_law};
+pub use payload_core_buffer::{
+    Depacketized, DepacketizingBuffer, MAX_HELD, MIN_HELD, RtpMeta, frames_law, may_hold,
+};
 pub use payload_core_vpx::{
     VP8_HEADER_SIZE, Vp8Depacketizer, Vp8Descriptor, Vp8DescriptorError, Vp8Packetizer, Vp8Patch,
     Vp8PatchBuilder, Vp8PatchError, Vp9Depacketizer, Vp9Packetizer, detect_vp8_keyframe,

@@ -1,14 +1,14 @@
 -- The frame that is due, taken out of a queue that was looked through for it.
-use Rattle.std.proofs.Common.{◌≡◌, ℕ, ◌<◌, ◌≤◌, refl, sym, ◌∙◌, ap, ap₂, subst, arith, List, length}
+use Rattle.std.proofs.Common.{◌≡◌, ℕ, ◌<◌, ◌≤◌, sym, ◌∙◌, ap, ap₂, subst, arith, List, length}
 use Rattle.std.specs.Prelude.{◌-◌, Option, Some, Ok}
 use Rattle.payload_core_base.specs.Format.{Format, Fragment}
 use Rattle.payload_core_base.specs.declared.extra.CodecExtra.{CodecExtra}
 use Rattle.payload_core_buffer.specs.Frames.{IsFrame, due_frame, packet_at, packets_between}
 use Rattle.payload_core_buffer.specs.Metas.{metas_of_unit}
-use Rattle.payload_core_buffer.specs.Packets.{Packet, metas_of, packets_of}
+use Rattle.payload_core_buffer.specs.Packets.{metas_of, packets_of}
 use Rattle.payload_core_buffer.specs.Pops.{PopState, pop_state}
 use Rattle.payload_core_buffer.specs.Steps.{Answer, AnswersBy, MediaUnit, TellsOf, frame_step, packets_of_due, pop_step}
-use Rattle.payload_core_buffer.specs.Steps.{ready, unit_between, unit_from, unit_of}
+use Rattle.payload_core_buffer.specs.Steps.{ready, unit_from, unit_of}
 use Rattle.payload_core_buffer.specs.declared.depacketized.Depacketized.{Depacketized}
 use Rattle.payload_core_buffer.specs.declared.frame.Frame.{Frame}
 use Rattle.payload_core_buffer.specs.declared.held.Held.{Held}
@@ -44,7 +44,8 @@ module _ (format : Format) (cutoff : Option ℕ) (fragment : Fragment) (hold_bac
     as-unit : (u : MediaUnit) → u ≡ unit_from (metas_of (packets_between (packets_of ks) f)) bytes extra
         → AnswersBy (pop_step format hold_back (state hs)) new (Some (Ok (Some u)))
     as-unit u e = popped new (Some (Ok (Some u)))
-        (subst (λ (x : MediaUnit). AnswersBy (frame_step format (state ks) (Some f)) new (Some (Ok (Some x)))) (sym e) is)
+        (subst (λ (x : MediaUnit). AnswersBy (frame_step format (state ks) (Some f)) new (Some (Ok (Some x))))
+        (sym e) is)
 
     -- by what is known of its first and its last packet
     pub popped-ends : (p q : RtpMeta) → p ≡ (packet_at (packets_of ks) f.start).meta

@@ -1,5 +1,5 @@
 -- A unit from the first and the last packet of its frame.
-use Rattle.std.proofs.Common.{◌≡◌, ℕ, ◌+◌, ◌<◌, ◌≤◌, sym, ◌∙◌, ap, ap₂, arith, List, length, drop, length-drop}
+use Rattle.std.proofs.Common.{◌≡◌, ℕ, ◌+◌, ◌<◌, ◌≤◌, ◌∙◌, ap, ap₂, arith, List, length, drop, length-drop}
 use Rattle.std.proofs.Common.{get_or-take, get_or-drop}
 use Rattle.std.specs.Prelude.{◌-◌}
 use Rattle.std.proofs.lemmas.List.{get_or-map, length-map, length-take-le}

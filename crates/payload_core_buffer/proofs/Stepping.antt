@@ -1,7 +1,8 @@
 -- The taking of a frame and a pop by their steps.
-use Rattle.std.proofs.Common.{◌≡◌, ◌≢◌, ◌⊎◌, inl, inr, ℕ, ◌<◌, refl, sym, ◌∙◌, ap, ap₂, subst, arith, List, length, drop}
+use Rattle.std.proofs.Common.{◌≡◌, ◌≢◌, ℕ, ◌<◌, refl, sym, ◌∙◌, ap, ap₂, subst, arith, List, length}
+use Rattle.std.proofs.Common.{drop}
 use Rattle.std.proofs.lemmas.List.{length-drop, length-take}
-use Rattle.std.specs.Prelude.{◌-◌, Option, Some, None, Result, Ok, Err, IfOk, IfSome, IfNone}
+use Rattle.std.specs.Prelude.{◌-◌, Option, Some, None, Result, Ok, Err, IfOk, IfNone}
 use Rattle.payload_core_base.specs.Format.{Format, Fragment, Run}
 use Rattle.payload_core_base.specs.declared.error.PacketError.{PacketError}
 use Rattle.payload_core_base.specs.declared.error.PacketError.TheVariants as lacks
@@ -9,9 +10,9 @@ use Rattle.payload_core_base.specs.declared.extra.CodecExtra.{CodecExtra}
 use Rattle.payload_core_buffer.specs.Buffered.{Buffered}
 use Rattle.payload_core_buffer.specs.Frames.{IsFrame, due_frame, number_at, packets_between}
 use Rattle.payload_core_buffer.specs.Packets.{Packet, metas_of}
-use Rattle.payload_core_buffer.specs.Pops.{FaultsAs, IsReadAs, PopState, ReadsPart, pop_state, run_of}
+use Rattle.payload_core_buffer.specs.Pops.{FaultsAs, IsReadAs, PopState, pop_state, run_of}
 use Rattle.payload_core_buffer.specs.Steps.{Answer, AnswersBy, MediaUnit, PopsBy, answer_among, answer_by, as_answer}
-use Rattle.payload_core_buffer.specs.Steps.{as_refusal, frame_step, kept_behind, kept_in, pop_step, unit_from}
+use Rattle.payload_core_buffer.specs.Steps.{as_refusal, frame_step, kept_in, pop_step, unit_from}
 use Rattle.payload_core_buffer.specs.declared.frame.Frame.{Frame}
 use Rattle.payload_core_buffer.proofs.DueLemmas.{due_frames}
 
@@ -76,11 +77,13 @@ pops-due format hold_back s t o a due is =
     subst (λ (d : Option Frame). AnswersBy (frame_step format s d) t a) (sym due) is
 
 pub pops-none : (format : Format) (hold_back : ℕ) (s t : PopState)
-    → due_frame format s.cutoff hold_back s.held ≡ None → t ≡ s → AnswersBy (pop_step format hold_back s) t (Some (Ok None))
+    → due_frame format s.cutoff hold_back s.held ≡ None → t ≡ s
+    → AnswersBy (pop_step format hold_back s) t (Some (Ok None))
 pops-none format hold_back s t due same = pops-due format hold_back s t None (Some (Ok None)) due (refl, same)
 
 -- behind an answer fewer packets are held
-something : (o : Option PacketError) (run : Run) (metas : List Packet) → answer_by o (metas_of metas) run.written run.extra ≢ Ok None
+something : (o : Option PacketError) (run : Run) (metas : List Packet)
+    → answer_by o (metas_of metas) run.written run.extra ≢ Ok None
 something None run metas h = cc
 something (Some e) run metas h = cc
 
@@ -107,12 +110,13 @@ as_none unit (Err e) is = absurd (decide-none e is)
 -- the contract of a buffer's pop, of what is known of its parts
 pub pops-by : {D U : Type 0} (format : D → Format) (fragment : D → Fragment) (unit : U → MediaUnit) (n : ℕ)
     (old new : Buffered D) (result : Result (Option U) PacketError)
-    → format new.depacketizer ≡ format old.depacketizer → new.hold_back ≡ old.hold_back
-    → AnswersBy (pop_step (format old.depacketizer) n (kept_in fragment old)) (kept_in fragment new) (as_answer unit result)
+    → format new.depacketizer ≡ format old.depacketizer → new.holding ≡ old.holding
+    → AnswersBy (pop_step (format old.depacketizer) n (kept_in fragment old)) (kept_in fragment new)
+    (as_answer unit result)
     → IfOk result (λ r. IfNone r (new ≡ old)) → PopsBy format fragment n old new (as_answer unit result)
 pops-by format fragment unit n old new result same held pops silent = record {
   same_format = same;
-  same_hold_back = held;
+  same_holding = held;
   answers = pops;
   silent = λ is. rw (as_none unit result is) at silent;
 }

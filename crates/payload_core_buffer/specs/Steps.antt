@@ -104,13 +104,13 @@ ready format hold_back s = packets_of_due s.held (due_frame format s.cutoff hold
 abbrev pub kept_in : {D : Type 0} → (D → Fragment) → Buffered D → PopState
 kept_in fragment b = pop_state b.held b.cutoff (fragment b.depacketizer)
 
--- A buffer's pop, by what it answered, or nothing where memory ran out: the format and the number of frames held back
--- stay, and None changes nothing, the depacketizer neither.
+-- A buffer's pop, by what it answered, or nothing where memory ran out: the format and how much is held stay, and None
+-- changes nothing, the depacketizer neither.
 pub record PopsBy {D : Type 0} (format : D → Format) (fragment : D → Fragment) (hold_back : ℕ)
     (old new : Buffered D) (answer : Option Answer) : Type 0
   where
     pub same_format : format new.depacketizer ≡ format old.depacketizer
-    pub same_hold_back : new.hold_back ≡ old.hold_back
+    pub same_holding : new.holding ≡ old.holding
     pub answers : AnswersBy (pop_step (format old.depacketizer) hold_back (kept_in fragment old))
         (kept_in fragment new) answer
     pub silent : answer ≡ Some (Ok None) → new ≡ old

@@ -6,7 +6,7 @@ use Rattle.rtp_wire.specs.Name.{name_of}
 use Rattle.rtp_wire_values.specs.Time.{Time}
 use Rattle.rtp_wire.specs.Values.{absent}
 use Rattle.rtp_wire.specs.declared.ExtensionValues.{ExtensionValues}
-use Rattle.rtp_media_schedules.specs.Hearing.{MediaUnit}
+use Rattle.rtp_media_schedules.specs.Hearing.{MediaUnit, holding_of, may_hold}
 use Rattle.rtp_media_streams.specs.Polls.{PollResult, poll_result}
 use Rattle.rtp_media_streams.specs.Sending.{sent_datagrams, after_sample, refusal_of_sample}
 use Rattle.rtp_media_streams.specs.Receiving.{polled_receiver}
@@ -71,12 +71,15 @@ send_step e c =
 
 abbrev pub receiver_step : EndState → OpenCommand → Option OpenError → EndStep
 receiver_step e c (Some error) = prints e (reply.Refused (open_error_name error))
-receiver_step e c None = prints (after_open_receiver e (name_of 16 c.mid) c.ssrc c.pt c.hold_back)
+receiver_step e c None = prints (after_open_receiver e (name_of 16 c.mid) c.ssrc c.pt
+    (holding_of c.hold_back c.held))
     (reply.Receiver (length e.streams))
 
--- open E MID SSRC PT HOLDBACK
+-- open E MID SSRC PT HOLDBACK [HELD]
 abbrev pub open_step : EndState → OpenCommand → EndStep
-open_step e c = receiver_step e c (refusal_of_open_receiver e (name_of 16 c.mid) c.ssrc c.pt)
+open_step e c =
+    if may_hold c.held then receiver_step e c (refusal_of_open_receiver e (name_of 16 c.mid) c.ssrc c.pt)
+    else prints e reply.ErrorLine
 
 -- A command's time, at the clock rate of its stream's row.
 abbrev pub time_of : EndState → SampleCommand → Time
@@ -146,7 +149,7 @@ IsStep step end replies = (end ≡ step.end) × (replies ≡ step.replies)
 abbrev pub RunsOut : EndState → Command → EndState → List Reply → Type 0
 RunsOut e (Send c) after replies =
     IsTrue (is_sound_send e c) × (after ≡ e) × (replies ≡ reply.Refused memory ∷ [])
-RunsOut e (Open c) after replies = (after ≡ e) × (replies ≡ reply.Refused memory ∷ [])
+RunsOut e (Open c) after replies = IsTrue (may_hold c.held) × (after ≡ e) × (replies ≡ reply.Refused memory ∷ [])
 RunsOut e (Sample c) after replies =
     IsTrue (is_sender_at e c.stream) × SenderFails e c.stream after × (replies ≡ reply.Refused memory ∷ [])
 RunsOut e (Receive c) after replies = (after ≡ e) × (replies ≡ reply.Refused memory ∷ [])

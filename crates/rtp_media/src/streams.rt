@@ -8,7 +8,7 @@ ghost use Rattle.rtp_media.specs.Streams.{values_given};
 use crate::end_error_names::{fault_name, open_error_name, sample_error_name};
 use crate::memory_name::memory;
 use crate::replies::one;
-use rtp_media_ends::{Datagram, Distances, End, Received, StreamParams, Unit};
+use rtp_media_ends::{Datagram, Distances, End, Received, StreamParams, Unit, may_hold};
 use rtp_media_lines::{
     Bytes, OpenCommand, PollCommand, ReceiveCommand, Reply, SampleCommand, SendCommand, Text,
 };
@@ -67,7 +67,7 @@ pub fn send(alloc: Global, end: &mut End, command: SendCommand) -> Result<Vec<Re
     }
 }
 
-/// Opens a receiving stream; a refusal is printed by its name.
+/// Opens a receiving stream: an error line, where it may not hold as many packets; a refusal is printed by its name.
 ///
 /// # Errors
 /// Where memory for the reply runs out.
@@ -75,8 +75,12 @@ pub fn open(alloc: Global, end: &mut End, command: OpenCommand) -> Result<Vec<Re
     ensures { IfOk result (λ replies. IsAnswered end.old (Command.Open command) end.new replies.items) }
 {
     let mid = Mid::from(command.mid.as_str());
+    let pt = Pt::from(command.pt);
     let ssrc = Ssrc::from(command.ssrc);
-    match end.open_receiver(mid, ssrc, Pt::from(command.pt), command.hold_back) {
+    if !may_hold(command.held) {
+        return one(alloc, Reply::ErrorLine);
+    }
+    match end.open_receiver(mid, ssrc, pt, command.hold_back, command.held) {
         Ok(stream) => one(alloc, Reply::Receiver(stream)),
         Err(error) => one(alloc, Reply::Refused(open_error_name(error))),
     }

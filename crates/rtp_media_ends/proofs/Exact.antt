@@ -10,6 +10,7 @@ use Rattle.h26x_payload.specs.Dispatch.{KeepCodecLawInForms}
 use Rattle.payload_core_base.specs.Format.{Format}
 use Rattle.payload_core_base.specs.Outgoing.{Outgoing}
 use Rattle.payload_core_base.specs.declared.error.PacketError.{PacketError}
+use Rattle.rtp_media_schedules.specs.Hearing.{Holding}
 use Rattle.rtp_media_schedules.specs.Hearing.{Answer, Content, EndsSilent, Event, Comes, Poll, Stream, after_events}
 use Rattle.rtp_media_schedules.specs.Hearing.{fresh}
 use Rattle.rtp_media_schedules.specs.Hearing.{handed_out, heard, number_at, taken_by}
@@ -131,13 +132,14 @@ all-theirs law s samples sound good = theirs samples s
     good.well_formed good.values
 
 -- exact after full arrival
-pub exact : KeepCodecLawInForms → (e : EndState) (stream hold_back : ℕ) (sender : Sending) (samples : List Sample)
+pub exact : KeepCodecLawInForms
+    → (e : EndState) (stream : ℕ) (holding : Holding) (sender : Sending) (samples : List Sample)
     (arrivals : List ℕ) (ds : List (List ℕ)) (answers : Answers) (after : Receiving) →
-    HasAllOf e stream hold_back sender samples arrivals ds
+    HasAllOf e stream holding sender samples arrivals ds
     → IsPolled poll_step (receiver_at (after_datagrams e ds) stream) answers after →
     AreAnswered (units_of sender samples) answers
-exact law e stream hold_back sender samples arrivals ds answers after all out =
-    let r : Receiving = opened_receiver sender.ssrc sender.types sender.map sender.row hold_back in
+exact law e stream holding sender samples arrivals ds answers after all out =
+    let r : Receiving = opened_receiver sender.ssrc sender.types sender.map sender.row holding in
     let format : Format = format_of sender.row in
     let ss : List SentSample = sent_samples sender samples in
     let f : ℕ → Content = numbered sender.next (datagrams ss) in
@@ -147,23 +149,23 @@ exact law e stream hold_back sender samples arrivals ds answers after all out =
     ∙ arrivals-events sender r samples [] arrivals (refl, refl, refl) all.sound are all.arrive in
     let same : receiver_at e stream ≡ with_stream r (receiver_at e stream).stream =
     all.receiver.stream_is ∙ ap (with_stream r) (sym (ap (λ (x : Receiving). x.stream) all.receiver.stream_is)) in
-    let reached : Stream = after_events format (fresh hold_back) (map (event_of f) (map Arrive arrivals)) in
+    let reached : Stream = after_events format (fresh holding) (map (event_of f) (map Arrive arrivals)) in
     let there : (receiver_at (after_datagrams e ds) stream).stream ≡ reached =
     isolated ds e stream r same all.receiver.found ∙ ap₂ (λ (s : Stream) (es : List Event). after_events format s es)
     (ap (λ (x : Receiving). x.stream) all.receiver.stream_is) events in
     let row : format_of (receiver_at (after_datagrams e ds) stream).row ≡ format =
     ap (λ (x : Receiving). format_of x.row) (same-after ds e stream r same all.receiver.found) in
     let n : ℕ = length reached.held in
-    let heard-is : heard format (fresh hold_back) (map (event_of f) (map Arrive arrivals ++ replicate (suc n) Ask))
+    let heard-is : heard format (fresh holding) (map (event_of f) (map Arrive arrivals ++ replicate (suc n) Ask))
     ≡ heard format reached (replicate (suc n) Poll) =
-    ap (heard format (fresh hold_back)) (turns-are f arrivals (suc n))
-    ∙ arrivals-silent format f arrivals (fresh hold_back) (replicate (suc n) Poll) in
+    ap (heard format (fresh holding)) (turns-are f arrivals (suc n))
+    ∙ arrivals-silent format f arrivals (fresh holding) (replicate (suc n) Poll) in
     let silent : EndsSilent (heard format reached (replicate (suc n) Poll)) =
     polls-end format n reached (omega arith) in
     let units : map timed_unit (handed_out (heard format reached (replicate (suc n) Poll)))
     ≡ map Ok (units_of sender samples) =
     ap (λ (os : List Answer). map timed_unit (handed_out os)) (sym heard-is)
-    ∙ full-exact format hold_back sender.next n ss arrivals
+    ∙ full-exact format holding sender.next n ss arrivals
     (sent-as-read law sender samples all.sound all.samples_sound) all.numbers all.few all.arrive
     (subst EndsSilent (sym heard-is) silent)
     ∙ units-are (canonical_units sender.next ss) in

@@ -6,6 +6,7 @@ use Rattle.std.specs.Prelude.{Option, Some, None}
 use Rattle.std.specs.List.{list_any}
 use Rattle.rtp_media_exchange.specs.Agreement.{Agreed, row_in, row_of_section, section_of}
 use Rattle.rtp_media_exchange.specs.Rows.{Row}
+use Rattle.rtp_media_schedules.specs.Hearing.{Holding}
 use Rattle.rtp_media_streams.specs.Receiving.{Receiving}
 use Rattle.rtp_media_streams.specs.declared.types.PayloadTypes.{PayloadTypes}
 use Rattle.rtp_media_stream_table.specs.declared.open_stream.OpenStream.TheVariants.{Receiver}
@@ -26,14 +27,14 @@ types-agreed e mid pt a row is found =
     ∙ ap types_in found
 
 -- An opened receiving stream has its number, and takes its own datagrams.
-pub opened-receiver : (e : EndState) (mid : List ℕ) (ssrc pt hold_back : ℕ)
+pub opened-receiver : (e : EndState) (mid : List ℕ) (ssrc pt : ℕ) (holding : Holding)
     → refusal_of_open_receiver e mid ssrc pt ≡ None →
-    HasReceiver (after_open_receiver e mid ssrc pt hold_back) (length e.streams)
-    (new_receiver e mid ssrc pt hold_back)
+    HasReceiver (after_open_receiver e mid ssrc pt holding) (length e.streams)
+    (new_receiver e mid ssrc pt holding)
 unfolding after_open_receiver
-opened-receiver e mid ssrc pt hold_back none =
+opened-receiver e mid ssrc pt holding none =
     let at : ReceivesAt e mid ssrc pt = receives-at e mid ssrc pt none in
-    let x : Receiving = new_receiver e mid ssrc pt hold_back in
+    let x : Receiving = new_receiver e mid ssrc pt holding in
     let types : agreed_types e mid pt ≡ types_of at.row =
     types-agreed e mid pt at.section at.row at.agreed at.row_is in
     let apart : list_any (receives_as ssrc (agreed_types e mid pt)) e.streams ≡ false =

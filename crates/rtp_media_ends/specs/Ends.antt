@@ -3,6 +3,7 @@ use Rattle.std.specs.Prelude.{Option, Some, None, if◌then◌else◌, unwrap_or
 use Rattle.std.specs.List.{list_any}
 use Rattle.rtp_wire.specs.Maps.{empty_map}
 use Rattle.rtp_wire.specs.Values.{Numbering}
+use Rattle.rtp_media_schedules.specs.Hearing.{Holding}
 use Rattle.rtp_media_streams.specs.Codings.{has_format}
 use Rattle.rtp_media_streams.specs.Sending.{Sending, opened_sender, redundant_sender}
 use Rattle.rtp_media_streams.specs.Receiving.{Receiving, opened_receiver}
@@ -22,7 +23,8 @@ use Rattle.rtp_media_ends.specs.declared.errors.OpenError.{OpenError}
 use Rattle.rtp_media_ends.specs.declared.errors.OpenError.TheVariants.{NoSection, RowNotAgreed, RowDiffers}
 use Rattle.rtp_media_ends.specs.declared.errors.OpenError.TheVariants.{WrongDirection, SsrcNotNamed}
 use Rattle.rtp_media_ends.specs.declared.errors.OpenError.TheVariants.{AlreadyOpen}
-use Rattle.rtp_media_stream_table.specs.Streams.{is_nth_receiver, is_nth_sender, no_row_format, no_types, nth_receiver, nth_sender, receives_as, sends_as, set_receiver, set_sender}
+use Rattle.rtp_media_stream_table.specs.Streams.{is_nth_receiver, is_nth_sender, no_row_format, no_types, nth_receiver}
+use Rattle.rtp_media_stream_table.specs.Streams.{nth_sender, receives_as, sends_as, set_receiver, set_sender}
 
 -- What an end keeps: its exchanges, and its streams of both directions by number.
 pub record EndState : Type 0 where
@@ -77,7 +79,8 @@ receiver_at e n = nth_receiver e.streams n
 
 -- The n-th stream, which receives, did this, and all else stays.
 abbrev pub AtReceiver : EndState → ℕ → (Receiving → Receiving → Type 0) → EndState → Type 0
-AtReceiver e n Did after = Did (receiver_at e n) (receiver_at after n) × (after ≡ with_receiver e n (receiver_at after n))
+AtReceiver e n Did after =
+    Did (receiver_at e n) (receiver_at after n) × (after ≡ with_receiver e n (receiver_at after n))
 
 abbrev pub is_sender_at : EndState → ℕ → Bool
 is_sender_at e n = is_nth_sender e.streams n
@@ -197,17 +200,17 @@ new_sender e mid ssrc pt params =
     (agreed_red e mid pt) params.red
 
 -- The stream that it opens to receive that row under that map.
-abbrev pub new_receiver : EndState → List ℕ → ℕ → ℕ → ℕ → Receiving
-new_receiver e mid ssrc pt hold_back =
-    opened_receiver ssrc (agreed_types e mid pt) (stream_map e mid) (agreed_format e mid pt) hold_back
+abbrev pub new_receiver : EndState → List ℕ → ℕ → ℕ → Holding → Receiving
+new_receiver e mid ssrc pt holding =
+    opened_receiver ssrc (agreed_types e mid pt) (stream_map e mid) (agreed_format e mid pt) holding
 
 -- The end with a sending stream more.
 unfoldable pub after_open_sender : EndState → List ℕ → ℕ → ℕ → StreamParams → EndState
 after_open_sender e mid ssrc pt params = with_new_sender e (new_sender e mid ssrc pt params)
 
 -- The end with a receiving stream more.
-unfoldable pub after_open_receiver : EndState → List ℕ → ℕ → ℕ → ℕ → EndState
-after_open_receiver e mid ssrc pt hold_back = with_new_receiver e (new_receiver e mid ssrc pt hold_back)
+unfoldable pub after_open_receiver : EndState → List ℕ → ℕ → ℕ → Holding → EndState
+after_open_receiver e mid ssrc pt holding = with_new_receiver e (new_receiver e mid ssrc pt holding)
 
 -- A fixed end without streams.
 abbrev pub fixed_end : EndState

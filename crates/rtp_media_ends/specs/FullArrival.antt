@@ -9,6 +9,7 @@ use Rattle.rtp_media_schedules.specs.SentSamples.{Timed}
 use Rattle.rtp_media_schedules.specs.Samples.{AreWellFormed, SentSample, canonical_units, packets_of, sent_by}
 use Rattle.rtp_media_schedules.specs.Samples.{whole_unit}
 use Rattle.rtp_media_schedules.specs.Turns.{AreGoodArrivals}
+use Rattle.rtp_media_schedules.specs.Hearing.{Holding}
 use Rattle.rtp_media_streams.specs.Rows.{coding_in}
 use Rattle.rtp_media_streams.specs.Sending.{Sample, Sending, IsTyped, datagrams_of, packet_limit, samples_of}
 use Rattle.rtp_media_streams.specs.Receiving.{Receiving, opened_receiver}
@@ -73,7 +74,8 @@ units_of s samples = map whole_unit (canonical_units s.next (sent_samples s samp
 
 -- The end takes what has the SSRC of this stream and one of its types as this stream's own.
 abbrev pub IsFound : EndState → ℕ → Receiving → Type 0
-IsFound e stream r = (ssrc pt : ℕ) → is_key_of r.ssrc r.types ssrc pt ≡ true → stream_for e.streams ssrc pt ≡ Some stream
+IsFound e stream r =
+    (ssrc pt : ℕ) → is_key_of r.ssrc r.types ssrc pt ≡ true → stream_for e.streams ssrc pt ≡ Some stream
 
 -- The end's stream of this number is this one, and takes its own datagrams.
 pub record HasReceiver (e : EndState) (stream : ℕ) (r : Receiving) : Type 0 where
@@ -94,15 +96,15 @@ pub record AreSound (s : Sending) (samples : List Sample) : Type 0 where
   pub well_formed : AreWellFormed (coding_of s) (packet_limit s) (samples_of s samples)
   pub values : All (λ x. AreValues x.values) samples
 
--- Among these datagrams come all those of a sending stream's samples, once or more, and none behind
--- one that is 128 or more above it; nobody else sends under its SSRC and types, and the receiving
--- stream has the same types, map of header extensions and row, and heard nothing before.
-pub record HasAllOf (e : EndState) (stream hold_back : ℕ) (sender : Sending) (samples : List Sample)
+-- Among these datagrams come all those of a sending stream's samples, no more than may be held, once or
+-- more, and none behind one that is 1,024 or more above it; nobody else sends under its SSRC and types, and
+-- the receiving stream has the same types, map of header extensions and row, and heard nothing before.
+pub record HasAllOf (e : EndState) (stream : ℕ) (holding : Holding) (sender : Sending) (samples : List Sample)
     (arrivals : List ℕ) (datagrams : List (List ℕ)) : Type 0 where
-  pub receiver : HasReceiver e stream (opened_receiver sender.ssrc sender.types sender.map sender.row hold_back)
+  pub receiver : HasReceiver e stream (opened_receiver sender.ssrc sender.types sender.map sender.row holding)
   pub sound : IsSender sender
   pub samples_sound : AreSound sender samples
   pub numbers : sender.next + count_of sender samples ≤ 2 ^ 62
-  pub few : count_of sender samples ≤ 4096
+  pub few : count_of sender samples ≤ holding.held
   pub own : filter (is_own_datagram sender.ssrc sender.types) datagrams ≡ map (sent_datagram sender samples) arrivals
   pub arrive : AreGoodArrivals sender.next (count_of sender samples) [] arrivals

@@ -6,6 +6,7 @@ ghost use Rattle.std.specs.List.{list_any};
 ghost use Rattle.std.specs.Option.{option_map};
 ghost use Rattle.payload_core_audio.specs.RedHistory.{AreDistances};
 ghost use Rattle.rtp_media_exchange.specs.Agreement.{agreed_map_of};
+ghost use Rattle.rtp_media_schedules.specs.Hearing.{holding_of, may_hold};
 ghost use Rattle.rtp_media_ends.specs.Ends.{agreed_red, end_of, is_carried, new_receiver, new_sender};
 ghost use Rattle.rtp_media_stream_table.specs.Streams.{receives_as};
 ghost use Rattle.rtp_media_ends.specs.Ends.{refusal_of_open_receiver, refusal_of_open_sender};
@@ -59,7 +60,11 @@ pub fn new_sender(
 }
 
 /// The receiving stream of this SSRC that an end of these exchanges and streams opens for the agreed row of a payload
-/// type. Past a missing datagram it hands a unit out only once more than `hold_back` frames are complete.
+/// type. Past a missing datagram it hands a unit out only once more than `hold_back` frames are complete; at most
+/// `held` packets wait.
+///
+/// # Conditions
+/// `held` is 4,096 to 16,384.
 ///
 /// # Errors
 /// As [`new_sender`].
@@ -71,8 +76,11 @@ pub fn new_receiver(
     ssrc: Ssrc,
     pt: Pt,
     hold_back: usize,
+    held: usize,
 ) -> Result<ReceivingStream, OpenError>
-    ensures stream { IfOk result (λ r. r ≡ new_receiver (end_of exchange.now streams.now) mid ssrc pt hold_back) }
+    requires { may_hold held ≡ true }
+    ensures stream { IfOk result (λ r. r ≡ new_receiver (end_of exchange.now streams.now) mid ssrc pt
+        (holding_of hold_back held)) }
     ensures apart { IfOk result (λ r. list_any (receives_as r.ssrc r.types) streams.now ≡ false) }
     ensures opens { OnOk result (refusal_of_open_receiver (end_of exchange.now streams.now) mid ssrc pt ≡ None) }
     ensures refused { IfErr result (λ e. e ≢ OpenError.Memory
@@ -81,7 +89,9 @@ pub fn new_receiver(
     let row = receiver_row(exchange, streams, mid, ssrc, pt)?;
     let exts = exts_of(alloc, exchange, mid)?;
     let (types, format) = (types_of(&row), row_format_of(&row));
-    Ok(ReceivingStream::new(alloc, ssrc, types, exts, format, hold_back))
+    Ok(ReceivingStream::new(
+        alloc, ssrc, types, exts, format, hold_back, held,
+    ))
 }
 
 /// The map of header extensions of a new stream in a section of this name.

@@ -8,8 +8,8 @@ use std::alloc::{AllocError, Global};
 use std::fmt;
 use std::marker::Model;
 
-/// The most packets that a receiving stream holds.
-const MAX_HELD: usize = 4096;
+/// The most packets that a receiving stream holds whose line doesn't say.
+const HELD: u64 = 4096;
 
 /// A stream of an end, and what came of it.
 pub(crate) struct Stream {
@@ -27,6 +27,8 @@ pub(crate) struct Stream {
     /// The numbers that were taken and wait to be handed out, where these can be known.
     waiting: Vec<u64>,
     is_waiting_known: bool,
+    /// The most packets that it holds.
+    held: u64,
     /// The lowest number that may still be handed out.
     next: u64,
 }
@@ -47,6 +49,7 @@ impl Drop for Stream {
             faults: _faults,
             waiting: _waiting,
             is_waiting_known: _is_waiting_known,
+            held: _held,
             next: _next,
         } = self;
     }
@@ -78,6 +81,7 @@ impl Stream {
             faults: 0,
             waiting: Vec::new(alloc),
             is_waiting_known: true,
+            held: number_at(line, 6).unwrap_or(HELD),
             next: 0,
         }
     }
@@ -95,7 +99,7 @@ impl Stream {
                     && self.next <= number
                 {
                     self.waiting.push(number)?;
-                    self.is_waiting_known = self.waiting.len() <= MAX_HELD;
+                    self.is_waiting_known = self.waiting.len() as u64 <= self.held;
                 }
             }
             "refused" if reply == "refused" => self.refused = self.refused.saturating_add(1),

@@ -1,13 +1,14 @@
 -- Reading from left to right gives the command whose words stand there, and no other.
 use Rattle.std.proofs.Common.{◌≡◌, ℕ, ◌^◌, List, [], ◌∷◌, Option, None, Some, codes, refl, sym, ◌∙◌, ap, subst}
 use Rattle.std.specs.Option.{option_map}
+use Rattle.std.specs.Prelude.{option_to_list}
 use Rattle.std.specs.Str.{bytes_eq}
 use Rattle.rtp_media_lines.specs.declared.command.Command.{Command}
 use Rattle.rtp_media_lines.specs.declared.command.Command.TheVariants.{Fixed, Send, Open, Sample, Receive, Poll, Row}
 use Rattle.rtp_media_lines.specs.declared.command.Command.TheVariants.{Ext, End, Offer, Answer, Accept, Withdraw}
 use Rattle.rtp_media_lines.specs.declared.command.Command.TheVariants.{Connect, Queue, Play}
 use Rattle.rtp_media_lines.specs.Words.{letter_of, text_of, hex_of, dash_or, numbers_of, number_below, behind}
-use Rattle.rtp_media_lines.specs.Words.{mid_value, ◌>>=◌}
+use Rattle.rtp_media_lines.specs.Words.{held_value, mid_value, ◌>>=◌}
 use Rattle.rtp_media_lines.proofs.BehindLemmas.{behind-sound, behind-append}
 use Rattle.rtp_media_lines.specs.Lines.{command_of, fixed_of, send_of, open_of, sample_of, receive_of, poll_of}
 use Rattle.rtp_media_lines.proofs.ReadSteps.{dispatch, same, ended_some, read_on, glue, under}
@@ -15,7 +16,7 @@ use Rattle.rtp_media_lines.proofs.ExchangeWords.{exchange_says, read_row, read_e
 use Rattle.rtp_media_lines.proofs.ExchangeWords.{read_accept, read_withdraw, read_connect}
 use Rattle.rtp_media_lines.proofs.PlayWords.{read_play, read_queue}
 use Rattle.rtp_media_lines.specs.Says.{Says, AreSendWords, AreOpenWords, AreSampleWords, mid_words, AreReceiveWords}
-use Rattle.rtp_media_lines.specs.Says.{ArePollWords}
+use Rattle.rtp_media_lines.specs.Says.{ArePollWords, held_number}
 
 -- ---- what is read stands there
 
@@ -71,6 +72,19 @@ send_says verb words c v h =
       picture_says = says_picture;
     }))))))))))
 
+-- nothing is left, or a word that is a number
+held_some : (words : List (List ℕ)) (f : ℕ → Command) (c : Command)
+    → (held_value words >>= (λ held. Some (f held))) ≡ Some c → (held : Option (List ℕ)) × (n : ℕ)
+    × (words ≡ option_to_list held) × (held_number held ≡ Some n) × (f n ≡ c)
+held_some [] f c h = (None, 4096, refl, refl, cc)
+held_some (word ∷ []) f c h = by_number (number_below (2 ^ 64) word) refl h where
+  by_number : (o : Option ℕ) → number_below (2 ^ 64) word ≡ o → (o >>= (λ held. Some (f held))) ≡ Some c
+      → (held : Option (List ℕ)) × (n : ℕ) × (word ∷ [] ≡ option_to_list held) × (held_number held ≡ Some n)
+      × (f n ≡ c)
+  by_number None e k = absurd cc
+  by_number (Some n) e k = (Some word, n, refl, e, cc)
+held_some (word ∷ next ∷ words) f c h = absurd cc
+
 open_says : (verb : List ℕ) (words : List (List ℕ)) (c : Command) → verb ≡ codes "open" → open_of words ≡ Some c
     → Says (verb ∷ words) c
 unfolding open_of
@@ -81,21 +95,23 @@ open_says verb words c v h =
     read_on _ (number_below (2 ^ 8)) after_ssrc _ c left_ssrc (λ pt_word after_pt pt is_pt says_pt left_pt.
     read_on _ (number_below (2 ^ 64)) after_pt _ c left_pt
     (λ hold_back_word after_hold_back hold_back is_hold_back says_hold_back left_hold_back.
-    let end = ended_some after_hold_back _ c left_hold_back in
-    subst (Says (verb ∷ words)) end.1 (record {
+    let end = held_some after_hold_back _ c left_hold_back in
+    subst (Says (verb ∷ words)) end.4 (record {
       e = e_word;
       mid = mid_word;
       ssrc = ssrc_word;
       pt = pt_word;
       hold_back = hold_back_word;
+      held = end.0;
       words_are = glue v (is_e ∙ under e_word (is_mid
           ∙ under mid_word (is_ssrc ∙ under ssrc_word
-          (is_pt ∙ under pt_word (is_hold_back ∙ under hold_back_word end.0)))));
+          (is_pt ∙ under pt_word (is_hold_back ∙ under hold_back_word end.2)))));
       e_says = says_e;
       mid_says = says_mid;
       ssrc_says = says_ssrc;
       pt_says = says_pt;
       hold_back_says = says_hold_back;
+      held_says = end.3;
     }))))))
 
 -- nothing is left, or a word `mid=TEXT`
@@ -200,9 +216,13 @@ read_send words send a =
     ) refl
 
 read_open : (words : List (List ℕ)) (open' : _) (a : AreOpenWords words open')
-    → open_of (a.e ∷ a.mid ∷ a.ssrc ∷ a.pt ∷ a.hold_back ∷ []) ≡ Some (Open open')
+    → open_of (a.e ∷ a.mid ∷ a.ssrc ∷ a.pt ∷ a.hold_back ∷ option_to_list a.held) ≡ Some (Open open')
 unfolding open_of
-read_open words open' a = rw (a.e_says, a.mid_says, a.ssrc_says, a.pt_says, a.hold_back_says) refl
+read_open words open' a =
+    rw (a.e_says, a.mid_says, a.ssrc_says, a.pt_says, a.hold_back_says, held_again a.held, a.held_says) refl where
+      held_again : (held : Option (List ℕ)) → held_value (option_to_list held) ≡ held_number held
+      held_again None = refl
+      held_again (Some word) = refl
 
 read_sample : (words : List (List ℕ)) (sample : _) (a : AreSampleWords words sample)
     → sample_of (a.e ∷ a.stream ∷ a.time ∷ a.bytes ∷ mid_words sample.mid) ≡ Some (Sample sample)

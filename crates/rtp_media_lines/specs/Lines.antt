@@ -11,7 +11,7 @@ use Rattle.rtp_media_lines.specs.ExchangeLines.{row_of, ext_of, end_of, offer_of
 use Rattle.rtp_media_lines.specs.ExchangeLines.{connect_of}
 use Rattle.rtp_media_lines.specs.PlayLines.{play_of, queue_of}
 use Rattle.rtp_media_lines.specs.Words.{words_of, letter_of, text_of, hex_of, dash_or, numbers_of, number_below}
-use Rattle.rtp_media_lines.specs.Words.{mid_value, first, ended, ◌>>=◌}
+use Rattle.rtp_media_lines.specs.Words.{held_value, mid_value, first, ended, ◌>>=◌}
 
 -- fixed E
 unfoldable pub fixed_of : List (List ℕ) → Option Command
@@ -48,7 +48,7 @@ send_of words = do
   pt ← first (number_below (2 ^ 8)) ssrc.1
   rest_of_send letter.0 mid.0 ssrc.0 pt.0 pt.1
 
--- open E MID SSRC PT HOLDBACK
+-- open E MID SSRC PT HOLDBACK [HELD]
 unfoldable pub open_of : List (List ℕ) → Option Command
 open_of words = do
   letter ← first letter_of words
@@ -56,13 +56,16 @@ open_of words = do
   ssrc ← first (number_below (2 ^ 32)) mid.1
   pt ← first (number_below (2 ^ 8)) ssrc.1
   hold_back ← first (number_below (2 ^ 64)) pt.1
-  ended hold_back.1 (Open (record {
+  held ← held_value hold_back.1
+  Some (Open (record {
     letter = letter.0;
     mid = mid.0;
     ssrc = ssrc.0;
     pt = pt.0;
     hold_back =
         hold_back.0;
+    held =
+        held;
   }))
 
 -- sample E N TIME HEX [mid=TEXT]

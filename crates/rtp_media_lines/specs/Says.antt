@@ -1,5 +1,5 @@
 -- Which words a command is: the lines of the program, one by one.
-use Rattle.std.specs.Prelude.{◌≡◌, ℕ, ◌^◌, List, [], ◌∷◌, ◌++◌, codes, Some, Option, None}
+use Rattle.std.specs.Prelude.{◌≡◌, ℕ, ◌^◌, List, [], ◌∷◌, ◌++◌, codes, Some, Option, None, option_to_list}
 use Rattle.rtp_media_lines.specs.declared.command.Command.{Command}
 use Rattle.rtp_media_lines.specs.declared.command.Command.TheVariants.{Fixed, Send, Open, Sample, Receive, Poll, Row}
 use Rattle.rtp_media_lines.specs.declared.command.Command.TheVariants.{Ext, End, Offer, Answer, Accept, Withdraw}
@@ -44,19 +44,26 @@ pub record AreSendWords (words : List (List ℕ)) (send : SendCommand) : Type 0 
   pub distances_say : dash_or numbers_of distances ≡ Some send.distances
   pub picture_says : dash_or (number_below (2 ^ 16)) picture ≡ Some send.picture_id
 
--- open E MID SSRC PT HOLDBACK
+-- No word, where 4,096 packets may wait, or their number.
+abbrev pub held_number : Option (List ℕ) → Option ℕ
+held_number None = Some 4096
+held_number (Some word) = number_below (2 ^ 64) word
+
+-- open E MID SSRC PT HOLDBACK [HELD]
 pub record AreOpenWords (words : List (List ℕ)) (open' : OpenCommand) : Type 0 where
   pub e : List ℕ
   pub mid : List ℕ
   pub ssrc : List ℕ
   pub pt : List ℕ
   pub hold_back : List ℕ
-  pub words_are : words ≡ codes "open" ∷ e ∷ mid ∷ ssrc ∷ pt ∷ hold_back ∷ []
+  pub held : Option (List ℕ)
+  pub words_are : words ≡ codes "open" ∷ e ∷ mid ∷ ssrc ∷ pt ∷ hold_back ∷ option_to_list held
   pub e_says : letter_of e ≡ Some open'.letter
   pub mid_says : text_of mid ≡ Some open'.mid
   pub ssrc_says : number_below (2 ^ 32) ssrc ≡ Some open'.ssrc
   pub pt_says : number_below (2 ^ 8) pt ≡ Some open'.pt
   pub hold_back_says : number_below (2 ^ 64) hold_back ≡ Some open'.hold_back
+  pub held_says : held_number held ≡ Some open'.held
 
 -- Nothing, or `mid=TEXT`.
 abbrev pub mid_words : Option (List ℕ) → List (List ℕ)

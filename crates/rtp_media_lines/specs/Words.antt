@@ -1,6 +1,6 @@
 -- The words of a line, and what each kind of word says.
 use Rattle.std.specs.Prelude.{ℕ, ◌==◌, ◌&&◌, nat_lt, if◌then◌else◌, Bool, List, [], ◌∷◌, length, codes, Option, None}
-use Rattle.std.specs.Prelude.{Some}
+use Rattle.std.specs.Prelude.{Some, ◌^◌}
 use Rattle.std.specs.List.{slice_split}
 use Rattle.std.specs.Option.{option_map}
 use Rattle.std.specs.Result.{result_ok}
@@ -80,6 +80,12 @@ abbrev pub mid_value : List (List ℕ) → Option (Option (List ℕ))
 mid_value [] = Some None
 mid_value (word ∷ []) = option_map Some (behind (codes "mid=") word)
 mid_value (word ∷ next ∷ words) = None
+
+-- Nothing, which stands for 4,096, or one word that is the number.
+abbrev pub held_value : List (List ℕ) → Option ℕ
+held_value [] = Some 4096
+held_value (word ∷ []) = number_below (2 ^ 64) word
+held_value (word ∷ next ∷ words) = None
 
 -- The words of what is left of a line, none where its last word has been read.
 abbrev pub words_in : Option (List ℕ) → List (List ℕ)

@@ -30,7 +30,7 @@ pub struct SendCommand {
     pub picture_id: Option<u16>,
 }
 
-/// `open E MID SSRC PT HOLDBACK`: open a receiving stream.
+/// `open E MID SSRC PT HOLDBACK [HELD]`: open a receiving stream.
 #[derive(Drop)]
 pub struct OpenCommand {
     /// The end that receives.
@@ -43,6 +43,8 @@ pub struct OpenCommand {
     pub pt: u8,
     /// How many complete frames are held back for one that is missing.
     pub hold_back: usize,
+    /// How many packets may wait, 4,096 where the line doesn't say.
+    pub held: usize,
 }
 
 /// `sample E N TIME HEX [mid=TEXT]`: send a sample.

@@ -3,7 +3,7 @@
 ghost use Rattle.std.specs.Prelude.{◌≡◌, ◌≢◌, ◌+◌, ◌^◌, ◌≤◌, ◌∷◌, IsTrue, IfErr, IfSome, ◌↔◌, slice_index, IfOk};
 ghost use Rattle.std.specs.Option.{option_copied};
 ghost use Rattle.rtp_media_lines.specs.Words.{letter_of, number_below, text_of, hex_of, dash_or, numbers_of};
-ghost use Rattle.rtp_media_lines.specs.Words.{comma_parts, parts_in, first, behind, mid_value};
+ghost use Rattle.rtp_media_lines.specs.Words.{comma_parts, parts_in, first, behind, held_value, mid_value};
 ghost use Rattle.rtp_media_lines.specs.Misreads.{Reads};
 
 use crate::misread::Misread;
@@ -248,6 +248,27 @@ pub fn behind<'a>(word: &'a str, letters: &str) -> Option<&'a str>
     ensures { option_copied result ≡ behind letters.now word.now }
 {
     word.strip_prefix(letters)
+}
+
+/// How many packets may wait where a line doesn't say.
+const HELD: usize = 4096;
+
+/// The number of packets that the last word says; 4,096 where no word is left.
+///
+/// # Errors
+///
+/// `NotUnderstood` where the word is no number, or another stands behind it.
+pub fn held_value(words: Words<'_>) -> Result<usize, Misread>
+    ensures { Reads result (held_value words.entry) }
+{
+    let Ok((word, rest)) = words.next() else {
+        return Ok(HELD);
+    };
+    let Some(held) = number_up_to(word, usize::MAX as u64) else {
+        return Err(Misread::NotUnderstood);
+    };
+    rest.end()?;
+    Ok(held as usize)
 }
 
 /// The text of the last word `mid=TEXT`; none where no word is left.

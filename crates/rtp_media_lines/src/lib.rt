@@ -26,8 +26,8 @@ pub use exchange::{
     accept_of, answer_of, connect_of, end_of, ext_of, offer_of, row_of, withdraw_of,
 };
 pub use fields::{
-    behind, distances_word, hex_of, hex_word, letter_word, mid_value, number_or_dash_word,
-    number_up_to, number_word, picture_id_word, text_or_dash_word, text_word,
+    behind, distances_word, held_value, hex_of, hex_word, letter_word, mid_value,
+    number_or_dash_word, number_up_to, number_word, picture_id_word, text_or_dash_word, text_word,
 };
 pub use grammar::commands_are_their_words;
 pub use input::lines_are_what_was_ended;

@@ -12,7 +12,8 @@ use crate::exchange::{
     accept_of, answer_of, connect_of, end_of, ext_of, offer_of, row_of, withdraw_of,
 };
 use crate::fields::{
-    distances_word, hex_word, letter_word, mid_value, number_word, picture_id_word, text_word,
+    distances_word, held_value, hex_word, letter_word, mid_value, number_word, picture_id_word,
+    text_word,
 };
 use crate::misread::Misread;
 use crate::owned::Text;
@@ -155,13 +156,14 @@ fn open_of(alloc: Global, words: Words<'_>) -> Result<Command, Misread>
     let (ssrc, rest) = number_word(rest, u32::MAX as u64)?;
     let (pt, rest) = number_word(rest, u8::MAX as u64)?;
     let (hold_back, rest) = number_word(rest, usize::MAX as u64)?;
-    rest.end()?;
+    let held = held_value(rest)?;
     Ok(Command::Open(OpenCommand {
         letter,
         mid,
         ssrc: ssrc as u32,
         pt: pt as u8,
         hold_back: hold_back as usize,
+        held,
     }))
 }
 

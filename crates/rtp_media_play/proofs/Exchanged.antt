@@ -7,7 +7,7 @@ use Rattle.rtp_wire.specs.Maps.{empty_map}
 use Rattle.rtp_wire.specs.Values.{Numbering}
 use Rattle.rtp_media_ends.specs.Rows.{Row}
 use Rattle.payload_core_base.specs.Packing.{Sender}
-use Rattle.rtp_media_schedules.specs.Hearing.{Stream, fresh, heard}
+use Rattle.rtp_media_schedules.specs.Hearing.{Holding, Stream, fresh, heard}
 use Rattle.rtp_media_schedules.specs.SentSamples.{Timed, timed}
 use Rattle.rtp_media_schedules.specs.Samples.{whole_unit}
 use Rattle.rtp_media_streams.specs.Receiving.{Receiving, opened_receiver, with_stream}
@@ -128,26 +128,26 @@ module _ (law : KeepCodecLawInForms) (first_law : FirstIsReached) (answer : List
   sender = new-is-sender first_law a mid ssrc pt p to.sends to.ssrc_fits to.sound_params
 
   -- both streams have one SSRC, types, map and row
-  alike : (hold_back : ℕ) → new_receiver b mid ssrc pt hold_back
-      ≡ opened_receiver s.ssrc s.types s.map s.row hold_back
-  alike hold_back =
+  alike : (holding : Holding) → new_receiver b mid ssrc pt holding
+      ≡ opened_receiver s.ssrc s.types s.map s.row holding
+  alike holding =
       ap₂ (λ (o : Option Row) (m : Option Numbering). opened_receiver ssrc (types_in o) (unwrap_or m empty_map)
-      (row_format_in o) hold_back) (sym one_row) (sym one_map)
+      (row_format_in o) holding) (sym one_row) (sym one_map)
       ∙ ap₂ (λ (n : ℕ) (types : PayloadTypes). opened_receiver n types (stream_map a mid) (agreed_format a mid pt)
-      hold_back) (sym plain.ssrc) (sym plain.types)
-      ∙ ap₂ (λ (m : Numbering) (row : RowFormat). opened_receiver s.ssrc s.types m row hold_back) (sym plain.map)
+      holding) (sym plain.ssrc) (sym plain.types)
+      ∙ ap₂ (λ (m : Numbering) (row : RowFormat). opened_receiver s.ssrc s.types m row holding) (sym plain.map)
       (sym plain.row)
 
-  pub has-receiver : (hold_back : ℕ) → HasReceiver (after_open_receiver b mid ssrc pt hold_back) (length b.streams)
-      (new_receiver b mid ssrc pt hold_back)
-  has-receiver hold_back =
-      opened-receiver b mid ssrc pt hold_back (may-receive b mid ssrc pt to.receives)
+  pub has-receiver : (holding : Holding) → HasReceiver (after_open_receiver b mid ssrc pt holding) (length b.streams)
+      (new_receiver b mid ssrc pt holding)
+  has-receiver holding =
+      opened-receiver b mid ssrc pt holding (may-receive b mid ssrc pt to.receives)
 
-  pub hears : (hold_back : ℕ) → Hears (after_open_receiver b mid ssrc pt hold_back) (length b.streams) hold_back s
+  pub hears : (holding : Holding) → Hears (after_open_receiver b mid ssrc pt holding) (length b.streams) holding s
       samples
-  hears hold_back = record {
-    receiver = subst (λ (r : Receiving). HasReceiver (after_open_receiver b mid ssrc pt hold_back)
-        (length b.streams) r) (alike hold_back) (has-receiver hold_back);
+  hears holding = record {
+    receiver = subst (λ (r : Receiving). HasReceiver (after_open_receiver b mid ssrc pt holding)
+        (length b.streams) r) (alike holding) (has-receiver holding);
     sender = sender;
     sound = to.sound_samples;
     numbers = subst (λ (n : ℕ). n + count_of s samples ≤ 2 ^ 62) (sym plain.next) to.numbers;
@@ -168,14 +168,14 @@ module _ (law : KeepCodecLawInForms) (first_law : FirstIsReached) (answer : List
       p.for_browsers) limit state
       (arriving (agreed_format a mid pt) (stream_map a mid) samples)) plain.limit_is plain.packetizer
 
-  pub alone : (hold_back : ℕ) (schedule : List Event) → answers_of a b mid ssrc pt p hold_back samples schedule
-      ≡ heard (format_of (new_receiver b mid ssrc pt hold_back).row) (fresh hold_back)
-      (own_events (datagrams_of s samples) (new_receiver b mid ssrc pt hold_back) schedule)
-  alone hold_back schedule =
-      let e : EndState = after_open_receiver b mid ssrc pt hold_back in
+  pub alone : (holding : Holding) (schedule : List Event) → answers_of a b mid ssrc pt p holding samples schedule
+      ≡ heard (format_of (new_receiver b mid ssrc pt holding).row) (fresh holding)
+      (own_events (datagrams_of s samples) (new_receiver b mid ssrc pt holding) schedule)
+  alone holding schedule =
+      let e : EndState = after_open_receiver b mid ssrc pt holding in
       let n : ℕ = length b.streams in
-      let r : Receiving = new_receiver b mid ssrc pt hold_back in
-      let has : HasReceiver e n r = has-receiver hold_back in
+      let r : Receiving = new_receiver b mid ssrc pt holding in
+      let has : HasReceiver e n r = has-receiver holding in
       let same : receiver_at e n ≡ with_stream r (receiver_at e n).stream =
       has.stream_is ∙ ap (with_stream r) (sym (ap (λ (x : Receiving). x.stream) has.stream_is)) in
       isolated (datagrams_of s samples) n r schedule e (record { same = same; known = has.found })

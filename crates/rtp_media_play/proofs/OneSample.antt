@@ -1,8 +1,9 @@
 -- One sample of Opus over a stream: one datagram, a tame schedule, and one unit.
 use Rattle.std.proofs.Common.{◌≡◌, ℕ, zero, suc, ◌<◌, ◌≤◌, refl, sym, ◌∙◌, ap, ap₂, subst, subst₂, arith}
-use Rattle.std.proofs.Common.{false, List, [], ◌∷◌, length, map, Option, Some, None, inr}
+use Rattle.std.proofs.Common.{false, true, List, [], ◌∷◌, length, map, Option, Some, None, inr}
 use Rattle.std.specs.List.{cons_option}
 use Rattle.std.specs.Prelude.{option_and_then, slice_get}
+use Rattle.std.proofs.lemmas.Bool.Decides.{nat_tests}
 use Rattle.std.proofs.lemmas.List.{drop_all, take_all}
 use Rattle.std.proofs.lemmas.List.Elements.{All-cons, All-nil}
 use Rattle.payload_core_base.specs.Format.{Format}
@@ -17,7 +18,7 @@ use Rattle.h26x_payload.specs.Codings as codings
 use Rattle.h26x_payload.specs.Dispatch.{FirstIsReached, KeepCodecLawInForms}
 use Rattle.rtp_wire.specs.Carried.{AreValues}
 use Rattle.rtp_media_schedules.specs.Hearing as hearing
-use Rattle.rtp_media_schedules.specs.Hearing.{EndsSilent, fresh, heard, number_at, taken_by}
+use Rattle.rtp_media_schedules.specs.Hearing.{EndsSilent, Holding, fresh, heard, may_hold, number_at, taken_by}
 use Rattle.rtp_media_schedules.specs.Orders.{IsGoodPoll, IsTame, first_size}
 use Rattle.rtp_media_schedules.specs.Samples.{SentSample, frame_sizes, packets_of, sent_by}
 use Rattle.rtp_media_schedules.specs.Turns as turns
@@ -50,12 +51,12 @@ unfolding format_of
 opus-format row is = ap (λ (c : Codec). (codings.coding_in (forms_for false) (settings_in row) false c).format) is
 
 -- what is heard of a first own event and two polls ends by None
-silent-end : (format : Format) (hold_back : ℕ) (o : Option hearing.Event)
-    → EndsSilent (heard format (fresh hold_back) (cons_option o (hearing.Poll ∷ hearing.Poll ∷ [])))
-silent-end format hold_back None = polls-end format 1 (fresh hold_back) (omega arith)
-silent-end format hold_back (Some (hearing.Comes low content)) =
-    polls-end format 1 (taken_by (fresh hold_back) (number_at (fresh hold_back) low) content) (omega arith)
-silent-end format hold_back (Some hearing.Poll) = polls-end format 2 (fresh hold_back) (omega arith)
+silent-end : (format : Format) (holding : Holding) (o : Option hearing.Event)
+    → EndsSilent (heard format (fresh holding) (cons_option o (hearing.Poll ∷ hearing.Poll ∷ [])))
+silent-end format holding None = polls-end format 1 (fresh holding) (omega arith)
+silent-end format holding (Some (hearing.Comes low content)) =
+    polls-end format 1 (taken_by (fresh holding) (number_at (fresh holding) low) content) (omega arith)
+silent-end format holding (Some hearing.Poll) = polls-end format 2 (fresh holding) (omega arith)
 
 module _ (s : Sending) (x : Sample) (is : s.row.codec ≡ Opus) (some : 0 < length x.bytes)
     (fits : length x.bytes ≤ packet_limit s) where
@@ -98,19 +99,23 @@ all-came : AllCame 0 1 (0 ∷ [])
 all-came zero low high = refl
 all-came (suc y) low high = absurd (omega arith)
 
+one-held : (held : ℕ) → may_hold held ≡ true → 1 ≤ held
+one-held held may = grind (arith, nat_tests)
+
 good-poll : (hold_back : ℕ) → IsGoodPoll 0 1 hold_back (0 ∷ []) 1
 good-poll hold_back = record { begun = refl; held_back = inr all-came }
 
-tame-one : (hold_back : ℕ) → IsTame 0 1 hold_back 1 [] 0 (1 ∷ []) (turns.Arrive 0 ∷ Ask ∷ Ask ∷ [])
-tame-one hold_back = (
+tame-one : (holding : Holding) → may_hold holding.held ≡ true
+    → IsTame 0 1 holding 1 [] 0 (1 ∷ []) (turns.Arrive 0 ∷ Ask ∷ Ask ∷ [])
+tame-one holding may = (
   record {
     from_first = omega arith;
     before_end = omega arith;
     near = omega arith;
     in_reach = λ y low far. absurd (omega arith);
   },
-  omega arith,
-  (good-poll hold_back, (good-poll hold_back, all-came)),
+  one-held holding.held may,
+  (good-poll holding.hold_back, (good-poll holding.hold_back, all-came)),
 )
 
 module _ (law : KeepCodecLawInForms) (reached : FirstIsReached) (h : Hop) (x : Sample) (opus : CarriesOpus h)
@@ -147,22 +152,22 @@ module _ (law : KeepCodecLawInForms) (reached : FirstIsReached) (h : Hop) (x : S
 
   silent : EndsSilent (answers_over h (x ∷ []) one_arrival)
   silent =
-      let r = new_receiver h.receiver h.mid h.ssrc h.pt h.hold_back in
+      let r = new_receiver h.receiver h.mid h.ssrc h.pt h.holding in
       subst EndsSilent (sym (alone law reached h.answer h.sender h.receiver h.mid h.ssrc h.pt h.params (x ∷ [])
-      carries-one h.hold_back one_arrival))
-      (silent-end (format_of r.row) h.hold_back
+      carries-one h.holding one_arrival))
+      (silent-end (format_of r.row) h.holding
       (option_and_then (event_in r) (slice_get (datagrams_of s (x ∷ [])) 0)))
 
   pub is-tame : hops.IsTame h (x ∷ []) one_arrival
   is-tame =
       let next : s.next ≡ 0 = same.next ∙ opus.first in
-      let order : IsTame 0 (count_of s (x ∷ [])) h.hold_back (first_size (sizes_at s (x ∷ []))) [] 0
+      let order : IsTame 0 (count_of s (x ∷ [])) h.holding (first_size (sizes_at s (x ∷ []))) [] 0
       (sizes_at s (x ∷ [])) (turns_of 0 (count_of s (x ∷ [])) one_arrival) =
-      subst₂ (λ (n : ℕ) (zs : List ℕ). IsTame 0 n h.hold_back (first_size zs) [] 0 zs (turns_of 0 n one_arrival))
-      (sym counted) (sym (sizes-one s x is-opus fits.some in-packet)) (tame-one h.hold_back) in
+      subst₂ (λ (n : ℕ) (zs : List ℕ). IsTame 0 n h.holding (first_size zs) [] 0 zs (turns_of 0 n one_arrival))
+      (sym counted) (sym (sizes-one s x is-opus fits.some in-packet)) (tame-one h.holding opus.held) in
       record {
         foreign = tt;
-        order = subst (λ (n : ℕ). IsTame n (count_of s (x ∷ [])) h.hold_back (first_size (sizes_at s (x ∷ []))) [] n
+        order = subst (λ (n : ℕ). IsTame n (count_of s (x ∷ [])) h.holding (first_size (sizes_at s (x ∷ []))) [] n
             (sizes_at s (x ∷ [])) (turns_of n (count_of s (x ∷ [])) one_arrival)) (sym next) order;
         before = Arrive 0 ∷ Poll ∷ [];
         last = refl;

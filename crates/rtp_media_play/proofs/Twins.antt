@@ -172,7 +172,7 @@ pub same-over : KeepCodecLawInForms → FirstIsReached → (h : Hop) (p q : Stre
 same-over law first h p q xs schedule adds to =
     let s : Sending = sender_over (opened_with h p) in
     let t : Sending = sender_over (opened_with h q) in
-    let e : EndState = after_open_receiver h.receiver h.mid h.ssrc h.pt h.hold_back in
+    let e : EndState = after_open_receiver h.receiver h.mid h.ssrc h.pt h.holding in
     let n : ℕ = length h.receiver.streams in
     let small : q.first + 0 ≤ 2 ^ 62 = omega (arith, adds.sound.first) in
     let none : Carries (opened_with h q) [] = record {
@@ -200,8 +200,8 @@ same-over law first h p q xs schedule adds to =
       plain_sound = new-is-sender first h.sender h.mid h.ssrc h.pt p to.sends to.ssrc_fits to.sound_params;
       redundant_sound = new-is-sender first h.sender h.mid h.ssrc h.pt q to.sends to.ssrc_fits adds.sound;
     } in
-    let hear : Hears e n h.hold_back s xs =
-    hears law first h.answer h.sender h.receiver h.mid h.ssrc h.pt p xs to h.hold_back in
-    same-answers law s t (opened_receiver s.ssrc s.types s.map s.row h.hold_back) xs twins
+    let hear : Hears e n h.holding s xs =
+    hears law first h.answer h.sender h.receiver h.mid h.ssrc h.pt p xs to h.holding in
+    same-answers law s t (opened_receiver s.ssrc s.types s.map s.row h.holding) xs twins
     (record { ssrc = refl; types = refl; map = refl }) to.sound_samples e n schedule hear.receiver.stream_is
     hear.receiver.found

@@ -10,7 +10,7 @@ use Rattle.rtp_wire.specs.declared.header.RtpHeader.{RtpHeader}
 use Rattle.h26x_payload.specs.Dispatch.{KeepCodecLawInForms}
 use Rattle.payload_core_base.specs.Format.{Format}
 use Rattle.rtp_media_schedules.specs.Hearing as hearing
-use Rattle.rtp_media_schedules.specs.Hearing.{Answer, Comes, EndsSilent, Stream, fresh, handed_out, heard}
+use Rattle.rtp_media_schedules.specs.Hearing.{Answer, Comes, EndsSilent, Holding, Stream, fresh, handed_out, heard}
 use Rattle.rtp_media_schedules.specs.SentSamples.{timed_unit}
 use Rattle.rtp_media_schedules.specs.Legal.{IsLegal}
 use Rattle.rtp_media_schedules.specs.Orders.{IsTame, first_size}
@@ -96,10 +96,10 @@ many-datagrams s samples are =
     ∙ length-datagrams_from s s.next (wire_payloads s (payloads_of_samples s samples))
     ∙ length-on_wire s.types.pt s.mtu s.redundancy (payloads_of_samples s samples) ∙ are.count
 
-module _ (law : KeepCodecLawInForms) (e : EndState) (rx hold_back : ℕ) (s : Sending) (samples : List Sample)
-    (hears : Hears e rx hold_back s samples) where
+module _ (law : KeepCodecLawInForms) (e : EndState) (rx : ℕ) (holding : Holding) (s : Sending) (samples : List Sample)
+    (hears : Hears e rx holding s samples) where
   abbrev r : Receiving
-  r = opened_receiver s.ssrc s.types s.map s.row hold_back
+  r = opened_receiver s.ssrc s.types s.map s.row holding
 
   abbrev format : Format
   format = format_of s.row
@@ -129,7 +129,7 @@ module _ (law : KeepCodecLawInForms) (e : EndState) (rx hold_back : ℕ) (s : Se
 
   -- the answers are those of a fresh stream to arrivals by true numbers and polls
   pub run-is : (xs : List Event) → AreForeign s.ssrc s.types xs →
-      poll_answers (played ds rx e xs) ≡ heard format (fresh hold_back) (map (event_of sender) (turns_at s samples xs))
+      poll_answers (played ds rx e xs) ≡ heard format (fresh holding) (map (event_of sender) (turns_at s samples xs))
   run-is xs foreign =
       isolated ds rx r xs e (record { same = same; known = hears.receiver.found })
       ∙ ap₂ (λ (t : Stream) (es : List hearing.Event). heard format t es)
@@ -144,7 +144,7 @@ module _ (law : KeepCodecLawInForms) (e : EndState) (rx hold_back : ℕ) (s : Se
       → IsLegal (canonical_of s samples) (poll_answers (played ds rx e xs))
   legal-run xs sane =
       subst (λ (os : List Answer). IsLegal (canonical_of s samples) os) (sym (run-is xs sane.foreign))
-      (legal-samples format sent reads hold_back s.next (turns_at s samples xs) hears.numbers sane.order)
+      (legal-samples format sent reads holding s.next (turns_at s samples xs) hears.numbers sane.order)
 
   -- a poll more is a turn more
   turns-more : (first count : ℕ) (xs : List Event) → turns_of first count (xs ++ Poll ∷ [])
@@ -160,19 +160,19 @@ module _ (law : KeepCodecLawInForms) (e : EndState) (rx hold_back : ℕ) (s : Se
   turns-more first count (Foreign d ∷ xs) = turns-more first count xs
   turns-more first count (Poll ∷ xs) = ap (λ (ts : List Turn). Ask ∷ ts) (turns-more first count xs)
 
-  pub exact-run : (xs : List Event) → IsTameSchedule s samples hold_back xs (poll_answers (played ds rx e xs))
+  pub exact-run : (xs : List Event) → IsTameSchedule s samples holding xs (poll_answers (played ds rx e xs))
       → map timed_unit (handed_out (poll_answers (played ds rx e xs))) ≡ map Ok (units_of s samples)
   exact-run xs tame =
       let before : List Turn = turns_at s samples tame.before in
       let split : turns_at s samples xs ≡ before ++ Ask ∷ [] =
       ap (turns_at s samples) tame.last ∙ turns-more s.next (count_of s samples) tame.before in
       let run : poll_answers (played ds rx e xs)
-      ≡ heard format (fresh hold_back) (map (event_of sender) (before ++ Ask ∷ [])) =
+      ≡ heard format (fresh holding) (map (event_of sender) (before ++ Ask ∷ [])) =
       run-is xs tame.foreign
-      ∙ ap (λ (ts : List Turn). heard format (fresh hold_back) (map (event_of sender) ts)) split in
+      ∙ ap (λ (ts : List Turn). heard format (fresh holding) (map (event_of sender) ts)) split in
       ap (λ (os : List Answer). map timed_unit (handed_out os)) run
-      ∙ exact-samples format sent reads hold_back s.next before hears.numbers
-      (subst (λ (ts : List Turn). IsTame s.next (count_of s samples) hold_back (first_size (sizes_at s samples)) []
+      ∙ exact-samples format sent reads holding s.next before hears.numbers
+      (subst (λ (ts : List Turn). IsTame s.next (count_of s samples) holding (first_size (sizes_at s samples)) []
       s.next (sizes_at s samples) ts) split tame.order)
       (subst EndsSilent run tame.silent)
       ∙ units-are (canonical_units s.next sent)

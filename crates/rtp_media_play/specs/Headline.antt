@@ -1,6 +1,6 @@
 -- Two ends that exchanged texts, and each opened a stream.
 use Rattle.std.specs.Prelude.{ℕ, ◌+◌, ◌^◌, ◌<◌, ◌≤◌, List, length}
-use Rattle.rtp_media_schedules.specs.Hearing.{Answer}
+use Rattle.rtp_media_schedules.specs.Hearing.{Answer, Holding}
 use Rattle.rtp_media_schedules.specs.SentSamples.{Timed}
 use Rattle.rtp_media_streams.specs.Sending.{Sample, datagrams_of}
 use Rattle.rtp_media_ends.specs.Connections.{HaveExchanged}
@@ -28,10 +28,11 @@ pub record SendsTo (answer : List ℕ) (a b : EndState) (mid : List ℕ) (ssrc p
   pub numbers : params.first + count_of (new_sender a mid ssrc pt params) samples ≤ 2 ^ 62
 
 -- What the polls of a schedule answer at the new receiving stream.
-abbrev pub answers_of : EndState → EndState → List ℕ → ℕ → ℕ → StreamParams → ℕ → List Sample → List Event → List Answer
-answers_of a b mid ssrc pt params hold_back samples schedule =
+abbrev pub answers_of : EndState → EndState → List ℕ → ℕ → ℕ → StreamParams → Holding → List Sample → List Event
+    → List Answer
+answers_of a b mid ssrc pt params holding samples schedule =
     poll_answers (played (datagrams_of (new_sender a mid ssrc pt params) samples) (length b.streams)
-    (after_open_receiver b mid ssrc pt hold_back) schedule)
+    (after_open_receiver b mid ssrc pt holding) schedule)
 
 -- The canonical units of the samples.
 abbrev pub units : EndState → List ℕ → ℕ → StreamParams → List Sample → List Timed

@@ -4,7 +4,7 @@ use Rattle.payload_core_base.specs.declared.error.PacketError.{PacketError}
 use Rattle.rtp_media_play.specs.Codecs.{is_kept_in}
 use Rattle.rtp_wire.specs.Values.{Numbering}
 use Rattle.rtp_wire.specs.declared.ExtensionValues.{ExtensionValues}
-use Rattle.rtp_media_schedules.specs.Hearing.{Answer, MediaUnit}
+use Rattle.rtp_media_schedules.specs.Hearing.{Answer, Holding, MediaUnit}
 use Rattle.rtp_media_schedules.specs.SentSamples.{Timed, timed}
 use Rattle.rtp_media_streams.specs.Rows.{rtp_rate, settings_in}
 use Rattle.rtp_media_streams.specs.Sending.{Sample, Sending}
@@ -27,7 +27,7 @@ pub record Hop : Type 0 where
   pub ssrc : ℕ
   pub pt : ℕ
   pub params : StreamParams
-  pub hold_back : ℕ
+  pub holding : Holding
 
 -- The sending stream.
 abbrev pub sender_over : Hop → Sending
@@ -40,14 +40,14 @@ Carries h samples = SendsTo h.answer h.sender h.receiver h.mid h.ssrc h.pt h.par
 -- What the polls of a schedule answer, the canonical units, and a tame schedule.
 abbrev pub answers_over : Hop → List Sample → List Event → List Answer
 answers_over h samples schedule =
-    answers_of h.sender h.receiver h.mid h.ssrc h.pt h.params h.hold_back samples schedule
+    answers_of h.sender h.receiver h.mid h.ssrc h.pt h.params h.holding samples schedule
 
 abbrev pub units_over : Hop → List Sample → List Timed
 units_over h samples = units h.sender h.mid h.pt h.params samples
 
 abbrev pub IsTame : Hop → List Sample → List Event → Type 0
 IsTame h samples schedule =
-    IsTameSchedule (sender_over h) samples h.hold_back schedule (answers_over h samples schedule)
+    IsTameSchedule (sender_over h) samples h.holding schedule (answers_over h samples schedule)
 
 -- What its row says of its payloads, its map of header extensions, and the most bytes of a packet.
 abbrev pub row_over : Hop → RowFormat

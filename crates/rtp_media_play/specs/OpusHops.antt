@@ -1,9 +1,9 @@
 -- One sample of Opus over two hops.
-use Rattle.std.specs.Prelude.{ℕ, ◌≡◌, ◌<◌, ◌≤◌, List, [], ◌∷◌, length, Result, Ok, Err}
+use Rattle.std.specs.Prelude.{ℕ, ◌≡◌, ◌<◌, ◌≤◌, List, [], ◌∷◌, length, true, Result, Ok, Err}
 use Rattle.payload_core_base.specs.declared.codec.Codec.TheVariants.{Opus}
 use Rattle.payload_core_base.specs.declared.error.PacketError.{PacketError}
 use Rattle.rtp_wire.specs.Carried.{AreValues}
-use Rattle.rtp_media_schedules.specs.Hearing.{MediaUnit}
+use Rattle.rtp_media_schedules.specs.Hearing.{MediaUnit, may_hold}
 use Rattle.rtp_media_streams.specs.Sending.{Sample}
 use Rattle.rtp_media_play.specs.declared.schedule.Event.{Event}
 use Rattle.rtp_media_play.specs.declared.schedule.Event.TheVariants.{Arrive, Poll}
@@ -13,11 +13,12 @@ use Rattle.rtp_media_play.specs.Hops.{Carries, Hop, limit_over, row_over}
 abbrev pub one_arrival : List Event
 one_arrival = Arrive 0 ∷ Poll ∷ Poll ∷ []
 
--- A stream of Opus that may be opened, whose numbers begin at 0.
+-- A stream of Opus that may be opened, also by how many packets may wait, whose numbers begin at 0.
 pub record CarriesOpus (h : Hop) : Type 0 where
   pub opened : Carries h []
   pub opus : (row_over h).codec ≡ Opus
   pub first : h.params.first ≡ 0
+  pub held : may_hold h.holding.held ≡ true
 
 -- A sample that one packet has room for.
 pub record FitsPacket (h : Hop) (x : Sample) : Type 0 where

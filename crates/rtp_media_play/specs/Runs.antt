@@ -1,6 +1,6 @@
 -- Sane and tame schedules of a sending stream's samples, and the stream that hears them.
 use Rattle.std.specs.Prelude.{ℕ, ◌≡◌, ◌+◌, ◌^◌, ◌≤◌, false, List, [], ◌∷◌, ◌++◌}
-use Rattle.rtp_media_schedules.specs.Hearing.{Answer, EndsSilent}
+use Rattle.rtp_media_schedules.specs.Hearing.{Answer, EndsSilent, Holding}
 use Rattle.rtp_media_schedules.specs.Orders.{IsSane, IsTame, first_size}
 use Rattle.rtp_media_schedules.specs.Samples.{canonical_units, frame_sizes}
 use Rattle.rtp_media_schedules.specs.Sending.{Canonical}
@@ -37,13 +37,13 @@ pub record IsSaneSchedule (s : Sending) (samples : List Sample) (schedule : List
 abbrev pub sizes_at : Sending → List Sample → List ℕ
 sizes_at s samples = frame_sizes (format_of s.row) (sent_samples s samples)
 
--- A tame schedule: a sane one in which every datagram arrives, first before that of any number that is 128 or more
--- above it; no poll comes before all of the first unit; at most 4,096 datagrams wait; 127 complete units or more are
--- held back, or all polls come last; and it ends by polls until one answers None.
-pub record IsTameSchedule (s : Sending) (samples : List Sample) (hold_back : ℕ) (schedule : List Event)
+-- A tame schedule: a sane one in which every datagram arrives, first before that of any number that is 1,024 or more
+-- above it; no poll comes before all of the first unit; no more datagrams wait than may be held; 1,023 complete units
+-- or more are held back, or all polls come last; and it ends by polls until one answers None.
+pub record IsTameSchedule (s : Sending) (samples : List Sample) (holding : Holding) (schedule : List Event)
     (answers : List Answer) : Type 0 where
   pub foreign : AreForeign s.ssrc s.types schedule
-  pub order : IsTame s.next (count_of s samples) hold_back (first_size (sizes_at s samples)) [] s.next
+  pub order : IsTame s.next (count_of s samples) holding (first_size (sizes_at s samples)) [] s.next
       (sizes_at s samples) (turns_at s samples schedule)
   pub before : List Event
   pub last : schedule ≡ before ++ Poll ∷ []
@@ -55,8 +55,8 @@ canonical_of s samples = canonical_units s.next (sent_samples s samples)
 
 -- An end's receiving stream of this number hears a sending stream: it has the same SSRC, types, map of header
 -- extensions and row, and heard nothing before. Each sample is well-formed, and the numbers stay below 2^62.
-pub record Hears (e : EndState) (rx hold_back : ℕ) (s : Sending) (samples : List Sample) : Type 0 where
-  pub receiver : HasReceiver e rx (opened_receiver s.ssrc s.types s.map s.row hold_back)
+pub record Hears (e : EndState) (rx : ℕ) (holding : Holding) (s : Sending) (samples : List Sample) : Type 0 where
+  pub receiver : HasReceiver e rx (opened_receiver s.ssrc s.types s.map s.row holding)
   pub sender : IsSender s
   pub sound : AreSound s samples
   pub numbers : s.next + count_of s samples ≤ 2 ^ 62

@@ -1,7 +1,7 @@
 //! What holds of every run between two ends.
 
 ghost use Rattle.std.specs.Prelude.{◌≡◌, ◌↔◌, ℕ, List, length, map, None, Ok};
-ghost use Rattle.rtp_media_schedules.specs.Hearing.{fresh, handed_out, heard};
+ghost use Rattle.rtp_media_schedules.specs.Hearing.{Holding, fresh, handed_out, heard};
 ghost use Rattle.rtp_media_schedules.specs.SentSamples.{timed_unit};
 ghost use Rattle.rtp_media_schedules.specs.Legal.{IsLegal};
 ghost use Rattle.rtp_media_schedules.specs.Samples.{whole_unit};
@@ -33,27 +33,27 @@ pub fn headline()
         (samples : List Sample) → SendsTo answer a b mid ssrc pt params samples →
         map whole_unit (canonical_of (new_sender a mid ssrc pt params) samples) ≡ units a mid pt params samples }
     ensures alone { (answer : List ℕ) (a b : EndState) (mid : List ℕ) (ssrc pt : ℕ) (params : StreamParams)
-        (samples : List Sample) (hold_back : ℕ) (schedule : List Event) →
-        let receiver = new_receiver b mid ssrc pt hold_back in
+        (samples : List Sample) (holding : Holding) (schedule : List Event) →
+        let receiver = new_receiver b mid ssrc pt holding in
         let sent = datagrams_of (new_sender a mid ssrc pt params) samples in
         SendsTo answer a b mid ssrc pt params samples →
-        answers_of a b mid ssrc pt params hold_back samples schedule
-        ≡ heard (format_of receiver.row) (fresh hold_back) (own_events sent receiver schedule) }
+        answers_of a b mid ssrc pt params holding samples schedule
+        ≡ heard (format_of receiver.row) (fresh holding) (own_events sent receiver schedule) }
     ensures legal { (answer : List ℕ) (a b : EndState) (mid : List ℕ) (ssrc pt : ℕ) (params : StreamParams)
-        (samples : List Sample) (hold_back : ℕ) (schedule : List Event) →
+        (samples : List Sample) (holding : Holding) (schedule : List Event) →
         let sender = new_sender a mid ssrc pt params in
         SendsTo answer a b mid ssrc pt params samples → IsSaneSchedule sender samples schedule →
-        IsLegal (canonical_of sender samples) (answers_of a b mid ssrc pt params hold_back samples schedule) }
+        IsLegal (canonical_of sender samples) (answers_of a b mid ssrc pt params holding samples schedule) }
     ensures exact { (answer : List ℕ) (a b : EndState) (mid : List ℕ) (ssrc pt : ℕ) (params : StreamParams)
-        (samples : List Sample) (hold_back : ℕ) (schedule : List Event) →
-        let answers = answers_of a b mid ssrc pt params hold_back samples schedule in
+        (samples : List Sample) (holding : Holding) (schedule : List Event) →
+        let answers = answers_of a b mid ssrc pt params holding samples schedule in
         SendsTo answer a b mid ssrc pt params samples →
-        IsTameSchedule (new_sender a mid ssrc pt params) samples hold_back schedule answers →
+        IsTameSchedule (new_sender a mid ssrc pt params) samples holding schedule answers →
         map timed_unit (handed_out answers) ≡ map Ok (units a mid pt params samples) }
     // What `play` asks of its streams is met after both openings.
     ensures hears { (answer : List ℕ) (a b : EndState) (mid : List ℕ) (ssrc pt : ℕ) (params : StreamParams)
-        (samples : List Sample) (hold_back : ℕ) → SendsTo answer a b mid ssrc pt params samples →
-        Hears (after_open_receiver b mid ssrc pt hold_back) (length b.streams) hold_back
+        (samples : List Sample) (holding : Holding) → SendsTo answer a b mid ssrc pt params samples →
+        Hears (after_open_receiver b mid ssrc pt holding) (length b.streams) holding
         (new_sender a mid ssrc pt params) samples }
 {
     codec_law();

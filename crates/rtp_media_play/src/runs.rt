@@ -3,7 +3,7 @@
 ghost use Rattle.std.specs.Prelude.{◌≡◌, ◌≢◌, ◌⊎◌, ◌++◌, ℕ, true, map, IfOk, IfErr, OnOk, OnErr, None};
 ghost use Rattle.std.specs.Prelude.{option_to_list};
 ghost use Rattle.std.specs.Prelude.{Ok};
-ghost use Rattle.rtp_media_schedules.specs.Hearing.{handed_out, heard};
+ghost use Rattle.rtp_media_schedules.specs.Hearing.{Holding, handed_out, heard};
 ghost use Rattle.rtp_media_schedules.specs.SentSamples.{timed_unit};
 ghost use Rattle.rtp_media_schedules.specs.Legal.{IsLegal};
 ghost use Rattle.rtp_media_streams.specs.Rows.{format_of};
@@ -68,13 +68,13 @@ pub fn play(
     // Legal under every sane schedule: what the polls hand out is the canonical units, in order and each at most
     // once, and no poll answers a fault.
     ensures legal { let sender = sender_at a.old tx in
-        IfOk result (λ all. (hold_back : ℕ) → Hears b.old rx hold_back sender samples.now →
+        IfOk result (λ all. (holding : Holding) → Hears b.old rx holding sender samples.now →
         IsSaneSchedule sender samples.now schedule.now →
         IsLegal (canonical_of sender samples.now) (poll_answers all.items)) }
     // Exact under every tame schedule: it is just the canonical units.
     ensures exact { let sender = sender_at a.old tx in
-        IfOk result (λ all. (hold_back : ℕ) → Hears b.old rx hold_back sender samples.now →
-        IsTameSchedule sender samples.now hold_back schedule.now (poll_answers all.items) →
+        IfOk result (λ all. (holding : Holding) → Hears b.old rx holding sender samples.now →
+        IsTameSchedule sender samples.now holding schedule.now (poll_answers all.items) →
         map timed_unit (handed_out (poll_answers all.items)) ≡ map Ok (units_of sender samples.now)) }
 {
     codec_law();

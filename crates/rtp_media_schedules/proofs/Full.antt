@@ -6,6 +6,7 @@ use Rattle.std.specs.Prelude.{Ok}
 use Rattle.std.proofs.lemmas.List.Sums.{count_by-le-length}
 use Rattle.std.proofs.lemmas.List.FromFn.{length-range_with_len}
 use Rattle.payload_core_base.specs.Format.{Format}
+use Rattle.payload_core_buffer.specs.Buffered.{Holding}
 use Rattle.rtp_media_schedules.specs.Turns.{Turn, Arrive, Ask, AllCame, AreGoodArrivals, event_of, is_among, waiting}
 use Rattle.rtp_media_schedules.specs.SentSamples.{timed_unit}
 use Rattle.rtp_media_schedules.specs.Hearing.{EndsSilent, fresh, handed_out, heard}
@@ -20,16 +21,16 @@ opening-in : (zs : List ℕ) → first_size zs ≤ total zs
 opening-in [] = omega arith
 opening-in (z ∷ zs) = omega arith
 
-module _ (first count hold_back opening : ℕ) (inside : opening ≤ count) where
+module _ (first count : ℕ) (holding : Holding) (opening : ℕ) (inside : opening ≤ count) where
   polls-tame : (past : List ℕ) (next : ℕ) (left : List ℕ) (k : ℕ) → AllCame first count past
-      → IsTame first count hold_back opening past next left (replicate k Ask)
+      → IsTame first count holding opening past next left (replicate k Ask)
   polls-tame past next left zero all = all
   polls-tame past next left (suc k) all = (
     record { begun = all-passed (is_among past) first opening (λ y a b. all y a (omega arith)); held_back = inr all },
     polls-tame past (next_after past next left) (left_after past next left) k all,
   )
 
-  few-waiting : (past : List ℕ) → count ≤ 4096 → waiting first count past first ≤ 4096
+  few-waiting : (past : List ℕ) → count ≤ holding.held → waiting first count past first ≤ holding.held
   few-waiting past h = omega (
     arith,
     count_by-le-length (is_among past)
@@ -37,8 +38,8 @@ module _ (first count hold_back opening : ℕ) (inside : opening ≤ count) wher
     length-range_with_len first (first + count - first),
   )
 
-  arrivals-tame : (k : ℕ) (xs past left : List ℕ) → count ≤ 4096 → AreGoodArrivals first count past xs
-      → IsTame first count hold_back opening past first left (map Arrive xs ++ replicate k Ask)
+  arrivals-tame : (k : ℕ) (xs past left : List ℕ) → count ≤ holding.held → AreGoodArrivals first count past xs
+      → IsTame first count holding opening past first left (map Arrive xs ++ replicate k Ask)
   arrivals-tame k [] past left h good = polls-tame past first left k good
   arrivals-tame k (x ∷ xs) past left h good =
       (good.0, few-waiting (x ∷ past) h, arrivals-tame k xs (x ∷ past) left h good.1)
@@ -52,15 +53,15 @@ turns-are : (xs : List ℕ) (k : ℕ) → (map Arrive xs ++ replicate k Ask) ++ 
 turns-are xs k = append_assoc (map Arrive xs) (replicate k Ask) (Ask ∷ [])
     ∙ ap (λ (ts : List Turn). map Arrive xs ++ ts) (one-more k)
 
-pub full-exact : (format : Format) (hold_back first polls : ℕ) (ss : List SentSample) (arrivals : List ℕ)
-    → AreSentAs format ss → first + length (packets_of ss) ≤ 2 ^ 62 → length (packets_of ss) ≤ 4096 →
+pub full-exact : (format : Format) (holding : Holding) (first polls : ℕ) (ss : List SentSample) (arrivals : List ℕ)
+    → AreSentAs format ss → first + length (packets_of ss) ≤ 2 ^ 62 → length (packets_of ss) ≤ holding.held →
     AreGoodArrivals first (length (packets_of ss)) [] arrivals →
-    EndsSilent (heard format (fresh hold_back)
+    EndsSilent (heard format (fresh holding)
     (map (event_of (numbered first (datagrams ss))) (map Arrive arrivals ++ replicate (suc polls) Ask))) →
-    map timed_unit (handed_out (heard format (fresh hold_back)
+    map timed_unit (handed_out (heard format (fresh holding)
     (map (event_of (numbered first (datagrams ss))) (map Arrive arrivals ++ replicate (suc polls) Ask))))
     ≡ map (λ c. Ok (whole_unit c)) (canonical_units first ss)
-full-exact format hold_back first polls ss arrivals sent fits few good silent =
+full-exact format holding first polls ss arrivals sent fits few good silent =
     let of : HaveFrames format ss = frames-of format ss sent in
     let count : total (sizes of.frames) ≡ length (packets_of ss) = count-is format ss sent in
     let same : sizes of.frames ≡ frame_sizes format ss = sizes-are format ss sent in
@@ -69,15 +70,15 @@ full-exact format hold_back first polls ss arrivals sent fits few good silent =
     (omega (arith, opening-in (sizes of.frames), count)) in
     let e : (map Arrive arrivals ++ replicate polls Ask) ++ Ask ∷ [] ≡ map Arrive arrivals
     ++ replicate (suc polls) Ask = turns-are arrivals polls in
-    let tame : IsTame first (length (packets_of ss)) hold_back (first_size (frame_sizes format ss)) [] first
+    let tame : IsTame first (length (packets_of ss)) holding (first_size (frame_sizes format ss)) [] first
     (frame_sizes format ss) (map Arrive arrivals ++ replicate (suc polls) Ask) =
-    arrivals-tame first (length (packets_of ss)) hold_back (first_size (frame_sizes format ss)) inside (suc polls)
+    arrivals-tame first (length (packets_of ss)) holding (first_size (frame_sizes format ss)) inside (suc polls)
     arrivals [] (frame_sizes format ss) few good in
     subst (λ (ts : List Turn). map timed_unit
-    (handed_out (heard format (fresh hold_back) (map (event_of (numbered first (datagrams ss))) ts)))
+    (handed_out (heard format (fresh holding) (map (event_of (numbered first (datagrams ss))) ts)))
     ≡ map (λ c. Ok (whole_unit c)) (canonical_units first ss)) e
-    (exact-samples format ss sent hold_back first (map Arrive arrivals ++ replicate polls Ask) fits
-    (subst (λ (ts : List Turn). IsTame first (length (packets_of ss)) hold_back
+    (exact-samples format ss sent holding first (map Arrive arrivals ++ replicate polls Ask) fits
+    (subst (λ (ts : List Turn). IsTame first (length (packets_of ss)) holding
     (first_size (frame_sizes format ss)) [] first (frame_sizes format ss) ts) (sym e) tame)
-    (subst (λ (ts : List Turn). EndsSilent (heard format (fresh hold_back)
+    (subst (λ (ts : List Turn). EndsSilent (heard format (fresh holding)
     (map (event_of (numbered first (datagrams ss))) ts))) (sym e) silent))

@@ -90,12 +90,12 @@ module _ (sender : Sender) where
     pub rises : Rises lo hi numbers
     pub are : held ≡ map (packet sender) numbers
 
-  pub held-limited : (lo hi x : ℕ) (held : List Packet) → lo ≤ x → x < hi → IsHeld lo hi held
-      → IsHeld lo hi (limited (held_with (packet sender x) held))
-  held-limited lo hi x held a b is =
+  pub held-limited : (most lo hi x : ℕ) (held : List Packet) → lo ≤ x → x < hi → IsHeld lo hi held
+      → IsHeld lo hi (limited most (held_with (packet sender x) held))
+  held-limited most lo hi x held a b is =
       let e : held_with (packet sender x) held ≡ map (packet sender) (placed x is.numbers) =
       ap (held_with (packet sender x)) is.are ∙ held-placed x is.numbers in
-      let n : ℕ = length (held_with (packet sender x) held) - 4096 in
+      let n : ℕ = length (held_with (packet sender x) held) - most in
       record {
         numbers = drop n (placed x is.numbers);
         rises = Rises-drop lo hi n (placed x is.numbers) (Rises-placed x lo hi a b is.numbers is.rises);

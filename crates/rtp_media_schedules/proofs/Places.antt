@@ -34,9 +34,9 @@ pub filter-below : (p : ℕ → Bool) (x lo m : ℕ) → x < lo → filter (or_t
 filter-below p x lo zero h = refl
 filter-below p x lo (suc m) h = rw (eqb-no lo x (omega arith), filter-below p x (lo + 1) m (omega arith))
 
--- up to 4,096 packets stay
-pub limited-few : (ps : List Packet) → length ps ≤ 4096 → limited ps ≡ ps
-limited-few ps few = let none : length ps - 4096 ≡ 0 = omega arith in ap (λ n. drop n ps) none
+-- as many packets as may be held stay
+pub limited-few : (most : ℕ) (ps : List Packet) → length ps ≤ most → limited most ps ≡ ps
+limited-few most ps few = let none : length ps - most ≡ 0 = omega arith in ap (λ n. drop n ps) none
 
 -- a packet goes before the first greater number, and one that is held changes nothing
 held_with-below : (p q : Packet) (qs : List Packet) → p.meta.seq_no < q.meta.seq_no → held_with p (q ∷ qs) ≡ p ∷ q ∷ qs

@@ -11,6 +11,7 @@ use Rattle.payload_core_base.specs.Packing.{MarkedPacket, Sent, marked}
 use Rattle.payload_core_base.specs.Packing as packing
 use Rattle.payload_core_base.specs.declared.error.PacketError.{PacketError}
 use Rattle.rtp_wire.specs.declared.ExtensionValues.{ExtensionValues}
+use Rattle.payload_core_buffer.specs.Buffered.{Holding}
 use Rattle.rtp_media_schedules.specs.Hearing.{Content, MediaUnit, content_of}
 use Rattle.rtp_media_schedules.specs.SentSamples.{Timed, sent_or, timed, timed_unit}
 use Rattle.rtp_media_schedules.specs.Turns.{Turn, Arrive, Ask, event_of}
@@ -243,62 +244,63 @@ module _ (format : Format) (ss : List SentSample) (sent : AreSentAs format ss) w
   pub sizes-are : sizes of.frames ≡ frame_sizes format ss
   sizes-are = sym (sizes-of format of.frames of.are) ∙ ap (sizes_from format 0) of.packets
 
-  pub legal-samples : (hold_back first : ℕ) (turns : List Turn) → first + length (packets_of ss) ≤ 2 ^ 62
+  pub legal-samples : (holding : Holding) (first : ℕ) (turns : List Turn) → first + length (packets_of ss) ≤ 2 ^ 62
       → IsSane first (length (packets_of ss)) [] turns →
-      IsLegal (canonical_units first ss) (heard format (fresh hold_back)
+      IsLegal (canonical_units first ss) (heard format (fresh holding)
       (map (event_of (numbered first (datagrams ss))) turns))
-  legal-samples hold_back first turns fits sane =
+  legal-samples holding first turns fits sane =
       let sane' : IsSane first (total (sizes of.frames)) [] turns =
       subst (λ (n : ℕ). IsSane first n [] turns) (sym count-is) sane in
       let is : IsLegal (canonical_from first of.frames)
-      (heard format (fresh hold_back) (map (event_of (numbered first (contents of.frames))) turns)) =
-      legal format hold_back first of.frames turns of.are (omega (arith, count-is)) sane' in
+      (heard format (fresh holding) (map (event_of (numbered first (contents of.frames))) turns)) =
+      legal format holding first of.frames turns of.are (omega (arith, count-is)) sane' in
       subst (λ (cs : List Content). IsLegal (canonical_units first ss)
-      (heard format (fresh hold_back) (map (event_of (numbered first cs)) turns))) of.brought
+      (heard format (fresh holding) (map (event_of (numbered first cs)) turns))) of.brought
       (legal-wider is (canonical_units first ss) (of.wider first))
 
-  pub drained-samples : (hold_back first : ℕ) (turns : List HeldTurn) → first + length (packets_of ss) ≤ 2 ^ 62
+  pub drained-samples : (holding : Holding) (first : ℕ) (turns : List HeldTurn) → first
+      + length (packets_of ss) ≤ 2 ^ 62
       → IsSane first (length (packets_of ss)) [] (map turn_of turns) →
-      IsLegal (canonical_units first ss) (heard_at format (numbered first (datagrams ss)) (fresh hold_back) turns)
-  drained-samples hold_back first turns fits sane =
+      IsLegal (canonical_units first ss) (heard_at format (numbered first (datagrams ss)) (fresh holding) turns)
+  drained-samples holding first turns fits sane =
       let sane' : IsSane first (total (sizes of.frames)) [] (map turn_of turns) =
       subst (λ (n : ℕ). IsSane first n [] (map turn_of turns)) (sym count-is) sane in
       let is : IsLegal (canonical_from first of.frames)
-      (heard_at format (numbered first (contents of.frames)) (fresh hold_back) turns) =
-      legal-with-drains format hold_back first of.frames turns of.are (omega (arith, count-is)) sane' in
+      (heard_at format (numbered first (contents of.frames)) (fresh holding) turns) =
+      legal-with-drains format holding first of.frames turns of.are (omega (arith, count-is)) sane' in
       subst (λ (cs : List Content). IsLegal (canonical_units first ss)
-      (heard_at format (numbered first cs) (fresh hold_back) turns)) of.brought
+      (heard_at format (numbered first cs) (fresh holding) turns)) of.brought
       (legal-wider is (canonical_units first ss) (of.wider first))
 
-  pub exact-samples : (hold_back first : ℕ) (turns : List Turn) → first + length (packets_of ss) ≤ 2 ^ 62 →
-      IsTame first (length (packets_of ss)) hold_back (first_size (frame_sizes format ss)) [] first
+  pub exact-samples : (holding : Holding) (first : ℕ) (turns : List Turn) → first + length (packets_of ss) ≤ 2 ^ 62 →
+      IsTame first (length (packets_of ss)) holding (first_size (frame_sizes format ss)) [] first
       (frame_sizes format ss) (turns ++ Ask ∷ []) →
-      EndsSilent (heard format (fresh hold_back) (map (event_of (numbered first (datagrams ss))) (turns ++ Ask ∷ []))) →
-      map timed_unit (handed_out (heard format (fresh hold_back)
+      EndsSilent (heard format (fresh holding) (map (event_of (numbered first (datagrams ss))) (turns ++ Ask ∷ []))) →
+      map timed_unit (handed_out (heard format (fresh holding)
       (map (event_of (numbered first (datagrams ss))) (turns ++ Ask ∷ []))))
       ≡ map (λ c. Ok (whole_unit c)) (canonical_units first ss)
-  exact-samples hold_back first turns fits tame silent =
+  exact-samples holding first turns fits tame silent =
       let sender : ℕ → Content = numbered first (datagrams ss) in
-      let os : List Answer = heard format (fresh hold_back) (map (event_of sender) turns) in
-      let o : Answer = poll_answer format (after_events format (fresh hold_back) (map (event_of sender) turns)) in
-      let more : heard format (fresh hold_back) (map (event_of sender) (turns ++ Ask ∷ [])) ≡ os ++ o ∷ [] =
-      heard-more format sender turns (fresh hold_back) in
+      let os : List Answer = heard format (fresh holding) (map (event_of sender) turns) in
+      let o : Answer = poll_answer format (after_events format (fresh holding) (map (event_of sender) turns)) in
+      let more : heard format (fresh holding) (map (event_of sender) (turns ++ Ask ∷ [])) ≡ os ++ o ∷ [] =
+      heard-more format sender turns (fresh holding) in
       let last : o ≡ Ok None = silent-last os o (subst EndsSilent more silent) in
       let brought : numbered first (contents of.frames) ≡ sender = ap (numbered first) of.brought in
-      let tame' : IsTame first (total (sizes of.frames)) hold_back (first_size (sizes of.frames)) [] first
+      let tame' : IsTame first (total (sizes of.frames)) holding (first_size (sizes of.frames)) [] first
       (sizes of.frames) (turns ++ Ask ∷ []) =
-      subst₂ (λ (n : ℕ) (zs : List ℕ). IsTame first n hold_back (first_size zs) [] first zs (turns ++ Ask ∷ []))
+      subst₂ (λ (n : ℕ) (zs : List ℕ). IsTame first n holding (first_size zs) [] first zs (turns ++ Ask ∷ []))
       (sym count-is) (sym sizes-are) tame in
-      let last' : poll_answer format (after_events format (fresh hold_back)
+      let last' : poll_answer format (after_events format (fresh holding)
       (map (event_of (numbered first (contents of.frames))) turns)) ≡ Ok None =
-      ap (λ (f : ℕ → Content). poll_answer format (after_events format (fresh hold_back) (map (event_of f) turns)))
+      ap (λ (f : ℕ → Content). poll_answer format (after_events format (fresh holding) (map (event_of f) turns)))
       brought ∙ last in
-      let is : AreWhole (handed_out (heard format (fresh hold_back)
+      let is : AreWhole (handed_out (heard format (fresh holding)
       (map (event_of (numbered first (contents of.frames))) turns))) (canonical_from first of.frames) =
-      exact format hold_back first of.frames turns of.are (omega (arith, count-is)) tame' last' in
+      exact format holding first of.frames turns of.are (omega (arith, count-is)) tame' last' in
       ap (λ (rs : List Answer). map timed_unit (handed_out rs)) (more ∙ ap (λ (a : Answer). os ++ a ∷ []) last)
       ∙ ap (map timed_unit) (handed-more os
-      ∙ sym (ap (λ (f : ℕ → Content). handed_out (heard format (fresh hold_back) (map (event_of f) turns))) brought))
+      ∙ sym (ap (λ (f : ℕ → Content). handed_out (heard format (fresh holding) (map (event_of f) turns))) brought))
       ∙ whole-timed _ (canonical_from first of.frames) (canonical_units first ss) is (of.wider first)
 
 -- What a codec under the codec law sends of well-formed samples, it sends as their units.

@@ -8,7 +8,7 @@ use Rattle.std.proofs.Math.ListN.{get_or-append}
 use Rattle.payload_core_base.specs.Format.{Format, Fragment}
 use Rattle.payload_core_base.specs.Law as law
 use Rattle.payload_core_base.specs.Packing.{MarkedPacket}
-use Rattle.payload_core_buffer.specs.Buffered.{is_done, pushed, limited, held_with}
+use Rattle.payload_core_buffer.specs.Buffered.{Holding, is_done, pushed, limited, held_with}
 use Rattle.payload_core_buffer.specs.Frames.{IsFrame, complete_frames, due_of, is_next, lowest_of, number_at}
 use Rattle.payload_core_buffer.specs.Frames.{packets_between}
 use Rattle.payload_core_buffer.specs.Packets.{Packet, metas_of}
@@ -84,7 +84,7 @@ due-lowest cutoff hold_back k ps (Some g) f e = go (is_next cutoff (number_at ps
 pub due-is : (format : Format) (s : Stream) (f : Frame) → due format s ≡ Some f → IsFrame format s.held f
 unfolding due
 due-is format s f e = lowest_is format s.held f
-    (due-lowest s.cutoff s.hold_back (length (complete_frames format s.held)) s.held
+    (due-lowest s.cutoff s.holding.hold_back (length (complete_frames format s.held)) s.held
     (lowest_of (complete_frames format s.held)) f e)
 
 pub poll_answer-is : (format : Format) (s : Stream) (d : Option Frame) → due format s ≡ d → poll_answer format s
@@ -107,18 +107,19 @@ module _ (format : Format) (sender : Sender) (first count : ℕ) (fits : first +
 
   kept : (n x : ℕ) (s : Stream) → IsHeld sender n (first + count) s.held → CutoffIs first n s.cutoff → first ≤ x
       → x < first + count → (b : Bool) → is_done s.cutoff x ≡ b →
-      IsHeld sender n (first + count) (if b then s.held else limited (held_with (packet sender x) s.held))
+      IsHeld sender n (first + count)
+          (if b then s.held else limited s.holding.held (held_with (packet sender x) s.held))
   kept n x s is cut low high true e = is
-  kept n x s is cut low high false e = held-limited sender n (first + count) x s.held
+  kept n x s is cut low high false e = held-limited sender s.holding.held n (first + count) x s.held
       (ahead first n x s.cutoff cut low e) high is
 
   arrives-by : (past : List ℕ) (n : ℕ) (s : Stream) (x : ℕ) → IsSound past n s → IsSaneArrival first count past x
       → (b : Bool) → is_accepted s.window x ≡ b →
       IsSound (x ∷ past) n (if b then record {
-        hold_back = s.hold_back;
+        holding = s.holding;
         window =
             Some (recorded_in s.window x);
-        held = pushed s.cutoff s.held (packet sender x);
+        held = pushed s.holding.held s.cutoff s.held (packet sender x);
         cutoff =
             s.cutoff;
         fragment = s.fragment;
@@ -219,8 +220,8 @@ module _ (format : Format) (sender : Sender) (first count : ℕ) (fits : first +
             (ih (step.there.from + length step.there.frame.packets) step.there.rest (stream_behind format s (Some f))
             step.sound step.there.sent_rest step.there.frames_rest (step.there.same_end ∙ same_end)))
 
-  pub fresh-sound : (hold_back : ℕ) → IsSound [] first (fresh hold_back)
-  fresh-sound hold_back = record {
+  pub fresh-sound : (holding : Holding) → IsSound [] first (fresh holding)
+  fresh-sound holding = record {
     greatest = tt;
     held = record { numbers = []; rises = tt; are = refl };
     cutoff =
@@ -257,10 +258,11 @@ pub sender-brings : (first : ℕ) (fs : List SentFrame) → AreBrought (sender_o
 sender-brings first fs = brought-by (sender_of first fs) first fs
     (λ i h. let e : first + i - first ≡ i = omega arith in ap (λ k. slice_index_or (contents fs) k no_content) e)
 
-pub legal : (format : Format) (hold_back first : ℕ) (fs : List SentFrame) (turns : List Turn) → AreFrames format fs
+pub legal : (format : Format) (holding : Holding) (first : ℕ) (fs : List SentFrame) (turns : List Turn)
+    → AreFrames format fs
     → first + total (sizes fs) ≤ 2 ^ 62 → IsSane first (total (sizes fs)) [] turns →
-    IsLegal (canonical_from first fs) (heard format (fresh hold_back) (map (event_of (sender_of first fs)) turns))
-legal format hold_back first fs turns frames fits sane =
-    sane-legal format (sender_of first fs) first (total (sizes fs)) fits turns [] first fs (fresh hold_back)
-    (fresh-sound format (sender_of first fs) first (total (sizes fs)) fits hold_back) (sender-brings first fs)
+    IsLegal (canonical_from first fs) (heard format (fresh holding) (map (event_of (sender_of first fs)) turns))
+legal format holding first fs turns frames fits sane =
+    sane-legal format (sender_of first fs) first (total (sizes fs)) fits turns [] first fs (fresh holding)
+    (fresh-sound format (sender_of first fs) first (total (sizes fs)) fits holding) (sender-brings first fs)
     frames refl sane

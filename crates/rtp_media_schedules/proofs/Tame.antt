@@ -12,11 +12,11 @@ use Rattle.std.proofs.lemmas.List.FromFn.{length-range_with_len}
 use Rattle.std.proofs.lemmas.List.Elements.{filter_agree}
 use Rattle.payload_core_base.specs.Format.{Format, Fragment, Run}
 use Rattle.payload_core_base.specs.Law.{IsFrameOf, joined}
-use Rattle.payload_core_buffer.specs.Buffered.{held_with, is_done, pushed}
+use Rattle.payload_core_buffer.specs.Buffered.{Holding, held_with, is_done, pushed}
 use Rattle.payload_core_buffer.specs.Frames.{IsFrame, due_frame, is_next, number_at, packets_between}
 use Rattle.payload_core_buffer.specs.Packets.{Packet, metas_of}
 use Rattle.payload_core_buffer.specs.declared.held.RtpMeta.{RtpMeta}
-use Rattle.rtp_wire.specs.Replay.{Window, is_accepted, recorded_in}
+use Rattle.rtp_wire.specs.Replay.{Window, is_accepted, reach, reach_below, recorded_in}
 use Rattle.rtp_media_schedules.specs.Hearing.{Content, MediaUnit, packet_of}
 use Rattle.rtp_media_schedules.specs.Turns.{Turn, Arrive, Ask, Sender, event_of, is_among, IsGoodArrival, AllCame}
 use Rattle.rtp_media_schedules.specs.Turns.{waiting}
@@ -65,12 +65,12 @@ window-again first [] w x is came = absurd (true≢false (sym came))
 window-again first (y ∷ ys) None x is came = absurd is
 window-again first (y ∷ ys) (Some w) x is came = IsWindowOf-again first (y ∷ ys) w x is came
 
--- what is 128 below one that came, came
-reach : (first : ℕ) (past : List ℕ) (w : Option Window) (y z : ℕ) → WindowIs first past w → is_among past y ≡ true
-    → first ≤ z → z + 128 ≤ y → is_among past z ≡ true
-reach first [] w y z is came a b = absurd (true≢false (sym came))
-reach first (x ∷ xs) None y z is came a b = absurd is
-reach first (x ∷ xs) (Some w) y z is came a b =
+-- what is out of reach of one that came, came
+came-below : (first : ℕ) (past : List ℕ) (w : Option Window) (y z : ℕ) → WindowIs first past w → is_among past y ≡ true
+    → first ≤ z → z + reach ≤ y → is_among past z ≡ true
+came-below first [] w y z is came a b = absurd (true≢false (sym came))
+came-below first (x ∷ xs) None y z is came a b = absurd is
+came-below first (x ∷ xs) (Some w) y z is came a b =
     is.closed z a (omega (arith, is.greatest, among-le-greatest (x ∷ xs) y came))
 
 -- the numbers from next on that came
@@ -130,7 +130,8 @@ module _ (format : Format) (sender : Sender) (first count opening : ℕ) (fits :
   not_passed next x (Some c) is h = grind (arith, nat_tests)
 
   arrives-anew : (past : List ℕ) (next : ℕ) (left : List ℕ) (s : Stream) (x : ℕ) → IsReached past next left s
-      → IsGoodArrival first count past x → waiting first count (x ∷ past) next ≤ 4096 → is_among past x ≡ false
+      → IsGoodArrival first count past x → waiting first count (x ∷ past) next ≤ s.holding.held → is_among past x
+      ≡ false
       → IsReached (x ∷ past) next left (taken_by s x (sender x))
   arrives-anew past next left s x is good few new =
       let ahead : next ≤ x = elim (cases_lt x next)
@@ -138,11 +139,12 @@ module _ (format : Format) (sender : Sender) (first count opening : ℕ) (fits :
       let e : held_with (packet sender x) s.held ≡ map (packet sender) (numbers_of first count (x ∷ past) next) =
       rw is.held (held_with-place sender (is_among past) x next (first + count - next) ahead
       (omega (arith, good.before_end)) new) in
-      let small : length (map (packet sender) (numbers_of first count (x ∷ past) next)) ≤ 4096 =
+      let small : length (map (packet sender) (numbers_of first count (x ∷ past) next)) ≤ s.holding.held =
       simp (length-map, length-filter) few in
-      let b : pushed s.cutoff s.held (packet sender x) ≡ map (packet sender) (numbers_of first count (x ∷ past) next) =
+      let b : pushed s.holding.held s.cutoff s.held (packet sender x)
+          ≡ map (packet sender) (numbers_of first count (x ∷ past) next) =
       rw (not_passed next x s.cutoff is.cutoff ahead, e)
-      (limited-few (map (packet sender) (numbers_of first count (x ∷ past) next)) small) in
+      (limited-few s.holding.held (map (packet sender) (numbers_of first count (x ∷ past) next)) small) in
       rw (anew first count past s.window x is.window good new, b) (record {
         window = window-more first count past s.window x is.window good;
         held = refl;
@@ -155,7 +157,7 @@ module _ (format : Format) (sender : Sender) (first count opening : ℕ) (fits :
       })
 
   arrives : (past : List ℕ) (next : ℕ) (left : List ℕ) (s : Stream) (x : ℕ) → IsReached past next left s
-      → IsGoodArrival first count past x → waiting first count (x ∷ past) next ≤ 4096
+      → IsGoodArrival first count past x → waiting first count (x ∷ past) next ≤ s.holding.held
       → IsReached (x ∷ past) next left (taken_by s (hearing.number_at s (x % 65536)) (sender x))
   arrives past next left s x is good few =
       rw (widened-true first count past s.window x fits is.window good) (go (is_among past x) refl) where
@@ -186,8 +188,8 @@ module _ (format : Format) (sender : Sender) (first count opening : ℕ) (fits :
 
       due-next : due format s ≡ Some (front size)
       unfolding due
-      due-next = ap (λ ps. due_frame format s.cutoff s.hold_back ps) held-front
-          ∙ due-front format sender next f sent frame behind s.cutoff s.hold_back
+      due-next = ap (λ ps. due_frame format s.cutoff s.holding.hold_back ps) held-front
+          ∙ due-front format sender next f sent frame behind s.cutoff s.holding.hold_back
           (next-begins first next s.cutoff is.cutoff)
 
       is-front : IsFrame format in_front (front size)
@@ -249,14 +251,14 @@ module _ (format : Format) (sender : Sender) (first count opening : ℕ) (fits :
         within = is.within;
       }
 
-  -- where a number is missing, fewer than 128 above it came
+  -- where a number is missing, fewer than the reach above it came
   few-above : (past : List ℕ) (x n : ℕ) (w : Option Window) → WindowIs first past w → first ≤ x → is_among past x
-      ≡ false → length (filter (is_among past) (range_with_len (x + 1) n)) ≤ 127
-  few-above past x n w is low missing = length-filter-few (is_among past) (x + 1) n 127 none where
-    none : (y : ℕ) → x + 1 + 127 ≤ y → is_among past y ≡ false
+      ≡ false → length (filter (is_among past) (range_with_len (x + 1) n)) ≤ reach_below
+  few-above past x n w is low missing = length-filter-few (is_among past) (x + 1) n reach_below none where
+    none : (y : ℕ) → x + 1 + reach_below ≤ y → is_among past y ≡ false
     none y far = go (is_among past y) refl where
       go : (b : Bool) → is_among past y ≡ b → is_among past y ≡ false
-      go true e = absurd (true≢false (sym (reach first past w y x is e low (omega arith)) ∙ missing))
+      go true e = absurd (true≢false (sym (came-below first past w y x is e low (omega arith)) ∙ missing))
       go false e = e
 
   -- a poll where a packet of the next frame is missing
@@ -264,7 +266,7 @@ module _ (format : Format) (sender : Sender) (first count opening : ℕ) (fits :
       (is : IsReached past next (sizes (f ∷ fs)) s) (sent : Brings sender next f)
       (frame : IsFrameOf format f.packets f.parts)
       (same_end : next + total (sizes (f ∷ fs)) ≡ first + count)
-      (good : IsGoodPoll first count s.hold_back past opening)
+      (good : IsGoodPoll first count s.holding.hold_back past opening)
       (lacks : has_come past next (length f.packets) ≡ false) where
     abbrev miss : Misses (is_among past) next (length f.packets)
     miss = misses (is_among past) next (length f.packets) lacks
@@ -300,15 +302,15 @@ module _ (format : Format) (sender : Sender) (first count opening : ℕ) (fits :
         (filter-passes (is_among past) next both_sides) k h in
         true≢false (sym passes ∙ ap (is_among past) e ∙ miss.missing)
 
-    few-upper : length upper ≤ 127
+    few-upper : length upper ≤ reach_below
     few-upper =
         let e : next + below_it ≡ miss.number = omega (arith, miss.low) in
-        subst (λ (n : ℕ). length (filter (is_among past) (range_with_len (n + 1) above_it)) ≤ 127) (sym e)
+        subst (λ (n : ℕ). length (filter (is_among past) (range_with_len (n + 1) above_it)) ≤ reach_below) (sym e)
         (few-above past miss.number above_it s.window is.window (omega (arith, is.from_first, miss.low))
         miss.missing)
 
     due-by : (cutoff : Option ℕ) → s.cutoff ≡ cutoff
-        → due_frame format cutoff s.hold_back (map (packet sender) (lower ++ upper)) ≡ None
+        → due_frame format cutoff s.holding.hold_back (map (packet sender) (lower ++ upper)) ≡ None
     due-by None e =
         let begins : next ≡ first = subst (CutoffIs first next) e is.cutoff in
         let opens : length f.packets ≡ opening = is.unopened e in
@@ -318,14 +320,15 @@ module _ (format : Format) (sender : Sender) (first count opening : ℕ) (fits :
         elim good.held_back [
           | inl enough ↦ none-due format sender next f sent frame miss.number miss.low miss.high lower upper
               (Rises-filter (is_among past) next below_it miss.number (omega (arith, miss.low))) none-is c
-              s.hold_back behind (omega (arith, few-upper))
+              s.holding.hold_back behind (omega (arith, few-upper))
           | inr all ↦ absurd (true≢false (sym (all miss.number (omega (arith, is.from_first, miss.low))
               (omega (arith, miss.high, same_end))) ∙ miss.missing))
         ]
 
     due-missing : due format s ≡ None
     unfolding due
-    due-missing = ap (λ (ps : List Packet). due_frame format s.cutoff s.hold_back ps) held-parts ∙ due-by s.cutoff refl
+    due-missing = ap (λ (ps : List Packet). due_frame format s.cutoff s.holding.hold_back ps) held-parts
+        ∙ due-by s.cutoff refl
 
   -- a poll where nothing is left
   due-ended : (past : List ℕ) (next : ℕ) (s : Stream) → IsReached past next [] s → next ≡ first + count
@@ -335,19 +338,20 @@ module _ (format : Format) (sender : Sender) (first count opening : ℕ) (fits :
       let n : first + count - next ≡ 0 = omega arith in
       let none : s.held ≡ [] = is.held ∙ ap (λ k. map (packet sender)
       (filter (is_among past) (range_with_len next k))) n in
-      ap (λ (ps : List Packet). due_frame format s.cutoff s.hold_back ps) none ∙ none-held format s.cutoff s.hold_back
+      ap (λ (ps : List Packet). due_frame format s.cutoff s.holding.hold_back ps) none
+          ∙ none-held format s.cutoff s.holding.hold_back
 
-  hold_back-taken : (s : Stream) (x : ℕ) (c : Content) → (taken_by s x c).hold_back ≡ s.hold_back
-  hold_back-taken s x c = elim (is_accepted s.window x) as
+  holding-taken : (s : Stream) (x : ℕ) (c : Content) → (taken_by s x c).holding ≡ s.holding
+  holding-taken s x c = elim (is_accepted s.window x) as
       (λ b. (if b then record {
-        hold_back = s.hold_back;
+        holding = s.holding;
         window = Some (recorded_in s.window x);
         held =
-            pushed s.cutoff s.held (packet_of x c);
+            pushed s.holding.held s.cutoff s.held (packet_of x c);
         cutoff = s.cutoff;
         fragment = s.fragment;
-      } else s).hold_back
-      ≡ s.hold_back) [ true ↦ refl | false ↦ refl ]
+      } else s).holding
+      ≡ s.holding) [ true ↦ refl | false ↦ refl ]
 
   abbrev pub Exact : ℕ → List SentFrame → List Answer → Type 0
   Exact next fs os = AreWhole (handed_out os) (canonical_from next fs)
@@ -358,25 +362,25 @@ module _ (format : Format) (sender : Sender) (first count opening : ℕ) (fits :
       all-passed (is_among past) next (length f.packets) (λ y a b. all y (omega arith) (omega arith))
 
   -- a poll, by whether the next frame came
-  poll-by : (past : List ℕ) (next : ℕ) (f : SentFrame) (fs : List SentFrame) (s : Stream) (hold_back : ℕ)
+  poll-by : (past : List ℕ) (next : ℕ) (f : SentFrame) (fs : List SentFrame) (s : Stream) (holding : Holding)
       (ts : List Turn) →
       ((next : ℕ) (fs : List SentFrame) (s : Stream) → IsReached past next (sizes fs) s → AreBrought sender next fs
-      → AreFrames format fs → next + total (sizes fs) ≡ first + count → s.hold_back ≡ hold_back →
-      IsTame first count hold_back opening past next (sizes fs) (ts ++ Ask ∷ [])
+      → AreFrames format fs → next + total (sizes fs) ≡ first + count → s.holding ≡ holding →
+      IsTame first count holding opening past next (sizes fs) (ts ++ Ask ∷ [])
       → poll_answer format (after_events format s (map (event_of sender) ts)) ≡ Ok None
       → Exact next fs (heard format s (map (event_of sender) ts))) →
       IsReached past next (sizes (f ∷ fs)) s → AreBrought sender next (f ∷ fs) → AreFrames format (f ∷ fs)
-      → next + total (sizes (f ∷ fs)) ≡ first + count → s.hold_back ≡ hold_back →
-      IsTame first count hold_back opening past next (sizes (f ∷ fs)) (Ask ∷ (ts ++ Ask ∷ []))
+      → next + total (sizes (f ∷ fs)) ≡ first + count → s.holding ≡ holding →
+      IsTame first count holding opening past next (sizes (f ∷ fs)) (Ask ∷ (ts ++ Ask ∷ []))
       → poll_answer format (after_events format (polled format s) (map (event_of sender) ts)) ≡ Ok None →
       (b : Bool) → has_come past next (length f.packets) ≡ b
       → Exact next (f ∷ fs) (poll_answer format s ∷ heard format (polled format s) (map (event_of sender) ts))
-  poll-by past next f fs s hold_back ts ih is sent frames same_end keeps tame silent true e =
+  poll-by past next f fs s holding ts ih is sent frames same_end keeps tame silent true e =
       let size : ℕ = length f.packets in
       let due-it : due format s ≡ Some (front size) = due-next past next f fs s is sent.0 frames.0 same_end e in
       let after : polled format s ≡ stream_behind format s (Some (front size)) =
       polled-is format s (Some (front size)) due-it in
-      let rest : IsTame first count hold_back opening past (next + size) (sizes fs) (ts ++ Ask ∷ []) = rw e at tame.1 in
+      let rest : IsTame first count holding opening past (next + size) (sizes fs) (ts ++ Ask ∷ []) = rw e at tame.1 in
       let more : Exact (next + size) fs (heard format (stream_behind format s (Some (front size)))
       (map (event_of sender) ts)) =
       ih (next + size) fs (stream_behind format s (Some (front size)))
@@ -384,23 +388,23 @@ module _ (format : Format) (sender : Sender) (first count opening : ℕ) (fits :
       rest (rw after at silent) in
       rw (answer-next past next f fs s is sent.0 frames.0 same_end e, after)
       (whole-next past next f fs s is sent.0 frames.0 same_end e, more)
-  poll-by past next f fs s hold_back ts ih is sent frames same_end keeps tame silent false e =
-      let good : IsGoodPoll first count s.hold_back past opening = rw keeps tame.0 in
+  poll-by past next f fs s holding ts ih is sent frames same_end keeps tame silent false e =
+      let good : IsGoodPoll first count s.holding.hold_back past opening = rw keeps tame.0 in
       let none : due format s ≡ None = due-missing past next f fs s is sent.0 frames.0 same_end good e in
       let after : polled format s ≡ s = polled-is format s None none in
-      let rest : IsTame first count hold_back opening past next (sizes (f ∷ fs)) (ts ++ Ask ∷ []) = rw e at tame.1 in
+      let rest : IsTame first count holding opening past next (sizes (f ∷ fs)) (ts ++ Ask ∷ []) = rw e at tame.1 in
       rw (poll_answer-is format s None none, after)
       (ih next (f ∷ fs) s is sent frames same_end keeps rest (rw after at silent))
 
   -- what is handed out is exactly the units that are left
-  pub tame-exact : (hold_back : ℕ) (ts : List Turn) (past : List ℕ) (next : ℕ) (fs : List SentFrame) (s : Stream)
+  pub tame-exact : (holding : Holding) (ts : List Turn) (past : List ℕ) (next : ℕ) (fs : List SentFrame) (s : Stream)
       → IsReached past next (sizes fs) s → AreBrought sender next fs → AreFrames format fs → next + total (sizes fs)
-      ≡ first + count → s.hold_back ≡ hold_back →
-      IsTame first count hold_back opening past next (sizes fs) (ts ++ Ask ∷ [])
+      ≡ first + count → s.holding ≡ holding →
+      IsTame first count holding opening past next (sizes fs) (ts ++ Ask ∷ [])
       → poll_answer format (after_events format s (map (event_of sender) ts)) ≡ Ok None
       → Exact next fs (heard format s (map (event_of sender) ts))
-  tame-exact hold_back [] past next [] s is sent frames same_end keeps tame silent = tt
-  tame-exact hold_back [] past next (f ∷ fs) s is sent frames same_end keeps tame silent =
+  tame-exact holding [] past next [] s is sent frames same_end keeps tame silent = tt
+  tame-exact holding [] past next (f ∷ fs) s is sent frames same_end keeps tame silent =
       let came : has_come past next (length f.packets) ≡ true =
       all-came past next f fs (ended past next (length f.packets) (sizes fs) tame.1) is.from_first same_end in
       let never : Ok None ≡ Ok (Some (unit-next past next f fs s is sent.0 frames.0 same_end came)) =
@@ -408,31 +412,31 @@ module _ (format : Format) (sender : Sender) (first count opening : ℕ) (fits :
       cc
     where
       ended : (past : List ℕ) (next z : ℕ) (zs : List ℕ)
-          → IsTame first count hold_back opening past (next_after past next (z ∷ zs)) (left_after past next (z ∷ zs))
+          → IsTame first count holding opening past (next_after past next (z ∷ zs)) (left_after past next (z ∷ zs))
           [] → AllCame first count past
       ended past next z zs all = all
-  tame-exact hold_back (Arrive x ∷ ts) past next fs s is sent frames same_end keeps tame silent =
-      tame-exact hold_back ts (x ∷ past) next fs (taken_by s (hearing.number_at s (x % 65536)) (sender x))
-      (arrives past next (sizes fs) s x is tame.0 tame.1) sent frames same_end (hold_back-taken s _ _ ∙ keeps)
+  tame-exact holding (Arrive x ∷ ts) past next fs s is sent frames same_end keeps tame silent =
+      tame-exact holding ts (x ∷ past) next fs (taken_by s (hearing.number_at s (x % 65536)) (sender x))
+      (arrives past next (sizes fs) s x is tame.0 (rw keeps tame.1)) sent frames same_end (holding-taken s _ _ ∙ keeps)
       tame.2 silent
-  tame-exact hold_back (Ask ∷ ts) past next [] s is sent frames same_end keeps tame silent =
+  tame-exact holding (Ask ∷ ts) past next [] s is sent frames same_end keeps tame silent =
       let none : due format s ≡ None = due-ended past next s is (omega (arith, same_end)) in
       let after : polled format s ≡ s = polled-is format s None none in
       let still : poll_answer format (after_events format (polled format s) (map (event_of sender) ts)) ≡ Ok None =
       silent in
       rw (poll_answer-is format s None none, after)
-      (tame-exact hold_back ts past next [] s is sent frames same_end keeps tame.1 (rw after at still))
-  tame-exact hold_back (Ask ∷ ts) past next (f ∷ fs) s is sent frames same_end keeps tame silent =
-      poll-by past next f fs s hold_back ts (λ next fs s. tame-exact hold_back ts past next fs s) is sent frames
+      (tame-exact holding ts past next [] s is sent frames same_end keeps tame.1 (rw after at still))
+  tame-exact holding (Ask ∷ ts) past next (f ∷ fs) s is sent frames same_end keeps tame silent =
+      poll-by past next f fs s holding ts (λ next fs s. tame-exact holding ts past next fs s) is sent frames
       same_end keeps tame silent (has_come past next (length f.packets)) refl
 
   nothing-came : (lo m : ℕ) → filter (is_among []) (range_with_len lo m) ≡ []
   nothing-came lo zero = refl
   nothing-came lo (suc m) = nothing-came (lo + 1) m
 
-  pub fresh-reached : (hold_back : ℕ) (left : List ℕ) → first_size left ≡ opening
-      → IsReached [] first left (fresh hold_back)
-  fresh-reached hold_back left opens = record {
+  pub fresh-reached : (holding : Holding) (left : List ℕ) → first_size left ≡ opening
+      → IsReached [] first left (fresh holding)
+  fresh-reached holding left opens = record {
     window = tt;
     held = rw (nothing-came first (first + count - first)) refl;
     cutoff = refl;
@@ -443,14 +447,15 @@ module _ (format : Format) (sender : Sender) (first count opening : ℕ) (fits :
     within = λ y e. absurd (true≢false (sym e));
   }
 
-pub exact : (format : Format) (hold_back first : ℕ) (fs : List SentFrame) (turns : List Turn) → AreFrames format fs
+pub exact : (format : Format) (holding : Holding) (first : ℕ) (fs : List SentFrame) (turns : List Turn)
+    → AreFrames format fs
     → first + total (sizes fs) ≤ 2 ^ 62 →
-    IsTame first (total (sizes fs)) hold_back (first_size (sizes fs)) [] first (sizes fs) (turns ++ Ask ∷ []) →
-    poll_answer format (after_events format (fresh hold_back) (map (event_of (sender_of first fs)) turns)) ≡ Ok None →
-    AreWhole (handed_out (heard format (fresh hold_back) (map (event_of (sender_of first fs)) turns)))
+    IsTame first (total (sizes fs)) holding (first_size (sizes fs)) [] first (sizes fs) (turns ++ Ask ∷ []) →
+    poll_answer format (after_events format (fresh holding) (map (event_of (sender_of first fs)) turns)) ≡ Ok None →
+    AreWhole (handed_out (heard format (fresh holding) (map (event_of (sender_of first fs)) turns)))
     (canonical_from first fs)
-exact format hold_back first fs turns frames fits tame silent =
-    tame-exact format (sender_of first fs) first (total (sizes fs)) (first_size (sizes fs)) fits hold_back turns []
-    first fs (fresh hold_back)
-    (fresh-reached format (sender_of first fs) first (total (sizes fs)) (first_size (sizes fs)) fits hold_back
+exact format holding first fs turns frames fits tame silent =
+    tame-exact format (sender_of first fs) first (total (sizes fs)) (first_size (sizes fs)) fits holding turns []
+    first fs (fresh holding)
+    (fresh-reached format (sender_of first fs) first (total (sizes fs)) (first_size (sizes fs)) fits holding
     (sizes fs) refl) (sender-brings first fs) frames refl refl tame silent

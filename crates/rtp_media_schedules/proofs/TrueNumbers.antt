@@ -8,7 +8,7 @@ use Rattle.std.specs.Cmp.{nat_cmp_total}
 use Rattle.std.proofs.lemmas.Bool.Decides.{nat_tests}
 use Rattle.std.proofs.lemmas.List.{drop-map, length-map}
 use Rattle.payload_core_base.specs.Format.{Format}
-use Rattle.payload_core_buffer.specs.Buffered.{is_done, pushed, limited, held_with}
+use Rattle.payload_core_buffer.specs.Buffered.{Holding, is_done, pushed, limited, held_with}
 use Rattle.payload_core_buffer.specs.Frames.{IsFrame, number_at}
 use Rattle.payload_core_buffer.specs.Packets.{Packet}
 use Rattle.payload_core_buffer.specs.declared.frame.Frame.{Frame}
@@ -82,18 +82,18 @@ module _ (format : Format) (sender : Sender) (first count : ℕ) (fits : first +
   kept : (x : ℕ) (s : Stream) → IsHeld sender (behind first s.cutoff) (first + count) s.held → first ≤ x
       → x < first + count → (b : Bool) → is_done s.cutoff x ≡ b →
       IsHeld sender (behind first s.cutoff) (first + count)
-      (if b then s.held else limited (held_with (packet sender x) s.held))
+      (if b then s.held else limited s.holding.held (held_with (packet sender x) s.held))
   kept x s is low high true e = is
-  kept x s is low high false e = held-limited sender (behind first s.cutoff) (first + count) x s.held
+  kept x s is low high false e = held-limited sender s.holding.held (behind first s.cutoff) (first + count) x s.held
       (ahead first x s.cutoff low e) high is
 
   arrives-by : (past : List ℕ) (s : Stream) (x : ℕ) → IsTrue past s → IsSaneArrival first count past x → (b : Bool)
       → is_accepted s.window x ≡ b →
       IsTrue (x ∷ past) (if b then record {
-        hold_back = s.hold_back;
+        holding = s.holding;
         window = Some (recorded_in s.window x);
         held =
-            pushed s.cutoff s.held (packet sender x);
+            pushed s.holding.held s.cutoff s.held (packet sender x);
         cutoff = s.cutoff;
         fragment = s.fragment;
       } else s)
@@ -151,12 +151,12 @@ module _ (format : Format) (sender : Sender) (first count : ℕ) (fits : first +
       (subst (λ (t : Stream). IsTrue past t) (sym (polled-is format s (due format s) refl))
       (polls-by past s is (due format s) refl)) sane
 
-  pub true-numbers : (hold_back : ℕ) (ts : List Turn) → IsSane first count [] ts
+  pub true-numbers : (holding : Holding) (ts : List Turn) → IsSane first count [] ts
       → AreTrueNumbers sender first count (arrived [] ts)
-      (after_events format (fresh hold_back) (map (event_of sender) ts))
-  true-numbers hold_back ts sane =
-      let is : IsTrue (arrived [] ts) (after_events format (fresh hold_back) (map (event_of sender) ts)) =
-      run-true ts [] (fresh hold_back) (record
+      (after_events format (fresh holding) (map (event_of sender) ts))
+  true-numbers holding ts sane =
+      let is : IsTrue (arrived [] ts) (after_events format (fresh holding) (map (event_of sender) ts)) =
+      run-true ts [] (fresh holding) (record
       { window = tt; held = record { numbers = []; rises = tt; are = refl } }) sane in
       record {
         window = is.window;

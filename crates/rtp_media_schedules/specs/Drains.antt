@@ -2,6 +2,7 @@
 -- drain none.
 use Rattle.std.specs.Prelude.{ℕ, ◌%◌, List, [], ◌∷◌}
 use Rattle.payload_core_base.specs.Format.{Format}
+use Rattle.payload_core_buffer.specs.Buffered.{holding_of}
 use Rattle.rtp_media_schedules.specs.Hearing.{Answer, Stream, number_at, poll_answer, polled, taken_by}
 use Rattle.rtp_media_schedules.specs.Turns as turns
 use Rattle.rtp_media_schedules.specs.Turns.{Sender, Turn}
@@ -22,12 +23,13 @@ turn_at k (turns.Arrive x) = Arrive x
 turn_at k turns.Ask = AskAt k
 
 -- The stream, holding so many back.
-abbrev pub holding : ℕ → Stream → Stream
-holding k s = record s { hold_back = k }
+abbrev pub holding_back : ℕ → Stream → Stream
+holding_back k s = record s { holding = holding_of k s.holding.held }
 
 -- The answers to the polls.
 abbrev pub heard_at : Format → Sender → Stream → List HeldTurn → List Answer
 heard_at format sender s [] = []
 heard_at format sender s (Arrive x ∷ ts) = heard_at format sender (taken_by s (number_at s (x % 65536)) (sender x)) ts
 heard_at format sender s (AskAt k ∷ ts) =
-    poll_answer format (holding k s) ∷ heard_at format sender (holding s.hold_back (polled format (holding k s))) ts
+    poll_answer format (holding_back k s)
+    ∷ heard_at format sender (holding_back s.holding.hold_back (polled format (holding_back k s))) ts

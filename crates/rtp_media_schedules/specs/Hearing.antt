@@ -3,12 +3,14 @@ use Rattle.std.specs.Prelude.{◌≡◌, ℕ, ◌-◌, Bool, if◌then◌else◌
 use Rattle.std.specs.Prelude.{Option, None, Some, Result, Ok, Err}
 use Rattle.payload_core_base.specs.Format.{Format, Fragment}
 use Rattle.payload_core_base.specs.declared.error.PacketError.{PacketError}
+pub use Rattle.payload_core_buffer.specs.Buffered.{Holding, holding_of, may_hold}
 use Rattle.payload_core_buffer.specs.Buffered.{pushed}
 use Rattle.payload_core_buffer.specs.Frames as frames
 use Rattle.payload_core_buffer.specs.Frames.{due_frame, packets_between}
 use Rattle.payload_core_buffer.specs.Packets.{Packet, packet_from}
 use Rattle.payload_core_buffer.specs.Pops.{PopState, ReadsPart, pop_state}
-pub use Rattle.payload_core_buffer.specs.Steps.{Answer, MediaUnit, answer_among, answer_by, answer_of, run_among, unit_from}
+pub use Rattle.payload_core_buffer.specs.Steps.{Answer, MediaUnit, answer_among, answer_by, answer_of, run_among}
+pub use Rattle.payload_core_buffer.specs.Steps.{unit_from}
 use Rattle.payload_core_buffer.specs.declared.frame.Frame.{Frame}
 use Rattle.payload_core_buffer.specs.declared.held.RtpMeta.{RtpMeta}
 use Rattle.rtp_wire.specs.Replay.{Window, is_accepted, recorded_in, greatest_in}
@@ -45,19 +47,19 @@ pub data Event : Type 0 where
   Comes : (low : ℕ) (content : Content) → Event
   Poll : Event
 
--- What a stream keeps of its own datagrams and polls: how many complete frames may wait, the numbers that
--- came, the packets that are held, the last number that is done with, and the fragment that the packets
--- handed on so far leave open.
+-- What a stream keeps of its own datagrams and polls: how much it holds, the numbers that came, the packets
+-- that are held, the last number that is done with, and the fragment that the packets handed on so far leave
+-- open.
 pub record Stream : Type 0 where
-  pub hold_back : ℕ
+  pub holding : Holding
   pub window : Option Window
   pub held : List Packet
   pub cutoff : Option ℕ
   pub fragment : Fragment
 
 -- A stream that heard nothing.
-abbrev pub fresh : ℕ → Stream
-fresh hold_back = record { hold_back = hold_back; window = None; held = []; cutoff = None; fragment = None }
+abbrev pub fresh : Holding → Stream
+fresh holding = record { holding = holding; window = None; held = []; cutoff = None; fragment = None }
 
 -- The number that the low bits stand for at this stream.
 abbrev pub number_at : Stream → ℕ → ℕ
@@ -68,9 +70,9 @@ abbrev pub taken_by : Stream → ℕ → Content → Stream
 taken_by s number content =
     if is_accepted s.window number
     then record {
-      hold_back = s.hold_back;
+      holding = s.holding;
       window = Some (recorded_in s.window number);
-      held = pushed s.cutoff s.held (packet_of number content);
+      held = pushed s.holding.held s.cutoff s.held (packet_of number content);
       cutoff = s.cutoff;
       fragment = s.fragment;
     }
@@ -78,13 +80,13 @@ taken_by s number content =
 
 -- The places of the frame that a poll hands out.
 unfoldable pub due : Format → Stream → Option Frame
-due format s = due_frame format s.cutoff s.hold_back s.held
+due format s = due_frame format s.cutoff s.holding.hold_back s.held
 
 -- The stream behind a frame: all up to its end is gone, whether it was read or refused.
 abbrev pub stream_behind : Format → Stream → Option Frame → Stream
 stream_behind format s None = s
 stream_behind format s (Some frame) = record {
-  hold_back = s.hold_back;
+  holding = s.holding;
   window = s.window;
   held = drop frame.end s.held;
   cutoff = Some (frames.number_at s.held (frame.end - 1));
@@ -111,7 +113,7 @@ kept_of s = pop_state s.held s.cutoff s.fragment
 
 abbrev pub with_kept : Stream → PopState → Stream
 with_kept s k = record {
-  hold_back = s.hold_back;
+  holding = s.holding;
   window = s.window;
   held = k.held;
   cutoff = k.cutoff;

@@ -1,6 +1,8 @@
 -- Which orders of arrivals and polls are sane, and which are tame, by true numbers alone.
 use Rattle.std.specs.Prelude.{ℕ, ◌≡◌, ◌+◌, ◌<◌, ◌≤◌, ◌⊎◌, Bool, true, if◌then◌else◌, List, [], ◌∷◌}
 use Rattle.std.specs.List.{range_with_len, list_all}
+use Rattle.payload_core_buffer.specs.Buffered.{Holding}
+use Rattle.rtp_wire.specs.Replay.{reach_below}
 use Rattle.rtp_media_schedules.specs.Turns.{Turn, Arrive, Ask, AllCame, IsGoodArrival, IsNear, is_among, waiting}
 
 -- An arrival of one of the stream's datagrams, near those that came before.
@@ -35,15 +37,15 @@ first_size (size ∷ sizes) = size
 -- Where nothing was handed out, the first frame came; and enough frames are held back, or all came.
 pub record IsGoodPoll (first count hold_back : ℕ) (past : List ℕ) (size : ℕ) : Type 0 where
   pub begun : has_come past first size ≡ true
-  pub held_back : (127 ≤ hold_back) ⊎ AllCame first count past
+  pub held_back : (reach_below ≤ hold_back) ⊎ AllCame first count past
 
 -- past: what came, newest first; next: the number of the first packet that was not handed out; left: the
 -- sizes of the frames from there on; opening: the size of the very first frame
-abbrev pub IsTame : (first count hold_back opening : ℕ) → List ℕ → ℕ → List ℕ → List Turn → Type 0
-IsTame first count hold_back opening past next left [] = AllCame first count past
-IsTame first count hold_back opening past next left (Arrive x ∷ ts) =
-    IsGoodArrival first count past x × (waiting first count (x ∷ past) next ≤ 4096)
-    × IsTame first count hold_back opening (x ∷ past) next left ts
-IsTame first count hold_back opening past next left (Ask ∷ ts) =
-    IsGoodPoll first count hold_back past opening
-    × IsTame first count hold_back opening past (next_after past next left) (left_after past next left) ts
+abbrev pub IsTame : (first count : ℕ) → Holding → (opening : ℕ) → List ℕ → ℕ → List ℕ → List Turn → Type 0
+IsTame first count holding opening past next left [] = AllCame first count past
+IsTame first count holding opening past next left (Arrive x ∷ ts) =
+    IsGoodArrival first count past x × (waiting first count (x ∷ past) next ≤ holding.held)
+    × IsTame first count holding opening (x ∷ past) next left ts
+IsTame first count holding opening past next left (Ask ∷ ts) =
+    IsGoodPoll first count holding.hold_back past opening
+    × IsTame first count holding opening past (next_after past next left) (left_after past next left) ts

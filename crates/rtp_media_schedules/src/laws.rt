@@ -3,12 +3,13 @@
 ghost use Rattle.std.specs.Prelude.{◌≡◌, ℕ, ◌+◌, ◌^◌, ◌≤◌, List, [], ◌∷◌, ◌++◌, length, map, replicate, suc, Ok};
 ghost use Rattle.std.specs.Prelude.{◌≢◌, ◌<◌, None};
 ghost use Rattle.payload_core_base.specs.Format.{Format};
+ghost use Rattle.payload_core_buffer.specs.Buffered.{Holding};
 ghost use Rattle.payload_core_buffer.specs.Frames.{complete_frames};
 ghost use Rattle.rtp_media_schedules.specs.Turns.{Sender, Turn, AreGoodArrivals, Arrive, Ask, event_of};
 ghost use Rattle.rtp_media_schedules.specs.SentSamples.{timed_unit};
 ghost use Rattle.rtp_media_schedules.specs.Hearing.{Answer, after_events, EndsSilent, fresh, handed_out, heard, Poll};
 ghost use Rattle.rtp_media_schedules.specs.Hearing.{Stream, poll_answer, polled};
-ghost use Rattle.rtp_media_schedules.specs.Drains.{HeldTurn, heard_at, holding, turn_at, turn_of};
+ghost use Rattle.rtp_media_schedules.specs.Drains.{HeldTurn, heard_at, holding_back, turn_at, turn_of};
 ghost use Rattle.rtp_media_schedules.specs.Legal.{IsLegal, IsSelection};
 ghost use Rattle.rtp_media_schedules.specs.Orders.{IsSane, IsTame, first_size};
 ghost use Rattle.rtp_media_schedules.specs.Samples.{AreSentAs, SentSample, canonical_units, datagrams, frame_sizes};
@@ -18,23 +19,25 @@ ghost use Rattle.rtp_media_schedules.specs.Sending.{Canonical, numbered};
 
 /// Under every sane schedule the answers are a legal selection of the canonical units, for every format.
 pub fn legal_under_sane_schedule()
-    ensures { (format : Format) (hold_back first : ℕ) (samples : List SentSample) (turns : List Turn) →
+    ensures { (format : Format) (holding : Holding) (first : ℕ) (samples : List SentSample) (turns : List Turn) →
         let events = map (event_of (numbered first (datagrams samples))) turns in
         AreSentAs format samples → first + length (packets_of samples) ≤ 2 ^ 62
         → IsSane first (length (packets_of samples)) [] turns →
-        IsLegal (canonical_units first samples) (heard format (fresh hold_back) events) }
+        IsLegal (canonical_units first samples) (heard format (fresh holding) events) }
 {}
 
 /// The same where each poll holds back as many complete frames as it says, a drain none, which then is as before: polls
 /// and drains in any order answer a legal selection. Where all hold back what the stream does, they are its polls.
 pub fn legal_with_drains()
-    ensures legal { (format : Format) (hold_back first : ℕ) (samples : List SentSample) (turns : List HeldTurn) →
+    ensures legal { (format : Format) (holding : Holding) (first : ℕ) (samples : List SentSample)
+        (turns : List HeldTurn) →
         AreSentAs format samples → first + length (packets_of samples) ≤ 2 ^ 62
         → IsSane first (length (packets_of samples)) [] (map turn_of turns) →
         IsLegal (canonical_units first samples)
-        (heard_at format (numbered first (datagrams samples)) (fresh hold_back) turns) }
+        (heard_at format (numbered first (datagrams samples)) (fresh holding) turns) }
     ensures polls { (format : Format) (sender : Sender) (s : Stream) (turns : List Turn) →
-        heard_at format sender s (map (turn_at s.hold_back) turns) ≡ heard format s (map (event_of sender) turns) }
+        heard_at format sender s (map (turn_at s.holding.hold_back) turns)
+        ≡ heard format s (map (event_of sender) turns) }
 {}
 
 /// A legal selection has strictly rising places, one for each unit that is handed out, at which the unit
@@ -45,36 +48,37 @@ pub fn selections_have_places()
 
 /// Under a tame schedule that ends by a poll that answers None the answers are exactly the canonical units.
 pub fn exact_under_tame_schedule()
-    ensures { (format : Format) (hold_back first : ℕ) (samples : List SentSample) (turns : List Turn) →
+    ensures { (format : Format) (holding : Holding) (first : ℕ) (samples : List SentSample) (turns : List Turn) →
         let events = map (event_of (numbered first (datagrams samples))) (turns ++ Ask ∷ []) in
         let sizes = frame_sizes format samples in
         AreSentAs format samples → first + length (packets_of samples) ≤ 2 ^ 62 →
-        IsTame first (length (packets_of samples)) hold_back (first_size sizes) [] first sizes (turns ++ Ask ∷ []) →
-        EndsSilent (heard format (fresh hold_back) events) →
-        map timed_unit (handed_out (heard format (fresh hold_back) events))
+        IsTame first (length (packets_of samples)) holding (first_size sizes) [] first sizes (turns ++ Ask ∷ []) →
+        EndsSilent (heard format (fresh holding) events) →
+        map timed_unit (handed_out (heard format (fresh holding) events))
         ≡ map (λ c. Ok (whole_unit c)) (canonical_units first samples) }
 {}
 
-/// All datagrams of at most 4,096 come, once or more, none behind one that is 128 or more above it: then
-/// polls until None give exactly the canonical units, whatever is held back.
+/// All datagrams come, no more than may be held, once or more, none behind one that is 1,024 or more above it:
+/// then polls until None give exactly the canonical units, whatever is held back.
 pub fn exact_after_full_arrival()
-    ensures { (format : Format) (hold_back first polls : ℕ) (samples : List SentSample) (arrivals : List ℕ) →
+    ensures { (format : Format) (holding : Holding) (first polls : ℕ) (samples : List SentSample) (arrivals : List ℕ) →
         let events = map (event_of (numbered first (datagrams samples)))
         (map Arrive arrivals ++ replicate (suc polls) Ask) in
-        AreSentAs format samples → first + length (packets_of samples) ≤ 2 ^ 62 → length (packets_of samples) ≤ 4096 →
+        AreSentAs format samples → first + length (packets_of samples) ≤ 2 ^ 62 →
+        length (packets_of samples) ≤ holding.held →
         AreGoodArrivals first (length (packets_of samples)) [] arrivals →
-        EndsSilent (heard format (fresh hold_back) events) →
-        map timed_unit (handed_out (heard format (fresh hold_back) events))
+        EndsSilent (heard format (fresh holding) events) →
+        map timed_unit (handed_out (heard format (fresh holding) events))
         ≡ map (λ c. Ok (whole_unit c)) (canonical_units first samples) }
 {}
 
 /// Under every sane schedule the window says what came, each packet that is held is the sender's of its
 /// number, and the low bits of a next arrival stand for its number.
 pub fn true_numbers()
-    ensures { (format : Format) (sender : Sender) (hold_back first count : ℕ) (turns : List Turn) →
+    ensures { (format : Format) (sender : Sender) (holding : Holding) (first count : ℕ) (turns : List Turn) →
         first + count ≤ 2 ^ 62 → IsSane first count [] turns →
         AreTrueNumbers sender first count (arrived [] turns)
-        (after_events format (fresh hold_back) (map (event_of sender) turns)) }
+        (after_events format (fresh holding) (map (event_of sender) turns)) }
 {}
 
 /// Polls come to an end: after at most as many as packets are held, one answers None.
@@ -87,6 +91,6 @@ pub fn polls_come_to_an_end()
 pub fn poll_laws()
     ensures fewer { (format : Format) (s : Stream) → poll_answer format s ≢ Ok None
         → length (polled format s).held < length s.held }
-    ensures none { (format : Format) (s : Stream) → poll_answer format (holding 0 s) ≡ Ok None
+    ensures none { (format : Format) (s : Stream) → poll_answer format (holding_back 0 s) ≡ Ok None
         → complete_frames format s.held ≡ [] }
 {}

@@ -2,6 +2,7 @@ use Rattle.std.specs.Prelude.{ℕ, Bool, true, false, not, nat_lt, ◌&&◌, Lis
 use Rattle.std.specs.Prelude.{◌≡◌, None, slice_set, slice_index_or}
 use Rattle.rtp_wire.specs.Maps.{empty_map}
 use Rattle.payload_core_base.specs.declared.codec.Codec.TheVariants.{Unknown}
+use Rattle.payload_core_buffer.specs.Buffered.{holding_of}
 use Rattle.rtp_media_streams.specs.Sending as sending
 use Rattle.rtp_media_streams.specs.Sending.{Sending, opened_sender}
 use Rattle.rtp_media_streams.specs.Receiving as receiving
@@ -31,7 +32,7 @@ abbrev pub no_sender : Sending
 no_sender = opened_sender 0 no_types empty_map no_row_format None false 0 1 0
 
 abbrev pub no_receiver : Receiving
-no_receiver = opened_receiver 0 no_types empty_map no_row_format 0
+no_receiver = opened_receiver 0 no_types empty_map no_row_format (holding_of 0 0)
 
 -- A stream as one that sends, and as one that receives.
 abbrev pub sending_of : OpenStream → Sending

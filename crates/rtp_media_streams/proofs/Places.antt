@@ -1,5 +1,6 @@
 -- Where a payload stands in its datagram.
-use Rattle.std.proofs.Common.{◌≡◌, ℕ, zero, suc, ◌+◌, ◌*◌, ◌-◌, ◌<◌, ◌≤◌, refl, sym, ◌∙◌, ap, ap₂, subst, arith, Bool, true}
+use Rattle.std.proofs.Common.{◌≡◌, ℕ, zero, suc, ◌+◌, ◌*◌, ◌-◌, ◌<◌, ◌≤◌, refl, sym, ◌∙◌, ap, ap₂, subst, arith, Bool}
+use Rattle.std.proofs.Common.{true}
 use Rattle.std.proofs.Common.{false, List, [], ◌∷◌, ◌++◌, length, take, drop, true≢false}
 use Rattle.std.proofs.lemmas.List.{append-nil, drop-append-le, drop-drop, length-append, length-drop, take-append-drop}
 use Rattle.std.proofs.Math.Seq.{take-append_seam}
@@ -9,7 +10,8 @@ use Rattle.rtp_wire.specs.Header.{payload_in}
 use Rattle.rtp_wire.specs.Padding.{unpadded, without}
 use Rattle.rtp_wire.specs.Repairs.{Wrapped, wrapped_in}
 use Rattle.rtp_wire.specs.declared.header.RtpHeader.{RtpHeader}
-use Rattle.payload_core_audio.specs.RedReading.{Item, count_of_blocks, items_from, pt_at, read_blocks, read_red, size_at}
+use Rattle.payload_core_audio.specs.RedReading.{Item, count_of_blocks, items_from, pt_at, read_blocks, read_red}
+use Rattle.payload_core_audio.specs.RedReading.{size_at}
 use Rattle.rtp_media_streams.specs.Receiving.{brought, carried, plain_brought}
 use Rattle.rtp_media_streams.specs.Redundant.{primary_of, unwrapped}
 use Rattle.rtp_media_streams.specs.Types.{is_plain_key}
@@ -101,7 +103,8 @@ unpadded-front true payload bytes h = go (slice_index payload (length payload - 
 -- its last bytes, by their place in the datagram
 pub at-place : (datagram : List ℕ) (header_len : ℕ) (padded : Bool) (bytes : List ℕ) (len : ℕ)
     → unpadded padded (drop header_len datagram) ≡ Some bytes → len ≤ length bytes
-    → drop (length bytes - len) bytes ≡ slice_range datagram (header_len + length bytes - len) (header_len + length bytes)
+    → drop (length bytes - len) bytes
+        ≡ slice_range datagram (header_len + length bytes - len) (header_len + length bytes)
 at-place datagram header_len padded bytes len h le =
     let front = unpadded-front padded (drop header_len datagram) bytes h in
     let j : ℕ = length bytes - len in

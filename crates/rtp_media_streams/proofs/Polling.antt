@@ -2,53 +2,62 @@
 use Rattle.std.proofs.Common.{◌≡◌, ◌≢◌, ℕ, ◌<◌, refl, sym, ◌∙◌, ap, subst, List, [], ◌∷◌, ◌++◌, append_assoc, length}
 use Rattle.std.specs.Prelude.{Option, Some, None, Result, Ok, Err}
 use Rattle.payload_core_base.specs.Format.{Format}
+use Rattle.payload_core_buffer.specs.Buffered.{Holding}
 use Rattle.payload_core_buffer.specs.Pops.{PopState}
 use Rattle.payload_core_buffer.specs.Steps.{AnswersBy, PollStep, pop_step}
-use Rattle.rtp_media_schedules.specs.Drains.{holding}
-use Rattle.rtp_media_schedules.specs.Hearing.{Answer, MediaUnit, kept_of, with_kept}
+use Rattle.rtp_media_schedules.specs.Drains.{holding_back}
+use Rattle.rtp_media_schedules.specs.Hearing.{Answer, MediaUnit, Stream, kept_of, with_kept}
 use Rattle.rtp_media_schedules.proofs.PollSteps.{less-after, step-answer, step-next, step-stops}
-use Rattle.rtp_media_streams.specs.Polls.{Answers, Faults, HandsOut, IsPolled, IsPolledSome, NoMore, Once, Short, Silent}
+use Rattle.rtp_media_streams.specs.Polls.{Answers, Faults, HandsOut, IsPolled, IsPolledSome, NoMore, Once, Short}
+use Rattle.rtp_media_streams.specs.Polls.{Silent}
 use Rattle.rtp_media_streams.specs.Polls.{WantsMemory, drain_step, poll_step}
 use Rattle.rtp_media_streams.specs.Receiving.{Receiving, with_stream}
 use Rattle.rtp_media_streams.specs.Rows.{format_of}
 use Rattle.rtp_media_streams.specs.declared.errors.PollFault.{PollFault}
 
+-- a stream that was opened with this to hold
+abbrev pub opened_with : Holding → Stream → Stream
+opened_with holding s = record s { holding = holding }
+
 -- a pop at the stream's hold-back is its poll
-pub polls : (r : Receiving) (format : Format) (hold_back : ℕ) (k : PopState) (a : Option Answer)
-    → format ≡ format_of r.row → hold_back ≡ r.stream.hold_back
-    → AnswersBy (pop_step format r.stream.hold_back (kept_of r.stream)) k a
-    → AnswersBy (poll_step r) (with_stream r (with_kept (holding hold_back r.stream) k)) a
-polls r format hold_back k (Some a) same count is = rw (count, ← same) (
+pub polls : (r : Receiving) (format : Format) (holding : Holding) (k : PopState) (a : Option Answer)
+    → format ≡ format_of r.row → holding ≡ r.stream.holding
+    → AnswersBy (pop_step format r.stream.holding.hold_back (kept_of r.stream)) k a
+    → AnswersBy (poll_step r) (with_stream r (with_kept (opened_with holding r.stream) k)) a
+polls r format holding k (Some a) same count is = rw (count, ← same) (
   is.0 ∙ step-answer format r.stream,
   ap (λ (x : PopState). with_stream r (with_kept r.stream x)) is.1 ∙ ap (with_stream r) (step-next format r.stream),
 )
-polls r format hold_back k None same count is = rw (count, ← same) (step-stops format r.stream k is, refl)
+polls r format holding k None same count is = rw (count, ← same) (step-stops format r.stream k is, refl)
 
 -- a pop that holds nothing back is its drain
-pub drains : (r : Receiving) (format : Format) (hold_back : ℕ) (k : PopState) (a : Option Answer)
-    → format ≡ format_of r.row → hold_back ≡ r.stream.hold_back
+pub drains : (r : Receiving) (format : Format) (holding : Holding) (k : PopState) (a : Option Answer)
+    → format ≡ format_of r.row → holding ≡ r.stream.holding
     → AnswersBy (pop_step format 0 (kept_of r.stream)) k a
-    → AnswersBy (drain_step r) (with_stream r (with_kept (holding hold_back r.stream) k)) a
-drains r format hold_back k (Some a) same count is = rw (count, ← same) (
-  is.0 ∙ step-answer format (holding 0 r.stream),
+    → AnswersBy (drain_step r) (with_stream r (with_kept (opened_with holding r.stream) k)) a
+drains r format holding k (Some a) same count is = rw (count, ← same) (
+  is.0 ∙ step-answer format (holding_back 0 r.stream),
   ap (λ (x : PopState). with_stream r (with_kept r.stream x)) is.1
-      ∙ ap (λ s. with_stream r (holding r.stream.hold_back s)) (step-next format (holding 0 r.stream)),
+      ∙ ap (λ s. with_stream r (holding_back r.stream.holding.hold_back s))
+          (step-next format (holding_back 0 r.stream)),
 )
-drains r format hold_back k None same count is = rw (count, ← same) (step-stops format (holding 0 r.stream) k is, refl)
+drains r format holding k None same count is =
+    rw (count, ← same) (step-stops format (holding_back 0 r.stream) k is, refl)
 
 -- the same of a stream that is seen as another one
-module _ (x r : Receiving) (same : x ≡ r) (format : Format) (hold_back : ℕ) (k : PopState) (a : Option Answer)
-    (row : format ≡ format_of x.row) (count : hold_back ≡ x.stream.hold_back) where
+module _ (x r : Receiving) (same : x ≡ r) (format : Format) (holding : Holding) (k : PopState) (a : Option Answer)
+    (row : format ≡ format_of x.row) (count : holding ≡ x.stream.holding) where
   abbrev behind : Receiving
-  behind = with_stream x (with_kept (holding hold_back x.stream) k)
+  behind = with_stream x (with_kept (opened_with holding x.stream) k)
 
-  pub poll-seen : AnswersBy (pop_step format x.stream.hold_back (kept_of x.stream)) k a
+  pub poll-seen : AnswersBy (pop_step format x.stream.holding.hold_back (kept_of x.stream)) k a
       → AnswersBy (poll_step r) behind a
-  poll-seen is = subst (λ (y : Receiving). AnswersBy (poll_step y) behind a) same (polls x format hold_back k a row count is)
+  poll-seen is = subst (λ (y : Receiving). AnswersBy (poll_step y) behind a) same
+      (polls x format holding k a row count is)
 
   pub drain-seen : AnswersBy (pop_step format 0 (kept_of x.stream)) k a → AnswersBy (drain_step r) behind a
   drain-seen is = subst (λ (y : Receiving). AnswersBy (drain_step y) behind a) same
-      (drains x format hold_back k a row count is)
+      (drains x format holding k a row count is)
 
 -- fewer are held behind an answer
 pub fewer-held : (r m : Receiving) (a : Answer) → AnswersBy (poll_step r) m (Some a) → a ≢ Ok None

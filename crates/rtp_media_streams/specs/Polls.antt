@@ -3,7 +3,7 @@ use Rattle.std.specs.Prelude.{◌≡◌, ◌<◌, ◌⊎◌, ℕ, List, [], ◌�
 use Rattle.std.specs.Prelude.{Result, Ok, Err}
 use Rattle.payload_core_base.specs.declared.error.PacketError.{PacketError}
 use Rattle.payload_core_buffer.specs.Steps.{AnswersBy, PollStep}
-use Rattle.rtp_media_schedules.specs.Drains.{holding}
+use Rattle.rtp_media_schedules.specs.Drains.{holding_back}
 use Rattle.rtp_media_schedules.specs.Hearing.{Answer, IsInterrupted, MediaUnit, poll_answer, polled}
 use Rattle.rtp_media_schedules.specs.SentSamples.{Timed, timed}
 use Rattle.rtp_media_streams.specs.Receiving.{Receiving, polled_receiver, with_stream}
@@ -31,10 +31,10 @@ poll_step r = record {
 
 abbrev pub drain_step : Receiving → PollStep Receiving
 drain_step r = record {
-  answer = poll_answer (format_of r.row) (holding 0 r.stream);
-  next = with_stream r (holding r.stream.hold_back (polled (format_of r.row) (holding 0 r.stream)));
-  Stopped = λ t. IsInterrupted (format_of r.row) (holding 0 r.stream) (holding 0 t.stream)
-      × (t ≡ with_stream r (holding r.stream.hold_back t.stream));
+  answer = poll_answer (format_of r.row) (holding_back 0 r.stream);
+  next = with_stream r (holding_back r.stream.holding.hold_back (polled (format_of r.row) (holding_back 0 r.stream)));
+  Stopped = λ t. IsInterrupted (format_of r.row) (holding_back 0 r.stream) (holding_back 0 t.stream)
+      × (t ≡ with_stream r (holding_back r.stream.holding.hold_back t.stream));
 }
 
 -- What they answer where memory is found.

@@ -8,7 +8,7 @@ use Rattle.rtp_wire.specs.declared.ExtensionValues.{ExtensionValues}
 use Rattle.rtp_wire.specs.declared.header.RtpHeader.{RtpHeader}
 use Rattle.rtp_wire.specs.Repairs.{Wrapped, wrapped_in}
 use Rattle.payload_core_base.specs.Format.{Fragment}
-use Rattle.payload_core_buffer.specs.Buffered.{Buffered}
+use Rattle.payload_core_buffer.specs.Buffered.{Buffered, Holding}
 use Rattle.rtp_media_schedules.specs.Hearing.{Stream, content_of, fresh, number_at, taken_by, polled}
 use Rattle.rtp_media_streams.specs.Redundant.{unwrapped}
 use Rattle.rtp_media_streams.specs.Rows.{format_of}
@@ -27,13 +27,13 @@ pub record Receiving : Type 0 where
   pub stream : Stream
 
 -- A stream that heard nothing.
-abbrev pub opened_receiver : ℕ → PayloadTypes → Numbering → RowFormat → ℕ → Receiving
-opened_receiver ssrc types map row hold_back = record {
+abbrev pub opened_receiver : ℕ → PayloadTypes → Numbering → RowFormat → Holding → Receiving
+opened_receiver ssrc types map row holding = record {
   ssrc = ssrc;
   types = types;
   map = map;
   row = row;
-  stream = fresh hold_back;
+  stream = fresh holding;
 }
 
 -- The same stream with other things kept.
@@ -103,7 +103,7 @@ polled_receiver r = with_stream r (polled (format_of r.row) r.stream)
 -- The stream of a window, a buffer and an open fragment.
 abbrev pub stream_of : {D : Type 0} → Option Window → Buffered D → Fragment → Stream
 stream_of window b fragment = record {
-  hold_back = b.hold_back;
+  holding = b.holding;
   window = window;
   held = b.held;
   cutoff = b.cutoff;

@@ -52,7 +52,8 @@ fn unwrapped<'a>(types: &PayloadTypes, pt: Pt, payload: &'a [u8]) -> Option<&'a 
 }
 
 /// What a payload without padding carries: the low 16 bits of a number, and how many bytes, the last of these, the
-/// payload under that number has. A plain datagram carries its payload under its own number, and a repair what it wraps.
+/// payload under that number has. A plain datagram carries its payload under its own number, and a repair what it
+/// wraps.
 fn carried(
     ssrc: Ssrc,
     types: &PayloadTypes,

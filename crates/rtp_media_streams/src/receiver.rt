@@ -1,12 +1,13 @@
 //! Receiving streams.
 
-ghost use Rattle.std.specs.Prelude.{◌≡◌, ◌≤◌, IfErr, IfOk, IfSome, MatchOption, slice_range, vec_len, OnErr, OnOk, None, Some, length, true};
+ghost use Rattle.std.specs.Prelude.{◌≡◌, ◌≤◌, IfErr, IfOk, IfSome, MatchOption, slice_range, vec_len, OnErr, OnOk};
+ghost use Rattle.std.specs.Prelude.{None, Some, length, true};
 ghost use Rattle.h26x_payload.specs.Codings.{has_format};
 ghost use Rattle.rtp_wire.specs.Header.{header_in};
 ghost use Rattle.rtp_wire.specs.Maps.{empty_map};
 ghost use Rattle.rtp_wire.specs.Replay.{greatest_in, is_accepted, recorded_in};
 ghost use Rattle.rtp_wire.specs.Widening.{widened};
-ghost use Rattle.payload_core_buffer.specs.Buffered.{pushed};
+ghost use Rattle.payload_core_buffer.specs.Buffered.{holding_of, may_hold, pushed};
 ghost use Rattle.rtp_media_schedules.specs.Hearing.{content_of, packet_of};
 ghost use Rattle.payload_core_buffer.specs.Steps.{AnswersBy, as_answer};
 ghost use Rattle.rtp_media_streams.specs.Polls.{IsPolled, IsPolledSome, drain_step, found, poll_step};
@@ -135,7 +136,7 @@ fn hold(
     requires in_order { arrival.now.start ≤ arrival.now.end }
     requires within { arrival.now.end ≤ vec_len datagram }
     ensures held { OnOk result (buffer.new ≡ record buffer.old {
-      held = pushed buffer.old.cutoff buffer.old.held
+      held = pushed buffer.old.holding.held buffer.old.cutoff buffer.old.held
           (packet_of number (content_of arrival.now.time arrival.now.marker arrival.now.ext_vals
           (slice_range datagram.items arrival.now.start arrival.now.end)));
     }) }
@@ -165,10 +166,10 @@ fn handed_out(popped: Result<Option<Unit>, PacketError>) -> Result<Option<Unit>,
 impl ReceivingStream {
     /// A stream of this SSRC, these payload types, this map of header extensions and this row that heard
     /// nothing. Past a missing packet a frame is handed out only once more than `hold_back` frames are
-    /// complete.
+    /// complete. At most `held` packets wait.
     ///
     /// # Conditions
-    /// The row's codec has a payload format: it is none of Rtx, Red, Null and Unknown.
+    /// The row's codec has a payload format: it is none of Rtx, Red, Null and Unknown. `held` is 4,096 to 16,384.
     pub fn new(
         alloc: Global,
         ssrc: Ssrc,
@@ -176,9 +177,11 @@ impl ReceivingStream {
         exts: ExtensionMap,
         row: RowFormat,
         hold_back: usize,
+        held: usize,
     ) -> Self
-        requires { has_format row.codec ≡ true }
-        ensures { result ≡ opened_receiver ssrc types exts row hold_back }
+        requires format { has_format row.codec ≡ true }
+        requires held { may_hold held ≡ true }
+        ensures { result ≡ opened_receiver ssrc types exts row (holding_of hold_back held) }
     {
         let depacketizer = depacketizer_for(alloc, &row);
         ReceivingStream {
@@ -188,7 +191,7 @@ impl ReceivingStream {
             exts,
             row,
             window: None,
-            buffer: DepacketizingBuffer::new(alloc, depacketizer, hold_back),
+            buffer: DepacketizingBuffer::new(alloc, depacketizer, hold_back, held),
         }
     }
 

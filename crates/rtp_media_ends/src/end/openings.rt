@@ -1,6 +1,7 @@
 //! Streams that an end opens.
 
 ghost use Rattle.std.specs.Prelude.{◌≡◌, ◌≢◌, Some, None, length, true, OnOk, OnErr, IfOk, IfErr};
+ghost use Rattle.rtp_media_schedules.specs.Hearing.{holding_of, may_hold};
 ghost use Rattle.rtp_media_ends.specs.Ends.{after_open_receiver, after_open_sender, agreed_red};
 ghost use Rattle.rtp_media_ends.specs.Ends.{is_receiver_at, is_sender_at, new_receiver, new_sender};
 ghost use Rattle.rtp_media_ends.specs.Ends.{refusal_of_open_receiver, refusal_of_open_sender, sender_at};
@@ -52,7 +53,11 @@ impl End {
 
     /// Opens a receiving stream of this SSRC for the agreed row of a payload type, and answers its
     /// number, counted from 0 over the streams of both directions. Past a missing datagram a unit is
-    /// handed out only once more than `hold_back` frames are complete.
+    /// handed out only once more than `hold_back` frames are complete. At most `held` packets wait; of more the
+    /// lowest are dropped.
+    ///
+    /// # Conditions
+    /// `held` is 4,096 to 16,384, as `may_hold` says.
     ///
     /// # Errors
     /// As [`End::open_sender`]; `SsrcNotNamed` where the section of the other end doesn't name the
@@ -64,11 +69,14 @@ impl End {
         ssrc: Ssrc,
         pt: Pt,
         hold_back: usize,
+        held: usize,
     ) -> Result<usize, OpenError>
+        requires { may_hold held ≡ true }
         ensures number { IfOk result (λ n. n ≡ length self.old.streams) }
         ensures opens { OnOk result (refusal_of_open_receiver self.old mid ssrc pt ≡ None) }
-        ensures after { OnOk result (self.new ≡ after_open_receiver self.old mid ssrc pt hold_back) }
-        ensures receiver { IfOk result (λ n. HasReceiver self.new n (new_receiver self.old mid ssrc pt hold_back)) }
+        ensures after { OnOk result (self.new ≡ after_open_receiver self.old mid ssrc pt (holding_of hold_back held)) }
+        ensures receiver { IfOk result (λ n. HasReceiver self.new n (new_receiver self.old mid ssrc pt
+            (holding_of hold_back held))) }
         ensures receives { IfOk result (λ n. is_receiver_at self.new n ≡ true) }
         ensures refused { IfErr result (λ e. e ≢ OpenError.Memory → refusal_of_open_receiver self.old mid ssrc pt
             ≡ Some e) }
@@ -83,6 +91,7 @@ impl End {
             ssrc,
             pt,
             hold_back,
+            held,
         )?;
         Ok(self.streams.add_receiver(stream)?)
     }

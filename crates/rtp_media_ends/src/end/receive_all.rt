@@ -1,6 +1,7 @@
 //! Datagrams received one after the other, and then all units that are ready.
 
 ghost use Rattle.std.specs.Prelude.{◌≡◌, ℕ, List, OnOk, OnErr, IfOk};
+ghost use Rattle.rtp_media_schedules.specs.Hearing.{Holding};
 ghost use Rattle.rtp_media_streams.specs.Polls.{AreAnswered};
 ghost use Rattle.rtp_media_streams.specs.Sending.{Sample, Sending};
 ghost use Rattle.rtp_media_ends.specs.Ends.{with_streams};
@@ -38,9 +39,9 @@ impl End {
             self.new.streams) }
         // All datagrams of a stream's samples came: its polls answer exactly the canonical units, unless
         // memory for one ran out.
-        ensures exact { IfOk result (λ all. (stream hold_back : ℕ) (sender : Sending) (samples : List Sample)
-            (arrivals : List ℕ) →
-            HasAllOf self.old stream hold_back sender samples arrivals datagrams.now →
+        ensures exact { IfOk result (λ all. (stream : ℕ) (holding : Holding) (sender : Sending)
+            (samples : List Sample) (arrivals : List ℕ) →
+            HasAllOf self.old stream holding sender samples arrivals datagrams.now →
             AreAnswered (units_of sender samples) (answers_at all.polls.items stream)) }
         ensures memory { OnErr result (ReceivesAndPollsSome self.old datagrams.now self.new) }
     {

@@ -1,6 +1,4 @@
-use Rattle.std.proofs.Common.{ap, arith, length, refl, sym, ◌≡◌, ◌∙◌, Global, List, Option, Some, None}
-use Rattle.std.proofs.lemmas.Grind.{common_steps}
-use Rattle.std.specs.Prelude.{slice_range}
+use Rattle.std.proofs.Common.{ap, arith, length, refl, sym, ◌≡◌, ◌∙◌, Global, List}
 use Rattle.std.specs.declared.collections.VecDeque.{VecDeque}
 use Rattle.payload_core_buffer.specs.declared.held.Held.{Held}
 use Rattle.payload_core_buffer.specs.Packets.{packets_of}

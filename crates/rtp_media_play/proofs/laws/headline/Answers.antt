@@ -9,29 +9,29 @@ pub returns-clause-units : goal.returns-clause-units
 returns-clause-units c = units-are-alone c.codec_law.ensures.codec_in_forms c.codec_law.ensures.first
 
 pub returns-clause-alone : goal.returns-clause-alone
-returns-clause-alone c = λ answer a b mid ssrc pt params samples hold_back schedule to.
+returns-clause-alone c = λ answer a b mid ssrc pt params samples holding schedule to.
     alone c.codec_law.ensures.codec_in_forms c.codec_law.ensures.first answer a b mid ssrc pt params samples
-    to hold_back schedule
+    to holding schedule
 
 pub returns-clause-hears : goal.returns-clause-hears
-returns-clause-hears c = λ answer a b mid ssrc pt params samples hold_back to.
+returns-clause-hears c = λ answer a b mid ssrc pt params samples holding to.
     hears c.codec_law.ensures.codec_in_forms c.codec_law.ensures.first answer a b mid ssrc pt params samples
-    to hold_back
+    to holding
 
 pub returns-clause-legal : goal.returns-clause-legal
-returns-clause-legal c = λ answer a b mid ssrc pt params samples hold_back schedule to sane.
-    legal-run c.codec_law.ensures.codec_in_forms (after_open_receiver b mid ssrc pt hold_back)
-    (length b.streams) hold_back
+returns-clause-legal c = λ answer a b mid ssrc pt params samples holding schedule to sane.
+    legal-run c.codec_law.ensures.codec_in_forms (after_open_receiver b mid ssrc pt holding)
+    (length b.streams) holding
     (new_sender a mid ssrc pt params) samples
     (hears c.codec_law.ensures.codec_in_forms c.codec_law.ensures.first answer a b mid ssrc pt params samples
-    to hold_back) schedule sane
+    to holding) schedule sane
 
 pub returns-clause-exact : goal.returns-clause-exact
-returns-clause-exact c = λ answer a b mid ssrc pt params samples hold_back schedule to tame.
-    exact-run c.codec_law.ensures.codec_in_forms (after_open_receiver b mid ssrc pt hold_back)
-    (length b.streams) hold_back
+returns-clause-exact c = λ answer a b mid ssrc pt params samples holding schedule to tame.
+    exact-run c.codec_law.ensures.codec_in_forms (after_open_receiver b mid ssrc pt holding)
+    (length b.streams) holding
     (new_sender a mid ssrc pt params) samples
     (hears c.codec_law.ensures.codec_in_forms c.codec_law.ensures.first answer a b mid ssrc pt params samples
-    to hold_back) schedule tame
+    to holding) schedule tame
     ∙ ap (λ (ts : List Timed). map Ok ts) (units-are-alone c.codec_law.ensures.codec_in_forms
     c.codec_law.ensures.first answer a b mid ssrc pt params samples to)

@@ -22,7 +22,7 @@ returns-in-Ok-play_schedule-clause-isolated c = λ found.
     (receiver_at c.args.b.now c.args.rx) c.args.schedule.now c.args.b.now (record { same = refl; known = found })
 
 pub returns-in-Ok-play_schedule-clause-legal : goal.returns-in-Ok-play_schedule-clause-legal
-returns-in-Ok-play_schedule-clause-legal c = λ hold_back hears sane.
+returns-in-Ok-play_schedule-clause-legal c = λ holding hears sane.
     let sent : c.deref.result.now ≡ datagrams_of (sender_at c.args.a.now c.args.tx) c.args.samples.now =
     c.deref.ensures.value ∙ c.in-Ok.ensures.sent in
     let all : poll_answers c.in-Ok-play_schedule.all.items
@@ -32,11 +32,11 @@ returns-in-Ok-play_schedule-clause-legal c = λ hold_back hears sane.
     ∙ ap (λ (ds : List (List ℕ)). played ds c.args.rx c.args.b.now c.args.schedule.now) sent) in
     subst (λ (os : List Answer). IsLegal (canonical_of (sender_at c.args.a.now c.args.tx) c.args.samples.now) os)
     (sym all)
-    (legal-run c.codec_law.ensures.codec_in_forms c.args.b.now c.args.rx hold_back (sender_at c.args.a.now c.args.tx)
+    (legal-run c.codec_law.ensures.codec_in_forms c.args.b.now c.args.rx holding (sender_at c.args.a.now c.args.tx)
     c.args.samples.now hears c.args.schedule.now sane)
 
 pub returns-in-Ok-play_schedule-clause-exact : goal.returns-in-Ok-play_schedule-clause-exact
-returns-in-Ok-play_schedule-clause-exact c = λ hold_back hears tame.
+returns-in-Ok-play_schedule-clause-exact c = λ holding hears tame.
     let sent : c.deref.result.now ≡ datagrams_of (sender_at c.args.a.now c.args.tx) c.args.samples.now =
     c.deref.ensures.value ∙ c.in-Ok.ensures.sent in
     let all : poll_answers c.in-Ok-play_schedule.all.items
@@ -45,9 +45,9 @@ returns-in-Ok-play_schedule-clause-exact c = λ hold_back hears tame.
     ap poll_answers (c.in-Ok-play_schedule.ensures.answers
     ∙ ap (λ (ds : List (List ℕ)). played ds c.args.rx c.args.b.now c.args.schedule.now) sent) in
     ap (λ (os : List Answer). map timed_unit (handed_out os)) all
-    ∙ exact-run c.codec_law.ensures.codec_in_forms c.args.b.now c.args.rx hold_back (sender_at c.args.a.now c.args.tx)
+    ∙ exact-run c.codec_law.ensures.codec_in_forms c.args.b.now c.args.rx holding (sender_at c.args.a.now c.args.tx)
     c.args.samples.now hears c.args.schedule.now
-    (subst (λ (os : List Answer). IsTameSchedule (sender_at c.args.a.now c.args.tx) c.args.samples.now hold_back
+    (subst (λ (os : List Answer). IsTameSchedule (sender_at c.args.a.now c.args.tx) c.args.samples.now holding
     c.args.schedule.now os) all tame)
 
 pub returns-in-Err-clause-accepted : goal.returns-in-Err-clause-accepted

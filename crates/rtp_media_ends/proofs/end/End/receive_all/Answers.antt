@@ -11,18 +11,18 @@ use Rattle.std.proofs.lemmas.Grind.{common_steps}
 use Rattle.rtp_media_ends.proofs.end.End.receive_all.Goals as goal
 
 pub returns-clause-exact : goal.returns-clause-exact
-returns-clause-exact c stream hold_back sender samples arrivals all =
+returns-clause-exact c stream holding sender samples arrivals all =
     let streams : c.self.inside.streams ≡ (after_datagrams c.args.self.now c.args.datagrams.now).streams =
     ap (λ (e : EndState). e.streams) (c.self.view_is ∙ c.in_ok-verdicts.ensures.after) in
     let polled : ArePolledOut (after_datagrams c.args.self.now c.args.datagrams.now).streams
     c.in_ok-polls.polls.items c.poll_out.new.self =
     subst (λ (ss : List OpenStream). ArePolledOut ss c.in_ok-polls.polls.items c.poll_out.new.self)
     streams c.in_ok-polls.ensures.out in
-    let r : Receiving = opened_receiver sender.ssrc sender.types sender.map sender.row hold_back in
+    let r : Receiving = opened_receiver sender.ssrc sender.types sender.map sender.row holding in
     let same : receiver_at c.args.self.now stream ≡ with_stream r (receiver_at c.args.self.now stream).stream =
     all.receiver.stream_is ∙ ap (with_stream r) (sym (ap (λ (x : Receiving). x.stream) all.receiver.stream_is)) in
     let there = found-after c.args.datagrams.now c.args.self.now stream r same all.receiver.found in
-    exact c.codec_law.ensures.codec_in_forms c.args.self.now stream hold_back sender samples arrivals
+    exact c.codec_law.ensures.codec_in_forms c.args.self.now stream holding sender samples arrivals
     c.args.datagrams.now _ _ all
     (out-of _ _ _ there.1 (polled.each stream there.0))
 

@@ -1,4 +1,5 @@
-use Rattle.std.proofs.Common.{◌≡◌, [], ◌++◌, ◌∷◌, List, None, OnErr, Result, Some, Ok, Err, refl, sym, subst, append-nil}
+use Rattle.std.proofs.Common.{◌≡◌, [], ◌++◌, ◌∷◌, List, None, OnErr, Result, Some, Ok, Err, refl, sym, subst}
+use Rattle.std.proofs.Common.{append-nil}
 use Rattle.rtp_media_streams.specs.Polls.{Answers, Faults, HandsOut, IsPolled, NoMore, Once, Short, Silent, WantsMemory}
 use Rattle.rtp_media_streams.specs.Polls.{poll_step}
 use Rattle.rtp_media_streams.specs.declared.errors.PollFault.TheVariants.{Memory, Payload}
