@@ -56,8 +56,12 @@ module _ (format : Format) (sender : Sender) (first count : ℕ) (fits : first +
             hands-out format sender first count fits past n fs (holding_back k s) f (held-as past n k s is) sent frames
             same_end e in
             let after : Stream = holding_back s.holding.hold_back (stream_behind format (holding_back k s) (Some f)) in
-            rw (poll_answer-is format (holding_back k s) (Some f) e, polled-is format (holding_back k s)
-                (Some f) e, step.answer)
+            rw (
+              poll_answer-is format (holding_back k s) (Some f) e,
+              polled-is format (holding_back k s)
+                  (Some f) e,
+              step.answer,
+            )
             (step.there.legal step.unit (heard_at format sender after ts)
             step.is_final_run
             (ih (step.there.from + length step.there.frame.packets) step.there.rest after

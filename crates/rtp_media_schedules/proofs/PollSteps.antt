@@ -1,6 +1,6 @@
 -- A pop of what a stream keeps is a poll of the stream.
 use Rattle.std.proofs.Common.{◌≡◌, ◌≢◌, ◌<◌, refl, sym, ◌∙◌, ap, subst, arith, ℕ, List, [], ◌∷◌, length}
-use Rattle.std.specs.Prelude.{Option, Some, None, Ok, Err}
+use Rattle.std.specs.Prelude.{Option, Some, None, Ok}
 use Rattle.std.proofs.lemmas.List.{length-drop}
 use Rattle.payload_core_base.specs.Format.{Format}
 use Rattle.payload_core_base.specs.declared.error.PacketError.{PacketError}
@@ -8,12 +8,12 @@ use Rattle.payload_core_base.specs.declared.extra.CodecExtra.{CodecExtra}
 use Rattle.payload_core_buffer.specs.Frames.{IsFrame, complete_frames, due_frame, lowest_of}
 use Rattle.payload_core_buffer.specs.Packets.{Packet}
 use Rattle.payload_core_buffer.specs.Pops.{PopState, ReadsPart}
-use Rattle.payload_core_buffer.specs.Steps.{AnswersBy, kept_behind, packets_of_due, pop_step}
+use Rattle.payload_core_buffer.specs.Steps.{kept_behind, packets_of_due, pop_step}
 use Rattle.payload_core_buffer.specs.declared.frame.Frame.{Frame}
 use Rattle.payload_core_buffer.specs.declared.held.RtpMeta.{RtpMeta}
 use Rattle.payload_core_buffer.proofs.DrainLemmas.{drain_law}
-use Rattle.rtp_media_schedules.specs.Drains.{holding}
-use Rattle.rtp_media_schedules.specs.Hearing.{Answer, IsInterrupted, Stream, answer_among, answer_by, due, kept_of}
+use Rattle.rtp_media_schedules.specs.Drains.{holding_back}
+use Rattle.rtp_media_schedules.specs.Hearing.{IsInterrupted, Stream, answer_among, answer_by, due, kept_of}
 use Rattle.rtp_media_schedules.specs.Hearing.{poll_answer, polled, stream_behind, with_kept}
 use Rattle.rtp_media_schedules.proofs.Sane.{due-is}
 

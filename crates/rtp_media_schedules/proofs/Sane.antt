@@ -108,7 +108,7 @@ module _ (format : Format) (sender : Sender) (first count : ℕ) (fits : first +
   kept : (n x : ℕ) (s : Stream) → IsHeld sender n (first + count) s.held → CutoffIs first n s.cutoff → first ≤ x
       → x < first + count → (b : Bool) → is_done s.cutoff x ≡ b →
       IsHeld sender n (first + count)
-          (if b then s.held else limited s.holding.held (held_with (packet sender x) s.held))
+      (if b then s.held else limited s.holding.held (held_with (packet sender x) s.held))
   kept n x s is cut low high true e = is
   kept n x s is cut low high false e = held-limited sender s.holding.held n (first + count) x s.held
       (ahead first n x s.cutoff cut low e) high is

@@ -142,7 +142,7 @@ module _ (format : Format) (sender : Sender) (first count opening : ℕ) (fits :
       let small : length (map (packet sender) (numbers_of first count (x ∷ past) next)) ≤ s.holding.held =
       simp (length-map, length-filter) few in
       let b : pushed s.holding.held s.cutoff s.held (packet sender x)
-          ≡ map (packet sender) (numbers_of first count (x ∷ past) next) =
+      ≡ map (packet sender) (numbers_of first count (x ∷ past) next) =
       rw (not_passed next x s.cutoff is.cutoff ahead, e)
       (limited-few s.holding.held (map (packet sender) (numbers_of first count (x ∷ past) next)) small) in
       rw (anew first count past s.window x is.window good new, b) (record {
@@ -339,7 +339,7 @@ module _ (format : Format) (sender : Sender) (first count opening : ℕ) (fits :
       let none : s.held ≡ [] = is.held ∙ ap (λ k. map (packet sender)
       (filter (is_among past) (range_with_len next k))) n in
       ap (λ (ps : List Packet). due_frame format s.cutoff s.holding.hold_back ps) none
-          ∙ none-held format s.cutoff s.holding.hold_back
+      ∙ none-held format s.cutoff s.holding.hold_back
 
   holding-taken : (s : Stream) (x : ℕ) (c : Content) → (taken_by s x c).holding ≡ s.holding
   holding-taken s x c = elim (is_accepted s.window x) as
