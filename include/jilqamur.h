@@ -29,6 +29,10 @@ extern "C" {
 /* The bytes of a literal text and their count, for a parameter of bytes and the one of their length. */
 #define JILQAMUR_TEXT(literal) (const uint8_t *)("" literal), sizeof(literal) - 1
 
+/* The least and the greatest number of packets that a stream, or a depacketizer, may be opened to hold at most. */
+#define JILQAMUR_MIN_HELD 4096
+#define JILQAMUR_MAX_HELD 16384
+
 /* What calls answer. */
 enum {
     JILQAMUR_OK = 0,         /* the call did what it says */
@@ -270,9 +274,10 @@ typedef struct jilqamur_depacketizer {
 #define JILQAMUR_DEPACKETIZER_CLOSED {false, 0}
 
 /* Opens a depacketizer that took nothing, of the codec of this name. Past a missing packet a unit is handed out only
- * once more than hold_back frames are complete. Refused as jilqamur_packetizer_open, but for a picture id. */
+ * once more than hold_back frames are complete. At most held packets wait, JILQAMUR_MIN_HELD to JILQAMUR_MAX_HELD, else
+ * it is JILQAMUR_OUT_OF_RANGE. Refused as jilqamur_packetizer_open, but for a picture id. */
 uint32_t jilqamur_depacketizer_open(jilqamur_depacketizer *depacketizer, const jilqamur_format *format,
-                                    const uint8_t *codec, size_t codec_len, size_t hold_back);
+                                    const uint8_t *codec, size_t codec_len, size_t hold_back, size_t held);
 
 /* Frees the depacketizer: JILQAMUR_OK, or JILQAMUR_CLOSED where the handle is closed. It is closed afterwards. */
 uint32_t jilqamur_depacketizer_close(jilqamur_depacketizer *depacketizer);
@@ -280,7 +285,7 @@ uint32_t jilqamur_depacketizer_close(jilqamur_depacketizer *depacketizer);
 /* Takes a packet in, by its widened sequence number (jilqamur_number_widen, jilqamur_window_receive), its RTP
  * timestamp, its marker and its payload of len bytes without padding: JILQAMUR_OK, or JILQAMUR_MEMORY, and nothing has
  * changed. A packet whose number is held, or at or below that of the last frame that was handed out or refused, is
- * passed over; of more than 4,096 the one of the lowest number goes. */
+ * passed over; of more than may wait the one of the lowest number goes. */
 uint32_t jilqamur_depacketizer_push(jilqamur_depacketizer *depacketizer, uint64_t number, uint32_t timestamp,
                                     bool marker, const uint8_t *payload, size_t len);
 
@@ -400,9 +405,10 @@ uint32_t jilqamur_end_open_sender(jilqamur_end *end, const uint8_t *mid, size_t 
                                   size_t count, size_t *stream);
 
 /* Opens a receiving stream in the same way. Past a missing datagram a unit is handed out only once more than hold_back
- * frames are complete. Refused as above, but never JILQAMUR_OUT_OF_RANGE. */
+ * frames are complete. At most held packets wait. Refused as above, JILQAMUR_OUT_OF_RANGE where held isn't
+ * JILQAMUR_MIN_HELD to JILQAMUR_MAX_HELD. */
 uint32_t jilqamur_end_open_receiver(jilqamur_end *end, const uint8_t *mid, size_t mid_len, uint32_t ssrc,
-                                    uint8_t payload_type, size_t hold_back, size_t *stream);
+                                    uint8_t payload_type, size_t hold_back, size_t held, size_t *stream);
 
 /* The values of header extensions (RFC 8285), but the names of sections and streams. One that is not given is not
  * looked at where a sample is sent, and is 0 or false in values that were read. */
@@ -522,9 +528,10 @@ typedef struct jilqamur_receiver {
 #define JILQAMUR_RECEIVER_CLOSED {false, 0}
 
 /* Opens a stream that took nothing, of the codec of this name. Past a missing packet a unit is handed out only once
- * more than hold_back frames are complete. Refused as jilqamur_sender_open. */
+ * more than hold_back frames are complete. At most held packets wait, JILQAMUR_MIN_HELD to JILQAMUR_MAX_HELD, else it
+ * is JILQAMUR_OUT_OF_RANGE. Refused as jilqamur_sender_open. */
 uint32_t jilqamur_receiver_open(jilqamur_receiver *receiver, const jilqamur_format *format, const uint8_t *codec,
-                                size_t codec_len, size_t hold_back);
+                                size_t codec_len, size_t hold_back, size_t held);
 
 /* Frees the stream: JILQAMUR_OK, or JILQAMUR_CLOSED where the handle is closed. It is closed afterwards. */
 uint32_t jilqamur_receiver_close(jilqamur_receiver *receiver);

@@ -86,7 +86,8 @@ static void payloads(const char *name, uint32_t clock_rate, size_t mtu, const ui
     jilqamur_unit unit;
     const uint8_t *codec = (const uint8_t *)name;
     ASK("packetizer_open", jilqamur_packetizer_open(&packetizer, &params, &format, codec, strlen(name)));
-    ASK("depacketizer_open", jilqamur_depacketizer_open(&depacketizer, &format, codec, strlen(name), 2));
+    ASK("depacketizer_open",
+        jilqamur_depacketizer_open(&depacketizer, &format, codec, strlen(name), 2, JILQAMUR_MIN_HELD));
     ASK("packetize", jilqamur_packetizer_packetize(&packetizer, mtu, sample, len, &count));
     for (size_t k = 0; k < count; k++) {
         jilqamur_packetizer_packet(&packetizer, k, bytes, sizeof bytes, &needed, &marker);
@@ -118,7 +119,7 @@ static void streams(void)
     jilqamur_unit unit;
     const uint8_t payload[] = {0x10, 0xaa, 0xbb};
     ASK("sender_open", jilqamur_sender_open(&sender, &params, &format, JILQAMUR_TEXT("VP8")));
-    ASK("receiver_open", jilqamur_receiver_open(&receiver, &format, JILQAMUR_TEXT("VP8"), 2));
+    ASK("receiver_open", jilqamur_receiver_open(&receiver, &format, JILQAMUR_TEXT("VP8"), 2, JILQAMUR_MIN_HELD));
     ASK("receiver_push", jilqamur_receiver_push(&receiver, 1, 0, true, payload, sizeof payload, &number));
     ASK("receiver_push", jilqamur_receiver_push(&receiver, 9, 0, true, payload, sizeof payload, &number));
     ASK("receiver_poll", jilqamur_receiver_poll(&receiver));
@@ -191,8 +192,8 @@ static void exchange(jilqamur_end *a, jilqamur_end *b)
     say("withdraw: %u\n", jilqamur_end_withdraw(a));
     ASK("open_sender", jilqamur_end_open_sender(a, JILQAMUR_TEXT("0"), 44, 111, &params, offer, 0, &stream));
     ASK("open_sender", jilqamur_end_open_sender(a, JILQAMUR_TEXT("1"), 45, 96, &params, offer, 0, &stream));
-    ASK("open_receiver", jilqamur_end_open_receiver(b, JILQAMUR_TEXT("0"), 44, 111, 2, &stream));
-    ASK("open_receiver", jilqamur_end_open_receiver(b, JILQAMUR_TEXT("1"), 45, 96, 2, &stream));
+    ASK("open_receiver", jilqamur_end_open_receiver(b, JILQAMUR_TEXT("0"), 44, 111, 2, JILQAMUR_MIN_HELD, &stream));
+    ASK("open_receiver", jilqamur_end_open_receiver(b, JILQAMUR_TEXT("1"), 45, 96, 2, JILQAMUR_MIN_HELD, &stream));
 }
 
 /* A sample of one of two sending streams. Where memory was refused the stream sends no more. */

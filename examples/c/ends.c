@@ -144,12 +144,12 @@ static void open_sender(jilqamur_end *end, char **w)
     print_stream("sender", answer, stream);
 }
 
-/* open E MID SSRC PT HOLDBACK */
-static void open_receiver(jilqamur_end *end, char **w)
+/* open E MID SSRC PT HOLDBACK [HELD] */
+static void open_receiver(jilqamur_end *end, char **w, size_t words)
 {
-    size_t stream = 0;
+    size_t stream = 0, held = words > 6 ? (size_t)number(w[6]) : JILQAMUR_MIN_HELD;
     uint32_t answer = jilqamur_end_open_receiver(end, bytes_of(w[2]), strlen(w[2]), (uint32_t)number(w[3]),
-                                                 (uint8_t)number(w[4]), (size_t)number(w[5]), &stream);
+                                                 (uint8_t)number(w[4]), (size_t)number(w[5]), held, &stream);
     print_stream("receiver", answer, stream);
 }
 
@@ -239,7 +239,7 @@ static void answer_line(jilqamur_end *end, char **w, size_t words)
     else if (strcmp(verb, "send") == 0)
         open_sender(end, w);
     else if (strcmp(verb, "open") == 0)
-        open_receiver(end, w);
+        open_receiver(end, w, words);
     else if (strcmp(verb, "sample") == 0)
         sample(end, w, words);
     else if (strcmp(verb, "receive") == 0)

@@ -101,7 +101,8 @@ static void agree(jilqamur_end *a, jilqamur_end *b)
     make_end(b, false, 2, 45);
     must(jilqamur_end_offer(a) == JILQAMUR_OK && jilqamur_end_text(a, text, sizeof text, &len) == JILQAMUR_OK
              && jilqamur_end_answer(b, text, len) == JILQAMUR_OK
-             && jilqamur_end_open_receiver(b, JILQAMUR_TEXT("0"), 44, 111, 2, &stream) == JILQAMUR_OK,
+             && jilqamur_end_open_receiver(b, JILQAMUR_TEXT("0"), 44, 111, 2, JILQAMUR_MIN_HELD, &stream)
+                    == JILQAMUR_OK,
          "ends that don't agree");
 }
 
@@ -183,8 +184,9 @@ static void open_handles(handles *all)
     for (size_t i = 0; i < CODECS; i++) {
         const uint8_t *name = (const uint8_t *)codecs[i].name;
         size_t len = strlen(codecs[i].name);
-        must(jilqamur_receiver_open(&all[i].receiver, &codecs[i].format, name, len, 3) == JILQAMUR_OK
-                 && jilqamur_depacketizer_open(&all[i].depacketizer, &codecs[i].format, name, len, 3) == JILQAMUR_OK
+        must(jilqamur_receiver_open(&all[i].receiver, &codecs[i].format, name, len, 3, JILQAMUR_MIN_HELD) == JILQAMUR_OK
+                 && jilqamur_depacketizer_open(&all[i].depacketizer, &codecs[i].format, name, len, 3,
+                                               JILQAMUR_MIN_HELD) == JILQAMUR_OK
                  && jilqamur_packetizer_open(&all[i].packetizer, &params, &codecs[i].format, name, len) == JILQAMUR_OK,
              "a codec without handles");
     }

@@ -48,9 +48,10 @@ static stream *stream_of(uint32_t ssrc, const char *codec)
         exit(1);
     stream *s = &streams[stream_count++];
     s->ssrc = ssrc;
-    if (jilqamur_window_open(&s->window) || jilqamur_depacketizer_open(&s->depacketizer, &format, name, len, HOLD_BACK)
+    if (jilqamur_window_open(&s->window)
+        || jilqamur_depacketizer_open(&s->depacketizer, &format, name, len, HOLD_BACK, JILQAMUR_MIN_HELD)
         || jilqamur_packetizer_open(&s->packetizer, &params, &format, name, len)
-        || jilqamur_depacketizer_open(&s->second, &format, name, len, 0))
+        || jilqamur_depacketizer_open(&s->second, &format, name, len, 0, JILQAMUR_MIN_HELD))
         exit(1);
     return s;
 }

@@ -82,7 +82,7 @@ int main(void)
     open_end(&b, 2, 45);
     exchange(&a, &b);
     check(jilqamur_end_open_sender(&a, JILQAMUR_TEXT("0"), 44, 111, &params, JILQAMUR_TEXT(""), &sender));
-    check(jilqamur_end_open_receiver(&b, JILQAMUR_TEXT("0"), 44, 111, 4, &receiver));
+    check(jilqamur_end_open_receiver(&b, JILQAMUR_TEXT("0"), 44, 111, 4, JILQAMUR_MIN_HELD, &receiver));
     for (uint8_t k = 0; k < 3; k++) {
         const uint8_t sample[] = {k, 2, 3};
         send_sample(&a, sender, 960 * k, sample, sizeof sample, &b);

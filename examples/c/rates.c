@@ -177,7 +177,8 @@ static times carry(const line *l, uint32_t streams, size_t count)
     need(connect(&a, &b, l, streams) == JILQAMUR_OK, "the ends don't agree");
     double start = now();
     for (uint32_t ssrc = 1; ssrc <= streams; ssrc++)
-        need(jilqamur_end_open_receiver(&b, JILQAMUR_TEXT("0"), ssrc, TYPE, 0, &stream) == JILQAMUR_OK,
+        need(jilqamur_end_open_receiver(&b, JILQAMUR_TEXT("0"), ssrc, TYPE, 0, JILQAMUR_MIN_HELD, &stream)
+                 == JILQAMUR_OK,
              "no receiving stream");
     double opened = now();
     send_samples(&a, l, streams, count);

@@ -96,7 +96,8 @@ int main(int argc, char **argv)
     jilqamur_sender sender = JILQAMUR_SENDER_CLOSED;
     jilqamur_receiver receiver = JILQAMUR_RECEIVER_CLOSED;
     if (jilqamur_sender_open(&sender, &params, &format, codec, strlen(argv[1])) != JILQAMUR_OK
-        || jilqamur_receiver_open(&receiver, &format, codec, strlen(argv[1]), (size_t)atoi(argv[7])) != JILQAMUR_OK)
+        || jilqamur_receiver_open(&receiver, &format, codec, strlen(argv[1]), (size_t)atoi(argv[7]),
+                                  JILQAMUR_MIN_HELD) != JILQAMUR_OK)
         return 1;
     static char line[2 * sizeof bytes + 64];
     while (fgets(line, sizeof line, stdin)) {

@@ -37,7 +37,7 @@ static uint32_t connect(jilqamur_end *a, jilqamur_end *b)
     wrong |= jilqamur_end_answer(b, text, len) | jilqamur_end_text(b, text, sizeof text, &len);
     wrong |= jilqamur_end_accept(a, text, len);
     wrong |= jilqamur_end_open_sender(a, JILQAMUR_TEXT("0"), 44, 111, &params, JILQAMUR_TEXT(""), &stream);
-    return wrong | jilqamur_end_open_receiver(b, JILQAMUR_TEXT("0"), 44, 111, 2, &stream);
+    return wrong | jilqamur_end_open_receiver(b, JILQAMUR_TEXT("0"), 44, 111, 2, JILQAMUR_MIN_HELD, &stream);
 }
 
 static void print(const jilqamur_values *v)

@@ -1,7 +1,7 @@
 //! Reads lines of rtplines over two ends, a and b, and prints what rtplines prints: rows, ends, offers and answers,
 //! streams, samples, datagrams and units. `fixed`, `connect`, `queue` and `play` are not among them.
 
-use jilqamur::{Direction, End, EndError, Kind, Received, Row, Section, StreamParams, Unit};
+use jilqamur::{Direction, End, EndError, Kind, MIN_HELD, Received, Row, Section, StreamParams, Unit};
 use std::io::{self, BufRead};
 
 type Said = Result<String, Box<dyn std::error::Error>>;
@@ -90,7 +90,8 @@ fn send(end: &mut End, words: &[&str]) -> Said {
 
 fn open(end: &mut End, words: &[&str]) -> Said {
     let (ssrc, payload_type, hold_back) = (words[1].parse()?, words[2].parse()?, words[3].parse()?);
-    let stream = end.open_receiver(words[0], ssrc, payload_type, hold_back)?;
+    let held = words.get(4).map_or(Ok(MIN_HELD), |word| word.parse())?;
+    let stream = end.open_receiver(words[0], ssrc, payload_type, hold_back, held)?;
     Ok(format!("receiver {stream}"))
 }
 

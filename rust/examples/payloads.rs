@@ -3,7 +3,7 @@
 //! what came of that is printed too. The arguments are FILE CODEC TYPE; the clock rate is 48,000, which telephone
 //! events alone go by.
 
-use jilqamur::{Depacketizer, Error, Fault, Format, Header, Packetizer, PacketizerParams, Unit, Window};
+use jilqamur::{Depacketizer, Error, Fault, Format, Header, MIN_HELD, Packetizer, PacketizerParams, Unit, Window};
 use std::io::{self, BufRead};
 
 const HOLD_BACK: usize = 127;
@@ -40,9 +40,9 @@ impl Stream {
         Ok(Stream {
             ssrc,
             window: Window::new()?,
-            depacketizer: Depacketizer::new(codec, format, HOLD_BACK)?,
+            depacketizer: Depacketizer::new(codec, format, HOLD_BACK, MIN_HELD)?,
             packetizer: Packetizer::new(codec, format, PacketizerParams::new().with_picture_id(1))?,
-            second: Depacketizer::new(codec, format, 0)?,
+            second: Depacketizer::new(codec, format, 0, MIN_HELD)?,
             counts: Counts::default(),
         })
     }

@@ -1,7 +1,7 @@
 //! Two ends agree on Opus by an offer and an answer, and one sends three samples to the other: `crates/quick_start` in
 //! Rust.
 
-use jilqamur::{Direction, End, EndError, Kind, Received, Row, Section, StreamParams};
+use jilqamur::{Direction, End, EndError, Kind, MIN_HELD, Received, Row, Section, StreamParams};
 
 /// An end that has Opus at payload type 111.
 fn opus_end(session: u64) -> Result<End, EndError> {
@@ -37,7 +37,7 @@ fn main() -> Result<(), EndError> {
     let answer = b.answer(&offer, &audio(&[45]))?;
     a.accept(&answer)?;
     let sender = a.open_sender("0", 44, 111, StreamParams::new(1000, 1200, 1400), None)?;
-    b.open_receiver("0", 44, 111, 4)?;
+    b.open_receiver("0", 44, 111, 4, MIN_HELD)?;
     for k in 0..3 {
         // The datagrams of a sample would go out to the network; here they go to b.
         for datagram in a.push_sample(sender, 960 * u64::from(k), &[k, 2, 3], None)? {

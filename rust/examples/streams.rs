@@ -2,7 +2,7 @@
 //! the lines `sample E N TICKS HEX`, `receive E HEX` and `poll E N` of rtplines, and prints what rtplines prints at
 //! ends with one such stream each. The arguments are CODEC CLOCK PT SSRC MTU PICTUREID HOLDBACK.
 
-use jilqamur::{EndError, Format, Header, Receiver, Sender, SenderParams, Unit};
+use jilqamur::{EndError, Format, Header, MIN_HELD, Receiver, Sender, SenderParams, Unit};
 use std::io::{self, BufRead};
 
 fn from_hex(text: &str) -> Vec<u8> {
@@ -63,7 +63,7 @@ fn main() -> Result<(), Box<dyn std::error::Error>> {
     let format = Format::new(clock.parse()?);
     let params = SenderParams::new(ssrc, payload_type, mtu.parse()?).with_picture_id(picture_id.parse()?);
     let mut sender = Sender::new(codec, format, params)?;
-    let mut receiver = Receiver::new(codec, format, hold_back.parse()?)?;
+    let mut receiver = Receiver::new(codec, format, hold_back.parse()?, MIN_HELD)?;
     for line in io::stdin().lock().lines() {
         let line = line?;
         let words: Vec<&str> = line.split(' ').collect();

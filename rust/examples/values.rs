@@ -1,7 +1,7 @@
 //! An end sends a sample with values of header extensions, of which a later one has some alone, and another end tells
 //! what came.
 
-use jilqamur::{Direction, End, EndError, Kind, Received, Row, Section, StreamParams, Values};
+use jilqamur::{Direction, End, EndError, Kind, MIN_HELD, Received, Row, Section, StreamParams, Values};
 
 const URIS: [&str; 7] = [
     "urn:ietf:params:rtp-hdrext:ssrc-audio-level",
@@ -65,7 +65,7 @@ fn main() -> Result<(), Box<dyn std::error::Error>> {
     let answer = b.answer(&offer, &[section(&[45])])?;
     a.accept(&answer)?;
     a.open_sender("0", 44, 111, StreamParams::new(100, 1100, 1200), None)?;
-    b.open_receiver("0", 44, 111, 2)?;
+    b.open_receiver("0", 44, 111, 2, MIN_HELD)?;
     assert_eq!(b.values(), None);
     let all = Values {
         audio_level: Some(-30),

@@ -110,16 +110,18 @@ impl End {
     }
 
     /// Opens a receiving stream in the same way. Past a missing datagram a unit is handed out only once more than
-    /// `hold_back` frames are complete.
+    /// `hold_back` frames are complete. At most `held` packets wait, [`MIN_HELD`](crate::MIN_HELD) to
+    /// [`MAX_HELD`](crate::MAX_HELD).
     ///
     /// # Errors
-    /// As [`End::open_sender`], but never `OutOfRange`.
+    /// As [`End::open_sender`]; `OutOfRange` where `held` is another number.
     pub fn open_receiver(
         &mut self,
         mid: &str,
         ssrc: u32,
         payload_type: u8,
         hold_back: usize,
+        held: usize,
     ) -> Result<usize, EndError> {
         let mut stream = 0;
         // SAFETY: the handle is open, and pointer and length are those of one slice.
@@ -131,6 +133,7 @@ impl End {
                 ssrc,
                 payload_type,
                 hold_back,
+                held,
                 &mut stream,
             )
         })?;

@@ -24,6 +24,12 @@ pub use payloads::{Depacketizer, Fault, Packet, Packetizer, PacketizerParams};
 pub use streams::{Format, Receiver, Sender, SenderParams};
 pub use values::Values;
 
+/// The least number of packets that a stream may be opened to hold at most.
+pub const MIN_HELD: usize = 4096;
+
+/// The greatest number of packets that a stream may be opened to hold at most.
+pub const MAX_HELD: usize = 16384;
+
 /// Why a call is refused.
 #[derive(Clone, Copy, Debug, PartialEq, Eq)]
 #[non_exhaustive]

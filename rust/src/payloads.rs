@@ -175,15 +175,16 @@ pub struct Depacketizer(sys::Handle);
 
 impl Depacketizer {
     /// A depacketizer of the codec of this name that took nothing. Past a missing packet a unit is handed out only once
-    /// more than `hold_back` frames are complete.
+    /// more than `hold_back` frames are complete. At most `held` packets wait, [`MIN_HELD`](crate::MIN_HELD) to
+    /// [`MAX_HELD`](crate::MAX_HELD).
     ///
     /// # Errors
     /// `OutOfRange` or `Memory`.
-    pub fn new(codec: &str, format: Format, hold_back: usize) -> Result<Depacketizer, Fault> {
+    pub fn new(codec: &str, format: Format, hold_back: usize, held: usize) -> Result<Depacketizer, Fault> {
         let mut depacketizer = sys::Handle { full: false, place: ptr::null_mut() };
         // SAFETY: the handle is closed, and pointer and length are those of one slice.
         done(unsafe {
-            sys::jilqamur_depacketizer_open(&mut depacketizer, &format, codec.as_ptr(), codec.len(), hold_back)
+            sys::jilqamur_depacketizer_open(&mut depacketizer, &format, codec.as_ptr(), codec.len(), hold_back, held)
         })?;
         Ok(Depacketizer(depacketizer))
     }

@@ -149,15 +149,16 @@ pub struct Receiver(sys::Handle);
 
 impl Receiver {
     /// A stream of the codec of this name that took nothing. Past a missing packet a unit is handed out only once more
-    /// than `hold_back` frames are complete.
+    /// than `hold_back` frames are complete. At most `held` packets wait, [`MIN_HELD`](crate::MIN_HELD) to
+    /// [`MAX_HELD`](crate::MAX_HELD).
     ///
     /// # Errors
     /// `OutOfRange` or `Memory`.
-    pub fn new(codec: &str, format: Format, hold_back: usize) -> Result<Receiver, EndError> {
+    pub fn new(codec: &str, format: Format, hold_back: usize, held: usize) -> Result<Receiver, EndError> {
         let mut receiver = sys::Handle { full: false, place: ptr::null_mut() };
         // SAFETY: the handle is closed, and pointer and length are those of one slice.
         done(unsafe {
-            sys::jilqamur_receiver_open(&mut receiver, &format, codec.as_ptr(), codec.len(), hold_back)
+            sys::jilqamur_receiver_open(&mut receiver, &format, codec.as_ptr(), codec.len(), hold_back, held)
         })?;
         Ok(Receiver(receiver))
     }

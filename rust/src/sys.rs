@@ -112,6 +112,7 @@ extern "C" {
         codec: *const u8,
         codec_len: usize,
         hold_back: usize,
+        held: usize,
     ) -> u32;
     pub(crate) fn jilqamur_depacketizer_close(depacketizer: *mut Handle) -> u32;
     pub(crate) fn jilqamur_depacketizer_push(
@@ -177,6 +178,7 @@ extern "C" {
         ssrc: u32,
         payload_type: u8,
         hold_back: usize,
+        held: usize,
         stream: *mut usize,
     ) -> u32;
     pub(crate) fn jilqamur_end_push_sample(
@@ -242,6 +244,7 @@ extern "C" {
         codec: *const u8,
         codec_len: usize,
         hold_back: usize,
+        held: usize,
     ) -> u32;
     pub(crate) fn jilqamur_receiver_close(receiver: *mut Handle) -> u32;
     pub(crate) fn jilqamur_receiver_push(

@@ -17,11 +17,15 @@ either (Err e) p q = inr q
 -- one packet more
 pub pushes_more : {D : Type 0} (b : Buffering D) (time n : ℕ) (old mid new : Buffered D) (packet : Packet)
     → packet ≡ packet_at b time n → PushesFirst b time n old mid
-    → (new ≡ record mid { held = pushed mid.cutoff mid.held packet }) ⊎ (new ≡ mid)
+    → (new ≡ record mid { held = pushed mid.holding.held mid.cutoff mid.held packet }) ⊎ (new ≡ mid)
     → PushesFirst b time (n + 1) old new
 pushes_more b time n old mid new packet is all one =
-    rw add-one
-    (mid, all, subst (λ p. (new ≡ record mid { held = pushed mid.cutoff mid.held p }) ⊎ (new ≡ mid)) is one)
+    rw add-one (
+      mid,
+      all,
+      subst (λ p. (new ≡ record mid { held = pushed mid.holding.held mid.cutoff mid.held p }) ⊎ (new ≡ mid))
+          is one,
+    )
 
 -- what a push leaves
 pub stays : {D X : Type 0} (mid new : Buffered D) (held : List Packet) (view : Buffered D → X)

@@ -30,7 +30,7 @@ packet_at b time n = packet_from (record {
 abbrev pub PushesFirst : {D : Type 0} → Buffering D → ℕ → ℕ → Buffered D → Buffered D → Type 0
 PushesFirst b time zero old new = new ≡ old
 PushesFirst {D} b time (suc n) old new = (mid : Buffered D) × PushesFirst b time n old mid
-    × ((new ≡ record mid { held = pushed mid.cutoff mid.held (packet_at b time n) }) ⊎ (new ≡ mid))
+    × ((new ≡ record mid { held = pushed mid.holding.held mid.cutoff mid.held (packet_at b time n) }) ⊎ (new ≡ mid))
 
 -- What a pop reads and changes of a buffer.
 abbrev pub state_of : {D : Type 0} → (D → Fragment) → Buffered D → PopState
@@ -48,11 +48,11 @@ pub record CountsPopped {D : Type 0} (format : D → Format) (fragment : D → F
   pub full : Buffered D
   pub pushes : PushesFirst old time (length old.packets.now) old.buffer full
   pub answer : Result (Option Depacketized) PacketError
-  pub pops : AnswersBy (pop_step (format full.depacketizer) full.hold_back (state_of fragment full))
+  pub pops : AnswersBy (pop_step (format full.depacketizer) full.holding.hold_back (state_of fragment full))
       (state_of fragment new.buffer) (as_answer unit_of answer)
   pub counted : CountsUnit answer before after
   pub number : new.number ≡ number_after old (length old.packets.now)
   pub format_stays : format new.buffer.depacketizer ≡ format old.buffer.depacketizer
-  pub hold_back_stays : new.buffer.hold_back ≡ old.buffer.hold_back
+  pub holding_stays : new.buffer.holding ≡ old.buffer.holding
   pub step_stays : new.step ≡ old.step
   pub packets_stay : new.packets ≡ old.packets

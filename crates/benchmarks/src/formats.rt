@@ -6,7 +6,8 @@ use crate::measured::{Round, measure_packets};
 use crate::tally::Tally;
 use h26x_payload::{CodecDepacketizer, CodecPacketizer, NotBoxed};
 use payload_core::{
-    Codec, CodecExtra, Depacketizer, DepacketizingBuffer, PacketError, Packetizer, Payloader,
+    Codec, CodecExtra, Depacketizer, DepacketizingBuffer, MIN_HELD, PacketError, Packetizer,
+    Payloader,
 };
 use rtp_wire::{ExtensionValues, Frequency};
 use std::alloc::Global;
@@ -181,7 +182,7 @@ fn received<D: Depacketizer + Drop>(
     };
     measure_packets(rt, format, "read", &mut reading, rounds)?;
     let mut buffering = Buffering {
-        buffer: DepacketizingBuffer::new(rt.alloc(), reading.depacketizer, 0),
+        buffer: DepacketizingBuffer::new(rt.alloc(), reading.depacketizer, 0, MIN_HELD),
         packets,
         number: 0,
         step: 1,

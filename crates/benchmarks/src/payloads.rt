@@ -3,7 +3,9 @@
 use crate::buffers::Buffering;
 use crate::formats::{Copying, LIMIT, measure_codec, refused};
 use crate::measured::{measure, measure_packets, repeat};
-use payload_core::{Av1Packetizer, Codec, DepacketizingBuffer, OpusDepacketizer, Packetizer};
+use payload_core::{
+    Av1Packetizer, Codec, DepacketizingBuffer, MIN_HELD, OpusDepacketizer, Packetizer,
+};
 use std::io;
 
 /// How often a sample of Opus or G.711 is sent and read.
@@ -79,7 +81,7 @@ fn buffer(rt: &HostRuntime, what: &str, waiting: u32) -> io::Result<()> {
     let packets = [Vec::from_slice(rt.alloc(), &[7; 120])?];
     let depacketizer = OpusDepacketizer::new();
     let mut buffering = Buffering {
-        buffer: DepacketizingBuffer::new(rt.alloc(), depacketizer, waiting as usize),
+        buffer: DepacketizingBuffer::new(rt.alloc(), depacketizer, waiting as usize, MIN_HELD),
         packets: &packets,
         number: 0,
         step: 2,

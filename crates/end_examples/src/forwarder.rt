@@ -1,7 +1,7 @@
 //! A forwarder of units. Uses the crates `anyhow`, `rtp_media` and `rtp_wire`.
 
 use anyhow::ensure;
-use rtp_media::{Datagram, End, StreamParams, Unit};
+use rtp_media::{Datagram, End, MIN_HELD, StreamParams, Unit};
 use rtp_wire::{MediaTime, Mid, Pt, Ssrc};
 use std::alloc::Global;
 
@@ -34,7 +34,7 @@ impl Forwarder {
             params.is_sound(outward.agreed_red(mid, pt)),
             "unsound parameters"
         );
-        let rx = inward.open_receiver(mid, ssrc, pt, 2)?;
+        let rx = inward.open_receiver(mid, ssrc, pt, 2, MIN_HELD)?;
         let tx = outward.open_sender(mid, ssrc, pt, params)?;
         Ok(Forwarder {
             inward,

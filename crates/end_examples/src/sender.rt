@@ -3,7 +3,7 @@
 
 use crate::agreeing::{agree, opus_end};
 use anyhow::ensure;
-use rtp_media::{Datagram, End, StreamParams};
+use rtp_media::{Datagram, End, MIN_HELD, StreamParams};
 use rtp_wire::{ExtensionValues, Frequency, MediaTime, Mid, Pt, Ssrc};
 
 /// Sends three samples from one end to the other, and prints what comes of each datagram.
@@ -18,7 +18,13 @@ pub(crate) fn send_and_hear(rt: &HostRuntime) -> anyhow::Result<()> {
 /// Opens a stream at both ends, and sends three samples over it.
 fn talk(rt: &HostRuntime, a: &mut End, b: &mut End) -> anyhow::Result<()> {
     let tx = open_sender(a)?;
-    let rx = b.open_receiver(Mid::from("0"), Ssrc::from(44), Pt::from(111), 127)?;
+    let rx = b.open_receiver(
+        Mid::from("0"),
+        Ssrc::from(44),
+        Pt::from(111),
+        1023,
+        MIN_HELD,
+    )?;
     for k in 0..3u8 {
         for datagram in &send(a, tx, k)? {
             hear(rt, b, rx, datagram)?;

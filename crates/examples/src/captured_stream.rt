@@ -6,12 +6,12 @@ use h26x_payload::{
     CodecDepacketizer, CodecExtra, Depacketized, DepacketizingBuffer, NotBoxed, PacketError,
     RtpMeta,
 };
-use payload_core::RedDecoder;
+use payload_core::{MIN_HELD, RedDecoder};
 use rtp_wire::{ExtensionMap, Reception, RtpHeader, SeqNoWindow, Ssrc, receive_one, unpad_payload};
 use std::alloc::Global;
 
 /// How many complete frames wait for a missing one.
-const HOLD_BACK: usize = 127;
+const HOLD_BACK: usize = 1023;
 
 /// What came of a stream's datagrams.
 #[derive(Clone, Copy)]
@@ -124,7 +124,12 @@ impl Stream {
             ssrc,
             counts: NONE,
             window: None,
-            buffer: DepacketizingBuffer::new(alloc, capture.depacketizer(alloc)?, HOLD_BACK),
+            buffer: DepacketizingBuffer::new(
+                alloc,
+                capture.depacketizer(alloc)?,
+                HOLD_BACK,
+                MIN_HELD,
+            ),
         })
     }
 

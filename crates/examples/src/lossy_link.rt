@@ -4,8 +4,8 @@
 
 use crate::recorder::last_frames;
 use payload_core::{
-    Depacketized, DepacketizingBuffer, PacketError, PacketList, Payloader, RtpMeta, SentPacket,
-    SeqNo, Vp8Depacketizer, Vp8Packetizer,
+    Depacketized, DepacketizingBuffer, MIN_HELD, PacketError, PacketList, Payloader, RtpMeta,
+    SentPacket, SeqNo, Vp8Depacketizer, Vp8Packetizer,
 };
 use rtp_wire::ExtensionValues;
 use std::alloc::Global;
@@ -21,7 +21,7 @@ const HOLD_BACK: usize = 2;
 pub(crate) fn lossy_link(rt: &HostRuntime) -> anyhow::Result<()> {
     let alloc = rt.alloc();
     let packets = packets(alloc)?;
-    let mut buffer = DepacketizingBuffer::new(alloc, Vp8Depacketizer::new(), HOLD_BACK);
+    let mut buffer = DepacketizingBuffer::new(alloc, Vp8Depacketizer::new(), HOLD_BACK, MIN_HELD);
     for (number, packet) in (0u64..).zip(&packets) {
         if is_lost(number) {
             println!(*rt; "packet {number} is lost")?;

@@ -1,7 +1,7 @@
 //! A recorder of one stream. Uses the crates `payload_core` and `rtp_wire`.
 
 use payload_core::{
-    Depacketized, DepacketizingBuffer, MAX_HELD, PacketError, RtpMeta, Vp8Depacketizer,
+    Depacketized, DepacketizingBuffer, MIN_HELD, PacketError, RtpMeta, Vp8Depacketizer,
 };
 use rtp_wire::{
     ExtensionMap, Pt, Reception, RtpHeader, SeqNoWindow, Ssrc, receive_one, unpad_payload,
@@ -27,7 +27,7 @@ impl Recorder {
             ssrc,
             pt,
             window: None,
-            buffer: DepacketizingBuffer::new(alloc, Vp8Depacketizer::new(), HOLD_BACK),
+            buffer: DepacketizingBuffer::new(alloc, Vp8Depacketizer::new(), HOLD_BACK, MIN_HELD),
         }
     }
 
@@ -87,7 +87,7 @@ pub(crate) fn last_frames(
     buffer: &mut DepacketizingBuffer<Vp8Depacketizer>,
 ) -> Result<Vec<Depacketized>, PacketError> {
     let mut frames = Vec::new(alloc);
-    for _ in 0..MAX_HELD {
+    for _ in 0..MIN_HELD {
         match buffer.drain()? {
             Some(frame) => frames.push(frame)?,
             None => break,

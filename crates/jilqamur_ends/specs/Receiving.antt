@@ -6,7 +6,8 @@ use Rattle.payload_core_buffer.specs.Steps.{PollStep}
 use Rattle.rtp_media_streams.specs.Polls.{drain_step, given, poll_step}
 use Rattle.rtp_media_streams.specs.Receiving.{Receiving}
 use Rattle.rtp_media_ends.specs.EndArrivals.{verdict_of, after_datagram}
-use Rattle.rtp_media_ends.specs.Ends.{AtReceiver, EndState, is_receiver_at, receiver_at, with_receiver, after_open_receiver}
+use Rattle.rtp_media_ends.specs.Ends.{AtReceiver, EndState, is_receiver_at, receiver_at, with_receiver}
+use Rattle.rtp_media_ends.specs.Ends.{after_open_receiver}
 use Rattle.rtp_media_ends.specs.Ends.{refusal_of_open_receiver}
 use Rattle.rtp_media_ends.specs.declared.Received.{Received}
 use Rattle.rtp_media_ends.specs.declared.Received.TheVariants as received

@@ -52,7 +52,13 @@ fn open_with(
     if !may_hold(held) {
         return codes::OUT_OF_RANGE;
     }
-    match end.open_receiver(Mid::from(mid), Ssrc::from(ssrc), Pt::from(pt), hold_back, held) {
+    match end.open_receiver(
+        Mid::from(mid),
+        Ssrc::from(ssrc),
+        Pt::from(pt),
+        hold_back,
+        held,
+    ) {
         Ok(number) => {
             *stream = number;
             codes::OK

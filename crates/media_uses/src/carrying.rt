@@ -13,7 +13,8 @@ ghost use Rattle.rtp_media_play.specs.OpusHops.{bytes_out};
 use crate::calls::{params, sections};
 use crate::silence::ends_silent;
 use rtp_media_play::{
-    Codec, End, Event, PayloadParams, Played, Sample, StreamParams, connect, headline, play,
+    Codec, End, Event, MIN_HELD, PayloadParams, Played, Sample, StreamParams, connect, headline,
+    play,
 };
 use rtp_wire::{Mid, Pt, Ssrc};
 use std::alloc::Global;
@@ -90,7 +91,7 @@ fn carry_between(
         Ok(tx) => tx,
         Err(_) => return None,
     };
-    let rx = match b.open_receiver(mid, ssrc, pt, 127) {
+    let rx = match b.open_receiver(mid, ssrc, pt, 1023, MIN_HELD) {
         Ok(rx) => rx,
         Err(_) => return None,
     };

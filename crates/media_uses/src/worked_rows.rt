@@ -2,7 +2,7 @@
 //! another clock than their stream's.
 
 use rtp_media_ends::{
-    Datagram, End, PollFault, Received, ReceivedAll, SampleError, StreamParams, Unit,
+    Datagram, End, MIN_HELD, PollFault, Received, ReceivedAll, SampleError, StreamParams, Unit,
 };
 use rtp_wire::{ExtensionValues, Frequency, MediaTime, Mid, Pt, SeqNo, Ssrc};
 use std::alloc::Global;
@@ -133,7 +133,9 @@ fn received(alloc: Global, datagrams: &[Datagram]) -> Option<ReceivedAll> {
 fn receiving(alloc: Global) -> Option<End> {
     let mut end = End::fixed(alloc).ok()?;
     let (mid, pt) = (Mid::from("0"), Pt::from(TYPE));
-    let _ = end.open_receiver(mid, Ssrc::from(44), pt, 127).ok()?;
+    let _ = end
+        .open_receiver(mid, Ssrc::from(44), pt, 1023, MIN_HELD)
+        .ok()?;
     Some(end)
 }
 

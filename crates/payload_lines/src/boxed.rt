@@ -4,7 +4,7 @@ use crate::formats::Format;
 use command_lines::Line;
 use h26x_payload::{CodecDepacketizer, CodecPacketizer};
 use payload_core::{
-    Codec, Depacketizer, DepacketizingBuffer, PacketList, Payloader, RtpMeta, SentPacket,
+    Codec, Depacketizer, DepacketizingBuffer, MIN_HELD, PacketList, Payloader, RtpMeta, SentPacket,
 };
 use rtp_wire::{ExtensionValues, SeqNo};
 
@@ -54,7 +54,7 @@ fn receive(line: &mut Line<'_>, format: &Format, packets: &[SentPacket]) {
 
 /// The same by any depacketizer: the prover covers no buffer whose type names a boxed one.
 fn read<D: Depacketizer + Drop>(line: &mut Line<'_>, depacketizer: D, packets: &[SentPacket]) {
-    let mut buffer = DepacketizingBuffer::new(line.alloc(), depacketizer, 0);
+    let mut buffer = DepacketizingBuffer::new(line.alloc(), depacketizer, 0, MIN_HELD);
     let mut number: u64 = 0;
     for packet in packets {
         line.put_bytes(packet.payload.as_slice());

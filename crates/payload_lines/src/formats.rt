@@ -2,7 +2,7 @@
 
 use command_lines::{Line, part};
 use h26x_payload::{CodecDepacketizer, CodecPacketizer, NotBoxed};
-use payload_core::{Codec, DepacketizingBuffer, Payloader};
+use payload_core::{Codec, DepacketizingBuffer, MIN_HELD, Payloader};
 use rtp_wire::Frequency;
 use std::alloc::Global;
 
@@ -29,7 +29,7 @@ impl Format {
             clock_rate: Frequency::EIGHT_KHZ,
             picture_id: None,
             for_browsers: false,
-            hold_back: 127,
+            hold_back: 1023,
         }
     }
 
@@ -87,7 +87,7 @@ impl Formats {
         let depacketizer = format.depacketizer(alloc)?;
         Some(Formats {
             payloader: Payloader::new(format.packetizer()?),
-            buffer: DepacketizingBuffer::new(alloc, depacketizer, format.hold_back),
+            buffer: DepacketizingBuffer::new(alloc, depacketizer, format.hold_back, MIN_HELD),
             format,
         })
     }

@@ -2,7 +2,7 @@
 #![tactic(auto)]
 
 use anyhow::ensure;
-use rtp_media::{CodecConfig, End, MediaKind, SectionSpec, Session, StreamParams};
+use rtp_media::{CodecConfig, End, MIN_HELD, MediaKind, SectionSpec, Session, StreamParams};
 use rtp_wire::{
     Direction, ExtensionMap, ExtensionValues, Frequency, MediaTime, Mid, Pt, SessionId, Ssrc,
 };
@@ -25,7 +25,7 @@ fn main(rt: HostRuntime) -> anyhow::Result<()> {
     };
     ensure!(params.is_sound(a.agreed_red(mid, pt)), "unsound");
     let tx = a.open_sender(mid, ssrc, pt, params)?;
-    let rx = b.open_receiver(mid, ssrc, pt, 4)?;
+    let rx = b.open_receiver(mid, ssrc, pt, 4, MIN_HELD)?;
     for k in 0..3u8 {
         ensure!(a.is_sender(tx), "no such stream");
         let time = MediaTime::new(960 * u64::from(k), Frequency::FORTY_EIGHT_KHZ);

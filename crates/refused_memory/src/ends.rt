@@ -2,8 +2,8 @@
 
 use crate::asking::{TIMES, print_refused};
 use rtp_media::{
-    CodecConfig, Direction, End, EndError, ExchangeError, ExtensionMap, MediaKind, Mid, OpenError,
-    Pt, SectionSpec, Session, SessionId, Ssrc, StreamParams, connect,
+    CodecConfig, Direction, End, EndError, ExchangeError, ExtensionMap, MIN_HELD, MediaKind, Mid,
+    OpenError, Pt, SectionSpec, Session, SessionId, Ssrc, StreamParams, connect,
 };
 use std::alloc::{AllocError, Global};
 
@@ -121,7 +121,13 @@ fn print_sender(rt: &HostRuntime, end: &mut End, mid: &str, ssrc: u32, pt: u8) -
 
 fn print_receiver(rt: &HostRuntime, end: &mut End, mid: &str, ssrc: u32, pt: u8) -> Option<()> {
     for _ in 0..TIMES {
-        match end.open_receiver(Mid::from(mid), Ssrc::from(ssrc), Pt::from(pt), 127) {
+        match end.open_receiver(
+            Mid::from(mid),
+            Ssrc::from(ssrc),
+            Pt::from(pt),
+            1023,
+            MIN_HELD,
+        ) {
             Ok(stream) => {
                 let _ = println!(*rt; "receiver {stream}");
                 return Some(());

@@ -2,7 +2,8 @@
 
 use crate::asking::{TIMES, print_refused};
 use rtp_media::{
-    Datagram, End, EndError, OpenError, PollFault, Polls, ReceiveError, Received, ReceivedAll, Unit,
+    Datagram, End, EndError, MIN_HELD, OpenError, PollFault, Polls, ReceiveError, Received,
+    ReceivedAll, Unit,
 };
 use rtp_wire::{Mid, Pt, Ssrc};
 use std::alloc::{AllocError, Global};
@@ -66,7 +67,13 @@ fn fixed(rt: &HostRuntime) -> Option<End> {
 
 fn opened(rt: &HostRuntime, end: &mut End) -> Option<usize> {
     for _ in 0..TIMES {
-        match end.open_receiver(Mid::from("0"), Ssrc::from(44), Pt::from(111), 127) {
+        match end.open_receiver(
+            Mid::from("0"),
+            Ssrc::from(44),
+            Pt::from(111),
+            1023,
+            MIN_HELD,
+        ) {
             Ok(stream) => return Some(stream),
             Err(OpenError::Memory) => print_refused(rt),
             Err(_) => return None,

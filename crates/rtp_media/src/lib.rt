@@ -26,9 +26,10 @@ pub use rtp_media_lines::{
 };
 pub use rtp_media_play::{
     Bandwidth, Codec, CodecConfig, CodecSpec, Datagram, Distances, End, EndError, Event,
-    ExchangeError, FormatParams, MediaKind, OpenError, PacketError, PayloadParams, Played,
-    PollFault, Polls, ReceiveError, Received, ReceivedAll, RoundError, Sample, SampleError,
-    SdpError, SectionSpec, Session, SessionAttribute, StreamParams, Unit, connect, headline, play,
+    ExchangeError, FormatParams, MAX_HELD, MIN_HELD, MediaKind, OpenError, PacketError,
+    PayloadParams, Played, PollFault, Polls, ReceiveError, Received, ReceivedAll, RoundError,
+    Sample, SampleError, SdpError, SectionSpec, Session, SessionAttribute, StreamParams, Unit,
+    connect, headline, may_hold, play,
 };
 pub use rtp_wire::{
     Direction, Extension, ExtensionMap, ExtensionValues, Frequency, MediaTime, Mid, Pt, SeqNo,

@@ -21,6 +21,4 @@ pub use rtp_media_exchange::{
     SessionAttribute, flow,
 };
 pub use rtp_media_stream_table::{OpenStream, Polls, ReceiveError, Received, StreamTable};
-pub use rtp_media_streams::{
-    Datagram, MAX_HELD, MIN_HELD, PollFault, SampleError, Unit, may_hold,
-};
+pub use rtp_media_streams::{Datagram, MAX_HELD, MIN_HELD, PollFault, SampleError, Unit, may_hold};

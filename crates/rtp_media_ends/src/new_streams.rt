@@ -89,9 +89,7 @@ pub fn new_receiver(
     let row = receiver_row(exchange, streams, mid, ssrc, pt)?;
     let exts = exts_of(alloc, exchange, mid)?;
     let (types, format) = (types_of(&row), row_format_of(&row));
-    Ok(ReceivingStream::new(
-        alloc, ssrc, types, exts, format, hold_back, held,
-    ))
+    Ok(ReceivingStream::new(alloc, ssrc, types, exts, format, hold_back, held))
 }
 
 /// The map of header extensions of a new stream in a section of this name.

@@ -16,7 +16,7 @@ accept E HEX
 withdraw E
 connect SECTION.. / SECTION..
 send E MID SSRC PT FIRST MTU LIMIT DISTANCES PICTUREID
-open E MID SSRC PT HOLDBACK
+open E MID SSRC PT HOLDBACK [HELD]
 sample E N TIME HEX [mid=TEXT]
 receive E HEX
 poll E N
@@ -46,7 +46,7 @@ const UP_TO_64_BITS: &str = "a number of decimal digits, below 2^64";
 const BYTE_OR_NONE: &str = "a number up to 255, or `-` for none";
 
 /// The names of the forms that not all texts fit, each with what a word for it has to be, and that in words.
-const NAMES: [(&str, Shape, &str); 22] = [
+const NAMES: [(&str, Shape, &str); 23] = [
     ("E", Shape::Letter, "`a` or `b`"),
     ("SSRC", Shape::Number(0xffff_ffff), UP_TO_32_BITS),
     ("CLOCK", Shape::Number(0xffff_ffff), UP_TO_32_BITS),
@@ -85,6 +85,7 @@ const NAMES: [(&str, Shape, &str); 22] = [
     ("MTU", Shape::Number(u64::MAX), UP_TO_64_BITS),
     ("LIMIT", Shape::Number(u64::MAX), UP_TO_64_BITS),
     ("HOLDBACK", Shape::Number(u64::MAX), UP_TO_64_BITS),
+    ("[HELD]", Shape::Number(u64::MAX), UP_TO_64_BITS),
     ("N", Shape::Number(u64::MAX), UP_TO_64_BITS),
     ("TIME", Shape::Number(u64::MAX), UP_TO_64_BITS),
     ("TX", Shape::Number(u64::MAX), UP_TO_64_BITS),

@@ -116,6 +116,7 @@ fn unmet<'a>(known: &Known, line: &'a str) -> Option<Reason<'a>> {
         "ext" => Some(Reason::around("", stream, " is no number of a header extension: 1 to 16")),
         "answer" | "accept" => Some(Reason::words("HEX isn't a text of UTF-8")),
         "send" => Some(unsound(line)),
+        "open" => Some(Reason::words("HELD has to be 4096 to 16384")),
         _ => unmet_streams(known, verb, letter, stream),
     }
 }

@@ -23,9 +23,9 @@ pub use opus::opus_over_two_hops;
 pub use redundancy::redundancy_law;
 pub use rtp_media_ends::{
     Bandwidth, Codec, CodecConfig, CodecSpec, Datagram, Distances, End, EndError, ExchangeError,
-    FormatParams, MediaKind, OpenError, PacketError, PayloadParams, PollFault, Polls, ReceiveError,
-    Received, ReceivedAll, RoundError, SampleError, SdpError, SectionSpec, Session,
-    SessionAttribute, StreamParams, Unit, connect,
+    FormatParams, MAX_HELD, MIN_HELD, MediaKind, OpenError, PacketError, PayloadParams, PollFault,
+    Polls, ReceiveError, Received, ReceivedAll, RoundError, SampleError, SdpError, SectionSpec,
+    Session, SessionAttribute, StreamParams, Unit, connect, may_hold,
 };
 pub use runs::play;
 pub use sample::Sample;

@@ -104,7 +104,7 @@ unpadded-front true payload bytes h = go (slice_index payload (length payload - 
 pub at-place : (datagram : List ℕ) (header_len : ℕ) (padded : Bool) (bytes : List ℕ) (len : ℕ)
     → unpadded padded (drop header_len datagram) ≡ Some bytes → len ≤ length bytes
     → drop (length bytes - len) bytes
-        ≡ slice_range datagram (header_len + length bytes - len) (header_len + length bytes)
+    ≡ slice_range datagram (header_len + length bytes - len) (header_len + length bytes)
 at-place datagram header_len padded bytes len h le =
     let front = unpadded-front padded (drop header_len datagram) bytes h in
     let j : ℕ = length bytes - len in

@@ -39,7 +39,7 @@ drains r format holding k (Some a) same count is = rw (count, ← same) (
   is.0 ∙ step-answer format (holding_back 0 r.stream),
   ap (λ (x : PopState). with_stream r (with_kept r.stream x)) is.1
       ∙ ap (λ s. with_stream r (holding_back r.stream.holding.hold_back s))
-          (step-next format (holding_back 0 r.stream)),
+      (step-next format (holding_back 0 r.stream)),
 )
 drains r format holding k None same count is =
     rw (count, ← same) (step-stops format (holding_back 0 r.stream) k is, refl)

@@ -1,10 +1,11 @@
 //! The arguments.
 
 use clap::{Arg, ArgAction, ArgMatches, Command};
+use payload_core::MIN_HELD;
 use std::alloc::{AllocError, Global};
 
 // How many complete frames wait for a missing one, where the arguments don't say it.
-const HOLD_BACK: usize = 127;
+const HOLD_BACK: usize = 1023;
 
 /// What the arguments say.
 #[derive(Drop)]
@@ -17,6 +18,8 @@ pub(crate) struct Arguments {
     pub(crate) rows: Vec<String>,
     /// How many complete frames wait for a missing one.
     pub(crate) hold_back: usize,
+    /// How many packets wait at most.
+    pub(crate) held: usize,
     /// The folder of the files.
     pub(crate) out: String,
     /// Whether the streams are listed alone, and no file is written.
@@ -43,7 +46,11 @@ pub(crate) fn command<'a>(alloc: Global) -> Result<Command<'a>, AllocError> {
     let hold_back = Arg::new(alloc, "hold-back")
         .long("hold-back")
         .action(ArgAction::Set)
-        .help("how many complete frames wait for a missing one, 127 if not given");
+        .help("how many complete frames wait for a missing one, 1023 if not given");
+    let held = Arg::new(alloc, "held")
+        .long("held")
+        .action(ArgAction::Set)
+        .help("how many packets wait at most, 4096 to 16384, 4096 if not given");
     let out = Arg::new(alloc, "out")
         .long("out")
         .action(ArgAction::Set)
@@ -58,6 +65,7 @@ pub(crate) fn command<'a>(alloc: Global) -> Result<Command<'a>, AllocError> {
         .arg(texts)?
         .arg(rows)?
         .arg(hold_back)?
+        .arg(held)?
         .arg(out)?
         .arg(list)
 }
@@ -73,21 +81,23 @@ fn values(alloc: Global, matches: &ArgMatches<'_>, id: &str) -> Result<Vec<Strin
     Ok(list)
 }
 
-/// How many frames wait; None where the argument is no number.
-fn hold_back_of(matches: &ArgMatches<'_>) -> Option<usize> {
-    match matches.get_str("hold-back") {
+/// The number that an argument says, and another where it isn't given; None where it is no number.
+fn number_of(matches: &ArgMatches<'_>, id: &str, otherwise: usize) -> Option<usize> {
+    match matches.get_str(id) {
         Some(number) => number.parse::<usize>().ok(),
-        None => Some(HOLD_BACK),
+        None => Some(otherwise),
     }
 }
 
 impl Arguments {
-    /// What the arguments say; None where the number of frames that wait is none.
+    /// What the arguments say; None where the number of frames that wait, or of packets, is none.
     pub(crate) fn of(
         alloc: Global,
         matches: &ArgMatches<'_>,
     ) -> Result<Option<Arguments>, AllocError> {
-        let Some(hold_back) = hold_back_of(matches) else {
+        let hold_back = number_of(matches, "hold-back", HOLD_BACK);
+        let held = number_of(matches, "held", MIN_HELD);
+        let (Some(hold_back), Some(held)) = (hold_back, held) else {
             return Ok(None);
         };
         Ok(Some(Arguments {
@@ -95,6 +105,7 @@ impl Arguments {
             texts: values(alloc, matches, "sdp")?,
             rows: values(alloc, matches, "pt")?,
             hold_back,
+            held,
             out: String::from_str(alloc, matches.get_str("out").unwrap_or("."))?,
             is_list: matches.get_flag("list"),
         }))

@@ -1,7 +1,7 @@
 //! Records the streams of captures: `rtprecord CAPTURE.. [--sdp TEXT].. [--pt TYPE=CODEC/RATE].. [--hold-back N]
-//! [--out FOLDER] [--list]`. A capture is a file of pcap, pcapng or rtpdump, or lines of hexadecimal; several are
-//! parts of one, in the order of their times. Each stream, an SSRC and a payload type, is listed, and written to
-//! a file that a player opens, named by both.
+//! [--held N] [--out FOLDER] [--list]`. A capture is a file of pcap, pcapng or rtpdump, or lines of hexadecimal;
+//! several are parts of one, in the order of their times. Each stream, an SSRC and a payload type, is listed, and
+//! written to a file that a player opens, named by both.
 //!
 //! The status is 0 where a stream was found; 1 where a capture or a session text can't be read, a file can't be
 //! written, or memory ran out; 2 where the arguments are wrong; 3 where no stream was found.
@@ -19,6 +19,7 @@ mod stream;
 use anyhow::bail;
 use arguments::{Arguments, command};
 use input::Input;
+use payload_core::may_hold;
 use recorder::Recorder;
 use rows::{no_row, rows_of};
 use std::process::ExitCode;
@@ -51,9 +52,15 @@ fn run_with(rt: &HostRuntime, words: &[&str]) -> anyhow::Result<u8> {
         Err(fault) => return tell(rt, &fault),
     };
     let Some(arguments) = Arguments::of(rt.alloc(), &matches)? else {
-        eprintln!(*rt; "rtprecord: --hold-back takes a number of frames")?;
+        eprintln!(*rt;
+            "rtprecord: --hold-back takes a number of frames, and --held one of packets"
+        )?;
         return Ok(2);
     };
+    if !may_hold(arguments.held) {
+        eprintln!(*rt; "rtprecord: --held takes 4096 to 16384 packets")?;
+        return Ok(2);
+    }
     if let Some(text) = no_row(&arguments) {
         eprintln!(*rt; "rtprecord: no payload type: {text}; write it as 96=VP8/90000")?;
         return Ok(2);
@@ -82,7 +89,7 @@ fn take(rt: &HostRuntime, name: &str, recorder: &mut Recorder) -> anyhow::Result
 /// Records the streams of the captures.
 fn record(rt: &HostRuntime, arguments: &Arguments) -> anyhow::Result<u8> {
     let rows = rows_of(rt, arguments)?;
-    let mut recorder = Recorder::new(rt.alloc(), rows, arguments.hold_back);
+    let mut recorder = Recorder::new(rt.alloc(), rows, arguments.hold_back, arguments.held);
     for name in &arguments.captures {
         take(rt, name.as_str(), &mut recorder)?;
     }

@@ -42,6 +42,7 @@ pub(crate) struct Recorder {
     alloc: Global,
     pub(crate) rows: Rows,
     hold_back: usize,
+    held: usize,
     pub(crate) passed: Passed,
     /// How many bytes at the ends of captures are no packet.
     pub(crate) unread: usize,
@@ -69,11 +70,12 @@ fn primary_of(payload: &[u8]) -> Option<(u8, &[u8])> {
 
 impl Recorder {
     /// A recorder that took nothing.
-    pub(crate) fn new(alloc: Global, rows: Rows, hold_back: usize) -> Recorder {
+    pub(crate) fn new(alloc: Global, rows: Rows, hold_back: usize, held: usize) -> Recorder {
         Recorder {
             alloc,
             rows,
             hold_back,
+            held,
             passed: NOTHING,
             unread: 0,
             sources: Vec::new(alloc),
@@ -181,7 +183,7 @@ impl Recorder {
                 return Ok(place);
             }
         }
-        let Some(stream) = Stream::new(self.alloc, ssrc, row, self.hold_back) else {
+        let Some(stream) = Stream::new(self.alloc, ssrc, row, self.hold_back, self.held) else {
             return Ok(self.streams.len());
         };
         self.streams.push(stream)?;

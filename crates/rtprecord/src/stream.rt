@@ -3,7 +3,7 @@
 use crate::rows::Row;
 use h26x_payload::{
     CodecDepacketizer, CodecExtra, Depacketized, DepacketizingBuffer, NotBoxed, PacketError,
-    RtpMeta, SeqNo,
+    RtpMeta, SeqNo, may_hold,
 };
 use rtp_wire::{ExtensionMap, Reception, RtpHeader, SeqNoWindow, Ssrc, receive_one};
 use std::alloc::Global;
@@ -101,8 +101,17 @@ fn is_keyframe(extra: CodecExtra) -> bool {
 }
 
 impl Stream {
-    /// A stream of which nothing came; None where its codec has no payload format.
-    pub(crate) fn new(alloc: Global, ssrc: Ssrc, row: Row, hold_back: usize) -> Option<Stream> {
+    /// A stream of which nothing came; None where its codec has no payload format, or so many packets may not be held.
+    pub(crate) fn new(
+        alloc: Global,
+        ssrc: Ssrc,
+        row: Row,
+        hold_back: usize,
+        held: usize,
+    ) -> Option<Stream> {
+        if !may_hold(held) {
+            return None;
+        }
         let depacketizer = row.depacketizer(alloc)?;
         Some(Stream {
             ssrc,
@@ -111,7 +120,7 @@ impl Stream {
             faults: 0,
             keyframes: 0,
             units: Vec::new(alloc),
-            buffer: DepacketizingBuffer::new(alloc, depacketizer, hold_back),
+            buffer: DepacketizingBuffer::new(alloc, depacketizer, hold_back, held),
         })
     }
 

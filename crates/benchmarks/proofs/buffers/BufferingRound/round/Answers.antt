@@ -27,8 +27,8 @@ loop-i-preserved g c =
       format_stays =
           stays mid new _ (λ b. g.D.Depacketizer.format b.depacketizer) refl outcome
           ∙ so_far.format_stays;
-      hold_back_stays =
-          stays mid new _ (λ b. b.hold_back) refl outcome ∙ so_far.hold_back_stays;
+      holding_stays =
+          stays mid new _ (λ b. b.holding) refl outcome ∙ so_far.holding_stays;
     }
 
 pub returns : goal.returns
@@ -43,7 +43,7 @@ returns g c =
       counted = c.count_unit.ensures;
       number = search rules;
       format_stays = c.pop.ensures.pops.same_format ∙ c.loop-i.invariant.format_stays;
-      hold_back_stays = c.pop.ensures.pops.same_hold_back ∙ c.loop-i.invariant.hold_back_stays;
+      holding_stays = c.pop.ensures.pops.same_holding ∙ c.loop-i.invariant.holding_stays;
       step_stays = c.loop-i.invariant.step_stays;
       packets_stay = c.loop-i.invariant.packets_stay;
     }

@@ -11,5 +11,5 @@ invariant-loop-i g l = record {
   packets_stay : l.self.packets ≡ l.fn.self.packets;
   format_stays :
       g.D.Depacketizer.format l.self.buffer.depacketizer ≡ g.D.Depacketizer.format l.fn.self.buffer.depacketizer;
-  hold_back_stays : l.self.buffer.hold_back ≡ l.fn.self.buffer.hold_back;
+  holding_stays : l.self.buffer.holding ≡ l.fn.self.buffer.holding;
 }
