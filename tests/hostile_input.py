@@ -87,6 +87,15 @@ def row_32(counts, build, program):
     counts.same(f"row 32, {build}", wanted, replies(program, lines)[2:])
 
 
+def row_41(counts, build, program):
+    """The same numbers where 8,192 may be held: none was dropped."""
+    datagrams = [opus_datagram(number) for number in range(4097)]
+    lines = ["fixed b", "open b 0 44 111 127 8192", *receives("b", datagrams), *["poll b 0"] * 4098]
+    wanted = [f"taken 0 {number}" for number in range(4097)]
+    wanted += [f"unit {number} {number} 0 01" for number in range(4097)] + ["none"]
+    counts.same(f"row 41, {build}", wanted, replies(program, lines)[2:])
+
+
 def row_33(counts, build, program):
     """A gap at number 1 stays one: 4,097 numbers behind it were taken, so 1 is too late."""
     lines = ["fixed b", "open b 0 44 111 127", *receives("b", [opus_datagram(0)]), "poll b 0"]
@@ -364,7 +373,7 @@ def plain_foreign(draw):
 def main():
     counts = Counts()
     for build, program in built.built(counts, built.LINES):
-        for test in (row_30, row_31, row_32, row_33, row_36, changed_offers, changed_datagrams,
+        for test in (row_30, row_31, row_32, row_33, row_36, row_41, changed_offers, changed_datagrams,
                      foreign_bytes_change_nothing):
             test(counts, build, program)
     for build, program in built.built(counts, built.TEXTS_AND_ROWS):

@@ -111,11 +111,11 @@ def payload_of(text):
 
 
 class Receiver:
-    """Stream 0 of the other end."""
+    """Stream 0 of the other end, which holds back so many frames, and at most so many packets."""
 
-    def __init__(self, case, hold_back):
+    def __init__(self, case, hold_back, most=4096):
         self.types, self.reader = (111, 63) if case.red else (111,), READERS.get(case.codec, Audio)(case)
-        self.hold_back, self.greatest, self.taken = hold_back, None, set()
+        self.hold_back, self.most, self.greatest, self.taken = hold_back, most, None, set()
         self.held, self.cutoff, self.units, self.counts = {}, None, [], Counter()
 
     def said(self, reply):
@@ -145,13 +145,13 @@ class Receiver:
 
     def arrive(self, datagram):
         number = self.widened(datagram.number % 65536)
-        if self.greatest is not None and (number + 128 <= self.greatest or number in self.taken):
+        if self.greatest is not None and (number + 1024 <= self.greatest or number in self.taken):
             return self.said("refused")
         self.taken.add(number)
         self.greatest = number if self.greatest is None else max(self.greatest, number)
         if self.cutoff is None or number > self.cutoff:
             self.held[number] = datagram
-            if len(self.held) > 4096:
+            if len(self.held) > self.most:
                 del self.held[min(self.held)]
         return self.said(f"taken 0 {number}")
 
@@ -169,11 +169,11 @@ class Receiver:
                 yield heads[0], last
 
     def poll(self):
-        frames = list(self.frames())
-        if not frames:
+        frames = self.frames()
+        first, last = next(frames, (None, None))
+        if first is None:
             return self.said("none")
-        first, last = frames[0]
-        if self.cutoff not in (None, first - 1) and len(frames) <= self.hold_back:
+        if self.cutoff not in (None, first - 1) and 1 + sum(1 for _ in frames) <= self.hold_back:
             return self.said("none")
         frame, self.cutoff = [self.held[number] for number in range(first, last + 1)], last
         self.held = {number: datagram for number, datagram in self.held.items() if number > last}

@@ -15,9 +15,9 @@ picture id or decoding order number stands in a packet, which parameter sets wai
 worked out in `packers.py` and `ends.py`) and the headers before them, the receiver's numbers and window, its buffer,
 and the bytes of each unit, as `readers.py` reads them. The model asserts of itself that a tame run gives every unit,
 and a sane one a legal selection. To sane runs come datagrams of the stream that are damaged, which change nothing, and
-one run of many short packets has leaps over nearly 32,768 numbers past 65,536. To the third run of each codec come
-datagrams under the stream's SSRC and types that it didn't send, with any numbers and payloads. What is never made:
-header extensions that are agreed on, and forms for browsers.
+one run of many short packets has leaps over nearly 32,768 numbers past 65,536; in two, more than 4,096 packets wait. To
+the third run of each codec come datagrams under the stream's SSRC and types that it didn't send, with any numbers and
+payloads. What is never made: header extensions that are agreed on, and forms for browsers.
 """
 
 import random
@@ -119,14 +119,21 @@ def agree(page, case):
     return told
 
 
+def drawn_held(draw):
+    """A number of packets that may be held at most, and the word that says it: none for 4,096."""
+    held = draw.choice([4096, 4096, 16384, draw.randint(4097, 16383)])
+    return held, f" {held}" if held > 4096 or draw.randrange(2) else ""
+
+
 def open_streams(page, draw, case, told, least, hold_back):
     first = max(least, draw.choice([0, 1, 32767, draw.randrange(32768)]))
     distances = draw.choice(["1", "1,3", "2,4,8"]) if case.red else "-"
     picture = draw.choice(["-", "126", "32766", "5"]) if case.codec in ("VP8", "VP9") else "-"
     tx = Sender(case, first, draw.randint(*case.limits), distances, picture)
-    rx = Receiver(case, hold_back)
+    held, word = drawn_held(draw)
+    rx = Receiver(case, hold_back, held)
     page.line(f"send a 0 44 111 {first} {tx.limit} 1400 {distances} {picture}", "sender 0")
-    page.line(f"open b 0 44 111 {hold_back}", "receiver 0")
+    page.line(f"open b 0 44 111 {hold_back}{word}", "receiver 0")
     told["a"].tx, told["b"].rx = tx, rx
     return tx, rx
 
@@ -172,7 +179,7 @@ def forged_bytes(draw, case, sent, place, greatest):
     model = draw.choice(sent[place : place + 3])
     low, time, payload = model.number % 65536, model.time, changed(draw, model.packet.payload)
     if draw.randrange(6) == 0:
-        low, time = (greatest + draw.randint(-150, 2)) % 65536, draw.randrange(1 << 32)
+        low, time = (greatest + draw.randint(-1200, 2)) % 65536, draw.randrange(1 << 32)
     if 3 * place > 2 * len(sent) and draw.randrange(12) == 0:
         low = draw.randrange(65536)
     csrcs, extension, padding = draw.choice([0, 0, 2]), draw.choice([b"", b"", b"\xbe\xde\0\1\x10\xff\0\0"]), b""
@@ -206,11 +213,11 @@ def wild_items(draw, case, sent, rx):
 
 
 def orders(draw, count):
-    """Blocks of at most 128 places, in order, shuffled, or with the first one last: none is later than one that is 128
-    above it."""
+    """Blocks of at most 1,024 places, in order, shuffled, or with the first one last: none is later than one that is
+    1,024 above it."""
     start = 0
     while start < count:
-        block = list(range(start, min(count, start + draw.choice([128, draw.randint(1, 128)]))))
+        block = list(range(start, min(count, start + draw.choice([1024, draw.randint(1, 1024), draw.randint(1, 128)]))))
         way = draw.randrange(3)
         if way == 0:
             draw.shuffle(block)
@@ -241,7 +248,7 @@ def sane_items(draw, case, count):
         if place not in lost:
             yield place
         if draw.randrange(10) == 0:
-            yield max(0, place - draw.randrange(300))
+            yield max(0, place - draw.randrange(1500))
         if draw.randrange(20) == 0:
             yield other_bytes(draw) if draw.randrange(3) else damaged_bytes(draw, case)
         if draw.randrange(3) == 0:
@@ -250,10 +257,10 @@ def sane_items(draw, case, count):
 
 def far_items(draw, count):
     """Leaps over 32,767 numbers, onto 65,536 and past it, places around it in any order, and late ones, of which one is
-    128 below the greatest and one 127."""
+    1,024 below the greatest and one 1,023."""
     near = list(range(32745, 32795))
     draw.shuffle(near)
-    for place in [1, 0, 2, 32769, *near, 32800, 32672, 32673, 33, 40, 32760, 32900, 133, 32773, 32772, count - 1]:
+    for place in [1, 0, 2, 32769, *near, 32800, 31776, 31777, 33, 40, 32760, 32900, 133, 32773, 32772, count - 1]:
         yield place
         if draw.randrange(3) == 0:
             yield "p"
@@ -299,9 +306,9 @@ def run(page, case, kind, seed, size):
     page.line(f"# {case.name}, {kind}, seed {seed}")
     told = agree(page, case)
     polls_last = kind == "tame" and draw.randrange(4) == 0
-    hold_back = draw.randrange(128 if polls_last else 12) if polls_last or kind != "tame" else 127
+    hold_back = draw.randrange(1024 if polls_last else 12) if polls_last or kind != "tame" else 1023
     # what is less than 0 is nearly 2^64, and all later numbers are refused then
-    least = 200 if kind == "wild" and draw.randrange(6) else 0
+    least = 1300 if kind == "wild" and draw.randrange(6) else 0
     tx, rx = open_streams(page, draw, case, told, least, hold_back)
     behind = 10 if case.red else 2
     samples = draw_samples(draw, case, int(case.count * size * (case.wild if kind == "wild" else 1)) + behind)
@@ -334,6 +341,24 @@ def far_run(page, seed):
     check(tx.canonical, rx.units, False)
 
 
+def held_run(page, seed, kind):
+    """More than 4,096 packets of PCMU wait for the polls behind them, in blocks of 1,024: as many as may be held at
+    most, or some more, of which the lowest are dropped."""
+    draw = random.Random(f"held {kind} {seed}")
+    case = next(case for case in CASES if case.name == "PCMU")
+    count = draw.randint(4200, 4800)
+    held = draw.randint(count, 16384) if kind == "tame" else draw.randint(4096, count - 1)
+    page.line("")
+    page.line(f"# {count} packets wait where {held} may, seed {seed}")
+    told = agree(page, case)
+    tx, rx = Sender(case, draw.choice([0, 32767]), 1, "-", "-"), Receiver(case, 1023, held)
+    page.line(f"send a 0 44 111 {tx.number} 1 1400 - -", "sender 0")
+    page.line(f"open b 0 44 111 1023 {held}", "receiver 0")
+    told["a"].tx, told["b"].rx = tx, rx
+    play(page, tx, rx, [(960, Sample(draw.randbytes(count)))], lambda sent: orders(draw, len(sent)))
+    check(tx.canonical, rx.units, kind == "tame")
+
+
 def runs(page, seeds, size=1.0):
     page.line(MARK)
     for seed in seeds:
@@ -341,6 +366,8 @@ def runs(page, seeds, size=1.0):
             for kind in ("tame", "sane", "wild"):
                 run(page, case, kind, seed, size)
         far_run(page, seed)
+        for kind in ("tame", "sane"):
+            held_run(page, seed, kind)
     tail = [f"  {line}" for end in "ab" for line in page.ends[end]]
     return "\n".join(page.lines) + "\n", "\n".join([*page.printed, "at the end", *tail]) + "\n"
 
