@@ -1,5 +1,6 @@
 //! Rows as JSON. Uses the crates `anyhow`, `sdp_formats_json` and `serde_json`.
 
+use h26x_payload::{H265ProfileTierLevel, H266ProfileTierLevel};
 use sdp_formats_json::{
     Codec, CodecSpec, FormatParams, Frequency, PayloadParams, Pt, row_from_json, row_to_json,
 };
@@ -22,6 +23,43 @@ fn video(pt: u8, resend: u8, codec: Codec, format: &str) -> PayloadParams {
         format: FormatParams::parse_line(format),
     };
     PayloadParams::new(Pt::from(pt), Some(Pt::from(resend)), spec)
+}
+
+/// A row of which no field is as by default.
+fn every_field() -> PayloadParams {
+    let format = FormatParams {
+        min_p_time: Some(1),
+        stereo: Some(true),
+        sprop_stereo: Some(false),
+        use_inband_fec: Some(true),
+        use_dtx: Some(false),
+        level_asymmetry_allowed: Some(true),
+        packetization_mode: Some(2),
+        profile_level_id: Some(0x42e01f),
+        profile_id: Some(3),
+        profile: Some(4),
+        level_idx: Some(5),
+        tier: Some(6),
+        h265_profile_tier_level: H265ProfileTierLevel::new(2, 1, 120),
+        h266_profile_tier_level: H266ProfileTierLevel::new(1, 1, 83),
+        sprop_max_don_diff: Some(7),
+        telephone_event_max: Some(8),
+        octet_align: Some(true),
+        mode_set: Some(0b1_0000_0001),
+    };
+    let spec = CodecSpec {
+        codec: Codec::H266,
+        clock_rate: Frequency::SIXTEEN_KHZ,
+        channels: Some(3),
+        format,
+    };
+    let mut row = PayloadParams::new(Pt::from(119), Some(Pt::from(120)), spec).with_red(Pt::from(
+        121,
+    ));
+    row.set_fb_transport_cc(false);
+    row.set_fb_remb(false);
+    row.lock();
+    row
 }
 
 fn print_row(rt: &HostRuntime, row: &PayloadParams) -> anyhow::Result<()> {
@@ -75,6 +113,7 @@ pub(crate) fn print_rows(rt: &HostRuntime, lines: &str) -> anyhow::Result<()> {
         &video(96, 97, Codec::Vp8, ""),
         &video(102, 103, Codec::H264, h264),
         &locked,
+        &every_field(),
     ] {
         print_row(rt, row)?;
     }

@@ -1,5 +1,6 @@
 //! Worked rows, and what comes of them.
 
+use crate::refusal_rows::refusal_rows;
 use crate::sessions::{
     extensions_that_would_be_read_otherwise_are_refused,
     lines_that_would_be_read_otherwise_are_refused, offers_say_the_lines_of_the_session,
@@ -43,6 +44,9 @@ pub(crate) fn print_rows(rt: &HostRuntime) -> bool {
     ];
     let mut are_right = true;
     for (name, row) in &rows {
+        are_right = print_row(rt, name, *row) && are_right;
+    }
+    for (name, row) in &refusal_rows(alloc) {
         are_right = print_row(rt, name, *row) && are_right;
     }
     for (name, is_right) in &value_rows() {

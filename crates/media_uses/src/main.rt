@@ -9,6 +9,7 @@ mod carrying;
 mod compared;
 mod failing_runs;
 mod proved_calls;
+mod refusal_rows;
 mod sessions;
 mod silence;
 mod value_rows;
