@@ -38,7 +38,7 @@ enum {
     JILQAMUR_UNREADABLE = 4, /* no RTP header stands in front of the bytes */
     JILQAMUR_DAMAGED = 5,    /* the padding does not fit; at an end also an empty payload, or redundancy that can't be
                               * read or has another type */
-    JILQAMUR_REFUSED = 6,    /* the number came before, or is 128 or more below the greatest */
+    JILQAMUR_REFUSED = 6,    /* the number came before, or is 1,024 or more below the greatest */
     JILQAMUR_UNWRITABLE = 7, /* a payload type above 127, or more than 15 contributing sources */
     JILQAMUR_TOO_SMALL = 8,  /* the buffer is too small */
     JILQAMUR_NOT_TEXT = 9,            /* the bytes are no UTF-8 */
@@ -180,7 +180,7 @@ typedef struct jilqamur_window {
 uint32_t jilqamur_window_open(jilqamur_window *window);
 
 /* Takes a datagram of len bytes in. JILQAMUR_CLOSED where the handle is closed, JILQAMUR_UNREADABLE where no header
- * stands in front, JILQAMUR_REFUSED where its number came before or is 128 or more below the greatest: number is then
+ * stands in front, JILQAMUR_REFUSED where its number came before or is 1,024 or more below the greatest: number is then
  * unchanged, and so is the window. Else JILQAMUR_OK: number is its widened number, which is recorded. The payload and
  * the SSRC are not looked at. */
 uint32_t jilqamur_window_receive(jilqamur_window *window, const uint8_t *datagram, size_t len, uint64_t *number);
@@ -530,7 +530,7 @@ uint32_t jilqamur_receiver_open(jilqamur_receiver *receiver, const jilqamur_form
 uint32_t jilqamur_receiver_close(jilqamur_receiver *receiver);
 
 /* Takes a packet in, by what jilqamur_header_read says of its datagram, and its payload of len bytes without padding:
- * JILQAMUR_OK, and number is its widened sequence number. JILQAMUR_REFUSED where that came before, or is 128 or more
+ * JILQAMUR_OK, and number is its widened sequence number. JILQAMUR_REFUSED where that came before, or is 1,024 or more
  * below the greatest, or JILQAMUR_MEMORY, and the stream is unchanged. */
 uint32_t jilqamur_receiver_push(jilqamur_receiver *receiver, uint16_t sequence_number, uint32_t timestamp, bool marker,
                                 const uint8_t *payload, size_t len, uint64_t *number);

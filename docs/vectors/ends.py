@@ -145,7 +145,7 @@ class Receiver:
 
     def arrive(self, datagram):
         number = self.widened(datagram.number % 65536)
-        if self.greatest is not None and (number + 128 <= self.greatest or number in self.taken):
+        if self.greatest is not None and (number + 1024 <= self.greatest or number in self.taken):
             return self.said("refused")
         self.taken.add(number)
         self.greatest = number if self.greatest is None else max(self.greatest, number)

@@ -35,7 +35,7 @@ from samples import CASES, Sample, draw_samples
 CRATE = Path(__file__).parents[2] / "crates" / "rtpexplain"
 MARK = "# Schedules drawn by docs/vectors/schedules.py"
 REASONS = {
-    "refused": "its number came before, or is 128 or more below the greatest",
+    "refused": "its number came before, or is 1,024 or more below the greatest",
     "foreign": "no receiving stream has this SSRC and payload type",
     "unreadable": "no RTP header stands in front",
     "damaged": "its padding or its redundancy can't be read, or its payload is empty or of another type",
@@ -172,7 +172,7 @@ def forged_bytes(draw, case, sent, place, greatest):
     model = draw.choice(sent[place : place + 3])
     low, time, payload = model.number % 65536, model.time, changed(draw, model.packet.payload)
     if draw.randrange(6) == 0:
-        low, time = (greatest + draw.randint(-150, 2)) % 65536, draw.randrange(1 << 32)
+        low, time = (greatest + draw.randint(-1200, 2)) % 65536, draw.randrange(1 << 32)
     if 3 * place > 2 * len(sent) and draw.randrange(12) == 0:
         low = draw.randrange(65536)
     csrcs, extension, padding = draw.choice([0, 0, 2]), draw.choice([b"", b"", b"\xbe\xde\0\1\x10\xff\0\0"]), b""
@@ -206,11 +206,11 @@ def wild_items(draw, case, sent, rx):
 
 
 def orders(draw, count):
-    """Blocks of at most 128 places, in order, shuffled, or with the first one last: none is later than one that is 128
-    above it."""
+    """Blocks of at most 1,024 places, in order, shuffled, or with the first one last: none is later than one that is
+    1,024 above it."""
     start = 0
     while start < count:
-        block = list(range(start, min(count, start + draw.choice([128, draw.randint(1, 128)]))))
+        block = list(range(start, min(count, start + draw.choice([1024, draw.randint(1, 1024), draw.randint(1, 128)]))))
         way = draw.randrange(3)
         if way == 0:
             draw.shuffle(block)
@@ -241,7 +241,7 @@ def sane_items(draw, case, count):
         if place not in lost:
             yield place
         if draw.randrange(10) == 0:
-            yield max(0, place - draw.randrange(300))
+            yield max(0, place - draw.randrange(1500))
         if draw.randrange(20) == 0:
             yield other_bytes(draw) if draw.randrange(3) else damaged_bytes(draw, case)
         if draw.randrange(3) == 0:
@@ -250,10 +250,10 @@ def sane_items(draw, case, count):
 
 def far_items(draw, count):
     """Leaps over 32,767 numbers, onto 65,536 and past it, places around it in any order, and late ones, of which one is
-    128 below the greatest and one 127."""
+    1,024 below the greatest and one 1,023."""
     near = list(range(32745, 32795))
     draw.shuffle(near)
-    for place in [1, 0, 2, 32769, *near, 32800, 32672, 32673, 33, 40, 32760, 32900, 133, 32773, 32772, count - 1]:
+    for place in [1, 0, 2, 32769, *near, 32800, 31776, 31777, 33, 40, 32760, 32900, 133, 32773, 32772, count - 1]:
         yield place
         if draw.randrange(3) == 0:
             yield "p"
@@ -299,9 +299,9 @@ def run(page, case, kind, seed, size):
     page.line(f"# {case.name}, {kind}, seed {seed}")
     told = agree(page, case)
     polls_last = kind == "tame" and draw.randrange(4) == 0
-    hold_back = draw.randrange(128 if polls_last else 12) if polls_last or kind != "tame" else 127
+    hold_back = draw.randrange(1024 if polls_last else 12) if polls_last or kind != "tame" else 1023
     # what is less than 0 is nearly 2^64, and all later numbers are refused then
-    least = 200 if kind == "wild" and draw.randrange(6) else 0
+    least = 1300 if kind == "wild" and draw.randrange(6) else 0
     tx, rx = open_streams(page, draw, case, told, least, hold_back)
     behind = 10 if case.red else 2
     samples = draw_samples(draw, case, int(case.count * size * (case.wild if kind == "wild" else 1)) + behind)

@@ -34,7 +34,7 @@ pub enum Error {
     Unreadable,
     /// The padding does not fit.
     Damaged,
-    /// The number came before, or is 128 or more below the greatest.
+    /// The number came before, or is 1,024 or more below the greatest.
     Refused,
     /// A payload type above 127, or more than 15 contributing sources.
     Unwritable,

@@ -134,7 +134,7 @@ pub enum Received {
     Foreign,
     /// Its padding does not fit, its payload is empty, or redundancy in it can't be read or has another type.
     Damaged,
-    /// Its number was taken before, or is 128 or more below the greatest one taken.
+    /// Its number was taken before, or is 1,024 or more below the greatest one taken.
     Refused,
     /// The receiving stream of this number took it under this widened sequence number.
     Taken(usize, u64),

@@ -18,7 +18,7 @@ pub(crate) fn send_and_hear(rt: &HostRuntime) -> anyhow::Result<()> {
 /// Opens a stream at both ends, and sends three samples over it.
 fn talk(rt: &HostRuntime, a: &mut End, b: &mut End) -> anyhow::Result<()> {
     let tx = open_sender(a)?;
-    let rx = b.open_receiver(Mid::from("0"), Ssrc::from(44), Pt::from(111), 127)?;
+    let rx = b.open_receiver(Mid::from("0"), Ssrc::from(44), Pt::from(111), 1023)?;
     for k in 0..3u8 {
         for datagram in &send(a, tx, k)? {
             hear(rt, b, rx, datagram)?;

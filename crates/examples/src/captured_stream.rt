@@ -11,7 +11,7 @@ use rtp_wire::{ExtensionMap, Reception, RtpHeader, SeqNoWindow, Ssrc, receive_on
 use std::alloc::Global;
 
 /// How many complete frames wait for a missing one.
-const HOLD_BACK: usize = 127;
+const HOLD_BACK: usize = 1023;
 
 /// What came of a stream's datagrams.
 #[derive(Clone, Copy)]

@@ -12,7 +12,7 @@ pub const CLOSED: u32 = 3;
 pub const UNREADABLE: u32 = 4;
 /// The padding does not fit, or an end finds no payload in the datagram (RFC 3550 5.1, RFC 2198 3).
 pub const DAMAGED: u32 = 5;
-/// The number came before, or is 128 or more below the greatest.
+/// The number came before, or is 1,024 or more below the greatest.
 pub const REFUSED: u32 = 6;
 /// A payload type above 127, or more than 15 contributing sources.
 pub const UNWRITABLE: u32 = 7;

@@ -70,7 +70,7 @@ impl Inbox {
 
     /// Takes a packet in, by the low 16 bits of its number, its time, marker and payload, which may be empty, and
     /// answers `OK`: `number` is its widened number, which is recorded. `REFUSED` where that came before, or is
-    /// 128 or more below the greatest, or `MEMORY`, and nothing has changed.
+    /// 1,024 or more below the greatest, or `MEMORY`, and nothing has changed.
     pub fn push(
         &mut self,
         low: u16,

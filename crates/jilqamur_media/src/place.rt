@@ -139,7 +139,7 @@ impl WindowHandle {
     }
 
     /// Takes a datagram in, and answers `OK`: `number` is its widened sequence number, which is recorded. `UNREADABLE`
-    /// where it doesn't begin with a header, or `REFUSED` where its number came before, or is 128 or more below the
+    /// where it doesn't begin with a header, or `REFUSED` where its number came before, or is 1,024 or more below the
     /// greatest, and nothing has changed.
     pub fn receive(&mut self, alloc: Global, datagram: &[u8], number: &mut u64) -> u32
         ensures closed { self.old.place.object ≡ None → (result ≡ closed) × (number.new ≡ number.old) }

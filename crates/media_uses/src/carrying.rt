@@ -90,7 +90,7 @@ fn carry_between(
         Ok(tx) => tx,
         Err(_) => return None,
     };
-    let rx = match b.open_receiver(mid, ssrc, pt, 127) {
+    let rx = match b.open_receiver(mid, ssrc, pt, 1023) {
         Ok(rx) => rx,
         Err(_) => return None,
     };

@@ -133,7 +133,7 @@ fn received(alloc: Global, datagrams: &[Datagram]) -> Option<ReceivedAll> {
 fn receiving(alloc: Global) -> Option<End> {
     let mut end = End::fixed(alloc).ok()?;
     let (mid, pt) = (Mid::from("0"), Pt::from(TYPE));
-    let _ = end.open_receiver(mid, Ssrc::from(44), pt, 127).ok()?;
+    let _ = end.open_receiver(mid, Ssrc::from(44), pt, 1023).ok()?;
     Some(end)
 }
 

@@ -29,7 +29,7 @@ impl Format {
             clock_rate: Frequency::EIGHT_KHZ,
             picture_id: None,
             for_browsers: false,
-            hold_back: 127,
+            hold_back: 1023,
         }
     }
 

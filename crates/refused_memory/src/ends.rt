@@ -121,7 +121,7 @@ fn print_sender(rt: &HostRuntime, end: &mut End, mid: &str, ssrc: u32, pt: u8) -
 
 fn print_receiver(rt: &HostRuntime, end: &mut End, mid: &str, ssrc: u32, pt: u8) -> Option<()> {
     for _ in 0..TIMES {
-        match end.open_receiver(Mid::from(mid), Ssrc::from(ssrc), Pt::from(pt), 127) {
+        match end.open_receiver(Mid::from(mid), Ssrc::from(ssrc), Pt::from(pt), 1023) {
             Ok(stream) => {
                 let _ = println!(*rt; "receiver {stream}");
                 return Some(());

@@ -66,7 +66,7 @@ fn fixed(rt: &HostRuntime) -> Option<End> {
 
 fn opened(rt: &HostRuntime, end: &mut End) -> Option<usize> {
     for _ in 0..TIMES {
-        match end.open_receiver(Mid::from("0"), Ssrc::from(44), Pt::from(111), 127) {
+        match end.open_receiver(Mid::from("0"), Ssrc::from(44), Pt::from(111), 1023) {
             Ok(stream) => return Some(stream),
             Err(OpenError::Memory) => print_refused(rt),
             Err(_) => return None,

@@ -11,7 +11,7 @@ const NEVER: usize = usize::MAX;
 fn lines(alloc: Global) -> Result<Vec<u8>, AllocError> {
     let mut text = Vec::new(alloc);
     text.extend_from_slice(
-        b"fixed a\nfixed b\nsend a 0 44 111 0 2 1400 - -\nopen b 0 44 111 127\n",
+        b"fixed a\nfixed b\nsend a 0 44 111 0 2 1400 - -\nopen b 0 44 111 1023\n",
     )?;
     for _ in 0..32usize {
         text.extend_from_slice(

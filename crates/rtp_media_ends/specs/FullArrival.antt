@@ -95,7 +95,7 @@ pub record AreSound (s : Sending) (samples : List Sample) : Type 0 where
   pub values : All (λ x. AreValues x.values) samples
 
 -- Among these datagrams come all those of a sending stream's samples, once or more, and none behind
--- one that is 128 or more above it; nobody else sends under its SSRC and types, and the receiving
+-- one that is 1,024 or more above it; nobody else sends under its SSRC and types, and the receiving
 -- stream has the same types, map of header extensions and row, and heard nothing before.
 pub record HasAllOf (e : EndState) (stream hold_back : ℕ) (sender : Sending) (samples : List Sample)
     (arrivals : List ℕ) (datagrams : List (List ℕ)) : Type 0 where

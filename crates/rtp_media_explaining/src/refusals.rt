@@ -89,7 +89,7 @@ pub(crate) fn refusal_of(reply: &str) -> Option<Reason<'static>>
         "foreign" => "no receiving stream has this SSRC and payload type",
         "damaged" =>
             "its padding or its redundancy can't be read, or its payload is empty or of another type",
-        "refused" => "its number came before, or is 128 or more below the greatest",
+        "refused" => "its number came before, or is 1,024 or more below the greatest",
         "fault Memory" => "memory runs out; the unit stays",
         "fault Payload" => "a packet of the frame isn't of its format; the frame is done with",
         _ => return None,

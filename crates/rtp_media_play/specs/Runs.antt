@@ -37,8 +37,8 @@ pub record IsSaneSchedule (s : Sending) (samples : List Sample) (schedule : List
 abbrev pub sizes_at : Sending → List Sample → List ℕ
 sizes_at s samples = frame_sizes (format_of s.row) (sent_samples s samples)
 
--- A tame schedule: a sane one in which every datagram arrives, first before that of any number that is 128 or more
--- above it; no poll comes before all of the first unit; at most 4,096 datagrams wait; 127 complete units or more are
+-- A tame schedule: a sane one in which every datagram arrives, first before that of any number that is 1,024 or more
+-- above it; no poll comes before all of the first unit; at most 4,096 datagrams wait; 1,023 complete units or more are
 -- held back, or all polls come last; and it ends by polls until one answers None.
 pub record IsTameSchedule (s : Sending) (samples : List Sample) (hold_back : ℕ) (schedule : List Event)
     (answers : List Answer) : Type 0 where

@@ -16,7 +16,7 @@ use Rattle.payload_core_buffer.specs.Buffered.{held_with, is_done, pushed}
 use Rattle.payload_core_buffer.specs.Frames.{IsFrame, due_frame, is_next, number_at, packets_between}
 use Rattle.payload_core_buffer.specs.Packets.{Packet, metas_of}
 use Rattle.payload_core_buffer.specs.declared.held.RtpMeta.{RtpMeta}
-use Rattle.rtp_wire.specs.Replay.{Window, is_accepted, recorded_in}
+use Rattle.rtp_wire.specs.Replay.{Window, is_accepted, reach, reach_below, recorded_in}
 use Rattle.rtp_media_schedules.specs.Hearing.{Content, MediaUnit, packet_of}
 use Rattle.rtp_media_schedules.specs.Turns.{Turn, Arrive, Ask, Sender, event_of, is_among, IsGoodArrival, AllCame}
 use Rattle.rtp_media_schedules.specs.Turns.{waiting}
@@ -65,12 +65,12 @@ window-again first [] w x is came = absurd (true≢false (sym came))
 window-again first (y ∷ ys) None x is came = absurd is
 window-again first (y ∷ ys) (Some w) x is came = IsWindowOf-again first (y ∷ ys) w x is came
 
--- what is 128 below one that came, came
-reach : (first : ℕ) (past : List ℕ) (w : Option Window) (y z : ℕ) → WindowIs first past w → is_among past y ≡ true
-    → first ≤ z → z + 128 ≤ y → is_among past z ≡ true
-reach first [] w y z is came a b = absurd (true≢false (sym came))
-reach first (x ∷ xs) None y z is came a b = absurd is
-reach first (x ∷ xs) (Some w) y z is came a b =
+-- what is out of reach of one that came, came
+came-below : (first : ℕ) (past : List ℕ) (w : Option Window) (y z : ℕ) → WindowIs first past w → is_among past y ≡ true
+    → first ≤ z → z + reach ≤ y → is_among past z ≡ true
+came-below first [] w y z is came a b = absurd (true≢false (sym came))
+came-below first (x ∷ xs) None y z is came a b = absurd is
+came-below first (x ∷ xs) (Some w) y z is came a b =
     is.closed z a (omega (arith, is.greatest, among-le-greatest (x ∷ xs) y came))
 
 -- the numbers from next on that came
@@ -249,14 +249,14 @@ module _ (format : Format) (sender : Sender) (first count opening : ℕ) (fits :
         within = is.within;
       }
 
-  -- where a number is missing, fewer than 128 above it came
+  -- where a number is missing, fewer than the reach above it came
   few-above : (past : List ℕ) (x n : ℕ) (w : Option Window) → WindowIs first past w → first ≤ x → is_among past x
-      ≡ false → length (filter (is_among past) (range_with_len (x + 1) n)) ≤ 127
-  few-above past x n w is low missing = length-filter-few (is_among past) (x + 1) n 127 none where
-    none : (y : ℕ) → x + 1 + 127 ≤ y → is_among past y ≡ false
+      ≡ false → length (filter (is_among past) (range_with_len (x + 1) n)) ≤ reach_below
+  few-above past x n w is low missing = length-filter-few (is_among past) (x + 1) n reach_below none where
+    none : (y : ℕ) → x + 1 + reach_below ≤ y → is_among past y ≡ false
     none y far = go (is_among past y) refl where
       go : (b : Bool) → is_among past y ≡ b → is_among past y ≡ false
-      go true e = absurd (true≢false (sym (reach first past w y x is e low (omega arith)) ∙ missing))
+      go true e = absurd (true≢false (sym (came-below first past w y x is e low (omega arith)) ∙ missing))
       go false e = e
 
   -- a poll where a packet of the next frame is missing
@@ -300,10 +300,10 @@ module _ (format : Format) (sender : Sender) (first count opening : ℕ) (fits :
         (filter-passes (is_among past) next both_sides) k h in
         true≢false (sym passes ∙ ap (is_among past) e ∙ miss.missing)
 
-    few-upper : length upper ≤ 127
+    few-upper : length upper ≤ reach_below
     few-upper =
         let e : next + below_it ≡ miss.number = omega (arith, miss.low) in
-        subst (λ (n : ℕ). length (filter (is_among past) (range_with_len (n + 1) above_it)) ≤ 127) (sym e)
+        subst (λ (n : ℕ). length (filter (is_among past) (range_with_len (n + 1) above_it)) ≤ reach_below) (sym e)
         (few-above past miss.number above_it s.window is.window (omega (arith, is.from_first, miss.low))
         miss.missing)
 

@@ -8,15 +8,15 @@ use Rattle.std.specs.Cmp.{nat_cmp_total}
 use Rattle.std.proofs.lemmas.Bool.Decides.{nat_tests}
 use Rattle.rtp_wire.specs.Widening.{widened}
 use Rattle.rtp_wire_values.proofs.WindowLaws.{contains-window_with, eq_by_cmp-nat}
-use Rattle.rtp_wire.specs.Replay.{Window, accepts, window_with, window_at, greatest_in}
+use Rattle.rtp_wire.specs.Replay.{Window, accepts, reach, window_with, window_at, greatest_in}
 use Rattle.rtp_media_schedules.specs.Turns.{is_among, greatest_of, IsGoodArrival}
 use Rattle.rtp_wire_values.proofs.WideningLaws.{widened-near}
 
 pub record IsWindowOf (first : ℕ) (past : List ℕ) (w : Window) : Type 0 where
   pub greatest : w.greatest ≡ greatest_of past
-  pub recorded : (y : ℕ) → w.greatest < y + 128 → set.contains w.recorded y ≡ is_among past y
+  pub recorded : (y : ℕ) → w.greatest < y + reach → set.contains w.recorded y ≡ is_among past y
   -- what is out of reach came
-  pub closed : (y : ℕ) → first ≤ y → y + 128 ≤ w.greatest → is_among past y ≡ true
+  pub closed : (y : ℕ) → first ≤ y → y + reach ≤ w.greatest → is_among past y ≡ true
 
 abbrev pub WindowIs : ℕ → List ℕ → Option Window → Type 0
 WindowIs first [] None = Unit {0}

@@ -1,6 +1,7 @@
 -- Which orders of arrivals and polls are sane, and which are tame, by true numbers alone.
 use Rattle.std.specs.Prelude.{ℕ, ◌≡◌, ◌+◌, ◌<◌, ◌≤◌, ◌⊎◌, Bool, true, if◌then◌else◌, List, [], ◌∷◌}
 use Rattle.std.specs.List.{range_with_len, list_all}
+use Rattle.rtp_wire.specs.Replay.{reach_below}
 use Rattle.rtp_media_schedules.specs.Turns.{Turn, Arrive, Ask, AllCame, IsGoodArrival, IsNear, is_among, waiting}
 
 -- An arrival of one of the stream's datagrams, near those that came before.
@@ -35,7 +36,7 @@ first_size (size ∷ sizes) = size
 -- Where nothing was handed out, the first frame came; and enough frames are held back, or all came.
 pub record IsGoodPoll (first count hold_back : ℕ) (past : List ℕ) (size : ℕ) : Type 0 where
   pub begun : has_come past first size ≡ true
-  pub held_back : (127 ≤ hold_back) ⊎ AllCame first count past
+  pub held_back : (reach_below ≤ hold_back) ⊎ AllCame first count past
 
 -- past: what came, newest first; next: the number of the first packet that was not handed out; left: the
 -- sizes of the frames from there on; opening: the size of the very first frame

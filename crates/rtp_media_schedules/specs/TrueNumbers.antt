@@ -1,7 +1,7 @@
 -- The numbers of a stream under a sane schedule.
 use Rattle.std.specs.Prelude.{ℕ, ◌≡◌, ◌+◌, ◌%◌, ◌<◌, ◌≤◌, List, [], ◌∷◌, map, Option, None, Some}
 use Rattle.std.specs.FinSet as set
-use Rattle.rtp_wire.specs.Replay.{Window}
+use Rattle.rtp_wire.specs.Replay.{Window, reach}
 use Rattle.rtp_media_schedules.specs.Hearing.{packet_of}
 use Rattle.rtp_media_schedules.specs.Turns.{Sender, Turn, Arrive, Ask, greatest_of, is_among}
 use Rattle.rtp_media_schedules.specs.Hearing.{Stream, number_at}
@@ -16,7 +16,7 @@ arrived past (Ask ∷ ts) = arrived past ts
 -- The greatest number recorded is the greatest that came, and in reach of it just those are recorded that came.
 pub record IsRecorded (past : List ℕ) (w : Window) : Type 0 where
   pub greatest : w.greatest ≡ greatest_of past
-  pub recorded : (y : ℕ) → w.greatest < y + 128 → set.contains w.recorded y ≡ is_among past y
+  pub recorded : (y : ℕ) → w.greatest < y + reach → set.contains w.recorded y ≡ is_among past y
 
 abbrev pub AreRecorded : List ℕ → Option Window → Type 0
 AreRecorded [] None = Unit {0}

@@ -2,6 +2,7 @@
 use Rattle.std.specs.Prelude.{ℕ, ◌≡◌, ◌+◌, ◌-◌, ◌%◌, ◌<◌, ◌≤◌, max, Bool, true, false, ◌||◌, ◌==◌, List, [], ◌∷◌}
 use Rattle.std.specs.Prelude.{count_by}
 use Rattle.std.specs.List.{range_with_len}
+use Rattle.rtp_wire.specs.Replay.{reach}
 use Rattle.rtp_media_schedules.specs.Hearing.{Content, Event, Comes, Poll}
 
 -- An arrival of the datagram of this true number, or a poll.
@@ -32,13 +33,13 @@ abbrev pub IsNear : List ℕ → ℕ → Type 0
 IsNear [] x = x < 65536
 IsNear (y ∷ ys) x = (x < greatest_of (y ∷ ys) + 32768) × (greatest_of (y ∷ ys) < x + 32768)
 
--- An arrival of one of a stream's numbers, near those that came before, newest first; each number that is 128
+-- An arrival of one of a stream's numbers, near those that came before, newest first; each number that is 1,024
 -- or more below it came already.
 pub record IsGoodArrival (first count : ℕ) (past : List ℕ) (x : ℕ) : Type 0 where
   pub from_first : first ≤ x
   pub before_end : x < first + count
   pub near : IsNear past x
-  pub in_reach : (y : ℕ) → first ≤ y → y + 128 ≤ x → is_among past y ≡ true
+  pub in_reach : (y : ℕ) → first ≤ y → y + reach ≤ x → is_among past y ≡ true
 
 -- Each number of the stream came.
 abbrev pub AllCame : ℕ → ℕ → List ℕ → Type 0

@@ -55,7 +55,7 @@ pub fn exact_under_tame_schedule()
         ≡ map (λ c. Ok (whole_unit c)) (canonical_units first samples) }
 {}
 
-/// All datagrams of at most 4,096 come, once or more, none behind one that is 128 or more above it: then
+/// All datagrams of at most 4,096 come, once or more, none behind one that is 1,024 or more above it: then
 /// polls until None give exactly the canonical units, whatever is held back.
 pub fn exact_after_full_arrival()
     ensures { (format : Format) (hold_back first polls : ℕ) (samples : List SentSample) (arrivals : List ℕ) →

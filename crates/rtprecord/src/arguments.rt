@@ -4,7 +4,7 @@ use clap::{Arg, ArgAction, ArgMatches, Command};
 use std::alloc::{AllocError, Global};
 
 // How many complete frames wait for a missing one, where the arguments don't say it.
-const HOLD_BACK: usize = 127;
+const HOLD_BACK: usize = 1023;
 
 /// What the arguments say.
 #[derive(Drop)]
@@ -43,7 +43,7 @@ pub(crate) fn command<'a>(alloc: Global) -> Result<Command<'a>, AllocError> {
     let hold_back = Arg::new(alloc, "hold-back")
         .long("hold-back")
         .action(ArgAction::Set)
-        .help("how many complete frames wait for a missing one, 127 if not given");
+        .help("how many complete frames wait for a missing one, 1023 if not given");
     let out = Arg::new(alloc, "out")
         .long("out")
         .action(ArgAction::Set)
