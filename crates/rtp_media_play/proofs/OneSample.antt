@@ -1,10 +1,10 @@
 -- One sample of Opus over a stream: one datagram, a tame schedule, and one unit.
-use Rattle.std.proofs.Common.{◌≡◌, ℕ, zero, suc, ◌<◌, ◌≤◌, refl, sym, ◌∙◌, ap, ap₂, subst, subst₂, arith}
-use Rattle.std.proofs.Common.{false, true, List, [], ◌∷◌, length, map, Option, Some, None, inr}
+use Rattle.std.proofs.Common.{◌≡◌, ℕ, zero, suc, ◌-◌, ◌<◌, ◌≤◌, refl, sym, ◌∙◌, ap, ap₂, subst, subst₂, arith}
+use Rattle.std.proofs.Common.{false, true, List, [], ◌∷◌, drop, length, map, Option, Some, None, inr}
 use Rattle.std.specs.List.{cons_option}
 use Rattle.std.specs.Prelude.{option_and_then, slice_get}
 use Rattle.std.proofs.lemmas.Bool.Decides.{nat_tests}
-use Rattle.std.proofs.lemmas.List.{drop_all, take_all}
+use Rattle.std.proofs.lemmas.List.{drop_all, length-drop, take_all}
 use Rattle.std.proofs.lemmas.List.Elements.{All-cons, All-nil}
 use Rattle.payload_core_base.specs.Format.{Format}
 use Rattle.payload_core_base.specs.Packing.{marked}
@@ -50,12 +50,17 @@ opus-format : (row : RowFormat) → row.codec ≡ Opus → format_of row ≡ pla
 unfolding format_of
 opus-format row is = ap (λ (c : Codec). (codings.coding_in (forms_for false) (settings_in row) false c).format) is
 
+-- of one packet no more is held than one
+one-at-most : {A : Type 0} (i : ℕ) (a : A) → length (drop i (a ∷ [])) ≤ 1
+one-at-most i a = omega (arith, length-drop i (a ∷ []))
+
 -- what is heard of a first own event and two polls ends by None
 silent-end : (format : Format) (holding : Holding) (o : Option hearing.Event)
     → EndsSilent (heard format (fresh holding) (cons_option o (hearing.Poll ∷ hearing.Poll ∷ [])))
 silent-end format holding None = polls-end format 1 (fresh holding) (omega arith)
 silent-end format holding (Some (hearing.Comes low content)) =
-    polls-end format 1 (taken_by (fresh holding) (number_at (fresh holding) low) content) (omega arith)
+    polls-end format 1 (taken_by (fresh holding) (number_at (fresh holding) low) content)
+    (one-at-most (1 - holding.held) _)
 silent-end format holding (Some hearing.Poll) = polls-end format 2 (fresh holding) (omega arith)
 
 module _ (s : Sending) (x : Sample) (is : s.row.codec ≡ Opus) (some : 0 < length x.bytes)
