@@ -1,0 +1,12 @@
+pub mod Calls
+pub mod Fit
+pub mod ForBrowsers
+pub mod ForEnds
+pub mod Laws
+pub mod Lines
+pub mod Names
+pub mod Places
+pub mod Reading
+pub mod Refusals
+pub mod Remotes
+pub mod Wanted

@@ -1,0 +1,72 @@
+//! Credentials of ICE that fit, and who opens the connection.
+
+ghost use Rattle.std.specs.Prelude.{◌≡◌};
+ghost use Rattle.rtp_media_browsers.specs.Fit.{are_ice_chars, is_ice_char, is_setup, left_over, may_say, settled};
+
+use sdp_formats_data::Setup;
+
+/// Whether it is a letter, a digit, `+` or `/`.
+fn is_ice_char(byte: u8) -> bool
+    ensures { result ≡ is_ice_char byte }
+{
+    byte.is_ascii_alphanumeric() || byte == b'+' || byte == b'/'
+}
+
+/// Whether a text is of at least so many such signs, and of at most 256.
+pub(crate) fn are_ice_chars(least: usize, text: &str) -> bool
+    ensures { result ≡ are_ice_chars least text.now }
+{
+    let bytes = text.as_bytes();
+    if bytes.len() < least || bytes.len() > 256 {
+        return false;
+    }
+    for byte in bytes {
+        if !is_ice_char(*byte) {
+            return false;
+        }
+    }
+    true
+}
+
+/// Whether the part is one of the two, and the same.
+fn is_setup(setup: Setup, other: Option<Setup>) -> bool
+    ensures { result ≡ is_setup setup other }
+{
+    matches!(
+        (setup, other),
+        (Setup::Active, Some(Setup::Active)) | (Setup::Passive, Some(Setup::Passive))
+    )
+}
+
+/// Whether a part in the connection may be said.
+pub(crate) fn may_say(setup: Setup, before: Option<Setup>, remote: Option<Setup>) -> bool
+    ensures { result ≡ may_say setup before remote }
+{
+    match (setup, before) {
+        (Setup::ActPass, _) => true,
+        (_, None) => !is_setup(setup, remote),
+        (_, Some(_)) => is_setup(setup, before) && !is_setup(setup, remote),
+    }
+}
+
+/// The part that an end's text settles.
+pub(crate) fn settled(before: Option<Setup>, setup: Setup) -> Option<Setup>
+    ensures { result ≡ settled before setup }
+{
+    match setup {
+        Setup::ActPass => before,
+        Setup::Active | Setup::Passive => Some(setup),
+    }
+}
+
+/// The part that a browser's answer leaves to the end, where none was settled before.
+pub(crate) fn left_over(before: Option<Setup>, remote: Option<Setup>) -> Option<Setup>
+    ensures { result ≡ left_over before remote }
+{
+    match (before, remote) {
+        (Some(_), _) => before,
+        (None, Some(Setup::Active)) => Some(Setup::Passive),
+        (None, Some(Setup::Passive)) => Some(Setup::Active),
+        (None, _) => None,
+    }
+}

@@ -1,0 +1,137 @@
+//! Sections and sessions as an end reads them.
+
+ghost use Rattle.std.specs.Prelude.{◌≡◌, IfOk, filter, map};
+ghost use Rattle.rtp_media_browsers.specs.ForEnds.{end_section, end_session, of_sections, restricted};
+ghost use Rattle.rtp_media_browsers.specs.Lines.{stays, stays_in_session};
+ghost use Rattle.rtp_media_browsers.specs.Names.{is_among};
+
+use crate::lines::{is_bundle_name, is_session_transport, stays};
+use crate::name_set::NameSet;
+use crate::names::mids_of;
+use rtp_wire::Mid;
+use sdp_formats_data::{
+    Listed, MediaAttribute, MediaLine, Sdp, Session, SessionAttribute, TryClone,
+};
+use std::alloc::{AllocError, Global};
+use std::mem;
+
+/// The attributes that stay in a section.
+fn kept_attributes(closed: bool, attributes: Vec<MediaAttribute>) -> Listed<MediaAttribute>
+    ensures { result ≡ filter (stays closed) attributes.items }
+{
+    let mut kept = attributes;
+    kept.retain(|attribute| stays(closed, attribute));
+    Listed::of(kept)
+}
+
+/// A section as an end reads it.
+#[tactic(auto, unfolding(crate::specs::ForEnds::end_section))]
+fn end_section(alloc: Global, section: MediaLine) -> MediaLine
+    ensures { result ≡ end_section section }
+{
+    let mut section = section;
+    let attrs = mem::replace(&mut section.attrs, Listed::new(alloc));
+    section.attrs = kept_attributes(section.disabled, attrs.into_vec());
+    section.disabled = false;
+    section
+}
+
+/// Those of the names that are in the set.
+fn names_among(alloc: Global, names: &NameSet<'_>, mids: &[Mid]) -> Result<Listed<Mid>, AllocError>
+    ensures { IfOk result (λ l. l ≡ filter (is_among names.now) mids.now) }
+{
+    let kept = mids
+        .iter()
+        .copied()
+        .filter(|mid| names.has(*mid))
+        .collect(alloc)?;
+    Ok(Listed::of(kept))
+}
+
+/// An attribute of the session; of a group of meaning BUNDLE these names alone.
+#[tactic(auto, unfolding(crate::specs::ForEnds::restricted))]
+fn restricted(
+    alloc: Global,
+    names: &NameSet<'_>,
+    attribute: &SessionAttribute,
+) -> Result<SessionAttribute, AllocError>
+    ensures { IfOk result (λ a. a ≡ restricted names.now attribute.now) }
+{
+    if let SessionAttribute::Group { typ, mids } = attribute {
+        if is_bundle_name(typ) {
+            return Ok(SessionAttribute::Group {
+                typ: typ.clone(alloc)?,
+                mids: names_among(alloc, names, mids.as_slice())?,
+            });
+        }
+    }
+    attribute.try_clone(alloc)
+}
+
+/// Copies of the attributes that stay in the session.
+fn staying(
+    alloc: Global,
+    attributes: &Listed<SessionAttribute>,
+) -> Result<Vec<SessionAttribute>, AllocError>
+    ensures { IfOk result (λ v. v.items ≡ filter stays_in_session attributes.now) }
+{
+    let mut kept = attributes.try_clone(alloc)?.into_vec();
+    kept.retain(|attribute| !is_session_transport(attribute));
+    Ok(kept)
+}
+
+/// The attributes of the session, of groups of meaning BUNDLE these names alone.
+fn all_restricted(
+    alloc: Global,
+    names: &NameSet<'_>,
+    attributes: &[SessionAttribute],
+) -> Result<Listed<SessionAttribute>, AllocError>
+    ensures { IfOk result (λ l. l ≡ map (restricted names.now) attributes.now) }
+{
+    let mut kept = Listed::new(alloc);
+    for attribute in attributes {
+        kept.push(restricted(alloc, names, attribute)?)?;
+    }
+    Ok(kept)
+}
+
+/// The session as an end reads it, with these names in its bundle.
+#[tactic(auto, unfolding(crate::specs::ForEnds::end_session))]
+fn end_session(alloc: Global, names: &[Mid], session: &Session) -> Result<Session, AllocError>
+    ensures { IfOk result (λ s. s ≡ end_session names.now session.now) }
+{
+    let names = NameSet::of(alloc, names)?;
+    let attributes = staying(alloc, &session.attrs)?;
+    Ok(Session {
+        id: session.id,
+        bw: session.bw.try_clone(alloc)?,
+        attrs: all_restricted(alloc, &names, attributes.as_slice())?,
+    })
+}
+
+/// The sections as an end reads them.
+fn end_sections(alloc: Global, sections: Vec<MediaLine>) -> Result<Listed<MediaLine>, AllocError>
+    ensures { IfOk result (λ l. l ≡ map end_section sections.items) }
+{
+    let mut kept = Listed::new(alloc);
+    for section in sections {
+        kept.push(end_section(alloc, section))?;
+    }
+    Ok(kept)
+}
+
+/// The text of these sections, as an end reads it.
+#[tactic(auto, unfolding(crate::specs::ForEnds::of_sections))]
+pub(crate) fn of_sections(
+    alloc: Global,
+    session: &Session,
+    sections: Vec<MediaLine>,
+) -> Result<Sdp, AllocError>
+    ensures { IfOk result (λ sdp. sdp ≡ of_sections session.now sections.items) }
+{
+    let names = mids_of(alloc, sections.as_slice())?;
+    Ok(Sdp {
+        session: end_session(alloc, names.as_slice(), session)?,
+        media_lines: end_sections(alloc, sections)?,
+    })
+}

@@ -1,0 +1,187 @@
+//! The places of the sections of a browser's text.
+
+ghost use Rattle.std.specs.Prelude.{◌≡◌, ◌++◌, ◌∷◌, IfOk, List, OnOk, filter};
+ghost use Rattle.rtp_media_browsers.specs.Places.{is_bundled_only, is_map, is_taken, left, left_at, place_of};
+ghost use Rattle.rtp_media_browsers.specs.Places.{places_from, put_back, rejected, rejected_media};
+ghost use Rattle.std.specs.Option.{option_copied};
+ghost use Rattle.rtp_media_browsers.specs.declared.plan.Place.{Place};
+
+use crate::lines::has_bundle_only;
+use crate::name_set::NameSet;
+use crate::plan::Place;
+use crate::wish::{Wish, is_accepted};
+use rtp_media_sections::mid_of;
+use rtp_wire::Mid;
+use sdp_formats_data::{Listed, MediaAttribute, MediaLine, TryClone};
+use std::alloc::{AllocError, Global};
+use std::vec::IntoIter;
+
+/// Whether port 0 only says that the section has no transport of its own.
+fn is_bundled_only(bundle: &NameSet<'_>, section: &MediaLine) -> bool
+    ensures { result ≡ is_bundled_only bundle.now section.now }
+{
+    has_bundle_only(section.attrs.as_slice()) && bundle.has(mid_of(section))
+}
+
+/// Whether a section of an offer is taken out.
+pub(crate) fn is_taken(bundle: &NameSet<'_>, wish: Option<&Wish>, section: &MediaLine) -> bool
+    ensures { result ≡ is_taken bundle.now (option_copied wish.entry) section.now }
+{
+    !section.typ.is_media()
+        || (section.disabled && !is_bundled_only(bundle, section))
+        || !is_accepted(wish)
+}
+
+/// Whether it says what a payload type is.
+#[tactic(auto, unfolding(crate::specs::Places::is_map))]
+fn is_map(attribute: &MediaAttribute) -> bool
+    ensures { result ≡ is_map attribute.now }
+{
+    matches!(attribute, MediaAttribute::RtpMap { .. })
+}
+
+/// Copies of the lines that say what the payload types are.
+fn maps_of(
+    alloc: Global,
+    attributes: &Listed<MediaAttribute>,
+) -> Result<Vec<MediaAttribute>, AllocError>
+    ensures { IfOk result (λ v. v.items ≡ filter is_map attributes.now) }
+{
+    let mut maps = attributes.try_clone(alloc)?.into_vec();
+    maps.retain(|attribute| is_map(attribute));
+    Ok(maps)
+}
+
+/// Adds, for audio and video, the direction, and what the payload types are.
+fn push_rejected(
+    alloc: Global,
+    section: &MediaLine,
+    attributes: &mut Vec<MediaAttribute>,
+) -> Result<(), AllocError>
+    ensures { OnOk result (attributes.new.items ≡ attributes.old.items ++ rejected_media section.now) }
+{
+    if !section.typ.is_media() {
+        return Ok(());
+    }
+    attributes.push(MediaAttribute::Inactive)?;
+    let mut maps = maps_of(alloc, &section.attrs)?;
+    attributes.append(&mut maps)
+}
+
+/// What stands in an answer for a section that is rejected.
+fn rejected(alloc: Global, section: &MediaLine) -> Result<MediaLine, AllocError>
+    ensures { IfOk result (λ m. m ≡ rejected section.now) }
+{
+    let mut attrs = Vec::new(alloc);
+    attrs.push(MediaAttribute::Mid(mid_of(section)))?;
+    push_rejected(alloc, section, &mut attrs)?;
+    Ok(MediaLine {
+        typ: section.typ.try_clone(alloc)?,
+        disabled: true,
+        proto: section.proto,
+        pts: section.pts.try_clone(alloc)?,
+        bw: None,
+        attrs: Listed::of(attrs),
+    })
+}
+
+/// The place of a section of an offer.
+fn place_of(
+    alloc: Global,
+    bundle: &NameSet<'_>,
+    wish: Option<&Wish>,
+    section: &MediaLine,
+) -> Result<Place, AllocError>
+    ensures { IfOk result (λ p. p ≡ place_of bundle.now (option_copied wish.entry) section.now) }
+{
+    if is_taken(bundle, wish, section) {
+        return Ok(Place::Taken(rejected(alloc, section)?));
+    }
+    Ok(Place::Kept(mid_of(section)))
+}
+
+/// The places of the sections of an offer with this bundle.
+pub(crate) fn places_of(
+    alloc: Global,
+    bundle: &[Mid],
+    wishes: &[Wish],
+    sections: &[MediaLine],
+) -> Result<Listed<Place>, AllocError>
+    ensures { IfOk result (λ l. l ≡ places_from bundle.now wishes.now 0 sections.now) }
+{
+    let bundle = NameSet::of(alloc, bundle)?;
+    let mut places = Listed::new(alloc);
+    for (number, section) in sections.iter().enumerate() {
+        places.push(place_of(alloc, &bundle, wishes.get(number), section)?)?;
+    }
+    Ok(places)
+}
+
+/// Adds the section, where it isn't taken out.
+fn push_left(
+    alloc: Global,
+    place: Option<&Place>,
+    section: &MediaLine,
+    kept: &mut Vec<MediaLine>,
+) -> Result<(), AllocError>
+    ensures { OnOk result (kept.new.items ≡ kept.old.items ++ left_at (option_copied place.entry) section.now) }
+{
+    if matches!(place, Some(Place::Taken(_))) {
+        return Ok(());
+    }
+    kept.push(section.try_clone(alloc)?)?;
+    Ok(())
+}
+
+/// What is left of sections without those at places that are taken.
+pub(crate) fn left(
+    alloc: Global,
+    places: &[Place],
+    sections: &[MediaLine],
+) -> Result<Vec<MediaLine>, AllocError>
+    ensures { IfOk result (λ v. v.items ≡ left places.now sections.now) }
+{
+    let mut kept = Vec::new(alloc);
+    for (number, section) in sections.iter().enumerate() {
+        push_left(alloc, places.get(number), section, &mut kept)?;
+    }
+    Ok(kept)
+}
+
+/// Adds the section of a place: the one that was taken, or the next of the others.
+fn push_at(
+    alloc: Global,
+    place: &Place,
+    rest: &mut IntoIter<MediaLine>,
+    all: &mut Listed<MediaLine>,
+) -> Result<(), AllocError>
+    ensures { OnOk result ((ps : List Place) → all.new ++ put_back ps rest.new.rest.items
+        ≡ all.old ++ put_back (place.now ∷ ps) rest.old.rest.items) }
+{
+    match place {
+        Place::Taken(section) => all.push(section.try_clone(alloc)?),
+        Place::Kept(_) => match rest.next() {
+            Some(section) => all.push(section),
+            None => Ok(()),
+        },
+    }
+}
+
+/// Sections with those that were taken in their places.
+pub(crate) fn put_back(
+    alloc: Global,
+    places: &[Place],
+    sections: Vec<MediaLine>,
+) -> Result<Listed<MediaLine>, AllocError>
+    ensures { IfOk result (λ l. l ≡ put_back places.now sections.items) }
+{
+    let mut all = Listed::new(alloc);
+    let mut rest = sections.into_iter();
+    for place in places {
+        push_at(alloc, place, &mut rest, &mut all)?;
+    }
+    for section in rest {
+        all.push(section)?;
+    }
+    Ok(all)
+}
