@@ -21,7 +21,7 @@ use Rattle.rtp_media_play.specs.declared.schedule.Event.TheVariants.{Arrive, Pol
 use Rattle.rtp_media_play.specs.declared.schedule.Played.{Played}
 use Rattle.rtp_media_play.specs.declared.schedule.Played.TheVariants.{Received, Polled}
 use Rattle.rtp_media_play.specs.OpusHops.{bytes_out}
-use Rattle.media_uses.specs.Call.{sends_pieces, IsShortSample}
+use Rattle.media_uses.specs.Call.{sends_pieces, opened_to_hold, IsShortSample}
 use Rattle.media_uses.proofs.Whole.{AreShort, plain-format, sent-whole, sent_whole}
 
 -- the first arrives and is polled, the third, and then the second
@@ -45,13 +45,13 @@ arrival past x lt near = record {
   in_reach = λ y low far. absurd (omega arith);
 }
 
-poll : (past : List ℕ) → is_among past 0 ≡ true → IsGoodPoll 0 3 127 past 1
+poll : (past : List ℕ) → is_among past 0 ≡ true → IsGoodPoll 0 3 1023 past 1
 poll past begun = record {
   begun = ap (λ (b : Bool). b && true) begun;
   held_back = inl (omega arith);
 }
 
-tame : IsTame 0 3 127 1 [] 0 (1 ∷ 1 ∷ 1 ∷ []) schedule_turns
+tame : IsTame 0 3 opened_to_hold 1 [] 0 (1 ∷ 1 ∷ 1 ∷ []) schedule_turns
 tame = (
   arrival [] 0 (omega arith) (omega arith),
   omega arith,
@@ -97,20 +97,20 @@ count-is s x y z is short =
 
 pub tame-three : (s : Sending) (samples : List Sample) → length samples ≡ 3 → sends_pieces s.row.codec ≡ true
     → s.next ≡ 0 → 1199 ≤ packet_limit s → All IsShortSample samples → (answers : List Answer) → EndsSilent answers
-    → IsTameSchedule s samples 127 schedule answers
+    → IsTameSchedule s samples opened_to_hold schedule answers
 tame-three s [] three is next room short answers silent = absurd (omega arith)
 tame-three s (x ∷ []) three is next room short answers silent = absurd (omega arith)
 tame-three s (x ∷ y ∷ []) three is next room short answers silent = absurd (omega arith)
 tame-three s (x ∷ y ∷ z ∷ []) three is next room short answers silent =
     let here : AreShort (packet_limit s) (samples_of s (x ∷ y ∷ z ∷ [])) =
     still-short s (x ∷ y ∷ z ∷ []) room short in
-    let counted : IsTame 0 (count_of s (x ∷ y ∷ z ∷ [])) 127 (first_size (sizes_at s (x ∷ y ∷ z ∷ []))) [] 0
+    let counted : IsTame 0 (count_of s (x ∷ y ∷ z ∷ [])) opened_to_hold (first_size (sizes_at s (x ∷ y ∷ z ∷ []))) [] 0
     (sizes_at s (x ∷ y ∷ z ∷ [])) (turns_of 0 (count_of s (x ∷ y ∷ z ∷ [])) schedule) =
-    subst₂ (λ (n : ℕ) (zs : List ℕ). IsTame 0 n 127 (first_size zs) [] 0 zs (turns_of 0 n schedule))
+    subst₂ (λ (n : ℕ) (zs : List ℕ). IsTame 0 n opened_to_hold (first_size zs) [] 0 zs (turns_of 0 n schedule))
     (sym (count-is s x y z is here)) (sym (sizes-are s x y z is here)) tame in
     record {
       foreign = tt;
-      order = subst (λ (n : ℕ). IsTame n (count_of s (x ∷ y ∷ z ∷ [])) 127 (first_size (sizes_at s (x ∷ y ∷ z ∷ [])))
+      order = subst (λ (n : ℕ). IsTame n (count_of s (x ∷ y ∷ z ∷ [])) opened_to_hold (first_size (sizes_at s (x ∷ y ∷ z ∷ [])))
           [] n (sizes_at s (x ∷ y ∷ z ∷ [])) (turns_of n (count_of s (x ∷ y ∷ z ∷ [])) schedule)) (sym next) counted;
       before = Arrive 0 ∷ Poll ∷ Arrive 2 ∷ Poll ∷ Arrive 1 ∷ Poll ∷ Poll ∷ [];
       last = refl;

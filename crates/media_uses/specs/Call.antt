@@ -5,6 +5,11 @@ use Rattle.payload_core_base.specs.declared.codec.Codec.TheVariants.{Opus, PCMU,
 use Rattle.rtp_wire.specs.Values.{absent}
 use Rattle.rtp_media_streams.specs.Sending.{Sample}
 use Rattle.sdp_formats_rows.specs.Rows.{Row}
+use Rattle.rtp_media_schedules.specs.Hearing.{Holding, holding_of}
+
+-- How much the receiving stream is opened to hold.
+abbrev pub opened_to_hold : Holding
+opened_to_hold = holding_of 1023 4096
 
 -- A sample that one datagram has room for, without values of header extensions.
 pub record IsShortSample (x : Sample) : Type 0 where

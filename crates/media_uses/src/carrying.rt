@@ -7,7 +7,7 @@ ghost use Rattle.rtp_media_ends.specs.Connections.{HaveExchanged};
 ghost use Rattle.rtp_media_ends.specs.Ends.{is_receiver_at, is_sender_at, sender_at};
 ghost use Rattle.rtp_media_play.specs.Runs.{Hears};
 ghost use Rattle.rtp_media_play.specs.Schedules.{poll_answers};
-ghost use Rattle.media_uses.specs.Call.{IsShortSample, SendsPieces, sends_pieces};
+ghost use Rattle.media_uses.specs.Call.{IsShortSample, SendsPieces, opened_to_hold, sends_pieces};
 ghost use Rattle.rtp_media_play.specs.OpusHops.{bytes_out};
 
 use crate::calls::{params, sections};
@@ -109,7 +109,7 @@ fn carry_over(
 ) -> Option<Vec<Played>>
     requires sender { is_sender_at a.old tx ≡ true }
     requires receiver { is_receiver_at b.old rx ≡ true }
-    requires hears { Hears b.old rx 127 (sender_at a.old tx) samples.now }
+    requires hears { Hears b.old rx opened_to_hold (sender_at a.old tx) samples.now }
     requires pieces { sends_pieces (sender_at a.old tx).row.codec ≡ true }
     requires first { (sender_at a.old tx).next ≡ 0 }
     requires limit { 1199 ≤ packet_limit (sender_at a.old tx) }

@@ -11,7 +11,7 @@ use Rattle.rtp_media_ends.specs.OpensAt.{SendsAt}
 use Rattle.rtp_media_ends.specs.Params.{IsSound}
 use Rattle.rtp_media_play.specs.Headline.{SendsTo}
 use Rattle.rtp_media_play.specs.Runs.{Hears}
-use Rattle.media_uses.specs.Call.{SendsPieces, sends_pieces}
+use Rattle.media_uses.specs.Call.{SendsPieces, sends_pieces, opened_to_hold}
 use Rattle.media_uses.proofs.Streams.{has-room, sends-pieces, sound-short}
 use Rattle.media_uses.proofs.Three.{count-three}
 use Rattle.std.proofs.lemmas.Grind.{common_steps}
@@ -58,13 +58,13 @@ carry_over-requires-clause-hears c =
       sound_samples = sound-short s c.args.samples.now pieces c.requires.short;
       numbers = omega (arith, count, c.requires.first);
     } in
-    let hears : Hears (after_open_receiver b c.from-mid.result c.from-ssrc.result c.args.pt 127)
-    (length b.streams) 127 s c.args.samples.now =
+    let hears : Hears (after_open_receiver b c.from-mid.result c.from-ssrc.result c.args.pt opened_to_hold)
+    (length b.streams) opened_to_hold s c.args.samples.now =
     c.headline.ensures.hears c.requires.exchanged.0 a b c.from-mid.result c.from-ssrc.result c.args.pt
-    c.args.params c.args.samples.now 127 to in
-    subst (λ (t : Sending). Hears c.open_receiver.new.self c.in-Ok-open_receiver.rx 127 t c.args.samples.now)
+    c.args.params c.args.samples.now opened_to_hold to in
+    subst (λ (t : Sending). Hears c.open_receiver.new.self c.in-Ok-open_receiver.rx opened_to_hold t c.args.samples.now)
     (sym c.in-Ok.ensures.stream)
-    (subst₂ (λ (e : EndState) (n : ℕ). Hears e n 127 s c.args.samples.now)
+    (subst₂ (λ (e : EndState) (n : ℕ). Hears e n opened_to_hold s c.args.samples.now)
     (sym c.in-Ok-open_receiver.ensures.after) (sym c.in-Ok-open_receiver.ensures.number) hears)
 
 pub carry_over-requires-clause-sender : goal.carry_over-requires-clause-sender

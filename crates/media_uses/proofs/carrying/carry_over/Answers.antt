@@ -3,6 +3,7 @@ use Rattle.rtp_media_play.specs.declared.schedule.Played.{Played}
 use Rattle.rtp_media_schedules.specs.Hearing.{EndsSilent, handed_out}
 use Rattle.rtp_media_ends.specs.Ends.{sender_at}
 use Rattle.rtp_media_play.specs.Schedules.{poll_answers}
+use Rattle.media_uses.specs.Call.{opened_to_hold}
 use Rattle.media_uses.proofs.Three.{bytes-out, ends-silent, tame-three}
 use Rattle.media_uses.proofs.carrying.carry_over.Goals as goal
 
@@ -13,7 +14,7 @@ returns c =
     (ends-silent c.deref.result.now (c.ends_silent.ensures.0 c.if-not-ends_silent.false)) in
     bytes-out (sender_at c.args.a.now c.args.tx) c.args.samples.now (handed_out (poll_answers c.in-Ok.all.items))
     c.requires.pieces c.requires.limit c.requires.short
-    (c.in-Ok.ensures.exact 127 c.requires.hears
+    (c.in-Ok.ensures.exact opened_to_hold c.requires.hears
     (tame-three (sender_at c.args.a.now c.args.tx) c.args.samples.now c.requires.three c.requires.pieces
     c.requires.first
     c.requires.limit c.requires.short (poll_answers c.in-Ok.all.items) silent))
