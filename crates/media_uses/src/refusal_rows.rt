@@ -1,28 +1,21 @@
-//! What refusals carry: which row, which type, which section, and why a text isn't read; and what a config says of a
-//! type.
+//! What refusals carry: which row, which section, and that a text isn't read; and what a config says of a type.
 
 use rtp_media_exchange::{
     CodecConfig, EndError, Exchange, ExchangeError, MediaKind, SdpError, SectionSpec, Session,
 };
 use rtp_wire::{Direction, ExtensionMap, Frequency, Mid, Pt, SessionId, Ssrc};
-use sdp_formats_rounds::RoundError;
 use sdp_formats_rows::{Codec, FormatParams};
 use std::alloc::{AllocError, Global};
 
 /// Each row's name, and what came of it.
-pub(crate) fn refusal_rows(alloc: Global) -> [(&'static str, Option<bool>); 7] {
+pub(crate) fn refusal_rows(alloc: Global) -> [(&'static str, Option<bool>); 5] {
     [
         ("the second of two rows is not plain", not_plain(alloc)),
-        (
-            "the second of two rows takes a type again",
-            not_distinct(alloc),
-        ),
         ("the second of two sections is no media", not_media(alloc)),
         (
             "the second of two sections has no row",
             no_common_row(alloc),
         ),
-        ("row 25, a type that is taken", type_taken(alloc)),
         ("a text without a header", unreadable(alloc)),
         ("rows by type", rows_by_type(alloc)),
     ]
@@ -32,15 +25,6 @@ pub(crate) fn refusal_rows(alloc: Global) -> [(&'static str, Option<bool>); 7] {
 fn not_plain(alloc: Global) -> Option<bool> {
     let refusal = refused_with(alloc, Pt::from(96), None, Codec::Rtx).ok()?;
     Some(matches!(refusal, Some(EndError::RowNotPlain(1))))
-}
-
-/// Opus at 111, and G.711 at 0 whose retransmissions have 111.
-fn not_distinct(alloc: Global) -> Option<bool> {
-    let refusal = refused_with(alloc, Pt::from(0), Some(Pt::from(111)), Codec::PCMU).ok()?;
-    match refusal {
-        Some(EndError::TypesNotDistinct(pt)) => Some(pt == Pt::from(111)),
-        _ => Some(false),
-    }
 }
 
 /// What an exchange of Opus and one more row is refused with.
@@ -66,14 +50,6 @@ fn refused_with(
 fn made(alloc: Global, config: CodecConfig) -> Result<Exchange, EndError> {
     let session = Session::new(alloc, SessionId::from(1));
     Exchange::new(alloc, config, session, ExtensionMap::empty())
-}
-
-/// An exchange of Opus at 111 and VP8 at 96.
-fn opus_and_vp8(alloc: Global) -> Option<Exchange> {
-    let mut config = CodecConfig::empty(alloc);
-    config.enable_opus(true, false).ok()?;
-    config.enable_vp8(true).ok()?;
-    made(alloc, config).ok()
 }
 
 /// An exchange of Opus alone.
@@ -108,12 +84,9 @@ fn two_sections(alloc: Global) -> Result<Vec<SectionSpec>, AllocError> {
 /// What stands before the sections of a text.
 const FRONT: &str = "v=0\r\no=- 1 2 IN IP4 0.0.0.0\r\ns=-\r\nt=0 0\r\n";
 
-/// A section of Opus at 111, and one at 96.
+/// A section of Opus at 111.
 const OPUS: &str =
     "m=audio 9 UDP/TLS/RTP/SAVPF 111\r\na=mid:0\r\na=sendrecv\r\na=rtpmap:111 opus/48000/2\r\n";
-
-const OPUS_AT_96: &str =
-    "m=audio 9 UDP/TLS/RTP/SAVPF 96\r\na=mid:0\r\na=sendrecv\r\na=rtpmap:96 opus/48000/2\r\n";
 
 /// A section of VP8 at 96.
 const VP8: &str =
@@ -152,19 +125,6 @@ fn no_common_row(alloc: Global) -> Option<bool> {
         }
         _ => Some(false),
     }
-}
-
-/// Row 25: an answer that has both rows at 96; the right answer is accepted afterwards.
-fn type_taken(alloc: Global) -> Option<bool> {
-    let mut exchange = opus_and_vp8(alloc)?;
-    let _ = exchange.offer(two_sections(alloc).ok()?).ok()?;
-    let wrong = text(alloc, OPUS_AT_96, VP8)?;
-    let is_refused = match exchange.accept(wrong.as_str()) {
-        Err(ExchangeError::Round(RoundError::TypeTaken(pt))) => pt == Pt::from(96),
-        _ => false,
-    };
-    let right = text(alloc, OPUS, VP8)?;
-    Some(is_refused && exchange.accept(right.as_str()).is_ok())
 }
 
 /// A text that begins with another line.
