@@ -1,4 +1,4 @@
-//! What refusals carry: which row, which section, and that a text isn't read; and what a config says of a type.
+//! What refusals carry: which row isn't plain, and that a text isn't read; and what a config says of a type.
 
 use rtp_media_exchange::{
     CodecConfig, EndError, Exchange, ExchangeError, MediaKind, SdpError, SectionSpec, Session,
@@ -8,14 +8,9 @@ use sdp_formats_rows::{Codec, FormatParams};
 use std::alloc::{AllocError, Global};
 
 /// Each row's name, and what came of it.
-pub(crate) fn refusal_rows(alloc: Global) -> [(&'static str, Option<bool>); 5] {
+pub(crate) fn refusal_rows(alloc: Global) -> [(&'static str, Option<bool>); 3] {
     [
         ("the second of two rows is not plain", not_plain(alloc)),
-        ("the second of two sections is no media", not_media(alloc)),
-        (
-            "the second of two sections has no row",
-            no_common_row(alloc),
-        ),
         ("a text without a header", unreadable(alloc)),
         ("rows by type", rows_by_type(alloc)),
     ]
@@ -79,52 +74,6 @@ fn two_sections(alloc: Global) -> Result<Vec<SectionSpec>, AllocError> {
     let mut sections = vec![in alloc; section(alloc, "0", MediaKind::Audio, 44)?]?;
     sections.push(section(alloc, "1", MediaKind::Video, 46)?)?;
     Ok(sections)
-}
-
-/// What stands before the sections of a text.
-const FRONT: &str = "v=0\r\no=- 1 2 IN IP4 0.0.0.0\r\ns=-\r\nt=0 0\r\n";
-
-/// A section of Opus at 111.
-const OPUS: &str =
-    "m=audio 9 UDP/TLS/RTP/SAVPF 111\r\na=mid:0\r\na=sendrecv\r\na=rtpmap:111 opus/48000/2\r\n";
-
-/// A section of VP8 at 96.
-const VP8: &str =
-    "m=video 9 UDP/TLS/RTP/SAVPF 96\r\na=mid:1\r\na=sendrecv\r\na=rtpmap:96 VP8/90000\r\n";
-
-/// A section of data channels.
-const CHANNELS: &str =
-    "m=application 9 UDP/DTLS/SCTP webrtc-datachannel\r\na=mid:1\r\na=sctp-port:5000\r\n";
-
-/// A text of these two sections.
-fn text(alloc: Global, first: &str, second: &str) -> Option<String> {
-    let mut text = String::from_str(alloc, FRONT).ok()?;
-    text.push_str(first).ok()?;
-    text.push_str(second).ok()?;
-    Some(text)
-}
-
-/// Data channels behind a section of audio.
-fn not_media(alloc: Global) -> Option<bool> {
-    let text = text(alloc, OPUS, CHANNELS)?;
-    let mut exchange = opus(alloc)?;
-    match exchange.answer(text.as_str(), two_sections(alloc).ok()?) {
-        Err(ExchangeError::NotMedia(mid)) => Some(mid.as_str() == "1"),
-        _ => Some(false),
-    }
-}
-
-/// Video behind a section of audio, of an exchange of audio alone: its offer, and its answer.
-fn no_common_row(alloc: Global) -> Option<bool> {
-    let text = text(alloc, OPUS, VP8)?;
-    let offer = opus(alloc)?.offer(two_sections(alloc).ok()?);
-    let answer = opus(alloc)?.answer(text.as_str(), two_sections(alloc).ok()?);
-    match (offer, answer) {
-        (Err(ExchangeError::NoCommonRow(offered)), Err(ExchangeError::NoCommonRow(answered))) => {
-            Some(offered.as_str() == "1" && answered.as_str() == "1")
-        }
-        _ => Some(false),
-    }
 }
 
 /// A text that begins with another line.
