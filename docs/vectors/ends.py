@@ -117,6 +117,7 @@ class Receiver:
         self.types, self.reader = (111, 63) if case.red else (111,), READERS.get(case.codec, Audio)(case)
         self.hold_back, self.most, self.greatest, self.taken = hold_back, most, None, set()
         self.held, self.cutoff, self.units, self.counts = {}, None, [], Counter()
+        self.has_dropped = False
 
     def said(self, reply):
         self.counts[reply.split()[0]] += 1
@@ -152,6 +153,7 @@ class Receiver:
         if self.cutoff is None or number > self.cutoff:
             self.held[number] = datagram
             if len(self.held) > self.most:
+                self.has_dropped = True
                 del self.held[min(self.held)]
         return self.said(f"taken 0 {number}")
 

@@ -79,7 +79,8 @@ class Told:
         if self.rx:
             counts = ", ".join(f"{self.rx.counts[word]} {word}" for word in ("taken", "refused", "damaged"))
             faults = self.rx.counts["fault"]
-            held = "" if faults else f", {len(self.rx.held)} packets held"
+            is_known = not faults and not self.rx.has_dropped
+            held = f", {len(self.rx.held)} packets held" if is_known else ""
             yield f"receiver 0 {stream} {counts}, {self.rx.counts['unit']} units, {faults} faults{held}"
         others = self.rx.counts if self.rx else Counter()
         yield f"end {self.end}: {others['foreign']} foreign, {others['unreadable']} unreadable"
