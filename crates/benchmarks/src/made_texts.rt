@@ -2,7 +2,7 @@
 
 use crate::measured::{Round, measure};
 use crate::tally::Tally;
-use sdp_formats::{rtp_params, sdp_parser};
+use sdp_formats::{RtpParams, sdp_parser};
 use std::alloc::Global;
 use std::io;
 
@@ -27,7 +27,7 @@ impl Round for Reading<'_> {
     fn round(&mut self, alloc: Global, _number: u32, tally: &mut Tally) {
         if let Ok((sdp, _)) = sdp_parser(alloc, self.text) {
             for section in sdp.media_lines.as_slice() {
-                if let Ok(rows) = rtp_params(alloc, section) {
+                if let Ok(rows) = section.rtp_params(alloc) {
                     tally.add(rows.len(), self.text.len());
                 }
             }

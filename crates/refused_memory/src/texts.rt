@@ -1,7 +1,7 @@
 //! A session text that is read, and the rows of its sections.
 
 use crate::asking::{TIMES, print_refused};
-use sdp_formats::{MediaLine, SdpError, SdpOffer, rtp_params};
+use sdp_formats::{MediaLine, RtpParams, SdpError, SdpOffer};
 
 /// The offer of worked row 16.
 const OFFER: &str =
@@ -30,7 +30,7 @@ fn offer(rt: &HostRuntime) -> Option<SdpOffer> {
 
 fn print_rows(rt: &HostRuntime, section: &MediaLine) -> Option<()> {
     for _ in 0..TIMES {
-        match rtp_params(rt.alloc(), section) {
+        match section.rtp_params(rt.alloc()) {
             Ok(rows) => {
                 for row in &rows {
                     let (pt, spec) = (row.pt(), row.spec());

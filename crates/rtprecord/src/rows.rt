@@ -3,7 +3,7 @@
 use crate::arguments::Arguments;
 use anyhow::bail;
 use h26x_payload::{Codec, CodecDepacketizer, Frequency, NotBoxed};
-use sdp_formats::{MediaLine, PayloadParams, SdpOffer, rtp_params, whole};
+use sdp_formats::{MediaLine, PayloadParams, RtpParams, SdpOffer};
 use std::alloc::Global;
 use std::fs;
 
@@ -90,7 +90,7 @@ impl Rows {
 
     /// Takes the rows of a section.
     fn take_section(&mut self, alloc: Global, section: &MediaLine) -> anyhow::Result<()> {
-        for params in &rtp_params(alloc, section)? {
+        for params in &section.rtp_params(alloc)? {
             let row = Row::of_params(params);
             self.rows.push(row)?;
             if let Some(red) = params.red() {
@@ -117,7 +117,7 @@ impl Rows {
         for section in sdp.media_lines.iter() {
             self.take_section(rt.alloc(), section)?;
         }
-        if whole::fingerprint(&sdp).is_some() {
+        if sdp.fingerprint().is_some() {
             self.has_fingerprint = true;
         }
         Ok(())

@@ -1,4 +1,4 @@
+pub use Rattle.sdp_formats_data.specs.Asserted
+pub use Rattle.sdp_formats_data.specs.Errors
+pub use Rattle.sdp_formats_data.specs.Wholes
 pub use Rattle.sdp_formats_reader.specs.ReaderErrors
-pub use Rattle.sdp_formats_reader.specs.Printed
-pub mod Consistency
-pub mod Wholes

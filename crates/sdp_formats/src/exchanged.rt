@@ -6,7 +6,6 @@ ghost use Rattle.sdp_formats_data.specs.PrintedSession.{sdp_text};
 ghost use Rattle.sdp_formats_reader.specs.ReaderErrors.{ReadsText};
 
 use sdp_formats_data::Sdp;
-use sdp_formats_data::same::Same;
 use sdp_formats_reader::{SdpError, sdp_parser};
 use std::alloc::{AllocError, Global};
 use std::fmt;
@@ -14,12 +13,12 @@ use std::marker::Model;
 use std::ops::Deref;
 
 /// An offer (RFC 8829). Contracts see it as its session text.
-#[derive(Debug)]
+#[derive(Debug, PartialEq, Eq)]
 pub struct SdpOffer {
     sdp: Sdp,
 }
 
-/// Written out, so that who lets one go needs nothing of what is inside.
+/// Written by hand so that crates that drop this type need no proof about its fields.
 impl Drop for SdpOffer {
     fn drop(self) {
         let SdpOffer { sdp: _sdp } = self;
@@ -32,6 +31,8 @@ impl Model for SdpOffer {
     ghost Value = { Sdp };
 
     ghost view = { λ o. o.sdp };
+
+    ghost inverse = { λ sdp. record { sdp = sdp } };
 }
 
 impl SdpOffer {
@@ -88,12 +89,6 @@ impl fmt::Display for SdpOffer {
     }
 }
 
-impl Same for SdpOffer {
-    fn is_same(&self, other: &SdpOffer) -> bool {
-        self.sdp.is_same(&other.sdp)
-    }
-}
-
 impl From<Sdp> for SdpOffer {
     ghost from_gives = { λ sdp offer. offer ≡ sdp };
 
@@ -103,12 +98,12 @@ impl From<Sdp> for SdpOffer {
 }
 
 /// An answer (RFC 8829). Contracts see it as its session text.
-#[derive(Debug)]
+#[derive(Debug, PartialEq, Eq)]
 pub struct SdpAnswer {
     sdp: Sdp,
 }
 
-/// Written out, so that who lets one go needs nothing of what is inside.
+/// Written by hand so that crates that drop this type need no proof about its fields.
 impl Drop for SdpAnswer {
     fn drop(self) {
         let SdpAnswer { sdp: _sdp } = self;
@@ -121,6 +116,8 @@ impl Model for SdpAnswer {
     ghost Value = { Sdp };
 
     ghost view = { λ a. a.sdp };
+
+    ghost inverse = { λ sdp. record { sdp = sdp } };
 }
 
 impl SdpAnswer {
@@ -174,12 +171,6 @@ impl fmt::Display for SdpAnswer {
     fn fmt<W: fmt::Write>(&self, f: &mut fmt::Formatter<W>) -> fmt::Result {
         let sdp = &self.sdp;
         write!(f, "{sdp}")
-    }
-}
-
-impl Same for SdpAnswer {
-    fn is_same(&self, other: &SdpAnswer) -> bool {
-        self.sdp.is_same(&other.sdp)
     }
 }
 

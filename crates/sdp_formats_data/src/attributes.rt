@@ -4,10 +4,10 @@ ghost use Rattle.std.specs.Prelude.{◌≡◌, IfOk, IsTrue};
 ghost use Rattle.sdp_formats_data.specs.Compound.{is_compound, is_source};
 ghost use Rattle.sdp_formats_data.specs.Copies.{with_session_text, with_text};
 
-use crate::again::TryClone;
-use crate::media::MediaAttribute as Attribute;
+use crate::media::MediaAttribute;
 use crate::session::SessionAttribute;
-use sdp_formats_grammar::Text;
+use sdp_formats_grammar::{Listed, Text};
+use sdp_formats_values::Pair;
 use std::alloc::{AllocError, Global};
 
 /// An attribute of the same kind with this text; `Unused` where the kind has none.
@@ -22,19 +22,26 @@ fn with_session_text(attribute: &SessionAttribute, text: Text) -> SessionAttribu
     }
 }
 
-impl TryClone for SessionAttribute {
-    fn try_clone(&self, alloc: Global) -> Result<SessionAttribute, AllocError> {
+impl SessionAttribute {
+    /// The same value again.
+    ///
+    /// # Errors
+    ///
+    /// `AllocError` where memory runs out.
+    pub fn clone(&self, alloc: Global) -> Result<SessionAttribute, AllocError>
+        ensures { IfOk result (λ copy. copy ≡ self.now) }
+    {
         Ok(match self {
             SessionAttribute::Group { typ, mids } => SessionAttribute::Group {
                 typ: typ.clone(alloc)?,
-                mids: mids.try_clone(alloc)?,
+                mids: mids.copied(alloc)?,
             },
             SessionAttribute::MsidSemantic {
                 semantic,
                 stream_ids,
             } => SessionAttribute::MsidSemantic {
                 semantic: semantic.clone(alloc)?,
-                stream_ids: stream_ids.try_clone(alloc)?,
+                stream_ids: Text::clone_all(alloc, stream_ids.as_slice())?,
             },
             SessionAttribute::AllowMixedExts => SessionAttribute::AllowMixedExts,
             SessionAttribute::IceLite => SessionAttribute::IceLite,
@@ -42,113 +49,156 @@ impl TryClone for SessionAttribute {
             | SessionAttribute::IcePwd(a)
             | SessionAttribute::IceOptions(a)
             | SessionAttribute::Unused(a) => with_session_text(self, a.clone(alloc)?),
-            SessionAttribute::Fingerprint(a) => SessionAttribute::Fingerprint(a.try_clone(alloc)?),
+            SessionAttribute::Fingerprint(a) => SessionAttribute::Fingerprint(a.clone(alloc)?),
             SessionAttribute::Setup(a) => SessionAttribute::Setup(*a),
-            SessionAttribute::Candidate(a) => SessionAttribute::Candidate(a.try_clone(alloc)?),
+            SessionAttribute::Candidate(a) => SessionAttribute::Candidate(a.clone(alloc)?),
             SessionAttribute::EndOfCandidates => SessionAttribute::EndOfCandidates,
         })
+    }
+
+    /// The same values again.
+    ///
+    /// # Errors
+    ///
+    /// `AllocError` where memory runs out.
+    pub fn clone_all(
+        alloc: Global,
+        attributes: &[SessionAttribute],
+    ) -> Result<Listed<SessionAttribute>, AllocError>
+        ensures { IfOk result (λ copies. copies ≡ attributes.now) }
+    {
+        let mut copies = Vec::new(alloc);
+        for attribute in attributes {
+            copies.push(attribute.clone(alloc)?)?;
+        }
+        Ok(Listed::of(copies))
     }
 }
 
 /// A copy of an attribute of a kind that is about sources; of another kind `Inactive`.
 #[tactic(auto, unfolding(crate::specs::Compound::is_source))]
-fn source(alloc: Global, attribute: &Attribute) -> Result<Attribute, AllocError>
+fn source(alloc: Global, attribute: &MediaAttribute) -> Result<MediaAttribute, AllocError>
     requires { IsTrue (is_source attribute.now) }
     ensures { IfOk result (λ copy. copy ≡ attribute.now) }
 {
     Ok(match attribute {
-        Attribute::SsrcGroup { semantics, ssrcs } => Attribute::SsrcGroup {
+        MediaAttribute::SsrcGroup { semantics, ssrcs } => MediaAttribute::SsrcGroup {
             semantics: semantics.clone(alloc)?,
-            ssrcs: ssrcs.try_clone(alloc)?,
+            ssrcs: ssrcs.copied(alloc)?,
         },
-        Attribute::Ssrc { ssrc, attr, value } => Attribute::Ssrc {
+        MediaAttribute::Ssrc { ssrc, attr, value } => MediaAttribute::Ssrc {
             ssrc: *ssrc,
             attr: attr.clone(alloc)?,
             value: value.clone(alloc)?,
         },
-        _ => Attribute::Inactive,
+        _ => MediaAttribute::Inactive,
     })
 }
 
 /// A copy of an attribute of a kind that holds several values; of another kind `Inactive`.
 #[tactic(auto, unfolding(crate::specs::Compound::is_compound))]
-fn compound(alloc: Global, attribute: &Attribute) -> Result<Attribute, AllocError>
+fn compound(alloc: Global, attribute: &MediaAttribute) -> Result<MediaAttribute, AllocError>
     requires { IsTrue (is_compound attribute.now) }
     ensures { IfOk result (λ copy. copy ≡ attribute.now) }
 {
     Ok(match attribute {
-        Attribute::ExtMap { id, ext } => Attribute::ExtMap {
+        MediaAttribute::ExtMap { id, ext } => MediaAttribute::ExtMap {
             id: *id,
             ext: ext.clone(alloc)?,
         },
-        Attribute::RtpMap { pt, value } => Attribute::RtpMap {
+        MediaAttribute::RtpMap { pt, value } => MediaAttribute::RtpMap {
             pt: *pt,
             value: *value,
         },
-        Attribute::RtcpFb { pt, value } => Attribute::RtcpFb {
+        MediaAttribute::RtcpFb { pt, value } => MediaAttribute::RtcpFb {
             pt: *pt,
             value: value.clone(alloc)?,
         },
-        Attribute::Fmtp { pt, values } => Attribute::Fmtp {
+        MediaAttribute::Fmtp { pt, values } => MediaAttribute::Fmtp {
             pt: *pt,
-            values: values.try_clone(alloc)?,
+            values: values.copied(alloc)?,
         },
-        Attribute::Rid {
+        MediaAttribute::Rid {
             id,
             direction,
             pt,
             restriction,
-        } => Attribute::Rid {
-            id: id.try_clone(alloc)?,
+        } => MediaAttribute::Rid {
+            id: id.clone(alloc)?,
             direction: *direction,
-            pt: pt.try_clone(alloc)?,
-            restriction: restriction.try_clone(alloc)?,
+            pt: pt.copied(alloc)?,
+            restriction: Pair::clone_all(alloc, restriction.as_slice())?,
         },
         _ => return source(alloc, attribute),
     })
 }
 
 /// An attribute of the same kind with this text; `Unused` where the kind has none.
-fn with_text(attribute: &Attribute, text: Text) -> Attribute
+fn with_text(attribute: &MediaAttribute, text: Text) -> MediaAttribute
     ensures { result ≡ with_text attribute.now text }
 {
     match attribute {
-        Attribute::Rtcp(_) => Attribute::Rtcp(text),
-        Attribute::IceUfrag(_) => Attribute::IceUfrag(text),
-        Attribute::IcePwd(_) => Attribute::IcePwd(text),
-        Attribute::IceOptions(_) => Attribute::IceOptions(text),
-        Attribute::SctpInit(_) => Attribute::SctpInit(text),
-        _ => Attribute::Unused(text),
+        MediaAttribute::Rtcp(_) => MediaAttribute::Rtcp(text),
+        MediaAttribute::IceUfrag(_) => MediaAttribute::IceUfrag(text),
+        MediaAttribute::IcePwd(_) => MediaAttribute::IcePwd(text),
+        MediaAttribute::IceOptions(_) => MediaAttribute::IceOptions(text),
+        MediaAttribute::SctpInit(_) => MediaAttribute::SctpInit(text),
+        _ => MediaAttribute::Unused(text),
     }
 }
 
-impl TryClone for Attribute {
+impl MediaAttribute {
+    /// The same value again.
+    ///
+    /// # Errors
+    ///
+    /// `AllocError` where memory runs out.
     #[tactic(auto, unfolding(crate::specs::Compound::is_compound))]
-    fn try_clone(&self, alloc: Global) -> Result<Attribute, AllocError> {
+    pub fn clone(&self, alloc: Global) -> Result<MediaAttribute, AllocError>
+        ensures { IfOk result (λ copy. copy ≡ self.now) }
+    {
         Ok(match self {
-            Attribute::Rtcp(a)
-            | Attribute::IceUfrag(a)
-            | Attribute::IcePwd(a)
-            | Attribute::IceOptions(a)
-            | Attribute::SctpInit(a)
-            | Attribute::Unused(a) => with_text(self, a.clone(alloc)?),
-            Attribute::Fingerprint(a) => Attribute::Fingerprint(a.try_clone(alloc)?),
-            Attribute::Setup(a) => Attribute::Setup(*a),
-            Attribute::Mid(a) => Attribute::Mid(*a),
-            Attribute::SctpPort(a) => Attribute::SctpPort(*a),
-            Attribute::MaxMessageSize(a) => Attribute::MaxMessageSize(*a),
-            Attribute::RecvOnly => Attribute::RecvOnly,
-            Attribute::SendRecv => Attribute::SendRecv,
-            Attribute::SendOnly => Attribute::SendOnly,
-            Attribute::Inactive => Attribute::Inactive,
-            Attribute::Msid(a) => Attribute::Msid(a.try_clone(alloc)?),
-            Attribute::RtcpMux => Attribute::RtcpMux,
-            Attribute::RtcpMuxOnly => Attribute::RtcpMuxOnly,
-            Attribute::RtcpRsize => Attribute::RtcpRsize,
-            Attribute::Candidate(a) => Attribute::Candidate(a.try_clone(alloc)?),
-            Attribute::EndOfCandidates => Attribute::EndOfCandidates,
-            Attribute::Simulcast(a) => Attribute::Simulcast(a.try_clone(alloc)?),
+            MediaAttribute::Rtcp(a)
+            | MediaAttribute::IceUfrag(a)
+            | MediaAttribute::IcePwd(a)
+            | MediaAttribute::IceOptions(a)
+            | MediaAttribute::SctpInit(a)
+            | MediaAttribute::Unused(a) => with_text(self, a.clone(alloc)?),
+            MediaAttribute::Fingerprint(a) => MediaAttribute::Fingerprint(a.clone(alloc)?),
+            MediaAttribute::Setup(a) => MediaAttribute::Setup(*a),
+            MediaAttribute::Mid(a) => MediaAttribute::Mid(*a),
+            MediaAttribute::SctpPort(a) => MediaAttribute::SctpPort(*a),
+            MediaAttribute::MaxMessageSize(a) => MediaAttribute::MaxMessageSize(*a),
+            MediaAttribute::RecvOnly => MediaAttribute::RecvOnly,
+            MediaAttribute::SendRecv => MediaAttribute::SendRecv,
+            MediaAttribute::SendOnly => MediaAttribute::SendOnly,
+            MediaAttribute::Inactive => MediaAttribute::Inactive,
+            MediaAttribute::Msid(a) => MediaAttribute::Msid(a.clone(alloc)?),
+            MediaAttribute::RtcpMux => MediaAttribute::RtcpMux,
+            MediaAttribute::RtcpMuxOnly => MediaAttribute::RtcpMuxOnly,
+            MediaAttribute::RtcpRsize => MediaAttribute::RtcpRsize,
+            MediaAttribute::Candidate(a) => MediaAttribute::Candidate(a.clone(alloc)?),
+            MediaAttribute::EndOfCandidates => MediaAttribute::EndOfCandidates,
+            MediaAttribute::Simulcast(a) => MediaAttribute::Simulcast(a.clone(alloc)?),
             _ => return compound(alloc, self),
         })
+    }
+
+    /// The same values again.
+    ///
+    /// # Errors
+    ///
+    /// `AllocError` where memory runs out.
+    pub fn clone_all(
+        alloc: Global,
+        attributes: &[MediaAttribute],
+    ) -> Result<Listed<MediaAttribute>, AllocError>
+        ensures { IfOk result (λ copies. copies ≡ attributes.now) }
+    {
+        let mut copies = Vec::new(alloc);
+        for attribute in attributes {
+            copies.push(attribute.clone(alloc)?)?;
+        }
+        Ok(Listed::of(copies))
     }
 }

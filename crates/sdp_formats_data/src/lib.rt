@@ -1,25 +1,49 @@
-//! Session texts as data: sessions, media sections and attributes, printed, compared and copied.
+//! Session texts as data: sessions, media sections and attributes, what they say, printed, compared and copied.
 #![tactic(auto)]
 
-mod again;
-mod attribute;
 mod attributes;
+mod candidate_keys;
+mod candidates;
 mod direction;
-mod lookups;
+mod directions;
+mod equality;
+mod error;
+mod faults;
+mod known;
+mod listed_candidates;
+mod mapped;
 mod media;
-mod media_equality;
-mod params;
+mod name_set;
+mod preference;
 mod printed;
-pub mod same;
-mod section;
+mod printed_section;
+mod printed_whole;
+mod retransmitted;
+mod said;
+mod section_lists;
+mod section_lookups;
 mod session;
-mod session_equality;
+mod session_lookups;
+mod source_infos;
+mod sources;
 mod texts;
-mod whole;
+mod value_equality;
+mod whole_lookups;
+mod whole_text;
+mod wholes;
 
-pub use again::TryClone;
+pub use equality::{
+    attribute_equality_law, bandwidth_equality_law, sdp_equality_law, section_equality_law,
+    session_attribute_equality_law, session_equality_law,
+};
+pub use error::SdpError;
+pub use faults::{Inconsistency, are_consistent};
 pub use media::{MediaAttribute, MediaLine, RtpMap};
+pub use name_set::NameSet;
+pub use preference::hash_preference;
+pub use printed_whole::{Sections, SessionAttributes};
 pub use rtp_wire::{Mid, SessionId};
+pub use said::is_no_stream;
 pub use sdp_formats_grammar::{Listed, Text};
 pub use sdp_formats_values::{
     Bandwidth, Candidate, CandidateKind, Fingerprint, FormatParam, H265ProfileTierLevel,
@@ -28,4 +52,5 @@ pub use sdp_formats_values::{
     TcpType, Words, write_both, write_value,
 };
 pub use session::{Sdp, Session, SessionAttribute};
-pub use whole::{Sections, SessionAttributes};
+pub use sources::sources_of;
+pub use value_equality::candidate_equality_law;

@@ -15,7 +15,7 @@ use std::alloc::Global;
 use std::fmt;
 
 /// A section: its line `m=` and what follows up to the next (RFC 8866 5.14).
-#[derive(Debug)]
+#[derive(Debug, PartialEq, Eq)]
 pub struct MediaLine {
     /// What it carries.
     pub typ: MediaType,
@@ -31,7 +31,7 @@ pub struct MediaLine {
     pub attrs: Listed<MediaAttribute>,
 }
 
-/// Written out, so that who lets one go needs nothing of what is inside.
+/// Written by hand so that crates that drop this type need no proof about its fields.
 impl Drop for MediaLine {
     fn drop(self) {
         let MediaLine {
@@ -93,6 +93,7 @@ impl fmt::Display for RtpMap {
 }
 
 /// An attribute of a section (RFC 8866 5.13).
+#[derive(PartialEq, Eq)]
 pub enum MediaAttribute {
     /// `a=rtcp` (RFC 3605 2.1).
     Rtcp(Text),
@@ -195,7 +196,7 @@ pub enum MediaAttribute {
     Unused(Text),
 }
 
-/// Written out, so that who lets one go needs nothing of what is inside.
+/// Written by hand so that crates that drop this type need no proof about its fields.
 impl Drop for MediaAttribute {
     fn drop(self) {
         match self {

@@ -10,7 +10,7 @@ use std::alloc::Global;
 use std::fmt;
 
 /// A session text (RFC 8866 5).
-#[derive(Debug, Drop)]
+#[derive(Debug, PartialEq, Eq, Drop)]
 pub struct Sdp {
     /// What stands before the first section.
     pub session: Session,
@@ -19,7 +19,7 @@ pub struct Sdp {
 }
 
 /// What stands before the first section.
-#[derive(Debug)]
+#[derive(Debug, PartialEq, Eq)]
 pub struct Session {
     /// The number of the session (RFC 8866 5.2).
     pub id: SessionId,
@@ -29,7 +29,7 @@ pub struct Session {
     pub attrs: Listed<SessionAttribute>,
 }
 
-/// Written out, so that who lets one go needs nothing of what is inside.
+/// Written by hand so that crates that drop this type need no proof about its fields.
 impl Drop for Session {
     fn drop(self) {
         let Session {
@@ -54,6 +54,7 @@ impl Session {
 }
 
 /// An attribute of the session (RFC 8866 5.13).
+#[derive(PartialEq, Eq)]
 pub enum SessionAttribute {
     /// `a=group` (RFC 5888 5).
     Group {
@@ -91,7 +92,7 @@ pub enum SessionAttribute {
     Unused(Text),
 }
 
-/// Written out, so that who lets one go needs nothing of what is inside.
+/// Written by hand so that crates that drop this type need no proof about its fields.
 impl Drop for SessionAttribute {
     fn drop(self) {
         match self {

@@ -1,6 +1,6 @@
 //! A list of values.
 
-ghost use Rattle.std.specs.Prelude.{◌≡◌, ◌++◌, ◌∷◌, [], OnOk, OnErr};
+ghost use Rattle.std.specs.Prelude.{◌≡◌, ◌++◌, ◌∷◌, [], IfOk, OnOk, OnErr};
 ghost use Rattle.std.specs.Cmp.Lexicographic.{lists_equiv, lists_per, pointwise};
 ghost use Rattle.std.specs.Hash as fed;
 ghost use Rattle.std.specs.Hash.{items_Alike};
@@ -67,6 +67,21 @@ impl<T> Listed<T> {
         ensures { result.now ≡ self.now }
     {
         self.items.as_slice()
+    }
+
+    /// The same values again.
+    ///
+    /// # Errors
+    ///
+    /// `AllocError` where memory runs out.
+    pub fn copied(&self, alloc: Global) -> Result<Listed<T>, AllocError>
+    where
+        T: Copy,
+        ensures { IfOk result (λ list. list ≡ self.now) }
+    {
+        let mut items = Vec::new(alloc);
+        items.extend_from_slice(self.as_slice())?;
+        Ok(Listed { items })
     }
 
     /// Adds a value behind all others.

@@ -7,6 +7,7 @@ ghost use Rattle.std.specs.Hash as fed;
 ghost use Rattle.std.proofs.Common.{rules};
 ghost use Rattle.std.specs.Cmp.Lexicographic.{pointwise, nat_list_eq_equiv};
 
+use crate::listed::Listed;
 use std::alloc::{AllocError, Global};
 use std::fmt;
 use std::hash::{Hash, Hasher};
@@ -19,7 +20,7 @@ pub struct Text {
     text: String,
 }
 
-/// Written out, so that who lets one go needs nothing of what is inside.
+/// Written by hand so that crates that drop this type need no proof about its fields.
 impl Drop for Text {
     fn drop(self) {
         let Text { text: _text } = self;
@@ -58,6 +59,35 @@ impl Text {
         ensures { IfOk result (λ text. text ≡ self.now) }
     {
         Ok(Text::of(String::from_str(alloc, self.as_str())?))
+    }
+
+    /// The same text again, where there is one.
+    ///
+    /// # Errors
+    ///
+    /// `AllocError` where memory runs out.
+    pub fn if_any(alloc: Global, text: &Option<Text>) -> Result<Option<Text>, AllocError>
+        ensures { IfOk result (λ copy. copy ≡ text.now) }
+    {
+        match text {
+            Some(text) => Ok(Some(text.clone(alloc)?)),
+            None => Ok(None),
+        }
+    }
+
+    /// The same texts again.
+    ///
+    /// # Errors
+    ///
+    /// `AllocError` where memory runs out.
+    pub fn clone_all(alloc: Global, texts: &[Text]) -> Result<Listed<Text>, AllocError>
+        ensures { IfOk result (λ copies. copies ≡ texts.now) }
+    {
+        let mut copies = Vec::new(alloc);
+        for text in texts {
+            copies.push(text.clone(alloc)?)?;
+        }
+        Ok(Listed::of(copies))
     }
 }
 

@@ -4,6 +4,7 @@ pub mod Formats
 pub mod H264Score
 pub mod LevelScore
 pub mod LineValues
+pub mod OneParam
 pub mod Parameters
 pub mod Points
 pub mod Reading

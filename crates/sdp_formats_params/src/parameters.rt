@@ -36,19 +36,21 @@ pub(crate) fn each_param(f: &FormatParams) -> [Option<FormatParam>; 18]
     ]
 }
 
-/// The parameters of a format that are given, in the order of printing (RFC 8866 6.15).
-///
-/// # Errors
-///
-/// `AllocError` where memory runs out.
-pub fn to_format_param(alloc: Global, f: &FormatParams) -> Result<Vec<FormatParam>, AllocError>
-    ensures { IfOk result (λ params. params.items ≡ params_of f.now) }
-{
-    let mut params = Vec::new(alloc);
-    for param in &each_param(f) {
-        if let Some(param) = param {
-            params.push(*param)?;
+impl FormatParams {
+    /// The parameters that are given, in the order of printing (RFC 8866 6.15).
+    ///
+    /// # Errors
+    ///
+    /// `AllocError` where memory runs out.
+    pub fn to_format_param(&self, alloc: Global) -> Result<Vec<FormatParam>, AllocError>
+        ensures { IfOk result (λ params. params.items ≡ params_of self.now) }
+    {
+        let mut params = Vec::new(alloc);
+        for param in &each_param(self) {
+            if let Some(param) = param {
+                params.push(*param)?;
+            }
         }
+        Ok(params)
     }
-    Ok(params)
 }

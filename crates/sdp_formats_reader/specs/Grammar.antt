@@ -12,7 +12,7 @@ use Rattle.sdp_formats_attributes.specs.Choice.{attribute_line as media_line}
 use Rattle.sdp_formats_reader.specs.Choice.{attribute_line as session_line}
 use Rattle.sdp_formats_grammar.specs.Line.{LineOf}
 use Rattle.sdp_formats_grammar.specs.Step.{Many, Perhaps}
-use Rattle.sdp_formats_lookups.specs.Consistency.{is_consistent}
+use Rattle.sdp_formats_data.specs.Consistency.{is_consistent}
 use Rattle.sdp_formats_data.specs.declared.media.MediaLine.{MediaLine}
 use Rattle.sdp_formats_data.specs.declared.session.Sdp.{Sdp}
 use Rattle.sdp_formats_data.specs.declared.session.Session.{Session}

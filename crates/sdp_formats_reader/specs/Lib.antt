@@ -1,3 +1,4 @@
+pub use Rattle.sdp_formats_data.specs.Errors
 pub mod Choice
 pub mod Grammar
 pub mod Groups
@@ -5,7 +6,6 @@ pub mod Heads
 pub mod Kinds
 pub mod Lines
 pub mod OneMoreAttribute
-pub mod Printed
 pub mod ReaderErrors
 pub mod WholeLines
 pub mod Writable

@@ -5,8 +5,8 @@ use Rattle.std.specs.Borrow.{Bor}
 use Rattle.sdp_formats_reader.specs.Grammar.{SdpSays, SessionSays}
 use Rattle.sdp_formats_data.specs.declared.session.Sdp.{Sdp}
 use Rattle.sdp_formats_data.specs.declared.session.Session.{Session}
-use Rattle.sdp_formats_reader.specs.declared.error.SdpError.{SdpError}
-use Rattle.sdp_formats_reader.specs.declared.error.SdpError.TheVariants.{ParseError, Inconsistent, Memory}
+use Rattle.sdp_formats_data.specs.declared.SdpError.{SdpError}
+use Rattle.sdp_formats_data.specs.declared.SdpError.TheVariants.{ParseError, Inconsistent, Memory}
 
 -- What an error says of a text that isn't read.
 abbrev pub text_fault : List ℕ

@@ -2,7 +2,6 @@
 #![tactic(auto)]
 
 mod attribute_choice;
-mod error;
 mod groups;
 mod header;
 mod kinds;
@@ -18,11 +17,10 @@ mod whole;
 mod writable;
 
 pub use attribute_choice::SessionAttributeLine;
-pub use error::SdpError;
 pub use media::{HeadLine, MediaHead};
 pub use origin_lines::{BandwidthLine, OriginLine};
 pub use parser::{sdp_parser, session_parser};
 pub use passed::{ConnectionLine, NameLine, OtherLine, Passed, RepeatLine, TimesLine, VersionLine};
-pub use sdp_formats_data::MediaLine;
+pub use sdp_formats_data::{MediaLine, SdpError};
 pub use text::WholeText;
 pub use writable::is_writable_session;

@@ -9,8 +9,9 @@ ghost use Rattle.sdp_formats_reader.specs.Writable.{IsWritableBandwidth};
 
 use crate::attribute_choice::SessionAttributeLine;
 use crate::origin_lines::BandwidthLine;
-use sdp_formats_data::same::Same;
-use sdp_formats_data::{Bandwidth, SessionAttribute};
+use sdp_formats_data::{
+    Bandwidth, SessionAttribute, bandwidth_equality_law, session_attribute_equality_law,
+};
 use sdp_formats_grammar::{Lined, Refusal, Stepped};
 use std::alloc::{AllocError, Global};
 
@@ -29,7 +30,8 @@ fn is_unused(attribute: &SessionAttribute) -> bool
 fn comes_back(attribute: &SessionAttribute, read: &SessionAttribute) -> bool
     ensures { IsTrue result ↔ ComesBack attribute.now read.now }
 {
-    is_unused(read) || read.is_same(attribute)
+    session_attribute_equality_law();
+    is_unused(read) || *read == *attribute
 }
 
 fn is_all(rest: &str, is_so: bool) -> bool
@@ -54,13 +56,20 @@ fn says_attribute(
     }
 }
 
+fn is_same(bandwidth: &Bandwidth, other: &Bandwidth) -> bool
+    ensures { IsTrue result ↔ (bandwidth.now ≡ other.now) }
+{
+    bandwidth_equality_law();
+    *bandwidth == *other
+}
+
 /// Whether a text is one line that says the bandwidth.
 fn says_bandwidth(alloc: Global, text: &str, bandwidth: &Bandwidth) -> Result<bool, AllocError>
     ensures { IfOk result (λ says. IsTrue says ↔ IsLineOf bandwidth_line text.now (λ b. b ≡ bandwidth.now)) }
 {
     BandwidthLine::exact_law();
     match BandwidthLine::step(alloc, text) {
-        Ok((read, rest)) => Ok(is_all(rest, read.is_same(bandwidth))),
+        Ok((read, rest)) => Ok(is_all(rest, is_same(&read, bandwidth))),
         Err(Refusal::Unfit) => Ok(false),
         Err(Refusal::Memory) => Err(AllocError),
     }

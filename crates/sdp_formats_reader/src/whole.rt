@@ -2,23 +2,16 @@
 
 ghost use Rattle.std.specs.Prelude.{◌≡◌};
 ghost use Rattle.std.specs.List.{list_all};
-ghost use Rattle.sdp_formats_lookups.specs.Consistency.{is_consistent};
+ghost use Rattle.sdp_formats_data.specs.Consistency.{is_consistent};
 ghost use Rattle.sdp_formats_reader.specs.Grammar.{ReadsSdp, ReadsSession};
 
 use crate::attribute_choice::SessionAttributeLine;
 use crate::header::session;
 use crate::section::SectionStep;
 use sdp_formats_attributes::MediaAttributeLine;
-use sdp_formats_data::{MediaAttribute, MediaLine, Sdp, Session, SessionAttribute};
+use sdp_formats_data::{MediaAttribute, MediaLine, Sdp, Session, SessionAttribute, are_consistent};
 use sdp_formats_grammar::{Lined, Refusal, many};
-use sdp_formats_lookups::is_consistent;
 use std::alloc::Global;
-
-fn are_consistent(sections: &[MediaLine]) -> bool
-    ensures { result ≡ list_all is_consistent sections.now }
-{
-    sections.iter().all(|section| is_consistent(section))
-}
 
 /// What stands before the first section of a text, and the text behind it (RFC 8866 5).
 ///

@@ -5,7 +5,7 @@ ghost use Rattle.sdp_formats_section_rows.specs.Attributes.{attributes_of, fmtp_
 ghost use Rattle.sdp_formats_section_rows.specs.Attributes.{resend_lines};
 
 use crate::feedback::push_feedback;
-use crate::maps::map_of;
+use crate::maps::ToRtpMap;
 use crate::params::params_in;
 use rtp_wire::Pt;
 use sdp_formats_data::{FormatParam, Listed, MediaAttribute, RtpMap};
@@ -91,24 +91,31 @@ fn push_red(
     push_link(alloc, attributes, pt, map, FormatParam::Red(row.pt()))
 }
 
-/// The attributes that list a row in a section: `a=rtpmap`, `a=rtcp-fb` and `a=fmtp` of its type, then those of its
-/// type of retransmissions and of its RED type (RFC 8866 6.6 and 6.15, RFC 4585 4.2, RFC 4588 8.6, RFC 2198 5).
-///
-/// # Errors
-///
-/// `AllocError` where memory runs out.
-pub fn as_media_attrs(alloc: Global, row: &PayloadParams) -> Result<Vec<MediaAttribute>, AllocError>
-    ensures { IfOk result (λ attributes. attributes.items ≡ attributes_of row.now) }
-{
-    let spec = row.spec();
-    let mut attributes = Vec::new(alloc);
-    attributes.push(MediaAttribute::RtpMap {
-        pt: row.pt(),
-        value: map_of(&spec),
-    })?;
-    push_feedback(alloc, &mut attributes, row)?;
-    push_fmtp(&mut attributes, row.pt(), params_in(alloc, &spec)?)?;
-    push_resend(alloc, &mut attributes, row, row.resend())?;
-    push_red(alloc, &mut attributes, row, row.red())?;
-    Ok(attributes)
+/// Rows as sections list them.
+pub trait AsMediaAttrs {
+    /// The attributes that list a row in a section: `a=rtpmap`, `a=rtcp-fb` and `a=fmtp` of its type, then those of its
+    /// type of retransmissions and of its RED type (RFC 8866 6.6 and 6.15, RFC 4585 4.2, RFC 4588 8.6, RFC 2198 5).
+    ///
+    /// # Errors
+    ///
+    /// `AllocError` where memory runs out.
+    fn as_media_attrs(&self, alloc: Global) -> Result<Vec<MediaAttribute>, AllocError>;
+}
+
+impl AsMediaAttrs for PayloadParams {
+    fn as_media_attrs(&self, alloc: Global) -> Result<Vec<MediaAttribute>, AllocError>
+        ensures { IfOk result (λ attributes. attributes.items ≡ attributes_of self.now) }
+    {
+        let spec = self.spec();
+        let mut attributes = Vec::new(alloc);
+        attributes.push(MediaAttribute::RtpMap {
+            pt: self.pt(),
+            value: spec.to_rtp_map(),
+        })?;
+        push_feedback(alloc, &mut attributes, self)?;
+        push_fmtp(&mut attributes, self.pt(), params_in(alloc, &spec)?)?;
+        push_resend(alloc, &mut attributes, self, self.resend())?;
+        push_red(alloc, &mut attributes, self, self.red())?;
+        Ok(attributes)
+    }
 }

@@ -6,7 +6,8 @@ ghost use Rattle.std.specs.List.{list_any};
 ghost use Rattle.sdp_formats_rows.specs.Codecs.{is_codec};
 ghost use Rattle.sdp_formats_section_rows.specs.Given.{events_after, events_in, format_given, is_declined};
 ghost use Rattle.sdp_formats_section_rows.specs.Given.{is_unsupported, most_of, with_attribute, with_events};
-ghost use Rattle.sdp_formats_section_rows.specs.Given.{range_in, with_codec_param, with_line, with_param};
+ghost use Rattle.sdp_formats_section_rows.specs.Given.{with_line};
+ghost use Rattle.sdp_formats_params.specs.OneParam.{with_codec_param};
 ghost use Rattle.sdp_formats_section_rows.specs.declared.given.Events.TheVariants.{Default};
 
 use rtp_wire::Pt;
@@ -24,60 +25,11 @@ pub enum Events {
     Declined,
 }
 
-/// How far a parameter's range of telephone events goes.
-fn range_in(param: &FormatParam) -> Option<u8>
-    ensures { result ≡ range_in param.now }
-{
-    match *param {
-        FormatParam::TelephoneEvents(most) => Some(most),
-        _ => None,
-    }
-}
-
-/// The format with one more parameter, a range of telephone events included.
-pub fn with_param(format: FormatParams, param: &FormatParam) -> FormatParams
-    ensures { result ≡ with_param format param.now }
-{
-    let mut f = with_codec_param(format, param);
-    if let Some(most) = range_in(param) {
-        f.telephone_event_max = Some(most);
-    }
-    f
-}
-
-/// The format of a codec other than telephone events with one more parameter: a range of these changes nothing.
-fn with_codec_param(format: FormatParams, param: &FormatParam) -> FormatParams
-    ensures { result ≡ with_codec_param format param.now }
-{
-    let mut f = format;
-    match *param {
-        FormatParam::MinPTime(v) => f.min_p_time = Some(v),
-        FormatParam::Stereo(v) => f.stereo = Some(v),
-        FormatParam::SpropStereo(v) => f.sprop_stereo = Some(v),
-        FormatParam::UseInbandFec(v) => f.use_inband_fec = Some(v),
-        FormatParam::UseDtx(v) => f.use_dtx = Some(v),
-        FormatParam::LevelAsymmetryAllowed(v) => f.level_asymmetry_allowed = Some(v),
-        FormatParam::PacketizationMode(v) => f.packetization_mode = Some(v),
-        FormatParam::ProfileLevelId(v) => f.profile_level_id = Some(v),
-        FormatParam::ProfileId(v) => f.profile_id = Some(v),
-        FormatParam::Profile(v) => f.profile = Some(v),
-        FormatParam::LevelIdx(v) => f.level_idx = Some(v),
-        FormatParam::Tier(v) => f.tier = Some(v),
-        FormatParam::H265ProfileTierLevel(v) => f.h265_profile_tier_level = Some(v),
-        FormatParam::H266ProfileTierLevel(v) => f.h266_profile_tier_level = Some(v),
-        FormatParam::SpropMaxDonDiff(v) => f.sprop_max_don_diff = Some(v),
-        FormatParam::OctetAlign(v) => f.octet_align = Some(v),
-        FormatParam::ModeSet(v) => f.mode_set = Some(v),
-        _ => {}
-    }
-    f
-}
-
 fn with_params(mut format: FormatParams, params: &[FormatParam]) -> FormatParams
     ensures { result ≡ fold with_codec_param format params.now }
 {
     for param in params {
-        format = with_codec_param(format, param);
+        format.set_codec_param(param);
     }
     format
 }
@@ -214,19 +166,26 @@ pub fn is_amr_wb(codec: Codec) -> bool
     codec == Codec::AmrWb
 }
 
-/// The format that a section's attributes give a codec under a payload type; None where it is declined: telephone
-/// events with another line than one range `0-X`, AMR-WB with what isn't supported (RFC 4733 2.4.1, RFC 4867 8.2).
-pub fn format_given(codec: Codec, pt: Pt, attributes: &[MediaAttribute]) -> Option<FormatParams>
-    ensures { result ≡ format_given codec pt attributes.now }
-{
-    if codec.is_tele() {
-        return match most_of(events_given(pt, attributes)) {
-            Some(most) => Some(with_events(most)),
-            None => None,
-        };
+/// Formats by the lines of a section.
+pub trait FromSdpFmtp: Sized {
+    /// The format that a section's attributes give a codec under a payload type; None where it is declined: telephone
+    /// events with another line than one range `0-X`, AMR-WB with what isn't supported (RFC 4733 2.4.1, RFC 4867 8.2).
+    fn from_sdp_fmtp(codec: Codec, pt: Pt, attributes: &[MediaAttribute]) -> Option<Self>;
+}
+
+impl FromSdpFmtp for FormatParams {
+    fn from_sdp_fmtp(codec: Codec, pt: Pt, attributes: &[MediaAttribute]) -> Option<FormatParams>
+        ensures { result ≡ format_given codec pt attributes.now }
+    {
+        if codec.is_tele() {
+            return match most_of(events_given(pt, attributes)) {
+                Some(most) => Some(with_events(most)),
+                None => None,
+            };
+        }
+        if is_amr_wb(codec) && any_declined(pt, attributes) {
+            return None;
+        }
+        Some(with_attributes(pt, FormatParams::default(), attributes))
     }
-    if is_amr_wb(codec) && any_declined(pt, attributes) {
-        return None;
-    }
-    Some(with_attributes(pt, FormatParams::default(), attributes))
 }

@@ -7,7 +7,7 @@ ghost use Rattle.sdp_formats_section_rows.specs.Mapped.{is_mapped, mapping_in, m
 ghost use Rattle.sdp_formats_section_rows.specs.Mapped.{with_static};
 ghost use Rattle.sdp_formats_section_rows.specs.TypeLists.{AreMapped};
 
-use crate::maps::map_of;
+use crate::maps::ToRtpMap;
 use crate::type_lists::is_listed;
 use rtp_wire::Pt;
 use sdp_formats_data::{MediaAttribute, RtpMap};
@@ -72,7 +72,7 @@ fn push_unless_mapped(
     }
     mappings.push(Mapping {
         pt,
-        map: map_of(spec),
+        map: spec.to_rtp_map(),
     })?;
     Ok(())
 }

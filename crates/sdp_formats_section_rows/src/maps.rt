@@ -7,17 +7,6 @@ use rtp_wire::Frequency;
 use sdp_formats_data::RtpMap;
 use sdp_formats_rows::{Codec, CodecSpec, FormatParams};
 
-/// What `a=rtpmap` says of a codec: its name, the clock rate of its timestamps, its channels (RFC 8866 6.6).
-pub fn map_of(spec: &CodecSpec) -> RtpMap
-    ensures { result ≡ map_of spec.now }
-{
-    RtpMap {
-        codec: spec.codec,
-        clock_rate: spec.rtp_clock_rate(),
-        channels: spec.channels,
-    }
-}
-
 fn unless_one(channels: Option<u8>) -> Option<u8>
     ensures { result ≡ unless_one channels }
 {
@@ -27,22 +16,47 @@ fn unless_one(channels: Option<u8>) -> Option<u8>
     }
 }
 
-/// The codec that `a=rtpmap` means, in this format: G.722 at 16,000 Hz, its one channel not given (RFC 3551 4.5.2).
-pub fn spec_of_map(map: &RtpMap, format: FormatParams) -> CodecSpec
-    ensures { result ≡ spec_of_map map.now format }
-{
-    if map.codec == Codec::G722 {
-        return CodecSpec {
-            codec: map.codec,
-            clock_rate: Frequency::SIXTEEN_KHZ,
-            channels: unless_one(map.channels),
-            format,
-        };
+/// A codec as `a=rtpmap` says it.
+pub trait ToRtpMap {
+    /// What `a=rtpmap` says of the codec: its name, the clock rate of its timestamps, its channels (RFC 8866 6.6).
+    fn to_rtp_map(&self) -> RtpMap;
+}
+
+impl ToRtpMap for CodecSpec {
+    fn to_rtp_map(&self) -> RtpMap
+        ensures { result ≡ map_of self.now }
+    {
+        RtpMap {
+            codec: self.codec,
+            clock_rate: self.rtp_clock_rate(),
+            channels: self.channels,
+        }
     }
-    CodecSpec {
-        codec: map.codec,
-        clock_rate: map.clock_rate,
-        channels: map.channels,
-        format,
+}
+
+/// What `a=rtpmap` says, as a codec.
+pub trait ToCodecSpec {
+    /// The codec that is meant, in this format: G.722 at 16,000 Hz, its one channel not given (RFC 3551 4.5.2).
+    fn to_codec_spec(&self, format: FormatParams) -> CodecSpec;
+}
+
+impl ToCodecSpec for RtpMap {
+    fn to_codec_spec(&self, format: FormatParams) -> CodecSpec
+        ensures { result ≡ spec_of_map self.now format }
+    {
+        if self.codec == Codec::G722 {
+            return CodecSpec {
+                codec: self.codec,
+                clock_rate: Frequency::SIXTEEN_KHZ,
+                channels: unless_one(self.channels),
+                format,
+            };
+        }
+        CodecSpec {
+            codec: self.codec,
+            clock_rate: self.clock_rate,
+            channels: self.channels,
+            format,
+        }
     }
 }

@@ -4,7 +4,6 @@ ghost use Rattle.std.specs.Prelude.{◌≡◌, IfOk};
 ghost use Rattle.sdp_formats_section_rows.specs.Attributes.{params_in};
 
 use sdp_formats_data::FormatParam;
-use sdp_formats_params::to_format_param;
 use sdp_formats_rows::CodecSpec;
 use std::alloc::{AllocError, Global};
 
@@ -14,7 +13,7 @@ pub(crate) fn params_in(alloc: Global, spec: &CodecSpec) -> Result<Vec<FormatPar
     ensures { IfOk result (λ params. params.items ≡ params_in spec.now) }
 {
     if !spec.codec.is_tele() {
-        return to_format_param(alloc, &spec.format);
+        return spec.format.to_format_param(alloc);
     }
     let mut params = Vec::new(alloc);
     let most = spec.format.telephone_event_max.unwrap_or(16);

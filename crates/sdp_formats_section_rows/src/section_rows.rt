@@ -11,7 +11,7 @@ ghost use Rattle.sdp_formats_section_rows.specs.SectionRows.{listed, rows_given,
 use crate::facts::{TypeFacts, facts_in, facts_of};
 use crate::given::{is_amr_wb, with_events};
 use crate::mapped::{Mapping, mappings};
-use crate::maps::spec_of_map;
+use crate::maps::ToCodecSpec;
 use crate::type_lists::types_mapped_to;
 use rtp_wire::Pt;
 use sdp_formats_data::MediaLine;
@@ -46,7 +46,7 @@ fn row_with(mapping: &Mapping, facts: &TypeFacts, format: FormatParams) -> Paylo
     let pt = mapping.pt;
     let red = red_of(mapping.map.codec, facts);
     let is_video = mapping.map.codec.is_video();
-    let row = PayloadParams::new(pt, None, spec_of_map(&mapping.map, format));
+    let row = PayloadParams::new(pt, None, mapping.map.to_codec_spec(format));
     let mut row = row.with_types(pt, facts.resend, red);
     row.set_fb_transport_cc(facts.feedback.transport_cc);
     row.set_fb_nack(is_video || facts.feedback.nack);
@@ -158,18 +158,25 @@ fn rows_of(
     Ok(rows)
 }
 
-/// The rows of a section: for each payload type that a line `a=rtpmap` maps, then for each static type of its list that
-/// none maps, the row that the section's lines give (RFC 8866 6.6 and 6.15, RFC 4585 4.2, RFC 4588 8.6).
-///
-/// Types of audio and video have rows, and those of telephone events that the section lists. A type whose format is
-/// declined has none. The last type of retransmissions that names a type counts, and so does the last RED type.
-///
-/// # Errors
-///
-/// `AllocError` where memory runs out.
-pub fn rtp_params(alloc: Global, section: &MediaLine) -> Result<Vec<PayloadParams>, AllocError>
-    ensures { IfOk result (λ rows. rows.items ≡ rows_of section.now.pts section.now.attrs) }
-{
-    let mappings = mappings(alloc, section.pts.as_slice(), section.attrs.as_slice())?;
-    rows_of(alloc, section, mappings.as_slice())
+/// Sections as they list rows.
+pub trait RtpParams {
+    /// The rows of a section: for each payload type that a line `a=rtpmap` maps, then for each static type of its list
+    /// that none maps, the row that the section's lines give (RFC 8866 6.6 and 6.15, RFC 4585 4.2, RFC 4588 8.6).
+    ///
+    /// Types of audio and video have rows, and those of telephone events that the section lists. A type whose format is
+    /// declined has none. The last type of retransmissions that names a type counts, and so does the last RED type.
+    ///
+    /// # Errors
+    ///
+    /// `AllocError` where memory runs out.
+    fn rtp_params(&self, alloc: Global) -> Result<Vec<PayloadParams>, AllocError>;
+}
+
+impl RtpParams for MediaLine {
+    fn rtp_params(&self, alloc: Global) -> Result<Vec<PayloadParams>, AllocError>
+        ensures { IfOk result (λ rows. rows.items ≡ rows_of self.now.pts self.now.attrs) }
+    {
+        let mappings = mappings(alloc, self.pts.as_slice(), self.attrs.as_slice())?;
+        rows_of(alloc, self, mappings.as_slice())
+    }
 }

@@ -1,15 +1,51 @@
 //! Bandwidths (RFC 8866 5.8).
 
+ghost use Rattle.std.specs.Prelude.{◌≡◌, IfOk};
+
 use sdp_formats_grammar::Text;
+use std::alloc::{AllocError, Global};
 use std::fmt;
 
 /// A bandwidth, `b=TYPE:VALUE` (RFC 8866 5.8).
-#[derive(Debug, Drop)]
+#[derive(Debug, PartialEq, Eq, Drop)]
 pub struct Bandwidth {
     /// What the value means, as `AS`.
     pub typ: Text,
     /// The value.
     pub val: Text,
+}
+
+impl Bandwidth {
+    /// The same value again.
+    ///
+    /// # Errors
+    ///
+    /// `AllocError` where memory runs out.
+    pub fn clone(&self, alloc: Global) -> Result<Bandwidth, AllocError>
+        ensures { IfOk result (λ copy. copy ≡ self.now) }
+    {
+        Ok(Bandwidth {
+            typ: self.typ.clone(alloc)?,
+            val: self.val.clone(alloc)?,
+        })
+    }
+
+    /// The same value again, where there is one.
+    ///
+    /// # Errors
+    ///
+    /// `AllocError` where memory runs out.
+    pub fn if_any(
+        alloc: Global,
+        bandwidth: &Option<Bandwidth>,
+    ) -> Result<Option<Bandwidth>, AllocError>
+        ensures { IfOk result (λ copy. copy ≡ bandwidth.now) }
+    {
+        match bandwidth {
+            Some(bandwidth) => Ok(Some(bandwidth.clone(alloc)?)),
+            None => Ok(None),
+        }
+    }
 }
 
 /// Its line with its end.

@@ -235,7 +235,7 @@ impl Candidate {
 }
 
 /// The credentials of connectivity checks (RFC 8839 5.4).
-#[derive(Debug, Drop)]
+#[derive(Debug, PartialEq, Eq, Drop)]
 pub struct IceCreds {
     /// The name, `ice-ufrag`.
     pub ufrag: Text,

@@ -1,6 +1,9 @@
 //! Fingerprints of certificates (RFC 8122 5).
 
+ghost use Rattle.std.specs.Prelude.{◌≡◌, IfOk};
+
 use sdp_formats_grammar::{FingerprintFmt, Listed, Text};
+use std::alloc::{AllocError, Global};
 use std::fmt;
 
 /// The fingerprint of a certificate: a hash function's name and its digest (RFC 8122 5).
@@ -10,6 +13,39 @@ pub struct Fingerprint {
     pub hash_func: Text,
     /// The digest.
     pub bytes: Listed<u8>,
+}
+
+impl Fingerprint {
+    /// The same value again.
+    ///
+    /// # Errors
+    ///
+    /// `AllocError` where memory runs out.
+    pub fn clone(&self, alloc: Global) -> Result<Fingerprint, AllocError>
+        ensures { IfOk result (λ copy. copy ≡ self.now) }
+    {
+        Ok(Fingerprint {
+            hash_func: self.hash_func.clone(alloc)?,
+            bytes: self.bytes.copied(alloc)?,
+        })
+    }
+
+    /// The same value again, where there is one.
+    ///
+    /// # Errors
+    ///
+    /// `AllocError` where memory runs out.
+    pub fn if_any(
+        alloc: Global,
+        print: &Option<Fingerprint>,
+    ) -> Result<Option<Fingerprint>, AllocError>
+        ensures { IfOk result (λ copy. copy ≡ print.now) }
+    {
+        match print {
+            Some(print) => Ok(Some(print.clone(alloc)?)),
+            None => Ok(None),
+        }
+    }
 }
 
 impl fmt::Display for Fingerprint {

@@ -3,6 +3,7 @@
 
 mod bandwidth;
 mod candidate;
+mod copies;
 mod fingerprint;
 mod key;
 mod line_hasher;

@@ -1,14 +1,15 @@
 //! Kinds of sections, and how they are carried (RFC 8866 5.14).
 
-ghost use Rattle.std.specs.Prelude.{◌≡◌};
+ghost use Rattle.std.specs.Prelude.{◌≡◌, IfOk};
 ghost use Rattle.sdp_formats_values.specs.MediaTypes.{is_channel, is_media, kind_of_type, proto_text};
 
 use payload_core_base::MediaKind;
 use sdp_formats_grammar::Text;
+use std::alloc::{AllocError, Global};
 use std::fmt;
 
 /// What a section carries (RFC 8866 5.14).
-#[derive(Debug, Default, Drop)]
+#[derive(Debug, Default, PartialEq, Eq, Drop)]
 pub enum MediaType {
     /// `audio`
     #[default]
@@ -45,6 +46,24 @@ impl MediaType {
         ensures { result ≡ is_channel self.now }
     {
         matches!(self, MediaType::Application)
+    }
+}
+
+impl MediaType {
+    /// The same value again.
+    ///
+    /// # Errors
+    ///
+    /// `AllocError` where memory runs out.
+    pub fn clone(&self, alloc: Global) -> Result<MediaType, AllocError>
+        ensures { IfOk result (λ copy. copy ≡ self.now) }
+    {
+        Ok(match self {
+            MediaType::Audio => MediaType::Audio,
+            MediaType::Video => MediaType::Video,
+            MediaType::Application => MediaType::Application,
+            MediaType::Unknown(word) => MediaType::Unknown(word.clone(alloc)?),
+        })
     }
 }
 

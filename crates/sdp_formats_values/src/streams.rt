@@ -13,10 +13,10 @@ use std::fmt;
 use std::ops::DerefSlice;
 
 /// The name of an `a=rid` line (RFC 8851 4), and whether its stream is active at first: the name, and the flag.
-#[derive(Debug)]
+#[derive(Debug, PartialEq, Eq)]
 pub struct RestrictionId(pub Text, pub bool);
 
-/// Written out, so that who lets one go needs nothing of what is inside.
+/// Written by hand so that crates that drop this type need no proof about its fields.
 impl Drop for RestrictionId {
     fn drop(self) {
         let RestrictionId(_first, _second) = self;
@@ -93,7 +93,7 @@ impl RidDirection {
 }
 
 /// A layer of a simulcast (RFC 8853 5.1).
-#[derive(Debug)]
+#[derive(Debug, PartialEq, Eq)]
 pub struct SimulcastLayer {
     /// The name of its `a=rid` line.
     pub restriction_id: RestrictionId,
@@ -101,7 +101,7 @@ pub struct SimulcastLayer {
     pub attributes: Option<Listed<Pair>>,
 }
 
-/// Written out, so that who lets one go needs nothing of what is inside.
+/// Written by hand so that crates that drop this type need no proof about its fields.
 impl Drop for SimulcastLayer {
     fn drop(self) {
         let SimulcastLayer {
@@ -125,7 +125,7 @@ impl fmt::Display for SimulcastLayer {
 }
 
 /// The layers of one way of a simulcast, in the order of preference; of alternatives the first (RFC 8853 5.1).
-#[derive(Debug, Drop)]
+#[derive(Debug, PartialEq, Eq, Drop)]
 pub struct SimulcastGroups(pub Listed<SimulcastLayer>);
 
 /// Its layers, as a slice.
@@ -153,7 +153,7 @@ impl fmt::Display for SimulcastGroups {
 }
 
 /// An `a=simulcast` line (RFC 8853 5.1).
-#[derive(Debug, Drop)]
+#[derive(Debug, PartialEq, Eq, Drop)]
 pub struct Simulcast {
     /// The layers that are sent.
     pub send: SimulcastGroups,
@@ -200,7 +200,7 @@ impl fmt::Display for Simulcast {
 }
 
 /// The names of a media stream and its track (RFC 8830 2).
-#[derive(Debug, Drop)]
+#[derive(Debug, PartialEq, Eq, Drop)]
 pub struct Msid {
     /// The stream; `-` is none.
     pub stream_id: Text,
@@ -221,7 +221,7 @@ impl fmt::Display for Msid {
 }
 
 /// What a section says of one source (RFC 5576).
-#[derive(Debug, Drop)]
+#[derive(Debug, PartialEq, Eq, Drop)]
 pub struct SsrcInfo {
     /// The source.
     pub ssrc: Ssrc,

@@ -1,7 +1,6 @@
 //! The attributes of sessions and sections, and directions that are changed.
 
 use command_lines::Reply;
-use sdp_formats::directions::{has_direction, set_direction};
 use sdp_formats::{Direction, MediaAttribute, MediaLine, Sdp, Session, SessionAttribute};
 use std::alloc::{AllocError, Global};
 
@@ -69,8 +68,8 @@ pub(crate) fn put_directed(alloc: Global, sdp: Sdp, direction: Direction, reply:
 
 /// Gives a section another direction, where it gives one.
 fn turn(alloc: Global, section: &mut MediaLine, direction: Direction) {
-    if has_direction(section) {
-        set_direction(alloc, section, direction);
+    if section.has_direction() {
+        section.set_direction(alloc, direction);
     }
 }
 

@@ -2,7 +2,7 @@
 
 use crate::texts::put_refusal;
 use command_lines::Reply;
-use sdp_formats::{SdpAnswer, SdpError, SdpOffer, parse};
+use sdp_formats::{Parse, Sdp, SdpAnswer, SdpError, SdpOffer};
 use std::alloc::Global;
 
 /// `offer NAME`: whether the text is an offer, and the offer is printed as its session text is.
@@ -45,5 +45,5 @@ fn put_sameness(alloc: Global, text: &str, printed: &str, reply: &mut Reply) {
 
 /// What is read of a text, printed.
 fn printed_text(alloc: Global, text: &str) -> Result<String, SdpError> {
-    Ok(parse(alloc, text)?.to_sdp_string(alloc)?)
+    Ok(Sdp::parse(alloc, text)?.to_sdp_string(alloc)?)
 }

@@ -7,7 +7,7 @@ use crate::printed::put_printed;
 use crate::said::put_said;
 use crate::texts::{put_prefixes, put_refusal, put_session, put_text};
 use command_lines::Reply;
-use sdp_formats::{Direction, Sdp, parse};
+use sdp_formats::{Direction, Parse, Sdp};
 use std::alloc::Global;
 use std::fs;
 
@@ -37,7 +37,7 @@ fn put_command(alloc: Global, command: &str, word: &str, text: &str, reply: &mut
         "printed" => put_printed(alloc, text, reply),
         "offer" => put_offer(alloc, text, reply),
         "answer" => put_answer(alloc, text, reply),
-        _ => match parse(alloc, text) {
+        _ => match Sdp::parse(alloc, text) {
             Ok(sdp) => put_sections(alloc, command, word, sdp, reply),
             Err(error) => put_refusal(error, reply),
         },

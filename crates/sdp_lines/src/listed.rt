@@ -1,7 +1,7 @@
 //! The rows that sections list.
 
 use command_lines::Reply;
-use sdp_formats::{MediaLine, PayloadParams, Sdp, rtp_params};
+use sdp_formats::{MediaLine, PayloadParams, RtpParams, Sdp};
 use std::alloc::Global;
 
 /// `listed NAME`: of each section its rows, each with its type, codec, clock rate, channels, format, feedback, and the
@@ -13,7 +13,7 @@ pub(crate) fn put_listed(alloc: Global, sdp: &Sdp, reply: &mut Reply) {
 }
 
 fn put_section(alloc: Global, section: &MediaLine, reply: &mut Reply) {
-    match rtp_params(alloc, section) {
+    match section.rtp_params(alloc) {
         Ok(rows) => {
             reply.say("\n  section: ", &rows.len());
             reply.put(" rows");

@@ -2,8 +2,7 @@
 
 use crate::texts::put_refusal;
 use command_lines::Reply;
-use sdp_formats::{Same, Sdp, SdpError, parse, sdp_parser};
-use sdp_formats_data::TryClone;
+use sdp_formats::{Parse, Sdp, SdpError, sdp_parser};
 use std::alloc::Global;
 
 /// `printed NAME`: how many lines are printed as they stood, whether the printed text is read whole and printed as it
@@ -69,12 +68,12 @@ fn is_read_alike(alloc: Global, printed: &str) -> Result<bool, SdpError> {
 
 /// Whether the text is read by itself as the same value, of which a copy is the same.
 fn put_again(alloc: Global, text: &str, sdp: &Sdp, reply: &mut Reply) {
-    match parse(alloc, text) {
-        Ok(again) => reply.say(", the same ", &again.is_same(sdp)),
+    match Sdp::parse(alloc, text) {
+        Ok(again) => reply.say(", the same ", &(again == *sdp)),
         Err(error) => put_refusal(error, reply),
     }
-    match sdp.try_clone(alloc) {
-        Ok(copy) => reply.say(", a copy the same ", &copy.is_same(sdp)),
+    match sdp.clone(alloc) {
+        Ok(copy) => reply.say(", a copy the same ", &(copy == *sdp)),
         Err(_) => reply.fail(),
     }
 }

@@ -1,12 +1,7 @@
 //! What texts say, by their accessors.
 
 use command_lines::Reply;
-use sdp_formats::lists::{extmaps, rids};
-use sdp_formats::{
-    Candidate, MediaAttribute, MediaLine, Sdp, Session, SimulcastLayer, Text, bundle_mids,
-    sctp_init, section, session, whole,
-};
-use sdp_formats_lookups::ice_candidates;
+use sdp_formats::{Candidate, MediaAttribute, MediaLine, Sdp, Session, SimulcastLayer, Text};
 use std::alloc::{AllocError, Global};
 
 /// `says NAME`: what each accessor answers of the session, of each section and of the whole text, a line for each that
@@ -17,7 +12,7 @@ pub(crate) fn put_said(alloc: Global, sdp: &Sdp, reply: &mut Reply) {
         put_section(alloc, section, reply);
         put_transport(section, reply);
         put_lists(alloc, section, reply);
-        put_count("\n    ", section::ice_candidates(alloc, section), reply);
+        put_count("\n    ", section.ice_candidates(alloc), reply);
     }
     put_whole(sdp, reply);
     put_bundle(sdp, reply);
@@ -33,20 +28,16 @@ fn put_creds(before: &str, creds: Option<(&Text, &Text)>, reply: &mut Reply) {
 }
 
 fn put_session(alloc: Global, session: &Session, reply: &mut Reply) {
-    put_creds("\n  session: ice ", session::ice_creds(session), reply);
-    reply.say_some("\n  session: fingerprint ", &session::fingerprint(session));
-    reply.say_some("\n  session: setup ", &session::setup(session));
-    if session::ice_lite(session) {
+    put_creds("\n  session: ice ", session.ice_creds(), reply);
+    reply.say_some("\n  session: fingerprint ", &session.fingerprint());
+    reply.say_some("\n  session: setup ", &session.setup());
+    if session.ice_lite() {
         reply.put("\n  session: ice-lite");
     }
-    if session::end_of_candidates(session) {
+    if session.end_of_candidates() {
         reply.put("\n  session: end-of-candidates");
     }
-    put_count(
-        "\n  session: ",
-        session::ice_candidates(alloc, session),
-        reply,
-    );
+    put_count("\n  session: ", session.ice_candidates(alloc), reply);
 }
 
 /// Writes how many candidates there are, where there are some.
@@ -68,7 +59,7 @@ fn put_section(alloc: Global, section: &MediaLine, reply: &mut Reply) {
     reply.say_some(" ", &section.mid());
     reply.say(": direction ", &section.direction());
     reply.say_some("\n    msid ", &section.msid());
-    if let Some(simulcast) = section::simulcast(section) {
+    if let Some(simulcast) = section.simulcast() {
         put_layers(alloc, "\n    simulcast send ", &simulcast.send, reply);
         put_layers(alloc, "\n    simulcast recv ", &simulcast.recv, reply);
     }
@@ -83,15 +74,12 @@ fn put_layers(alloc: Global, before: &str, layers: &[SimulcastLayer], reply: &mu
 
 /// What a section says of its transport.
 fn put_transport(section: &MediaLine, reply: &mut Reply) {
-    put_creds("\n    ice ", section::ice_creds(section), reply);
-    reply.say_some("\n    fingerprint ", &section::fingerprint(section));
+    put_creds("\n    ice ", section.ice_creds(), reply);
+    reply.say_some("\n    fingerprint ", &section.fingerprint());
     reply.say_some("\n    setup ", &section.setup());
-    reply.say_some("\n    sctp-init ", &section::sctp_init(section));
-    reply.say_some(
-        "\n    max-message-size ",
-        &section::max_message_size(section),
-    );
-    if section::end_of_candidates(section) {
+    reply.say_some("\n    sctp-init ", &section.sctp_init());
+    reply.say_some("\n    max-message-size ", &section.max_message_size());
+    if section.end_of_candidates() {
         reply.put("\n    end-of-candidates");
     }
 }
@@ -99,7 +87,7 @@ fn put_transport(section: &MediaLine, reply: &mut Reply) {
 /// The header extensions of a section, and the names of its restricted streams, cut as packets have them, and whole.
 fn put_lists(alloc: Global, section: &MediaLine, reply: &mut Reply) {
     put_extmaps(alloc, section, reply);
-    match rids(alloc, section) {
+    match section.rids(alloc) {
         Ok(rids) => {
             for rid in rids.as_slice() {
                 reply.say("\n    rid ", rid);
@@ -115,7 +103,7 @@ fn put_lists(alloc: Global, section: &MediaLine, reply: &mut Reply) {
 }
 
 fn put_extmaps(alloc: Global, section: &MediaLine, reply: &mut Reply) {
-    match extmaps(alloc, section) {
+    match section.extmaps(alloc) {
         Ok(extmaps) => {
             for (id, ext) in extmaps.as_slice() {
                 reply.say("\n    extmap ", id);
@@ -127,15 +115,15 @@ fn put_extmaps(alloc: Global, section: &MediaLine, reply: &mut Reply) {
 }
 
 fn put_whole(sdp: &Sdp, reply: &mut Reply) {
-    put_creds("\n  whole: ice ", whole::ice_creds(sdp), reply);
-    reply.say_some("\n  whole: fingerprint ", &whole::fingerprint(sdp));
-    reply.say_some("\n  whole: setup ", &whole::setup(sdp));
-    reply.say_some("\n  whole: sctp-init ", &sctp_init(sdp));
+    put_creds("\n  whole: ice ", sdp.ice_creds(), reply);
+    reply.say_some("\n  whole: fingerprint ", &sdp.fingerprint());
+    reply.say_some("\n  whole: setup ", &sdp.setup());
+    reply.say_some("\n  whole: sctp-init ", &sdp.sctp_init());
 }
 
 /// The bundled sections of a text.
 fn put_bundle(sdp: &Sdp, reply: &mut Reply) {
-    if let Some(mids) = bundle_mids(sdp) {
+    if let Some(mids) = sdp.bundle_mids() {
         reply.put("\n  whole: bundle");
         for mid in mids {
             reply.say(" ", mid);
@@ -144,7 +132,7 @@ fn put_bundle(sdp: &Sdp, reply: &mut Reply) {
 }
 
 fn put_candidates(alloc: Global, sdp: &Sdp, reply: &mut Reply) {
-    match ice_candidates(alloc, sdp) {
+    match sdp.ice_candidates(alloc) {
         Ok(candidates) => {
             for candidate in candidates.as_slice() {
                 reply.say("\n  whole: ", candidate);

@@ -3,9 +3,8 @@
 use command_lines::Reply;
 use sdp_formats::{
     Bandwidth, MediaAttribute, MediaLine, Sdp, SdpError, Session, SessionAttribute, SsrcInfo,
-    assert_consistency, bundle_mids, sctp_init, sdp_parser, session_parser, ssrc_info,
+    sdp_parser, session_parser,
 };
-use sdp_formats_lookups::ice_candidates;
 use std::alloc::Global;
 
 /// `text NAME`: what a session text has: session attributes, attributes and sources of each section, lines of a form
@@ -67,7 +66,7 @@ fn put_section(section: &MediaLine, reply: &mut Reply) {
 }
 
 fn put_sources(alloc: Global, section: &MediaLine, reply: &mut Reply) {
-    match ssrc_info(alloc, section) {
+    match section.ssrc_info(alloc) {
         Ok(sources) => {
             for source in sources.as_slice() {
                 put_source(source, reply);
@@ -87,21 +86,21 @@ fn put_source(source: &SsrcInfo, reply: &mut Reply) {
 
 /// What the text says as a whole.
 fn put_whole(alloc: Global, sdp: &Sdp, reply: &mut Reply) {
-    match ice_candidates(alloc, sdp) {
+    match sdp.ice_candidates(alloc) {
         Ok(candidates) => reply.say("\n  whole: ", &candidates.len()),
         Err(_) => reply.fail(),
     }
-    let bundled = match bundle_mids(sdp) {
+    let bundled = match sdp.bundle_mids() {
         Some(mids) => mids.len(),
         None => 0,
     };
     reply.say(" candidates, ", &bundled);
     reply.put(" bundled, sctp-init ");
-    reply.put(match sctp_init(sdp) {
+    reply.put(match sdp.sctp_init() {
         Some(init) => init.as_str(),
         None => "none",
     });
-    match assert_consistency(alloc, sdp) {
+    match sdp.assert_consistency(alloc) {
         Ok(()) => {}
         Err(SdpError::Memory) => reply.fail(),
         Err(_) => reply.put(", parts apart"),

@@ -2,10 +2,9 @@
 
 use command_lines::Reply;
 use sdp_formats::from_text::{FingerprintError, fingerprint_from_str};
-use sdp_formats::preference::hash_preference;
 use sdp_formats::{
-    Candidate, Fingerprint, FormatParams, Joined, Refusal, candidate_of, fingerprint_of, setup_of,
-    to_format_param,
+    Candidate, Fingerprint, FormatParams, Joined, Refusal, candidate_of, fingerprint_of,
+    hash_preference, setup_of,
 };
 use std::alloc::Global;
 use std::hash::{DefaultHasher, Hash, Hasher};
@@ -78,7 +77,7 @@ pub(crate) fn put_format(alloc: Global, text: &str, reply: &mut Reply) {
 
 /// `parameters TEXT`: the parameters of the format that a text gives, one by one, or a dash where there are none.
 pub(crate) fn put_parameters(alloc: Global, text: &str, reply: &mut Reply) {
-    match to_format_param(alloc, &FormatParams::parse_line(text)) {
+    match FormatParams::parse_line(text).to_format_param(alloc) {
         Ok(params) if params.is_empty() => reply.put("-"),
         Ok(params) => reply.say("", &Joined(params.as_slice(), " ")),
         Err(_) => reply.fail(),

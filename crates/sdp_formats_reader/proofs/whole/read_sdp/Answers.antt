@@ -1,7 +1,7 @@
 use Rattle.std.proofs.Common.{sym, ap, ◌∙◌}
 use Rattle.std.proofs.lemmas.Result.{err_from_is_err_and}
 use Rattle.std.specs.List.{list_all}
-use Rattle.sdp_formats_lookups.specs.Consistency.{is_consistent}
+use Rattle.sdp_formats_data.specs.Consistency.{is_consistent}
 use Rattle.sdp_formats_reader.proofs.One.{no-session, no-sections, faulty, reads, whole}
 use Rattle.sdp_formats_reader.proofs.whole.read_sdp.Goals as goal
 

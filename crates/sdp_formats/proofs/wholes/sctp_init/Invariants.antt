@@ -1,9 +1,0 @@
-use Rattle.std.proofs.Common.{◌≡◌, drop}
-use Rattle.std.specs.Prelude.{find}
-use Rattle.sdp_formats_data.specs.MediaTypes.{is_channel}
-use Rattle.sdp_formats.proofs.wholes.sctp_init.Given as goal
-
--- the sections so far are of no data channels
-abbrev pub invariant-loop-section : goal.invariant-loop-section
-invariant-loop-section l =
-    find (λ m. is_channel m.typ) (drop l.section-index l.sections) ≡ find (λ m. is_channel m.typ) l.fn.sdp.media_lines

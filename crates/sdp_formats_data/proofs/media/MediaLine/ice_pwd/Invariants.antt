@@ -1,0 +1,9 @@
+use Rattle.std.proofs.Common.{◌≡◌, drop}
+use Rattle.sdp_formats_data.specs.Sections.{ice_pwd_in}
+use Rattle.sdp_formats_data.specs.Lookups.{first_of}
+use Rattle.sdp_formats_data.proofs.media.MediaLine.ice_pwd.Given as goal
+
+-- the attributes so far say nothing
+abbrev pub invariant-loop-attribute : goal.invariant-loop-attribute
+invariant-loop-attribute l =
+    first_of ice_pwd_in (drop l.attribute-index l.attributes) ≡ first_of ice_pwd_in l.fn.self.attrs
