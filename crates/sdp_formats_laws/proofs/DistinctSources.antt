@@ -2,8 +2,8 @@
 use Rattle.std.proofs.Common.{◌≡◌, ◌⊎◌, inl, inr, ◌↔◌, ℕ, Bool, true, false, not, ◌==◌, List, [], ◌∷◌, ◌++◌, cond}
 use Rattle.std.proofs.Common.{filter, filter_map, refl, sym, ◌∙◌, ap, subst}
 use Rattle.std.proofs.lemmas.Bool.{eq-eqb, false≢true, ne_eqb}
-use Rattle.sdp_formats_lookups.specs.Distinct.{distinct}
-use Rattle.sdp_formats_lookups.specs.Sources.{repairing_in, source_in}
+use Rattle.sdp_formats_data.specs.Distinct.{distinct}
+use Rattle.sdp_formats_data.specs.Sources.{repairing_in, source_in}
 use Rattle.sdp_formats_laws.proofs.Decided.{numbers}
 use Rattle.sdp_formats_laws.proofs.EachOnce.{one_list}
 use Rattle.sdp_formats_laws.proofs.Filtered.{filtered, let_through}

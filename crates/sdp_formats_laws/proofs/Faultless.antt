@@ -4,10 +4,10 @@ use Rattle.std.proofs.Common.{Option, Some, None, IsTrue, nat_lt, length, is_non
 use Rattle.std.proofs.Common.{ap, arith}
 use Rattle.std.specs.List.{list_all}
 use Rattle.std.proofs.lemmas.Grind.{common_steps}
-use Rattle.sdp_formats_lookups.specs.Consistency.{apts_agree, are_mapped}
-use Rattle.sdp_formats_lookups.specs.Consistency.{is_consistent}
-use Rattle.sdp_formats_lookups.specs.declared.Inconsistency.{Inconsistency}
-use Rattle.sdp_formats_lookups.specs.declared.Inconsistency.TheVariants as fault
+use Rattle.sdp_formats_data.specs.Consistency.{apts_agree, are_mapped}
+use Rattle.sdp_formats_data.specs.Consistency.{is_consistent}
+use Rattle.sdp_formats_data.specs.declared.Inconsistency.{Inconsistency}
+use Rattle.sdp_formats_data.specs.declared.Inconsistency.TheVariants as fault
 use Rattle.sdp_formats_rounds.specs.Types.{listed}
 use Rattle.sdp_formats_rows.specs.Rows.{Row}
 use Rattle.sdp_formats_data.specs.MediaTypes.{is_rtp}

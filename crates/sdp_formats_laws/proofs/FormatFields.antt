@@ -17,7 +17,7 @@ use Rattle.sdp_formats_values.specs.declared.key.Key.TheVariants as key
 use Rattle.sdp_formats_values.specs.declared.pairs.Pair.{Pair}
 use Rattle.sdp_formats_values.specs.declared.param.FormatParam.{FormatParam}
 use Rattle.sdp_formats_values.specs.declared.param.FormatParam.TheVariants as param
-use Rattle.sdp_formats_section_rows.specs.Given.{with_codec_param}
+use Rattle.sdp_formats_params.specs.OneParam.{with_codec_param}
 use Rattle.sdp_formats_laws.proofs.KeyedParams.{byte_back, don_back, flag_back, key_is, level_back, value_is}
 use Rattle.sdp_formats_laws.proofs.ModeSets.{modes_back, modes_graphic}
 use Rattle.sdp_formats_laws.proofs.Numerals.{decimal_read, six_numeral}

@@ -23,7 +23,7 @@ use Rattle.sdp_formats_params.specs.Formats.{with_parts}
 use Rattle.sdp_formats_params.specs.Formats.{with_level, with_values, level_format, format_of}
 use Rattle.sdp_formats_params.specs.LineValues.{gives_level, last_value}
 use Rattle.sdp_formats_params.specs.declared.format.FormatParams.{FormatParams}
-use Rattle.sdp_formats_laws.specs.Ranges.{IsModes, IsInRange, AtMostOne}
+use Rattle.sdp_formats_rounds.specs.Ranges.{IsModes, IsInRange, AtMostOne}
 
 -- a number that was read is below its limit
 by_test : (n limit : ℕ) (b : Bool) → nat_lt n limit ≡ b → IfSome (cond b (Some n) None) (λ m. m < limit)
@@ -34,7 +34,7 @@ pub cond_in : (b : Bool) (n limit : ℕ) → IfSome (cond (b && nat_lt n limit) 
 cond_in true n limit = by_test n limit (nat_lt n limit) refl
 cond_in false n limit = tt
 
-number_in : (limit radix : ℕ) (text : List ℕ) → IfSome (numeral_below limit radix text) (λ m. m < limit)
+pub number_in : (limit radix : ℕ) (text : List ℕ) → IfSome (numeral_below limit radix text) (λ m. m < limit)
 number_in limit radix text =
     cond_in (nat_lt 0 (length (without_leading_plus text)) && are_digits radix (without_leading_plus text))
     (digits_value radix (without_leading_plus text)) limit
@@ -48,7 +48,7 @@ up_test : (n most : ℕ) (b : Bool) → nat_le n most ≡ b → IfSome (cond b (
 up_test n most true e = grind (arith, nat_tests)
 up_test n most false e = tt
 
-up_in : (most : ℕ) (o : Option ℕ) → IfSome (up_to most o) (λ m. m ≤ most)
+pub up_in : (most : ℕ) (o : Option ℕ) → IfSome (up_to most o) (λ m. m ≤ most)
 up_in most (Some n) = up_test n most (nat_le n most) refl
 up_in most None = tt
 
@@ -92,7 +92,7 @@ split_some c (b ∷ text) e = by_byte (b == c) (parts c text) e
     by_byte false [] e = cc
     by_byte false (piece ∷ pieces) e = cc
 
-modes_in : (text : List ℕ) → IfSome (modes_of text) IsModes
+pub modes_in : (text : List ℕ) → IfSome (modes_of text) IsModes
 modes_in text = first_in (parts 44 text) (split_some 44 text)
 
 -- a later value

@@ -14,7 +14,7 @@ use Rattle.sdp_formats_params.specs.Parameters.{each_param, params_of}
 use Rattle.sdp_formats_laws.proofs.KeyRanks.{rank, rank_of, ranked}
 use Rattle.sdp_formats_laws.specs.Keyed.{AreKeyed, IsKeyed, IsOrdinary, pair_of}
 use Rattle.sdp_formats_laws.specs.ParameterLists.{AreOrdinary, HasOneLevel, LackKeyOf}
-use Rattle.sdp_formats_laws.specs.Ranges.{AtMostOne, IsInRange, IsModes, OneLevel}
+use Rattle.sdp_formats_rounds.specs.Ranges.{AtMostOne, IsInRange, IsModes, OneLevel}
 
 -- what isn't given
 absent : {V : Type 0} (o : Option V) → o ≡ None → IfSome o (λ v. ⊥)

@@ -10,7 +10,8 @@ use Rattle.sdp_formats_values.specs.declared.param.FormatParam.TheVariants as pa
 use Rattle.sdp_formats_params.specs.Formats.{no_format}
 use Rattle.sdp_formats_params.specs.declared.format.FormatParams.{FormatParams}
 use Rattle.sdp_formats_params.specs.Parameters.{each_param, params_of}
-use Rattle.sdp_formats_section_rows.specs.Given.{is_unsupported, with_codec_param}
+use Rattle.sdp_formats_section_rows.specs.Given.{is_unsupported}
+use Rattle.sdp_formats_params.specs.OneParam.{with_codec_param}
 use Rattle.sdp_formats_section_rows.specs.SectionRows.{names}
 
 -- one parameter, given or not

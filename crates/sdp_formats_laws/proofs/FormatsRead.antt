@@ -36,7 +36,7 @@ use Rattle.sdp_formats_laws.proofs.LevelPairs.{level_shape}
 use Rattle.sdp_formats_laws.specs.Keyed.{pair}
 use Rattle.sdp_formats_laws.specs.PrintedParameters.{FormatsComeBack}
 use Rattle.sdp_formats_laws.specs.PrintableTexts.{IsEach}
-use Rattle.sdp_formats_laws.specs.Ranges.{AtMostOne, IsInRange}
+use Rattle.sdp_formats_rounds.specs.Ranges.{AtMostOne, IsInRange}
 use Rattle.sdp_formats_laws.proofs.FormatLevels.{fields_of, level_line, level_texts}
 
 -- the parameters of a format are parts of its text

@@ -7,7 +7,7 @@ use Rattle.sdp_formats_params.specs.Formats.{no_format}
 use Rattle.sdp_formats_params.specs.declared.format.FormatParams.{FormatParams}
 use Rattle.sdp_formats_values.specs.declared.param.FormatParam.{FormatParam}
 use Rattle.sdp_formats_values.specs.declared.param.FormatParam.TheVariants as param
-use Rattle.sdp_formats_section_rows.specs.Given.{with_codec_param}
+use Rattle.sdp_formats_params.specs.OneParam.{with_codec_param}
 use Rattle.sdp_formats_laws.proofs.LastGiven.{last_exact}
 use Rattle.sdp_formats_laws.proofs.Options.{none_some, some_same}
 use Rattle.sdp_formats_laws.specs.SectionFormats.{AreLast, IsLastOfKind}

@@ -28,10 +28,12 @@ pub mod FormatsBack
 pub mod FormatsLemmas
 pub mod FormatsRead
 pub mod Found
+pub mod Giving
 pub mod Heads
 pub mod KeyRanks
 pub mod KeyedLists
 pub mod KeyedParams
+pub mod KnownUris
 pub mod LastGiven
 pub mod LastParameters
 pub mod LastValues
@@ -62,6 +64,7 @@ pub mod PartValues
 pub mod PartedKinds
 pub mod PlainFormats
 pub mod PlainKinds
+pub mod PlainRounds
 pub mod PlainRows
 pub mod Printed
 pub mod ReadableLists
@@ -81,6 +84,9 @@ pub mod SessionKinds
 pub mod SettledPairs
 pub mod Silent
 pub mod Simulcasts
+pub mod SoundLines
+pub mod SoundParams
+pub mod SoundRows
 pub mod StaticTypes
 pub mod Stopping
 pub mod TextBack

@@ -6,8 +6,8 @@ use Rattle.std.specs.List.{count_by, list_all, list_any}
 use Rattle.std.proofs.lemmas.Grind.{common_steps}
 use Rattle.std.proofs.lemmas.List.Sums.{sum_by-append, sum_by-cons}
 use Rattle.sdp_formats_values.specs.declared.param.FormatParam.{FormatParam}
-use Rattle.sdp_formats_lookups.specs.Consistency.{are_mapped}
-use Rattle.sdp_formats_lookups.specs.Consistency.{is_mapped, is_static, maps_type}
+use Rattle.sdp_formats_data.specs.Consistency.{are_mapped}
+use Rattle.sdp_formats_data.specs.Consistency.{is_mapped, is_static, maps_type}
 use Rattle.sdp_formats_rounds.specs.Laws.{is_among, is_distinct}
 use Rattle.sdp_formats_rounds.specs.Types.{listed, types_of}
 use Rattle.sdp_formats_rows.specs.Rows.{Row}

@@ -18,7 +18,7 @@ use Rattle.sdp_formats_values.specs.Numbers.{modes_of, numeral_below, with_mode,
 use Rattle.sdp_formats_values.specs.PrintedParameters.{has_mode, modes_text}
 use Rattle.sdp_formats_laws.proofs.Numerals.{IsValue, decimal_read, lacks_digits}
 use Rattle.sdp_formats_laws.proofs.Trimmed.{AreGraphic, both_graphic, digits_graphic}
-use Rattle.sdp_formats_laws.specs.Ranges.{IsModes}
+use Rattle.sdp_formats_rounds.specs.Ranges.{IsModes}
 
 -- modes, each 0 to 8
 abbrev pub AreLow : List ℕ → Type 0

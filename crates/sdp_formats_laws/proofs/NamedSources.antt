@@ -4,7 +4,7 @@ use Rattle.std.proofs.Common.{codes, filter_map, if◌then◌else◌, option_map
 use Rattle.std.specs.List.{cons_option}
 use Rattle.std.specs.Str.{str_eq_ignore_ascii_case}
 use Rattle.std.proofs.lemmas.Slice.Eq.{bytes_eq-Decides}
-use Rattle.sdp_formats_lookups.specs.Sources.{pair_of, repair_in, repairing_in, source_in}
+use Rattle.sdp_formats_data.specs.Sources.{pair_of, repair_in, repairing_in, source_in}
 use Rattle.sdp_formats_data.specs.declared.media.MediaAttribute.{MediaAttribute}
 use Rattle.sdp_formats_data.specs.declared.media.MediaAttribute.TheVariants as attribute
 use Rattle.sdp_formats_laws.proofs.DistinctSources.{distinct_once}

@@ -5,9 +5,9 @@ use Rattle.std.specs.List.{list_all, list_any}
 use Rattle.std.proofs.lemmas.Grind.{common_steps}
 use Rattle.sdp_formats_values.specs.declared.param.FormatParam.{FormatParam}
 use Rattle.sdp_formats_values.specs.declared.param.FormatParam.TheVariants as param
-use Rattle.sdp_formats_lookups.specs.Consistency.{apt_differs, apts_agree, apts_agree_with}
-use Rattle.sdp_formats_lookups.specs.Consistency.{attribute_agrees, gives_apt}
-use Rattle.sdp_formats_lookups.specs.Consistency.{values_agree}
+use Rattle.sdp_formats_data.specs.Consistency.{apt_differs, apts_agree, apts_agree_with}
+use Rattle.sdp_formats_data.specs.Consistency.{attribute_agrees, gives_apt}
+use Rattle.sdp_formats_data.specs.Consistency.{values_agree}
 use Rattle.sdp_formats_rounds.specs.Laws.{is_among, is_distinct}
 use Rattle.sdp_formats_rounds.specs.Types.{listed, types_of}
 use Rattle.sdp_formats_rounds.proofs.Apart.{among_append}

@@ -22,7 +22,8 @@ use Rattle.sdp_formats_section_rows.specs.Attributes.{all_feedback, feedback_lin
 use Rattle.sdp_formats_section_rows.specs.Attributes.{fmtp_of, is_used, params_in, words_of}
 use Rattle.sdp_formats_params.specs.Parameters.{params_of}
 use Rattle.sdp_formats_section_rows.specs.Given.{events_after, format_given, is_declined, is_unsupported}
-use Rattle.sdp_formats_section_rows.specs.Given.{most_of, with_attribute, with_events, with_codec_param}
+use Rattle.sdp_formats_section_rows.specs.Given.{most_of, with_attribute, with_events}
+use Rattle.sdp_formats_params.specs.OneParam.{with_codec_param}
 use Rattle.sdp_formats_data.specs.declared.media.MediaAttribute.{MediaAttribute}
 use Rattle.sdp_formats_data.specs.declared.media.MediaAttribute.TheVariants as attribute
 use Rattle.sdp_formats_laws.proofs.Lists.{any_fold, any_past, both, fold_past, none_flat, or_same}

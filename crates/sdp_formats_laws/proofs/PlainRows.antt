@@ -24,7 +24,7 @@ use Rattle.sdp_formats_laws.proofs.FormatRanges.{Apart, format_held}
 use Rattle.sdp_formats_laws.proofs.FormatsBack.{format_readable}
 use Rattle.sdp_formats_laws.specs.Keyed.{AreKeyed}
 use Rattle.sdp_formats_laws.specs.ParameterLists.{AreReadable, HasOneLevel}
-use Rattle.sdp_formats_laws.specs.Ranges.{AtMostOne, IsInRange, OneLevel}
+use Rattle.sdp_formats_rounds.specs.Ranges.{AtMostOne, IsInRange, OneLevel}
 
 two_true : (a b : Bool) → (a && b) ≡ true → (a ≡ true) × (b ≡ true)
 two_true true b h = (refl, h)

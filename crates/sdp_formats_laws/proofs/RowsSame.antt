@@ -16,7 +16,8 @@ use Rattle.sdp_formats_rows.specs.Codecs.{is_codec}
 use Rattle.sdp_formats_params.specs.Formats.{no_format}
 use Rattle.sdp_formats_params.specs.declared.format.FormatParams.{FormatParams}
 use Rattle.sdp_formats_section_rows.specs.Given.{events_after, events_in, format_given, is_declined, is_unsupported}
-use Rattle.sdp_formats_section_rows.specs.Given.{most_of, with_attribute, with_events, with_line, with_codec_param}
+use Rattle.sdp_formats_section_rows.specs.Given.{most_of, with_attribute, with_events, with_line}
+use Rattle.sdp_formats_params.specs.OneParam.{with_codec_param}
 use Rattle.sdp_formats_section_rows.specs.Maps.{spec_of_map}
 use Rattle.sdp_formats_section_rows.specs.Mapped.{is_mapped_to, mapping_in, mappings, with_static}
 use Rattle.sdp_formats_section_rows.specs.SectionRows.{has_feedback, has_row, is_feedback, linked, linked_after, listed}

@@ -3,7 +3,7 @@ use Rattle.std.proofs.Common.{◌≡◌, cond, List, [], ◌∷◌, ◌++◌, ma
 use Rattle.std.specs.List.{flat_map}
 use Rattle.std.specs.Option.{option_or, unwrap_or}
 use Rattle.rtp_wire.specs.declared.Direction.TheVariants as way
-use Rattle.sdp_formats_lookups.specs.Sections.{extmap_in}
+use Rattle.sdp_formats_data.specs.Sections.{extmap_in}
 use Rattle.sdp_formats_attributes.specs.AsRead.{as_read}
 use Rattle.sdp_formats_laws.specs.Rows.{ReadSectionsSayTheSame, is_other_line}
 use Rattle.sdp_formats_data.specs.Lookups.{direction_in, first_of, mid_in, msid_in, setup_in}

@@ -16,7 +16,8 @@ use Rattle.sdp_formats_values.specs.declared.param.FormatParam.{FormatParam}
 use Rattle.sdp_formats_values.specs.declared.param.FormatParam.TheVariants as param
 use Rattle.sdp_formats_rows.specs.Codecs.{is_codec}
 use Rattle.sdp_formats_section_rows.specs.Given.{events_after, events_in, format_given, is_declined, is_unsupported}
-use Rattle.sdp_formats_section_rows.specs.Given.{most_of, values_for, with_attribute, with_codec_param, with_events}
+use Rattle.sdp_formats_section_rows.specs.Given.{most_of, values_for, with_attribute, with_events}
+use Rattle.sdp_formats_params.specs.OneParam.{with_codec_param}
 use Rattle.sdp_formats_section_rows.specs.Given.{with_line}
 use Rattle.sdp_formats_data.specs.declared.media.MediaAttribute.{MediaAttribute}
 use Rattle.sdp_formats_data.specs.declared.media.MediaAttribute.TheVariants as attribute

@@ -6,7 +6,7 @@ use Rattle.std.specs.Option.{option_map}
 use Rattle.sdp_formats_grammar.specs.Form.{IsExact}
 use Rattle.sdp_formats_grammar.specs.Joined.{each_behind, maybe_text}
 use Rattle.sdp_formats_grammar.specs.Split.{Lacks}
-use Rattle.sdp_formats_lookups.specs.Consistency.{is_consistent}
+use Rattle.sdp_formats_data.specs.Consistency.{is_consistent}
 use Rattle.sdp_formats_reader.specs.Lines.{version_line, origin_line, name_line, other_line, times_line}
 use Rattle.sdp_formats_reader.specs.Lines.{bandwidth_line}
 use Rattle.sdp_formats_reader.specs.Lines.{something, passed}

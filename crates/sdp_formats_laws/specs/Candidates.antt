@@ -1,6 +1,6 @@
 -- The candidates of a text, each once.
 use Rattle.std.specs.Prelude.{◌≡◌, ◌↔◌, List}
-use Rattle.sdp_formats_lookups.specs.Candidates.{AreEachOnce}
+use Rattle.sdp_formats_data.specs.Candidates.{AreEachOnce}
 use Rattle.sdp_formats_values.specs.declared.candidate.Candidate.{Candidate}
 use Rattle.sdp_formats_laws.specs.EachOnce.{IsEachOnce}
 

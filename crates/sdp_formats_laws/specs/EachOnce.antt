@@ -1,10 +1,6 @@
 -- The members of a list, each once.
-use Rattle.std.specs.Prelude.{◌≡◌, ◌↔◌, ◌⊎◌, List, [], ◌∷◌, ◌++◌}
-
--- It is one of them.
-abbrev pub IsIn : {A : Type 0} → A → List A → Type 0
-IsIn x [] = ⊥
-IsIn x (y ∷ ys) = (y ≡ x) ⊎ IsIn x ys
+use Rattle.std.specs.Prelude.{◌≡◌, ◌↔◌, List, [], ◌∷◌, ◌++◌}
+pub use Rattle.sdp_formats_rounds.specs.Members.{IsIn}
 
 -- None is there twice.
 abbrev pub AreDistinct : {A : Type 0} → List A → Type 0

@@ -5,7 +5,7 @@ use Rattle.sdp_formats_values.specs.PrintedParameters.{flag_digit, six_digits, m
 use Rattle.sdp_formats_values.specs.declared.pairs.Pair.{Pair}
 use Rattle.sdp_formats_values.specs.declared.param.FormatParam.{FormatParam}
 use Rattle.sdp_formats_values.specs.declared.param.FormatParam.TheVariants as param
-use Rattle.sdp_formats_laws.specs.Ranges.{IsModes}
+use Rattle.sdp_formats_rounds.specs.Ranges.{IsModes}
 
 -- A parameter with a value of its width.
 abbrev pub IsKeyed : FormatParam → Type 0

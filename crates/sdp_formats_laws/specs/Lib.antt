@@ -11,13 +11,15 @@ pub mod LineEnds
 pub mod Mapped
 pub mod Modes
 pub mod Names
+pub mod OneReading
 pub mod OtherLines
 pub mod ParameterLists
+pub mod PlainRounds
 pub mod Printable
 pub mod PrintableSession
 pub mod PrintableTexts
 pub mod PrintedParameters
-pub mod Ranges
+pub mod ReadLines
 pub mod ReadTexts
 pub mod RepeatedKeys
 pub mod RestrictionTexts

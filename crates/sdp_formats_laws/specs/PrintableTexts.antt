@@ -8,19 +8,16 @@ use Rattle.sdp_formats_attributes.specs.Choice.{attribute_line}
 use Rattle.sdp_formats_data.specs.PrintedMedia.{attribute_text}
 use Rattle.sdp_formats_data.specs.declared.media.MediaAttribute.{MediaAttribute}
 use Rattle.sdp_formats_reader.specs.Heads.{media_type}
-use Rattle.sdp_formats_lookups.specs.Consistency.{is_consistent}
+use Rattle.sdp_formats_data.specs.Consistency.{is_consistent}
 use Rattle.sdp_formats_data.specs.declared.media.MediaLine.{MediaLine}
 use Rattle.sdp_formats_data.specs.declared.MediaType.{MediaType}
 use Rattle.sdp_formats_data.specs.declared.MediaType.TheVariants.{Audio, Video, Application, Unknown}
 use Rattle.sdp_formats_data.specs.declared.Bandwidth.{Bandwidth}
 use Rattle.sdp_formats_data.specs.declared.session.Sdp.{Sdp}
 use Rattle.sdp_formats_data.specs.declared.session.Session.{Session}
+pub use Rattle.sdp_formats_rounds.specs.Members.{IsEach}
 use Rattle.sdp_formats_laws.specs.Printable.{IsText, IsWord, IsPrintable, AreBelow}
 use Rattle.sdp_formats_laws.specs.PrintableSession.{IsPrintable as IsPrintableInSession}
-
-abbrev pub IsEach : {A : Type 0} → (A → Type 0) → List A → Type 0
-IsEach P [] = Unit {0}
-IsEach P (x ∷ xs) = P x × IsEach P xs
 
 -- A bandwidth, if there is one, of texts that can stand where they are printed.
 abbrev pub IsPrintableBandwidth : Option Bandwidth → Type 0

@@ -13,7 +13,7 @@ use Rattle.sdp_formats_section_rows.specs.Attributes.{params_in}
 use Rattle.sdp_formats_data.specs.PrintedMedia.{params_text}
 use Rattle.sdp_formats_laws.specs.ParameterLists.{AreReadable}
 use Rattle.sdp_formats_laws.specs.Printable.{LacksLineEnds}
-use Rattle.sdp_formats_laws.specs.Ranges.{IsInRange, OneLevel}
+use Rattle.sdp_formats_rounds.specs.Ranges.{IsInRange, OneLevel}
 
 -- Parameters print some text, but for one alone that isn't known.
 abbrev pub HasText : List FormatParam → Type 0

@@ -1,18 +1,18 @@
 -- What holds of whole texts whose sections list plain rows.
 use Rattle.std.specs.Prelude.{◌≡◌, ◌≢◌, ◌<◌, ◌≤◌, ◌^◌, Bool, true, false, IsTrue, List, [], ◌∷◌, ◌++◌, map, filter}
-use Rattle.std.specs.Prelude.{IfSome}
 use Rattle.std.specs.List.{count_by, flat_map, list_all, list_any}
 use Rattle.sdp_formats_laws.specs.Printable.{IsPrintable}
 use Rattle.sdp_formats_laws.specs.PrintableTexts.{IsEach, IsPrintableBandwidth, IsPrintableSection, IsPrintableSession}
 use Rattle.sdp_formats_laws.specs.ReadTexts.{section_as_read, text_as_read, text_read}
-use Rattle.sdp_formats_lookups.specs.Sections.{extmap_in}
+use Rattle.sdp_formats_data.specs.Sections.{extmap_in}
 use Rattle.sdp_formats_reader.specs.Grammar.{SdpSays}
 use Rattle.sdp_formats_rounds.specs.Laws.{is_distinct}
+pub use Rattle.sdp_formats_rounds.specs.Ranges.{IsSized}
 use Rattle.sdp_formats_laws.specs.RowsBack.{attributes_in, names_type, types_in, unlocked}
 use Rattle.sdp_formats_rows.specs.Plain.{is_plain}
 use Rattle.sdp_formats_rows.specs.Rows.{Row}
 use Rattle.sdp_formats_section_rows.specs.SectionRows.{rows_of}
-use Rattle.sdp_formats_lookups.specs.Consistency.{is_consistent, is_direction_of, is_setup}
+use Rattle.sdp_formats_data.specs.Consistency.{is_consistent, is_direction_of, is_setup}
 use Rattle.sdp_formats_reader.specs.Writable.{ComesBack, IsWritableSession}
 use Rattle.sdp_formats_data.specs.Lookups.{direction_of, first_of, mid_in, msid_in, setup_in}
 use Rattle.sdp_formats_data.specs.Media.{is_mid}
@@ -25,10 +25,6 @@ use Rattle.sdp_formats_data.specs.declared.MediaType.{MediaType}
 use Rattle.sdp_formats_data.specs.declared.MediaType.TheVariants.{Audio, Video}
 use Rattle.sdp_formats_data.specs.declared.session.Sdp.{Sdp}
 use Rattle.sdp_formats_data.specs.declared.session.SessionAttribute.{SessionAttribute}
-
--- A clock rate of 32 bits above 0 and channels of 8 bits, as every row of the program has.
-abbrev pub IsSized : Row → Type 0
-IsSized row = (0 < row.spec.clock_rate) × (row.spec.clock_rate < 2 ^ 32) × IfSome row.spec.channels (λ n. n < 2 ^ 8)
 
 abbrev pub IsMedia : MediaType → Type 0
 IsMedia Audio = Unit {0}

@@ -1,18 +1,14 @@
 -- What holds of rows that a section lists.
-use Rattle.std.specs.Prelude.{◌≡◌, ℕ, Bool, true, false, List, ◌++◌, map}
+use Rattle.std.specs.Prelude.{◌≡◌, Bool, true, false, List, ◌++◌, map}
 use Rattle.std.specs.List.{flat_map, list_all, list_any}
 use Rattle.sdp_formats_rounds.specs.Laws.{is_distinct}
-use Rattle.sdp_formats_rounds.specs.Types.{types_of}
+pub use Rattle.sdp_formats_rounds.specs.TypeLaws.{types_in}
 use Rattle.sdp_formats_rows.specs.Plain.{is_plain}
 use Rattle.sdp_formats_rows.specs.Rows.{Row}
 use Rattle.sdp_formats_section_rows.specs.Attributes.{attributes_of}
 use Rattle.sdp_formats_section_rows.specs.SectionRows.{rows_of}
 use Rattle.sdp_formats_data.specs.declared.media.MediaAttribute.{MediaAttribute}
 use Rattle.sdp_formats_data.specs.declared.media.MediaAttribute.TheVariants.{RtpMap, RtcpFb, Fmtp}
-
--- The types of rows, row by row: type, RTX type, RED type.
-abbrev pub types_in : List Row → List ℕ
-types_in rows = flat_map types_of rows
 
 -- The attributes that list rows, row by row.
 abbrev pub attributes_in : List Row → List MediaAttribute

@@ -1,6 +1,6 @@
 -- The sources that a section names (RFC 5576).
 use Rattle.std.specs.Prelude.{◌≡◌, ◌↔◌, ◌⊎◌, ℕ, List, [], ◌∷◌, ◌++◌, codes, filter_map}
-use Rattle.sdp_formats_lookups.specs.Sources.{repairing_in, source_in, sources_of}
+use Rattle.sdp_formats_data.specs.Sources.{repairing_in, source_in, sources_of}
 use Rattle.sdp_formats_data.specs.declared.media.MediaAttribute.{MediaAttribute}
 use Rattle.sdp_formats_data.specs.declared.media.MediaAttribute.TheVariants as attribute
 use Rattle.sdp_formats_laws.specs.EachOnce.{IsEachOnce, IsIn}

@@ -1,6 +1,6 @@
 -- Payload types with a meaning of their own (RFC 3551 6).
 use Rattle.std.specs.Prelude.{ℕ, ◌≡◌, is_some}
-use Rattle.sdp_formats_lookups.specs.Consistency.{is_static}
+use Rattle.sdp_formats_data.specs.Consistency.{is_static}
 use Rattle.sdp_formats_rows.specs.Codecs.{static_spec}
 
 -- A section may list such a type without a line that maps it, just where a row has its codec.

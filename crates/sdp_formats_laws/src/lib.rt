@@ -2,12 +2,12 @@
 #![tactic(auto)]
 
 mod candidates;
-mod equality;
 mod formats;
 mod lines;
 mod mapped;
 mod modes;
 mod printed_parameters;
+mod read_lines;
 mod repeated_keys;
 mod rows;
 mod rows_back;
@@ -17,7 +17,6 @@ mod texts;
 mod values;
 
 pub use candidates::candidates_once_law;
-pub use equality::candidate_equality_law;
 pub use formats::{format_parts_law, format_values_law};
 pub use lines::{
     candidate_words_law, names_law, other_lines_law, printed_lines_law, printed_session_lines_law,
@@ -28,6 +27,7 @@ pub use modes::modes_law;
 pub use printed_parameters::{
     fallbacks_law, formats_law, links_law, parameter_lists_law, plain_parameters_law,
 };
+pub use read_lines::{one_reading_law, read_lines_law, rounds_keep_plain_rows, sound_rows_law};
 pub use repeated_keys::{
     entry_values_law, last_value_law, other_parameters_law, settled_pairs_law,
 };
@@ -36,6 +36,7 @@ pub use rows::{
     static_types_law, writable_row_texts_law, written_row_texts_law,
 };
 pub use rows_back::plain_rows_come_back;
+pub use sdp_formats_data::candidate_equality_law;
 pub use sections::{section_formats_law, section_links_law};
 pub use sources::sources_once_law;
 pub use texts::{fits_nowhere_law, line_ends_law, printed_texts_law};

@@ -13,7 +13,7 @@ ghost use Rattle.sdp_formats_laws.specs.PrintableTexts.{
   HasLinesThatComeBack,
 };
 ghost use Rattle.sdp_formats_laws.specs.ReadTexts.{text_as_read};
-ghost use Rattle.sdp_formats_lookups.specs.Consistency.{is_consistent};
+ghost use Rattle.sdp_formats_data.specs.Consistency.{is_consistent};
 ghost use Rattle.sdp_formats_reader.specs.Grammar.{SdpSays, SessionSays};
 ghost use Rattle.sdp_formats_data.specs.PrintedSession.{sdp_text, session_text};
 ghost use Rattle.sdp_formats_data.specs.declared.session.Sdp.{Sdp};

@@ -1,10 +1,11 @@
 -- The best row matches, and what has no best row has none among fewer.
 use Rattle.std.proofs.Common.{◌≡◌, ◌≢◌, ℕ, Bool, true, false, List, [], ◌∷◌, refl, sym, ◌∙◌, ap, Option, Some, None}
-use Rattle.std.proofs.Common.{if◌then◌else◌}
-use Rattle.std.specs.Prelude.{fold, filter}
+use Rattle.std.proofs.Common.{cond, if◌then◌else◌, inl, inr}
+use Rattle.std.specs.Prelude.{◌⊎◌, fold, filter}
 use Rattle.sdp_formats_rows.specs.declared.spec.CodecSpec.{CodecSpec}
 use Rattle.sdp_formats_rows.specs.Rows.{Row}
 use Rattle.sdp_formats_rows.specs.Scores.{score}
+use Rattle.sdp_formats_rounds.specs.Members.{IsIn}
 use Rattle.sdp_formats_rounds.specs.Best.{is_reached, points_of, better, best_row}
 
 -- one step: the row so far, or this one, which then matches
@@ -72,3 +73,34 @@ fewer_none spec p (r ∷ rows) e = at (score spec r.spec) refl (fewer_none spec 
         (ap on (first_none spec r q)) ∙ e))
     at (Some n) q g = absurd (some_stays spec r rows (let on : Option Row
         → Option Row = λ o. fold (better spec) o rows in sym (ap on (first_some spec r n q)) ∙ e))
+
+-- the best row is one of them, also where some are left aside
+best_from : (spec : CodecSpec) (o : Option Row) (rows : List Row) (b : Row) → fold (better spec) o rows ≡ Some b
+    → (o ≡ Some b) ⊎ IsIn b rows
+best_from spec o [] b e = inl e
+best_from spec o (r ∷ rows) b e = at (best_from spec (better spec o r) rows b e)
+  where
+    picked : (reached : Bool) → (if reached then Some r else o) ≡ Some b → (o ≡ Some b) ⊎ IsIn b (r ∷ rows)
+    picked true f = let same : r ≡ b = (cc) in inr (inl same)
+    picked false f = inl f
+
+    at : (better spec o r ≡ Some b) ⊎ IsIn b rows → (o ≡ Some b) ⊎ IsIn b (r ∷ rows)
+    at (inl f) = picked (is_reached (points_of spec o) (score spec r.spec)) f
+    at (inr i) = inr (inr i)
+
+pub best_in : (spec : CodecSpec) (rows : List Row) (b : Row) → best_row spec rows ≡ Some b → IsIn b rows
+best_in spec rows b e = at (best_from spec None rows b e)
+  where
+    at : (None ≡ Some b) ⊎ IsIn b rows → IsIn b rows
+    at (inl f) = absurd (cc)
+    at (inr i) = i
+
+pub in_filter : (p : Row → Bool) (rows : List Row) (b : Row) → IsIn b (filter p rows) → IsIn b rows
+in_filter p [] b i = i
+in_filter p (r ∷ rows) b i = at (p r) i (in_filter p rows b)
+  where
+    at : (c : Bool) → IsIn b (cond c (r ∷ filter p rows) (filter p rows)) → (IsIn b (filter p rows) → IsIn b rows)
+        → IsIn b (r ∷ rows)
+    at true (inl same) later = inl same
+    at true (inr j) later = inr (later j)
+    at false j later = inr (later j)

@@ -13,10 +13,11 @@ use Rattle.sdp_formats_rounds.specs.Rounds.{standing_rows, agreed_row, agreed_ro
 use Rattle.sdp_formats_rounds.specs.Rounds.{best_open, first_above, unless_above, round}
 use Rattle.sdp_formats_rounds.specs.Laws.{is_distinct, Along, Becomes, LockedTypesDistinct, RowsBecome, rounds, Keeps}
 use Rattle.sdp_formats_rounds.specs.Laws.{KeepsFeedback, LockedRowsKeepTypes}
+use Rattle.sdp_formats_rounds.specs.Members.{IsIn}
 use Rattle.sdp_formats_rounds.proofs.Split.{split_ok, ok_same, turns_along, along_join}
-use Rattle.sdp_formats_rounds.proofs.Bests.{best_matches, fewer_none}
+use Rattle.sdp_formats_rounds.proofs.Bests.{best_in, best_matches, fewer_none, in_filter}
 use Rattle.sdp_formats_rounds.proofs.Locks.{standing_distinct, standing_same}
-use Rattle.sdp_formats_rounds.proofs.Matches.{Way, stood, matched, left, way_of, agreed_distinct}
+use Rattle.sdp_formats_rounds.proofs.Matches.{Way, stood, matched, left, restated_locked, way_of, agreed_distinct}
 use Rattle.sdp_formats_rounds.proofs.Settles.{Moves, moves_types, same_feedback, settled_along}
 
 pub locked_types_distinct : LockedTypesDistinct
@@ -52,6 +53,23 @@ open_matches dictated remote now row best e = at (dictated && is_codec row.spec.
     at false f = let is = ok_same (best_row row.spec remote) (Some best) f in
         (best_matches row.spec remote best is, λ none. cc)
 
+-- it is one of the remote rows
+pub open_one_of : (dictated : Bool) (remote now : List Row) (row best : Row)
+    → open_best dictated remote now row ≡ Ok (Some best) → IsIn best remote
+open_one_of dictated remote now row best e = at (dictated && is_codec row.spec.codec AmrWb) e
+  where
+    above_at : (o : Option Row) → unless_above o (best_open remote now row) ≡ Ok (Some best) → IsIn best remote
+    above_at None f =
+        let few = filter (λ r. not (is_locked_type now r.pt)) remote in
+        in_filter (λ r. not (is_locked_type now r.pt)) remote best
+        (best_in row.spec few best (ok_same (best_open remote now row) (Some best) f))
+    above_at (Some r) f = absurd (cc)
+
+    at : (b : Bool) → (if b then unless_above (first_above remote) (best_open remote now row) else Ok
+        (best_row row.spec remote)) ≡ Ok (Some best) → IsIn best remote
+    at true f = above_at (first_above remote) f
+    at false f = best_in row.spec remote best (ok_same (best_row row.spec remote) (Some best) f)
+
 -- where none are left aside it is the best of all
 open_is_best : (dictated : Bool) (remote now : List Row) (row best : Row)
     → open_best dictated remote now row ≡ Ok (Some best) → (dictated && is_codec row.spec.codec AmrWb) ≡ false
@@ -70,10 +88,6 @@ open_is_found : (dictated : Bool) (remote now : List Row) (row best : Row) → o
     → (dictated && is_codec row.spec.codec AmrWb) ≡ false → best_row row.spec remote ≡ Some best → ⊥
 open_is_found dictated remote now row best e all is =
     let none : best_row row.spec remote ≡ None = ok_same (best_row row.spec remote) None (rw all at e) in cc
-
-restated_locked : (row : Row) (o : Option Row) → (restated row o).locked ≡ row.locked
-restated_locked row None = refl
-restated_locked row (Some best) = refl
 
 becomes : (dictated : Bool) (remote now : List Row) (row mid new : Row) → Way dictated remote now row mid
     → Moves mid new → Becomes dictated remote row new
@@ -101,6 +115,7 @@ becomes dictated remote now row mid new (matched is best b made) m =
       stands = λ yes. absurd (cc);
       locks = λ _ _. record {
         best = best;
+        one_of = open_one_of dictated remote now row best b;
         matches = found.0;
         is_best = λ all. open_is_best dictated remote now row best b all;
         settings = ap (λ (x : Row). x.spec) same ∙ made.settings;

@@ -1,6 +1,9 @@
+pub mod AllApart
 pub mod Apart
 pub mod Bests
+pub mod Chosen
 mod Found
+pub mod FreeTypes
 pub mod Fresh
 pub mod Greatest
 pub mod Holds
@@ -8,7 +11,13 @@ pub mod Left
 pub mod Locked
 pub mod Locks
 pub mod Matches
+pub mod OwnTypes
+pub mod Plain
 pub mod Settles
+pub mod Small
 pub mod Split
 pub mod Suggested
 pub mod Turned
+pub mod Unlocked
+pub mod UnlockedTypes
+pub mod Widths

@@ -76,7 +76,7 @@ pub or_right : (a b : Bool) → (a || b) ≡ false → b ≡ false
 or_right false b e = e
 or_right true b e = cc
 
-distinct_three : (pt : ℕ) (resend red : Option ℕ) (xs ys : List ℕ) → is_distinct (xs ++ ys) ≡ true
+pub distinct_three : (pt : ℕ) (resend red : Option ℕ) (xs ys : List ℕ) → is_distinct (xs ++ ys) ≡ true
     → is_among (xs ++ ys) pt ≡ false
     → ((t : ℕ) → resend ≡ Some t → (is_among (xs ++ ys) t || is_own (given pt None) t) ≡ false)
     → ((t : ℕ) → red ≡ Some t → (is_among (xs ++ ys) t || is_own (given pt resend) t) ≡ false)

@@ -116,6 +116,10 @@ way_of dictated remote before now row new e = at row.locked refl e
         let s = split_ok (open_best dictated remote now row) (matched_if dictated before now row) new f in
         open_at s.0 is s.1 s.2
 
+pub restated_locked : (row : Row) (o : Option Row) → (restated row o).locked ≡ row.locked
+restated_locked row None = refl
+restated_locked row (Some best) = refl
+
 restated_types : (row : Row) (o : Option Row) (rest : List Row)
     → locked_types (restated row o ∷ rest) ≡ locked_types (row ∷ rest)
 unfolding locked_types

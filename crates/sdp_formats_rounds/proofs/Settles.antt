@@ -1,6 +1,8 @@
 -- What the last turns make of a row.
-use Rattle.std.proofs.Common.{◌≡◌, Bool, true, false, List, [], ◌∷◌, ◌++◌, refl, sym, ◌∙◌, ap, None, Ok, if◌then◌else◌}
+use Rattle.std.proofs.Common.{◌≡◌, Bool, true, false, List, [], ◌∷◌, ◌++◌, refl, sym, ◌∙◌, ap, ℕ, Option}
+use Rattle.std.proofs.Common.{Some, None, Ok, if◌then◌else◌}
 use Rattle.sdp_formats_rows.specs.Rows.{Row}
+use Rattle.sdp_formats_rounds.specs.declared.claims.Own.{Own}
 use Rattle.sdp_formats_rounds.specs.declared.claims.Role.TheVariants.{Main}
 use Rattle.sdp_formats_rounds.specs.Types.{locked_types}
 use Rattle.sdp_formats_rounds.specs.Turns.{and_then}
@@ -15,6 +17,7 @@ pub record Moves (row new : Row) : Type 0 where
   pub unlocked : row.locked ≡ false → (new.locked ≡ false) × (new.spec ≡ row.spec) × (new.transport_cc
       ≡ row.transport_cc)
   pub feedback : KeepsFeedback row new
+  pub red : row.red ≡ None → new.red ≡ None
 
 -- a row that is the same keeps its feedback
 pub same_feedback : (row new : Row) → new ≡ row → KeepsFeedback row new
@@ -26,8 +29,15 @@ same_feedback row new same = (
       same,
 )
 
+-- no RED type comes from none
+red_none : (before now : List Row) (own : Own) (red new : Option ℕ) → moved_red before now own red ≡ Ok new
+    → red ≡ None → new ≡ None
+red_none before now own None new e is = sym (ok_same None new e)
+red_none before now own (Some t) new e is = absurd (cc)
+
 moved_parts : (before now : List Row) (row new : Row) → moved_row before now row ≡ Ok new
     → (new.locked ≡ row.locked) × (new.spec ≡ row.spec) × (new.transport_cc ≡ row.transport_cc) × KeepsFeedback row new
+    × (row.red ≡ None → new.red ≡ None)
 moved_parts before now row new e =
     let s = split_ok (moved_type Main before now none_given row.pt)
     (λ pt. and_then (moved_red before now (given pt None) row.red)
@@ -44,6 +54,7 @@ moved_parts before now row new e =
       sym (ap (λ (x : Row). x.spec) same),
       sym (ap (λ (x : Row). x.transport_cc) same),
       same_feedback m new (sym same),
+      λ none. sym (ap (λ (x : Row). x.red) same) ∙ red_none before now (given s.0 None) row.red r.0 r.1 none,
     )
 
 pub moves_of : (before now : List Row) (row new : Row) → settled_row before now row ≡ Ok new → Moves row new
@@ -54,12 +65,14 @@ moves_of before now row new e = at row.locked refl e
       kept = λ _. sym (ok_same row new f);
       unlocked = λ no. absurd (cc);
       feedback = same_feedback row new (sym (ok_same row new f));
+      red = λ none. sym (ap (λ (x : Row). x.red) (ok_same row new f)) ∙ none;
     }
     at false is f = let p = moved_parts before now row new f in record {
       kept = λ yes. absurd (cc);
       unlocked = λ _.
           (p.0 ∙ is, p.1, p.2);
       feedback = p.3;
+      red = p.4;
     }
 
 pub moves_types : (xs ys : List Row) → Along Moves xs ys → locked_types ys ≡ locked_types xs

@@ -7,6 +7,7 @@ use Rattle.payload_core_base.specs.declared.codec.Codec.TheVariants.{AmrWb}
 use Rattle.sdp_formats_rows.specs.Codecs.{is_codec}
 use Rattle.sdp_formats_rows.specs.Rows.{Row}
 use Rattle.sdp_formats_rounds.specs.Best.{best_row}
+use Rattle.sdp_formats_rounds.specs.Members.{IsIn}
 use Rattle.sdp_formats_rounds.specs.Negotiated.{negotiated}
 use Rattle.sdp_formats_rows.specs.Scores.{score}
 use Rattle.sdp_formats_rounds.specs.declared.error.RoundError.{RoundError}
@@ -39,6 +40,7 @@ KeepsFeedback row new =
 -- audio have one.
 pub record IsTakenFrom (dictated : Bool) (remote : List Row) (row new : Row) : Type 0 where
   pub best : Row
+  pub one_of : IsIn best remote
   pub matches : score row.spec best.spec ≢ None
   pub is_best : (dictated && is_codec row.spec.codec AmrWb) ≡ false → best_row row.spec remote ≡ Some best
   pub settings : new.spec ≡ negotiated row.spec best.spec

@@ -4,12 +4,17 @@ pub use Rattle.sdp_formats_rows.specs.Plain
 pub use Rattle.sdp_formats_rows.specs.Replaced
 pub use Rattle.sdp_formats_rows.specs.Rows
 pub mod Best
+pub mod Chosen
 pub mod Configs
 pub mod Finding
 pub mod Laws
 pub mod Matching
+pub mod Members
 pub mod Negotiated
+pub mod PlainLaws
+pub mod Ranges
 pub mod RemoteSections
 pub mod Rounds
 pub mod Turns
+pub mod TypeLaws
 pub mod Types

@@ -24,7 +24,7 @@ pub struct CodecConfig {
     red_distances: Vec<u32>,
 }
 
-/// Written out, so that who lets one go needs nothing of what is inside.
+/// Written by hand so that crates that drop this type need no proof about its fields.
 impl Drop for CodecConfig {
     fn drop(self) {
         let CodecConfig {

@@ -7,16 +7,19 @@ mod claims;
 mod config;
 mod error;
 mod match_laws;
+mod plain_laws;
 mod round_laws;
 mod rounds;
 mod settings;
 mod settled;
 mod standing;
+mod type_laws;
 
 pub use best::{best_row, better};
 pub use config::{CodecConfig, RemoteSection};
 pub use error::RoundError;
 pub use match_laws::best_is_best;
+pub use plain_laws::rounds_keep_widths;
 pub use round_laws::{
     locked_rows_keep_types, locked_types_distinct, rows_become, suggested_types_taken,
     unlocked_rows_apart,
@@ -27,3 +30,4 @@ pub use sdp_formats_rows::{
     Codec, CodecSpec, FormatParams, Frequency, MediaKind, PayloadParams, Pt,
 };
 pub use settings::negotiated;
+pub use type_laws::{all_are_apart, chosen_are_apart, types_stay_apart, types_stay_small};

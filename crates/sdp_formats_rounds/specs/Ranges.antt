@@ -1,6 +1,7 @@
--- Formats whose numbers are of their widths.
+-- Formats and rows whose numbers are of their widths.
 use Rattle.std.specs.Prelude.{◌≡◌, ◌<◌, ◌≤◌, ◌^◌, ◌⊎◌, ℕ, Option, Some, None, IfSome}
 use Rattle.sdp_formats_params.specs.declared.format.FormatParams.{FormatParams}
+use Rattle.sdp_formats_rows.specs.Rows.{Row}
 
 -- One of nine modes at least (RFC 4867 8.2).
 abbrev pub IsModes : ℕ → Type 0
@@ -24,3 +25,7 @@ IsInRange f = IfSome f.min_p_time (λ n. n < 2 ^ 8) × IfSome f.packetization_mo
 abbrev pub OneLevel : FormatParams → Type 0
 OneLevel f = ((f.h265_profile_tier_level ≡ None) × (f.h266_profile_tier_level ≡ None))
     ⊎ ((f.profile_id ≡ None) × AtMostOne f.h265_profile_tier_level f.h266_profile_tier_level)
+
+-- A clock rate of 32 bits above 0 and channels of 8 bits, as every row of the program has.
+abbrev pub IsSized : Row → Type 0
+IsSized row = (0 < row.spec.clock_rate) × (row.spec.clock_rate < 2 ^ 32) × IfSome row.spec.channels (λ n. n < 2 ^ 8)

@@ -1,0 +1,15 @@
+pub mod Entries
+pub mod ListedRows
+pub mod Lists
+pub mod Names
+pub mod NarrowLines
+pub mod NarrowRows
+pub mod Printables
+pub mod PrintedLines
+pub mod Quiet
+pub mod ReadBack
+pub mod ReadRounds
+pub mod ReadSources
+pub mod SameTexts
+pub mod SizedRounds
+pub mod Texts

@@ -1,0 +1,3 @@
+pub mod PrintableSections
+pub mod PrintedSections
+pub mod ReadRounds

@@ -1,0 +1,10 @@
+//! Laws of media sections: what is printed of a section is read as it.
+#![tactic(auto)]
+
+mod printable;
+mod printed;
+mod rounds;
+
+pub use printable::printable_sections_law;
+pub use printed::printed_sections_law;
+pub use rounds::read_sections_keep_rows;

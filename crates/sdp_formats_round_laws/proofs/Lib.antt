@@ -1,0 +1,11 @@
+pub mod Chains
+pub mod Checks
+pub mod Follow
+pub mod LeftSteps
+pub mod Options
+pub mod Rounding
+pub mod RowSteps
+pub mod Seen
+pub mod Sets
+pub mod Standings
+pub mod Tables
