@@ -18,7 +18,7 @@ pub struct EndAndDraft {
     pub exts: ExtensionMap,
 }
 
-/// Written out, so that who lets one go needs nothing of what is inside.
+/// Written by hand so that crates that drop this type need no proof about its fields.
 impl Drop for EndAndDraft {
     fn drop(self) {
         let EndAndDraft {

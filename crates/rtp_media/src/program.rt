@@ -32,7 +32,7 @@ pub struct Program {
     queue: Vec<QueueCommand>,
 }
 
-/// Written out, so that who lets one go needs nothing of what is inside.
+/// Written by hand so that crates that drop this type need no proof about its fields.
 impl Drop for Program {
     fn drop(self) {
         let Program {

@@ -13,7 +13,7 @@ mod receiving;
 
 pub use exchanges::connect;
 pub use receive_all::ReceivedAll;
-use rtp_media_exchange::{EndError, Exchange, PayloadParams};
+use rtp_media_exchange::{AgreedSection, EndError, Exchange, PayloadParams};
 use rtp_media_stream_table::StreamTable;
 use rtp_media_streams::{Datagram, SampleError};
 use rtp_wire::{ExtensionValues, Frequency, MediaTime, Mid, Pt};
@@ -27,7 +27,7 @@ pub struct End {
     streams: StreamTable,
 }
 
-/// Written out, so that who lets one go needs nothing of what is inside.
+/// Written by hand so that crates that drop this type need no proof about its fields.
 impl Drop for End {
     fn drop(self) {
         let End {
@@ -68,6 +68,14 @@ impl End {
             exchange: Exchange::fixed(alloc)?,
             streams: StreamTable::new(alloc),
         })
+    }
+
+    /// The sections that were agreed on last, in the order of the texts: what each is called, which way media flows,
+    /// its rows, and the SSRCs that the other end names.
+    pub fn agreed_sections(&self) -> &[AgreedSection]
+        ensures { result.now ≡ self.now.exchange.agreed }
+    {
+        self.exchange.agreed_sections()
     }
 
     /// The agreed row of a payload type in a section: the first of that type in the answer.

@@ -1,5 +1,6 @@
 pub mod Agreeing
 pub mod AnsweringLemmas
+pub mod Keeping
 pub mod OneAgreement
+pub mod Printing
 pub mod Refusing
-pub mod Saying

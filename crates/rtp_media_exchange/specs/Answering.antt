@@ -1,16 +1,16 @@
--- What is written and agreed where offered sections are answered.
-use Rattle.std.specs.Prelude.{◌≡◌, ℕ, IsTrue, List, map}
-use Rattle.rtp_media_sections.specs.Agreement.{Agreed}
-use Rattle.rtp_media_exchange.specs.Exchanges.{answered_agreement}
-use Rattle.rtp_media_sections.specs.Lines.{shape_of_line}
-use Rattle.rtp_media_exchange.specs.Says.{SaysOnly}
-use Rattle.rtp_media_sections.specs.Sections.{Wanted, correspond, shape_of}
-use Rattle.sdp_formats_data.specs.declared.media.MediaLine.{MediaLine}
+-- What is agreed where offered sections are answered.
+use Rattle.std.specs.Prelude.{◌≡◌, ◌<◌, ◌^◌, List, [], map}
+use Rattle.rtp_media_section_laws.specs.PrintedSections.{named}
+use Rattle.rtp_media_sections.specs.Sections.{Section, Wanted}
+use Rattle.rtp_wire.specs.Name.{name_of}
+use Rattle.sdp_formats_laws.specs.RowsBack.{unlocked}
+use Rattle.sdp_formats_rounds.specs.Members.{IsEach}
 
--- The text says sections of the wanted names and kinds, and what is agreed is what it says.
-pub record IsAgreedBy (text : List ℕ) (wanted : List Wanted) (offer : List MediaLine) (agreed : List Agreed)
-    : Type 0 where
-  pub said : List MediaLine
-  pub said_is : SaysOnly text said
-  pub said_corresponds : IsTrue (correspond (map shape_of_line said) (map shape_of wanted))
-  pub agreed_is : agreed ≡ answered_agreement wanted offer said
+-- What an agreement takes of a printed section: its rows as no exchange has settled them, and its extensions as their
+-- URIs name them.
+abbrev pub read_back : Section → Section
+read_back s = record s { rows = map unlocked s.rows; extmaps = map named s.extmaps; sources = [] }
+
+-- A name of at most 16 bytes, and SSRCs of 32 bits.
+abbrev pub HasWidths : Wanted → Type 0
+HasWidths w = (name_of 16 w.mid ≡ w.mid) × IsEach (λ ssrc. ssrc < 2 ^ 32) w.ssrcs

@@ -1,14 +1,15 @@
 -- What an end keeps of its exchanges, and how each call changes it.
-use Rattle.std.specs.Prelude.{ℕ, true, false, List, [], ◌∷◌, map, zip, Option, None}
+use Rattle.std.specs.Prelude.{◌<◌, ◌^◌, ℕ, true, false, List, [], ◌∷◌, map, zip, Option, None}
 use Rattle.rtp_wire.specs.Maps.{empty_map}
 use Rattle.rtp_wire.specs.Values.{Numbering}
 use Rattle.rtp_media_sections.specs.Configs.{Config}
 use Rattle.rtp_media_sections.specs.DefaultRows.{opus_row}
 use Rattle.rtp_media_sections.specs.Rows.{Row}
-use Rattle.sdp_formats_data.specs.declared.media.MediaLine.{MediaLine}
 use Rattle.sdp_formats_data.specs.declared.session.Session.{Session}
 use Rattle.rtp_media_sections.specs.Agreement.{Agreed, agreed_by_accept, agreed_by_answer, fixed_section}
-use Rattle.rtp_media_sections.specs.Sections.{Wanted}
+use Rattle.rtp_media_sections.specs.Sections.{Section, Wanted}
+use Rattle.rtp_media_section_laws.specs.PrintableSections.{ArePrintable}
+use Rattle.sdp_formats_reader.specs.Writable.{IsWritableSession}
 
 -- What an end keeps of its exchanges: its session, the header extensions that it wants, its rows with their locks, the
 -- sections of an offer that waits for its answer, and the sections that were agreed last.
@@ -18,6 +19,12 @@ pub record Exchanged : Type 0 where
   pub config : Config
   pub pending : Option (List Wanted)
   pub agreed : List Agreed
+
+-- What holds of an end at any time: its session can be written, and its rows come back from the texts that list them.
+pub record IsKept (session : Session) (rows : List Row) : Type 0 where
+  pub id : session.id < 2 ^ 64
+  pub writable : IsWritableSession session
+  pub printable : ArePrintable rows
 
 -- A session with neither attributes nor bandwidth.
 abbrev pub bare_session : ℕ → Session
@@ -48,10 +55,10 @@ with_agreement x rows agreed =
     record x { config = record x.config { rows = rows }; pending = None; agreed = agreed }
 
 -- What the end agrees on that answers sections, each by its wanted one, the offered one and the answer's.
-abbrev pub answered_agreement : List Wanted → List MediaLine → List MediaLine → List Agreed
+abbrev pub answered_agreement : List Wanted → List Section → List Section → List Agreed
 answered_agreement wanted offer answer =
     map (λ s. agreed_by_answer s.0.0 s.0.1 s.1) (zip (zip wanted offer) answer)
 
 -- What the end agrees on that offered them.
-abbrev pub accepted_agreement : List Wanted → List MediaLine → List Agreed
+abbrev pub accepted_agreement : List Wanted → List Section → List Agreed
 accepted_agreement wanted answer = map (λ s. agreed_by_accept s.0 s.1) (zip wanted answer)

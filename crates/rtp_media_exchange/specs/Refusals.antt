@@ -1,33 +1,33 @@
 -- Why calls are refused, lack of memory aside: the first reason that holds.
-use Rattle.std.specs.Prelude.{◌≡◌, ◌≢◌, ◌⊎◌, IsFalse, ℕ, Bool, true, not, ◌&&◌, ◌==◌, length, Result, Ok, Err}
+use Rattle.std.specs.Prelude.{◌≡◌, ◌≢◌, ◌⊎◌, ℕ, Bool, true, not, ◌&&◌, ◌||◌, ◌==◌, length, Result, Ok, Err}
 use Rattle.std.specs.Prelude.{if◌then◌else◌, List, []}
 use Rattle.std.specs.Prelude.{◌∷◌, ◌++◌, Option, Some, None, is_some, map, find, suc}
 use Rattle.std.specs.List.{list_any}
 use Rattle.std.specs.Option.{option_map}
+use Rattle.rtp_wire.specs.Kinds.{uri_of}
 use Rattle.rtp_wire.specs.Values.{Numbering}
+use Rattle.rtp_wire.specs.declared.Extension.{Extension}
 use Rattle.rtp_media_sections.specs.Kinds.{rows_of_kind}
 use Rattle.sdp_formats_rounds.specs.Laws.{rounds}
 use Rattle.rtp_media_sections.specs.declared.RoundError.{RoundError}
 use Rattle.rtp_media_sections.specs.Plain.{is_plain}
 use Rattle.rtp_media_sections.specs.Rows.{Row}
-use Rattle.rtp_media_sections.specs.SectionRows.{rows_of}
-use Rattle.sdp_formats_data.specs.PrintedSession.{sdp_text}
 use Rattle.sdp_formats_data.specs.declared.media.MediaLine.{MediaLine}
 use Rattle.sdp_formats_data.specs.declared.session.Session.{Session}
 use Rattle.sdp_formats_reader.specs.Writable.{IsWritableSession}
 use Rattle.rtp_media_exchange.specs.Exchanges.{Exchanged}
-use Rattle.rtp_media_exchange.specs.Offers.{answer_of}
+use Rattle.rtp_media_exchange.specs.Offers.{answered_sections}
 use Rattle.rtp_media_exchange.specs.Reading.{IsUnread}
-use Rattle.rtp_media_exchange.specs.Says.{Says}
+use Rattle.rtp_media_exchange.specs.Says.{Says, SaysSections}
 use Rattle.rtp_media_exchange.specs.declared.errors.EndError.{EndError}
 use Rattle.rtp_media_exchange.specs.declared.errors.EndError.TheVariants as fault
 use Rattle.rtp_media_exchange.specs.declared.errors.ExchangeError.{ExchangeError}
 use Rattle.rtp_media_exchange.specs.declared.errors.ExchangeError.TheVariants as error
-use Rattle.rtp_media_sections.specs.Agreement.{Agreed, shape_of_agreed}
+use Rattle.rtp_media_sections.specs.Agreement.{may_follow}
 use Rattle.rtp_media_sections.specs.Answered.{answered_rows}
-use Rattle.rtp_media_sections.specs.Extensions.{is_writable_map}
-use Rattle.rtp_media_sections.specs.Lines.{is_media_line, mid_of, remote_of, shape_of_line, types_listed}
-use Rattle.rtp_media_sections.specs.Sections.{Wanted, correspond, may_follow, shape_of}
+use Rattle.rtp_media_sections.specs.Extensions.{is_word, is_writable_map}
+use Rattle.rtp_media_sections.specs.Lines.{remote_of, section_of, types_listed}
+use Rattle.rtp_media_sections.specs.Sections.{Section, Wanted, corresponds}
 
 -- What is refused next, where nothing was refused yet.
 abbrev pub else_refused : {A : Type 0} → Option A → Option A → Option A
@@ -74,127 +74,109 @@ no_row_of (Some w) = Some (error.NoCommonRow w.mid)
 abbrev pub is_nameless : Wanted → Bool
 is_nameless w = length w.mid == 0
 
--- Sections may follow those that were agreed.
-abbrev pub follows_agreed : List Agreed → List Wanted → Bool
-follows_agreed agreed wanted = may_follow (map shape_of_agreed agreed) (map shape_of wanted)
-
 -- While an offer is pending everything is refused; else what is refused next.
 abbrev pub in_turn : Bool → Option ExchangeError → Option ExchangeError
 in_turn is_pending next = if is_pending then Some error.OutOfTurn else next
 
--- Why sections aren't offered, by rows and by those that were agreed.
-unfoldable pub refusal_of_wanted : List Row → List Agreed → List Wanted → Option ExchangeError
-refusal_of_wanted rows agreed wanted =
-    if not (follows_agreed agreed wanted) then Some error.NotCorresponding
-    else else_refused (no_row_of (find (lists_none rows) wanted))
-    (if list_any is_nameless wanted then Some error.NotWritable else None)
-
 -- Why `offer` is refused.
 unfoldable pub refusal_of_offer : Exchanged → List Wanted → Option ExchangeError
-refusal_of_offer x wanted = in_turn (is_some x.pending) (refusal_of_wanted x.config.rows x.agreed wanted)
+refusal_of_offer x wanted = in_turn (is_some x.pending)
+    (if not (may_follow x.agreed wanted) then Some error.NotCorresponding
+    else else_refused (no_row_of (find (lists_none x.config.rows) wanted))
+    (if list_any is_nameless wanted then Some error.NotWritable else None))
 
 -- The first section of a text that is no media, or for which a list of rows has none.
-abbrev pub not_media_of : Option MediaLine → Option ExchangeError
+abbrev pub not_media_of : Option Section → Option ExchangeError
 not_media_of None = None
-not_media_of (Some m) = Some (error.NotMedia (mid_of m))
+not_media_of (Some s) = Some (error.NotMedia s.mid)
 
-abbrev pub no_common_row_of : Option MediaLine → Option ExchangeError
+abbrev pub no_common_row_of : Option Section → Option ExchangeError
 no_common_row_of None = None
-no_common_row_of (Some m) = Some (error.NoCommonRow (mid_of m))
+no_common_row_of (Some s) = Some (error.NoCommonRow s.mid)
 
 -- Why the rounds with these sections are refused.
 abbrev pub round_refusal : Result (List Row) RoundError → Option ExchangeError
 round_refusal (Ok rows) = None
 round_refusal (Err e) = Some (error.Round e)
 
--- Why the sections of a text can't be exchanged for wanted ones, by rows and by those that were agreed: one is no
--- media, they don't correspond, or a round is refused.
-unfoldable pub refusal_of_sections : List Row → List Agreed → List MediaLine → List Wanted → Option ExchangeError
-refusal_of_sections rows agreed lines wanted =
-    else_refused (not_media_of (find (λ m. not (is_media_line m)) lines))
-    (if correspond (map shape_of_line lines) (map shape_of wanted) && follows_agreed agreed wanted
-    then round_refusal (rounds (map remote_of lines) rows) else Some error.NotCorresponding)
+abbrev pub after_rounds : Result (List Row) RoundError → (List Row → Option ExchangeError) → Option ExchangeError
+after_rounds (Ok rows) next = next rows
+after_rounds (Err e) next = None
+
+-- Why the sections of a text can't be exchanged for wanted ones: one is no media, they don't correspond, or a round is
+-- refused.
+unfoldable pub refusal_of_sections : Exchanged → List Section → List Wanted → Option ExchangeError
+refusal_of_sections x sections wanted =
+    else_refused (not_media_of (find (λ s. not s.is_media) sections))
+    (if corresponds sections wanted && may_follow x.agreed wanted
+    then round_refusal (rounds (map remote_of sections) x.config.rows) else Some error.NotCorresponding)
 
 -- A section of an offer to which an answer would list no row.
-unfoldable pub answers_none : List Row → MediaLine → Bool
-answers_none rows m = length (answered_rows rows m) == 0
+abbrev pub answers_none : List Row → Section → Bool
+answers_none rows s = length (answered_rows rows s) == 0
 
 -- Why an answer isn't given, once the rounds left the rows so.
-abbrev pub no_answer : List Row → List MediaLine → Option ExchangeError
-no_answer rows lines = no_common_row_of (find (answers_none rows) lines)
+abbrev pub no_answer : List Row → List Section → Option ExchangeError
+no_answer rows sections = no_common_row_of (find (answers_none rows) sections)
+
+-- An extension whose URI can't stand in a line.
+abbrev pub is_unwritable : ℕ × Extension → Bool
+is_unwritable entry = not (is_word (uri_of entry.1))
+
+abbrev pub lists_unwritable : Section → Bool
+lists_unwritable s = list_any is_unwritable s.extmaps
+
+-- Why an answer of these sections to wanted ones can't be written: one has no name, or lists such an extension.
+abbrev pub not_written : List Wanted → List Section → Option ExchangeError
+not_written wanted answer =
+    if list_any is_nameless wanted || list_any lists_unwritable answer then Some error.NotWritable else None
+
+-- Why `answer` is refused, of what the text says.
+unfoldable pub refusal_of_answer : Exchanged → List Section → List Wanted → Option ExchangeError
+refusal_of_answer x sections wanted = in_turn (is_some x.pending)
+    (else_refused (refusal_of_sections x sections wanted)
+    (after_rounds (rounds (map remote_of sections) x.config.rows) (λ after.
+    else_refused (no_answer after sections)
+    (not_written wanted (answered_sections x.wanted after wanted sections)))))
 
 -- A section of an answer of whose rows none has the type of a locked row.
 abbrev pub is_locked_at : List Row → Row → Bool
 is_locked_at rows row = list_any (λ own. own.locked && own.pt == row.pt) rows
 
-unfoldable pub shares_none : List Row → MediaLine → Bool
-shares_none rows m = not (list_any (is_locked_at rows) (rows_of m.pts m.attrs))
+abbrev pub shares_none : List Row → Section → Bool
+shares_none rows s = not (list_any (is_locked_at rows) s.rows)
 
-abbrev pub no_acceptance : List Row → List MediaLine → Option ExchangeError
-no_acceptance rows lines = no_common_row_of (find (shares_none rows) lines)
+abbrev pub no_acceptance : List Row → List Section → Option ExchangeError
+no_acceptance rows sections = no_common_row_of (find (shares_none rows) sections)
 
-abbrev pub after_rounds : Result (List Row) RoundError → (List Row → Option ExchangeError) → Option ExchangeError
-after_rounds (Ok rows) next = next rows
-after_rounds (Err e) next = None
+-- Why `accept` is refused, of what the text says.
+abbrev pub refusal_by_offer : Exchanged → List Section → Option (List Wanted) → Option ExchangeError
+refusal_by_offer x sections None = Some error.OutOfTurn
+refusal_by_offer x sections (Some wanted) = else_refused (refusal_of_sections x sections wanted)
+    (after_rounds (rounds (map remote_of sections) x.config.rows) (λ after. no_acceptance after sections))
 
--- Why the offered sections of a text aren't answered by wanted ones, by rows and by those that were agreed.
-unfoldable pub refusal_of_answered : List Row → List Agreed → List MediaLine → List Wanted → Option ExchangeError
-refusal_of_answered rows agreed lines wanted = else_refused (refusal_of_sections rows agreed lines wanted)
-    (after_rounds (rounds (map remote_of lines) rows) (λ after. no_answer after lines))
-
--- Why `answer` is refused, of the sections that the text says, but for a text that can't be written.
-unfoldable pub refusal_of_answer : Exchanged → List MediaLine → List Wanted → Option ExchangeError
-refusal_of_answer x lines wanted =
-    in_turn (is_some x.pending) (refusal_of_answered x.config.rows x.agreed lines wanted)
-
--- Why the sections of a text aren't accepted as an answer to wanted ones, by rows and by those that were agreed.
-unfoldable pub refusal_of_accepted : List Row → List Agreed → List MediaLine → List Wanted → Option ExchangeError
-refusal_of_accepted rows agreed lines wanted = else_refused (refusal_of_sections rows agreed lines wanted)
-    (after_rounds (rounds (map remote_of lines) rows) (λ after. no_acceptance after lines))
-
--- Why `accept` is refused, of the sections that the text says.
-abbrev pub refusal_by_offer : Exchanged → List MediaLine → Option (List Wanted) → Option ExchangeError
-refusal_by_offer x lines None = Some error.OutOfTurn
-refusal_by_offer x lines (Some wanted) = refusal_of_accepted x.config.rows x.agreed lines wanted
-
-unfoldable pub refusal_of_accept : Exchanged → List MediaLine → Option ExchangeError
-refusal_of_accept x lines = refusal_by_offer x lines x.pending
+unfoldable pub refusal_of_accept : Exchanged → List Section → Option ExchangeError
+refusal_of_accept x sections = refusal_by_offer x sections x.pending
 
 -- An error is the reason, unless memory ran out.
 abbrev pub Refuses : ExchangeError → Option ExchangeError → Type 0
 Refuses e why = e ≢ error.Memory → why ≡ Some e
 
--- Nothing refuses `answer`, or `accept`, of what the text says, but that the answer can't be written.
+-- Nothing refuses `answer`, or `accept`, of what the text says.
 abbrev pub MayAnswer : Exchanged → List ℕ → List Wanted → Type 0
-MayAnswer x text wanted = (lines : List MediaLine) → Says text lines → refusal_of_answer x lines wanted ≡ None
+MayAnswer x text wanted =
+    (lines : List MediaLine) → Says text lines → refusal_of_answer x (map section_of lines) wanted ≡ None
 
 abbrev pub MayAccept : Exchanged → List ℕ → Type 0
-MayAccept x text = (lines : List MediaLine) → Says text lines → refusal_of_accept x lines ≡ None
+MayAccept x text = (lines : List MediaLine) → Says text lines → refusal_of_accept x (map section_of lines) ≡ None
 
--- The text of an answer that doesn't say sections of the wanted names and kinds.
-abbrev pub IsUnwritable : List ℕ → List Wanted → Type 0
-IsUnwritable text wanted = (lines : List MediaLine) → Says text lines
-    → IsFalse (correspond (map shape_of_line lines) (map shape_of wanted))
-
--- The answer to these sections can't be written: its text doesn't say them.
-pub record CannotSay (x : Exchanged) (lines : List MediaLine) (wanted : List Wanted) : Type 0 where
-  pub rows : List Row
-  pub rounds_are : rounds (map remote_of lines) x.config.rows ≡ Ok rows
-  pub unwritable : IsUnwritable (sdp_text (answer_of x rows wanted lines)) wanted
-
--- What the text says isn't answered for this reason: the first that holds; or nothing refuses it, and the answer can't
--- be written.
-pub record IsReason (x : Exchanged) (text : List ℕ) (wanted : List Wanted) (e : ExchangeError) : Type 0 where
-  pub lines : List MediaLine
-  pub says : Says text lines
-  pub why : (refusal_of_answer x lines wanted ≡ Some e)
-      ⊎ ((e ≡ error.NotWritable) × ((refusal_of_answer x lines wanted ≡ None) × CannotSay x lines wanted))
-
--- An error of `answer`: the text says nothing, or memory runs out; or there is a reason.
+-- An error of `answer`: the text says nothing, or memory runs out; or what it says isn't answered for this reason, the
+-- first that holds.
 abbrev pub RefusesAnswer : Exchanged → List ℕ → List Wanted → ExchangeError → Type 0
-RefusesAnswer x text wanted e = IsUnread text e ⊎ IsReason x text wanted e
+RefusesAnswer x text wanted e = IsUnread text e
+    ⊎ ((sections : List Section) × SaysSections text sections × (refusal_of_answer x sections wanted ≡ Some e))
 
--- The same of `accept`, which writes nothing.
+-- The same of `accept`.
 abbrev pub RefusesAccept : Exchanged → List ℕ → ExchangeError → Type 0
-RefusesAccept x text e =
-    IsUnread text e ⊎ ((lines : List MediaLine) × Says text lines × (refusal_of_accept x lines ≡ Some e))
+RefusesAccept x text e = IsUnread text e
+    ⊎ ((sections : List Section) × SaysSections text sections × (refusal_of_accept x sections ≡ Some e))

@@ -4,11 +4,10 @@ ghost use Rattle.std.specs.Prelude.{◌≡◌, length, IfOk};
 ghost use Rattle.rtp_media_sections.specs.Agreement.{AgreesOn};
 ghost use Rattle.rtp_media_exchange.specs.Exchanges.{accepted_agreement, answered_agreement};
 
-use rtp_media_sections::{AgreedSection, SectionSpec, agreed_by_accept, agreed_by_answer};
-use sdp_formats_data::MediaLine;
+use rtp_media_sections::{AgreedSection, Section, SectionSpec, agreed_by_accept, agreed_by_answer};
 use std::alloc::{AllocError, Global};
 
-/// What the end agrees on that answers sections, by the answer's own text.
+/// What the end agrees on that answers sections, by what its answer says.
 ///
 /// # Conditions
 ///
@@ -17,11 +16,11 @@ use std::alloc::{AllocError, Global};
 /// # Errors
 ///
 /// `AllocError` where memory runs out.
-pub fn answered_agreement(
+pub(crate) fn answered_agreement(
     alloc: Global,
     wanted: &[SectionSpec],
-    offer: &[MediaLine],
-    answer: &[MediaLine],
+    offer: &[Section],
+    answer: &[Section],
 ) -> Result<Vec<AgreedSection>, AllocError>
     requires offer { length wanted.now ≡ length offer.now }
     requires answer { length wanted.now ≡ length answer.now }
@@ -44,10 +43,10 @@ pub fn answered_agreement(
 /// # Errors
 ///
 /// `AllocError` where memory runs out.
-pub fn accepted_agreement(
+pub(crate) fn accepted_agreement(
     alloc: Global,
     wanted: &[SectionSpec],
-    answer: &[MediaLine],
+    answer: &[Section],
 ) -> Result<Vec<AgreedSection>, AllocError>
     requires { length wanted.now ≡ length answer.now }
     ensures value { IfOk result (λ agreed. agreed.items ≡ accepted_agreement wanted.now answer.now) }

@@ -1,81 +1,96 @@
-//! What is written and agreed where sections are answered or accepted.
+//! What is written and agreed where sections are answered.
 
-ghost use Rattle.std.specs.Prelude.{◌≡◌, ◌≢◌, Some, Ok, None, length, map, string_bytes, IfOk, IfErr, OnOk};
-ghost use Rattle.rtp_media_exchange.specs.Exchanges.{accepted_agreement, fresh};
-ghost use Rattle.rtp_media_sections.specs.Agreement.{AgreesOn};
-ghost use Rattle.rtp_media_exchange.specs.Offers.{answer_of};
-ghost use Rattle.sdp_formats_rounds.specs.Laws.{rounds};
-ghost use Rattle.rtp_media_sections.specs.Lines.{remote_of};
-ghost use Rattle.rtp_media_exchange.specs.Refusals.{IsUnwritable, refusal_of_accepted};
-ghost use Rattle.rtp_media_exchange.specs.Says.{AgreesOnText};
-ghost use Rattle.rtp_media_exchange.specs.Answering.{IsAgreedBy};
+ghost use Rattle.std.specs.Prelude.{◌≡◌, ◌≢◌, None, Some, false, true, length, map, string_bytes, IfOk, IfErr, OnOk};
+ghost use Rattle.rtp_media_sections.specs.Answered.{answered_section};
+ghost use Rattle.rtp_media_exchange.specs.Answering.{read_back};
+ghost use Rattle.rtp_media_exchange.specs.Exchanges.{answered_agreement};
+ghost use Rattle.rtp_media_exchange.specs.Offers.{answered_sections, sdp_of};
+ghost use Rattle.rtp_media_exchange.specs.Refusals.{answers_none, no_answer};
 ghost use Rattle.sdp_formats_data.specs.PrintedSession.{sdp_text};
 
-use crate::agree::{accepted_agreement, answered_agreement};
+use crate::agree::answered_agreement;
 use crate::errors::ExchangeError;
-use crate::print::answer_text;
-use crate::said_sections::said_again;
-use crate::settling::settle_accept;
-use rtp_media_sections::{AgreedSection, CodecConfig, SectionSpec};
+use crate::print::text_of;
+use crate::read_back::all_read_back;
+use rtp_media_sections::{AgreedSection, CodecConfig, Section, SectionSpec, answered_section};
 use rtp_wire::ExtensionMap;
-use sdp_formats_data::{MediaLine, Session};
-use std::alloc::Global;
+use sdp_formats_data::Session;
+use std::alloc::{AllocError, Global};
 
-/// The text of the answer to sections, once a round with each of them left the config so, and what is agreed by it.
+/// The section that answers an offered one, where it lists a row.
+#[tactic(auto, unfolding(rtp_media_sections::specs::Answered::answered_section))]
+fn answered(
+    alloc: Global,
+    exts: &ExtensionMap,
+    config: &CodecConfig,
+    wanted: &SectionSpec,
+    offer: &Section,
+) -> Result<Section, ExchangeError>
+    ensures section { IfOk result (λ s. s ≡ answered_section exts.now config.now.rows wanted.now offer.now) }
+    ensures listed { OnOk result (answers_none config.now.rows offer.now ≡ false) }
+    ensures refused { IfErr result (λ e. e ≢ ExchangeError.Memory
+        → (answers_none config.now.rows offer.now ≡ true) × (e ≡ ExchangeError.NoCommonRow offer.now.mid)) }
+{
+    let section = answered_section(alloc, exts, config, wanted, offer)?;
+    if section.rows.is_empty() {
+        return Err(ExchangeError::NoCommonRow(offer.mid));
+    }
+    Ok(section)
+}
+
+/// The sections that answer offered ones, once a round with each of them left the config so.
 ///
 /// # Conditions
 ///
-/// The offer has as many sections as the answer.
+/// The offer has as many sections as the end wants.
 ///
 /// # Errors
 ///
-/// `NotWritable` where the text doesn't say the sections; or `Memory`.
-pub fn answered(
+/// `NoCommonRow` with the name of the first offered section to which the answer would list no row; or `Memory`.
+pub(crate) fn answered_sections(
     alloc: Global,
-    session: &Session,
     exts: &ExtensionMap,
     config: &CodecConfig,
-    sections: &[SectionSpec],
-    offer: &[MediaLine],
-) -> Result<(String, Vec<AgreedSection>), ExchangeError>
-    requires { length sections.now ≡ length offer.now }
-    ensures text { IfOk result (λ a. string_bytes a.0 ≡ sdp_text (answer_of
-        (fresh session.now exts.now config.now) config.now.rows sections.now offer.now)) }
-    ensures agreed { IfOk result (λ a. IsAgreedBy (string_bytes a.0) sections.now offer.now a.1.items) }
-    ensures said { IfOk result (λ a. AgreesOnText (string_bytes a.0) a.1.items) }
-    ensures refused { IfErr result (λ e. e ≢ ExchangeError.Memory → (e ≡ ExchangeError.NotWritable)
-        × IsUnwritable (sdp_text (answer_of (fresh session.now exts.now config.now) config.now.rows sections.now
-        offer.now)) sections.now) }
+    wanted: &[SectionSpec],
+    offer: &[Section],
+) -> Result<Vec<Section>, ExchangeError>
+    requires { length wanted.now ≡ length offer.now }
+    ensures sections { IfOk result (λ answer. answer.items
+        ≡ answered_sections exts.now config.now.rows wanted.now offer.now) }
+    ensures ok { OnOk result (no_answer config.now.rows offer.now ≡ None) }
+    ensures refused { IfErr result (λ e. e ≢ ExchangeError.Memory → no_answer config.now.rows offer.now ≡ Some e) }
 {
-    let text = answer_text(alloc, session, exts, config, sections, offer)?;
-    let said = said_again(alloc, text.as_str(), sections)?;
-    let agreed = answered_agreement(alloc, sections, offer, said.as_slice())?;
-    Ok((text, agreed))
+    let mut answer = Vec::new(alloc);
+    for (place, section) in wanted.iter().enumerate() {
+        answer.push(answered(alloc, exts, config, section, &offer[place])?)?;
+    }
+    Ok(answer)
 }
 
-/// The config with which the answer to an offer of these sections is accepted by an end with this config behind the
-/// sections that it agreed on last, after a round with each section of the answer; and what is then agreed.
+/// The text of an answer that says these sections, and what is agreed by it.
+///
+/// # Conditions
+///
+/// The offer and the answer have as many sections as the end wants.
 ///
 /// # Errors
 ///
-/// The first that holds of `NotMedia`, `NotCorresponding`, `Round` and `NoCommonRow`; or `Memory`.
-pub fn accepted(
+/// `AllocError` where memory runs out.
+pub(crate) fn written(
     alloc: Global,
-    config: &CodecConfig,
-    agreed: &[AgreedSection],
-    answer: &[MediaLine],
-    sections: &[SectionSpec],
-) -> Result<(CodecConfig, Vec<AgreedSection>), ExchangeError>
-    ensures rows { IfOk result (λ a. rounds (map remote_of answer.now) config.now.rows ≡ Ok a.0.rows) }
-    ensures distances { IfOk result (λ a. a.0.distances ≡ config.now.distances) }
-    ensures agreed { IfOk result (λ a. a.1.items ≡ accepted_agreement sections.now answer.now) }
-    ensures agrees { IfOk result (λ a. AgreesOn answer.now a.1.items) }
-    ensures accepted { OnOk result
-        (refusal_of_accepted config.now.rows agreed.now answer.now sections.now ≡ None) }
-    ensures refused { IfErr result (λ e. e ≢ ExchangeError.Memory
-        → refusal_of_accepted config.now.rows agreed.now answer.now sections.now ≡ Some e) }
+    session: &Session,
+    wanted: &[SectionSpec],
+    offer: &[Section],
+    answer: &[Section],
+) -> Result<(String, Vec<AgreedSection>), AllocError>
+    requires offer { length wanted.now ≡ length offer.now }
+    requires answer { length wanted.now ≡ length answer.now }
+    ensures text { IfOk result (λ a. string_bytes a.0 ≡ sdp_text (sdp_of session.now answer.now)) }
+    ensures agreed { IfOk result (λ a. a.1.items
+        ≡ answered_agreement wanted.now offer.now (map read_back answer.now)) }
 {
-    let config = settle_accept(alloc, config, agreed, answer, sections)?;
-    let agreed = accepted_agreement(alloc, sections, answer)?;
-    Ok((config, agreed))
+    let text = text_of(alloc, session, answer)?;
+    let said = all_read_back(alloc, answer)?;
+    let agreed = answered_agreement(alloc, wanted, offer, said.as_slice())?;
+    Ok((text, agreed))
 }

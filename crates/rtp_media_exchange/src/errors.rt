@@ -3,7 +3,7 @@
 use rtp_wire::{Mid, Pt};
 use sdp_formats_reader::SdpError;
 use sdp_formats_rounds::RoundError;
-use std::alloc::AllocError;
+use std::alloc::{AllocError, AllocFailed};
 use thiserror::Error;
 
 /// Why an end can't be made; of several reasons the first listed is answered.
@@ -58,7 +58,8 @@ pub enum ExchangeError {
     /// This section would list no row.
     #[error("section {0} would list no row")]
     NoCommonRow(Mid),
-    /// The name of a section is empty, or the text would not say what it has to.
+    /// The name of a section is empty; or the answer would list a header extension whose URI can't stand in a line,
+    /// which `EndError::NotWritable` keeps from ends.
     #[error("the text can't be written")]
     NotWritable,
     /// Out of memory.
@@ -73,6 +74,17 @@ impl From<AllocError> for ExchangeError {
     ghost from_gives = { λ _ e. e ≡ Memory };
 
     fn from(_error: AllocError) -> ExchangeError {
+        ExchangeError::Memory
+    }
+}
+
+impl<T: Drop> From<AllocFailed<T>> for ExchangeError {
+    ghost use Rattle.std.specs.Prelude.{◌≡◌};
+    ghost use Rattle.rtp_media_exchange.specs.declared.errors.ExchangeError.TheVariants.{Memory};
+
+    ghost from_gives = { λ _ e. e ≡ Memory };
+
+    fn from(_error: AllocFailed<T>) -> ExchangeError {
         ExchangeError::Memory
     }
 }

@@ -9,6 +9,7 @@ ghost use Rattle.sdp_formats_reader.specs.Writable.{IsWritableSession};
 
 mod answer;
 mod offer;
+mod settle;
 
 use crate::errors::{EndError, ExchangeError};
 use crate::fixed::fixed_config;
@@ -17,6 +18,7 @@ use crate::plain::check_new;
 use rtp_media_sections::{AgreedSection, CodecConfig, PayloadParams, SectionSpec, own_row_agrees};
 use rtp_wire::{ExtensionMap, Mid, SessionId};
 use sdp_formats_data::Session;
+use sdp_formats_laws::formats_law;
 use std::alloc::{AllocError, Global};
 use std::marker::Model;
 
@@ -32,7 +34,7 @@ pub struct Exchange {
     agreed: Vec<AgreedSection>,
 }
 
-/// Written out, so that who lets one go needs nothing of what is inside.
+/// Written by hand so that crates that drop this type need no proof about its fields.
 impl Drop for Exchange {
     fn drop(self) {
         let Exchange {
@@ -62,7 +64,7 @@ impl Model for Pending {
 }
 
 impl Model for Exchange {
-    ghost use Rattle.rtp_media_exchange.specs.Exchanges.{Exchanged};
+    ghost use Rattle.rtp_media_exchange.specs.Exchanges.{Exchanged, IsKept};
 
     ghost Value = { Exchanged };
 
@@ -73,6 +75,8 @@ impl Model for Exchange {
       pending = x.pending;
       agreed = x.agreed.items;
     } };
+
+    ghost invariant = { λ x. IsKept x.session x.config.rows };
 }
 
 impl Exchange {
@@ -117,6 +121,7 @@ impl Exchange {
         let config = fixed_config(alloc)?;
         let mut agreed = Vec::new(alloc);
         agreed.push(AgreedSection::fixed(alloc)?)?;
+        formats_law();
         Ok(Exchange {
             alloc,
             session: Session::new(alloc, SessionId::from(0)),
@@ -142,6 +147,13 @@ impl Exchange {
         ensures { option_copied result ≡ section_of self.now.agreed mid }
     {
         section_named(self.agreed.as_slice(), mid)
+    }
+
+    /// The sections that were agreed on last, in the order of the texts.
+    pub fn agreed_sections(&self) -> &[AgreedSection]
+        ensures { result.now ≡ self.now.agreed }
+    {
+        self.agreed.as_slice()
     }
 
     /// Whether one of the end's own rows is locked at the type of an agreed row and means the same.

@@ -12,7 +12,7 @@ use std::alloc::{AllocError, Global};
 ///
 /// `AllocError` where memory runs out.
 #[tactic(auto, unfolding(crate::specs::Exchanges::fixed))]
-pub fn fixed_config(alloc: Global) -> Result<CodecConfig, AllocError>
+pub(crate) fn fixed_config(alloc: Global) -> Result<CodecConfig, AllocError>
     ensures { IfOk result (λ config. config ≡ fixed.config) }
 {
     let mut config = CodecConfig::empty(alloc);

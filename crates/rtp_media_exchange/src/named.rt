@@ -8,7 +8,7 @@ use rtp_media_sections::AgreedSection;
 use rtp_wire::Mid;
 
 /// The first section of a name.
-pub fn section_named(sections: &[AgreedSection], mid: Mid) -> Option<&AgreedSection>
+pub(crate) fn section_named(sections: &[AgreedSection], mid: Mid) -> Option<&AgreedSection>
     ensures { option_copied result ≡ section_of sections.now mid }
 {
     for section in sections {

@@ -1,11 +1,13 @@
 //! The rows, the session and the map of extensions that an end can be made of.
 
 ghost use Rattle.std.specs.Prelude.{◌≡◌, ◌≢◌, None, Some, [], OnOk, IfErr};
+ghost use Rattle.rtp_media_exchange.specs.Exchanges.{IsKept};
 ghost use Rattle.rtp_media_exchange.specs.Refusals.{RefusesNew, first_repeated, is_among, refusal_of_new};
 ghost use Rattle.rtp_media_exchange.specs.Refusals.{row_refusal, types_refusal};
 ghost use Rattle.sdp_formats_reader.specs.Writable.{IsWritableSession};
 
 use crate::errors::EndError;
+use crate::widths::pass_rows;
 use rtp_media_sections::{PayloadParams, is_writable, types_listed};
 use rtp_wire::{ExtensionMap, Pt};
 use sdp_formats_data::Session;
@@ -60,7 +62,7 @@ fn check_types(alloc: Global, rows: &[PayloadParams]) -> Result<(), EndError>
 ///
 /// The first that holds of `RowNotPlain`, with the place of the first row that isn't plain, `TypesNotDistinct`, with
 /// the first type that stands there twice, and `NotWritable`; or `Memory`.
-pub fn check_new(
+pub(crate) fn check_new(
     alloc: Global,
     rows: &[PayloadParams],
     session: &Session,
@@ -68,6 +70,7 @@ pub fn check_new(
 ) -> Result<(), EndError>
     ensures accepted { OnOk result (refusal_of_new rows.now exts.now ≡ None) }
     ensures writable { OnOk result (IsWritableSession session.now) }
+    ensures kept { OnOk result (IsKept session.now rows.now) }
     ensures refused { IfErr result (λ e. e ≢ EndError.Memory → RefusesNew rows.now session.now exts.now e) }
 {
     check_rows(alloc, rows)?;
@@ -75,5 +78,7 @@ pub fn check_new(
     if !is_writable(exts) || !is_writable_session(alloc, session)? {
         return Err(EndError::NotWritable);
     }
+    pass_rows(rows);
+    let _id = session.id.get();
     Ok(())
 }

@@ -21,7 +21,7 @@ pub struct KnownEnd {
     unreadable: u64,
 }
 
-/// Written out, so that who lets one go needs nothing of what is inside.
+/// Written by hand so that crates that drop this type need no proof about its fields.
 impl Drop for KnownEnd {
     fn drop(self) {
         let KnownEnd {

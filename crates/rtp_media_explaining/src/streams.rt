@@ -33,7 +33,7 @@ pub(crate) struct Stream {
     next: u64,
 }
 
-/// Written out, so that who lets one go needs nothing of what is inside.
+/// Written by hand so that crates that drop this type need no proof about its fields.
 impl Drop for Stream {
     fn drop(self) {
         let Stream {

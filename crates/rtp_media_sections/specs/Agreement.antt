@@ -3,7 +3,8 @@ use Rattle.std.specs.Prelude.{◌≡◌, ℕ, Bool, true, false, ◌&&◌, ◌==
 use Rattle.std.specs.BTreeSet.{BTreeSet, contains}
 use Rattle.std.specs.Ordering.{nat_cmp}
 use Rattle.std.specs.Str.{bytes_eq}
-use Rattle.std.specs.List.{list_any}
+use Rattle.std.specs.Prelude.{length, nat_le, not, zip}
+use Rattle.std.specs.List.{list_all, list_any}
 use Rattle.std.specs.Option.{option_map}
 use Rattle.payload_core_base.specs.declared.codec.MediaKind.{MediaKind}
 use Rattle.rtp_wire.specs.Direction.{sends, receives}
@@ -16,13 +17,9 @@ use Rattle.sdp_formats_params.specs.declared.format.FormatParams.{FormatParams}
 use Rattle.sdp_formats_rounds.specs.declared.CodecSpec.{CodecSpec}
 use Rattle.sdp_formats_rows.specs.Rows.{Row}
 use Rattle.sdp_formats_params.specs.Same.{same, same_flag}
-use Rattle.sdp_formats_section_rows.specs.SectionRows.{rows_of}
-use Rattle.sdp_formats_data.specs.Lookups.{direction_of}
-use Rattle.sdp_formats_data.specs.declared.media.MediaLine.{MediaLine}
-use Rattle.rtp_media_sections.specs.Extensions.{map_of_lines}
-use Rattle.rtp_media_sections.specs.Lines.{kind_of, mid_of, ssrcs_of}
-use Rattle.rtp_media_sections.specs.Sections.{Wanted}
-use Rattle.rtp_media_sections.specs.declared.section.Shape.{Shape}
+use Rattle.rtp_media_sections.specs.Extensions.{map_of_extmaps}
+use Rattle.rtp_media_sections.specs.Lines.{ssrcs_of}
+use Rattle.rtp_media_sections.specs.Sections.{Section, Wanted, are_distinct, has_shape}
 
 -- A section as an exchange left it: its name and kind, the answer's rows and its map of header extensions, the SSRCs
 -- that this end and the other one name in it, and whether it flows from this end and to it.
@@ -36,9 +33,17 @@ pub record Agreed : Type 0 where
   pub sends : Bool
   pub receives : Bool
 
--- The name and kind of an agreed section.
-unfoldable pub shape_of_agreed : Agreed → Shape
-shape_of_agreed a = record { mid = a.mid; kind = a.kind }
+abbrev pub is_agreed : Agreed × Wanted → Bool
+is_agreed p = has_shape p.0.mid p.0.kind p.1
+
+-- Whether wanted sections begin with the agreed ones, by names and kinds.
+abbrev pub begins_with : List Wanted → List Agreed → Bool
+begins_with wanted agreed = nat_le (length agreed) (length wanted) && list_all is_agreed (zip agreed wanted)
+
+-- Whether sections may be exchanged behind the agreed ones: there is one, no name stands twice, and they begin with the
+-- agreed ones.
+abbrev pub may_follow : List Agreed → List Wanted → Bool
+may_follow agreed wanted = not (length wanted == 0) && (are_distinct [] wanted && begins_with wanted agreed)
 
 -- What both fixed ends agree on: section `0`, Opus at type 111, no header extension, SSRC 44 at either side.
 abbrev pub fixed_section : Agreed
@@ -55,12 +60,12 @@ fixed_section = record {
 
 -- A section of the answer and of the other end's text: name, kind, rows and extensions of the answer, the SSRCs that
 -- this end wanted and those that the other end's text names, and how it flows.
-abbrev pub agreed : List ℕ → MediaLine → MediaLine → Bool → Bool → Agreed
+abbrev pub agreed : List ℕ → Section → Section → Bool → Bool → Agreed
 agreed ssrcs remote answer from to = record {
-  mid = mid_of answer;
-  kind = kind_of answer.typ;
-  rows = rows_of answer.pts answer.attrs;
-  map = map_of_lines answer.attrs;
+  mid = answer.mid;
+  kind = answer.kind;
+  rows = answer.rows;
+  map = map_of_extmaps answer.extmaps;
   own_ssrcs = ssrcs;
   remote_ssrcs = ssrcs_of remote;
   sends = from;
@@ -68,14 +73,13 @@ agreed ssrcs remote answer from to = record {
 }
 
 -- What the end agrees on that answers a section: it flows as the answer says.
-unfoldable pub agreed_by_answer : Wanted → MediaLine → MediaLine → Agreed
-agreed_by_answer w offer answer =
-    agreed w.ssrcs offer answer (sends (direction_of answer.attrs)) (receives (direction_of answer.attrs))
+unfoldable pub agreed_by_answer : Wanted → Section → Section → Agreed
+agreed_by_answer w offer answer = agreed w.ssrcs offer answer (sends answer.dir) (receives answer.dir)
 
 -- What the end agrees on that offered it: it flows where the answer lets it and the offer asked for it.
-unfoldable pub agreed_by_accept : Wanted → MediaLine → Agreed
-agreed_by_accept w answer = agreed w.ssrcs answer answer (receives (direction_of answer.attrs) && sends w.dir)
-    (sends (direction_of answer.attrs) && receives w.dir)
+unfoldable pub agreed_by_accept : Wanted → Section → Agreed
+agreed_by_accept w answer =
+    agreed w.ssrcs answer answer (receives answer.dir && sends w.dir) (sends answer.dir && receives w.dir)
 
 -- The agreed section of a name.
 abbrev pub section_of : List Agreed → List ℕ → Option Agreed
@@ -98,20 +102,20 @@ abbrev pub agreed_map_of : List Agreed → List ℕ → Option Numbering
 agreed_map_of agreed mid = option_map (λ a. a.map) (section_of agreed mid)
 
 -- The section of a name among those of a text.
-abbrev pub line_of : List MediaLine → List ℕ → Option MediaLine
-line_of lines mid = find (λ m. bytes_eq (mid_of m) mid) lines
+abbrev pub said_of : List Section → List ℕ → Option Section
+said_of sections mid = find (λ s. bytes_eq s.mid mid) sections
 
-abbrev pub row_of_line : Option MediaLine → ℕ → Option Row
-row_of_line None pt = None
-row_of_line (Some m) pt = row_in (rows_of m.pts m.attrs) pt
+abbrev pub row_of_said : Option Section → ℕ → Option Row
+row_of_said None pt = None
+row_of_said (Some s) pt = row_in s.rows pt
 
 -- The row of a payload type in a text's section of a name.
-abbrev pub row_of_text : List MediaLine → List ℕ → ℕ → Option Row
-row_of_text lines mid pt = row_of_line (line_of lines mid) pt
+abbrev pub row_of_text : List Section → List ℕ → ℕ → Option Row
+row_of_text sections mid pt = row_of_said (said_of sections mid) pt
 
 -- The map of header extensions of a text's section of a name.
-abbrev pub map_of_text : List MediaLine → List ℕ → Option Numbering
-map_of_text lines mid = option_map (λ m. map_of_lines m.attrs) (line_of lines mid)
+abbrev pub map_of_text : List Section → List ℕ → Option Numbering
+map_of_text sections mid = option_map (λ s. map_of_extmaps s.extmaps) (said_of sections mid)
 
 -- Whether an SSRC is among these.
 abbrev pub is_named : List ℕ → ℕ → Bool
@@ -139,6 +143,6 @@ own_row_agrees own row = list_any (λ r. r.locked && ((r.pt == row.pt) && means_
 
 -- Each row that was agreed on is the one that the text's sections list, and no other is; and so is the map of header
 -- extensions.
-pub record AgreesOn (lines : List MediaLine) (agreed : List Agreed) : Type 0 where
-  pub rows : (mid : List ℕ) (pt : ℕ) → agreed_row_of agreed mid pt ≡ row_of_text lines mid pt
-  pub maps : (mid : List ℕ) → agreed_map_of agreed mid ≡ map_of_text lines mid
+pub record AgreesOn (sections : List Section) (agreed : List Agreed) : Type 0 where
+  pub rows : (mid : List ℕ) (pt : ℕ) → agreed_row_of agreed mid pt ≡ row_of_text sections mid pt
+  pub maps : (mid : List ℕ) → agreed_map_of agreed mid ≡ map_of_text sections mid

@@ -1,6 +1,6 @@
 -- What an answer says (RFC 3264 6.1).
 use Rattle.std.specs.Prelude.{ℕ, Bool, true, false, ◌&&◌, ◌==◌, List, [], ◌∷◌, ◌++◌, find, fold, Option, Some, None}
-use Rattle.std.specs.Prelude.{if◌then◌else◌}
+use Rattle.std.specs.Prelude.{if◌then◌else◌, map}
 use Rattle.std.specs.List.{list_any, flat_map}
 use Rattle.rtp_wire.specs.declared.Direction.{Direction}
 use Rattle.rtp_wire.specs.declared.Direction.TheVariants.{SendOnly, RecvOnly, SendRecv, Inactive}
@@ -9,12 +9,10 @@ use Rattle.rtp_wire.specs.Values.{Numbering}
 use Rattle.sdp_formats_rounds.specs.Matching.{type_for}
 use Rattle.sdp_formats_rounds.specs.Best.{best_row}
 use Rattle.sdp_formats_rounds.specs.Rows.{Row}
-use Rattle.sdp_formats_section_rows.specs.SectionRows.{listed, rows_of}
-use Rattle.sdp_formats_data.specs.Lookups.{direction_of}
-use Rattle.sdp_formats_data.specs.declared.media.MediaLine.{MediaLine}
+use Rattle.sdp_formats_section_rows.specs.SectionRows.{listed}
 use Rattle.rtp_media_sections.specs.Extensions.{answered_extmaps}
-use Rattle.rtp_media_sections.specs.Lines.{section_line}
-use Rattle.rtp_media_sections.specs.Sections.{Wanted}
+use Rattle.rtp_media_sections.specs.Offered.{plain_source}
+use Rattle.rtp_media_sections.specs.Sections.{Section, Wanted}
 
 -- The direction that sends and receives so.
 abbrev pub flow : Bool → Bool → Direction
@@ -50,11 +48,18 @@ with_once rows row = if has_pt rows row.pt then rows else rows ++ row ∷ []
 abbrev pub rows_answering : List Row → Bool → List Row → List Row
 rows_answering rows dictated offered = fold with_once [] (flat_map (row_answering rows dictated) offered)
 
-unfoldable pub answered_rows : List Row → MediaLine → List Row
-answered_rows rows offer = rows_answering rows (receives (direction_of offer.attrs)) (rows_of offer.pts offer.attrs)
+abbrev pub answered_rows : List Row → Section → List Row
+answered_rows rows offer = rows_answering rows (receives offer.dir) offer.rows
 
 -- The section that answers an offered one, by the rows as the rounds left them: the offered extensions that the end
 -- wants too, under the offer's numbers.
-unfoldable pub answered_section : Numbering → List Row → Wanted → MediaLine → MediaLine
-answered_section exts rows w offer = section_line w (answered_direction (direction_of offer.attrs) w.dir)
-    (answered_extmaps exts offer.attrs) (answered_rows rows offer)
+unfoldable pub answered_section : Numbering → List Row → Wanted → Section → Section
+answered_section exts rows w offer = record {
+  mid = w.mid;
+  kind = w.kind;
+  is_media = true;
+  dir = answered_direction offer.dir w.dir;
+  rows = answered_rows rows offer;
+  extmaps = answered_extmaps exts offer.extmaps;
+  sources = map plain_source w.ssrcs;
+}

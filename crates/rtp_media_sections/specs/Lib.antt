@@ -11,5 +11,6 @@ pub mod Agreement
 pub mod Answered
 pub mod Extensions
 pub mod Lines
+pub mod Offered
 pub mod Repairs
 pub mod Sections

@@ -1,32 +1,30 @@
--- The sections of offers and answers, as values and as they are read (RFC 8829 5.2.1 and 5.3.1).
-use Rattle.std.specs.Prelude.{ℕ, Bool, true, false, not, ◌&&◌, List, [], ◌∷◌, ◌++◌, map, codes, None}
+-- The sections of offers and answers as lines, and what lines say (RFC 8829 5.2.1 and 5.3.1).
+use Rattle.std.specs.Prelude.{ℕ, Bool, false, not, ◌&&◌, List, [], ◌∷◌, ◌++◌, map, codes, None}
 use Rattle.std.specs.List.{flat_map}
 use Rattle.std.specs.Option.{unwrap_or}
 use Rattle.payload_core_base.specs.declared.codec.MediaKind as kind
 use Rattle.payload_core_base.specs.declared.codec.MediaKind.TheVariants as kinds
-use Rattle.rtp_wire.specs.declared.Direction.{Direction}
 use Rattle.rtp_wire.specs.Direction.{receives}
-use Rattle.rtp_wire.specs.Values.{Numbering}
-use Rattle.sdp_formats_rounds.specs.Kinds.{rows_of_kind}
-use Rattle.sdp_formats_rounds.specs.Laws.{Section}
+use Rattle.sdp_formats_rounds.specs.Laws as round
 use Rattle.sdp_formats_rounds.specs.Types.{types_of}
 use Rattle.sdp_formats_rounds.specs.Rows.{Row}
 use Rattle.sdp_formats_section_rows.specs.Attributes.{attributes_of}
 use Rattle.sdp_formats_section_rows.specs.SectionRows.{rows_of}
-use Rattle.sdp_formats_lookups.specs.Sources.{sources_of}
-use Rattle.sdp_formats_data.specs.MediaTypes.{is_rtp}
+use Rattle.sdp_formats_data.specs.Sections.{extmap_in}
+use Rattle.sdp_formats_data.specs.Sources.{infos_of}
+use Rattle.sdp_formats_data.specs.declared.SsrcInfo.{SsrcInfo}
+use Rattle.sdp_formats_data.specs.MediaTypes.{is_media, is_rtp}
 use Rattle.sdp_formats_data.specs.Lookups.{direction_of, first_of, mid_in}
 use Rattle.sdp_formats_data.specs.Media.{direction_attribute}
-use Rattle.sdp_formats_data.specs.MediaTypes.{is_media}
 use Rattle.sdp_formats_data.specs.declared.media.MediaAttribute.{MediaAttribute}
 use Rattle.sdp_formats_data.specs.declared.media.MediaAttribute.TheVariants as line
 use Rattle.sdp_formats_data.specs.declared.media.MediaLine.{MediaLine}
 use Rattle.sdp_formats_data.specs.declared.MediaType as typ
 use Rattle.sdp_formats_data.specs.declared.MediaType.TheVariants.{Audio, Video}
 use Rattle.sdp_formats_data.specs.declared.Proto.TheVariants.{Srtp}
-use Rattle.rtp_media_sections.specs.Extensions.{extmap_lines}
-use Rattle.rtp_media_sections.specs.Sections.{Wanted}
-use Rattle.rtp_media_sections.specs.declared.section.Shape.{Shape}
+use Rattle.rtp_media_sections.specs.Extensions.{extmap_line}
+use Rattle.rtp_media_sections.specs.Sections.{Section}
+use Rattle.rtp_media_sections.specs.declared.sections.Source.{Source}
 
 abbrev pub type_of : kind.MediaKind → typ.MediaType
 type_of kinds.Audio = Audio
@@ -40,24 +38,25 @@ types_listed rows = flat_map types_of rows
 abbrev pub row_lines : List Row → List MediaAttribute
 row_lines rows = flat_map attributes_of rows
 
--- An SSRC with its name for clocks (RFC 5576 6.1).
-abbrev pub ssrc_line : ℕ → MediaAttribute
-ssrc_line ssrc = line.Ssrc ssrc (codes "cname") (codes "str0m")
+-- A source with its name for clocks (RFC 5576 6.1).
+abbrev pub source_line : Source → MediaAttribute
+source_line source = line.Ssrc source.ssrc (codes "cname") (codes "str0m")
 
--- The section of a name and kind: direction, extensions, rows, and the SSRCs that its end sends under.
-abbrev pub section_line : Wanted → Direction → List MediaAttribute → List Row → MediaLine
-section_line w dir extmaps rows = record {
-  typ = type_of w.kind;
+-- The lines of a section of media: name, direction, extensions, rows and sources.
+abbrev pub section_lines : Section → List MediaAttribute
+section_lines s = line.Mid s.mid ∷ direction_attribute s.dir
+    ∷ (map extmap_line s.extmaps ++ (row_lines s.rows ++ map source_line s.sources))
+
+-- A section of media as it is written.
+unfoldable pub line_of : Section → MediaLine
+line_of s = record {
+  typ = type_of s.kind;
   disabled = false;
   proto = Srtp;
-  pts = types_listed rows;
+  pts = types_listed s.rows;
   bw = None;
-  attrs = line.Mid w.mid ∷ direction_attribute dir ∷ (extmaps ++ (row_lines rows ++ map ssrc_line w.ssrcs));
+  attrs = section_lines s;
 }
-
--- The section that an end offers: all extensions that it wants, and all rows of the kind.
-unfoldable pub offered_section : Numbering → List Row → Wanted → MediaLine
-offered_section exts rows w = section_line w w.dir (extmap_lines exts) (rows_of_kind w.kind true rows)
 
 -- The name of a section that is read; each has one.
 abbrev pub mid_of : MediaLine → List ℕ
@@ -68,17 +67,34 @@ abbrev pub kind_of : typ.MediaType → kind.MediaKind
 kind_of Video = kinds.Video
 kind_of _ = kinds.Audio
 
-unfoldable pub shape_of_line : MediaLine → Shape
-shape_of_line m = record { mid = mid_of m; kind = kind_of m.typ }
-
 -- Whether a section is audio or video over RTP that isn't refused: not of port 0 (RFC 3264 6).
 abbrev pub is_media_line : MediaLine → Bool
 is_media_line m = is_media m.typ && (is_rtp m.proto && not m.disabled)
 
--- What a round takes of a section.
-unfoldable pub remote_of : MediaLine → Section
-remote_of m = record { rows = rows_of m.pts m.attrs; dictated = receives (direction_of m.attrs) }
+abbrev pub source_of : SsrcInfo → Source
+source_of info = record { ssrc = info.ssrc; repairs = info.repairs }
 
--- The SSRCs that a section names: of its sources, those of lines and those that repair others (RFC 5576).
-abbrev pub ssrcs_of : MediaLine → List ℕ
-ssrcs_of m = sources_of m.attrs
+-- The sources that lines name: those of `a=ssrc` lines and those that repair others, each with the one that it repairs
+-- (RFC 5576).
+abbrev pub sources_in : List MediaAttribute → List Source
+sources_in attrs = map source_of (infos_of attrs)
+
+-- What the lines of a section say.
+unfoldable pub section_of : MediaLine → Section
+section_of m = record {
+  mid = mid_of m;
+  kind = kind_of m.typ;
+  is_media = is_media_line m;
+  dir = direction_of m.attrs;
+  rows = rows_of m.pts m.attrs;
+  extmaps = flat_map extmap_in m.attrs;
+  sources = sources_in m.attrs;
+}
+
+-- What a round takes of a section.
+abbrev pub remote_of : Section → round.Section
+remote_of s = record { rows = s.rows; dictated = receives s.dir }
+
+-- The SSRCs of its sources.
+abbrev pub ssrcs_of : Section → List ℕ
+ssrcs_of s = map (λ source. source.ssrc) s.sources

@@ -3,17 +3,16 @@
 ghost use Rattle.std.specs.Prelude.{◌≡◌, ◌==◌, IfOk};
 ghost use Rattle.std.specs.Str.{bytes_eq};
 ghost use Rattle.rtp_media_sections.specs.Agreement.{agreed, agreed_by_accept, agreed_by_answer, fixed_section};
-ghost use Rattle.rtp_media_sections.specs.Agreement.{is_named, row_in, shape_of_agreed};
+ghost use Rattle.rtp_media_sections.specs.Agreement.{is_named, row_in};
+ghost use Rattle.rtp_media_sections.specs.Lines.{ssrcs_of};
 
-use crate::extmaps::map_of_lines;
-use crate::read::{kind_of, mid_of, ssrcs_of};
-use crate::section::{SectionSpec, Shape};
+use crate::extmaps::map_of_extmaps;
+use crate::sections::Section;
 use crate::ssrc_list::SsrcList;
+use crate::wanted::SectionSpec;
 use payload_core_base::MediaKind;
 use rtp_wire::{ExtensionMap, Mid, Pt, Ssrc};
-use sdp_formats_data::MediaLine;
 use sdp_formats_rounds::{CodecConfig, PayloadParams};
-use sdp_formats_section_rows::rtp_params;
 use std::alloc::{AllocError, Global};
 use std::marker::Model;
 
@@ -30,7 +29,7 @@ pub struct AgreedSection {
     receives: bool,
 }
 
-/// Written out, so that who lets one go needs nothing of what is inside.
+/// Written by hand so that crates that drop this type need no proof about its fields.
 impl Drop for AgreedSection {
     fn drop(self) {
         let AgreedSection {
@@ -102,15 +101,32 @@ impl AgreedSection {
         })
     }
 
-    /// Its name and kind.
-    #[tactic(auto, unfolding(crate::specs::Agreement::shape_of_agreed))]
-    pub fn shape(&self) -> Shape
-        ensures { result ≡ shape_of_agreed self.now }
+    /// Its name (RFC 5888).
+    pub fn mid(&self) -> Mid
+        ensures { result ≡ self.now.mid }
     {
-        Shape {
-            mid: self.mid,
-            kind: self.kind,
-        }
+        self.mid
+    }
+
+    /// Whether it is of audio or of video.
+    pub fn kind(&self) -> MediaKind
+        ensures { result ≡ self.now.kind }
+    {
+        self.kind
+    }
+
+    /// The rows that both ends have, in the answer's order.
+    pub fn rows(&self) -> &[PayloadParams]
+        ensures { result.now ≡ self.now.rows }
+    {
+        self.rows.as_slice()
+    }
+
+    /// The SSRCs that the other end names, in the order in which its text has them (RFC 5576 4.1).
+    pub fn remote_ssrcs(&self) -> &[Ssrc]
+        ensures { result.now ≡ self.now.remote_ssrcs }
+    {
+        self.remote_ssrcs.as_slice()
     }
 
     /// Whether the section has this name.
@@ -166,22 +182,33 @@ impl AgreedSection {
     }
 }
 
+/// The SSRCs of a section's sources.
+fn ssrcs_of(alloc: Global, section: &Section) -> Result<Vec<Ssrc>, AllocError>
+    ensures { IfOk result (λ ssrcs. ssrcs.items ≡ ssrcs_of section.now) }
+{
+    let mut ssrcs = Vec::new(alloc);
+    for source in &section.sources {
+        ssrcs.push(source.ssrc)?;
+    }
+    Ok(ssrcs)
+}
+
 /// A section of these texts that flows so: this end names the SSRCs that it wanted, the other one those of its text.
 fn agreed(
     alloc: Global,
     wanted: &SectionSpec,
-    remote: &MediaLine,
-    answer: &MediaLine,
+    remote: &Section,
+    answer: &Section,
     sends: bool,
     receives: bool,
 ) -> Result<AgreedSection, AllocError>
     ensures { IfOk result (λ a. a ≡ agreed wanted.now.ssrcs remote.now answer.now sends receives) }
 {
     Ok(AgreedSection {
-        mid: mid_of(answer),
-        kind: kind_of(&answer.typ),
-        rows: rtp_params(alloc, answer)?,
-        exts: map_of_lines(alloc, answer.attrs.as_slice())?,
+        mid: answer.mid,
+        kind: answer.kind,
+        rows: answer.rows.clone()?,
+        exts: map_of_extmaps(alloc, answer.extmaps.as_slice())?,
         own_ssrcs: SsrcList::of(alloc, wanted.ssrcs.clone()?)?,
         remote_ssrcs: SsrcList::of(alloc, ssrcs_of(alloc, remote)?)?,
         sends,
@@ -189,7 +216,7 @@ fn agreed(
     })
 }
 
-/// What the end agrees on that answers an offered section, by its own text of the answer.
+/// What the end agrees on that answers an offered section, by what its answer says.
 ///
 /// # Errors
 ///
@@ -198,12 +225,12 @@ fn agreed(
 pub fn agreed_by_answer(
     alloc: Global,
     wanted: &SectionSpec,
-    offer: &MediaLine,
-    answer: &MediaLine,
+    offer: &Section,
+    answer: &Section,
 ) -> Result<AgreedSection, AllocError>
     ensures { IfOk result (λ a. a ≡ agreed_by_answer wanted.now offer.now answer.now) }
 {
-    let dir = answer.direction();
+    let dir = answer.dir;
     agreed(
         alloc,
         wanted,
@@ -214,7 +241,7 @@ pub fn agreed_by_answer(
     )
 }
 
-/// What the end agrees on that offered a section, by the text of the answer.
+/// What the end agrees on that offered a section, by what the answer says.
 ///
 /// # Errors
 ///
@@ -223,11 +250,11 @@ pub fn agreed_by_answer(
 pub fn agreed_by_accept(
     alloc: Global,
     wanted: &SectionSpec,
-    answer: &MediaLine,
+    answer: &Section,
 ) -> Result<AgreedSection, AllocError>
     ensures { IfOk result (λ a. a ≡ agreed_by_accept wanted.now answer.now) }
 {
-    let dir = answer.direction();
+    let dir = answer.dir;
     let sends = dir.is_receiving() && wanted.dir.is_sending();
     let receives = dir.is_sending() && wanted.dir.is_receiving();
     agreed(alloc, wanted, answer, answer, sends, receives)

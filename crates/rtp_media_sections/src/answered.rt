@@ -7,12 +7,11 @@ ghost use Rattle.rtp_media_sections.specs.Answered.{has_pt};
 ghost use Rattle.rtp_media_sections.specs.Answered.{locked_row, row_answering, rows_answering, with_once};
 
 use crate::extmaps::answered_extmaps;
-use crate::lines::section_line;
-use crate::section::SectionSpec;
+use crate::offered::plain_sources;
+use crate::sections::Section;
+use crate::wanted::SectionSpec;
 use rtp_wire::{Direction, ExtensionMap, Pt};
-use sdp_formats_data::MediaLine;
 use sdp_formats_rounds::{CodecConfig, PayloadParams};
-use sdp_formats_section_rows::rtp_params;
 use std::alloc::{AllocError, Global};
 
 /// The direction that sends and receives so.
@@ -105,20 +104,14 @@ fn rows_answering(
 
 /// The rows that the answer to an offered section lists: in the offered order and each once, the locked rows under
 /// whose types offered rows are used (RFC 3264 6.1).
-///
-/// # Errors
-///
-/// `AllocError` where memory runs out.
-#[tactic(auto, unfolding(crate::specs::Answered::answered_rows))]
-pub fn answered_rows(
+fn answered_rows(
     alloc: Global,
     config: &CodecConfig,
-    offer: &MediaLine,
+    offer: &Section,
 ) -> Result<Vec<PayloadParams>, AllocError>
     ensures { IfOk result (λ rows. rows.items ≡ answered_rows config.now.rows offer.now) }
 {
-    let offered = rtp_params(alloc, offer)?;
-    rows_answering(alloc, config, offer.direction(), offered.as_slice())
+    rows_answering(alloc, config, offer.dir, offer.rows.as_slice())
 }
 
 /// The section that answers an offered one: with the rows that answer the offered ones, after the round.
@@ -132,12 +125,17 @@ pub fn answered_section(
     exts: &ExtensionMap,
     config: &CodecConfig,
     wanted: &SectionSpec,
-    offer: &MediaLine,
-) -> Result<MediaLine, AllocError>
-    ensures { IfOk result (λ m. m ≡ answered_section exts.now config.now.rows wanted.now offer.now) }
+    offer: &Section,
+) -> Result<Section, AllocError>
+    ensures { IfOk result (λ s. s ≡ answered_section exts.now config.now.rows wanted.now offer.now) }
 {
-    let rows = answered_rows(alloc, config, offer)?;
-    let extmaps = answered_extmaps(alloc, exts, offer.attrs.as_slice())?;
-    let dir = answered_direction(offer.direction(), wanted.dir);
-    section_line(alloc, wanted, dir, extmaps, rows.as_slice())
+    Ok(Section {
+        mid: wanted.mid,
+        kind: wanted.kind,
+        is_media: true,
+        dir: answered_direction(offer.dir, wanted.dir),
+        rows: answered_rows(alloc, config, offer)?,
+        extmaps: answered_extmaps(alloc, exts, offer.extmaps.as_slice())?,
+        sources: plain_sources(alloc, wanted.ssrcs.as_slice())?,
+    })
 }

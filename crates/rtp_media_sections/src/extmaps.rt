@@ -1,13 +1,12 @@
 //! The header extensions that sections list.
 
-ghost use Rattle.std.specs.Prelude.{◌≡◌, ◌++◌, ◌∷◌, [], IfOk, OnOk};
+ghost use Rattle.std.specs.Prelude.{◌≡◌, IfOk, OnOk};
 ghost use Rattle.std.specs.List.{list_all};
-ghost use Rattle.rtp_media_sections.specs.Extensions.{answered_extmaps, extmap_lines, is_answered, is_numbered};
-ghost use Rattle.rtp_media_sections.specs.Extensions.{is_word, is_word_byte, is_writable_map, map_of_lines};
-ghost use Rattle.rtp_media_sections.specs.Extensions.{with_line_of};
+ghost use Rattle.rtp_media_sections.specs.Extensions.{answered_extmaps, entries_of, is_answered, is_numbered};
+ghost use Rattle.rtp_media_sections.specs.Extensions.{is_word, is_word_byte, is_writable_map, map_of_extmaps};
+ghost use Rattle.rtp_media_sections.specs.Extensions.{with_entry};
 
-use rtp_wire::{ExtensionMap, MAX_ID};
-use sdp_formats_data::MediaAttribute;
+use rtp_wire::{Extension, ExtensionMap, MAX_ID};
 use std::alloc::{AllocError, Global};
 
 fn is_word_byte(byte: u8) -> bool
@@ -39,19 +38,18 @@ pub fn is_writable(exts: &ExtensionMap) -> bool
     writable
 }
 
-/// The lines of a map, in rising number (RFC 8285 8).
-pub(crate) fn extmap_lines(
+/// The extensions of a map with their numbers, in rising number (RFC 8285 8).
+pub(crate) fn entries_of(
     alloc: Global,
     exts: &ExtensionMap,
-) -> Result<Vec<MediaAttribute>, AllocError>
-    ensures { IfOk result (λ lines. lines.items ≡ extmap_lines exts.now) }
+) -> Result<Vec<(u8, Extension)>, AllocError>
+    ensures { IfOk result (λ entries. entries.items ≡ entries_of exts.now) }
 {
-    let mut lines = Vec::new(alloc);
+    let mut entries = Vec::new(alloc);
     for (id, ext) in exts.iter() {
-        let ext = ext.clone(alloc)?;
-        lines.push(MediaAttribute::ExtMap { id, ext })?;
+        entries.push((id, ext.clone(alloc)?))?;
     }
-    Ok(lines)
+    Ok(entries)
 }
 
 fn is_numbered(id: u8) -> bool
@@ -60,67 +58,56 @@ fn is_numbered(id: u8) -> bool
     id >= 1 && id <= MAX_ID
 }
 
-/// A line again, if an end with this map answers it.
-#[tactic(auto, unfolding(crate::specs::Extensions::is_answered))]
-fn push_answered(
-    alloc: Global,
-    lines: &mut Vec<MediaAttribute>,
-    exts: &ExtensionMap,
-    offered: &MediaAttribute,
-) -> Result<(), AllocError>
-    ensures { OnOk result (lines.new.items ≡ lines.old.items ++ answered_extmaps exts.now (offered.now ∷ [])) }
+fn is_answered(exts: &ExtensionMap, offered: &(u8, Extension)) -> bool
+    ensures { result ≡ is_answered exts.now offered.now }
 {
-    if let MediaAttribute::ExtMap { id, ext } = offered {
-        if is_numbered(*id) && exts.id_of(ext).is_some() {
-            let ext = ext.clone(alloc)?;
-            lines.push(MediaAttribute::ExtMap { id: *id, ext })?;
-        }
-    }
-    Ok(())
+    is_numbered(offered.0) && exts.id_of(&offered.1).is_some()
 }
 
-/// The offered lines that an end with this map answers, in their order.
+/// The offered extensions that an end with this map answers, in their order and under their numbers.
 pub(crate) fn answered_extmaps(
     alloc: Global,
     exts: &ExtensionMap,
-    offered: &[MediaAttribute],
-) -> Result<Vec<MediaAttribute>, AllocError>
-    ensures { IfOk result (λ lines. lines.items ≡ answered_extmaps exts.now offered.now) }
+    offered: &[(u8, Extension)],
+) -> Result<Vec<(u8, Extension)>, AllocError>
+    ensures { IfOk result (λ answered. answered.items ≡ answered_extmaps exts.now offered.now) }
 {
-    let mut lines = Vec::new(alloc);
-    for line in offered {
-        push_answered(alloc, &mut lines, exts, line)?;
+    let mut answered = Vec::new(alloc);
+    for entry in offered {
+        if is_answered(exts, entry) {
+            answered.push((entry.0, entry.1.clone(alloc)?))?;
+        }
     }
-    Ok(lines)
+    Ok(answered)
 }
 
-#[tactic(auto, unfolding(crate::specs::Extensions::with_line_of))]
-fn read_line(
+fn set_entry(
     alloc: Global,
     exts: &mut ExtensionMap,
-    line: &MediaAttribute,
+    entry: &(u8, Extension),
 ) -> Result<(), AllocError>
-    ensures { OnOk result (exts.new ≡ with_line_of exts.old line.now) }
+    ensures { OnOk result (exts.new ≡ with_entry exts.old entry.now) }
 {
-    if let MediaAttribute::ExtMap { id, ext } = line {
-        if is_numbered(*id) {
-            exts.set(*id, ext.clone(alloc)?);
-        }
+    if is_numbered(entry.0) {
+        exts.set(entry.0, entry.1.clone(alloc)?);
     }
     Ok(())
 }
 
-/// The map that a section's lines say: of several lines of one number the last counts.
+/// The map that a section's list says: of several extensions of one number the last counts.
 ///
 /// # Errors
 ///
 /// `AllocError` where memory runs out.
-pub fn map_of_lines(alloc: Global, attrs: &[MediaAttribute]) -> Result<ExtensionMap, AllocError>
-    ensures { IfOk result (λ exts. exts ≡ map_of_lines attrs.now) }
+pub fn map_of_extmaps(
+    alloc: Global,
+    extmaps: &[(u8, Extension)],
+) -> Result<ExtensionMap, AllocError>
+    ensures { IfOk result (λ exts. exts ≡ map_of_extmaps extmaps.now) }
 {
     let mut exts = ExtensionMap::empty();
-    for line in attrs {
-        read_line(alloc, &mut exts, line)?;
+    for entry in extmaps {
+        set_entry(alloc, &mut exts, entry)?;
     }
     Ok(exts)
 }

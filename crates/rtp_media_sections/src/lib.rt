@@ -3,25 +3,30 @@
 
 mod agreement;
 mod answered;
+mod correspondence;
 mod extmaps;
 mod laws;
 mod lines;
 mod meaning;
+mod offered;
 mod read;
 mod repairs;
-mod section;
+mod sections;
 mod ssrc_list;
+mod wanted;
 
 pub use agreement::{AgreedSection, agreed_by_accept, agreed_by_answer};
-pub use answered::{answered_rows, answered_section, flow};
-pub use extmaps::{is_writable, map_of_lines};
+pub use answered::{answered_section, flow};
+pub use correspondence::{corresponds, may_follow};
+pub use extmaps::{is_writable, map_of_extmaps};
 pub use laws::extmaps_law;
-pub use lines::{offered_section, types_listed};
+pub use lines::types_listed;
 pub use meaning::own_row_agrees;
-pub use read::{is_media_line, mid_of, remote_of, shape_of_line};
+pub use offered::offered_section;
+pub use read::{kind_of, mid_of};
 pub use repairs::are_sound_pairs;
 pub use sdp_formats_rounds::{
-    Codec, CodecConfig, CodecSpec, FormatParams, PayloadParams, RemoteSection, RoundError,
+    Codec, CodecConfig, CodecSpec, FormatParams, PayloadParams, RoundError,
 };
-pub use sdp_formats_section_rows::rtp_params;
-pub use section::{SectionSpec, Shape, begins_with, correspond, may_follow};
+pub use sections::{Section, Source};
+pub use wanted::SectionSpec;

@@ -1,17 +1,17 @@
-//! The sections of offers and answers.
+//! The sections of offers and answers as lines.
 
 ghost use Rattle.std.specs.Prelude.{◌≡◌, ◌++◌, IfOk, OnOk, map};
 ghost use Rattle.sdp_formats_rounds.specs.Types.{types_of, listed};
-ghost use Rattle.rtp_media_sections.specs.Lines.{offered_section, row_lines, section_line, ssrc_line, type_of};
-ghost use Rattle.rtp_media_sections.specs.Lines.{types_listed};
+ghost use Rattle.rtp_media_sections.specs.Extensions.{extmap_line};
+ghost use Rattle.rtp_media_sections.specs.Lines.{line_of, row_lines, section_lines, source_line};
+ghost use Rattle.rtp_media_sections.specs.Lines.{type_of, types_listed};
 
-use crate::extmaps::extmap_lines;
-use crate::section::SectionSpec;
+use crate::sections::{Section, Source};
 use payload_core_base::MediaKind;
-use rtp_wire::{Direction, ExtensionMap, Pt, Ssrc};
+use rtp_wire::{Extension, Pt};
 use sdp_formats_data::{Listed, MediaAttribute, MediaLine, MediaType, Proto, Text};
-use sdp_formats_rounds::{CodecConfig, PayloadParams};
-use sdp_formats_section_rows::as_media_attrs;
+use sdp_formats_rounds::PayloadParams;
+use sdp_formats_section_rows::AsMediaAttrs;
 use std::alloc::{AllocError, Global};
 
 fn type_of(kind: MediaKind) -> MediaType
@@ -63,77 +63,83 @@ fn push_rows(
     ensures { OnOk result (attrs.new.items ≡ attrs.old.items ++ row_lines rows.now) }
 {
     for row in rows {
-        let mut lines = as_media_attrs(alloc, row)?;
+        let mut lines = row.as_media_attrs(alloc)?;
         attrs.append(&mut lines)?;
     }
     Ok(())
 }
 
-fn ssrc_line(alloc: Global, ssrc: Ssrc) -> Result<MediaAttribute, AllocError>
-    ensures { IfOk result (λ line. line ≡ ssrc_line ssrc) }
+fn push_extmaps(
+    alloc: Global,
+    attrs: &mut Vec<MediaAttribute>,
+    extmaps: &[(u8, Extension)],
+) -> Result<(), AllocError>
+    ensures { OnOk result (attrs.new.items ≡ attrs.old.items ++ map extmap_line extmaps.now) }
+{
+    for entry in extmaps {
+        attrs.push(MediaAttribute::ExtMap {
+            id: entry.0,
+            ext: entry.1.clone(alloc)?,
+        })?;
+    }
+    Ok(())
+}
+
+fn source_line(alloc: Global, source: &Source) -> Result<MediaAttribute, AllocError>
+    ensures { IfOk result (λ line. line ≡ source_line source.now) }
 {
     Ok(MediaAttribute::Ssrc {
-        ssrc,
+        ssrc: source.ssrc,
         attr: Text::of(String::from_str(alloc, "cname")?),
         value: Text::of(String::from_str(alloc, "str0m")?),
     })
 }
 
-fn push_ssrcs(
+fn push_sources(
     alloc: Global,
     attrs: &mut Vec<MediaAttribute>,
-    ssrcs: &[Ssrc],
+    sources: &[Source],
 ) -> Result<(), AllocError>
-    ensures { OnOk result (attrs.new.items ≡ attrs.old.items ++ map ssrc_line ssrcs.now) }
+    ensures { OnOk result (attrs.new.items ≡ attrs.old.items ++ map source_line sources.now) }
 {
-    for ssrc in ssrcs {
-        attrs.push(ssrc_line(alloc, *ssrc)?)?;
+    for source in sources {
+        attrs.push(source_line(alloc, source)?)?;
     }
     Ok(())
 }
 
-/// The section of a name and kind, with this direction, these extensions and these rows.
-pub(crate) fn section_line(
-    alloc: Global,
-    wanted: &SectionSpec,
-    dir: Direction,
-    extmaps: Vec<MediaAttribute>,
-    rows: &[PayloadParams],
-) -> Result<MediaLine, AllocError>
-    ensures { IfOk result (λ m. m ≡ section_line wanted.now dir extmaps.items rows.now) }
+/// The lines of a section of media: its name, direction, extensions, rows and sources.
+fn section_lines(alloc: Global, section: &Section) -> Result<Vec<MediaAttribute>, AllocError>
+    ensures { IfOk result (λ lines. lines.items ≡ section_lines section.now) }
 {
-    let mut extmaps = extmaps;
-    let mut attrs = Vec::new(alloc);
-    attrs.push(MediaAttribute::Mid(wanted.mid))?;
-    attrs.push(MediaAttribute::from(dir))?;
-    attrs.append(&mut extmaps)?;
-    push_rows(alloc, &mut attrs, rows)?;
-    push_ssrcs(alloc, &mut attrs, wanted.ssrcs.as_slice())?;
-    Ok(MediaLine {
-        typ: type_of(wanted.kind),
-        disabled: false,
-        proto: Proto::Srtp,
-        pts: Listed::of(types_listed(alloc, rows)?),
-        bw: None,
-        attrs: Listed::of(attrs),
-    })
+    let mut lines = Vec::new(alloc);
+    lines.push(MediaAttribute::Mid(section.mid))?;
+    lines.push(MediaAttribute::from(section.dir))?;
+    push_extmaps(alloc, &mut lines, section.extmaps.as_slice())?;
+    push_rows(alloc, &mut lines, section.rows.as_slice())?;
+    push_sources(alloc, &mut lines, section.sources.as_slice())?;
+    Ok(lines)
 }
 
-/// The section that an end offers: all extensions that it wants, and all rows of the kind (RFC 8829 5.2.1).
-///
-/// # Errors
-///
-/// `AllocError` where memory runs out.
-#[tactic(auto, unfolding(crate::specs::Lines::offered_section))]
-pub fn offered_section(
-    alloc: Global,
-    exts: &ExtensionMap,
-    config: &CodecConfig,
-    wanted: &SectionSpec,
-) -> Result<MediaLine, AllocError>
-    ensures { IfOk result (λ m. m ≡ offered_section exts.now config.now.rows wanted.now) }
-{
-    let rows = config.all_for_kind(wanted.kind, true)?;
-    let extmaps = extmap_lines(alloc, exts)?;
-    section_line(alloc, wanted, wanted.dir, extmaps, rows.as_slice())
+impl Section {
+    /// A section of media as it is written.
+    ///
+    /// # Errors
+    ///
+    /// `AllocError` where memory runs out.
+    #[tactic(auto, unfolding(crate::specs::Lines::line_of))]
+    pub fn to_line(&self, alloc: Global) -> Result<MediaLine, AllocError>
+        ensures { IfOk result (λ m. m ≡ line_of self.now) }
+    {
+        let types = types_listed(alloc, self.rows.as_slice())?;
+        let lines = section_lines(alloc, self)?;
+        Ok(MediaLine {
+            typ: type_of(self.kind),
+            disabled: false,
+            proto: Proto::Srtp,
+            pts: Listed::of(types),
+            bw: None,
+            attrs: Listed::of(lines),
+        })
+    }
 }

@@ -38,6 +38,13 @@ impl SsrcList {
         Ok(SsrcList { listed, set })
     }
 
+    /// They, in the order in which the section names them.
+    pub(crate) fn as_slice(&self) -> &[Ssrc]
+        ensures { result.now ≡ self.now }
+    {
+        self.listed.as_slice()
+    }
+
     /// Whether the SSRC is among them.
     pub(crate) fn names(&self, ssrc: Ssrc) -> bool
         ensures { result ≡ is_named self.now ssrc }

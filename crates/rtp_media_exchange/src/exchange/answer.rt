@@ -6,10 +6,13 @@ ghost use Rattle.rtp_media_exchange.specs.Refusals.{MayAccept, MayAnswer, Refuse
 ghost use Rattle.rtp_media_exchange.specs.Says.{AgreesOnText};
 
 use super::Exchange;
-use crate::answering::{accepted, answered};
+use crate::agree::accepted_agreement;
+use crate::answering::written;
 use crate::errors::ExchangeError;
 use crate::said_sections::read;
-use crate::settling::settle_answer;
+use rtp_media_section_laws::{
+    printable_sections_law, printed_sections_law, read_sections_keep_rows,
+};
 use rtp_media_sections::SectionSpec;
 
 impl Exchange {
@@ -32,28 +35,20 @@ impl Exchange {
         ensures unchanged { OnErr result (self.new ≡ self.old) }
     {
         let offer = read(self.alloc, text)?;
-        let config = settle_answer(
-            self.alloc,
-            self.pending.is_some(),
-            &self.config,
-            self.agreed.as_slice(),
-            offer.as_slice(),
-            sections.as_slice(),
-        )?;
-        let (answer, agreed) = match answered(
+        let (config, answer) = self.settle_answer(offer.as_slice(), sections.as_slice())?;
+        let (text, agreed) = written(
             self.alloc,
             &self.session,
-            &self.exts,
-            &config,
             sections.as_slice(),
             offer.as_slice(),
-        ) {
-            Ok(answered) => answered,
-            Err(fault) => return Err(fault),
-        };
+            answer.as_slice(),
+        )?;
+        printed_sections_law();
+        printable_sections_law();
+        read_sections_keep_rows();
         self.config = config;
         self.agreed = agreed;
-        Ok(answer)
+        Ok(text)
     }
 
     /// Takes the text of the answer to the pending offer; it is then agreed. A round runs with each section of the
@@ -75,14 +70,10 @@ impl Exchange {
         let Some(pending) = &self.pending else {
             return Err(ExchangeError::OutOfTurn);
         };
-        let sections = pending.sections.as_slice();
-        let (config, agreed) = accepted(
-            self.alloc,
-            &self.config,
-            self.agreed.as_slice(),
-            answer.as_slice(),
-            sections,
-        )?;
+        let wanted = pending.sections.as_slice();
+        let config = self.settle_accept(answer.as_slice(), wanted)?;
+        let agreed = accepted_agreement(self.alloc, wanted, answer.as_slice())?;
+        read_sections_keep_rows();
         self.config = config;
         self.agreed = agreed;
         self.pending = None;

@@ -1,5 +1,5 @@
-use Rattle.rtp_media_sections.proofs.ExtmapLemmas.{last_lines_count}
+use Rattle.rtp_media_sections.proofs.ExtmapLemmas.{last_entries_count}
 use Rattle.rtp_media_sections.proofs.laws.extmaps_law.Goals as goal
 
 pub returns : goal.returns
-returns c = last_lines_count
+returns c = last_entries_count

@@ -1,64 +1,103 @@
-use Rattle.std.proofs.Common.{◌≡◌, ◌∙◌, None, Ok, map, subst, arith}
+use Rattle.std.proofs.Common.{◌≡◌, ◌∙◌, None, Ok, List, ap, length, map, subst, sym, arith}
 use Rattle.std.proofs.lemmas.Grind.{common_steps}
 use Rattle.std.specs.Prelude.{string_bytes}
-use Rattle.rtp_media_exchange.specs.Answering.{IsAgreedBy}
-use Rattle.rtp_media_exchange.specs.Exchanges.{fresh}
+use Rattle.sdp_formats_data.specs.PrintedSession.{sdp_text}
 use Rattle.sdp_formats_rounds.specs.Laws.{rounds}
+use Rattle.sdp_formats_rounds.specs.Members.{IsEach}
 use Rattle.rtp_media_sections.specs.Lines.{remote_of}
-use Rattle.rtp_media_exchange.specs.Refusals.{refusal_of_answer}
-use Rattle.rtp_media_exchange.proofs.AnsweringLemmas.{same_answer, written}
-use Rattle.rtp_media_exchange.proofs.Refusing.{cannot_answer, cannot_say, may_answer}
+use Rattle.rtp_media_sections.specs.Sections.{Section}
+use Rattle.rtp_media_exchange.specs.Answering.{HasWidths, read_back}
+use Rattle.rtp_media_exchange.specs.Exchanges.{Exchanged, IsKept, answered_agreement}
+use Rattle.rtp_media_exchange.specs.Offers.{answered_sections, sdp_of}
+use Rattle.rtp_media_exchange.specs.Refusals.{no_answer, not_written, refusal_of_answer}
+use Rattle.rtp_media_exchange.proofs.AnsweringLemmas.{agrees, answer_text, says_printed, written}
+use Rattle.rtp_media_exchange.proofs.Keeping.{rounds_kept}
+use Rattle.rtp_media_exchange.proofs.Printing.{as_many}
+use Rattle.rtp_media_exchange.proofs.Refusing.{may_answer}
 use Rattle.rtp_media_exchange.proofs.exchange.Exchange.answer.Goals as goal
 
-pub returns-in_err-config-clause-refused : goal.returns-in_err-config-clause-refused
-unfolding refusal_of_answer
-returns-in_err-config-clause-refused c = grind (arith, common_steps)
-
 pub returns-clause-accepted : goal.returns-clause-accepted
-unfolding refusal_of_answer
 returns-clause-accepted c =
-    let none : refusal_of_answer c.args.self.now c.in_ok-offer.offer.items c.args.sections.items ≡ None =
-    grind (arith, common_steps) in
-    may_answer c.args.self.now c.args.text.now c.args.sections.items c.in_ok-offer.offer.items
-    c.in_ok-offer.ensures.says none
-
-pub returns-in-Err-clause-refused : goal.returns-in-Err-clause-refused
-unfolding refusal_of_answer
-returns-in-Err-clause-refused c =
     let x = c.args.self.now in
     let offer = c.in_ok-offer.offer.items in
-    let rows = c.in_ok-config.config.rows in
     let none : refusal_of_answer x offer c.args.sections.items ≡ None = grind (arith, common_steps) in
-    let rounds_are : rounds (map remote_of offer) x.config.rows ≡ Ok rows = grind (arith, common_steps) in
-    let session_is : c.self.inside.session ≡ x.session = grind (arith, common_steps) in
-    let exts_are : c.self.inside.exts ≡ x.wanted = grind (arith, common_steps) in
-    let wanted_are : c.as_slice-4.result.now ≡ c.args.sections.items = grind (arith, common_steps) in
-    let offer_is : c.as_slice-5.result.now ≡ offer = grind (arith, common_steps) in
-    let text_is = same_answer x (fresh c.self.inside.session c.self.inside.exts c.in_ok-config.config) rows _ _ _ _
-    session_is exts_are wanted_are offer_is in
-    cannot_answer x c.args.text.now c.args.sections.items offer c.in-Err.fault c.in_ok-offer.ensures.says none
-    (λ other. (
-      (c.in-Err.ensures.refused other).0,
-      cannot_say x offer c.args.sections.items c.as_slice-4.result.now rows
-          _ rounds_are text_is wanted_are (c.in-Err.ensures.refused other).1,
-    ))
+    may_answer x c.args.text.now c.args.sections.items offer c.in_ok-offer.ensures.says none
+
+pub written-requires-clause-answer : goal.written-requires-clause-answer
+written-requires-clause-answer c =
+    let x = c.args.self.now in
+    let offer = c.in_ok-offer.offer.items in
+    let wanted = c.as_slice-3.result.now in
+    let rows = c.in_ok-config.config.rows in
+    let answer = c.as_slice-5.result.now in
+    let same : length wanted ≡ length offer = grind (arith, common_steps) in
+    let answer_is : answer ≡ answered_sections x.wanted rows wanted offer = grind (arith, common_steps) in
+    as_many x.wanted rows wanted offer same ∙ sym (ap (λ (ss : List Section). length ss) answer_is)
+
+pub invariant_of-self : goal.invariant_of-self
+invariant_of-self c =
+    let offer = c.in_ok-offer.offer.items in
+    let before = c.self.inside.config.rows in
+    let rows = c.in_ok-config.config.rows in
+    let rounds_are : rounds (map remote_of offer) before ≡ Ok rows = grind (arith, common_steps) in
+    rounds_kept c.read_sections_keep_rows.ensures c.self.inside.session before rows c.args.text.now offer
+    c.in_ok-offer.ensures.says rounds_are c.self.invariant
 
 pub returns-clause-text : goal.returns-clause-text
 returns-clause-text c =
     let x = c.args.self.now in
     let offer = c.in_ok-offer.offer.items in
+    let wanted = c.args.sections.items in
     let rows = c.in_ok-config.config.rows in
+    let answer = c.as_slice-5.result.now in
     let rounds_are : rounds (map remote_of offer) x.config.rows ≡ Ok rows = grind (arith, common_steps) in
     let session_is : c.self.inside.session ≡ x.session = grind (arith, common_steps) in
-    let exts_are : c.self.inside.exts ≡ x.wanted = grind (arith, common_steps) in
-    let wanted_are : c.as_slice-4.result.now ≡ c.args.sections.items = grind (arith, common_steps) in
-    let offer_is : c.as_slice-5.result.now ≡ offer = grind (arith, common_steps) in
-    let text_is = same_answer x (fresh c.self.inside.session c.self.inside.exts c.in_ok-config.config) rows _ _ _ _
-    session_is exts_are wanted_are offer_is in
-    let answer = string_bytes c.in-Ok.answered.0 in
-    let agreed = c.in-Ok.answered.1.items in
-    written x c.args.text.now c.args.sections.items offer rows answer agreed _ c.in_ok-offer.ensures.says rounds_are
-    (c.in-Ok.ensures.text ∙ text_is)
-    (subst (λ w. IsAgreedBy answer w offer agreed) wanted_are
-    (subst (λ o. IsAgreedBy answer c.as_slice-4.result.now o agreed) offer_is c.in-Ok.ensures.agreed))
-    (grind (arith, common_steps))
+    let wanted_is : c.as_slice-3.result.now ≡ wanted = grind (arith, common_steps) in
+    let offer_is : c.as_slice-4.result.now ≡ offer = grind (arith, common_steps) in
+    let answer_is : answer ≡ answered_sections x.wanted rows wanted offer = grind (arith, common_steps) in
+    let same : length wanted ≡ length offer = grind (arith, common_steps) in
+    let widths = subst (λ ws. IsEach HasWidths ws) (grind (arith, common_steps)) c.in_ok-config.ensures.widths in
+    let listed : no_answer rows offer ≡ None = grind (arith, common_steps) in
+    let printable : not_written wanted (answered_sections x.wanted rows wanted offer) ≡ None =
+    grind (arith, common_steps) in
+    let kept = subst (λ (y : Exchanged). IsKept y.session y.config.rows) c.self.view_is c.self.invariant in
+    let said = says_printed c.printable_sections_law.ensures.answered c.printed_sections_law.ensures.texts
+    c.read_sections_keep_rows.ensures x c.args.text.now wanted offer rows c.in_ok-offer.ensures.says rounds_are kept
+    widths listed printable in
+    let text_is = answer_text x rows wanted offer c.self.inside.session answer session_is answer_is in
+    let text = string_bytes c.in_ok-text.text in
+    let agreed = c.in_ok-text.agreed.items in
+    let text_of : text ≡ sdp_text (sdp_of c.self.inside.session answer) = c.in_ok-text.ensures.text in
+    let agreed_is : agreed ≡ answered_agreement wanted offer (map read_back (answered_sections x.wanted rows wanted offer)) =
+    grind (arith, common_steps) in
+    written x c.args.text.now wanted offer rows text agreed _ c.in_ok-offer.ensures.says rounds_are (text_of ∙ text_is)
+    said same agreed_is (grind (arith, common_steps))
+
+pub returns-clause-agreed : goal.returns-clause-agreed
+returns-clause-agreed c =
+    let x = c.args.self.now in
+    let offer = c.in_ok-offer.offer.items in
+    let wanted = c.args.sections.items in
+    let rows = c.in_ok-config.config.rows in
+    let answer = c.as_slice-5.result.now in
+    let rounds_are : rounds (map remote_of offer) x.config.rows ≡ Ok rows = grind (arith, common_steps) in
+    let session_is : c.self.inside.session ≡ x.session = grind (arith, common_steps) in
+    let wanted_is : c.as_slice-3.result.now ≡ wanted = grind (arith, common_steps) in
+    let offer_is : c.as_slice-4.result.now ≡ offer = grind (arith, common_steps) in
+    let answer_is : answer ≡ answered_sections x.wanted rows wanted offer = grind (arith, common_steps) in
+    let same : length wanted ≡ length offer = grind (arith, common_steps) in
+    let widths = subst (λ ws. IsEach HasWidths ws) (grind (arith, common_steps)) c.in_ok-config.ensures.widths in
+    let listed : no_answer rows offer ≡ None = grind (arith, common_steps) in
+    let printable : not_written wanted (answered_sections x.wanted rows wanted offer) ≡ None =
+    grind (arith, common_steps) in
+    let kept = subst (λ (y : Exchanged). IsKept y.session y.config.rows) c.self.view_is c.self.invariant in
+    let said = says_printed c.printable_sections_law.ensures.answered c.printed_sections_law.ensures.texts
+    c.read_sections_keep_rows.ensures x c.args.text.now wanted offer rows c.in_ok-offer.ensures.says rounds_are kept
+    widths listed printable in
+    let text_is = answer_text x rows wanted offer c.self.inside.session answer session_is answer_is in
+    let text = string_bytes c.in_ok-text.text in
+    let agreed = c.in_ok-text.agreed.items in
+    let text_of : text ≡ sdp_text (sdp_of c.self.inside.session answer) = c.in_ok-text.ensures.text in
+    let agreed_is : agreed ≡ answered_agreement wanted offer (map read_back (answered_sections x.wanted rows wanted offer)) =
+    grind (arith, common_steps) in
+    agrees x wanted offer rows text agreed (text_of ∙ text_is) said same agreed_is

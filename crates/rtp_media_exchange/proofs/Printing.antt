@@ -1,0 +1,201 @@
+-- The text of an answer says the sections that were printed.
+use Rattle.std.proofs.Common.{◌≡◌, ◌≢◌, ◌<◌, ◌^◌, ◌==◌, ◌&&◌, ◌||◌, ℕ, Bool, true, false, not, cond, List, [], ◌∷◌}
+use Rattle.std.proofs.Common.{length, map, Option, Some, None, refl, ◌∙◌, ap, sym, arith}
+use Rattle.std.specs.Prelude.{IsTrue, filter, find, is_some, replicate, zip}
+use Rattle.std.specs.List.{list_all, list_any}
+use Rattle.std.specs.Str.{bytes_eq}
+use Rattle.std.proofs.lemmas.Bool.{false≢true}
+use Rattle.std.proofs.lemmas.Bool.Decides.{nat_tests}
+use Rattle.std.proofs.lemmas.Slice.Eq.{bytes_eq-Decides}
+use Rattle.payload_core_base.specs.declared.codec.MediaKind.{MediaKind}
+use Rattle.payload_core_base.specs.declared.codec.MediaKind.TheVariants.{Audio, Video}
+use Rattle.rtp_wire.specs.Kinds.{uri_of}
+use Rattle.rtp_wire.specs.Maps.{empty_map, id_of}
+use Rattle.rtp_wire.specs.Values.{Numbering}
+use Rattle.rtp_wire.specs.declared.Extension.{Extension}
+use Rattle.sdp_formats_data.specs.PrintedSession.{sdp_text}
+use Rattle.sdp_formats_data.specs.declared.media.MediaLine.{MediaLine}
+use Rattle.sdp_formats_data.specs.declared.session.Sdp.{Sdp}
+use Rattle.sdp_formats_laws.proofs.Lists.{both, neither}
+use Rattle.sdp_formats_laws.specs.Printable.{IsWord}
+use Rattle.sdp_formats_rounds.specs.Members.{IsEach}
+use Rattle.rtp_media_section_laws.proofs.Entries.{entries_printable}
+use Rattle.rtp_media_section_laws.specs.PrintableSections.{AnsweredSectionsArePrintable, ArePrintable}
+use Rattle.rtp_media_section_laws.specs.PrintedSections.{IsPrintable, IsPrintableEntry, SaysRead, TextsSaySections}
+use Rattle.rtp_media_section_laws.specs.PrintedSections.{as_read}
+use Rattle.rtp_media_sections.specs.Agreement.{agreed_by_answer}
+use Rattle.rtp_media_sections.specs.Answered.{answered_rows, answered_section}
+use Rattle.rtp_media_sections.specs.Extensions.{answered_extmaps, is_answered, is_numbered, is_word}
+use Rattle.rtp_media_sections.specs.Rows.{Row}
+use Rattle.rtp_media_sections.specs.Sections.{Section, Wanted, corresponds, has_shape, is_wanted, same_kind}
+use Rattle.rtp_media_exchange.specs.Answering.{HasWidths, read_back}
+use Rattle.rtp_media_exchange.specs.Exchanges.{Exchanged, IsKept, answered_agreement}
+use Rattle.rtp_media_exchange.specs.Offers.{answer_of, answered_sections, sdp_of}
+use Rattle.rtp_media_exchange.specs.Refusals.{answers_none, is_nameless, is_unwritable, lists_unwritable, no_answer}
+use Rattle.rtp_media_exchange.specs.Refusals.{no_common_row_of, not_written}
+use Rattle.rtp_media_exchange.specs.Says.{SaysSections}
+use Rattle.rtp_media_exchange.specs.declared.errors.ExchangeError.{ExchangeError}
+use Rattle.rtp_media_exchange.specs.declared.errors.ExchangeError.TheVariants as error
+
+-- header extensions that can stand in their lines; each is as the one of a map
+word : (ext : Extension) → is_unwritable (0, ext) ≡ false → IsWord (uri_of ext)
+word ext e = at (is_word (uri_of ext)) refl e
+  where
+    at : (b : Bool) → is_word (uri_of ext) ≡ b → not b ≡ false → IsWord (uri_of ext)
+    at true is f = (entries_printable (Some ext ∷ replicate 15 None) (λ i. is i && true)).0.1
+    at false is f = absurd (false≢true (sym f))
+
+low : (n : ℕ) → is_numbered n ≡ true → n < 2 ^ 8
+low n e = grind (arith, nat_tests)
+
+extmaps_printable : (exts : Numbering) (offered : List (ℕ × Extension))
+    → list_any is_unwritable (answered_extmaps exts offered) ≡ false
+    → IsEach IsPrintableEntry (answered_extmaps exts offered)
+extmaps_printable exts [] e = tt
+extmaps_printable exts (x ∷ offered) e = at (is_answered exts x) refl e (extmaps_printable exts offered)
+  where
+    at : (b : Bool) → is_answered exts x ≡ b
+        → list_any is_unwritable (cond b (x ∷ answered_extmaps exts offered) (answered_extmaps exts offered)) ≡ false
+        → (list_any is_unwritable (answered_extmaps exts offered) ≡ false
+        → IsEach IsPrintableEntry (answered_extmaps exts offered))
+        → IsEach IsPrintableEntry (cond b (x ∷ answered_extmaps exts offered) (answered_extmaps exts offered))
+    at true is f later =
+        let two = neither (is_unwritable x) (list_any is_unwritable (answered_extmaps exts offered)) f in
+        let numbered = (both (is_numbered x.0) (is_some (id_of exts x.1)) is).0 in
+        ((low x.0 numbered, word x.1 two.0), later two.1)
+    at false is f later = later f
+
+-- a section with a name that answers an offered one
+some_name : (w : Wanted) → is_nameless w ≡ false → w.mid ≢ []
+some_name w e = λ none. false≢true (sym e ∙ ap (λ (mid : List ℕ). length mid == 0) none)
+
+some_row : (rows : List Row) (o : Section) → answers_none rows o ≡ false → answered_rows rows o ≢ []
+some_row rows o e = λ none. false≢true (sym e ∙ ap (λ (rs : List Row). length rs == 0) none)
+
+one_printable : AnsweredSectionsArePrintable → (exts : Numbering) (rows : List Row) → ArePrintable rows → (w : Wanted)
+    (o : Section) → HasWidths w → is_nameless w ≡ false → answers_none rows o ≡ false
+    → lists_unwritable (answered_section exts rows w o) ≡ false → IsPrintable (answered_section exts rows w o)
+unfolding answered_section
+one_printable law exts rows printable w o widths named lists words =
+    let rest = law empty_map rows w o (record {
+      numbers = refl;
+      writable = refl;
+      some_name = some_name w named;
+      name = widths.0;
+      ssrcs = widths.1;
+    }) printable (some_row rows o lists) in
+    record {
+      some_name = rest.some_name;
+      name = rest.name;
+      some_row = rest.some_row;
+      plain = rest.plain;
+      apart = rest.apart;
+      sized = rest.sized;
+      extmaps = extmaps_printable exts o.extmaps words;
+      sources = rest.sources;
+    }
+
+none_found : (rows : List Row) (o : Section) (os : List Section) → find (answers_none rows) (o ∷ os) ≡ None
+    → (answers_none rows o ≡ false) × (find (answers_none rows) os ≡ None)
+none_found rows o os e = at (answers_none rows o) e
+  where
+    at : (b : Bool) → cond b (Some o) (find (answers_none rows) os) ≡ None
+        → (b ≡ false) × (find (answers_none rows) os ≡ None)
+    at true f = absurd (cc f)
+    at false f = (refl, f)
+
+each_printable : AnsweredSectionsArePrintable → (exts : Numbering) (rows : List Row) → ArePrintable rows
+    → (ws : List Wanted) (os : List Section) → IsEach HasWidths ws → list_any is_nameless ws ≡ false
+    → find (answers_none rows) os ≡ None → list_any lists_unwritable (answered_sections exts rows ws os) ≡ false
+    → IsEach IsPrintable (answered_sections exts rows ws os)
+each_printable law exts rows printable [] os widths named lists words = tt
+each_printable law exts rows printable (w ∷ ws) [] widths named lists words = tt
+each_printable law exts rows printable (w ∷ ws) (o ∷ os) widths named lists words =
+    let names = neither (is_nameless w) (list_any is_nameless ws) named in
+    let found = none_found rows o os lists in
+    let written = neither (lists_unwritable (answered_section exts rows w o))
+    (list_any lists_unwritable (answered_sections exts rows ws os)) words in (
+      one_printable law exts rows printable w o widths.0 names.0 found.0 written.0,
+      each_printable law exts rows printable ws os widths.1 names.1 found.1 written.1,
+    )
+
+none_lacks : (o : Option Section) → no_common_row_of o ≡ None → o ≡ None
+none_lacks None e = refl
+none_lacks (Some s) e = absurd (cc e)
+
+is_written : (b : Bool) → cond b (Some error.NotWritable) None ≡ None → b ≡ false
+is_written true e = absurd (cc e)
+is_written false e = refl
+
+-- what is read of a text, as it says it
+of_read : (text : List ℕ) (sections : List Section) → SaysRead text sections → SaysSections text sections
+of_read text sections read = record {
+  lines = read.said.media_lines;
+  says = record {
+    says = (read.said.session, [], read.says);
+    only = λ others s. ap (λ (sdp : Sdp). sdp.media_lines)
+        (read.only (record { session = s.0; media_lines = others }) s.1 s.2);
+  };
+  sections_are = sym read.sections_are;
+}
+
+pub answer_says : AnsweredSectionsArePrintable → TextsSaySections → (x : Exchanged) (rows : List Row)
+    (wanted : List Wanted) (offer : List Section) → IsKept x.session rows → IsEach HasWidths wanted
+    → no_answer rows offer ≡ None → not_written wanted (answered_sections x.wanted rows wanted offer) ≡ None
+    → SaysSections (sdp_text (answer_of x rows wanted offer)) (map as_read (answered_sections x.wanted rows wanted offer))
+unfolding answer_of
+answer_says printable texts x rows wanted offer kept widths listed written =
+    let answer : List Section = answered_sections x.wanted rows wanted offer in
+    let two = neither (list_any is_nameless wanted) (list_any lists_unwritable answer)
+    (is_written (list_any is_nameless wanted || list_any lists_unwritable answer) written) in
+    let lists = none_lacks (find (answers_none rows) offer) listed in
+    of_read (sdp_text (sdp_of x.session answer)) (map as_read answer)
+    (texts x.session answer kept.id kept.writable
+    (each_printable printable x.wanted rows kept.printable wanted offer widths two.0 lists two.1))
+
+-- its sections are of the wanted names and kinds
+kind_own : (kind : MediaKind) → same_kind kind kind ≡ true
+kind_own Audio = refl
+kind_own Video = refl
+
+shape_own : (w : Wanted) → has_shape w.mid w.kind w ≡ true
+shape_own w = λ i. (bytes_eq-Decides w.mid w.mid).1 refl i && kind_own w.kind i
+
+all_wanted : (exts : Numbering) (rows : List Row) (ws : List Wanted) (os : List Section) → length ws ≡ length os
+    → list_all is_wanted (zip (map as_read (answered_sections exts rows ws os)) ws) ≡ true
+unfolding answered_section
+all_wanted exts rows [] os e = refl
+all_wanted exts rows (w ∷ ws) [] e = absurd (omega (arith, e))
+all_wanted exts rows (w ∷ ws) (o ∷ os) e =
+    λ i. shape_own w i && all_wanted exts rows ws os (omega (arith, e)) i
+
+pub as_many : (exts : Numbering) (rows : List Row) (ws : List Wanted) (os : List Section) → length ws ≡ length os
+    → length ws ≡ length (answered_sections exts rows ws os)
+as_many exts rows [] os e = refl
+as_many exts rows (w ∷ ws) [] e = absurd (omega (arith, e))
+as_many exts rows (w ∷ ws) (o ∷ os) e = omega (arith, as_many exts rows ws os (omega (arith, e)))
+
+pub as_many_read : (sections : List Section) → length (map as_read sections) ≡ length sections
+as_many_read [] = refl
+as_many_read (s ∷ sections) = omega (arith, as_many_read sections)
+
+one_length : (a b : ℕ) → a ≡ b → (a == b) ≡ true
+one_length a b e = grind (arith, nat_tests)
+
+pub answer_corresponds : (exts : Numbering) (rows : List Row) (ws : List Wanted) (os : List Section)
+    → length ws ≡ length os → IsTrue (corresponds (map as_read (answered_sections exts rows ws os)) ws)
+answer_corresponds exts rows ws os e =
+    let answer : List Section = answered_sections exts rows ws os in
+    let same = one_length (length (map as_read answer)) (length ws)
+    (as_many_read answer ∙ sym (as_many exts rows ws os e)) in
+    (λ i. same i && all_wanted exts rows ws os e i)
+
+-- what is agreed on is what it says
+pub same_agreement : (ws : List Wanted) (os answer : List Section)
+    → answered_agreement ws os (map read_back answer) ≡ answered_agreement ws os (map as_read answer)
+unfolding agreed_by_answer
+same_agreement [] os answer = refl
+same_agreement (w ∷ ws) [] answer = refl
+same_agreement (w ∷ ws) (o ∷ os) [] = refl
+same_agreement (w ∷ ws) (o ∷ os) (a ∷ answer) =
+    λ i. agreed_by_answer w o (as_read a) ∷ same_agreement ws os answer i

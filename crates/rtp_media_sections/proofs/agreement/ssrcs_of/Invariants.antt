@@ -1,0 +1,8 @@
+use Rattle.std.proofs.Common.{◌≡◌, ◌++◌, drop, map}
+use Rattle.rtp_media_sections.specs.Lines.{ssrcs_of}
+use Rattle.rtp_media_sections.proofs.agreement.ssrcs_of.Given as goal
+
+-- the SSRCs so far, and those of the rest
+abbrev pub invariant-loop-source : goal.invariant-loop-source
+invariant-loop-source l =
+    l.ssrcs.items ++ map (λ source. source.ssrc) (drop l.source-index l.source-items) ≡ ssrcs_of l.section

@@ -1,0 +1,11 @@
+use Rattle.std.proofs.Common.{◌≡◌, drop}
+use Rattle.std.specs.Prelude.{zip}
+use Rattle.std.specs.List.{list_all}
+use Rattle.rtp_media_sections.specs.Sections.{is_wanted}
+use Rattle.rtp_media_sections.proofs.correspondence.are_wanted.Given as goal
+
+-- the sections so far are the wanted ones: the rest decides
+abbrev pub invariant-loop-place : goal.invariant-loop-place
+invariant-loop-place l =
+    list_all is_wanted (zip (drop l.place l.sections) (drop l.place l.wanted))
+    ≡ list_all is_wanted (zip l.sections l.wanted)

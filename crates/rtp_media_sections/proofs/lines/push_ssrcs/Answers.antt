@@ -1,9 +1,0 @@
-use Rattle.std.proofs.Common.{arith}
-use Rattle.std.proofs.lemmas.Grind.{common_steps}
-use Rattle.rtp_media_sections.proofs.lines.push_ssrcs.Goals as goal
-
-pub loop-ssrc-preserved : goal.loop-ssrc-preserved
-loop-ssrc-preserved c = grind (arith, common_steps)
-
-pub returns : goal.returns
-returns c = grind (arith, common_steps)
