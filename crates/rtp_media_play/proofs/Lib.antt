@@ -2,6 +2,7 @@ pub mod AnnexB
 pub mod AnsweredRows
 pub mod Audio
 pub mod Both
+pub mod Carried
 pub mod Codecs
 pub mod DistinctNames
 pub mod Exchanged

@@ -16,3 +16,4 @@ pub mod Runs
 pub mod Schedules
 pub mod Types
 pub mod Units
+pub mod WellFormed

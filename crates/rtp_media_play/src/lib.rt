@@ -14,6 +14,7 @@ mod sample;
 mod schedule;
 mod second_hop;
 mod types;
+mod well_formed;
 
 pub use again::again_law;
 pub use answered::answered_rows_law;
@@ -32,3 +33,4 @@ pub use sample::Sample;
 pub use schedule::{Event, Played};
 pub use second_hop::second_hop_law;
 pub use types::types_law;
+pub use well_formed::well_formed_law;
