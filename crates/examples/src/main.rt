@@ -7,22 +7,21 @@
 //! - `lossy link`: nothing; frames over a link that loses packets (`lossy_link`)
 //! - `captures`: captures of browsers in data/, a line each, `FILE CODEC TYPE [REDTYPE]`, into units (`captures`)
 //! - `offer`: an offer, into its sections with their rows and candidates (`offer`)
-//! - `browser`: an end's text, which gets the transport's lines (`transport`)
+//! - `browser`: a browser's offer of audio and data, which an end answers (`browser`)
 //! - `rows`: rows in JSON, a line each, read and written (`json_rows`)
 //! - `track`: nothing; a tuple of the program's own, of what rows hold, written and read by serde (`json_values`)
 #![tactic(auto)]
 
+mod browser;
 mod capture;
 mod captured_stream;
 mod captures;
-mod dress;
 mod json_rows;
 mod json_values;
 mod lossy_link;
 mod offer;
 mod recorder;
 mod recording;
-mod transport;
 
 use anyhow::bail;
 use std::io;
@@ -44,7 +43,7 @@ fn run(rt: &HostRuntime, part: &str) -> anyhow::Result<()> {
         "lossy link" => lossy_link::lossy_link(rt),
         "captures" => captures::report(rt, lines),
         "offer" => offer::print_offer(rt, lines),
-        "browser" => transport::print_dressed(rt, lines),
+        "browser" => browser::print_answer(rt, lines),
         "rows" => json_rows::print_rows(rt, lines),
         "track" => json_values::print_track(rt),
         _ => bail!("no example of this name"),

@@ -1,18 +1,18 @@
 //! Offers read. Uses the crates `anyhow` and `sdp_formats`.
 
-use sdp_formats::{MediaAttribute, MediaLine, SdpOffer, rtp_params, whole};
+use sdp_formats::{MediaAttribute, MediaLine, RtpParams, SdpOffer};
 
 /// Prints each section of an offer with its rows, the fingerprint, and how many candidates each section has.
 pub(crate) fn print_offer(rt: &HostRuntime, text: &str) -> anyhow::Result<()> {
     let offer = SdpOffer::from_sdp_string(rt.alloc(), text)?;
     for section in offer.media_lines.iter() {
         println!(*rt; "{} {}", section.typ, section.direction())?;
-        for row in &rtp_params(rt.alloc(), section)? {
+        for row in &section.rtp_params(rt.alloc())? {
             let (pt, spec) = (row.pt(), row.spec());
             println!(*rt; "  type {pt}: {} {}", spec.codec, spec.clock_rate)?;
         }
     }
-    if let Some(print) = whole::fingerprint(&offer) {
+    if let Some(print) = offer.fingerprint() {
         println!(*rt; "fingerprint {print}")?;
     }
     for section in offer.media_lines.iter() {

@@ -6,7 +6,7 @@ use Rattle.std.proofs.lemmas.Bool.{cond_both}
 use Rattle.std.specs.Cmp.Lexicographic.{nat_list_eq_equiv}
 use Rattle.rtp_media_sections.specs.Lines.{mid_of}
 use Rattle.sdp_formats_data.specs.declared.media.MediaLine.{MediaLine}
-use Rattle.sdp_formats_lookups.specs.WholeTexts.{is_name}
+use Rattle.sdp_formats_data.specs.WholeTexts.{is_name}
 use Rattle.rtp_media_browsers.specs.ForEnds.{bundled}
 use Rattle.rtp_media_browsers.specs.Laws.{AreRejections, PutBackInPlace, TakenAreRejected}
 use Rattle.rtp_media_browsers.specs.Places.{is_taken, left, place_of, places_from, put_back, rejected}

@@ -1,6 +1,5 @@
 pub mod Dressed
 pub mod InPlace
-mod OneName
 pub mod Placed
 pub mod Prints
 pub mod Refused

@@ -8,7 +8,7 @@ use Rattle.sdp_formats_data.specs.MediaTypes.{is_media}
 use Rattle.sdp_formats_data.specs.declared.media.MediaAttribute.{MediaAttribute}
 use Rattle.sdp_formats_data.specs.declared.media.MediaAttribute.TheVariants as line
 use Rattle.sdp_formats_data.specs.declared.media.MediaLine.{MediaLine}
-use Rattle.sdp_formats_lookups.specs.WholeTexts.{is_name}
+use Rattle.sdp_formats_data.specs.WholeTexts.{is_name}
 use Rattle.rtp_media_browsers.specs.Laws.{AreRejections}
 use Rattle.rtp_media_browsers.specs.Lines.{is_bundle_only}
 use Rattle.rtp_media_browsers.specs.Names.{is_among}

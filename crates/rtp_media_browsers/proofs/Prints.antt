@@ -1,7 +1,7 @@
 -- The preferred fingerprint of two lists.
 use Rattle.std.proofs.Common.{◌≡◌, List, [], ◌∷◌, ◌++◌}
 use Rattle.sdp_formats_data.specs.declared.Fingerprint.{Fingerprint}
-use Rattle.sdp_formats_lookups.specs.Preference.{IsFirstOfLowest}
+use Rattle.sdp_formats_data.specs.Preference.{IsFirstOfLowest}
 use Rattle.rtp_media_browsers.specs.Remotes.{else_of}
 
 not_empty : {A : Type 0} (before behind : List Fingerprint) (print : Fingerprint) → [] ≡ before ++ print ∷ behind → A

@@ -11,7 +11,7 @@ use Rattle.sdp_formats_data.specs.MediaTypes.{is_media}
 use Rattle.sdp_formats_data.specs.declared.media.MediaAttribute.{MediaAttribute}
 use Rattle.sdp_formats_data.specs.declared.media.MediaAttribute.TheVariants as line
 use Rattle.sdp_formats_data.specs.declared.media.MediaLine.{MediaLine}
-use Rattle.sdp_formats_lookups.specs.Sections.{extmap_in}
+use Rattle.sdp_formats_data.specs.Sections.{extmap_in}
 use Rattle.rtp_media_browsers.specs.ForBrowsers.{dressed_attribute, dressed_section}
 use Rattle.rtp_media_browsers.specs.ForEnds.{end_section}
 use Rattle.rtp_media_browsers.specs.Laws.{LinesStay, has_no_transport, is_end_section}

@@ -7,7 +7,7 @@ use Rattle.rtp_media_sections.specs.Lines.{mid_of}
 use Rattle.sdp_formats_data.specs.declared.media.MediaLine.{MediaLine}
 use Rattle.sdp_formats_data.specs.declared.session.Sdp.{Sdp}
 use Rattle.sdp_formats_data.specs.declared.session.Session.{Session}
-use Rattle.sdp_formats_lookups.specs.WholeTexts.{is_name}
+use Rattle.sdp_formats_data.specs.WholeTexts.{is_name}
 use Rattle.rtp_media_browsers.specs.ForBrowsers.{dressed_section, dressed_session, for_browser}
 use Rattle.rtp_media_browsers.specs.ForEnds.{bundled, end_section, end_session, of_sections}
 use Rattle.rtp_media_browsers.specs.Laws.{AllAccepted, ComesBack, IsEndText, NothingChanges, is_end_section, names_only}

@@ -1,5 +1,5 @@
 -- What the calls promise.
-use Rattle.std.specs.Prelude.{◌≡◌, ◌⊎◌, ℕ, List, Option, None, Some}
+use Rattle.std.specs.Prelude.{◌≡◌, ◌⊎◌, ℕ, false, List, Option, None, Some}
 use Rattle.rtp_media_sections.specs.Sections.{Wanted}
 use Rattle.sdp_formats_data.specs.PrintedSession.{sdp_text}
 use Rattle.sdp_formats_data.specs.declared.session.Sdp.{Sdp}
@@ -41,7 +41,7 @@ pub record IsDressed (text : List ℕ) (before : Plan) (t : Transport) (after : 
   pub sdp : Sdp
   pub says : SaysWhole text sdp
   pub passes : browser_refusal before t sdp ≡ None
-  pub settles : after ≡ record before { setup = settled before.setup t.setup }
+  pub settles : after ≡ record before { setup = settled before.setup t.setup; is_answering = false }
   pub dressed : out ≡ sdp_text (for_browser before t sdp)
   pub read : SaysWhole out (for_browser before t sdp)
 

@@ -19,12 +19,12 @@ is_setup Active (Some Active) = true
 is_setup Passive (Some Passive) = true
 is_setup _ _ = false
 
--- Whether a part may be said: an offer leaves it open; an answer says the part that was answered before, if one was,
--- and not the one that the browser claims (RFC 8842 5.3).
-abbrev pub may_say : Setup → Option Setup → Option Setup → Bool
-may_say ActPass before remote = true
-may_say setup None remote = not (is_setup setup remote)
-may_say setup (Some before) remote = is_setup setup (Some before) && not (is_setup setup remote)
+-- Whether a part may be said, in an answer or in an offer: an offer alone leaves it open; an answer says the part that
+-- was answered before, if one was, and not the one that the browser claims (RFC 8842 5.3).
+abbrev pub may_say : Bool → Setup → Option Setup → Option Setup → Bool
+may_say is_answer ActPass before remote = not is_answer
+may_say is_answer setup None remote = not (is_setup setup remote)
+may_say is_answer setup (Some before) remote = is_setup setup (Some before) && not (is_setup setup remote)
 
 -- The part that is settled once an end's text says one: an offer settles none.
 abbrev pub settled : Option Setup → Setup → Option Setup

@@ -1,5 +1,5 @@
 -- What an end is handed of a browser's text.
-use Rattle.std.specs.Prelude.{◌≡◌, ◌≢◌, ◌⊎◌, ℕ, Bool, false, List, [], filter, map, Option, if◌then◌else◌}
+use Rattle.std.specs.Prelude.{◌≡◌, ◌≢◌, ◌⊎◌, ℕ, Bool, false, true, List, [], filter, map, Option, if◌then◌else◌}
 use Rattle.std.specs.List.{list_any}
 use Rattle.std.specs.Option.{unwrap_or}
 use Rattle.sdp_formats_data.specs.Lookups.{first_of}
@@ -56,6 +56,7 @@ pub record IsPlanned (before : Plan) (wishes : List Wish) (sdp : Sdp) (after : P
   pub mixed : after.allows_mixed ≡ list_any allows_mixed sdp.session.attrs
   pub remote : TellsFirst sdp.session (left (places_of wishes sdp) sdp.media_lines) after.remote
   pub setup : after.setup ≡ before.setup
+  pub answering : after.is_answering ≡ true
 
 -- What is remembered of an answer: where no part in the connection was answered yet, the one that it leaves.
 pub record IsAnswered (before : Plan) (sdp : Sdp) (after : Plan) : Type 0 where
@@ -63,3 +64,4 @@ pub record IsAnswered (before : Plan) (sdp : Sdp) (after : Plan) : Type 0 where
   pub mixed : after.allows_mixed ≡ before.allows_mixed
   pub remote : TellsFirst sdp.session (left before.places sdp.media_lines) after.remote
   pub setup : after.setup ≡ left_over before.setup after.remote.setup
+  pub answering : after.is_answering ≡ before.is_answering

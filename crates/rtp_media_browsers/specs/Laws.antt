@@ -11,7 +11,7 @@ use Rattle.sdp_formats_data.specs.declared.media.MediaLine.{MediaLine}
 use Rattle.sdp_formats_data.specs.declared.session.Sdp.{Sdp}
 use Rattle.sdp_formats_data.specs.declared.session.SessionAttribute.{SessionAttribute}
 use Rattle.sdp_formats_data.specs.declared.session.SessionAttribute.TheVariants.{Group}
-use Rattle.sdp_formats_lookups.specs.Sections.{extmap_in}
+use Rattle.sdp_formats_data.specs.Sections.{extmap_in}
 use Rattle.rtp_media_browsers.specs.ForBrowsers.{dressed_section, for_browser}
 use Rattle.rtp_media_browsers.specs.ForEnds.{places_of, without}
 use Rattle.rtp_media_browsers.specs.Lines.{is_bundle_name, is_transport, stays_in_session}

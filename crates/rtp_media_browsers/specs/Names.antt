@@ -8,7 +8,7 @@ use Rattle.sdp_formats_data.specs.Lookups.{first_of}
 use Rattle.sdp_formats_data.specs.declared.media.MediaLine.{MediaLine}
 use Rattle.sdp_formats_grammar.specs.Line.{without_return}
 use Rattle.sdp_formats_grammar.specs.Split.{behind, parts}
-use Rattle.sdp_formats_lookups.specs.WholeTexts.{is_name}
+use Rattle.sdp_formats_data.specs.WholeTexts.{is_name}
 
 -- A name as it is read, where that is another: of more than 16 bytes, or of other signs than ASCII letters, digits and
 -- underscores.

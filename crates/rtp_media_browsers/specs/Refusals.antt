@@ -8,8 +8,8 @@ use Rattle.sdp_formats_data.specs.Lookups.{first_of}
 use Rattle.sdp_formats_data.specs.declared.media.MediaLine.{MediaLine}
 use Rattle.sdp_formats_data.specs.declared.session.Sdp.{Sdp}
 use Rattle.sdp_formats_data.specs.declared.session.Session.{Session}
-use Rattle.sdp_formats_lookups.specs.Transport.{section_prints, session_prints}
-use Rattle.sdp_formats_lookups.specs.WholeTexts.{are_apart, is_name}
+use Rattle.sdp_formats_data.specs.Transport.{section_prints, session_prints}
+use Rattle.sdp_formats_data.specs.WholeTexts.{are_apart, is_name}
 use Rattle.rtp_media_browsers.specs.Fit.{are_ice_chars, may_say}
 use Rattle.rtp_media_browsers.specs.ForEnds.{bundled, places_of}
 use Rattle.rtp_media_browsers.specs.Lines.{is_bundle, is_crypto}
@@ -98,5 +98,5 @@ kept_names ps = filter_map kept_name ps
 abbrev pub browser_refusal : Plan → Transport → Sdp → Option BrowserError
 browser_refusal plan t sdp = option_or (refused_if (not (are_ice_chars 4 t.creds.ufrag)) error.UfragNotFit)
     (option_or (refused_if (not (are_ice_chars 22 t.creds.pass)) error.PasswordNotFit)
-    (option_or (refused_if (not (may_say t.setup plan.setup plan.remote.setup)) error.SetupNotFit)
+    (option_or (refused_if (not (may_say plan.is_answering t.setup plan.setup plan.remote.setup)) error.SetupNotFit)
     (refused_if (not (begin_with (kept_names plan.places) sdp.media_lines)) error.NotCorresponding)))

@@ -11,11 +11,11 @@ use Rattle.sdp_formats_data.specs.declared.session.Session.{Session}
 use Rattle.sdp_formats_data.specs.declared.session.SessionAttribute.{SessionAttribute}
 use Rattle.sdp_formats_data.specs.declared.session.SessionAttribute.TheVariants as session
 use Rattle.sdp_formats_grammar.specs.Split.{parts}
-use Rattle.sdp_formats_lookups.specs.ListedCandidates.{section_candidates, session_candidates}
-use Rattle.sdp_formats_lookups.specs.Preference.{IsPreferred}
-use Rattle.sdp_formats_lookups.specs.Sections as sections
-use Rattle.sdp_formats_lookups.specs.Sessions as sessions
-use Rattle.sdp_formats_lookups.specs.Transport.{section_prints, session_prints}
+use Rattle.sdp_formats_data.specs.ListedCandidates.{section_candidates, session_candidates}
+use Rattle.sdp_formats_data.specs.Preference.{IsPreferred}
+use Rattle.sdp_formats_data.specs.Sections as sections
+use Rattle.sdp_formats_data.specs.Sessions as sessions
+use Rattle.sdp_formats_data.specs.Transport.{section_prints, session_prints}
 use Rattle.sdp_formats_data.specs.declared.IceCreds.{IceCreds}
 use Rattle.sdp_formats_data.specs.declared.Setup.{Setup}
 use Rattle.rtp_media_browsers.specs.declared.plan.Remote.{Remote}

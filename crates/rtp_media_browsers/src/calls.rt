@@ -29,7 +29,7 @@ use std::alloc::Global;
 /// the offer, in order; a section without one is rejected.
 ///
 /// The plan remembers the places of what was taken out, and what the offer tells of the browser's transport. Where the
-/// end then refuses the text, go on with a copy of the plan that was made before.
+/// end then refuses the text, or the offer is given up, go on with a copy of the plan that was made before.
 ///
 /// # Errors
 ///
@@ -59,6 +59,7 @@ pub fn for_end(
         allows_mixed: allows_mixed(sdp.session.attrs.as_slice()),
         remote,
         setup: plan.setup,
+        is_answering: true,
     };
     Ok(text)
 }
@@ -112,6 +113,7 @@ pub fn for_browser(
     let dressed = dressed(alloc, plan, transport, sdp)?;
     let text = written(alloc, &dressed)?;
     plan.setup = settled(plan.setup, transport.setup);
+    plan.is_answering = false;
     Ok(text)
 }
 

@@ -3,25 +3,39 @@
 ghost use Rattle.std.specs.Prelude.{◌≡◌, IfOk};
 
 use crate::plan::{Place, Plan, Remote};
-use sdp_formats_data::TryClone;
+use sdp_formats_data::{Candidate, Fingerprint, IceCreds, Listed};
 use std::alloc::{AllocError, Global};
 
-impl TryClone for Place {
-    fn try_clone(&self, alloc: Global) -> Result<Place, AllocError> {
+impl Place {
+    fn clone(&self, alloc: Global) -> Result<Place, AllocError>
+        ensures { IfOk result (λ copy. copy ≡ self.now) }
+    {
         match self {
             Place::Kept(name) => Ok(Place::Kept(*name)),
-            Place::Taken(section) => Ok(Place::Taken(section.try_clone(alloc)?)),
+            Place::Taken(section) => Ok(Place::Taken(section.clone(alloc)?)),
         }
     }
 }
 
-impl TryClone for Remote {
-    fn try_clone(&self, alloc: Global) -> Result<Remote, AllocError> {
+fn clone_all(alloc: Global, places: &[Place]) -> Result<Listed<Place>, AllocError>
+    ensures { IfOk result (λ copies. copies ≡ places.now) }
+{
+    let mut copies = Vec::new(alloc);
+    for place in places {
+        copies.push(place.clone(alloc)?)?;
+    }
+    Ok(Listed::of(copies))
+}
+
+impl Remote {
+    fn clone(&self, alloc: Global) -> Result<Remote, AllocError>
+        ensures { IfOk result (λ copy. copy ≡ self.now) }
+    {
         Ok(Remote {
-            creds: self.creds.try_clone(alloc)?,
-            fingerprint: self.fingerprint.try_clone(alloc)?,
+            creds: IceCreds::if_any(alloc, &self.creds)?,
+            fingerprint: Fingerprint::if_any(alloc, &self.fingerprint)?,
             setup: self.setup,
-            candidates: self.candidates.try_clone(alloc)?,
+            candidates: Candidate::clone_all(alloc, self.candidates.as_slice())?,
             is_trickling: self.is_trickling,
             is_lite: self.is_lite,
         })
@@ -38,10 +52,11 @@ impl Plan {
         ensures { IfOk result (λ copy. copy ≡ self.now) }
     {
         Ok(Plan {
-            places: self.places.try_clone(alloc)?,
+            places: clone_all(alloc, self.places.as_slice())?,
             allows_mixed: self.allows_mixed,
-            remote: self.remote.try_clone(alloc)?,
+            remote: self.remote.clone(alloc)?,
             setup: self.setup,
+            is_answering: self.is_answering,
         })
     }
 }

@@ -12,7 +12,7 @@ use crate::placing::put_back;
 use crate::plan::Plan;
 use crate::transport::{Gathering, Transport};
 use sdp_formats_data::{
-    Candidate, Listed, MediaAttribute, MediaLine, Sdp, Session, SessionAttribute, Text, TryClone,
+    Candidate, Listed, MediaAttribute, MediaLine, Sdp, Session, SessionAttribute, Text,
 };
 use std::alloc::{AllocError, Global};
 use std::mem;
@@ -33,7 +33,7 @@ fn push_candidates(
     ensures { OnOk result (attributes.new ≡ attributes.old ++ map line.Candidate candidates.now) }
 {
     for candidate in candidates {
-        attributes.push(MediaAttribute::Candidate(candidate.try_clone(alloc)?))?;
+        attributes.push(MediaAttribute::Candidate(candidate.clone(alloc)?))?;
     }
     Ok(())
 }
@@ -71,7 +71,7 @@ fn push_transport(
     attributes.push(MediaAttribute::IceUfrag(transport.creds.ufrag.clone(alloc)?))?;
     attributes.push(MediaAttribute::IcePwd(transport.creds.pass.clone(alloc)?))?;
     push_gathering(alloc, &transport.gathering, attributes)?;
-    attributes.push(MediaAttribute::Fingerprint(transport.fingerprint.try_clone(alloc)?))?;
+    attributes.push(MediaAttribute::Fingerprint(transport.fingerprint.clone(alloc)?))?;
     attributes.push(MediaAttribute::Setup(transport.setup))?;
     attributes.push(MediaAttribute::RtcpMux)
 }

@@ -38,12 +38,17 @@ fn is_setup(setup: Setup, other: Option<Setup>) -> bool
     )
 }
 
-/// Whether a part in the connection may be said.
-pub(crate) fn may_say(setup: Setup, before: Option<Setup>, remote: Option<Setup>) -> bool
-    ensures { result ≡ may_say setup before remote }
+/// Whether a part in the connection may be said, in an answer or in an offer.
+pub(crate) fn may_say(
+    is_answer: bool,
+    setup: Setup,
+    before: Option<Setup>,
+    remote: Option<Setup>,
+) -> bool
+    ensures { result ≡ may_say is_answer setup before remote }
 {
     match (setup, before) {
-        (Setup::ActPass, _) => true,
+        (Setup::ActPass, _) => !is_answer,
         (_, None) => !is_setup(setup, remote),
         (_, Some(_)) => is_setup(setup, before) && !is_setup(setup, remote),
     }

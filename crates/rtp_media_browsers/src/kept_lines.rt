@@ -6,11 +6,10 @@ ghost use Rattle.rtp_media_browsers.specs.Lines.{stays, stays_in_session};
 ghost use Rattle.rtp_media_browsers.specs.Names.{is_among};
 
 use crate::lines::{is_bundle_name, is_session_transport, stays};
-use crate::name_set::NameSet;
 use crate::names::mids_of;
 use rtp_wire::Mid;
 use sdp_formats_data::{
-    Listed, MediaAttribute, MediaLine, Sdp, Session, SessionAttribute, TryClone,
+    Bandwidth, Listed, MediaAttribute, MediaLine, NameSet, Sdp, Session, SessionAttribute,
 };
 use std::alloc::{AllocError, Global};
 use std::mem;
@@ -65,7 +64,7 @@ fn restricted(
             });
         }
     }
-    attribute.try_clone(alloc)
+    attribute.clone(alloc)
 }
 
 /// Copies of the attributes that stay in the session.
@@ -75,7 +74,7 @@ fn staying(
 ) -> Result<Vec<SessionAttribute>, AllocError>
     ensures { IfOk result (λ v. v.items ≡ filter stays_in_session attributes.now) }
 {
-    let mut kept = attributes.try_clone(alloc)?.into_vec();
+    let mut kept = SessionAttribute::clone_all(alloc, attributes.as_slice())?.into_vec();
     kept.retain(|attribute| !is_session_transport(attribute));
     Ok(kept)
 }
@@ -104,7 +103,7 @@ fn end_session(alloc: Global, names: &[Mid], session: &Session) -> Result<Sessio
     let attributes = staying(alloc, &session.attrs)?;
     Ok(Session {
         id: session.id,
-        bw: session.bw.try_clone(alloc)?,
+        bw: Bandwidth::if_any(alloc, &session.bw)?,
         attrs: all_restricted(alloc, &names, attributes.as_slice())?,
     })
 }

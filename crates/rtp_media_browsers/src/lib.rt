@@ -9,7 +9,6 @@ mod fit;
 mod kept_lines;
 mod laws;
 mod lines;
-mod name_set;
 mod names;
 mod placing;
 mod plan;

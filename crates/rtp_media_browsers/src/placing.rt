@@ -7,12 +7,11 @@ ghost use Rattle.std.specs.Option.{option_copied};
 ghost use Rattle.rtp_media_browsers.specs.declared.plan.Place.{Place};
 
 use crate::lines::has_bundle_only;
-use crate::name_set::NameSet;
 use crate::plan::Place;
 use crate::wish::{Wish, is_accepted};
 use rtp_media_sections::mid_of;
 use rtp_wire::Mid;
-use sdp_formats_data::{Listed, MediaAttribute, MediaLine, TryClone};
+use sdp_formats_data::{Listed, MediaAttribute, MediaLine, NameSet};
 use std::alloc::{AllocError, Global};
 use std::vec::IntoIter;
 
@@ -47,7 +46,7 @@ fn maps_of(
 ) -> Result<Vec<MediaAttribute>, AllocError>
     ensures { IfOk result (λ v. v.items ≡ filter is_map attributes.now) }
 {
-    let mut maps = attributes.try_clone(alloc)?.into_vec();
+    let mut maps = MediaAttribute::clone_all(alloc, attributes.as_slice())?.into_vec();
     maps.retain(|attribute| is_map(attribute));
     Ok(maps)
 }
@@ -76,10 +75,10 @@ fn rejected(alloc: Global, section: &MediaLine) -> Result<MediaLine, AllocError>
     attrs.push(MediaAttribute::Mid(mid_of(section)))?;
     push_rejected(alloc, section, &mut attrs)?;
     Ok(MediaLine {
-        typ: section.typ.try_clone(alloc)?,
+        typ: section.typ.clone(alloc)?,
         disabled: true,
         proto: section.proto,
-        pts: section.pts.try_clone(alloc)?,
+        pts: section.pts.copied(alloc)?,
         bw: None,
         attrs: Listed::of(attrs),
     })
@@ -129,7 +128,7 @@ fn push_left(
     if matches!(place, Some(Place::Taken(_))) {
         return Ok(());
     }
-    kept.push(section.try_clone(alloc)?)?;
+    kept.push(section.clone(alloc)?)?;
     Ok(())
 }
 
@@ -159,7 +158,7 @@ fn push_at(
         ≡ all.old ++ put_back (place.now ∷ ps) rest.old.rest.items) }
 {
     match place {
-        Place::Taken(section) => all.push(section.try_clone(alloc)?),
+        Place::Taken(section) => all.push(section.clone(alloc)?),
         Place::Kept(_) => match rest.next() {
             Some(section) => all.push(section),
             None => Ok(()),

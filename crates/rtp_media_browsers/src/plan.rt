@@ -16,7 +16,7 @@ pub enum Place {
     Taken(MediaLine),
 }
 
-/// Written out, so that who lets one go needs nothing of what is inside.
+/// Written by hand so that crates that drop this type need no proof about its fields.
 impl Drop for Place {
     fn drop(self) {
         match self {
@@ -43,7 +43,7 @@ pub struct Remote {
     pub is_lite: bool,
 }
 
-/// Written out, so that who lets one go needs nothing of what is inside.
+/// Written by hand so that crates that drop this type need no proof about its fields.
 impl Drop for Remote {
     fn drop(self) {
         let Remote {
@@ -85,9 +85,11 @@ pub struct Plan {
     pub remote: Remote,
     /// Which end opens the connection, once that was answered: `Active` where this one does (RFC 8842 5).
     pub setup: Option<Setup>,
+    /// Whether an offer of the browser waits for what the end answers.
+    pub is_answering: bool,
 }
 
-/// Written out, so that who lets one go needs nothing of what is inside.
+/// Written by hand so that crates that drop this type need no proof about its fields.
 impl Drop for Plan {
     fn drop(self) {
         let Plan {
@@ -95,6 +97,7 @@ impl Drop for Plan {
             allows_mixed: _,
             remote: _remote,
             setup: _,
+            is_answering: _,
         } = self;
     }
 }
@@ -102,13 +105,20 @@ impl Drop for Plan {
 impl Plan {
     /// That of an end before its first exchange: there is no section.
     pub fn new(alloc: Global) -> Plan
-        ensures { result ≡ record { places = []; allows_mixed = false; remote = silent; setup = None } }
+        ensures { result ≡ record {
+          places = [];
+          allows_mixed = false;
+          remote = silent;
+          setup = None;
+          is_answering = false;
+        } }
     {
         Plan {
             places: Listed::new(alloc),
             allows_mixed: false,
             remote: Remote::silent(alloc),
             setup: None,
+            is_answering: false,
         }
     }
 }

@@ -6,8 +6,7 @@ ghost use Rattle.rtp_media_browsers.specs.ForEnds.{IsHanded};
 ghost use Rattle.rtp_media_browsers.specs.Reading.{IsUnwritten, IsWritten, ReadsWhole, SaysWhole};
 
 use crate::error::BrowserError;
-use sdp_formats_data::Sdp;
-use sdp_formats_data::same::Same;
+use sdp_formats_data::{Sdp, sdp_equality_law};
 use sdp_formats_reader::{SdpError, sdp_parser};
 use std::alloc::{AllocError, Global};
 
@@ -36,7 +35,8 @@ pub(crate) fn read_whole(alloc: Global, text: &str) -> Result<Sdp, BrowserError>
 pub(crate) fn handed(alloc: Global, text: &str, sdp: &Sdp, kept: &Sdp) -> Result<String, AllocError>
     ensures { IfOk result (λ out. IsHanded text.now sdp.now kept.now (string_bytes out)) }
 {
-    if kept.is_same(sdp) {
+    sdp_equality_law();
+    if *kept == *sdp {
         return String::from_str(alloc, text);
     }
     kept.to_sdp_string(alloc)
@@ -52,8 +52,9 @@ fn is_said(alloc: Global, text: &str, sdp: &Sdp) -> Result<bool, BrowserError>
     ensures said { IfOk result (λ b. IsTrue b ↔ SaysWhole text.now sdp.now) }
     ensures memory { IfErr result (λ e. e ≡ BrowserError.Memory) }
 {
+    sdp_equality_law();
     match read_whole(alloc, text) {
-        Ok(said) => Ok(said.is_same(sdp)),
+        Ok(said) => Ok(said == *sdp),
         Err(BrowserError::Unreadable) => Ok(false),
         Err(BrowserError::RestUnread) => Ok(false),
         Err(_) => Err(BrowserError::Memory),

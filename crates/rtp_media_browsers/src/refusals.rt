@@ -2,7 +2,7 @@
 
 ghost use Rattle.std.specs.Prelude.{◌≡◌, IfOk, map};
 ghost use Rattle.sdp_formats_data.specs.Lookups.{first_of};
-ghost use Rattle.sdp_formats_lookups.specs.WholeTexts.{is_name};
+ghost use Rattle.sdp_formats_data.specs.WholeTexts.{is_name};
 ghost use Rattle.rtp_media_browsers.specs.Names.{mids_of};
 ghost use Rattle.rtp_media_browsers.specs.Refusals.{answer_test, begin_with, browser_refusal, bundle_refusal};
 ghost use Rattle.rtp_media_browsers.specs.Refusals.{has_no_print, keys_in, kept_name, kept_names, name_at};
@@ -12,14 +12,12 @@ ghost use Rattle.rtp_media_browsers.specs.Refusals.{Checks, outside_in, rejected
 use crate::error::BrowserError;
 use crate::fit::{are_ice_chars, may_say};
 use crate::lines::{bundled, count_bundles, has_crypto};
-use crate::name_set::NameSet;
 use crate::names::{changed_name, mids_of};
 use crate::plan::{Place, Plan};
 use crate::transport::Transport;
 use rtp_media_sections::mid_of;
 use rtp_wire::Mid;
-use sdp_formats_data::{MediaLine, Sdp, Session};
-use sdp_formats_lookups::{section as of_section, session as of_session};
+use sdp_formats_data::{MediaLine, NameSet, Sdp, Session};
 use std::alloc::{AllocError, Global};
 
 /// The refusal, if there is one.
@@ -83,7 +81,7 @@ fn first_outside(bundle: &NameSet<'_>, sections: &[MediaLine]) -> Option<Browser
 fn has_no_print(session: &Session, section: &MediaLine) -> bool
     ensures { result ≡ has_no_print session.now section.now }
 {
-    of_section::fingerprint(section).is_none() && of_session::fingerprint(session).is_none()
+    section.fingerprint().is_none() && session.fingerprint().is_none()
 }
 
 /// Keys in the section, and no fingerprint.
@@ -279,7 +277,12 @@ pub(crate) fn test_own(
     if !are_ice_chars(22, transport.creds.pass.as_str()) {
         return Err(BrowserError::PasswordNotFit);
     }
-    if !may_say(transport.setup, plan.setup, plan.remote.setup) {
+    if !may_say(
+        plan.is_answering,
+        transport.setup,
+        plan.setup,
+        plan.remote.setup,
+    ) {
         return Err(BrowserError::SetupNotFit);
     }
     let names = kept_names(alloc, plan.places.as_slice())?;

@@ -3,19 +3,18 @@
 ghost use Rattle.std.specs.Prelude.{◌≡◌, IfOk, map};
 ghost use Rattle.std.specs.List.{list_any};
 ghost use Rattle.std.specs.Option.{option_copied};
-ghost use Rattle.sdp_formats_lookups.specs.ListedCandidates.{section_candidates, session_candidates};
-ghost use Rattle.sdp_formats_lookups.specs.Preference.{IsPreferred};
-ghost use Rattle.sdp_formats_lookups.specs.Transport.{section_prints, session_prints};
+ghost use Rattle.sdp_formats_data.specs.ListedCandidates.{section_candidates, session_candidates};
+ghost use Rattle.sdp_formats_data.specs.Preference.{IsPreferred};
+ghost use Rattle.sdp_formats_data.specs.Transport.{section_prints, session_prints};
 ghost use Rattle.rtp_media_browsers.specs.Remotes.{Tells, TellsFirst, creds_told, else_of, names_trickle};
 ghost use Rattle.rtp_media_browsers.specs.Remotes.{session_trickles, setup_told, trickles};
 
 use crate::plan::Remote;
 use sdp_formats_data::{
     Candidate, Fingerprint, IceCreds, Listed, MediaAttribute, MediaLine, Session, SessionAttribute,
-    Setup, TryClone,
+    Setup,
 };
 use sdp_formats_grammar::first_part;
-use sdp_formats_lookups::{section as of_section, session as of_session};
 use std::alloc::{AllocError, Global};
 
 /// The credentials of the section, or else of the session.
@@ -26,8 +25,7 @@ fn creds_told(
 ) -> Result<Option<IceCreds>, AllocError>
     ensures { IfOk result (λ creds. creds ≡ creds_told session.now section.now) }
 {
-    let Some((ufrag, pass)) = of_section::ice_creds(section).or(of_session::ice_creds(session))
-    else {
+    let Some((ufrag, pass)) = section.ice_creds().or(session.ice_creds()) else {
         return Ok(None);
     };
     Ok(Some(IceCreds {
@@ -41,9 +39,9 @@ fn creds_told(
 fn fingerprint_told<'a>(session: &'a Session, section: &'a MediaLine) -> Option<&'a Fingerprint>
     ensures { IsPreferred (else_of (section_prints section.now) (session_prints session.now)) (option_copied result) }
 {
-    match of_section::fingerprint(section) {
+    match section.fingerprint() {
         Some(fingerprint) => Some(fingerprint),
-        None => of_session::fingerprint(session),
+        None => session.fingerprint(),
     }
 }
 
@@ -55,7 +53,7 @@ fn copied(
     ensures { IfOk result (λ f. f ≡ option_copied fingerprint.entry) }
 {
     match fingerprint {
-        Some(fingerprint) => Ok(Some(fingerprint.try_clone(alloc)?)),
+        Some(fingerprint) => Ok(Some(fingerprint.clone(alloc)?)),
         None => Ok(None),
     }
 }
@@ -66,7 +64,7 @@ fn setup_told(session: &Session, section: &MediaLine) -> Option<Setup>
 {
     match section.setup() {
         Some(setup) => Some(setup),
-        None => of_session::setup(session),
+        None => session.setup(),
     }
 }
 
@@ -76,7 +74,7 @@ fn copies(alloc: Global, candidates: &[&Candidate]) -> Result<Listed<Candidate>,
 {
     let mut copies = Listed::new(alloc);
     for candidate in candidates {
-        copies.push(candidate.try_clone(alloc)?)?;
+        copies.push((*candidate).clone(alloc)?)?;
     }
     Ok(copies)
 }
@@ -89,9 +87,9 @@ fn candidates_told(
 ) -> Result<Listed<Candidate>, AllocError>
     ensures { IfOk result (λ l. l ≡ else_of (section_candidates section.now) (session_candidates session.now)) }
 {
-    let own = of_section::ice_candidates(alloc, section)?;
+    let own = section.ice_candidates(alloc)?;
     if own.is_empty() {
-        let all = of_session::ice_candidates(alloc, session)?;
+        let all = session.ice_candidates(alloc)?;
         return copies(alloc, all.as_slice());
     }
     copies(alloc, own.as_slice())
@@ -157,7 +155,7 @@ fn told_by(alloc: Global, session: &Session, section: &MediaLine) -> Result<Remo
         candidates: candidates_told(alloc, session, section)?,
         is_trickling: is_trickling(section.attrs.as_slice())
             || is_session_trickling(session.attrs.as_slice()),
-        is_lite: of_session::ice_lite(session),
+        is_lite: session.ice_lite(),
     })
 }
 

@@ -4,16 +4,14 @@ ghost use Rattle.std.specs.Prelude.{◌≡◌, ◌++◌, IfErr, IfOk, OnOk};
 ghost use Rattle.std.specs.Option.{option_copied};
 ghost use Rattle.rtp_media_browsers.specs.Wanted.{wanted, wanted_from, wished};
 
-use crate::name_set::NameSet;
 use crate::placing::is_taken;
 use crate::wish::Wish;
-use rtp_media_sections::{SectionSpec, shape_of_line};
+use rtp_media_sections::{SectionSpec, kind_of, mid_of};
 use rtp_wire::Mid;
-use sdp_formats_data::MediaLine;
+use sdp_formats_data::{MediaLine, NameSet};
 use std::alloc::{AllocError, Global};
 
 /// Adds the section as it is wished for.
-#[tactic(auto, unfolding(rtp_media_sections::specs::Lines::shape_of_line))]
 fn push_wished(
     wish: Option<&Wish>,
     section: &MediaLine,
@@ -23,10 +21,9 @@ fn push_wished(
 {
     match wish {
         Some(Wish::Accept { direction, ssrcs }) => {
-            let shape = shape_of_line(section);
             specs.push(SectionSpec {
-                mid: shape.mid,
-                kind: shape.kind,
+                mid: mid_of(section),
+                kind: kind_of(&section.typ),
                 dir: *direction,
                 ssrcs: ssrcs.clone()?,
             })?;

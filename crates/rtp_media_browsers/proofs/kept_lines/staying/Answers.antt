@@ -6,4 +6,4 @@ use Rattle.rtp_media_browsers.proofs.kept_lines.staying.Goals as goal
 pub returns : goal.returns
 returns c =
     filter_same _ stays_in_session _ (λ attribute b f w. search rules) _ _ c.retain.ensures.filtered
-    ∙ ap (filter stays_in_session) (c.into_vec-kept.ensures ∙ c.in_ok-try_clone.ensures)
+    ∙ ap (filter stays_in_session) (c.into_vec-kept.ensures ∙ c.in_ok-clone_all.ensures ∙ c.as_slice.ensures)

@@ -1,0 +1,67 @@
+//! The commands.
+
+use crate::call::{Call, CallError};
+use crate::remote::put_remote;
+use crate::texts::put_result;
+use crate::transport::Own;
+use crate::wishes::{sections, wishes};
+use command_lines::{Reply, parted};
+use rtp_media_browsers::for_end;
+use sdp_formats_data::Setup;
+use std::fs;
+
+/// Answers a line: the line itself, and behind it what the command gives.
+pub(crate) fn answer(
+    rt: &HostRuntime,
+    call: &mut Call,
+    line: &str,
+    reply: &mut Reply,
+) -> anyhow::Result<()> {
+    let alloc = rt.alloc();
+    reply.put(line);
+    let (command, rest) = parted(line);
+    let (name, words) = parted(rest);
+    match command {
+        "" | "#" => {}
+        "end" => *call = Call::new(alloc, rest.parse::<u64>()?)?,
+        "own" => put_result(call.offer(sections(alloc, rest)?), reply),
+        "withdraw" => reply.put(if call.end.withdraw() { ": yes" } else { ": no" }),
+        "remote" => put_remote(&call.plan.remote, reply),
+        "creds" => call.own = Own::of(alloc, name, words)?,
+        "setup" => {
+            call.own.setup = match name {
+                "active" => Setup::Active,
+                "passive" => Setup::Passive,
+                _ => Setup::ActPass,
+            }
+        }
+        _ => {
+            let text = fs::read_to_string(rt, name)?;
+            put_of_text(rt, call, command, (words, text.as_str()), reply)?;
+        }
+    }
+    Ok(())
+}
+
+/// Answers a command on a text.
+fn put_of_text(
+    rt: &HostRuntime,
+    call: &mut Call,
+    command: &str,
+    (words, text): (&str, &str),
+    reply: &mut Reply,
+) -> anyhow::Result<()> {
+    let alloc = rt.alloc();
+    match command {
+        "handed" => {
+            let mut plan = call.plan.clone(alloc)?;
+            let wishes = wishes(alloc, words)?;
+            let handed = for_end(alloc, &mut plan, text, wishes.as_slice());
+            put_result(handed.map_err(CallError::Browser), reply);
+        }
+        "offer" => put_result(call.answer(text, wishes(alloc, words)?.as_slice()), reply),
+        "answer" => put_result(call.accept(text), reply),
+        _ => reply.fault(),
+    }
+    Ok(())
+}

@@ -1,0 +1,68 @@
+//! Answers a browser's offer of audio and data by an end: sound goes both ways, and data is rejected. Uses the crates
+//! `anyhow`, `rtp_media`, `rtp_media_browsers`, `rtp_wire` and `sdp_formats`.
+
+use rtp_media::{CodecConfig, End, Session};
+use rtp_media_browsers::{Gathering, Plan, Transport, Wish, for_browser, for_end, sections_for};
+use rtp_wire::{Direction, ExtensionMap, SessionId, Ssrc};
+use sdp_formats::{Fingerprint, IceCreds, Listed, Setup, Text};
+use std::alloc::{AllocError, Global};
+
+/// The digest of the certificate.
+const DIGEST: [u8; 32] = [
+    0x1C, 0x9B, 0x0D, 0x4F, 0x6A, 0x2E, 0x88, 0x73, 0xC5, 0xD0, 0x11, 0x4E, 0x9F, 0x3A, 0xA6, 0xB7,
+    0xD8, 0x29, 0x0C, 0x5E, 0x4B, 0x6F, 0x70, 0x81, 0xA2, 0xB3, 0xC4, 0xD5, 0xE6, 0xF7, 0x08, 0x19,
+];
+
+/// A text of the program's own.
+fn text(alloc: Global, text: &str) -> Result<Text, AllocError> {
+    Ok(Text::of(String::from_str(alloc, text)?))
+}
+
+/// What the transport tells of itself: here one whose certificate and credentials are known beforehand.
+fn transport(alloc: Global) -> Result<Transport, AllocError> {
+    let ufrag = text(alloc, "F7gI")?;
+    let pass = text(alloc, "x9cml/YzichV2+XlhiMu8g")?;
+    let hash_func = text(alloc, "sha-256")?;
+    let bytes = Listed::of(Vec::from_slice(alloc, &DIGEST)?);
+    Ok(Transport {
+        creds: IceCreds { ufrag, pass },
+        gathering: Gathering::Trickling,
+        fingerprint: Fingerprint { hash_func, bytes },
+        setup: Setup::Passive,
+        is_lite: false,
+    })
+}
+
+/// Sound both ways, sent under SSRC 44. A section without a wish is rejected.
+fn wishes(alloc: Global) -> Result<Vec<Wish>, AllocError> {
+    let sound = Wish::Accept {
+        direction: Direction::SendRecv,
+        ssrcs: vec![in alloc; Ssrc::from(44)]?,
+    };
+    Ok(vec![in alloc; sound]?)
+}
+
+/// What the browser gets for its offer. The plan lasts as long as the end.
+fn answered(alloc: Global, end: &mut End, plan: &mut Plan, offer: &str) -> anyhow::Result<String> {
+    let wishes = wishes(alloc)?;
+    let handed = for_end(alloc, plan, offer, wishes.as_slice())?;
+    let sections = sections_for(alloc, offer, wishes.as_slice())?;
+    let answer = end.answer(handed.as_str(), sections)?;
+    let text = for_browser(alloc, plan, answer.as_str(), &transport(alloc)?)?;
+    Ok(text)
+}
+
+/// Prints what a browser gets for its offer, and the name that its transport has.
+pub(crate) fn print_answer(rt: &HostRuntime, offer: &str) -> anyhow::Result<()> {
+    let alloc = rt.alloc();
+    let session = Session::new(alloc, SessionId::from(1));
+    let rows = CodecConfig::new_with_defaults(alloc)?;
+    let mut end = End::new(alloc, rows, session, ExtensionMap::standard())?;
+    let mut plan = Plan::new(alloc);
+    let text = answered(alloc, &mut end, &mut plan, offer)?;
+    print!(*rt; "{text}")?;
+    if let Some(creds) = &plan.remote.creds {
+        println!(*rt; "the browser's name of ICE is {}", creds.ufrag)?;
+    }
+    Ok(())
+}
