@@ -383,6 +383,30 @@ uint32_t jilqamur_end_withdraw(jilqamur_end *end);
  * offer or answer that is not refused, and has no 0 at its end. */
 uint32_t jilqamur_end_text(jilqamur_end *end, uint8_t *buffer, size_t len, size_t *needed);
 
+/* What is told of an agreed section beside its name. */
+typedef struct jilqamur_section {
+    bool is_video; /* whether it is of video, else of audio */
+    bool sends;    /* whether media flows from this end */
+    bool receives; /* whether media flows to this end */
+    size_t rows;   /* how many rows both ends have */
+    size_t ssrcs;  /* how many SSRCs the other end names */
+} jilqamur_section;
+
+/* Copies the name of the agreed section of this place, counted from 0 in the order of the texts, to the front of a
+ * buffer of len bytes, writes its length in bytes into needed, and what is told beside into section.
+ * JILQAMUR_TOO_SMALL, and the buffer is unchanged, while needed and section are written; JILQAMUR_NOTHING where no
+ * section of that place is agreed. */
+uint32_t jilqamur_end_agreed_section(jilqamur_end *end, size_t index, uint8_t *buffer, size_t len, size_t *needed,
+                                     jilqamur_section *section);
+
+/* The same of the codec's name and the numbers of a row of an agreed section, by the places of both. */
+uint32_t jilqamur_end_agreed_row(jilqamur_end *end, size_t section, size_t index, uint8_t *buffer, size_t len,
+                                 size_t *needed, jilqamur_row *row);
+
+/* Writes an SSRC that the other end names in an agreed section, by the places of both. JILQAMUR_NOTHING where there is
+ * none, and ssrc is unchanged. */
+uint32_t jilqamur_end_agreed_ssrc(jilqamur_end *end, size_t section, size_t index, uint32_t *ssrc);
+
 /* How a sending stream numbers and cuts its samples. */
 typedef struct jilqamur_stream {
     uint64_t first;      /* the first sequence number, below 32,768 */

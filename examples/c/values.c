@@ -1,5 +1,5 @@
-/* An end sends a sample with values of header extensions, of which a later one has some alone, and another end tells
- * what came. */
+/* An end tells what it agreed on, and sends a sample with values of header extensions, of which a later one has some
+ * alone; another end tells what came. */
 #include <inttypes.h>
 #include <stdio.h>
 #include <string.h>
@@ -38,6 +38,29 @@ static uint32_t connect(jilqamur_end *a, jilqamur_end *b)
     wrong |= jilqamur_end_accept(a, text, len);
     wrong |= jilqamur_end_open_sender(a, JILQAMUR_TEXT("0"), 44, 111, &params, JILQAMUR_TEXT(""), &stream);
     return wrong | jilqamur_end_open_receiver(b, JILQAMUR_TEXT("0"), 44, 111, 2, JILQAMUR_MIN_HELD, &stream);
+}
+
+/* Prints the agreed sections, their rows, and the SSRCs that the other end names. */
+static uint32_t print_agreed(jilqamur_end *end)
+{
+    uint8_t mid[16], codec[16];
+    size_t len = 0, codec_len = 0;
+    jilqamur_section section;
+    jilqamur_row row;
+    uint32_t wrong = 0, ssrc = 0;
+    for (size_t k = 0; jilqamur_end_agreed_section(end, k, mid, sizeof mid, &len, &section) == JILQAMUR_OK; k++) {
+        printf("section %.*s: %s, sends %d, receives %d\n", (int)len, (const char *)mid,
+               section.is_video ? "video" : "audio", section.sends, section.receives);
+        for (size_t i = 0; i < section.rows; i++) {
+            wrong |= jilqamur_end_agreed_row(end, k, i, codec, sizeof codec, &codec_len, &row);
+            printf("type %u: %.*s %u\n", row.payload_type, (int)codec_len, (const char *)codec, row.clock_rate);
+        }
+        for (size_t i = 0; i < section.ssrcs; i++) {
+            wrong |= jilqamur_end_agreed_ssrc(end, k, i, &ssrc);
+            printf("ssrc %u\n", ssrc);
+        }
+    }
+    return wrong;
 }
 
 static void print(const jilqamur_values *v)
@@ -89,7 +112,7 @@ int main(void)
     jilqamur_values all = {true, -30, true, true, true, 1500000, true, 65535, true, 3, true, 10, true, 4095, true, 1,
                            true, 0x123456789abcdef0u, true, -7};
     jilqamur_values some = {.has_transport_cc = true, .transport_cc = 7, .has_capture_time = true, .capture_time = 9};
-    if (connect(&a, &b) || jilqamur_end_values(&b, &some) != JILQAMUR_NOTHING)
+    if (connect(&a, &b) || print_agreed(&b) || jilqamur_end_values(&b, &some) != JILQAMUR_NOTHING)
         return 1;
     if (send(&a, &b, 0, &all) || send(&a, &b, 960, &some))
         return 1;

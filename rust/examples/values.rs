@@ -1,5 +1,5 @@
-//! An end sends a sample with values of header extensions, of which a later one has some alone, and another end tells
-//! what came.
+//! An end tells what it agreed on, and sends a sample with values of header extensions, of which a later one has some
+//! alone; another end tells what came.
 
 use jilqamur::{Direction, End, EndError, Kind, MIN_HELD, Received, Row, Section, StreamParams, Values};
 
@@ -26,6 +26,22 @@ fn made(session: u64) -> Result<End, EndError> {
 
 fn section(ssrcs: &[u32]) -> Section<'_> {
     Section { mid: "0", kind: Kind::Audio, direction: Direction::SendRecv, ssrcs }
+}
+
+/// Prints the agreed sections, their rows, and the SSRCs that the other end names.
+fn print_agreed(end: &mut End) {
+    for section in end.agreed_sections() {
+        let kind = if section.kind == Kind::Video { "video" } else { "audio" };
+        let sends = u8::from(matches!(section.direction, Direction::SendOnly | Direction::SendRecv));
+        let receives = u8::from(matches!(section.direction, Direction::RecvOnly | Direction::SendRecv));
+        println!("section {}: {kind}, sends {sends}, receives {receives}", section.mid);
+        for (codec, row) in &section.rows {
+            println!("type {}: {codec} {}", row.payload_type(), row.clock_rate());
+        }
+        for ssrc in &section.ssrcs {
+            println!("ssrc {ssrc}");
+        }
+    }
 }
 
 fn told<T: std::fmt::Display>(name: &str, value: Option<T>) {
@@ -66,6 +82,7 @@ fn main() -> Result<(), Box<dyn std::error::Error>> {
     a.accept(&answer)?;
     a.open_sender("0", 44, 111, StreamParams::new(100, 1100, 1200), None)?;
     b.open_receiver("0", 44, 111, 2, MIN_HELD)?;
+    print_agreed(&mut b);
     assert_eq!(b.values(), None);
     let all = Values {
         audio_level: Some(-30),

@@ -2,9 +2,12 @@
 
 use crate::ends::{fetched, End};
 use crate::error::{done, EndError};
-use crate::params::{Direction, Kind, Section};
+use crate::params::{AgreedSection, Direction, Kind, Row, Section};
 use crate::sys;
 use std::ptr;
+
+/// What a call answers where there is nothing to fetch.
+const NOTHING: u32 = 12;
 
 impl End {
     fn sections(&mut self, sections: &[Section<'_>]) -> Result<(), EndError> {
@@ -87,5 +90,57 @@ impl End {
     pub fn withdraw(&mut self) -> bool {
         // SAFETY: the handle is open.
         unsafe { sys::jilqamur_end_withdraw(&mut self.0) == 0 }
+    }
+
+    /// The sections that were agreed on last, in the order of the texts.
+    pub fn agreed_sections(&mut self) -> Vec<AgreedSection> {
+        (0..).map_while(|index| self.agreed_section(index)).collect()
+    }
+
+    fn agreed_section(&mut self, index: usize) -> Option<AgreedSection> {
+        let mut parts = sys::AgreedParts::default();
+        let mut is_there = true;
+        let mid = fetched(|buffer, len, needed| {
+            // SAFETY: the handle is open, and pointer and length are those of one slice.
+            let said = unsafe {
+                sys::jilqamur_end_agreed_section(&mut self.0, index, buffer, len, needed, &mut parts)
+            };
+            is_there = said != NOTHING;
+            said
+        });
+        if !is_there {
+            return None;
+        }
+        let direction = match (parts.sends, parts.receives) {
+            (true, true) => Direction::SendRecv,
+            (true, false) => Direction::SendOnly,
+            (false, true) => Direction::RecvOnly,
+            (false, false) => Direction::Inactive,
+        };
+        Some(AgreedSection {
+            mid: String::from_utf8_lossy(&mid).into_owned(),
+            kind: if parts.is_video { Kind::Video } else { Kind::Audio },
+            direction,
+            rows: (0..parts.rows).map(|place| self.agreed_row(index, place)).collect(),
+            ssrcs: (0..parts.ssrcs).map(|place| self.agreed_ssrc(index, place)).collect(),
+        })
+    }
+
+    fn agreed_row(&mut self, section: usize, index: usize) -> (String, Row) {
+        let mut row = Row::default();
+        let codec = fetched(|buffer, len, needed| {
+            // SAFETY: the handle is open, and pointer and length are those of one slice.
+            unsafe {
+                sys::jilqamur_end_agreed_row(&mut self.0, section, index, buffer, len, needed, &mut row)
+            }
+        });
+        (String::from_utf8_lossy(&codec).into_owned(), row)
+    }
+
+    fn agreed_ssrc(&mut self, section: usize, index: usize) -> u32 {
+        let mut ssrc = 0;
+        // SAFETY: the handle is open.
+        unsafe { sys::jilqamur_end_agreed_ssrc(&mut self.0, section, index, &mut ssrc) };
+        ssrc
     }
 }

@@ -19,7 +19,9 @@ mod values;
 
 pub use ends::{Datagrams, End};
 pub use error::EndError;
-pub use params::{Direction, Kind, Received, Row, Section, StreamParams, TelephoneEvent, Unit};
+pub use params::{
+    AgreedSection, Direction, Kind, Received, Row, Section, StreamParams, TelephoneEvent, Unit,
+};
 pub use payloads::{Depacketizer, Fault, Packet, Packetizer, PacketizerParams};
 pub use streams::{Format, Receiver, Sender, SenderParams};
 pub use values::Values;

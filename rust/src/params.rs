@@ -25,6 +25,36 @@ impl Row {
         Row { payload_type, clock_rate, ..Row::default() }
     }
 
+    /// Its payload type.
+    #[must_use]
+    pub fn payload_type(&self) -> u8 {
+        self.payload_type
+    }
+
+    /// Its ticks a second.
+    #[must_use]
+    pub fn clock_rate(&self) -> u32 {
+        self.clock_rate
+    }
+
+    /// How many channels it has, where it names them.
+    #[must_use]
+    pub fn channels(&self) -> Option<u8> {
+        self.has_channels.then_some(self.channels)
+    }
+
+    /// The type of its retransmissions, where it has them (RFC 4588).
+    #[must_use]
+    pub fn resend(&self) -> Option<u8> {
+        self.has_resend.then_some(self.resend)
+    }
+
+    /// Its RED type, where it has redundancy (RFC 2198).
+    #[must_use]
+    pub fn red(&self) -> Option<u8> {
+        self.has_red.then_some(self.red)
+    }
+
     /// The same row with this many channels.
     #[must_use]
     pub fn with_channels(self, channels: u8) -> Row {
@@ -77,6 +107,21 @@ pub struct Section<'a> {
     pub direction: Direction,
     /// The SSRCs that the end sends under.
     pub ssrcs: &'a [u32],
+}
+
+/// A section that an end agreed on.
+#[derive(Clone, Debug, PartialEq, Eq)]
+pub struct AgreedSection {
+    /// The name.
+    pub mid: String,
+    /// Audio or video.
+    pub kind: Kind,
+    /// Which way media flows, as the end sees it.
+    pub direction: Direction,
+    /// The rows that both ends have, each with its codec's name.
+    pub rows: Vec<(String, Row)>,
+    /// The SSRCs that the other end names.
+    pub ssrcs: Vec<u32>,
 }
 
 /// How a sending stream numbers and cuts its samples.

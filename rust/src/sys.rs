@@ -17,6 +17,17 @@ pub(crate) struct Handle {
     pub(crate) place: *mut u8,
 }
 
+/// What is told of an agreed section beside its name.
+#[repr(C)]
+#[derive(Default)]
+pub(crate) struct AgreedParts {
+    pub(crate) is_video: bool,
+    pub(crate) sends: bool,
+    pub(crate) receives: bool,
+    pub(crate) rows: usize,
+    pub(crate) ssrcs: usize,
+}
+
 #[repr(C)]
 #[derive(Default)]
 pub(crate) struct Unit {
@@ -160,6 +171,24 @@ extern "C" {
     pub(crate) fn jilqamur_end_accept(end: *mut Handle, answer: *const u8, len: usize) -> u32;
     pub(crate) fn jilqamur_end_withdraw(end: *mut Handle) -> u32;
     pub(crate) fn jilqamur_end_text(end: *mut Handle, buffer: *mut u8, len: usize, needed: *mut usize) -> u32;
+    pub(crate) fn jilqamur_end_agreed_section(
+        end: *mut Handle,
+        index: usize,
+        buffer: *mut u8,
+        len: usize,
+        needed: *mut usize,
+        section: *mut AgreedParts,
+    ) -> u32;
+    pub(crate) fn jilqamur_end_agreed_row(
+        end: *mut Handle,
+        section: usize,
+        index: usize,
+        buffer: *mut u8,
+        len: usize,
+        needed: *mut usize,
+        row: *mut Row,
+    ) -> u32;
+    pub(crate) fn jilqamur_end_agreed_ssrc(end: *mut Handle, section: usize, index: usize, ssrc: *mut u32) -> u32;
     pub(crate) fn jilqamur_end_open_sender(
         end: *mut Handle,
         mid: *const u8,

@@ -15,6 +15,7 @@ ghost use Rattle.jilqamur_media.specs.Headers.{as_wire, as_header, write_outcome
 ghost use Rattle.jilqamur_media.specs.Windows.{ReceivedAs, behind, fresh};
 ghost use Rattle.jilqamur_media.specs.Handles.{answer_of};
 
+mod agreed;
 mod depacketizers;
 mod exchanging;
 mod packetizers;

@@ -1,3 +1,4 @@
+pub mod Agreed
 pub mod Answers
 pub mod DraftedRows
 pub mod Drafts

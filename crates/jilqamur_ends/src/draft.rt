@@ -24,7 +24,7 @@ pub struct Draft {
     sections: Vec<SectionSpec>,
 }
 
-/// Written out, so that who lets one go needs nothing of what is inside.
+/// Written by hand so that crates that drop this type need no proof about its fields.
 impl Drop for Draft {
     fn drop(self) {
         let Draft {

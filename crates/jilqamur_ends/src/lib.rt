@@ -1,6 +1,7 @@
 //! Ends as the library for C lends them.
 #![tactic(auto)]
 
+mod agreed;
 mod draft;
 mod drafts;
 mod end;
@@ -15,6 +16,7 @@ mod refusals;
 mod row;
 mod sending;
 
+pub use agreed::WireSection;
 pub use draft::Draft;
 pub use drafts::{add_default_rows, add_row, add_section, set_extension};
 pub use exchanging::{accept, answer, offer, withdraw};
