@@ -23,7 +23,7 @@ pub struct Line<'a> {
     is_refused: bool,
 }
 
-/// Written out, so that who lets one go needs nothing of what is inside.
+/// Written by hand so that crates that drop this type need no proof about its fields.
 impl Drop for Line<'_> {
     fn drop(self) {
         let Line {

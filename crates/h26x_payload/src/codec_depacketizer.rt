@@ -44,7 +44,7 @@ pub enum CodecDepacketizer<B = Box<dyn Depacketizer + Drop>> {
     Boxed(B),
 }
 
-/// Written out, so that who lets one go needs nothing of what is inside.
+/// Written by hand so that crates that drop this type need no proof about its fields.
 impl<B: Drop> Drop for CodecDepacketizer<B> {
     fn drop(self) {
         match self {

@@ -45,7 +45,7 @@ pub enum CodecPacketizer<B = Box<dyn Packetizer + Drop>> {
     Boxed(B),
 }
 
-/// Written out, so that who lets one go needs nothing of what is inside.
+/// Written by hand so that crates that drop this type need no proof about its fields.
 impl<B: Drop> Drop for CodecPacketizer<B> {
     fn drop(self) {
         match self {

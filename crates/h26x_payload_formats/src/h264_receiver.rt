@@ -24,7 +24,7 @@ pub struct H264Depacketizer {
     unit: OpenUnit,
 }
 
-/// Written out, so that who lets one go needs nothing of what is inside.
+/// Written by hand so that crates that drop this type need no proof about its fields.
 impl Drop for H264Depacketizer {
     fn drop(self) {
         let H264Depacketizer {

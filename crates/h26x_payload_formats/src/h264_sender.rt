@@ -39,7 +39,7 @@ pub struct H264Packetizer {
     pps: Option<Vec<u8>>,
 }
 
-/// Written out, so that who lets one go needs nothing of what is inside.
+/// Written by hand so that crates that drop this type need no proof about its fields.
 impl Drop for H264Packetizer {
     fn drop(self) {
         let H264Packetizer {

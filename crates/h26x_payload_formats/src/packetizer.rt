@@ -33,7 +33,7 @@ pub struct H265OrH266Packetizer<L: H265OrH266> {
     pps: Option<Vec<u8>>,
 }
 
-/// Written out, so that who lets one go needs nothing of what is inside.
+/// Written by hand so that crates that drop this type need no proof about its fields.
 impl<L: H265OrH266> Drop for H265OrH266Packetizer<L> {
     fn drop(self) {
         let H265OrH266Packetizer {

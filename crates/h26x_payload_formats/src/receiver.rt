@@ -24,7 +24,7 @@ pub struct H265OrH266Depacketizer<L: H265OrH266> {
     unit: OpenUnit,
 }
 
-/// Written out, so that who lets one go needs nothing of what is inside.
+/// Written by hand so that crates that drop this type need no proof about its fields.
 impl<L: H265OrH266> Drop for H265OrH266Depacketizer<L> {
     fn drop(self) {
         let H265OrH266Depacketizer {

@@ -62,7 +62,7 @@ pub struct OpenUnit {
     bytes: Option<Vec<u8>>,
 }
 
-/// Written out, so that who lets one go needs nothing of what is inside.
+/// Written by hand so that crates that drop this type need no proof about its fields.
 impl Drop for OpenUnit {
     fn drop(self) {
         let OpenUnit {

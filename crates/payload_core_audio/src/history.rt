@@ -17,7 +17,7 @@ pub struct KeptPayload {
     pub payload: Vec<u8>,
 }
 
-/// Written out, so that who lets one go needs nothing of what is inside.
+/// Written by hand so that crates that drop this type need no proof about its fields.
 impl Drop for KeptPayload {
     fn drop(self) {
         let KeptPayload {

@@ -26,7 +26,7 @@ pub struct Av1Depacketizer {
     spare: Vec<u8>,
 }
 
-/// Written out, so that who lets one go needs nothing of what is inside.
+/// Written by hand so that crates that drop this type need no proof about its fields.
 impl Drop for Av1Depacketizer {
     fn drop(self) {
         let Av1Depacketizer {

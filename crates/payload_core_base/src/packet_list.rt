@@ -20,7 +20,7 @@ pub struct SentPacket {
     pub values: ExtensionValues,
 }
 
-/// Written out, so that who lets one go needs nothing of what is inside.
+/// Written by hand so that crates that drop this type need no proof about its fields.
 impl Drop for SentPacket {
     fn drop(self) {
         let SentPacket {

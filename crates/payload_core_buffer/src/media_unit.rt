@@ -19,7 +19,7 @@ pub struct Unit {
     pub(crate) extra: CodecExtra,
 }
 
-/// Written out, so that who lets one go needs nothing of what is inside.
+/// Written by hand so that crates that drop this type need no proof about its fields.
 impl Drop for Unit {
     fn drop(self) {
         let Unit {

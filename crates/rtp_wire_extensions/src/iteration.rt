@@ -13,12 +13,12 @@ pub struct ExtensionMapIter<'a> {
     id: u8,
 }
 
-impl ExtensionMap {
-    /// The extensions with their numbers, in rising number.
-    pub fn iter(&self) -> ExtensionMapIter<'_>
-        ensures { entries_left result ≡ numbered self.now 1 16 }
+impl<'a> ExtensionMapIter<'a> {
+    /// Those of a map.
+    pub(crate) fn new(map: &'a ExtensionMap) -> ExtensionMapIter<'a>
+        ensures { entries_left result ≡ numbered map.now 1 16 }
     {
-        ExtensionMapIter { map: self, id: 1 }
+        ExtensionMapIter { map, id: 1 }
     }
 }
 

@@ -7,12 +7,14 @@ ghost use Rattle.std.specs.Option.{option_copied};
 ghost use Rattle.rtp_wire_extensions.specs.Carried.{value_bytes};
 ghost use Rattle.rtp_wire_extensions.specs.declared.values.ExtensionValues.{ExtensionValues};
 ghost use Rattle.rtp_wire_extensions.specs.Elements.{slot, slot_is, carried_at, lookup};
+ghost use Rattle.rtp_wire_extensions.specs.Iteration.{entries_left, numbered};
 ghost use Rattle.rtp_wire_extensions.specs.Seen.{HasSeen};
 ghost use Rattle.rtp_wire_extensions.specs.Maps.{empty_map, is_empty_map, standard_map, place_of, id_of, moved};
 ghost use Rattle.rtp_wire_extensions.specs.Maps.{remapped};
 
 use crate::element::{ElementBytes, value_bytes};
 use crate::extension::Extension;
+use crate::iteration::ExtensionMapIter;
 use crate::values::ExtensionValues;
 use std::alloc::{AllocError, Global};
 use std::marker::Model;
@@ -41,7 +43,7 @@ pub struct ExtensionMap {
     entries: [Option<Extension>; 16],
 }
 
-/// Written out, so that who lets one go needs nothing of what is inside.
+/// Written by hand so that crates that drop this type need no proof about its fields.
 impl Drop for ExtensionMap {
     fn drop(self) {
         let ExtensionMap { entries: _entries } = self;
@@ -153,6 +155,16 @@ impl ExtensionMap {
             Some(slot) => slot.as_ref(),
             None => None,
         }
+    }
+
+    /// The extensions with their numbers, in rising number. A map has the numbers 1 to 16.
+    pub fn iter(&self) -> ExtensionMapIter<'_>
+        ensures left { entries_left result ≡ numbered self.now 1 16 }
+        ensures numbers { length self.now ≡ 16 }
+    {
+        // Only a function that looks at the entries knows how many there are.
+        let _ = &self.entries;
+        ExtensionMapIter::new(self)
     }
 
     /// The least number of an extension.
